@@ -2,7 +2,7 @@
 use Rattle.std.proofs.Common.{◌≡◌, ℕ, ◌++◌, List, [], ◌∷◌, map, Option, None, Some, IsSomeAnd, refl, ap, sym, subst, ◌∙◌}
 use Rattle.cti_terms.specs.declared.atom_list.Atom.{Atom}
 use Rattle.cti_terms.specs.declared.clauses.Clause.{Clause}
-use Rattle.cti_terms.specs.Listing.{Listing}
+use Rattle.cti_terms.specs.Listing.{Listing, numbered}
 use Rattle.cti_terms.specs.declared.derivation.Goal.{Goal}
 use Rattle.cti_terms.specs.Unify.{Equation, Binding, replaced, Unifies, none, drop, bind, split, applied}
 use Rattle.cti_terms.specs.Resolve.{over, raised}
@@ -43,4 +43,4 @@ both (Some c) atoms n bs cs g h l m = one_left atoms n c bs cs g h l m
 
 -- a clause resolves a goal by one unifier, and leaves one goal
 pub one_resolvent : (p : Listing) (g : Goal) (k : ℕ) (bs cs : List Binding) (h h' : Goal) → Resolves p g k bs h → Resolves p g k cs h' → (bs ≡ cs) × (h ≡ h')
-one_resolvent p g k bs cs h h' l m = both _ g.atoms g.fresh bs cs h h' l.leaves m.leaves
+one_resolvent p g k bs cs h h' l m = both (numbered p.clauses k) g.atoms g.fresh bs cs h h' l m

@@ -1,9 +1,9 @@
 -- The function resolves as the relation does.
-use Rattle.std.proofs.Common.{◌≡◌, ◌==◌, ℕ, zero, suc, ◌+◌, Bool, true, false, if◌then◌else◌, List, [], ◌∷◌, slice_get, Option, None, Some, option_map, IsSomeAnd, option_and_then, unwrap_or, ◌-◌, refl, ap, sym, ◌∙◌, subst, arith, eqb-true}
+use Rattle.std.proofs.Common.{◌≡◌, ◌==◌, ℕ, Bool, true, false, if◌then◌else◌, List, [], ◌∷◌, Option, None, Some, option_map, IsSomeAnd, option_and_then, unwrap_or, refl, ap, sym, ◌∙◌, arith, eqb-true}
 use Rattle.std.proofs.lemmas.Bool.Decides.{nat_tests}
 use Rattle.cti_terms.specs.declared.atom_list.Atom.{Atom}
 use Rattle.cti_terms.specs.declared.clauses.Clause.{Clause}
-use Rattle.cti_terms.specs.Listing.{Listing}
+use Rattle.cti_terms.specs.Listing.{Listing, numbered}
 use Rattle.cti_terms.specs.declared.derivation.Goal.{Goal}
 use Rattle.cti_terms.specs.Unify.{Binding}
 use Rattle.cti_terms.specs.UnifyFunction.{unify}
@@ -48,16 +48,7 @@ of_clause (Some c) [] n bs h e = cc
 of_clause (Some c) (a ∷ rest) n bs h e = from_found a rest n c bs h e
 
 pub resolve_complete : (p : Listing) (g : Goal) (k : ℕ) (bs : List Binding) (h : Goal) → Resolves p g k bs h → resolve p g k ≡ Some (bs, h)
-resolve_complete p g zero bs h r = let l = r.from_one in absurd (omega arith)
-resolve_complete p g (suc k) bs h r =
-    let at : suc k - 1 ≡ k = omega arith in
-    at_clause (slice_get p.clauses k) g.atoms g.fresh bs h (subst (λ (z : ℕ). IsSomeAnd (slice_get p.clauses z) (λ c. LeavesFrom g.atoms g.fresh c bs h)) at r.leaves)
+resolve_complete p g k bs h r = at_clause (numbered p.clauses k) g.atoms g.fresh bs h r
 
 pub resolve_finds : (p : Listing) (g : Goal) (k : ℕ) (bs : List Binding) (h : Goal) → resolve p g k ≡ Some (bs, h) → Resolves p g k bs h
-resolve_finds p g zero bs h e = cc
-resolve_finds p g (suc k) bs h e =
-    let at : k ≡ suc k - 1 = omega arith in
-    record {
-      from_one = omega arith;
-      leaves = subst (λ (z : ℕ). IsSomeAnd (slice_get p.clauses z) (λ c. LeavesFrom g.atoms g.fresh c bs h)) at (of_clause (slice_get p.clauses k) g.atoms g.fresh bs h e);
-    }
+resolve_finds p g k bs h e = of_clause (numbered p.clauses k) g.atoms g.fresh bs h e

@@ -2,7 +2,7 @@
 --
 -- To believe: `Listing`, `is_pred`, `with_pred`, and what every program keeps, `IsProgram`.
 -- The limits are those of `src/limits.rt`.
-use Rattle.std.specs.Prelude.{◌≡◌, ◌≢◌, ℕ, ◌+◌, ◌≤◌, ◌<◌, ◌^◌, Bool, ◌&&◌, ◌==◌, IsTrue, List, [], ◌∷◌, ◌++◌, if◌then◌else◌, length, sum_by, slice_get, IsSomeAnd}
+use Rattle.std.specs.Prelude.{◌≡◌, ◌≢◌, ℕ, zero, suc, ◌+◌, ◌≤◌, ◌<◌, ◌^◌, Bool, ◌&&◌, ◌==◌, IsTrue, List, [], ◌∷◌, ◌++◌, if◌then◌else◌, length, sum_by, slice_get, Option, None, IsSomeAnd}
 use Rattle.std.specs.List.{AllByRecursion, AllPairs, list_any}
 use Rattle.cti_terms.specs.Tree.{is_below, nodes_of}
 use Rattle.cti_terms.specs.declared.atom_list.Atom.{Atom}
@@ -14,6 +14,11 @@ use Rattle.cti_terms.specs.declared.predicates.Pred.{Pred}
 pub record Listing : Type 0 where
   pub preds : List Pred
   pub clauses : List Clause
+
+-- the element of a number that counts from 1
+abbrev pub numbered : {X : Type 0} → List X → ℕ → Option X
+numbered xs zero = None
+numbered xs (suc i) = slice_get xs i
 
 -- whether a predicate has this name and arity
 abbrev pub is_pred : ℕ → ℕ → Pred → Bool

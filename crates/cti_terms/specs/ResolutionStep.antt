@@ -1,11 +1,11 @@
 -- A step of left-to-right resolution as a relation, in which no function unifies.
 --
 -- `resolution_is_a_function` of `src/laws.rt` says that this and `resolve` are one.
-use Rattle.std.specs.Prelude.{◌≡◌, ℕ, ◌+◌, ◌-◌, ◌≤◌, List, [], ◌∷◌, ◌++◌, map, slice_get, IsSomeAnd}
+use Rattle.std.specs.Prelude.{◌≡◌, ℕ, ◌+◌, List, [], ◌∷◌, ◌++◌, map, IsSomeAnd}
 use Rattle.cti_terms.specs.declared.atom_list.Atom.{Atom}
 use Rattle.cti_terms.specs.declared.clauses.Clause.{Clause}
 use Rattle.cti_terms.specs.declared.derivation.Goal.{Goal}
-use Rattle.cti_terms.specs.Listing.{Listing}
+use Rattle.cti_terms.specs.Listing.{Listing, numbered}
 use Rattle.cti_terms.specs.Unify.{Binding, Unifies, applied}
 use Rattle.cti_terms.specs.Resolve.{over, raised, head_equations}
 
@@ -22,6 +22,5 @@ LeavesFrom [] n c bs h = ⊥
 LeavesFrom (a ∷ rest) n c bs h = Leaves a rest n c bs h
 
 -- clause k of the program, counted from 1, resolves the goal by bs, and leaves h
-pub record Resolves (p : Listing) (g : Goal) (k : ℕ) (bs : List Binding) (h : Goal) : Type 0 where
-  pub from_one : 1 ≤ k
-  pub leaves : IsSomeAnd (slice_get p.clauses (k - 1)) (λ c. LeavesFrom g.atoms g.fresh c bs h)
+abbrev pub Resolves : Listing → Goal → ℕ → List Binding → Goal → Type 0
+Resolves p g k bs h = IsSomeAnd (numbered p.clauses k) (λ c. LeavesFrom g.atoms g.fresh c bs h)

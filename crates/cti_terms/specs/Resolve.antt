@@ -6,12 +6,12 @@
 --
 -- To believe: `raised`, `left_by`, `resolve`. `ResolutionStep.antt` says the same as a relation.
 -- Source: LD-resolution, with one stated unifier and one stated renaming.
-use Rattle.std.specs.Prelude.{ℕ, zero, suc, ◌+◌, ◌==◌, if◌then◌else◌, List, [], ◌∷◌, ◌++◌, map, slice_get, Option, None, Some, option_map, option_and_then}
+use Rattle.std.specs.Prelude.{ℕ, ◌+◌, ◌==◌, if◌then◌else◌, List, [], ◌∷◌, ◌++◌, map, Option, None, option_map, option_and_then}
 use Rattle.cti_terms.specs.Tree.{Tree, Variable, instance, trees}
 use Rattle.cti_terms.specs.declared.atom_list.Atom.{Atom}
 use Rattle.cti_terms.specs.declared.clauses.Clause.{Clause}
 use Rattle.cti_terms.specs.declared.derivation.Goal.{Goal}
-use Rattle.cti_terms.specs.Listing.{Listing}
+use Rattle.cti_terms.specs.Listing.{Listing, numbered}
 use Rattle.cti_terms.specs.Unify.{Equation, Binding, pairs, applied}
 use Rattle.cti_terms.specs.UnifyFunction.{unify}
 
@@ -45,5 +45,4 @@ resolve_by (a ∷ rest) n c =
 
 -- what clause k of a program, counted from 1, answers at a goal: the unifier and the goal that is left
 abbrev pub resolve : Listing → Goal → ℕ → Option (List Binding × Goal)
-resolve p g zero = None
-resolve p g (suc k) = option_and_then (resolve_by g.atoms g.fresh) (slice_get p.clauses k)
+resolve p g k = option_and_then (resolve_by g.atoms g.fresh) (numbered p.clauses k)

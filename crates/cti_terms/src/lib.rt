@@ -18,13 +18,13 @@ mod predicates;
 mod syntax;
 mod term_list;
 
-#[cfg(test)]
-mod tests;
-
 pub use atom_list::{Atom, Atoms};
 pub use clauses::Clause;
 pub use derivation::Goal;
-pub use laws::{facts_are_bounded, finished_goals_are_bounded, resolution_is_a_function, unification_is_a_function};
+pub use laws::{
+    facts_are_bounded, finished_goals_are_bounded, resolution_is_a_function,
+    unification_is_a_function,
+};
 pub use limits::{MOST_ARGUMENTS, MOST_ATOMS, MOST_CLAUSES, MOST_NODES, MOST_VARIABLES};
 pub use listing::Program;
 pub use naming::{Name, Names};
