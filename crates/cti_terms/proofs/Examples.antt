@@ -10,7 +10,7 @@ use Rattle.cti_terms.specs.Listing.{Listing}
 use Rattle.cti_terms.specs.Unify.{Binding, applied, first_step, Failed, only}
 use Rattle.cti_terms.specs.UnifyFunction.{unify}
 use Rattle.cti_terms.specs.Resolve.{resolve}
-use Rattle.cti_terms.specs.Derive.{IsDerivation}
+use Rattle.cti_terms.specs.Derive.{query, IsDerivation}
 
 abbrev nil : Tree
 nil = Compound 0 (trees [])
@@ -125,31 +125,31 @@ goes_on = record {
 abbrev append : Listing
 append = record { preds = record { name = record { 0 = 5 }; arity = 3 } ∷ []; clauses = ends ∷ goes_on ∷ [] }
 
--- app([a],[b],X)
-abbrev query : Goal
-query = record { atoms = app (cons a nil) (cons b nil) X ∷ []; fresh = 1 }
+-- the query app([a],[b],X)
+abbrev appends : Goal
+appends = query (app (cons a nil) (cons b nil) X) 1
 
 -- what clause k leaves, and what clauses leave in turn
 abbrev left_after : Goal → ℕ → Option Goal
 left_after g k = option_map (λ r. r.1) (resolve append g k)
 
 -- the first clause does not resolve the query
-first_fails : left_after query 1 ≡ None
+first_fails : left_after appends 1 ≡ None
 first_fails = refl
 
 -- there is no clause 0 and no clause 3
-no_clause_zero : left_after query 0 ≡ None
+no_clause_zero : left_after appends 0 ≡ None
 no_clause_zero = refl
 
-no_clause_three : left_after query 3 ≡ None
+no_clause_three : left_after appends 3 ≡ None
 no_clause_three = refl
 
 -- the second does, with its variables raised by 1: H, T, L and R are 1 to 4
-second_leaves : left_after query 2 ≡ Some (record { atoms = app nil (cons b nil) (Variable 4) ∷ []; fresh = 5 })
+second_leaves : left_after appends 2 ≡ Some (record { atoms = app nil (cons b nil) (Variable 4) ∷ []; fresh = 5 })
 second_leaves = refl
 
 -- then the first clause leaves the empty goal
-then_first_leaves : option_and_then (λ g. left_after g 1) (left_after query 2) ≡ Some (record { atoms = []; fresh = 6 })
+then_first_leaves : option_and_then (λ g. left_after g 1) (left_after appends 2) ≡ Some (record { atoms = []; fresh = 6 })
 then_first_leaves = refl
 
 -- so the two are a derivation
@@ -159,7 +159,7 @@ first_bindings = (1, a) ∷ (2, nil) ∷ (3, cons b nil) ∷ (0, cons a (Variabl
 abbrev then_bindings : List Binding
 then_bindings = (5, cons b nil) ∷ (4, cons b nil) ∷ []
 
-two_steps : IsDerivation append query (2 ∷ 1 ∷ [])
+two_steps : IsDerivation append appends (2 ∷ 1 ∷ [])
 two_steps = (first_bindings, record { atoms = app nil (cons b nil) (Variable 4) ∷ []; fresh = 5 }, refl, (then_bindings, record { atoms = []; fresh = 6 }, refl, tt))
 
 -- with the answer [a,b]

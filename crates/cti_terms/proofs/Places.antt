@@ -1,5 +1,6 @@
 -- Lists in which a test finds one element: its place, and the list that gains it once.
-use Rattle.std.proofs.Common.{◌≡◌, ℕ, zero, suc, ◌+◌, ◌<◌, Bool, true, false, not, cond, nat_lt, ◌||◌, List, [], ◌∷◌, ◌++◌, length, slice_get, Some, None, position, if◌then◌else◌, refl, ap, subst, arith}
+use Rattle.std.proofs.Common.{◌≡◌, ℕ, zero, suc, ◌+◌, ◌<◌, Bool, true, false, not, cond, nat_lt, ◌||◌, List, [], ◌∷◌, ◌++◌, length, slice_get, slice_index_or, Some, None, position, if◌then◌else◌, refl, ap, ◌∙◌, subst, arith}
+use Rattle.std.proofs.lemmas.Bool.Decides.{nat_tests}
 use Rattle.std.specs.List.{list_any, position_or_len}
 
 -- an element stays at its place when more come after it
@@ -8,13 +9,41 @@ slice_get-append [] ys i h = absurd (omega (arith, h))
 slice_get-append (x ∷ xs) ys zero h = refl
 slice_get-append (x ∷ xs) ys (suc i) h = slice_get-append xs ys i (omega (arith, h))
 
--- the place that a search finds is the first
-pub position_or_len-found : {X : Type 0} (p : X → Bool) (xs : List X) (i : ℕ) → Some i ≡ position p xs → i ≡ position_or_len p xs
-position_or_len-found p xs i h = go (nat_lt (position_or_len p xs) (length xs)) h
-  where
-    go : (b : Bool) → Some i ≡ cond b (Some (position_or_len p xs)) None → i ≡ position_or_len p xs
-    go true e = cc
-    go false e = cc
+module _ {X : Type 0} (p : X → Bool) where
+  -- some element passes exactly where the first place that does is within the list
+  any_at : (xs : List X) → list_any p xs ≡ nat_lt (position_or_len p xs) (length xs)
+  any_at [] = refl
+  any_at (x ∷ xs) = go (p x) (any_at xs)
+    where
+      go : (b : Bool) → list_any p xs ≡ nat_lt (position_or_len p xs) (length xs) → (b || list_any p xs) ≡ nat_lt (cond (not b) (1 + position_or_len p xs) 0) (suc (length xs))
+      go true e = grind (arith, nat_tests)
+      go false e = grind (arith, nat_tests)
+
+  -- what a search finds is the first place that passes
+  pub position-found : (xs : List X) (i : ℕ) → Some i ≡ position p xs → (i ≡ position_or_len p xs) × (list_any p xs ≡ true)
+  position-found xs i h = let r = go (nat_lt (position_or_len p xs) (length xs)) h in (r.0, any_at xs ∙ r.1)
+    where
+      go : (b : Bool) → Some i ≡ cond b (Some (position_or_len p xs)) None → (i ≡ position_or_len p xs) × (b ≡ true)
+      go true e = (cc, refl)
+      go false e = cc
+
+  -- where it finds nothing, nothing passes
+  pub position-missing : (xs : List X) → None ≡ position p xs → list_any p xs ≡ false
+  position-missing xs h = any_at xs ∙ go (nat_lt (position_or_len p xs) (length xs)) h
+    where
+      go : (b : Bool) → None ≡ cond b (Some (position_or_len p xs)) None → b ≡ false
+      go true e = cc
+      go false e = refl
+
+  -- an element that passes is some element that does
+  pub list_any-there : (xs : List X) (k : ℕ) (x : X) → k < length xs → slice_index_or xs k x ≡ x → p x ≡ true → list_any p xs ≡ true
+  list_any-there [] k x l e h = absurd (omega (arith, l))
+  list_any-there (y ∷ ys) zero x l e h = ap (λ b. b || list_any p ys) (ap p e ∙ h)
+  list_any-there (y ∷ ys) (suc k) x l e h = go (p y) (list_any-there ys k x (omega (arith, l)) e h)
+    where
+      go : (b : Bool) → list_any p ys ≡ true → (b || list_any p ys) ≡ true
+      go true a = refl
+      go false a = a
 
 module _ {X : Type 0} (p : X → Bool) (x : X) (only : (y : X) → p y ≡ true → y ≡ x) where
   -- where the test finds an element, it is at its place

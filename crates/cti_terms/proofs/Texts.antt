@@ -5,7 +5,7 @@ use Rattle.std.specs.Cmp.Lexicographic.{pointwise, bytes_decides}
 use Rattle.std.proofs.lemmas.List.{map-append, get_or-map, length-map}
 use Rattle.std.proofs.lemmas.Map.Keys.{apart_from_distinct}
 use Rattle.cti_terms.specs.Numbers.{number_of, with_text}
-use Rattle.cti_terms.proofs.Places.{position_or_len-found, at_place, others_stay}
+use Rattle.cti_terms.proofs.Places.{position-found, at_place, others_stay}
 
 module _ {X Y : Type 0} (f : X → Y) (p : Y → Bool) where
   -- a test of images is a test of the elements
@@ -52,7 +52,7 @@ module _ (keys : List (Vec ℕ Global)) where
 
   module _ (text : List ℕ) where
     pub number_found : (i : ℕ) → Some i ≡ position (test text) keys → i ≡ number_of (texts keys) text
-    number_found i h = position_or_len-found (test text) keys i h ∙ sym (position_or_len-map (λ (k : Vec ℕ Global). k.items) (pointwise nat_eq text) keys)
+    number_found i h = (position-found (test text) keys i h).0 ∙ sym (position_or_len-map (λ (k : Vec ℕ Global). k.items) (pointwise nat_eq text) keys)
 
     pub same_texts : true ≡ list_any (test text) keys → texts keys ≡ with_text (texts keys) text
     same_texts h =

@@ -1,16 +1,16 @@
 -- What holds over some predicates holds over more.
-use Rattle.std.proofs.Common.{◌≡◌, ◌≢◌, ℕ, zero, suc, ◌+◌, ◌<◌, ◌≤◌, ◌^◌, Bool, true, false, List, [], ◌∷◌, ◌++◌, length, slice_get, IsSomeAnd, Some, Contains, if◌then◌else◌, ap, sym, ◌∙◌, subst, arith, eqb-true, length-append}
+use Rattle.std.proofs.Common.{◌≡◌, ◌≢◌, ℕ, zero, suc, ◌+◌, ◌<◌, ◌≤◌, ◌^◌, Bool, true, false, List, [], ◌∷◌, ◌++◌, length, slice_get, IsSomeAnd, Some, None, position, Contains, true≢false, refl, if◌then◌else◌, ap, sym, ◌∙◌, subst, arith, eqb-true, length-append}
 use Rattle.std.proofs.lemmas.Bool.{and_parts}
 use Rattle.std.proofs.lemmas.Bool.Decides.{nat_tests}
 use Rattle.std.proofs.lemmas.Option.{get_or_from_slice_get, slice_get_within}
 use Rattle.std.specs.Bool.{Decides}
-use Rattle.std.specs.List.{AllByRecursion, AllPairs, list_any, position_or_len}
+use Rattle.std.specs.List.{AllByRecursion, AllPairs, list_any}
 use Rattle.cti_terms.specs.declared.atom_list.Atom.{Atom}
 use Rattle.cti_terms.specs.declared.clauses.Clause.{Clause}
 use Rattle.cti_terms.specs.declared.limits.TheConstants.{MOST_ARGUMENTS}
 use Rattle.cti_terms.specs.declared.predicates.Pred.{Pred}
 use Rattle.cti_terms.specs.Listing.{IsAtom, IsClause, IsProgram, is_pred, with_pred}
-use Rattle.cti_terms.proofs.Places.{at_own_place, others_stay}
+use Rattle.cti_terms.proofs.Places.{position-found, position-missing, list_any-there, at_own_place, others_stay}
 
 all_map : {X : Type 0} (P Q : X → Type 0) → ((x : X) → P x → Q x) → (xs : List X) → AllByRecursion P xs → AllByRecursion Q xs
 all_map P Q f [] h = h
@@ -72,9 +72,17 @@ module _ (preds : List Pred) (p : Pred) where
   preds_stay = others_stay (is_pred p.name.0 p.arity) p (one_pred p) preds
 
   -- a predicate that is found is at its place
-  pub pred_found : (i : ℕ) → list_any (is_pred p.name.0 p.arity) preds ≡ true → i ≡ position_or_len (is_pred p.name.0 p.arity) preds → slice_get preds i ≡ Some p
-  pred_found i h e = ap (slice_get preds) e ∙ at_own_place (is_pred p.name.0 p.arity) p (one_pred p) preds h
+  pub pred_found : (i : ℕ) → Some i ≡ position (is_pred p.name.0 p.arity) preds → slice_get preds i ≡ Some p
+  pred_found i h =
+      let at = position-found (is_pred p.name.0 p.arity) preds i h in
+      ap (slice_get preds) at.0 ∙ at_own_place (is_pred p.name.0 p.arity) p (one_pred p) preds at.1
 
   -- and is there
   pub pred_there : (i : ℕ) → slice_get preds i ≡ Some p → Contains preds p
   pred_there i h = (i, slice_get_within preds i p h, get_or_from_slice_get preds i p p h)
+
+  -- one that is not found is not there
+  pub pred_absent : None ≡ position (is_pred p.name.0 p.arity) preds → Contains preds p → ⊥
+  pred_absent h there =
+      let some = list_any-there (is_pred p.name.0 p.arity) preds there.0 p there.1 there.2 ((pred_decides p p).1 refl) in
+      true≢false (sym some ∙ position-missing (is_pred p.name.0 p.arity) preds h)

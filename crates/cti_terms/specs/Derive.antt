@@ -5,10 +5,15 @@
 -- To believe: `IsDerivation`, `Bounded`. All that is promised of a query is that it is `Bounded`.
 -- Source: LD-derivations, which select the leftmost atom.
 use Rattle.std.specs.Prelude.{◌≡◌, ℕ, ◌<◌, List, [], ◌∷◌, Some, length}
+use Rattle.cti_terms.specs.declared.atom_list.Atom.{Atom}
 use Rattle.cti_terms.specs.declared.derivation.Goal.{Goal}
 use Rattle.cti_terms.specs.Listing.{Listing}
 use Rattle.cti_terms.specs.Unify.{Binding}
 use Rattle.cti_terms.specs.Resolve.{resolve}
+
+-- a query: the goal of one atom, with a counter
+abbrev pub query : Atom → ℕ → Goal
+query a n = record { atoms = a ∷ []; fresh = n }
 
 -- each clause of the list resolves the goal that the ones before it have left
 abbrev pub IsDerivation : Listing → Goal → List ℕ → Type 0

@@ -17,6 +17,8 @@ mod naming;
 mod predicates;
 mod syntax;
 mod term_list;
+#[cfg(test)]
+mod tests;
 
 pub use atom_list::{Atom, Atoms};
 pub use clauses::Clause;

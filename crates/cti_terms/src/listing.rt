@@ -32,6 +32,13 @@ impl Model for Program {
     ghost invariant = { λ p. IsProgram (record { preds = p.preds.keys; clauses = p.clauses.items }) };
 }
 
+/// The place of the predicate of this name and arity, which is found by its hash.
+fn place(preds: &IndexSet<Pred>, name: Name, arity: u32) -> Option<usize>
+    ensures { result ≡ position (is_pred name.0 arity) preds.now.keys }
+{
+    preds.get_index_of(&Pred { name, arity })
+}
+
 impl Program {
     /// The empty program. It takes no memory.
     pub fn new(alloc: Global) -> Program
@@ -84,7 +91,7 @@ impl Program {
         ensures found { IfSome result (λ p. slice_get self.now.preds p.0 ≡ Some (record { name = name; arity = arity })) }
         ensures absent { IsNone result ↔ ¬ Contains self.now.preds (record { name = name; arity = arity }) }
     {
-        match self.preds.get_index_of(&Pred { name, arity }) {
+        match place(&self.preds, name, arity) {
             Some(i) => Some(PredId(i as u32)),
             None => None,
         }

@@ -13,7 +13,7 @@ use std::marker::Model;
 pub struct Name(pub u32);
 
 /// The texts of names, each at its name's number. Contracts see the list of the texts.
-#[derive(Drop)]
+#[derive(Debug, Drop)]
 pub struct Names {
     texts: IndexSet<Vec<u8>>,
 }

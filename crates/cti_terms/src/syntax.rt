@@ -10,7 +10,12 @@ use crate::naming::Name;
 /// Source: abstract terms of ISO/IEC 13211-1:1995, without floats.
 #[derive(Debug, Drop)]
 pub enum Term {
+    /// A variable, by its number in the clause or goal that it stands in.
     Var(u32),
+
+    /// An integer.
     Int(i128),
+
+    /// A name with its arguments, in order.
     Fun(Name, Vec<Term>),
 }
