@@ -91,10 +91,8 @@ impl Program {
         ensures found { IfSome result (λ p. slice_get self.now.preds p.0 ≡ Some (record { name = name; arity = arity })) }
         ensures absent { IsNone result ↔ ¬ Contains self.now.preds (record { name = name; arity = arity }) }
     {
-        match place(&self.preds, name, arity) {
-            Some(i) => Some(PredId(i as u32)),
-            None => None,
-        }
+        let i = place(&self.preds, name, arity)?;
+        Some(PredId(i as u32))
     }
 
     /// The predicate of this name and arity: the old one where it is there, else the next.
