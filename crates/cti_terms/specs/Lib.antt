@@ -1,0 +1,12 @@
+pub mod Codes
+pub mod Coding
+pub mod Derive
+pub mod Listing
+pub mod ListingCode
+pub mod Numbers
+pub mod ResolutionStep
+pub mod Resolve
+pub mod Spell
+pub mod Tree
+pub mod Unify
+pub mod UnifyFunction

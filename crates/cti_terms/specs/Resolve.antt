@@ -1,0 +1,48 @@
+-- A step of left-to-right resolution.
+--
+-- A clause resolves a goal where its head has the predicate of the goal's first atom and unifies with it, once
+-- each variable of the clause is raised by the goal's counter. The first atom makes way for the clause's body,
+-- the unifier is applied to the whole goal, and the counter goes up by the clause's number of variables.
+--
+-- To believe: `raised`, `left_by`, `resolve`. `ResolutionStep.antt` says the same as a relation.
+-- Source: LD-resolution, with one stated unifier and one stated renaming.
+use Rattle.std.specs.Prelude.{ℕ, ◌+◌, ◌==◌, if◌then◌else◌, List, [], ◌∷◌, ◌++◌, map, Option, None, option_map, option_and_then}
+use Rattle.cti_terms.specs.Tree.{Tree, Variable, instance, trees}
+use Rattle.cti_terms.specs.declared.atom_list.Atom.{Atom}
+use Rattle.cti_terms.specs.declared.clauses.Clause.{Clause}
+use Rattle.cti_terms.specs.declared.derivation.Goal.{Goal}
+use Rattle.cti_terms.specs.Listing.{Listing, numbered}
+use Rattle.cti_terms.specs.Unify.{Equation, Binding, pairs, applied}
+use Rattle.cti_terms.specs.UnifyFunction.{unify}
+
+-- an atom with f at each argument
+abbrev pub over : (Tree → Tree) → Atom → Atom
+over f a = record { pred = a.pred; args = map f a.args }
+
+-- an atom with each variable raised by n
+abbrev pub raised : ℕ → Atom → Atom
+raised n a = over (instance (λ x. Variable (x + n))) a
+
+-- the equations of an atom's arguments with those of a raised head, the atom's on the left
+abbrev pub head_equations : Atom → ℕ → Clause → List Equation
+head_equations a n c = pairs (trees a.args) (trees (raised n c.head).args)
+
+-- the goal that a clause leaves in the place of the first atom, by bs
+abbrev pub left_by : List Binding → List Atom → ℕ → Clause → Goal
+left_by bs rest n c = record { atoms = map (over (applied bs)) (map (raised n) c.body ++ rest); fresh = n + c.vars }
+
+-- the unifier with the goal that it leaves
+abbrev pub answered : List Atom → ℕ → Clause → List Binding → List Binding × Goal
+answered rest n c bs = (bs, left_by bs rest n c)
+
+-- what a clause answers at the atoms and the counter of a goal
+abbrev pub resolve_by : List Atom → ℕ → Clause → Option (List Binding × Goal)
+resolve_by [] n c = None
+resolve_by (a ∷ rest) n c =
+    if a.pred.0 == c.head.pred.0
+    then option_map (answered rest n c) (unify (head_equations a n c))
+    else None
+
+-- what clause k of a program, counted from 1, answers at a goal: the unifier and the goal that is left
+abbrev pub resolve : Listing → Goal → ℕ → Option (List Binding × Goal)
+resolve p g k = option_and_then (resolve_by g.atoms g.fresh) (numbered p.clauses k)

@@ -1,0 +1,12 @@
+//! Goals.
+
+use crate::atom_list::Atoms;
+
+/// A goal: the atoms that are left to be resolved, the leftmost first.
+///
+/// Each variable of its terms is below `fresh`, so that those from `fresh` on are new to it.
+#[derive(Debug, Drop)]
+pub struct Goal {
+    pub atoms: Atoms,
+    pub fresh: u32,
+}

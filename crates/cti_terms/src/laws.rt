@@ -1,0 +1,48 @@
+//! Laws of the definitions. Each is a function that does nothing, and whose clauses are proved.
+
+ghost use Rattle.std.specs.Prelude.{◌≡◌, ◌<◌, ℕ, ◌↔◌, List, [], ◌∷◌, Some, length};
+ghost use Rattle.std.specs.List.{AllByRecursion};
+ghost use Rattle.cti_terms.specs.Tree.{Tree, Variable, instance};
+ghost use Rattle.cti_terms.specs.Unify.{Equation, Binding, Unifies, applied};
+ghost use Rattle.cti_terms.specs.UnifyFunction.{unify};
+ghost use Rattle.cti_terms.specs.Resolve.{resolve};
+ghost use Rattle.cti_terms.specs.ResolutionStep.{Resolves};
+ghost use Rattle.cti_terms.specs.Derive.{query, IsDerivation, Bounded};
+ghost use Rattle.cti_terms.specs.Listing.{Listing, IsFact, HasNoClause};
+ghost use Rattle.cti_terms.specs.declared.atom_list.Atom.{Atom};
+ghost use Rattle.cti_terms.specs.declared.derivation.Goal.{Goal};
+
+/// Unification is a function, and what it gives unifies.
+pub fn unification_is_a_function()
+    // Equations have at most one unifier, and the function finds it exactly where there is one.
+    ensures one { (es : List Equation) (bs cs : List Binding) → Unifies es bs → Unifies es cs → bs ≡ cs }
+    ensures computed { (es : List Equation) (bs : List Binding) → Unifies es bs ↔ (unify es ≡ Some bs) }
+
+    // Both sides of each equation become the same term, by what is one substitution.
+    ensures unifies { (es : List Equation) (bs : List Binding) → Unifies es bs
+        → AllByRecursion (λ (e : Equation). applied bs e.0 ≡ applied bs e.1) es }
+    ensures substitution { (bs : List Binding) (t : Tree) → applied bs t ≡ instance (λ x. applied bs (Variable x)) t }
+{}
+
+/// Resolution is a function of the program, the goal and the clause's number.
+pub fn resolution_is_a_function()
+    // A clause resolves a goal in at most one way, and the function finds it exactly where there is one.
+    ensures one { (p : Listing) (g : Goal) (k : ℕ) (bs cs : List Binding) (h i : Goal)
+        → Resolves p g k bs h → Resolves p g k cs i → (bs ≡ cs) × (h ≡ i) }
+    ensures computed { (p : Listing) (g : Goal) (k : ℕ) (bs : List Binding) (h : Goal)
+        → Resolves p g k bs h ↔ (resolve p g k ≡ Some (bs, h)) }
+{}
+
+/// A goal that no clause resolves is bounded: one without atoms, and one whose first atom's predicate has no clause.
+pub fn finished_goals_are_bounded()
+    ensures no_atoms { (p : Listing) (n : ℕ) → Bounded p (record { atoms = []; fresh = n }) }
+    ensures no_clause { (p : Listing) (a : Atom) (rest : List Atom) (n : ℕ)
+        → HasNoClause p a → Bounded p (record { atoms = a ∷ rest; fresh = n }) }
+{}
+
+/// In a program of facts every query is bounded, with any terms and any counter.
+pub fn facts_are_bounded()
+    ensures short { (p : Listing) (a : Atom) (n : ℕ) (ks : List ℕ)
+        → AllByRecursion IsFact p.clauses → IsDerivation p (query a n) ks → length ks < 2 }
+    ensures bounded { (p : Listing) (a : Atom) (n : ℕ) → AllByRecursion IsFact p.clauses → Bounded p (query a n) }
+{}

@@ -1,0 +1,35 @@
+//! Logic programs: names, terms, clauses and programs, and what it means to run them.
+//!
+//! The code keeps names and programs. The definitions in `specs/` say what a program does: unification with
+//! the occurs check, left-to-right resolution, derivations, and when a goal's derivations are bounded.
+//! They speak of plain trees, which contracts see wherever the code holds terms.
+//!
+//! Stands on `indexmap`, which numbers names and predicates in the order of their first use.
+#![tactic(auto)]
+
+mod atom_list;
+mod clauses;
+mod derivation;
+mod laws;
+mod limits;
+mod listing;
+mod naming;
+mod predicates;
+mod syntax;
+mod term_list;
+#[cfg(test)]
+mod tests;
+
+pub use atom_list::{Atom, Atoms};
+pub use clauses::Clause;
+pub use derivation::Goal;
+pub use laws::{
+    facts_are_bounded, finished_goals_are_bounded, resolution_is_a_function,
+    unification_is_a_function,
+};
+pub use limits::{MOST_ARGUMENTS, MOST_ATOMS, MOST_CLAUSES, MOST_NODES, MOST_VARIABLES};
+pub use listing::Program;
+pub use naming::{Name, Names};
+pub use predicates::{Pred, PredId};
+pub use syntax::Term;
+pub use term_list::Terms;
