@@ -1,0 +1,9 @@
+pub mod ViewLemmas
+pub mod NameLemmas
+pub mod Readings
+pub mod Sound
+pub mod TokenLemmas
+pub mod Renaming
+pub mod FitLemmas
+pub mod NumberLemmas
+pub mod Progress

@@ -1,0 +1,10 @@
+pub mod Placed
+pub mod Symbols
+pub mod Grammar
+pub mod Reading
+pub mod Terms
+pub mod Cause
+pub mod Fit
+pub mod Coding
+pub mod Machine
+pub mod Views

@@ -1,0 +1,35 @@
+//! Why a text is not read.
+
+use std::alloc::AllocError;
+use thiserror::Error;
+
+/// What is wrong with a text.
+#[derive(Clone, Copy, Debug, PartialEq, Eq)]
+pub enum ReadKind {
+    /// The text is within its limit, and is no list of facts.
+    Unbuilt,
+    /// The text has more than 1,048,576 bytes.
+    Long,
+}
+
+/// Why a text is not read. A place counts bytes from 0.
+#[derive(Clone, Copy, Debug, PartialEq, Eq, Error)]
+pub enum ReadFault {
+    /// The text is refused, at this place.
+    #[error("the text cannot be read: {kind:?} at byte {at}")]
+    Fault { kind: ReadKind, at: u32 },
+    /// Memory ran out.
+    #[error("out of memory")]
+    Memory,
+}
+
+impl From<AllocError> for ReadFault {
+    ghost use Rattle.std.specs.Prelude.{◌≡◌};
+    ghost use Rattle.prolog_reader.specs.declared.fault.ReadFault.TheVariants.{Memory};
+
+    ghost from_gives = { λ _ e. e ≡ Memory };
+
+    fn from(_error: AllocError) -> ReadFault {
+        ReadFault::Memory
+    }
+}

@@ -1,0 +1,82 @@
+//! What the machine sees of a token.
+
+ghost use Rattle.std.specs.Prelude.{◌≡◌, ◌<◌, ◌≤◌, ◌+◌, ◌^◌, ◌-◌, if◌then◌else◌, ℕ, List, length, IfOk, OnOk};
+ghost use Rattle.prolog_reader.specs.Symbols.{Name as PlainName, Mark as PlainMark, is_operator, symbol_of, seen_after};
+ghost use Rattle.prolog_reader.specs.Reading.{Extends};
+ghost use Rattle.prolog_reader.specs.Views.{Spells};
+
+use crate::variables::Variables;
+use cti_terms::{Name, Names};
+use prolog_tokens::{Token, TokenKind};
+use std::alloc::AllocError;
+
+/// A token as the machine takes it.
+#[derive(Clone, Copy, Debug, PartialEq, Eq)]
+pub enum Symbol {
+    /// A name, with its place.
+    Name { at: u32, name: Name },
+    /// A variable's number in its fact, with its place.
+    Variable { at: u32, number: u32 },
+    /// A parenthesis directly after the token before it.
+    Touching,
+    /// The end of a fact, with how many variables the fact has.
+    End { vars: u32 },
+    /// Any other token, by its kind alone.
+    Mark { kind: TokenKind },
+}
+
+/// The symbol of a token of the text, where the token before it ends at `before`.
+pub fn next_symbol<'a>(
+    text: &'a [u8],
+    variables: &mut Variables<'a>,
+    names: &mut Names,
+    before: u32,
+    token: Token,
+) -> Result<Symbol, AllocError>
+    requires range { (token.start ≤ token.end) × (token.end ≤ length text.now) }
+    requires room { length names.old < 2 ^ 32 - 1 }
+    requires few { length variables.old < 2 ^ 32 }
+    ensures value { IfOk result (λ s. Spells names.new s (symbol_of text.now variables.old before token)) }
+    ensures seen { OnOk result (variables.new ≡ seen_after text.now variables.old token) }
+    ensures kept { Extends names.old names.new }
+    ensures more { length names.new ≤ length names.old + 1 }
+{
+    let at = token.start;
+    match token.kind {
+        TokenKind::Name => name_symbol(names, &text[token.start as usize..token.end as usize], at),
+        TokenKind::Var => {
+            let number = variables.number(&text[token.start as usize..token.end as usize])?;
+            Ok(Symbol::Variable { at, number })
+        }
+        TokenKind::Paren if at == before => Ok(Symbol::Touching),
+        TokenKind::End => {
+            let vars = variables.len() as u32;
+            variables.clear();
+            Ok(Symbol::End { vars })
+        }
+        kind => Ok(Symbol::Mark { kind }),
+    }
+}
+
+/// The symbol of a name, which gets its number unless it is an operator.
+fn name_symbol(names: &mut Names, name: &[u8], at: u32) -> Result<Symbol, AllocError>
+    requires room { length names.old < 2 ^ 32 - 1 }
+    ensures value { IfOk result (λ s. Spells names.new s (if is_operator name.now then PlainMark TokenKind.Name else PlainName at name.now)) }
+    ensures kept { Extends names.old names.new }
+    ensures more { length names.new ≤ length names.old + 1 }
+{
+    if is_operator(name) {
+        return Ok(Symbol::Mark {
+            kind: TokenKind::Name,
+        });
+    }
+    let name = names.intern(name)?;
+    Ok(Symbol::Name { at, name })
+}
+
+/// Whether a name is an operator, and so stands in no fact.
+fn is_operator(name: &[u8]) -> bool
+    ensures { result ≡ is_operator name.now }
+{
+    name == b"is".as_slice() || name == b"mod".as_slice() || name == b"rem".as_slice()
+}

@@ -1,0 +1,21 @@
+//! Terms as they stand in a text.
+
+use cti_terms::Name;
+
+/// What a term is.
+#[cycle(read_terms)]
+#[derive(Debug, Drop)]
+pub enum ReadShape {
+    /// A variable, by its number in its clause: they are numbered from 0 in the order of their first occurrence.
+    Var(u32),
+    /// A name and its arguments. An atom has none.
+    Fun(Name, Vec<ReadTerm>),
+}
+
+/// A term and its place, which is the first byte of its first token, counted from 0.
+#[cycle(read_terms)]
+#[derive(Debug, Drop)]
+pub struct ReadTerm {
+    pub at: u32,
+    pub shape: ReadShape,
+}
