@@ -1,16 +1,13 @@
 -- What is read is in range: variables, names, arguments and nodes.
-use Rattle.std.proofs.Common.{◌≡◌, ◌≢◌, ℕ, zero, suc, ◌+◌, ◌<◌, ◌≤◌, Bool, true, false, ◌&&◌, IsTrue, ltb, leb, nat_le, List, [], ◌∷◌, ◌++◌, length, map, get_or, refl, ap, sym, ◌∙◌, subst, inl, inr, ◌⊎◌, length-append, arith}
+use Rattle.std.proofs.Common.{◌≡◌, ◌≢◌, ℕ, suc, ◌+◌, ◌<◌, ◌≤◌, Bool, true, false, ◌&&◌, IsTrue, ltb, nat_le, List, [], ◌∷◌, length, refl, ap, sym, ◌∙◌, subst, inl, inr, ◌⊎◌, arith}
 use Rattle.std.specs.Prelude.{sum_by}
 use Rattle.std.specs.List.{AllByRecursion}
 use Rattle.std.proofs.lemmas.Bool.{lt-ltb, le-leb, ltb-true, ltb-false}
 use Rattle.std.proofs.lemmas.List.{get_or_past}
 use Rattle.std.proofs.lemmas.List.Sums.{sum_by-cons}
 use Rattle.prolog_reader.proofs.Renaming.{arity_renamed}
-use Rattle.prolog_tokens.specs.declared.token.TokenKind.TheVariants as kind
-use Rattle.prolog_tokens.specs.declared.token.TokenKind.{TokenKind}
-use Rattle.prolog_tokens.specs.declared.token.Token.{Token}
 use Rattle.prolog_reader.specs.Placed.{Tree, tree, Shape, Var, Fun, Trees, no_trees, more_trees, Clause, row, arity, nodes, shape_nodes, all_nodes, is_below, shape_below, all_below, is_known, shape_known, all_known, renamed, renamed_shape, renamed_all, renamed_clause}
-use Rattle.prolog_reader.specs.Symbols.{Symbol, Name, Variable, Touching, End, Mark, kind_symbol, kind_seen, symbols}
+use Rattle.prolog_reader.specs.Symbols.{Symbol, Name, Variable, Touching, End, Mark}
 use Rattle.prolog_reader.specs.Grammar.{TermOf, a_variable, an_atom, a_compound, Arguments, last_argument, next_argument, Facts, no_facts, one_more}
 use Rattle.prolog_reader.specs.Reading.{name_text, spelled}
 use Rattle.prolog_reader.specs.Fit.{has_arity, IsFit, AreFit}

@@ -7,3 +7,4 @@ pub mod Renaming
 pub mod FitLemmas
 pub mod NumberLemmas
 pub mod Progress
+pub mod Examples

@@ -1,10 +1,10 @@
 -- Lemmas on lists of texts: the place of a text, and that later texts change nothing.
-use Rattle.std.proofs.Common.{◌≡◌, ℕ, ◌+◌, ◌<◌, ◌≤◌, Bool, true, false, not, cond, nat_lt, nat_eq, ltb, ◌||◌, List, [], ◌∷◌, ◌++◌, length, map, get_or, Option, Some, None, position, if◌then◌else◌, refl, ap, sym, ◌∙◌, subst, add-zero, append-nil, append_assoc, length-append, inl, inr, ◌⊎◌, arith}
+use Rattle.std.proofs.Common.{◌≡◌, ℕ, ◌+◌, ◌<◌, ◌≤◌, Bool, true, false, not, cond, nat_eq, ltb, ◌||◌, List, [], ◌∷◌, ◌++◌, length, map, get_or, Some, None, position, refl, ap, sym, ◌∙◌, append-nil, append_assoc, length-append, inl, inr, ◌⊎◌, arith}
 use Rattle.std.specs.List.{list_any, position_or_len}
 use Rattle.std.specs.Cmp.Lexicographic.{pointwise, same_text}
 use Rattle.std.proofs.lemmas.Bool.{ltb-true, ltb-false}
-use Rattle.std.proofs.lemmas.List.Sums.{passes_at_first, prefix_len-le-length}
-use Rattle.std.proofs.lemmas.List.{length-map, map-append}
+use Rattle.std.proofs.lemmas.List.Sums.{passes_at_first}
+use Rattle.std.proofs.lemmas.List.{length-map}
 use Rattle.std.proofs.Math.ListN.{get_or-append}
 use Rattle.std.proofs.Math.Seq.{get_or-append_seam}
 use Rattle.cti_terms.specs.Numbers.{number_of, with_text}
@@ -65,8 +65,8 @@ name_text_added texts text later ext = by_place (placed (pointwise nat_eq text) 
     by_place (inl there) =
         let whole : later ≡ texts ++ ext.0 = ext.1 ∙ ap (λ (us : List (List ℕ)). us ++ ext.0) (text_there texts text there.0) in
         rw whole (
-          get_or-append texts ext.0 [] (number_of texts text) there.1
-          ∙ sym (same_text text (get_or texts (number_of texts text) []) (sym (passes_at_first (pointwise nat_eq text) texts [] there.1)))
+        get_or-append texts ext.0 [] (number_of texts text) there.1
+        ∙ sym (same_text text (get_or texts (number_of texts text) []) (sym (passes_at_first (pointwise nat_eq text) texts [] there.1)))
         )
     by_place (inr away) =
         let whole : later ≡ (texts ++ text ∷ []) ++ ext.0 = ext.1 ∙ ap (λ (us : List (List ℕ)). us ++ ext.0) (text_away texts text away.0) in

@@ -1,12 +1,11 @@
 -- The symbols of tokens are numbered as they come, and each name has a byte.
-use Rattle.std.proofs.Common.{◌≡◌, ◌≢◌, ℕ, suc, ◌+◌, ◌-◌, ◌<◌, ◌≤◌, Bool, true, false, nat_eq, eqb, ◌==◌, List, [], ◌∷◌, ◌++◌, length, take, drop, refl, ap, sym, ◌∙◌, inl, inr, ◌⊎◌, length-append, length-take, length-drop, arith}
-use Rattle.std.specs.List.{AllByRecursion, list_any}
+use Rattle.std.proofs.Common.{◌≡◌, ◌≢◌, ℕ, suc, ◌+◌, ◌-◌, ◌<◌, ◌≤◌, Bool, true, false, nat_eq, eqb, List, [], ◌∷◌, ◌++◌, length, drop, refl, ap, ◌∙◌, inl, inr, ◌⊎◌, length-append, length-take, length-drop, arith}
+use Rattle.std.specs.List.{AllByRecursion}
 use Rattle.std.specs.Cmp.Lexicographic.{pointwise}
 use Rattle.prolog_tokens.specs.declared.token.TokenKind.TheVariants as kind
 use Rattle.prolog_tokens.specs.declared.token.TokenKind.{TokenKind}
 use Rattle.prolog_tokens.specs.declared.token.Token.{Token}
-use Rattle.cti_terms.specs.Numbers.{number_of, with_text}
-use Rattle.prolog_reader.specs.Symbols.{Symbol, Name, Variable, Touching, End, Mark, is_operator, is_anonymous, variable_number, with_variable, spelling, kind_symbol, kind_seen, symbol_of, seen_after, symbols}
+use Rattle.prolog_reader.specs.Symbols.{Symbol, is_operator, is_anonymous, variable_number, with_variable, spelling, kind_symbol, kind_seen, seen_after, symbols}
 use Rattle.prolog_reader.proofs.NameLemmas.{Placed, placed, text_there, text_away}
 use Rattle.prolog_reader.proofs.FitLemmas.{Numbered}
 

@@ -1,5 +1,5 @@
 -- How far reading has come: what the machine does from here is what it does from the start, whatever names come later.
-use Rattle.std.proofs.Common.{◌≡◌, ℕ, ◌+◌, ◌<◌, ◌≤◌, true, false, List, [], ◌∷◌, ◌++◌, length, map, Option, Some, None, Ok, Err, refl, ap, sym, ◌∙◌, subst, append_assoc, append-nil, length-append, arith}
+use Rattle.std.proofs.Common.{◌≡◌, ℕ, ◌+◌, ◌<◌, ◌≤◌, true, false, List, [], ◌∷◌, ◌++◌, length, map, Some, None, Ok, Err, refl, ap, sym, ◌∙◌, append_assoc, append-nil, length-append, arith}
 use Rattle.std.specs.List.{AllByRecursion}
 use Rattle.std.specs.Option.{option_map}
 use Rattle.std.proofs.lemmas.List.{map-append, length-map}
@@ -11,7 +11,6 @@ use Rattle.prolog_tokens.specs.declared.token.Token.{Token}
 use Rattle.prolog_tokens.specs.declared.fault.LexFault.{LexFault}
 use Rattle.prolog_reader.specs.Placed.{Clause, renamed_clause}
 use Rattle.prolog_reader.specs.Symbols.{Symbol, symbol_of, seen_after, kind_seen, spelling, symbols}
-use Rattle.prolog_reader.specs.Grammar.{Facts}
 use Rattle.prolog_reader.specs.Reading.{Reads, ReadsFacts, IsReadable, name_text, spelled, Extends}
 use Rattle.prolog_reader.specs.declared.machine.Frame.{Frame as CodeFrame}
 use Rattle.prolog_reader.specs.declared.machine.Mode.{Mode}
@@ -20,7 +19,7 @@ use Rattle.prolog_reader.specs.Views.{renamed_symbol, frames_of, state_of, is_st
 use Rattle.prolog_reader.proofs.ViewLemmas.{length_frames_of}
 use Rattle.prolog_reader.specs.Machine.{Frame, State, want, Move, next, done, fault, step, start, moved, ended, Outcome, go}
 use Rattle.prolog_reader.proofs.NameLemmas.{extends_trans, extends_self, length-with_variable}
-use Rattle.prolog_reader.proofs.TokenLemmas.{behind, after_token, at_end, at_fault, lexed_once, Passed, passed_none, passed_token}
+use Rattle.prolog_reader.proofs.TokenLemmas.{behind, at_end, at_fault, lexed_once, Passed, passed_none, passed_token}
 use Rattle.prolog_reader.proofs.Renaming.{renamed_frame, renamed_state, renamed_move, step_renamed}
 use Rattle.prolog_reader.proofs.Readings.{complete}
 use Rattle.prolog_reader.proofs.Sound.{sound}
@@ -74,8 +73,7 @@ module _ (text : List ℕ) where
     -- what is left goes from here
     reading_goes : (facts : List (Clause (List ℕ))) → Reads text facts → (more : List Token) × Lexes here more None × (prepended (spelled names clauses) (go (renamed_state (name_text names) state) (symbols text seen before more)) ≡ Some facts)
     reading_goes facts r =
-        let o = p.lexed.onward r.tokens None r.lexed in
-        (
+        let o = p.lexed.onward r.tokens None r.lexed in (
           o.0,
           o.2,
           sym (p.goes names (extends_self names) o.0) ∙ ap (λ ts. go start (symbols text [] 0 ts)) (sym o.1) ∙ complete r.grammar,

@@ -1,5 +1,5 @@
 -- What the grammar reads, the machine reads.
-use Rattle.std.proofs.Common.{◌≡◌, ℕ, suc, ◌<◌, ◌≤◌, ltb, leb, true, false, List, [], ◌∷◌, ◌++◌, length, Option, Some, None, refl, ap, sym, ◌∙◌, append_assoc, arith}
+use Rattle.std.proofs.Common.{◌≡◌, ℕ, suc, List, [], ◌∷◌, ◌++◌, length, Some, refl, ap, ◌∙◌, append_assoc, arith}
 use Rattle.std.specs.Option.{option_map}
 use Rattle.std.proofs.lemmas.Bool.{lt-ltb, le-leb}
 use Rattle.prolog_tokens.specs.declared.token.TokenKind.TheVariants.{ParenEnd, Comma}
@@ -46,8 +46,8 @@ module _ {N : Type 0} where
         term_goes term (args_frame at n before ∷ k) r e (go-next (have t (args_frame at n before ∷ k)) (have (tree at (Fun n (row (before ++ t ∷ [])))) k) (Mark ParenEnd) rest refl ∙ h)
     arguments_go (next_argument {vs = vs} {rest = rest} {t = t} {ts = ts} term arguments) at n before k r e h =
         term_goes term (args_frame at n before ∷ k) r e (
-          go-next (have t (args_frame at n before ∷ k)) (want (args_frame at n (before ++ t ∷ []) ∷ k)) (Mark Comma) vs refl
-          ∙ arguments_go arguments at n (before ++ t ∷ []) k r e (ap (λ xs. go (have (tree at (Fun n (row xs))) k) rest) (append_assoc before (t ∷ []) ts) ∙ h)
+        go-next (have t (args_frame at n before ∷ k)) (want (args_frame at n (before ++ t ∷ []) ∷ k)) (Mark Comma) vs refl
+        ∙ arguments_go arguments at n (before ++ t ∷ []) k r e (ap (λ xs. go (have (tree at (Fun n (row xs))) k) rest) (append_assoc before (t ∷ []) ts) ∙ h)
         )
 
   -- what is a list of facts, the machine reads

@@ -1,11 +1,11 @@
 -- The machine does not look at names: with each name replaced by another it moves alike.
-use Rattle.std.proofs.Common.{◌≡◌, ℕ, ◌<◌, ltb, leb, Bool, true, false, List, [], ◌∷◌, ◌++◌, length, map, refl, ap, sym, ◌∙◌, arith}
+use Rattle.std.proofs.Common.{◌≡◌, ℕ, ltb, leb, Bool, true, false, List, [], ◌∷◌, ◌++◌, length, map, refl, ap, sym, ◌∙◌, arith}
 use Rattle.std.proofs.lemmas.List.{map-append, length-map}
 use Rattle.prolog_tokens.specs.declared.token.TokenKind.TheVariants.{ParenEnd, Comma}
-use Rattle.prolog_reader.specs.Placed.{Tree, tree, Shape, Var, Fun, Trees, no_trees, more_trees, Clause, row, arity, renamed, renamed_shape, renamed_all, renamed_clause}
+use Rattle.prolog_reader.specs.Placed.{Tree, tree, Var, Fun, Trees, no_trees, more_trees, row, arity, renamed, renamed_all, renamed_clause}
 use Rattle.prolog_reader.specs.Symbols.{Symbol, Name, Variable, Touching, End, Mark}
 use Rattle.prolog_reader.specs.Views.{renamed_symbol}
-use Rattle.prolog_reader.specs.Machine.{Frame, args_frame, State, want, named, have, Move, next, done, fault, step_want, is_fact, end_fact, end_argument, step_have, step_named, step, start}
+use Rattle.prolog_reader.specs.Machine.{Frame, args_frame, State, want, named, have, Move, next, done, fault, step_want, is_fact, end_fact, end_argument, step_have, step_named, step}
 
 module _ {N M : Type 0} (f : N → M) where
   abbrev pub renamed_frame : Frame N → Frame M
@@ -78,6 +78,7 @@ module _ {N M : Type 0} (f : N → M) where
     where
       same : length (map renamed_frame k) ≡ length k
       same = length-map k renamed_frame
+
       by_test : (b : Bool) → ltb (length k) 1000 ≡ b → step_named at (f n) (map renamed_frame k) Touching ≡ renamed_move (step_named at n k Touching)
       by_test true e = rw (same, e) refl
       by_test false e = rw (same, e) refl

@@ -6,7 +6,7 @@ use Rattle.prolog_tokens.specs.declared.token.TokenKind.TheVariants.{ParenEnd, C
 use Rattle.prolog_reader.specs.Placed.{Tree, tree, Var, Fun, Trees, no_trees, Clause, row, arity}
 use Rattle.prolog_reader.specs.Symbols.{Symbol, Name, Variable, Touching, End, Mark}
 use Rattle.prolog_reader.specs.Grammar.{TermOf, a_variable, an_atom, a_compound, Arguments, last_argument, next_argument, Facts, no_facts, one_more}
-use Rattle.prolog_reader.specs.Machine.{Frame, args_frame, State, want, named, have, next, done, step, start, is_fact, end_fact, go}
+use Rattle.prolog_reader.specs.Machine.{Frame, args_frame, want, named, have, start, go}
 
 module _ (N : Type 0) where
   -- A term is read, and from there the machine ends with r.

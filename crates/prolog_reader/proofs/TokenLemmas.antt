@@ -1,5 +1,5 @@
 -- The tokens of a text, one by one.
-use Rattle.std.proofs.Common.{◌≡◌, ℕ, List, [], ◌∷◌, ◌++◌, Option, Some, None, Result, Ok, Err, refl, sym, ◌∙◌, subst, ap, append_assoc, append-nil}
+use Rattle.std.proofs.Common.{◌≡◌, List, [], ◌∷◌, ◌++◌, Option, Some, None, Result, Ok, Err, refl, sym, ◌∙◌, subst, ap, append_assoc}
 use Rattle.prolog_tokens.specs.Cursor.{Cursor, next_of}
 use Rattle.prolog_tokens.specs.Stream.{Lexes, ends, fails, goes_on}
 use Rattle.prolog_tokens.specs.declared.token.Token.{Token}

@@ -1,5 +1,5 @@
 -- What callers need of the facts that are read: all numbers are in range. It follows from `ReadsFacts`.
-use Rattle.std.specs.Prelude.{◌≡◌, ◌≤◌, ℕ, Bool, true, false, IsTrue, nat_le, List, length, sum_by}
+use Rattle.std.specs.Prelude.{◌≤◌, ℕ, Bool, false, IsTrue, nat_le, List, length, sum_by}
 use Rattle.std.specs.List.{AllByRecursion}
 use Rattle.prolog_reader.specs.Placed.{Tree, tree, Var, Fun, Clause, arity, nodes, is_below, is_known}
 

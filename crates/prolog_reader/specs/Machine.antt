@@ -1,4 +1,6 @@
--- The reader as a machine with a stack of open frames, which takes a symbol at a time. The code is proved against it.
+-- The reader as a machine with a stack of open frames, which takes a symbol at a time.
+--
+-- The code is proved against it, and it against the grammar: nothing here has to be believed.
 use Rattle.std.specs.Prelude.{ℕ, nat_lt, nat_le, Bool, false, List, [], ◌∷◌, ◌++◌, length, Option, Some, None, if◌then◌else◌}
 use Rattle.std.specs.Option.{option_map}
 use Rattle.prolog_reader.specs.Placed.{Tree, tree, Var, Fun, no_trees, Clause, row, arity}

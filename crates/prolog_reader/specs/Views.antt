@@ -1,4 +1,4 @@
--- The values of the code as those of the machine.
+-- The values of the code as those of the machine. Nothing here has to be believed.
 use Rattle.std.specs.Prelude.{◌≡◌, ℕ, Bool, true, false, List, [], ◌∷◌, map}
 use Rattle.prolog_reader.specs.declared.symbols.Symbol.{Symbol as CodeSymbol}
 use Rattle.prolog_reader.specs.declared.symbols.Symbol.TheVariants as symbol
@@ -7,7 +7,6 @@ use Rattle.prolog_reader.specs.declared.machine.Mode.{Mode}
 use Rattle.prolog_reader.specs.declared.machine.Mode.TheVariants as mode
 use Rattle.prolog_reader.specs.declared.machine.Move.{Move as CodeMove}
 use Rattle.prolog_reader.specs.declared.machine.Move.TheVariants as move
-use Rattle.prolog_reader.specs.Placed.{Tree}
 use Rattle.prolog_reader.specs.Symbols.{Symbol, Name, Variable, Touching, End, Mark}
 use Rattle.prolog_reader.specs.Reading.{Extends, name_text}
 use Rattle.prolog_reader.specs.Machine.{Frame, args_frame, State, want, named, have, Move, next, done, fault}

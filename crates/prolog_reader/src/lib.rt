@@ -12,6 +12,8 @@ mod machine;
 mod reading;
 mod symbols;
 mod term;
+#[cfg(test)]
+mod tests;
 mod text;
 mod variables;
 

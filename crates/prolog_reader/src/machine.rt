@@ -50,7 +50,12 @@ pub fn is_start(mode: &Mode, stack: &[Frame]) -> bool
 }
 
 /// Takes one symbol. After an error nothing is said of the stack.
-pub fn step(alloc: Global, stack: &mut Vec<Frame>, mode: Mode, symbol: Symbol) -> Result<Move, AllocError>
+pub fn step(
+    alloc: Global,
+    stack: &mut Vec<Frame>,
+    mode: Mode,
+    symbol: Symbol,
+) -> Result<Move, AllocError>
     ensures empties { IfOk result (λ m. EmptiesIfDone m stack.new.items) }
     ensures moves { IfOk result (λ m. move_of m stack.new.items ≡ step (state_of mode stack.old.items) (symbol_view symbol)) }
 {
@@ -80,7 +85,13 @@ fn step_want(symbol: Symbol) -> Move
 
 /// A symbol after a name: a parenthesis that touches it opens its arguments.
 #[tactic(auto, using(crate::proofs::ViewLemmas::frames_of_push, crate::proofs::ViewLemmas::length_frames_of))]
-fn step_named(alloc: Global, stack: &mut Vec<Frame>, at: u32, name: Name, symbol: Symbol) -> Result<Move, AllocError>
+fn step_named(
+    alloc: Global,
+    stack: &mut Vec<Frame>,
+    at: u32,
+    name: Name,
+    symbol: Symbol,
+) -> Result<Move, AllocError>
     ensures empties { IfOk result (λ m. EmptiesIfDone m stack.new.items) }
     ensures moves { IfOk result (λ m. move_of m stack.new.items ≡ step_named at name.0 (frames_of stack.old.items) (symbol_view symbol)) }
 {
@@ -150,7 +161,13 @@ fn is_fact(term: &ReadTerm) -> bool
 
 /// A symbol after arguments that are still open.
 #[tactic(auto, using(crate::proofs::ViewLemmas::frames_of_push))]
-fn end_argument(stack: &mut Vec<Frame>, at: u32, name: Name, terms: Vec<ReadTerm>, symbol: Symbol) -> Result<Move, AllocError>
+fn end_argument(
+    stack: &mut Vec<Frame>,
+    at: u32,
+    name: Name,
+    terms: Vec<ReadTerm>,
+    symbol: Symbol,
+) -> Result<Move, AllocError>
     ensures empties { IfOk result (λ m. EmptiesIfDone m stack.new.items) }
     ensures moves { IfOk result (λ m. move_of m stack.new.items ≡ end_argument at name.0 (map tree_of terms.items) (frames_of stack.old.items) (symbol_view symbol)) }
 {

@@ -9,11 +9,11 @@ ghost use Rattle.prolog_reader.specs.Fit.{AreFit};
 ghost use Rattle.prolog_reader.specs.Cause.{Cause};
 
 use crate::clauses::ReadClauses;
-use crate::text::ReadText;
 use crate::fault::{ReadFault, ReadKind};
 use crate::limits::{MOST_BYTES, MOST_FACTS};
 use crate::machine::{Mode, Move, is_start, step};
 use crate::symbols::next_symbol;
+use crate::text::ReadText;
 use crate::variables::Variables;
 use cti_terms::Names;
 use prolog_tokens::Lexer;
@@ -63,7 +63,11 @@ pub fn read_text(alloc: Global, text: &[u8], names: &mut Names) -> Result<ReadTe
 }
 
 /// The facts of a text, or `None` where it is no list of facts.
-fn read_facts(alloc: Global, text: &[u8], names: &mut Names) -> Result<Option<ReadClauses>, AllocError>
+fn read_facts(
+    alloc: Global,
+    text: &[u8],
+    names: &mut Names,
+) -> Result<Option<ReadClauses>, AllocError>
     requires short { length text.now ≤ 1048576 }
     requires room { length names.old ≤ 4292870143 }
     ensures found { IfOk result (λ read. IfSome read (λ clauses. ReadsFacts text.now names.new clauses)) }

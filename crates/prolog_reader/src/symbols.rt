@@ -25,7 +25,8 @@ pub enum Symbol {
     Mark { kind: TokenKind },
 }
 
-/// The symbol of a token of the text, where the token before it ends at `before`.
+/// The symbol of a token of the text, where the token before it ends at `before`. After an error nothing is said of the
+/// variables.
 pub fn next_symbol<'a>(
     text: &'a [u8],
     variables: &mut Variables<'a>,
@@ -42,10 +43,11 @@ pub fn next_symbol<'a>(
     ensures more { length names.new ≤ length names.old + 1 }
 {
     let at = token.start;
+    let spelling = &text[token.start as usize..token.end as usize];
     match token.kind {
-        TokenKind::Name => name_symbol(names, &text[token.start as usize..token.end as usize], at),
+        TokenKind::Name => name_symbol(names, spelling, at),
         TokenKind::Var => {
-            let number = variables.number(&text[token.start as usize..token.end as usize])?;
+            let number = variables.number(spelling)?;
             Ok(Symbol::Variable { at, number })
         }
         TokenKind::Paren if at == before => Ok(Symbol::Touching),

@@ -1,12 +1,10 @@
-use Rattle.std.proofs.Common.{◌≡◌, ◌+◌, ◌<◌, ◌≤◌, ◌++◌, ◌∷◌, [], Ok, Some, None, Err, refl, length, length-append, ap, sym, ◌∙◌, arith}
-use Rattle.prolog_tokens.specs.Cursor.{Cursor, next_of}
-use Rattle.prolog_reader.specs.Symbols.{seen_after}
+use Rattle.std.proofs.Common.{◌∷◌, [], refl, length, length-append, ap, sym, ◌∙◌, arith}
+use Rattle.prolog_tokens.specs.Cursor.{Cursor}
 use Rattle.prolog_reader.specs.Machine.{want}
 use Rattle.prolog_reader.specs.Terms.{clause_of}
 use Rattle.prolog_reader.specs.Views.{state_of, frames_of, is_start, symbol_view}
 use Rattle.prolog_reader.specs.Reading.{name_text}
 use Rattle.prolog_reader.proofs.NameLemmas.{extends_self, extends_trans}
-use Rattle.prolog_reader.proofs.TokenLemmas.{behind}
 use Rattle.prolog_reader.proofs.Progress.{begins_as, moved_as, is_start_state, not_start_state, read_to_end, fit_to_end, ended_within, no_token, goes_next, goes_done, stuck, too_many, length-seen_after}
 use Rattle.prolog_reader.proofs.reading.read_facts.Goals as goal
 use Rattle.prolog_reader.proofs.reading.read_facts.Goals.{in_default-via-in-Ok-None+else-is_start, in_default-via-in_default}
@@ -37,11 +35,11 @@ returns-in-Ok-None-clause-fit c =
 pub returns-in_default-clause-unreadable : goal.returns-in_default-clause-unreadable
 returns-in_default-clause-unreadable c =
     elim c.in_default.branch [
-    | in_default-via-in-Ok-None+else-is_start w ↦
-        let is = sym (rw w.in-Ok-None.field-0-is at w.in-Ok-None.ensures.value) in
-        let within = not_start_state (name_text c.tokens.names) c.tokens.mode c.tokens.stack.items (ap (is_start c.tokens.mode) (sym w.deref.ensures.value) ∙ sym w.is_start.ensures ∙ w.if-is_start.false) in
-        ended_within c.args.text.now _ _ _ _ _ _ c.tokens.invariant.progress is within
-    | in_default-via-in_default w ↦ no_token c.args.text.now _ _ _ _ _ _ c.tokens.invariant.progress w.in_default.field-0 (sym c.next.ensures.value ∙ w.in_default.is)
+      | in_default-via-in-Ok-None+else-is_start w ↦
+          let is = sym (rw w.in-Ok-None.field-0-is at w.in-Ok-None.ensures.value) in
+          let within = not_start_state (name_text c.tokens.names) c.tokens.mode c.tokens.stack.items (ap (is_start c.tokens.mode) (sym w.deref.ensures.value) ∙ sym w.is_start.ensures ∙ w.if-is_start.false) in
+          ended_within c.args.text.now _ _ _ _ _ _ c.tokens.invariant.progress is within
+      | in_default-via-in_default w ↦ no_token c.args.text.now _ _ _ _ _ _ c.tokens.invariant.progress w.in_default.field-0 (sym c.next.ensures.value ∙ w.in_default.is)
     ]
 
 pub tokens-preserved-in-Next : goal.tokens-preserved-in-Next
@@ -53,10 +51,10 @@ tokens-preserved-in-Next c =
     let text = ap (λ (x : Cursor). x.text) after ∙ c.tokens.invariant.same in
     record {
       progress = moved_as c.args.text.now _ _ _ _ _ _ _ _ _ _ after c.in_ok-symbol.ensures.seen refl refl (
-        goes_next c.args.text.now c.tokens.names c.tokens.lexer c.tokens.variables c.tokens.before (state_of c.tokens.mode c.tokens.stack.items) c.tokens.clauses c.tokens.invariant.progress
+          goes_next c.args.text.now c.tokens.names c.tokens.lexer c.tokens.variables c.tokens.before (state_of c.tokens.mode c.tokens.stack.items) c.tokens.clauses c.tokens.invariant.progress
           c.in-Ok-Some.token (symbol_view c.in_ok-symbol.symbol) c.next_symbol.new.names is (within.0, (within.1, omega (arith, within.2, ap length c.tokens.invariant.same))) c.in_ok-symbol.ensures.kept c.in_ok-symbol.ensures.value
           (state_of c.in-Next.next c.step.new.stack.items) (rw c.in-Next.is at c.in_ok-next.ensures.moves)
-      );
+          );
       same = text;
       within = omega (arith, at, within, ap length c.tokens.invariant.same);
       variables = omega (arith, at, within, c.tokens.invariant.variables, ap length c.in_ok-symbol.ensures.seen, length-seen_after c.args.text.now c.tokens.variables c.in-Ok-Some.token);
@@ -70,8 +68,8 @@ returns-then-len-eq-MOST_FACTS-clause-unreadable c =
     let is = sym (rw c.in-Ok-Some.field-0-is at c.in-Ok-Some.ensures.value) in
     let within = rw c.in-Ok-Some.field-0-is at c.in-Ok-Some.ensures.progress in
     too_many c.args.text.now c.tokens.names c.tokens.lexer c.tokens.variables c.tokens.before (state_of c.tokens.mode c.tokens.stack.items) c.tokens.clauses c.tokens.invariant.progress
-      c.in-Ok-Some.token (symbol_view c.in_ok-symbol.symbol) c.next_symbol.new.names is (within.0, (within.1, omega (arith, within.2, ap length c.tokens.invariant.same))) c.in_ok-symbol.ensures.kept c.in_ok-symbol.ensures.value
-      (clause_of c.in-Done.clause) (rw c.in-Done.is at c.in_ok-next.ensures.moves) (omega (arith, c.len.ensures, c.if-len-eq-MOST_FACTS.true))
+    c.in-Ok-Some.token (symbol_view c.in_ok-symbol.symbol) c.next_symbol.new.names is (within.0, (within.1, omega (arith, within.2, ap length c.tokens.invariant.same))) c.in_ok-symbol.ensures.kept c.in_ok-symbol.ensures.value
+    (clause_of c.in-Done.clause) (rw c.in-Done.is at c.in_ok-next.ensures.moves) (omega (arith, c.len.ensures, c.if-len-eq-MOST_FACTS.true))
 
 pub tokens-preserved : goal.tokens-preserved
 tokens-preserved c =
@@ -83,10 +81,10 @@ tokens-preserved c =
     let empty = rw c.in-Done.is at c.in_ok-next.ensures.empties in
     record {
       progress = moved_as c.args.text.now _ _ _ _ _ _ _ _ _ _ after c.in_ok-symbol.ensures.seen (ap (λ fs. want (frames_of fs)) empty) c.in_ok-push-in-Done.ensures.ok (
-        goes_done c.args.text.now c.tokens.names c.tokens.lexer c.tokens.variables c.tokens.before (state_of c.tokens.mode c.tokens.stack.items) c.tokens.clauses c.tokens.invariant.progress
+          goes_done c.args.text.now c.tokens.names c.tokens.lexer c.tokens.variables c.tokens.before (state_of c.tokens.mode c.tokens.stack.items) c.tokens.clauses c.tokens.invariant.progress
           c.in-Ok-Some.token (symbol_view c.in_ok-symbol.symbol) c.next_symbol.new.names is (within.0, (within.1, omega (arith, within.2, ap length c.tokens.invariant.same))) c.in_ok-symbol.ensures.kept c.in_ok-symbol.ensures.value
           (clause_of c.in-Done.clause) (rw c.in-Done.is at c.in_ok-next.ensures.moves)
-      );
+          );
       same = text;
       within = omega (arith, at, within, ap length c.tokens.invariant.same);
       variables = omega (arith, at, within, c.tokens.invariant.variables, ap length c.in_ok-symbol.ensures.seen, length-seen_after c.args.text.now c.tokens.variables c.in-Ok-Some.token);
@@ -100,5 +98,5 @@ returns-in-Fault-clause-unreadable c =
     let is = sym (rw c.in-Ok-Some.field-0-is at c.in-Ok-Some.ensures.value) in
     let within = rw c.in-Ok-Some.field-0-is at c.in-Ok-Some.ensures.progress in
     stuck c.args.text.now c.tokens.names c.tokens.lexer c.tokens.variables c.tokens.before (state_of c.tokens.mode c.tokens.stack.items) c.tokens.clauses c.tokens.invariant.progress
-      c.in-Ok-Some.token (symbol_view c.in_ok-symbol.symbol) c.next_symbol.new.names is (within.0, (within.1, omega (arith, within.2, ap length c.tokens.invariant.same))) c.in_ok-symbol.ensures.kept c.in_ok-symbol.ensures.value
-      (rw c.in-Fault.is at c.in_ok-next.ensures.moves)
+    c.in-Ok-Some.token (symbol_view c.in_ok-symbol.symbol) c.next_symbol.new.names is (within.0, (within.1, omega (arith, within.2, ap length c.tokens.invariant.same))) c.in_ok-symbol.ensures.kept c.in_ok-symbol.ensures.value
+    (rw c.in-Fault.is at c.in_ok-next.ensures.moves)

@@ -16,8 +16,8 @@ returns-in-Some-clause-added c = (variable_found (λ n. n.now) _ _ _ (sym c.self
 pub fresh : (c : goal.In_ok-push) → (is_anonymous c.args.name.now ≡ true) ⊎ ((is_anonymous c.args.name.now ≡ false) × (None ≡ position (λ n. pointwise nat_eq c.args.name.now n.now) c.self.inside.names.items))
 fresh c =
     elim c.if-not-is_anonymous.branch [
-    | then-not-is_anonymous+in_default w ↦ inr (sym c.is_anonymous.ensures ∙ w.if-not-is_anonymous.true, w.in_default.ensures ∙ ap (position (λ n. pointwise nat_eq c.args.name.now n.now)) w.deref.ensures.value)
-    | else-not-is_anonymous w ↦ inl (sym c.is_anonymous.ensures ∙ w.if-not-is_anonymous.false)
+      | then-not-is_anonymous+in_default w ↦ inr (sym c.is_anonymous.ensures ∙ w.if-not-is_anonymous.true, w.in_default.ensures ∙ ap (position (λ n. pointwise nat_eq c.args.name.now n.now)) w.deref.ensures.value)
+      | else-not-is_anonymous w ↦ inl (sym c.is_anonymous.ensures ∙ w.if-not-is_anonymous.false)
     ]
 
 pub returns-clause-number : goal.returns-clause-number
