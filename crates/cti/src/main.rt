@@ -1,0 +1,46 @@
+//! `cti`: reads the words, makes the real files and the real output, and ends with the status's number.
+#![tactic(auto)]
+
+use cti_top::{RealFiles, RealSink, Status, command};
+use std::alloc::{AllocError, Global};
+use std::process::ExitCode;
+use std::{env, io};
+
+/// The words after the program's name. Where the system does not give them as text, there are none.
+fn words(rt: &HostRuntime, alloc: Global) -> Result<Vec<String>, AllocError> {
+    let mut words = Vec::new(alloc);
+    match env::args(rt) {
+        Ok(args) => {
+            for word in args.skip(1) {
+                words.push(word)?;
+            }
+            Ok(words)
+        }
+        Err(error) if error.kind() == io::ErrorKind::OutOfMemory => Err(AllocError),
+        Err(_) => Ok(words),
+    }
+}
+
+/// Runs the command that the words ask for.
+fn run(rt: &HostRuntime, alloc: Global) -> Result<Status, AllocError> {
+    let words = words(rt, alloc)?;
+    let mut texts = Vec::new(alloc);
+    for word in &words {
+        texts.push(word.as_str())?;
+    }
+    let mut files = RealFiles {
+        runtime: rt,
+        faults: 0,
+    };
+    let mut out = RealSink {
+        inner: rt.stdout(),
+        faults: 0,
+    };
+    Ok(command(alloc, &texts, &mut files, &mut out))
+}
+
+fn main(rt: HostRuntime) -> ExitCode {
+    let alloc = rt.alloc();
+    let status = run(&rt, alloc).unwrap_or(Status::Memory);
+    ExitCode::from(status.number())
+}

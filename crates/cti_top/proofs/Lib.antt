@@ -1,0 +1,6 @@
+pub mod Taking
+pub mod Adding
+pub mod LineLemmas
+pub mod FactLemmas
+pub mod ReadLemmas
+pub mod AnswerLemmas

@@ -1,0 +1,10 @@
+pub mod Causes
+pub mod Told
+pub mod Held
+pub mod Status
+pub mod Refusal
+pub mod Words
+pub mod FactProgram
+pub mod Adding
+pub mod Modes
+pub mod Outcome

@@ -1,0 +1,26 @@
+-- What a store of files and a sink tell of their contents.
+use Rattle.std.specs.Prelude.{ℕ, ◌≡◌, ◌<◌, List, ◌++◌, length, take, Option, Some, None}
+
+-- the bytes at each name, where the store tells them
+abbrev pub Map : Type 0
+Map = Option (List ℕ → Option (List ℕ))
+
+-- where the map is told, it has these bytes at the name
+abbrev pub TellsAt : Map → List ℕ → List ℕ → Type 0
+TellsAt None name bytes = Unit {0}
+TellsAt (Some files) name bytes = files name ≡ Some bytes
+
+-- where the map is told, it has more than so many bytes at the name
+abbrev pub TellsMore : Map → List ℕ → ℕ → Type 0
+TellsMore None name most = Unit {0}
+TellsMore (Some files) name most = (bytes : List ℕ) × (files name ≡ Some bytes) × (most < length bytes)
+
+-- where the bytes taken are told, these were added to them
+abbrev pub Takes : Option (List ℕ) → List ℕ → Option (List ℕ) → Type 0
+Takes None added after = after ≡ None
+Takes (Some before) added after = after ≡ Some (before ++ added)
+
+-- where the bytes taken are told, a proper prefix of the text was added
+abbrev pub TakesPart : Option (List ℕ) → List ℕ → Option (List ℕ) → Type 0
+TakesPart None text after = after ≡ None
+TakesPart (Some before) text after = (n : ℕ) × (n < length text) × (after ≡ Some (before ++ take n text))

@@ -1,0 +1,31 @@
+//! The top call of `cti`, and the traits of the outside.
+#![tactic(auto)]
+
+mod answering;
+mod facts;
+mod files;
+mod memory_files;
+mod memory_sink;
+mod modes;
+mod real_files;
+mod real_sink;
+mod refusal;
+mod sink;
+mod status;
+mod sure;
+#[cfg(test)]
+mod tests;
+mod top_call;
+mod words;
+mod writing;
+
+pub use files::{Files, LoadFault};
+pub use memory_files::MemFiles;
+pub use memory_sink::MemSink;
+pub use real_files::RealFiles;
+pub use real_sink::RealSink;
+pub use refusal::{Subject, refusal_text};
+pub use sink::{Sink, SinkFault};
+pub use status::Status;
+pub use sure::{SureFiles, SureSink};
+pub use top_call::command;
