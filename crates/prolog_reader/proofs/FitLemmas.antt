@@ -43,11 +43,11 @@ both : (a b : Bool) → IsTrue a → IsTrue b → IsTrue (a && b)
 both true b h g = g
 both false b h g = h
 
-first_of : (a b : Bool) → IsTrue (a && b) → IsTrue a
+pub first_of : (a b : Bool) → IsTrue (a && b) → IsTrue a
 first_of true b h = refl
 first_of false b h = h
 
-second_of : (a b : Bool) → IsTrue (a && b) → IsTrue b
+pub second_of : (a b : Bool) → IsTrue (a && b) → IsTrue b
 second_of true b h = h
 second_of false b h = cc
 

@@ -8,3 +8,4 @@ pub mod FitLemmas
 pub mod NumberLemmas
 pub mod Progress
 pub mod Examples
+pub mod SpellingLemmas

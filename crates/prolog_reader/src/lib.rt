@@ -21,6 +21,6 @@ pub use clause::ReadClause;
 pub use clauses::ReadClauses;
 pub use fault::{ReadFault, ReadKind};
 pub use limits::{MOST_ARGUMENTS, MOST_BYTES, MOST_FACTS, MOST_OPEN, MOST_VARIABLES};
-pub use reading::{one_reading, read_text};
+pub use reading::{one_numbering, one_reading, read_text};
 pub use term::{ReadShape, ReadTerm};
 pub use text::ReadText;

@@ -1,11 +1,12 @@
 //! Reading a text.
 
-ghost use Rattle.std.specs.Prelude.{◌≡◌, ◌≤◌, ◌<◌, ◌+◌, ℕ, List, length, IfOk, IfErr, IfSome, IfNone, MatchResult, Err};
+ghost use Rattle.std.specs.Prelude.{◌≡◌, ◌≢◌, ◌≤◌, ◌<◌, ◌+◌, ℕ, List, length, IfOk, IfErr, IfSome, IfNone, MatchResult, Err};
+ghost use Rattle.std.specs.List.{AllByRecursion, AllPairs};
 ghost use Rattle.prolog_reader.specs.declared.fault.ReadFault.TheVariants.{Fault as TheFault, Memory};
 ghost use Rattle.prolog_reader.specs.declared.fault.ReadKind.TheVariants.{Long as TooLong};
 ghost use Rattle.prolog_reader.specs.Placed.{Clause};
 ghost use Rattle.prolog_reader.specs.Reading.{Reads, ReadsFacts, IsReadable, spelled, Extends};
-ghost use Rattle.prolog_reader.specs.Fit.{AreFit};
+ghost use Rattle.prolog_reader.specs.Fit.{IsFit, AreFit};
 ghost use Rattle.prolog_reader.specs.Cause.{Cause};
 
 use crate::clauses::ReadClauses;
@@ -107,4 +108,11 @@ fn read_facts(
 /// No text is read as two lists of facts.
 pub fn one_reading()
     ensures { (text : List ℕ) (facts others : List (Clause (List ℕ))) → Reads text facts → Reads text others → facts ≡ others }
+{}
+
+/// No text is read as two lists of facts under the same names, of which no two have the same text.
+pub fn one_numbering()
+    ensures { (text : List ℕ) (names : List (List ℕ)) (clauses others : List (Clause ℕ)) → AllPairs (λ a b. a ≢ b) names
+        → AllByRecursion (IsFit (length names)) clauses → AllByRecursion (IsFit (length names)) others
+        → ReadsFacts text names clauses → ReadsFacts text names others → clauses ≡ others }
 {}
