@@ -4,3 +4,4 @@ pub mod LineLemmas
 pub mod FactLemmas
 pub mod ReadLemmas
 pub mod AnswerLemmas
+pub mod Examples
