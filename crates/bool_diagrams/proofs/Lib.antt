@@ -1,0 +1,6 @@
+pub mod Canonical
+pub mod Nodes
+pub mod Tables
+pub mod Memos
+pub mod Decided
+pub mod Halves

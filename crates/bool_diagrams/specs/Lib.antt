@@ -1,0 +1,5 @@
+pub mod Tree
+pub mod TreeCode
+pub mod Rows
+pub mod Joins
+pub mod Nodes
