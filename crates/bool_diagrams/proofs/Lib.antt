@@ -4,3 +4,4 @@ pub mod Tables
 pub mod Memos
 pub mod Decided
 pub mod Halves
+pub mod Renamed

@@ -1,5 +1,6 @@
 -- What a diagram is that was joined of others: for private clauses.
-use Rattle.std.specs.Prelude.{ℕ, ◌≡◌, ◌+◌, ◌≤◌, ◌<◌, false, true, Bool, List, ◌&&◌, ◌||◌, if◌then◌else◌, Option, Some, None}
+use Rattle.std.specs.Prelude.{ℕ, ◌≡◌, ◌+◌, ◌≤◌, ◌<◌, false, true, Bool, List, ◌&&◌, ◌||◌, if◌then◌else◌, Option, Some, None, nat_eq}
+use Rattle.std.specs.HashMap.{HashMap, get}
 use Rattle.bool_diagrams.specs.declared.memo.Connective.{Connective}
 use Rattle.bool_diagrams.specs.declared.memo.Connective.TheVariants.{And, Or, Iff}
 use Rattle.bool_diagrams.specs.declared.memo.Key.{Key}
@@ -89,3 +90,12 @@ pub record Quantifies (trees : List Tree) (connective : Connective) (a variable 
 abbrev pub IsRight : List Tree → Key → ℕ → Type 0
 IsRight trees (Join connective a b) i = IsOf trees a × IsOf trees b × Joins trees connective a b i
 IsRight trees (Quantify connective a variable) i = IsOf trees a × Quantifies trees connective a variable i
+
+-- the diagram i is a with each variable renamed
+pub record Renames (trees : List Tree) (rename : ℕ → ℕ) (a i : ℕ) : Type 0 where
+  pub of : IsOf trees i
+  pub rows : (row : ℕ → Bool) → value (tree trees i) row ≡ value (tree trees a) (λ v. row (rename v))
+
+-- each memo entry is right: the number of a diagram leads to that of the renamed one
+abbrev pub IsRenamed : {S : Type 0} → List Tree → (ℕ → ℕ) → HashMap ℕ ℕ S → Type 0
+IsRenamed trees rename memo = (a i : ℕ) → get nat_eq memo a ≡ Some i → IsOf trees a × Renames trees rename a i

@@ -3,3 +3,4 @@ pub mod TreeCode
 pub mod Rows
 pub mod Joins
 pub mod Nodes
+pub mod Renaming

@@ -124,7 +124,7 @@ fn absorbing(connective: Connective) -> Option<u64>
 }
 
 // What a diagram and itself give.
-fn with_itself(connective: Connective, a: u64) -> u64
+pub(crate) fn with_itself(connective: Connective, a: u64) -> u64
     ensures { result ≡ with_itself connective a }
 {
     match connective {

@@ -5,6 +5,8 @@ mod diagram;
 mod joining;
 mod memo;
 mod node;
+mod quantifying;
+mod renaming;
 mod reading;
 mod table;
 

@@ -4,7 +4,7 @@ ghost use Rattle.std.specs.Prelude.{◌≡◌, ◌↔◌, ◌+◌, ◌∷◌, �
 ghost use Rattle.bool_diagrams.specs.Joins.{Chooses, IsFirst, IsRight, Splits, Stands};
 ghost use Rattle.bool_diagrams.specs.Nodes.{same_node};
 ghost use Rattle.bool_diagrams.specs.Rows.{IsOf, Keeps, tree};
-ghost use Rattle.bool_diagrams.specs.Tree.{IsFrom, SameRows};
+ghost use Rattle.bool_diagrams.specs.Tree.{IsFrom, IsReduced, SameRows};
 
 use crate::memo::{Key, Memo};
 use crate::node::Node;
@@ -79,18 +79,20 @@ impl Table {
     pub(crate) fn node_of(&self, number: u64) -> Node
         requires above { 2 ≤ number }
         requires of { IsOf self.now number }
-        ensures { Stands self.now number result }
+        ensures stands { Stands self.now number result }
+        ensures reduced { IsReduced (tree self.now number) }
     {
         self.nodes[(number - 2) as usize]
     }
 
     // The first variable of a diagram, or 64 for a constant.
-    fn first_of(&self, number: u64) -> u32
+    pub(crate) fn first_of(&self, number: u64) -> u32
         requires of { IsOf self.now number }
         ensures constant { number < 2 → result ≡ 64 }
         ensures in_range { 2 ≤ number → result < 64 }
         ensures from { IsFrom result (tree self.now number) }
         ensures reads { result < 64 → IsFrom (result + 1) (tree self.now number) → ⊥ }
+        ensures reduced { IsReduced (tree self.now number) }
     {
         if number < 2 {
             return VARIABLES;
@@ -148,6 +150,11 @@ impl Table {
         ensures { self.new ≡ self.old }
     {
         self.memo.keep(key, number)
+    }
+
+    // Where the table takes its memory.
+    pub(crate) fn alloc(&self) -> Global {
+        *self.nodes.allocator()
     }
 
     // Empties the memo, at the end of an operation.
