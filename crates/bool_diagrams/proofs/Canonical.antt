@@ -9,6 +9,14 @@ at_value row v b = grind (arith, nat_tests)
 pub off_value : (row : ℕ → Bool) (v u : ℕ) (b : Bool) → v + 1 ≤ u → with_value row v b u ≡ row u
 off_value row v u b lt = grind (arith, nat_tests)
 
+-- a tree has one value on rows that agree everywhere
+pub value_same : (t : Tree) (row other : ℕ → Bool) → ((v : ℕ) → row v ≡ other v) → value t row ≡ value t other
+value_same (leaf b) row other agree = refl
+value_same (branch v low high) row other agree =
+    let low_same = value_same low row other agree in
+    let high_same = value_same high row other agree in
+    rw (agree v, low_same, high_same) refl
+
 pub from_later : (t : Tree) (v w : ℕ) → v ≤ w → IsFrom w t → IsFrom v t
 from_later (leaf b) v w le f = tt
 from_later (branch u low high) v w le f = omega arith

@@ -5,3 +5,6 @@ pub mod Memos
 pub mod Decided
 pub mod Halves
 pub mod Renamed
+pub mod CubeLemmas
+pub mod PathLemmas
+pub mod WalkLemmas

@@ -4,3 +4,5 @@ pub mod Rows
 pub mod Joins
 pub mod Nodes
 pub mod Renaming
+pub mod Cubes
+pub mod Paths

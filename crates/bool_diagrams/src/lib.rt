@@ -1,14 +1,17 @@
 //! Sets of rows of up to 64 Boolean variables, as shared decision diagrams.
 #![tactic(auto)]
 
+mod cube;
 mod diagram;
 mod joining;
 mod memo;
 mod node;
+mod paths;
 mod quantifying;
-mod renaming;
 mod reading;
+mod renaming;
 mod table;
 
+pub use cube::{Cell, Cube};
 pub use diagram::Diagram;
 pub use table::{Table, VARIABLES};

@@ -1,0 +1,120 @@
+-- The paths of a reduced tree are the cubes of its rows.
+use Rattle.std.proofs.Common.{◌≡◌, ◌≢◌, ◌⊎◌, ℕ, zero, suc, ◌+◌, ◌-◌, ◌≤◌, ◌<◌, ◌==◌, ◌&&◌, Bool, true, false, if◌then◌else◌, List, [], ◌∷◌, ◌++◌, map, replicate, length, get_or, refl, sym, ◌∙◌, ap, subst, inl, inr, arith}
+use Rattle.std.proofs.lemmas.Bool.{cases_eq, cases_lt, and_parts, ne_eqb}
+use Rattle.std.proofs.lemmas.List.{map-append}
+use Rattle.bool_diagrams.specs.declared.cube.Cell.{Cell}
+use Rattle.bool_diagrams.specs.declared.cube.Cell.TheVariants.{Zero, One, Any}
+use Rattle.bool_diagrams.specs.Tree.{Tree, leaf, branch, value, with_value, IsFrom, IsReduced, SameRows}
+use Rattle.bool_diagrams.specs.Rows.{iff}
+use Rattle.bool_diagrams.specs.Cubes.{rests, same_rows, cubes}
+use Rattle.bool_diagrams.specs.Paths.{rows_from, DependsBelow}
+use Rattle.bool_diagrams.proofs.Canonical.{at_value, off_value, from_later, reads_later, same_tree}
+
+-- every variable that is asked is below the width
+abbrev pub IsBelow : ℕ → Tree → Type 0
+IsBelow width (leaf b) = Unit {0}
+IsBelow width (branch v low high) = (v < width) × IsBelow width low × IsBelow width high
+
+-- a half of a tree depends on no more than the tree
+half_depends : (width v : ℕ) (low high half : Tree) (b : Bool) → IsReduced half → IsFrom (v + 1) half
+    → ((row : ℕ → Bool) → value (branch v low high) (with_value row v b) ≡ value half (with_value row v b))
+    → DependsBelow width (branch v low high) → DependsBelow width half
+half_depends width v low high half b red from is depends = λ row other agree.
+    let there = depends (with_value row v b) (with_value other v b) (λ u lt. ap (λ (x : Bool). if u == v then b else x) (agree u lt)) in
+    sym (reads_later half row v b red from) ∙ sym (is row) ∙ there ∙ is other ∙ reads_later half other v b red from
+
+low_value : (v : ℕ) (low high : Tree) (row : ℕ → Bool) → value (branch v low high) (with_value row v false) ≡ value low (with_value row v false)
+low_value v low high row = rw (at_value row v false) refl
+
+high_value : (v : ℕ) (low high : Tree) (row : ℕ → Bool) → value (branch v low high) (with_value row v true) ≡ value high (with_value row v true)
+high_value v low high row = rw (at_value row v true) refl
+
+pub low_depends : (width v : ℕ) (low high : Tree) → IsReduced (branch v low high) → DependsBelow width (branch v low high) → DependsBelow width low
+low_depends width v low high r depends = half_depends width v low high low false r.3 r.0 (low_value v low high) depends
+
+pub high_depends : (width v : ℕ) (low high : Tree) → IsReduced (branch v low high) → DependsBelow width (branch v low high) → DependsBelow width high
+high_depends width v low high r depends = half_depends width v low high high true r.4 r.1 (high_value v low high) depends
+
+either_value : (row : ℕ → Bool) (v u : ℕ) → (u ≡ v → ⊥) → with_value row v true u ≡ with_value row v false u
+either_value row v u apart = rw (ne_eqb u v apart) refl
+
+-- a variable that is asked is below the width
+pub variable_below : (width v : ℕ) (low high : Tree) → IsReduced (branch v low high) → DependsBelow width (branch v low high) → v < width
+variable_below width v low high r depends = elim (cases_lt v width) [
+  | inl lt ↦ lt
+  | inr le ↦
+      let same : SameRows high low = λ row.
+          let there = depends (with_value row v true) (with_value row v false) (λ u lt. either_value row v u (λ e. omega arith)) in
+          sym (reads_later high row v true r.4 r.1) ∙ sym (high_value v low high row) ∙ there ∙ low_value v low high row ∙ reads_later low row v false r.3 r.0 in
+      absurd (r.2 (sym (same_tree low high r.3 r.4 same)))
+]
+
+pub all_below : (width : ℕ) (t : Tree) → IsReduced t → DependsBelow width t → IsBelow width t
+all_below width (leaf b) r depends = tt
+all_below width (branch v low high) r depends = (
+  variable_below width v low high r depends,
+  all_below width low r.3 (low_depends width v low high r depends),
+  all_below width high r.4 (high_depends width v low high r depends),
+)
+
+-- a tree has the same value on rows that agree on the variables from a level up to a width
+pub value_agrees : (level width : ℕ) (t : Tree) (row other : ℕ → Bool) → IsReduced t → IsFrom level t → IsBelow width t
+    → ((v : ℕ) → level ≤ v → v < width → row v ≡ other v) → value t row ≡ value t other
+value_agrees level width (leaf b) row other r f below agree = refl
+value_agrees level width (branch v low high) row other r f below agree =
+    let here = agree v f below.0 in
+    let low_same = value_agrees level width low row other r.3 (from_later low level (v + 1) (omega arith) r.0) below.1 agree in
+    let high_same = value_agrees level width high row other r.4 (from_later high level (v + 1) (omega arith) r.1) below.2 agree in
+    rw (here, low_same, high_same) refl
+
+-- ---- sets of truth rows
+
+abbrev pub SameSet : (List Bool → Bool) → (List Bool → Bool) → Type 0
+SameSet s t = (row : List Bool) → s row ≡ t row
+
+iff_same : (a b : Bool) → a ≡ b → iff a b ≡ true
+iff_same true b e = sym e
+iff_same false b e = rw (← e) refl
+
+iff_is : (a b : Bool) → iff a b ≡ true → a ≡ b
+iff_is true b h = sym h
+iff_is false true h = cc
+iff_is false false h = refl
+
+pub same_rows_same : (n : ℕ) (s t : List Bool → Bool) → SameSet s t → same_rows n s t ≡ true
+unfolding same_rows
+same_rows_same zero s t same = iff_same (s []) (t []) (same [])
+same_rows_same (suc n) s t same =
+    rw (same_rows_same n (rests false s) (rests false t) (λ row. same (false ∷ row)), same_rows_same n (rests true s) (rests true t) (λ row. same (true ∷ row))) refl
+
+pub same_rows_is : (n : ℕ) (s t : List Bool → Bool) → same_rows n s t ≡ true → (row : List Bool) → length row ≡ n → s row ≡ t row
+unfolding same_rows
+same_rows_is zero s t h [] e = iff_is (s []) (t []) h
+same_rows_is zero s t h (b ∷ row) e = absurd (omega arith)
+same_rows_is (suc n) s t h [] e = absurd (omega arith)
+same_rows_is (suc n) s t h (false ∷ row) e =
+    let parts = and_parts (same_rows n (rests false s) (rests false t)) _ h in
+    same_rows_is n (rests false s) (rests false t) parts.0 row (omega arith)
+same_rows_is (suc n) s t h (true ∷ row) e =
+    let parts = and_parts (same_rows n (rests false s) (rests false t)) _ h in
+    same_rows_is n (rests true s) (rests true t) parts.1 row (omega arith)
+
+pub same_rows_agree : (n : ℕ) (s s' t t' : List Bool → Bool) → SameSet s s' → SameSet t t' → same_rows n s t ≡ same_rows n s' t'
+unfolding same_rows
+same_rows_agree zero s s' t t' same_s same_t = rw (same_s [], same_t []) refl
+same_rows_agree (suc n) s s' t t' same_s same_t =
+    rw (
+      same_rows_agree n (rests false s) (rests false s') (rests false t) (rests false t') (λ row. same_s (false ∷ row)) (λ row. same_t (false ∷ row)),
+      same_rows_agree n (rests true s) (rests true s') (rests true t) (rests true t') (λ row. same_s (true ∷ row)) (λ row. same_t (true ∷ row)),
+    ) refl
+
+-- equal sets have the same cubes
+pub cubes_agree : (n : ℕ) (s t : List Bool → Bool) → SameSet s t → cubes n s ≡ cubes n t
+unfolding cubes
+cubes_agree zero s t same = rw (same []) refl
+cubes_agree (suc n) s t same =
+    rw (
+      same_rows_agree n (rests false s) (rests false t) (rests true s) (rests true t) (λ row. same (false ∷ row)) (λ row. same (true ∷ row)),
+      cubes_agree n (rests false s) (rests false t) (λ row. same (false ∷ row)),
+      cubes_agree n (rests true s) (rests true t) (λ row. same (true ∷ row)),
+    ) refl
