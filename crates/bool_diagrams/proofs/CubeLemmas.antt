@@ -1,14 +1,11 @@
 -- The paths of a reduced tree are the cubes of its rows.
-use Rattle.std.proofs.Common.{◌≡◌, ◌≢◌, ◌⊎◌, ℕ, zero, suc, ◌+◌, ◌-◌, ◌≤◌, ◌<◌, ◌==◌, ◌&&◌, Bool, true, false, if◌then◌else◌, List, [], ◌∷◌, ◌++◌, map, replicate, length, get_or, refl, sym, ◌∙◌, ap, subst, inl, inr, arith}
-use Rattle.std.proofs.lemmas.Bool.{cases_eq, cases_lt, and_parts, ne_eqb}
-use Rattle.std.proofs.lemmas.List.{map-append}
-use Rattle.bool_diagrams.specs.declared.cube.Cell.{Cell}
-use Rattle.bool_diagrams.specs.declared.cube.Cell.TheVariants.{Zero, One, Any}
+use Rattle.std.proofs.Common.{◌≡◌, ℕ, zero, suc, ◌+◌, ◌≤◌, ◌<◌, ◌==◌, Bool, true, false, if◌then◌else◌, List, [], ◌∷◌, length, refl, sym, ◌∙◌, ap, inl, inr, arith}
+use Rattle.std.proofs.lemmas.Bool.{cases_lt, and_parts, ne_eqb}
 use Rattle.bool_diagrams.specs.Tree.{Tree, leaf, branch, value, with_value, IsFrom, IsReduced, SameRows}
 use Rattle.bool_diagrams.specs.Rows.{iff}
 use Rattle.bool_diagrams.specs.Cubes.{rests, same_rows, cubes}
-use Rattle.bool_diagrams.specs.Paths.{rows_from, DependsBelow}
-use Rattle.bool_diagrams.proofs.Canonical.{at_value, off_value, from_later, reads_later, same_tree}
+use Rattle.bool_diagrams.specs.Paths.{DependsBelow}
+use Rattle.bool_diagrams.proofs.Canonical.{at_value, from_later, reads_later, same_tree}
 
 -- every variable that is asked is below the width
 abbrev pub IsBelow : ℕ → Tree → Type 0
@@ -44,8 +41,8 @@ variable_below width v low high r depends = elim (cases_lt v width) [
   | inl lt ↦ lt
   | inr le ↦
       let same : SameRows high low = λ row.
-          let there = depends (with_value row v true) (with_value row v false) (λ u lt. either_value row v u (λ e. omega arith)) in
-          sym (reads_later high row v true r.4 r.1) ∙ sym (high_value v low high row) ∙ there ∙ low_value v low high row ∙ reads_later low row v false r.3 r.0 in
+      let there = depends (with_value row v true) (with_value row v false) (λ u lt. either_value row v u (λ e. omega arith)) in
+      sym (reads_later high row v true r.4 r.1) ∙ sym (high_value v low high row) ∙ there ∙ low_value v low high row ∙ reads_later low row v false r.3 r.0 in
       absurd (r.2 (sym (same_tree low high r.3 r.4 same)))
 ]
 

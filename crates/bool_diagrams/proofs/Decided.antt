@@ -1,8 +1,8 @@
 -- Joining with a constant, or with itself.
-use Rattle.std.proofs.Common.{◌≡◌, ◌⊎◌, ℕ, ◌&&◌, ◌||◌, Bool, true, false, not, List, Option, Some, None, inl, inr, refl, arith}
+use Rattle.std.proofs.Common.{◌≡◌, ◌⊎◌, ℕ, ◌&&◌, ◌||◌, Bool, true, false, not, Some, inl, inr, refl, arith}
 use Rattle.bool_diagrams.specs.declared.memo.Connective.{Connective}
 use Rattle.bool_diagrams.specs.declared.memo.Connective.TheVariants.{And, Or, Iff}
-use Rattle.bool_diagrams.specs.Joins.{IsDecided, joined, neutral, absorbing, with_itself}
+use Rattle.bool_diagrams.specs.Joins.{IsDecided, neutral, absorbing, with_itself}
 use Rattle.bool_diagrams.specs.Rows.{iff}
 use Rattle.bool_diagrams.proofs.Nodes.{tree_constant}
 
@@ -64,7 +64,7 @@ stops And a b z e which ts la lb =
     let is = tree_constant ts 0 (omega arith) in
     record {
       of = omega arith;
-      rows = λ row. elim which [ | inl a_is ↦ rw (a_is, zero_is, is) refl | inr b_is ↦ rw (b_is, zero_is, is, and_false) refl ];
+      rows = λ row. elim which [ inl a_is ↦ rw (a_is, zero_is, is) refl | inr b_is ↦ rw (b_is, zero_is, is, and_false) refl ];
       from = λ v h k. rw (zero_is, is) tt;
     }
 stops Or a b z e which ts la lb =
@@ -72,7 +72,7 @@ stops Or a b z e which ts la lb =
     let is = tree_constant ts 1 (omega arith) in
     record {
       of = omega arith;
-      rows = λ row. elim which [ | inl a_is ↦ rw (a_is, one_is, is) refl | inr b_is ↦ rw (b_is, one_is, is, or_true) refl ];
+      rows = λ row. elim which [ inl a_is ↦ rw (a_is, one_is, is) refl | inr b_is ↦ rw (b_is, one_is, is, or_true) refl ];
       from = λ v h k. rw (one_is, is) tt;
     }
 stops Iff a b z e which ts la lb = cc

@@ -1,5 +1,5 @@
 -- What was made of two halves.
-use Rattle.std.proofs.Common.{◌≡◌, ℕ, ◌+◌, ◌≤◌, ◌<◌, Bool, true, false, if◌then◌else◌, List, refl, sym, ◌∙◌, arith}
+use Rattle.std.proofs.Common.{◌≡◌, ℕ, ◌+◌, ◌≤◌, Bool, true, false, if◌then◌else◌, List, refl, ◌∙◌, arith}
 use Rattle.std.proofs.lemmas.Bool.{ne_eqb}
 use Rattle.bool_diagrams.specs.declared.memo.Connective.{Connective}
 use Rattle.bool_diagrams.specs.declared.node.Node.{Node}
@@ -43,9 +43,15 @@ asked c old new a i n of red s k low_of high_of j =
     record {
       of = j.of;
       rows = λ row.
-          rw (a_is, at_value row n.variable false, at_value row n.variable true,
-            reads_later (tree old n.low) row n.variable false red'.3 s.low_from, reads_later (tree old n.high) row n.variable true red'.4 s.high_from,
-            ← low_is, ← high_is) (j.rows row);
+          rw (
+            a_is,
+            at_value row n.variable false,
+            at_value row n.variable true,
+            reads_later (tree old n.low) row n.variable false red'.3 s.low_from,
+            reads_later (tree old n.high) row n.variable true red'.4 s.high_from,
+            ← low_is,
+            ← high_is,
+          ) (j.rows row);
       from = λ w h.
           let le : w ≤ n.variable = rw a_is at h in
           j.from w (rw low_is (from_later (tree old n.low) w (n.variable + 1) (omega arith) s.low_from)) (rw high_is (from_later (tree old n.high) w (n.variable + 1) (omega arith) s.high_from));
@@ -71,7 +77,7 @@ quantified_over c old s1 s2 new a v low high i n of s low_of high_of apart k1 q1
       of = made.of;
       rows = λ row.
           made.rows row ∙ (elim (row n.variable) as (λ b. row n.variable ≡ b
-              → (if b then value (tree s2 high) row else value (tree s2 low) row) ≡ joined c (value (tree new a) (with_value row v false)) (value (tree new a) (with_value row v true))) [
+          → (if b then value (tree s2 high) row else value (tree s2 low) row) ≡ joined c (value (tree new a) (with_value row v false)) (value (tree new a) (with_value row v true))) [
             | true ↦ λ e. rw (a_is, other_value row v n.variable false apart, other_value row v n.variable true apart, e, ← k12.trees n.high high_of) (q2.rows row)
             | false ↦ λ e. rw (a_is, other_value row v n.variable false apart, other_value row v n.variable true apart, e, k2.trees low q1.of, ← k1.trees n.low low_of) (q1.rows row)
           ]) refl;

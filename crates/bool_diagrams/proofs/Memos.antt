@@ -1,9 +1,8 @@
 -- How a memo stays right.
-use Rattle.std.proofs.Common.{◌==◌, ◌&&◌, IfSome, OnOk, OnErr, Result, Ok, Err, ◌≡◌, ℕ, Bool, true, false, cond, List, [], Option, Some, None, refl, sym, ◌∙◌, ap, subst}
+use Rattle.std.proofs.Common.{◌==◌, ◌&&◌, IfSome, OnOk, OnErr, Result, Ok, Err, ◌≡◌, ℕ, Bool, true, false, cond, List, Option, Some, None, refl, sym, ◌∙◌, ap}
 use Rattle.std.proofs.lemmas.Bool.{eqb-true, and_parts}
 use Rattle.std.specs.HashMap.{HashMap, get, Updates, IsUnchanged, IsEmpty}
 use Rattle.bool_diagrams.specs.declared.node.Node.{Node}
-use Rattle.bool_diagrams.specs.declared.memo.Connective.{Connective}
 use Rattle.bool_diagrams.specs.declared.memo.Connective.TheVariants.{And, Or, Iff}
 use Rattle.bool_diagrams.specs.declared.memo.Key.{Key}
 use Rattle.bool_diagrams.specs.declared.memo.Key.TheVariants.{Join, Quantify}

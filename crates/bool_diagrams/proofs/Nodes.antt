@@ -1,5 +1,5 @@
 -- Numbers of a sound table that spell one tree are the same, and their trees are reduced.
-use Rattle.std.proofs.Common.{◌≡◌, ◌≢◌, ℕ, zero, suc, ◌+◌, ◌-◌, ◌≤◌, ◌<◌, ◌==◌, ◌&&◌, Bool, true, false, List, [], ◌∷◌, ◌++◌, reverse, get_or, length, Some, None, refl, sym, ◌∙◌, ap, inl, inr, arith}
+use Rattle.std.proofs.Common.{◌≡◌, ℕ, zero, suc, ◌+◌, ◌-◌, ◌≤◌, ◌<◌, ◌==◌, true, false, List, [], ◌∷◌, ◌++◌, reverse, get_or, length, Some, None, refl, sym, ◌∙◌, ap, inl, inr, arith}
 use Rattle.std.proofs.lemmas.Bool.Decides.{nat_tests}
 use Rattle.std.proofs.lemmas.List.{reverse-append, length-append, length-reverse, reverse-reverse, get_or_push, get_or_append_left}
 use Rattle.std.proofs.lemmas.Bool.{cases_eq, cases_lt, eq-eqb, eqb-true, ne_eqb, and_parts}
@@ -7,7 +7,7 @@ use Rattle.bool_diagrams.specs.declared.node.Node.{Node}
 use Rattle.bool_diagrams.specs.Tree.{Tree, leaf, branch, IsReduced, SameRows}
 use Rattle.bool_diagrams.specs.Rows.{tree, IsOf, Keeps}
 use Rattle.bool_diagrams.specs.Joins.{Stands}
-use Rattle.bool_diagrams.specs.Nodes.{trees, same_node, place, node_at, IsNodeOver, IsSound}
+use Rattle.bool_diagrams.specs.Nodes.{trees, same_node, place, node_at, IsSound}
 use Rattle.bool_diagrams.proofs.Canonical.{same_tree}
 
 -- each node has one tree

@@ -1,12 +1,12 @@
 -- The paths of a reduced tree are the cubes of its rows.
-use Rattle.std.proofs.Common.{◌≡◌, ◌⊎◌, ℕ, zero, suc, ◌+◌, ◌-◌, ◌≤◌, ◌<◌, Bool, true, false, List, [], ◌∷◌, ◌++◌, map, replicate, length, get_or, refl, sym, ◌∙◌, ap, subst, inl, inr, arith}
+use Rattle.std.proofs.Common.{◌≡◌, ◌⊎◌, ℕ, zero, suc, ◌+◌, ◌-◌, ◌≤◌, ◌<◌, Bool, true, false, List, [], ◌∷◌, ◌++◌, map, replicate, length, get_or, refl, sym, ◌∙◌, subst, inl, inr, arith}
 use Rattle.std.proofs.lemmas.List.{map-append}
 use Rattle.bool_diagrams.specs.declared.cube.Cell.{Cell}
 use Rattle.bool_diagrams.specs.declared.cube.Cell.TheVariants.{Zero, One, Any}
-use Rattle.bool_diagrams.specs.Tree.{Tree, leaf, branch, value, IsFrom, IsReduced, SameRows}
+use Rattle.bool_diagrams.specs.Tree.{Tree, leaf, branch, IsFrom, IsReduced, SameRows}
 use Rattle.bool_diagrams.specs.Cubes.{rests, same_rows, cubes}
 use Rattle.bool_diagrams.specs.Paths.{rows_from}
-use Rattle.bool_diagrams.proofs.Canonical.{from_later, same_tree}
+use Rattle.bool_diagrams.proofs.Canonical.{same_tree}
 use Rattle.bool_diagrams.proofs.CubeLemmas.{IsBelow, SameSet, value_agrees, same_rows_same, same_rows_is, same_rows_agree, cubes_agree}
 
 -- a cube behind variables that are not asked and one that is
@@ -73,11 +73,11 @@ halves_differ width level k low high e r low_below high_below =
     (elim (same_rows k (rows_from (level + 1) low) (rows_from (level + 1) high)) as (λ b. same_rows k (rows_from (level + 1) low) (rows_from (level + 1) high) ≡ b → b ≡ false) [
       | true ↦ λ h.
           let same : SameRows low high = λ row.
-              let list = values_from k (level + 1) row in
-              let agrees = λ (v : ℕ) (le : level + 1 ≤ v) (lt : v < width). value_from k (level + 1) row v (v - (level + 1)) (omega arith) (omega arith) in
-              let at_low = value_agrees (level + 1) width low _ row r.3 r.0 low_below agrees in
-              let at_high = value_agrees (level + 1) width high _ row r.4 r.1 high_below agrees in
-              sym at_low ∙ same_rows_is k (rows_from (level + 1) low) (rows_from (level + 1) high) h list (length-values_from k (level + 1) row) ∙ at_high in
+          let list = values_from k (level + 1) row in
+          let agrees = λ (v : ℕ) (le : level + 1 ≤ v) (lt : v < width). value_from k (level + 1) row v (v - (level + 1)) (omega arith) (omega arith) in
+          let at_low = value_agrees (level + 1) width low _ row r.3 r.0 low_below agrees in
+          let at_high = value_agrees (level + 1) width high _ row r.4 r.1 high_below agrees in
+          sym at_low ∙ same_rows_is k (rows_from (level + 1) low) (rows_from (level + 1) high) h list (length-values_from k (level + 1) row) ∙ at_high in
           absurd (r.2 (same_tree high low r.4 r.3 same))
       | false ↦ λ h. refl
     ]) refl
@@ -101,7 +101,7 @@ asked width level k low high e r low_below high_below low_rec high_rec =
     let on_false = low_rows width level low high r low_below in
     let on_true = high_rows width level low high r high_below in
     let differ = same_rows_agree k (rests false whole) (rows_from (level + 1) low) (rests true whole) (rows_from (level + 1) high) on_false on_true
-        ∙ halves_differ width level k low high e r low_below high_below in
+    ∙ halves_differ width level k low high e r low_below high_below in
     let low_list = cubes_agree k (rests false whole) (rows_from (level + 1) low) on_false in
     let high_list = cubes_agree k (rests true whole) (rows_from (level + 1) high) on_true in
     let none : level - level ≡ 0 = omega arith in
@@ -121,8 +121,8 @@ paths_are_cubes (suc k) width level (branch v low high) e r f below = elim (orde
   | inl is ↦
       let P : ℕ → Type 0 = λ u. IsReduced (branch u low high) → paths_of width level (branch u low high) ≡ cubes (suc k) (rows_from level (branch u low high)) in
       let here : P level = λ q.
-          asked width level k low high e q below.1 below.2
-          (paths_are_cubes k width (level + 1) low (omega arith) q.3 q.0 below.1) (paths_are_cubes k width (level + 1) high (omega arith) q.4 q.1 below.2) in
+      asked width level k low high e q below.1 below.2
+      (paths_are_cubes k width (level + 1) low (omega arith) q.3 q.0 below.1) (paths_are_cubes k width (level + 1) high (omega arith) q.4 q.1 below.2) in
       subst P (sym is) here r
   | inr later ↦ skipped width level k (branch v low high) e r later below (paths_are_cubes k width (level + 1) (branch v low high) (omega arith) r later below)
 ]

@@ -1,11 +1,11 @@
 -- A diagram that is chosen by any variable, and one whose variables are renamed.
-use Rattle.std.proofs.Common.{◌≡◌, ℕ, ◌+◌, ◌<◌, ◌==◌, ◌&&◌, ◌||◌, Bool, true, false, if◌then◌else◌, List, [], ◌∷◌, length, Some, refl, sym, ◌∙◌, arith}
+use Rattle.std.proofs.Common.{◌≡◌, ℕ, ◌<◌, ◌==◌, ◌&&◌, ◌||◌, Bool, true, false, if◌then◌else◌, List, [], ◌∷◌, length, refl, ◌∙◌, arith}
 use Rattle.std.specs.List.{All}
 use Rattle.std.proofs.lemmas.List.Elements.{All-head, All-tail}
 use Rattle.bool_diagrams.specs.declared.memo.Connective.TheVariants.{And, Or}
 use Rattle.bool_diagrams.specs.Tree.{Tree, value}
 use Rattle.bool_diagrams.specs.Rows.{IsOf, Keeps, tree}
-use Rattle.bool_diagrams.specs.Joins.{Chooses, Joins, Renames}
+use Rattle.bool_diagrams.specs.Joins.{Chooses, Joins}
 use Rattle.bool_diagrams.specs.Renaming.{renamed}
 use Rattle.bool_diagrams.proofs.Decided.{or_false}
 use Rattle.bool_diagrams.proofs.Nodes.{tree_constant, keeps_twice}

@@ -1,14 +1,13 @@
 -- How a table stays sound, and what its parts give.
 use Rattle.std.proofs.lemmas.List.{reverse-append, length-reverse}
-use Rattle.std.proofs.Common.{IfSome, IfOk, OnErr, Result, Ok, Err, is_ok, reverse, get_or, ◌++◌, ◌≡◌, ◌≢◌, ◌↔◌, ℕ, ◌+◌, ◌-◌, ◌≤◌, ◌<◌, ◌==◌, nat_eq, Bool, true, false, IsTrue, if◌then◌else◌, List, [], ◌∷◌, length, Option, Some, None, refl, sym, ◌∙◌, ap, subst, inl, inr, arith, rules, tests}
-use Rattle.std.proofs.lemmas.Bool.{eqb-true}
-use Rattle.std.specs.HashMap.{HashMap, get, Updates, IsUnchanged, IsEmpty}
+use Rattle.std.proofs.Common.{IfOk, OnErr, Result, Ok, Err, is_ok, reverse, get_or, ◌++◌, ◌≡◌, ◌↔◌, ℕ, ◌+◌, ◌-◌, ◌≤◌, ◌<◌, nat_eq, Bool, IsTrue, if◌then◌else◌, List, [], ◌∷◌, length, Some, None, refl, sym, ◌∙◌, ap, arith, rules, tests}
+use Rattle.std.specs.HashMap.{HashMap, get, Updates, IsUnchanged}
 use Rattle.bool_diagrams.specs.declared.node.Node.{Node}
 use Rattle.bool_diagrams.specs.declared.memo.Key.{Key}
 use Rattle.bool_diagrams.specs.declared.memo.Key.TheVariants.{Join, Quantify}
-use Rattle.bool_diagrams.specs.Tree.{Tree, value, IsFrom, SameRows}
+use Rattle.bool_diagrams.specs.Tree.{Tree, value, SameRows}
 use Rattle.bool_diagrams.specs.Rows.{IsOf, Keeps, tree}
-use Rattle.bool_diagrams.specs.Joins.{Chooses, Stands, Splits, Joins, IsRight}
+use Rattle.bool_diagrams.specs.Joins.{Chooses, Stands, Splits, IsRight}
 use Rattle.bool_diagrams.specs.Nodes.{trees, node_at, same_node, IsSound, IsNodeOver, IsTable}
 use Rattle.bool_diagrams.proofs.Nodes.{length-trees, tree_constant, canonical, pushed_at, stands_at, keeps_new, keeps_same, stands_at_place, tree_newest}
 
@@ -20,23 +19,28 @@ right_keeps old new (Join c a b) i k r =
     let h = r.1 in
     let left_is = k.trees a r.0 in
     let right_is = k.trees b r.1 in
-    let this_is = k.trees i r.2.of in
-    (omega arith, omega arith, record {
-      of = omega arith;
-      rows = λ row. rw (left_is, right_is, this_is) (r.2.rows row);
-      from = rw (left_is, right_is, this_is) r.2.from;
-    })
+    let this_is = k.trees i r.2.of in (
+      omega arith,
+      omega arith,
+      record {
+        of = omega arith;
+        rows = λ row. rw (left_is, right_is, this_is) (r.2.rows row);
+        from = rw (left_is, right_is, this_is) r.2.from;
+      },
+    )
 right_keeps old new (Quantify c a v) i k r =
     let m = k.more in
     let of = r.1.of in
     let l = r.0 in
     let left_is = k.trees a r.0 in
-    let this_is = k.trees i r.1.of in
-    (omega arith, record {
-      of = omega arith;
-      rows = λ row. rw (left_is, this_is) (r.1.rows row);
-      from = rw (left_is, this_is) r.1.from;
-    })
+    let this_is = k.trees i r.1.of in (
+      omega arith,
+      record {
+        of = omega arith;
+        rows = λ row. rw (left_is, this_is) (r.1.rows row);
+        from = rw (left_is, this_is) r.1.from;
+      },
+    )
 
 module _ {S T : Type 0} (eq : Key → Key → Bool) (nodes : List Node) (unique : HashMap Node ℕ S) (memo : HashMap Key ℕ T) where
   -- a node that is found is the one that was wanted

@@ -1,11 +1,11 @@
 -- One step of the walk over the paths.
-use Rattle.std.proofs.Common.{◌≡◌, ℕ, ◌+◌, ◌-◌, ◌≤◌, ◌<◌, Bool, true, false, List, [], ◌∷◌, ◌++◌, map, replicate, length, take, refl, sym, ◌∙◌, ap, arith, append_assoc, append-nil}
+use Rattle.std.proofs.Common.{◌≡◌, ℕ, ◌+◌, ◌-◌, ◌≤◌, Bool, true, false, List, [], ◌∷◌, ◌++◌, map, replicate, length, take, refl, sym, ◌∙◌, ap, arith, append_assoc, append-nil}
 use Rattle.std.proofs.lemmas.List.{map-append, map-id, length-append, length-replicate, take_all, take_at}
 use Rattle.bool_diagrams.specs.declared.cube.Cell.{Cell}
 use Rattle.bool_diagrams.specs.declared.cube.Cell.TheVariants.{Zero, One, Any}
 use Rattle.bool_diagrams.specs.declared.node.Node.{Node}
 use Rattle.bool_diagrams.specs.Tree.{Tree, leaf, branch, IsFrom, IsReduced}
-use Rattle.bool_diagrams.specs.Rows.{IsOf, tree}
+use Rattle.bool_diagrams.specs.Rows.{tree}
 use Rattle.bool_diagrams.specs.Joins.{Stands}
 use Rattle.bool_diagrams.specs.Cubes.{cubes}
 use Rattle.bool_diagrams.specs.Paths.{rows_from, DependsBelow}
@@ -46,7 +46,7 @@ regrouped : (p q w : List Cell) (m : ℕ) (cell : Cell) (xs : List (List Cell)) 
 regrouped p q w m cell [] q_is w_is = refl
 regrouped p q w m cell (x ∷ xs) q_is w_is =
     let one : w ++ x ≡ p ++ (replicate m Any ++ (cell ∷ x)) =
-        rw (w_is, q_is, append_assoc (p ++ replicate m Any) (cell ∷ []) x, append_assoc p (replicate m Any) (cell ∷ x)) refl in
+    rw (w_is, q_is, append_assoc (p ++ replicate m Any) (cell ∷ []) x, append_assoc p (replicate m Any) (cell ∷ x)) refl in
     rw (one, regrouped p q w m cell xs q_is w_is) refl
 
 -- what the walk asks of a half
@@ -80,8 +80,13 @@ walked_node p q w w' width v low high f f1 f2 le r depends q_is w_is low_walk w'
     let on_high = rw len_w' at (unwalked w' width high f1 f2 (omega arith) r.4 (rw len_w' r.1) below.2 high_walk) in
     let m = v - length p in
     let all : f2 ≡ f ++ map (λ cube. p ++ cube) (map (behind m Zero) xs ++ map (behind m One) ys) =
-        on_high ∙ rw (on_low, regrouped p q w m Zero xs q_is w_is, regrouped p q w' m One ys q_is w'_is, append_assoc f (map (λ cube. p ++ cube) (map (behind m Zero) xs)) (map (λ cube. p ++ cube) (map (behind m One) ys)),
-          map-append (λ cube. p ++ cube) (map (behind m Zero) xs) (map (behind m One) ys)) refl in
+    on_high ∙ rw (
+      on_low,
+      regrouped p q w m Zero xs q_is w_is,
+      regrouped p q w' m One ys q_is w'_is,
+      append_assoc f (map (λ cube. p ++ cube) (map (behind m Zero) xs)) (map (λ cube. p ++ cube) (map (behind m One) ys)),
+      map-append (λ cube. p ++ cube) (map (behind m Zero) xs) (map (behind m One) ys),
+    ) refl in
     walked p width (branch v low high) f f2 (omega arith) r le below all
 
 -- a node's variable is not before the level

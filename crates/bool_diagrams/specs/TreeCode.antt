@@ -1,7 +1,7 @@
 -- How the logic stores a list of trees: each tree as its leaves and variables, branches before their variable. Nothing here has to be believed.
 use Rattle.std.specs.Prelude.{◌≡◌, ℕ, Bool, false, List, [], ◌∷◌, ◌++◌, ◌⊎◌}
 use Rattle.std.specs.Coded.{Coded, code_by, coded_ℕ, coded_bool, coded_list, coded⊎}
-use Rattle.std.proofs.Common.{inl, inr, refl, ◌∙◌, sym, append_assoc, append-nil, ap}
+use Rattle.std.proofs.Common.{inl, inr, refl, ◌∙◌, append_assoc, append-nil, ap}
 use Rattle.bool_diagrams.specs.Tree.{Tree, leaf, branch}
 
 abbrev words : Tree → List (Bool ⊎ ℕ)

@@ -73,12 +73,7 @@ impl Table {
     }
 
     // The diagram that joins two, by their first variable. It goes one variable deeper at each call.
-    pub(crate) fn join(
-        &mut self,
-        connective: Connective,
-        a: u64,
-        b: u64,
-    ) -> Result<u64, AllocError>
+    pub(crate) fn join(&mut self, connective: Connective, a: u64, b: u64) -> Result<u64, AllocError>
         requires left { IsOf self.old a }
         requires right { IsOf self.old b }
         ensures keeps { Keeps self.old self.new }

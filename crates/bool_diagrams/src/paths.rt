@@ -40,7 +40,7 @@ impl Table {
         ensures prefix { OnOk result (prefix.new.items ≡ prefix.old.items) }
         ensures found { OnOk result (found.new.items ≡ found.old.items
             ++ map (λ cube. prefix.old.items ++ cube)
-                (cubes (width - length prefix.old.items) (rows_from (length prefix.old.items) (tree self.now number)))) }
+            (cubes (width - length prefix.old.items) (rows_from (length prefix.old.items) (tree self.now number)))) }
     {
         if number == 0 {
             return Ok(());

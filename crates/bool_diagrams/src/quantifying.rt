@@ -53,12 +53,7 @@ impl Table {
     }
 
     // Joins what the diagram is where the variable is false and where it is true. It goes one variable deeper at each call.
-    fn quantify(
-        &mut self,
-        connective: Connective,
-        a: u64,
-        variable: u32,
-    ) -> Result<u64, AllocError>
+    fn quantify(&mut self, connective: Connective, a: u64, variable: u32) -> Result<u64, AllocError>
         requires known { IsOf self.old a }
         requires in_range { variable < 64 }
         ensures keeps { Keeps self.old self.new }

@@ -1,11 +1,12 @@
 // The table of shared nodes, and the steps that read and grow it.
 ghost use Rattle.std.specs.HashMap.{get, IsUnchanged, Updates};
-ghost use Rattle.std.specs.Prelude.{◌≡◌, ◌↔◌, ◌+◌, ◌∷◌, ◌++◌, ◌<◌, ◌≤◌, ℕ, [], IfOk, IfSome, IsTrue, OnErr, OnOk, Some, if◌then◌else◌, is_ok, length};
+ghost use Rattle.std.specs.Prelude.{◌≡◌, ◌↔◌, ◌+◌, ◌∷◌, ◌++◌, ◌<◌, ◌≤◌, Bool, ℕ, [], IfOk, IfSome, IsTrue, OnErr, OnOk, Some, if◌then◌else◌, is_ok, length};
 ghost use Rattle.bool_diagrams.specs.Joins.{Chooses, IsFirst, IsRight, Splits, Stands};
 ghost use Rattle.bool_diagrams.specs.Nodes.{same_node};
-ghost use Rattle.bool_diagrams.specs.Rows.{IsOf, Keeps, tree};
+ghost use Rattle.bool_diagrams.specs.Rows.{IsDiagram, IsOf, Keeps, holds, tree};
 ghost use Rattle.bool_diagrams.specs.Tree.{IsFrom, IsReduced, SameRows};
 
+use crate::diagram::Diagram;
 use crate::memo::{Key, Memo};
 use crate::node::Node;
 use std::alloc::{AllocError, Global};
@@ -49,6 +50,16 @@ impl Table {
             unique: HashMap::new(alloc),
             memo: Memo::new(alloc),
         })
+    }
+
+    /// Gives the rows on which a variable is true.
+    pub fn var(&mut self, v: u32) -> Result<Diagram, AllocError>
+        requires { v < 64 }
+        ensures keeps { Keeps self.old self.new }
+        ensures known { IfOk result (IsDiagram self.new) }
+        ensures rows { IfOk result (λ d. (row : ℕ → Bool) → holds self.new d row ≡ row v) }
+    {
+        Ok(Diagram(self.node(v, 0, 1)?))
     }
 
     // The number of a node, which is made where the table lacks it.

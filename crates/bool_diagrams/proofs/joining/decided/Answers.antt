@@ -1,4 +1,4 @@
-use Rattle.std.proofs.Common.{◌≡◌, ◌⊎◌, inl, inr, sym, ◌∙◌}
+use Rattle.std.proofs.Common.{inl, inr, sym, ◌∙◌}
 use Rattle.bool_diagrams.proofs.Decided.{passes_left, passes_right, itself, stops}
 use Rattle.bool_diagrams.proofs.joining.decided.Goals as goal
 
@@ -14,4 +14,4 @@ returns-then-a-b-clause-some c = rw c.with_itself.ensures (itself c.args.connect
 pub returns-then-a-stops-clause-some : goal.returns-then-a-stops-clause-some
 returns-then-a-stops-clause-some c =
     stops c.args.connective c.args.a c.args.b c.in_ok-stops.stops (sym c.absorbing.ensures ∙ c.in_ok-stops.was)
-    (elim c.then-a-stops.either [ | inl e ↦ inl e | inr p ↦ inr p.1 ])
+    (elim c.then-a-stops.either [ inl e ↦ inl e | inr p ↦ inr p.1 ])

@@ -1,6 +1,5 @@
-use Rattle.std.proofs.Common.{◌≡◌, ℕ, ◌+◌, ◌≤◌, ◌<◌, List, arith, rules}
+use Rattle.std.proofs.Common.{ℕ, ◌+◌, arith}
 use Rattle.bool_diagrams.specs.Joins.{Quantifies}
-use Rattle.bool_diagrams.specs.Tree.{IsFrom}
 use Rattle.bool_diagrams.proofs.Canonical.{from_later}
 use Rattle.bool_diagrams.proofs.Halves.{unasked, asked, quantified_from, low_known, high_known}
 use Rattle.bool_diagrams.proofs.Nodes.{keeps_same, keeps_twice}

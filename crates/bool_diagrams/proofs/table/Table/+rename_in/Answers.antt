@@ -1,4 +1,4 @@
-use Rattle.std.proofs.Common.{arith, refl}
+use Rattle.std.proofs.Common.{refl}
 use Rattle.bool_diagrams.proofs.Nodes.{tree_constant}
 use Rattle.bool_diagrams.proofs.Renamed.{renamed_in_range}
 use Rattle.bool_diagrams.proofs.table.Table.+rename_in.Goals as goal

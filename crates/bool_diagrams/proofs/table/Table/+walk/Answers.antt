@@ -1,7 +1,6 @@
-use Rattle.std.proofs.Common.{◌≡◌, ℕ, ◌+◌, ◌-◌, ◌≤◌, ◌<◌, List, [], ◌∷◌, ◌++◌, length, take, replicate, refl, sym, ◌∙◌, ap, arith}
-use Rattle.std.proofs.lemmas.List.{take_at}
+use Rattle.std.proofs.Common.{List, [], ◌∷◌, ◌++◌, length, refl, ◌∙◌, ap, arith}
 use Rattle.bool_diagrams.specs.declared.cube.Cell.{Cell}
-use Rattle.bool_diagrams.specs.declared.cube.Cell.TheVariants.{Zero, One, Any}
+use Rattle.bool_diagrams.specs.declared.cube.Cell.TheVariants.{Zero, One}
 use Rattle.bool_diagrams.specs.Rows.{tree}
 use Rattle.bool_diagrams.proofs.Halves.{low_known, high_known}
 use Rattle.bool_diagrams.proofs.Nodes.{tree_constant}
@@ -29,8 +28,7 @@ walk-requires t c =
     let le = level_first c.args.self.now c.args.number (length p) c.node_of-node.result s c.requires.from in
     let len = length-filled p q v le (filled p q _ v c.args.prefix.now.ok.0 le c.in_ok-resize-2.ensures.items) in
     let ready = half_ready c.args.self.now c.args.width c.args.number c.node_of-node.result p q c.push-2.new.self.items Zero s
-        c.node_of-node.ensures.reduced c.requires.reads len c.in_ok-push-2.ensures.items in
-    (
+    c.node_of-node.ensures.reduced c.requires.reads len c.in_ok-push-2.ensures.items in (
       let less = s.low_below in omega arith,
       (low_known _ _ _ s, (ready.1, (rw ready.0 s.low_from, low_ready c.args.self.now c.args.width c.args.number c.node_of-node.result s c.node_of-node.ensures.reduced c.requires.reads))),
     )
@@ -45,8 +43,7 @@ walk-requires-2 t c =
     let len = length-filled p q v le (filled p q _ v c.args.prefix.now.ok.0 le c.in_ok-resize-2.ensures.items) in
     let cut = cut_back c.walk.new.prefix.items q c.push-2.new.self.items c.truncate-2.new.self.items v Zero len c.in_ok-push-2.ensures.items c.in_ok-walk.ensures.prefix c.truncate-2.ensures.items in
     let ready = half_ready c.args.self.now c.args.width c.args.number c.node_of-node.result p q c.push-3.new.self.items One s
-        c.node_of-node.ensures.reduced c.requires.reads len (c.in_ok-push-3.ensures.items ∙ ap (λ (l : List Cell). l ++ One ∷ []) cut) in
-    (
+    c.node_of-node.ensures.reduced c.requires.reads len (c.in_ok-push-3.ensures.items ∙ ap (λ (l : List Cell). l ++ One ∷ []) cut) in (
       let less = s.high_below in omega arith,
       (high_known _ _ _ s, (ready.1, (rw ready.0 s.high_from, high_ready c.args.self.now c.args.width c.args.number c.node_of-node.result s c.node_of-node.ensures.reduced c.requires.reads))),
     )
@@ -62,7 +59,7 @@ returns-clause-found t c =
     let len = length-filled p q v le filled_is in
     let cut = cut_back c.walk.new.prefix.items q c.push-2.new.self.items c.truncate-2.new.self.items v Zero len c.in_ok-push-2.ensures.items c.in_ok-walk.ensures.prefix c.truncate-2.ensures.items in
     rw s.spells (
-      walked_node p q c.push-2.new.self.items c.push-3.new.self.items c.args.width v (tree c.args.self.now c.node_of-node.result.low) (tree c.args.self.now c.node_of-node.result.high)
-      c.args.found.now.items c.walk.new.found.items c.walk-2.new.found.items le (rw s.spells at c.node_of-node.ensures.reduced) (rw s.spells at c.requires.reads) filled_is
-      c.in_ok-push-2.ensures.items c.in_ok-walk.ensures.found (c.in_ok-push-3.ensures.items ∙ ap (λ (l : List Cell). l ++ One ∷ []) cut) c.in_ok-walk-2.ensures.found
+    walked_node p q c.push-2.new.self.items c.push-3.new.self.items c.args.width v (tree c.args.self.now c.node_of-node.result.low) (tree c.args.self.now c.node_of-node.result.high)
+    c.args.found.now.items c.walk.new.found.items c.walk-2.new.found.items le (rw s.spells at c.node_of-node.ensures.reduced) (rw s.spells at c.requires.reads) filled_is
+    c.in_ok-push-2.ensures.items c.in_ok-walk.ensures.found (c.in_ok-push-3.ensures.items ∙ ap (λ (l : List Cell). l ++ One ∷ []) cut) c.in_ok-walk-2.ensures.found
     )

@@ -1,5 +1,5 @@
 use Rattle.bool_diagrams.specs.Nodes.{trees}
-use Rattle.std.proofs.Common.{reverse, refl, List, [], sym, ap}
+use Rattle.std.proofs.Common.{refl}
 use Rattle.bool_diagrams.proofs.table.Table.new.Goals as goal
 
 pub returns : goal.returns

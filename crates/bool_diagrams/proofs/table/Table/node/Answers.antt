@@ -1,4 +1,4 @@
-use Rattle.std.proofs.Common.{sym, ◌∙◌, reverse, IfOk}
+use Rattle.std.proofs.Common.{sym, ◌∙◌, reverse}
 use Rattle.bool_diagrams.specs.declared.node.Node.{Node}
 use Rattle.bool_diagrams.proofs.Tables.{Added, chooses_found, added_to}
 use Rattle.bool_diagrams.proofs.table.Table.node.Goals as goal

@@ -1,4 +1,4 @@
-use Rattle.std.proofs.Common.{◌≡◌, ℕ, ◌-◌, arith, refl, Bool, List, ap, get_or, false}
+use Rattle.std.proofs.Common.{◌≡◌, ℕ, ◌-◌, arith, ap, get_or, false}
 use Rattle.bool_diagrams.specs.Rows.{tree}
 use Rattle.bool_diagrams.specs.Cubes.{truth_rows}
 use Rattle.bool_diagrams.proofs.Canonical.{value_same}
