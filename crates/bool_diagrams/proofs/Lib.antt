@@ -8,3 +8,5 @@ pub mod Renamed
 pub mod CubeLemmas
 pub mod PathLemmas
 pub mod WalkLemmas
+pub mod Examples
+pub mod Numbers

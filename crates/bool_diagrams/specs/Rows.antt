@@ -2,7 +2,7 @@
 -- tree of its set of rows, without the two constants; a diagram is the set of the rows on which its tree is true.
 --
 -- To believe: all of this file, over `value` of Tree.
-use Rattle.std.specs.Prelude.{ℕ, zero, suc, ◌+◌, ◌≡◌, ◌<◌, ◌≤◌, ◌==◌, Bool, true, false, not, List, length, slice_index_or}
+use Rattle.std.specs.Prelude.{ℕ, zero, suc, ◌+◌, ◌^◌, ◌≡◌, ◌<◌, ◌≤◌, ◌==◌, Bool, true, false, not, List, length, slice_index_or}
 use Rattle.std.specs.Int.{bit_at}
 use Rattle.bool_diagrams.specs.declared.diagram.Diagram.{Diagram}
 use Rattle.bool_diagrams.specs.Tree.{Tree, leaf, value}
@@ -42,6 +42,10 @@ iff false b = not b
 -- the row that a number spells: variable v has the value of bit v
 abbrev pub bit_of : ℕ → ℕ → Bool
 bit_of number v = bit_at number v == 1
+
+-- two diagrams have the same rows among those that a number of 64 bits spells
+abbrev pub HaveSameNumbers : List Tree → Diagram → Diagram → Type 0
+HaveSameNumbers trees a b = (number : ℕ) → number < 2 ^ 64 → holds trees a (bit_of number) ≡ holds trees b (bit_of number)
 
 -- the diagram has the same value on rows that agree on the variables below the width
 abbrev pub ReadsBelow : List Tree → Diagram → ℕ → Type 0

@@ -7,14 +7,14 @@ ghost use Rattle.bool_diagrams.specs.Tree.{with_value};
 use crate::diagram::Diagram;
 use crate::joining::with_itself;
 use crate::memo::{Connective, Key};
-use crate::table::Table;
+use crate::table::{Table, VARIABLES};
 use std::alloc::AllocError;
 
 impl Table {
     /// Gives the rows that the set has for some value of a variable.
     pub fn exists(&mut self, a: Diagram, v: u32) -> Result<Diagram, AllocError>
         requires known { IsDiagram self.old a }
-        requires variable { v < 64 }
+        requires variable { v < VARIABLES }
         ensures keeps { Keeps self.old self.new }
         ensures known { IfOk result (IsDiagram self.new) }
         ensures rows { IfOk result (λ d. (row : ℕ → Bool)
@@ -26,7 +26,7 @@ impl Table {
     /// Gives the rows that the set has for both values of a variable.
     pub fn forall(&mut self, a: Diagram, v: u32) -> Result<Diagram, AllocError>
         requires known { IsDiagram self.old a }
-        requires variable { v < 64 }
+        requires variable { v < VARIABLES }
         ensures keeps { Keeps self.old self.new }
         ensures known { IfOk result (IsDiagram self.new) }
         ensures rows { IfOk result (λ d. (row : ℕ → Bool)
@@ -43,7 +43,7 @@ impl Table {
         variable: u32,
     ) -> Result<Diagram, AllocError>
         requires known { IsDiagram self.old a }
-        requires in_range { variable < 64 }
+        requires in_range { variable < VARIABLES }
         ensures keeps { Keeps self.old self.new }
         ensures quantifies { IfOk result (λ d. Quantifies self.new connective a.0 variable d.0) }
     {
@@ -55,7 +55,7 @@ impl Table {
     // Joins what the diagram is where the variable is false and where it is true. It goes one variable deeper at each call.
     fn quantify(&mut self, connective: Connective, a: u64, variable: u32) -> Result<u64, AllocError>
         requires known { IsOf self.old a }
-        requires in_range { variable < 64 }
+        requires in_range { variable < VARIABLES }
         ensures keeps { Keeps self.old self.new }
         ensures quantifies { IfOk result (Quantifies self.new connective a variable) }
     {

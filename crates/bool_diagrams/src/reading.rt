@@ -1,7 +1,7 @@
 // What a table says of its diagrams, without memory.
-ghost use Rattle.std.specs.Prelude.{◌≡◌, ◌↔◌, Bool, IsTrue, ℕ};
-ghost use Rattle.bool_diagrams.specs.Rows.{HaveSameRows, IsDiagram, IsOf, bit_of, holds, tree};
-ghost use Rattle.bool_diagrams.specs.Tree.{SameRows, value};
+ghost use Rattle.std.specs.Prelude.{◌≡◌, Bool, ℕ};
+ghost use Rattle.bool_diagrams.specs.Rows.{IsDiagram, IsOf, bit_of, holds, tree};
+ghost use Rattle.bool_diagrams.specs.Tree.{value};
 
 use crate::diagram::Diagram;
 use crate::table::Table;
@@ -21,15 +21,6 @@ impl Table {
         ensures { result ≡ holds self.now a (bit_of row) }
     {
         self.has(a.0, row)
-    }
-
-    /// Tells whether two diagrams have the same rows, by their roots alone.
-    pub fn same(&self, a: Diagram, b: Diagram) -> bool
-        requires left { IsDiagram self.now a }
-        requires right { IsDiagram self.now b }
-        ensures { IsTrue result ↔ HaveSameRows self.now a b }
-    {
-        self.is_same(a.0, b.0)
     }
 
     // Goes down one variable at each call.

@@ -9,7 +9,7 @@ ghost use Rattle.bool_diagrams.specs.Tree.{value};
 
 use crate::diagram::Diagram;
 use crate::memo::{Connective, Memo};
-use crate::table::Table;
+use crate::table::{Table, VARIABLES};
 use std::alloc::{AllocError, Global};
 
 impl Table {
@@ -19,7 +19,7 @@ impl Table {
     pub fn rename(&mut self, a: Diagram, from: &[u32], to: &[u32]) -> Result<Diagram, AllocError>
         requires known { IsDiagram self.old a }
         requires lengths { length from.now ≡ length to.now }
-        requires variables { All (λ v. v < 64) to.now }
+        requires variables { All (λ v. v < VARIABLES) to.now }
         ensures keeps { Keeps self.old self.new }
         ensures known { IfOk result (IsDiagram self.new) }
         ensures rows { IfOk result (λ d. (row : ℕ → Bool) → holds self.new d row ≡ holds self.old a (λ v. row (renamed from.now to.now v))) }
@@ -40,7 +40,7 @@ impl Table {
     ) -> Result<u64, AllocError>
         requires known { IsOf self.old a }
         requires lengths { length from.now ≡ length to.now }
-        requires variables { All (λ v. v < 64) to.now }
+        requires variables { All (λ v. v < VARIABLES) to.now }
         requires right { IsRenamed self.old (renamed from.now to.now) memo.old.answers }
         ensures keeps { Keeps self.old self.new }
         ensures right { OnOk result (IsRenamed self.new (renamed from.now to.now) memo.new.answers) }
@@ -63,7 +63,7 @@ impl Table {
 
     // One diagram where the variable is false and another where it is true, whatever they ask.
     fn choose(&mut self, variable: u32, low: u64, high: u64) -> Result<u64, AllocError>
-        requires in_range { variable < 64 }
+        requires in_range { variable < VARIABLES }
         requires low_of { IsOf self.old low }
         requires high_of { IsOf self.old high }
         ensures keeps { Keeps self.old self.new }

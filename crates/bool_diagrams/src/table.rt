@@ -3,8 +3,8 @@ ghost use Rattle.std.specs.HashMap.{get, IsUnchanged, Updates};
 ghost use Rattle.std.specs.Prelude.{◌≡◌, ◌↔◌, ◌+◌, ◌∷◌, ◌++◌, ◌<◌, ◌≤◌, Bool, ℕ, [], IfOk, IfSome, IsTrue, OnErr, OnOk, Some, if◌then◌else◌, is_ok, length};
 ghost use Rattle.bool_diagrams.specs.Joins.{Chooses, IsFirst, IsRight, Splits, Stands};
 ghost use Rattle.bool_diagrams.specs.Nodes.{same_node};
-ghost use Rattle.bool_diagrams.specs.Rows.{IsDiagram, IsOf, Keeps, holds, tree};
-ghost use Rattle.bool_diagrams.specs.Tree.{IsFrom, IsReduced, SameRows};
+ghost use Rattle.bool_diagrams.specs.Rows.{HaveSameNumbers, HaveSameRows, IsDiagram, IsOf, Keeps, holds, tree};
+ghost use Rattle.bool_diagrams.specs.Tree.{IsFrom, IsReduced};
 
 use crate::diagram::Diagram;
 use crate::memo::{Key, Memo};
@@ -54,7 +54,7 @@ impl Table {
 
     /// Gives the rows on which a variable is true.
     pub fn var(&mut self, v: u32) -> Result<Diagram, AllocError>
-        requires { v < 64 }
+        requires { v < VARIABLES }
         ensures keeps { Keeps self.old self.new }
         ensures known { IfOk result (IsDiagram self.new) }
         ensures rows { IfOk result (λ d. (row : ℕ → Bool) → holds self.new d row ≡ row v) }
@@ -62,9 +62,25 @@ impl Table {
         Ok(Diagram(self.node(v, 0, 1)?))
     }
 
+    /// Tells whether two diagrams have the same rows, by their roots alone.
+    ///
+    /// Source: Bryant 1986, where a reduced diagram is canonical.
+    pub fn same(&self, a: Diagram, b: Diagram) -> bool
+        requires left { IsDiagram self.now a }
+        requires right { IsDiagram self.now b }
+        ensures rows { IsTrue result ↔ HaveSameRows self.now a b }
+
+        // The same, of the rows that `eval` can be asked.
+        ensures numbers { IsTrue result ↔ HaveSameNumbers self.now a b }
+    {
+        // No two nodes are equal: the clauses stand on the invariant of the nodes.
+        let _nodes = &self.nodes;
+        a.0 == b.0
+    }
+
     // The number of a node, which is made where the table lacks it.
     pub(crate) fn node(&mut self, variable: u32, low: u64, high: u64) -> Result<u64, AllocError>
-        requires in_range { variable < 64 }
+        requires in_range { variable < VARIABLES }
         requires low_of { IsOf self.old low }
         requires high_of { IsOf self.old high }
         requires low_from { IsFrom (variable + 1) (tree self.old low) }
@@ -99,10 +115,10 @@ impl Table {
     // The first variable of a diagram, or 64 for a constant.
     pub(crate) fn first_of(&self, number: u64) -> u32
         requires of { IsOf self.now number }
-        ensures constant { number < 2 → result ≡ 64 }
-        ensures in_range { 2 ≤ number → result < 64 }
+        ensures constant { number < 2 → result ≡ VARIABLES }
+        ensures in_range { 2 ≤ number → result < VARIABLES }
         ensures from { IsFrom result (tree self.now number) }
-        ensures reads { result < 64 → IsFrom (result + 1) (tree self.now number) → ⊥ }
+        ensures reads { result < VARIABLES → IsFrom (result + 1) (tree self.now number) → ⊥ }
         ensures reduced { IsReduced (tree self.now number) }
     {
         if number < 2 {
@@ -136,16 +152,6 @@ impl Table {
         } else {
             (number, number)
         }
-    }
-
-    // Whether two numbers are of one diagram: no two nodes are equal.
-    pub(crate) fn is_same(&self, a: u64, b: u64) -> bool
-        requires left { IsOf self.now a }
-        requires right { IsOf self.now b }
-        ensures { IsTrue result ↔ SameRows (tree self.now a) (tree self.now b) }
-    {
-        let _nodes = &self.nodes;
-        a == b
     }
 
     // What the memo has.
