@@ -1,7 +1,7 @@
 -- Joining with a constant, or with itself.
 use Rattle.std.proofs.Common.{◌≡◌, ◌⊎◌, ℕ, ◌&&◌, ◌||◌, Bool, true, false, not, Some, inl, inr, refl, arith}
-use Rattle.bool_diagrams.specs.declared.memo.Connective.{Connective}
-use Rattle.bool_diagrams.specs.declared.memo.Connective.TheVariants.{And, Or, Iff}
+use Rattle.bool_diagrams.specs.declared.connective.Connective.{Connective}
+use Rattle.bool_diagrams.specs.declared.connective.Connective.TheVariants.{And, Or, Iff}
 use Rattle.bool_diagrams.specs.Joins.{IsDecided, neutral, absorbing, with_itself}
 use Rattle.bool_diagrams.specs.Rows.{iff}
 use Rattle.bool_diagrams.proofs.Nodes.{tree_constant}

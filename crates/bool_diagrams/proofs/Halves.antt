@@ -1,7 +1,7 @@
 -- What was made of two halves.
 use Rattle.std.proofs.Common.{◌≡◌, ℕ, ◌+◌, ◌≤◌, Bool, true, false, if◌then◌else◌, List, refl, ◌∙◌, arith}
 use Rattle.std.proofs.lemmas.Bool.{ne_eqb}
-use Rattle.bool_diagrams.specs.declared.memo.Connective.{Connective}
+use Rattle.bool_diagrams.specs.declared.connective.Connective.{Connective}
 use Rattle.bool_diagrams.specs.declared.node.Node.{Node}
 use Rattle.bool_diagrams.specs.Tree.{Tree, value, with_value, IsFrom, IsReduced}
 use Rattle.bool_diagrams.specs.Rows.{IsOf, Keeps, tree}

@@ -10,3 +10,4 @@ pub mod PathLemmas
 pub mod WalkLemmas
 pub mod Examples
 pub mod Numbers
+pub mod CallerLemmas

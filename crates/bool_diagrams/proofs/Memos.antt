@@ -3,7 +3,7 @@ use Rattle.std.proofs.Common.{◌==◌, ◌&&◌, IfSome, OnOk, OnErr, Result, O
 use Rattle.std.proofs.lemmas.Bool.{eqb-true, and_parts}
 use Rattle.std.specs.HashMap.{HashMap, get, Updates, IsUnchanged, IsEmpty}
 use Rattle.bool_diagrams.specs.declared.node.Node.{Node}
-use Rattle.bool_diagrams.specs.declared.memo.Connective.TheVariants.{And, Or, Iff}
+use Rattle.bool_diagrams.specs.declared.connective.Connective.TheVariants.{And, Or, Iff}
 use Rattle.bool_diagrams.specs.declared.memo.Key.{Key}
 use Rattle.bool_diagrams.specs.declared.memo.Key.TheVariants.{Join, Quantify}
 use Rattle.bool_diagrams.specs.contracts.memo.KeyPartialEq.TheImpl.{eq-value}

@@ -2,7 +2,7 @@
 use Rattle.std.proofs.Common.{◌≡◌, ℕ, ◌<◌, ◌==◌, ◌&&◌, ◌||◌, Bool, true, false, if◌then◌else◌, List, [], ◌∷◌, length, refl, ◌∙◌, arith}
 use Rattle.std.specs.List.{All}
 use Rattle.std.proofs.lemmas.List.Elements.{All-head, All-tail}
-use Rattle.bool_diagrams.specs.declared.memo.Connective.TheVariants.{And, Or}
+use Rattle.bool_diagrams.specs.declared.connective.Connective.TheVariants.{And, Or}
 use Rattle.bool_diagrams.specs.Tree.{Tree, value}
 use Rattle.bool_diagrams.specs.Rows.{IsOf, Keeps, tree}
 use Rattle.bool_diagrams.specs.Joins.{Chooses, Joins}

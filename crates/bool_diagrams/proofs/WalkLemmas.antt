@@ -97,6 +97,10 @@ level_first ts i l n s from = rw s.spells at from
 pub cut_back : (p q w r : List Cell) (v : ℕ) (cell : Cell) → length q ≡ v → w ≡ q ++ cell ∷ [] → p ≡ w → r ≡ take v p → r ≡ q
 cut_back p q w r v cell len w_is p_is r_is = r_is ∙ rw (p_is, w_is) (take_at q (cell ∷ []) v len)
 
+-- and gets its next cell
+pub pushed : (q r w : List Cell) (cell : Cell) → r ≡ q → w ≡ r ++ cell ∷ [] → w ≡ q ++ cell ∷ []
+pushed q r w cell r_is w_is = w_is ∙ rw r_is refl
+
 -- what the whole walk finds
 pub found_whole : (p : List Cell) (width : ℕ) (t : Tree) (f f' : List (List Cell)) (set : List Bool → Bool) → p ≡ [] → f ≡ []
     → ((row : List Bool) → rows_from 0 t row ≡ set row) → Walked p width t f f' → f' ≡ cubes width set

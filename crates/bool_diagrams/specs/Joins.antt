@@ -1,8 +1,8 @@
 -- What a diagram is that was joined of others: for private clauses.
 use Rattle.std.specs.Prelude.{ℕ, ◌≡◌, ◌+◌, ◌≤◌, ◌<◌, false, true, Bool, List, ◌&&◌, ◌||◌, if◌then◌else◌, Option, Some, None, nat_eq}
 use Rattle.std.specs.HashMap.{HashMap, get}
-use Rattle.bool_diagrams.specs.declared.memo.Connective.{Connective}
-use Rattle.bool_diagrams.specs.declared.memo.Connective.TheVariants.{And, Or, Iff}
+use Rattle.bool_diagrams.specs.declared.connective.Connective.{Connective}
+use Rattle.bool_diagrams.specs.declared.connective.Connective.TheVariants.{And, Or, Iff}
 use Rattle.bool_diagrams.specs.declared.memo.Key.{Key}
 use Rattle.bool_diagrams.specs.declared.memo.Key.TheVariants.{Join, Quantify}
 use Rattle.bool_diagrams.specs.declared.node.Node.{Node}

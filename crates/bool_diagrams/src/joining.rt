@@ -1,10 +1,11 @@
 // Joining two diagrams row by row.
-ghost use Rattle.std.specs.Prelude.{◌≡◌, ◌&&◌, ◌||◌, ◌<◌, ◌≤◌, Bool, IfNone, IfOk, IfSome, List, not, ℕ};
-ghost use Rattle.bool_diagrams.specs.Joins.{IsDecided, Joins, absorbing, neutral, with_itself};
+ghost use Rattle.std.specs.Prelude.{◌≡◌, ◌&&◌, ◌||◌, Bool, IfOk, not, ℕ};
+ghost use Rattle.bool_diagrams.specs.Joins.{Joins};
 ghost use Rattle.bool_diagrams.specs.Rows.{IsDiagram, IsOf, Keeps, holds, iff};
 
+use crate::connective::Connective;
 use crate::diagram::Diagram;
-use crate::memo::{Connective, Key};
+use crate::memo::Key;
 use crate::table::Table;
 use std::alloc::AllocError;
 
@@ -79,7 +80,7 @@ impl Table {
         ensures keeps { Keeps self.old self.new }
         ensures joins { IfOk result (Joins self.new connective a b) }
     {
-        if let Some(number) = decided(connective, a, b) {
+        if let Some(number) = connective.decided(a, b) {
             return Ok(number);
         }
         let key = Key::Join(connective, a, b);
@@ -95,57 +96,4 @@ impl Table {
         self.remember(key, number)?;
         Ok(number)
     }
-}
-
-// The constant that leaves the other operand as it is.
-fn neutral(connective: Connective) -> u64
-    ensures { result ≡ neutral connective }
-{
-    match connective {
-        Connective::And | Connective::Iff => 1,
-        Connective::Or => 0,
-    }
-}
-
-// The constant that decides alone, where there is one.
-fn absorbing(connective: Connective) -> Option<u64>
-    ensures { result ≡ absorbing connective }
-{
-    match connective {
-        Connective::And => Some(0),
-        Connective::Or => Some(1),
-        Connective::Iff => None,
-    }
-}
-
-// What a diagram and itself give.
-pub(crate) fn with_itself(connective: Connective, a: u64) -> u64
-    ensures { result ≡ with_itself connective a }
-{
-    match connective {
-        Connective::And | Connective::Or => a,
-        Connective::Iff => 1,
-    }
-}
-
-// The answers that need no node: an operand is a constant that decides, or both are the same.
-fn decided(connective: Connective, a: u64, b: u64) -> Option<u64>
-    ensures some { IfSome result (IsDecided connective a b) }
-    ensures none { IfNone result (a < 2 → 2 ≤ b) }
-{
-    let passes = neutral(connective);
-    if a == passes {
-        return Some(b);
-    }
-    if b == passes {
-        return Some(a);
-    }
-    if a == b {
-        return Some(with_itself(connective, a));
-    }
-    let stops = absorbing(connective)?;
-    if a == stops || b == stops {
-        return Some(stops);
-    }
-    None
 }

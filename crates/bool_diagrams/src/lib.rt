@@ -1,6 +1,7 @@
 //! Sets of rows of up to 64 Boolean variables, as shared decision diagrams.
 #![tactic(auto)]
 
+mod connective;
 mod cube;
 mod diagram;
 mod joining;

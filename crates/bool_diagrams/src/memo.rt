@@ -2,17 +2,10 @@
 ghost use Rattle.std.specs.Prelude.{◌≡◌, Some, OnOk, OnErr};
 ghost use Rattle.std.specs.HashMap.{get, IsEmpty, IsUnchanged, Updates};
 
+use crate::connective::Connective;
 use std::alloc::{AllocError, Global};
 use std::collections::HashMap;
 use std::hash::Hash;
-
-/// What joins two truth values to one.
-#[derive(Clone, Copy, Debug, PartialEq, Eq, Hash)]
-pub(crate) enum Connective {
-    And,
-    Or,
-    Iff,
-}
 
 /// An operation with its operands: diagrams by their numbers.
 #[derive(Clone, Copy, Debug, PartialEq, Eq, Hash)]

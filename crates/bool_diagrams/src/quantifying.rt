@@ -4,9 +4,9 @@ ghost use Rattle.bool_diagrams.specs.Joins.{Quantifies};
 ghost use Rattle.bool_diagrams.specs.Rows.{IsDiagram, IsOf, Keeps, holds};
 ghost use Rattle.bool_diagrams.specs.Tree.{with_value};
 
+use crate::connective::Connective;
 use crate::diagram::Diagram;
-use crate::joining::with_itself;
-use crate::memo::{Connective, Key};
+use crate::memo::Key;
 use crate::table::{Table, VARIABLES};
 use std::alloc::AllocError;
 
@@ -60,7 +60,7 @@ impl Table {
         ensures quantifies { IfOk result (Quantifies self.new connective a variable) }
     {
         if variable < self.first_of(a) {
-            return Ok(with_itself(connective, a));
+            return Ok(connective.with_itself(a));
         }
         let key = Key::Quantify(connective, a, variable);
         if let Some(number) = self.recall(key) {

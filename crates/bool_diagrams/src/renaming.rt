@@ -7,8 +7,9 @@ ghost use Rattle.bool_diagrams.specs.Renaming.{renamed};
 ghost use Rattle.bool_diagrams.specs.Rows.{IsDiagram, IsOf, Keeps, holds, tree};
 ghost use Rattle.bool_diagrams.specs.Tree.{value};
 
+use crate::connective::Connective;
 use crate::diagram::Diagram;
-use crate::memo::{Connective, Memo};
+use crate::memo::Memo;
 use crate::table::{Table, VARIABLES};
 use std::alloc::{AllocError, Global};
 
