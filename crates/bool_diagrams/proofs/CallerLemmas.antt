@@ -1,10 +1,12 @@
--- For callers: earlier diagrams stay known and keep their rows, and a diagram has one value on rows that agree.
+-- For callers: earlier diagrams stay known and keep their rows, a diagram has one value on rows that
+-- agree, sets with the same rows of a length have the same cubes, and the cubes of a set have its rows.
 use Rattle.std.proofs.Common.{◌≡◌, ℕ, ◌+◌, ◌≤◌, ◌<◌, Bool, List, length, refl, sym, ◌∙◌, arith}
 use Rattle.bool_diagrams.specs.declared.diagram.Diagram.{Diagram}
 use Rattle.bool_diagrams.specs.Tree.{Tree}
 use Rattle.bool_diagrams.specs.Rows.{IsDiagram, Keeps, holds, tree}
 use Rattle.bool_diagrams.proofs.Canonical.{value_same}
 pub use Rattle.bool_diagrams.proofs.Nodes.{keeps_same, keeps_twice}
+pub use Rattle.bool_diagrams.proofs.CubeLemmas.{SameAt, cubes_at, covered-cubes}
 
 -- an earlier diagram is one of the table
 pub known_later : (old new : List Tree) (d : Diagram) → Keeps old new → IsDiagram old d → IsDiagram new d

@@ -1,10 +1,14 @@
 -- The paths of a reduced tree are the cubes of its rows.
-use Rattle.std.proofs.Common.{◌≡◌, ℕ, zero, suc, ◌+◌, ◌≤◌, ◌<◌, ◌==◌, Bool, true, false, if◌then◌else◌, List, [], ◌∷◌, length, refl, sym, ◌∙◌, ap, inl, inr, arith}
+use Rattle.std.proofs.Common.{◌||◌, ◌&&◌, ◌++◌, map, not, ◌≡◌, ℕ, zero, suc, ◌+◌, ◌≤◌, ◌<◌, ◌==◌, Bool, true, false, if◌then◌else◌, List, [], ◌∷◌, length, refl, sym, ◌∙◌, ap, inl, inr, arith}
 use Rattle.std.proofs.lemmas.Bool.{cases_lt, and_parts, ne_eqb}
 use Rattle.bool_diagrams.specs.Tree.{Tree, leaf, branch, value, with_value, IsFrom, IsReduced, SameRows}
 use Rattle.bool_diagrams.specs.Rows.{iff}
-use Rattle.bool_diagrams.specs.Cubes.{rests, same_rows, cubes}
+use Rattle.bool_diagrams.specs.Cubes.{rests, same_rows, cubes, allows, covers, covered}
 use Rattle.bool_diagrams.specs.Paths.{DependsBelow}
+use Rattle.std.proofs.lemmas.List.Folds.{list_any-append}
+use Rattle.bool_diagrams.specs.declared.cube.Cell.{Cell}
+use Rattle.bool_diagrams.specs.declared.cube.Cell.TheVariants.{Zero, One, Any}
+use Rattle.bool_diagrams.proofs.Decided.{or_false}
 use Rattle.bool_diagrams.proofs.Canonical.{at_value, from_later, reads_later, same_tree}
 
 -- every variable that is asked is below the width
@@ -96,22 +100,81 @@ same_rows_is (suc n) s t h (true ∷ row) e =
     let parts = and_parts (same_rows n (rests false s) (rests false t)) _ h in
     same_rows_is n (rests true s) (rests true t) parts.1 row (omega arith)
 
-pub same_rows_agree : (n : ℕ) (s s' t t' : List Bool → Bool) → SameSet s s' → SameSet t t' → same_rows n s t ≡ same_rows n s' t'
+-- two sets have the same rows of a length
+abbrev pub SameAt : ℕ → (List Bool → Bool) → (List Bool → Bool) → Type 0
+SameAt n s t = (row : List Bool) → length row ≡ n → s row ≡ t row
+
+rests_agree : (n : ℕ) (b : Bool) (s t : List Bool → Bool) → SameAt (suc n) s t → SameAt n (rests b s) (rests b t)
+rests_agree n b s t same row e = same (b ∷ row) (omega arith)
+
+same_rows_at : (n : ℕ) (s s' t t' : List Bool → Bool) → SameAt n s s' → SameAt n t t' → same_rows n s t ≡ same_rows n s' t'
 unfolding same_rows
-same_rows_agree zero s s' t t' same_s same_t = rw (same_s [], same_t []) refl
-same_rows_agree (suc n) s s' t t' same_s same_t =
+same_rows_at zero s s' t t' same_s same_t = rw (same_s [] refl, same_t [] refl) refl
+same_rows_at (suc n) s s' t t' same_s same_t =
     rw (
-      same_rows_agree n (rests false s) (rests false s') (rests false t) (rests false t') (λ row. same_s (false ∷ row)) (λ row. same_t (false ∷ row)),
-      same_rows_agree n (rests true s) (rests true s') (rests true t) (rests true t') (λ row. same_s (true ∷ row)) (λ row. same_t (true ∷ row)),
+      same_rows_at n (rests false s) (rests false s') (rests false t) (rests false t') (rests_agree n false s s' same_s) (rests_agree n false t t' same_t),
+      same_rows_at n (rests true s) (rests true s') (rests true t) (rests true t') (rests_agree n true s s' same_s) (rests_agree n true t t' same_t),
     ) refl
 
--- equal sets have the same cubes
-pub cubes_agree : (n : ℕ) (s t : List Bool → Bool) → SameSet s t → cubes n s ≡ cubes n t
+pub same_rows_agree : (n : ℕ) (s s' t t' : List Bool → Bool) → SameSet s s' → SameSet t t' → same_rows n s t ≡ same_rows n s' t'
+same_rows_agree n s s' t t' same_s same_t = same_rows_at n s s' t t' (λ row _. same_s row) (λ row _. same_t row)
+
+-- sets with the same rows of a length have the same cubes
+pub cubes_at : (n : ℕ) (s t : List Bool → Bool) → SameAt n s t → cubes n s ≡ cubes n t
 unfolding cubes
-cubes_agree zero s t same = rw (same []) refl
-cubes_agree (suc n) s t same =
+cubes_at zero s t same = rw (same [] refl) refl
+cubes_at (suc n) s t same =
     rw (
-      same_rows_agree n (rests false s) (rests false t) (rests true s) (rests true t) (λ row. same (false ∷ row)) (λ row. same (true ∷ row)),
-      cubes_agree n (rests false s) (rests false t) (λ row. same (false ∷ row)),
-      cubes_agree n (rests true s) (rests true t) (λ row. same (true ∷ row)),
+      same_rows_at n (rests false s) (rests false t) (rests true s) (rests true t) (rests_agree n false s t same) (rests_agree n true s t same),
+      cubes_at n (rests false s) (rests false t) (rests_agree n false s t same),
+      cubes_at n (rests true s) (rests true t) (rests_agree n true s t same),
     ) refl
+
+pub cubes_agree : (n : ℕ) (s t : List Bool → Bool) → SameSet s t → cubes n s ≡ cubes n t
+cubes_agree n s t same = cubes_at n s t (λ row _. same row)
+
+-- ---- the rows of cubes
+
+and_none : (x : Bool) → false ≡ (x && false)
+and_none true = refl
+and_none false = refl
+
+and_or : (x y z : Bool) → ((x && y) || (x && z)) ≡ (x && (y || z))
+and_or true y z = refl
+and_or false y z = refl
+
+empty_row : (b : Bool) → covered (if b then [] ∷ [] else []) [] ≡ b
+empty_row true = refl
+empty_row false = refl
+
+same_rest : (s : List Bool → Bool) (b : Bool) (row : List Bool) → s (false ∷ row) ≡ s (true ∷ row) → (true && s (false ∷ row)) ≡ s (b ∷ row)
+same_rest s true row e = e
+same_rest s false row e = refl
+
+by_first : (s : List Bool → Bool) (b : Bool) (row : List Bool) → ((not b && s (false ∷ row)) || (b && s (true ∷ row))) ≡ s (b ∷ row)
+by_first s true row = refl
+by_first s false row = or_false (s (false ∷ row))
+
+covered-map : (cell : Cell) (cs : List (List Cell)) (b : Bool) (row : List Bool) → covered (map (λ cube. cell ∷ cube) cs) (b ∷ row) ≡ (allows cell b && covered cs row)
+covered-map cell [] b row = and_none (allows cell b)
+covered-map cell (c ∷ cs) b row = rw (covered-map cell cs b row) (and_or (allows cell b) (covers c row) (covered cs row))
+
+-- the cubes of a set have its rows
+pub covered-cubes : (n : ℕ) (s : List Bool → Bool) → SameAt n (covered (cubes n s)) s
+unfolding cubes
+covered-cubes zero s [] e = empty_row (s [])
+covered-cubes zero s (b ∷ row) e = absurd (omega arith)
+covered-cubes (suc n) s [] e = absurd (omega arith)
+covered-cubes (suc n) s (b ∷ row) e =
+    let len : length row ≡ n = omega arith in
+    let on_false = covered-cubes n (rests false s) row len in
+    let on_true = covered-cubes n (rests true s) row len in
+    let low = cubes n (rests false s) in
+    let high = cubes n (rests true s) in
+    (elim (same_rows n (rests false s) (rests true s)) as (λ x. same_rows n (rests false s) (rests true s) ≡ x
+    → covered (if x then map (λ cube. Any ∷ cube) low else map (λ cube. Zero ∷ cube) low ++ map (λ cube. One ∷ cube) high) (b ∷ row) ≡ s (b ∷ row)) [
+      | true ↦ λ same. covered-map Any low b row ∙ rw on_false (same_rest s b row (same_rows_is n (rests false s) (rests true s) same row len))
+      | false ↦ λ differ.
+          list_any-append (λ cube. covers cube (b ∷ row)) (map (λ cube. Zero ∷ cube) low) (map (λ cube. One ∷ cube) high)
+          ∙ rw (covered-map Zero low b row, covered-map One high b row, on_false, on_true) (by_first s b row)
+    ]) refl

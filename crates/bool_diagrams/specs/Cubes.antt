@@ -4,7 +4,8 @@
 -- for each variable: false, true, or any.
 --
 -- To believe: all of this file.
-use Rattle.std.specs.Prelude.{ℕ, zero, suc, Bool, true, false, ◌&&◌, if◌then◌else◌, List, [], ◌∷◌, ◌++◌, map, slice_index_or}
+use Rattle.std.specs.Prelude.{ℕ, zero, suc, Bool, true, false, not, ◌&&◌, if◌then◌else◌, List, [], ◌∷◌, ◌++◌, map, slice_index_or}
+use Rattle.std.specs.List.{list_any}
 use Rattle.bool_diagrams.specs.declared.cube.Cell.{Cell}
 use Rattle.bool_diagrams.specs.declared.cube.Cell.TheVariants.{Zero, One, Any}
 use Rattle.bool_diagrams.specs.declared.diagram.Diagram.{Diagram}
@@ -29,6 +30,23 @@ cubes (suc n) set =
     if same_rows n (rests false set) (rests true set)
     then map (λ cube. Any ∷ cube) (cubes n (rests false set))
     else map (λ cube. Zero ∷ cube) (cubes n (rests false set)) ++ map (λ cube. One ∷ cube) (cubes n (rests true set))
+
+-- whether a cell allows a value
+abbrev pub allows : Cell → Bool → Bool
+allows Zero b = not b
+allows One b = b
+allows Any b = true
+
+-- whether a cube has a row: each cell allows its value
+abbrev pub covers : List Cell → List Bool → Bool
+covers [] [] = true
+covers [] (b ∷ row) = false
+covers (cell ∷ cube) [] = false
+covers (cell ∷ cube) (b ∷ row) = allows cell b && covers cube row
+
+-- the rows that a list of cubes has
+abbrev pub covered : List (List Cell) → List Bool → Bool
+covered list row = list_any (λ cube. covers cube row) list
 
 -- the values of a truth row, and false for later variables
 abbrev pub values_of : List Bool → ℕ → Bool

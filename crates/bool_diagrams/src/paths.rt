@@ -1,6 +1,6 @@
 // The paths of a diagram.
-ghost use Rattle.std.specs.Prelude.{◌≡◌, ◌++◌, ◌-◌, ◌≤◌, IfOk, OnOk, length, map};
-ghost use Rattle.bool_diagrams.specs.Cubes.{cubes, truth_rows};
+ghost use Rattle.std.specs.Prelude.{◌≡◌, ◌++◌, ◌-◌, ◌≤◌, Bool, IfOk, List, OnOk, length, map};
+ghost use Rattle.bool_diagrams.specs.Cubes.{covered, cubes, truth_rows};
 ghost use Rattle.bool_diagrams.specs.Paths.{DependsBelow, rows_from};
 ghost use Rattle.bool_diagrams.specs.Rows.{IsDiagram, IsOf, ReadsBelow, tree};
 ghost use Rattle.bool_diagrams.specs.Tree.{IsFrom};
@@ -17,7 +17,10 @@ impl Table {
     pub fn paths(&self, a: Diagram, width: u32) -> Result<Vec<Cube>, AllocError>
         requires known { IsDiagram self.now a }
         requires reads { ReadsBelow self.now a width }
-        ensures { IfOk result (λ list. list.items ≡ cubes width (truth_rows self.now a)) }
+        ensures cubes { IfOk result (λ list. list.items ≡ cubes width (truth_rows self.now a)) }
+
+        // What cubes are for: they have the rows of the set, and no others.
+        ensures rows { IfOk result (λ list. (row : List Bool) → length row ≡ width → covered list.items row ≡ truth_rows self.now a row) }
     {
         let mut prefix = Vec::new(self.alloc());
         let mut found = Vec::new(self.alloc());
