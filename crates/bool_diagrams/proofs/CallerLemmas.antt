@@ -1,6 +1,6 @@
 -- For callers: earlier diagrams stay known and keep their rows, a diagram has one value on rows that
 -- agree, sets with the same rows of a length have the same cubes, and the cubes of a set have its rows.
-use Rattle.std.proofs.Common.{◌≡◌, ℕ, ◌+◌, ◌≤◌, ◌<◌, Bool, List, length, refl, sym, ◌∙◌, arith}
+use Rattle.std.proofs.Common.{◌≡◌, ℕ, Bool, List, refl, arith}
 use Rattle.bool_diagrams.specs.declared.diagram.Diagram.{Diagram}
 use Rattle.bool_diagrams.specs.Tree.{Tree}
 use Rattle.bool_diagrams.specs.Rows.{IsDiagram, Keeps, holds, tree}

@@ -18,7 +18,8 @@ impl Table {
         requires right { IsDiagram self.old b }
         ensures keeps { Keeps self.old self.new }
         ensures known { IfOk result (IsDiagram self.new) }
-        ensures rows { IfOk result (λ d. (row : ℕ → Bool) → holds self.new d row ≡ (holds self.old a row && holds self.old b row)) }
+        ensures rows { IfOk result (λ d. (row : ℕ → Bool)
+            → holds self.new d row ≡ (holds self.old a row && holds self.old b row)) }
     {
         self.joined(Connective::And, a, b)
     }
@@ -29,7 +30,8 @@ impl Table {
         requires right { IsDiagram self.old b }
         ensures keeps { Keeps self.old self.new }
         ensures known { IfOk result (IsDiagram self.new) }
-        ensures rows { IfOk result (λ d. (row : ℕ → Bool) → holds self.new d row ≡ (holds self.old a row || holds self.old b row)) }
+        ensures rows { IfOk result (λ d. (row : ℕ → Bool)
+            → holds self.new d row ≡ (holds self.old a row || holds self.old b row)) }
     {
         self.joined(Connective::Or, a, b)
     }
@@ -40,7 +42,8 @@ impl Table {
         requires right { IsDiagram self.old b }
         ensures keeps { Keeps self.old self.new }
         ensures known { IfOk result (IsDiagram self.new) }
-        ensures rows { IfOk result (λ d. (row : ℕ → Bool) → holds self.new d row ≡ iff (holds self.old a row) (holds self.old b row)) }
+        ensures rows { IfOk result (λ d. (row : ℕ → Bool)
+            → holds self.new d row ≡ iff (holds self.old a row) (holds self.old b row)) }
     {
         self.joined(Connective::Iff, a, b)
     }
@@ -50,7 +53,8 @@ impl Table {
         requires { IsDiagram self.old a }
         ensures keeps { Keeps self.old self.new }
         ensures known { IfOk result (IsDiagram self.new) }
-        ensures rows { IfOk result (λ d. (row : ℕ → Bool) → holds self.new d row ≡ not (holds self.old a row)) }
+        ensures rows { IfOk result (λ d. (row : ℕ → Bool)
+            → holds self.new d row ≡ not (holds self.old a row)) }
     {
         let nothing = self.truth(false);
         self.joined(Connective::Iff, a, nothing)

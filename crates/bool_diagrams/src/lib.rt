@@ -1,4 +1,7 @@
-//! Sets of rows of up to 64 Boolean variables, as shared decision diagrams.
+//! Sets of rows of 64 Boolean variables, as reduced and ordered decision diagrams over one set of shared nodes, so that
+//! equal sets are one diagram (Bryant 1986).
+//!
+//! Stands on std alone.
 #![tactic(auto)]
 
 mod connective;

@@ -20,7 +20,8 @@ impl Table {
         ensures cubes { IfOk result (λ list. list.items ≡ cubes width (truth_rows self.now a)) }
 
         // What cubes are for: they have the rows of the set, and no others.
-        ensures rows { IfOk result (λ list. (row : List Bool) → length row ≡ width → covered list.items row ≡ truth_rows self.now a row) }
+        ensures rows { IfOk result (λ list. (row : List Bool)
+            → length row ≡ width → covered list.items row ≡ truth_rows self.now a row) }
     {
         let mut prefix = Vec::new(self.alloc());
         let mut found = Vec::new(self.alloc());

@@ -18,7 +18,9 @@ impl Table {
         ensures keeps { Keeps self.old self.new }
         ensures known { IfOk result (IsDiagram self.new) }
         ensures rows { IfOk result (λ d. (row : ℕ → Bool)
-            → holds self.new d row ≡ (holds self.old a (with_value row v false) || holds self.old a (with_value row v true))) }
+            → holds self.new d row ≡
+            (holds self.old a (with_value row v false)
+            || holds self.old a (with_value row v true))) }
     {
         self.quantified(Connective::Or, a, v)
     }
@@ -30,7 +32,9 @@ impl Table {
         ensures keeps { Keeps self.old self.new }
         ensures known { IfOk result (IsDiagram self.new) }
         ensures rows { IfOk result (λ d. (row : ℕ → Bool)
-            → holds self.new d row ≡ (holds self.old a (with_value row v false) && holds self.old a (with_value row v true))) }
+            → holds self.new d row ≡
+            (holds self.old a (with_value row v false)
+            && holds self.old a (with_value row v true))) }
     {
         self.quantified(Connective::And, a, v)
     }

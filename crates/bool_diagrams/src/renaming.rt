@@ -14,16 +14,17 @@ use crate::table::{Table, VARIABLES};
 use std::alloc::{AllocError, Global};
 
 impl Table {
-    /// Gives each variable of `from` the name at its place in `to`, all at once.
+    /// Gives each variable of `from` the name at its place in `to`, all at once. Other variables keep theirs.
     ///
-    /// The names may be variables that occur already, and several variables may get one name.
+    /// A name may be a variable that occurs already, and several variables may get one name.
     pub fn rename(&mut self, a: Diagram, from: &[u32], to: &[u32]) -> Result<Diagram, AllocError>
         requires known { IsDiagram self.old a }
         requires lengths { length from.now ≡ length to.now }
         requires variables { All (λ v. v < VARIABLES) to.now }
         ensures keeps { Keeps self.old self.new }
         ensures known { IfOk result (IsDiagram self.new) }
-        ensures rows { IfOk result (λ d. (row : ℕ → Bool) → holds self.new d row ≡ holds self.old a (λ v. row (renamed from.now to.now v))) }
+        ensures rows { IfOk result (λ d. (row : ℕ → Bool)
+            → holds self.new d row ≡ holds self.old a (λ v. row (renamed from.now to.now v))) }
     {
         let mut memo = Memo::new(self.alloc());
         let answer = self.rename_in(&mut memo, a.0, from, to);
@@ -70,7 +71,8 @@ impl Table {
         ensures keeps { Keeps self.old self.new }
         ensures known { IfOk result (IsOf self.new) }
         ensures rows { IfOk result (λ i. (row : ℕ → Bool)
-            → value (tree self.new i) row ≡ (if row variable then value (tree self.old high) row else value (tree self.old low) row)) }
+            → value (tree self.new i) row
+            ≡ (if row variable then value (tree self.old high) row else value (tree self.old low) row)) }
     {
         if variable < self.first_of(low) && variable < self.first_of(high) {
             return self.node(variable, low, high);

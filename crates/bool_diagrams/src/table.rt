@@ -196,7 +196,8 @@ fn add(
     node: Node,
 ) -> Result<u64, AllocError>
     ensures number { IfOk result (λ i. i ≡ length nodes.old.items + 2) }
-    ensures nodes { nodes.new.items ≡ (if is_ok result then nodes.old.items ++ node ∷ [] else nodes.old.items) }
+    ensures nodes { nodes.new.items
+        ≡ (if is_ok result then nodes.old.items ++ node ∷ [] else nodes.old.items) }
     ensures updates { IfOk result (λ i. Updates same_node unique.old unique.new node (Some i)) }
     ensures unchanged { OnErr result (IsUnchanged unique.old unique.new) }
 {

@@ -1,5 +1,5 @@
 // Worked rows: the parity of 64 variables, the rows of append, and a renaming.
-use crate::{Cell, Table, VARIABLES};
+use crate::{Cell, Cube, Table, VARIABLES};
 use std::test::Fail;
 
 // A body without a memo takes more than 2^60 steps here.
@@ -56,9 +56,12 @@ fn rows_of_append(rt: HostRuntime) -> Result<(), Fail> {
     for (cube, want) in cubes.iter().zip(wanted.iter()) {
         assert!(rt; cube.cells() == want.as_slice());
     }
+    let copy = Cube::new(Vec::from_slice(rt.alloc(), &wanted[0])?);
+    assert!(rt; copy.into_cells().as_slice() == wanted[0].as_slice());
     Ok(())
 }
 
+// Quantifying, complement and renaming, of "one of the two" and "both".
 #[test]
 fn other_operations(rt: HostRuntime) -> Result<(), Fail> {
     let mut table = Table::new(rt.alloc())?;

@@ -1,5 +1,4 @@
-use Rattle.std.proofs.Common.{List, [], ◌∷◌, ◌++◌, length, refl, ◌∙◌, ap, arith}
-use Rattle.bool_diagrams.specs.declared.cube.Cell.{Cell}
+use Rattle.std.proofs.Common.{length, refl, ◌∙◌, arith}
 use Rattle.bool_diagrams.specs.declared.cube.Cell.TheVariants.{Zero, One}
 use Rattle.bool_diagrams.specs.Rows.{tree}
 use Rattle.bool_diagrams.proofs.Halves.{low_known, high_known}

@@ -1,4 +1,3 @@
-use Rattle.std.proofs.Common.{◌≡◌, ℕ, ◌<◌, ◌^◌}
 use Rattle.bool_diagrams.proofs.Tables.{same_exactly}
 use Rattle.bool_diagrams.proofs.Numbers.{numbers_exactly}
 use Rattle.bool_diagrams.proofs.table.Table.same.Goals as goal
