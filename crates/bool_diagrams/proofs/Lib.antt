@@ -1,0 +1,13 @@
+pub mod Canonical
+pub mod Nodes
+pub mod Tables
+pub mod Memos
+pub mod Decided
+pub mod Halves
+pub mod Renamed
+pub mod CubeLemmas
+pub mod PathLemmas
+pub mod WalkLemmas
+pub mod Examples
+pub mod Numbers
+pub mod CallerLemmas
