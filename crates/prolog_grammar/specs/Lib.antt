@@ -1,0 +1,11 @@
+pub mod Token
+pub mod Rules
+pub mod Grammar
+pub mod Syntax
+pub mod Depth
+pub mod Fault
+pub mod Placed
+pub mod Machine
+pub mod Run
+pub mod Walk
+pub mod Reading
