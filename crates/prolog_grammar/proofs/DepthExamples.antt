@@ -1,6 +1,6 @@
--- Worked examples of the depth rule, with the limit 2: a token is too deep that begins an operand under more than two openers, and an
--- infix operator after a term of depth 2 or more.
-use Rattle.std.proofs.Common.{◌≡◌, List, [], ◌∷◌, Err, refl}
+-- Worked examples of the depth rule, most of them with the limit 2: a token is too deep that begins an operand under more than two
+-- openers, and an infix operator after a term of depth 2 or more. The last ones have the limit 1000.
+use Rattle.std.proofs.Common.{◌≡◌, ℕ, zero, suc, true, is_ok, List, [], ◌∷◌, Err, refl}
 use Rattle.prolog_grammar.specs.Token.{variable, integer, text, Token, Leaf, Name, Paren, Touching, ParenEnd, Bracket, BracketEnd, Comma, End}
 use Rattle.prolog_grammar.specs.Rules.{plain}
 use Rattle.prolog_grammar.specs.Syntax.{Syntax, leaf, atom, call, prefixed, infixed, listed, listed_to, grouped, nothing, more, depth}
@@ -98,3 +98,57 @@ loads_of_a_text = refl
 
 depth_of_a_text : depth (leaf 0 (text (97 ∷ 98 ∷ []))) ≡ depth (listed 0 (more (leaf 1 (integer 97)) (more (leaf 4 (integer 98)) nothing)))
 depth_of_a_text = refl
+
+-- With the limit 1000. So many opening parentheses before these tokens, and closing ones
+abbrev opening : ℕ → List Token → List Token
+opening zero us = us
+opening (suc n) us = Touching 0 ∷ opening n us
+
+abbrev closing : ℕ → List Token → List Token
+closing zero us = us
+closing (suc n) us = ParenEnd ∷ closing n us
+
+-- an element, and so many more behind commas, before these tokens
+abbrev elements : ℕ → List Token → List Token
+elements zero us = Name 0 a ∷ us
+elements (suc n) us = Name 0 a ∷ Comma ∷ elements n us
+
+-- so many subtractions before these tokens
+abbrev subtractions : ℕ → List Token → List Token
+subtractions zero us = us
+subtractions (suc n) us = Name 0 minus ∷ Name 0 a ∷ subtractions n us
+
+-- the tokens are read
+abbrev IsRead : List Token → Type 0
+IsRead us = is_ok (walk 1000 table start us) ≡ true
+
+-- the token at which rest begins is too deep
+abbrev IsTooDeep : List Token → List Token → Type 0
+IsTooDeep us rest = ◌≡◌ {A = Verdict Syntax} (walk 1000 table start us) (Err (deep rest))
+
+-- a name in 1,000 parentheses, and in 1,001
+thousand_parentheses : IsRead (opening 1000 (Name 0 a ∷ closing 1000 (End ∷ [])))
+unfolding walk
+thousand_parentheses = refl
+
+one_parenthesis_more : IsTooDeep (opening 1001 (Name 0 a ∷ closing 1001 (End ∷ []))) (Name 0 a ∷ closing 1001 (End ∷ []))
+unfolding walk
+one_parenthesis_more = refl
+
+-- f([a,..,a]) with 999 elements, and with 1,000
+longest_list : IsRead (Name 0 f ∷ Touching 1 ∷ Bracket 2 ∷ elements 998 (BracketEnd ∷ ParenEnd ∷ End ∷ []))
+unfolding walk
+longest_list = refl
+
+one_element_more : IsTooDeep (Name 0 f ∷ Touching 1 ∷ Bracket 2 ∷ elements 999 (BracketEnd ∷ ParenEnd ∷ End ∷ [])) (Name 0 a ∷ BracketEnd ∷ ParenEnd ∷ End ∷ [])
+unfolding walk
+one_element_more = refl
+
+-- a - a - .. - a with 999 operators, and with 1,000: the last one has a left side of depth 1,000
+most_subtractions : IsRead (Name 0 a ∷ subtractions 999 (End ∷ []))
+unfolding walk
+most_subtractions = refl
+
+one_subtraction_more : IsTooDeep (Name 0 a ∷ subtractions 1000 (End ∷ [])) (Name 0 minus ∷ Name 0 a ∷ End ∷ [])
+unfolding walk
+one_subtraction_more = refl

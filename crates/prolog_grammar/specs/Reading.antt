@@ -1,5 +1,7 @@
 -- What the tokens at hand read as: the first clause as a term with places, or the first fault.
 --
+-- The tokens of a query are read with an End behind them, where they have none, and nothing may stand behind it.
+--
 -- To believe: all of this file. It says once more, for the terms of the code, what `Grammar`, `Depth`, `Fault` and `Placed` say.
 use Rattle.std.specs.Prelude.{◌≡◌, ℕ, List, ◌∷◌, Option, None, Ok, Err}
 use Rattle.prolog_grammar.specs.Token.{Token, End}

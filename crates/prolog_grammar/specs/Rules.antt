@@ -30,7 +30,7 @@ pub record Rules (T : Type 0) : Type 0 where
   -- the infix and the prefix meaning of a name
   pub infixes : ℕ → Option Infix
   pub prefixes : ℕ → Option Prefix
-  -- the name that the comma has as an operator
+  -- the name that the comma token has as an operator; a quoted comma is a name like others, which no table of the reader has
   pub comma : ℕ
   -- a variable, an integer or a text
   pub leaf : ℕ → Value → T
