@@ -1,0 +1,20 @@
+-- The calls of a program as a table: for each predicate those that its clauses call, in order.
+use Rattle.std.specs.Prelude.{◌≡◌, ℕ, ◌<◌, ◌==◌, if◌then◌else◌, List, [], ◌∷◌, ◌++◌, map, length, slice_get, slice_index_or, Some}
+use Rattle.std.specs.List.{AllByRecursion}
+use Rattle.cti_terms.specs.declared.clauses.Clause.{Clause}
+use Rattle.cti_terms.specs.Listing.{Listing}
+use Rattle.call_components.specs.Numbers.{called_by_atom}
+
+-- the predicates that the clauses of a call, in order
+abbrev pub callees : ℕ → List Clause → List ℕ
+callees a [] = []
+callees a (k ∷ ks) = (if k.head.pred.0 == a then map called_by_atom k.body else []) ++ callees a ks
+
+-- each callee is one of n predicates
+abbrev pub AreWithin : ℕ → List (List ℕ) → Type 0
+AreWithin n = AllByRecursion (AllByRecursion (λ b. b < n))
+
+-- one row for each predicate
+pub record IsTable (p : Listing) (rows : List (List ℕ)) : Type 0 where
+  pub each : length rows ≡ length p.preds
+  pub row : (a : ℕ) → a < length rows → slice_index_or rows a [] ≡ callees a p.clauses

@@ -1,0 +1,12 @@
+//! The components of a program's calls, callees first.
+//!
+//! Two predicates are together exactly where each reaches the other by calls, and each component stands after those
+//! that it calls. A predicate that reaches no cycle of calls has only bounded queries, which is a law here.
+//!
+//! Stands on `cti_terms` alone. What calls and reaching mean is in `specs/Calls.antt`.
+#![tactic(auto)]
+
+mod call_table;
+mod marks;
+mod pred_list;
+mod search;
