@@ -1,6 +1,10 @@
 pub mod Closing
 pub mod Lists
 pub mod MarkLaws
+pub mod Numberings
+pub mod Partitions
 pub mod Paths
 pub mod Searches
+pub mod Sorted
 pub mod Steps
+pub mod Tables

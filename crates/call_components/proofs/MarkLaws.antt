@@ -4,7 +4,7 @@ use Rattle.std.proofs.lemmas.Bool.{cases_lt, cases_eq}
 use Rattle.std.proofs.lemmas.List.{get_or_past}
 use Rattle.std.proofs.lemmas.Option.{slice_get_within}
 use Rattle.call_components.specs.Marked.{mark_of, IsSeen, weight, unseen, closed_by, closed_from}
-use Rattle.call_components.specs.Search.{Has}
+use Rattle.call_components.specs.Table.{Has}
 use Rattle.call_components.specs.declared.marks.Mark.{Mark}
 use Rattle.call_components.specs.declared.marks.Mark.TheVariants.{Unseen, Open, Closed}
 use Rattle.call_components.proofs.Lists.{slice_get-drop}

@@ -7,8 +7,8 @@ use Rattle.std.proofs.lemmas.Option.{slice_get_within, slice_get-map, slice_get-
 use Rattle.cti_terms.specs.declared.predicates.PredId.{PredId}
 use Rattle.call_components.specs.Numbers.{number_of}
 use Rattle.call_components.specs.Marked.{mark_of, IsSeen, unseen, closed_by, closed_from}
-use Rattle.call_components.specs.Search.{Has, HasCall, IsSegment, IsState, joined, IsSearch, Lead, KeepsSeen, steps}
-use Rattle.call_components.specs.Table.{AreWithin}
+use Rattle.call_components.specs.Search.{IsSegment, IsState, joined, IsSearch, Lead, KeepsSeen, steps}
+use Rattle.call_components.specs.Table.{Has, HasCall, AreWithin}
 use Rattle.call_components.specs.declared.marks.Mark.{Mark}
 use Rattle.call_components.specs.declared.marks.Mark.TheVariants.{Unseen, Open, Closed}
 use Rattle.call_components.specs.declared.search.Segment.{Segment}

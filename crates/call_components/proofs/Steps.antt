@@ -5,7 +5,8 @@ use Rattle.std.proofs.lemmas.Bool.{cases_lt, cases_eq}
 use Rattle.std.proofs.lemmas.Option.{slice_get_within, slice_get_past}
 use Rattle.call_components.specs.Calls.{Reaches, itself, onward}
 use Rattle.call_components.specs.Marked.{IsSettled}
-use Rattle.call_components.specs.Search.{Has, HasCaller, IsSegment, AreSegments, IsFollowed, AreClosed, IsState, joined}
+use Rattle.call_components.specs.Table.{Has}
+use Rattle.call_components.specs.Search.{HasCaller, IsSegment, AreSegments, IsFollowed, AreClosed, IsState, joined}
 use Rattle.call_components.specs.declared.marks.Mark.{Mark}
 use Rattle.call_components.specs.declared.marks.Mark.TheVariants.{Unseen, Open, Closed}
 use Rattle.call_components.specs.declared.search.Segment.{Segment}

@@ -13,6 +13,12 @@ IsSeen Unseen = ⊥
 IsSeen (Open i) = Unit {0}
 IsSeen (Closed n) = Unit {0}
 
+-- a predicate that has its number
+abbrev pub IsClosed : Mark → Type 0
+IsClosed Unseen = ⊥
+IsClosed (Open i) = ⊥
+IsClosed (Closed n) = Unit {0}
+
 -- a predicate that is closed, or open at this place or later
 abbrev pub IsSettled : ℕ → Mark → Type 0
 IsSettled f Unseen = ⊥

@@ -6,20 +6,12 @@
 use Rattle.std.specs.Prelude.{◌≡◌, ℕ, ◌+◌, ◌≤◌, ◌<◌, ◌^◌, ◌↔◌, ◌⊎◌, List, [], ◌∷◌, length, reverse, if◌then◌else◌, nat_lt, slice_get, slice_index_or, Some}
 use Rattle.std.specs.List.{AllByRecursion}
 use Rattle.call_components.specs.Calls.{Reaches}
-use Rattle.call_components.specs.Table.{AreWithin}
+use Rattle.call_components.specs.Table.{AreWithin, HasCall}
 use Rattle.call_components.specs.Marked.{mark_of, IsSeen, IsSettled, unseen}
 use Rattle.call_components.specs.declared.marks.Mark.{Mark}
 use Rattle.call_components.specs.declared.marks.Mark.TheVariants.{Unseen, Open, Closed}
 use Rattle.call_components.specs.declared.search.Segment.{Segment}
 use Rattle.call_components.specs.declared.search.Search.{Search}
-
--- the element stands somewhere in the list
-abbrev pub Has : List ℕ → ℕ → Type 0
-Has xs x = (k : ℕ) × (slice_get xs k ≡ Some x)
-
--- the row of a's calls has b
-abbrev pub HasCall : List (List ℕ) → ℕ → ℕ → Type 0
-HasCall rows a b = Has (slice_index_or rows a []) b
 
 module _ (calls : ℕ → ℕ → Type 0) (mark : ℕ → Mark) where
   -- an open predicate from the place f on and below u calls b

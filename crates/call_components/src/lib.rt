@@ -6,7 +6,16 @@
 //! Stands on `cti_terms` alone. What calls and reaching mean is in `specs/Calls.antt`.
 #![tactic(auto)]
 
-mod call_table;
+mod calls;
 mod marks;
+mod numbering;
+mod partition;
 mod pred_list;
+mod pred_lists;
+mod recursion;
 mod search;
+mod sorting;
+mod splitting;
+
+pub use partition::Components;
+pub use splitting::components;

@@ -2,7 +2,7 @@
 
 ghost use Rattle.std.specs.Prelude.{◌≡◌, ◌<◌, IfOk, OnErr, All, length, map, replicate, slice_set, slice_get, Some};
 ghost use Rattle.call_components.specs.Numbers.{number_of};
-ghost use Rattle.call_components.specs.Marked.{mark_of, closed_by};
+ghost use Rattle.call_components.specs.Marked.{mark_of, closed_by, IsClosed};
 
 use cti_terms::PredId;
 use std::alloc::{AllocError, Global};
@@ -70,5 +70,20 @@ impl Marks {
         for pred in preds {
             self.items[pred.0 as usize] = Mark::Closed(number);
         }
+    }
+
+    /// The number of each predicate, all of which are closed.
+    pub(crate) fn numbers(&self, alloc: Global) -> Result<Vec<u32>, AllocError>
+        requires { All IsClosed self.now }
+        ensures { IfOk result (λ numbers. self.now ≡ map Mark.Closed numbers.items) }
+    {
+        let mut numbers = Vec::new(alloc);
+        for mark in &self.items {
+            match mark {
+                Mark::Closed(number) => numbers.push(*number)?,
+                _ => unreachable!(),
+            }
+        }
+        Ok(numbers)
     }
 }

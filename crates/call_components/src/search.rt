@@ -5,7 +5,7 @@ ghost use Rattle.call_components.specs.Marked.{mark_of, IsSeen};
 ghost use Rattle.call_components.specs.Search.{joined, IsIdle, IsFollowing, KeepsSeen, work, AreNumbers};
 ghost use Rattle.call_components.specs.Table.{AreWithin};
 
-use crate::call_table::CallTable;
+use crate::pred_lists::PredLists;
 use crate::marks::{Mark, Marks};
 use crate::pred_list::Preds;
 use cti_terms::PredId;
@@ -47,12 +47,12 @@ fn join(segments: &mut Vec<Segment>, place: usize)
 
 impl Search {
     /// The search before its first step.
-    pub(crate) fn new(alloc: Global, table: &CallTable) -> Result<Search, AllocError>
+    pub(crate) fn new(alloc: Global, table: &PredLists) -> Result<Search, AllocError>
         requires { AreWithin (length table.now) table.now }
         ensures start { IfOk result (IsIdle table.now) }
         ensures empty { IfOk result (λ search. search.segments.items ≡ []) }
     {
-        let marks = Marks::new(alloc, table.preds())?;
+        let marks = Marks::new(alloc, table.count())?;
         Ok(Search {
             marks,
             open: Preds::new(alloc),
@@ -63,7 +63,7 @@ impl Search {
     }
 
     /// Follows a call to this predicate, from the last segment.
-    pub(crate) fn follow(&mut self, table: &CallTable, callee: PredId) -> Result<(), AllocError>
+    pub(crate) fn follow(&mut self, table: &PredLists, callee: PredId) -> Result<(), AllocError>
         requires known { callee.0 < length table.now }
         requires following { IsFollowing table.now callee.0 self.old }
         ensures ok { OnOk result (IsIdle table.now self.new) }
@@ -82,7 +82,7 @@ impl Search {
     }
 
     /// Opens a predicate, as a segment of its own.
-    fn open(&mut self, table: &CallTable, pred: PredId) -> Result<(), AllocError>
+    fn open(&mut self, table: &PredLists, pred: PredId) -> Result<(), AllocError>
         requires known { pred.0 < length table.now }
         requires following { IsFollowing table.now pred.0 self.old }
         requires fresh { mark_of self.old.marks pred.0 ≡ Mark.Unseen }
@@ -96,12 +96,12 @@ impl Search {
         self.segments.push(Segment { first, waiting })?;
         self.marks.set(pred, Mark::Open(first));
         self.open.push(pred)?;
-        self.waiting.extend(table.row(pred))?;
+        self.waiting.extend(table.row(pred.0))?;
         Ok(())
     }
 
     /// One step from the last segment: its next call, or its end.
-    fn step(&mut self, table: &CallTable, last: Segment) -> Result<(), AllocError>
+    fn step(&mut self, table: &PredLists, last: Segment) -> Result<(), AllocError>
         requires last { slice_get self.old.segments.items (length self.old.segments.items - 1) ≡ Some last }
         requires idle { IsIdle table.now self.old }
         ensures ok { OnOk result (IsIdle table.now self.new) }
@@ -116,7 +116,7 @@ impl Search {
     }
 
     /// Closes the last segment: it is the next component.
-    fn close_last(&mut self, table: &CallTable, last: Segment)
+    fn close_last(&mut self, table: &PredLists, last: Segment)
         requires last { slice_get self.old.segments.items (length self.old.segments.items - 1) ≡ Some last }
         requires done { length self.old.waiting ≤ last.waiting }
         requires idle { IsIdle table.now self.old }
@@ -131,7 +131,7 @@ impl Search {
     }
 
     /// Steps until nothing is open.
-    pub(crate) fn finish(&mut self, table: &CallTable) -> Result<(), AllocError>
+    pub(crate) fn finish(&mut self, table: &PredLists) -> Result<(), AllocError>
         requires { IsIdle table.now self.old }
         ensures ok { OnOk result (IsIdle table.now self.new) }
         ensures kept { OnOk result (KeepsSeen self.old.marks self.new.marks) }
