@@ -1,3 +1,5 @@
+pub mod AcyclicLaws
+pub mod Answered
 pub mod Closing
 pub mod Lists
 pub mod MarkLaws

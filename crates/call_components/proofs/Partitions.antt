@@ -77,15 +77,15 @@ module _ (p : Listing) (rows : List (List ℕ)) (numbers : List ℕ) (count : �
       within = let inside : c < length answers = slice_get_within answers c answer e in omega (arith, each)
 
       to : IsTrue answer → (a : ℕ) × (b : ℕ) × (slice_get numbers a ≡ Some c) × (slice_get numbers b ≡ Some c) × Calls p a b
-      to yes =
-          let call = (answered c within).0 (e ∙ ap Some yes) in
+      to said =
+          let call = (answered c within).0 (e ∙ ap Some said) in
           (call.0, call.1, call.3, call.4, (table.calls call.0 call.1).0 call.5)
 
       from : ((a : ℕ) × (b : ℕ) × (slice_get numbers a ≡ Some c) × (slice_get numbers b ≡ Some c) × Calls p a b) → IsTrue answer
       from (a, b, ea, eb, call) =
           let inside : a < length numbers = slice_get_within numbers a c ea in
-          let yes = (answered c within).1 (a, b, omega (arith, numbered.each), ea, eb, (table.calls a b).1 call) in
-          (let both = sym e ∙ yes in cc)
+          let told = (answered c within).1 (a, b, omega (arith, numbered.each), ea, eb, (table.calls a b).1 call) in
+          (let both = sym e ∙ told in cc)
 
   pub are_components : AreComponents p (record { of = numbers; members = members; recursive = answers })
   are_components = record {

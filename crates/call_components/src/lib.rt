@@ -6,7 +6,9 @@
 //! Stands on `cti_terms` alone. What calls and reaching mean is in `specs/Calls.antt`.
 #![tactic(auto)]
 
+mod acyclicity;
 mod calls;
+mod laws;
 mod marks;
 mod numbering;
 mod partition;
@@ -17,5 +19,7 @@ mod search;
 mod sorting;
 mod splitting;
 
+pub use acyclicity::acyclic;
+pub use laws::acyclic_queries_are_bounded;
 pub use partition::Components;
 pub use splitting::components;
