@@ -33,9 +33,10 @@ module _ (rows : List (List ℕ)) (start xs : List Bool) (nums : List ℕ) (i m 
 
       go : (a ≡ m) ⊎ (a ≡ m → ⊥) → (slice_get (set xs m v) a ≡ Some true) ↔ ((b : ℕ) → HasCall rows a b → slice_get start b ≡ Some true)
       go (inl it) =
-          subst (λ (x : ℕ). (slice_get (set xs m v) x ≡ Some true) ↔ ((b : ℕ) → HasCall rows x b → slice_get start b ≡ Some true)) (sym it)
-          (λ h b call. sym (same b call) ∙ (decides.0 (let both = sym (slice_get-set_same xs m v known) ∙ h in cc)) b (subst (λ (ys : List ℕ). Has ys b) row_is call),
-          λ h. slice_get-set_same xs m v known ∙ ap Some (decides.1 (λ b has. (let call : HasCall rows m b = subst (λ (ys : List ℕ). Has ys b) (sym row_is) has in same b call ∙ h b call))))
+          subst (λ (x : ℕ). (slice_get (set xs m v) x ≡ Some true) ↔ ((b : ℕ) → HasCall rows x b → slice_get start b ≡ Some true)) (sym it) (
+            λ h b call. sym (same b call) ∙ (decides.0 (let both = sym (slice_get-set_same xs m v known) ∙ h in cc)) b (subst (λ (ys : List ℕ). Has ys b) row_is call),
+            λ h. slice_get-set_same xs m v known ∙ ap Some (decides.1 (λ b has. (let call : HasCall rows m b = subst (λ (ys : List ℕ). Has ys b) (sym row_is) has in same b call ∙ h b call))),
+          )
       go (inr ne) =
           let before : k < i = elim (cases_lt k i) [
             | inl less ↦ less
@@ -127,10 +128,11 @@ module _ (p : Listing) (comps : Partition) (are : AreComponents p comps) (rows :
           go (inr more) =
               let here : d ≡ c = omega arith in
               let ec : IsIn comps c a = ea ∙ ap Some here in
-              let own = members a ((member_is c ms e a).1 ec) in
-              (λ h. reaches_none c a ec quiet (λ b call. (let there = callee_component a b call in (answered b there.0 there.1 (lower a b there.0 ec there.1 call)).0 (own.0 h b ((table.calls a b).1 call)))),
-              λ h. own.1 (λ b call. (let next = (table.calls a b).0 call in let there = callee_component a b next in
-              (answered b there.0 there.1 (lower a b there.0 ec there.1 next)).1 (callee_reaches_none a b h next))))
+              let own = members a ((member_is c ms e a).1 ec) in (
+                λ h. reaches_none c a ec quiet (λ b call. (let there = callee_component a b call in (answered b there.0 there.1 (lower a b there.0 ec there.1 call)).0 (own.0 h b ((table.calls a b).1 call)))),
+                λ h. own.1 (λ b call. (let next = (table.calls a b).0 call in let there = callee_component a b next in
+                    (answered b there.0 there.1 (lower a b there.0 ec there.1 next)).1 (callee_reaches_none a b h next))),
+              )
 
       pub rest_still : (a d : ℕ) → IsIn comps d a → c + 1 ≤ d → slice_get ys a ≡ Some false
       rest_still a d ea l = others a (outside a d ea (λ it. omega arith)) ∙ rest a d ea (omega arith)

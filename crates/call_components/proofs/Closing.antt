@@ -102,7 +102,7 @@ module _ (calls : ℕ → ℕ → Type 0) (mark new : ℕ → Mark) (row w : Lis
     places = row_places;
     earlier = λ a x i j ea ex l. st.earlier a x i j (was_open a i ea).0 (was_open x j ex).0 l;
     cut = subst (λ (u : ℕ). AreSegments calls new w u (length w) ss) (sym shorter) (subst (λ (v : ℕ). AreSegments calls new w s.first v ss) ended
-    (segments_stay calls mark new w w s.first s.waiting ss (λ a i l e. open_stays a i l e) (λ a i _ e. (was_open a i e).0) (λ x _. refl) st.cut.1));
+        (segments_stay calls mark new w w s.first s.waiting ss (λ a i l e. open_stays a i l e) (λ a i _ e. (was_open a i e).0) (λ x _. refl) st.cut.1));
     followed = all_map (IsFollowed calls mark (λ _. ⊥) w) (IsFollowed calls new (λ _. ⊥) w) follow ss st.followed.1;
     closed = record {
       callees = λ a c i e call. callee a c i (was_closed a i e) call;

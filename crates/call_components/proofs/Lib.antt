@@ -3,10 +3,10 @@ pub mod Answered
 pub mod Closing
 pub mod Lists
 pub mod MarkLaws
+pub mod MemberLaws
 pub mod Numberings
 pub mod Partitions
 pub mod Paths
 pub mod Searches
-pub mod Sorted
 pub mod Steps
 pub mod Tables

@@ -10,7 +10,7 @@ use Rattle.call_components.specs.Search.{AreNumbers}
 use Rattle.call_components.specs.Table.{Has, HasCall, IsTable}
 use Rattle.call_components.proofs.Lists.{has_contains, contains_has}
 use Rattle.call_components.proofs.Paths.{mapped}
-use Rattle.call_components.proofs.Sorted.{placed, place_is, places_increase}
+use Rattle.call_components.proofs.MemberLaws.{placed, place_is, places_increase}
 
 module _ (p : Listing) (rows : List (List ℕ)) (numbers : List ℕ) (count : ℕ) (members : List (List ℕ)) (answers : List Bool)
     (table : IsTable p rows) (numbered : AreNumbers rows numbers count) (sorted : AreMembers numbers count members) (each : length answers ≡ count)

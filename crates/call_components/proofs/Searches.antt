@@ -90,15 +90,17 @@ module _ (rows : List (List ℕ)) (marks : List Mark) (row w : List ℕ) (n : �
         let each : length marks ≡ length rows = h.each in
         let room : n + length ss + unseen (λ _. 1) marks rows ≤ length rows = h.room in
         let one = unseen-set (λ _. 1) marks rows b (length row) fresh (omega arith) each in
-        let all = unseen-set (λ r. 1 + length r) marks rows b (length row) fresh (omega arith) each in
-        (record {
-          each = length-set marks b (Open (length row)) ∙ each;
-          within = h.within;
-          few = h.few;
-          room = omega arith;
-          state = opened (HasCall rows) (mark_of marks) (mark_of (set marks b (Open (length row)))) row w b ss n (get_or rows b []) h.state lead fresh
-          (get_or-set_same marks b (Open (length row)) Unseen (omega arith)) (λ a ne. get_or-set_other marks b a (Open (length row)) Unseen ne) (λ x. (λ k. k, λ k. k));
-        }, omega (arith, length-append w (get_or rows b [])))
+        let all = unseen-set (λ r. 1 + length r) marks rows b (length row) fresh (omega arith) each in (
+          record {
+            each = length-set marks b (Open (length row)) ∙ each;
+            within = h.within;
+            few = h.few;
+            room = omega arith;
+            state = opened (HasCall rows) (mark_of marks) (mark_of (set marks b (Open (length row)))) row w b ss n (get_or rows b []) h.state lead fresh
+                (get_or-set_same marks b (Open (length row)) Unseen (omega arith)) (λ a ne. get_or-set_other marks b a (Open (length row)) Unseen ne) (λ x. (λ k. k, λ k. k));
+          },
+          omega (arith, length-append w (get_or rows b [])),
+        )
 
   -- the last segment is closed
   pub ends : (s : Segment) (ss : List Segment) → IsSearch rows (λ _. ⊥) marks row w (s ∷ ss) n → length w ≤ s.waiting
@@ -111,14 +113,17 @@ module _ (rows : List (List ℕ)) (marks : List Mark) (row w : List ℕ) (n : �
       let room : n + length (s ∷ ss) + unseen (λ _. 1) marks rows ≤ length rows = h.room in
       let new = length-closed_by (drop s.first row) n marks in
       let one = unseen-closed (λ _. 1) s.first n (closed_by (drop s.first row) n marks) marks rows new changed in
-      let all = unseen-closed (λ r. 1 + length r) s.first n (closed_by (drop s.first row) n marks) marks rows new changed in
-      (record {
-        each = new ∙ each;
-        within = h.within;
-        few = h.few;
-        room = omega arith;
-        state = closing (HasCall rows) (mark_of marks) (mark_of (closed_by (drop s.first row) n marks)) row w s ss n h.state done changed;
-      }, omega arith, λ a seen. subst IsSeen (sym (changed a)) (seen_closed s.first (mark_of marks a) seen))
+      let all = unseen-closed (λ r. 1 + length r) s.first n (closed_by (drop s.first row) n marks) marks rows new changed in (
+        record {
+          each = new ∙ each;
+          within = h.within;
+          few = h.few;
+          room = omega arith;
+          state = closing (HasCall rows) (mark_of marks) (mark_of (closed_by (drop s.first row) n marks)) row w s ss n h.state done changed;
+        },
+        omega arith,
+        λ a seen. subst IsSeen (sym (changed a)) (seen_closed s.first (mark_of marks a) seen),
+      )
     where
       seen_closed : (f : ℕ) (m : Mark) → IsSeen m → IsSeen (closed_from f n m)
       seen_closed f Unseen seen = seen
@@ -209,6 +214,6 @@ ends_to rows marks row w n segments last h e done marks' row' segments' preds k 
     let f1 : marks' ≡ closed_by (drop last.first row) n marks = e1 ∙ ap (λ (xs : List ℕ). closed_by xs n marks) e0 in
     let f3 : segments' ≡ take (length segments - 1) segments = e3 ∙ ap (λ (x : ℕ). take (x - 1) segments) ek in
     let over : (x : List Mark) → x ≡ closed_by (drop last.first row) n marks → (y : List ℕ) → y ≡ take last.first row → (ts : List Segment) → ts ≡ take (length segments - 1) segments
-        → IsSearch rows (λ _. ⊥) x y w (reverse ts) (n + 1) × (steps rows x w (reverse ts) < steps rows marks w (reverse segments)) × KeepsSeen marks x =
+    → IsSearch rows (λ _. ⊥) x y w (reverse ts) (n + 1) × (steps rows x w (reverse ts) < steps rows marks w (reverse segments)) × KeepsSeen marks x =
     λ x ex y ey ts et. rw (ex, ey, et) (segment_ends rows marks row w n segments last h e done) in
     over marks' f1 row' e2 segments' f3

@@ -34,15 +34,17 @@ module _ (calls : ℕ → ℕ → Type 0) where
   segments_stay mark new w w' u v (s ∷ ss) to from same h =
       let seg : IsSegment calls mark w s u v = h.0 in
       let first : s.first < u = seg.first in
-      let start : s.waiting ≤ v = seg.start in
-      (record {
-        first = first;
-        start = start;
-        root = seg.root;
-        at = to seg.root s.first first seg.at;
-        strong = λ i a low high e. seg.strong i a low high (from a i high e);
-        called = λ x b low high e. caller_stays mark new s.first u u s.first b (omega arith) (omega arith) to (seg.called x b low high (sym (same x high) ∙ e));
-      }, segments_stay mark new w w' s.first s.waiting ss (λ a i l. to a i (omega arith)) (λ a i l. from a i (omega arith)) (λ x l. same x (omega arith)) h.1)
+      let start : s.waiting ≤ v = seg.start in (
+        record {
+          first = first;
+          start = start;
+          root = seg.root;
+          at = to seg.root s.first first seg.at;
+          strong = λ i a low high e. seg.strong i a low high (from a i high e);
+          called = λ x b low high e. caller_stays mark new s.first u u s.first b (omega arith) (omega arith) to (seg.called x b low high (sym (same x high) ∙ e));
+        },
+        segments_stay mark new w w' s.first s.waiting ss (λ a i l. to a i (omega arith)) (λ a i l. from a i (omega arith)) (λ x l. same x (omega arith)) h.1,
+      )
 
   -- they begin below
   pub firsts_below : (mark : ℕ → Mark) (w : List ℕ) (u v : ℕ) (ss : List Segment) → AreSegments calls mark w u v ss → AllByRecursion (λ (s : Segment). s.first < u) ss
@@ -74,22 +76,27 @@ module _ (calls : ℕ → ℕ → Type 0) where
     pub popped : (row w w' : List ℕ) (b : ℕ) (s : Segment) (ss : List Segment) (n : ℕ) → IsState calls mark (λ _. ⊥) row w (s ∷ ss) n
         → w ≡ w' ++ b ∷ [] → s.waiting ≤ length w'
         → IsState calls mark (λ x. x ≡ b) row w' (s ∷ ss) n × ((a i : ℕ) → mark a ≡ Open i → Reaches calls a b)
-    popped row w w' b s ss n st e low =
-        (record {
-          places = st.places;
-          earlier = st.earlier;
-          cut = (record {
+    popped row w w' b s ss n st e low = (
+      record {
+        places = st.places;
+        earlier = st.earlier;
+        cut = (
+          record {
             first = seg.first;
             start = low;
             root = seg.root;
             at = seg.at;
             strong = seg.strong;
             called = λ x c l h at. seg.called x c l (omega (arith, longer)) (same x h ∙ at);
-          }, segments_stay mark mark w w' s.first s.waiting ss (λ a i _ k. k) (λ a i _ k. k) (λ x l. sym (same x (omega arith))) st.cut.1);
-          followed = all_both (IsFollowed calls mark (λ _. ⊥) w) (λ (t : Segment). t.waiting ≤ length w') (IsFollowed calls mark (λ x. x ≡ b) w') follow (s ∷ ss) st.followed
-          (low, all_map (λ (t : Segment). t.waiting ≤ s.waiting) (λ (t : Segment). t.waiting ≤ length w') (λ t l. omega arith) ss (starts_below mark w s.first s.waiting ss st.cut.1));
-          closed = st.closed;
-        }, leads)
+          },
+          segments_stay mark mark w w' s.first s.waiting ss (λ a i _ k. k) (λ a i _ k. k) (λ x l. sym (same x (omega arith))) st.cut.1,
+        );
+        followed = all_both (IsFollowed calls mark (λ _. ⊥) w) (λ (t : Segment). t.waiting ≤ length w') (IsFollowed calls mark (λ x. x ≡ b) w') follow (s ∷ ss) st.followed
+            (low, all_map (λ (t : Segment). t.waiting ≤ s.waiting) (λ (t : Segment). t.waiting ≤ length w') (λ t l. omega arith) ss (starts_below mark w s.first s.waiting ss st.cut.1));
+        closed = st.closed;
+      },
+      leads,
+    )
       where
         seg : IsSegment calls mark w s (length row) (length w)
         seg = st.cut.0
@@ -166,15 +173,17 @@ module _ (calls : ℕ → ℕ → Type 0) where
             λ x c lo hi at cases. elim cases [
               | inl k ↦ caller_stays mark mark t.first s.first u t.first c (omega arith) (omega arith) (λ a i _ e. e) (lower.called x c lo k at)
               | inr k ↦ caller_stays mark mark s.first u u t.first c (omega arith) (omega arith) (λ a i _ e. e) (seg.called x c k hi at)
-            ] in
-            (record {
-              first = omega arith;
-              start = omega arith;
-              root = lower.root;
-              at = lower.at;
-              strong = λ i a lo hi e. along (leads a i e) (lower.strong j b place less eb);
-              called = λ x c lo hi at. wide x c lo hi at (cases_lt x s.waiting);
-            }, k.1)
+            ] in (
+              record {
+                first = omega arith;
+                start = omega arith;
+                root = lower.root;
+                at = lower.at;
+                strong = λ i a lo hi e. along (leads a i e) (lower.strong j b place less eb);
+                called = λ x c lo hi at. wide x c lo hi at (cases_lt x s.waiting);
+              },
+              k.1,
+            )
 
         go : (t : Bool) → nat_lt j s.first ≡ t
             → (j < s.first → AreSegments calls mark w s.first s.waiting (joined j ss) × AllByRecursion (λ (t : Segment). t.first ≤ j) (joined j ss))
@@ -300,16 +309,22 @@ module _ (calls : ℕ → ℕ → Type 0) where
       opened = record {
         places = row_places;
         earlier = way;
-        cut = (record {
-          first = omega (arith, longer);
-          start = omega (arith, length-append w more);
-          root = b;
-          at = own;
-          strong = λ i a low high e. only_b i a low (was_open a i e);
-          called = λ x c low high e. (b, length row, own, omega arith, omega (arith, longer), (called c).0 (there x c low e));
-        }, segments_stay mark new w (w ++ more) (length row) (length w) ss (λ a i _ e. open_stays a i e) (λ a i l e. still a i l (was_open a i e)) (λ x l. slice_get-append w more x l) st.cut);
-        followed = (own_calls, all_both (IsFollowed calls mark (λ x. x ≡ b) w) (λ (t : Segment). (t.first < length row) × (t.waiting ≤ length w)) (IsFollowed calls new (λ _. ⊥) (w ++ more)) follow ss st.followed
-        (all_both (λ (t : Segment). t.first < length row) (λ (t : Segment). t.waiting ≤ length w) (λ (t : Segment). (t.first < length row) × (t.waiting ≤ length w)) (λ t l k. (l, k)) ss (firsts_below mark w (length row) (length w) ss st.cut) (starts_below mark w (length row) (length w) ss st.cut)));
+        cut = (
+          record {
+            first = omega (arith, longer);
+            start = omega (arith, length-append w more);
+            root = b;
+            at = own;
+            strong = λ i a low high e. only_b i a low (was_open a i e);
+            called = λ x c low high e. (b, length row, own, omega arith, omega (arith, longer), (called c).0 (there x c low e));
+          },
+          segments_stay mark new w (w ++ more) (length row) (length w) ss (λ a i _ e. open_stays a i e) (λ a i l e. still a i l (was_open a i e)) (λ x l. slice_get-append w more x l) st.cut,
+        );
+        followed = (
+          own_calls,
+          all_both (IsFollowed calls mark (λ x. x ≡ b) w) (λ (t : Segment). (t.first < length row) × (t.waiting ≤ length w)) (IsFollowed calls new (λ _. ⊥) (w ++ more)) follow ss st.followed
+              (all_both (λ (t : Segment). t.first < length row) (λ (t : Segment). t.waiting ≤ length w) (λ (t : Segment). (t.first < length row) × (t.waiting ≤ length w)) (λ t l k. (l, k)) ss (firsts_below mark w (length row) (length w) ss st.cut) (starts_below mark w (length row) (length w) ss st.cut)),
+        );
         closed = record {
           callees = λ a c i e call. (λ (d : (j : ℕ) × (mark c ≡ Closed j) × (j ≤ i)). closed_callee c i d) (st.closed.callees a c i (was_closed a i e) call);
           together = λ a c i ea ec. st.closed.together a c i (was_closed a i ea) (was_closed c i ec);

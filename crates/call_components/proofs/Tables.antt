@@ -103,7 +103,7 @@ callees_have a b [] h = absurd (omega (arith, h.2))
 callees_have a b (k ∷ ks) h =
     elim (any_cases (CallsBy a b) k ks h) [
       | inl here ↦ has_left (if k.head.pred.0 == a then map called_by_atom k.body else []) (callees a ks) b
-      (subst (λ (t : Bool). Has (if t then map called_by_atom k.body else []) b) (sym (eq-eqb k.head.pred.0 a here.0)) (called_has b k.body here.1))
+          (subst (λ (t : Bool). Has (if t then map called_by_atom k.body else []) b) (sym (eq-eqb k.head.pred.0 a here.0)) (called_has b k.body here.1))
       | inr there ↦ has_right (if k.head.pred.0 == a then map called_by_atom k.body else []) (callees a ks) b (callees_have a b ks there)
     ]
 

@@ -28,14 +28,11 @@ pub record AreComponents (p : Listing) (comps : Partition) : Type 0 where
   pub within : (c a : ℕ) → IsIn comps c a → c < length comps.members
   pub members : (c : ℕ) (ms : List ℕ) → slice_get comps.members c ≡ Some ms → (a : ℕ) → Contains ms a ↔ IsIn comps c a
   pub ascending : (c : ℕ) (ms : List ℕ) → slice_get comps.members c ≡ Some ms → IsStrictlyIncreasing ms × (0 < length ms)
-
   -- two predicates are together exactly where each reaches the other
   pub together : (a b c d : ℕ) → IsIn comps c a → IsIn comps d b
       → (c ≡ d) ↔ (Reaches (Calls p) a b × Reaches (Calls p) b a)
-
   -- a component stands after those that it calls
   pub callees_first : (a b c d : ℕ) → IsIn comps c a → IsIn comps d b → Calls p a b → d ≤ c
-
   -- a component is recursive exactly where a clause of a member calls a member
   pub recursive : (c : ℕ) (answer : Bool) → slice_get comps.recursive c ≡ Some answer
       → IsTrue answer ↔ ((a : ℕ) × (b : ℕ) × IsIn comps c a × IsIn comps c b × Calls p a b)

@@ -25,7 +25,11 @@ fn has_number(row: &Preds, of: &[u32], number: u32) -> bool
 }
 
 /// For each number whether a predicate of it calls one of it.
-pub(crate) fn recursive_numbers(alloc: Global, table: &PredLists, numbering: &Numbering) -> Result<Vec<bool>, AllocError>
+pub(crate) fn recursive_numbers(
+    alloc: Global,
+    table: &PredLists,
+    numbering: &Numbering,
+) -> Result<Vec<bool>, AllocError>
     requires within { AreWithin (length table.now) table.now }
     requires each { length numbering.now.of.items ≡ length table.now }
     requires below { All (λ number. number < numbering.now.count) numbering.now.of.items }

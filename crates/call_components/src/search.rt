@@ -5,9 +5,9 @@ ghost use Rattle.call_components.specs.Marked.{mark_of, IsSeen};
 ghost use Rattle.call_components.specs.Search.{joined, IsIdle, IsFollowing, KeepsSeen, work, AreNumbers};
 ghost use Rattle.call_components.specs.Table.{AreWithin};
 
-use crate::pred_lists::PredLists;
 use crate::marks::{Mark, Marks};
 use crate::pred_list::Preds;
+use crate::pred_lists::PredLists;
 use cti_terms::PredId;
 use std::alloc::{AllocError, Global};
 

@@ -28,18 +28,18 @@ loop-c-preserved c =
           record {
             each = ap length new ∙ w.answer_members.ensures.each ∙ c.loop-c.invariant.each;
             answered = subst (λ (ys : List Bool). (a d : ℕ) → IsIn comps d a → d < c.loop-c.c + 1 → (slice_get ys a ≡ Some true) ↔ ReachesNoCycle p a) (sym new)
-            (answered_still p comps c.requires rows c.in_ok-table.ensures.table c.in_ok-table.ensures.within c.loop-c.c xs c.loop-c.invariant.answered c.loop-c.invariant.open_ones
-            (map number_of w.members.result.now) w.members.ensures quiet w.answer_members.new.answers.items w.answer_members.ensures.members w.answer_members.ensures.others);
+                (answered_still p comps c.requires rows c.in_ok-table.ensures.table c.in_ok-table.ensures.within c.loop-c.c xs c.loop-c.invariant.answered c.loop-c.invariant.open_ones
+                (map number_of w.members.result.now) w.members.ensures quiet w.answer_members.new.answers.items w.answer_members.ensures.members w.answer_members.ensures.others);
             open_ones = subst (λ (ys : List Bool). (a d : ℕ) → IsIn comps d a → c.loop-c.c + 1 ≤ d → slice_get ys a ≡ Some false) (sym new)
-            (rest_still p comps c.requires rows c.in_ok-table.ensures.table c.in_ok-table.ensures.within c.loop-c.c xs c.loop-c.invariant.answered c.loop-c.invariant.open_ones
-            (map number_of w.members.result.now) w.members.ensures quiet w.answer_members.new.answers.items w.answer_members.ensures.members w.answer_members.ensures.others);
+                (rest_still p comps c.requires rows c.in_ok-table.ensures.table c.in_ok-table.ensures.within c.loop-c.c xs c.loop-c.invariant.answered c.loop-c.invariant.open_ones
+                (map number_of w.members.result.now) w.members.ensures quiet w.answer_members.new.answers.items w.answer_members.ensures.members w.answer_members.ensures.others);
           }
       | else-not-recursive w ↦
           let new : c.if-not-recursive.answers.items ≡ xs = ap (λ v. v.items) w.answers-is in
           record {
             each = ap length new ∙ c.loop-c.invariant.each;
             answered = subst (λ (ys : List Bool). (a d : ℕ) → IsIn comps d a → d < c.loop-c.c + 1 → (slice_get ys a ≡ Some true) ↔ ReachesNoCycle p a) (sym new)
-            (answered_recursive p comps c.requires rows c.in_ok-table.ensures.table c.in_ok-table.ensures.within c.loop-c.c xs c.loop-c.invariant.answered c.loop-c.invariant.open_ones (c.recursive.ensures ∙ ap Some w.if-not-recursive.false));
+                (answered_recursive p comps c.requires rows c.in_ok-table.ensures.table c.in_ok-table.ensures.within c.loop-c.c xs c.loop-c.invariant.answered c.loop-c.invariant.open_ones (c.recursive.ensures ∙ ap Some w.if-not-recursive.false));
             open_ones = λ a d e l. ap (λ (ys : List Bool). slice_get ys a) new ∙ c.loop-c.invariant.open_ones a d e (omega arith);
           }
     ]

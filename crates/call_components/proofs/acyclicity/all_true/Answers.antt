@@ -15,9 +15,11 @@ pub returns-then-not-answers-pred : goal.returns-then-not-answers-pred
 returns-then-not-answers-pred c =
     let items = c.as_slice-pred-items.result.now in
     let at = number_at_place items c.args.row.now c.loop-pred.pred-index (record { 0 = 0 }) c.as_slice-pred-items.ensures c.loop-pred-test.true in
-    let b = (get_or items c.loop-pred.pred-index (record { 0 = 0 })).0 in
-    (λ f. cc, λ h. (let got = get_or_from_slice_get c.args.answers.now b true false (h b (c.loop-pred.pred-index, at)) in
-    let both = sym c.if-not-answers-pred.true ∙ got in cc))
+    let b = (get_or items c.loop-pred.pred-index (record { 0 = 0 })).0 in (
+      λ f. cc,
+      λ h. (let got = get_or_from_slice_get c.args.answers.now b true false (h b (c.loop-pred.pred-index, at)) in
+          let both = sym c.if-not-answers-pred.true ∙ got in cc),
+    )
 
 pub loop-pred-preserved : goal.loop-pred-preserved
 loop-pred-preserved c = λ k b l e.

@@ -10,7 +10,7 @@ follow-requires-clause-following c =
     let idle = subst (λ (ss : List Segment). IsSearch c.args.table.now (λ _. ⊥) s.marks s.open s.waiting (reverse ss) s.count) c.loop-root.invariant.empty c.loop-root.invariant.idle in
     record {
       search = subst (λ (ss : List Segment). IsSearch c.args.table.now (λ a. a ≡ c.loop-root.root) s.marks s.open s.waiting (reverse ss) s.count) (sym c.loop-root.invariant.empty)
-      (from_nothing c.args.table.now s.marks s.open s.waiting s.count idle c.loop-root.root);
+          (from_nothing c.args.table.now s.marks s.open s.waiting s.count idle c.loop-root.root);
       lead = λ a i e. absurd (none_open c.args.table.now s.marks s.open s.waiting s.count idle a i e);
     }
 

@@ -6,4 +6,4 @@ use Rattle.call_components.proofs.marks.Marks.close.Given as goal
 abbrev pub invariant-loop-pred : goal.invariant-loop-pred
 invariant-loop-pred l =
     (length l.self-inside.items.items ≡ length l.initial.self-inside.items.items)
-        × (closed_by (map number_of (drop l.pred-index l.preds)) l.number l.self-inside.items.items ≡ closed_by (map number_of l.preds) l.number l.initial.self-inside.items.items)
+    × (closed_by (map number_of (drop l.pred-index l.preds)) l.number l.self-inside.items.items ≡ closed_by (map number_of l.preds) l.number l.initial.self-inside.items.items)

@@ -4,10 +4,10 @@ ghost use Rattle.std.specs.Prelude.{IfOk};
 ghost use Rattle.call_components.specs.Partition.{AreComponents};
 
 use crate::calls::call_table;
+use crate::members::members_by_number;
 use crate::numbering::component_numbers;
 use crate::partition::Components;
 use crate::recursion::recursive_numbers;
-use crate::sorting::members_by_number;
 use cti_terms::Program;
 use std::alloc::{AllocError, Global};
 

@@ -94,23 +94,27 @@ module _ (rows : List (List ℕ)) (numbers : List ℕ) (answers : List Bool) (k 
   answers_yes (b, call, eb) known c l = go (cases_eq c number)
     where
       go : (c ≡ number) ⊎ (c ≡ number → ⊥) → (slice_get (set answers number true) c ≡ Some true) ↔ CallsWithin rows numbers c (k + 1)
-      go (inl it) =
-          (λ _. subst (λ (x : ℕ). CallsWithin rows numbers x (k + 1)) (sym it) (k, b, omega arith, at, eb, call),
-          λ _. ap (slice_get (set answers number true)) it ∙ slice_get-set_same answers number true known)
-      go (inr ne) =
-          (λ e. wider c ((old c l).0 (sym (slice_get-set_other answers number c true ne) ∙ e)),
-          λ h. slice_get-set_other answers number c true ne ∙ elim (split c h) [
-            | inl before ↦ (old c l).1 before
-            | inr now ↦ absurd (ne now.0)
-          ])
+      go (inl it) = (
+        λ _. subst (λ (x : ℕ). CallsWithin rows numbers x (k + 1)) (sym it) (k, b, omega arith, at, eb, call),
+        λ _. ap (slice_get (set answers number true)) it ∙ slice_get-set_same answers number true known,
+      )
+      go (inr ne) = (
+        λ e. wider c ((old c l).0 (sym (slice_get-set_other answers number c true ne) ∙ e)),
+        λ h. slice_get-set_other answers number c true ne ∙ elim (split c h) [
+          | inl before ↦ (old c l).1 before
+          | inr now ↦ absurd (ne now.0)
+        ],
+      )
 
   pub answers_no : (((b : ℕ) × Has (get_or rows k []) b × (slice_get numbers b ≡ Some number)) → ⊥)
       → (c : ℕ) → c < length answers → (slice_get answers c ≡ Some true) ↔ CallsWithin rows numbers c (k + 1)
-  answers_no none c l =
-      (λ e. wider c ((old c l).0 e), λ h. elim (split c h) [
-        | inl before ↦ (old c l).1 before
-        | inr now ↦ absurd (none now.1)
-      ])
+  answers_no none c l = (
+    λ e. wider c ((old c l).0 e),
+    λ h. elim (split c h) [
+      | inl before ↦ (old c l).1 before
+      | inr now ↦ absurd (none now.1)
+    ],
+  )
 
 -- what a row and the numbers say, by other names of them
 pub found_there : (rows : List (List ℕ)) (k number : ℕ) (row of numbers : List ℕ) → slice_get rows k ≡ Some row → of ≡ numbers

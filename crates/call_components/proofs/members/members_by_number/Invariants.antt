@@ -1,6 +1,6 @@
 use Rattle.std.proofs.Common.{◌≡◌, ℕ, ◌<◌, [], length, take, get_or}
 use Rattle.call_components.specs.Members.{places_of}
-use Rattle.call_components.proofs.sorting.members_by_number.Given as goal
+use Rattle.call_components.proofs.members.members_by_number.Given as goal
 
 abbrev pub invariant-loop-pred : goal.invariant-loop-pred
 invariant-loop-pred l = record {

@@ -9,7 +9,10 @@ use cti_terms::PredId;
 use std::alloc::{AllocError, Global};
 
 /// The predicates of each number, in ascending order.
-pub(crate) fn members_by_number(alloc: Global, numbering: &Numbering) -> Result<PredLists, AllocError>
+pub(crate) fn members_by_number(
+    alloc: Global,
+    numbering: &Numbering,
+) -> Result<PredLists, AllocError>
     requires few { length numbering.now.of.items < 2 ^ 32 }
     requires below { All (λ number. number < numbering.now.count) numbering.now.of.items }
     ensures { IfOk result (AreMembers numbering.now.of.items numbering.now.count) }

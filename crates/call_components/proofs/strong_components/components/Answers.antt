@@ -1,5 +1,5 @@
 use Rattle.call_components.proofs.Partitions.{are_components}
-use Rattle.call_components.proofs.splitting.components.Goals as goal
+use Rattle.call_components.proofs.strong_components.components.Goals as goal
 
 pub returns : goal.returns
 returns c =
