@@ -47,7 +47,7 @@ impl Preds {
     }
 
     /// The predicates from this place on.
-    pub(crate) fn from(&self, first: usize) -> &[PredId]
+    pub(crate) fn tail(&self, first: usize) -> &[PredId]
         requires { first ≤ length self.now }
         ensures { map number_of result.now ≡ drop first self.now }
     {

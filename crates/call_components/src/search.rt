@@ -100,7 +100,7 @@ impl Search {
         Ok(())
     }
 
-    /// One step from the last segment: its next call, or its end.
+    /// One step from the last segment: its next call, or its end, which makes it the next component.
     fn step(&mut self, table: &PredLists, last: Segment) -> Result<(), AllocError>
         requires last { slice_get self.old.segments.items (length self.old.segments.items - 1) ≡ Some last }
         requires idle { IsIdle table.now self.old }
@@ -108,26 +108,16 @@ impl Search {
         ensures kept { OnOk result (KeepsSeen self.old.marks self.new.marks) }
         ensures less { OnOk result (work table.now self.new < work table.now self.old) }
     {
-        if let Some(callee) = self.waiting.pop_above(last.waiting) {
-            return self.follow(table, callee);
+        match self.waiting.pop_above(last.waiting) {
+            Some(callee) => self.follow(table, callee),
+            None => {
+                self.segments.pop();
+                self.marks.close(self.open.tail(last.first), self.count);
+                self.open.truncate(last.first);
+                self.count += 1;
+                Ok(())
+            }
         }
-        self.close_last(table, last);
-        Ok(())
-    }
-
-    /// Closes the last segment: it is the next component.
-    fn close_last(&mut self, table: &PredLists, last: Segment)
-        requires last { slice_get self.old.segments.items (length self.old.segments.items - 1) ≡ Some last }
-        requires done { length self.old.waiting ≤ last.waiting }
-        requires idle { IsIdle table.now self.old }
-        ensures idle { IsIdle table.now self.new }
-        ensures kept { KeepsSeen self.old.marks self.new.marks }
-        ensures less { work table.now self.new < work table.now self.old }
-    {
-        self.segments.pop();
-        self.marks.close(self.open.from(last.first), self.count);
-        self.open.truncate(last.first);
-        self.count += 1;
     }
 
     /// Steps until nothing is open.

@@ -2,7 +2,7 @@ use Rattle.std.proofs.Common.{◌≡◌, List, map, take, drop, length, ap, sym,
 use Rattle.std.proofs.lemmas.List.{take_rest, drop-map}
 use Rattle.cti_terms.specs.declared.predicates.PredId.{PredId}
 use Rattle.call_components.specs.Numbers.{number_of}
-use Rattle.call_components.proofs.pred_list.Preds.from.Goals as goal
+use Rattle.call_components.proofs.pred_list.Preds.tail.Goals as goal
 
 pub returns : goal.returns
 returns c =
