@@ -1,10 +1,10 @@
 -- The answers for the members of a component, from those of their callees.
-use Rattle.std.proofs.Common.{◌≡◌, ℕ, zero, suc, ◌+◌, ◌<◌, ◌≤◌, ◌⊎◌, ◌↔◌, inl, inr, Bool, true, false, IsTrue, List, [], ◌∷◌, length, set, get_or, slice_get, Contains, Some, refl, ap, sym, subst, ◌∙◌, arith, length-set}
+use Rattle.std.proofs.Common.{◌≡◌, ℕ, ◌+◌, ◌<◌, ◌≤◌, ◌⊎◌, ◌↔◌, inl, inr, Bool, true, false, IsTrue, List, [], length, set, get_or, slice_get, Some, refl, ap, sym, subst, ◌∙◌, arith}
 use Rattle.std.specs.List.{AllByRecursion}
 use Rattle.std.proofs.lemmas.Bool.{cases_eq, cases_lt}
 use Rattle.std.proofs.lemmas.Option.{slice_get_within, slice_get-get_or, get_or_from_slice_get}
 use Rattle.cti_terms.specs.Listing.{Listing}
-use Rattle.call_components.specs.Calls.{Calls, Reaches, itself, onward, ReachesNoCycle}
+use Rattle.call_components.specs.Calls.{Calls, itself, onward, ReachesNoCycle}
 use Rattle.call_components.specs.Partition.{Partition, IsIn, AreComponents}
 use Rattle.call_components.specs.Table.{Has, HasCall, AreWithin, IsTable}
 use Rattle.call_components.proofs.Lists.{slice_get-set_same, slice_get-set_other, has_contains, contains_has, all_from}

@@ -1,11 +1,10 @@
 -- The last segment, all of whose calls were followed, is closed as a component.
-use Rattle.std.proofs.Common.{◌≡◌, ℕ, zero, suc, ◌+◌, ◌<◌, ◌≤◌, ◌⊎◌, ◌↔◌, inl, inr, Bool, true, false, nat_le, if◌then◌else◌, List, [], ◌∷◌, length, take, slice_get, Some, refl, ap, sym, subst, ◌∙◌, arith, length-take-le, leb-true, leb-false, le-leb, le_of_lt}
-use Rattle.std.specs.List.{AllByRecursion}
+use Rattle.std.proofs.Common.{◌≡◌, ℕ, ◌+◌, ◌<◌, ◌≤◌, ◌⊎◌, ◌↔◌, inl, inr, Bool, true, false, nat_le, if◌then◌else◌, List, ◌∷◌, length, take, slice_get, Some, refl, ap, sym, subst, ◌∙◌, arith, length-take-le, leb-true, leb-false, le-leb, le_of_lt}
 use Rattle.std.proofs.lemmas.Bool.{cases_lt, lt-leb}
 use Rattle.std.proofs.lemmas.Option.{slice_get_within}
 use Rattle.call_components.specs.Calls.{Reaches}
 use Rattle.call_components.specs.Marked.{IsSettled, closed_from}
-use Rattle.call_components.specs.Search.{IsSegment, AreSegments, IsFollowed, AreClosed, IsState}
+use Rattle.call_components.specs.Search.{IsSegment, AreSegments, IsFollowed, IsState}
 use Rattle.call_components.specs.declared.marks.Mark.{Mark}
 use Rattle.call_components.specs.declared.marks.Mark.TheVariants.{Unseen, Open, Closed}
 use Rattle.call_components.specs.declared.search.Segment.{Segment}

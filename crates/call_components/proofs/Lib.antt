@@ -1,6 +1,7 @@
 pub mod AcyclicLaws
 pub mod Answered
 pub mod Closing
+mod Examples
 pub mod Lists
 pub mod MarkLaws
 pub mod MemberLaws

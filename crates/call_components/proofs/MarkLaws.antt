@@ -1,8 +1,7 @@
 -- What happens to the marks when one is opened, and when a segment is closed.
-use Rattle.std.proofs.Common.{◌≡◌, ℕ, zero, suc, ◌+◌, ◌<◌, ◌≤◌, ◌⊎◌, ◌↔◌, inl, inr, Bool, true, false, nat_le, if◌then◌else◌, List, [], ◌∷◌, length, drop, replicate, set, get_or, slice_get, Some, refl, ap, sym, subst, ◌∙◌, arith, length-set, get_or-set_same, get_or-set_other, ◌-◌}
+use Rattle.std.proofs.Common.{◌≡◌, ℕ, zero, suc, ◌+◌, ◌<◌, ◌≤◌, ◌↔◌, inl, inr, Bool, true, false, nat_le, if◌then◌else◌, List, [], ◌∷◌, length, drop, replicate, set, get_or, slice_get, Some, refl, ap, sym, subst, ◌∙◌, arith, length-set, get_or-set_same, get_or-set_other, ◌-◌}
 use Rattle.std.proofs.lemmas.Bool.{cases_lt, cases_eq}
 use Rattle.std.proofs.lemmas.List.{get_or_past}
-use Rattle.std.proofs.lemmas.Option.{slice_get_within}
 use Rattle.call_components.specs.Marked.{mark_of, IsSeen, weight, unseen, closed_by, closed_from}
 use Rattle.call_components.specs.Table.{Has}
 use Rattle.call_components.specs.declared.marks.Mark.{Mark}

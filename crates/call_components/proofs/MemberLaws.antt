@@ -1,11 +1,11 @@
 -- Predicates sorted by their numbers, and the numbers that are recursive.
-use Rattle.std.proofs.Common.{◌≡◌, ℕ, zero, suc, ◌+◌, ◌-◌, ◌<◌, ◌≤◌, ◌==◌, ◌⊎◌, ◌↔◌, inl, inr, Bool, true, false, if◌then◌else◌, List, [], ◌∷◌, ◌++◌, length, take, set, get_or, slice_get, slice_index, Some, refl, ap, sym, subst, ◌∙◌, arith, add-one, append-nil, eqb-true, eq-eqb, ne_eqb, get_or-set_same, get_or-set_other, length-set}
+use Rattle.std.proofs.Common.{◌≡◌, ℕ, zero, suc, ◌+◌, ◌<◌, ◌==◌, ◌⊎◌, ◌↔◌, inl, inr, Bool, true, false, if◌then◌else◌, List, [], ◌∷◌, ◌++◌, length, take, set, get_or, slice_get, Some, refl, ap, sym, subst, ◌∙◌, arith, add-one, append-nil, eqb-true, eq-eqb, ne_eqb, get_or-set_same, get_or-set_other}
 use Rattle.std.specs.List.Sorted.{IsStrictlyIncreasing}
 use Rattle.std.proofs.lemmas.Bool.{cases_eq, cases_lt}
-use Rattle.std.proofs.lemmas.Option.{slice_get_within, slice_get-get_or, get_or_from_slice_get}
+use Rattle.std.proofs.lemmas.Option.{slice_get-get_or, get_or_from_slice_get}
 use Rattle.call_components.specs.Members.{places_of, CallsWithin}
 use Rattle.call_components.specs.Table.{Has, HasCall}
-use Rattle.call_components.proofs.Lists.{has_left, slice_get-set_same, slice_get-set_other}
+use Rattle.call_components.proofs.Lists.{slice_get-set_same, slice_get-set_other}
 
 -- the places in one element more
 pub places_more : (c n : ℕ) (xs : List ℕ) (i x : ℕ) → slice_get xs i ≡ Some x → places_of c n (take (suc i) xs) ≡ places_of c n (take i xs) ++ (if x == c then (n + i) ∷ [] else [])

@@ -1,11 +1,11 @@
 -- Numbers, members and answers make the components of a program.
-use Rattle.std.proofs.Common.{◌≡◌, ℕ, zero, suc, ◌+◌, ◌<◌, ◌≤◌, ◌↔◌, Bool, true, false, IsTrue, List, [], length, get_or, slice_get, Contains, Some, refl, ap, sym, subst, ◌∙◌, arith, le_trans, le_antisymm}
+use Rattle.std.proofs.Common.{◌≡◌, ℕ, ◌+◌, ◌<◌, ◌≤◌, ◌↔◌, Bool, true, IsTrue, List, [], length, slice_get, Contains, Some, ap, sym, subst, ◌∙◌, arith, le_trans, le_antisymm}
 use Rattle.std.specs.List.Sorted.{IsStrictlyIncreasing}
 use Rattle.std.proofs.lemmas.Option.{slice_get_within, get_or_from_slice_get}
 use Rattle.cti_terms.specs.Listing.{Listing}
 use Rattle.call_components.specs.Calls.{Calls, Reaches, itself, onward}
 use Rattle.call_components.specs.Members.{places_of, AreMembers, CallsWithin}
-use Rattle.call_components.specs.Partition.{Partition, AreComponents}
+use Rattle.call_components.specs.Partition.{AreComponents}
 use Rattle.call_components.specs.Search.{AreNumbers}
 use Rattle.call_components.specs.Table.{Has, HasCall, IsTable}
 use Rattle.call_components.proofs.Lists.{has_contains, contains_has}
@@ -90,6 +90,7 @@ module _ (p : Listing) (rows : List (List ℕ)) (numbers : List ℕ) (count : �
   pub are_components : AreComponents p (record { of = numbers; members = members; recursive = answers })
   are_components = record {
     each = numbered.each ∙ table.each;
+    answers = each ∙ sym sorted.each;
     within = λ c a e. (let below : c < count = numbered.below a c e in omega (arith, sorted.each));
     members = member;
     ascending = in_order;

@@ -1,14 +1,13 @@
 -- What each step of the search keeps.
-use Rattle.std.proofs.Common.{◌≡◌, ℕ, zero, suc, ◌+◌, ◌<◌, ◌≤◌, ◌^◌, ◌↔◌, Bool, true, false, nat_lt, if◌then◌else◌, List, [], ◌∷◌, ◌++◌, length, reverse, take, drop, replicate, set, get_or, slice_get, Some, refl, ap, sym, subst, ◌∙◌, arith, length-append, length-set, get_or-set_same, get_or-set_other, ◌-◌, map, All, option_map, nat_le}
+use Rattle.std.proofs.Common.{◌≡◌, ℕ, zero, suc, ◌+◌, ◌<◌, ◌≤◌, ◌^◌, Bool, true, false, nat_lt, if◌then◌else◌, List, [], ◌∷◌, ◌++◌, length, reverse, take, drop, replicate, set, get_or, slice_get, Some, refl, ap, sym, subst, ◌∙◌, arith, length-append, length-set, get_or-set_same, get_or-set_other, ◌-◌, map, All, option_map, nat_le}
 use Rattle.std.specs.List.{AllByRecursion}
-use Rattle.std.proofs.lemmas.Bool.{cases_eq}
 use Rattle.std.proofs.lemmas.List.{reverse-append, length-replicate}
 use Rattle.std.proofs.lemmas.Option.{slice_get_within, slice_get-map, slice_get-get_or, get_or_from_slice_get}
 use Rattle.cti_terms.specs.declared.predicates.PredId.{PredId}
 use Rattle.call_components.specs.Numbers.{number_of}
 use Rattle.call_components.specs.Marked.{mark_of, IsSeen, unseen, closed_by, closed_from}
-use Rattle.call_components.specs.Search.{IsSegment, IsState, joined, IsSearch, Lead, KeepsSeen, steps}
-use Rattle.call_components.specs.Table.{Has, HasCall, AreWithin}
+use Rattle.call_components.specs.Search.{IsSegment, joined, IsSearch, Lead, KeepsSeen, steps}
+use Rattle.call_components.specs.Table.{HasCall, AreWithin}
 use Rattle.call_components.specs.declared.marks.Mark.{Mark}
 use Rattle.call_components.specs.declared.marks.Mark.TheVariants.{Unseen, Open, Closed}
 use Rattle.call_components.specs.declared.search.Segment.{Segment}

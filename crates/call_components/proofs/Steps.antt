@@ -1,16 +1,16 @@
 -- Each step of the search leaves a state of it.
-use Rattle.std.proofs.Common.{◌≡◌, ℕ, zero, suc, ◌+◌, ◌<◌, ◌≤◌, ◌⊎◌, inl, inr, Bool, true, false, nat_lt, nat_le, if◌then◌else◌, List, [], ◌∷◌, ◌++◌, length, take, slice_get, Some, None, refl, ap, sym, subst, ◌∙◌, arith, length-append, length-take-le, ltb-true, ltb-false, leb-true, leb-false, le_of_lt, le_trans, ◌-◌, ◌↔◌}
+use Rattle.std.proofs.Common.{◌≡◌, ℕ, ◌+◌, ◌<◌, ◌≤◌, ◌⊎◌, inl, inr, Bool, true, false, nat_lt, if◌then◌else◌, List, [], ◌∷◌, ◌++◌, length, slice_get, Some, refl, ap, sym, subst, ◌∙◌, arith, length-append, ltb-true, ltb-false, le_of_lt, le_trans, ◌-◌, ◌↔◌}
 use Rattle.std.specs.List.{AllByRecursion}
 use Rattle.std.proofs.lemmas.Bool.{cases_lt, cases_eq}
-use Rattle.std.proofs.lemmas.Option.{slice_get_within, slice_get_past}
-use Rattle.call_components.specs.Calls.{Reaches, itself, onward}
+use Rattle.std.proofs.lemmas.Option.{slice_get_within}
+use Rattle.call_components.specs.Calls.{Reaches, itself}
 use Rattle.call_components.specs.Marked.{IsSettled}
 use Rattle.call_components.specs.Table.{Has}
-use Rattle.call_components.specs.Search.{HasCaller, IsSegment, AreSegments, IsFollowed, AreClosed, IsState, joined}
+use Rattle.call_components.specs.Search.{HasCaller, IsSegment, AreSegments, IsFollowed, IsState, joined}
 use Rattle.call_components.specs.declared.marks.Mark.{Mark}
 use Rattle.call_components.specs.declared.marks.Mark.TheVariants.{Unseen, Open, Closed}
 use Rattle.call_components.specs.declared.search.Segment.{Segment}
-use Rattle.call_components.proofs.Lists.{slice_get-append, slice_get-append_right, slice_get-take, taken_at, all_map, all_both}
+use Rattle.call_components.proofs.Lists.{slice_get-append, slice_get-append_right, all_map, all_both}
 use Rattle.call_components.proofs.Paths.{along, one_call}
 
 -- one mark is no other

@@ -1,5 +1,5 @@
 -- The table of a program's calls.
-use Rattle.std.proofs.Common.{◌≡◌, ℕ, zero, suc, ◌+◌, ◌<◌, ◌≤◌, ◌==◌, ◌⊎◌, inl, inr, Bool, true, false, if◌then◌else◌, List, [], ◌∷◌, ◌++◌, map, length, take, set, get_or, slice_get, Some, Any, ◌↔◌, refl, ap, sym, subst, ◌∙◌, arith, add-one, append-nil, append_assoc, eqb-true, eq-eqb, ne_eqb, get_or-set_same, get_or-set_other, length-set}
+use Rattle.std.proofs.Common.{◌≡◌, ℕ, zero, suc, ◌+◌, ◌<◌, ◌==◌, ◌⊎◌, inl, inr, Bool, true, false, if◌then◌else◌, List, [], ◌∷◌, ◌++◌, map, length, take, set, get_or, slice_get, Some, Any, ◌↔◌, refl, ap, sym, subst, ◌∙◌, arith, add-one, append-nil, append_assoc, eqb-true, eq-eqb, ne_eqb, get_or-set_same, get_or-set_other, length-set}
 use Rattle.std.specs.List.{AllByRecursion}
 use Rattle.std.proofs.lemmas.Bool.{cases_eq, cases_lt}
 use Rattle.std.proofs.lemmas.List.{get_or_past}
@@ -9,7 +9,7 @@ use Rattle.cti_terms.specs.declared.predicates.Pred.{Pred}
 use Rattle.cti_terms.specs.Listing.{Listing, IsAtom, IsClause, IsProgram}
 use Rattle.call_components.specs.Calls.{Calls}
 use Rattle.call_components.specs.Numbers.{called_by_atom}
-use Rattle.call_components.specs.Table.{callees, AreWithin, Has, HasCall, IsTable}
+use Rattle.call_components.specs.Table.{callees, AreWithin, Has, HasCall}
 use Rattle.call_components.proofs.Lists.{has_left, has_right, has_cases, any_cases, any_here, any_there, some_within, all_append, all_from}
 
 -- the callees of one clause more
@@ -95,10 +95,12 @@ has_called b [] (k, e) = cc
 has_called b (x ∷ body) (zero, e) = any_here (λ (x : Atom). x.pred.0 ≡ b) x body cc
 has_called b (x ∷ body) (suc k, e) = any_there (λ (x : Atom). x.pred.0 ≡ b) x body (has_called b body (k, e))
 
-abbrev CallsBy : ℕ → ℕ → Clause → Type 0
+-- a clause by which a calls b
+abbrev pub CallsBy : ℕ → ℕ → Clause → Type 0
 CallsBy a b k = (k.head.pred.0 ≡ a) × Any (λ (x : Atom). x.pred.0 ≡ b) k.body
 
-callees_have : (a b : ℕ) (ks : List Clause) → Any (CallsBy a b) ks → Has (callees a ks) b
+-- calls by clauses, and what the row of their caller has
+pub callees_have : (a b : ℕ) (ks : List Clause) → Any (CallsBy a b) ks → Has (callees a ks) b
 callees_have a b [] h = absurd (omega (arith, h.2))
 callees_have a b (k ∷ ks) h =
     elim (any_cases (CallsBy a b) k ks h) [

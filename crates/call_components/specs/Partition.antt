@@ -1,7 +1,7 @@
 -- The components of a program: its predicates, together where each reaches the other, callees first.
 --
 -- Components are numbered from 0. To believe: `Partition`, `AreComponents`, over the words of `Calls.antt`.
-use Rattle.std.specs.Prelude.{◌≡◌, ℕ, ◌≤◌, ◌<◌, ◌^◌, ◌↔◌, Bool, IsTrue, List, [], length, Contains, slice_get, Some, IsSomeAnd}
+use Rattle.std.specs.Prelude.{◌≡◌, ℕ, ◌≤◌, ◌<◌, ◌^◌, ◌↔◌, Bool, IsTrue, List, length, Contains, slice_get, Some}
 use Rattle.std.specs.List.Sorted.{IsStrictlyIncreasing}
 use Rattle.cti_terms.specs.Listing.{Listing}
 use Rattle.call_components.specs.Calls.{Calls, Reaches}
@@ -23,8 +23,9 @@ pub record IsPartition (comps : Partition) : Type 0 where
 
 -- these are the program's components
 pub record AreComponents (p : Listing) (comps : Partition) : Type 0 where
-  -- each predicate is in one, and its members are in ascending order, and not none
+  -- each predicate is in one of them, and their members are in ascending order, and not none
   pub each : length comps.of ≡ length p.preds
+  pub answers : length comps.recursive ≡ length comps.members
   pub within : (c a : ℕ) → IsIn comps c a → c < length comps.members
   pub members : (c : ℕ) (ms : List ℕ) → slice_get comps.members c ≡ Some ms → (a : ℕ) → Contains ms a ↔ IsIn comps c a
   pub ascending : (c : ℕ) (ms : List ℕ) → slice_get comps.members c ≡ Some ms → IsStrictlyIncreasing ms × (0 < length ms)

@@ -3,13 +3,13 @@
 -- The open predicates stand in a row that is cut into segments. From each of them there is a way to each later one,
 -- and the members of a segment reach each other as far as the calls that were followed say. What is closed calls
 -- only what is closed, and has its component's number.
-use Rattle.std.specs.Prelude.{◌≡◌, ℕ, ◌+◌, ◌≤◌, ◌<◌, ◌^◌, ◌↔◌, ◌⊎◌, List, [], ◌∷◌, length, reverse, if◌then◌else◌, nat_lt, slice_get, slice_index_or, Some}
+use Rattle.std.specs.Prelude.{◌≡◌, ℕ, ◌+◌, ◌≤◌, ◌<◌, ◌^◌, ◌↔◌, ◌⊎◌, List, [], ◌∷◌, length, reverse, if◌then◌else◌, nat_lt, slice_get, Some}
 use Rattle.std.specs.List.{AllByRecursion}
 use Rattle.call_components.specs.Calls.{Reaches}
 use Rattle.call_components.specs.Table.{AreWithin, HasCall}
 use Rattle.call_components.specs.Marked.{mark_of, IsSeen, IsSettled, unseen}
 use Rattle.call_components.specs.declared.marks.Mark.{Mark}
-use Rattle.call_components.specs.declared.marks.Mark.TheVariants.{Unseen, Open, Closed}
+use Rattle.call_components.specs.declared.marks.Mark.TheVariants.{Open, Closed}
 use Rattle.call_components.specs.declared.search.Segment.{Segment}
 use Rattle.call_components.specs.declared.search.Search.{Search}
 

@@ -29,14 +29,14 @@ impl Model for Components {
 }
 
 impl Components {
-    /// How many components there are.
+    /// How many components there are. It takes no memory.
     pub fn count(&self) -> u32
         ensures { result ≡ length self.now.members }
     {
         self.members.count()
     }
 
-    /// The members of a component, in ascending order.
+    /// The members of a component, in ascending order. It takes no memory.
     pub fn members(&self, c: u32) -> &[PredId]
         requires { c < length self.now.members }
         ensures { slice_get self.now.members c ≡ Some (map number_of result.now) }
@@ -44,7 +44,7 @@ impl Components {
         self.members.row(c).as_slice()
     }
 
-    /// The component of a predicate.
+    /// The component of a predicate. It takes no memory.
     pub fn of(&self, p: PredId) -> u32
         requires { p.0 < length self.now.of }
         ensures { slice_get self.now.of p.0 ≡ Some result }
@@ -52,7 +52,7 @@ impl Components {
         self.of[p.0 as usize]
     }
 
-    /// Whether a clause of a member calls a member.
+    /// Whether a clause of a member calls a member. It takes no memory.
     pub fn recursive(&self, c: u32) -> bool
         requires { c < length self.now.members }
         ensures { slice_get self.now.recursive c ≡ Some result }

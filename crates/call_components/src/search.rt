@@ -20,16 +20,22 @@ pub(crate) struct Segment {
     pub(crate) waiting: usize,
 }
 
-/// The path-based search for strong components: Dijkstra 1976, Gabow 2000.
+/// The state of the search for components, with stacks of its own in the place of recursion.
 ///
 /// The open predicates are cut into segments, each of which reaches the next. A call to an open predicate joins all
 /// segments from that one's on. A last segment none of whose calls waits is a component.
+///
+/// Source: path-based search for strong components, Dijkstra 1976 and Gabow 2000.
 #[derive(Debug, Drop)]
 pub(crate) struct Search {
     pub(crate) marks: Marks,
+    /// The predicates that were opened and not closed yet, in the order in which they were opened.
     pub(crate) open: Preds,
+    /// The callees of the calls of open predicates that were not followed yet.
     pub(crate) waiting: Preds,
+    /// Where `open` and `waiting` are cut.
     pub(crate) segments: Vec<Segment>,
+    /// How many components were closed.
     pub(crate) count: u32,
 }
 

@@ -1,4 +1,4 @@
-use Rattle.std.proofs.Common.{◌≡◌, ◌+◌, ◌<◌, ◌≤◌, ◌↔◌, ℕ, List, Bool, true, false, map, length, slice_get, Some, ap, sym, refl, subst, ◌∙◌, arith}
+use Rattle.std.proofs.Common.{◌≡◌, ◌+◌, ◌<◌, ◌≤◌, ◌↔◌, ℕ, List, Bool, true, false, map, length, slice_get, Some, ap, sym, subst, ◌∙◌, arith}
 use Rattle.call_components.specs.Numbers.{number_of}
 use Rattle.call_components.specs.Calls.{ReachesNoCycle}
 use Rattle.call_components.specs.Partition.{IsIn}

@@ -1,4 +1,4 @@
-use Rattle.std.proofs.Common.{◌≡◌, ℕ, ◌+◌, ◌-◌, ◌<◌, [], length, slice_get, get_or, ap, ◌∙◌, arith, length-set, take_all}
+use Rattle.std.proofs.Common.{◌≡◌, ◌+◌, ◌-◌, ◌<◌, length, slice_get, ap, ◌∙◌, arith, length-set, take_all}
 use Rattle.call_components.specs.Table.{callees}
 use Rattle.call_components.proofs.Lists.{some_within}
 use Rattle.call_components.proofs.Tables.{rows_more, table_within, table_calls}

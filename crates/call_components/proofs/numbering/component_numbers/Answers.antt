@@ -1,5 +1,5 @@
-use Rattle.std.proofs.Common.{◌≡◌, ◌≤◌, ℕ, List, reverse, length, sym, subst, arith}
-use Rattle.call_components.specs.Search.{IsSearch, Lead}
+use Rattle.std.proofs.Common.{◌≡◌, List, reverse, length, sym, subst, arith}
+use Rattle.call_components.specs.Search.{IsSearch}
 use Rattle.call_components.specs.declared.search.Segment.{Segment}
 use Rattle.call_components.proofs.Numberings.{none_open, from_nothing, all_closed, numbered}
 use Rattle.call_components.proofs.numbering.component_numbers.Goals as goal

@@ -1,4 +1,4 @@
-use Rattle.std.proofs.Common.{◌≡◌, List, map, take, drop, length, ap, sym, ◌∙◌}
+use Rattle.std.proofs.Common.{◌≡◌, List, map, drop, ap, sym, ◌∙◌}
 use Rattle.std.proofs.lemmas.List.{take_rest, drop-map}
 use Rattle.cti_terms.specs.declared.predicates.PredId.{PredId}
 use Rattle.call_components.specs.Numbers.{number_of}

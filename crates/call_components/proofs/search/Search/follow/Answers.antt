@@ -1,4 +1,4 @@
-use Rattle.std.proofs.Common.{reverse, sym, ap, subst, ◌∙◌}
+use Rattle.std.proofs.Common.{reverse, sym, ◌∙◌}
 use Rattle.call_components.proofs.Searches.{joins, passes}
 use Rattle.call_components.proofs.search.Search.follow.Goals as goal
 

@@ -1,5 +1,4 @@
-use Rattle.std.proofs.Common.{◌≡◌, ◌<◌, ◌^◌, length, reverse, replicate, sym, ap, ◌∙◌, arith}
-use Rattle.call_components.specs.declared.marks.Mark.TheVariants.{Unseen}
+use Rattle.std.proofs.Common.{◌<◌, ◌^◌, length, arith}
 use Rattle.call_components.proofs.Searches.{starts}
 use Rattle.call_components.proofs.search.Search.new.Goals as goal
 
