@@ -1,14 +1,13 @@
 -- Among rows with a positive number in a column, one bounds it best.
-use Rattle.std.proofs.Common.{◌≡◌, ℕ, zero, suc, ℤ, pos, negsuc, List, [], ◌∷◌, ◌+◌, ◌*◌, ◌/◌, ◌<◌, ◌≤◌, ◌+ℤ◌, ◌*ℤ◌, ◌-ℤ◌, map, length, refl, sym, subst, ap, ◌∙◌, arith, inl, inr, ◌⊎◌}
-use Rattle.std.specs.Prelude.{◌≤ℤ◌, ◌<ℤ◌, All, Contains, unsigned_abs}
-use Rattle.std.proofs.lemmas.Int.{ints, by_lt_z, unsigned_abs-mul}
-use Rattle.std.proofs.lemmas.List.Elements.{All-cons, All-head, All-tail, All-contains, All-weaker, All-nil}
-use Rattle.std.specs.Int.{◌∣◌}
+use Rattle.std.proofs.Common.{◌≡◌, ℕ, zero, suc, ℤ, pos, List, [], ◌∷◌, ◌/◌, ◌<◌, ◌+ℤ◌, ◌*ℤ◌, ◌-ℤ◌, map, length, refl, sym, ap, ◌∙◌, arith, inl, inr}
+use Rattle.std.specs.Prelude.{◌≤ℤ◌, ◌<ℤ◌, All, unsigned_abs}
+use Rattle.std.proofs.lemmas.Int.{ints, by_lt_z}
+use Rattle.std.proofs.lemmas.List.Elements.{All-cons, All-head, All-tail, All-nil}
 use Rattle.std.proofs.Math.Nat.{mul-div_cancel'}
 use lib.ListN.{get_or}
 use Rattle.exact128.specs.Gcd.{gcd}
-use Rattle.exact128.proofs.Rings.{rings, mul_nonneg, nonneg_factor, mul-neg, mul_le, mul_cancel, cross_trans}
-use Rattle.exact128.proofs.Gcds.{gcd_is, gcd-pos}
+use Rattle.exact128.proofs.Rings.{rings, mul_nonneg, cross_trans}
+use Rattle.exact128.proofs.Gcds.{gcd_is}
 use Rattle.exact128.specs.Sums.{entry, dot}
 use Rattle.linear_rows.specs.Elimination.{scaled, added, crossed}
 use Rattle.linear_rows.specs.Members.{In}

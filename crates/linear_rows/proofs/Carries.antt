@@ -1,7 +1,6 @@
 -- Each row carries multipliers of the given rows, which make at most this row of them.
-use Rattle.std.proofs.Common.{◌≡◌, ◌≢◌, ℕ, zero, suc, ℤ, pos, negsuc, List, [], ◌∷◌, ◌++◌, ◌+◌, ◌*◌, ◌/◌, ◌<◌, ◌≤◌, ◌+ℤ◌, ◌*ℤ◌, ◌-ℤ◌, Bool, true, false, cond, not, Option, Some, None, map, length, take, drop, refl, sym, subst, ap, ◌∙◌, arith, inl, inr, ◌⊎◌, get_or, length-append, length-drop}
-use Rattle.std.specs.Prelude.{◌≤ℤ◌, ◌<ℤ◌, unsigned_abs, int_div, int_le, filter, fold, ◌&&◌}
-use Rattle.std.specs.List.{All}
+use Rattle.std.proofs.Common.{◌≡◌, ℕ, zero, suc, ℤ, pos, List, [], ◌∷◌, ◌+◌, ◌/◌, ◌≤◌, ◌+ℤ◌, ◌*ℤ◌, map, length, drop, refl, sym, subst, ap, ◌∙◌, arith, inl, inr}
+use Rattle.std.specs.Prelude.{◌≤ℤ◌, unsigned_abs, int_div}
 use Rattle.std.specs.Int.{◌∣◌}
 use Rattle.std.proofs.lemmas.Nat.Gcd.{dvd-zero}
 use Rattle.std.proofs.lemmas.Int.{ints}
@@ -10,15 +9,15 @@ use Rattle.exact128.proofs.Rings.{rings, mul_nonneg, nonneg_factor, mul_le, mul_
 use Rattle.exact128.specs.Sums.{entry, dot}
 use Rattle.linear_rows.specs.Rows.{column}
 use Rattle.linear_rows.specs.Elimination.{scaled, added, crossed}
-use Rattle.linear_rows.specs.Cleaning.{row_gcd, reduced}
+use Rattle.linear_rows.specs.Cleaning.{row_gcd}
 use Rattle.linear_rows.specs.Equation.{step}
 use Rattle.linear_rows.specs.Step.{eliminated, all_eliminated}
 use Rattle.linear_rows.specs.Members.{In}
 use Rattle.linear_rows.proofs.Bounding.{value-added, value-scaled}
 use Rattle.linear_rows.proofs.Cleanings.{divides_all, exact_div, value_reduced, value_none, none}
 use Rattle.linear_rows.proofs.Whole.{of-cleaned}
-use Rattle.linear_rows.proofs.Sequence.{entry-scaled, entry-added, entry-reduced, entry_divides}
-use Rattle.linear_rows.proofs.Origins.{Pair, Origin, step_origin}
+use Rattle.linear_rows.proofs.Sequence.{entry-scaled, entry-added, entry-reduced}
+use Rattle.linear_rows.proofs.Origins.{step_origin}
 
 pub record Carries (n : ℕ) (given : List (List ℤ)) (q : List ℤ) : Type 0 where
   pub long : length q ≡ n + 2 + length given

@@ -1,7 +1,6 @@
 -- Cleaning keeps what the rows say at each point.
-use Rattle.std.proofs.Common.{◌≡◌, ◌≢◌, ℕ, zero, suc, ℤ, pos, negsuc, List, [], ◌∷◌, ◌++◌, ◌+◌, ◌*◌, ◌/◌, ◌<◌, ◌≤◌, ◌+ℤ◌, ◌*ℤ◌, ◌-ℤ◌, Bool, true, false, cond, not, ◌||◌, nat_eq, map, length, refl, sym, subst, ap, ◌∙◌, arith, inl, inr, ◌⊎◌}
-use Rattle.std.specs.Prelude.{◌≤ℤ◌, ◌<ℤ◌, All, unsigned_abs, int_lt, int_le, int_div, filter, fold, not, ◌&&◌}
-use Rattle.std.specs.List.{list_any}
+use Rattle.std.proofs.Common.{◌≡◌, ℕ, zero, suc, ℤ, pos, negsuc, List, [], ◌∷◌, ◌++◌, ◌*◌, ◌/◌, ◌<◌, ◌≤◌, ◌+ℤ◌, ◌*ℤ◌, Bool, true, false, cond, not, ◌||◌, map, length, refl, sym, subst, ap, ◌∙◌, arith, inl, inr}
+use Rattle.std.specs.Prelude.{◌≤ℤ◌, unsigned_abs, int_le, int_div, filter, fold, not, ◌&&◌}
 use Rattle.std.specs.Int.{◌∣◌}
 use Rattle.std.specs.Cmp.Derive.{both_true}
 use Rattle.std.proofs.lemmas.List.Elements.{All-nil, All-cons}
@@ -9,15 +8,14 @@ use lib.IntN.{neg_ℤ}
 use Rattle.std.proofs.lemmas.Int.{ints}
 use Rattle.std.proofs.lemmas.Nat.Gcd.{dvd_trans}
 use Rattle.std.proofs.Math.Nat.{div-zero, mul-div_cancel'}
-use Rattle.exact128.specs.Gcd.{gcd}
 use Rattle.exact128.proofs.Gcds.{gcd_is}
-use Rattle.exact128.proofs.Rings.{rings, mul_nonneg, nonneg_factor, mul_mono, neg-mul}
+use Rattle.exact128.proofs.Rings.{rings, mul_nonneg, nonneg_factor, mul_mono}
 use Rattle.exact128.specs.Sums.{entry, dot}
 use Rattle.linear_rows.specs.Rows.{Holds, AllHold}
 use Rattle.linear_rows.specs.Cleaning.{row_gcd, reduced, int_same, agree, is_trivial, insert_row, cleaned}
 use Rattle.linear_rows.proofs.Projection.{value}
 use Rattle.linear_rows.specs.Members.{In}
-use Rattle.linear_rows.proofs.Members.{in-filter, of-filter, in-left, in-right, of-append, in-map, of-map, from_All, to_All}
+use Rattle.linear_rows.proofs.Members.{in-filter, in-left, in-right, in-map, from_All, to_All}
 
 pub same_from : (a b : ℤ) → int_same a b ≡ true → a ≡ b
 same_from (pos a) (pos b) e = ap pos (grind arith)

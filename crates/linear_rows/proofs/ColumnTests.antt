@@ -1,6 +1,6 @@
-use Rattle.std.proofs.Common.{◌≡◌, ℕ, ℤ, pos, List, ◌+◌, ◌<◌, ◌≤◌, ◌+ℤ◌, ◌*ℤ◌, ◌-ℤ◌, length, refl, sym, ◌∙◌, arith}
+use Rattle.std.proofs.Common.{◌≡◌, ℕ, ℤ, List, ◌-ℤ◌, length}
 use Rattle.exact128.specs.Fits.{Fits}
-use Rattle.exact128.specs.Sums.{entry, dot, DotFits}
+use Rattle.exact128.specs.Sums.{dot, DotFits}
 use Rattle.linear_rows.specs.Rows.{column}
 use Rattle.linear_rows.specs.Proves.{goal_number, rest_number, ColumnFits}
 

@@ -1,8 +1,8 @@
-use Rattle.std.proofs.Common.{◌≡◌, ℕ, zero, suc, ℤ, pos, List, [], ◌∷◌, ◌++◌, ◌+◌, ◌<◌, ◌≤◌, length, get_or, refl, sym, subst, ap, ◌∙◌, arith, below_more, length-append}
+use Rattle.std.proofs.Common.{◌≡◌, ℕ, ℤ, List, [], ◌∷◌, ◌++◌, ◌+◌, ◌<◌, length, refl, ◌∙◌, arith, below_more, length-append}
 use Rattle.std.proofs.lemmas.Grind.{common_steps}
 use Rattle.exact128.specs.Sums.{entry, dot, DotFits}
 use Rattle.linear_rows.specs.Rows.{column}
-use Rattle.linear_rows.specs.Combine.{CombineFits, IsCombination}
+use Rattle.linear_rows.specs.Combine.{CombineFits}
 
 -- the first n columns, and that their numbers fit
 pub record IsPartial (n : ℕ) (rows : List (List ℤ)) (ms row : List ℤ) : Type 0 where

@@ -1,23 +1,21 @@
 -- The values are at least 0, and become naturals over a common denominator.
-use Rattle.std.proofs.Common.{◌≡◌, ◌≢◌, ℕ, zero, suc, ℤ, pos, negsuc, List, [], ◌∷◌, ◌++◌, ◌+◌, ◌*◌, ◌/◌, ◌<◌, ◌≤◌, ◌+ℤ◌, ◌*ℤ◌, ◌-ℤ◌, Bool, true, false, Option, Some, None, map, length, drop, refl, sym, subst, ap, ◌∙◌, arith, inl, inr, ◌⊎◌}
-use Rattle.std.specs.Prelude.{◌≤ℤ◌, ◌<ℤ◌, unsigned_abs}
+use Rattle.std.proofs.Common.{◌≡◌, ℕ, zero, suc, ℤ, pos, List, [], ◌∷◌, ◌*◌, ◌/◌, ◌≤◌, ◌*ℤ◌, Some, map, length, refl, sym, subst, ap, ◌∙◌, arith}
+use Rattle.std.specs.Prelude.{◌≤ℤ◌, unsigned_abs}
 use Rattle.std.specs.Int.{◌∣◌}
 use Rattle.std.proofs.lemmas.Int.{ints}
 use Rattle.std.proofs.lemmas.Nat.Gcd.{dvd_trans, dvd_refl}
-use Rattle.std.proofs.Math.Nat.{mul-div_cancel', dvd-mul_left, dvd-mul_right, dvd-mul_left_of_dvd}
+use Rattle.std.proofs.Math.Nat.{mul-div_cancel', dvd-mul_left, dvd-mul_right}
 use Rattle.exact128.specs.Gcd.{gcd}
 use Rattle.exact128.proofs.Gcds.{gcd_is}
-use Rattle.exact128.proofs.Rings.{rings, mul_nonneg, mul_pos}
 use Rattle.linear_rows.specs.Elimination.{rising, is_positive}
-use Rattle.linear_rows.specs.Step.{eliminated, columns}
+use Rattle.linear_rows.specs.Step.{eliminated}
 use Rattle.exact128.specs.Sums.{entry}
-use Rattle.linear_rows.specs.Members.{In}
 use Rattle.linear_rows.proofs.Members.{of-filter}
 use Rattle.linear_rows.proofs.Steps.{positive_is}
 use Rattle.exact128.specs.Fits.{fits}
 use Rattle.exact128.specs.Fractions.{Fraction, whole, where_fits, then_do}
-use Rattle.linear_rows.specs.Solving.{bound, greatest, values_of, common_of, made_whole, whole_values}
-use Rattle.linear_rows.proofs.Worths.{Went, went, same_some, fits_is, Worth, Worths, IsBound, bound_is, Positive, AtMost, Greatest, greatest_is}
+use Rattle.linear_rows.specs.Solving.{greatest, values_of, common_of, made_whole, whole_values}
+use Rattle.linear_rows.proofs.Worths.{went, same_some, fits_is, Worths, bound_is, greatest_is}
 
 -- a fraction that is at least 0
 pub record IsValue (v : Fraction) : Type 0 where

@@ -1,9 +1,9 @@
 -- A row that rises, crossed with the negation of another one, is bounded by that other one.
-use Rattle.std.proofs.Common.{◌≡◌, ℕ, zero, suc, ℤ, pos, negsuc, List, [], ◌∷◌, ◌+◌, ◌<◌, ◌≤◌, ◌+ℤ◌, ◌*ℤ◌, ◌-ℤ◌, Bool, true, false, map, length, refl, sym, subst, ap, ◌∙◌, arith}
-use Rattle.std.specs.Prelude.{◌≤ℤ◌, ◌<ℤ◌, ◌&&◌}
+use Rattle.std.proofs.Common.{◌≡◌, ℕ, zero, suc, ℤ, pos, negsuc, List, [], ◌∷◌, ◌<◌, ◌*ℤ◌, true, map, length, refl, ◌∙◌, arith}
+use Rattle.std.specs.Prelude.{◌≤ℤ◌}
 use Rattle.std.proofs.lemmas.Int.{ints}
-use Rattle.exact128.proofs.Rings.{rings, mul-neg, neg-mul}
-use Rattle.exact128.specs.Sums.{entry, dot}
+use Rattle.exact128.proofs.Rings.{mul-neg, neg-mul}
+use Rattle.exact128.specs.Sums.{entry}
 use Rattle.linear_rows.specs.Elimination.{scaled, crossed}
 use Rattle.linear_rows.specs.Cleaning.{int_same}
 use Rattle.linear_rows.specs.Equation.{negates}

@@ -1,17 +1,14 @@
 -- A found point is one of the given rows.
-use Rattle.std.proofs.Common.{◌≡◌, ◌≢◌, ℕ, zero, suc, ℤ, pos, negsuc, List, [], ◌∷◌, ◌++◌, ◌+◌, ◌*◌, ◌<◌, ◌≤◌, ◌+ℤ◌, ◌*ℤ◌, Bool, true, false, cond, Option, Some, None, map, length, take, drop, refl, sym, subst, ap, ◌∙◌, arith, inl, inr, ◌⊎◌, get_or}
-use Rattle.std.specs.Prelude.{◌≤ℤ◌, ◌<ℤ◌}
+use Rattle.std.proofs.Common.{◌≡◌, ℕ, zero, suc, ℤ, pos, List, [], ◌∷◌, ◌++◌, ◌+◌, Bool, true, false, cond, Option, Some, None, map, length, take, drop, refl, sym, subst, ap, ◌∙◌, arith}
 use Rattle.std.specs.List.{All}
-use Rattle.std.proofs.lemmas.Int.{ints}
-use Rattle.exact128.specs.Sums.{entry, dot}
-use Rattle.linear_rows.specs.Rows.{Holds, AllHold, IsPoint}
+use Rattle.exact128.specs.Sums.{entry}
+use Rattle.linear_rows.specs.Rows.{AllHold, IsPoint}
 use Rattle.linear_rows.specs.Blown.{blown_step}
 use Rattle.linear_rows.specs.Step.{all_eliminated, columns}
-use Rattle.linear_rows.specs.Solving.{start_rows, whole_values, point_fits, refutes_in, found_of, end_of, solved_by, solution, Solution}
+use Rattle.linear_rows.specs.Solving.{start_rows, whole_values, point_fits, refutes_in, found_of, end_of, solved_by, solution}
 use Rattle.linear_rows.specs.Solving.Solution.{Blown, Found, Refuted}
-use Rattle.linear_rows.proofs.Worths.{Worths}
 use Rattle.linear_rows.proofs.Values.{values_hold}
-use Rattle.linear_rows.proofs.Commons.{Wholes, wholes_are, worths_length, values_length}
+use Rattle.linear_rows.proofs.Commons.{wholes_are, worths_length, values_length}
 use Rattle.linear_rows.proofs.Starts.{start_floors, start_points}
 
 length-columns : (k n : ℕ) → length (columns k n) ≡ n

@@ -19,3 +19,4 @@ pub mod Starts
 pub mod Founds
 pub mod Carries
 pub mod Refutes
+pub mod Examples

@@ -1,11 +1,9 @@
 -- Where the rows of a step come from.
-use Rattle.std.proofs.Common.{◌≡◌, ℕ, zero, suc, ℤ, pos, negsuc, List, [], ◌∷◌, ◌++◌, ◌+◌, ◌<◌, ◌≤◌, ◌+ℤ◌, ◌*ℤ◌, Bool, true, false, cond, ◌||◌, Option, Some, None, map, length, get_or, refl, sym, subst, ap, ◌∙◌, arith, inl, inr, ◌⊎◌}
+use Rattle.std.proofs.Common.{◌≡◌, ℕ, ℤ, pos, List, [], ◌∷◌, ◌++◌, ◌+◌, ◌<◌, ◌≤◌, Bool, true, false, cond, ◌||◌, Option, Some, None, map, get_or, refl, sym, ap, ◌∙◌, arith, inl, inr, ◌⊎◌}
 use Rattle.std.specs.Prelude.{◌≤ℤ◌, ◌<ℤ◌, filter}
-use Rattle.std.specs.List.{flat_map}
-use Rattle.std.proofs.lemmas.Int.{ints}
 use Rattle.exact128.specs.Sums.{entry}
 use Rattle.linear_rows.specs.Elimination.{is_positive, is_negative, is_zero, rising, falling, without, crossed, crossings}
-use Rattle.linear_rows.specs.Cleaning.{row_gcd, reduced, cleaned}
+use Rattle.linear_rows.specs.Cleaning.{row_gcd}
 use Rattle.linear_rows.specs.Equation.{equation_from, other_places, solved_row, solved_rows, combinations_by, step}
 use Rattle.linear_rows.specs.Step.{eliminated, all_eliminated}
 use Rattle.linear_rows.specs.Members.{In}

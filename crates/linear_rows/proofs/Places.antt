@@ -1,6 +1,6 @@
 -- Where the equation of a step stands, and the rows at other places.
-use Rattle.std.proofs.Common.{◌≡◌, ◌≢◌, ℕ, zero, suc, ℤ, pos, List, [], ◌∷◌, ◌++◌, ◌+◌, ◌<◌, ◌≤◌, Bool, true, false, cond, not, ◌||◌, Option, Some, None, map, length, get_or, nat_eq, refl, sym, subst, ap, ◌∙◌, arith, inl, inr, ◌⊎◌}
-use Rattle.std.specs.Prelude.{◌≤ℤ◌, ◌<ℤ◌, All, filter, ◌&&◌}
+use Rattle.std.proofs.Common.{◌≡◌, ℕ, zero, suc, ℤ, List, [], ◌∷◌, ◌+◌, ◌<◌, Bool, true, false, cond, ◌||◌, Some, length, get_or, nat_eq, refl, subst, ap, arith, inl, inr, ◌⊎◌}
+use Rattle.std.specs.Prelude.{◌&&◌}
 use Rattle.std.specs.List.{list_any}
 use Rattle.exact128.specs.Sums.{entry}
 use Rattle.linear_rows.specs.Elimination.{is_positive}

@@ -1,9 +1,9 @@
 -- A point at which the rows that are left hold leads to one at which all rows hold.
-use Rattle.std.proofs.Common.{◌≡◌, ℕ, zero, suc, ℤ, pos, negsuc, List, [], ◌∷◌, ◌+◌, ◌*◌, ◌/◌, ◌<◌, ◌≤◌, ◌+ℤ◌, ◌*ℤ◌, ◌-ℤ◌, map, length, refl, sym, subst, ap, ◌∙◌, arith, inl, inr, ◌⊎◌}
-use Rattle.std.specs.Prelude.{◌≤ℤ◌, ◌<ℤ◌, All, Contains, unsigned_abs, int_le, true, false, Bool}
-use Rattle.std.proofs.lemmas.Int.{ints, by_lt_z}
-use Rattle.std.proofs.lemmas.List.Elements.{All-cons, All-head, All-tail, All-contains, All-weaker, All-nil}
-use Rattle.exact128.proofs.Rings.{rings, mul_nonneg, nonneg_factor}
+use Rattle.std.proofs.Common.{◌≡◌, ℕ, zero, suc, ℤ, pos, List, [], ◌∷◌, ◌*◌, ◌<◌, ◌+ℤ◌, ◌*ℤ◌, ◌-ℤ◌, map, length, refl, ap, ◌∙◌, arith}
+use Rattle.std.specs.Prelude.{◌≤ℤ◌, All, unsigned_abs}
+use Rattle.std.proofs.lemmas.Int.{ints}
+use Rattle.std.proofs.lemmas.List.Elements.{All-weaker}
+use Rattle.exact128.proofs.Rings.{rings}
 use Rattle.exact128.specs.Sums.{entry, dot}
 
 -- a list with another number at a place, and all of its numbers times m

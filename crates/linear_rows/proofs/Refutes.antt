@@ -1,22 +1,22 @@
 -- The multipliers that solving gives refute the given rows.
-use Rattle.std.proofs.Common.{◌≡◌, ◌≢◌, ℕ, zero, suc, ℤ, pos, negsuc, List, [], ◌∷◌, ◌++◌, ◌+◌, ◌*◌, ◌<◌, ◌≤◌, ◌+ℤ◌, ◌*ℤ◌, ◌-ℤ◌, Bool, true, false, cond, not, Option, Some, None, map, length, take, drop, refl, sym, subst, ap, ◌∙◌, arith, inl, inr, ◌⊎◌, get_or, length-append}
-use Rattle.std.specs.Prelude.{◌≤ℤ◌, ◌<ℤ◌, unsigned_abs, int_le, filter, fold, ◌&&◌}
+use Rattle.std.proofs.Common.{◌≡◌, ℕ, zero, suc, ℤ, pos, negsuc, List, [], ◌∷◌, ◌++◌, ◌+◌, ◌<◌, ◌≤◌, ◌+ℤ◌, Bool, true, false, cond, not, Option, Some, None, map, length, take, drop, refl, sym, subst, ap, ◌∙◌, arith, inl, inr, ◌⊎◌, get_or, length-append}
+use Rattle.std.specs.Prelude.{◌≤ℤ◌, ◌<ℤ◌, int_le, filter}
 use Rattle.std.specs.List.{All}
 use Rattle.std.specs.Cmp.Derive.{both_true}
 use Rattle.std.proofs.lemmas.Int.{ints}
 use Rattle.exact128.specs.Sums.{entry, dot}
 use Rattle.linear_rows.specs.Rows.{column}
-use Rattle.linear_rows.specs.Proves.{goal_number, rest_number, Proves, Refutes}
-use Rattle.linear_rows.specs.Cleaning.{agree, is_trivial, int_same, reduced, insert_row, cleaned}
+use Rattle.linear_rows.specs.Proves.{rest_number, Refutes}
+use Rattle.linear_rows.specs.Cleaning.{agree, is_trivial, reduced, cleaned}
 use Rattle.linear_rows.specs.Equation.{step}
 use Rattle.linear_rows.specs.Blown.{blown_step}
 use Rattle.linear_rows.specs.Step.{eliminated, all_eliminated, columns}
 use Rattle.linear_rows.specs.Members.{In}
-use Rattle.linear_rows.proofs.Members.{of-filter, of-map, of-append, from_All, to_All}
+use Rattle.linear_rows.proofs.Members.{of-filter, of-append, to_All}
 use Rattle.linear_rows.proofs.Cleanings.{same_to}
 use Rattle.linear_rows.proofs.Whole.{in_kept}
-use Rattle.linear_rows.proofs.Origins.{Gone, all_gone}
-use Rattle.linear_rows.specs.Solving.{zeros, units, floors, coefficients, carried, start_rows, whole_values, point_fits, refutes_in, found_of, end_of, solved_by, solution, Solution}
+use Rattle.linear_rows.proofs.Origins.{all_gone}
+use Rattle.linear_rows.specs.Solving.{zeros, units, floors, coefficients, carried, start_rows, whole_values, point_fits, refutes_in, found_of, end_of, solved_by, solution}
 use Rattle.linear_rows.specs.Solving.Solution.{Blown, Found, Refuted}
 use Rattle.linear_rows.proofs.Starts.{entry-zeros, entry-units, entry-units-other, dot-zeros}
 use Rattle.linear_rows.proofs.Carries.{Carries, AllCarry, all_carry}

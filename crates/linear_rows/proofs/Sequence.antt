@@ -1,28 +1,24 @@
 -- Steps in a row: a bound from below stays while other variables go, and a variable that is gone stays gone.
-use Rattle.std.proofs.Common.{◌≡◌, ◌≢◌, ℕ, zero, suc, ℤ, pos, negsuc, List, [], ◌∷◌, ◌++◌, ◌+◌, ◌/◌, ◌<◌, ◌≤◌, ◌+ℤ◌, ◌*ℤ◌, ◌-ℤ◌, Bool, true, false, cond, not, ◌||◌, Option, Some, None, map, length, get_or, refl, sym, subst, ap, ◌∙◌, arith, inl, inr, ◌⊎◌}
-use Rattle.std.specs.Prelude.{◌≤ℤ◌, ◌<ℤ◌, All, filter, fold, int_le, int_div, unsigned_abs}
-use Rattle.std.specs.List.{list_any, flat_map}
+use Rattle.std.proofs.Common.{◌≡◌, ◌≢◌, ℕ, zero, suc, ℤ, pos, negsuc, List, [], ◌∷◌, ◌++◌, ◌+◌, ◌/◌, ◌<◌, ◌≤◌, ◌+ℤ◌, ◌*ℤ◌, ◌-ℤ◌, Bool, true, false, cond, not, map, refl, sym, subst, ap, ◌∙◌, arith, inl, inr}
+use Rattle.std.specs.Prelude.{◌≤ℤ◌, ◌<ℤ◌, filter, fold, int_le, int_div, unsigned_abs}
 use Rattle.std.specs.Int.{◌∣◌}
 use Rattle.std.proofs.lemmas.Nat.Gcd.{dvd-zero}
 use Rattle.std.proofs.lemmas.Int.{ints}
 use Rattle.std.proofs.Math.Nat.{mul-div_cancel', zero-div}
 use Rattle.exact128.specs.Gcd.{gcd}
 use Rattle.exact128.proofs.Gcds.{gcd_is, gcd-pos}
-use Rattle.exact128.proofs.Rings.{rings, nonneg_factor, mul_cancel}
-use Rattle.exact128.specs.Sums.{entry, dot}
-use Rattle.linear_rows.specs.Rows.{Holds, AllHold, HoldsOn}
-use Rattle.linear_rows.specs.Elimination.{scaled, added, is_positive, is_negative, is_zero, rising, falling, without, crossed, crossings, crossed_out}
+use Rattle.exact128.proofs.Rings.{rings}
+use Rattle.exact128.specs.Sums.{entry}
+use Rattle.linear_rows.specs.Rows.{Holds, HoldsOn}
+use Rattle.linear_rows.specs.Elimination.{scaled, added, is_zero, without, crossed}
 use Rattle.linear_rows.specs.Cleaning.{row_gcd, reduced, agree, is_trivial, insert_row, cleaned}
-use Rattle.linear_rows.specs.Equation.{negates, equation_from, other_places, solved_row, solved_rows, combinations_by, step}
+use Rattle.linear_rows.specs.Equation.{equation_from, combinations_by, step}
 use Rattle.linear_rows.specs.Step.{eliminated, all_eliminated, Floors, HasFloor, Within}
 use Rattle.linear_rows.specs.Members.{In, Distinct}
-use Rattle.linear_rows.proofs.Members.{in-filter, of-filter, in-left, in-right, of-append, in-map, of-map, of-flat_map, from_All, to_All}
+use Rattle.linear_rows.proofs.Members.{in-filter, in-left, in-right, in-map, from_All}
 use Rattle.exact128.proofs.FitsLemmas.{both}
-use Rattle.linear_rows.proofs.Cleanings.{same_from, same_to, agree_at, agree_swap, exact_div, divides_all, flipped}
-use Rattle.linear_rows.proofs.Steps.{positive_is, negative_is, zero_is}
-use Rattle.linear_rows.proofs.Equations.{negates_at}
-use Rattle.linear_rows.proofs.Places.{IsEquation, equation_is, in-at, of-others}
-use Rattle.linear_rows.proofs.Whole.{of-cleaned, kept_on, back_on, or_either, opposite_falls}
+use Rattle.linear_rows.proofs.Cleanings.{agree_at, exact_div, divides_all, flipped}
+use Rattle.linear_rows.proofs.Whole.{kept_on, back_on}
 
 -- ---- what cleaning keeps
 -- the row x makes the row r needless

@@ -1,11 +1,11 @@
 -- What rows prove holds wherever they hold.
-use Rattle.std.proofs.Common.{◌≡◌, ℕ, zero, suc, ℤ, pos, negsuc, List, [], ◌∷◌, ◌+◌, ◌<◌, ◌≤◌, ◌+ℤ◌, ◌*ℤ◌, ◌-ℤ◌, map, length, refl, sym, subst, ap, ◌∙◌, arith}
-use Rattle.std.specs.Prelude.{◌≤ℤ◌, ◌<ℤ◌, All}
+use Rattle.std.proofs.Common.{◌≡◌, ℕ, zero, suc, ℤ, pos, negsuc, List, [], ◌∷◌, ◌<◌, ◌+ℤ◌, ◌*ℤ◌, map, length, refl, ◌∙◌, arith}
+use Rattle.std.specs.Prelude.{◌≤ℤ◌, All}
 use Rattle.std.proofs.lemmas.Int.{ints}
-use Rattle.exact128.proofs.Rings.{rings, mul-add, mul_assoc, mul_nonneg, mul_mono, nonneg_factor}
+use Rattle.exact128.proofs.Rings.{rings, mul_nonneg, mul_mono, nonneg_factor}
 use Rattle.exact128.specs.Sums.{entry, dot}
 use Rattle.linear_rows.specs.Rows.{column, Holds, AllHold, HoldsOn, AreEmpty}
-use Rattle.linear_rows.specs.Proves.{goal_number, rest_number, Proves}
+use Rattle.linear_rows.specs.Proves.{rest_number, Proves}
 
 -- a row times a number, and the sum of two rows
 abbrev scaled : ℤ → List ℤ → List ℤ

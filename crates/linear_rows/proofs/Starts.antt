@@ -1,6 +1,6 @@
 -- The rows that are solved: each variable has its bound from below, and their points are points of the given rows.
-use Rattle.std.proofs.Common.{◌≡◌, ◌≢◌, ℕ, zero, suc, ℤ, pos, negsuc, List, [], ◌∷◌, ◌++◌, ◌+◌, ◌*◌, ◌<◌, ◌≤◌, ◌+ℤ◌, ◌*ℤ◌, ◌-ℤ◌, map, length, drop, refl, sym, subst, ap, ◌∙◌, arith, inl, inr, ◌⊎◌, length-append, get_or}
-use Rattle.std.specs.Prelude.{◌≤ℤ◌, ◌<ℤ◌, All}
+use Rattle.std.proofs.Common.{◌≡◌, ◌≢◌, ℕ, zero, suc, ℤ, pos, negsuc, List, [], ◌∷◌, ◌++◌, ◌+◌, ◌<◌, ◌≤◌, ◌+ℤ◌, ◌*ℤ◌, ◌-ℤ◌, map, length, refl, sym, subst, ap, ◌∙◌, arith, inl, inr, ◌⊎◌}
+use Rattle.std.specs.Prelude.{◌≤ℤ◌, All}
 use Rattle.std.specs.List.{All}
 use Rattle.std.proofs.lemmas.Int.{ints}
 use Rattle.exact128.specs.Sums.{entry, dot}

@@ -1,11 +1,10 @@
 -- One step with no equation: a row without the variable holds on what is left exactly where it holds on the rows.
-use Rattle.std.proofs.Common.{◌≡◌, ◌≢◌, ℕ, zero, suc, ℤ, pos, negsuc, List, [], ◌∷◌, ◌++◌, ◌+◌, ◌*◌, ◌<◌, ◌≤◌, ◌+ℤ◌, ◌*ℤ◌, ◌-ℤ◌, Bool, true, false, cond, map, length, refl, sym, subst, ap, ◌∙◌, arith, inl, inr, ◌⊎◌}
-use Rattle.std.specs.Prelude.{◌≤ℤ◌, ◌<ℤ◌, All, Contains, unsigned_abs, int_lt}
-use Rattle.std.specs.List.{flat_map}
+use Rattle.std.proofs.Common.{◌≡◌, ◌≢◌, ℕ, zero, suc, ℤ, pos, negsuc, List, [], ◌∷◌, ◌+◌, ◌*◌, ◌<◌, ◌≤◌, ◌*ℤ◌, true, map, length, refl, subst, ap, ◌∙◌, arith, inl, inr, ◌⊎◌}
+use Rattle.std.specs.Prelude.{◌≤ℤ◌, ◌<ℤ◌, All, unsigned_abs}
 use Rattle.std.proofs.lemmas.Int.{ints}
 use Rattle.std.proofs.Math.Nat.{mul-pos}
 use lib.IntN.{zero-*ℤ, +ℤ_idl}
-use Rattle.exact128.proofs.Rings.{rings, nonneg_factor, mul_nonneg, mul_mono, mul_le, mul_cancel}
+use Rattle.exact128.proofs.Rings.{mul_nonneg, mul_mono, mul_le, mul_cancel}
 use Rattle.exact128.specs.Sums.{entry, dot}
 use Rattle.linear_rows.specs.Rows.{Holds, AllHold, HoldsOn}
 use Rattle.linear_rows.specs.Elimination.{is_positive, is_negative, is_zero, rising, falling, without, crossed, crossings, crossed_out}

@@ -1,6 +1,6 @@
 -- The chosen values are a point at which all rows hold.
-use Rattle.std.proofs.Common.{◌≡◌, ◌≢◌, ℕ, zero, suc, ℤ, pos, negsuc, List, [], ◌∷◌, ◌++◌, ◌+◌, ◌*◌, ◌<◌, ◌≤◌, ◌+ℤ◌, ◌*ℤ◌, ◌-ℤ◌, Bool, true, false, Option, Some, None, map, length, drop, refl, sym, subst, ap, ◌∙◌, arith, inl, inr, ◌⊎◌}
-use Rattle.std.specs.Prelude.{◌≤ℤ◌, ◌<ℤ◌, All}
+use Rattle.std.proofs.Common.{◌≡◌, ℕ, zero, suc, ℤ, pos, List, [], ◌∷◌, ◌+◌, ◌<◌, ◌≤◌, ◌+ℤ◌, ◌*ℤ◌, Some, map, length, drop, refl, sym, subst, ap, ◌∙◌, arith, inl, inr, ◌⊎◌}
+use Rattle.std.specs.Prelude.{◌≤ℤ◌}
 use Rattle.std.proofs.lemmas.Int.{ints}
 use Rattle.std.proofs.lemmas.List.Elements.{All-nil}
 use lib.IntN.{neg_ℤ, zero-*ℤ, +ℤ_idl}
@@ -8,12 +8,12 @@ use Rattle.exact128.proofs.Rings.{rings, mul_nonneg, mul_cancel, mul_le, cancel,
 use Rattle.exact128.specs.Sums.{entry, dot}
 use Rattle.linear_rows.specs.Rows.{Holds, AllHold}
 use Rattle.linear_rows.specs.Elimination.{rising, is_positive}
-use Rattle.linear_rows.specs.Step.{eliminated, all_eliminated, Floors, columns, HasFloor}
+use Rattle.linear_rows.specs.Step.{eliminated, all_eliminated, columns, HasFloor}
 use Rattle.linear_rows.specs.Equation.{step}
 use Rattle.linear_rows.specs.Members.{In}
 use Rattle.linear_rows.proofs.Members.{in-filter, of-filter, from_All, to_All}
 use Rattle.linear_rows.proofs.Projection.{value, rest, put, Bounds}
-use Rattle.linear_rows.proofs.Bounding.{put-same, split_at}
+use Rattle.linear_rows.proofs.Bounding.{split_at}
 use Rattle.linear_rows.proofs.Cleanings.{cleaned_all}
 use Rattle.linear_rows.proofs.Steps.{Guide, positive_is, is_positive-from, floor_rest}
 use Rattle.linear_rows.proofs.Whole.{guide_of}
@@ -21,7 +21,7 @@ use Rattle.linear_rows.proofs.Sequence.{floor_stays}
 use Rattle.linear_rows.proofs.Origins.{Gone, gone, gone_stays}
 use Rattle.exact128.specs.Fractions.{Fraction, whole, then_do}
 use Rattle.linear_rows.specs.Solving.{bound, greatest, values_of}
-use Rattle.linear_rows.proofs.Worths.{Went, went, same_some, Worth, Worths, rest_worth, IsBound, bound_is, AtMost, Positive, Below, Attained, Greatest, greatest_is}
+use Rattle.linear_rows.proofs.Worths.{went, same_some, Worth, Worths, rest_worth, IsBound, bound_is, Positive, Attained, greatest_is}
 
 -- ---- the rest of a row in which the columns before k are gone
 tail_rest : (k : ℕ) (rs : List ℤ) (w : List ℕ) → ((j : ℕ) → j < k → entry rs j ≡ pos 0) → k < length w → value rs (put w k 0) ≡ dot (drop (suc k) rs) (map pos (drop (suc k) w))

@@ -1,18 +1,17 @@
 -- A step says what the rows say of the other variables, and so do steps in a row.
-use Rattle.std.proofs.Common.{◌≡◌, ◌≢◌, ℕ, zero, suc, ℤ, pos, negsuc, List, [], ◌∷◌, ◌++◌, ◌+◌, ◌<◌, ◌≤◌, Bool, true, false, cond, not, ◌||◌, Option, Some, None, map, length, get_or, refl, sym, subst, ap, ◌∙◌, arith, inl, inr, ◌⊎◌}
-use Rattle.std.specs.Prelude.{◌≤ℤ◌, ◌<ℤ◌, All, filter, fold, int_le}
-use Rattle.std.specs.List.{list_any}
+use Rattle.std.proofs.Common.{◌≡◌, ℕ, ℤ, pos, List, [], ◌∷◌, ◌++◌, ◌+◌, ◌<◌, ◌≤◌, Bool, true, false, cond, not, ◌||◌, Option, Some, None, map, length, get_or, refl, subst, arith, inl, inr, ◌⊎◌}
+use Rattle.std.specs.Prelude.{◌≤ℤ◌, ◌<ℤ◌, filter, fold, int_le}
 use Rattle.std.proofs.lemmas.Int.{ints}
-use Rattle.exact128.specs.Sums.{entry, dot}
+use Rattle.exact128.specs.Sums.{entry}
 use Rattle.linear_rows.specs.Rows.{Holds, AllHold, HoldsOn}
-use Rattle.linear_rows.specs.Elimination.{is_positive, is_negative, is_zero, rising, falling, without, crossed, crossings, crossed_out}
+use Rattle.linear_rows.specs.Elimination.{is_positive, is_negative, is_zero, without, crossed}
 use Rattle.linear_rows.specs.Cleaning.{reduced, agree, is_trivial, insert_row, cleaned}
 use Rattle.linear_rows.specs.Equation.{negates, equation_from, other_places, solved_row, solved_rows, combinations_by, step}
-use Rattle.linear_rows.specs.Step.{eliminated, all_eliminated, Floors}
+use Rattle.linear_rows.specs.Step.{eliminated, Floors}
 use Rattle.linear_rows.specs.Members.{In}
 use Rattle.linear_rows.proofs.Members.{in-filter, of-filter, in-left, in-right, of-append, in-map, of-map, from_All, to_All}
-use Rattle.linear_rows.proofs.Projection.{rest, Bounds, value}
-use Rattle.linear_rows.proofs.Bounding.{Rises, crossed_holds, crossed_bounds}
+use Rattle.linear_rows.proofs.Projection.{Bounds}
+use Rattle.linear_rows.proofs.Bounding.{crossed_holds, crossed_bounds}
 use Rattle.linear_rows.proofs.Cleanings.{reduced_holds, cleaned_all}
 use Rattle.linear_rows.proofs.Steps.{Guide, guide_crossed, guided, left_hold, positive_is, negative_is, zero_is, Sign, sign_of, zero_bounds}
 use Rattle.linear_rows.proofs.Equations.{negates_at, equation_bounds, negation_bounds}

@@ -1,16 +1,15 @@
 -- What the operations of fractions are worth.
-use Rattle.std.proofs.Common.{◌≡◌, ◌≢◌, ℕ, zero, suc, ℤ, pos, negsuc, List, [], ◌∷◌, ◌++◌, ◌+◌, ◌*◌, ◌/◌, ◌<◌, ◌≤◌, ◌+ℤ◌, ◌*ℤ◌, ◌-ℤ◌, Bool, true, false, cond, Option, Some, None, map, length, drop, refl, sym, subst, ap, ◌∙◌, arith, inl, inr, ◌⊎◌}
-use Rattle.std.specs.Prelude.{◌≤ℤ◌, ◌<ℤ◌, unsigned_abs, int_lt, int_div}
+use Rattle.std.proofs.Common.{◌≡◌, ℕ, zero, suc, ℤ, pos, negsuc, List, [], ◌∷◌, ◌*◌, ◌/◌, ◌<◌, ◌+ℤ◌, ◌*ℤ◌, Bool, true, false, cond, Option, Some, None, map, drop, refl, sym, subst, ap, ◌∙◌, arith, inl, inr, ◌⊎◌}
+use Rattle.std.specs.Prelude.{◌≤ℤ◌, unsigned_abs, int_lt, int_div}
 use Rattle.std.proofs.lemmas.Int.{ints}
 use Rattle.std.proofs.Math.Nat.{mul-div_cancel'}
-use Rattle.std.specs.Int.{◌∣◌}
 use lib.IntN.{neg_ℤ}
 use borrow.Author.Differences.{lt-true, lt-false}
 use Rattle.exact128.specs.Gcd.{gcd}
-use Rattle.exact128.proofs.Gcds.{gcd_is, gcd-pos, gcd_pos}
-use Rattle.exact128.proofs.Rings.{rings, neg-mul, mul_nonneg, mul_cancel, mul_le, cross_trans, cancel, mul_pos}
+use Rattle.exact128.proofs.Gcds.{gcd_is, gcd_pos}
+use Rattle.exact128.proofs.Rings.{rings, neg-mul, cross_trans, cancel, mul_pos}
 use Rattle.exact128.specs.Sums.{entry, dot}
-use Rattle.exact128.specs.Fractions.{signed_of, ratio, shared_of, scaled_of, sum_of, again_of, bottom_of, Fraction, whole, lowest, where_fits, then_do, product, quotient, sum, exceeds}
+use Rattle.exact128.specs.Fractions.{ratio, shared_of, scaled_of, sum_of, again_of, bottom_of, Fraction, whole, lowest, where_fits, then_do, product, quotient, sum, exceeds}
 use Rattle.exact128.proofs.FractionSums.{sum_value, bottom_pos, whole_part, abs_pos}
 use Rattle.exact128.proofs.FractionOrders.{lt_times}
 use Rattle.linear_rows.specs.Members.{In}

@@ -5,7 +5,7 @@
 -- too many. Divisions form no number that counts, since what is divided fits.
 --
 -- This retells a procedure, and no promise on sizes or levels rests on it.
-use Rattle.std.specs.Prelude.{ℕ, zero, suc, ℤ, pos, List, [], ◌∷◌, ◌/◌, ◌+◌, ◌+ℤ◌, ◌*ℤ◌, Bool, true, false, ◌&&◌, ◌||◌, not, nat_lt, unsigned_abs, filter, length, Option, Some, None, if◌then◌else◌, slice_index_or}
+use Rattle.std.specs.Prelude.{ℕ, suc, ℤ, pos, List, [], ◌∷◌, ◌/◌, ◌+◌, ◌+ℤ◌, ◌*ℤ◌, Bool, true, false, ◌&&◌, ◌||◌, not, nat_lt, unsigned_abs, filter, length, Option, Some, None, if◌then◌else◌, slice_index_or}
 use Rattle.exact128.specs.Fits.{fits}
 use Rattle.exact128.specs.Gcd.{gcd}
 use Rattle.exact128.specs.Sums.{entry}

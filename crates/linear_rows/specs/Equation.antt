@@ -2,10 +2,10 @@
 --
 -- The first n numbers of rows are compared. Rows are told apart by their places, since rows that are the same in these
 -- numbers may carry other ones behind them.
-use Rattle.std.specs.Prelude.{ℕ, zero, suc, ℤ, neg_ℤ, List, [], ◌∷◌, ◌++◌, Bool, true, false, ◌&&◌, ◌||◌, nat_eq, Option, Some, None, map, filter, if◌then◌else◌, slice_index_or}
+use Rattle.std.specs.Prelude.{ℕ, zero, suc, ℤ, neg_ℤ, List, [], ◌∷◌, ◌++◌, Bool, true, ◌&&◌, ◌||◌, nat_eq, Option, Some, None, map, filter, if◌then◌else◌, slice_index_or}
 use Rattle.std.specs.List.{list_any}
 use Rattle.exact128.specs.Sums.{entry}
-use Rattle.linear_rows.specs.Elimination.{is_positive, is_negative, is_zero, without, crossed, crossings}
+use Rattle.linear_rows.specs.Elimination.{is_positive, is_negative, without, crossed, crossings}
 use Rattle.linear_rows.specs.Cleaning.{int_same}
 
 -- the first n numbers of the row s are those of r, negated

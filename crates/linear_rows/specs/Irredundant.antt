@@ -1,11 +1,10 @@
 -- When the test of a row is blown, and lists of rows that no test makes shorter.
 --
 -- This retells a procedure, and no promise on sizes or levels rests on it.
-use Rattle.std.specs.Prelude.{◌≡◌, ℕ, zero, suc, ℤ, pos, List, [], ◌∷◌, ◌++◌, ◌+◌, ◌<◌, ◌≤◌, ◌⊎◌, Bool, true, false, not, take, drop, length, slice_index_or, if◌then◌else◌}
-use Rattle.exact128.specs.Sums.{entry, dot}
-use Rattle.exact128.specs.Fits.{fits}
-use Rattle.linear_rows.specs.Rows.{Holds, AllHold, column}
-use Rattle.linear_rows.specs.Proves.{Proves, ColumnFits, goal_number, rest_number}
+use Rattle.std.specs.Prelude.{◌≡◌, ℕ, suc, ℤ, List, [], ◌++◌, ◌+◌, ◌<◌, ◌≤◌, ◌⊎◌, take, drop, length, slice_index_or}
+use Rattle.exact128.specs.Sums.{entry}
+use Rattle.linear_rows.specs.Rows.{Holds, AllHold}
+use Rattle.linear_rows.specs.Proves.{ColumnFits}
 use Rattle.linear_rows.specs.Solving.{Solution, solution}
 use Rattle.linear_rows.specs.Solving.Solution.{Blown, Found, Refuted}
 use Rattle.linear_rows.specs.Systems.{test_rows}

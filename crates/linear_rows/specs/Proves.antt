@@ -40,3 +40,7 @@ pub record ColumnFits (rows : List (List ℤ)) (ms target : List ℤ) (scale : �
   pub sums : DotFits (length rows) ms (column rows k)
   pub goal : Fits (goal_number scale target k)
   pub rest : Fits (rest_number rows ms target scale k)
+
+-- each number that the test of all columns forms fits
+abbrev pub AllColumnsFit : List (List ℤ) → List ℤ → List ℤ → ℤ → Type 0
+AllColumnsFit rows ms target scale = (k : ℕ) → k < length target → ColumnFits rows ms target scale k

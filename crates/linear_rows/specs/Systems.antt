@@ -3,9 +3,8 @@
 -- The rows are lists with the constant first. Each system is of rows and expressions over given columns, and of
 -- columns that it adds. This retells a procedure: whether such a system is blown is what marks an image, a join or a
 -- test as weak or blown, and no promise on sizes or levels rests on it.
-use Rattle.std.specs.Prelude.{ℕ, zero, suc, ℤ, pos, negsuc, neg_ℤ, List, [], ◌∷◌, ◌++◌, ◌+◌, Bool, true, false, not, map, length, take, Option, Some, None}
+use Rattle.std.specs.Prelude.{ℕ, zero, suc, ℤ, pos, negsuc, neg_ℤ, List, [], ◌∷◌, ◌++◌, ◌+◌, Bool, map, length, take, Option}
 use Rattle.exact128.specs.Sums.{entry}
-use Rattle.linear_rows.specs.Proves.{Proves}
 use Rattle.linear_rows.specs.Step.{all_eliminated, columns}
 use Rattle.linear_rows.specs.Blown.{blown_step}
 use Rattle.linear_rows.specs.Solving.{zeros, units, coefficients}

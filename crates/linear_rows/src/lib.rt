@@ -14,12 +14,13 @@ mod numbers;
 mod proving;
 mod row;
 mod system;
+#[cfg(test)]
+mod tests;
 
-pub use combining::{combine, RowFault};
+pub use combining::{RowFault, combine};
+pub use laws::{elimination_projects, proofs_are_sound, solving_decides};
 pub use multipliers::{Multipliers, Proof};
 pub use numbers::Numbers;
 pub use proving::proves;
 pub use row::{Row, RowList, Rows};
 pub use system::System;
-
-pub use laws::{elimination_projects, proofs_are_sound, solving_decides};

@@ -1,7 +1,7 @@
 // The test of multipliers, column by column.
-ghost use Rattle.std.specs.Prelude.{◌≡◌, length, ◌<◌, ◌≤◌, SomeIff, All, pos, ◌≤ℤ◌, ◌+◌};
+ghost use Rattle.std.specs.Prelude.{◌≡◌, length, ◌<◌, ◌≤◌, SomeIff, All, pos, ◌≤ℤ◌, ◌+◌, ◌↔◌};
 ghost use Rattle.exact128.specs.Fits.{Fits};
-ghost use Rattle.linear_rows.specs.Proves.{goal_number};
+ghost use Rattle.linear_rows.specs.Proves.{goal_number, Proves, AllColumnsFit};
 ghost use Rattle.linear_rows.specs.Verdict.{ColumnSays, Says};
 ghost use Rattle.linear_rows.specs.Plain.{plain_row, plain_rows, HaveWidth};
 
@@ -26,7 +26,10 @@ pub fn proves(rows: &Rows, multipliers: &[i128], target: &Row, scale: i128) -> P
     requires target { length target.now.coeffs ≡ rows.now.width }
 
     // Which answer it is: the first column decides that does not hold in numbers that fit.
-    ensures { Says (plain_rows rows.now.list) multipliers.now (plain_row target.now) scale result }
+    ensures says { Says (plain_rows rows.now.list) multipliers.now (plain_row target.now) scale result }
+
+    // So Holds comes exactly where the target is proved and each number that is formed fits.
+    ensures holds { (result ≡ Proof.Holds) ↔ (Proves (plain_rows rows.now.list) multipliers.now (plain_row target.now) scale × AllColumnsFit (plain_rows rows.now.list) multipliers.now (plain_row target.now) scale) }
 {
     for k in 0..rows.width as usize + 1 {
         match test_column(rows.list.as_slice(), multipliers, target, scale, k) {
@@ -39,13 +42,7 @@ pub fn proves(rows: &Rows, multipliers: &[i128], target: &Row, scale: i128) -> P
 }
 
 // The test of one column.
-fn test_column(
-    rows: &[Row],
-    multipliers: &[i128],
-    target: &Row,
-    scale: i128,
-    k: usize,
-) -> Proof
+fn test_column(rows: &[Row], multipliers: &[i128], target: &Row, scale: i128, k: usize) -> Proof
     requires lengths { length multipliers.now ≡ length rows.now }
     requires column { All (λ r. k < length (plain_row r)) rows.now }
     requires target { k < length (plain_row target.now) }

@@ -97,3 +97,29 @@ pub struct Rows {
     pub width: u32,
     pub list: RowList,
 }
+
+impl Rows {
+    ghost use Rattle.linear_rows.specs.Plain.{HaveWidth};
+
+    /// Makes an empty list of rows of a width.
+    pub fn new(alloc: Global, width: u32) -> Self
+        ensures width { result.width ≡ width }
+        ensures list { result.list ≡ [] }
+    {
+        Rows {
+            width,
+            list: RowList::new(alloc),
+        }
+    }
+
+    /// Appends a row of the width.
+    pub fn push(&mut self, row: Row) -> Result<(), AllocError>
+        requires { length row.coeffs ≡ self.old.width }
+        ensures pushed { OnOk result (self.new.list ≡ self.old.list ++ row ∷ []) }
+        ensures kept { result ≡ Err alloc_error → self.new.list ≡ self.old.list }
+        ensures width { self.new.width ≡ self.old.width }
+        ensures rows { HaveWidth self.old.width self.old.list → HaveWidth self.new.width self.new.list }
+    {
+        self.list.push(row)
+    }
+}

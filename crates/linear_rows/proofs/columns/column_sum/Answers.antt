@@ -1,11 +1,11 @@
-use Rattle.std.proofs.Common.{rules, ◌≡◌, ℕ, ℤ, pos, ◌+ℤ◌, ◌*ℤ◌, ◌<◌, ◌≤◌, length, get_or, arith, refl, ap, ◌∙◌, sym}
+use Rattle.std.proofs.Common.{rules, pos, get_or, arith, refl, ap, ◌∙◌, sym}
 use Rattle.std.specs.Int.{w128}
 use Rattle.std.specs.Prelude.{FitsSigned}
 use Rattle.std.proofs.lemmas.Int.{to_z-of_z}
 use Rattle.exact128.specs.Sums.{entry}
 use Rattle.linear_rows.specs.Rows.{column}
 use Rattle.linear_rows.specs.Plain.{plain_row, plain_rows}
-use Rattle.linear_rows.proofs.ColumnSums.{IsSumTo, sum_to_zero, sum_to_more, product_too_wide, sum_too_wide, column_at, length-column}
+use Rattle.linear_rows.proofs.ColumnSums.{sum_to_zero, sum_to_more, product_too_wide, sum_too_wide, column_at, length-column}
 use Rattle.linear_rows.proofs.columns.column_sum.Goals as goal
 
 pub loop-i-init : goal.loop-i-init

@@ -1,10 +1,10 @@
-use Rattle.std.proofs.Common.{rules, ◌≡◌, length, ◌∷◌, sym, arith, ℤ}
+use Rattle.std.proofs.Common.{rules, sym}
 use Rattle.std.specs.Int.{w128}
 use Rattle.std.specs.Prelude.{FitsSigned}
 use Rattle.std.proofs.lemmas.Int.{to_z-of_z}
 use Rattle.std.proofs.lemmas.List.{length-map}
 use Rattle.linear_rows.specs.Plain.{plain_row}
-use Rattle.linear_rows.proofs.Combines.{IsPartial, partial_one, partial_more}
+use Rattle.linear_rows.proofs.Combines.{partial_one, partial_more}
 use Rattle.linear_rows.proofs.combining.combine.Goals as goal
 
 pub loop-k-preserved : goal.loop-k-preserved

@@ -1,7 +1,6 @@
 use Rattle.std.proofs.Common.{below_more}
 use Rattle.std.specs.Int.{w128}
 use Rattle.std.specs.Prelude.{FitsSigned}
-use Rattle.std.proofs.lemmas.Int.{to_z-of_z}
 use Rattle.linear_rows.proofs.proving.proves.Goals as goal
 
 pub loop-k-preserved : goal.loop-k-preserved
