@@ -1,0 +1,10 @@
+pub mod Loops
+pub mod Alls
+pub mod Blends
+pub mod NumberTests
+pub mod Finds
+pub mod Adds
+pub mod Solveds
+pub mod StepLemmas
+pub mod Stays
+pub mod EliminateLemmas

@@ -1,0 +1,3 @@
+pub mod Blending
+pub mod Adding
+pub mod Saying
