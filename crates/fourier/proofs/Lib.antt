@@ -8,3 +8,6 @@ pub mod Solveds
 pub mod StepLemmas
 pub mod Stays
 pub mod EliminateLemmas
+pub mod Chains
+pub mod StartRows
+pub mod BoundLemmas

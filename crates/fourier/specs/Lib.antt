@@ -1,3 +1,6 @@
 pub mod Blending
 pub mod Adding
 pub mod Saying
+pub mod History
+pub mod Units
+pub mod Exceeding

@@ -6,15 +6,19 @@
 //! Source: Fourier-Motzkin elimination, as in Schrijver 1986.
 #![tactic(auto)]
 
+mod bounding;
 mod cleaning;
 mod converting;
 mod crossing;
 mod eliminating;
 mod equations;
 mod fault;
+mod history;
 mod line;
 mod lines;
+mod sequence;
 mod sign;
+mod starting;
 mod stepping;
 
 pub use eliminating::eliminate;
