@@ -86,7 +86,7 @@ pub sum_stops : (s : Fraction) (row : List ℤ) (vs : List Fraction) (from j : �
 sum_stops s row vs from j v all p q e is n =
     sym is ∙ from_here s row vs (from + j) j v p q e ∙ ap (λ o. then_do o (λ z. sum_on z (drop (suc (from + j)) row) (drop (suc j) vs))) n
 
-drop-all : {A : Type 0} (i : ℕ) (xs : List A) → length xs ≤ i → drop i xs ≡ []
+pub drop-all : {A : Type 0} (i : ℕ) (xs : List A) → length xs ≤ i → drop i xs ≡ []
 drop-all zero [] h = refl
 drop-all zero (x ∷ xs) h = absurd (omega arith)
 drop-all (suc i) [] h = refl

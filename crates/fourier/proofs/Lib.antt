@@ -11,3 +11,4 @@ pub mod EliminateLemmas
 pub mod Chains
 pub mod StartRows
 pub mod BoundLemmas
+pub mod ValueLemmas

@@ -15,6 +15,10 @@ AllFit rows = All (λ r. All Fits r) rows
 abbrev pub AllLong : ℕ → List (List ℤ) → Type 0
 AllLong n rows = All (λ r. length r ≡ n) rows
 
+-- all rows have one length
+abbrev pub OneLength : List (List ℤ) → Type 0
+OneLength rows = (n : ℕ) × AllLong n rows
+
 -- the kept rows with one more, which is divided, and left out where it is trivial
 abbrev pub insert_divided : ℕ → List (List ℤ) → List ℤ → List (List ℤ)
 insert_divided m kept row = if is_trivial m row then kept else insert_row m kept row

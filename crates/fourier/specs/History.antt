@@ -1,5 +1,5 @@
 -- The lists of rows before each step, and the values that are chosen from them in the reverse order.
-use Rattle.std.specs.Prelude.{◌≡◌, ℕ, ℤ, pos, List, [], ◌∷◌, ◌+◌, Bool, true, false, Option, Some, None, Result, Ok, Err}
+use Rattle.std.specs.Prelude.{◌≡◌, ℕ, ℤ, pos, List, [], ◌∷◌, ◌+◌, Bool, true, false, Option, Some, None, Result, Ok, Err, All, ◌<◌, length}
 use Rattle.exact128.specs.Fractions.{Fraction, whole, then_do}
 use Rattle.linear_rows.specs.Elimination.{rising}
 use Rattle.linear_rows.specs.Step.{eliminated, all_eliminated}
@@ -13,6 +13,10 @@ use Rattle.fourier.specs.declared.sequence.Steps.{Steps}
 abbrev pub history_of : ℕ → List ℕ → List (List ℤ) → List (List (List ℤ))
 history_of m [] rows = []
 history_of m (k ∷ ks) rows = rows ∷ history_of m ks (eliminated m k rows)
+
+-- each row has more than so many numbers
+abbrev pub AllLongerThan : ℕ → List (List ℤ) → Type 0
+AllLongerThan n rows = All (λ row. n < length row) rows
 
 -- the values of these columns, from the rows before each step
 abbrev pub values_back : List ℕ → List (List (List ℤ)) → Option (List Fraction)

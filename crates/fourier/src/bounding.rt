@@ -6,7 +6,7 @@ ghost use Rattle.exact128.specs.Fractions.{whole, exceeds};
 ghost use Rattle.rational128.specs.Formulas.{fraction_of, Gives};
 ghost use Rattle.linear_rows.specs.Elimination.{rising};
 ghost use Rattle.linear_rows.specs.Solving.{sum_on, negated, bound, greatest};
-ghost use Rattle.fourier.specs.Adding.{AllFit, AllLong};
+ghost use Rattle.fourier.specs.Adding.{AllFit};
 ghost use Rattle.fourier.specs.Exceeding.{Tells};
 
 use crate::line::Line;
@@ -19,7 +19,7 @@ use std::collections::VecDeque;
 /// The value of a column, where the columns after it have these values.
 pub fn greatest(rows: &Lines, k: usize, values: &VecDeque<Ratio, Global>) -> Result<Ratio, Wide>
     requires fit { AllFit rows.now }
-    requires long { AllLong (k + 1 + length values.now.items) rows.now }
+    requires long { All (λ row. k + 1 + length values.now.items ≤ length row) rows.now }
     requires small { k + 1 + length values.now.items < 2 ^ 33 }
     ensures { Gives (greatest k (map fraction_of values.now.items) (whole (pos 0)) (rising k rows.now)) result }
 {

@@ -4,7 +4,7 @@ ghost use Rattle.exact128.specs.Fits.{Fits};
 ghost use Rattle.exact128.specs.Sums.{entry};
 ghost use Rattle.linear_rows.specs.Elimination.{crossed, crossings, falling};
 ghost use Rattle.linear_rows.specs.Blown.{crossed_fits, crossings_fit, all_of};
-ghost use Rattle.fourier.specs.Adding.{add_row, add_rows, AllFit, AllLong};
+ghost use Rattle.fourier.specs.Adding.{add_row, add_rows, AllFit, AllLong, OneLength};
 
 use crate::cleaning::add;
 use crate::line::Line;
@@ -19,12 +19,11 @@ pub fn cross_rising(
     alloc: Global,
     kept: &mut Lines,
     rows: &Lines,
-    many: usize,
     k: usize,
     last: usize,
 ) -> Result<(), RowFault>
     requires fit { AllFit rows.now }
-    requires long { AllLong many rows.now }
+    requires long { OneLength rows.now }
     ensures kept { OnOk result (kept.new ≡ add_rows last kept.old (crossings k rows.now)) }
     ensures fits { OnOk result (crossings_fit k rows.now ≡ true) }
     ensures wide { result ≡ Err RowFault.Wide → crossings_fit k rows.now ≡ false }

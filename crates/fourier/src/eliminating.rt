@@ -41,7 +41,7 @@ pub fn eliminate(alloc: Global, rows: &Rows, var: u32) -> Result<Rows, ElimFault
         });
     }
     let last = rows.width as usize;
-    match step(alloc, &lines, last + 1, var as usize + 1, last) {
+    match step(alloc, &lines, var as usize + 1, last) {
         Ok(left) => Ok(rows_of(alloc, &left, rows.width)?),
         Err(StepFault::Wide) => Err(ElimFault::Blown {
             step: 1,

@@ -4,7 +4,7 @@ ghost use Rattle.exact128.specs.Fits.{Fits};
 ghost use Rattle.exact128.specs.Sums.{entry};
 ghost use Rattle.linear_rows.specs.Equation.{negates, place_of, equation_from, solved_rows};
 ghost use Rattle.linear_rows.specs.Blown.{solved_rows_fit};
-ghost use Rattle.fourier.specs.Adding.{add_rows, add_solved, add_solved_fits, AllFit, AllLong};
+ghost use Rattle.fourier.specs.Adding.{add_rows, add_solved, add_solved_fits, AllFit, OneLength};
 
 use crate::crossing::cross_add;
 use crate::line::Line;
@@ -62,12 +62,11 @@ pub fn cross_equation(
     rows: &Lines,
     i: usize,
     j: usize,
-    many: usize,
     k: usize,
     last: usize,
 ) -> Result<(), RowFault>
     requires fit { AllFit rows.now }
-    requires long { AllLong many rows.now }
+    requires long { OneLength rows.now }
     requires i { i < length rows.now }
     requires j { j < length rows.now }
     requires rises { pos 1 ≤ℤ entry (slice_index_or rows.now i []) k }

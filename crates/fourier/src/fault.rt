@@ -34,3 +34,22 @@ impl From<AllocError> for ElimFault {
         ElimFault::Memory
     }
 }
+
+/// Why values were not chosen.
+#[derive(Clone, Copy, PartialEq, Eq, Debug)]
+pub enum ValueFault {
+    /// A number that they need does not fit.
+    Wide,
+    /// Memory was refused.
+    Memory,
+}
+
+impl From<AllocError> for ValueFault {
+    ghost use Rattle.fourier.specs.declared.fault.ValueFault.TheVariants.{Memory};
+
+    ghost from_gives = { λ _ fault. fault ≡ Memory };
+
+    fn from(_: AllocError) -> ValueFault {
+        ValueFault::Memory
+    }
+}

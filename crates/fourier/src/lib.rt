@@ -7,6 +7,7 @@
 #![tactic(auto)]
 
 mod bounding;
+mod checking;
 mod cleaning;
 mod converting;
 mod crossing;
@@ -16,10 +17,12 @@ mod fault;
 mod history;
 mod line;
 mod lines;
+mod scaling;
 mod sequence;
 mod sign;
 mod starting;
 mod stepping;
+mod valuing;
 
 pub use eliminating::eliminate;
 pub use fault::ElimFault;

@@ -1,7 +1,7 @@
 // Steps of elimination, one after the other.
 ghost use Rattle.std.specs.Prelude.{◌≡◌, ◌<◌, ◌≤◌, ◌^◌};
 ghost use Rattle.linear_rows.specs.Step.{columns};
-ghost use Rattle.fourier.specs.Adding.{AllLong};
+ghost use Rattle.fourier.specs.Adding.{OneLength};
 ghost use Rattle.fourier.specs.History.{StepsSay};
 
 use crate::fault::{ElimFault, StepFault};
@@ -21,11 +21,10 @@ pub struct Steps {
 pub fn eliminate_columns(
     alloc: Global,
     rows: Lines,
-    many: usize,
     count: usize,
     last: usize,
 ) -> Result<Steps, ElimFault>
-    requires long { AllLong many rows }
+    requires long { OneLength rows }
     requires count { count ≤ last }
     requires last { last < 2 ^ 32 }
     ensures { StepsSay last (columns 1 count) rows result }
@@ -39,7 +38,7 @@ pub fn eliminate_columns(
     let mut before = History::new(alloc);
     let mut current = rows;
     for i in 0..count {
-        match step(alloc, &current, many, i + 1, last) {
+        match step(alloc, &current, i + 1, last) {
             Ok(next) => {
                 before.push(current)?;
                 current = next;

@@ -2,7 +2,7 @@
 ghost use Rattle.std.specs.Prelude.{◌≡◌, true, false, ◌<◌, ◌≤◌, ◌+◌, ◌^◌, OnOk};
 ghost use Rattle.linear_rows.specs.Equation.{equation_from, combinations_by};
 ghost use Rattle.linear_rows.specs.Blown.{step_fits};
-ghost use Rattle.fourier.specs.Adding.{add_rows, AllFit, AllLong};
+ghost use Rattle.fourier.specs.Adding.{add_rows, AllFit, OneLength};
 ghost use Rattle.fourier.specs.Saying.{StepSays};
 
 use crate::cleaning::{add_without, MOST_ROWS};
@@ -17,12 +17,11 @@ use std::alloc::Global;
 pub fn step(
     alloc: Global,
     rows: &Lines,
-    many: usize,
     k: usize,
     last: usize,
 ) -> Result<Lines, StepFault>
     requires fit { AllFit rows.now }
-    requires long { AllLong many rows.now }
+    requires long { OneLength rows.now }
     requires k { k ≤ last }
     requires last { last < 2 ^ 32 }
     ensures { StepSays last k rows.now result }
@@ -32,7 +31,7 @@ pub fn step(
         Ok(()) => {}
         Err(_) => return Err(StepFault::Memory),
     }
-    match combinations(alloc, &mut kept, rows, many, k, last) {
+    match combinations(alloc, &mut kept, rows, k, last) {
         Ok(()) => {}
         Err(RowFault::Wide) => return Err(StepFault::Wide),
         Err(RowFault::Memory) => return Err(StepFault::Memory),
@@ -48,12 +47,11 @@ fn combinations(
     alloc: Global,
     kept: &mut Lines,
     rows: &Lines,
-    many: usize,
     k: usize,
     last: usize,
 ) -> Result<(), RowFault>
     requires fit { AllFit rows.now }
-    requires long { AllLong many rows.now }
+    requires long { OneLength rows.now }
     requires k { k ≤ last }
     requires last { last < 2 ^ 32 }
     ensures kept { OnOk result (kept.new ≡ add_rows last kept.old (combinations_by (equation_from (last + 1) k rows.now 0 rows.now) k rows.now)) }
@@ -61,7 +59,7 @@ fn combinations(
     ensures wide { result ≡ Err RowFault.Wide → step_fits last k rows.now ≡ false }
 {
     match equation(rows, k, last + 1) {
-        Some((i, j)) => cross_equation(alloc, kept, rows, i, j, many, k, last),
-        None => cross_rising(alloc, kept, rows, many, k, last),
+        Some((i, j)) => cross_equation(alloc, kept, rows, i, j, k, last),
+        None => cross_rising(alloc, kept, rows, k, last),
     }
 }

@@ -36,10 +36,10 @@ cross_falling-requires c =
     let lt : c.loop-i.i < length c.args.rows.now = omega arith in
     let t : is_positive (entry (get_or c.args.rows.now c.loop-i.i []) c.args.k) ≡ true = cc (e, c.if-is_positive.true) in
     let up = positive_is (entry (get_or c.args.rows.now c.loop-i.i []) c.args.k) t in
-    let long : c.args.many ≡ length c.get-then-is_positive.result.now = at_long c.args.many c.args.rows.now c.loop-i.i lt c.requires.long ∙ ap length (sym c.get-then-is_positive.ensures) in
+    let long : c.requires.long.0 ≡ length c.get-then-is_positive.result.now = at_long c.requires.long.0 c.args.rows.now c.loop-i.i lt c.requires.long.1 ∙ ap length (sym c.get-then-is_positive.ensures) in
     record {
       fit = c.requires.fit;
-      long = subst (λ n. AllLong n c.args.rows.now) long c.requires.long;
+      long = subst (λ n. AllLong n c.args.rows.now) long c.requires.long.1;
       rises = subst (λ r. pos 1 ≤ℤ entry r c.args.k) (sym c.get-then-is_positive.ensures) up;
     }
 

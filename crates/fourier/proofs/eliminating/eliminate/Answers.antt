@@ -14,7 +14,7 @@ returns-then-not-fit-clause-exact c =
     one_not_fit c.args.rows.now.width (c.args.var + 1) (plain_rows c.args.rows.now.list) e
 
 pub step-requires-clause-long : goal.step-requires-clause-long
-step-requires-clause-long c = rw c.in_ok-lines.ensures (long_of c.args.rows.now.width c.args.rows.now.list c.requires.width)
+step-requires-clause-long c = (c.args.rows.now.width + 1, rw c.in_ok-lines.ensures (long_of c.args.rows.now.width c.args.rows.now.list c.requires.width))
 
 pub rows_of-requires : goal.rows_of-requires
 rows_of-requires c =

@@ -13,25 +13,28 @@ pub loop-i-init : goal.loop-i-init
 loop-i-init c =
     let t : c.fit.result ≡ true = c.if-not-fit.false in
     let e : numbers_fit c.args.rows ≡ true = cc (c.fit.ensures.value, t) in
-    rw c.new-before.ensures (going_start c.args.many c.args.last c.args.count c.args.rows (c.fit.ensures.fit t) c.requires.long e)
+    (c.requires.long.0, rw c.new-before.ensures (going_start c.requires.long.0 c.args.last c.args.count c.args.rows (c.fit.ensures.fit t) c.requires.long.1 e))
 
 pub returns-in-Err-Wide : goal.returns-in-Err-Wide
 returns-in-Err-Wide c =
     let lt : c.loop-i.i < c.args.count = omega arith in
     let e : step_fault c.args.last (c.loop-i.i + 1) c.loop-i.current ≡ Some true = subst (λ f. StepSays c.args.last (c.loop-i.i + 1) c.loop-i.current (Err f)) c.in-Err-Wide.field-0-is c.in-Err-Wide.ensures in
-    going_blown c.args.many c.args.last c.args.count c.loop-i.i (c.loop-i.i + 1) (c.loop-i.i + 1) true c.args.rows c.loop-i.current c.loop-i.before refl refl lt c.loop-i.invariant e
+    going_blown c.loop-i.invariant.0 c.args.last c.args.count c.loop-i.i (c.loop-i.i + 1) (c.loop-i.i + 1) true c.args.rows c.loop-i.current c.loop-i.before refl refl lt c.loop-i.invariant.1 e
 
 pub returns-in-Err-Many : goal.returns-in-Err-Many
 returns-in-Err-Many c =
     let lt : c.loop-i.i < c.args.count = omega arith in
     let e : step_fault c.args.last (c.loop-i.i + 1) c.loop-i.current ≡ Some false = subst (λ f. StepSays c.args.last (c.loop-i.i + 1) c.loop-i.current (Err f)) c.in-Err-Many.field-0-is c.in-Err-Many.ensures in
-    going_blown c.args.many c.args.last c.args.count c.loop-i.i (c.loop-i.i + 1) (c.loop-i.i + 1) false c.args.rows c.loop-i.current c.loop-i.before refl refl lt c.loop-i.invariant e
+    going_blown c.loop-i.invariant.0 c.args.last c.args.count c.loop-i.i (c.loop-i.i + 1) (c.loop-i.i + 1) false c.args.rows c.loop-i.current c.loop-i.before refl refl lt c.loop-i.invariant.1 e
 
 pub loop-i-preserved : goal.loop-i-preserved
 loop-i-preserved c =
     let lt : c.loop-i.i < c.args.count = omega arith in
     let low : c.loop-i.i + 1 ≤ c.args.last = let h = c.requires.count in omega arith in
-    going_on c.args.many c.args.last c.args.count c.loop-i.i (c.loop-i.i + 1) c.args.rows c.loop-i.current c.in-Ok.next c.loop-i.before c.push.new.self refl low lt c.loop-i.invariant c.in_ok-push-in-Ok.ensures c.in-Ok.ensures.0 c.in-Ok.ensures.1
+    (c.loop-i.invariant.0, going_on c.loop-i.invariant.0 c.args.last c.args.count c.loop-i.i (c.loop-i.i + 1) c.args.rows c.loop-i.current c.in-Ok.next c.loop-i.before c.push.new.self refl low lt c.loop-i.invariant.1 c.in_ok-push-in-Ok.ensures c.in-Ok.ensures.0 c.in-Ok.ensures.1)
 
 pub returns : goal.returns
-returns c = going_end c.args.many c.args.last c.args.count c.loop-i.i c.args.rows c.loop-i.current c.loop-i.before (omega arith) c.loop-i.invariant
+returns c = going_end c.loop-i.invariant.0 c.args.last c.args.count c.loop-i.i c.args.rows c.loop-i.current c.loop-i.before (omega arith) c.loop-i.invariant.1
+
+pub step-requires-clause-long : goal.step-requires-clause-long
+step-requires-clause-long c = (c.loop-i.invariant.0, c.loop-i.invariant.1.long)
