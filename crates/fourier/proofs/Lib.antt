@@ -12,3 +12,5 @@ pub mod Chains
 pub mod StartRows
 pub mod BoundLemmas
 pub mod ValueLemmas
+pub mod CheckLemmas
+pub mod SolveLemmas

@@ -1,5 +1,5 @@
 -- Values, common multiples and checks, a step at a time.
-use Rattle.std.proofs.Common.{◌≡◌, ℕ, zero, suc, ℤ, pos, List, [], ◌∷◌, ◌++◌, ◌+◌, ◌-◌, ◌*◌, ◌/◌, ◌<◌, ◌≤◌, Bool, true, false, cond, Option, Some, None, map, drop, length, get_or, refl, sym, subst, ap, ◌∙◌, arith, append_assoc}
+use Rattle.std.proofs.Common.{◌≡◌, ℕ, zero, suc, ℤ, pos, negsuc, List, [], ◌∷◌, ◌++◌, ◌+◌, ◌-◌, ◌*◌, ◌/◌, ◌<◌, ◌≤◌, Bool, true, false, cond, Option, Some, None, map, drop, length, get_or, refl, sym, subst, ap, ◌∙◌, arith, append_assoc}
 use Rattle.std.specs.Prelude.{◌≤ℤ◌, ◌*ℤ◌, ◌+ℤ◌, unsigned_abs, ◌&&◌, filter, SomeIff, IfSome}
 use Rattle.std.specs.Cmp.Derive.{both_true}
 use Rattle.std.proofs.Math.Seq.{drop-cons}
@@ -17,6 +17,8 @@ use Rattle.exact128.proofs.FitsLemmas.{to_fits, of_fits, both, either_bool}
 use Rattle.linear_rows.specs.Elimination.{rising}
 use Rattle.linear_rows.specs.Step.{eliminated, columns}
 use Rattle.linear_rows.specs.Solving.{greatest, values_of, common_of, made_whole, whole_values, sums_fit, zeros}
+use Rattle.linear_rows.specs.Plain.{plain_row}
+use Rattle.linear_rows.specs.declared.row.Row.{Row}
 use Rattle.fourier.specs.History.{history_of, values_back}
 use Rattle.fourier.proofs.BoundLemmas.{drop-all}
 
@@ -127,6 +129,13 @@ zeros-more (suc n) = ap (λ l. pos 0 ∷ l) (zeros-more n)
 
 pub zeros_on : (n : ℕ) → zeros n ++ pos 0 ∷ [] ≡ zeros (n + 1)
 zeros_on n = let one : n + 1 ≡ suc n = omega arith in zeros-more n ∙ ap zeros (sym one)
+
+length-zeros : (n : ℕ) → length (zeros n) ≡ n
+length-zeros zero = refl
+length-zeros (suc n) = ap suc (length-zeros n)
+
+pub minus_one_long : (n : ℕ) (row : Row) → plain_row row ≡ negsuc 0 ∷ zeros n → length (plain_row row) ≡ n + 1
+minus_one_long n row e = ap length e ∙ omega (arith, length-zeros n)
 
 -- ---- sums at a point
 fits_here : (s : ℤ) (row w : List ℤ) (k : ℕ) (a b : ℤ) → k < length row → k < length w → a ≡ entry row k → b ≡ entry w k →

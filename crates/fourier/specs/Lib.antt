@@ -4,3 +4,4 @@ pub mod Saying
 pub mod History
 pub mod Units
 pub mod Exceeding
+pub mod Solves

@@ -17,12 +17,16 @@ mod fault;
 mod history;
 mod line;
 mod lines;
+mod point;
 mod scaling;
 mod sequence;
 mod sign;
+mod solving;
 mod starting;
 mod stepping;
 mod valuing;
 
 pub use eliminating::eliminate;
 pub use fault::ElimFault;
+pub use point::{Point, Solved};
+pub use solving::solve;

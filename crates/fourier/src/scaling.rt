@@ -1,5 +1,5 @@
 // Fractions as whole numbers over their least common denominator.
-ghost use Rattle.std.specs.Prelude.{◌≡◌, ◌*ℤ◌, ◌/◌, pos, ◌≤ℤ◌, unsigned_abs, map, IfOk, IfSome, SomeIff, OnErr, None, Some};
+ghost use Rattle.std.specs.Prelude.{◌≡◌, ◌*ℤ◌, ◌/◌, pos, ◌≤ℤ◌, unsigned_abs, map, length, IfOk, IfSome, SomeIff, OnErr, None, Some};
 ghost use Rattle.exact128.specs.Fits.{Fits};
 ghost use Rattle.exact128.specs.Gcd.{gcd};
 ghost use Rattle.rational128.specs.Formulas.{fraction_of};
@@ -42,6 +42,7 @@ fn multiple(a: i128, b: i128) -> Option<i128>
 pub fn made_whole(alloc: Global, common: i128, values: &VecDeque<Ratio, Global>) -> Result<Numbers, ValueFault>
     requires { pos 1 ≤ℤ common }
     ensures numbers { IfOk result (λ numbers. made_whole common (map fraction_of values.now.items) ≡ Some numbers) }
+    ensures long { IfOk result (λ numbers. length numbers ≡ length values.now.items) }
     ensures wide { result ≡ Err ValueFault.Wide → made_whole common (map fraction_of values.now.items) ≡ None }
 {
     let mut numbers = Numbers::new(alloc);

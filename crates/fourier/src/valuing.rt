@@ -18,6 +18,7 @@ pub fn values_of(alloc: Global, before: &History) -> Result<VecDeque<Ratio, Glob
     requires long { All (AllLongerThan (length before.now)) before.now }
     requires small { length before.now < 2 ^ 32 + 1 }
     ensures values { IfOk result (λ values. values_back (columns 1 (length before.now)) before.now ≡ Some (map fraction_of values.items)) }
+    ensures long { IfOk result (λ values. length values.items ≡ length before.now) }
     ensures wide { result ≡ Err ValueFault.Wide → values_back (columns 1 (length before.now)) before.now ≡ None }
 {
     let mut values = VecDeque::new(alloc);

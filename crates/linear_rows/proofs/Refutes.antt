@@ -183,7 +183,7 @@ given_carry n given q wide m =
     turn [] i l h e is = absurd (omega arith)
     turn (b ∷ cs) i l h e is = subst (Carries n given) (sym is) (one_carries n i given b cs (omega arith) h e)
 
-start_carries : (n : ℕ) (given : List (List ℤ)) → All (λ r. length r ≡ n + 1) given → AllCarry n given (start_rows n given)
+pub start_carries : (n : ℕ) (given : List (List ℤ)) → All (λ r. length r ≡ n + 1) given → AllCarry n given (start_rows n given)
 unfolding start_rows
 start_carries n given wide q m = elim (of-append (floors n 0 (n + 1 + length given)) ((negsuc 0 ∷ units (n + 1 + length given) n) ∷ carried (length given) 0 given) q m) [
   | inl a ↦ floors_carry n n 0 given q (omega arith) a
@@ -291,13 +291,18 @@ way_of n given ms e = by_steps (blown_step (n + 1) (columns 1 (n + 1)) (start_ro
     by_steps (Some (s, b)) e = cc
     by_steps None e = by_left (all_eliminated (n + 1) (columns 1 (n + 1)) (start_rows n given)) refl e
 
+-- each row that is left carries multipliers that refute the rows
+pub left_refutes : (n : ℕ) (given : List (List ℤ)) (row : List ℤ) → All (λ r. length r ≡ n + 1) given → In row (all_eliminated (n + 1) (columns 1 (n + 1)) (start_rows n given)) → Refutes n given (drop (n + 2) row)
+left_refutes n given row wide here =
+    let w = within-columns 1 (n + 1) (n + 1) (omega arith) in
+    let c = all_carry n (n + 1) (columns 1 (n + 1)) given (start_rows n given) w (start_carries n given wide) row here in
+    let z : (j : ℕ) → 1 ≤ j → j ≤ n + 1 → entry row j ≡ pos 0 = λ j l h. all_gone (n + 1) (columns 1 (n + 1)) j (start_rows n given) w (in-columns 1 (n + 1) j l (omega arith)) row here in
+    let one : n + 1 ≡ suc n = omega arith in
+    let here2 : In row (all_eliminated (n + 1) (columns 1 (suc n)) (start_rows n given)) = subst (λ k. In row (all_eliminated (n + 1) (columns 1 k) (start_rows n given))) one here in
+    let low = negative_left (n + 1) row z (left_matters (n + 1) 1 (columns 2 n) (start_rows n given) row here2) in
+    refutes n given row c z low
+
 pub refuted_refutes : (n : ℕ) (given : List (List ℤ)) (ms : List ℤ) → All (λ r. length r ≡ n + 1) given → solution n given ≡ Refuted ms → Refutes n given ms
 refuted_refutes n given ms wide e =
     let way = way_of n given ms e in
-    let w = within-columns 1 (n + 1) (n + 1) (omega arith) in
-    let c = all_carry n (n + 1) (columns 1 (n + 1)) given (start_rows n given) w (start_carries n given wide) way.row way.here in
-    let z : (j : ℕ) → 1 ≤ j → j ≤ n + 1 → entry way.row j ≡ pos 0 = λ j l h. all_gone (n + 1) (columns 1 (n + 1)) j (start_rows n given) w (in-columns 1 (n + 1) j l (omega arith)) way.row way.here in
-    let one : n + 1 ≡ suc n = omega arith in
-    let here2 : In way.row (all_eliminated (n + 1) (columns 1 (suc n)) (start_rows n given)) = subst (λ k. In way.row (all_eliminated (n + 1) (columns 1 k) (start_rows n given))) one way.here in
-    let low = negative_left (n + 1) way.row z (left_matters (n + 1) 1 (columns 2 n) (start_rows n given) way.row here2) in
-    subst (Refutes n given) way.is (refutes n given way.row c z low)
+    subst (Refutes n given) way.is (left_refutes n given way.row wide way.here)
