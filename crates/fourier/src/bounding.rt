@@ -36,7 +36,12 @@ pub fn greatest(rows: &Lines, k: usize, values: &VecDeque<Ratio, Global>) -> Res
 }
 
 // The greater of a value and of a row's bound.
-fn greater(best: Ratio, row: &Line, k: usize, values: &VecDeque<Ratio, Global>) -> Result<Ratio, Wide>
+fn greater(
+    best: Ratio,
+    row: &Line,
+    k: usize,
+    values: &VecDeque<Ratio, Global>,
+) -> Result<Ratio, Wide>
     requires fit { All Fits row.now }
     requires long { k + 1 + length values.now.items ≤ length row.now }
     requires small { k + 1 + length values.now.items < 2 ^ 33 }
@@ -78,7 +83,12 @@ fn bound(row: &Line, k: usize, values: &VecDeque<Ratio, Global>) -> Result<Ratio
 }
 
 // The sum of products of a row's numbers, from a place on, with values, on top of another sum.
-fn sum_on(start: Ratio, row: &Line, from: usize, values: &VecDeque<Ratio, Global>) -> Result<Ratio, Wide>
+fn sum_on(
+    start: Ratio,
+    row: &Line,
+    from: usize,
+    values: &VecDeque<Ratio, Global>,
+) -> Result<Ratio, Wide>
     requires fit { All Fits row.now }
     requires long { from + length values.now.items ≤ length row.now }
     requires small { from + length values.now.items < 2 ^ 33 }

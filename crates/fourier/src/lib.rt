@@ -24,6 +24,8 @@ mod sign;
 mod solving;
 mod starting;
 mod stepping;
+#[cfg(test)]
+mod tests;
 mod valuing;
 
 pub use eliminating::eliminate;

@@ -39,7 +39,11 @@ fn multiple(a: i128, b: i128) -> Option<i128>
 }
 
 /// The values times a common multiple of their denominators, where each product fits.
-pub fn made_whole(alloc: Global, common: i128, values: &VecDeque<Ratio, Global>) -> Result<Numbers, ValueFault>
+pub fn made_whole(
+    alloc: Global,
+    common: i128,
+    values: &VecDeque<Ratio, Global>,
+) -> Result<Numbers, ValueFault>
     requires { pos 1 ≤ℤ common }
     ensures numbers { IfOk result (λ numbers. made_whole common (map fraction_of values.now.items) ≡ Some numbers) }
     ensures long { IfOk result (λ numbers. length numbers ≡ length values.now.items) }

@@ -17,7 +17,7 @@ use crate::scaling::{common_of, made_whole};
 use crate::sequence::eliminate_columns;
 use crate::starting::start_rows;
 use crate::valuing::values_of;
-use linear_rows::{proves, Multipliers, Numbers, Proof, Rows};
+use linear_rows::{Multipliers, Numbers, Proof, Rows, proves};
 use std::alloc::Global;
 
 /// Finds a point at which all rows hold, or multipliers that show that they hold nowhere.

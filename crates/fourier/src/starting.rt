@@ -25,7 +25,12 @@ pub fn start_rows(alloc: Global, rows: &Rows) -> Result<Lines, AllocError>
 }
 
 // Appends rows that say that each variable is at least 0.
-fn push_floors(alloc: Global, lines: &mut Lines, count: usize, many: usize) -> Result<(), AllocError>
+fn push_floors(
+    alloc: Global,
+    lines: &mut Lines,
+    count: usize,
+    many: usize,
+) -> Result<(), AllocError>
     requires { count < 2 ^ 32 }
     ensures { OnOk result (lines.new ≡ lines.old ++ floors count 0 (count + 1 + many)) }
 {

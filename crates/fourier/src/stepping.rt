@@ -5,7 +5,7 @@ ghost use Rattle.linear_rows.specs.Blown.{step_fits};
 ghost use Rattle.fourier.specs.Adding.{add_rows, AllFit, OneLength};
 ghost use Rattle.fourier.specs.Saying.{StepSays};
 
-use crate::cleaning::{add_without, MOST_ROWS};
+use crate::cleaning::{MOST_ROWS, add_without};
 use crate::crossing::cross_rising;
 use crate::equations::{cross_equation, equation};
 use crate::fault::StepFault;
@@ -14,12 +14,7 @@ use linear_rows::RowFault;
 use std::alloc::Global;
 
 /// The rows that a step leaves, which eliminates column `k`. The columns 1 to `last` are compared.
-pub fn step(
-    alloc: Global,
-    rows: &Lines,
-    k: usize,
-    last: usize,
-) -> Result<Lines, StepFault>
+pub fn step(alloc: Global, rows: &Lines, k: usize, last: usize) -> Result<Lines, StepFault>
     requires fit { AllFit rows.now }
     requires long { OneLength rows.now }
     requires k { k ≤ last }

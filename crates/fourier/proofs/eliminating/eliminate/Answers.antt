@@ -23,8 +23,7 @@ rows_of-requires c =
 
 pub returns-in-Ok-clause-exact : goal.returns-in-Ok-clause-exact
 returns-in-Ok-clause-exact c =
-    let e : numbers_fit (plain_rows c.args.rows.now.list) ≡ true = cc (c.fit.ensures.value, c.if-not-fit.false, ap numbers_fit c.in_ok-lines.ensures) in
-    (
+    let e : numbers_fit (plain_rows c.args.rows.now.list) ≡ true = cc (c.fit.ensures.value, c.if-not-fit.false, ap numbers_fit c.in_ok-lines.ensures) in (
       c.in_ok-rows_of-in-Ok.ensures.rows ∙ c.in-Ok.ensures.0 ∙ ap (eliminated c.args.rows.now.width (c.args.var + 1)) c.in_ok-lines.ensures,
       one_whole c.args.rows.now.width (c.args.var + 1) (plain_rows c.args.rows.now.list) e (sym (ap (step_fault c.args.rows.now.width (c.args.var + 1)) c.in_ok-lines.ensures) ∙ c.in-Ok.ensures.1),
     )
