@@ -9,7 +9,7 @@ use Rattle.exact128.specs.Gcd.{gcd}
 use Rattle.exact128.specs.Sums.{entry}
 use Rattle.linear_rows.specs.Elimination.{scaled, added, crossed}
 use Rattle.linear_rows.specs.Cleaning.{row_gcd, reduced, agree, is_trivial, insert_row, cleaned}
-use Rattle.fourier.specs.Blending.{blended, BlendFits}
+use Rattle.fourier.specs.Blending.{blended}
 use Rattle.linear_rows.specs.Blown.{blend_fits, crossed_fits}
 use Rattle.fourier.specs.Adding.{insert_divided, insert_clean, add_row, add_rows}
 use Rattle.exact128.proofs.FitsLemmas.{both, either_bool}
@@ -98,33 +98,6 @@ crossed_is k r s up down g eu ed eg =
     let c : g ≡ gcd (unsigned_abs (entry r k)) (unsigned_abs (entry s k)) = rw (a, b) at eg in
     rw (c, a, b) refl
 
-fits_of : (z : ℤ) → fits z ≡ true → Fits z
-fits_of z e = ltb-true (unsigned_abs z) (2 ^ 127) e
-
-of_fits : (z : ℤ) → Fits z → fits z ≡ true
-of_fits z h = lt-ltb (unsigned_abs z) (2 ^ 127) h
-
-pub to_blend_fits : (n : ℕ) (a b : ℤ) (r s : List ℤ) → length r ≡ n → length s ≡ n → BlendFits n a b r s → blend_fits a b r s ≡ true
-to_blend_fits n a b [] s er es h = refl
-to_blend_fits n a b (x ∷ xs) [] er es h = refl
-to_blend_fits zero a b (x ∷ xs) (y ∷ ys) er es h = absurd (omega arith)
-to_blend_fits (suc n) a b (x ∷ xs) (y ∷ ys) er es h =
-    let f = h 0 (omega arith) in
-    both_true (both_true (of_fits (a *ℤ x) f.0) (both_true (of_fits (b *ℤ y) f.1) (of_fits (a *ℤ x +ℤ b *ℤ y) f.2))) (to_blend_fits n a b xs ys (omega arith) (omega arith) (λ k l. h (suc k) (omega arith)))
-
-pub of_blend_fits : (n : ℕ) (a b : ℤ) (r s : List ℤ) → length r ≡ n → length s ≡ n → blend_fits a b r s ≡ true → BlendFits n a b r s
-of_blend_fits n a b [] s er es e k l = absurd (omega arith)
-of_blend_fits n a b (x ∷ xs) [] er es e k l = absurd (omega arith)
-of_blend_fits zero a b (x ∷ xs) (y ∷ ys) er es e k l = absurd (omega arith)
-of_blend_fits (suc n) a b (x ∷ xs) (y ∷ ys) er es e zero l =
-    let two = both (fits (a *ℤ x) && (fits (b *ℤ y) && fits (a *ℤ x +ℤ b *ℤ y))) (blend_fits a b xs ys) e in
-    let one = both (fits (a *ℤ x)) (fits (b *ℤ y) && fits (a *ℤ x +ℤ b *ℤ y)) two.0 in
-    let more = both (fits (b *ℤ y)) (fits (a *ℤ x +ℤ b *ℤ y)) one.1 in
-    (fits_of (a *ℤ x) one.0, fits_of (b *ℤ y) more.0, fits_of (a *ℤ x +ℤ b *ℤ y) more.1)
-of_blend_fits (suc n) a b (x ∷ xs) (y ∷ ys) er es e (suc k) l =
-    let two = both (fits (a *ℤ x) && (fits (b *ℤ y) && fits (a *ℤ x +ℤ b *ℤ y))) (blend_fits a b xs ys) e in
-    of_blend_fits n a b xs ys (omega arith) (omega arith) two.1 k (omega arith)
-
 crossed_blend : (k : ℕ) (r s : List ℤ) (up down : ℤ) (g : ℕ) → up ≡ entry r k → down ≡ neg_ℤ (entry s k) → g ≡ gcd (unsigned_abs up) (unsigned_abs down) →
     blend_fits (pos (unsigned_abs down / g)) (pos (unsigned_abs up / g)) r s ≡ crossed_fits k r s
 unfolding crossed_fits
@@ -134,19 +107,10 @@ crossed_blend k r s up down g eu ed eg =
     let c : g ≡ gcd (unsigned_abs (entry r k)) (unsigned_abs (entry s k)) = rw (a, b) at eg in
     rw (c, a, b) refl
 
-pub cross_fits : (k : ℕ) (r s : List ℤ) (up down : ℤ) (g : ℕ) → length r ≡ length s → up ≡ entry r k → down ≡ neg_ℤ (entry s k) → g ≡ gcd (unsigned_abs up) (unsigned_abs down) →
-    BlendFits (length r) (pos (unsigned_abs down / g)) (pos (unsigned_abs up / g)) r s → crossed_fits k r s ≡ true
-cross_fits k r s up down g el eu ed eg h = sym (crossed_blend k r s up down g eu ed eg) ∙ to_blend_fits (length r) (pos (unsigned_abs down / g)) (pos (unsigned_abs up / g)) r s refl (sym el) h
-
-pub cross_wide : (k : ℕ) (r s : List ℤ) (up down : ℤ) (g : ℕ) → length r ≡ length s → up ≡ entry r k → down ≡ neg_ℤ (entry s k) → g ≡ gcd (unsigned_abs up) (unsigned_abs down) →
-    (BlendFits (length r) (pos (unsigned_abs down / g)) (pos (unsigned_abs up / g)) r s → ⊥) → crossed_fits k r s ≡ false
-cross_wide k r s up down g el eu ed eg h = either_bool (crossed_fits k r s) (λ e. h (of_blend_fits (length r) (pos (unsigned_abs down / g)) (pos (unsigned_abs up / g)) r s refl (sym el) (crossed_blend k r s up down g eu ed eg ∙ e)))
-
 -- the two factors, as the code forms them
 pub record Factors (k : ℕ) (r s : List ℤ) (a b : ℤ) : Type 0 where
   pub row : blended a b r s ≡ crossed k r s
-  pub fit : BlendFits (length r) a b r s → crossed_fits k r s ≡ true
-  pub wide : (BlendFits (length r) a b r s → ⊥) → crossed_fits k r s ≡ false
+  pub fit : blend_fits a b r s ≡ crossed_fits k r s
 
 pub factors : (k : ℕ) (r s : List ℤ) (up down a b : ℤ) (g x y : ℕ) → length r ≡ length s → up ≡ entry r k → down ≡ neg_ℤ (entry s k) → x ≡ unsigned_abs up → y ≡ unsigned_abs down → g ≡ gcd x y →
     a ≡ pos (unsigned_abs down / g) → b ≡ pos (unsigned_abs up / g) → Factors k r s a b
@@ -154,6 +118,5 @@ factors k r s up down a b g x y el eu ed ex ey eg ea eb =
     let e : g ≡ gcd (unsigned_abs up) (unsigned_abs down) = cc in
     subst (λ z. Factors k r s z b) (sym ea) (subst (λ z. Factors k r s (pos (unsigned_abs down / g)) z) (sym eb) (record {
       row = crossed_is k r s up down g eu ed e;
-      fit = cross_fits k r s up down g el eu ed e;
-      wide = cross_wide k r s up down g el eu ed e;
+      fit = crossed_blend k r s up down g eu ed e;
     }))

@@ -1,6 +1,5 @@
 pub mod Loops
 pub mod Alls
-pub mod Blends
 pub mod NumberTests
 pub mod Finds
 pub mod Adds
@@ -14,3 +13,4 @@ pub mod BoundLemmas
 pub mod ValueLemmas
 pub mod CheckLemmas
 pub mod SolveLemmas
+pub mod SparseLemmas

@@ -5,3 +5,4 @@ pub mod History
 pub mod Units
 pub mod Exceeding
 pub mod Solves
+pub mod Sparse

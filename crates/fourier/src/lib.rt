@@ -17,6 +17,7 @@ mod fault;
 mod history;
 mod line;
 mod lines;
+mod part;
 mod point;
 mod scaling;
 mod sequence;

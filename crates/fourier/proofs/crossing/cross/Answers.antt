@@ -6,8 +6,8 @@ use Rattle.fourier.specs.declared.line.Line.{Line}
 use Rattle.linear_rows.specs.declared.combining.RowFault.{RowFault}
 use Rattle.linear_rows.specs.declared.combining.RowFault.TheVariants.{Wide}
 use Rattle.linear_rows.specs.Elimination.{crossed}
-use Rattle.fourier.specs.Blending.{blended, BlendFits}
-use Rattle.linear_rows.specs.Blown.{crossed_fits}
+use Rattle.fourier.specs.Blending.{blended}
+use Rattle.linear_rows.specs.Blown.{blend_fits, crossed_fits}
 use Rattle.fourier.proofs.Adds.{Factors, factors}
 use Rattle.fourier.proofs.crossing.cross.Goals as goal
 
@@ -45,7 +45,7 @@ returns-clause-fits c =
     let eb = simp to_z-of_z at c.quotient-2.ensures in
     let f = factors c.args.k c.args.r.now c.args.s.now c.entry-up.result c.negated-down.result c.quotient.result c.quotient-2.result c.gcd-shared.result c.unsigned_abs.result c.unsigned_abs-2.result
     c.requires.long c.entry-up.ensures ed ex ey c.gcd-shared.ensures.value ea eb in
-    if_ok c.blend.result (λ _. BlendFits (length c.args.r.now) c.quotient.result c.quotient-2.result c.args.r.now c.args.s.now) (λ _. crossed_fits c.args.k c.args.r.now c.args.s.now ≡ true) (λ _ h. f.fit h) (simp to_z-of_z at c.blend.ensures.fits)
+    if_ok c.blend.result (λ _. blend_fits c.quotient.result c.quotient-2.result c.args.r.now c.args.s.now ≡ true) (λ _. crossed_fits c.args.k c.args.r.now c.args.s.now ≡ true) (λ _ h. sym f.fit ∙ h) (simp to_z-of_z at c.blend.ensures.fits)
 
 pub returns-clause-wide : goal.returns-clause-wide
 returns-clause-wide c =
@@ -61,4 +61,4 @@ returns-clause-wide c =
     let eb = simp to_z-of_z at c.quotient-2.ensures in
     let f = factors c.args.k c.args.r.now c.args.s.now c.entry-up.result c.negated-down.result c.quotient.result c.quotient-2.result c.gcd-shared.result c.unsigned_abs.result c.unsigned_abs-2.result
     c.requires.long c.entry-up.ensures ed ex ey c.gcd-shared.ensures.value ea eb in
-    λ is. f.wide ((simp to_z-of_z at c.blend.ensures.wide) is)
+    λ is. sym f.fit ∙ (simp to_z-of_z at c.blend.ensures.wide) is

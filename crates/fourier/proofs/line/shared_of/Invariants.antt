@@ -1,11 +1,12 @@
 use Rattle.std.proofs.Common.{◌≡◌, ◌≤◌, drop, length}
 use Rattle.linear_rows.specs.Cleaning.{row_gcd}
-use Rattle.fourier.proofs.line.Line.shared.Given as goal
+use Rattle.fourier.specs.Sparse.{spread}
+use Rattle.fourier.proofs.line.shared_of.Given as goal
 
 abbrev pub invariant-loop-i : goal.invariant-loop-i
 invariant-loop-i l = record {
-  value : l.shared ≡ row_gcd (drop l.i l.self);
-  place : l.i ≤ length l.self;
+  value : l.shared ≡ row_gcd (spread (drop l.i l.parts) l.tail);
+  place : l.i ≤ length l.parts;
 }
 
 abbrev pub decreases-loop-i : goal.decreases-loop-i
