@@ -1,22 +1,18 @@
 -- One more row among those that are kept.
-use Rattle.std.proofs.Common.{◌≡◌, ℕ, zero, suc, ℤ, pos, negsuc, List, [], ◌∷◌, ◌++◌, ◌+◌, ◌/◌, ◌<◌, ◌≤◌, ◌^◌, Bool, true, false, cond, not, map, take, drop, length, get_or, refl, sym, subst, ap, ◌∙◌, arith}
-use Rattle.std.specs.Prelude.{All, unsigned_abs, int_le, int_div, nat_lt, ◌&&◌, fold, filter, ◌+ℤ◌, ◌*ℤ◌}
-use Rattle.std.proofs.lemmas.Int.{ints}
-use Rattle.std.proofs.Math.Nat.{div-one, div-zero}
+use Rattle.std.proofs.Common.{◌≡◌, ℕ, zero, suc, ℤ, pos, negsuc, List, [], ◌∷◌, ◌++◌, ◌+◌, ◌/◌, ◌<◌, ◌≤◌, Bool, true, false, cond, map, take, drop, length, get_or, refl, sym, subst, ap, ◌∙◌, arith}
+use Rattle.std.specs.Prelude.{unsigned_abs, int_le, int_div}
+use Rattle.std.proofs.Math.Nat.{div-one}
 use lib.IntN.{neg_ℤ}
-use Rattle.exact128.specs.Fits.{Fits, fits}
 use Rattle.exact128.specs.Gcd.{gcd}
 use Rattle.exact128.specs.Sums.{entry}
-use Rattle.linear_rows.specs.Elimination.{scaled, added, crossed}
-use Rattle.linear_rows.specs.Cleaning.{row_gcd, reduced, agree, is_trivial, insert_row, cleaned}
+use Rattle.linear_rows.specs.Elimination.{crossed}
+use Rattle.linear_rows.specs.Cleaning.{row_gcd, reduced, agree, is_trivial, insert_row}
 use Rattle.fourier.specs.Blending.{blended}
 use Rattle.linear_rows.specs.Blown.{blend_fits, crossed_fits}
-use Rattle.fourier.specs.Adding.{insert_divided, insert_clean, add_row, add_rows}
-use Rattle.exact128.proofs.FitsLemmas.{both, either_bool}
+use Rattle.fourier.specs.Adding.{insert_divided, insert_clean, add_row}
 use Rattle.linear_rows.proofs.Cleanings.{none}
-use Rattle.std.specs.Cmp.Derive.{both_true}
-use Rattle.std.proofs.lemmas.Bool.{lt-ltb, le-ltb, ltb-true}
-use Rattle.fourier.proofs.NumberTests.{agree_from, zero_same}
+use Rattle.std.proofs.lemmas.Bool.{lt-ltb, le-ltb}
+use Rattle.fourier.proofs.NumberTests.{agree_from}
 use Rattle.linear_rows.proofs.Sequence.{entry-reduced}
 
 -- ---- insert_row at the first row that agrees

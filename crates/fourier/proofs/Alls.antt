@@ -1,5 +1,5 @@
 -- Tests of all numbers and rows.
-use Rattle.std.proofs.Common.{◌≡◌, ℕ, zero, suc, ℤ, pos, List, [], ◌∷◌, ◌<◌, ◌^◌, Bool, true, false, length, get_or, refl, sym, subst, ap, ◌∙◌, arith}
+use Rattle.std.proofs.Common.{◌≡◌, ℕ, zero, suc, ℤ, List, [], ◌∷◌, ◌<◌, ◌^◌, Bool, true, false, length, get_or, refl, arith}
 use Rattle.std.specs.Prelude.{All, ◌&&◌, unsigned_abs}
 use Rattle.std.specs.Cmp.Derive.{both_true}
 use Rattle.std.proofs.lemmas.Bool.{ltb-true}

@@ -1,6 +1,6 @@
 -- Bounds and values, a number or a row at a time.
-use Rattle.std.proofs.Common.{◌≡◌, ◌≢◌, ℕ, zero, suc, ℤ, pos, negsuc, List, [], ◌∷◌, ◌++◌, ◌+◌, ◌<◌, ◌≤◌, Bool, true, false, cond, Option, Some, None, map, drop, length, get_or, refl, sym, subst, ap, ◌∙◌, arith}
-use Rattle.std.specs.Prelude.{◌≤ℤ◌, ◌<ℤ◌, ◌*ℤ◌, int_lt, unsigned_abs, filter}
+use Rattle.std.proofs.Common.{◌≡◌, ◌≢◌, ℕ, zero, suc, ℤ, pos, List, [], ◌∷◌, ◌+◌, ◌<◌, ◌≤◌, Bool, true, false, cond, Option, Some, None, drop, length, get_or, refl, sym, ap, ◌∙◌, arith}
+use Rattle.std.specs.Prelude.{◌≤ℤ◌, ◌*ℤ◌, int_lt}
 use Rattle.std.specs.Ordering.{int_cmp, is_gt}
 use Rattle.std.specs.declared.cmp.Ordering.{Ordering}
 use Rattle.std.specs.declared.cmp.Ordering.TheVariants.{Less, Equal, Greater}
@@ -8,14 +8,13 @@ use Rattle.std.proofs.Math.Nat.{one-dvd}
 use Rattle.std.proofs.Math.Seq.{drop-cons}
 use Rattle.std.proofs.lemmas.Nat.Gcd.{same_from_IsGcd}
 use Rattle.std.proofs.lemmas.Int.{ints}
-use Rattle.std.proofs.lemmas.List.{get_or-map, length-map}
-use borrow.Author.Differences.{lt-true, lt-false}
+use borrow.Author.Differences.{lt-true}
 use Rattle.exact128.specs.Gcd.{gcd}
 use Rattle.exact128.specs.Sums.{entry}
 use Rattle.exact128.specs.Fractions.{Fraction, whole, then_do, product, quotient, sum, exceeds, shared_of, scaled_of, OrderFits}
 use Rattle.exact128.proofs.Gcds.{gcd_is}
 use Rattle.exact128.proofs.FitsLemmas.{either_bool}
-use Rattle.exact128.proofs.FractionFits.{exceeds_some, exceeds_none}
+use Rattle.exact128.proofs.FractionFits.{exceeds_some}
 use Rattle.exact128.proofs.FractionOrders.{same_order}
 use Rattle.linear_rows.specs.Elimination.{rising, is_positive}
 use Rattle.linear_rows.specs.Solving.{sum_on, negated, bound, greatest}

@@ -1,5 +1,5 @@
 -- A loop of steps.
-use Rattle.std.proofs.Common.{◌≡◌, ℕ, zero, suc, ℤ, List, [], ◌∷◌, ◌++◌, append_assoc, append-nil, ◌+◌, ◌<◌, ◌≤◌, Bool, true, false, cond, Option, Some, None, length, refl, sym, subst, ap, ◌∙◌, arith}
+use Rattle.std.proofs.Common.{◌≡◌, ℕ, zero, suc, ℤ, List, [], ◌∷◌, ◌++◌, append_assoc, append-nil, ◌+◌, ◌<◌, ◌≤◌, Bool, true, false, cond, Some, None, refl, sym, subst, ap, ◌∙◌, arith}
 use Rattle.linear_rows.specs.Blown.{numbers_fit, step_fits, step_fault, fault_of, blown_from, blown_step, or_else}
 use Rattle.linear_rows.specs.Step.{eliminated, all_eliminated, columns}
 use Rattle.fourier.specs.Adding.{AllFit, AllLong}

@@ -1,6 +1,6 @@
 -- The test of multipliers with scale 0 is in numbers that fit exactly where `refutes_in` says so.
-use Rattle.std.proofs.Common.{◌≡◌, ℕ, zero, suc, ℤ, pos, negsuc, List, [], ◌∷◌, ◌+◌, ◌<◌, ◌≤◌, ◌+ℤ◌, ◌-ℤ◌, ◌*ℤ◌, Bool, true, false, inl, inr, ◌⊎◌, map, take, length, refl, sym, subst, ap, ◌∙◌, arith}
-use Rattle.std.specs.Prelude.{◌≤ℤ◌, ◌<ℤ◌, ◌&&◌}
+use Rattle.std.proofs.Common.{◌≡◌, ℕ, zero, suc, ℤ, pos, List, [], ◌∷◌, ◌+◌, ◌<◌, ◌≤◌, ◌+ℤ◌, ◌-ℤ◌, ◌*ℤ◌, true, false, inl, inr, ◌⊎◌, take, length, refl, sym, subst, ◌∙◌, arith}
+use Rattle.std.specs.Prelude.{◌&&◌}
 use Rattle.std.specs.Cmp.Derive.{both_true}
 use Rattle.std.proofs.lemmas.Int.{ints}
 use Rattle.std.proofs.lemmas.List.{length-map}
@@ -8,8 +8,8 @@ use Rattle.exact128.specs.Fits.{Fits, fits}
 use Rattle.exact128.specs.Sums.{entry, dot, DotFits}
 use Rattle.exact128.proofs.FitsLemmas.{to_fits, of_fits, both, either_bool}
 use Rattle.linear_rows.specs.Rows.{column}
-use Rattle.linear_rows.specs.Proves.{goal_number, rest_number, ColumnFits, Refutes}
-use Rattle.linear_rows.specs.Verdict.{ColumnSays, FirstSays, Says}
+use Rattle.linear_rows.specs.Proves.{goal_number, ColumnFits, Refutes}
+use Rattle.linear_rows.specs.Verdict.{Says}
 use Rattle.linear_rows.specs.Solving.{sums_fit, refutes_in}
 use Rattle.linear_rows.specs.declared.multipliers.Proof.TheVariants.{Holds, Fails, Wide}
 

@@ -1,12 +1,12 @@
 -- One step, as an elimination of one variable.
-use Rattle.std.proofs.Common.{◌≡◌, ℕ, zero, suc, ℤ, pos, List, [], ◌∷◌, ◌+◌, ◌<◌, ◌≤◌, Bool, true, false, Option, Some, None, map, length, refl, sym, subst, ap, ◌∙◌, arith}
+use Rattle.std.proofs.Common.{◌≡◌, ℕ, ℤ, pos, List, [], ◌∷◌, ◌+◌, ◌≤◌, Bool, true, false, Some, None, length, refl, ap, arith}
 use Rattle.std.specs.Prelude.{All, ◌↔◌}
 use Rattle.std.proofs.lemmas.List.Elements.{All-nil, All-cons, All-head, All-tail}
 use Rattle.exact128.specs.Sums.{entry}
 use Rattle.linear_rows.specs.Rows.{HoldsOn}
 use Rattle.linear_rows.specs.Plain.{plain_row, plain_rows, HaveWidth}
 use Rattle.linear_rows.specs.Step.{eliminated, HasFloor}
-use Rattle.linear_rows.specs.Blown.{numbers_fit, step_fits, step_fault, fault_of, blown_step, or_else}
+use Rattle.linear_rows.specs.Blown.{numbers_fit, step_fault, blown_step, or_else}
 use Rattle.linear_rows.specs.declared.row.Row.{Row}
 use Rattle.linear_rows.proofs.Members.{to_All}
 use Rattle.linear_rows.proofs.Whole.{left_on, kept_on, back_on}

@@ -1,19 +1,18 @@
 -- Loops that add the rows of a list with a property.
-use Rattle.std.proofs.Common.{◌≡◌, ℕ, zero, suc, ℤ, pos, negsuc, List, [], ◌∷◌, ◌++◌, ◌+◌, ◌<◌, ◌≤◌, Bool, true, false, cond, map, take, drop, length, get_or, refl, sym, subst, ap, ◌∙◌, arith, ◌^◌, ◌/◌}
-use Rattle.std.specs.Prelude.{All, fold, filter, ◌&&◌, ◌≤ℤ◌, ◌<ℤ◌, unsigned_abs, ◌+ℤ◌, ◌*ℤ◌}
+use Rattle.std.proofs.Common.{◌≡◌, ℕ, zero, suc, ℤ, pos, List, [], ◌∷◌, ◌++◌, ◌+◌, ◌<◌, ◌≤◌, Bool, true, false, cond, map, take, length, get_or, refl, sym, subst, ap, ◌∙◌, arith, ◌^◌, ◌/◌}
+use Rattle.std.specs.Prelude.{All, fold, filter, ◌&&◌, unsigned_abs, ◌+ℤ◌, ◌*ℤ◌}
 use Rattle.std.specs.List.{flat_map}
 use Rattle.std.specs.Cmp.Derive.{both_true}
-use Rattle.std.proofs.lemmas.Int.{ints}
 use Rattle.exact128.specs.Fits.{Fits, fits}
 use Rattle.exact128.specs.Sums.{entry}
-use Rattle.linear_rows.specs.Elimination.{crossed, is_positive, is_negative, is_zero, falling, rising, without}
+use Rattle.linear_rows.specs.Elimination.{crossed}
 use Rattle.linear_rows.specs.Blown.{all_of, crossed_fits, blend_fits}
 use Rattle.fourier.specs.Blending.{blended}
 use Rattle.fourier.specs.Adding.{add_row, add_rows, AllFit, AllLong}
 use Rattle.exact128.specs.Gcd.{gcd}
 use Rattle.std.proofs.lemmas.Bool.{ltb-true}
 use Rattle.std.proofs.lemmas.List.Elements.{All-cons}
-use Rattle.exact128.proofs.FitsLemmas.{both, either_bool}
+use Rattle.exact128.proofs.FitsLemmas.{both}
 use Rattle.fourier.proofs.NumberTests.{entry_fits}
 
 -- the state after the items so far: one step each, and each passes

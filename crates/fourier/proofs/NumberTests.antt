@@ -1,9 +1,7 @@
 -- What the tests of rows come to.
-use Rattle.std.proofs.Common.{◌≡◌, ℕ, zero, suc, ℤ, pos, negsuc, List, [], ◌∷◌, ◌++◌, ◌+◌, ◌<◌, ◌≤◌, ◌^◌, Bool, true, false, map, take, drop, length, get_or, refl, sym, subst, ap, ◌∙◌, arith, below_more}
-use Rattle.std.specs.Prelude.{neg_ℤ, All, unsigned_abs, int_le, int_div, ◌&&◌}
+use Rattle.std.proofs.Common.{◌≡◌, ℕ, zero, suc, ℤ, pos, negsuc, List, [], ◌∷◌, ◌++◌, ◌+◌, ◌<◌, ◌^◌, Bool, true, false, map, take, drop, length, refl, sym, subst, ap, ◌∙◌, arith}
+use Rattle.std.specs.Prelude.{neg_ℤ, All, unsigned_abs, int_le}
 use Rattle.std.specs.Cmp.Derive.{both_true}
-use Rattle.std.proofs.lemmas.Int.{ints}
-use Rattle.std.proofs.lemmas.List.{take_more}
 use Rattle.exact128.specs.Fits.{Fits}
 use Rattle.exact128.specs.Gcd.{gcd}
 use Rattle.exact128.proofs.Gcds.{gcd-zero, gcd-le}
@@ -11,7 +9,6 @@ use Rattle.linear_rows.specs.Elimination.{is_zero}
 use Rattle.exact128.specs.Sums.{entry}
 use Rattle.linear_rows.specs.Cleaning.{row_gcd, agree, is_trivial, int_same}
 use Rattle.linear_rows.specs.Equation.{negates}
-use Rattle.exact128.proofs.FitsLemmas.{both}
 use Rattle.linear_rows.proofs.Cleanings.{same_to, agree_at}
 use Rattle.linear_rows.proofs.Equations.{negates_at}
 

@@ -1,15 +1,14 @@
 -- How a solving ends.
-use Rattle.std.proofs.Common.{◌≡◌, ℕ, zero, suc, ℤ, pos, negsuc, List, [], ◌∷◌, ◌++◌, ◌+◌, ◌<◌, ◌≤◌, Bool, true, false, cond, Option, Some, None, Result, Ok, Err, map, drop, length, get_or, refl, sym, subst, ap, ◌∙◌, arith, inl, inr, ◌⊎◌}
-use Rattle.std.specs.Prelude.{All, IfOk, ◌&&◌}
+use Rattle.std.proofs.Common.{◌≡◌, ℕ, zero, suc, ℤ, pos, List, [], ◌∷◌, ◌+◌, ◌<◌, ◌≤◌, Bool, true, false, cond, Option, Some, None, Result, Ok, Err, drop, length, get_or, refl, sym, subst, ap, ◌∙◌, arith, inl, inr}
+use Rattle.std.specs.Prelude.{All, IfOk}
 use Rattle.std.proofs.lemmas.List.Elements.{All-nil, All-cons}
 use Rattle.exact128.specs.Fractions.{then_do}
 use Rattle.linear_rows.specs.Members.{In}
-use Rattle.linear_rows.specs.Rows.{IsPoint}
 use Rattle.linear_rows.specs.Proves.{Refutes}
 use Rattle.linear_rows.specs.Blown.{numbers_fit, step_fits, step_fault, fault_of, blown_from, blown_step, or_else}
 use Rattle.linear_rows.specs.Step.{eliminated, all_eliminated, columns}
-use Rattle.linear_rows.specs.Solving.{start_rows, values_of, whole_values, common_of, made_whole, refutes_in, found_of, end_of, solved_by, solution, Solution}
-use Rattle.linear_rows.specs.Solving.Solution.{Blown, Found, Refuted}
+use Rattle.linear_rows.specs.Solving.{start_rows, values_of, whole_values, common_of, made_whole, refutes_in, found_of, end_of, solved_by, solution}
+use Rattle.linear_rows.specs.Solving.Solution.{Blown, Refuted}
 use Rattle.linear_rows.proofs.Members.{to_All}
 use Rattle.linear_rows.proofs.Founds.{found_holds}
 use Rattle.linear_rows.proofs.Refutes.{start_carries, left_refutes, refuted_refutes}

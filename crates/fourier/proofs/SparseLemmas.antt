@@ -1,8 +1,7 @@
 -- Lists of numbers behind zeros, a part at a time.
-use Rattle.std.proofs.Common.{◌≡◌, ℕ, zero, suc, ℤ, pos, List, [], ◌∷◌, ◌++◌, ◌+◌, ◌-◌, ◌<◌, ◌≤◌, ◌^◌, ◌+ℤ◌, ◌*ℤ◌, Bool, true, false, map, drop, length, get_or, refl, sym, subst, ap, ◌∙◌, arith, append_assoc, length-append}
-use Rattle.std.specs.Prelude.{All, ◌&&◌, unsigned_abs}
+use Rattle.std.proofs.Common.{◌≡◌, ℕ, zero, suc, ℤ, pos, List, [], ◌∷◌, ◌++◌, ◌+◌, ◌-◌, ◌<◌, ◌≤◌, ◌+ℤ◌, ◌*ℤ◌, Bool, true, false, map, drop, length, get_or, refl, sym, ap, ◌∙◌, arith, append_assoc, length-append}
+use Rattle.std.specs.Prelude.{◌&&◌, unsigned_abs}
 use Rattle.std.proofs.Math.Seq.{drop-cons}
-use Rattle.std.proofs.Math.Nat.{one-dvd}
 use Rattle.std.proofs.lemmas.Int.{ints}
 use Rattle.std.proofs.lemmas.List.{append-nil, get_or_default}
 use Rattle.std.proofs.lemmas.Nat.Gcd.{same_from_IsGcd, dvd-zero, dvd_refl}
@@ -237,9 +236,9 @@ blend_here a b x y n r s R S er es = ap (λ l. blend_fits a b l s) er ∙ ap (bl
 pub not_all : (x y z : ℤ) → (Fits x × Fits y × Fits z → ⊥) → (fits x && (fits y && fits z)) ≡ false
 not_all x y z none =
     either_bool (fits x && (fits y && fits z)) (λ e.
-      let p = both (fits x) (fits y && fits z) e in
-      let q = both (fits y) (fits z) p.1 in
-      none (of_fits x p.0, of_fits y q.0, of_fits z q.1))
+    let p = both (fits x) (fits y && fits z) e in
+    let q = both (fits y) (fits z) p.1 in
+    none (of_fits x p.0, of_fits y q.0, of_fits z q.1))
 
 pub all_three : (x y z : ℤ) → Fits x × Fits y × Fits z → (fits x && (fits y && fits z)) ≡ true
 all_three x y z h = rw (to_fits x h.0, to_fits y h.1, to_fits z h.2) refl

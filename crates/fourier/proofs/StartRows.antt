@@ -1,39 +1,33 @@
 -- The rows that are solved, row by row.
-use Rattle.std.proofs.Common.{◌≡◌, ℕ, zero, suc, ℤ, pos, negsuc, List, [], ◌∷◌, ◌++◌, ◌+◌, ◌<◌, ◌≤◌, Bool, true, false, nat_eq, map, take, length, get_or, refl, sym, subst, ap, ◌∙◌, arith, inl, inr, append_assoc}
-use Rattle.std.proofs.lemmas.List.{take_more, take_all, get_or-map, length-map}
-use Rattle.std.proofs.lemmas.Bool.Decides.{eqb_tells}
+use Rattle.std.proofs.Common.{◌≡◌, ℕ, zero, suc, ℤ, pos, negsuc, List, [], ◌∷◌, ◌++◌, ◌+◌, ◌-◌, ◌<◌, take, length, get_or, refl, sym, ap, ◌∙◌, arith, append_assoc}
+use Rattle.std.proofs.lemmas.List.{get_or-map, length-map}
 use Rattle.exact128.specs.Sums.{entry}
 use Rattle.linear_rows.specs.Plain.{plain_row, plain_rows}
 use Rattle.linear_rows.specs.Solving.{zeros, units, floors, coefficients, carried, start_rows}
 use Rattle.linear_rows.specs.declared.row.Row.{Row}
-use Rattle.linear_rows.proofs.Starts.{entry-units, entry-units-other}
-use Rattle.fourier.specs.Units.{unit_at}
+use Rattle.fourier.proofs.SparseLemmas.{length-zeros, zeros-append}
 
 -- one more element behind what a loop has appended
 pub one_more : {A : Type 0} (old before after cur next : List A) (x : A) → cur ≡ old ++ before → next ≡ cur ++ x ∷ [] → after ≡ before ++ x ∷ [] → next ≡ old ++ after
 one_more old before after cur next x ec en ea = en ∙ ap (λ l. l ++ x ∷ []) ec ∙ append_assoc old before (x ∷ []) ∙ ap (λ l. old ++ l) (sym ea)
-
-length-zeros : (n : ℕ) → length (zeros n) ≡ n
-length-zeros zero = refl
-length-zeros (suc n) = ap suc (length-zeros n)
 
 pub length-units : (n i : ℕ) → length (units n i) ≡ n
 length-units zero i = refl
 length-units (suc n) zero = ap suc (length-zeros n)
 length-units (suc n) (suc i) = ap suc (length-units n i)
 
-entry-unit_at : (n p i : ℕ) → i < n → entry (units n p) i ≡ unit_at i p
-entry-unit_at n p i h = elim (eqb_tells i p) [
-  | inl y ↦ rw y.0 (ap (λ k. entry (units n k) i) (sym y.1) ∙ entry-units n i h)
-  | inr y ↦ rw y.0 (entry-units-other n p i y.1)
-]
+-- a unit row is zeros, 1, and zeros
+units_parts : (long place : ℕ) → place < long → units long place ≡ zeros place ++ pos 1 ∷ zeros (long - place - 1)
+units_parts zero place h = absurd (omega arith)
+units_parts (suc n) zero h = let e : suc n - 0 - 1 ≡ n = omega arith in rw e refl
+units_parts (suc n) (suc p) h =
+    let e : suc n - suc p - 1 ≡ n - p - 1 = omega arith in
+    ap (λ l. pos 0 ∷ l) (units_parts n p (omega arith) ∙ ap (λ k. zeros p ++ pos 1 ∷ zeros k) (sym e))
 
--- one more number of a unit row
-pub take-units : (n p i : ℕ) → i < n → take (i + 1) (units n p) ≡ take i (units n p) ++ unit_at i p ∷ []
-take-units n p i h = take_more (units n p) i (pos 0) (omega (arith, length-units n p)) ∙ ap (λ x. take i (units n p) ++ x ∷ []) (entry-unit_at n p i h)
-
-pub units_all : (n p i : ℕ) → n < i + 1 → take i (units n p) ≡ units n p
-units_all n p i h = take_all i (units n p) (omega (arith, length-units n p))
+pub units_pushed : (long place : ℕ) (old first second third : List ℤ) → place < long → first ≡ old ++ zeros place → second ≡ first ++ pos 1 ∷ [] → third ≡ second ++ zeros (long - place - 1) → third ≡ old ++ units long place
+units_pushed long place old first second third h ea eb ec =
+    let rest = zeros (long - place - 1) in
+    ec ∙ ap (λ l. l ++ rest) (eb ∙ ap (λ l. l ++ pos 1 ∷ []) ea) ∙ append_assoc (old ++ zeros place) (pos 1 ∷ []) rest ∙ append_assoc old (zeros place) (pos 1 ∷ rest) ∙ ap (λ l. old ++ l) (sym (units_parts long place h))
 
 -- one more variable
 floors-more : (n i long : ℕ) → floors (suc n) i long ≡ floors n i long ++ (pos 0 ∷ units long (i + n)) ∷ []
@@ -69,27 +63,18 @@ given_on many i rows r line h e el =
     carried-more many 0 i (plain_rows rows) (plain_row r) lt at ∙ rw (z, el) refl
 
 -- a unit row and numbers 0 behind it
-zeros-append : (a b : ℕ) → zeros (a + b) ≡ zeros a ++ zeros b
-zeros-append zero b = let e : 0 + b ≡ b = omega arith in ap zeros e
-zeros-append (suc a) b = let e : suc a + b ≡ suc (a + b) = omega arith in ap zeros e ∙ ap (λ l. pos 0 ∷ l) (zeros-append a b)
-
-units-past : (n i : ℕ) → n ≤ i → units n i ≡ zeros n
-units-past zero i h = refl
-units-past (suc n) zero h = absurd (omega arith)
-units-past (suc n) (suc i) h = ap (λ l. pos 0 ∷ l) (units-past n i (omega arith))
-
-pub units-append : (a b p : ℕ) → p < a → units (a + b) p ≡ units a p ++ units b b
+pub units-append : (a b p : ℕ) → p < a → units (a + b) p ≡ units a p ++ zeros b
 units-append zero b p h = absurd (omega arith)
 units-append (suc a) b zero h =
     let e : suc a + b ≡ suc (a + b) = omega arith in
-    ap (λ k. units k 0) e ∙ ap (λ l. pos 1 ∷ l) (zeros-append a b ∙ ap (λ l. zeros a ++ l) (sym (units-past b b (omega arith))))
+    ap (λ k. units k 0) e ∙ ap (λ l. pos 1 ∷ l) (zeros-append a b)
 units-append (suc a) b (suc p) h =
     let e : suc a + b ≡ suc (a + b) = omega arith in
     ap (λ k. units k (suc p)) e ∙ ap (λ l. pos 0 ∷ l) (units-append a b p (omega arith))
 
-pub unit_line_is : (b : ℤ) (count many place : ℕ) (first second third : List ℤ) → place < count → first ≡ [] ++ b ∷ [] → second ≡ first ++ units count place → third ≡ second ++ units many many → third ≡ b ∷ units (count + many) place
+pub unit_line_is : (b : ℤ) (count many place : ℕ) (first second third : List ℤ) → place < count → first ≡ [] ++ b ∷ [] → second ≡ first ++ units count place → third ≡ second ++ zeros many → third ≡ b ∷ units (count + many) place
 unit_line_is b count many place first second third h ea eb ec =
-    ec ∙ ap (λ l. l ++ units many many) (eb ∙ ap (λ l. l ++ units count place) ea) ∙ ap (λ l. b ∷ l) (sym (units-append count many place h))
+    ec ∙ ap (λ l. l ++ zeros many) (eb ∙ ap (λ l. l ++ units count place) ea) ∙ ap (λ l. b ∷ l) (sym (units-append count many place h))
 
 pub given_line_is : (cs : List ℤ) (b : ℤ) (us first second third : List ℤ) → first ≡ pos 0 ∷ cs → second ≡ first ++ b ∷ [] → third ≡ second ++ us → third ≡ pos 0 ∷ (cs ++ b ∷ us)
 given_line_is cs b us first second third ea eb ec =

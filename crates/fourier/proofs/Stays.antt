@@ -1,7 +1,6 @@
 -- What a step leaves has numbers that fit, and as many in each row.
-use Rattle.std.proofs.Common.{◌≡◌, ℕ, zero, suc, ℤ, pos, negsuc, List, [], ◌∷◌, ◌++◌, ◌+◌, ◌/◌, ◌<◌, ◌≤◌, ◌^◌, Bool, true, false, cond, ◌||◌, Option, Some, None, map, length, get_or, refl, sym, subst, ap, ◌∙◌, arith, inl, inr, ◌⊎◌}
-use Rattle.std.specs.Prelude.{All, filter, unsigned_abs, ◌*ℤ◌, int_div, ◌&&◌, ◌≤ℤ◌, ◌<ℤ◌}
-use Rattle.std.specs.List.{flat_map}
+use Rattle.std.proofs.Common.{◌≡◌, ℕ, zero, suc, ℤ, pos, negsuc, List, [], ◌∷◌, ◌++◌, ◌+◌, ◌/◌, ◌≤◌, Bool, true, false, cond, ◌||◌, Option, Some, None, map, length, get_or, refl, sym, subst, ap, ◌∙◌, arith, inl, inr}
+use Rattle.std.specs.Prelude.{All, filter, unsigned_abs, ◌*ℤ◌, int_div}
 use Rattle.std.proofs.lemmas.Int.{ints}
 use Rattle.std.proofs.lemmas.List.Elements.{All-nil, All-cons, All-head, All-tail}
 use Rattle.std.proofs.Math.Nat.{div-le_self}
@@ -10,7 +9,7 @@ use Rattle.exact128.specs.Fits.{Fits}
 use Rattle.exact128.specs.Gcd.{gcd}
 use Rattle.exact128.specs.Sums.{entry}
 use Rattle.linear_rows.specs.Elimination.{scaled, added, crossed, crossings, rising, falling, without, is_positive, is_negative, is_zero}
-use Rattle.linear_rows.specs.Cleaning.{row_gcd, reduced}
+use Rattle.linear_rows.specs.Cleaning.{row_gcd}
 use Rattle.linear_rows.specs.Equation.{equation_from, other_places, solved_row, solved_rows, combinations_by, step}
 use Rattle.linear_rows.specs.Blown.{all_of, crossed_fits, solved_fits, crossings_fit, solved_rows_fit, combinations_fit, step_fits}
 use Rattle.linear_rows.specs.Step.{eliminated}
@@ -20,7 +19,7 @@ use Rattle.linear_rows.proofs.Members.{of-filter, of-append, of-map, of-flat_map
 use Rattle.exact128.proofs.FitsLemmas.{both}
 use Rattle.linear_rows.proofs.Places.{IsEquation, equation_is, in-at, of-others}
 use Rattle.linear_rows.proofs.Whole.{of-cleaned}
-use Rattle.linear_rows.proofs.Origins.{Pair, Origin, step_origin}
+use Rattle.linear_rows.proofs.Origins.{step_origin}
 use Rattle.fourier.proofs.Loops.{crossed_fit}
 
 all_in : {X : Type 0} (p : X → Bool) (xs : List X) (x : X) → all_of p xs ≡ true → In x xs → p x ≡ true

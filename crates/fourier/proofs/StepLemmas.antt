@@ -1,14 +1,14 @@
 -- Rows that are added one after the other are cleaned, unless there are too many.
-use Rattle.std.proofs.Common.{◌≡◌, ℕ, zero, suc, ℤ, pos, negsuc, List, [], ◌∷◌, ◌++◌, ◌+◌, ◌<◌, ◌≤◌, Bool, true, false, cond, not, ◌||◌, Option, Some, None, map, length, get_or, refl, sym, subst, ap, ◌∙◌, arith, length-append, inl, inr, ◌⊎◌}
-use Rattle.std.specs.Prelude.{fold, filter, nat_lt, int_le, ◌≤ℤ◌, ◌<ℤ◌}
+use Rattle.std.proofs.Common.{◌≡◌, ℕ, suc, ℤ, List, [], ◌∷◌, ◌++◌, ◌+◌, ◌<◌, ◌≤◌, Bool, true, false, cond, not, Some, None, map, length, refl, sym, subst, ap, ◌∙◌, arith, length-append, inl, inr, ◌⊎◌}
+use Rattle.std.specs.Prelude.{fold, filter, int_le}
 use Rattle.std.proofs.lemmas.Bool.{lt-ltb, le-ltb}
 use Rattle.exact128.specs.Sums.{entry}
-use Rattle.linear_rows.specs.Elimination.{without, is_positive}
-use Rattle.linear_rows.specs.Cleaning.{reduced, agree, is_trivial, insert_row, cleaned}
+use Rattle.linear_rows.specs.Elimination.{without}
+use Rattle.linear_rows.specs.Cleaning.{reduced, agree, is_trivial, insert_row}
 use Rattle.linear_rows.specs.Equation.{equation_from, combinations_by, step}
-use Rattle.linear_rows.specs.Blown.{step_fits, step_fault, fault_of, solved_rows_fit, crossings_fit}
+use Rattle.linear_rows.specs.Blown.{step_fits, step_fault, solved_rows_fit, crossings_fit}
 use Rattle.linear_rows.specs.Step.{eliminated}
-use Rattle.fourier.specs.Adding.{insert_divided, insert_clean, add_row, add_rows}
+use Rattle.fourier.specs.Adding.{insert_clean, add_row, add_rows}
 
 clean_fold : (m : ℕ) (kept rows : List (List ℤ)) → fold (insert_clean m) kept rows ≡ fold (insert_row m) kept (filter (λ r. not (is_trivial m r)) (map reduced rows))
 unfolding insert_clean

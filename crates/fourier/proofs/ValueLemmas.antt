@@ -1,6 +1,6 @@
 -- Values, common multiples and checks, a step at a time.
-use Rattle.std.proofs.Common.{◌≡◌, ℕ, zero, suc, ℤ, pos, negsuc, List, [], ◌∷◌, ◌++◌, ◌+◌, ◌-◌, ◌*◌, ◌/◌, ◌<◌, ◌≤◌, Bool, true, false, cond, Option, Some, None, map, drop, length, get_or, refl, sym, subst, ap, ◌∙◌, arith, append_assoc}
-use Rattle.std.specs.Prelude.{◌≤ℤ◌, ◌*ℤ◌, ◌+ℤ◌, unsigned_abs, ◌&&◌, filter, SomeIff, IfSome}
+use Rattle.std.proofs.Common.{◌≡◌, ℕ, zero, suc, ℤ, pos, negsuc, List, [], ◌∷◌, ◌++◌, ◌+◌, ◌*◌, ◌/◌, ◌<◌, ◌≤◌, Bool, true, false, Option, Some, None, drop, length, get_or, refl, sym, subst, ap, ◌∙◌, arith, append_assoc}
+use Rattle.std.specs.Prelude.{◌≤ℤ◌, ◌*ℤ◌, ◌+ℤ◌, unsigned_abs, ◌&&◌, SomeIff, IfSome}
 use Rattle.std.specs.Cmp.Derive.{both_true}
 use Rattle.std.proofs.Math.Seq.{drop-cons}
 use Rattle.std.proofs.Math.Nat.{mul-div_cancel'}
@@ -16,7 +16,7 @@ use Rattle.exact128.proofs.FractionSums.{abs_pos}
 use Rattle.exact128.proofs.FitsLemmas.{to_fits, of_fits, both, either_bool}
 use Rattle.linear_rows.specs.Elimination.{rising}
 use Rattle.linear_rows.specs.Step.{eliminated, columns}
-use Rattle.linear_rows.specs.Solving.{greatest, values_of, common_of, made_whole, whole_values, sums_fit, zeros}
+use Rattle.linear_rows.specs.Solving.{greatest, values_of, common_of, made_whole, sums_fit, zeros}
 use Rattle.linear_rows.specs.Plain.{plain_row}
 use Rattle.linear_rows.specs.declared.row.Row.{Row}
 use Rattle.fourier.specs.History.{history_of, values_back}

@@ -1,5 +1,5 @@
 -- A step's rows, cleaned one after the other, so that never more than 4,097 rows are kept.
-use Rattle.std.specs.Prelude.{◌≡◌, ℕ, ℤ, List, [], ◌∷◌, Bool, true, false, nat_lt, length, fold, All, ◌||◌, if◌then◌else◌}
+use Rattle.std.specs.Prelude.{◌≡◌, ℕ, ℤ, List, Bool, true, nat_lt, length, fold, All, ◌||◌, if◌then◌else◌}
 use Rattle.exact128.specs.Fits.{Fits}
 use Rattle.exact128.specs.Sums.{entry}
 use Rattle.linear_rows.specs.Elimination.{is_positive, is_negative}

@@ -1,5 +1,5 @@
 -- The lists of rows before each step, and the values that are chosen from them in the reverse order.
-use Rattle.std.specs.Prelude.{◌≡◌, ℕ, ℤ, pos, List, [], ◌∷◌, ◌+◌, Bool, true, false, Option, Some, None, Result, Ok, Err, All, ◌<◌, length}
+use Rattle.std.specs.Prelude.{◌≡◌, ℕ, ℤ, pos, List, [], ◌∷◌, Option, Some, None, Result, Ok, Err, All, ◌<◌, length}
 use Rattle.exact128.specs.Fractions.{Fraction, whole, then_do}
 use Rattle.linear_rows.specs.Elimination.{rising}
 use Rattle.linear_rows.specs.Step.{eliminated, all_eliminated}

@@ -2,7 +2,6 @@ pub mod Blending
 pub mod Adding
 pub mod Saying
 pub mod History
-pub mod Units
 pub mod Exceeding
 pub mod Solves
 pub mod Sparse

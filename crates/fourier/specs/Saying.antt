@@ -1,6 +1,6 @@
 -- What the calls answer, in the words of elimination and solving.
-use Rattle.std.specs.Prelude.{◌≡◌, ℕ, ℤ, List, [], ◌∷◌, true, false, Option, Some, None, Result, Ok, Err}
-use Rattle.linear_rows.specs.Step.{eliminated, all_eliminated}
+use Rattle.std.specs.Prelude.{◌≡◌, ℕ, ℤ, List, [], ◌∷◌, true, false, Some, None, Result, Ok, Err}
+use Rattle.linear_rows.specs.Step.{eliminated}
 use Rattle.linear_rows.specs.Blown.{step_fault, blown_step}
 use Rattle.linear_rows.specs.Plain.{plain_rows}
 use Rattle.linear_rows.specs.declared.row.Rows.{Rows}

@@ -1,10 +1,10 @@
 -- What solving answers, in the words of linear_rows.
-use Rattle.std.specs.Prelude.{◌≡◌, ℕ, ℤ, pos, negsuc, List, [], ◌∷◌, Option, Some, None, Result, Ok, Err, length}
+use Rattle.std.specs.Prelude.{◌≡◌, ℕ, ℤ, pos, List, Option, Result, Ok, Err, length}
 use Rattle.exact128.specs.Fractions.{then_do}
 use Rattle.linear_rows.specs.Rows.{IsPoint}
 use Rattle.linear_rows.specs.Proves.{Refutes}
 use Rattle.linear_rows.specs.Step.{columns}
-use Rattle.linear_rows.specs.Solving.{Solution, solution, common_of, made_whole}
+use Rattle.linear_rows.specs.Solving.{Solution, common_of, made_whole}
 use Rattle.linear_rows.specs.Solving.Solution.{Blown, Found, Refuted}
 use Rattle.fourier.specs.History.{values_back}
 use Rattle.fourier.specs.declared.fault.ElimFault.{ElimFault}

@@ -8,7 +8,7 @@ ghost use Rattle.linear_rows.specs.Solving.{zeros};
 ghost use Rattle.fourier.specs.Blending.{blended};
 ghost use Rattle.fourier.specs.Sparse.{spread};
 
-use crate::part::{place_at, walk, Part};
+use crate::part::{Part, place_at, walk};
 use exact128::{divided, fits, gcd, plus, times};
 use linear_rows::RowFault;
 use std::alloc::{AllocError, Global};
@@ -139,7 +139,15 @@ impl Line {
         ensures fits { IfOk result (λ _. blend_fits a b r.now s.now ≡ true) }
         ensures wide { result ≡ Err RowFault.Wide → blend_fits a b r.now s.now ≡ false }
     {
-        merge(alloc, a, b, r.parts.as_slice(), r.tail, s.parts.as_slice(), s.tail)
+        merge(
+            alloc,
+            a,
+            b,
+            r.parts.as_slice(),
+            r.tail,
+            s.parts.as_slice(),
+            s.tail,
+        )
     }
 }
 

@@ -22,7 +22,11 @@ pub fn place_at(parts: &[Part], tail: usize, index: usize) -> Place
     ensures index { result.index ≡ index }
     ensures before { result.before ≡ first_zeros (drop index parts.now) tail }
 {
-    let before = if index < parts.len() { parts[index].zeros } else { tail };
+    let before = if index < parts.len() {
+        parts[index].zeros
+    } else {
+        tail
+    };
     Place { index, before }
 }
 
@@ -34,7 +38,13 @@ pub fn walk(parts: &[Part], tail: usize, place: Place, over: usize) -> (i128, Pl
 {
     if over < place.before {
         let before = place.before - over - 1;
-        return (0, Place { index: place.index, before });
+        return (
+            0,
+            Place {
+                index: place.index,
+                before,
+            },
+        );
     }
     let number = parts[place.index].number;
     (number, place_at(parts, tail, place.index + 1))

@@ -2,7 +2,6 @@
 ghost use Rattle.std.specs.Prelude.{◌≡◌, pos, ◌∷◌, ◌++◌, ◌+◌, ◌<◌, ◌^◌, length, IfOk, OnOk, [], suc};
 ghost use Rattle.linear_rows.specs.Plain.{plain_row, plain_rows};
 ghost use Rattle.linear_rows.specs.Solving.{units, floors, carried, start_rows};
-ghost use Rattle.fourier.specs.Units.{unit_at};
 
 use crate::line::Line;
 use crate::lines::Lines;
@@ -65,12 +64,13 @@ fn unit_line(
     let mut line = Line::new(alloc);
     line.push(constant)?;
     push_units(&mut line, count, place)?;
-    push_units(&mut line, many, many)?;
+    line.push_zeros(many)?;
     Ok(line)
 }
 
 // A given row, at a place of so many.
 fn given_line(alloc: Global, row: &Row, many: usize, place: usize) -> Result<Line, AllocError>
+    requires { place < many }
     ensures { IfOk result (λ line. line ≡ pos 0 ∷ (row.now.coeffs ++ row.now.constant ∷ units many place)) }
 {
     let mut line = Line::new(alloc);
@@ -85,17 +85,11 @@ fn given_line(alloc: Global, row: &Row, many: usize, place: usize) -> Result<Lin
 
 // Appends so many numbers, 1 at a place and else 0.
 fn push_units(line: &mut Line, long: usize, place: usize) -> Result<(), AllocError>
+    requires { place < long }
     ensures { OnOk result (line.new ≡ line.old ++ units long place) }
 {
-    for i in 0..long {
-        line.push(unit(i, place))?;
-    }
+    line.push_zeros(place)?;
+    line.push(1)?;
+    line.push_zeros(long - place - 1)?;
     Ok(())
-}
-
-// 1 where two places are one, and else 0.
-fn unit(i: usize, place: usize) -> i128
-    ensures { result ≡ unit_at i place }
-{
-    if i == place { 1 } else { 0 }
 }

@@ -1,4 +1,4 @@
-use Rattle.std.proofs.Common.{◌≡◌, ◌∙◌, ap, Some, sym}
+use Rattle.std.proofs.Common.{◌∙◌, ap, Some, sym}
 use Rattle.rational128.specs.Formulas.{fraction_of}
 use Rattle.exact128.proofs.FractionFits.{exceeds_none}
 use Rattle.fourier.proofs.BoundLemmas.{exceeds_is_gt}

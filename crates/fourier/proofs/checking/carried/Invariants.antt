@@ -1,4 +1,4 @@
-use Rattle.std.proofs.Common.{◌≡◌, ◌++◌, take, drop}
+use Rattle.std.proofs.Common.{◌≡◌, ◌++◌, drop}
 use Rattle.fourier.proofs.checking.carried.Given as goal
 
 abbrev pub invariant-loop-k : goal.invariant-loop-k

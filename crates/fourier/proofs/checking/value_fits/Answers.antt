@@ -1,8 +1,8 @@
-use Rattle.std.proofs.Common.{rules, ◌≡◌, ◌<◌, ◌≤◌, ◌+◌, arith, ap, sym, refl, ◌∙◌, length, get_or, pos}
+use Rattle.std.proofs.Common.{rules, ◌<◌, arith, refl, length, get_or, pos}
 use Rattle.std.specs.Int.{w128}
 use Rattle.std.specs.Prelude.{FitsSigned}
 use Rattle.std.proofs.lemmas.Int.{to_z-of_z}
-use Rattle.fourier.proofs.ValueLemmas.{fits_goes_on, fits_stops, fits_ends}
+use Rattle.fourier.proofs.ValueLemmas.{fits_goes_on, fits_stops}
 use Rattle.fourier.proofs.checking.value_fits.Goals as goal
 
 pub returns-in-None : goal.returns-in-None

@@ -1,6 +1,5 @@
-use Rattle.std.proofs.Common.{rules, ◌≡◌, ℕ, ◌<◌, ◌≤◌, length, sym, arith, ◌∙◌, subst, ap, OnOk}
+use Rattle.std.proofs.Common.{◌≡◌, ◌≤◌, length, arith, ◌∙◌, subst, OnOk}
 use Rattle.linear_rows.specs.Cleaning.{row_gcd, reduced}
-use Rattle.fourier.specs.Adding.{insert_divided}
 use Rattle.fourier.proofs.Adds.{add_full, add_zeros, add_clean, reduced_one, reduced_by}
 use Rattle.fourier.proofs.cleaning.add.Goals as goal
 

@@ -1,11 +1,10 @@
-use Rattle.std.proofs.Common.{rules, ◌≡◌, ◌<◌, length, take, true, false, arith, refl, ap, ◌∙◌, get_or, []}
+use Rattle.std.proofs.Common.{rules, ◌≡◌, ◌<◌, length, true, false, arith, refl, ap, ◌∙◌, get_or, []}
 use Rattle.std.specs.Int.{w128}
 use Rattle.std.specs.Prelude.{FitsSigned}
 use Rattle.std.proofs.lemmas.Int.{to_z-of_z}
 use Rattle.exact128.specs.Sums.{entry}
 use Rattle.linear_rows.specs.Elimination.{is_zero}
-use Rattle.fourier.specs.Adding.{add_row}
-use Rattle.fourier.proofs.Loops.{added_yes, added_no, added_all, at_fit}
+use Rattle.fourier.proofs.Loops.{added_yes, added_no, added_all}
 use Rattle.fourier.proofs.cleaning.add_without.Goals as goal
 use Rattle.fourier.proofs.cleaning.add_without.Goals.{then-is_zero+in_ok-row+in_ok-add, else-is_zero}
 

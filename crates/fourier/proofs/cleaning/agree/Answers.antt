@@ -1,8 +1,7 @@
-use Rattle.std.proofs.Common.{rules, ◌≡◌, ℕ, ◌<◌, ◌+◌, sym, arith, true, false}
+use Rattle.std.proofs.Common.{rules, sym, arith}
 use Rattle.std.specs.Int.{w128}
 use Rattle.std.specs.Prelude.{FitsSigned}
 use Rattle.std.proofs.lemmas.Int.{to_z-of_z}
-use Rattle.linear_rows.specs.Cleaning.{agree, int_same}
 use Rattle.fourier.proofs.NumberTests.{agree_from, agree_not}
 use Rattle.fourier.proofs.cleaning.agree.Goals as goal
 

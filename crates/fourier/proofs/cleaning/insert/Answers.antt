@@ -1,9 +1,9 @@
-use Rattle.std.proofs.Common.{rules, ◌≡◌, ℕ, suc, ◌∷◌, ◌++◌, ◌<◌, ◌≤◌, length, sym, arith, ◌∙◌, subst, ap, OnOk, true, false, get_or, take, drop, []}
+use Rattle.std.proofs.Common.{rules, ◌≡◌, ℕ, ◌∷◌, ◌++◌, ◌<◌, length, arith, ◌∙◌, subst, ap, OnOk, true, false, get_or, []}
 use Rattle.std.specs.Int.{w128}
 use Rattle.std.specs.Prelude.{FitsSigned, int_le}
 use Rattle.std.proofs.lemmas.Int.{to_z-of_z}
 use Rattle.exact128.specs.Sums.{entry}
-use Rattle.linear_rows.specs.Cleaning.{insert_row, agree}
+use Rattle.linear_rows.specs.Cleaning.{agree}
 use Rattle.fourier.proofs.Adds.{insert_keeps, insert_replaces, insert_appends}
 use Rattle.fourier.proofs.cleaning.insert.Goals as goal
 use Rattle.fourier.proofs.cleaning.insert.Goals.{then-place-len+else-at_most, else-place-len}

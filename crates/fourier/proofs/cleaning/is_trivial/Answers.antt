@@ -1,8 +1,7 @@
-use Rattle.std.proofs.Common.{rules, ◌≡◌, ℕ, ◌<◌, ◌+◌, sym, arith, true, false, pos, ◌∙◌, ap}
+use Rattle.std.proofs.Common.{rules, sym, arith, pos, ◌∙◌, ap}
 use Rattle.std.specs.Int.{w128}
 use Rattle.std.specs.Prelude.{FitsSigned, int_le}
 use Rattle.std.proofs.lemmas.Int.{to_z-of_z}
-use Rattle.linear_rows.specs.Elimination.{is_zero}
 use Rattle.fourier.proofs.NumberTests.{trivial_is, trivial_not}
 use Rattle.fourier.proofs.cleaning.is_trivial.Goals as goal
 

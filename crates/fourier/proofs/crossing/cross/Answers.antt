@@ -1,14 +1,10 @@
-use Rattle.std.proofs.Common.{rules, ◌≡◌, ℕ, ℤ, pos, ◌<◌, ◌≤◌, ◌/◌, length, sym, arith, ◌∙◌, subst, ap, OnOk, true, false, Ok, Err, Result}
+use Rattle.std.proofs.Common.{rules, ◌≡◌, sym, ◌∙◌, ap, true, Ok, Err, Result}
 use Rattle.std.specs.Int.{w128}
-use Rattle.std.specs.Prelude.{FitsSigned, unsigned_abs, IfOk, neg_ℤ}
+use Rattle.std.specs.Prelude.{FitsSigned, IfOk, neg_ℤ}
 use Rattle.std.proofs.lemmas.Int.{to_z-of_z}
-use Rattle.fourier.specs.declared.line.Line.{Line}
-use Rattle.linear_rows.specs.declared.combining.RowFault.{RowFault}
-use Rattle.linear_rows.specs.declared.combining.RowFault.TheVariants.{Wide}
 use Rattle.linear_rows.specs.Elimination.{crossed}
-use Rattle.fourier.specs.Blending.{blended}
 use Rattle.linear_rows.specs.Blown.{blend_fits, crossed_fits}
-use Rattle.fourier.proofs.Adds.{Factors, factors}
+use Rattle.fourier.proofs.Adds.{factors}
 use Rattle.fourier.proofs.crossing.cross.Goals as goal
 
 if_ok : {A E : Type 0} (r : Result A E) (P Q : A → Type 0) → ((a : A) → P a → Q a) → IfOk r P → IfOk r Q

@@ -1,4 +1,4 @@
-use Rattle.std.proofs.Common.{rules, ◌≡◌, ◌<◌, length, take, true, false, arith, refl, sym, ap, ◌∙◌, get_or, [], map, Err, List, ℤ}
+use Rattle.std.proofs.Common.{rules, ◌≡◌, ◌<◌, length, true, false, arith, sym, ap, ◌∙◌, get_or, []}
 use Rattle.std.specs.Int.{w128}
 use Rattle.std.specs.Prelude.{FitsSigned}
 use Rattle.std.proofs.lemmas.Int.{to_z-of_z}
@@ -6,7 +6,7 @@ use Rattle.exact128.specs.Sums.{entry}
 use Rattle.linear_rows.specs.Elimination.{is_negative, crossed, falling}
 use Rattle.linear_rows.specs.Blown.{crossed_fits}
 use Rattle.fourier.specs.Adding.{add_row}
-use Rattle.fourier.proofs.Loops.{Done, done_none, done_yes, done_no, done_all, not_all, at_fit, fold-map}
+use Rattle.fourier.proofs.Loops.{done_none, done_yes, done_no, done_all, not_all, fold-map}
 use Rattle.fourier.proofs.crossing.cross_falling.Goals as goal
 use Rattle.fourier.proofs.crossing.cross_falling.Goals.{then-is_negative+in-Ok, else-is_negative}
 

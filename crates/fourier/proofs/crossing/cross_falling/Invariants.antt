@@ -1,4 +1,4 @@
-use Rattle.std.proofs.Common.{◌≡◌, take}
+use Rattle.std.proofs.Common.{take}
 use Rattle.linear_rows.specs.Elimination.{crossed, falling}
 use Rattle.linear_rows.specs.Blown.{crossed_fits}
 use Rattle.fourier.specs.Adding.{add_row}

@@ -1,13 +1,13 @@
-use Rattle.std.proofs.Common.{rules, ◌≡◌, ◌<◌, length, take, true, false, arith, refl, sym, ap, ◌∙◌, get_or, [], map, Err, List, ℤ, pos, subst}
+use Rattle.std.proofs.Common.{rules, ◌≡◌, ◌<◌, length, true, false, arith, sym, ap, ◌∙◌, get_or, [], map, pos, subst}
 use Rattle.std.specs.Int.{w128}
 use Rattle.std.specs.Prelude.{FitsSigned, ◌≤ℤ◌}
 use Rattle.std.proofs.lemmas.Int.{to_z-of_z}
 use Rattle.exact128.specs.Sums.{entry}
 use Rattle.linear_rows.specs.Elimination.{is_positive, crossed, falling, crossings, rising}
 use Rattle.linear_rows.specs.Blown.{crossed_fits, crossings_fit, all_of}
-use Rattle.fourier.specs.Adding.{add_row, add_rows, AllLong}
+use Rattle.fourier.specs.Adding.{add_row, AllLong}
 use Rattle.linear_rows.proofs.Steps.{positive_is}
-use Rattle.fourier.proofs.Loops.{Done, done_none, done_yes, done_no, done_all, not_all, at_fit, at_long, fold-flat_map}
+use Rattle.fourier.proofs.Loops.{done_none, done_yes, done_no, done_all, not_all, at_long, fold-flat_map}
 use Rattle.fourier.proofs.crossing.cross_rising.Goals as goal
 use Rattle.fourier.proofs.crossing.cross_rising.Goals.{then-is_positive+in-Ok, else-is_positive}
 

@@ -1,4 +1,4 @@
-use Rattle.std.proofs.Common.{◌≡◌, take, map}
+use Rattle.std.proofs.Common.{take, map}
 use Rattle.linear_rows.specs.Elimination.{crossed, rising, falling}
 use Rattle.linear_rows.specs.Blown.{crossed_fits, all_of}
 use Rattle.fourier.specs.Adding.{add_rows}

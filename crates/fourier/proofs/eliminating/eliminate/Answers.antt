@@ -1,4 +1,4 @@
-use Rattle.std.proofs.Common.{◌≡◌, ◌+◌, ◌≤◌, true, false, Some, None, Err, arith, sym, subst, ap, ◌∙◌}
+use Rattle.std.proofs.Common.{◌≡◌, ◌+◌, true, false, Some, Err, arith, sym, subst, ap, ◌∙◌}
 use Rattle.linear_rows.specs.Plain.{plain_rows}
 use Rattle.linear_rows.specs.Step.{eliminated}
 use Rattle.linear_rows.specs.Blown.{numbers_fit, step_fault}

@@ -1,10 +1,9 @@
-use Rattle.std.proofs.Common.{rules, ◌≡◌, ◌<◌, length, true, false, arith, sym, ap, ◌∙◌, subst, OnOk, Err, get_or, []}
+use Rattle.std.proofs.Common.{rules, ◌≡◌, true, false, sym, ap, ◌∙◌, subst, OnOk}
 use Rattle.std.specs.Int.{w128}
 use Rattle.std.specs.Prelude.{FitsSigned}
 use Rattle.std.proofs.lemmas.Int.{to_z-of_z}
 use Rattle.exact128.specs.Sums.{entry}
 use Rattle.linear_rows.specs.Elimination.{is_positive, is_negative}
-use Rattle.fourier.specs.Adding.{add_solved, add_solved_fits}
 use Rattle.fourier.proofs.Solveds.{solved_falls, solved_falls_fits, solved_rises, solved_rises_fits, solved_rests, solved_rests_fits}
 use Rattle.fourier.proofs.equations.cross_solved.Goals as goal
 

@@ -1,8 +1,8 @@
-use Rattle.std.proofs.Common.{rules, ◌≡◌, ℕ, ◌<◌, ◌+◌, sym, arith, true, false}
+use Rattle.std.proofs.Common.{rules, sym, arith}
 use Rattle.std.specs.Int.{w128}
 use Rattle.std.specs.Prelude.{FitsSigned}
 use Rattle.std.proofs.lemmas.Int.{to_z-of_z}
-use Rattle.fourier.proofs.NumberTests.{negates_from, negates_not, entry_fits}
+use Rattle.fourier.proofs.NumberTests.{negates_from, negates_not}
 use Rattle.fourier.proofs.equations.negates.Goals as goal
 
 pub returns-then-not-opposite : goal.returns-then-not-opposite

@@ -1,4 +1,4 @@
-use Rattle.std.proofs.Common.{rules, ◌≡◌, ◌<◌, length, true, false, arith, sym, ap, ◌∙◌, get_or, []}
+use Rattle.std.proofs.Common.{◌≡◌, ◌<◌, length, true, arith, ap, ◌∙◌, get_or, []}
 use Rattle.linear_rows.specs.Equation.{negates}
 use Rattle.fourier.proofs.Finds.{place_first, place_none}
 use Rattle.fourier.proofs.equations.negation_of.Goals as goal

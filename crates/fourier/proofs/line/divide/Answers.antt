@@ -1,4 +1,4 @@
-use Rattle.std.proofs.Common.{rules, ◌≡◌, ◌++◌, ◌∷◌, [], pos, length, map, ◌<◌, ◌≤◌, get_or, arith, sym, ap, ◌∙◌}
+use Rattle.std.proofs.Common.{rules, ◌++◌, ◌∷◌, [], pos, length, map, ◌<◌, get_or, arith, ap, ◌∙◌}
 use Rattle.std.specs.Int.{w128}
 use Rattle.std.specs.Prelude.{FitsSigned, int_div}
 use Rattle.std.proofs.Math.Nat.{zero-div}
@@ -16,9 +16,9 @@ loop-i-preserved c =
     let value = simp to_z-of_z at c.divided.ensures in
     let pushed = simp to_z-of_z at c.in_ok-push.ensures in
     map_goes_on (λ x. int_div x (pos c.args.part)) c.args.parts.now c.args.tail c.loop-i.i (get_or c.args.parts.now c.loop-i.i nothing) c.loop-i.out c.push_zeros.new.self c.push.new.self (map (λ x. int_div x (pos c.args.part)) (spread c.args.parts.now c.args.tail))
-      (ap pos (zero-div c.args.part)) lt (part_at c.args.parts.now c.loop-i.i lt) c.loop-i.invariant padded (pushed ∙ ap (λ y. c.push_zeros.new.self ++ y ∷ []) value)
+    (ap pos (zero-div c.args.part)) lt (part_at c.args.parts.now c.loop-i.i lt) c.loop-i.invariant padded (pushed ∙ ap (λ y. c.push_zeros.new.self ++ y ∷ []) value)
 
 pub returns : goal.returns
 returns c =
     map_ends (λ x. int_div x (pos c.args.part)) c.args.parts.now c.args.tail c.loop-i.i c.loop-i.out c.push_zeros-2.new.self (map (λ x. int_div x (pos c.args.part)) (spread c.args.parts.now c.args.tail))
-      (ap pos (zero-div c.args.part)) (omega arith) c.loop-i.invariant c.in_ok-push_zeros-2.ensures
+    (ap pos (zero-div c.args.part)) (omega arith) c.loop-i.invariant c.in_ok-push_zeros-2.ensures

@@ -1,4 +1,4 @@
-use Rattle.std.proofs.Common.{rules, ◌≡◌, length, ◌<◌, ◌≤◌, get_or, arith, sym, ap, ◌∙◌}
+use Rattle.std.proofs.Common.{rules, length, ◌<◌, get_or, arith, ◌∙◌}
 use Rattle.std.specs.Int.{w128}
 use Rattle.std.specs.Prelude.{FitsSigned}
 use Rattle.std.proofs.lemmas.Int.{to_z-of_z}

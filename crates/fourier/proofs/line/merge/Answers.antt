@@ -1,4 +1,4 @@
-use Rattle.std.proofs.Common.{rules, ◌≡◌, ◌++◌, ◌∷◌, [], ◌<◌, ◌≤◌, ◌*ℤ◌, ◌+ℤ◌, ◌&&◌, length, arith, sym, ap, ◌∙◌}
+use Rattle.std.proofs.Common.{rules, ◌≡◌, ◌++◌, ◌∷◌, [], ◌≤◌, ◌*ℤ◌, ◌+ℤ◌, ◌&&◌, length, arith, sym, ap, ◌∙◌}
 use Rattle.std.specs.Int.{w128}
 use Rattle.std.specs.Prelude.{FitsSigned}
 use Rattle.std.proofs.lemmas.Int.{to_z-of_z}
@@ -16,8 +16,8 @@ walk-x-requires-clause-more c =
     let low-q : c.min-over.result ≤ c.loop-p.q.before = search rules in
     let same = c.loop-p.invariant.same in
     elim c.if-p-r.branch [
-      then-p-r w ↦ omega (arith, more_left c.args.r.now c.args.r_tail c.loop-p.p w.if-p-r.true, low)
-    | else-p-r+then-q-s w ↦ omega (arith, more_left c.args.s.now c.args.s_tail c.loop-p.q w.if-q-s.true, low-q, same)
+      | then-p-r w ↦ omega (arith, more_left c.args.r.now c.args.r_tail c.loop-p.p w.if-p-r.true, low)
+      | else-p-r+then-q-s w ↦ omega (arith, more_left c.args.s.now c.args.s_tail c.loop-p.q w.if-q-s.true, low-q, same)
     ]
 
 pub walk-y-requires-clause-more : goal.walk-y-requires-clause-more
@@ -26,8 +26,8 @@ walk-y-requires-clause-more c =
     let low-q : c.min-over.result ≤ c.loop-p.q.before = search rules in
     let same = c.loop-p.invariant.same in
     elim c.if-p-r.branch [
-      then-p-r w ↦ omega (arith, more_left c.args.r.now c.args.r_tail c.loop-p.p w.if-p-r.true, low, same)
-    | else-p-r+then-q-s w ↦ omega (arith, more_left c.args.s.now c.args.s_tail c.loop-p.q w.if-q-s.true, low-q)
+      | then-p-r w ↦ omega (arith, more_left c.args.r.now c.args.r_tail c.loop-p.p w.if-p-r.true, low, same)
+      | else-p-r+then-q-s w ↦ omega (arith, more_left c.args.s.now c.args.s_tail c.loop-p.q w.if-q-s.true, low-q)
     ]
 
 pub returns-in_default-clause-wide : goal.returns-in_default-clause-wide
@@ -39,10 +39,10 @@ returns-in_default-clause-wide c =
     let none = simp to_z-of_z at c.in_default.ensures in
     let before = simp to_z-of_z at c.loop-p.invariant.fits in
     λ same.
-      sym before
-      ∙ blend_here c.args.a c.args.b c.walk-x.result.0 c.walk-y.result.0 c.min-over.result (rest_at c.args.r.now c.args.r_tail c.loop-p.p) (rest_at c.args.s.now c.args.s_tail c.loop-p.q) (rest_at c.args.r.now c.args.r_tail c.walk-x.result.1) (rest_at c.args.s.now c.args.s_tail c.walk-y.result.1) c.walk-x.ensures c.walk-y.ensures
-      ∙ ap (λ t. t && blend_fits c.args.a c.args.b (rest_at c.args.r.now c.args.r_tail c.walk-x.result.1) (rest_at c.args.s.now c.args.s_tail c.walk-y.result.1))
-        (not_all (c.args.a *ℤ c.walk-x.result.0) (c.args.b *ℤ c.walk-y.result.0) (c.args.a *ℤ c.walk-x.result.0 +ℤ c.args.b *ℤ c.walk-y.result.0) none)
+    sym before
+    ∙ blend_here c.args.a c.args.b c.walk-x.result.0 c.walk-y.result.0 c.min-over.result (rest_at c.args.r.now c.args.r_tail c.loop-p.p) (rest_at c.args.s.now c.args.s_tail c.loop-p.q) (rest_at c.args.r.now c.args.r_tail c.walk-x.result.1) (rest_at c.args.s.now c.args.s_tail c.walk-y.result.1) c.walk-x.ensures c.walk-y.ensures
+    ∙ ap (λ t. t && blend_fits c.args.a c.args.b (rest_at c.args.r.now c.args.r_tail c.walk-x.result.1) (rest_at c.args.s.now c.args.s_tail c.walk-y.result.1))
+    (not_all (c.args.a *ℤ c.walk-x.result.0) (c.args.b *ℤ c.walk-y.result.0) (c.args.a *ℤ c.walk-x.result.0 +ℤ c.args.b *ℤ c.walk-y.result.0) none)
 
 pub loop-p-preserved : goal.loop-p-preserved
 loop-p-preserved c =
@@ -60,14 +60,14 @@ loop-p-preserved c =
     simp to_z-of_z (record {
       same = same_length c.walk-x.result.0 c.walk-y.result.0 c.min-over.result (rest_at c.args.r.now c.args.r_tail c.loop-p.p) (rest_at c.args.s.now c.args.s_tail c.loop-p.q) (rest_at c.args.r.now c.args.r_tail c.walk-x.result.1) (rest_at c.args.s.now c.args.s_tail c.walk-y.result.1) c.walk-x.ensures c.walk-y.ensures c.loop-p.invariant.same;
       sum =
-        blend_goes_on c.args.a c.args.b c.walk-x.result.0 c.walk-y.result.0 c.min-over.result (rest_at c.args.r.now c.args.r_tail c.loop-p.p) (rest_at c.args.s.now c.args.s_tail c.loop-p.q) (rest_at c.args.r.now c.args.r_tail c.walk-x.result.1) (rest_at c.args.s.now c.args.s_tail c.walk-y.result.1)
-        c.loop-p.out c.push_zeros.new.self c.push.new.self all c.walk-x.ensures c.walk-y.ensures so_far padded (pushed ∙ ap (λ n. c.push_zeros.new.self ++ n ∷ []) is.1);
+          blend_goes_on c.args.a c.args.b c.walk-x.result.0 c.walk-y.result.0 c.min-over.result (rest_at c.args.r.now c.args.r_tail c.loop-p.p) (rest_at c.args.s.now c.args.s_tail c.loop-p.q) (rest_at c.args.r.now c.args.r_tail c.walk-x.result.1) (rest_at c.args.s.now c.args.s_tail c.walk-y.result.1)
+          c.loop-p.out c.push_zeros.new.self c.push.new.self all c.walk-x.ensures c.walk-y.ensures so_far padded (pushed ∙ ap (λ n. c.push_zeros.new.self ++ n ∷ []) is.1);
       fits =
-        sym (
+          sym (
           blend_here c.args.a c.args.b c.walk-x.result.0 c.walk-y.result.0 c.min-over.result (rest_at c.args.r.now c.args.r_tail c.loop-p.p) (rest_at c.args.s.now c.args.s_tail c.loop-p.q) (rest_at c.args.r.now c.args.r_tail c.walk-x.result.1) (rest_at c.args.s.now c.args.s_tail c.walk-y.result.1) c.walk-x.ensures c.walk-y.ensures
           ∙ ap (λ t. t && blend_fits c.args.a c.args.b (rest_at c.args.r.now c.args.r_tail c.walk-x.result.1) (rest_at c.args.s.now c.args.s_tail c.walk-y.result.1))
-            (all_three (c.args.a *ℤ c.walk-x.result.0) (c.args.b *ℤ c.walk-y.result.0) (c.args.a *ℤ c.walk-x.result.0 +ℤ c.args.b *ℤ c.walk-y.result.0) is.0))
-        ∙ before;
+          (all_three (c.args.a *ℤ c.walk-x.result.0) (c.args.b *ℤ c.walk-y.result.0) (c.args.a *ℤ c.walk-x.result.0 +ℤ c.args.b *ℤ c.walk-y.result.0) is.0))
+          ∙ before;
     })
 
 pub returns-clause-sum : goal.returns-clause-sum

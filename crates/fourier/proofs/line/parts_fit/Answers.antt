@@ -1,11 +1,11 @@
-use Rattle.std.proofs.Common.{rules, ◌≡◌, length, ◌<◌, ◌≤◌, get_or, arith, sym, ap, ◌∙◌, true, false}
+use Rattle.std.proofs.Common.{rules, ◌≡◌, length, ◌<◌, get_or, arith, sym, ap, ◌∙◌, true}
 use Rattle.std.specs.Int.{w128}
 use Rattle.std.specs.Prelude.{FitsSigned}
 use Rattle.std.proofs.lemmas.Int.{to_z-of_z}
 use Rattle.exact128.specs.Fits.{fits}
 use Rattle.linear_rows.specs.Blown.{all_of}
 use Rattle.fourier.specs.Sparse.{spread}
-use Rattle.fourier.proofs.SparseLemmas.{nothing, part_at, fit_goes_on, fit_stops, fit_ends}
+use Rattle.fourier.proofs.SparseLemmas.{nothing, part_at, fit_goes_on, fit_ends}
 use Rattle.fourier.proofs.line.parts_fit.Goals as goal
 
 pub loop-i-preserved : goal.loop-i-preserved

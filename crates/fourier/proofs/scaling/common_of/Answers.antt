@@ -1,10 +1,10 @@
-use Rattle.std.proofs.Common.{rules, ◌≡◌, ◌<◌, ◌≤◌, ◌+◌, arith, ap, sym, ◌∙◌, map, length, get_or}
+use Rattle.std.proofs.Common.{rules, ◌≡◌, ◌<◌, arith, ap, sym, ◌∙◌, map, length, get_or}
 use Rattle.std.specs.Int.{w128}
 use Rattle.std.specs.Prelude.{FitsSigned}
 use Rattle.std.proofs.lemmas.Int.{to_z-of_z}
 use Rattle.std.proofs.lemmas.List.{get_or-map, length-map}
 use Rattle.rational128.specs.Formulas.{fraction_of}
-use Rattle.fourier.proofs.ValueLemmas.{common_goes_on, common_stops, common_ends}
+use Rattle.fourier.proofs.ValueLemmas.{common_goes_on, common_stops}
 use Rattle.fourier.proofs.scaling.common_of.Goals as goal
 
 pub returns-in-None-clause-value : goal.returns-in-None-clause-value

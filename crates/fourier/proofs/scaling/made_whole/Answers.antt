@@ -1,10 +1,10 @@
-use Rattle.std.proofs.Common.{rules, ◌≡◌, ◌<◌, ◌≤◌, ◌+◌, arith, ap, sym, ◌∙◌, map, length, get_or, ◌∷◌, [], length-append}
+use Rattle.std.proofs.Common.{rules, ◌≡◌, ◌<◌, arith, ap, sym, ◌∙◌, map, length, get_or, ◌∷◌, [], length-append}
 use Rattle.std.specs.Int.{w128}
 use Rattle.std.specs.Prelude.{FitsSigned}
 use Rattle.std.proofs.lemmas.Int.{to_z-of_z}
 use Rattle.std.proofs.lemmas.List.{get_or-map, length-map}
 use Rattle.rational128.specs.Formulas.{fraction_of}
-use Rattle.fourier.proofs.ValueLemmas.{made_goes_on, made_stops, made_ends}
+use Rattle.fourier.proofs.ValueLemmas.{made_goes_on, made_stops}
 use Rattle.fourier.proofs.scaling.made_whole.Goals as goal
 
 pub returns-in_default-clause-wide : goal.returns-in_default-clause-wide

@@ -1,6 +1,6 @@
-use Rattle.std.proofs.Common.{rules, ◌≡◌, pos, arith, ◌∙◌, ap}
+use Rattle.std.proofs.Common.{rules}
 use Rattle.std.specs.Int.{w128}
-use Rattle.std.specs.Prelude.{FitsSigned, unsigned_abs, ◌/◌}
+use Rattle.std.specs.Prelude.{FitsSigned}
 use Rattle.std.proofs.lemmas.Int.{to_z-of_z}
 use Rattle.fourier.proofs.ValueLemmas.{multiple_pos, if_some}
 use Rattle.fourier.proofs.scaling.multiple.Goals as goal

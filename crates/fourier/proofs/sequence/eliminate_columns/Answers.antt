@@ -1,7 +1,7 @@
-use Rattle.std.proofs.Common.{rules, ◌≡◌, ◌+◌, ◌<◌, ◌≤◌, length, true, false, arith, refl, sym, ap, ◌∙◌, subst, Err, Some, None}
+use Rattle.std.proofs.Common.{◌≡◌, ◌+◌, ◌<◌, ◌≤◌, true, false, arith, refl, subst, Err, Some}
 use Rattle.linear_rows.specs.Blown.{numbers_fit, step_fault}
 use Rattle.fourier.specs.Saying.{StepSays}
-use Rattle.fourier.proofs.Chains.{Going, going_start, going_on, going_blown, going_end, not_fit}
+use Rattle.fourier.proofs.Chains.{going_start, going_on, going_blown, going_end, not_fit}
 use Rattle.fourier.proofs.sequence.eliminate_columns.Goals as goal
 
 pub returns-then-not-fit : goal.returns-then-not-fit

@@ -1,5 +1,4 @@
-use Rattle.std.proofs.Common.{ℕ, ◌≡◌, ◌+◌, ◌-◌, ◌<◌, ◌≤◌}
-use Rattle.fourier.specs.Adding.{AllFit, AllLong}
+use Rattle.std.proofs.Common.{ℕ}
 use Rattle.fourier.proofs.Chains.{Going}
 use Rattle.fourier.proofs.sequence.eliminate_columns.Given as goal
 

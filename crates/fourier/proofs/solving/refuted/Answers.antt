@@ -1,7 +1,6 @@
-use Rattle.std.proofs.Common.{rules, ◌≡◌, ◌+◌, length, drop, arith, refl, ap, sym, subst, ◌∙◌, pos, true, false, cond}
+use Rattle.std.proofs.Common.{◌≡◌, ◌+◌, length, drop, arith, refl, ap, sym, subst, ◌∙◌, pos, true, cond}
 use Rattle.linear_rows.specs.Plain.{plain_row, plain_rows}
 use Rattle.linear_rows.specs.Verdict.{Says}
-use Rattle.linear_rows.specs.Solving.{refutes_in}
 use Rattle.linear_rows.specs.Solving.Solution.{Blown, Refuted}
 use Rattle.linear_rows.specs.declared.multipliers.Proof.TheVariants.{Holds, Fails, Wide}
 use Rattle.fourier.proofs.CheckLemmas.{holds_tells, wide_tells, fails_not}

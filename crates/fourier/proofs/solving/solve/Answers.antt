@@ -1,13 +1,12 @@
-use Rattle.std.proofs.Common.{rules, ◌≡◌, ◌+◌, ◌<◌, ◌≤◌, ℕ, suc, length, drop, get_or, [], arith, refl, ap, sym, subst, ◌∙◌, true, false, cond, Ok, Err, Some, None}
-use Rattle.linear_rows.specs.Plain.{plain_row, plain_rows}
+use Rattle.std.proofs.Common.{◌≡◌, ◌+◌, ◌<◌, ◌≤◌, length, drop, get_or, [], arith, ap, sym, subst, ◌∙◌, true, cond, Ok, Err}
+use Rattle.linear_rows.specs.Plain.{plain_rows}
 use Rattle.linear_rows.specs.Proves.{Refutes}
 use Rattle.linear_rows.specs.Step.{columns}
-use Rattle.linear_rows.specs.Solving.{start_rows, refutes_in, solution, Solution}
+use Rattle.linear_rows.specs.Solving.{start_rows, refutes_in, solution}
 use Rattle.linear_rows.specs.Solving.Solution.{Blown, Refuted}
 use Rattle.fourier.specs.Adding.{AllLong}
 use Rattle.fourier.specs.History.{StepsSay}
-use Rattle.fourier.specs.Solves.{Spells, whole_back}
-use Rattle.fourier.specs.declared.fault.ElimFault.TheVariants.{Blown as BlownFault, Memory}
+use Rattle.fourier.specs.Solves.{Spells}
 use Rattle.fourier.proofs.EliminateLemmas.{long_of}
 use Rattle.fourier.proofs.SolveLemmas.{start_long, SolveHistory, solve_history, fault_spells, end_left, row_refutes, end_found, spells_decides}
 use Rattle.fourier.proofs.solving.solve.Goals as goal

@@ -1,4 +1,4 @@
-use Rattle.std.proofs.Common.{◌≡◌, ◌+◌, arith, ap, ◌∙◌, ◌++◌, ◌∷◌, [], sym}
+use Rattle.std.proofs.Common.{◌+◌, ap, ◌∙◌, ◌++◌, ◌∷◌, [], sym}
 use Rattle.linear_rows.specs.Solving.{floors}
 use Rattle.fourier.proofs.StartRows.{one_more, floors_on}
 use Rattle.fourier.proofs.starting.push_floors.Goals as goal

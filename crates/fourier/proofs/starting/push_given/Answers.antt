@@ -1,4 +1,4 @@
-use Rattle.std.proofs.Common.{◌≡◌, ◌<◌, ◌+◌, arith, ap, ◌∙◌, ◌++◌, ◌∷◌, [], pos, take, length, sym, subst}
+use Rattle.std.proofs.Common.{◌≡◌, ◌<◌, ◌+◌, arith, ap, ◌∙◌, ◌++◌, ◌∷◌, pos, take, length}
 use Rattle.linear_rows.specs.Plain.{plain_rows}
 use Rattle.linear_rows.specs.Solving.{units, carried}
 use Rattle.fourier.proofs.StartRows.{one_more, given_on}

@@ -1,4 +1,4 @@
-use Rattle.std.proofs.Common.{◌≡◌, ◌+◌, ap, sym, ◌∙◌, ◌++◌, ◌∷◌, [], negsuc, length, arith}
+use Rattle.std.proofs.Common.{◌≡◌, ◌+◌, ap, sym, ◌∙◌, ◌++◌, ◌∷◌, [], negsuc, length}
 use Rattle.std.proofs.lemmas.List.{length-map}
 use Rattle.linear_rows.specs.Plain.{plain_row, plain_rows}
 use Rattle.linear_rows.specs.Solving.{units, floors, carried}

@@ -1,11 +1,9 @@
-use Rattle.std.proofs.Common.{rules, ◌≡◌, ◌<◌, ◌+◌, length, true, false, arith, sym, ap, ◌∙◌, subst, OnOk, Err, Some, None, get_or, []}
+use Rattle.std.proofs.Common.{◌≡◌, ◌+◌, true, arith, sym, ◌∙◌, subst, OnOk, Some, None, get_or, []}
 use Rattle.exact128.specs.Sums.{entry}
-use Rattle.linear_rows.specs.Elimination.{crossings}
-use Rattle.linear_rows.specs.Equation.{equation_from, solved_rows, combinations_by}
-use Rattle.fourier.specs.Adding.{add_rows}
+use Rattle.linear_rows.specs.Equation.{equation_from}
 use Rattle.linear_rows.proofs.Steps.{positive_is}
 use Rattle.linear_rows.proofs.Whole.{opposite_falls}
-use Rattle.linear_rows.proofs.Places.{IsEquation, equation_is}
+use Rattle.linear_rows.proofs.Places.{equation_is}
 use Rattle.fourier.proofs.StepLemmas.{fits_solved, fits_crossed}
 use Rattle.fourier.proofs.stepping.combinations.Goals as goal
 

@@ -1,4 +1,4 @@
-use Rattle.std.proofs.Common.{rules, ◌≡◌, ◌<◌, ◌≤◌, length, true, false, arith, refl, sym, ap, ◌∙◌, subst, OnOk, Err, Some, None}
+use Rattle.std.proofs.Common.{arith, ap, ◌∙◌, Err}
 use Rattle.linear_rows.specs.Elimination.{without}
 use Rattle.fourier.specs.Adding.{add_rows}
 use Rattle.fourier.proofs.StepLemmas.{stepped, step_wide, step_many, step_few}

@@ -1,4 +1,4 @@
-use Rattle.std.proofs.Common.{◌≡◌, ◌+◌, ◌-◌, ◌<◌, suc, length, map, drop, arith, subst, sym, Some, None, pos}
+use Rattle.std.proofs.Common.{◌≡◌, ◌+◌, ◌-◌, ◌<◌, suc, length, map, drop, arith, subst, Some, None, pos}
 use Rattle.exact128.specs.Fractions.{whole}
 use Rattle.rational128.specs.Formulas.{fraction_of}
 use Rattle.linear_rows.specs.Elimination.{rising}

@@ -1,10 +1,9 @@
-use Rattle.std.proofs.Common.{rules, ◌≡◌, ◌++◌, ◌∷◌, [], ◌+◌, ◌≤◌, ℕ, length, pos, to_z, arith, sym, ap, ◌∙◌, length-append}
+use Rattle.std.proofs.Common.{◌≡◌, ◌++◌, ◌∷◌, [], length, pos, to_z, arith, sym, ap, ◌∙◌, length-append}
 use Rattle.std.specs.Int.{w128}
 use Rattle.std.specs.Prelude.{FitsSigned}
 use Rattle.std.proofs.lemmas.Int.{to_z-of_z}
-use Rattle.linear_rows.specs.Solving.{zeros}
 use Rattle.fourier.specs.Sparse.{spread}
-use Rattle.fourier.proofs.SparseLemmas.{length-zeros, spread-zeros, spread-part, tail_within}
+use Rattle.fourier.proofs.SparseLemmas.{spread-zeros, spread-part, tail_within}
 use Rattle.fourier.proofs.line.Line.push.Goals as goal
 use Rattle.fourier.proofs.line.Line.push.Goals.{then-number-eq0, else-number-eq0+in_ok-push}
 
@@ -19,12 +18,12 @@ shown c =
     let xs = c.self.inside.parts.items in
     let tail = c.self.inside.tail in
     elim c.if-number-eq0.branch [
-      then-number-eq0 w ↦
-        let z : c.args.number ≡ pos 0 = sym (to_z-of_z w128 c.args.number f) ∙ ap (to_z w128) w.if-number-eq0.true in
-        ap (λ i. spread i.parts.items i.tail) w.self-inside-is ∙ spread-zeros xs tail 1 ∙ ap (λ n. spread xs tail ++ n ∷ []) (sym z)
-    | else-number-eq0+in_ok-push w ↦
-        ap (λ i. spread i.parts.items i.tail) w.self-inside-is ∙ ap (λ l. spread l 0) w.in_ok-push.ensures.items
-        ∙ ap (λ n. spread (xs ++ (record { zeros = tail; number = n }) ∷ []) 0) (to_z-of_z w128 c.args.number f) ∙ spread-part xs tail c.args.number
+      | then-number-eq0 w ↦
+          let z : c.args.number ≡ pos 0 = sym (to_z-of_z w128 c.args.number f) ∙ ap (to_z w128) w.if-number-eq0.true in
+          ap (λ i. spread i.parts.items i.tail) w.self-inside-is ∙ spread-zeros xs tail 1 ∙ ap (λ n. spread xs tail ++ n ∷ []) (sym z)
+      | else-number-eq0+in_ok-push w ↦
+          ap (λ i. spread i.parts.items i.tail) w.self-inside-is ∙ ap (λ l. spread l 0) w.in_ok-push.ensures.items
+          ∙ ap (λ n. spread (xs ++ (record { zeros = tail; number = n }) ∷ []) 0) (to_z-of_z w128 c.args.number f) ∙ spread-part xs tail c.args.number
     ]
 
 pub invariant_of-self-2 : goal.invariant_of-self-2

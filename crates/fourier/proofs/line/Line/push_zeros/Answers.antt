@@ -1,4 +1,4 @@
-use Rattle.std.proofs.Common.{rules, ◌≡◌, ◌++◌, ◌+◌, ◌≤◌, length, arith, ap, ◌∙◌, length-append}
+use Rattle.std.proofs.Common.{◌++◌, length, arith, ap, ◌∙◌, length-append}
 use Rattle.linear_rows.specs.Solving.{zeros}
 use Rattle.fourier.specs.Sparse.{spread}
 use Rattle.fourier.proofs.SparseLemmas.{length-zeros, spread-zeros, tail_within}

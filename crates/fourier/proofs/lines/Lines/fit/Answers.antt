@@ -1,4 +1,4 @@
-use Rattle.std.proofs.Common.{rules, ◌≡◌, ◌<◌, length, true, false, arith, sym, ap, ◌∙◌, get_or, []}
+use Rattle.std.proofs.Common.{◌≡◌, ◌<◌, length, false, arith, sym, ap, get_or, []}
 use Rattle.exact128.specs.Fits.{fits}
 use Rattle.linear_rows.specs.Blown.{all_of}
 use Rattle.fourier.proofs.Alls.{all_from, all_not, rows_fit}
