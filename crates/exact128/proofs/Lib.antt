@@ -1,0 +1,10 @@
+pub mod Rings
+pub mod Gcds
+pub mod Dots
+pub mod WideSums
+pub mod FitsLemmas
+pub mod FractionSums
+pub mod FractionOrders
+pub mod FractionFits
+pub mod FractionProducts
+pub mod FractionQuotients

@@ -1,0 +1,16 @@
+use Rattle.std.proofs.Common.{◌≡◌, sym, ◌∙◌, arith}
+use Rattle.exact128.specs.Gcd.{gcd}
+use Rattle.exact128.proofs.Gcds.{gcd-mod, gcd-zero, gcd-pos, gcd-le}
+use Rattle.exact128.proofs.divisor.gcd.Goals as goal
+
+pub loop-y-preserved : goal.loop-y-preserved
+loop-y-preserved c = gcd-mod _ _ ∙ c.loop-y.invariant
+
+pub returns : goal.returns
+returns c =
+    let is : c.loop-y.x ≡ gcd c.args.a c.args.b = sym (gcd-zero _ _ (omega arith)) ∙ c.loop-y.invariant in
+    record {
+      value = is;
+      some = λ p. omega (arith, is, gcd-pos c.args.a c.args.b p);
+      within = λ p. omega (arith, is, gcd-le c.args.a c.args.b p);
+    }

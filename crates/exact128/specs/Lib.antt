@@ -1,0 +1,5 @@
+pub mod Fits
+pub mod Gcd
+pub mod Sums
+pub mod Natural
+pub mod Fractions

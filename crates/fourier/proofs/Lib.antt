@@ -1,0 +1,16 @@
+pub mod Loops
+pub mod Alls
+pub mod NumberTests
+pub mod Finds
+pub mod Adds
+pub mod Solveds
+pub mod StepLemmas
+pub mod Stays
+pub mod EliminateLemmas
+pub mod Chains
+pub mod StartRows
+pub mod BoundLemmas
+pub mod ValueLemmas
+pub mod CheckLemmas
+pub mod SolveLemmas
+pub mod SparseLemmas

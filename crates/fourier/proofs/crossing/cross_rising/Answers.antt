@@ -1,0 +1,64 @@
+use Rattle.std.proofs.Common.{rules, ◌≡◌, ◌<◌, length, true, false, arith, sym, ap, ◌∙◌, get_or, [], map, pos, subst}
+use Rattle.std.specs.Int.{w128}
+use Rattle.std.specs.Prelude.{FitsSigned, ◌≤ℤ◌}
+use Rattle.std.proofs.lemmas.Int.{to_z-of_z}
+use Rattle.exact128.specs.Sums.{entry}
+use Rattle.linear_rows.specs.Elimination.{is_positive, crossed, falling, crossings, rising}
+use Rattle.linear_rows.specs.Blown.{crossed_fits, crossings_fit, all_of}
+use Rattle.fourier.specs.Adding.{add_row, AllLong}
+use Rattle.linear_rows.proofs.Steps.{positive_is}
+use Rattle.fourier.proofs.Loops.{done_none, done_yes, done_no, done_all, not_all, at_long, fold-flat_map}
+use Rattle.fourier.proofs.crossing.cross_rising.Goals as goal
+use Rattle.fourier.proofs.crossing.cross_rising.Goals.{then-is_positive+in-Ok, else-is_positive}
+
+pub loop-i-init : goal.loop-i-init
+loop-i-init c = done_none _ _ _
+
+pub loop-i-preserved : goal.loop-i-preserved
+loop-i-preserved c =
+    let f : FitsSigned w128 c.entry.result = search rules in
+    let e = (simp to_z-of_z at c.is_positive.ensures) ∙ ap is_positive (c.entry.ensures ∙ ap (λ r. entry r c.args.k) c.get.ensures) in
+    let lt : c.loop-i.i < length c.args.rows.now = omega arith in
+    elim c.if-is_positive.branch [
+      | then-is_positive+in-Ok w ↦
+          let t : is_positive (entry (get_or c.args.rows.now c.loop-i.i []) c.args.k) ≡ true = cc (e, w.if-is_positive.true) in
+          done_yes _ (λ r. all_of (crossed_fits c.args.k r) (falling c.args.k c.args.rows.now)) (λ r. is_positive (entry r c.args.k)) c.args.kept.now c.loop-i.kept c.if-is_positive.kept c.args.rows.now c.loop-i.i [] w.get-then-is_positive.result.now lt c.loop-i.invariant t w.get-then-is_positive.ensures
+          (w.kept-is ∙ w.in-Ok.ensures.kept) w.in-Ok.ensures.fits
+      | else-is_positive w ↦
+          let t : is_positive (entry (get_or c.args.rows.now c.loop-i.i []) c.args.k) ≡ false = cc (e, w.if-is_positive.false) in
+          rw w.kept-is (done_no _ (λ r. all_of (crossed_fits c.args.k r) (falling c.args.k c.args.rows.now)) (λ r. is_positive (entry r c.args.k)) c.args.kept.now c.loop-i.kept c.args.rows.now c.loop-i.i [] lt c.loop-i.invariant t)
+    ]
+
+pub cross_falling-requires : goal.cross_falling-requires
+cross_falling-requires c =
+    let f : FitsSigned w128 c.entry.result = search rules in
+    let e = (simp to_z-of_z at c.is_positive.ensures) ∙ ap is_positive (c.entry.ensures ∙ ap (λ r. entry r c.args.k) c.get.ensures) in
+    let lt : c.loop-i.i < length c.args.rows.now = omega arith in
+    let t : is_positive (entry (get_or c.args.rows.now c.loop-i.i []) c.args.k) ≡ true = cc (e, c.if-is_positive.true) in
+    let up = positive_is (entry (get_or c.args.rows.now c.loop-i.i []) c.args.k) t in
+    let long : c.requires.long.0 ≡ length c.get-then-is_positive.result.now = at_long c.requires.long.0 c.args.rows.now c.loop-i.i lt c.requires.long.1 ∙ ap length (sym c.get-then-is_positive.ensures) in
+    record {
+      fit = c.requires.fit;
+      long = subst (λ n. AllLong n c.args.rows.now) long c.requires.long.1;
+      rises = subst (λ r. pos 1 ≤ℤ entry r c.args.k) (sym c.get-then-is_positive.ensures) up;
+    }
+
+pub returns-in-Err-clause-wide : goal.returns-in-Err-clause-wide
+unfolding crossings_fit
+returns-in-Err-clause-wide c =
+    let f : FitsSigned w128 c.entry.result = search rules in
+    let e = (simp to_z-of_z at c.is_positive.ensures) ∙ ap is_positive (c.entry.ensures ∙ ap (λ r. entry r c.args.k) c.get.ensures) in
+    let lt : c.loop-i.i < length c.args.rows.now = omega arith in
+    let t : is_positive (entry (get_or c.args.rows.now c.loop-i.i []) c.args.k) ≡ true = cc (e, c.if-is_positive.true) in
+    λ is. not_all (λ r. is_positive (entry r c.args.k)) (λ r. all_of (crossed_fits c.args.k r) (falling c.args.k c.args.rows.now)) c.args.rows.now c.loop-i.i [] lt t
+    (sym (ap (λ r. all_of (crossed_fits c.args.k r) (falling c.args.k c.args.rows.now)) c.get-then-is_positive.ensures) ∙ c.in-Err.ensures.wide is)
+
+pub returns : goal.returns
+unfolding crossings crossings_fit
+returns c =
+    let d = done_all _ (λ r. all_of (crossed_fits c.args.k r) (falling c.args.k c.args.rows.now)) (λ r. is_positive (entry r c.args.k)) c.args.kept.now c.loop-i.kept c.args.rows.now c.loop-i.i (omega arith) c.loop-i.invariant in
+    record {
+      kept = d.kept_is ∙ fold-flat_map (add_row c.args.last) (λ r. map (λ s. crossed c.args.k r s) (falling c.args.k c.args.rows.now)) c.args.kept.now (rising c.args.k c.args.rows.now);
+      fits = d.pass;
+      wide = λ is. cc;
+    }

@@ -1,0 +1,7 @@
+pub mod Blending
+pub mod Adding
+pub mod Saying
+pub mod History
+pub mod Exceeding
+pub mod Solves
+pub mod Sparse

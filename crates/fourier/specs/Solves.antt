@@ -1,0 +1,29 @@
+-- What solving answers, in the words of linear_rows.
+use Rattle.std.specs.Prelude.{◌≡◌, ℕ, ℤ, pos, List, Option, Result, Ok, Err, length}
+use Rattle.exact128.specs.Fractions.{then_do}
+use Rattle.linear_rows.specs.Rows.{IsPoint}
+use Rattle.linear_rows.specs.Proves.{Refutes}
+use Rattle.linear_rows.specs.Step.{columns}
+use Rattle.linear_rows.specs.Solving.{Solution, common_of, made_whole}
+use Rattle.linear_rows.specs.Solving.Solution.{Blown, Found, Refuted}
+use Rattle.fourier.specs.History.{values_back}
+use Rattle.fourier.specs.declared.fault.ElimFault.{ElimFault}
+use Rattle.fourier.specs.declared.fault.ElimFault.TheVariants.{Blown as BlownFault, Memory}
+use Rattle.fourier.specs.declared.point.Solved.{Solved}
+use Rattle.fourier.specs.declared.point.Solved.TheVariants.{Point as PointFound, Refuted as RefutedBy}
+
+-- an answer spells a solution; want of memory is free
+abbrev pub Spells : Solution → Result Solved ElimFault → Type 0
+Spells s (Ok (PointFound p)) = s ≡ Found p.t p.w
+Spells s (Ok (RefutedBy m)) = (m.scale ≡ pos 0) × (s ≡ Refuted m.list)
+Spells s (Err (BlownFault step wide)) = s ≡ Blown step wide
+Spells s (Err Memory) = Unit {0}
+
+-- a point is one of the rows, of n coefficients each, and multipliers refute them
+abbrev pub Decides : ℕ → List (List ℤ) → Solved → Type 0
+Decides n rows (PointFound p) = IsPoint n rows p.t p.w
+Decides n rows (RefutedBy m) = (m.scale ≡ pos 0) × Refutes n rows m.list
+
+-- the values as whole numbers, from the rows before each column's elimination
+abbrev pub whole_back : List (List (List ℤ)) → Option (List ℤ)
+whole_back hs = then_do (values_back (columns 1 (length hs)) hs) (λ vs. then_do (common_of (pos 1) vs) (λ c. made_whole c vs))

@@ -1,0 +1,24 @@
+-- Lists of numbers, most of them 0, as the numbers that are not 0 with the zeros before each.
+use Rattle.std.specs.Prelude.{ℕ, ℤ, List, [], ◌∷◌, ◌++◌, drop}
+use Rattle.linear_rows.specs.Solving.{zeros}
+use Rattle.fourier.specs.declared.part.Part.{Part}
+use Rattle.fourier.specs.declared.part.Place.{Place}
+
+-- the list: each part is a number behind so many zeros, and so many zeros come last
+abbrev pub spread : List Part → ℕ → List ℤ
+spread [] tail = zeros tail
+spread (x ∷ xs) tail = zeros x.zeros ++ x.number ∷ spread xs tail
+
+-- how many zeros come first
+abbrev pub first_zeros : List Part → ℕ → ℕ
+first_zeros [] tail = tail
+first_zeros (x ∷ xs) tail = x.zeros
+
+-- the list from the first part's number on
+abbrev pub from_number : List Part → ℕ → List ℤ
+from_number [] tail = []
+from_number (x ∷ xs) tail = x.number ∷ spread xs tail
+
+-- what a walk has still to see
+abbrev pub rest_at : List Part → ℕ → Place → List ℤ
+rest_at parts tail p = zeros p.before ++ from_number (drop p.index parts) tail

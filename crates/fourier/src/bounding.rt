@@ -1,0 +1,137 @@
+// Bounds of a variable from below, and its value: the greatest of them and of 0.
+ghost use Rattle.std.specs.Prelude.{◌≡◌, ℕ, pos, ◌≤ℤ◌, ◌+◌, ◌<◌, ◌≤◌, ◌^◌, length, map, All, drop, [], ◌∷◌};
+ghost use Rattle.exact128.specs.Fits.{Fits};
+ghost use Rattle.exact128.specs.Sums.{entry};
+ghost use Rattle.exact128.specs.Fractions.{whole, exceeds};
+ghost use Rattle.rational128.specs.Formulas.{fraction_of, Gives};
+ghost use Rattle.linear_rows.specs.Elimination.{rising};
+ghost use Rattle.linear_rows.specs.Solving.{sum_on, negated, bound, greatest};
+ghost use Rattle.fourier.specs.Adding.{AllFit};
+ghost use Rattle.fourier.specs.Exceeding.{Tells};
+
+use crate::line::Line;
+use crate::lines::Lines;
+use crate::sign::is_positive;
+use rational128::{Ratio, Wide};
+use std::alloc::Global;
+use std::collections::VecDeque;
+
+/// The value of a column, where the columns after it have these values.
+pub fn greatest(rows: &Lines, k: usize, values: &VecDeque<Ratio, Global>) -> Result<Ratio, Wide>
+    requires fit { AllFit rows.now }
+    requires long { All (λ row. k + 1 + length values.now.items ≤ length row) rows.now }
+    requires small { k + 1 + length values.now.items < 2 ^ 33 }
+    ensures { Gives (greatest k (map fraction_of values.now.items) (whole (pos 0)) (rising k rows.now)) result }
+{
+    let mut best = integer(0);
+    for i in 0..rows.len() {
+        if is_positive(rows.get(i).entry(k)) {
+            match greater(best, rows.get(i), k, values) {
+                Ok(value) => best = value,
+                Err(wide) => return Err(wide),
+            }
+        }
+    }
+    Ok(best)
+}
+
+// The greater of a value and of a row's bound.
+fn greater(
+    best: Ratio,
+    row: &Line,
+    k: usize,
+    values: &VecDeque<Ratio, Global>,
+) -> Result<Ratio, Wide>
+    requires fit { All Fits row.now }
+    requires long { k + 1 + length values.now.items ≤ length row.now }
+    requires small { k + 1 + length values.now.items < 2 ^ 33 }
+    requires rises { pos 1 ≤ℤ entry row.now k }
+    ensures { Gives (greatest k (map fraction_of values.now.items) (fraction_of best) (row.now ∷ [])) result }
+{
+    match bound(row, k, values) {
+        Ok(value) => match exceeds(value, best) {
+            Ok(true) => Ok(value),
+            Ok(false) => Ok(best),
+            Err(wide) => Err(wide),
+        },
+        Err(wide) => Err(wide),
+    }
+}
+
+// Whether one fraction is greater than another.
+fn exceeds(x: Ratio, y: Ratio) -> Result<bool, Wide>
+    ensures { Tells (exceeds (fraction_of x) (fraction_of y)) result }
+{
+    match x.cmp(y) {
+        Ok(order) => Ok(order.is_gt()),
+        Err(wide) => Err(wide),
+    }
+}
+
+// What a row that rises in a column says that its variable is at least.
+fn bound(row: &Line, k: usize, values: &VecDeque<Ratio, Global>) -> Result<Ratio, Wide>
+    requires fit { All Fits row.now }
+    requires long { k + 1 + length values.now.items ≤ length row.now }
+    requires small { k + 1 + length values.now.items < 2 ^ 33 }
+    requires rises { pos 1 ≤ℤ entry row.now k }
+    ensures { Gives (bound k (map fraction_of values.now.items) row.now) result }
+{
+    match sum_on(integer(row.entry(0)), row, k + 1, values) {
+        Ok(sum) => negated(sum).div(integer(row.entry(k))),
+        Err(wide) => Err(wide),
+    }
+}
+
+// The sum of products of a row's numbers, from a place on, with values, on top of another sum.
+fn sum_on(
+    start: Ratio,
+    row: &Line,
+    from: usize,
+    values: &VecDeque<Ratio, Global>,
+) -> Result<Ratio, Wide>
+    requires fit { All Fits row.now }
+    requires long { from + length values.now.items ≤ length row.now }
+    requires small { from + length values.now.items < 2 ^ 33 }
+    ensures { Gives (sum_on (fraction_of start) (drop from row.now) (map fraction_of values.now.items)) result }
+{
+    let mut sum = start;
+    for j in 0..values.len() {
+        match plus_product(sum, row.entry(from + j), values[j]) {
+            Ok(next) => sum = next,
+            Err(wide) => return Err(wide),
+        }
+    }
+    Ok(sum)
+}
+
+// A sum with one more product.
+fn plus_product(sum: Ratio, number: i128, value: Ratio) -> Result<Ratio, Wide>
+    requires { Fits number }
+    ensures { Gives (sum_on (fraction_of sum) (number ∷ []) (fraction_of value ∷ [])) result }
+{
+    match integer(number).mul(value) {
+        Ok(product) => sum.add(product),
+        Err(wide) => Err(wide),
+    }
+}
+
+// A whole number as a fraction.
+fn integer(number: i128) -> Ratio
+    requires { Fits number }
+    ensures { fraction_of result ≡ whole number }
+{
+    Ratio {
+        num: number,
+        den: 1,
+    }
+}
+
+// The fraction with the other sign.
+fn negated(value: Ratio) -> Ratio
+    ensures { fraction_of result ≡ negated (fraction_of value) }
+{
+    Ratio {
+        num: -value.num,
+        den: value.den,
+    }
+}

@@ -1,0 +1,105 @@
+// Combinations of two rows in which a column vanishes.
+ghost use Rattle.std.specs.Prelude.{◌≡◌, true, false, pos, ◌≤ℤ◌, ◌<ℤ◌, length, map, IfOk, OnOk};
+ghost use Rattle.exact128.specs.Fits.{Fits};
+ghost use Rattle.exact128.specs.Sums.{entry};
+ghost use Rattle.linear_rows.specs.Elimination.{crossed, crossings, falling};
+ghost use Rattle.linear_rows.specs.Blown.{crossed_fits, crossings_fit, all_of};
+ghost use Rattle.fourier.specs.Adding.{add_row, add_rows, AllFit, AllLong, OneLength};
+
+use crate::cleaning::add;
+use crate::line::Line;
+use crate::lines::Lines;
+use crate::sign::{is_negative, is_positive, negated};
+use exact128::{gcd, quotient};
+use linear_rows::RowFault;
+use std::alloc::Global;
+
+/// The kept rows with the combinations of each row that rises in column `k` and each that falls there.
+pub fn cross_rising(
+    alloc: Global,
+    kept: &mut Lines,
+    rows: &Lines,
+    k: usize,
+    last: usize,
+) -> Result<(), RowFault>
+    requires fit { AllFit rows.now }
+    requires long { OneLength rows.now }
+    ensures kept { OnOk result (kept.new ≡ add_rows last kept.old (crossings k rows.now)) }
+    ensures fits { OnOk result (crossings_fit k rows.now ≡ true) }
+    ensures wide { result ≡ Err RowFault.Wide → crossings_fit k rows.now ≡ false }
+{
+    for i in 0..rows.len() {
+        if is_positive(rows.get(i).entry(k)) {
+            match cross_falling(alloc, kept, rows.get(i), rows, k, last) {
+                Ok(()) => {}
+                Err(fault) => return Err(fault),
+            }
+        }
+    }
+    Ok(())
+}
+
+// The kept rows with the combinations of `r` and the rows that fall in column `k`.
+fn cross_falling(
+    alloc: Global,
+    kept: &mut Lines,
+    r: &Line,
+    rows: &Lines,
+    k: usize,
+    last: usize,
+) -> Result<(), RowFault>
+    requires fit { AllFit rows.now }
+    requires long { AllLong (length r.now) rows.now }
+    requires rises { pos 1 ≤ℤ entry r.now k }
+    ensures kept { OnOk result (kept.new ≡ add_rows last kept.old (map (λ s. crossed k r.now s) (falling k rows.now))) }
+    ensures fits { OnOk result (all_of (crossed_fits k r.now) (falling k rows.now) ≡ true) }
+    ensures wide { result ≡ Err RowFault.Wide → all_of (crossed_fits k r.now) (falling k rows.now) ≡ false }
+{
+    for j in 0..rows.len() {
+        if is_negative(rows.get(j).entry(k)) {
+            match cross_add(alloc, kept, r, rows.get(j), k, last) {
+                Ok(()) => {}
+                Err(fault) => return Err(fault),
+            }
+        }
+    }
+    Ok(())
+}
+
+/// The kept rows with the combination of `r` and `s`.
+pub fn cross_add(
+    alloc: Global,
+    kept: &mut Lines,
+    r: &Line,
+    s: &Line,
+    k: usize,
+    last: usize,
+) -> Result<(), RowFault>
+    requires long { length r.now ≡ length s.now }
+    requires rises { pos 1 ≤ℤ entry r.now k }
+    requires falls { entry s.now k <ℤ pos 0 }
+    requires fits { Fits (entry s.now k) }
+    ensures kept { OnOk result (kept.new ≡ add_row last kept.old (crossed k r.now s.now)) }
+    ensures fits { OnOk result (crossed_fits k r.now s.now ≡ true) }
+    ensures wide { result ≡ Err RowFault.Wide → crossed_fits k r.now s.now ≡ false }
+{
+    let row = cross(alloc, r, s, k)?;
+    add(alloc, kept, row, last)?;
+    Ok(())
+}
+
+// The sum of `r`, which rises in column `k`, and of `s`, which falls there, in which it vanishes.
+fn cross(alloc: Global, r: &Line, s: &Line, k: usize) -> Result<Line, RowFault>
+    requires long { length r.now ≡ length s.now }
+    requires rises { pos 1 ≤ℤ entry r.now k }
+    requires falls { entry s.now k <ℤ pos 0 }
+    requires fits { Fits (entry s.now k) }
+    ensures row { IfOk result (λ q. q ≡ crossed k r.now s.now) }
+    ensures fits { IfOk result (λ _. crossed_fits k r.now s.now ≡ true) }
+    ensures wide { result ≡ Err RowFault.Wide → crossed_fits k r.now s.now ≡ false }
+{
+    let up = r.entry(k);
+    let down = negated(s.entry(k));
+    let shared = gcd(up.unsigned_abs(), down.unsigned_abs());
+    Line::blend(alloc, quotient(down, shared), quotient(up, shared), r, s)
+}

@@ -1,0 +1,123 @@
+// Elimination by an equation, a row that stands among the rows with its negation.
+ghost use Rattle.std.specs.Prelude.{◌≡◌, true, false, pos, ◌≤ℤ◌, ◌<ℤ◌, ◌<◌, length, OnOk, All, slice_index_or, [], not, nat_eq, ◌||◌};
+ghost use Rattle.exact128.specs.Fits.{Fits};
+ghost use Rattle.exact128.specs.Sums.{entry};
+ghost use Rattle.linear_rows.specs.Equation.{negates, place_of, equation_from, solved_rows};
+ghost use Rattle.linear_rows.specs.Blown.{solved_rows_fit};
+ghost use Rattle.fourier.specs.Adding.{add_rows, add_solved, add_solved_fits, AllFit, OneLength};
+
+use crate::crossing::cross_add;
+use crate::line::Line;
+use crate::lines::Lines;
+use crate::sign::{is_negative, is_positive, opposite};
+use linear_rows::RowFault;
+use std::alloc::Global;
+
+/// The places of the first row that rises in column `k` and has its negation among the rows, and of that.
+pub fn equation(rows: &Lines, k: usize, many: usize) -> Option<(usize, usize)>
+    requires { AllFit rows.now }
+    ensures { result ≡ equation_from many k rows.now 0 rows.now }
+{
+    for i in 0..rows.len() {
+        if is_positive(rows.get(i).entry(k)) {
+            let j = negation_of(rows, rows.get(i), many);
+            if j < rows.len() {
+                return Some((i, j));
+            }
+        }
+    }
+    None
+}
+
+// The place of the first row that is `r` negated, or the number of rows.
+fn negation_of(rows: &Lines, r: &Line, many: usize) -> usize
+    requires { All Fits r.now }
+    ensures { result ≡ place_of (λ s. negates many r.now s) rows.now }
+{
+    for j in 0..rows.len() {
+        if negates(r, rows.get(j), many) {
+            return j;
+        }
+    }
+    rows.len()
+}
+
+// Whether `s` is `r` negated in the columns below `many`.
+fn negates(r: &Line, s: &Line, many: usize) -> bool
+    requires { All Fits r.now }
+    ensures { result ≡ negates many r.now s.now }
+{
+    for j in 0..many {
+        if !opposite(r.entry(j), s.entry(j)) {
+            return false;
+        }
+    }
+    true
+}
+
+/// The kept rows with the other rows in which the variable stands, each crossed with the equation at the places `i` and `j`.
+pub fn cross_equation(
+    alloc: Global,
+    kept: &mut Lines,
+    rows: &Lines,
+    i: usize,
+    j: usize,
+    k: usize,
+    last: usize,
+) -> Result<(), RowFault>
+    requires fit { AllFit rows.now }
+    requires long { OneLength rows.now }
+    requires i { i < length rows.now }
+    requires j { j < length rows.now }
+    requires rises { pos 1 ≤ℤ entry (slice_index_or rows.now i []) k }
+    requires falls { entry (slice_index_or rows.now j []) k <ℤ pos 0 }
+    ensures kept { OnOk result (kept.new ≡ add_rows last kept.old (solved_rows k i j rows.now)) }
+    ensures fits { OnOk result (solved_rows_fit k i j rows.now ≡ true) }
+    ensures wide { result ≡ Err RowFault.Wide → solved_rows_fit k i j rows.now ≡ false }
+{
+    for p in 0..rows.len() {
+        if elsewhere(p, i, j) {
+            match cross_solved(alloc, kept, rows.get(i), rows.get(j), rows.get(p), k, last) {
+                Ok(()) => {}
+                Err(fault) => return Err(fault),
+            }
+        }
+    }
+    Ok(())
+}
+
+// Whether `p` is neither of two places.
+fn elsewhere(p: usize, i: usize, j: usize) -> bool
+    ensures { result ≡ not (nat_eq p i || nat_eq p j) }
+{
+    p != i && p != j
+}
+
+// The kept rows with `q`, crossed with the equation of `r` and `s` where the variable stands in it.
+fn cross_solved(
+    alloc: Global,
+    kept: &mut Lines,
+    r: &Line,
+    s: &Line,
+    q: &Line,
+    k: usize,
+    last: usize,
+) -> Result<(), RowFault>
+    requires long_r { length r.now ≡ length q.now }
+    requires long_s { length q.now ≡ length s.now }
+    requires rises { pos 1 ≤ℤ entry r.now k }
+    requires falls { entry s.now k <ℤ pos 0 }
+    requires fits { Fits (entry s.now k) }
+    requires fits_q { Fits (entry q.now k) }
+    ensures kept { OnOk result (kept.new ≡ add_solved last k r.now s.now kept.old q.now) }
+    ensures fits { OnOk result (add_solved_fits k r.now s.now q.now ≡ true) }
+    ensures wide { result ≡ Err RowFault.Wide → add_solved_fits k r.now s.now q.now ≡ false }
+{
+    if is_negative(q.entry(k)) {
+        return cross_add(alloc, kept, r, q, k, last);
+    }
+    if is_positive(q.entry(k)) {
+        return cross_add(alloc, kept, q, s, k, last);
+    }
+    Ok(())
+}

@@ -1,0 +1,51 @@
+// Numbers behind zeros, and walks over them.
+ghost use Rattle.std.specs.Prelude.{◌≡◌, ◌<◌, ◌≤◌, ◌+◌, ◌∷◌, ◌++◌, length, drop};
+ghost use Rattle.fourier.specs.Sparse.{first_zeros, rest_at};
+ghost use Rattle.linear_rows.specs.Solving.{zeros};
+
+/// A number behind so many zeros.
+#[derive(Clone, Copy, PartialEq, Eq, Debug)]
+pub struct Part {
+    pub zeros: usize,
+    pub number: i128,
+}
+
+/// Where a walk over parts stands: so many zeros before the part at a place.
+#[derive(Clone, Copy, PartialEq, Eq, Debug)]
+pub struct Place {
+    pub index: usize,
+    pub before: usize,
+}
+
+/// Where a walk comes to the part at a place.
+pub fn place_at(parts: &[Part], tail: usize, index: usize) -> Place
+    ensures index { result.index ≡ index }
+    ensures before { result.before ≡ first_zeros (drop index parts.now) tail }
+{
+    let before = if index < parts.len() {
+        parts[index].zeros
+    } else {
+        tail
+    };
+    Place { index, before }
+}
+
+/// A walk over so many zeros and the number behind them, which is 0 where still more zeros stand there.
+pub fn walk(parts: &[Part], tail: usize, place: Place, over: usize) -> (i128, Place)
+    requires zeros { over ≤ place.before }
+    requires more { over < length (rest_at parts.now tail place) }
+    ensures { rest_at parts.now tail place ≡ zeros over ++ result.0 ∷ rest_at parts.now tail result.1 }
+{
+    if over < place.before {
+        let before = place.before - over - 1;
+        return (
+            0,
+            Place {
+                index: place.index,
+                before,
+            },
+        );
+    }
+    let number = parts[place.index].number;
+    (number, place_at(parts, tail, place.index + 1))
+}

@@ -1,0 +1,60 @@
+// One step of elimination.
+ghost use Rattle.std.specs.Prelude.{◌≡◌, true, false, ◌<◌, ◌≤◌, ◌+◌, ◌^◌, OnOk};
+ghost use Rattle.linear_rows.specs.Equation.{equation_from, combinations_by};
+ghost use Rattle.linear_rows.specs.Blown.{step_fits};
+ghost use Rattle.fourier.specs.Adding.{add_rows, AllFit, OneLength};
+ghost use Rattle.fourier.specs.Saying.{StepSays};
+
+use crate::cleaning::{MOST_ROWS, add_without};
+use crate::crossing::cross_rising;
+use crate::equations::{cross_equation, equation};
+use crate::fault::StepFault;
+use crate::lines::Lines;
+use linear_rows::RowFault;
+use std::alloc::Global;
+
+/// The rows that a step leaves, which eliminates column `k`. The columns 1 to `last` are compared.
+pub fn step(alloc: Global, rows: &Lines, k: usize, last: usize) -> Result<Lines, StepFault>
+    requires fit { AllFit rows.now }
+    requires long { OneLength rows.now }
+    requires k { k ≤ last }
+    requires last { last < 2 ^ 32 }
+    ensures { StepSays last k rows.now result }
+{
+    let mut kept = Lines::new(alloc);
+    match add_without(alloc, &mut kept, rows, k, last) {
+        Ok(()) => {}
+        Err(_) => return Err(StepFault::Memory),
+    }
+    match combinations(alloc, &mut kept, rows, k, last) {
+        Ok(()) => {}
+        Err(RowFault::Wide) => return Err(StepFault::Wide),
+        Err(RowFault::Memory) => return Err(StepFault::Memory),
+    }
+    if kept.len() > MOST_ROWS {
+        return Err(StepFault::Many);
+    }
+    Ok(kept)
+}
+
+// The kept rows with all combinations of a step.
+fn combinations(
+    alloc: Global,
+    kept: &mut Lines,
+    rows: &Lines,
+    k: usize,
+    last: usize,
+) -> Result<(), RowFault>
+    requires fit { AllFit rows.now }
+    requires long { OneLength rows.now }
+    requires k { k ≤ last }
+    requires last { last < 2 ^ 32 }
+    ensures kept { OnOk result (kept.new ≡ add_rows last kept.old (combinations_by (equation_from (last + 1) k rows.now 0 rows.now) k rows.now)) }
+    ensures fits { OnOk result (step_fits last k rows.now ≡ true) }
+    ensures wide { result ≡ Err RowFault.Wide → step_fits last k rows.now ≡ false }
+{
+    match equation(rows, k, last + 1) {
+        Some((i, j)) => cross_equation(alloc, kept, rows, i, j, k, last),
+        None => cross_rising(alloc, kept, rows, k, last),
+    }
+}

@@ -1,0 +1,14 @@
+pub mod Members
+pub mod Rows
+pub mod Plain
+pub mod Proves
+pub mod Verdict
+pub mod Combine
+pub mod Elimination
+pub mod Cleaning
+pub mod Equation
+pub mod Step
+pub mod Blown
+pub mod Solving
+pub mod Systems
+pub mod Irredundant

@@ -1,0 +1,26 @@
+//! Linear rows over naturals: proof by multipliers, and the words of elimination and solving.
+//!
+//! A row says that its constant and the products of its coefficients with natural numbers sum to at least 0. No call
+//! here searches: `combine` and `proves` compute with given multipliers. What it means for rows to hold, to prove, to
+//! be eliminated and to be solved is defined in `specs/`, over plain lists of whole numbers without bound, and the laws
+//! of these words are functions without a body. The crate stands on `exact128`.
+#![tactic(auto)]
+
+mod columns;
+mod combining;
+mod laws;
+mod multipliers;
+mod numbers;
+mod proving;
+mod row;
+mod system;
+#[cfg(test)]
+mod tests;
+
+pub use combining::{RowFault, combine};
+pub use laws::{elimination_projects, proofs_are_sound, solving_decides};
+pub use multipliers::{Multipliers, Proof};
+pub use numbers::Numbers;
+pub use proving::proves;
+pub use row::{Row, RowList, Rows};
+pub use system::System;
