@@ -1,0 +1,5 @@
+use Rattle.std.proofs.Common.{◌≡◌, ℕ, ◌<◌, Some, slice_get}
+use Rattle.call_components.proofs.recursion.has_number.Given as goal
+
+abbrev pub invariant-loop-pred : goal.invariant-loop-pred
+invariant-loop-pred l = (k b : ℕ) → k < l.pred-index → slice_get l.row k ≡ Some b → slice_get l.of b ≡ Some l.number → ⊥
