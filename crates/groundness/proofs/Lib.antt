@@ -1,0 +1,5 @@
+pub mod ArgumentLaws
+pub mod ClauseLaws
+pub mod ListLaws
+pub mod NormLaws
+pub mod RowLaws
