@@ -55,9 +55,8 @@ fn add_once<N: Norm>(
 {
     let mut grew = false;
     for k in 0..p.clauses() {
-        if add_rows(p, norm, table, sets, k + 1)? {
-            grew = true;
-        }
+        let added = add_rows(p, norm, table, sets, k + 1)?;
+        grew |= added;
     }
     Ok(grew)
 }
