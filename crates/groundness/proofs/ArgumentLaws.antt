@@ -1,5 +1,5 @@
 -- The arguments of an atom in the place of the variables of a set.
-use Rattle.std.proofs.Common.{◌≡◌, ℕ, zero, suc, ◌+◌, ◌<◌, ◌≤◌, ◌==◌, Bool, true, false, ◌&&◌, ◌||◌, if◌then◌else◌, IsTrue, nat_lt, ℤ, pos, List, [], ◌∷◌, length, map, take, inl, inr, ltb-true, slice_get, slice_index_or, Some, None, refl, ap, sym, ◌∙◌, arith}
+use Rattle.std.proofs.Common.{◌≡◌, ℕ, zero, suc, ◌+◌, ◌<◌, ◌≤◌, ◌==◌, Bool, true, false, ◌&&◌, ◌||◌, if◌then◌else◌, IsTrue, nat_lt, ℤ, List, [], ◌∷◌, length, map, take, inl, inr, ltb-true, slice_get, slice_index_or, Some, refl, ap, sym, ◌∙◌, arith}
 use Rattle.std.proofs.lemmas.Bool.{cases_eq, eq-eqb}
 use Rattle.std.proofs.lemmas.Bool.Decides.{nat_tests}
 use Rattle.std.specs.List.{AllByRecursion}
@@ -7,7 +7,7 @@ use Rattle.bool_diagrams.specs.Cubes.{values_of}
 use Rattle.bool_diagrams.specs.Tree.{with_value}
 use Rattle.bool_diagrams.specs.Rows.{iff}
 use Rattle.bool_diagrams.specs.Renaming.{renamed}
-use Rattle.cti_terms.specs.Tree.{Tree, Integer, is_below}
+use Rattle.cti_terms.specs.Tree.{Tree, is_below}
 use Rattle.term_size.specs.Norm.{IsNorm}
 use Rattle.groundness.proofs.NormLaws.{truth_agrees}
 use Rattle.groundness.proofs.ListLaws.{by_places, indexed, mapped_place}
@@ -71,17 +71,18 @@ module _ (size : (ℕ → ℕ) → Tree → ℕ) (truth : (ℕ → Bool) → Tre
   pub mixed_more : (vars : ℕ) (ts : List Tree) (row : ℕ → Bool) (i : ℕ) (t : Tree) (j : ℕ) → vars ≤ 48 → AllByRecursion (λ t. IsTrue (is_below vars t)) ts → slice_get ts i ≡ Some t
       → mixed truth ts (with_value row (48 + i) (truth row t)) i j ≡ mixed truth ts row (i + 1) j
   mixed_more vars ts row i t j few below at = elim (cases_eq j i) [
-      | inl same ↦
-          let off = not_tested j i (omega arith) in
-          let on = tested j (i + 1) (omega arith) in
-          let k : with_value row (48 + i) (truth row t) (48 + j) ≡ truth row t = ap (λ m. with_value row (48 + i) (truth row t) (48 + m)) same ∙ with_same row (48 + i) (truth row t) in
-          let l : slice_index_or (map (truth row) ts) j false ≡ truth row t = ap (λ m. slice_index_or (map (truth row) ts) m false) same ∙ indexed (map (truth row) ts) i (truth row t) false (mapped_place (truth row) ts i t at) in
-          rw (off, on, k, l) refl
-      | inr other ↦ go other (nat_lt j i) refl
-    ]
+    | inl same ↦
+        let off = not_tested j i (omega arith) in
+        let on = tested j (i + 1) (omega arith) in
+        let k : with_value row (48 + i) (truth row t) (48 + j) ≡ truth row t = ap (λ m. with_value row (48 + i) (truth row t) (48 + m)) same ∙ with_same row (48 + i) (truth row t) in
+        let l : slice_index_or (map (truth row) ts) j false ≡ truth row t = ap (λ m. slice_index_or (map (truth row) ts) m false) same ∙ indexed (map (truth row) ts) i (truth row t) false (mapped_place (truth row) ts i t at) in
+        rw (off, on, k, l) refl
+    | inr other ↦ go other (nat_lt j i) refl
+  ]
     where
       row' : ℕ → Bool
       row' = with_value row (48 + i) (truth row t)
+
       go : ((j ≡ i) → ⊥) → (b : Bool) → nat_lt j i ≡ b → mixed truth ts (with_value row (48 + i) (truth row t)) i j ≡ mixed truth ts row (i + 1) j
       go other true e =
           let before : j < i = ltb-true j i e in

@@ -1,10 +1,9 @@
 -- The rows that a clause gives, by its steps.
-use Rattle.std.proofs.Common.{◌≡◌, ◌↔◌, ℕ, ◌+◌, ◌<◌, ◌≤◌, Bool, true, false, if◌then◌else◌, IsTrue, nat_lt, ℤ, List, length, map, slice_get, Some, refl, ap, sym, subst, ◌∙◌, arith, ltb-true}
+use Rattle.std.proofs.Common.{◌≡◌, ◌↔◌, ℕ, ◌+◌, ◌<◌, ◌≤◌, Bool, true, false, if◌then◌else◌, IsTrue, nat_lt, ℤ, List, length, refl, ap, sym, subst, ◌∙◌, arith}
 use Rattle.std.proofs.lemmas.Bool.Decides.{nat_tests}
 use Rattle.bool_diagrams.specs.declared.diagram.Diagram.{Diagram}
 use Rattle.bool_diagrams.specs.Cubes.{truth_rows}
 use Rattle.bool_diagrams.specs.Tree.{Tree as Rows}
-use Rattle.cti_terms.specs.declared.atom_list.Atom.{Atom}
 use Rattle.cti_terms.specs.declared.clauses.Clause.{Clause}
 use Rattle.cti_terms.specs.Tree.{Tree, is_below}
 use Rattle.term_size.specs.Norm.{IsNorm}
@@ -46,12 +45,19 @@ module _ (size : (ℕ → ℕ) → Tree → ℕ) (truth : (ℕ → Bool) → Tre
           let s = (S (λ v. row (name v))).0 t in
           let h = (H s.0).0 s.2 in
           (s.0, (B s.0).0 h.0, λ j u lt at. sym (s.1 (48 + j) (omega (arith, ready.few)) ∙ ap row (names j lt)) ∙ h.1 j u lt at)
+
       back : Gives truth trees sets k row → IsTrue (given (λ v. row (name v)))
       back s =
           let w = upon k.vars s.0 (λ v. row (name v)) in
           let agree = upon_below k.vars s.0 (λ v. row (name v)) in
           let atoms = atoms_agree trees sets k ready s.0 w agree s.1 in
-          (S (λ v. row (name v))).1
-          (w, upon_above k.vars s.0 (λ v. row (name v)), (H w).1 ((B w).1 atoms, λ j u lt at.
-          upon_above k.vars s.0 (λ v. row (name v)) (48 + j) (omega (arith, ready.few)) ∙ ap row (names j lt) ∙ s.2 j u lt at
-          ∙ sym (truth_agrees size truth expression norm k.vars u w s.0 (by_places (λ t. IsTrue (is_below k.vars t)) k.head.args ready.below j u at) agree)))
+          (S (λ v. row (name v))).1 (
+            w,
+            upon_above k.vars s.0 (λ v. row (name v)),
+            (H w).1 (
+              (B w).1 atoms,
+              λ j u lt at.
+                  upon_above k.vars s.0 (λ v. row (name v)) (48 + j) (omega (arith, ready.few)) ∙ ap row (names j lt) ∙ s.2 j u lt at
+                  ∙ sym (truth_agrees size truth expression norm k.vars u w s.0 (by_places (λ t. IsTrue (is_below k.vars t)) k.head.args ready.below j u at) agree),
+            ),
+          )

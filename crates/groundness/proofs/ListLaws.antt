@@ -1,5 +1,5 @@
 -- Elements of lists by their places, in the two ways that loops and definitions speak of them.
-use Rattle.std.proofs.Common.{◌≡◌, inl, inr, ℕ, zero, suc, ◌+◌, ◌<◌, ◌≤◌, List, [], ◌∷◌, length, map, slice_get, slice_index_or, get_or, Some, None, refl, ap, sym, subst, ◌∙◌, arith, sum_by}
+use Rattle.std.proofs.Common.{◌≡◌, inl, inr, ℕ, zero, suc, ◌+◌, ◌<◌, ◌≤◌, List, [], ◌∷◌, length, map, slice_get, slice_index_or, get_or, Some, refl, ap, sym, subst, ◌∙◌, arith, sum_by}
 use Rattle.std.specs.List.{AllByRecursion, fold}
 use Rattle.std.proofs.lemmas.Bool.{cases_eq}
 
@@ -60,9 +60,9 @@ there (y ∷ ys) (suc i) d lt = there ys i d (omega arith)
 pub up_to_more : {X : Type 0} → (P : ℕ → X → Type 0) (xs : List X) (n : ℕ) (x : X) → slice_get xs n ≡ Some x
     → ((j : ℕ) (y : X) → j < n → slice_get xs j ≡ Some y → P j y) → P n x → (j : ℕ) (y : X) → j < n + 1 → slice_get xs j ≡ Some y → P j y
 up_to_more P xs n x at all one j y lt e = elim (cases_eq j n) [
-    | inl same ↦
-        let f : slice_get xs n ≡ Some y = ap (slice_get xs) (sym same) ∙ e in
-        let is : x ≡ y = cc in
-        subst (λ k. P k y) (sym same) (subst (P n) is one)
-    | inr other ↦ all j y (omega arith) e
-  ]
+  | inl same ↦
+      let f : slice_get xs n ≡ Some y = ap (slice_get xs) (sym same) ∙ e in
+      let is : x ≡ y = cc in
+      subst (λ k. P k y) (sym same) (subst (P n) is one)
+  | inr other ↦ all j y (omega arith) e
+]

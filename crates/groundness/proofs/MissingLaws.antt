@@ -1,9 +1,9 @@
 -- Fewer rows are missing where a row is added.
-use Rattle.std.proofs.Common.{◌≡◌, ℕ, zero, suc, ◌+◌, ◌<◌, ◌≤◌, Bool, true, false, if◌then◌else◌, IsTrue, List, [], ◌∷◌, length, slice_get, slice_set, slice_index_or, Some, inl, inr, refl, ap, sym, subst, ◌∙◌, arith}
+use Rattle.std.proofs.Common.{◌≡◌, ℕ, zero, suc, ◌<◌, ◌≤◌, Bool, true, false, if◌then◌else◌, IsTrue, List, [], ◌∷◌, length, slice_get, slice_set, Some, inl, inr, refl, ap, arith}
 use Rattle.std.proofs.lemmas.Bool.{cases_eq}
 use Rattle.bool_diagrams.specs.declared.diagram.Diagram.{Diagram}
 use Rattle.bool_diagrams.specs.Cubes.{rests, truth_rows, values_of}
-use Rattle.bool_diagrams.specs.Rows.{IsDiagram, Keeps, holds}
+use Rattle.bool_diagrams.specs.Rows.{IsDiagram, Keeps}
 use Rattle.bool_diagrams.specs.Tree.{Tree as Rows}
 use Rattle.bool_diagrams.proofs.CallerLemmas.{holds_later}
 use Rattle.cti_terms.specs.declared.predicates.Pred.{Pred}

@@ -1,7 +1,7 @@
 -- The truth of a term depends on its own variables alone, for every norm.
-use Rattle.std.proofs.Common.{◌≡◌, ℕ, ◌<◌, Bool, true, false, ◌&&◌, if◌then◌else◌, IsTrue, nat_lt, ℤ, pos, List, refl, ap, sym, ◌∙◌, arith, ltb-true}
+use Rattle.std.proofs.Common.{◌≡◌, ℕ, ◌<◌, Bool, true, false, if◌then◌else◌, nat_lt, ℤ, pos, List, refl, ap, sym, ◌∙◌, ltb-true}
 use Rattle.std.proofs.lemmas.Bool.{and_parts}
-use Rattle.cti_terms.specs.Tree.{Tree, Trees, Variable, Integer, Compound, End, More, instance, all_instances, truth, all_truths, is_below}
+use Rattle.cti_terms.specs.Tree.{Tree, Trees, Variable, Integer, Compound, End, More, instance, all_instances, all_truths, is_below}
 use Rattle.term_size.specs.Norm.{IsNorm}
 
 -- a term whose variables below n stay is its own instance
@@ -56,5 +56,6 @@ module _ (size : (ℕ → ℕ) → Tree → ℕ) (truth : (ℕ → Bool) → Tre
       go : (y : ℕ) (b : Bool) → nat_lt y n ≡ b → truth v (if b then Variable y else Integer (pos 0)) ≡ truth w (if b then Variable y else Integer (pos 0))
       go y true p = variable_agrees y v w (agree y (ltb-true y n p))
       go y false p = integer_true v (pos 0) ∙ sym (integer_true w (pos 0))
+
       at : (y : ℕ) → truth v (keeping n y) ≡ truth w (keeping n y)
       at y = go y (nat_lt y n) refl

@@ -1,8 +1,7 @@
 -- What it does to the family of the sets that the rows of a clause are added.
-use Rattle.std.proofs.Common.{◌≡◌, ◌↔◌, ◌⊎◌, inl, inr, ℕ, zero, suc, ◌+◌, ◌-◌, ◌<◌, ◌≤◌, ◌==◌, Bool, true, false, ◌&&◌, ◌||◌, IsTrue, List, [], ◌∷◌, length, map, slice_get, slice_set, slice_index_or, sum_by, Option, None, Some, IsSomeAnd, refl, ap, sym, subst, ◌∙◌, arith, eqb-true}
+use Rattle.std.proofs.Common.{◌≡◌, ◌↔◌, inl, inr, ℕ, suc, ◌<◌, ◌≤◌, ◌==◌, Bool, true, false, ◌||◌, IsTrue, List, [], ◌∷◌, length, map, slice_get, slice_set, slice_index_or, Option, None, Some, IsSomeAnd, refl, ap, sym, subst, ◌∙◌, arith, eqb-true}
 use Rattle.std.proofs.lemmas.Bool.{and_parts, cases_eq, eq-eqb}
 use Rattle.std.proofs.lemmas.List.{length-map, length-set}
-use Rattle.std.specs.List.{AllByRecursion}
 use Rattle.bool_diagrams.specs.declared.diagram.Diagram.{Diagram}
 use Rattle.bool_diagrams.specs.Cubes.{truth_rows, values_of}
 use Rattle.bool_diagrams.specs.Rows.{IsDiagram, Keeps, HaveSameRows, ReadsBelow, holds}
@@ -15,7 +14,7 @@ use Rattle.cti_terms.specs.declared.predicates.Pred.{Pred}
 use Rattle.cti_terms.specs.Listing.{Listing, IsAtom, IsClause, IsProgram, atom_nodes}
 use Rattle.cti_terms.specs.Tree.{Tree}
 use Rattle.termination_model.specs.Grounds.{Family, HasArity, IsClosed, IsClosedUnder, IsGround, IsInside, truth_row}
-use Rattle.groundness.specs.Sets.{AddsOnlyNeeded, AreSets, Gives, HasAtoms, HasTruths, IsReady, IsReadyClause, family_of, has_row}
+use Rattle.groundness.specs.Sets.{AddsOnlyNeeded, AreSets, Gives, HasAtoms, HasTruths, IsReadyClause, family_of, has_row}
 use Rattle.groundness.specs.Missing.{all_missing}
 use Rattle.groundness.proofs.MissingLaws.{all_missing_set, missing_less, first_row, first_values, length-first}
 use Rattle.groundness.proofs.ListLaws.{by_places, from_places, indexed, mapped_place, place_below, sum_part, there}
@@ -107,27 +106,28 @@ module _ (p : Listing) (program : IsProgram p) (trees : List Rows) (sets : List 
     added_sets = record {
       each = length-set sets k.head.pred.0 joined ∙ S.each;
       known = λ r d e. elim (cases_eq r k.head.pred.0) [
-          | inl same ↦
-              let f : slice_get (slice_set sets k.head.pred.0 joined) r ≡ Some joined = ap (slice_get (slice_set sets k.head.pred.0 joined)) same ∙ slice_get-set_same sets k.head.pred.0 joined (atom_there k.vars k.head c.head) in
-              let is : joined ≡ d = cc in
-              subst (IsDiagram T2) is known
-          | inr other ↦ known_later trees T2 d (keeps_twice trees T1 T2 K1 K2) (S.known r d (sym (slice_get-set_other sets k.head.pred.0 r joined other) ∙ e))
-        ];
+        | inl same ↦
+            let f : slice_get (slice_set sets k.head.pred.0 joined) r ≡ Some joined = ap (slice_get (slice_set sets k.head.pred.0 joined)) same ∙ slice_get-set_same sets k.head.pred.0 joined (atom_there k.vars k.head c.head) in
+            let is : joined ≡ d = cc in
+            subst (IsDiagram T2) is known
+        | inr other ↦ known_later trees T2 d (keeps_twice trees T1 T2 K1 K2) (S.known r d (sym (slice_get-set_other sets k.head.pred.0 r joined other) ∙ e))
+      ];
       reads = λ r n d e ar. elim (cases_eq r k.head.pred.0) [
-          | inl same ↦
-              let f : slice_get (slice_set sets k.head.pred.0 joined) r ≡ Some joined = ap (slice_get (slice_set sets k.head.pred.0 joined)) same ∙ slice_get-set_same sets k.head.pred.0 joined (atom_there k.vars k.head c.head) in
-              let is : joined ≡ d = cc in
-              subst (λ (x : Diagram). ReadsBelow T2 x n) is (joined_reads n (subst (λ m. HasArity p.preds m n) same ar))
-          | inr other ↦
-              let e' = sym (slice_get-set_other sets k.head.pred.0 r joined other) ∙ e in
-              λ row row' agree.
-              let kk = keeps_twice trees T1 T2 K1 K2 in
-              holds_later trees T2 d kk (S.known r d e') row ∙ S.reads r n d e' ar row row' agree ∙ sym (holds_later trees T2 d kk (S.known r d e') row')
-        ];
+        | inl same ↦
+            let f : slice_get (slice_set sets k.head.pred.0 joined) r ≡ Some joined = ap (slice_get (slice_set sets k.head.pred.0 joined)) same ∙ slice_get-set_same sets k.head.pred.0 joined (atom_there k.vars k.head c.head) in
+            let is : joined ≡ d = cc in
+            subst (λ (x : Diagram). ReadsBelow T2 x n) is (joined_reads n (subst (λ m. HasArity p.preds m n) same ar))
+        | inr other ↦
+            let e' = sym (slice_get-set_other sets k.head.pred.0 r joined other) ∙ e in
+            λ row row' agree.
+            let kk = keeps_twice trees T1 T2 K1 K2 in
+            holds_later trees T2 d kk (S.known r d e') row ∙ S.reads r n d e' ar row row' agree ∙ sym (holds_later trees T2 d kk (S.known r d e') row')
+      ];
     }
       where
         gives_other : (n : ℕ) → length k.head.args ≡ n → (row row' : ℕ → Bool) → ((v : ℕ) → v < n → row v ≡ row' v) → Gives truth trees sets k row → Gives truth trees sets k row'
         gives_other n l row row' agree s = (s.0, s.1, λ j t lt at. sym (agree j (omega arith)) ∙ s.2 j t lt at)
+
         joined_reads : (n : ℕ) → HasArity p.preds k.head.pred.0 n → ReadsBelow T2 joined n
         joined_reads n ar = λ row row' agree.
             let a = some_is (λ (x : Pred). x.arity ≡ length k.head.args) (slice_get p.preds k.head.pred.0) c.head.arity in
@@ -181,10 +181,10 @@ module _ (p : Listing) (program : IsProgram p) (trees : List Rows) (sets : List 
         let a = some_is (λ (x : Pred). x.arity ≡ length k.head.args) (slice_get p.preds k.head.pred.0) c.head.arity in
         let kk = keeps_twice trees T1 T2 K1 K2 in
         let atoms : HasAtoms truth trees sets v k.body (length k.body) = λ j b lt at d e.
-            (let f = family_in p.preds T2 sets b.pred.0 (truth_row truth v b) (by_places (IsGround truth (family_of p.preds T2 sets) v) k.body body j b at) in
-            let g = f.3 in
-            let is : f.1 ≡ d = cc in
-            sym (holds_later trees T2 d kk (S.known b.pred.0 d e) (values_of (truth_row truth v b))) ∙ subst (λ (y : Diagram). IsTrue (truth_rows T2 y (truth_row truth v b))) is f.5) in
+        (let f = family_in p.preds T2 sets b.pred.0 (truth_row truth v b) (by_places (IsGround truth (family_of p.preds T2 sets) v) k.body body j b at) in
+        let g = f.3 in
+        let is : f.1 ≡ d = cc in
+        sym (holds_later trees T2 d kk (S.known b.pred.0 d e) (values_of (truth_row truth v b))) ∙ subst (λ (y : Diagram). IsTrue (truth_rows T2 y (truth_row truth v b))) is f.5) in
         let gives = (G (values_of row)).1 (v, atoms, truths_of truth v k.head.args) in
         family_put p.preds T2 sets k.head.pred.0 row a.0 (slice_index_or sets k.head.pred.0 none) a.1 at_q (a.2 ∙ sym (length-map k.head.args (truth v)))
         (same (values_of row) ∙ J (values_of row) ∙ or_right _ _ gives)
@@ -197,6 +197,7 @@ module _ (p : Listing) (program : IsProgram p) (trees : List Rows) (sets : List 
       where
         grows : (row : ℕ → Bool) → IsTrue (holds trees (slice_index_or sets k.head.pred.0 none) row) → IsTrue (holds T2 joined row)
         grows row t = J row ∙ or_left _ _ (old_now row ∙ t)
+
         fewer : (x : Pred) → slice_get p.preds k.head.pred.0 ≡ Some x → ((row : List Bool) → length row ≡ x.arity → IsTrue (truth_rows T2 joined row) → IsTrue (truth_rows trees (slice_index_or sets k.head.pred.0 none) row)) → (row : ℕ → Bool) → holds T2 (slice_index_or sets k.head.pred.0 none) row ≡ holds T2 joined row
         fewer x ex back row =
             let kk = keeps_twice trees T1 T2 K1 K2 in

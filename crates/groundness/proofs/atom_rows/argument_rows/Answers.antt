@@ -1,4 +1,4 @@
-use Rattle.std.proofs.Common.{◌≡◌, ◌<◌, ◌≤◌, ◌+◌, ◌&&◌, ◌||◌, true, false, ℕ, IsTrue, List, length, map, slice_get, Some, sym, ap, ◌∙◌, arith}
+use Rattle.std.proofs.Common.{◌≡◌, ◌≤◌, ◌+◌, ◌&&◌, ◌||◌, true, false, IsTrue, List, length, slice_get, Some, sym, ap, ◌∙◌, arith}
 use Rattle.bool_diagrams.specs.Rows.{holds, iff}
 use Rattle.bool_diagrams.specs.Tree.{with_value}
 use Rattle.std.proofs.lemmas.List.{length-map}
@@ -24,21 +24,21 @@ pub bound_rows-requires-clause-below : goal.bound_rows-requires-clause-below
 bound_rows-requires-clause-below g c =
     let items = c.as_slice-argument-items.result.now in
     let at : slice_get c.args.arguments.now c.loop-place.place ≡ Some (tree_of c.argument-item.result) =
-        ap (λ (ts : List Tree). slice_get ts c.loop-place.place) (sym c.as_slice-argument-items.ensures) ∙ mapped_place tree_of items c.loop-place.place c.argument-item.result (at_place items c.loop-place.place c.argument-item.result c.loop-place-test.true c.argument-item.is) in
+    ap (λ (ts : List Tree). slice_get ts c.loop-place.place) (sym c.as_slice-argument-items.ensures) ∙ mapped_place tree_of items c.loop-place.place c.argument-item.result (at_place items c.loop-place.place c.argument-item.result c.loop-place-test.true c.argument-item.is) in
     by_places (λ t. IsTrue (is_below c.args.vars t)) c.args.arguments.now c.requires.below c.loop-place.place (tree_of c.argument-item.result) at
 
 pub bound_rows-requires-clause-small : goal.bound_rows-requires-clause-small
 bound_rows-requires-clause-small g c =
     let items = c.as_slice-argument-items.result.now in
     let at : slice_get c.args.arguments.now c.loop-place.place ≡ Some (tree_of c.argument-item.result) =
-        ap (λ (ts : List Tree). slice_get ts c.loop-place.place) (sym c.as_slice-argument-items.ensures) ∙ mapped_place tree_of items c.loop-place.place c.argument-item.result (at_place items c.loop-place.place c.argument-item.result c.loop-place-test.true c.argument-item.is) in
+    ap (λ (ts : List Tree). slice_get ts c.loop-place.place) (sym c.as_slice-argument-items.ensures) ∙ mapped_place tree_of items c.loop-place.place c.argument-item.result (at_place items c.loop-place.place c.argument-item.result c.loop-place-test.true c.argument-item.is) in
     omega (arith, c.requires.small, sum_part nodes_of c.args.arguments.now c.loop-place.place (tree_of c.argument-item.result) at)
 
 pub loop-place-preserved : goal.loop-place-preserved
 loop-place-preserved g c =
     let items = c.as_slice-argument-items.result.now in
     let at : slice_get c.args.arguments.now c.loop-place.place ≡ Some (tree_of c.argument-item.result) =
-        ap (λ (ts : List Tree). slice_get ts c.loop-place.place) (sym c.as_slice-argument-items.ensures) ∙ mapped_place tree_of items c.loop-place.place c.argument-item.result (at_place items c.loop-place.place c.argument-item.result c.loop-place-test.true c.argument-item.is) in
+    ap (λ (ts : List Tree). slice_get ts c.loop-place.place) (sym c.as_slice-argument-items.ensures) ∙ mapped_place tree_of items c.loop-place.place c.argument-item.result (at_place items c.loop-place.place c.argument-item.result c.loop-place-test.true c.argument-item.is) in
     let i = c.loop-place.invariant in
     let b = c.in_ok-bound.ensures.rows in
     let e = c.in_ok-rows-2.ensures.rows in

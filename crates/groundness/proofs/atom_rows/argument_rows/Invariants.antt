@@ -1,4 +1,4 @@
-use Rattle.std.proofs.Common.{◌≡◌, ◌<◌, ◌≤◌, ℕ, Bool, length}
+use Rattle.std.proofs.Common.{◌≡◌, ℕ, Bool}
 use Rattle.bool_diagrams.specs.Rows.{IsDiagram, Keeps, holds}
 use Rattle.groundness.proofs.ArgumentLaws.{mixed}
 use Rattle.groundness.proofs.atom_rows.argument_rows.Given as goal

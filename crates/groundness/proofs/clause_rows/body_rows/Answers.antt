@@ -1,12 +1,12 @@
-use Rattle.std.proofs.Common.{◌≡◌, ◌<◌, ◌≤◌, ◌+◌, ◌&&◌, ℕ, Bool, true, IsTrue, List, length, map, slice_get, slice_index_or, Some, sym, ap, subst, ◌∙◌, arith}
+use Rattle.std.proofs.Common.{◌≡◌, ℕ, IsTrue, List, map, slice_get, slice_index_or, Some, sym, ap, subst, ◌∙◌, arith}
 use Rattle.std.proofs.lemmas.Bool.{and_parts}
 use Rattle.bool_diagrams.specs.declared.diagram.Diagram.{Diagram}
 use Rattle.bool_diagrams.specs.Cubes.{truth_rows}
 use Rattle.bool_diagrams.specs.Rows.{holds}
 use Rattle.bool_diagrams.proofs.CallerLemmas.{holds_later, keeps_twice, known_later}
 use Rattle.cti_terms.specs.declared.atom_list.Atom.{Atom}
-use Rattle.groundness.specs.Sets.{HasAtom, IsReady}
-use Rattle.groundness.proofs.ListLaws.{at_place, indexed, place_below, there, up_to_more}
+use Rattle.groundness.specs.Sets.{HasAtom}
+use Rattle.groundness.proofs.ListLaws.{at_place, indexed, there, up_to_more}
 use Rattle.groundness.proofs.RowLaws.{both}
 use Rattle.groundness.proofs.clause_rows.body_rows.Goals as goal
 
@@ -67,11 +67,12 @@ loop-atom-preserved g c =
           let here = holds c.argument_rows.new.table c.in_ok-holding.holding row in
           let e = c.in_ok-rows.ensures.rows row in
           let old = holds_later c.loop-atom.table c.argument_rows.new.table c.loop-atom.rows c.argument_rows.ensures.keeps i.known row in
-          let own : here ≡ truth_rows c.args.table.now set (map (truth row) b.args) = c.in_ok-holding.ensures.rows row ∙ holds_later c.args.table.now c.loop-atom.table set i.keeps k.0 _ in
-          (λ h.
-          let a = and_parts before here (sym e ∙ h) in
-          up_to_more (λ (j : ℕ) (x : Atom). HasAtom truth c.args.table.now c.args.sets.now row x) c.args.body.now n b at ((i.rows row).0 (sym old ∙ a.0))
-          (λ d f. let is : set ≡ d = sym (indexed c.args.sets.now b.pred.0 set none in_sets) ∙ indexed c.args.sets.now b.pred.0 d none f in
-          subst (λ (x : Diagram). IsTrue (truth_rows c.args.table.now x (map (truth row) b.args))) is (sym own ∙ a.1)),
-          λ h. e ∙ both before here (old ∙ (i.rows row).1 (λ j x lt f. h j x (omega arith) f)) (own ∙ h n b (omega arith) at set in_sets));
+          let own : here ≡ truth_rows c.args.table.now set (map (truth row) b.args) = c.in_ok-holding.ensures.rows row ∙ holds_later c.args.table.now c.loop-atom.table set i.keeps k.0 _ in (
+            λ h.
+                let a = and_parts before here (sym e ∙ h) in
+                up_to_more (λ (j : ℕ) (x : Atom). HasAtom truth c.args.table.now c.args.sets.now row x) c.args.body.now n b at ((i.rows row).0 (sym old ∙ a.0))
+                (λ d f. let is : set ≡ d = sym (indexed c.args.sets.now b.pred.0 set none in_sets) ∙ indexed c.args.sets.now b.pred.0 d none f in
+                subst (λ (x : Diagram). IsTrue (truth_rows c.args.table.now x (map (truth row) b.args))) is (sym own ∙ a.1)),
+            λ h. e ∙ both before here (old ∙ (i.rows row).1 (λ j x lt f. h j x (omega arith) f)) (own ∙ h n b (omega arith) at set in_sets),
+          );
     }

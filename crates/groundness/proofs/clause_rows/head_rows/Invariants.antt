@@ -1,4 +1,4 @@
-use Rattle.std.proofs.Common.{◌↔◌, ◌<◌, ◌≤◌, ◌+◌, ℕ, Bool, IsTrue, length}
+use Rattle.std.proofs.Common.{◌↔◌, ◌+◌, ℕ, Bool, IsTrue}
 use Rattle.bool_diagrams.specs.Rows.{IsDiagram, Keeps, holds}
 use Rattle.groundness.specs.Sets.{HasTruths}
 use Rattle.groundness.proofs.clause_rows.head_rows.Given as goal

@@ -1,7 +1,6 @@
-use Rattle.std.proofs.Common.{◌≡◌, ◌+◌, ◌-◌, ◌<◌, ◌≤◌, inl, inr, slice_get, Some, sym, ap, ◌∙◌, arith}
+use Rattle.std.proofs.Common.{inl, inr, slice_get, ap, ◌∙◌, arith}
 use Rattle.std.proofs.lemmas.Bool.{cases_eq}
 use Rattle.bool_diagrams.proofs.CallerLemmas.{keeps_twice}
-use Rattle.cti_terms.specs.declared.clauses.Clause.{Clause}
 use Rattle.termination_model.specs.Grounds.{IsClosedUnder}
 use Rattle.groundness.specs.Sets.{family_of}
 use Rattle.groundness.proofs.ListLaws.{from_places, place_below}
@@ -20,9 +19,9 @@ loop-k-preserved g c =
       needed = λ other closed inside. a.needed other closed (i.needed other closed inside);
       kept = omega (arith, step, i.kept);
       less = λ grew. elim (or_cases c.loop-k.grew c.in_ok-added.added grew) [
-          | inl before ↦ omega (arith, step, i.less before)
-          | inr now ↦ omega (arith, a.less now, i.kept)
-        ];
+        | inl before ↦ omega (arith, step, i.less before)
+        | inr now ↦ omega (arith, a.less now, i.kept)
+      ];
       closed = λ none.
           let both = or_false c.loop-k.grew c.in_ok-added.added none in
           λ j k lt at. elim (cases_eq j c.loop-k.k) [

@@ -1,6 +1,5 @@
-use Rattle.std.proofs.Common.{◌≡◌, ◌-◌, slice_get, slice_index_or, Some, refl, sym, subst, ◌∙◌, arith}
+use Rattle.std.proofs.Common.{◌≡◌, ◌-◌, refl, subst}
 use Rattle.bool_diagrams.proofs.CallerLemmas.{known_later, keeps_twice}
-use Rattle.cti_terms.specs.declared.clauses.Clause.{Clause}
 use Rattle.termination_model.specs.Grounds.{IsClosedUnder}
 use Rattle.groundness.specs.Sets.{family_of}
 use Rattle.groundness.proofs.ListLaws.{there}

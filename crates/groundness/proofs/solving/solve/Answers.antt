@@ -1,6 +1,8 @@
-use Rattle.std.proofs.Common.{◌≡◌, length, drop, arith}
+use Rattle.std.proofs.Common.{◌≡◌, IsTrue, List, length, drop, subst, arith}
 use Rattle.std.proofs.lemmas.List.{take_at}
+use Rattle.bool_diagrams.specs.declared.diagram.Diagram.{Diagram}
 use Rattle.bool_diagrams.proofs.CallerLemmas.{keeps_twice}
+use Rattle.groundness.specs.Sets.{family_of}
 use Rattle.groundness.proofs.solving.solve.Goals as goal
 
 pub loop-sets-preserved : goal.loop-sets-preserved
@@ -13,7 +15,7 @@ loop-sets-preserved g c =
     (record {
       keeps = keeps_twice _ _ _ i.keeps c.add_once.ensures.keeps;
       sets = a.sets;
-      needed = λ other closed. a.needed other closed (i.needed other closed);
+      needed = λ other closed. a.needed other closed (λ q row t. i.needed other closed q row (subst (λ (xs : List Diagram). IsTrue (family_of c.args.p.now.preds c.loop-sets.table xs q row)) c.deref_mut.ensures.value t));
     })
 
 pub returns-clause-least : goal.returns-clause-least
@@ -25,5 +27,5 @@ returns-clause-least g c =
     rw (take_at new (drop (length new) c.loop-sets.sets.items) c.loop-sets.sets.len same)
     (record {
       closed = a.closed c.if-branch.false;
-      least = λ other closed. a.needed other closed (i.needed other closed);
+      least = λ other closed. a.needed other closed (λ q row t. i.needed other closed q row (subst (λ (xs : List Diagram). IsTrue (family_of c.args.p.now.preds c.loop-sets.table xs q row)) c.deref_mut.ensures.value t));
     })

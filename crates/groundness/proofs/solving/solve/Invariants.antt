@@ -1,4 +1,3 @@
-use Rattle.std.proofs.Common.{ℕ}
 use Rattle.bool_diagrams.specs.Rows.{Keeps}
 use Rattle.groundness.specs.Missing.{all_missing}
 use Rattle.groundness.specs.Sets.{AreSets, family_of}
