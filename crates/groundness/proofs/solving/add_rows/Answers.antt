@@ -1,0 +1,47 @@
+use Rattle.std.proofs.Common.{◌≡◌, ◌-◌, refl, subst}
+use Rattle.bool_diagrams.proofs.CallerLemmas.{known_later, keeps_twice}
+use Rattle.termination_model.specs.Grounds.{IsClosedUnder}
+use Rattle.groundness.specs.Sets.{family_of}
+use Rattle.groundness.proofs.ListLaws.{there}
+use Rattle.groundness.proofs.SetLaws.{none, ready, atom_there, added_sets, added_needed, added_closed, added_less}
+use Rattle.groundness.proofs.solving.add_rows.Goals as goal
+
+pub clause_rows-requires : goal.clause_rows-requires
+clause_rows-requires g c = ready c.args.p.now c.requires.program c.args.table.now c.args.sets.now c.requires.sets c.clause-clause.result.now c.clause-clause.ensures.sound
+
+pub slice_copy_out-or : goal.slice_copy_out-or
+slice_copy_out-or g c = atom_there c.args.p.now c.requires.program c.args.table.now c.args.sets.now c.requires.sets c.clause-clause.result.now.vars c.clause-clause.result.now.head c.clause-clause.ensures.sound.head
+
+pub or-requires-clause-left : goal.or-requires-clause-left
+or-requires-clause-left g c =
+    let lt = atom_there c.args.p.now c.requires.program c.args.table.now c.args.sets.now c.requires.sets c.clause-clause.result.now.vars c.clause-clause.result.now.head c.clause-clause.ensures.sound.head in
+    known_later c.args.table.now c.clause_rows.new.table _ c.clause_rows.ensures.keeps (c.requires.sets.known c.clause-clause.result.now.head.pred.0 _ (there c.args.sets.now c.clause-clause.result.now.head.pred.0 none lt))
+
+pub slice_copy_out-same : goal.slice_copy_out-same
+slice_copy_out-same g c = atom_there c.args.p.now c.requires.program c.args.table.now c.args.sets.now c.requires.sets c.clause-clause.result.now.vars c.clause-clause.result.now.head c.clause-clause.ensures.sound.head
+
+pub same-requires-clause-left : goal.same-requires-clause-left
+same-requires-clause-left g c =
+    let lt = atom_there c.args.p.now c.requires.program c.args.table.now c.args.sets.now c.requires.sets c.clause-clause.result.now.vars c.clause-clause.result.now.head c.clause-clause.ensures.sound.head in
+    known_later c.args.table.now c.or.new.self _ (keeps_twice _ _ _ c.clause_rows.ensures.keeps c.or.ensures.keeps) (c.requires.sets.known c.clause-clause.result.now.head.pred.0 _ (there c.args.sets.now c.clause-clause.result.now.head.pred.0 none lt))
+
+pub bounds-sets-place : goal.bounds-sets-place
+bounds-sets-place g c = atom_there c.args.p.now c.requires.program c.args.table.now c.args.sets.now c.requires.sets c.clause-clause.result.now.vars c.clause-clause.result.now.head c.clause-clause.ensures.sound.head
+
+pub returns-then-same-clause-closed : goal.returns-then-same-clause-closed
+returns-then-same-clause-closed g c = λ e k at.
+    let f = c.clause-clause.ensures.there in
+    let is : c.clause-clause.result.now ≡ k = cc in
+    subst (IsClosedUnder (g.N.Norm.truth c.args.norm.now) (family_of c.args.p.now.preds c.or.new.self c.args.sets.now)) is
+    (added_closed c.args.p.now c.requires.program c.args.table.now c.args.sets.now c.requires.sets (g.N.Norm.truth c.args.norm.now) c.clause_rows.new.table c.or.new.self c.clause_rows.ensures.keeps c.or.ensures.keeps c.clause-clause.result.now c.clause-clause.ensures.sound c.in_ok-given.given c.in_ok-joined.joined c.in_ok-joined.ensures.known c.in_ok-given.ensures.rows c.in_ok-joined.ensures.rows
+    (c.if-same.ensures.rows.0 refl))
+
+pub returns-clause-sets : goal.returns-clause-sets
+returns-clause-sets g c = added_sets c.args.p.now c.requires.program c.args.table.now c.args.sets.now c.requires.sets (g.N.Norm.truth c.args.norm.now) c.clause_rows.new.table c.or.new.self c.clause_rows.ensures.keeps c.or.ensures.keeps c.clause-clause.result.now c.clause-clause.ensures.sound c.in_ok-given.given c.in_ok-joined.joined c.in_ok-joined.ensures.known c.in_ok-given.ensures.rows c.in_ok-joined.ensures.rows
+
+pub returns-clause-needed : goal.returns-clause-needed
+returns-clause-needed g c = added_needed c.args.p.now c.requires.program c.args.table.now c.args.sets.now c.requires.sets (g.N.Norm.truth c.args.norm.now) c.clause_rows.new.table c.or.new.self c.clause_rows.ensures.keeps c.or.ensures.keeps c.clause-clause.result.now c.clause-clause.ensures.sound c.in_ok-given.given c.in_ok-joined.joined c.in_ok-joined.ensures.known c.in_ok-given.ensures.rows c.in_ok-joined.ensures.rows (c.args.k - 1) c.clause-clause.ensures.there
+
+pub returns-clause-less : goal.returns-clause-less
+returns-clause-less g c = λ grew. added_less c.args.p.now c.requires.program c.args.table.now c.args.sets.now c.requires.sets (g.N.Norm.truth c.args.norm.now) c.clause_rows.new.table c.or.new.self c.clause_rows.ensures.keeps c.or.ensures.keeps c.clause-clause.result.now c.clause-clause.ensures.sound c.in_ok-given.given c.in_ok-joined.joined c.in_ok-joined.ensures.known c.in_ok-given.ensures.rows c.in_ok-joined.ensures.rows
+    (λ same. let f = c.if-same.ensures.rows.1 same in absurd (cc))

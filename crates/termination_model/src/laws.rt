@@ -1,0 +1,23 @@
+//! Laws of the definitions. Each is a function that does nothing, and whose clauses are proved.
+
+ghost use Rattle.std.specs.Prelude.{◌↔◌, ℕ, Bool, IsTrue, List};
+ghost use Rattle.cti_terms.specs.Listing.{Listing};
+ghost use Rattle.cti_terms.specs.Tree.{Tree};
+ghost use Rattle.termination_model.specs.Grounds.{Family, InEachClosedIsClosed, IsClosed, IsInEachClosed, IsInside, IsLeast};
+
+/// What is in each closed family, and the least closed family.
+pub fn closed_families()
+    // A truth row that clauses give from rows that are in each closed family is in each closed family.
+    ensures closed { (truth : (ℕ → Bool) → Tree → Bool) (p : Listing) → InEachClosedIsClosed truth p }
+
+    // A family that is closed and has only such rows is the least one, and the least one has exactly them.
+    ensures least { (truth : (ℕ → Bool) → Tree → Bool) (p : Listing) (family : Family)
+        → IsLeast truth p family
+        ↔ (IsClosed truth p family × ((q : ℕ) (row : List Bool) → IsTrue (family q row) → IsInEachClosed truth p q row)) }
+    ensures exact { (truth : (ℕ → Bool) → Tree → Bool) (p : Listing) (family : Family) → IsLeast truth p family
+        → (q : ℕ) (row : List Bool) → IsTrue (family q row) ↔ IsInEachClosed truth p q row }
+
+    // So two least families have the same rows.
+    ensures one { (truth : (ℕ → Bool) → Tree → Bool) (p : Listing) (family other : Family)
+        → IsLeast truth p family → IsLeast truth p other → IsInside family other }
+{}
