@@ -1,2 +1,6 @@
-pub mod LongestLemmas
+pub mod Places
+pub mod NumberLemmas
+pub mod CharacterLemmas
+pub mod ItemLemmas
+pub mod GapLemmas
 pub mod StreamLemmas
