@@ -4,3 +4,5 @@ pub mod CharacterLemmas
 pub mod ItemLemmas
 pub mod GapLemmas
 pub mod StreamLemmas
+pub mod AppendLemmas
+pub mod SpellingLemmas

@@ -6,6 +6,7 @@
 
 mod bytes;
 mod characters;
+mod decoding;
 mod fault;
 mod integers;
 mod items;
@@ -13,10 +14,13 @@ mod layout;
 mod lexer;
 mod numbers;
 mod piece;
+mod quoting;
 #[cfg(test)]
 mod tests;
 mod token;
 
+pub use decoding::decode;
 pub use fault::{LexFault, LexKind};
 pub use lexer::Lexer;
+pub use quoting::quote;
 pub use token::{Token, TokenKind};
