@@ -34,6 +34,11 @@ abbrev pub begins_with : ℕ → List ℕ → Bool
 begins_with c [] = false
 begins_with c (b ∷ bs) = b == c
 
+-- a comment begins: `/*`
+abbrev pub begins_comment : List ℕ → Bool
+begins_comment [] = false
+begins_comment (b ∷ bs) = (b == 47) && begins_with 42 bs
+
 -- a dot ends the clause where layout, a percent sign or nothing follows
 abbrev pub ends_clause : List ℕ → Bool
 ends_clause [] = true

@@ -2,7 +2,7 @@
 use Rattle.std.specs.Prelude.{ℕ, zero, suc, ◌+◌, ◌-◌, ◌==◌, ◌&&◌, not, nat_lt, List, [], ◌∷◌, length, take, drop, Result, Ok, Err, if◌then◌else◌}
 use Rattle.std.specs.List.{prefix_len}
 use Rattle.std.specs.Str.Lossy.{utf8_valid_len}
-use Rattle.prolog_tokens.specs.Bytes.{is_layout, begins_with}
+use Rattle.prolog_tokens.specs.Bytes.{is_layout, begins_with, begins_comment}
 use Rattle.prolog_tokens.specs.Places.{fault_at, further}
 use Rattle.prolog_tokens.specs.declared.fault.LexKind.TheVariants.{BadByte, Unclosed}
 use Rattle.prolog_tokens.specs.declared.fault.LexFault.{LexFault}
@@ -34,7 +34,7 @@ space_at [] = Ok 0
 space_at (b ∷ bs) =
     if is_layout b then Ok 1
     else if b == 37 then line_comment bs
-    else if (b == 47) && begins_with 42 bs then block_comment (drop 1 bs)
+    else if begins_comment (b ∷ bs) then block_comment (drop 1 bs)
     else Ok 0
 
 -- from a byte of layout or a comment on: what follows goes on behind its other bytes
