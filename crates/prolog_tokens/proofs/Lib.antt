@@ -9,6 +9,9 @@ pub mod GapLemmas
 pub mod BodyLemmas
 pub mod ClassLemmas
 pub mod ReadLemmas
+pub mod FitLemmas
+pub mod FaultLemmas
+pub mod LongestLemmas
 pub mod StreamLemmas
 pub mod AppendLemmas
 pub mod SpellingLemmas
