@@ -1,2 +1,17 @@
+pub mod Places
+pub mod NumberLemmas
+pub mod CharacterLemmas
+pub mod RunLemmas
+pub mod PieceLemmas
+pub mod SpelledLemmas
+pub mod ItemLemmas
+pub mod GapLemmas
+pub mod BodyLemmas
+pub mod ClassLemmas
+pub mod ReadLemmas
+pub mod FitLemmas
+pub mod FaultLemmas
 pub mod LongestLemmas
 pub mod StreamLemmas
+pub mod AppendLemmas
+pub mod SpellingLemmas
