@@ -12,6 +12,8 @@ pub mod ReadLemmas
 pub mod FitLemmas
 pub mod FaultLemmas
 pub mod LongestLemmas
+pub mod SpaceLemmas
+pub mod GapLaws
 pub mod StreamLemmas
 pub mod AppendLemmas
 pub mod SpellingLemmas
