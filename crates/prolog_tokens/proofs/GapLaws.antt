@@ -10,7 +10,7 @@ use Rattle.prolog_tokens.proofs.GapLemmas.{past_space}
 use Rattle.prolog_tokens.proofs.SpaceLemmas.{Space, IsSpaceAnswer, space_is, space_found, comment_fault_found}
 
 -- the gap where nothing begins, or where a comment has a fault
-gap_ends : (bs : List ℕ) → space_at bs ≡ Ok 0 → gap_len 0 bs ≡ Ok 0
+pub gap_ends : (bs : List ℕ) → space_at bs ≡ Ok 0 → gap_len 0 bs ≡ Ok 0
 gap_ends [] is = refl
 gap_ends (b ∷ bs) is = ap (λ (r : Result ℕ LexFault). gap_past r (λ n. gap_len n bs)) is
 

@@ -14,6 +14,7 @@ pub mod FaultLemmas
 pub mod LongestLemmas
 pub mod SpaceLemmas
 pub mod GapLaws
+pub mod NextLemmas
 pub mod StreamLemmas
 pub mod AppendLemmas
 pub mod SpellingLemmas
