@@ -170,8 +170,8 @@ escape_code after none = ⊎_elim newline other (either (begins_with 10 after))
     other f = ap code_of (no_escape_piece 39 after (inl refl) none f)
 
 -- every fault but a bad first byte
-pub fault_found : (bytes : List ℕ) (fault : LexFault) → (FitsNone bytes → begins_with 39 bytes ≡ false → begins_with 34 bytes ≡ false → token_at bytes ≡ Err (fault_at BadByte 0)) → IsFault bytes fault → token_at bytes ≡ Err fault
-fault_found bytes fault unread (no_token none single double is) = unread none single double ∙ ap (λ (f : LexFault). Err f) (sym is)
+pub fault_found : (bytes : List ℕ) (fault : LexFault) → (0 < length bytes → FitsNone bytes → begins_with 39 bytes ≡ false → begins_with 34 bytes ≡ false → token_at bytes ≡ Err (fault_at BadByte 0)) → IsFault bytes fault → token_at bytes ≡ Err fault
+fault_found bytes fault unread (no_token some none single double is) = unread some none single double ∙ ap (λ (f : LexFault). Err f) (sym is)
 fault_found bytes fault unread (byte_in_item quote body after o h is) =
     item_fault_found bytes quote body after BadByte o (no_character_piece quote after o.is_quote h) ∙ ap (λ (f : LexFault). Err f) (sym is)
 fault_found bytes fault unread (byte_after_zero after whole h is) =

@@ -12,6 +12,9 @@ pub mod ReadLemmas
 pub mod FitLemmas
 pub mod FaultLemmas
 pub mod LongestLemmas
+pub mod SpaceLemmas
+pub mod GapLaws
+pub mod NextLemmas
 pub mod StreamLemmas
 pub mod AppendLemmas
 pub mod SpellingLemmas

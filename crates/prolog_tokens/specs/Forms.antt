@@ -2,7 +2,7 @@
 --
 -- To believe: `SpellsCharacter`, `IsBody`, `SpellsInteger`, `IsOfForm`, `IsLongest`, `IsFault`.
 -- Source: ISO/IEC 13211-1:1995, 6.4, in this project's profile.
-use Rattle.std.specs.Prelude.{◌≡◌, ◌≢◌, ℕ, ◌+◌, ◌≤◌, ◌<◌, ◌^◌, ◌||◌, ◌==◌, Bool, true, false, List, [], ◌∷◌, ◌++◌, length, pos, Some, Result, Ok, Err, ◌⊎◌}
+use Rattle.std.specs.Prelude.{◌≡◌, ◌≢◌, ℕ, ◌+◌, ◌≤◌, ◌<◌, ◌^◌, ◌||◌, ◌==◌, Bool, true, false, List, [], ◌∷◌, ◌++◌, length, pos, Some, ◌⊎◌}
 use Rattle.std.specs.Char.{IsScalar, encode_utf8, is_digit as is_digit_in}
 use Rattle.prolog_tokens.specs.Bytes.{is_small, is_capital, is_word, is_graphic, begins_with, begins_comment, ends_clause}
 use Rattle.prolog_tokens.specs.Places.{fault_at}
@@ -130,7 +130,7 @@ pub record IsOpen (bytes : List ℕ) (quote : ℕ) (body after : List ℕ) : Typ
 -- The faults of a token, with their places counted from the front of the bytes.
 pub data IsFault (bytes : List ℕ) (fault : LexFault) : Type 0 where
   -- a byte begins no token, or a byte in an item or after `0'` is no character
-  no_token : FitsNone bytes → begins_with 39 bytes ≡ false → begins_with 34 bytes ≡ false → fault ≡ fault_at BadByte 0 → IsFault bytes fault
+  no_token : 0 < length bytes → FitsNone bytes → begins_with 39 bytes ≡ false → begins_with 34 bytes ≡ false → fault ≡ fault_at BadByte 0 → IsFault bytes fault
   byte_in_item : (quote : ℕ) (body after : List ℕ) → IsOpen bytes quote body after → IsNoCharacter quote after → fault ≡ fault_at BadByte (1 + length body) → IsFault bytes fault
   byte_after_zero : (after : List ℕ) → bytes ≡ 48 ∷ 39 ∷ after → IsNoCharacter 39 after → fault ≡ fault_at BadByte 2 → IsFault bytes fault
   -- an item meets the end of the line or of the text before its end
@@ -142,9 +142,3 @@ pub data IsFault (bytes : List ℕ) (fault : LexFault) : Type 0 where
   fraction : (digits after : List ℕ) (d : ℕ) → AreDigits 10 digits → number_of 10 digits < 2 ^ 127 → is_digit_in d 10 ≡ true → bytes ≡ digits ++ 46 ∷ d ∷ after → fault ≡ fault_at Float 0 → IsFault bytes fault
   -- an integer is above 2^127 - 1
   wide : (n : ℕ) (text after : List ℕ) → SpellsInteger n text → 2 ^ 127 ≤ n → bytes ≡ text ++ after → fault ≡ fault_at WideNumber 0 → IsFault bytes fault
-
--- There is no fault, and the answer is the longest text of a form, by its kind and length; or the answer is a fault.
-abbrev pub IsLongestMatch : List ℕ → Result (TokenKind × ℕ) LexFault → Type 0
-IsLongestMatch bytes answer =
-    ((kind : TokenKind) × (text : List ℕ) × (after : List ℕ) × IsLongest bytes kind text after × ((fault : LexFault) → IsFault bytes fault → ⊥) × (answer ≡ Ok (kind, length text)))
-    ⊎ ((fault : LexFault) × IsFault bytes fault × (answer ≡ Err fault))

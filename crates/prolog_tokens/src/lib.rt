@@ -21,6 +21,6 @@ mod token;
 
 pub use decoding::decode;
 pub use fault::{LexFault, LexKind};
-pub use lexer::Lexer;
+pub use lexer::{Lexer, longest_match};
 pub use quoting::quote;
 pub use token::{Token, TokenKind};

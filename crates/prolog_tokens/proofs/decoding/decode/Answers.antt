@@ -4,22 +4,23 @@ use Rattle.std.specs.Result.{OnErr}
 use Rattle.std.specs.Str.{encode_utf8_all}
 use Rattle.prolog_tokens.specs.Items.{item_characters}
 use Rattle.prolog_tokens.specs.Decoding.{AppendsPrefix, bytes_of}
+use Rattle.prolog_tokens.proofs.NextLemmas.{token_within, bytes_some}
 use Rattle.prolog_tokens.proofs.decoding.decode.Goals as goal
 
 pub slice_bounds-bytes-end : goal.slice_bounds-bytes-end
-slice_bounds-bytes-end c = ?
+slice_bounds-bytes-end c = let within = token_within c.args.text.now c.args.token c.requires in omega (arith, within)
 
 pub slice_bounds-decode_item-count : goal.slice_bounds-decode_item-count
-slice_bounds-decode_item-count c = ?
+slice_bounds-decode_item-count c = bytes_some c.args.text.now c.args.token c.requires
 
 pub slice_bounds-decode_item-start : goal.slice_bounds-decode_item-start
-slice_bounds-decode_item-start c = ?
+slice_bounds-decode_item-start c = bytes_some c.args.text.now c.args.token c.requires
 
 pub slice_bounds-decode_item-count-in-Text : goal.slice_bounds-decode_item-count-in-Text
-slice_bounds-decode_item-count-in-Text c = ?
+slice_bounds-decode_item-count-in-Text c = bytes_some c.args.text.now c.args.token c.requires
 
 pub slice_bounds-decode_item-start-in-Text : goal.slice_bounds-decode_item-start-in-Text
-slice_bounds-decode_item-start-in-Text c = ?
+slice_bounds-decode_item-start-in-Text c = bytes_some c.args.text.now c.args.token c.requires
 
 pub returns-in-Quoted-clause-err : goal.returns-in-Quoted-clause-err
 returns-in-Quoted-clause-err c =
