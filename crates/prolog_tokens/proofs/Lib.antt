@@ -15,6 +15,7 @@ pub mod LongestLemmas
 pub mod SpaceLemmas
 pub mod GapLaws
 pub mod NextLemmas
+pub mod ReadBackLemmas
 pub mod StreamLemmas
 pub mod AppendLemmas
 pub mod SpellingLemmas

@@ -34,7 +34,7 @@ no_comment [] h = refl
 no_comment (b ∷ bs) h = or_false (is_layout b || (b == 37)) (begins_comment (b ∷ bs)) h
 
 -- where none begins, none is found
-no_space_at : (bs : List ℕ) → begins_space bs ≡ false → space_at bs ≡ Ok 0
+pub no_space_at : (bs : List ℕ) → begins_space bs ≡ false → space_at bs ≡ Ok 0
 no_space_at [] h = refl
 no_space_at (b ∷ bs) h =
     let rest = or_first (is_layout b || (b == 37)) (begins_comment (b ∷ bs)) h in
@@ -65,7 +65,7 @@ module _ (c : Cursor) (within : c.at ≤ length c.text) where
   rest_len gap after whole = omega (arith, ap length whole, length-append gap after, length-drop c.at c.text)
 
   -- where the gap ends, the token there is next
-  next_behind : (gap after : List ℕ) → drop c.at c.text ≡ gap ++ after → gap_len 0 (drop c.at c.text) ≡ Ok (length gap)
+  pub next_behind : (gap after : List ℕ) → drop c.at c.text ≡ gap ++ after → gap_len 0 (drop c.at c.text) ≡ Ok (length gap)
       → next_of c ≡ (if nat_lt (c.at + length gap) (length c.text) then placed (c.at + length gap) (token_at after) else Ok None)
   next_behind gap after whole is = rw is (rw (rest_is gap after whole) refl)
 
