@@ -10,7 +10,7 @@ use Rattle.prolog_tokens.specs.declared.piece.Piece.{Piece}
 use Rattle.prolog_tokens.specs.declared.piece.Piece.TheVariants.{Character, Dropped, Closing, Fault}
 use Rattle.prolog_tokens.specs.declared.fault.LexKind.{LexKind}
 use Rattle.prolog_tokens.specs.declared.fault.LexFault.{LexFault}
-use Rattle.prolog_tokens.proofs.Places.{further-further, further-zero}
+use Rattle.prolog_tokens.proofs.PlaceLemmas.{further-further, further-zero}
 use Rattle.prolog_tokens.proofs.CharacterLemmas.{encoded}
 use Rattle.prolog_tokens.proofs.PieceLemmas.{IsPiece, piece_is}
 use Rattle.prolog_tokens.proofs.SpelledLemmas.{quote_small, spelled_piece, dropped_piece, closing_piece}

@@ -18,7 +18,7 @@ use Rattle.prolog_tokens.specs.declared.token.Token.{Token}
 use Rattle.prolog_tokens.specs.declared.fault.LexFault.{LexFault}
 use Rattle.prolog_tokens.proofs.CharacterLemmas.{either}
 use Rattle.prolog_tokens.proofs.RunLemmas.{length-run}
-use Rattle.prolog_tokens.proofs.GapLaws.{gap_ends, whole_gap, gap_len-IsGap, gap_fault_found}
+use Rattle.prolog_tokens.proofs.WholeGapLemmas.{gap_ends, whole_gap, gap_len-IsGap, gap_fault_found}
 use Rattle.prolog_tokens.proofs.LongestLemmas.{IsMatch, is_match, fault_is_found}
 
 or_false : (a b : Bool) → (a || b) ≡ false → b ≡ false

@@ -31,7 +31,7 @@ use Rattle.prolog_tokens.proofs.ItemLemmas.{characters_at_closing}
 use Rattle.prolog_tokens.proofs.SpelledLemmas.{closing_piece}
 use Rattle.prolog_tokens.proofs.BodyLemmas.{item_closed, item_characters-body}
 use Rattle.prolog_tokens.proofs.FitLemmas.{token_at_single}
-use Rattle.prolog_tokens.proofs.GapLaws.{gap_ends}
+use Rattle.prolog_tokens.proofs.WholeGapLemmas.{gap_ends}
 use Rattle.prolog_tokens.proofs.NextLemmas.{no_space_at, next_behind}
 use Rattle.prolog_tokens.proofs.SpellingLemmas.{quoted, spelling_quoted}
 

@@ -139,17 +139,19 @@ body_closed bs h = record {
 pub body_open : (bs : List ℕ) → length bs ≤ body_len bs → HasNoEnd bs
 body_open bs h before after is = omega (arith, h, ap body_len is, body_len-le-before before after, ap length is, length-append before (42 ∷ 47 ∷ after))
 
+-- an end in front of the first is the first
+first_end : (body after front rest : List ℕ) → EndsFirst body → body ++ 42 ∷ 47 ∷ after ≡ front ++ 42 ∷ 47 ∷ rest → length front ≤ length body → length body ≤ length front
+first_end body after front rest h same short =
+    let cut = cut_longer (body ++ 42 ∷ 47 ∷ []) after (front ++ 42 ∷ 47 ∷ []) rest (sym (end_two body after) ∙ same ∙ end_two front rest)
+        (omega (arith, short, length-append body (42 ∷ 47 ∷ []), length-append front (42 ∷ 47 ∷ []))) in
+    h front cut.0 (cut.1 ∙ append_assoc front (42 ∷ 47 ∷ []) cut.0)
+
 pub body_len-end : (body after : List ℕ) → EndsFirst body → body_len (body ++ 42 ∷ 47 ∷ after) ≡ length body
-body_len-end body after h =
-    let le = body_len-le-before body after in
-    let n = body_len (body ++ 42 ∷ 47 ∷ after) in
-    let bs = body ++ 42 ∷ 47 ∷ after in
-    let at = closed_at bs (omega (arith, le, length-append body (42 ∷ 47 ∷ after))) in
-    let short = length-take-le n bs (body_len-le-length bs) in
-    let cut = cut_longer (body ++ 42 ∷ 47 ∷ []) after (take n bs ++ 42 ∷ 47 ∷ []) at.0 (sym (end_two body after) ∙ at.1 ∙ end_two (take n bs) at.0)
-        (omega (arith, le, short, length-append body (42 ∷ 47 ∷ []), length-append (take n bs) (42 ∷ 47 ∷ []))) in
-    let long = h (take n bs) cut.0 (cut.1 ∙ append_assoc (take n bs) (42 ∷ 47 ∷ []) cut.0) in
-    omega (arith, le, short, long)
+body_len-end body after h = by_front (body_len (body ++ 42 ∷ 47 ∷ after)) (body_len-le-before body after) (length-take-le _ (body ++ 42 ∷ 47 ∷ after) (body_len-le-length (body ++ 42 ∷ 47 ∷ after)))
+    (closed_at (body ++ 42 ∷ 47 ∷ after) (omega (arith, body_len-le-before body after, length-append body (42 ∷ 47 ∷ after))))
+  where
+    by_front : (n : ℕ) → n ≤ length body → length (take n (body ++ 42 ∷ 47 ∷ after)) ≡ n → (rest : List ℕ) × (body ++ 42 ∷ 47 ∷ after ≡ take n (body ++ 42 ∷ 47 ∷ after) ++ 42 ∷ 47 ∷ rest) → n ≡ length body
+    by_front n le len at = omega (arith, le, len, first_end body after (take n (body ++ 42 ∷ 47 ∷ after)) at.0 h at.1 (omega (arith, le, len)))
 
 pub body_len-open : (body : List ℕ) → HasNoEnd body → body_len body ≡ length body
 body_len-open body h = ⊎_elim closed (λ f. omega (arith, ltb-false (body_len body) (length body) f, body_len-le-length body)) (either (nat_lt (body_len body) (length body)))

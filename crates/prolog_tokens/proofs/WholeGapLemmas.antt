@@ -5,7 +5,7 @@ use Rattle.prolog_tokens.specs.Places.{fault_at, moved, further}
 use Rattle.prolog_tokens.specs.Layout.{space_at, gap_len, gap_past}
 use Rattle.prolog_tokens.specs.Gaps.{IsSpace, layout, line, block, IsGap, nothing, more, begins_space, IsCommentFault, IsGapFault, IsWholeGap}
 use Rattle.prolog_tokens.specs.declared.fault.LexFault.{LexFault}
-use Rattle.prolog_tokens.proofs.Places.{further-further, further-zero}
+use Rattle.prolog_tokens.proofs.PlaceLemmas.{further-further, further-zero}
 use Rattle.prolog_tokens.proofs.GapLemmas.{past_space}
 use Rattle.prolog_tokens.proofs.SpaceLemmas.{Space, IsSpaceAnswer, space_is, space_found, comment_fault_found}
 
