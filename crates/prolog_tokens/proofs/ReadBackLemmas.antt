@@ -1,10 +1,10 @@
 -- A spelled name is read back.
-use Rattle.std.proofs.Common.{◌≡◌, ◌≢◌, ℕ, zero, suc, ◌+◌, ◌-◌, ◌*◌, ◌/◌, ◌%◌, ◌<◌, ◌≤◌, ◌||◌, ◌&&◌, ◌==◌, nat_lt, nat_le, Bool, true, false, List, [], ◌∷◌, ◌++◌, length, take, drop, Option, Some, None, Result, Ok, Err, ◌⊎◌, inl, inr, ⊎_elim, refl, sym, ◌∙◌, ap, subst, append_assoc, append-nil, add-zero, length-append, length-drop, arith, lit<, if◌then◌else◌, ltb}
+use Rattle.std.proofs.Common.{◌≡◌, ℕ, ◌+◌, ◌-◌, ◌/◌, ◌%◌, ◌<◌, ◌≤◌, ◌||◌, ◌&&◌, ◌==◌, nat_lt, nat_le, Bool, true, false, List, [], ◌∷◌, ◌++◌, length, take, drop, Some, Ok, ◌⊎◌, inl, inr, ⊎_elim, refl, sym, ◌∙◌, ap, subst, append_assoc, append-nil, add-zero, length-append, length-drop, arith, if◌then◌else◌, ltb}
 use Rattle.std.specs.List.{flat_map, prefix_len}
 use Rattle.std.specs.Char.{IsScalar, encode_utf8, digit_char, digit_value, is_digit as is_digit_in}
 use Rattle.std.specs.Str.{IsUtf8, encode_utf8_all, all_scalars}
 use Rattle.std.proofs.Math.Utf8.{scalar, low_scalar}
-use Rattle.std.proofs.lemmas.Bool.{eqb-true, eqb-false, ne_eqb, eq-eqb, ltb-true, ltb-false, lt-ltb, le-ltb, le-leb, leb-true}
+use Rattle.std.proofs.lemmas.Bool.{eqb-true, eqb-false, ne_eqb, ltb-true, ltb-false, lt-ltb, le-ltb, le-leb, leb-true}
 use Rattle.std.proofs.lemmas.Bool.Decides.{nat_tests}
 use Rattle.std.proofs.lemmas.Grind.{flat_map-append}
 use Rattle.std.proofs.lemmas.List.{take_at, take_all, drop-drop}
@@ -12,16 +12,16 @@ use Rattle.std.proofs.lemmas.Str.{encode_ascii, digit_value-digit_char}
 use Rattle.prolog_tokens.specs.Numbers.{number_of}
 use Rattle.prolog_tokens.specs.Characters.{is_quotable}
 use Rattle.prolog_tokens.specs.Pieces.{escape_of}
-use Rattle.prolog_tokens.specs.Forms.{Each, AreDigits, SpellsCharacter, doubled, itself, escaped, hexadecimal, octal, IsBody, empty, character, dropped}
+use Rattle.prolog_tokens.specs.Forms.{Each, AreDigits, SpellsCharacter, itself, escaped, hexadecimal, IsBody, empty, character}
 use Rattle.prolog_tokens.specs.Spelling.{is_plain_word, is_empty_list, spelled_byte, spelling}
 use Rattle.prolog_tokens.specs.Spelling.{hexadecimal as hexadecimal_digits}
 use Rattle.prolog_tokens.specs.Bytes.{is_small, is_word, is_graphic, is_layout, begins_with}
 use Rattle.prolog_tokens.specs.Layout.{gap_len}
-use Rattle.prolog_tokens.specs.Items.{item_len, item_characters}
+use Rattle.prolog_tokens.specs.Items.{item_len}
 use Rattle.prolog_tokens.specs.Tokens.{token_at, item_of, mark_at}
 use Rattle.prolog_tokens.specs.Cursor.{Cursor, next_of}
 use Rattle.prolog_tokens.specs.Gaps.{begins_space}
-use Rattle.prolog_tokens.specs.Decoding.{bytes_of, meaning_of, characters_of}
+use Rattle.prolog_tokens.specs.Decoding.{bytes_of, meaning_of}
 use Rattle.prolog_tokens.specs.ReadBack.{goes_on, token_between, IsReadBack, IsListReadBack}
 use Rattle.prolog_tokens.specs.declared.token.TokenKind.{TokenKind}
 use Rattle.prolog_tokens.specs.declared.token.TokenKind.TheVariants as kind
@@ -42,10 +42,13 @@ high_bytes c h = rw (le-ltb c 128 h) (⊎_elim (λ t. two t) (λ f. ⊎_elim (λ
   where
     past : (n : ℕ) → 128 ≤ n → nat_le 128 n ≡ true
     past n k = le-leb 128 n k
+
     two : ltb c 2048 ≡ true → Each (λ b. nat_le 128 b) (if ltb c 2048 then (192 + c / 64) ∷ (128 + c % 64) ∷ [] else (if ltb c 65536 then (224 + c / 4096) ∷ (128 + c / 64 % 64) ∷ (128 + c % 64) ∷ [] else (240 + c / 262144) ∷ (128 + c / 4096 % 64) ∷ (128 + c / 64 % 64) ∷ (128 + c % 64) ∷ []))
     two t = rw t (past _ (omega arith), (past _ (omega arith), tt))
+
     three : ltb c 2048 ≡ false → ltb c 65536 ≡ true → Each (λ b. nat_le 128 b) (if ltb c 2048 then (192 + c / 64) ∷ (128 + c % 64) ∷ [] else (if ltb c 65536 then (224 + c / 4096) ∷ (128 + c / 64 % 64) ∷ (128 + c % 64) ∷ [] else (240 + c / 262144) ∷ (128 + c / 4096 % 64) ∷ (128 + c / 64 % 64) ∷ (128 + c % 64) ∷ []))
     three f t = rw (f, t) (past _ (omega arith), (past _ (omega arith), (past _ (omega arith), tt)))
+
     four : ltb c 2048 ≡ false → ltb c 65536 ≡ false → Each (λ b. nat_le 128 b) (if ltb c 2048 then (192 + c / 64) ∷ (128 + c % 64) ∷ [] else (if ltb c 65536 then (224 + c / 4096) ∷ (128 + c / 64 % 64) ∷ (128 + c % 64) ∷ [] else (240 + c / 262144) ∷ (128 + c / 4096 % 64) ∷ (128 + c / 64 % 64) ∷ (128 + c % 64) ∷ []))
     four f g = rw (f, g) (past _ (omega arith), (past _ (omega arith), (past _ (omega arith), (past _ (omega arith), tt))))
 
@@ -77,6 +80,7 @@ hexadecimal_are b h = ⊎_elim one two (either (nat_lt b 16))
         let small = ltb-true b 16 t in
         let v = digit_value-digit_char b (omega (arith, small)) in
         rw t ((digit_of (digit_char b) b v small, tt), number_one (digit_char b) b v)
+
     two : nat_lt b 16 ≡ false → AreDigits 16 (hexadecimal_digits b) × (b ≡ number_of 16 (hexadecimal_digits b))
     two f =
         let v = digit_value-digit_char (b / 16) (omega arith) in
@@ -123,6 +127,7 @@ spelled_ascii c h =
   where
     by_number : (nat_lt c 32 || (c == 127)) ≡ true → SpellsCharacter 39 c (92 ∷ 120 ∷ (hexadecimal_digits c ++ 92 ∷ []))
     by_number t = let are = hexadecimal_are c h in hexadecimal (hexadecimal_digits c) are.0 (low_scalar c (omega arith)) are.1 refl
+
     plain : ((c == 39) || (c == 92)) ≡ false → (nat_lt c 32 || (c == 127)) ≡ false → SpellsCharacter 39 c (c ∷ [])
     plain q k =
         let q' = or_neither (c == 39) (c == 92) q in
@@ -140,6 +145,7 @@ spelled_character c scalar = ⊎_elim low high (either (nat_lt c 128))
         let small = ltb-true c 128 t in
         let e = encode_ascii c small in
         subst (SpellsCharacter 39 c) (sym (append-nil (spelled_byte c)) ∙ ap (flat_map spelled_byte) (sym e)) (spelled_ascii c small)
+
     high : nat_lt c 128 ≡ false → SpellsCharacter 39 c (flat_map spelled_byte (encode_utf8 c))
     high f =
         let large = ltb-false c 128 f in

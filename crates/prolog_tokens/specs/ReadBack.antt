@@ -1,11 +1,11 @@
 -- A spelled name is read back.
 --
 -- To believe: `IsReadBack`, and in Spelling.antt `spelling`.
-use Rattle.std.specs.Prelude.{◌≡◌, ◌≢◌, ℕ, ◌+◌, Bool, false, ◌||◌, ◌==◌, List, [], ◌∷◌, ◌++◌, length, drop, Some, Ok, ◌⊎◌}
+use Rattle.std.specs.Prelude.{◌≡◌, ℕ, ◌+◌, Bool, false, ◌||◌, ◌==◌, List, [], ◌∷◌, length, Some, Ok, ◌⊎◌}
 use Rattle.prolog_tokens.specs.Bytes.{is_word}
 use Rattle.prolog_tokens.specs.Cursor.{Cursor, next_of}
 use Rattle.prolog_tokens.specs.Decoding.{characters_of}
-use Rattle.prolog_tokens.specs.Spelling.{is_empty_list, spelling}
+use Rattle.prolog_tokens.specs.Spelling.{spelling}
 use Rattle.prolog_tokens.specs.declared.token.TokenKind.{TokenKind}
 use Rattle.prolog_tokens.specs.declared.token.TokenKind.TheVariants.{Name, Quoted, List as OpenList, ListEnd}
 use Rattle.prolog_tokens.specs.declared.token.Token.{Token}

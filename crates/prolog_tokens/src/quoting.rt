@@ -80,7 +80,11 @@ fn digit(value: u8) -> u8
     requires { value < 16 }
     ensures { result ≡ digit_char value }
 {
-    if value < 10 { b'0' + value } else { b'a' + (value - 10) }
+    if value < 10 {
+        b'0' + value
+    } else {
+        b'a' + (value - 10)
+    }
 }
 
 /// What `quote` spells is read back, in any text, where no letter, digit, underscore or single quote follows: for a name in

@@ -81,7 +81,11 @@ fn tokens_in_order(rt: HostRuntime) {
 #[test]
 fn first_tokens(rt: HostRuntime) {
     for (text, kind, end) in [
-        (&b"170141183460469231731687303715884105727"[..], TokenKind::Int(i128::MAX), 39),
+        (
+            &b"170141183460469231731687303715884105727"[..],
+            TokenKind::Int(i128::MAX),
+            39,
+        ),
         (b"0x1.5", TokenKind::Int(1), 3),
         (b"0xaBg", TokenKind::Int(171), 4),
         (b"0o17", TokenKind::Int(15), 4),
@@ -108,8 +112,16 @@ fn first_tokens(rt: HostRuntime) {
 fn faults(rt: HostRuntime) {
     for (text, kind, at) in [
         (&b"p(1.5)."[..], LexKind::Float, 2),
-        (b"1111111111111111111111111111111111111111.5", LexKind::WideNumber, 0),
-        (b" 170141183460469231731687303715884105728", LexKind::WideNumber, 1),
+        (
+            b"1111111111111111111111111111111111111111.5",
+            LexKind::WideNumber,
+            0,
+        ),
+        (
+            b" 170141183460469231731687303715884105728",
+            LexKind::WideNumber,
+            1,
+        ),
         (b"p('ab", LexKind::Unclosed, 2),
         (b"'a\\\\\n'", LexKind::Unclosed, 0),
         (b"'a''b", LexKind::Unclosed, 0),
@@ -132,7 +144,12 @@ fn faults(rt: HostRuntime) {
     ] {
         assert_eq!(rt; first_fault(text), Some(LexFault { kind, at }));
     }
-    for text in [&b"p('\xc3\xa9'). % \xc3\xbc"[..], b"% \x01\rb\n/* \x7f */", b"0x1.5", b"'a\\\nb'."] {
+    for text in [
+        &b"p('\xc3\xa9'). % \xc3\xbc"[..],
+        b"% \x01\rb\n/* \x7f */",
+        b"0x1.5",
+        b"'a\\\nb'.",
+    ] {
         assert_eq!(rt; first_fault(text), None);
     }
 }
@@ -155,7 +172,10 @@ fn characters_and_spellings(rt: HostRuntime) {
         (&b"foo_1("[..], &b"foo_1"[..]),
         (b"'it''s'", b"it's"),
         (b"\"a\"\"b'c\"", b"a\"b'c"),
-        (b"'\\a\\b\\f\\n\\r\\t\\v\\\\\\'\\\"\\`'", b"\x07\x08\x0c\n\r\t\x0b\\'\"`"),
+        (
+            b"'\\a\\b\\f\\n\\r\\t\\v\\\\\\'\\\"\\`'",
+            b"\x07\x08\x0c\n\r\t\x0b\\'\"`",
+        ),
         (b"'a\\\nb'", b"ab"),
         (b"'\\x0041\\\\0\\\\351\\'", b"A\0\xc3\xa9"),
         (b"\"\xe2\x82\xac\"", b"\xe2\x82\xac"),
