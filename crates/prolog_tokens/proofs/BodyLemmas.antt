@@ -1,5 +1,5 @@
 -- Items, by their bodies.
-use Rattle.std.proofs.Common.{◌≡◌, ℕ, zero, suc, ◌+◌, ◌<◌, ◌≤◌, false, List, [], ◌∷◌, ◌++◌, length, drop, Result, Ok, Err, refl, sym, ◌∙◌, ap, subst, inl, inr, ⊎_elim, append_assoc, length-append, arith, ◌⊎◌}
+use Rattle.std.proofs.Common.{◌≡◌, ℕ, zero, suc, ◌+◌, ◌<◌, ◌≤◌, false, List, [], ◌∷◌, ◌++◌, length, Result, Ok, Err, refl, sym, ◌∙◌, ap, subst, inl, inr, ⊎_elim, append_assoc, length-append, arith, ◌⊎◌}
 use Rattle.std.proofs.lemmas.List.{drop_at}
 use Rattle.prolog_tokens.specs.Bytes.{begins_with}
 use Rattle.prolog_tokens.specs.Places.{fault_at, further}
@@ -10,7 +10,7 @@ use Rattle.prolog_tokens.specs.declared.piece.Piece.{Piece}
 use Rattle.prolog_tokens.specs.declared.piece.Piece.TheVariants.{Character, Dropped, Closing, Fault}
 use Rattle.prolog_tokens.specs.declared.fault.LexKind.{LexKind}
 use Rattle.prolog_tokens.specs.declared.fault.LexFault.{LexFault}
-use Rattle.prolog_tokens.proofs.Places.{further-further, further-zero}
+use Rattle.prolog_tokens.proofs.PlaceLemmas.{further-further, further-zero}
 use Rattle.prolog_tokens.proofs.CharacterLemmas.{encoded}
 use Rattle.prolog_tokens.proofs.PieceLemmas.{IsPiece, piece_is}
 use Rattle.prolog_tokens.proofs.SpelledLemmas.{quote_small, spelled_piece, dropped_piece, closing_piece}
@@ -132,12 +132,14 @@ item_is quote bs q = ⊎_elim closes (λ h. fails h.0 h.1) p.stops
   where
     p : Parts quote bs
     p = parts quote bs q
+
     closes : piece_at quote p.after ≡ Closing → IsItemLen quote bs (item_len quote 0 bs)
     closes e =
         let k : IsPiece quote p.after Closing = subst (IsPiece quote p.after) e (piece_is quote p.after (quote_small quote q)) in
         let whole = p.whole ∙ ap (λ (xs : List ℕ). p.body ++ xs) k.1 in
         let len = ap (item_len quote 0) whole ∙ item_closed quote k.0 q p.is_body k.2 in
         rw len (record { characters = p.characters; body = p.body; rest = k.0; is_body = p.is_body; whole = whole; apart = k.2; count = refl })
+
     fails : (kind : LexKind) → piece_at quote p.after ≡ Fault kind → IsItemLen quote bs (item_len quote 0 bs)
     fails kind e =
         let len = ap (item_len quote 0) p.whole ∙ item_failed quote kind p.after q p.is_body e in

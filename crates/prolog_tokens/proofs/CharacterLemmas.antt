@@ -70,10 +70,13 @@ encoded c = ⊎_elim (λ h. one h) (λ h. ⊎_elim (λ h'. two h h') (λ h'. ⊎
   where
     one : ltb c 128 ≡ true → Encoded c
     one h = record { first = c; others = []; whole = rw h refl; count = rw h refl }
+
     two : ltb c 128 ≡ false → ltb c 2048 ≡ true → Encoded c
     two h h' = record { first = 192 + c / 64; others = (128 + c % 64) ∷ []; whole = rw (h, h') refl; count = encoded_by_two c (ltb-true c 2048 h') }
+
     three : ltb c 128 ≡ false → ltb c 2048 ≡ false → ltb c 65536 ≡ true → Encoded c
     three h h' h'' = record { first = 224 + c / 4096; others = (128 + c / 64 % 64) ∷ (128 + c % 64) ∷ []; whole = rw (h, h', h'') refl; count = encoded_by_three c (ltb-true c 65536 h'') }
+
     four : ltb c 128 ≡ false → ltb c 2048 ≡ false → ltb c 65536 ≡ false → Encoded c
     four h h' h'' = record { first = 240 + c / 262144; others = (128 + c / 4096 % 64) ∷ (128 + c / 64 % 64) ∷ (128 + c % 64) ∷ []; whole = rw (h, h', h'') refl; count = encoded_by_four c }
 
@@ -83,7 +86,7 @@ unfolding character_at
 character_at_encoded c rest is =
     let e = encoded c in
     let front : take (1 + continuation_len e.first) (e.first ∷ (e.others ++ rest)) ≡ encode_utf8 c =
-        rw (e.count, e.whole) (take_at (e.first ∷ e.others) rest (1 + length e.others) (omega arith)) in
+    rw (e.count, e.whole) (take_at (e.first ∷ e.others) rest (1 + length e.others) (omega arith)) in
     let one : chars (encode_utf8 c) ≡ c ∷ [] = ap chars (sym (append-nil (encode_utf8 c))) ∙ chars-encodes (c ∷ []) (rw is refl) in
     rw e.whole (rw front (rw (is_utf8-from_IsUtf8 (encode_utf8 c) (IsUtf8-encode c is), one) refl))
 
@@ -111,6 +114,7 @@ character_at_found (b ∷ bs) c is = ⊎_elim (λ t. text t) (λ f. absurd (none
   where
     none : is_utf8 (take (1 + continuation_len b) (b ∷ bs)) ≡ false → ⊥
     none f = let h = rw f at is in cc
+
     text : is_utf8 (take (1 + continuation_len b) (b ∷ bs)) ≡ true → Found (b ∷ bs) c
     text t =
         let front = take (1 + continuation_len b) (b ∷ bs) in

@@ -1,7 +1,7 @@
 -- Classes of bytes are apart from each other.
-use Rattle.std.proofs.Common.{◌≡◌, ℕ, ◌≤◌, ◌<◌, ◌||◌, ◌==◌, Bool, true, false, List, [], ◌∷◌, refl, sym, ◌∙◌, arith}
+use Rattle.std.proofs.Common.{◌≡◌, ℕ, ◌||◌, ◌==◌, Bool, true, false, arith}
 use Rattle.std.proofs.lemmas.Bool.Decides.{nat_tests}
-use Rattle.prolog_tokens.specs.Bytes.{is_small, is_capital, is_digit, is_word, is_graphic, is_layout}
+use Rattle.prolog_tokens.specs.Bytes.{is_small, is_capital, is_digit, is_graphic, is_layout}
 
 -- a byte that begins a variable
 abbrev pub is_variable : ℕ → Bool

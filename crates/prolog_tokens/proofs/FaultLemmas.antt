@@ -1,26 +1,24 @@
 -- Where there is a fault of the table, the computed token is that fault.
-use Rattle.std.proofs.Common.{◌≡◌, ◌≢◌, ℕ, zero, suc, ◌+◌, ◌-◌, ◌<◌, ◌≤◌, ◌^◌, ◌==◌, ◌&&◌, ◌||◌, nat_lt, Bool, true, false, List, [], ◌∷◌, ◌++◌, length, take, drop, pos, Option, Some, None, Result, Ok, Err, ◌⊎◌, inl, inr, ⊎_elim, refl, sym, ◌∙◌, ap, subst, append_assoc, length-append, zero-add, arith, lit<, if◌then◌else◌}
+use Rattle.std.proofs.Common.{◌≡◌, ℕ, suc, ◌+◌, ◌-◌, ◌<◌, ◌≤◌, ◌^◌, ◌==◌, ◌||◌, nat_lt, Bool, true, false, List, [], ◌∷◌, ◌++◌, length, take, drop, Option, Some, None, Err, ◌⊎◌, inl, inr, ⊎_elim, refl, sym, ◌∙◌, ap, subst, zero-add, arith, lit<, if◌then◌else◌}
 use Rattle.std.specs.Char.{is_digit as is_digit_in, IsScalar, digit_value}
-use Rattle.std.specs.List.{prefix_len}
 use Rattle.std.proofs.Math.Utf8.{scalar}
-use Rattle.std.proofs.lemmas.Bool.{eqb-true, eqb-false, ne_eqb, ltb-true, ltb-false, lt-ltb, le-ltb}
+use Rattle.std.proofs.lemmas.Bool.{eqb-true, ne_eqb, ltb-true, lt-ltb, le-ltb}
 use Rattle.std.proofs.lemmas.Bool.Decides.{nat_tests}
 use Rattle.std.proofs.lemmas.List.{take_at, drop_at}
-use Rattle.prolog_tokens.specs.Bytes.{is_digit, begins_with, begins_comment}
-use Rattle.prolog_tokens.specs.Places.{fault_at, further}
+use Rattle.prolog_tokens.specs.Bytes.{begins_with}
+use Rattle.prolog_tokens.specs.Places.{fault_at}
 use Rattle.prolog_tokens.specs.Numbers.{digits_len, number_of}
 use Rattle.prolog_tokens.specs.Pieces.{piece_at, escape_of}
 use Rattle.prolog_tokens.specs.Items.{item_len}
-use Rattle.prolog_tokens.specs.Tokens.{Answer, integer, is_fraction, decimal_at, based_at, code_of, integer_at, item_of, item_fault, token_at}
-use Rattle.prolog_tokens.specs.Forms.{Each, IsRun, AreDigits, IsBase, hexadecimal_base, octal_base, binary_base, SpellsCharacter, doubled, itself, escaped, hexadecimal, octal, SpellsNone, SpellsInteger, decimal, based, code, IsOfForm, IsQuote, IsOpen, FitsNone, IsFault, no_token, byte_in_item, byte_after_zero, open_item, escape_in_item, escape_after_zero, fraction, wide}
-use Rattle.prolog_tokens.specs.declared.piece.Piece.{Piece}
-use Rattle.prolog_tokens.specs.declared.piece.Piece.TheVariants.{Character, Dropped, Closing, Fault}
+use Rattle.prolog_tokens.specs.Tokens.{decimal_at, based_at, code_of, integer_at, item_of, item_fault, token_at}
+use Rattle.prolog_tokens.specs.Forms.{Each, AreDigits, IsBase, hexadecimal_base, octal_base, binary_base, SpellsCharacter, doubled, itself, escaped, hexadecimal, octal, SpellsNone, SpellsInteger, decimal, based, code, IsQuote, IsOpen, FitsNone, IsFault, no_token, byte_in_item, byte_after_zero, open_item, escape_in_item, escape_after_zero, fraction, wide}
+use Rattle.prolog_tokens.specs.declared.piece.Piece.TheVariants.{Fault}
 use Rattle.prolog_tokens.specs.declared.token.TokenKind.{TokenKind}
 use Rattle.prolog_tokens.specs.declared.token.TokenKind.TheVariants as kind
 use Rattle.prolog_tokens.specs.declared.fault.LexKind.{LexKind}
 use Rattle.prolog_tokens.specs.declared.fault.LexKind.TheVariants.{BadByte, Unclosed, BadEscape, Float, WideNumber}
 use Rattle.prolog_tokens.specs.declared.fault.LexFault.{LexFault}
-use Rattle.prolog_tokens.proofs.CharacterLemmas.{either, and_true}
+use Rattle.prolog_tokens.proofs.CharacterLemmas.{either}
 use Rattle.prolog_tokens.proofs.NumberLemmas.{decimal_digit, number_of-le-append}
 use Rattle.prolog_tokens.proofs.RunLemmas.{Each-le, Each-run, length-run, prefix_len-Each}
 use Rattle.prolog_tokens.proofs.PieceLemmas.{begins_is}
@@ -34,6 +32,7 @@ item_token quote bs q = ⊎_elim single double q
   where
     single : quote ≡ 39 → (of : TokenKind) × (token_at (quote ∷ bs) ≡ item_of of (item_len quote 0 bs))
     single e = (kind.Quoted, rw e (token_at_single bs))
+
     double : quote ≡ 34 → (of : TokenKind) × (token_at (quote ∷ bs) ≡ item_of of (item_len quote 0 bs))
     double e = (kind.Text, rw e (token_at_double bs))
 
@@ -86,7 +85,7 @@ all_large base n digits after some are is large =
     let short = Each-le p digits after (Each-run p digits are) in
     let len : digits_len base (digits ++ after) ≡ length digits + (digits_len base (digits ++ after) - length digits) = omega (arith, short) in
     let all : take (digits_len base (digits ++ after)) (digits ++ after) ≡ digits ++ take (digits_len base (digits ++ after) - length digits) after =
-        ap (λ m. take m (digits ++ after)) len ∙ take-append-more (digits_len base (digits ++ after) - length digits) digits after in
+    ap (λ m. take m (digits ++ after)) len ∙ take-append-more (digits_len base (digits ++ after) - length digits) digits after in
     le-ltb _ (2 ^ 127) (omega (arith, is, large, number_of-le-append base digits (take (digits_len base (digits ++ after) - length digits) after) some, ap (number_of base) all))
 
 decimal_wide : (n : ℕ) (text after : List ℕ) → AreDigits 10 text → n ≡ number_of 10 text → 2 ^ 127 ≤ n → decimal_at (text ++ after) ≡ Err (fault_at WideNumber 0)
@@ -124,7 +123,7 @@ or_true false b h = inr h
 mark_small : (b : ℕ) → ((b == 92) || (b == 39) || (b == 34) || (b == 96)) ≡ true → b < 1114112
 mark_small b h =
     ⊎_elim (λ k. ⊎_elim (λ l. ⊎_elim (λ m. omega (arith, eqb-true b 92 m)) (λ m. omega (arith, eqb-true b 39 m)) (or_true (b == 92) (b == 39) l)) (λ l. omega (arith, eqb-true b 34 l)) (or_true ((b == 92) || (b == 39)) (b == 34) k))
-      (λ k. omega (arith, eqb-true b 96 k)) (or_true ((b == 92) || (b == 39) || (b == 34)) (b == 96) h)
+    (λ k. omega (arith, eqb-true b 96 k)) (or_true ((b == 92) || (b == 39) || (b == 34)) (b == 96) h)
 
 escaped_small : (b : ℕ) → IsSmall (escape_of b)
 unfolding escape_of
@@ -166,6 +165,7 @@ escape_code after none = ⊎_elim newline other (either (begins_with 10 after))
   where
     newline : begins_with 10 after ≡ true → code_of (piece_at 39 (92 ∷ after)) ≡ Err (fault_at BadEscape 0)
     newline t = let next = begins_is 10 after t in ap (λ (xs : List ℕ). code_of (piece_at 39 (92 ∷ xs))) next.1 ∙ ap code_of (dropped_piece 39 next.0 (inl refl))
+
     other : begins_with 10 after ≡ false → code_of (piece_at 39 (92 ∷ after)) ≡ Err (fault_at BadEscape 0)
     other f = ap code_of (no_escape_piece 39 after (inl refl) none f)
 

@@ -1,15 +1,14 @@
 -- A text of a form at the front is no longer than the computed token, which is then no bad first byte.
-use Rattle.std.proofs.Common.{◌≡◌, ◌≢◌, ℕ, zero, suc, ◌+◌, ◌<◌, ◌≤◌, ◌^◌, ◌==◌, ◌&&◌, ◌||◌, nat_lt, Bool, true, false, List, [], ◌∷◌, ◌++◌, length, take, drop, pos, Result, Ok, Err, ◌⊎◌, inl, inr, ⊎_elim, refl, sym, ◌∙◌, ap, subst, append_assoc, length-append, arith, lit<, if◌then◌else◌}
+use Rattle.std.proofs.Common.{◌≡◌, ◌≢◌, ℕ, ◌+◌, ◌<◌, ◌≤◌, ◌^◌, ◌==◌, ◌&&◌, nat_lt, Bool, true, false, List, [], ◌∷◌, ◌++◌, length, take, drop, pos, Ok, Err, inl, inr, ⊎_elim, refl, sym, ◌∙◌, ap, subst, append_assoc, length-append, arith, if◌then◌else◌}
 use Rattle.std.specs.Char.{is_digit as is_digit_in}
-use Rattle.std.specs.List.{prefix_len}
-use Rattle.std.proofs.lemmas.Bool.{eqb-true, eqb-false, ne_eqb, ltb-true, ltb-false}
-use Rattle.prolog_tokens.specs.Bytes.{is_small, is_capital, is_digit, is_word, is_graphic, begins_with, begins_comment, ends_clause}
-use Rattle.prolog_tokens.specs.Places.{fault_at, further}
+use Rattle.std.proofs.lemmas.Bool.{eqb-true, ne_eqb}
+use Rattle.prolog_tokens.specs.Bytes.{is_small, is_digit, is_word, is_graphic, begins_with, ends_clause}
+use Rattle.prolog_tokens.specs.Places.{fault_at}
 use Rattle.prolog_tokens.specs.Numbers.{digits_len, number_of}
 use Rattle.prolog_tokens.specs.Pieces.{piece_at}
 use Rattle.prolog_tokens.specs.Items.{item_len}
-use Rattle.prolog_tokens.specs.Tokens.{Answer, integer, zero_alone, is_fraction, decimal_at, based_at, code_of, integer_at, item_of, item_fault, mark_at, token_at}
-use Rattle.prolog_tokens.specs.Forms.{Each, IsRun, AreDigits, IsBase, hexadecimal_base, octal_base, binary_base, SpellsCharacter, SpellsInteger, decimal, based, code, IsOfForm, IsGraphicName, IsItem, IsQuote}
+use Rattle.prolog_tokens.specs.Tokens.{Answer, integer, zero_alone, is_fraction, decimal_at, based_at, code_of, integer_at, item_of, mark_at, token_at}
+use Rattle.prolog_tokens.specs.Forms.{Each, IsRun, IsBase, hexadecimal_base, octal_base, binary_base, SpellsInteger, decimal, based, code, IsOfForm, IsGraphicName, IsItem, IsQuote}
 use Rattle.prolog_tokens.specs.declared.piece.Piece.{Piece}
 use Rattle.prolog_tokens.specs.declared.piece.Piece.TheVariants.{Character, Dropped, Closing, Fault}
 use Rattle.prolog_tokens.specs.declared.token.TokenKind.{TokenKind}
@@ -17,7 +16,7 @@ use Rattle.prolog_tokens.specs.declared.token.TokenKind.TheVariants as kind
 use Rattle.prolog_tokens.specs.declared.fault.LexKind.{LexKind}
 use Rattle.prolog_tokens.specs.declared.fault.LexKind.TheVariants.{BadByte, Unclosed, BadEscape, Float, WideNumber}
 use Rattle.prolog_tokens.specs.declared.fault.LexFault.{LexFault}
-use Rattle.prolog_tokens.proofs.CharacterLemmas.{either, and_true}
+use Rattle.prolog_tokens.proofs.CharacterLemmas.{either}
 use Rattle.prolog_tokens.proofs.NumberLemmas.{decimal_digit}
 use Rattle.prolog_tokens.proofs.RunLemmas.{Each-le, Each-run, length-run}
 use Rattle.prolog_tokens.proofs.ClassLemmas.{variable_not_small, digit_not_small, digit_not_variable, graphic_not_small, graphic_not_variable, graphic_not_digit, graphic_not_quote, graphic_not_double, graphic_ends_none}
@@ -105,7 +104,7 @@ digits_fit : (b : ℕ) (ds after : List ℕ) → is_digit_in b 10 ≡ true → E
 digits_fit b [] after h k = digit_fits b after h
 digits_fit b (d ∷ ds) after h k =
     rw (integer_at_digits b d (ds ++ after) (sym (decimal_digit d) ∙ k.0))
-      (decimal_fits (length (b ∷ d ∷ ds)) (b ∷ d ∷ (ds ++ after)) (Each-le (λ x. is_digit_in x 10) (b ∷ d ∷ ds) after (h, k)))
+    (decimal_fits (length (b ∷ d ∷ ds)) (b ∷ d ∷ (ds ++ after)) (Each-le (λ x. is_digit_in x 10) (b ∷ d ∷ ds) after (h, k)))
 
 -- the answer where a digit begins
 pub token_at_digit : (b : ℕ) (bs : List ℕ) → is_digit b ≡ true → token_at (b ∷ bs) ≡ integer_at (b ∷ bs)
@@ -129,7 +128,7 @@ integer_form n text after (based base letter digits base_is are is whole) =
     let p : ℕ → Bool = λ x. is_digit_in x base in
     let P : ℕ → Type 0 = λ m. IsAtLeast m (based_at base (digits ++ after)) in
     rw whole (rw (token_at_digit 48 (letter ∷ (digits ++ after)) refl) (rw (integer_at_based base letter (digits ++ after) base_is)
-      (subst P (omega arith) (based_fits base (length digits) (digits ++ after) (length-run p p digits are) (Each-le p digits after (Each-run p digits are))))))
+    (subst P (omega arith) (based_fits base (length digits) (digits ++ after) (length-run p p digits are) (Each-le p digits after (Each-run p digits are))))))
 integer_form n text after (code part spells whole) =
     rw whole (rw (token_at_digit 48 (39 ∷ (part ++ after)) refl) (rw (integer_at_code (part ++ after)) (rw (spelled_piece 39 n part after (inl refl) spells) (omega arith))))
 

@@ -1,9 +1,9 @@
 -- Layout and comments, one by one.
-use Rattle.std.proofs.Common.{◌≡◌, ℕ, zero, suc, ◌+◌, ◌<◌, ◌≤◌, List, [], ◌∷◌, length, drop, Result, Ok, Err, refl, sym, ◌∙◌, ap, arith}
+use Rattle.std.proofs.Common.{◌≡◌, ℕ, zero, suc, ◌+◌, ◌<◌, ◌≤◌, List, [], ◌∷◌, length, drop, Result, Ok, sym, ◌∙◌, ap, arith}
 use Rattle.std.proofs.lemmas.List.{drop-drop}
 use Rattle.prolog_tokens.specs.Places.{further}
 use Rattle.prolog_tokens.specs.Layout.{space_at, gap_len, gap_past}
-use Rattle.prolog_tokens.proofs.Places.{further-further, further-zero}
+use Rattle.prolog_tokens.proofs.PlaceLemmas.{further-further, further-zero}
 use Rattle.prolog_tokens.specs.declared.fault.LexFault.{LexFault}
 
 -- the other bytes of a comment

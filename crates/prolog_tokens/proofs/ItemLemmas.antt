@@ -4,11 +4,9 @@ use Rattle.std.proofs.lemmas.List.{drop-drop}
 use Rattle.prolog_tokens.specs.Places.{fault_at, further}
 use Rattle.prolog_tokens.specs.Pieces.{piece_at}
 use Rattle.prolog_tokens.specs.Items.{item_len, item_characters}
-use Rattle.prolog_tokens.proofs.Places.{further-further, further-zero}
-use Rattle.prolog_tokens.specs.declared.piece.Piece.{Piece}
+use Rattle.prolog_tokens.proofs.PlaceLemmas.{further-further, further-zero}
 use Rattle.prolog_tokens.specs.declared.piece.Piece.TheVariants.{Character, Dropped, Closing, Fault}
 use Rattle.prolog_tokens.specs.declared.fault.LexKind.{LexKind}
-use Rattle.prolog_tokens.specs.declared.fault.LexKind.TheVariants.{Unclosed}
 use Rattle.prolog_tokens.specs.declared.fault.LexFault.{LexFault}
 
 -- the other bytes of a piece

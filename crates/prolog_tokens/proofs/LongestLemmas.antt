@@ -1,15 +1,14 @@
 -- The computed token is the longest match, and its faults are those of the table.
-use Rattle.std.proofs.Common.{◌≡◌, ℕ, ◌+◌, ◌<◌, ◌≤◌, ◌==◌, false, List, [], ◌∷◌, ◌++◌, length, take, drop, pos, Result, Ok, Err, ◌⊎◌, inl, inr, ⊎_elim, refl, sym, ◌∙◌, ap, subst, arith}
+use Rattle.std.proofs.Common.{◌≡◌, ℕ, ◌<◌, false, List, [], ◌∷◌, length, pos, Ok, Err, ⊎_elim, refl, sym, ◌∙◌, ap, subst, arith}
 use Rattle.std.proofs.lemmas.Bool.{eq-eqb}
 use Rattle.prolog_tokens.specs.Bytes.{begins_with, begins_comment}
 use Rattle.prolog_tokens.specs.Places.{fault_at}
 use Rattle.prolog_tokens.specs.Tokens.{Answer, token_at}
-use Rattle.prolog_tokens.specs.Forms.{SpellsInteger, decimal, IsOfForm, IsLongest, FitsNone, IsQuote, IsFault, no_token, byte_in_item, byte_after_zero, open_item, escape_in_item, escape_after_zero, fraction, wide}
-use Rattle.prolog_tokens.specs.declared.token.TokenKind.{TokenKind}
+use Rattle.prolog_tokens.specs.Forms.{decimal, IsLongest, FitsNone, IsQuote, IsFault, no_token, byte_in_item, byte_after_zero, open_item, escape_in_item, escape_after_zero, fraction, wide}
 use Rattle.prolog_tokens.specs.declared.token.TokenKind.TheVariants as kind
 use Rattle.prolog_tokens.specs.declared.fault.LexKind.TheVariants.{BadByte}
 use Rattle.prolog_tokens.specs.declared.fault.LexFault.{LexFault}
-use Rattle.prolog_tokens.proofs.ReadLemmas.{IsToken, IsUnread, IsRead, token_is}
+use Rattle.prolog_tokens.proofs.ReadLemmas.{IsUnread, IsRead, token_is}
 use Rattle.prolog_tokens.proofs.FitLemmas.{IsAtLeast, form_fits}
 use Rattle.prolog_tokens.proofs.FaultLemmas.{fault_found}
 
@@ -19,6 +18,7 @@ quote_apart quote bytes rest q whole single double = ⊎_elim (λ e. at_single e
   where
     at_single : quote ≡ 39 → ⊥
     at_single e = let both = sym single ∙ ap (begins_with 39) whole ∙ eq-eqb quote 39 e in cc
+
     at_double : quote ≡ 34 → ⊥
     at_double e = let both = sym double ∙ ap (begins_with 34) whole ∙ eq-eqb quote 34 e in cc
 
@@ -57,13 +57,18 @@ IsMatch bytes (Ok t) = (text : List ℕ) × (after : List ℕ) × IsLongest byte
 IsMatch bytes (Err fault) = IsFault bytes fault
 
 match_by : (bytes : List ℕ) (r : Answer) → 0 < length bytes → token_at bytes ≡ r → IsRead bytes r → IsMatch bytes r
-match_by bytes (Ok t) some is h = (h.text, h.after, record {
-  whole = h.whole;
-  of_form = h.of_form;
-  longest = λ other text' after' whole form.
-      let long = subst (IsAtLeast (length text')) (ap token_at (sym whole) ∙ is) (form_fits other text' after' form) in
-      omega (arith, long, h.count);
-}, h.count)
+match_by bytes (Ok t) some is h = (
+  h.text,
+  h.after,
+  record {
+    whole = h.whole;
+    of_form = h.of_form;
+    longest = λ other text' after' whole form.
+        let long = subst (IsAtLeast (length text')) (ap token_at (sym whole) ∙ is) (form_fits other text' after' form) in
+        omega (arith, long, h.count);
+  },
+  h.count,
+)
 match_by bytes (Err fault) some is h = ⊎_elim (λ k. k) (λ k. unread k) h
   where
     unread : IsUnread bytes fault → IsFault bytes fault

@@ -1,15 +1,15 @@
 -- The computed next token is the one of the forms.
-use Rattle.std.proofs.Common.{◌≡◌, ℕ, zero, suc, ◌+◌, ◌-◌, ◌<◌, ◌≤◌, ◌||◌, ◌==◌, nat_lt, Bool, true, false, List, [], ◌∷◌, ◌++◌, length, drop, Option, Some, None, Result, Ok, Err, ◌⊎◌, inl, inr, ⊎_elim, refl, sym, ◌∙◌, ap, subst, append_assoc, append-nil, length-append, length-drop, length-take, arith, if◌then◌else◌}
+use Rattle.std.proofs.Common.{◌≡◌, ℕ, ◌+◌, ◌-◌, ◌<◌, ◌≤◌, ◌||◌, ◌==◌, nat_lt, Bool, true, false, List, [], ◌∷◌, ◌++◌, length, drop, None, Result, Ok, Err, inl, inr, ⊎_elim, refl, sym, ◌∙◌, ap, subst, append-nil, length-append, length-drop, length-take, arith, if◌then◌else◌}
 use Rattle.std.specs.Char.{is_digit as is_digit_in}
 use Rattle.std.proofs.lemmas.Bool.{ltb-true, ltb-false, lt-ltb, le-ltb}
 use Rattle.std.proofs.lemmas.List.{drop_at, drop_all, drop-drop, nil_from_length}
 use Rattle.prolog_tokens.specs.Bytes.{is_small, is_capital, is_word, is_graphic, is_layout, begins_comment}
-use Rattle.prolog_tokens.specs.Places.{fault_at, moved, further}
+use Rattle.prolog_tokens.specs.Places.{further}
 use Rattle.prolog_tokens.specs.Layout.{gap_len, space_at}
 use Rattle.prolog_tokens.specs.Tokens.{Answer, token_at}
-use Rattle.prolog_tokens.specs.Cursor.{Cursor, start_of, placed, token_from, next_of}
+use Rattle.prolog_tokens.specs.Cursor.{Cursor, placed, next_of}
 use Rattle.prolog_tokens.specs.Forms.{IsItem, IsOfForm, SpellsInteger, decimal, based, code, IsLongest, IsFault, no_token, byte_in_item, byte_after_zero, open_item, escape_in_item, escape_after_zero, fraction, wide}
-use Rattle.prolog_tokens.specs.Gaps.{IsGap, begins_space, IsGapFault, IsWholeGap}
+use Rattle.prolog_tokens.specs.Gaps.{IsGap, begins_space, IsWholeGap}
 use Rattle.prolog_tokens.specs.Next.{IsNextToken, HasFault, in_gap, in_token, IsNext}
 use Rattle.prolog_tokens.specs.Decoding.{IsTokenOf, bytes_of}
 use Rattle.prolog_tokens.specs.declared.token.TokenKind.{TokenKind}
@@ -18,7 +18,7 @@ use Rattle.prolog_tokens.specs.declared.token.Token.{Token}
 use Rattle.prolog_tokens.specs.declared.fault.LexFault.{LexFault}
 use Rattle.prolog_tokens.proofs.CharacterLemmas.{either}
 use Rattle.prolog_tokens.proofs.RunLemmas.{length-run}
-use Rattle.prolog_tokens.proofs.GapLaws.{gap_ends, whole_gap, gap_len-IsGap, gap_fault_found}
+use Rattle.prolog_tokens.proofs.WholeGapLemmas.{gap_ends, whole_gap, gap_len-IsGap, gap_fault_found}
 use Rattle.prolog_tokens.proofs.LongestLemmas.{IsMatch, is_match, fault_is_found}
 
 or_false : (a b : Bool) → (a || b) ≡ false → b ≡ false
@@ -34,7 +34,7 @@ no_comment [] h = refl
 no_comment (b ∷ bs) h = or_false (is_layout b || (b == 37)) (begins_comment (b ∷ bs)) h
 
 -- where none begins, none is found
-no_space_at : (bs : List ℕ) → begins_space bs ≡ false → space_at bs ≡ Ok 0
+pub no_space_at : (bs : List ℕ) → begins_space bs ≡ false → space_at bs ≡ Ok 0
 no_space_at [] h = refl
 no_space_at (b ∷ bs) h =
     let rest = or_first (is_layout b || (b == 37)) (begins_comment (b ∷ bs)) h in
@@ -65,7 +65,7 @@ module _ (c : Cursor) (within : c.at ≤ length c.text) where
   rest_len gap after whole = omega (arith, ap length whole, length-append gap after, length-drop c.at c.text)
 
   -- where the gap ends, the token there is next
-  next_behind : (gap after : List ℕ) → drop c.at c.text ≡ gap ++ after → gap_len 0 (drop c.at c.text) ≡ Ok (length gap)
+  pub next_behind : (gap after : List ℕ) → drop c.at c.text ≡ gap ++ after → gap_len 0 (drop c.at c.text) ≡ Ok (length gap)
       → next_of c ≡ (if nat_lt (c.at + length gap) (length c.text) then placed (c.at + length gap) (token_at after) else Ok None)
   next_behind gap after whole is = rw is (rw (rest_is gap after whole) refl)
 
@@ -96,6 +96,7 @@ module _ (c : Cursor) (within : c.at ≤ length c.text) where
     where
       token : nat_lt (c.at + length gap) (length c.text) ≡ true → IsNext c (if nat_lt (c.at + length gap) (length c.text) then placed (c.at + length gap) (token_at after) else Ok None)
       token t = rw t (placed_is gap after whole is_gap apart (token_at after) (is_match after (no_comment after apart) (omega (arith, rest_len gap after whole, ltb-true _ _ t))))
+
       none : nat_lt (c.at + length gap) (length c.text) ≡ false → IsNext c (if nat_lt (c.at + length gap) (length c.text) then placed (c.at + length gap) (token_at after) else Ok None)
       none f =
           let nil : after ≡ [] = nil_from_length after (omega (arith, rest_len gap after whole, ltb-false _ _ f)) in
@@ -162,6 +163,7 @@ token_within text t (at, is) = ⊎_elim past here (either (nat_lt (length text) 
   where
     past : nat_lt (length text) at ≡ true → (t.start < t.end) × (t.end ≤ length text)
     past p = let both = sym (none_past text at (ltb-true (length text) at p)) ∙ is in cc
+
     here : nat_lt (length text) at ≡ false → (t.start < t.end) × (t.end ≤ length text)
     here p =
         let c : Cursor = record { text = text; at = at } in

@@ -1,7 +1,7 @@
 -- What a piece of an item is, by the forms of characters.
-use Rattle.std.proofs.Common.{◌≡◌, ◌≢◌, ℕ, ◌+◌, ◌<◌, ◌≤◌, ◌==◌, ◌&&◌, nat_lt, nat_le, Bool, true, false, List, [], ◌∷◌, ◌++◌, length, take, drop, Option, Some, None, refl, sym, ◌∙◌, ap, subst, inl, inr, ⊎_elim, append_assoc, length-append, arith, lit<}
+use Rattle.std.proofs.Common.{◌≡◌, ◌≢◌, ℕ, ◌+◌, ◌<◌, ◌≤◌, ◌==◌, ◌&&◌, nat_lt, nat_le, Bool, true, false, List, [], ◌∷◌, ◌++◌, length, take, drop, Option, Some, None, refl, sym, ◌∙◌, ap, subst, ⊎_elim, append_assoc, length-append, arith, lit<}
 use Rattle.std.proofs.Math.Utf8.{scalar}
-use Rattle.std.specs.Char.{IsScalar, encode_utf8, len_utf8, is_digit}
+use Rattle.std.specs.Char.{IsScalar, encode_utf8, is_digit}
 use Rattle.std.specs.Str.{all_scalars}
 use Rattle.std.proofs.lemmas.Bool.{eqb-true, eqb-false, ltb-true}
 use Rattle.std.proofs.lemmas.List.{take-append-drop, length-take-le}
@@ -11,12 +11,11 @@ use Rattle.prolog_tokens.specs.Bytes.{begins_with}
 use Rattle.prolog_tokens.specs.Numbers.{digits_len, number_of}
 use Rattle.prolog_tokens.specs.Characters.{character_at, is_quotable}
 use Rattle.prolog_tokens.specs.Pieces.{escape_of, number_escape, escape_at, short_escape, plain_character, closing_at, piece_at}
-use Rattle.prolog_tokens.specs.Forms.{AreDigits, SpellsCharacter, doubled, itself, escaped, hexadecimal, octal, IsLineEnd, IsQuote}
+use Rattle.prolog_tokens.specs.Forms.{AreDigits, SpellsCharacter, doubled, itself, escaped, hexadecimal, octal, IsLineEnd}
 use Rattle.prolog_tokens.specs.declared.piece.Piece.{Piece}
 use Rattle.prolog_tokens.specs.declared.piece.Piece.TheVariants.{Character, Dropped, Closing, Fault}
-use Rattle.prolog_tokens.specs.declared.fault.LexKind.{LexKind}
 use Rattle.prolog_tokens.specs.declared.fault.LexKind.TheVariants.{BadByte, Unclosed, BadEscape, Float, WideNumber}
-use Rattle.prolog_tokens.proofs.CharacterLemmas.{either, and_true, Found, character_at_found}
+use Rattle.prolog_tokens.proofs.CharacterLemmas.{either, and_true, character_at_found}
 use Rattle.prolog_tokens.proofs.RunLemmas.{IsRun-prefix}
 
 -- a text at the front spells the character in so many bytes
@@ -63,6 +62,7 @@ is_by_number base before bs = ⊎_elim (λ t. found t) (λ f. none f) (either (t
   where
     test : Bool
     test = nat_lt 0 (digits_len base bs) && begins_with 92 (drop (digits_len base bs) bs) && all_scalars (number_of base (take (digits_len base bs) bs) ∷ [])
+
     found : test ≡ true → IsByNumber base before bs (number_escape base before bs)
     found t =
         let len = digits_len base bs in
@@ -79,6 +79,7 @@ is_by_number base before bs = ⊎_elim (λ t. found t) (λ f. none f) (either (t
           whole = sym (take-append-drop len bs) ∙ ap (λ (xs : List ℕ). take len bs ++ xs) closed.1;
           count = omega (arith, length-take-le len bs short);
         })
+
     none : test ≡ false → IsByNumber base before bs (number_escape base before bs)
     none f = rw f tt
 
@@ -127,12 +128,15 @@ escape_is quote (b ∷ bs) = ⊎_elim newline (λ n. ⊎_elim (by_x n) (λ x. �
   where
     newline : (b == 10) ≡ true → IsPiece quote (92 ∷ b ∷ bs) (escape_at (b ∷ bs))
     newline n = rw n (bs, ap (λ x. 92 ∷ x ∷ bs) (eqb-true b 10 n))
+
     by_x : (b == 10) ≡ false → (b == 120) ≡ true → IsPiece quote (92 ∷ b ∷ bs) (escape_at (b ∷ bs))
     by_x n x =
         let P : ℕ → Type 0 = λ y. IsPiece quote (92 ∷ y ∷ bs) (number_escape 16 2 bs) in
         rw (n, x) (subst P (sym (eqb-true b 120 x)) (from_hexadecimal quote bs (number_escape 16 2 bs) (is_by_number 16 2 bs)))
+
     by_digit : (b == 10) ≡ false → (b == 120) ≡ false → (nat_le 48 b && nat_le b 55) ≡ true → IsPiece quote (92 ∷ b ∷ bs) (escape_at (b ∷ bs))
     by_digit n x d = rw (n, x, d) (from_octal quote (b ∷ bs) (number_escape 8 1 (b ∷ bs)) n (is_by_number 8 1 (b ∷ bs)))
+
     other : (b == 10) ≡ false → (b == 120) ≡ false → (nat_le 48 b && nat_le b 55) ≡ false → IsPiece quote (92 ∷ b ∷ bs) (escape_at (b ∷ bs))
     other n x d = rw (n, x, d) (from_short quote b bs (escape_of b) refl n)
 
@@ -144,6 +148,7 @@ closing_is quote bs = ⊎_elim two one (either (begins_with quote bs))
     two t =
         let next = begins_is quote bs t in
         rw t (record { text = quote ∷ quote ∷ []; rest = next.0; whole = ap (λ (xs : List ℕ). quote ∷ xs) next.1; count = refl; spells = doubled refl refl })
+
     one : begins_with quote bs ≡ false → IsPiece quote (quote ∷ bs) (closing_at quote bs)
     one f = rw f (bs, refl, f)
 
@@ -169,6 +174,7 @@ character_is quote b bs small q s n (Some c) is = ⊎_elim stands fails (either 
           count = length-encode c;
           spells = itself found.is_scalar t (λ e. q (first_byte b quote c bs found.rest found.whole e small)) (λ e. s (first_byte b 92 c bs found.rest found.whole e (lit< tt))) refl;
         })
+
     fails : is_quotable c ≡ false → IsPiece quote (b ∷ bs) (plain_character (Some c))
     fails f = rw f (b, bs, refl, q, s, n)
 
@@ -182,11 +188,14 @@ piece_is quote (b ∷ bs) small = ⊎_elim by_quote (λ q. ⊎_elim (by_newline 
     by_quote q =
         let P : ℕ → Type 0 = λ x. IsPiece quote (x ∷ bs) (closing_at quote bs) in
         rw q (subst P (sym (eqb-true b quote q)) (closing_is quote bs))
+
     by_newline : (b == quote) ≡ false → (b == 10) ≡ true → IsPiece quote (b ∷ bs) (piece_at quote (b ∷ bs))
     by_newline q n = rw (q, n) (eqb-true b 10 n)
+
     by_backslash : (b == quote) ≡ false → (b == 10) ≡ false → (b == 92) ≡ true → IsPiece quote (b ∷ bs) (piece_at quote (b ∷ bs))
     by_backslash q n s =
         let P : ℕ → Type 0 = λ x. IsPiece quote (x ∷ bs) (escape_at bs) in
         rw (q, n, s) (subst P (sym (eqb-true b 92 s)) (escape_is quote bs))
+
     other : (b == quote) ≡ false → (b == 10) ≡ false → (b == 92) ≡ false → IsPiece quote (b ∷ bs) (piece_at quote (b ∷ bs))
     other q n s = rw (q, n, s) (character_is quote b bs small (eqb-false b quote q) (eqb-false b 92 s) (eqb-false b 10 n) (character_at (b ∷ bs)) refl)

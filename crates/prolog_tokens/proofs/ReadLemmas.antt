@@ -1,5 +1,5 @@
 -- What the computed token says of the bytes.
-use Rattle.std.proofs.Common.{◌≡◌, ℕ, zero, suc, ◌+◌, ◌<◌, ◌≤◌, ◌^◌, ◌==◌, ◌&&◌, ◌||◌, nat_lt, Bool, true, false, List, [], ◌∷◌, ◌++◌, length, take, drop, pos, Result, Ok, Err, ◌⊎◌, inl, inr, ⊎_elim, refl, sym, ◌∙◌, ap, subst, append_assoc, length-append, arith, lit<, if◌then◌else◌}
+use Rattle.std.proofs.Common.{◌≡◌, ℕ, zero, suc, ◌+◌, ◌<◌, ◌^◌, ◌==◌, ◌&&◌, ◌||◌, nat_lt, Bool, true, false, List, [], ◌∷◌, ◌++◌, length, take, drop, Result, Ok, Err, ◌⊎◌, inl, inr, ⊎_elim, refl, sym, ◌∙◌, ap, subst, append_assoc, length-append, arith, lit<, if◌then◌else◌}
 use Rattle.std.specs.Char.{is_digit as is_digit_in}
 use Rattle.std.specs.List.{prefix_len}
 use Rattle.std.proofs.lemmas.Bool.{eqb-true, eqb-false, ltb-true, ltb-false}
@@ -11,7 +11,7 @@ use Rattle.prolog_tokens.specs.Numbers.{digits_len, number_of}
 use Rattle.prolog_tokens.specs.Pieces.{piece_at}
 use Rattle.prolog_tokens.specs.Items.{item_len}
 use Rattle.prolog_tokens.specs.Tokens.{Answer, integer, zero_alone, is_fraction, decimal_at, based_at, code_of, integer_at, item_of, item_fault, mark_at, token_at}
-use Rattle.prolog_tokens.specs.Forms.{Each, IsRun, AreDigits, IsBody, begins_graphic, IsBase, hexadecimal_base, octal_base, binary_base, SpellsInteger, decimal, based, code, IsOfForm, IsItem, IsQuote, IsOpen, IsFault, byte_in_item, byte_after_zero, open_item, escape_in_item, escape_after_zero, fraction, wide}
+use Rattle.prolog_tokens.specs.Forms.{IsBody, begins_graphic, IsBase, hexadecimal_base, octal_base, binary_base, SpellsInteger, decimal, based, code, IsOfForm, IsItem, IsQuote, IsFault, byte_in_item, byte_after_zero, open_item, escape_in_item, escape_after_zero, fraction, wide}
 use Rattle.prolog_tokens.specs.declared.piece.Piece.{Piece}
 use Rattle.prolog_tokens.specs.declared.piece.Piece.TheVariants.{Character, Dropped, Closing, Fault}
 use Rattle.prolog_tokens.specs.declared.token.TokenKind.{TokenKind}
@@ -24,7 +24,7 @@ use Rattle.prolog_tokens.proofs.NumberLemmas.{decimal_digit}
 use Rattle.prolog_tokens.proofs.RunLemmas.{IsRun-prefix, Each-prefix, begins, begins-prefix}
 use Rattle.prolog_tokens.proofs.PieceLemmas.{IsPiece, piece_is, begins_is}
 use Rattle.prolog_tokens.proofs.SpelledLemmas.{quote_small, spells_none, bad_byte}
-use Rattle.prolog_tokens.proofs.BodyLemmas.{Ends, Fails, IsItemLen, item_is}
+use Rattle.prolog_tokens.proofs.BodyLemmas.{IsItemLen, item_is}
 
 -- a text of a form at the front, of that length
 pub record IsToken (bytes : List ℕ) (t : TokenKind × ℕ) : Type 0 where
@@ -55,6 +55,7 @@ integer_is bytes text after number len whole count spells = ⊎_elim narrow larg
   where
     narrow : nat_lt number (2 ^ 127) ≡ true → IsRead bytes (integer number len)
     narrow t = rw t (record { text = text; after = after; whole = whole; count = count; of_form = (number, refl, spells) })
+
     large : nat_lt number (2 ^ 127) ≡ false → IsRead bytes (integer number len)
     large f = rw f (inl (wide number text after spells (ltb-false number (2 ^ 127) f) whole refl))
 
@@ -91,10 +92,11 @@ decimal_is bs some = ⊎_elim broken whole (either (nat_lt (number_of 10 (digits
         let parts = and_true (nat_lt (number_of 10 (digits_of 10 bs)) (2 ^ 127)) (is_fraction (drop (digits_len 10 bs) bs)) t in
         let dot = fraction_is (drop (digits_len 10 bs) bs) parts.1 in
         rw t (inl (fraction (digits_of 10 bs) dot.1 dot.0 (IsRun-prefix (λ b. is_digit_in b 10) bs some) (ltb-true (number_of 10 (digits_of 10 bs)) (2 ^ 127) parts.0) dot.3
-          (digits_split 10 bs ∙ ap (λ (xs : List ℕ). digits_of 10 bs ++ xs) dot.2) refl))
+        (digits_split 10 bs ∙ ap (λ (xs : List ℕ). digits_of 10 bs ++ xs) dot.2) refl))
+
     whole : (nat_lt (number_of 10 (digits_of 10 bs)) (2 ^ 127) && is_fraction (drop (digits_len 10 bs) bs)) ≡ false → IsRead bs (decimal_at bs)
     whole f = rw f (integer_is bs (digits_of 10 bs) (drop (digits_len 10 bs) bs) (number_of 10 (digits_of 10 bs)) (digits_len 10 bs) (digits_split 10 bs) (length-digits 10 bs)
-      (decimal (IsRun-prefix (λ b. is_digit_in b 10) bs some) refl))
+        (decimal (IsRun-prefix (λ b. is_digit_in b 10) bs some) refl))
 
 based_is : (base letter : ℕ) (rest : List ℕ) → IsBase base letter → IsRead (48 ∷ letter ∷ rest) (based_at base rest)
 unfolding based_at
@@ -102,12 +104,13 @@ based_is base letter rest is = ⊎_elim alone some (either (digits_len base rest
   where
     alone : (digits_len base rest == 0) ≡ true → IsRead (48 ∷ letter ∷ rest) (based_at base rest)
     alone t = rw t (zero_is (letter ∷ rest))
+
     some : (digits_len base rest == 0) ≡ false → IsRead (48 ∷ letter ∷ rest) (based_at base rest)
     some f =
         let none = eqb-false (digits_len base rest) 0 f in
         rw f (integer_is (48 ∷ letter ∷ rest) (48 ∷ letter ∷ digits_of base rest) (drop (digits_len base rest) rest) (number_of base (digits_of base rest)) (2 + digits_len base rest)
-          (ap (λ (xs : List ℕ). 48 ∷ letter ∷ xs) (digits_split base rest)) (omega (arith, length-digits base rest))
-          (based base letter (digits_of base rest) is (IsRun-prefix (λ b. is_digit_in b base) rest (omega arith)) refl refl))
+        (ap (λ (xs : List ℕ). 48 ∷ letter ∷ xs) (digits_split base rest)) (omega (arith, length-digits base rest))
+        (based base letter (digits_of base rest) is (IsRun-prefix (λ b. is_digit_in b base) rest (omega arith)) refl refl))
 
 -- a character behind `0'`
 code_is : (rest : List ℕ) (p : Piece) → piece_at 39 rest ≡ p → IsPiece 39 rest p → IsRead (48 ∷ 39 ∷ rest) (code_of p)
@@ -142,28 +145,32 @@ integer_at_is : (b : ℕ) (bs : List ℕ) → is_digit b ≡ true → IsRead (b 
 unfolding integer_at
 integer_at_is b bs digit =
     ⊎_elim by_x (λ x. ⊎_elim (by_o x) (λ o. ⊎_elim (by_b x o) (λ y. ⊎_elim (by_quote x o y) (other x o y) (either ((b == 48) && begins_with 39 bs))) (either ((b == 48) && begins_with 98 bs))) (either ((b == 48) && begins_with 111 bs)))
-      (either ((b == 48) && begins_with 120 bs))
+    (either ((b == 48) && begins_with 120 bs))
   where
     by_x : ((b == 48) && begins_with 120 bs) ≡ true → IsRead (b ∷ bs) (integer_at (b ∷ bs))
     by_x x =
         let is = zero_and b 120 bs x in
         let P : List ℕ → Type 0 = λ xs. IsRead xs (based_at 16 (drop 1 (drop 1 xs))) in
         rw x (subst P (sym is.1) (based_is 16 120 is.0 hexadecimal_base))
+
     by_o : ((b == 48) && begins_with 120 bs) ≡ false → ((b == 48) && begins_with 111 bs) ≡ true → IsRead (b ∷ bs) (integer_at (b ∷ bs))
     by_o x o =
         let is = zero_and b 111 bs o in
         let P : List ℕ → Type 0 = λ xs. IsRead xs (based_at 8 (drop 1 (drop 1 xs))) in
         rw (x, o) (subst P (sym is.1) (based_is 8 111 is.0 octal_base))
+
     by_b : ((b == 48) && begins_with 120 bs) ≡ false → ((b == 48) && begins_with 111 bs) ≡ false → ((b == 48) && begins_with 98 bs) ≡ true → IsRead (b ∷ bs) (integer_at (b ∷ bs))
     by_b x o y =
         let is = zero_and b 98 bs y in
         let P : List ℕ → Type 0 = λ xs. IsRead xs (based_at 2 (drop 1 (drop 1 xs))) in
         rw (x, o, y) (subst P (sym is.1) (based_is 2 98 is.0 binary_base))
+
     by_quote : ((b == 48) && begins_with 120 bs) ≡ false → ((b == 48) && begins_with 111 bs) ≡ false → ((b == 48) && begins_with 98 bs) ≡ false → ((b == 48) && begins_with 39 bs) ≡ true → IsRead (b ∷ bs) (integer_at (b ∷ bs))
     by_quote x o y q =
         let is = zero_and b 39 bs q in
         let P : List ℕ → Type 0 = λ xs. IsRead xs (code_of (piece_at 39 (drop 1 (drop 1 xs)))) in
         rw (x, o, y, q) (subst P (sym is.1) (code_is is.0 (piece_at 39 is.0) refl (piece_is 39 is.0 (lit< tt))))
+
     other : ((b == 48) && begins_with 120 bs) ≡ false → ((b == 48) && begins_with 111 bs) ≡ false → ((b == 48) && begins_with 98 bs) ≡ false → ((b == 48) && begins_with 39 bs) ≡ false → IsRead (b ∷ bs) (integer_at (b ∷ bs))
     other x o y q = rw (x, o, y, q) (decimal_is (b ∷ bs) (digit_some b bs digit))
 
@@ -172,12 +179,12 @@ item_fault_is : (quote at : ℕ) (bs characters body after : List ℕ) (kind : L
     → piece_at quote after ≡ Fault kind → IsPiece quote after (Fault kind) → at ≡ length body → IsFault (quote ∷ bs) (item_fault kind at)
 item_fault_is quote at bs characters body after BadByte q is whole piece p count =
     byte_in_item quote body after (record { is_quote = q; characters = characters; is_body = is; whole = ap (λ (xs : List ℕ). quote ∷ xs) whole }) (bad_byte quote after q piece)
-      (ap (λ n. fault_at BadByte (1 + n)) count)
+    (ap (λ n. fault_at BadByte (1 + n)) count)
 item_fault_is quote at bs characters body after Unclosed q is whole piece p count =
     open_item quote body after (record { is_quote = q; characters = characters; is_body = is; whole = ap (λ (xs : List ℕ). quote ∷ xs) whole }) p refl
 item_fault_is quote at bs characters body after BadEscape q is whole piece p count =
     escape_in_item quote body p.0 (record { is_quote = q; characters = characters; is_body = is; whole = ap (λ (xs : List ℕ). quote ∷ xs) (whole ∙ ap (λ (xs : List ℕ). body ++ xs) p.1) })
-      (spells_none quote (92 ∷ p.0) (Fault BadEscape) q (ap (piece_at quote) (sym p.1) ∙ piece) (λ c n h. cc)) p.2 refl
+    (spells_none quote (92 ∷ p.0) (Fault BadEscape) q (ap (piece_at quote) (sym p.1) ∙ piece) (λ c n h. cc)) p.2 refl
 item_fault_is quote at bs characters body after Float q is whole piece p count = absurd p
 item_fault_is quote at bs characters body after WideNumber q is whole piece p count = absurd p
 
@@ -224,6 +231,7 @@ solo_read b bs t = ⊎_elim cut (λ f. semicolon (rw f at t)) (either (b == 33))
   where
     cut : (b == 33) ≡ true → IsToken (b ∷ bs) (kind.Name, 1)
     cut e = one_read b 33 bs kind.Name (inr (inr (inl refl))) e
+
     semicolon : (b == 59) ≡ true → IsToken (b ∷ bs) (kind.Name, 1)
     semicolon e = one_read b 59 bs kind.Name (inr (inr (inr refl))) e
 
@@ -259,6 +267,7 @@ module _ (b : ℕ) (bs : List ℕ) (apart : begins_comment (b ∷ bs) ≡ false)
     where
       no_star : (b == 47) ≡ true → ((b == 47) && begins_with 42 (take (prefix_len is_graphic bs) bs)) ≡ false
       no_star t = let h = rw t at apart in rw t (begins_with_take 42 (prefix_len is_graphic bs) bs h)
+
       end : b ∷ take (prefix_len is_graphic bs) bs ≡ 46 ∷ [] → ends_clause (drop (prefix_len is_graphic bs) bs) ≡ true → ⊥
       end alone ends =
           let none : take (prefix_len is_graphic bs) bs ≡ [] = cc in
@@ -279,11 +288,15 @@ module _ (b : ℕ) (bs : List ℕ) (apart : begins_comment (b ∷ bs) ≡ false)
     where
       name : is_small b ≡ true → IsToken (b ∷ bs) (kind.Name, 1 + prefix_len is_word bs)
       name t = record { text = b ∷ take (prefix_len is_word bs) bs; after = drop (prefix_len is_word bs) bs; whole = run_whole b is_word bs; count = run_count b is_word bs; of_form = inl (t, Each-prefix is_word bs) }
+
       variable : (is_capital b || (b == 95)) ≡ true → IsToken (b ∷ bs) (kind.Var, 1 + prefix_len is_word bs)
       variable t = record { text = b ∷ take (prefix_len is_word bs) bs; after = drop (prefix_len is_word bs) bs; whole = run_whole b is_word bs; count = run_count b is_word bs; of_form = (t, Each-prefix is_word bs) }
+
       single : (b == 39) ≡ true → IsRead (b ∷ bs) (item_of kind.Quoted (item_len 39 0 bs))
       single t = rw (eqb-true b 39 t) (item_read 39 kind.Quoted bs (inl refl) (λ text after h. h) (item_len 39 0 bs) (item_is 39 bs (inl refl)))
+
       double : (b == 34) ≡ true → IsRead (b ∷ bs) (item_of kind.Text (item_len 34 0 bs))
       double t = rw (eqb-true b 34 t) (item_read 34 kind.Text bs (inr refl) (λ text after h. h) (item_len 34 0 bs) (item_is 34 bs (inr refl)))
+
       end : ((b == 46) && ends_clause bs) ≡ true → IsToken (b ∷ bs) (kind.End, 1)
       end t = let parts = and_true (b == 46) (ends_clause bs) t in one_read b 46 bs kind.End (refl, parts.1) parts.0

@@ -1,8 +1,7 @@
 -- Layout and comments, by their forms.
-use Rattle.std.proofs.Common.{◌≡◌, ◌≢◌, ℕ, zero, suc, ◌+◌, ◌<◌, ◌≤◌, ◌==◌, ◌&&◌, ◌||◌, nat_lt, Bool, true, false, List, [], ◌∷◌, ◌++◌, length, take, drop, Result, Ok, Err, ◌⊎◌, inl, inr, ⊎_elim, refl, sym, ◌∙◌, ap, subst, append_assoc, append-nil, length-append, arith, lit<, if◌then◌else◌}
+use Rattle.std.proofs.Common.{◌≡◌, ℕ, zero, suc, ◌+◌, ◌<◌, ◌≤◌, ◌==◌, ◌&&◌, ◌||◌, nat_lt, Bool, true, false, List, [], ◌∷◌, ◌++◌, length, take, drop, Result, Ok, Err, ◌⊎◌, inl, inr, ⊎_elim, refl, sym, ◌∙◌, ap, subst, append_assoc, length-append, arith, if◌then◌else◌}
 use Rattle.std.proofs.Math.Numerals.{one-add}
 use Rattle.std.specs.Prelude.{not}
-use Rattle.std.specs.List.{prefix_len}
 use Rattle.std.specs.Str.{IsUtf8, is_utf8}
 use Rattle.std.specs.Str.Lossy.{utf8_valid_len, valid_len_up_to}
 use Rattle.std.proofs.lemmas.Bool.{eqb-true, eqb-false, ne_eqb, eq-eqb, ltb-true, ltb-false, lt-ltb, le-ltb}
@@ -10,10 +9,10 @@ use Rattle.std.proofs.lemmas.List.{take-append-drop, length-take-le, take_all, t
 use Rattle.std.proofs.lemmas.List.Sums.{prefix_len-le-length}
 use Rattle.std.proofs.lemmas.Str.{utf8_valid_len-IsUtf8, IsUtf8-from_is_utf8, IsUtf8-nil}
 use Rattle.prolog_tokens.specs.Bytes.{is_layout, begins_with, begins_comment}
-use Rattle.prolog_tokens.specs.Places.{fault_at, moved, further}
-use Rattle.prolog_tokens.specs.Layout.{with_body, line_len, body_len, line_comment, block_comment, space_at, gap_len}
-use Rattle.prolog_tokens.specs.Forms.{Each, IsLineEnd}
-use Rattle.prolog_tokens.specs.Gaps.{IsLine, HasNoEnd, EndsFirst, IsSpace, layout, line, block, IsGap, nothing, more, begins_space, IsBroken, IsCommentFault, broken_line, broken_block, broken_open, unclosed, IsGapFault, IsWholeGap}
+use Rattle.prolog_tokens.specs.Places.{fault_at}
+use Rattle.prolog_tokens.specs.Layout.{with_body, line_len, body_len, line_comment, block_comment, space_at}
+use Rattle.prolog_tokens.specs.Forms.{IsLineEnd}
+use Rattle.prolog_tokens.specs.Gaps.{IsLine, HasNoEnd, EndsFirst, IsSpace, layout, line, block, begins_space, IsCommentFault, broken_line, broken_block, broken_open, unclosed}
 use Rattle.prolog_tokens.specs.declared.fault.LexKind.TheVariants.{BadByte, Unclosed}
 use Rattle.prolog_tokens.specs.declared.fault.LexFault.{LexFault}
 use Rattle.prolog_tokens.proofs.CharacterLemmas.{either, and_true}
@@ -35,6 +34,7 @@ valid_up_to bs (suc n) len is = ⊎_elim whole (λ f. absurd (part f)) (either (
   where
     whole : is_utf8 (take (suc n) bs) ≡ true → IsUtf8 bs
     whole t = let P : List ℕ → Type 0 = λ xs. IsUtf8 xs in subst P (take_all (suc n) bs (omega (arith, len))) (IsUtf8-from_is_utf8 (take (suc n) bs) t)
+
     part : is_utf8 (take (suc n) bs) ≡ false → ⊥
     part f = let h = rw f at is in omega (arith, h, le-valid_len_up_to bs n)
 
@@ -131,6 +131,7 @@ body_closed bs h = record {
   where
     at : (after : List ℕ) × (bs ≡ take (body_len bs) bs ++ 42 ∷ 47 ∷ after)
     at = closed_at bs h
+
     first : (before after : List ℕ) → take (body_len bs) bs ++ 42 ∷ 47 ∷ [] ≡ before ++ 42 ∷ 47 ∷ after → length (take (body_len bs) bs) ≤ length before
     first before after is =
         let all : bs ≡ before ++ 42 ∷ 47 ∷ (after ++ at.0) = at.1 ∙ end_two _ at.0 ∙ ap (λ (xs : List ℕ). xs ++ at.0) is ∙ append_assoc before (42 ∷ 47 ∷ after) at.0 in
@@ -139,17 +140,19 @@ body_closed bs h = record {
 pub body_open : (bs : List ℕ) → length bs ≤ body_len bs → HasNoEnd bs
 body_open bs h before after is = omega (arith, h, ap body_len is, body_len-le-before before after, ap length is, length-append before (42 ∷ 47 ∷ after))
 
+-- an end in front of the first is the first
+first_end : (body after front rest : List ℕ) → EndsFirst body → body ++ 42 ∷ 47 ∷ after ≡ front ++ 42 ∷ 47 ∷ rest → length front ≤ length body → length body ≤ length front
+first_end body after front rest h same short =
+    let cut = cut_longer (body ++ 42 ∷ 47 ∷ []) after (front ++ 42 ∷ 47 ∷ []) rest (sym (end_two body after) ∙ same ∙ end_two front rest)
+    (omega (arith, short, length-append body (42 ∷ 47 ∷ []), length-append front (42 ∷ 47 ∷ []))) in
+    h front cut.0 (cut.1 ∙ append_assoc front (42 ∷ 47 ∷ []) cut.0)
+
 pub body_len-end : (body after : List ℕ) → EndsFirst body → body_len (body ++ 42 ∷ 47 ∷ after) ≡ length body
-body_len-end body after h =
-    let le = body_len-le-before body after in
-    let n = body_len (body ++ 42 ∷ 47 ∷ after) in
-    let bs = body ++ 42 ∷ 47 ∷ after in
-    let at = closed_at bs (omega (arith, le, length-append body (42 ∷ 47 ∷ after))) in
-    let short = length-take-le n bs (body_len-le-length bs) in
-    let cut = cut_longer (body ++ 42 ∷ 47 ∷ []) after (take n bs ++ 42 ∷ 47 ∷ []) at.0 (sym (end_two body after) ∙ at.1 ∙ end_two (take n bs) at.0)
-        (omega (arith, le, short, length-append body (42 ∷ 47 ∷ []), length-append (take n bs) (42 ∷ 47 ∷ []))) in
-    let long = h (take n bs) cut.0 (cut.1 ∙ append_assoc (take n bs) (42 ∷ 47 ∷ []) cut.0) in
-    omega (arith, le, short, long)
+body_len-end body after h = by_front (body_len (body ++ 42 ∷ 47 ∷ after)) (body_len-le-before body after) (length-take-le _ (body ++ 42 ∷ 47 ∷ after) (body_len-le-length (body ++ 42 ∷ 47 ∷ after)))
+    (closed_at (body ++ 42 ∷ 47 ∷ after) (omega (arith, body_len-le-before body after, length-append body (42 ∷ 47 ∷ after))))
+  where
+    by_front : (n : ℕ) → n ≤ length body → length (take n (body ++ 42 ∷ 47 ∷ after)) ≡ n → (rest : List ℕ) × (body ++ 42 ∷ 47 ∷ after ≡ take n (body ++ 42 ∷ 47 ∷ after) ++ 42 ∷ 47 ∷ rest) → n ≡ length body
+    by_front n le len at = omega (arith, le, len, first_end body after (take n (body ++ 42 ∷ 47 ∷ after)) at.0 h at.1 (omega (arith, le, len)))
 
 pub body_len-open : (body : List ℕ) → HasNoEnd body → body_len body ≡ length body
 body_len-open body h = ⊎_elim closed (λ f. omega (arith, ltb-false (body_len body) (length body) f, body_len-le-length body)) (either (nat_lt (body_len body) (length body)))
@@ -181,20 +184,22 @@ line_comment_is bs = ⊎_elim valid broken (is_valid (take (line_len bs) bs))
   where
     whole : 37 ∷ bs ≡ 37 ∷ (take (line_len bs) bs ++ drop (line_len bs) bs)
     whole = ap (λ (xs : List ℕ). 37 ∷ xs) (sym (take-append-drop (line_len bs) bs))
+
     valid : IsUtf8 (take (line_len bs) bs) → IsSpaceAnswer (37 ∷ bs) (line_comment bs)
     valid u =
         subst (IsSpaceAnswer (37 ∷ bs)) (sym (with_valid 1 (take (line_len bs) bs) (Ok (1 + line_len bs)) u))
-          (space_of (37 ∷ bs) (1 + line_len bs) (omega arith) (record {
-            text = 37 ∷ take (line_len bs) bs;
-            rest = drop (line_len bs) bs;
-            whole = whole;
-            count = omega (arith, length-take-le (line_len bs) bs (prefix_len-le-length (λ b. not (b == 10)) bs));
-            is_space = line (take (line_len bs) bs) (first_line bs) u refl;
-          }))
+        (space_of (37 ∷ bs) (1 + line_len bs) (omega arith) (record {
+          text = 37 ∷ take (line_len bs) bs;
+          rest = drop (line_len bs) bs;
+          whole = whole;
+          count = omega (arith, length-take-le (line_len bs) bs (prefix_len-le-length (λ b. not (b == 10)) bs));
+          is_space = line (take (line_len bs) bs) (first_line bs) u refl;
+        }))
+
     broken : (IsUtf8 (take (line_len bs) bs) → ⊥) → IsSpaceAnswer (37 ∷ bs) (line_comment bs)
     broken u =
         subst (IsSpaceAnswer (37 ∷ bs)) (sym (with_broken 1 (take (line_len bs) bs) (Ok (1 + line_len bs)) u))
-          (broken_line (take (line_len bs) bs) (drop (line_len bs) bs) (first_line bs) whole (record { broken = u; is = refl }))
+        (broken_line (take (line_len bs) bs) (drop (line_len bs) bs) (first_line bs) whole (record { broken = u; is = refl }))
 
 -- the answer where a body is closed or open
 closed_answer : (bs : List ℕ) → body_len bs < length bs → (if nat_lt (body_len bs) (length bs) then Ok (4 + body_len bs) else Err (fault_at Unclosed 0)) ≡ Ok (4 + body_len bs)
@@ -213,19 +218,22 @@ module _ (bs : List ℕ) where
     where
       answer : Result ℕ LexFault
       answer = if nat_lt (body_len bs) (length bs) then Ok (4 + body_len bs) else Err (fault_at Unclosed 0)
+
       same : with_body 2 (take (body_len bs) bs) answer ≡ answer
       same = with_valid 2 (take (body_len bs) bs) answer u
+
       closed : body_len bs < length bs → IsSpaceAnswer (47 ∷ 42 ∷ bs) (block_comment bs)
       closed h =
           let c = body_closed bs h in
           subst (IsSpaceAnswer (47 ∷ 42 ∷ bs)) (sym (same ∙ closed_answer bs h))
-            (space_of (47 ∷ 42 ∷ bs) (4 + body_len bs) (omega arith) (record {
-              text = 47 ∷ 42 ∷ (take (body_len bs) bs ++ 42 ∷ 47 ∷ []);
-              rest = c.after;
-              whole = ap (λ (xs : List ℕ). 47 ∷ 42 ∷ xs) (c.whole ∙ end_two (take (body_len bs) bs) c.after);
-              count = omega (arith, length-append (take (body_len bs) bs) (42 ∷ 47 ∷ []), length-take-le (body_len bs) bs (body_len-le-length bs));
-              is_space = block (take (body_len bs) bs) c.first u refl;
-            }))
+          (space_of (47 ∷ 42 ∷ bs) (4 + body_len bs) (omega arith) (record {
+            text = 47 ∷ 42 ∷ (take (body_len bs) bs ++ 42 ∷ 47 ∷ []);
+            rest = c.after;
+            whole = ap (λ (xs : List ℕ). 47 ∷ 42 ∷ xs) (c.whole ∙ end_two (take (body_len bs) bs) c.after);
+            count = omega (arith, length-append (take (body_len bs) bs) (42 ∷ 47 ∷ []), length-take-le (body_len bs) bs (body_len-le-length bs));
+            is_space = block (take (body_len bs) bs) c.first u refl;
+          }))
+
       open_at : length bs ≤ body_len bs → IsSpaceAnswer (47 ∷ 42 ∷ bs) (block_comment bs)
       open_at h =
           let P : List ℕ → Type 0 = λ xs. IsUtf8 xs in
@@ -235,12 +243,14 @@ module _ (bs : List ℕ) where
   unfolding block_comment
   block_broken u =
       subst (IsSpaceAnswer (47 ∷ 42 ∷ bs)) (sym (with_broken 2 (take (body_len bs) bs) _ u))
-        (⊎_elim (λ t. closed (ltb-true (body_len bs) (length bs) t)) (λ f. open_at (ltb-false (body_len bs) (length bs) f)) (either (nat_lt (body_len bs) (length bs))))
+      (⊎_elim (λ t. closed (ltb-true (body_len bs) (length bs) t)) (λ f. open_at (ltb-false (body_len bs) (length bs) f)) (either (nat_lt (body_len bs) (length bs))))
     where
       here : LexFault
       here = fault_at BadByte (2 + utf8_valid_len (take (body_len bs) bs))
+
       closed : body_len bs < length bs → IsCommentFault (47 ∷ 42 ∷ bs) here
       closed h = let c = body_closed bs h in broken_block (take (body_len bs) bs) c.after c.first (ap (λ (xs : List ℕ). 47 ∷ 42 ∷ xs) c.whole) (record { broken = u; is = refl })
+
       open_at : length bs ≤ body_len bs → IsCommentFault (47 ∷ 42 ∷ bs) here
       open_at h =
           let P : List ℕ → Type 0 = λ xs. IsUtf8 xs in
@@ -266,8 +276,10 @@ space_is (b ∷ bs) =
   where
     by_layout : is_layout b ≡ true → Space (b ∷ bs) 1
     by_layout t = record { text = b ∷ []; rest = bs; whole = refl; count = refl; is_space = layout b t refl }
+
     by_percent : (b == 37) ≡ true → IsSpaceAnswer (b ∷ bs) (line_comment bs)
     by_percent t = rw (eqb-true b 37 t) (line_comment_is bs)
+
     by_block : begins_comment (b ∷ bs) ≡ true → IsSpaceAnswer (b ∷ bs) (block_comment (drop 1 bs))
     by_block t =
         let parts = and_true (b == 47) (begins_with 42 bs) t in
@@ -305,7 +317,7 @@ space_found text after (line body l u whole) =
     rw whole (line_comment_at body after (Ok (length (37 ∷ body))) l (with_valid 1 body (Ok (1 + length body)) u ∙ ap (λ n. Ok n) (omega arith)))
 space_found text after (block body e u whole) =
     rw whole (rw (append_assoc body (42 ∷ 47 ∷ []) after) (closed_comment_at body after (Ok (length (47 ∷ 42 ∷ (body ++ 42 ∷ 47 ∷ [])))) e
-      (with_valid 2 body (Ok (4 + length body)) u ∙ ap (λ n. Ok n) (omega (arith, length-append body (42 ∷ 47 ∷ []))))))
+    (with_valid 2 body (Ok (4 + length body)) u ∙ ap (λ n. Ok n) (omega (arith, length-append body (42 ∷ 47 ∷ []))))))
 
 pub comment_fault_found : (bytes : List ℕ) (fault : LexFault) → IsCommentFault bytes fault → space_at bytes ≡ Err fault
 comment_fault_found bytes fault (broken_line body after l whole b) =

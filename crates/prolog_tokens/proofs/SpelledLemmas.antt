@@ -1,22 +1,20 @@
 -- The piece at the front, where a form of a character, or none, stands there.
-use Rattle.std.proofs.Common.{◌≡◌, ◌≢◌, ℕ, ◌+◌, ◌<◌, ◌≤◌, ◌==◌, ◌&&◌, nat_lt, nat_le, Bool, true, false, List, [], ◌∷◌, ◌++◌, length, take, drop, Option, Some, None, refl, sym, ◌∙◌, ap, subst, inl, inr, ⊎_elim, append_assoc, append-nil, length-append, eq-eqb, arith, lit<}
-use Rattle.std.specs.Char.{IsScalar, encode_utf8, len_utf8, is_digit}
-use Rattle.std.specs.Str.{all_scalars}
-use Rattle.std.proofs.lemmas.Bool.{eqb-true, ne_eqb, lt-ltb, le-leb, leb-true}
+use Rattle.std.proofs.Common.{◌≡◌, ◌≢◌, ℕ, ◌+◌, ◌<◌, ◌≤◌, ◌==◌, ◌&&◌, nat_le, Bool, true, false, List, [], ◌∷◌, ◌++◌, length, take, drop, Some, None, refl, sym, ◌∙◌, ap, subst, ⊎_elim, append_assoc, append-nil, length-append, eq-eqb, arith}
+use Rattle.std.specs.Char.{IsScalar, encode_utf8, is_digit}
+use Rattle.std.proofs.lemmas.Bool.{ne_eqb, lt-ltb, le-leb, leb-true}
 use Rattle.std.proofs.lemmas.List.{take_at, drop_at}
 use Rattle.std.proofs.lemmas.Str.{length-encode, char_from_byte}
 use Rattle.prolog_tokens.specs.Bytes.{begins_with}
 use Rattle.prolog_tokens.specs.Numbers.{digits_len, number_of}
 use Rattle.prolog_tokens.specs.Characters.{character_at, is_quotable}
-use Rattle.prolog_tokens.specs.Pieces.{escape_of, number_escape, escape_at, short_escape, plain_character, closing_at, piece_at}
+use Rattle.prolog_tokens.specs.Pieces.{escape_of, number_escape, escape_at, piece_at}
 use Rattle.prolog_tokens.specs.Forms.{AreDigits, SpellsCharacter, doubled, itself, escaped, hexadecimal, octal, SpellsNone, IsLineEnd, IsQuote, IsNoCharacter}
 use Rattle.prolog_tokens.specs.declared.piece.Piece.{Piece}
 use Rattle.prolog_tokens.specs.declared.piece.Piece.TheVariants.{Character, Dropped, Closing, Fault}
-use Rattle.prolog_tokens.specs.declared.fault.LexKind.{LexKind}
 use Rattle.prolog_tokens.specs.declared.fault.LexKind.TheVariants.{BadByte, Unclosed, BadEscape, Float, WideNumber}
 use Rattle.prolog_tokens.proofs.CharacterLemmas.{either, and_true, encoded, character_at_encoded}
 use Rattle.prolog_tokens.proofs.NumberLemmas.{octal_digit}
-use Rattle.prolog_tokens.proofs.RunLemmas.{begins, prefix_len-Each, Each-run, length-run}
+use Rattle.prolog_tokens.proofs.RunLemmas.{prefix_len-Each, Each-run, length-run}
 use Rattle.prolog_tokens.proofs.PieceLemmas.{IsPiece, piece_is}
 
 pub quote_small : (quote : ℕ) → IsQuote quote → quote < 128
@@ -58,9 +56,19 @@ short_not_x b c is = ne_eqb b 120 (λ e. let h = rw e at is in cc)
 octal_no_short : (b : ℕ) → 48 ≤ b → b ≤ 55 → escape_of b ≡ None
 unfolding escape_of
 octal_no_short b low high =
-    rw (ne_eqb b 97 (λ e. omega (arith, e)), ne_eqb b 98 (λ e. omega (arith, e)), ne_eqb b 102 (λ e. omega (arith, e)), ne_eqb b 110 (λ e. omega (arith, e)),
-      ne_eqb b 114 (λ e. omega (arith, e)), ne_eqb b 116 (λ e. omega (arith, e)), ne_eqb b 118 (λ e. omega (arith, e)),
-      ne_eqb b 92 (λ e. omega (arith, e)), ne_eqb b 39 (λ e. omega (arith, e)), ne_eqb b 34 (λ e. omega (arith, e)), ne_eqb b 96 (λ e. omega (arith, e))) refl
+    rw (
+      ne_eqb b 97 (λ e. omega (arith, e)),
+      ne_eqb b 98 (λ e. omega (arith, e)),
+      ne_eqb b 102 (λ e. omega (arith, e)),
+      ne_eqb b 110 (λ e. omega (arith, e)),
+      ne_eqb b 114 (λ e. omega (arith, e)),
+      ne_eqb b 116 (λ e. omega (arith, e)),
+      ne_eqb b 118 (λ e. omega (arith, e)),
+      ne_eqb b 92 (λ e. omega (arith, e)),
+      ne_eqb b 39 (λ e. omega (arith, e)),
+      ne_eqb b 34 (λ e. omega (arith, e)),
+      ne_eqb b 96 (λ e. omega (arith, e)),
+    ) refl
 
 short_not_octal : (b c : ℕ) → escape_of b ≡ Some c → (nat_le 48 b && nat_le b 55) ≡ false
 short_not_octal b c is = ⊎_elim (λ t. absurd (octal_too t)) (λ f. f) (either (nat_le 48 b && nat_le b 55))
@@ -98,14 +106,14 @@ spelled_piece quote c text rest q (escaped b is whole) =
     rw whole (piece_at_backslash quote (b ∷ rest) q ∙ rw (short_not_ten b c is, short_not_x b c is, short_not_octal b c is, is) refl)
 spelled_piece quote c text rest q (hexadecimal digits are scalar number whole) =
     rw whole (piece_at_backslash quote (120 ∷ ((digits ++ 92 ∷ []) ++ rest)) q ∙ number_escape_found 16 2 c digits rest refl are scalar number
-      ∙ ap (λ n. Character c n) (omega (arith, length-append digits (92 ∷ []))))
+    ∙ ap (λ n. Character c n) (omega (arith, length-append digits (92 ∷ []))))
 spelled_piece quote c text rest q (octal [] are scalar number whole) = absurd are
 spelled_piece quote c text rest q (octal (d ∷ ds) are scalar number whole) =
     let range = octal_digit d are.0 in
     rw whole (piece_at_backslash quote ((d ∷ ds ++ 92 ∷ []) ++ rest) q
-      ∙ rw (ne_eqb d 10 (λ e. omega (arith, e, range)), ne_eqb d 120 (λ e. omega (arith, e, range)), le-leb 48 d range.0, le-leb d 55 range.1) refl
-      ∙ number_escape_found 8 1 c (d ∷ ds) rest refl are scalar number
-      ∙ ap (λ n. Character c n) (omega (arith, length-append ds (92 ∷ []))))
+    ∙ rw (ne_eqb d 10 (λ e. omega (arith, e, range)), ne_eqb d 120 (λ e. omega (arith, e, range)), le-leb 48 d range.0, le-leb d 55 range.1) refl
+    ∙ number_escape_found 8 1 c (d ∷ ds) rest refl are scalar number
+    ∙ ap (λ n. Character c n) (omega (arith, length-append ds (92 ∷ []))))
 
 -- where the piece is no character, none is spelled
 pub spells_none : (quote : ℕ) (bs : List ℕ) (p : Piece) → IsQuote quote → piece_at quote bs ≡ p → ((c n : ℕ) → p ≡ Character c n → ⊥) → SpellsNone quote bs

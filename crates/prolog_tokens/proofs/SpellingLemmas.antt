@@ -1,5 +1,5 @@
 -- The spelling of names.
-use Rattle.std.proofs.Common.{◌≡◌, ℕ, ◌||◌, Bool, true, false, List, [], ◌∷◌, ◌++◌, length, take, drop, refl, sym, ◌∙◌, ap, append_assoc}
+use Rattle.std.proofs.Common.{◌≡◌, ℕ, false, List, [], ◌∷◌, ◌++◌, take, drop, refl, sym, ◌∙◌, ap, append_assoc}
 use Rattle.std.specs.List.{flat_map}
 use Rattle.std.proofs.lemmas.Grind.{flat_map-append}
 use Rattle.std.proofs.lemmas.List.{take-append-drop}
@@ -23,7 +23,7 @@ quoted_part old name new i word empty is =
       39 ∷ flat_map spelled_byte (take i name),
       is,
       ap (λ (xs : List ℕ). 39 ∷ xs) (
-        sym (append_assoc (flat_map spelled_byte (take i name)) (flat_map spelled_byte (drop i name)) (39 ∷ []))
-        ∙ ap (λ (xs : List ℕ). xs ++ 39 ∷ []) (sym (flat_map-append spelled_byte (take i name) (drop i name)) ∙ ap (flat_map spelled_byte) (take-append-drop i name)))
-      ∙ sym (spelling_quoted name word empty),
+          sym (append_assoc (flat_map spelled_byte (take i name)) (flat_map spelled_byte (drop i name)) (39 ∷ []))
+          ∙ ap (λ (xs : List ℕ). xs ++ 39 ∷ []) (sym (flat_map-append spelled_byte (take i name) (drop i name)) ∙ ap (flat_map spelled_byte) (take-append-drop i name)))
+          ∙ sym (spelling_quoted name word empty),
     )

@@ -3,7 +3,6 @@ use Rattle.std.specs.Prelude.{ℕ, ◌+◌, nat_lt, List, length, drop, Option, 
 use Rattle.prolog_tokens.specs.Places.{moved, further}
 use Rattle.prolog_tokens.specs.Layout.{gap_len}
 use Rattle.prolog_tokens.specs.Tokens.{token_at, Answer}
-use Rattle.prolog_tokens.specs.declared.token.TokenKind.{TokenKind}
 use Rattle.prolog_tokens.specs.declared.token.Token.{Token}
 use Rattle.prolog_tokens.specs.declared.fault.LexFault.{LexFault}
 

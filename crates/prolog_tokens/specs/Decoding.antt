@@ -1,8 +1,8 @@
 -- The characters that a token of a text stands for.
-use Rattle.std.specs.Prelude.{◌≡◌, ℕ, ◌-◌, ◌++◌, List, [], ◌∷◌, take, drop, Some, Ok}
+use Rattle.std.specs.Prelude.{◌≡◌, ℕ, ◌-◌, ◌++◌, List, [], take, drop, Some, Ok}
 use Rattle.std.specs.Str.{encode_utf8_all}
 use Rattle.prolog_tokens.specs.Items.{item_characters}
-use Rattle.prolog_tokens.specs.Cursor.{Cursor, next_of}
+use Rattle.prolog_tokens.specs.Cursor.{next_of}
 use Rattle.prolog_tokens.specs.declared.token.TokenKind.{TokenKind}
 use Rattle.prolog_tokens.specs.declared.token.TokenKind.TheVariants.{Name, Quoted, Text}
 use Rattle.prolog_tokens.specs.declared.token.Token.{Token}

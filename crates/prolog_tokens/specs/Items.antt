@@ -1,10 +1,10 @@
 -- A quoted item: how long it is or its fault, and its characters.
-use Rattle.std.specs.Prelude.{ℕ, zero, suc, ◌+◌, ◌-◌, List, [], ◌∷◌, Result, Ok, Err}
+use Rattle.std.specs.Prelude.{ℕ, zero, suc, ◌-◌, List, [], ◌∷◌, Result, Ok, Err}
 use Rattle.prolog_tokens.specs.Places.{fault_at, further}
 use Rattle.prolog_tokens.specs.Pieces.{piece_at}
 use Rattle.prolog_tokens.specs.declared.piece.Piece.{Piece}
 use Rattle.prolog_tokens.specs.declared.piece.Piece.TheVariants.{Character, Dropped, Closing, Fault}
-use Rattle.prolog_tokens.specs.declared.fault.LexKind.TheVariants.{BadByte, Unclosed, BadEscape}
+use Rattle.prolog_tokens.specs.declared.fault.LexKind.TheVariants.{Unclosed}
 use Rattle.prolog_tokens.specs.declared.fault.LexFault.{LexFault}
 
 -- how long an item is from a piece on, or where its first fault has its cause: what follows goes on behind the piece's other bytes

@@ -22,5 +22,5 @@ mod token;
 pub use decoding::decode;
 pub use fault::{LexFault, LexKind};
 pub use lexer::{Lexer, longest_match};
-pub use quoting::quote;
+pub use quoting::{quote, quoted_names_are_read_back};
 pub use token::{Token, TokenKind};

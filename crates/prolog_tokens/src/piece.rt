@@ -1,6 +1,6 @@
 //! The pieces of quoted items.
 
-ghost use Rattle.std.specs.Prelude.{◌≡◌, ◌+◌, ◌≤◌, ◌<◌, ◌^◌, length};
+ghost use Rattle.std.specs.Prelude.{◌≡◌, ◌+◌, ◌≤◌, ◌<◌, length};
 ghost use Rattle.prolog_tokens.specs.Characters.{character_at};
 ghost use Rattle.prolog_tokens.specs.Pieces.{escape_of, number_escape, escape_at, closing_at, plain_character, piece_at, HasAtMost};
 
@@ -42,7 +42,6 @@ pub fn piece_at(bytes: &[u8], quote: u8) -> Piece
 
 /// The piece that begins with the item's quote, given the bytes after it.
 fn closing(after: &[u8], quote: u8) -> Piece
-    requires { length after.now < 2 ^ 63 }
     ensures value { result ≡ closing_at quote after.now }
 {
     if begins_with(after, quote) {

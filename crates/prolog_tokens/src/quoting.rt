@@ -1,7 +1,10 @@
 //! The spelling of names.
 
-ghost use Rattle.std.specs.Prelude.{◌≡◌, ◌<◌, ◌++◌, OnOk, OnErr};
+ghost use Rattle.std.specs.Prelude.{◌≡◌, ◌<◌, ◌++◌, ◌∷◌, [], ℕ, List, false, drop, OnOk, OnErr};
 ghost use Rattle.std.specs.Char.{digit_char};
+ghost use Rattle.std.specs.Str.{IsUtf8};
+ghost use Rattle.prolog_tokens.specs.Cursor.{Cursor};
+ghost use Rattle.prolog_tokens.specs.ReadBack.{goes_on, IsReadBack, IsListReadBack};
 ghost use Rattle.prolog_tokens.specs.Decoding.{AppendsPrefix};
 ghost use Rattle.prolog_tokens.specs.Spelling.{is_plain_word, is_empty_list, spelled_byte, spelling};
 
@@ -77,5 +80,17 @@ fn digit(value: u8) -> u8
     requires { value < 16 }
     ensures { result ≡ digit_char value }
 {
-    if value < 10 { b'0' + value } else { b'a' + (value - 10) }
+    if value < 10 {
+        b'0' + value
+    } else {
+        b'a' + (value - 10)
+    }
 }
+
+/// What `quote` spells is read back, in any text, where no letter, digit, underscore or single quote follows: for a name in
+/// UTF-8 the next token is the whole spelling, and it stands for the name. The name `[]` is read back as its two tokens.
+pub fn quoted_names_are_read_back()
+    ensures name { (c : Cursor) (name after : List ℕ) → IsUtf8 name → is_empty_list name ≡ false → goes_on after ≡ false
+        → drop c.at c.text ≡ spelling name ++ after → IsReadBack c name }
+    ensures empty_list { (c : Cursor) (after : List ℕ) → drop c.at c.text ≡ spelling (91 ∷ 93 ∷ []) ++ after → IsListReadBack c }
+{}

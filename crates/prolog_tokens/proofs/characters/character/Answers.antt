@@ -1,4 +1,4 @@
-use Rattle.std.proofs.Common.{length, take, ap, sym, ◌∙◌, arith, length-take}
+use Rattle.std.proofs.Common.{length, ap, sym, ◌∙◌, arith, length-take}
 use Rattle.std.specs.Prelude.{slice_get}
 use Rattle.std.specs.Str.{chars}
 use Rattle.prolog_tokens.proofs.CharacterLemmas.{character_in, no_character, character_fits}

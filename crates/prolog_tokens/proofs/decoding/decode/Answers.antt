@@ -1,4 +1,4 @@
-use Rattle.std.proofs.Common.{◌≡◌, ◌≤◌, ◌-◌, List, ℕ, drop, take, length, ap, subst, arith}
+use Rattle.std.proofs.Common.{List, ℕ, subst, arith}
 use Rattle.std.proofs.lemmas.List.{take_rest}
 use Rattle.std.specs.Result.{OnErr}
 use Rattle.std.specs.Str.{encode_utf8_all}

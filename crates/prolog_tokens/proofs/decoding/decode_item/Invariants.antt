@@ -1,4 +1,4 @@
-use Rattle.std.proofs.Common.{◌≡◌, ◌≤◌, ◌-◌, length, drop}
+use Rattle.std.proofs.Common.{◌≤◌, ◌-◌, length, drop}
 use Rattle.std.specs.Str.{encode_utf8_all}
 use Rattle.prolog_tokens.specs.Items.{item_characters}
 use Rattle.prolog_tokens.proofs.AppendLemmas.{Appended}

@@ -1,4 +1,4 @@
-use Rattle.std.proofs.Common.{◌≡◌, ◌<◌, ◌≤◌, length, drop, take, ◌-◌, ◌∙◌, ap, sym, Err, arith, add-zero, length-drop}
+use Rattle.std.proofs.Common.{◌≤◌, length, drop, ◌∙◌, ap, sym, Err, arith, add-zero, length-drop}
 use Rattle.std.proofs.lemmas.List.{take_rest}
 use Rattle.prolog_tokens.specs.Places.{further, fault_at}
 use Rattle.prolog_tokens.specs.Pieces.{piece_at}

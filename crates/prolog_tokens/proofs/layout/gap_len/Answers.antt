@@ -1,4 +1,4 @@
-use Rattle.std.proofs.Common.{◌<◌, ◌≤◌, length, drop, take, ◌-◌, ◌∙◌, ap, arith, length-drop}
+use Rattle.std.proofs.Common.{◌≤◌, length, drop, ◌∙◌, ap, arith, length-drop}
 use Rattle.std.proofs.lemmas.List.{take_rest}
 use Rattle.prolog_tokens.specs.Layout.{space_at}
 use Rattle.prolog_tokens.proofs.GapLemmas.{past_space, gap_goes_on}

@@ -1,13 +1,13 @@
 -- The computed gap is all layout and comments at the front, and its fault is the first one.
-use Rattle.std.proofs.Common.{◌≡◌, ℕ, zero, suc, ◌+◌, ◌<◌, ◌≤◌, false, List, [], ◌∷◌, ◌++◌, length, drop, Result, Ok, Err, inl, inr, ⊎_elim, refl, sym, ◌∙◌, ap, subst, append_assoc, append-nil, length-append, zero-add, arith}
+use Rattle.std.proofs.Common.{◌≡◌, ℕ, zero, suc, ◌+◌, ◌<◌, ◌≤◌, List, [], ◌∷◌, ◌++◌, length, drop, Result, Ok, Err, inl, inr, refl, sym, ◌∙◌, ap, subst, append_assoc, length-append, zero-add, arith}
 use Rattle.std.proofs.lemmas.List.{drop_at}
 use Rattle.prolog_tokens.specs.Places.{fault_at, moved, further}
 use Rattle.prolog_tokens.specs.Layout.{space_at, gap_len, gap_past}
-use Rattle.prolog_tokens.specs.Gaps.{IsSpace, layout, line, block, IsGap, nothing, more, begins_space, IsCommentFault, IsGapFault, IsWholeGap}
+use Rattle.prolog_tokens.specs.Gaps.{IsSpace, layout, line, block, IsGap, nothing, more, IsGapFault, IsWholeGap}
 use Rattle.prolog_tokens.specs.declared.fault.LexFault.{LexFault}
-use Rattle.prolog_tokens.proofs.Places.{further-further, further-zero}
+use Rattle.prolog_tokens.proofs.PlaceLemmas.{further-further, further-zero}
 use Rattle.prolog_tokens.proofs.GapLemmas.{past_space}
-use Rattle.prolog_tokens.proofs.SpaceLemmas.{Space, IsSpaceAnswer, space_is, space_found, comment_fault_found}
+use Rattle.prolog_tokens.proofs.SpaceLemmas.{IsSpaceAnswer, space_is, space_found, comment_fault_found}
 
 -- the gap where nothing begins, or where a comment has a fault
 pub gap_ends : (bs : List ℕ) → space_at bs ≡ Ok 0 → gap_len 0 bs ≡ Ok 0
@@ -34,20 +34,30 @@ moved-zero fault = rw zero-add refl
 more_gap : (text rest : List ℕ) → IsSpace text rest → (r : Result ℕ LexFault) → IsWholeGap rest r → IsWholeGap (text ++ rest) (further (length text) r)
 more_gap text rest space r (inl h) =
     let P : List ℕ → Type 0 = λ xs. IsSpace text xs in
-    inl (text ++ h.0, h.1, ap (λ (xs : List ℕ). text ++ xs) h.2 ∙ sym (append_assoc text h.0 h.1), more (subst P h.2 space) h.3, h.4,
-      ap (further (length text)) h.5 ∙ ap (λ n. Ok n) (sym (length-append text h.0)))
+    inl (
+      text ++ h.0,
+      h.1,
+      ap (λ (xs : List ℕ). text ++ xs) h.2 ∙ sym (append_assoc text h.0 h.1),
+      more (subst P h.2 space) h.3,
+      h.4,
+      ap (further (length text)) h.5 ∙ ap (λ n. Ok n) (sym (length-append text h.0)),
+    )
 more_gap text rest space r (inr h) =
     let P : List ℕ → Type 0 = λ xs. IsSpace text xs in
     let f = h.1 in
-    inr (moved (length text) h.0, record {
-      gap = text ++ f.gap;
-      after = f.after;
-      whole = ap (λ (xs : List ℕ). text ++ xs) f.whole ∙ sym (append_assoc text f.gap f.after);
-      is_gap = more (subst P f.whole space) f.is_gap;
-      in_comment = f.in_comment;
-      is_fault = f.is_fault;
-      is = ap (moved (length text)) f.is ∙ moved-moved (length text) (length f.gap) f.in_comment ∙ ap (λ n. moved n f.in_comment) (sym (length-append text f.gap));
-    }, ap (further (length text)) h.2)
+    inr (
+      moved (length text) h.0,
+      record {
+        gap = text ++ f.gap;
+        after = f.after;
+        whole = ap (λ (xs : List ℕ). text ++ xs) f.whole ∙ sym (append_assoc text f.gap f.after);
+        is_gap = more (subst P f.whole space) f.is_gap;
+        in_comment = f.in_comment;
+        is_fault = f.is_fault;
+        is = ap (moved (length text)) f.is ∙ moved-moved (length text) (length f.gap) f.in_comment ∙ ap (λ n. moved n f.in_comment) (sym (length-append text f.gap));
+      },
+      ap (further (length text)) h.2,
+    )
 
 gap_by : (bs : List ℕ) (r : Result ℕ LexFault) → space_at bs ≡ r → IsSpaceAnswer bs r → ((rest : List ℕ) → length rest < length bs → IsWholeGap rest (gap_len 0 rest)) → IsWholeGap bs (gap_len 0 bs)
 gap_by bs (Ok zero) is h rec = inl ([], bs, refl, nothing, h, gap_ends bs is)

@@ -1,6 +1,6 @@
 -- Lengths and places that are moved twice.
-use Rattle.std.proofs.Common.{◌≡◌, ℕ, ◌+◌, Result, Ok, Err, refl, ap, add_assoc, zero-add}
-use Rattle.prolog_tokens.specs.Places.{fault_at, further}
+use Rattle.std.proofs.Common.{◌≡◌, ℕ, ◌+◌, Result, Ok, Err, refl, add_assoc, zero-add}
+use Rattle.prolog_tokens.specs.Places.{further}
 use Rattle.prolog_tokens.specs.declared.fault.LexFault.{LexFault}
 
 pub further-further : (a b : ℕ) (r : Result ℕ LexFault) → further a (further b r) ≡ further (a + b) r
