@@ -1,11 +1,11 @@
 -- Items, by their bodies.
-use Rattle.std.proofs.Common.{◌≡◌, ℕ, zero, suc, ◌+◌, ◌<◌, ◌≤◌, false, List, [], ◌∷◌, ◌++◌, length, Result, Ok, Err, refl, sym, ◌∙◌, ap, subst, inl, inr, ⊎_elim, append_assoc, length-append, arith, ◌⊎◌}
+use Rattle.std.proofs.Common.{◌≡◌, ℕ, zero, suc, ◌+◌, ◌<◌, ◌≤◌, false, List, [], ◌∷◌, ◌++◌, length, drop, Result, Ok, Err, refl, sym, ◌∙◌, ap, subst, inl, inr, ⊎_elim, append_assoc, append-nil, length-append, arith, ◌⊎◌}
 use Rattle.std.proofs.lemmas.List.{drop_at}
 use Rattle.prolog_tokens.specs.Bytes.{begins_with}
 use Rattle.prolog_tokens.specs.Places.{fault_at, further}
 use Rattle.prolog_tokens.specs.Pieces.{piece_at}
 use Rattle.prolog_tokens.specs.Items.{item_len, item_characters}
-use Rattle.prolog_tokens.specs.Forms.{SpellsCharacter, doubled, itself, escaped, hexadecimal, octal, IsBody, empty, character, dropped, IsQuote}
+use Rattle.prolog_tokens.specs.Forms.{SpellsCharacter, doubled, itself, escaped, hexadecimal, octal, IsBody, empty, character, dropped, IsItem, IsQuote}
 use Rattle.prolog_tokens.specs.declared.piece.Piece.{Piece}
 use Rattle.prolog_tokens.specs.declared.piece.Piece.TheVariants.{Character, Dropped, Closing, Fault}
 use Rattle.prolog_tokens.specs.declared.fault.LexKind.{LexKind}
@@ -14,7 +14,7 @@ use Rattle.prolog_tokens.proofs.PlaceLemmas.{further-further, further-zero}
 use Rattle.prolog_tokens.proofs.CharacterLemmas.{encoded}
 use Rattle.prolog_tokens.proofs.PieceLemmas.{IsPiece, piece_is}
 use Rattle.prolog_tokens.proofs.SpelledLemmas.{quote_small, spelled_piece, dropped_piece, closing_piece}
-use Rattle.prolog_tokens.proofs.ItemLemmas.{past_character, past_dropped, characters_past_character, characters_past_dropped, at_closing, at_fault}
+use Rattle.prolog_tokens.proofs.ItemLemmas.{past_character, past_dropped, characters_past_character, characters_past_dropped, characters_at_closing, at_closing, at_fault}
 
 -- the spelling of a character has a byte
 pub spelled_some : (quote c : ℕ) (text : List ℕ) → SpellsCharacter quote c text → 0 < length text
@@ -144,3 +144,11 @@ item_is quote bs q = ⊎_elim closes (λ h. fails h.0 h.1) p.stops
     fails kind e =
         let len = ap (item_len quote 0) p.whole ∙ item_failed quote kind p.after q p.is_body e in
         rw len (record { characters = p.characters; body = p.body; after = p.after; is_body = p.is_body; whole = p.whole; piece = e; count = refl })
+
+-- the characters between the quotes of an item
+pub item_characters-IsItem : (quote : ℕ) (bytes after : List ℕ) → IsQuote quote → (item : IsItem quote bytes after) → item_characters quote 0 (drop 1 bytes) ≡ item.characters
+item_characters-IsItem quote bytes after q item =
+    ap (λ (xs : List ℕ). item_characters quote 0 (drop 1 xs)) item.whole
+    ∙ item_characters-body quote (quote ∷ []) q item.is_body
+    ∙ ap (λ (cs : List ℕ). item.characters ++ cs) (characters_at_closing quote (quote ∷ []) (sym (closing_piece quote [] refl)))
+    ∙ append-nil item.characters

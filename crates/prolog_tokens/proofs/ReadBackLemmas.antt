@@ -22,7 +22,7 @@ use Rattle.prolog_tokens.specs.Tokens.{token_at, item_of, mark_at}
 use Rattle.prolog_tokens.specs.Cursor.{Cursor, next_of}
 use Rattle.prolog_tokens.specs.Gaps.{begins_space}
 use Rattle.prolog_tokens.specs.Decoding.{bytes_of, meaning_of}
-use Rattle.prolog_tokens.specs.ReadBack.{goes_on, token_between, IsReadBack, IsListReadBack}
+use Rattle.prolog_tokens.specs.ReadBack.{lengthens_name, token_between, IsReadBack, IsListReadBack}
 use Rattle.prolog_tokens.specs.declared.token.TokenKind.{TokenKind}
 use Rattle.prolog_tokens.specs.declared.token.TokenKind.TheVariants as kind
 use Rattle.prolog_tokens.proofs.CharacterLemmas.{either, and_true}
@@ -179,16 +179,16 @@ small_apart b h = grind (arith, nat_tests)
 small_no_slash : (b : ℕ) → is_small b ≡ true → (b == 47) ≡ false
 small_no_slash b h = grind (arith, nat_tests)
 
-not_word : (bs : List ℕ) → goes_on bs ≡ false → begins is_word bs ≡ false
+not_word : (bs : List ℕ) → lengthens_name bs ≡ false → begins is_word bs ≡ false
 not_word [] h = refl
 not_word (b ∷ bs) h = (or_neither (is_word b) (b == 39) h).0
 
-not_quote : (bs : List ℕ) → goes_on bs ≡ false → begins_with 39 bs ≡ false
+not_quote : (bs : List ℕ) → lengthens_name bs ≡ false → begins_with 39 bs ≡ false
 not_quote [] h = refl
 not_quote (b ∷ bs) h = (or_neither (is_word b) (b == 39) h).1
 
 -- a word
-word_token : (name after : List ℕ) → is_plain_word name ≡ true → goes_on after ≡ false → (0 < length name) × (begins_space (name ++ after) ≡ false) × (token_at (name ++ after) ≡ Ok (kind.Name, length name))
+word_token : (name after : List ℕ) → is_plain_word name ≡ true → lengthens_name after ≡ false → (0 < length name) × (begins_space (name ++ after) ≡ false) × (token_at (name ++ after) ≡ Ok (kind.Name, length name))
 word_token [] after h apart = cc
 word_token (b ∷ bs) after h apart =
     let parts = and_true (is_small b) (prefix_len is_word bs == length bs) h in
@@ -202,7 +202,7 @@ spelling_plain : (name : List ℕ) → is_plain_word name ≡ true → spelling 
 unfolding spelling
 spelling_plain name h = rw h refl
 
-word_read : (c : Cursor) (name after : List ℕ) → is_plain_word name ≡ true → goes_on after ≡ false → drop c.at c.text ≡ spelling name ++ after → IsReadBack c name
+word_read : (c : Cursor) (name after : List ℕ) → is_plain_word name ≡ true → lengthens_name after ≡ false → drop c.at c.text ≡ spelling name ++ after → IsReadBack c name
 word_read c name after h apart whole =
     let plain = spelling_plain name h in
     let here : drop c.at c.text ≡ name ++ after = whole ∙ ap (λ (xs : List ℕ). xs ++ after) plain in
@@ -215,7 +215,7 @@ word_read c name after h apart whole =
     }
 
 -- a name between quotes
-quoted_token : (name after : List ℕ) (cs : List ℕ) → IsBody 39 cs (flat_map spelled_byte name) → goes_on after ≡ false → token_at (quoted name ++ after) ≡ Ok (kind.Quoted, length (quoted name))
+quoted_token : (name after : List ℕ) (cs : List ℕ) → IsBody 39 cs (flat_map spelled_byte name) → lengthens_name after ≡ false → token_at (quoted name ++ after) ≡ Ok (kind.Quoted, length (quoted name))
 quoted_token name after cs body apart =
     let all : (flat_map spelled_byte name ++ 39 ∷ []) ++ after ≡ flat_map spelled_byte name ++ 39 ∷ after = append_assoc (flat_map spelled_byte name) (39 ∷ []) after in
     token_at_single ((flat_map spelled_byte name ++ 39 ∷ []) ++ after)
@@ -227,7 +227,7 @@ quoted_meaning : (name cs : List ℕ) → IsBody 39 cs (flat_map spelled_byte na
 quoted_meaning name cs body is =
     ap encode_utf8_all (item_characters-body 39 (39 ∷ []) (inl refl) body ∙ ap (λ (xs : List ℕ). cs ++ xs) (characters_at_closing 39 (39 ∷ []) (sym (closing_piece 39 [] refl))) ∙ append-nil cs) ∙ is
 
-quoted_read : (c : Cursor) (name after : List ℕ) → IsUtf8 name → is_plain_word name ≡ false → is_empty_list name ≡ false → goes_on after ≡ false → drop c.at c.text ≡ spelling name ++ after → IsReadBack c name
+quoted_read : (c : Cursor) (name after : List ℕ) → IsUtf8 name → is_plain_word name ≡ false → is_empty_list name ≡ false → lengthens_name after ≡ false → drop c.at c.text ≡ spelling name ++ after → IsReadBack c name
 quoted_read c name after text word list apart whole =
     let plain = spelling_quoted name word list in
     let here : drop c.at c.text ≡ quoted name ++ after = whole ∙ ap (λ (xs : List ℕ). xs ++ after) plain in
@@ -240,7 +240,7 @@ quoted_read c name after text word list apart whole =
       meaning = rw plain (ap (meaning_of kind.Quoted) (bytes_between c (quoted name) after kind.Quoted here) ∙ quoted_meaning name text.0 body text.1.1);
     }
 
-pub name_read : (c : Cursor) (name after : List ℕ) → IsUtf8 name → is_empty_list name ≡ false → goes_on after ≡ false → drop c.at c.text ≡ spelling name ++ after → IsReadBack c name
+pub name_read : (c : Cursor) (name after : List ℕ) → IsUtf8 name → is_empty_list name ≡ false → lengthens_name after ≡ false → drop c.at c.text ≡ spelling name ++ after → IsReadBack c name
 name_read c name after text list apart whole =
     ⊎_elim (λ t. word_read c name after t apart whole) (λ f. quoted_read c name after text f list apart whole) (either (is_plain_word name))
 

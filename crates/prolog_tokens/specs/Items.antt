@@ -1,4 +1,6 @@
--- A quoted item: how long it is or its fault, and its characters.
+-- A quoted item, computed: how long it is or its fault, and its characters.
+--
+-- By the forms it is `IsItem` of Forms.antt, as the laws `longest_match` and `items_are_decoded` say.
 use Rattle.std.specs.Prelude.{ℕ, zero, suc, ◌-◌, List, [], ◌∷◌, Result, Ok, Err}
 use Rattle.prolog_tokens.specs.Places.{fault_at, further}
 use Rattle.prolog_tokens.specs.Pieces.{piece_at}

@@ -1,4 +1,6 @@
--- What stands between tokens: layout and comments.
+-- What stands between tokens, computed: layout and comments.
+--
+-- By the forms it is `IsGap` of Gaps.antt, as the law `longest_match` says.
 use Rattle.std.specs.Prelude.{ℕ, zero, suc, ◌+◌, ◌==◌, ◌&&◌, not, nat_lt, List, [], ◌∷◌, length, take, drop, Result, Ok, Err, if◌then◌else◌}
 use Rattle.std.specs.List.{prefix_len}
 use Rattle.std.specs.Str.Lossy.{utf8_valid_len}

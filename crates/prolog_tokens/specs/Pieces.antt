@@ -1,4 +1,4 @@
--- What stands at one place of a quoted item.
+-- What stands at one place of a quoted item, computed. By the forms a character is `SpellsCharacter` of Forms.antt.
 --
 -- Source: ISO/IEC 13211-1:1995, 6.4.2.1, in this project's profile.
 use Rattle.std.specs.Prelude.{ℕ, ◌+◌, ◌≤◌, ◌<◌, ◌||◌, ◌&&◌, ◌==◌, nat_le, nat_lt, List, [], ◌∷◌, take, drop, Option, Some, None, if◌then◌else◌}

@@ -10,10 +10,10 @@ use Rattle.prolog_tokens.specs.declared.token.TokenKind.{TokenKind}
 use Rattle.prolog_tokens.specs.declared.token.TokenKind.TheVariants.{Name, Quoted, List as OpenList, ListEnd}
 use Rattle.prolog_tokens.specs.declared.token.Token.{Token}
 
--- bytes that go on with a word or with a quoted item
-abbrev pub goes_on : List ℕ → Bool
-goes_on [] = false
-goes_on (b ∷ bs) = is_word b || (b == 39)
+-- the first of the bytes would make a word or a quoted item in front of it longer
+abbrev pub lengthens_name : List ℕ → Bool
+lengthens_name [] = false
+lengthens_name (b ∷ bs) = is_word b || (b == 39)
 
 -- the token of a kind from one place to another
 abbrev pub token_between : TokenKind → ℕ → ℕ → Token

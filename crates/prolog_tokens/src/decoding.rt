@@ -1,9 +1,10 @@
 //! The characters of tokens.
 
-ghost use Rattle.std.specs.Prelude.{◌≡◌, ◌≤◌, ◌++◌, OnOk, OnErr, length};
+ghost use Rattle.std.specs.Prelude.{◌≡◌, ◌++◌, ℕ, List, OnOk, OnErr};
 ghost use Rattle.std.specs.Str.{encode_utf8_all};
+ghost use Rattle.prolog_tokens.specs.Forms.{IsItem};
 ghost use Rattle.prolog_tokens.specs.Items.{item_characters};
-ghost use Rattle.prolog_tokens.specs.Decoding.{IsTokenOf, characters_of, AppendsPrefix};
+ghost use Rattle.prolog_tokens.specs.Decoding.{IsTokenOf, meaning_of, characters_of, AppendsPrefix};
 
 use crate::piece::{Piece, piece_at};
 use crate::token::{Token, TokenKind};
@@ -13,6 +14,8 @@ use std::alloc::AllocError;
 /// spells, and nothing for a token of another kind.
 ///
 /// Where memory runs out, the bytes that were there are followed by a prefix of the new ones.
+///
+/// Source: ISO/IEC 13211-1:1995, 6.4.2.1, in this project's profile.
 pub fn decode(text: &[u8], token: Token, out: &mut Vec<u8>) -> Result<(), AllocError>
     requires { IsTokenOf text.now token }
     ensures ok { OnOk result (out.new.items ≡ out.old.items ++ characters_of text.now token) }
@@ -44,3 +47,9 @@ fn decode_item(bytes: &[u8], quote: u8, out: &mut Vec<u8>) -> Result<(), AllocEr
         }
     }
 }
+
+/// An item in quotes is decoded to the characters that its body spells by the forms of tokens.
+pub fn items_are_decoded()
+    ensures quoted { (bytes after : List ℕ) (item : IsItem 39 bytes after) → meaning_of TokenKind.Quoted bytes ≡ encode_utf8_all item.characters }
+    ensures text { (bytes after : List ℕ) (item : IsItem 34 bytes after) → meaning_of TokenKind.Text bytes ≡ encode_utf8_all item.characters }
+{}

@@ -19,7 +19,7 @@ mod quoting;
 mod tests;
 mod token;
 
-pub use decoding::decode;
+pub use decoding::{decode, items_are_decoded};
 pub use fault::{LexFault, LexKind};
 pub use lexer::{Lexer, longest_match};
 pub use quoting::{quote, quoted_names_are_read_back};

@@ -4,7 +4,7 @@ ghost use Rattle.std.specs.Prelude.{◌≡◌, ◌<◌, ◌++◌, ◌∷◌, [],
 ghost use Rattle.std.specs.Char.{digit_char};
 ghost use Rattle.std.specs.Str.{IsUtf8};
 ghost use Rattle.prolog_tokens.specs.Cursor.{Cursor};
-ghost use Rattle.prolog_tokens.specs.ReadBack.{goes_on, IsReadBack, IsListReadBack};
+ghost use Rattle.prolog_tokens.specs.ReadBack.{lengthens_name, IsReadBack, IsListReadBack};
 ghost use Rattle.prolog_tokens.specs.Decoding.{AppendsPrefix};
 ghost use Rattle.prolog_tokens.specs.Spelling.{is_plain_word, is_empty_list, spelled_byte, spelling};
 
@@ -90,7 +90,7 @@ fn digit(value: u8) -> u8
 /// What `quote` spells is read back, in any text, where no letter, digit, underscore or single quote follows: for a name in
 /// UTF-8 the next token is the whole spelling, and it stands for the name. The name `[]` is read back as its two tokens.
 pub fn quoted_names_are_read_back()
-    ensures name { (c : Cursor) (name after : List ℕ) → IsUtf8 name → is_empty_list name ≡ false → goes_on after ≡ false
+    ensures name { (c : Cursor) (name after : List ℕ) → IsUtf8 name → is_empty_list name ≡ false → lengthens_name after ≡ false
         → drop c.at c.text ≡ spelling name ++ after → IsReadBack c name }
     ensures empty_list { (c : Cursor) (after : List ℕ) → drop c.at c.text ≡ spelling (91 ∷ 93 ∷ []) ++ after → IsListReadBack c }
 {}
