@@ -9,7 +9,7 @@ use Rattle.prolog_tokens.specs.Layout.{gap_len, space_at}
 use Rattle.prolog_tokens.specs.Tokens.{Answer, token_at}
 use Rattle.prolog_tokens.specs.Cursor.{Cursor, placed, next_of}
 use Rattle.prolog_tokens.specs.Forms.{IsItem, IsOfForm, SpellsInteger, decimal, based, code, IsLongest, IsFault, no_token, byte_in_item, byte_after_zero, open_item, escape_in_item, escape_after_zero, fraction, wide}
-use Rattle.prolog_tokens.specs.Gaps.{IsGap, begins_space, IsWholeGap}
+use Rattle.prolog_tokens.specs.Gaps.{IsGap, begins_space}
 use Rattle.prolog_tokens.specs.Next.{IsNextToken, HasFault, in_gap, in_token, IsNext}
 use Rattle.prolog_tokens.specs.Decoding.{IsTokenOf, bytes_of}
 use Rattle.prolog_tokens.specs.declared.token.TokenKind.{TokenKind}
@@ -18,7 +18,7 @@ use Rattle.prolog_tokens.specs.declared.token.Token.{Token}
 use Rattle.prolog_tokens.specs.declared.fault.LexFault.{LexFault}
 use Rattle.prolog_tokens.proofs.CharacterLemmas.{either}
 use Rattle.prolog_tokens.proofs.RunLemmas.{length-run}
-use Rattle.prolog_tokens.proofs.WholeGapLemmas.{gap_ends, whole_gap, gap_len-IsGap, gap_fault_found}
+use Rattle.prolog_tokens.proofs.WholeGapLemmas.{IsWholeGap, gap_ends, whole_gap, gap_len-IsGap, gap_fault_found}
 use Rattle.prolog_tokens.proofs.LongestLemmas.{IsMatch, is_match, fault_is_found}
 
 or_false : (a b : Bool) → (a || b) ≡ false → b ≡ false

@@ -1,13 +1,19 @@
 -- The computed gap is all layout and comments at the front, and its fault is the first one.
-use Rattle.std.proofs.Common.{◌≡◌, ℕ, zero, suc, ◌+◌, ◌<◌, ◌≤◌, List, [], ◌∷◌, ◌++◌, length, drop, Result, Ok, Err, inl, inr, refl, sym, ◌∙◌, ap, subst, append_assoc, length-append, zero-add, arith}
+use Rattle.std.proofs.Common.{◌≡◌, ℕ, zero, suc, ◌+◌, ◌<◌, ◌≤◌, ◌⊎◌, false, List, [], ◌∷◌, ◌++◌, length, drop, Result, Ok, Err, inl, inr, refl, sym, ◌∙◌, ap, subst, append_assoc, length-append, zero-add, arith}
 use Rattle.std.proofs.lemmas.List.{drop_at}
 use Rattle.prolog_tokens.specs.Places.{fault_at, moved, further}
 use Rattle.prolog_tokens.specs.Layout.{space_at, gap_len, gap_past}
-use Rattle.prolog_tokens.specs.Gaps.{IsSpace, layout, line, block, IsGap, nothing, more, IsGapFault, IsWholeGap}
+use Rattle.prolog_tokens.specs.Gaps.{begins_space, IsSpace, layout, line, block, IsGap, nothing, more, IsGapFault}
 use Rattle.prolog_tokens.specs.declared.fault.LexFault.{LexFault}
 use Rattle.prolog_tokens.proofs.PlaceLemmas.{further-further, further-zero}
 use Rattle.prolog_tokens.proofs.GapLemmas.{past_space}
 use Rattle.prolog_tokens.proofs.SpaceLemmas.{IsSpaceAnswer, space_is, space_found, comment_fault_found}
+
+-- The answer is the length of all layout and comments at the front, behind which none begins; or it is the first fault.
+abbrev pub IsWholeGap : List ℕ → Result ℕ LexFault → Type 0
+IsWholeGap bytes answer =
+    ((gap : List ℕ) × (after : List ℕ) × (bytes ≡ gap ++ after) × IsGap gap after × (begins_space after ≡ false) × (answer ≡ Ok (length gap)))
+    ⊎ ((fault : LexFault) × IsGapFault bytes fault × (answer ≡ Err fault))
 
 -- the gap where nothing begins, or where a comment has a fault
 pub gap_ends : (bs : List ℕ) → space_at bs ≡ Ok 0 → gap_len 0 bs ≡ Ok 0

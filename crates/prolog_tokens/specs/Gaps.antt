@@ -2,7 +2,7 @@
 --
 -- To believe: `IsSpace`, `IsGap`, `IsCommentFault`.
 -- Source: ISO/IEC 13211-1:1995, 6.4.1, in this project's profile: comments do not nest, and are in UTF-8.
-use Rattle.std.specs.Prelude.{◌≡◌, ℕ, ◌+◌, ◌≤◌, ◌||◌, ◌==◌, Bool, true, false, not, List, [], ◌∷◌, ◌++◌, length, Result, Ok, Err, ◌⊎◌}
+use Rattle.std.specs.Prelude.{◌≡◌, ℕ, ◌+◌, ◌≤◌, ◌||◌, ◌==◌, Bool, true, false, not, List, [], ◌∷◌, ◌++◌, length}
 use Rattle.std.specs.Str.{IsUtf8}
 use Rattle.std.specs.Str.Lossy.{utf8_valid_len}
 use Rattle.prolog_tokens.specs.Bytes.{is_layout, begins_comment}
@@ -35,7 +35,7 @@ pub data IsGap : List ℕ → List ℕ → Type 0 where
   nothing : {after : List ℕ} → IsGap [] after
   more : {text rest after : List ℕ} → IsSpace text (rest ++ after) → IsGap rest after → IsGap (text ++ rest) after
 
--- no layout and no comment begins the bytes
+-- layout or a comment begins the bytes
 abbrev pub begins_space : List ℕ → Bool
 begins_space [] = false
 begins_space (b ∷ bs) = is_layout b || (b == 37) || begins_comment (b ∷ bs)
@@ -61,9 +61,3 @@ pub record IsGapFault (bytes : List ℕ) (fault : LexFault) : Type 0 where
   pub in_comment : LexFault
   pub is_fault : IsCommentFault after in_comment
   pub is : fault ≡ moved (length gap) in_comment
-
--- The answer is the length of all layout and comments at the front, behind which none begins; or it is the first fault.
-abbrev pub IsWholeGap : List ℕ → Result ℕ LexFault → Type 0
-IsWholeGap bytes answer =
-    ((gap : List ℕ) × (after : List ℕ) × (bytes ≡ gap ++ after) × IsGap gap after × (begins_space after ≡ false) × (answer ≡ Ok (length gap)))
-    ⊎ ((fault : LexFault) × IsGapFault bytes fault × (answer ≡ Err fault))
