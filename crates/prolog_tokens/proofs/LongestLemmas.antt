@@ -5,6 +5,7 @@ use Rattle.prolog_tokens.specs.Bytes.{begins_with, begins_comment}
 use Rattle.prolog_tokens.specs.Places.{fault_at}
 use Rattle.prolog_tokens.specs.Tokens.{Answer, token_at}
 use Rattle.prolog_tokens.specs.Forms.{decimal, IsLongest, FitsNone, IsQuote, IsFault, no_token, byte_in_item, byte_after_zero, open_item, escape_in_item, escape_after_zero, fraction, wide}
+use Rattle.prolog_tokens.specs.declared.token.TokenKind.{TokenKind}
 use Rattle.prolog_tokens.specs.declared.token.TokenKind.TheVariants as kind
 use Rattle.prolog_tokens.specs.declared.fault.LexKind.TheVariants.{BadByte}
 use Rattle.prolog_tokens.specs.declared.fault.LexFault.{LexFault}
@@ -48,7 +49,7 @@ fault_is_found bytes fault apart h = fault_found bytes fault (unread_at bytes ap
 
 fits_none : (bytes : List ℕ) → token_at bytes ≡ Err (fault_at BadByte 0) → FitsNone bytes
 fits_none bytes is of text after whole form =
-    let long = subst (IsAtLeast (length text)) (ap token_at (sym whole) ∙ is) (form_fits of text after form) in
+    let long = subst (IsAtLeast of (length text)) (ap token_at (sym whole) ∙ is) (form_fits of text after form) in
     long refl
 
 -- the answer is the longest text of a form, or a fault of the table
@@ -64,8 +65,8 @@ match_by bytes (Ok t) some is h = (
     whole = h.whole;
     of_form = h.of_form;
     longest = λ other text' after' whole form.
-        let long = subst (IsAtLeast (length text')) (ap token_at (sym whole) ∙ is) (form_fits other text' after' form) in
-        omega (arith, long, h.count);
+        let long = subst (IsAtLeast other (length text')) (ap token_at (sym whole) ∙ is) (form_fits other text' after' form) in
+        omega (arith, long.0, h.count);
   },
   h.count,
 )
@@ -77,3 +78,15 @@ match_by bytes (Err fault) some is h = ⊎_elim (λ k. k) (λ k. unread k) h
 pub is_match : (bytes : List ℕ) → begins_comment bytes ≡ false → 0 < length bytes → IsMatch bytes (token_at bytes)
 is_match [] apart some = absurd (omega arith)
 is_match (b ∷ bs) apart some = match_by (b ∷ bs) (token_at (b ∷ bs)) some refl (token_is b bs apart)
+
+-- where there is no fault, a longest text of a form is the token
+pub only_token : (bytes : List ℕ) (of : TokenKind) (text after : List ℕ) → begins_comment bytes ≡ false → 0 < length bytes → IsLongest bytes of text after → ((fault : LexFault) → IsFault bytes fault → ⊥)
+    → token_at bytes ≡ Ok (of, length text)
+only_token bytes of text after apart some longest sound = by_match (token_at bytes) refl (is_match bytes apart some)
+  where
+    by_match : (r : Answer) → token_at bytes ≡ r → IsMatch bytes r → token_at bytes ≡ Ok (of, length text)
+    by_match (Err fault) is h = absurd (sound fault h)
+    by_match (Ok t) is (text', after', other, count) =
+        let same : length text ≡ t.1 = omega (arith, count, other.longest of text after longest.whole longest.of_form, longest.longest t.0 text' after' other.whole other.of_form) in
+        let kind_is = (subst (IsAtLeast of (length text)) (ap token_at (sym longest.whole) ∙ is) (form_fits of text after longest.of_form)).1 same in
+        is ∙ ap (λ k. Ok (k, t.1)) kind_is ∙ ap (λ n. Ok (of, n)) (sym same)

@@ -1,10 +1,10 @@
 -- The computed next token is the one of the forms.
-use Rattle.std.proofs.Common.{◌≡◌, ℕ, ◌+◌, ◌-◌, ◌<◌, ◌≤◌, ◌||◌, ◌==◌, nat_lt, Bool, true, false, List, [], ◌∷◌, ◌++◌, length, drop, None, Result, Ok, Err, inl, inr, ⊎_elim, refl, sym, ◌∙◌, ap, subst, append-nil, length-append, length-drop, length-take, arith, if◌then◌else◌}
+use Rattle.std.proofs.Common.{◌≡◌, ℕ, ◌+◌, ◌-◌, ◌<◌, ◌≤◌, ◌||◌, ◌==◌, nat_lt, Bool, true, false, List, [], ◌∷◌, ◌++◌, length, drop, Some, None, Result, Ok, Err, inl, inr, ⊎_elim, refl, sym, ◌∙◌, ap, subst, append-nil, length-append, length-drop, length-take, arith, if◌then◌else◌}
 use Rattle.std.specs.Char.{is_digit as is_digit_in}
 use Rattle.std.proofs.lemmas.Bool.{ltb-true, ltb-false, lt-ltb, le-ltb}
 use Rattle.std.proofs.lemmas.List.{drop_at, drop_all, drop-drop, nil_from_length}
 use Rattle.prolog_tokens.specs.Bytes.{is_small, is_capital, is_word, is_graphic, is_layout, begins_comment}
-use Rattle.prolog_tokens.specs.Places.{further}
+use Rattle.prolog_tokens.specs.Places.{moved, further}
 use Rattle.prolog_tokens.specs.Layout.{gap_len, space_at}
 use Rattle.prolog_tokens.specs.Tokens.{Answer, token_at}
 use Rattle.prolog_tokens.specs.Cursor.{Cursor, placed, next_of}
@@ -19,7 +19,7 @@ use Rattle.prolog_tokens.specs.declared.fault.LexFault.{LexFault}
 use Rattle.prolog_tokens.proofs.CharacterLemmas.{either}
 use Rattle.prolog_tokens.proofs.RunLemmas.{length-run}
 use Rattle.prolog_tokens.proofs.WholeGapLemmas.{IsWholeGap, gap_ends, whole_gap, gap_len-IsGap, gap_fault_found}
-use Rattle.prolog_tokens.proofs.LongestLemmas.{IsMatch, is_match, fault_is_found}
+use Rattle.prolog_tokens.proofs.LongestLemmas.{IsMatch, is_match, fault_is_found, only_token}
 
 or_false : (a b : Bool) → (a || b) ≡ false → b ≡ false
 or_false true b h = cc
@@ -55,6 +55,32 @@ fault_some bytes fault (escape_in_item quote body after o none apart is) = omega
 fault_some bytes fault (escape_after_zero after whole none is) = omega (arith, ap length whole)
 fault_some bytes fault (fraction digits after d are narrow digit whole is) = omega (arith, ap length whole, length-append digits (46 ∷ d ∷ after))
 fault_some bytes fault (wide n text after spells large whole is) = omega (arith, ap length whole, length-append text after, integer_some n text spells)
+
+item_some : (quote : ℕ) (text after : List ℕ) → IsItem quote text after → 0 < length text
+item_some quote text after h = omega (arith, ap length h.whole)
+
+one_some : (b : ℕ) (text : List ℕ) → text ≡ b ∷ [] → 0 < length text
+one_some b text e = omega (arith, ap length e)
+
+-- a token has a byte
+form_some : (of : TokenKind) (text after : List ℕ) → IsOfForm of text after → 0 < length text
+form_some kind.Name text after (inl h) = length-run is_small is_word text h
+form_some kind.Name text after (inr (inl h)) = length-run is_graphic is_graphic text h.run
+form_some kind.Name text after (inr (inr (inl h))) = one_some 33 text h
+form_some kind.Name text after (inr (inr (inr h))) = one_some 59 text h
+form_some kind.Quoted text after h = item_some 39 text after h
+form_some kind.Text text after h = item_some 34 text after h
+form_some kind.Var text after h = length-run (λ b. is_capital b || (b == 95)) is_word text h
+form_some (kind.Int z) text after h = integer_some h.0 text h.2
+form_some kind.Paren text after h = one_some 40 text h
+form_some kind.ParenEnd text after h = one_some 41 text h
+form_some kind.List text after h = one_some 91 text h
+form_some kind.ListEnd text after h = one_some 93 text h
+form_some kind.Curly text after h = one_some 123 text h
+form_some kind.CurlyEnd text after h = one_some 125 text h
+form_some kind.Comma text after h = one_some 44 text h
+form_some kind.Bar text after h = one_some 124 text h
+form_some kind.End text after h = one_some 46 text h.0
 
 module _ (c : Cursor) (within : c.at ≤ length c.text) where
   -- behind a gap
@@ -125,31 +151,18 @@ module _ (c : Cursor) (within : c.at ≤ length c.text) where
       let here : nat_lt (c.at + length gap) (length c.text) ≡ true = lt-ltb _ _ (omega (arith, rest_len gap after whole, fault_some after f h)) in
       next_behind gap after whole len ∙ rw here (rw (fault_is_found after f (no_comment after apart) h) (ap (λ (g : LexFault). Err g) (sym is)))
 
-item_some : (quote : ℕ) (text after : List ℕ) → IsItem quote text after → 0 < length text
-item_some quote text after h = omega (arith, ap length h.whole)
-
-one_some : (b : ℕ) (text : List ℕ) → text ≡ b ∷ [] → 0 < length text
-one_some b text e = omega (arith, ap length e)
-
--- a token has a byte
-form_some : (of : TokenKind) (text after : List ℕ) → IsOfForm of text after → 0 < length text
-form_some kind.Name text after (inl h) = length-run is_small is_word text h
-form_some kind.Name text after (inr (inl h)) = length-run is_graphic is_graphic text h.run
-form_some kind.Name text after (inr (inr (inl h))) = one_some 33 text h
-form_some kind.Name text after (inr (inr (inr h))) = one_some 59 text h
-form_some kind.Quoted text after h = item_some 39 text after h
-form_some kind.Text text after h = item_some 34 text after h
-form_some kind.Var text after h = length-run (λ b. is_capital b || (b == 95)) is_word text h
-form_some (kind.Int z) text after h = integer_some h.0 text h.2
-form_some kind.Paren text after h = one_some 40 text h
-form_some kind.ParenEnd text after h = one_some 41 text h
-form_some kind.List text after h = one_some 91 text h
-form_some kind.ListEnd text after h = one_some 93 text h
-form_some kind.Curly text after h = one_some 123 text h
-form_some kind.CurlyEnd text after h = one_some 125 text h
-form_some kind.Comma text after h = one_some 44 text h
-form_some kind.Bar text after h = one_some 124 text h
-form_some kind.End text after h = one_some 46 text h.0
+  -- where there is no fault, a token by the forms is the one that is read
+  pub only_next : (t : Token) → IsNextToken c t → ((fault : LexFault) → HasFault c fault → ⊥) → next_of c ≡ Ok (Some t)
+  only_next t n sound =
+      let after = n.text ++ n.after in
+      let some = form_some t.kind n.text n.after n.longest.of_form in
+      let stops : gap_len 0 after ≡ Ok 0 = gap_ends after (no_space_at after n.no_space) in
+      let len : gap_len 0 (drop c.at c.text) ≡ Ok (length n.gap) = ap (gap_len 0) n.whole ∙ gap_len-IsGap n.is_gap ∙ ap (further (length n.gap)) stops ∙ ap (λ m. Ok m) (omega arith) in
+      let here : nat_lt (c.at + length n.gap) (length c.text) ≡ true = lt-ltb _ _ (omega (arith, rest_len n.gap after n.whole, length-append n.text n.after, some)) in
+      let no_fault : (fault : LexFault) → IsFault after fault → ⊥ = λ fault h. sound (moved (c.at + length n.gap) fault) (in_token n.gap after fault n.whole n.is_gap n.no_space h refl) in
+      let token = only_token after t.kind n.text n.after (no_comment after n.no_space) (omega (arith, length-append n.text n.after, some)) n.longest no_fault in
+      next_behind n.gap after n.whole len ∙ rw here (ap (placed (c.at + length n.gap)) token
+      ∙ ap (λ m. placed m (Ok (t.kind, length n.text))) (sym n.start) ∙ ap (λ e. Ok (Some (record { kind = t.kind; start = t.start; end = e }))) (sym n.end))
 
 -- past the end there is no token
 none_past : (text : List ℕ) (at : ℕ) → length text < at → next_of (record { text = text; at = at }) ≡ Ok None

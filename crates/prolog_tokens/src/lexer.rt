@@ -5,8 +5,9 @@ ghost use Rattle.prolog_tokens.specs.Items.{item_len};
 ghost use Rattle.prolog_tokens.specs.Tokens.{token_at, mark_at, item_of};
 ghost use Rattle.prolog_tokens.specs.Cursor.{Cursor, next_of, place_after};
 ghost use Rattle.prolog_tokens.specs.Gaps.{IsGap};
-ghost use Rattle.prolog_tokens.specs.Next.{IsNext, HasFault};
+ghost use Rattle.prolog_tokens.specs.Next.{IsNext, IsNextToken, HasFault};
 ghost use Rattle.prolog_tokens.specs.declared.fault.LexFault.{LexFault as Fault};
+ghost use Rattle.prolog_tokens.specs.declared.token.Token.{Token as NextToken};
 
 use crate::bytes::{
     ends_clause, graphic_len, is_capital, is_digit, is_graphic, is_small, word_len,
@@ -138,11 +139,12 @@ fn mark(byte: u8) -> Result<(TokenKind, usize), LexFault>
     Ok((kind, 1))
 }
 
-/// What `Lexer::next` computes is what the forms of tokens, layout, comments and faults say: behind all layout and comments
-/// the longest text of a form; nothing exactly where only layout and comments are left; and each fault exactly where its
-/// condition holds.
+/// What `Lexer::next` computes is what the forms of tokens, layout, comments and faults say: each fault exactly where its
+/// condition holds; nothing exactly where only layout and comments are left; and else the longest text of a form behind all
+/// layout and comments, which is one token.
 pub fn longest_match()
     ensures next { (c : Cursor) → c.at ≤ length c.text → IsNext c (next_of c) }
     ensures none { (c : Cursor) → c.at ≤ length c.text → IsGap (drop c.at c.text) [] → next_of c ≡ Ok None }
+    ensures only { (c : Cursor) (t : NextToken) → c.at ≤ length c.text → IsNextToken c t → ((fault : Fault) → HasFault c fault → ⊥) → next_of c ≡ Ok (Some t) }
     ensures faults { (c : Cursor) (fault : Fault) → c.at ≤ length c.text → HasFault c fault → next_of c ≡ Err fault }
 {}
