@@ -55,3 +55,12 @@ Outcome told words before after Refused = (text : List ℕ) × IsAnswer told wor
 Outcome told words before after OutFault = (status : Status) × (text : List ℕ) × IsAnswer told words status text × TakesPart before text after
 Outcome told words before after FileFault = after ≡ before
 Outcome told words before after Memory = after ≡ before
+
+-- the map is told, and has these bytes at the name
+abbrev pub HasFile : Map → List ℕ → List ℕ → Type 0
+HasFile None name bytes = ⊥
+HasFile (Some files) name bytes = files name ≡ Some bytes
+
+-- the answer was written, or there was no memory for it
+abbrev pub IsDoneOrMemory : Status → Type 0
+IsDoneOrMemory status = (status ≡ Done) ⊎ (status ≡ Memory)

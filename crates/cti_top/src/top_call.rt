@@ -3,7 +3,8 @@
 ghost use Rattle.std.specs.Prelude.{◌≡◌, List, ℕ, map, Some};
 ghost use Rattle.cti_top.specs.Causes.{Rose};
 ghost use Rattle.cti_top.specs.Words.{infer_file};
-ghost use Rattle.cti_top.specs.Outcome.{Outcome};
+ghost use Rattle.cti_top.specs.Outcome.{HasFile, IsDoneOrMemory, Outcome};
+ghost use Rattle.prolog_reader.specs.Reading.{IsReadable};
 
 use crate::answering::answer_for;
 use crate::files::Files;
@@ -28,6 +29,10 @@ pub fn command<F: Files, S: Sink>(
     ensures file_fault { result ≡ Status.FileFault
         → (name : List ℕ) × (infer_file (map (λ w. w.now) words.now) ≡ Some name) × Rose (F.faults files.old name) (F.faults files.new name) }
     ensures out_fault { result ≡ Status.OutFault → Rose (S.faults out.old) (S.faults out.new) }
+
+    // A file that is told and is a list of facts is answered, unless memory runs out or a count of faults rises.
+    ensures complete { (name bytes : List ℕ) → infer_file (map (λ w. w.now) words.now) ≡ Some name → HasFile (F.told files.old) name bytes → IsReadable bytes
+        → (Rose (F.faults files.old name) (F.faults files.new name) → ⊥) → (Rose (S.faults out.old) (S.faults out.new) → ⊥) → IsDoneOrMemory result }
 {
     match answer_for(alloc, words, files) {
         Ok(answer) => match write_text(&answer.text, out) {

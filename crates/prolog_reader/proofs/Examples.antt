@@ -2,6 +2,8 @@
 use Rattle.std.proofs.Common.{◌≡◌, ℕ, List, [], ◌∷◌, Some, None, refl, arith}
 use Rattle.std.specs.Prelude.{codes}
 use Rattle.prolog_tokens.specs.Stream.{ends, goes_on}
+use Rattle.prolog_tokens.specs.Bytes.{is_graphic}
+use Rattle.prolog_tokens.specs.Tokens.{mark_at}
 use Rattle.prolog_tokens.specs.declared.token.Token.{Token}
 use Rattle.prolog_tokens.specs.declared.token.TokenKind.{TokenKind}
 use Rattle.prolog_tokens.specs.declared.token.TokenKind.TheVariants as kind
@@ -30,6 +32,7 @@ unfolding go
 edge_goes = refl
 
 pub edge_reads : Reads edge (edge_fact ∷ [])
+unfolding mark_at is_graphic
 edge_reads = record {
   short = omega arith;
   tokens = edge_tokens;

@@ -5,7 +5,7 @@ use Rattle.std.specs.Cmp.Lexicographic.{pointwise}
 use Rattle.prolog_tokens.specs.declared.token.TokenKind.TheVariants as kind
 use Rattle.prolog_tokens.specs.declared.token.TokenKind.{TokenKind}
 use Rattle.prolog_tokens.specs.declared.token.Token.{Token}
-use Rattle.prolog_reader.specs.Symbols.{Symbol, is_operator, is_anonymous, variable_number, with_variable, spelling, kind_symbol, kind_seen, seen_after, symbols}
+use Rattle.prolog_reader.specs.Symbols.{Symbol, is_barred, is_anonymous, variable_number, with_variable, spelling, kind_symbol, kind_seen, seen_after, symbols}
 use Rattle.prolog_reader.proofs.NameLemmas.{Placed, placed, text_there, text_away}
 use Rattle.prolog_reader.proofs.FitLemmas.{Numbered}
 
@@ -38,9 +38,9 @@ counts seen name = by_test (is_anonymous name) refl (placed (pointwise nat_eq na
 
 numbered_symbol : (k : TokenKind) (name : List ℕ) (at : ℕ) (seen : List (List ℕ)) (before : ℕ) (rest : List (Symbol (List ℕ))) → name ≢ []
     → Numbered (length (kind_seen seen k name)) rest → Numbered (length seen) (kind_symbol seen before k name at ∷ rest)
-numbered_symbol kind.Name name at seen before rest some h = by_test (is_operator name) refl
+numbered_symbol kind.Name name at seen before rest some h = by_test (is_barred name) refl
   where
-    by_test : (b : Bool) → is_operator name ≡ b → Numbered (length seen) (kind_symbol seen before kind.Name name at ∷ rest)
+    by_test : (b : Bool) → is_barred name ≡ b → Numbered (length seen) (kind_symbol seen before kind.Name name at ∷ rest)
     by_test true e = rw e h
     by_test false e = rw e (some, h)
 numbered_symbol kind.Var name at seen before rest some h = let c = counts seen name in (length (with_variable seen name), c.0, c.1, c.2, h)

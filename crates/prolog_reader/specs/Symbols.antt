@@ -4,10 +4,11 @@
 --
 -- To believe: all of this file.
 -- Source: ISO/IEC 13211-1:1995, 6.4 (tokens) and 6.3.3 (a compound term's parenthesis directly follows its name).
-use Rattle.std.specs.Prelude.{ℕ, nat_eq, Bool, ◌==◌, List, [], ◌∷◌, ◌++◌, length, slice_range, codes, if◌then◌else◌}
+use Rattle.std.specs.Prelude.{ℕ, nat_eq, Bool, false, not, ◌||◌, ◌==◌, List, [], ◌∷◌, ◌++◌, length, slice_range, codes, if◌then◌else◌}
 use Rattle.std.specs.List.{list_any}
 use Rattle.std.specs.Cmp.Lexicographic.{pointwise}
 use Rattle.cti_terms.specs.Numbers.{number_of, with_text}
+use Rattle.prolog_tokens.specs.Bytes.{is_small}
 use Rattle.prolog_tokens.specs.declared.token.TokenKind.{TokenKind}
 use Rattle.prolog_tokens.specs.declared.token.TokenKind.TheVariants as kind
 use Rattle.prolog_tokens.specs.declared.token.Token.{Token}
@@ -29,9 +30,14 @@ pub data Symbol (N : Type 0) : Type 0 where
 abbrev pub spelling : List ℕ → Token → List ℕ
 spelling text t = slice_range text t.start t.end
 
--- the names that stand in no fact, since they are operators
-abbrev pub is_operator : List ℕ → Bool
-is_operator name = list_any (pointwise nat_eq name) (codes "is" ∷ codes "mod" ∷ codes "rem" ∷ [])
+-- whether a name begins with a small letter
+abbrev pub begins_small : List ℕ → Bool
+begins_small [] = false
+begins_small (b ∷ bs) = is_small b
+
+-- whether a name stands in no fact: it begins with no small letter, or is an operator
+abbrev pub is_barred : List ℕ → Bool
+is_barred name = not (begins_small name) || list_any (pointwise nat_eq name) (codes "is" ∷ codes "mod" ∷ codes "rem" ∷ [])
 
 -- the name `_`
 abbrev pub is_anonymous : List ℕ → Bool
@@ -47,7 +53,7 @@ with_variable seen name = if is_anonymous name then seen ++ name ∷ [] else wit
 
 -- a token of this kind, spelling and place, where the token before it ends at `before`
 abbrev pub kind_symbol : List (List ℕ) → ℕ → TokenKind → List ℕ → ℕ → Symbol (List ℕ)
-kind_symbol seen before kind.Name name at = if is_operator name then Mark kind.Name else Name at name
+kind_symbol seen before kind.Name name at = if is_barred name then Mark kind.Name else Name at name
 kind_symbol seen before kind.Var name at = Variable at (variable_number seen name)
 kind_symbol seen before kind.Paren name at = if at == before then Touching else Mark kind.Paren
 kind_symbol seen before kind.End name at = End (length seen)

@@ -1,7 +1,7 @@
 //! What the machine sees of a token.
 
 ghost use Rattle.std.specs.Prelude.{◌≡◌, ◌<◌, ◌≤◌, ◌+◌, ◌^◌, ◌-◌, if◌then◌else◌, ℕ, List, length, IfOk, OnOk};
-ghost use Rattle.prolog_reader.specs.Symbols.{Name as PlainName, Mark as PlainMark, is_operator, symbol_of, seen_after};
+ghost use Rattle.prolog_reader.specs.Symbols.{Name as PlainName, Mark as PlainMark, begins_small, is_barred, symbol_of, seen_after};
 ghost use Rattle.prolog_reader.specs.Reading.{Extends};
 ghost use Rattle.prolog_reader.specs.Views.{Spells};
 
@@ -60,14 +60,14 @@ pub fn next_symbol<'a>(
     }
 }
 
-/// The symbol of a name, which gets its number unless it is an operator.
+/// The symbol of a name, which gets its number unless it stands in no fact.
 fn name_symbol(names: &mut Names, name: &[u8], at: u32) -> Result<Symbol, AllocError>
     requires room { length names.old < 2 ^ 32 - 1 }
-    ensures value { IfOk result (λ s. Spells names.new s (if is_operator name.now then PlainMark TokenKind.Name else PlainName at name.now)) }
+    ensures value { IfOk result (λ s. Spells names.new s (if is_barred name.now then PlainMark TokenKind.Name else PlainName at name.now)) }
     ensures kept { Extends names.old names.new }
     ensures more { length names.new ≤ length names.old + 1 }
 {
-    if is_operator(name) {
+    if is_barred(name) {
         return Ok(Symbol::Mark {
             kind: TokenKind::Name,
         });
@@ -76,9 +76,22 @@ fn name_symbol(names: &mut Names, name: &[u8], at: u32) -> Result<Symbol, AllocE
     Ok(Symbol::Name { at, name })
 }
 
-/// Whether a name is an operator, and so stands in no fact.
-fn is_operator(name: &[u8]) -> bool
-    ensures { result ≡ is_operator name.now }
+/// Whether a name stands in no fact: it begins with no small letter, or is an operator.
+fn is_barred(name: &[u8]) -> bool
+    ensures { result ≡ is_barred name.now }
 {
-    name == b"is".as_slice() || name == b"mod".as_slice() || name == b"rem".as_slice()
+    !begins_small(name)
+        || name == b"is".as_slice()
+        || name == b"mod".as_slice()
+        || name == b"rem".as_slice()
+}
+
+/// Whether a name begins with a small letter.
+fn begins_small(name: &[u8]) -> bool
+    ensures { result ≡ begins_small name.now }
+{
+    match name {
+        [first, ..] => first.is_ascii_lowercase(),
+        [] => false,
+    }
 }

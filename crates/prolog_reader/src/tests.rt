@@ -44,6 +44,8 @@ fn facts_are_read_and_other_texts_are_refused(rt: HostRuntime) {
         "p(f(a,b,c,d,e,f,g,h,i,j,k,l,m)).",
         "p( X ,\tf(_) ) . ",
         "isa(modern).",
+        "p(a). % a comment",
+        "p/* and another */.",
     ] {
         assert_eq!(rt; refusal(rt.alloc(), text), None, "{text}");
     }
@@ -57,8 +59,11 @@ fn facts_are_read_and_other_texts_are_refused(rt: HostRuntime) {
         "p(1).",
         "p(a).b",
         "p (a).",
-        "p(a). % a comment",
         "p().",
+        "+(a).",
+        "'p'(a).",
+        "!.",
+        "p(a). \u{1}",
         "p(a,).",
         "p(a b).",
         "p(,a).",

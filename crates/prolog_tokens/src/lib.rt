@@ -1,16 +1,26 @@
 //! Tokens of program texts: each is the longest text of a token form at its place.
 //!
-//! Names, variables, parentheses, the comma and the end of a clause, with layout between them. A byte that begins none of
-//! these is a fault. Stands on `std` alone.
+//! Names, variables, integers, quoted items, marks and the end of a clause, with layout and comments between them. Stands on
+//! `std` alone.
 #![tactic(auto)]
 
 mod bytes;
+mod characters;
+mod decoding;
 mod fault;
+mod integers;
+mod items;
+mod layout;
 mod lexer;
+mod numbers;
+mod piece;
+mod quoting;
 #[cfg(test)]
 mod tests;
 mod token;
 
+pub use decoding::{decode, items_are_decoded};
 pub use fault::{LexFault, LexKind};
 pub use lexer::{Lexer, longest_match};
+pub use quoting::{quote, quoted_names_are_read_back};
 pub use token::{Token, TokenKind};
