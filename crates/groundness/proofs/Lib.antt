@@ -6,3 +6,4 @@ pub mod MissingLaws
 pub mod RoundLaws
 pub mod RowLaws
 pub mod SetLaws
+pub mod Examples
