@@ -1,13 +1,17 @@
 -- The least family of `app([],L,L).` and `app([H|T],L,[H|R]) :- app(T,L,R).`: the third argument of a success is rigid exactly
 -- where the first two are.
-use Rattle.std.proofs.Common.{◌≡◌, ℕ, zero, suc, Bool, true, false, ◌&&◌, IsTrue, List, [], ◌∷◌, refl}
+use Rattle.std.proofs.Common.{◌↔◌, ◌==◌, ◌∙◌, sym, ap, length, slice_get, Some, ◌≡◌, ℕ, zero, suc, Bool, true, false, ◌&&◌, IsTrue, List, [], ◌∷◌, refl}
 use Rattle.cti_terms.specs.Tree.{Tree, Variable, Compound, End, More, truth}
 use Rattle.cti_terms.specs.Listing.{Listing}
 use Rattle.cti_terms.specs.declared.atom_list.Atom.{Atom}
 use Rattle.cti_terms.specs.declared.clauses.Clause.{Clause}
-use Rattle.bool_diagrams.specs.Cubes.{cubes, same_rows}
+use Rattle.bool_diagrams.specs.Cubes.{cubes, same_rows, truth_rows}
+use Rattle.bool_diagrams.proofs.CallerLemmas.{cubes_at}
 use Rattle.bool_diagrams.specs.Rows.{iff}
 use Rattle.bool_diagrams.specs.declared.cube.Cell.TheVariants.{Zero, One, Any}
+use Rattle.bool_diagrams.specs.Tree.{Tree as Rows}
+use Rattle.bool_diagrams.specs.declared.diagram.Diagram.{Diagram}
+use Rattle.groundness.specs.Sets.{family_of}
 use Rattle.termination_model.specs.Grounds.{Family, IsClosed, IsLeast}
 
 abbrev call : List Tree → Atom
@@ -93,3 +97,24 @@ rows_are_least = record { closed = rows_are_closed; least = λ other closed. row
 pub cubes_of_append : cubes 3 (rows 0) ≡ (Zero ∷ Any ∷ Zero ∷ []) ∷ (One ∷ Zero ∷ Zero ∷ []) ∷ (One ∷ One ∷ One ∷ []) ∷ []
 unfolding cubes same_rows
 cubes_of_append = refl
+
+-- the rows of every answer of `solve` for this program
+pub solved_rows : (trees : List Rows) (sets : List Diagram) → IsLeast truth append (family_of append.preds trees sets)
+    → (row : List Bool) → IsTrue (family_of append.preds trees sets 0 row) ↔ IsTrue (rows 0 row)
+solved_rows trees sets least row = (
+  λ h. least.least rows rows_are_closed 0 row h,
+  λ h. rows_are_needed (family_of append.preds trees sets) least.closed 0 row h,
+)
+
+bools_agree : (a b : Bool) → IsTrue a ↔ IsTrue b → a ≡ b
+bools_agree true b h = sym (h.0 refl)
+bools_agree false true h = h.1 refl
+bools_agree false false h = refl
+
+-- and the cubes that `paths` gives of it
+pub solved_cubes : (trees : List Rows) (sets : List Diagram) (d : Diagram) → slice_get sets 0 ≡ Some d → IsLeast truth append (family_of append.preds trees sets)
+    → cubes 3 (truth_rows trees d) ≡ (Zero ∷ Any ∷ Zero ∷ []) ∷ (One ∷ Zero ∷ Zero ∷ []) ∷ (One ∷ One ∷ One ∷ []) ∷ []
+solved_cubes trees sets d at least = cubes_at 3 (truth_rows trees d) (rows 0) (λ row three.
+    let arity : (3 == length row) ≡ true = rw three refl in
+    let has : family_of append.preds trees sets 0 row ≡ truth_rows trees d row = rw at (ap (λ (b : Bool). b && truth_rows trees d row) arity) in
+    sym has ∙ bools_agree (family_of append.preds trees sets 0 row) (rows 0 row) (solved_rows trees sets least row)) ∙ cubes_of_append
