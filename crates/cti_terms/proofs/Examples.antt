@@ -11,6 +11,8 @@ use Rattle.cti_terms.specs.Unify.{Binding, applied, first_step, Failed, only}
 use Rattle.cti_terms.specs.UnifyFunction.{unify}
 use Rattle.cti_terms.specs.Resolve.{resolve}
 use Rattle.cti_terms.specs.Derive.{query, IsDerivation}
+use Rattle.cti_terms.specs.Nodes.{nodes, first_nodes, longest}
+use Rattle.cti_terms.specs.Answers.{answer_of, answers, depth_of, is_large, numbered_atoms}
 
 abbrev nil : Tree
 nil = Compound 0 (trees [])
@@ -165,3 +167,51 @@ two_steps = (first_bindings, record { atoms = app nil (cons b nil) (Variable 4) 
 -- with the answer [a,b]
 answer : applied then_bindings (applied first_bindings X) ≡ cons a (cons b nil)
 answer = refl
+
+-- ---- nodes and answers
+
+-- the query app(X,Y,[a])
+abbrev splits : Goal
+splits = query (app X Y (cons a nil)) 2
+
+-- its derivations are [1], [2] and [2,1], at each depth from 2 on
+three_nodes : nodes append 2 splits ≡ (1 ∷ []) ∷ (2 ∷ []) ∷ (2 ∷ 1 ∷ []) ∷ []
+three_nodes = refl
+
+no_fourth_node : nodes append 4 splits ≡ (1 ∷ []) ∷ (2 ∷ []) ∷ (2 ∷ 1 ∷ []) ∷ []
+no_fourth_node = refl
+
+-- the longest has two steps, and the first two nodes are [1] and [2]
+longest_of_three : longest (first_nodes append splits 3) ≡ 2
+longest_of_three = refl
+
+two_nodes : first_nodes append splits 2 ≡ (1 ∷ []) ∷ (2 ∷ []) ∷ []
+two_nodes = refl
+
+-- the answers are app([],[a],[a]) and app([a],[],[a]), and the first of them where two nodes are looked at
+two_answers : answers append splits 3 ≡ (app nil (cons a nil) (cons a nil) ∷ []) ∷ (app (cons a nil) nil (cons a nil) ∷ []) ∷ []
+two_answers = refl
+
+one_answer : answers append splits 2 ≡ (app nil (cons a nil) (cons a nil) ∷ []) ∷ []
+one_answer = refl
+
+-- the empty goal has no node, and its answer is that of the empty derivation
+no_nodes : first_nodes append (record { atoms = []; fresh = 0 }) 3 ≡ []
+no_nodes = refl
+
+empty_answer : answers append (record { atoms = []; fresh = 0 }) 3 ≡ [] ∷ []
+empty_answer = refl
+
+-- app([a],Y,Z) has an answer with the variable 7 in two places, which is told with the variable 0
+open_answer : answer_of append (query (app (cons a nil) Y Z) 3) (2 ∷ 1 ∷ []) ≡ Some (app (cons a nil) (Variable 7) (cons a (Variable 7)) ∷ [])
+open_answer = refl
+
+told_answer : numbered_atoms (app (cons a nil) (Variable 7) (cons a (Variable 7)) ∷ []) ≡ app (cons a nil) (Variable 0) (cons a (Variable 0)) ∷ []
+told_answer = refl
+
+-- a list of two elements has depth 3, and is not large
+list_depth : depth_of (cons a (cons b nil)) ≡ 3
+list_depth = refl
+
+list_is_not_large : is_large (app nil (cons b nil) (cons b nil) ∷ []) ≡ false
+list_is_not_large = refl

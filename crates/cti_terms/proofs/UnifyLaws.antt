@@ -34,19 +34,19 @@ with_finds (suc v) es bs h = to_finds (unify_with v) (with_finds v) (work es) es
 pub unify_finds : (es : List Equation) (bs : List Binding) → unify es ≡ Some bs → Unifies es bs
 unify_finds es bs h = with_finds (occurring (above_equations es) es) es bs h
 
-or_cases : (b c : Bool) → (b || c) ≡ true → (b ≡ true) ⊎ (c ≡ true)
+pub or_cases : (b c : Bool) → (b || c) ≡ true → (b ≡ true) ⊎ (c ≡ true)
 or_cases true c h = inl refl
 or_cases false c h = inr h
 
-or_first : (b c : Bool) → b ≡ true → (b || c) ≡ true
+pub or_first : (b c : Bool) → b ≡ true → (b || c) ≡ true
 or_first b c h = ap (λ d. d || c) h
 
-or_second : (b c : Bool) → c ≡ true → (b || c) ≡ true
+pub or_second : (b c : Bool) → c ≡ true → (b || c) ≡ true
 or_second true c h = refl
 or_second false c h = h
 
 -- y occurs in v, or in t and is not x
-abbrev Comes : ℕ → ℕ → Tree → Bool → Type 0
+abbrev pub Comes : ℕ → ℕ → Tree → Bool → Type 0
 Comes y x v b = (occurs y v ≡ true) ⊎ ((b ≡ true) × (y ≡ x → ⊥))
 
 comes_wider : (y x : ℕ) (v : Tree) (b c : Bool) → (b ≡ true → c ≡ true) → Comes y x v b → Comes y x v c
@@ -62,7 +62,7 @@ come_either y x v b c true e h f g = comes_wider y x v b (b || c) (or_first b c)
 come_either y x v b c false e h f g = comes_wider y x v c (b || c) (or_second b c) (g h)
 
 mutual
-  comes : (y x : ℕ) (v t : Tree) → occurs y (instance (only x v) t) ≡ true → Comes y x v (occurs y t)
+  pub comes : (y x : ℕ) (v t : Tree) → occurs y (instance (only x v) t) ≡ true → Comes y x v (occurs y t)
   comes y x v (Variable z) h = comes_variable y x z v (x == z) refl h
   comes y x v (Integer n) h = cc
   comes y x v (Compound f ts) h = all_come y x v ts h
@@ -72,7 +72,7 @@ mutual
   all_come y x v (More t ts) h =
       come_either y x v (occurs y t) (occurs_among y ts) (occurs y (instance (only x v) t)) (occurs_among y (all_instances (only x v) ts)) h (comes y x v t) (all_come y x v ts)
 
-all_equations_come : (y x : ℕ) (v : Tree) (es : List Equation) → occurs_in y (replaced x v es) ≡ true → Comes y x v (occurs_in y es)
+pub all_equations_come : (y x : ℕ) (v : Tree) (es : List Equation) → occurs_in y (replaced x v es) ≡ true → Comes y x v (occurs_in y es)
 all_equations_come y x v [] h = cc
 all_equations_come y x v (e ∷ es) h =
     come_either y x v (occurs y e.0 || occurs y e.1) (occurs_in y es)
@@ -81,7 +81,7 @@ all_equations_come y x v (e ∷ es) h =
     (all_equations_come y x v es)
 
 -- fewer variables are counted
-occurring_le : (n : ℕ) (es fs : List Equation) → ((y : ℕ) → occurs_in y es ≡ true → occurs_in y fs ≡ true) → occurring n es ≤ occurring n fs
+pub occurring_le : (n : ℕ) (es fs : List Equation) → ((y : ℕ) → occurs_in y es ≡ true → occurs_in y fs ≡ true) → occurring n es ≤ occurring n fs
 occurring_le zero es fs f = omega arith
 occurring_le (suc n) es fs f = go (occurs_in n es) (occurs_in n fs) (f n) (occurring_le n es fs f)
   where
@@ -97,7 +97,7 @@ more true false m n g h = let k = g refl in cc
 more false true m n g h = omega arith
 more false false m n g h = omega arith
 
-occurring_lt : (n x : ℕ) (es fs : List Equation) → ((y : ℕ) → occurs_in y es ≡ true → occurs_in y fs ≡ true) → x < n → occurs_in x es ≡ false → occurs_in x fs ≡ true → occurring n es < occurring n fs
+pub occurring_lt : (n x : ℕ) (es fs : List Equation) → ((y : ℕ) → occurs_in y es ≡ true → occurs_in y fs ≡ true) → x < n → occurs_in x es ≡ false → occurs_in x fs ≡ true → occurring n es < occurring n fs
 occurring_lt zero x es fs f lt gone there = absurd (omega (arith, lt))
 occurring_lt (suc n) x es fs f lt gone there = go (cases_lt x n) (λ l. occurring_lt n x es fs f l gone there) (occurring_le n es fs f)
   where
@@ -109,7 +109,7 @@ occurring_lt (suc n) x es fs f lt gone there = go (cases_lt x n) (λ l. occurrin
         let d : occurs_in n fs ≡ true = subst (λ (z : ℕ). occurs_in z fs ≡ true) same there in
         rw (e, d) (omega (arith, le))
 
-nodes_positive : (t : Tree) → 1 ≤ nodes_of t
+pub nodes_positive : (t : Tree) → 1 ≤ nodes_of t
 nodes_positive (Variable x) = omega arith
 nodes_positive (Integer n) = omega arith
 nodes_positive (Compound f ts) = omega arith
@@ -118,7 +118,7 @@ pub work-append : (es fs : List Equation) → work (es ++ fs) ≡ work es + work
 work-append [] fs = omega arith
 work-append (e ∷ es) fs = omega (arith, work-append es fs)
 
-work-pairs : (ts us : Trees) → work (pairs ts us) ≤ all_nodes ts + all_nodes us
+pub work-pairs : (ts us : Trees) → work (pairs ts us) ≤ all_nodes ts + all_nodes us
 work-pairs End us = omega arith
 work-pairs (More t ts) End = omega arith
 work-pairs (More t ts) (More u us) = omega (arith, work-pairs ts us)
@@ -158,12 +158,12 @@ work_split (Compound f ts) (Compound g us) qs e = go ((f == g) && (arity ts == a
     go false e = cc
 
 -- a binding is of a variable that occurs, to a term of variables that occur and without it
-record Binds (t u : Tree) (x : ℕ) (v : Tree) : Type 0 where
-  gone : occurs x v ≡ false
-  there : (occurs x t || occurs x u) ≡ true
-  inside : (y : ℕ) → occurs y v ≡ true → (occurs y t || occurs y u) ≡ true
+pub record Binds (t u : Tree) (x : ℕ) (v : Tree) : Type 0 where
+  pub gone : occurs x v ≡ false
+  pub there : (occurs x t || occurs x u) ≡ true
+  pub inside : (y : ℕ) → occurs y v ≡ true → (occurs y t || occurs y u) ≡ true
 
-eqb_same : (x : ℕ) → (x == x) ≡ true
+pub eqb_same : (x : ℕ) → (x == x) ≡ true
 eqb_same x = grind (arith, nat_tests)
 
 binds_left : (y : ℕ) (u : Tree) → occurs y u ≡ false → Binds (Variable y) u y u
@@ -178,7 +178,7 @@ binds_moved t u y x w v e h =
     let q : w ≡ v = cc in
     subst (λ (b : Binding). Binds t u b.0 b.1) (λ i. (p i, q i)) h
 
-binds : (t u : Tree) (x : ℕ) (v : Tree) → first_step t u ≡ Bound x v → Binds t u x v
+pub binds : (t u : Tree) (x : ℕ) (v : Tree) → first_step t u ≡ Bound x v → Binds t u x v
 binds (Variable y) (Variable z) x v e = go (y == z) refl e
   where
     go : (b : Bool) → (y == z) ≡ b → (if b then Dropped else Bound y (Variable z)) ≡ Bound x v → Binds (Variable y) (Variable z) x v
@@ -221,12 +221,12 @@ or_assoc : (b c d : Bool) → (b || (c || d)) ≡ ((b || c) || d)
 or_assoc true c d = refl
 or_assoc false c d = refl
 
-occurs_append : (y : ℕ) (es fs : List Equation) → occurs_in y (es ++ fs) ≡ (occurs_in y es || occurs_in y fs)
+pub occurs_append : (y : ℕ) (es fs : List Equation) → occurs_in y (es ++ fs) ≡ (occurs_in y es || occurs_in y fs)
 occurs_append y [] fs = refl
 occurs_append y (e ∷ es) fs = ap (λ b. (occurs y e.0 || occurs y e.1) || b) (occurs_append y es fs) ∙ or_assoc (occurs y e.0 || occurs y e.1) (occurs_in y es) (occurs_in y fs)
 
 -- what occurs after a binding occurred before
-bind_inside : (t u : Tree) (x : ℕ) (v : Tree) (es : List Equation) → Binds t u x v → (y : ℕ) → occurs_in y (replaced x v es) ≡ true → occurs_in y ((t, u) ∷ es) ≡ true
+pub bind_inside : (t u : Tree) (x : ℕ) (v : Tree) (es : List Equation) → Binds t u x v → (y : ℕ) → occurs_in y (replaced x v es) ≡ true → occurs_in y ((t, u) ∷ es) ≡ true
 bind_inside t u x v es b y h = go (all_equations_come y x v es h)
   where
     go : Comes y x v (occurs_in y es) → occurs_in y ((t, u) ∷ es) ≡ true
@@ -234,7 +234,7 @@ bind_inside t u x v es b y h = go (all_equations_come y x v es h)
     go (inr k) = or_second (occurs y t || occurs y u) (occurs_in y es) k.0
 
 -- and the variable does not
-bind_gone : (t u : Tree) (x : ℕ) (v : Tree) (es : List Equation) → Binds t u x v → occurs_in x (replaced x v es) ≡ false
+pub bind_gone : (t u : Tree) (x : ℕ) (v : Tree) (es : List Equation) → Binds t u x v → occurs_in x (replaced x v es) ≡ false
 bind_gone t u x v es b = go (occurs_in x (replaced x v es)) refl
   where
     no_way : Comes x x v (occurs_in x es) → ⊥
@@ -288,7 +288,7 @@ split_inside (Compound f ts) (Compound g us) qs y e h = go ((f == g) && (arity t
         pairs_inside y ts us (subst (λ (q : List Equation). occurs_in y q ≡ true) these h)
     go false k = cc
 
-replaced_inside : (t u : Tree) (qs es : List Equation) (y : ℕ) → first_step t u ≡ Split qs → occurs_in y (qs ++ es) ≡ true → occurs_in y ((t, u) ∷ es) ≡ true
+pub replaced_inside : (t u : Tree) (qs es : List Equation) (y : ℕ) → first_step t u ≡ Split qs → occurs_in y (qs ++ es) ≡ true → occurs_in y ((t, u) ∷ es) ≡ true
 replaced_inside t u qs es y e h = go (or_cases (occurs_in y qs) (occurs_in y es) (sym (occurs_append y qs es) ∙ h))
   where
     go : (occurs_in y qs ≡ true) ⊎ (occurs_in y es ≡ true) → occurs_in y ((t, u) ∷ es) ≡ true
@@ -296,7 +296,7 @@ replaced_inside t u qs es y e h = go (or_cases (occurs_in y qs) (occurs_in y es)
     go (inr k) = or_second (occurs y t || occurs y u) (occurs_in y es) k
 
 -- every variable is below a number
-abbrev AllBelow : ℕ → List Equation → Type 0
+abbrev pub AllBelow : ℕ → List Equation → Type 0
 AllBelow m es = (y : ℕ) → occurs_in y es ≡ true → y < m
 
 complete : {es : List Equation} {bs : List Binding} → Unifies es bs → (m : ℕ) → AllBelow m es → (v n : ℕ) → occurring m es ≤ v → work es ≤ n → unify_to (rest v) n es ≡ Some bs
@@ -341,7 +341,7 @@ mutual
   below_all y End h = cc
   below_all y (More t ts) h = below_either (above t) (above_all ts) y (occurs y t) (occurs_among y ts) h (below_term y t) (below_all y ts)
 
-below_equations : (y : ℕ) (es : List Equation) → occurs_in y es ≡ true → y < above_equations es
+pub below_equations : (y : ℕ) (es : List Equation) → occurs_in y es ≡ true → y < above_equations es
 below_equations y [] h = cc
 below_equations y (e ∷ es) h =
     below_either (max (above e.0) (above e.1)) (above_equations es) y (occurs y e.0 || occurs y e.1) (occurs_in y es) h

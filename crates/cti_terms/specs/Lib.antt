@@ -1,8 +1,10 @@
+pub mod Answers
 pub mod Codes
 pub mod Coding
 pub mod Derive
 pub mod Listing
 pub mod ListingCode
+pub mod Nodes
 pub mod Numbers
 pub mod ResolutionStep
 pub mod Resolve

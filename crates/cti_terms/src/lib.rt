@@ -27,7 +27,10 @@ pub use laws::{
     facts_are_bounded, finished_goals_are_bounded, resolution_is_a_function,
     unification_is_a_function,
 };
-pub use limits::{MOST_ARGUMENTS, MOST_ATOMS, MOST_CLAUSES, MOST_NODES, MOST_VARIABLES};
+pub use limits::{
+    MOST_ANSWER_DEPTH, MOST_ANSWER_NODES, MOST_ARGUMENTS, MOST_ATOMS, MOST_CLAUSES, MOST_NODES,
+    MOST_VARIABLES,
+};
 pub use listing::Program;
 pub use naming::{Name, Names};
 pub use predicates::{Pred, PredId};
