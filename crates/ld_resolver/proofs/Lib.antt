@@ -1,0 +1,13 @@
+pub mod AnswerLaws
+pub mod AttemptLaws
+pub mod BelowLaws
+pub mod HeadLaws
+pub mod OrderLaws
+pub mod PendingLaws
+pub mod ProgressLaws
+pub mod SearchLaws
+pub mod StoreLaws
+pub mod TailLaws
+pub mod ToldLaws
+pub mod UnifySteps
+pub mod WalkLaws

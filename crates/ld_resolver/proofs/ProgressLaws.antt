@@ -1,0 +1,331 @@
+-- How a run goes on, and what it says when it ends.
+use Rattle.std.proofs.Common.{◌≡◌, ℕ, zero, suc, max, true, false, ◌+◌, ◌-◌, ◌<◌, ◌≤◌, IsTrue, List, [], ◌∷◌, ◌++◌, map, reverse, take, length, Option, None, Some, append_assoc, append-nil, length-append, refl, ap, sym, ◌∙◌, subst, arith}
+use Rattle.std.specs.List.{AllByRecursion, cons_option}
+use Rattle.std.proofs.lemmas.List.{map-append, length-map}
+use Rattle.std.proofs.lemmas.List.Elements.{filter_map-append}
+use Rattle.cti_terms.specs.Tree.{Tree, instance, is_below}
+use Rattle.cti_terms.specs.declared.atom_list.Atom.{Atom}
+use Rattle.cti_terms.specs.declared.derivation.Goal.{Goal}
+use Rattle.cti_terms.specs.declared.predicates.Pred.{Pred}
+use Rattle.cti_terms.specs.Listing.{Listing, IsAtom}
+use Rattle.cti_terms.specs.Unify.{Binding}
+use Rattle.cti_terms.specs.Resolve.{over, raised}
+use Rattle.cti_terms.specs.Nodes.{nodes, first_nodes, HasMoreNodes, longest}
+use Rattle.cti_terms.specs.Answers.{answer_by, answers}
+use Rattle.ld_resolver.specs.declared.answer.Answer.{Answer}
+use Rattle.ld_resolver.specs.declared.search.Search.{Search}
+use Rattle.ld_resolver.specs.Raised.{raise}
+use Rattle.ld_resolver.specs.Store.{made, full}
+use Rattle.ld_resolver.specs.Told.{told}
+use Rattle.ld_resolver.specs.Tails.{tail_at}
+use Rattle.ld_resolver.specs.Below.{TermBelow, ArgumentsBelow, AtomsBelow}
+use Rattle.ld_resolver.specs.Measured.{answered_atoms}
+use Rattle.ld_resolver.specs.Walk.{Visit, visit, walk, most_steps, met_answers}
+use Rattle.cti_terms.specs.declared.clauses.Clause.{Clause}
+use Rattle.ld_resolver.specs.declared.choices.Choice.{Choice}
+use Rattle.ld_resolver.specs.Choices.{left, AreChoices}
+use Rattle.ld_resolver.specs.Searches.{IsSearch, IsNode, IsEntered, goal_with, node_goal, left_of, choices_of, attempts_at, attempts_left}
+use Rattle.ld_resolver.specs.Progress.{scaled, told_after, IsDone, IsUnderWay, to_do}
+use Rattle.ld_resolver.proofs.BelowLaws.{raised_below, raised_zero}
+use Rattle.ld_resolver.proofs.SearchLaws.{walk_none}
+use Rattle.ld_resolver.proofs.WalkLaws.{walk_nodes, most_visits, met_visits, most_steps-append}
+
+-- ---- the goal of a query
+
+args_same : (ts : List Tree) → map (full []) (map (instance (raise 0)) ts) ≡ ts
+args_same [] = refl
+args_same (t ∷ ts) = λ i. raised_zero t i ∷ args_same ts i
+
+pub atoms_same : (atoms : List Atom) → map (over (full [])) (map (raised 0) atoms) ≡ atoms
+atoms_same [] = refl
+atoms_same (a ∷ atoms) = λ i. record { pred = a.pred; args = args_same a.args i } ∷ atoms_same atoms i
+
+pub root_goal : (g : Goal) → goal_with [] (map (raised 0) g.atoms) [] g.fresh ≡ g
+root_goal g = λ i. record { atoms = (ap (map (over (full []))) (append-nil (map (raised 0) g.atoms)) ∙ atoms_same g.atoms) i; fresh = g.fresh }
+
+args_below : (n : ℕ) (ts : List Tree) → AllByRecursion (λ t. IsTrue (is_below n t)) ts → ArgumentsBelow n ts
+args_below n [] h = tt
+args_below n (t ∷ ts) h = (here, args_below n ts h.1)
+  where
+    here : TermBelow n t
+    here = subst (TermBelow n) (raised_zero t) (λ y o. let k = raised_below 0 n t h.0 y o in omega (arith, k))
+
+pub query_below : (preds : List Pred) (n : ℕ) (atoms : List Atom) → AllByRecursion (IsAtom preds n) atoms → AtomsBelow n atoms
+query_below preds n [] h = tt
+query_below preds n (a ∷ atoms) h = (args_below n a.args h.0.below, query_below preds n atoms h.1)
+
+-- ---- one more visit
+
+cons_option-append : (o : Option (List Atom)) (xs ys : List (List Atom)) → cons_option o (xs ++ ys) ≡ cons_option o xs ++ ys
+cons_option-append None xs ys = refl
+cons_option-append (Some x) xs ys = refl
+
+told_more : (g : Goal) (done : List Visit) (v : Visit) → told_after g (done ++ v ∷ []) ≡ told_after g done ++ map told (cons_option v.answer [])
+told_more g done v =
+    ap (λ (l : List (List Atom)). map told (cons_option (answer_by g.atoms [] g.atoms) l)) (filter_map-append (λ (v : Visit). v.answer) done (v ∷ []))
+    ∙ ap (map told) (cons_option-append (answer_by g.atoms [] g.atoms) (met_answers done) (cons_option v.answer []))
+    ∙ map-append told (cons_option (answer_by g.atoms [] g.atoms) (met_answers done)) (cons_option v.answer [])
+
+pub done_more : (p : Listing) (g : Goal) (n : ℕ) (done left left_now : List Visit) (v : Visit) (steps longest : ℕ) (old now : List Answer) → IsDone p g n done left steps longest old → left ≡ v ∷ left_now → now ≡ old ++ map told (cons_option v.answer []) → IsDone p g n (done ++ v ∷ []) left_now (steps + 1) (max longest v.steps) now
+done_more p g n done left left_now v steps longest old now d e h = record {
+  walked = d.walked ∙ ap (λ (l : List Visit). done ++ l) e ∙ sym (append_assoc done (v ∷ []) left_now);
+  counted = omega (arith, length-append done (v ∷ []), d.counted);
+  most = omega (arith, most_steps-append done (v ∷ []), d.most);
+  told_so_far = h ∙ ap (λ (l : List Answer). l ++ map told (cons_option v.answer [])) d.told_so_far ∙ sym (told_more g done v);
+}
+
+-- ---- the measure
+
+pub scaled_less : (n steps w : ℕ) → steps < n → scaled (n - steps) w ≡ w + scaled (n - (steps + 1)) w
+scaled_less n steps w h = ap (λ k. scaled k w) (let e : n - steps ≡ suc (n - (steps + 1)) = omega (arith, h) in e)
+
+-- ---- the end
+
+map-take : {X Y : Type 0} (f : X → Y) (n : ℕ) (xs : List X) → map f (take n xs) ≡ take n (map f xs)
+map-take f zero xs = refl
+map-take f (suc n) [] = refl
+map-take f (suc n) (x ∷ xs) = ap (λ l. f x ∷ l) (map-take f n xs)
+
+take_front : {X : Type 0} (n : ℕ) (xs ys : List X) → length xs ≡ n → take n (xs ++ ys) ≡ xs
+take_front zero [] ys h = refl
+take_front zero (x ∷ xs) ys h = absurd (omega (arith, h))
+take_front (suc n) [] ys h = absurd (omega (arith, h))
+take_front (suc n) (x ∷ xs) ys h = ap (λ l. x ∷ l) (take_front n xs ys (omega (arith, h)))
+
+take_more_than : {X : Type 0} (n : ℕ) (xs : List X) → length xs ≤ n → take n xs ≡ xs
+take_more_than zero [] h = refl
+take_more_than zero (x ∷ xs) h = absurd (omega (arith, h))
+take_more_than (suc n) [] h = refl
+take_more_than (suc n) (x ∷ xs) h = ap (λ l. x ∷ l) (take_more_than n xs (omega (arith, h)))
+
+module _ (p : Listing) (g : Goal) (n : ℕ) where
+  all : List (List ℕ)
+  all = nodes p (suc n) g
+
+  seen : List ℕ → Visit
+  seen = visit p g.atoms [] 0 g
+
+  abbrev pub IsSeen : List Visit → Type 0
+  IsSeen done = map (visit p g.atoms [] 0 g) (first_nodes p g n) ≡ done
+
+  -- no more is left
+  pub seen_all : (done : List Visit) (steps most : ℕ) (told_now : List Answer) → IsDone p g n done [] steps most told_now → steps ≤ n → IsSeen done
+  seen_all done steps most told_now d within =
+      let walked = sym (walk_nodes p g.atoms (suc n) [] 0 g) ∙ d.walked ∙ append-nil done in
+      map-take (visit p g.atoms [] 0 g) n (nodes p (suc n) g)
+      ∙ ap (take n) walked
+      ∙ take_more_than n done (omega (arith, d.counted, within))
+
+  pub none_left : (done : List Visit) (steps most : ℕ) (told_now : List Answer) → IsDone p g n done [] steps most told_now → steps ≤ n → HasMoreNodes p g n → ⊥
+  none_left done steps most told_now d within more =
+      let walked = sym (walk_nodes p g.atoms (suc n) [] 0 g) ∙ d.walked ∙ append-nil done in
+      let count = sym (length-map (nodes p (suc n) g) (visit p g.atoms [] 0 g)) ∙ ap length walked in
+      omega (arith, count, d.counted, within, more)
+
+  -- as many as the budget were seen, and one more is left
+  pub seen_first : (done left : List Visit) (steps most : ℕ) (told_now : List Answer) → IsDone p g n done left steps most told_now → steps ≡ n → IsSeen done
+  seen_first done left steps most told_now d e =
+      let walked = sym (walk_nodes p g.atoms (suc n) [] 0 g) ∙ d.walked in
+      map-take (visit p g.atoms [] 0 g) n (nodes p (suc n) g)
+      ∙ ap (take n) walked
+      ∙ take_front n done left (d.counted ∙ e)
+
+  pub one_left : (done left rest : List Visit) (v : Visit) (steps most : ℕ) (told_now : List Answer) → IsDone p g n done left steps most told_now → steps ≡ n → left ≡ v ∷ rest → HasMoreNodes p g n
+  one_left done left rest v steps most told_now d e l =
+      let walked = sym (walk_nodes p g.atoms (suc n) [] 0 g) ∙ d.walked ∙ ap (λ (w : List Visit). done ++ w) l in
+      let count = sym (length-map (nodes p (suc n) g) (visit p g.atoms [] 0 g)) ∙ ap length walked ∙ length-append done (v ∷ rest) in
+      omega (arith, count, d.counted, e)
+
+  -- what was seen says what was counted
+  module _ (done left : List Visit) (steps most : ℕ) (told_now : List Answer) (d : IsDone p g n done left steps most told_now) (s : map (visit p g.atoms [] 0 g) (first_nodes p g n) ≡ done) where
+    pub counted_is : steps ≡ length (first_nodes p g n)
+    counted_is = sym d.counted ∙ ap length (sym s) ∙ length-map (first_nodes p g n) (visit p g.atoms [] 0 g)
+
+    pub most_is : most ≡ longest (first_nodes p g n)
+    most_is = sym d.most ∙ ap most_steps (sym s) ∙ most_visits p g (first_nodes p g n)
+
+    pub told_is : told_now ≡ map told (answers p g n)
+    told_is =
+        d.told_so_far
+        ∙ ap (λ (l : List (List Atom)). map told (cons_option (answer_by g.atoms [] g.atoms) l)) (ap met_answers (sym s) ∙ met_visits p g (first_nodes p g n))
+
+-- ---- a run that has ended
+
+-- what a run says, with whether there are more nodes
+pub record Says (p : Listing) (g : Goal) (n steps most : ℕ) (told_now : List Answer) : Type 0 where
+  pub told_all : told_now ≡ map told (answers p g n)
+  pub counted : steps ≡ length (first_nodes p g n)
+  pub most_of_all : most ≡ longest (first_nodes p g n)
+
+none_in : (x : Search) (q : List Atom) (n : ℕ) → choices_of x ≡ [] → left_of q n x ≡ []
+none_in x q n e = ap (left x.program.now q n x.bindings x.tails) e
+
+module _ (p : Listing) (g : Goal) (n : ℕ) (x : Search) (steps most : ℕ) (told_now : List Answer) (u : IsUnderWay p g n x steps most told_now) where
+  -- nothing is left
+  module _ (e : choices_of x ≡ []) where
+    done_all : IsDone p g n u.done.0 [] steps most told_now
+    done_all = subst (λ (l : List Visit). IsDone p g n u.done.0 l steps most told_now) (none_in x g.atoms n e) u.done.1
+
+    pub ended_says : Says p g n steps most told_now
+    ended_says =
+        let s = seen_all p g n u.done.0 steps most told_now done_all u.within in
+        record {
+          told_all = told_is p g n u.done.0 [] steps most told_now done_all s;
+          counted = counted_is p g n u.done.0 [] steps most told_now done_all s;
+          most_of_all = most_is p g n u.done.0 [] steps most told_now done_all s;
+        }
+
+    pub ended_without_more : HasMoreNodes p g n → ⊥
+    ended_without_more = none_left p g n u.done.0 steps most told_now done_all u.within
+
+  -- the budget is used up, and one more node was found
+  module _ (e : steps ≡ n) (v : Visit) (rest : List Visit) (l : left_of g.atoms n x ≡ v ∷ rest) where
+    pub stopped_says : Says p g n steps most told_now
+    stopped_says =
+        let s = seen_first p g n u.done.0 (left_of g.atoms n x) steps most told_now u.done.1 e in
+        record {
+          told_all = told_is p g n u.done.0 (left_of g.atoms n x) steps most told_now u.done.1 s;
+          counted = counted_is p g n u.done.0 (left_of g.atoms n x) steps most told_now u.done.1 s;
+          most_of_all = most_is p g n u.done.0 (left_of g.atoms n x) steps most told_now u.done.1 s;
+        }
+
+    pub stopped_with_more : HasMoreNodes p g n
+    stopped_with_more = one_left p g n u.done.0 (left_of g.atoms n x) rest v steps most told_now u.done.1 e l
+
+-- ---- the same search
+
+pub record SameSearch (x y : Search) : Type 0 where
+  pub program : y.program.now ≡ x.program.now
+  pub bindings : y.bindings ≡ x.bindings
+  pub tails : y.tails ≡ x.tails
+  pub choices : y.choices.items ≡ x.choices.items
+
+module _ (x y : Search) (e : SameSearch x y) where
+  same_left : (q : List Atom) (n : ℕ) → left_of q n x ≡ left_of q n y
+  same_left q n = λ i. left (sym e.program i) q n (sym e.bindings i) (sym e.tails i) (reverse (sym e.choices i))
+
+  same_is : IsSearch x → IsSearch y
+  same_is h = subst (λ (w : Listing × List Binding × List (List Atom) × List Choice). AreChoices w.0 w.1 w.2 (reverse w.3)) (λ i. (sym e.program i, sym e.bindings i, sym e.tails i, sym e.choices i)) h
+
+  same_count : length (choices_of y) ≡ length (choices_of x)
+  same_count = ap (λ (l : List Choice). length (reverse l)) e.choices
+
+  pub same_attempts : attempts_left y ≡ attempts_left x
+  same_attempts = λ i. attempts_at (e.program i) (reverse (e.choices i))
+
+-- ---- a node that is entered
+
+module _ (p : Listing) (g : Goal) (n : ℕ) (old mid new : Search) (c : Choice) (k : Clause) (steps most : ℕ) (told_now : List Answer) (u : IsUnderWay p g n old steps most told_now) (node : IsNode old c k mid) (less : steps < n) (program_mid : mid.program.now ≡ old.program.now) (count_mid : length (choices_of mid) ≤ length (choices_of old)) where
+  deep : suc (n - length (choices_of mid)) ≡ n - (length (choices_of mid) - 1)
+  deep = omega (arith, node.some, count_mid, u.depth, less)
+
+  abbrev here : Visit
+  here = record { steps = length (choices_of mid); answer = answer_by g.atoms (made mid.bindings) (node_goal mid c k).atoms }
+
+  abbrev below_here : ℕ → List Visit
+  below_here d = walk mid.program.now g.atoms d (made mid.bindings) (length (choices_of mid)) (node_goal mid c k)
+
+  -- it has atoms
+  pub with_atoms : IsSearch new → new.program.now ≡ mid.program.now → length (choices_of new) ≤ length (choices_of mid) + 1 → IsEntered mid (node_goal mid c k) true new → IsUnderWay p g n new (steps + 1) (max most (length (choices_of mid))) told_now
+  with_atoms is program count e = record {
+    search = is;
+    program = program ∙ program_mid ∙ u.program;
+    done = (u.done.0 ++ here ∷ [], done_more p g n u.done.0 (left_of g.atoms n old) (left_of g.atoms n new) here steps most told_now told_now u.done.1 left_now told_same);
+    within = omega (arith, less);
+    depth = omega (arith, count, count_mid, u.depth);
+  }
+    where
+      left_now : left_of g.atoms n old ≡ here ∷ left_of g.atoms n new
+      left_now = node.met g.atoms n ∙ ap (λ (w : List Visit). here ∷ w) (ap (λ d. below_here d ++ left_of g.atoms n mid) (sym deep) ∙ e.1 g.atoms n)
+
+      told_same : told_now ≡ told_now ++ map told (cons_option here.answer [])
+      told_same = sym (append-nil told_now) ∙ ap (λ (o : Option (List Atom)). told_now ++ map told (cons_option o [])) (sym (e.0 g.atoms (made mid.bindings)))
+
+  -- it has none, and is an answer
+  pub without_atoms : (last : Search) (a : Answer) → IsSearch new → new.program.now ≡ mid.program.now → new.bindings ≡ mid.bindings → length (choices_of new) ≤ length (choices_of mid) + 1 → IsEntered mid (node_goal mid c k) false new → SameSearch new last → a ≡ told (answered_atoms new.bindings g.atoms) → IsUnderWay p g n last (steps + 1) (max most (length (choices_of mid))) (told_now ++ a ∷ [])
+  without_atoms last a is program bindings count e same is_told = record {
+    search = same_is new last same is;
+    program = same.program ∙ program ∙ program_mid ∙ u.program;
+    done = (u.done.0 ++ here ∷ [], done_more p g n u.done.0 (left_of g.atoms n old) (left_of g.atoms n last) here steps most told_now (told_now ++ a ∷ []) u.done.1 left_now told_one);
+    within = omega (arith, less);
+    depth = omega (arith, count, count_mid, u.depth, same_count new last same);
+  }
+    where
+      left_now : left_of g.atoms n old ≡ here ∷ left_of g.atoms n last
+      left_now =
+          node.met g.atoms n
+          ∙ ap (λ (w : List Visit). here ∷ w)
+          (ap (λ (w : List Visit). w ++ left_of g.atoms n mid) (walk_none mid.program.now g.atoms (n - (length (choices_of mid) - 1)) (made mid.bindings) (length (choices_of mid)) (node_goal mid c k) e.0)
+          ∙ e.1 g.atoms n
+          ∙ same_left new last same g.atoms n)
+
+      told_one : told_now ++ a ∷ [] ≡ told_now ++ map told (cons_option here.answer [])
+      told_one =
+          ap (λ (b : Answer). told_now ++ b ∷ []) (is_told ∙ ap (λ (s : List Binding). told (answered_atoms s g.atoms)) bindings)
+          ∙ ap (λ (l : List Atom). told_now ++ map told (cons_option (answer_by g.atoms (made mid.bindings) l) [])) (sym e.0)
+
+  -- and less is to be done
+  pub less_to_do : (last : Search) → attempts_left new ≤ attempts_left mid + length mid.program.now.clauses + 1 → attempts_left last ≡ attempts_left new → to_do p n last (steps + 1) < to_do p n old steps
+  less_to_do last attempts same =
+      let s = scaled_less n steps (suc (suc (length p.clauses))) less in
+      let f = node.fewer in
+      let clauses = ap (λ (l : Listing). length l.clauses) (program_mid ∙ u.program) in
+      omega (arith, s, f, attempts, same, clauses)
+
+-- ---- the goal of the query is entered
+
+pub entered_goal : (g : Goal) (s : List Binding) (rests : List (List Atom)) (atoms : List Atom) → s ≡ [] → atoms ≡ g.atoms → goal_with s (map (raised 0) atoms) (tail_at rests 0) g.fresh ≡ g
+entered_goal g s rests atoms b e = (λ i. goal_with (b i) (map (raised 0) (e i)) [] g.fresh) ∙ root_goal g
+
+module _ (g : Goal) (n : ℕ) (old new : Search) (b : old.bindings ≡ []) (ch : old.choices.items ≡ []) (is : IsSearch new) (program : new.program.now ≡ old.program.now) (count : length (choices_of new) ≤ length (choices_of old) + 1) where
+  first_walk : walk old.program.now g.atoms (suc (n - length (choices_of old))) (made old.bindings) (length (choices_of old)) g ++ left_of g.atoms n old ≡ walk old.program.now g.atoms (suc n) [] 0 g
+  first_walk =
+      (λ i. walk old.program.now g.atoms (suc (n - length (reverse (ch i)))) (made (b i)) (length (reverse (ch i))) g ++ left old.program.now g.atoms n old.bindings old.tails (reverse (ch i)))
+      ∙ append-nil (walk old.program.now g.atoms (suc (n - 0)) [] 0 g)
+      ∙ ap (λ d. walk old.program.now g.atoms (suc d) [] 0 g) (let e : n - 0 ≡ n = omega arith in e)
+
+  none_before : length (choices_of old) ≡ 0
+  none_before = ap (λ (l : List Choice). length (reverse l)) ch
+
+  pub begun_with_atoms : IsEntered old g true new → IsUnderWay old.program.now g n new 0 0 []
+  begun_with_atoms e = record {
+    search = is;
+    program = program;
+    done = (
+      [],
+      record {
+        walked = sym first_walk ∙ e.1 g.atoms n;
+        counted = refl;
+        most = refl;
+        told_so_far = ap (λ (o : Option (List Atom)). map told (cons_option o [])) (sym (e.0 g.atoms []));
+      },
+    );
+    within = omega arith;
+    depth = omega (arith, count, none_before);
+  }
+
+  pub begun_without_atoms : (last : Search) (a : Answer) → IsEntered old g false new → new.bindings ≡ old.bindings → SameSearch new last → a ≡ told (answered_atoms new.bindings g.atoms) → IsUnderWay old.program.now g n last 0 0 (a ∷ [])
+  begun_without_atoms last a e bindings same is_told = record {
+    search = same_is new last same is;
+    program = same.program ∙ program;
+    done = (
+      [],
+      record {
+        walked =
+            walk_none old.program.now g.atoms (suc n) [] 0 g e.0
+            ∙ (λ i. left old.program.now g.atoms n old.bindings old.tails (reverse (sym ch i)))
+            ∙ e.1 g.atoms n
+            ∙ same_left new last same g.atoms n;
+        counted = refl;
+        most = refl;
+        told_so_far = told_one;
+      },
+    );
+    within = omega arith;
+    depth = omega (arith, count, none_before, same_count new last same);
+  }
+    where
+      told_one : a ∷ [] ≡ told_after g []
+      told_one =
+          ap (λ (c : Answer). c ∷ []) (is_told ∙ ap (λ (s : List Binding). told (answered_atoms s g.atoms)) (bindings ∙ b))
+          ∙ ap (λ (l : List Atom). map told (cons_option (answer_by g.atoms [] l) [])) (sym e.0)

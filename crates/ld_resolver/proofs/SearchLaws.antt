@@ -1,0 +1,309 @@
+-- Laws of the steps of a search.
+use Rattle.std.proofs.Common.{◌≡◌, ◌≢◌, ℕ, zero, suc, ◌+◌, ◌-◌, ◌<◌, ◌≤◌, false, ◌==◌, if◌then◌else◌, List, [], ◌∷◌, ◌++◌, map, length, take, drop, IsTrue, slice_get, Option, None, Some, option_map, option_and_then, append_assoc, append-nil, length-append, refl, ap, sym, ◌∙◌, subst, arith}
+use Rattle.std.proofs.lemmas.List.{drop-drop, length-drop, map-append, take-append-drop}
+use Rattle.std.proofs.lemmas.Bool.Decides.{nat_tests}
+use Rattle.std.specs.List.{AllByRecursion, range_with_len}
+use Rattle.cti_terms.specs.Tree.{Tree, instance, is_below}
+use Rattle.cti_terms.specs.declared.atom_list.Atom.{Atom}
+use Rattle.cti_terms.specs.declared.clauses.Clause.{Clause}
+use Rattle.cti_terms.specs.declared.derivation.Goal.{Goal}
+use Rattle.cti_terms.specs.Listing.{Listing, IsAtom, IsClause, numbered}
+use Rattle.cti_terms.specs.declared.predicates.Pred.{Pred}
+use Rattle.cti_terms.specs.Unify.{Equation, Binding, applied}
+use Rattle.cti_terms.specs.UnifyFunction.{unify}
+use Rattle.cti_terms.specs.Resolve.{over, raised, head_equations, left_by, answered, resolve_by, resolve}
+use Rattle.cti_terms.specs.Answers.{answer_by}
+use Rattle.ld_resolver.specs.declared.choices.Choice.{Choice}
+use Rattle.ld_resolver.specs.Raised.{raise}
+use Rattle.ld_resolver.specs.Store.{made, full}
+use Rattle.ld_resolver.specs.Pending.{Extends, KeepsFree}
+use Rattle.ld_resolver.specs.Tails.{tail_at}
+use Rattle.ld_resolver.specs.Below.{ArgumentsBelow, AtomsBelow, FreeFrom}
+use Rattle.ld_resolver.specs.Walk.{entered, walk_by, walk}
+use Rattle.ld_resolver.specs.Choices.{kept, goal_from, goal_of, clauses_left, left, IsChoice, AreChoices, GrowsTo}
+use Rattle.ld_resolver.specs.Searches.{attempts_at, AreNumbered, goal_with}
+use Rattle.ld_resolver.proofs.StoreLaws.{applied-append, eqb_same}
+use Rattle.ld_resolver.proofs.BelowLaws.{full_raised, applied_below, wider, all_wider, pairs_below, arguments_raised, atoms_over, below_append, not_below}
+use Rattle.cti_terms.proofs.UnifyLaws.{AllBelow, unify_finds}
+use Rattle.ld_resolver.proofs.TailLaws.{tail_kept}
+
+-- ---- bindings that are kept
+
+pub length-kept : (s : List Binding) (m : ℕ) → m ≤ length s → length (kept s m) ≡ m
+length-kept s m h = omega (arith, length-drop (length s - m) s, h)
+
+drop_past : (xs ys : List Binding) (n : ℕ) → drop (length xs + n) (xs ++ ys) ≡ drop n ys
+drop_past [] ys n = ap (λ k. drop k ys) (let e : 0 + n ≡ n = omega arith in e)
+drop_past (x ∷ xs) ys n =
+    let e : length (x ∷ xs) + n ≡ suc (length xs + n) = omega arith in
+    ap (λ k. drop k (x ∷ (xs ++ ys))) e ∙ drop_past xs ys n
+
+-- earlier bindings are kept through what comes later
+pub kept_through : (s now : List Binding) (m k : ℕ) → k ≤ m → m ≤ length s → Extends now (kept s m) → kept now k ≡ kept s k
+kept_through s now m k l h (more, e) =
+    let count = length-kept s m h in
+    let sum = length-append more (kept s m) in
+    let there : length (more ++ kept s m) - k ≡ length more + (m - k) = omega (arith, sum, count, l) in
+    let total : (m - k) + (length s - m) ≡ length s - k = omega (arith, l, h) in
+    ap (λ b. kept b k) e
+    ∙ ap (λ n. drop n (more ++ kept s m)) there
+    ∙ drop_past more (kept s m) (m - k)
+    ∙ drop-drop (m - k) (length s - m) s
+    ∙ ap (λ n. drop n s) (let t : (length s - m) + (m - k) ≡ length s - k = omega (arith, l, h) in t)
+
+pub kept_all : (s : List Binding) → kept s (length s) ≡ s
+kept_all s = ap (λ n. drop n s) (let e : length s - length s ≡ 0 = omega arith in e)
+
+pub length-extends : (s now : List Binding) (m : ℕ) → m ≤ length s → Extends now (kept s m) → m ≤ length now
+length-extends s now m h (more, e) = omega (arith, ap length e, length-append more (kept s m), length-kept s m h)
+
+-- ---- what is left from choices
+
+-- choices whose goals stay
+abbrev pub Stay : List Binding → List Binding → List (List Atom) → List (List Atom) → List Choice → Type 0
+Stay s now rests rests_now = AllByRecursion (λ (c : Choice). (kept now c.mark ≡ kept s c.mark) × (tail_at rests_now c.rest ≡ tail_at rests c.rest))
+
+pub left_stays : (p : Listing) (q : List Atom) (n : ℕ) (s now : List Binding) (rests rests_now : List (List Atom)) (cs : List Choice) → Stay s now rests rests_now cs → left p q n now rests_now cs ≡ left p q n s rests cs
+left_stays p q n s now rests rests_now [] h = refl
+left_stays p q n s now rests rests_now (c ∷ below) h =
+    λ i. walk_by p q (walk p q (n - length below)) (made (h.0.0 i)) (length below) (goal_from (h.0.0 i) c.fresh (raised c.base c.atom.now) (h.0.1 i)) (clauses_left p c)
+    ++ left_stays p q n s now rests rests_now below h.1 i
+
+-- each choice has at most m bindings
+abbrev pub Within : ℕ → List Choice → Type 0
+Within m = AllByRecursion (λ (c : Choice). c.mark ≤ m)
+
+pub stay_through : (s now : List Binding) (rests : List (List Atom)) (m : ℕ) (cs : List Choice) → Within m cs → m ≤ length s → Extends now (kept s m) → Stay s now rests rests cs
+stay_through s now rests m [] w h e = tt
+stay_through s now rests m (c ∷ below) w h e = ((kept_through s now m c.mark w.0 h e, refl), stay_through s now rests m below w.1 h e)
+
+stay_choice : (p : Listing) (s now : List Binding) (rests rests_now : List (List Atom)) (c : Choice) → kept now c.mark ≡ kept s c.mark → tail_at rests_now c.rest ≡ tail_at rests c.rest → c.mark ≤ length now → c.rest ≤ length rests_now → IsChoice p s rests c → IsChoice p now rests_now c
+stay_choice p s now rests rests_now c e f m r is = record {
+  mark = m;
+  rest = r;
+  from_one = is.from_one;
+  to_end = is.to_end;
+  free = subst (FreeFrom c.fresh) (sym e) is.free;
+  below = subst (λ (g : Goal). AtomsBelow c.fresh g.atoms) (λ i. goal_from (sym e i) c.fresh (raised c.base c.atom.now) (sym f i)) is.below;
+}
+
+pub choices_through : (p : Listing) (s now : List Binding) (rests : List (List Atom)) (m : ℕ) (cs : List Choice) → Within m cs → m ≤ length s → Extends now (kept s m) → AreChoices p s rests cs → AreChoices p now rests cs
+choices_through p s now rests m [] w h e all = tt
+choices_through p s now rests m (c ∷ below) w h e all =
+    let l = length-extends s now m h e in
+    (stay_choice p s now rests rests c (kept_through s now m c.mark w.0 h e) refl (let k = w.0 in omega (arith, k, l)) all.0.rest all.0, all.1, choices_through p s now rests m below w.1 h e all.2)
+
+-- more rests
+pub stay_grown : (p : Listing) (s : List Binding) (rests now : List (List Atom)) (cs : List Choice) → GrowsTo rests now → AreChoices p s rests cs → Stay s s rests now cs
+stay_grown p s rests now [] g all = tt
+stay_grown p s rests now (c ∷ below) g all =
+    ((refl, ap (λ r. tail_at r c.rest) g.1 ∙ tail_kept rests g.0 c.rest all.0.rest), stay_grown p s rests now below g all.2)
+
+pub choices_grown : (p : Listing) (s : List Binding) (rests now : List (List Atom)) (cs : List Choice) → GrowsTo rests now → AreChoices p s rests cs → AreChoices p s now cs
+choices_grown p s rests now [] g all = tt
+choices_grown p s rests now (c ∷ below) g all =
+    let r = all.0.rest in
+    let longer = ap length g.1 ∙ length-append rests g.0 in
+    (stay_choice p s s rests now c refl (ap (λ r. tail_at r c.rest) g.1 ∙ tail_kept rests g.0 c.rest r) all.0.mark (omega (arith, r, longer)) all.0, all.1, choices_grown p s rests now below g all.2)
+
+pub are_numbered : (p : Listing) (s : List Binding) (rests : List (List Atom)) (cs : List Choice) → AreChoices p s rests cs → AreNumbered p cs
+are_numbered p s rests [] all = tt
+are_numbered p s rests (c ∷ below) all = ((all.0.from_one, all.0.to_end), are_numbered p s rests below all.2)
+
+pub within_all : (p : Listing) (s : List Binding) (rests : List (List Atom)) (cs : List Choice) → AreChoices p s rests cs → Within (length s) cs
+within_all p s rests [] all = tt
+within_all p s rests (c ∷ below) all = (all.0.mark, within_all p s rests below all.2)
+
+-- ---- clauses that are left
+
+pub no_clause_left : (p : Listing) (c : Choice) → length p.clauses < c.next → clauses_left p c ≡ []
+no_clause_left p c h = ap (range_with_len c.next) (let e : suc (length p.clauses) - c.next ≡ 0 = omega (arith, h) in e)
+
+pub clause_left : (p : Listing) (c : Choice) → c.next ≤ length p.clauses → clauses_left p c ≡ c.next ∷ clauses_left p (record c { next = c.next + 1 })
+clause_left p c h =
+    let e : suc (length p.clauses) - c.next ≡ suc (suc (length p.clauses) - (c.next + 1)) = omega (arith, h) in
+    ap (range_with_len c.next) e
+
+-- ---- resolution by a clause
+
+there : (cs : List Clause) (k : ℕ) (c : Clause) → 1 ≤ k → slice_get cs (k - 1) ≡ Some c → numbered cs k ≡ Some c
+there cs zero c l h = absurd (omega (arith, l))
+there cs (suc i) c l h = let e : suc i - 1 ≡ i = omega arith in ap (slice_get cs) (sym e) ∙ h
+
+pub resolve_at : (p : Listing) (a : Atom) (rest : List Atom) (n k : ℕ) (c : Clause) → 1 ≤ k → slice_get p.clauses (k - 1) ≡ Some c → resolve p (record { atoms = a ∷ rest; fresh = n }) k ≡ resolve_by (a ∷ rest) n c
+resolve_at p a rest n k c l h = ap (option_and_then (resolve_by (a ∷ rest) n)) (there p.clauses k c l h)
+
+pub another_pred : (a : Atom) (rest : List Atom) (n : ℕ) (c : Clause) → a.pred.0 ≢ c.head.pred.0 → resolve_by (a ∷ rest) n c ≡ None
+another_pred a rest n c d = ap (λ b. if b then option_map (answered rest n c) (unify (head_equations a n c)) else None) (off (a.pred.0) (c.head.pred.0) d)
+  where
+    off : (x y : ℕ) → x ≢ y → (x == y) ≡ false
+    off x y h = grind (arith, nat_tests)
+
+pub same_pred : (a : Atom) (rest : List Atom) (n : ℕ) (c : Clause) → a.pred.0 ≡ c.head.pred.0 → resolve_by (a ∷ rest) n c ≡ option_map (answered rest n c) (unify (head_equations a n c))
+same_pred a rest n c e = ap (λ b. if b then option_map (answered rest n c) (unify (head_equations a n c)) else None) (ap (λ x. a.pred.0 == x) (sym e) ∙ eqb_same a.pred.0)
+
+-- ---- the goal that is left
+
+applied_twice : (s : List Binding) (now bs : List Binding) → made now ≡ made s ++ bs → (t : Tree) → full now t ≡ applied bs (full s t)
+applied_twice s now bs e t = ap (λ l. applied l t) e ∙ applied-append (made s) bs t
+
+args_twice : (s now bs : List Binding) → made now ≡ made s ++ bs → (ts : List Tree) → map (full now) ts ≡ map (applied bs) (map (full s) ts)
+args_twice s now bs e [] = refl
+args_twice s now bs e (t ∷ ts) = λ i. applied_twice s now bs e t i ∷ args_twice s now bs e ts i
+
+atoms_twice : (s now bs : List Binding) → made now ≡ made s ++ bs → (xs : List Atom) → map (over (full now)) xs ≡ map (over (applied bs)) (map (over (full s)) xs)
+atoms_twice s now bs e [] = refl
+atoms_twice s now bs e (a ∷ xs) = λ i. record { pred = a.pred; args = args_twice s now bs e a.args i } ∷ atoms_twice s now bs e xs i
+
+args_stay : (s : List Binding) (n : ℕ) → FreeFrom n s → (ts : List Tree) → map (full s) (map (instance (raise n)) ts) ≡ map (instance (raise n)) ts
+args_stay s n free [] = refl
+args_stay s n free (t ∷ ts) = λ i. full_raised s n t free i ∷ args_stay s n free ts i
+
+atoms_stay : (s : List Binding) (n : ℕ) → FreeFrom n s → (xs : List Atom) → map (over (full s)) (map (raised n) xs) ≡ map (raised n) xs
+atoms_stay s n free [] = refl
+atoms_stay s n free (a ∷ xs) = λ i. record { pred = a.pred; args = args_stay s n free a.args i } ∷ atoms_stay s n free xs i
+
+-- the goal that the definition leaves is the one under the new bindings
+pub left_goal : (s now bs : List Binding) (rest : List Atom) (n : ℕ) (c : Clause) → made now ≡ made s ++ bs → FreeFrom n s → left_by bs (map (over (full s)) rest) n c ≡ goal_with now (map (raised n) c.body) rest (n + c.vars)
+left_goal s now bs rest n c e free = λ i. record { atoms = sym same i; fresh = n + c.vars }
+  where
+    same : map (over (full now)) (map (raised n) c.body ++ rest) ≡ map (over (applied bs)) (map (raised n) c.body ++ map (over (full s)) rest)
+    same =
+        atoms_twice s now bs e (map (raised n) c.body ++ rest)
+        ∙ ap (map (over (applied bs))) (map-append (over (full s)) (map (raised n) c.body) rest ∙ ap (λ (l : List Atom). l ++ map (over (full s)) rest) (atoms_stay s n free c.body))
+
+-- a goal without atoms is not walked
+pub walk_none : (p : Listing) (q : List Atom) (d : ℕ) (bs : List Binding) (l : ℕ) (h : Goal) → h.atoms ≡ [] → walk p q d bs l h ≡ []
+walk_none p q zero bs l h e = refl
+walk_none p q (suc d) bs l h e = each (range_with_len 1 (length p.clauses))
+  where
+    none : (k : ℕ) → resolve p h k ≡ None
+    none k = ap (λ (xs : List Atom). option_and_then (resolve_by xs h.fresh) (numbered p.clauses k)) e ∙ go (numbered p.clauses k)
+      where
+        go : (o : Option Clause) → option_and_then (resolve_by [] h.fresh) o ≡ None
+        go None = refl
+        go (Some c) = refl
+
+    each : (ks : List ℕ) → walk_by p q (walk p q d) bs l h ks ≡ []
+    each [] = refl
+    each (k ∷ ks) = λ i. entered q (walk p q d) bs l (none k i) ++ each ks i
+
+-- ---- an attempt
+
+pub extends_self : (s : List Binding) (m : ℕ) → Extends s (kept s m)
+extends_self s m = (take (length s - m) s, sym (take-append-drop (length s - m) s))
+
+-- a choice without more clauses goes
+pub left_gone : (p : Listing) (q : List Atom) (n : ℕ) (s : List Binding) (rests : List (List Atom)) (c : Choice) (below : List Choice) → length p.clauses < c.next → left p q n s rests (c ∷ below) ≡ left p q n s rests below
+left_gone p q n s rests c below h = ap (λ (ks : List ℕ). walk_by p q (walk p q (n - length below)) (made (kept s c.mark)) (length below) (goal_of s rests c) ks ++ left p q n s rests below) (no_clause_left p c h)
+
+module _ (p : Listing) (s now : List Binding) (rests : List (List Atom)) (c : Choice) (below : List Choice) (all : AreChoices p s rests (c ∷ below)) (inside : c.next ≤ length p.clauses) (e : Extends now (kept s c.mark)) where
+  abbrev pub after_c : Choice
+  after_c = record c { next = c.next + 1 }
+
+  stays : Within c.mark (after_c ∷ below)
+  stays = ((let h : c.mark ≤ c.mark = omega arith in h), all.1)
+
+  same_mark : IsChoice p s rests after_c
+  same_mark = record {
+    mark = all.0.mark;
+    rest = all.0.rest;
+    from_one = omega arith;
+    to_end = omega (arith, inside);
+    free = all.0.free;
+    below = all.0.below;
+  }
+
+  pub later_choices : AreChoices p now rests (after_c ∷ below)
+  later_choices = choices_through p s now rests c.mark (after_c ∷ below) stays all.0.mark e (same_mark, all.1, all.2)
+
+  pub left_by_clause : (q : List Atom) (n : ℕ) (o : Option (List Binding × Goal)) → resolve p (goal_of s rests c) c.next ≡ o → left p q n s rests (c ∷ below) ≡ entered q (walk p q (n - length below)) (made (kept s c.mark)) (length below) o ++ left p q n now rests (after_c ∷ below)
+  left_by_clause q n o r =
+      ap (λ (ks : List ℕ). walk_by p q (walk p q (n - length below)) (made (kept s c.mark)) (length below) (goal_of s rests c) ks ++ left p q n s rests below) (clause_left p c inside)
+      ∙ append_assoc (entered q (walk p q (n - length below)) (made (kept s c.mark)) (length below) (resolve p (goal_of s rests c) c.next)) (walk_by p q (walk p q (n - length below)) (made (kept s c.mark)) (length below) (goal_of s rests c) (clauses_left p after_c)) (left p q n s rests below)
+      ∙ (λ i. entered q (walk p q (n - length below)) (made (kept s c.mark)) (length below) (r i) ++ sym (left_stays p q n s now rests rests (after_c ∷ below) (stay_through s now rests c.mark (after_c ∷ below) stays all.0.mark e)) i)
+
+  pub fewer_attempts : attempts_at p (after_c ∷ below) < attempts_at p (c ∷ below)
+  fewer_attempts = omega (arith, inside)
+
+  -- the clause leaves no goal
+  pub no_node : (q : List Atom) (n : ℕ) → resolve p (goal_of s rests c) c.next ≡ None → left p q n s rests (c ∷ below) ≡ left p q n now rests (after_c ∷ below)
+  no_node q n r = left_by_clause q n None r
+
+  -- it leaves one
+  pub node : (q : List Atom) (n : ℕ) (bs : List Binding) (h : Goal) → resolve p (goal_of s rests c) c.next ≡ Some (bs, h) → made now ≡ made (kept s c.mark) ++ bs → left p q n s rests (c ∷ below) ≡ (record { steps = suc (length below); answer = answer_by q (made now) h.atoms } ∷ walk p q (n - (suc (length below) - 1)) (made now) (suc (length below)) h) ++ left p q n now rests (after_c ∷ below)
+  node q n bs h r m =
+      left_by_clause q n (Some (bs, h)) r
+      ∙ (λ i. (record { steps = count i; answer = answer_by q (sym m i) h.atoms } ∷ walk p q (n - depth i) (sym m i) (count i) h) ++ left p q n now rests (after_c ∷ below))
+    where
+      count : length below + 1 ≡ suc (length below)
+      count = omega arith
+
+      depth : length below ≡ suc (length below) - 1
+      depth = omega arith
+
+-- ---- a goal that is entered
+
+start_goal : (s : List Binding) (atoms : List Atom) (a : Atom) (rest : List Atom) (n : ℕ) → atoms ≡ a ∷ rest → goal_with s atoms [] n ≡ goal_from s n a rest
+start_goal s atoms a rest n e = λ i. record { atoms = map (over (full s)) ((append-nil atoms ∙ e) i); fresh = n }
+
+module _ (p : Listing) (s : List Binding) (rests now : List (List Atom)) (cs : List Choice) (all : AreChoices p s rests cs) (g : GrowsTo rests now) (c : Choice) (atoms rest : List Atom) (e : atoms ++ rest ≡ raised c.base c.atom.now ∷ tail_at now c.rest) (within : c.rest ≤ length now) (first : c.next ≡ 1) (mark : c.mark ≡ length s) (free : FreeFrom c.fresh s) (below : AtomsBelow c.fresh (goal_with s atoms rest c.fresh).atoms) where
+  all_kept : kept s c.mark ≡ s
+  all_kept = ap (kept s) mark ∙ kept_all s
+
+  same_goal : goal_of s now c ≡ goal_with s atoms rest c.fresh
+  same_goal = λ i. record { atoms = map (over (full (all_kept i))) (sym e i); fresh = c.fresh }
+
+  pub choice_entered : AreChoices p s now (c ∷ cs)
+  choice_entered = (
+    record {
+      mark = omega (arith, mark);
+      rest = within;
+      from_one = omega (arith, first);
+      to_end = omega (arith, first);
+      free = subst (FreeFrom c.fresh) (sym all_kept) free;
+      below = subst (λ (h : Goal). AtomsBelow c.fresh h.atoms) (sym same_goal) below;
+    },
+    subst (λ (m : ℕ). Within m cs) (sym mark) (within_all p s rests cs all),
+    choices_grown p s rests now cs g all,
+  )
+
+  clauses_all : clauses_left p c ≡ range_with_len 1 (length p.clauses)
+  clauses_all = λ i. range_with_len (first i) ((ap (λ k. suc (length p.clauses) - k) first ∙ count) i)
+    where
+      count : suc (length p.clauses) - 1 ≡ length p.clauses
+      count = omega arith
+
+  pub left_entered : (q : List Atom) (n : ℕ) → walk p q (suc (n - length cs)) (made s) (length cs) (goal_with s atoms rest c.fresh) ++ left p q n s rests cs ≡ left p q n s now (c ∷ cs)
+  left_entered q n = λ i.
+      walk_by p q (walk p q (n - length cs)) (made (sym all_kept i)) (length cs) (sym same_goal i) (sym clauses_all i)
+      ++ sym (left_stays p q n s s rests now cs (stay_grown p s rests now cs g all)) i
+
+  pub no_answer : (q : List Atom) (bs : List Binding) → answer_by q bs (goal_with s atoms rest c.fresh).atoms ≡ None
+  no_answer q bs = ap (λ (h : Goal). answer_by q bs h.atoms) (sym same_goal)
+
+  pub attempts_entered : attempts_at p (c ∷ cs) ≡ suc (length p.clauses) + attempts_at p cs
+  attempts_entered = omega (arith, first)
+
+-- ---- the counter of a goal that is left
+
+pub node_free : (s now : List Binding) (es : List Equation) (n m : ℕ) → n ≤ m → FreeFrom n s → AllBelow m es → KeepsFree es s now → FreeFrom m now
+node_free s now es n m l free below keeps y h = keeps y (not_below m es below y h) (free y (omega (arith, l, h)))
+
+-- the equations of a head are below the counter that comes after
+pub head_below : (a : Atom) (n : ℕ) (c : Clause) → ArgumentsBelow n a.args → AllByRecursion (λ t. IsTrue (is_below c.vars t)) c.head.args → AllBelow (n + c.vars) (head_equations a n c)
+head_below a n c h k = pairs_below (n + c.vars) a.args (raised n c.head).args (wider n (n + c.vars) a.args (omega arith) h) (arguments_raised n c.vars c.head.args k)
+
+body_raised : (preds : List Pred) (n k : ℕ) (xs : List Atom) → AllByRecursion (IsAtom preds k) xs → AtomsBelow (n + k) (map (raised n) xs)
+body_raised preds n k [] h = tt
+body_raised preds n k (a ∷ xs) h = (arguments_raised n k a.args h.0.below, body_raised preds n k xs h.1)
+
+-- and so is the goal that is left
+pub goal_below : (preds : List Pred) (s now bs : List Binding) (a : Atom) (rest : List Atom) (n : ℕ) (c : Clause) → made now ≡ made s ++ bs → FreeFrom n s → unify (head_equations (over (full s) a) n c) ≡ Some bs → AtomsBelow n (goal_from s n a rest).atoms → IsClause preds c → AtomsBelow (n + c.vars) (goal_with now (map (raised n) c.body) rest (n + c.vars)).atoms
+goal_below preds s now bs a rest n c e free u below is =
+    let es = head_equations (over (full s) a) n c in
+    let m = n + c.vars in
+    let bounded = head_below (over (full s) a) n c below.0 is.head.below in
+    let whole = below_append m (map (raised n) c.body) (map (over (full s)) rest) (body_raised preds n c.vars c.body is.body) (all_wider n m (map (over (full s)) rest) (omega arith) below.1) in
+    let applied_to = atoms_over m (applied bs) (map (raised n) c.body ++ map (over (full s)) rest) (λ t h. applied_below (unify_finds es bs u) m bounded t h) whole in
+    subst (λ (h : Goal). AtomsBelow m h.atoms) (left_goal s now bs rest n c e free) applied_to

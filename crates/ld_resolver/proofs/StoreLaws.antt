@@ -1,0 +1,214 @@
+-- Laws of stored bindings.
+use Rattle.std.proofs.Common.{◌≡◌, ◌≢◌, ℕ, zero, suc, ◌<◌, Bool, true, false, ◌==◌, if◌then◌else◌, List, [], ◌∷◌, ◌++◌, map, reverse, length, set, replicate, Option, None, Some, IfSome, option_map, refl, ap, sym, ◌∙◌, subst, arith, eqb-true}
+use Rattle.std.proofs.lemmas.Bool.Decides.{nat_tests}
+use Rattle.std.proofs.lemmas.List.{map-append, reverse-append, length-reverse, length-map}
+use Rattle.cti_terms.specs.Tree.{Tree, Variable, Integer, Compound, instance}
+use Rattle.cti_terms.specs.Unify.{Binding, occurs, only, applied}
+use Rattle.cti_terms.proofs.Unifier.{absent, only_same}
+use Rattle.ld_resolver.specs.declared.raised_term.RaisedTerm.{RaisedTerm}
+use Rattle.ld_resolver.specs.Raised.{raised_tree}
+use Rattle.ld_resolver.specs.Store.{stored, made, full, IsOpen, MayBind, AreMade, one_more, chain, chain_of, trail_of, slot, IsStore}
+
+-- bindings in turn
+pub applied-append : (bs cs : List Binding) (t : Tree) → applied (bs ++ cs) t ≡ applied cs (applied bs t)
+applied-append [] cs t = refl
+applied-append (b ∷ bs) cs t = applied-append bs cs (instance (only b.0 b.1) t)
+
+-- one more binding
+pub full_more : (s : List Binding) (b : Binding) (t : Tree) → full (b ∷ s) t ≡ instance (only b.0 (full s b.1)) (full s t)
+full_more s b t = applied-append (made s) ((b.0, full s b.1) ∷ []) t
+
+if_same : {A : Type 0} (b : Bool) (x y : A) → b ≡ true → (if b then x else y) ≡ x
+if_same b x y h = ap (λ c. if c then x else y) h
+
+if_other : {A : Type 0} (b : Bool) (x y : A) → b ≡ false → (if b then x else y) ≡ y
+if_other b x y h = ap (λ c. if c then x else y) h
+
+eqb_false : (x y : ℕ) → (x == y) ≡ false → x ≢ y
+eqb_false x y h = grind (arith, nat_tests)
+
+pub eqb_same : (x : ℕ) → (x == x) ≡ true
+eqb_same x = grind (arith, nat_tests)
+
+-- a free variable stays
+pub full_free : (s : List Binding) (x : ℕ) → stored s x ≡ None → full s (Variable x) ≡ Variable x
+full_free [] x h = refl
+full_free (b ∷ s) x h = go (b.0 == x) refl h (full_free s x)
+  where
+    go : (c : Bool) → (b.0 == x) ≡ c → (if c then Some b.1 else stored s x) ≡ None → (stored s x ≡ None → full s (Variable x) ≡ Variable x) → full (b ∷ s) (Variable x) ≡ Variable x
+    go true e k older = cc
+    go false e k older =
+        full_more s b (Variable x)
+        ∙ ap (instance (only b.0 (full s b.1))) (older k)
+        ∙ if_other (b.0 == x) (full s b.1) (Variable x) e
+
+-- a bound variable is what its term is
+pub full_bound : (s : List Binding) (x : ℕ) (t : Tree) → AreMade s → stored s x ≡ Some t → full s t ≡ full s (Variable x)
+full_bound [] x t m h = cc
+full_bound (b ∷ s) x t m h = go (b.0 == x) refl h (full_bound s x t m.1)
+  where
+    go : (c : Bool) → (b.0 == x) ≡ c → (if c then Some b.1 else stored s x) ≡ Some t → (stored s x ≡ Some t → full s t ≡ full s (Variable x)) → full (b ∷ s) t ≡ full (b ∷ s) (Variable x)
+    go true e k older =
+        let term : b.1 ≡ t = cc in
+        let at : b.0 ≡ x = eqb-true b.0 x e in
+        full_more s b t
+        ∙ ap (λ u. instance (only b.0 (full s b.1)) (full s u)) (sym term)
+        ∙ absent b.0 (full s b.1) (full s b.1) m.0.absent
+        ∙ sym (only_same b.0 (full s b.1))
+        ∙ ap (instance (only b.0 (full s b.1))) (sym (full_free s b.0 m.0.free))
+        ∙ sym (full_more s b (Variable b.0))
+        ∙ ap (λ y. full (b ∷ s) (Variable y)) at
+    go false e k older =
+        full_more s b t
+        ∙ ap (instance (only b.0 (full s b.1))) (older k)
+        ∙ sym (full_more s b (Variable x))
+
+chain_free : (s : List Binding) (x : ℕ) → stored s x ≡ None → chain s x ≡ 0
+chain_free [] x h = refl
+chain_free (b ∷ s) x h = go (b.0 == x) h (chain_free s x)
+  where
+    go : (c : Bool) → (if c then Some b.1 else stored s x) ≡ None → (stored s x ≡ None → chain s x ≡ 0) → (if c then 1 else one_more (chain s x)) ≡ 0
+    go true k older = cc
+    go false k older = ap one_more (older k)
+
+one_more_lt : (m n : ℕ) → m < n → one_more m < one_more n
+one_more_lt zero zero h = absurd (omega (arith, h))
+one_more_lt zero (suc n) h = omega arith
+one_more_lt (suc m) zero h = absurd (omega (arith, h))
+one_more_lt (suc m) (suc n) h = omega (arith, h)
+
+one_more_big : (m n : ℕ) → m < n → 1 < one_more n
+one_more_big m zero h = absurd (omega (arith, h))
+one_more_big m (suc n) h = omega arith
+
+-- the number falls from a variable to its term
+pub chain_falls : (s : List Binding) (x : ℕ) (t : Tree) → AreMade s → stored s x ≡ Some t → chain_of s t < chain s x
+chain_falls [] x t m h = cc
+chain_falls (b ∷ s) x t m h = go (b.0 == x) h (chain_falls s x t m.1)
+  where
+    first : (u : Tree) → IsOpen s u → occurs b.0 (full s u) ≡ false → chain_of (b ∷ s) u < 1
+    first (Variable y) unbound gone =
+        let differs : (b.0 == y) ≡ false = sym (ap (occurs b.0) (full_free s y unbound)) ∙ gone in
+        let zero_now : chain (b ∷ s) y ≡ 0 = if_other (b.0 == y) 1 (one_more (chain s y)) differs ∙ ap one_more (chain_free s y unbound) in
+        omega (arith, zero_now)
+    first (Integer n) unbound gone = omega arith
+    first (Compound f ts) unbound gone = omega arith
+
+    later : (u : Tree) → chain_of s u < chain s x → chain_of (b ∷ s) u < one_more (chain s x)
+    later (Variable y) less = one (b.0 == y) refl
+      where
+        one : (c : Bool) → (b.0 == y) ≡ c → (if c then 1 else one_more (chain s y)) < one_more (chain s x)
+        one true e = one_more_big (chain s y) (chain s x) less
+        one false e = one_more_lt (chain s y) (chain s x) less
+    later (Integer n) less = one_more_pos (chain s x) less
+      where
+        one_more_pos : (n : ℕ) → 0 < n → 0 < one_more n
+        one_more_pos n h = let k = one_more_big 0 n h in omega (arith, k)
+    later (Compound f ts) less = let k = one_more_big 0 (chain s x) less in omega (arith, k)
+
+    go : (c : Bool) → (if c then Some b.1 else stored s x) ≡ Some t → (stored s x ≡ Some t → chain_of s t < chain s x) → chain_of (b ∷ s) t < (if c then 1 else one_more (chain s x))
+    go true k older =
+        let term : b.1 ≡ t = cc in
+        subst (λ (v : Tree). chain_of (b ∷ s) v < 1) term (first b.1 m.0.followed m.0.absent)
+    go false k older = later t (older k)
+
+-- ---- slots
+
+slot_set_same : (xs : List (Option RaisedTerm)) (i : ℕ) (v : Option RaisedTerm) → i < length xs → slot (set xs i v) i ≡ option_map raised_tree v
+slot_set_same [] i v h = absurd (omega (arith, h))
+slot_set_same (x ∷ xs) zero v h = refl
+slot_set_same (x ∷ xs) (suc i) v h = slot_set_same xs i v (omega (arith, h))
+
+slot_set_other : (xs : List (Option RaisedTerm)) (i j : ℕ) (v : Option RaisedTerm) → i ≢ j → slot (set xs i v) j ≡ slot xs j
+slot_set_other [] i j v h = refl
+slot_set_other (x ∷ xs) zero zero v h = absurd (h refl)
+slot_set_other (x ∷ xs) zero (suc j) v h = refl
+slot_set_other (x ∷ xs) (suc i) zero v h = refl
+slot_set_other (x ∷ xs) (suc i) (suc j) v h = slot_set_other xs i j v (λ e. h (ap suc e))
+
+slot_none : (n j : ℕ) → slot (replicate n None) j ≡ None
+slot_none zero j = refl
+slot_none (suc n) zero = refl
+slot_none (suc n) (suc j) = slot_none n j
+
+pub slot_grown : (xs : List (Option RaisedTerm)) (n j : ℕ) → slot (xs ++ replicate n None) j ≡ slot xs j
+slot_grown [] n j = slot_none n j
+slot_grown (x ∷ xs) n zero = refl
+slot_grown (x ∷ xs) n (suc j) = slot_grown xs n j
+
+pub trail_more : (es : List (ℕ × RaisedTerm)) (e : ℕ × RaisedTerm) → trail_of (es ++ e ∷ []) ≡ (e.0, raised_tree e.1) ∷ trail_of es
+trail_more es e =
+    ap reverse (map-append (λ (d : ℕ × RaisedTerm). (d.0, raised_tree d.1)) es (e ∷ []))
+    ∙ reverse-append (map (λ (d : ℕ × RaisedTerm). (d.0, raised_tree d.1)) es) ((e.0, raised_tree e.1) ∷ [])
+
+-- a binding is kept
+pub store_more : (slots : List (Option RaisedTerm)) (trail : List (ℕ × RaisedTerm)) (x : ℕ) (r : RaisedTerm) → IsStore slots trail → x < length slots → MayBind (trail_of trail) x (raised_tree r) → IsStore (set slots x (Some r)) (trail ++ (x, r) ∷ [])
+store_more slots trail x r s within may = record {
+  agree = λ y. ap (λ l. stored l y) (trail_more trail (x, r)) ∙ at y (x == y) refl;
+  made = subst AreMade (sym (trail_more trail (x, r))) (may, s.made);
+}
+  where
+    at : (y : ℕ) (c : Bool) → (x == y) ≡ c → (if x == y then Some (raised_tree r) else stored (trail_of trail) y) ≡ slot (set slots x (Some r)) y
+    at y true e =
+        if_same (x == y) (Some (raised_tree r)) (stored (trail_of trail) y) e
+        ∙ sym (slot_set_same slots x (Some r) within)
+        ∙ ap (slot (set slots x (Some r))) (eqb-true x y e)
+    at y false e =
+        if_other (x == y) (Some (raised_tree r)) (stored (trail_of trail) y) e
+        ∙ s.agree y
+        ∙ sym (slot_set_other slots x y (Some r) (eqb_false x y e))
+
+-- the same slots
+pub store_same : (slots more : List (Option RaisedTerm)) (trail : List (ℕ × RaisedTerm)) → IsStore slots trail → ((x : ℕ) → slot more x ≡ slot slots x) → IsStore more trail
+store_same slots more trail s same = record { agree = λ y. s.agree y ∙ sym (same y); made = s.made }
+
+-- as many bindings
+pub length-trail_of : (es : List (ℕ × RaisedTerm)) → length (trail_of es) ≡ length es
+length-trail_of es = length-reverse (map (λ (e : ℕ × RaisedTerm). (e.0, raised_tree e.1)) es) ∙ length-map es (λ (e : ℕ × RaisedTerm). (e.0, raised_tree e.1))
+
+-- the last binding is taken back
+pub store_less : (slots : List (Option RaisedTerm)) (trail : List (ℕ × RaisedTerm)) (x : ℕ) (r : RaisedTerm) → IsStore slots (trail ++ (x, r) ∷ []) → IsStore (set slots x None) trail
+store_less slots trail x r s = record { agree = λ y. at y (x == y) refl; made = before.1 }
+  where
+    before : AreMade ((x, raised_tree r) ∷ trail_of trail)
+    before = subst AreMade (trail_more trail (x, r)) s.made
+
+    old : (y : ℕ) → (if x == y then Some (raised_tree r) else stored (trail_of trail) y) ≡ slot slots y
+    old y = sym (ap (λ l. stored l y) (trail_more trail (x, r))) ∙ s.agree y
+
+    within : x < length slots
+    within = there slots x (sym (old x) ∙ if_same (x == x) (Some (raised_tree r)) (stored (trail_of trail) x) (eqb_same x))
+      where
+        there : (os : List (Option RaisedTerm)) (i : ℕ) → slot os i ≡ Some (raised_tree r) → i < length os
+        there [] i h = cc
+        there (o ∷ os) zero h = omega arith
+        there (o ∷ os) (suc i) h = let k = there os i h in omega (arith, k)
+
+    at : (y : ℕ) (c : Bool) → (x == y) ≡ c → stored (trail_of trail) y ≡ slot (set slots x None) y
+    at y true e =
+        ap (stored (trail_of trail)) (sym (eqb-true x y e))
+        ∙ before.0.free
+        ∙ sym (slot_set_same slots x None within)
+        ∙ ap (slot (set slots x None)) (eqb-true x y e)
+    at y false e =
+        sym (if_other (x == y) (Some (raised_tree r)) (stored (trail_of trail) y) e)
+        ∙ old y
+        ∙ sym (slot_set_other slots x y None (eqb_false x y e))
+
+-- the variable of the last binding has a slot
+pub last_within : (slots : List (Option RaisedTerm)) (trail : List (ℕ × RaisedTerm)) (x : ℕ) (r : RaisedTerm) → IsStore slots (trail ++ (x, r) ∷ []) → x < length slots
+last_within slots trail x r s = there slots x (sym (s.agree x) ∙ ap (λ l. stored l x) (trail_more trail (x, r)) ∙ if_same (x == x) (Some (raised_tree r)) (stored (trail_of trail) x) (eqb_same x))
+  where
+    there : (os : List (Option RaisedTerm)) (i : ℕ) → slot os i ≡ Some (raised_tree r) → i < length os
+    there [] i h = cc
+    there (o ∷ os) zero h = omega arith
+    there (o ∷ os) (suc i) h = let k = there os i h in omega (arith, k)
+
+-- what the term of a variable is
+pub value_same : (s : List Binding) (x : ℕ) (o : Option RaisedTerm) → AreMade s → option_map raised_tree o ≡ stored s x → IfSome o (λ t. full s (raised_tree t) ≡ full s (Variable x))
+value_same s x None m h = tt
+value_same s x (Some r) m h = full_bound s x (raised_tree r) m (sym h)
+
+pub value_falls : (s : List Binding) (x : ℕ) (o : Option RaisedTerm) → AreMade s → option_map raised_tree o ≡ stored s x → IfSome o (λ t. chain_of s (raised_tree t) < chain s x)
+value_falls s x None m h = tt
+value_falls s x (Some r) m h = chain_falls s x (raised_tree r) m (sym h)

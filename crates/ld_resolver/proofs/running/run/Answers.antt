@@ -1,0 +1,133 @@
+use Rattle.std.proofs.Common.{◌≡◌, ℕ, ◌+◌, ◌<◌, max, true, false, Bool, List, map, length, refl, ap, sym, ◌∙◌, subst, arith}
+use Rattle.std.proofs.lemmas.List.{length-reverse}
+use Rattle.cti_terms.specs.declared.derivation.Goal.{Goal}
+use Rattle.cti_terms.specs.declared.atom_list.Atom.{Atom}
+use Rattle.cti_terms.specs.Resolve.{raised}
+use Rattle.ld_resolver.specs.declared.answer.Answer.{Answer}
+use Rattle.ld_resolver.specs.declared.search.Attempt.{Attempt}
+use Rattle.ld_resolver.specs.Tails.{tail_at}
+use Rattle.ld_resolver.specs.Told.{told}
+use Rattle.ld_resolver.specs.Measured.{answered_atoms}
+use Rattle.ld_resolver.specs.Searches.{IsAttempt, IsEntered, goal_with, node_goal, choices_of}
+use Rattle.ld_resolver.specs.Progress.{IsUnderWay}
+use Rattle.ld_resolver.proofs.ProgressLaws.{SameSearch, same_attempts, ended_says, ended_without_more, stopped_says, stopped_with_more, with_atoms, without_atoms, less_to_do}
+use Rattle.ld_resolver.proofs.running.run.Goals as goal
+
+pub loop-answers-init : goal.loop-answers-init
+loop-answers-init c = subst (λ p. IsUnderWay p c.args.goal.now c.args.budget c.begin.new.search 0 0 c.in_ok-answers.answers) c.new-search.ensures.program (c.in_ok-answers.ensures c.args.budget)
+
+pub returns-in-Ended-clause-answers : goal.returns-in-Ended-clause-answers
+returns-in-Ended-clause-answers c =
+    let l = c.loop-answers in
+    let e = subst (λ (a : Attempt). IsAttempt l.search a c.attempt.new.self) c.in-Ended.is c.in_ok-attempt.ensures.attempt in
+    (ended_says c.args.program.now c.args.goal.now c.args.budget l.search l.steps l.longest l.answers l.invariant e).told_all
+
+pub returns-in-Ended-clause-steps : goal.returns-in-Ended-clause-steps
+returns-in-Ended-clause-steps c =
+    let l = c.loop-answers in
+    let e = subst (λ (a : Attempt). IsAttempt l.search a c.attempt.new.self) c.in-Ended.is c.in_ok-attempt.ensures.attempt in
+    (ended_says c.args.program.now c.args.goal.now c.args.budget l.search l.steps l.longest l.answers l.invariant e).counted
+
+pub returns-in-Ended-clause-longest : goal.returns-in-Ended-clause-longest
+returns-in-Ended-clause-longest c =
+    let l = c.loop-answers in
+    let e = subst (λ (a : Attempt). IsAttempt l.search a c.attempt.new.self) c.in-Ended.is c.in_ok-attempt.ensures.attempt in
+    (ended_says c.args.program.now c.args.goal.now c.args.budget l.search l.steps l.longest l.answers l.invariant e).most_of_all
+
+pub returns-in-Ended-clause-stopped : goal.returns-in-Ended-clause-stopped
+returns-in-Ended-clause-stopped c =
+    let l = c.loop-answers in
+    let e = subst (λ (a : Attempt). IsAttempt l.search a c.attempt.new.self) c.in-Ended.is c.in_ok-attempt.ensures.attempt in
+    ((λ h. cc), λ more. absurd (ended_without_more c.args.program.now c.args.goal.now c.args.budget l.search l.steps l.longest l.answers l.invariant e more))
+
+pub returns-in-Ended-clause-finished : goal.returns-in-Ended-clause-finished
+returns-in-Ended-clause-finished c =
+    let l = c.loop-answers in
+    let e = subst (λ (a : Attempt). IsAttempt l.search a c.attempt.new.self) c.in-Ended.is c.in_ok-attempt.ensures.attempt in
+    ((λ h more. ended_without_more c.args.program.now c.args.goal.now c.args.budget l.search l.steps l.longest l.answers l.invariant e more), λ no. refl)
+
+pub returns-then-steps-budget-clause-answers : goal.returns-then-steps-budget-clause-answers
+returns-then-steps-budget-clause-answers c =
+    let l = c.loop-answers in
+    let node = subst (λ (a : Attempt). IsAttempt l.search a c.attempt.new.self) c.in-Resolved.is c.in_ok-attempt.ensures.attempt in
+    (stopped_says c.args.program.now c.args.goal.now c.args.budget l.search l.steps l.longest l.answers l.invariant c.if-steps-budget.true _ _ (node.met c.args.goal.now.atoms c.args.budget)).told_all
+
+pub returns-then-steps-budget-clause-steps : goal.returns-then-steps-budget-clause-steps
+returns-then-steps-budget-clause-steps c =
+    let l = c.loop-answers in
+    let node = subst (λ (a : Attempt). IsAttempt l.search a c.attempt.new.self) c.in-Resolved.is c.in_ok-attempt.ensures.attempt in
+    (stopped_says c.args.program.now c.args.goal.now c.args.budget l.search l.steps l.longest l.answers l.invariant c.if-steps-budget.true _ _ (node.met c.args.goal.now.atoms c.args.budget)).counted
+
+pub returns-then-steps-budget-clause-longest : goal.returns-then-steps-budget-clause-longest
+returns-then-steps-budget-clause-longest c =
+    let l = c.loop-answers in
+    let node = subst (λ (a : Attempt). IsAttempt l.search a c.attempt.new.self) c.in-Resolved.is c.in_ok-attempt.ensures.attempt in
+    (stopped_says c.args.program.now c.args.goal.now c.args.budget l.search l.steps l.longest l.answers l.invariant c.if-steps-budget.true _ _ (node.met c.args.goal.now.atoms c.args.budget)).most_of_all
+
+pub returns-then-steps-budget-clause-stopped : goal.returns-then-steps-budget-clause-stopped
+returns-then-steps-budget-clause-stopped c =
+    let l = c.loop-answers in
+    let node = subst (λ (a : Attempt). IsAttempt l.search a c.attempt.new.self) c.in-Resolved.is c.in_ok-attempt.ensures.attempt in
+    ((λ h. stopped_with_more c.args.program.now c.args.goal.now c.args.budget l.search l.steps l.longest l.answers l.invariant c.if-steps-budget.true _ _ (node.met c.args.goal.now.atoms c.args.budget)), λ more. refl)
+
+pub returns-then-steps-budget-clause-finished : goal.returns-then-steps-budget-clause-finished
+returns-then-steps-budget-clause-finished c =
+    let l = c.loop-answers in
+    let node = subst (λ (a : Attempt). IsAttempt l.search a c.attempt.new.self) c.in-Resolved.is c.in_ok-attempt.ensures.attempt in
+    ((λ h. cc), λ no. absurd (no (stopped_with_more c.args.program.now c.args.goal.now c.args.budget l.search l.steps l.longest l.answers l.invariant c.if-steps-budget.true _ _ (node.met c.args.goal.now.atoms c.args.budget))))
+
+pub loop-answers-preserved-then-branch : goal.loop-answers-preserved-then-branch
+loop-answers-preserved-then-branch c =
+    let p = c.args.program.now in
+    let g = c.args.goal.now in
+    let n = c.args.budget in
+    let l = c.loop-answers in
+    let mid = c.attempt.new.self in
+    let new = c.enter.new.self in
+    let choice = c.in-Resolved.choice in
+    let k = c.in-Resolved.clause.now in
+    let node = subst (λ (a : Attempt). IsAttempt l.search a mid) c.in-Resolved.is c.in_ok-attempt.ensures.attempt in
+    let less : l.steps < n = omega (arith, l.invariant.within, c.if-steps-budget.false) in
+    let h : goal_with mid.bindings (map (raised choice.fresh) c.as_slice.result.now) (tail_at mid.tails choice.rest) c.in_ok-fresh-in-Resolved.fresh ≡ node_goal mid choice k =
+    λ i. goal_with mid.bindings (map (raised choice.fresh) (c.as_slice.ensures i)) (tail_at mid.tails choice.rest) (c.in_ok-fresh-in-Resolved.ensures i) in
+    let entered = subst (λ (h : Goal). IsEntered mid h true new) h (subst (λ (b : Bool). IsEntered mid (goal_with mid.bindings (map (raised choice.fresh) c.as_slice.result.now) (tail_at mid.tails choice.rest) c.in_ok-fresh-in-Resolved.fresh) b new) c.if-branch.true c.in_ok-enter-in-Resolved.ensures.entered) in
+    let count : c.len.result ≡ length (choices_of mid) = c.len.ensures ∙ mid.choices.ok.0 ∙ sym (length-reverse mid.choices.items) in
+    let most : max l.longest (length (choices_of mid)) ≡ c.max-longest.result = omega (arith, c.max-longest.ensures, count) in
+    let under = with_atoms p g n l.search mid new choice k l.steps l.longest l.answers l.invariant node less c.attempt.ensures.program c.in_ok-attempt.ensures.count c.in_ok-enter-in-Resolved.ensures.search c.enter.ensures.program c.in_ok-enter-in-Resolved.ensures.count entered in
+    subst (λ m. IsUnderWay p g n new (l.steps + 1) m l.answers) most under
+
+pub loop-answers-smaller : goal.loop-answers-smaller
+loop-answers-smaller c =
+    let l = c.loop-answers in
+    let mid = c.attempt.new.self in
+    let new = c.enter.new.self in
+    let choice = c.in-Resolved.choice in
+    let k = c.in-Resolved.clause.now in
+    let node = subst (λ (a : Attempt). IsAttempt l.search a mid) c.in-Resolved.is c.in_ok-attempt.ensures.attempt in
+    let less : l.steps < c.args.budget = omega (arith, l.invariant.within, c.if-steps-budget.false) in
+    let same : SameSearch new c.answer.new.self = record { program = c.answer.ensures.program; bindings = c.answer.ensures.bindings; tails = c.answer.ensures.tails; choices = c.answer.ensures.choices } in
+    less_to_do c.args.program.now c.args.goal.now c.args.budget l.search mid new choice k l.steps l.longest l.answers l.invariant node less c.attempt.ensures.program c.in_ok-attempt.ensures.count c.answer.new.self c.in_ok-enter-in-Resolved.ensures.attempts (same_attempts new c.answer.new.self same)
+
+pub loop-answers-preserved : goal.loop-answers-preserved
+loop-answers-preserved c =
+    let p = c.args.program.now in
+    let g = c.args.goal.now in
+    let n = c.args.budget in
+    let l = c.loop-answers in
+    let mid = c.attempt.new.self in
+    let new = c.enter.new.self in
+    let last = c.answer.new.self in
+    let choice = c.in-Resolved.choice in
+    let k = c.in-Resolved.clause.now in
+    let node = subst (λ (a : Attempt). IsAttempt l.search a mid) c.in-Resolved.is c.in_ok-attempt.ensures.attempt in
+    let less : l.steps < n = omega (arith, l.invariant.within, c.if-steps-budget.false) in
+    let h : goal_with mid.bindings (map (raised choice.fresh) c.as_slice.result.now) (tail_at mid.tails choice.rest) c.in_ok-fresh-in-Resolved.fresh ≡ node_goal mid choice k =
+    λ i. goal_with mid.bindings (map (raised choice.fresh) (c.as_slice.ensures i)) (tail_at mid.tails choice.rest) (c.in_ok-fresh-in-Resolved.ensures i) in
+    let entered = subst (λ (h : Goal). IsEntered mid h false new) h (subst (λ (b : Bool). IsEntered mid (goal_with mid.bindings (map (raised choice.fresh) c.as_slice.result.now) (tail_at mid.tails choice.rest) c.in_ok-fresh-in-Resolved.fresh) b new) c.if-branch.false c.in_ok-enter-in-Resolved.ensures.entered) in
+    let count : c.len.result ≡ length (choices_of mid) = c.len.ensures ∙ mid.choices.ok.0 ∙ sym (length-reverse mid.choices.items) in
+    let most : max l.longest (length (choices_of mid)) ≡ c.max-longest.result = omega (arith, c.max-longest.ensures, count) in
+    let same : SameSearch new last = record { program = c.answer.ensures.program; bindings = c.answer.ensures.bindings; tails = c.answer.ensures.tails; choices = c.answer.ensures.choices } in
+    let a = c.in_ok-answer-in-Resolved.field-0 in
+    let is_told = c.in_ok-answer-in-Resolved.ensures.answer ∙ ap (λ (q : List Atom). told (answered_atoms new.bindings q)) c.as_slice-in-Resolved.ensures in
+    let under = without_atoms p g n l.search mid new choice k l.steps l.longest l.answers l.invariant node less c.attempt.ensures.program c.in_ok-attempt.ensures.count last a c.in_ok-enter-in-Resolved.ensures.search c.enter.ensures.program c.enter.ensures.bindings c.in_ok-enter-in-Resolved.ensures.count entered same is_told in
+    subst (λ (w : ℕ × List Answer). IsUnderWay p g n last (l.steps + 1) w.0 w.1) (λ i. (most i, sym c.in_ok-push-in-Resolved.ensures i)) under

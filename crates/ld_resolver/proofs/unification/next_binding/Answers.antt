@@ -1,0 +1,102 @@
+use Rattle.std.proofs.Common.{ap, sym, ◌∙◌, subst, arith}
+use Rattle.cti_terms.specs.Unify.{pairs}
+use Rattle.cti_terms.specs.UnifyFunction.{unify, work}
+use Rattle.cti_terms.proofs.UnifyLaws.{work_split, work-append}
+use Rattle.ld_resolver.specs.Raised.{raised_tree}
+use Rattle.ld_resolver.specs.Store.{full}
+use Rattle.ld_resolver.specs.Pending.{waiting, step_of, args_full, IsFit, OccurBefore}
+use Rattle.ld_resolver.specs.Below.{LeftBelow}
+use Rattle.ld_resolver.proofs.BelowLaws.{left_append, left_split}
+use Rattle.ld_resolver.proofs.PendingLaws.{waiting_first, waiting_pushed}
+use Rattle.ld_resolver.proofs.UnifySteps.{same_after_nothing, inside_after_nothing, same_after_arguments, inside_after_arguments, after_clash, after_binding}
+use Rattle.ld_resolver.proofs.unification.next_binding.Goals as goal
+
+pub loop-l-preserved-in-Nothing : goal.loop-l-preserved-in-Nothing
+loop-l-preserved-in-Nothing c =
+    let s = c.args.bindings.now in
+    let l = c.met-left.result in
+    let r = c.met-right.result in
+    let t = full s (raised_tree l.term) in
+    let u = full s (raised_tree r.term) in
+    let rest = c.pop.new.self.items in
+    let e = waiting_first s c.loop-l.equations.items rest c.in-Some.l c.in-Some.r t u c.in-Some.ensures.items c.met-left.ensures.same c.met-right.ensures.same in
+    let before = waiting s c.args.equations.now.items in
+    let now = waiting s c.loop-l.equations.items in
+    let h = sym c.in_ok-step.ensures.step ∙ ap (step_of s l.term.base r.term.base) c.in-Nothing.is in
+    record {
+      left = λ o. (subst (LeftBelow c.args.news.from) e (c.loop-l.invariant.left o)).1;
+      same = same_after_nothing before now t u (waiting s rest) c.loop-l.invariant.same c.loop-l.invariant.inside e h;
+      inside = inside_after_nothing before now t u (waiting s rest) c.loop-l.invariant.same c.loop-l.invariant.inside e;
+    }
+
+pub returns-in-Binds : goal.returns-in-Binds
+returns-in-Binds c =
+    let s = c.args.bindings.now in
+    let l = c.met-left.result in
+    let r = c.met-right.result in
+    let t = full s (raised_tree l.term) in
+    let u = full s (raised_tree r.term) in
+    let rest = c.pop.new.self.items in
+    let e = waiting_first s c.loop-l.equations.items rest c.in-Some.l c.in-Some.r t u c.in-Some.ensures.items c.met-left.ensures.same c.met-right.ensures.same in
+    let before = waiting s c.args.equations.now.items in
+    let now = waiting s c.loop-l.equations.items in
+    let h = sym c.in_ok-step.ensures.step ∙ ap (step_of s l.term.base r.term.base) c.in-Binds.is in
+    let fit = subst (IsFit s) c.in-Binds.is c.in_ok-step.ensures.fit in
+    record {
+      left = λ o. (subst (LeftBelow c.args.news.from) e (c.loop-l.invariant.left o)).1;
+      next = (fit.0, fit.1, after_binding before now t u (waiting s rest) c.loop-l.invariant.same c.loop-l.invariant.inside e c.in-Binds.x (full s (raised_tree c.in-Binds.term)) h);
+    }
+
+pub loop-l-smaller : goal.loop-l-smaller
+loop-l-smaller c =
+    let s = c.args.bindings.now in
+    let l = c.met-left.result in
+    let r = c.met-right.result in
+    let t = full s (raised_tree l.term) in
+    let u = full s (raised_tree r.term) in
+    let rest = c.pop.new.self.items in
+    let e = waiting_first s c.loop-l.equations.items rest c.in-Some.l c.in-Some.r t u c.in-Some.ensures.items c.met-left.ensures.same c.met-right.ensures.same in
+    let qs = pairs (args_full s l.term.base c.in-Arguments.ts.now) (args_full s r.term.base c.in-Arguments.us.now) in
+    let h = sym c.in_ok-step.ensures.step ∙ ap (step_of s l.term.base r.term.base) c.in-Arguments.is in
+    let p = waiting_pushed s l.term.base r.term.base c.in-Arguments.ts.now c.in-Arguments.us.now c.push_equations.new.stack.items rest c.in_ok-push_equations-in-Arguments.ensures in
+    let less = work_split t u qs h in
+    omega (arith, less, work-append qs (waiting s rest), ap work e, ap work p)
+
+pub loop-l-preserved : goal.loop-l-preserved
+loop-l-preserved c =
+    let s = c.args.bindings.now in
+    let l = c.met-left.result in
+    let r = c.met-right.result in
+    let t = full s (raised_tree l.term) in
+    let u = full s (raised_tree r.term) in
+    let rest = c.pop.new.self.items in
+    let e = waiting_first s c.loop-l.equations.items rest c.in-Some.l c.in-Some.r t u c.in-Some.ensures.items c.met-left.ensures.same c.met-right.ensures.same in
+    let before = waiting s c.args.equations.now.items in
+    let now = waiting s c.loop-l.equations.items in
+    let qs = pairs (args_full s l.term.base c.in-Arguments.ts.now) (args_full s r.term.base c.in-Arguments.us.now) in
+    let h = sym c.in_ok-step.ensures.step ∙ ap (step_of s l.term.base r.term.base) c.in-Arguments.is in
+    let p = waiting_pushed s l.term.base r.term.base c.in-Arguments.ts.now c.in-Arguments.us.now c.push_equations.new.stack.items rest c.in_ok-push_equations-in-Arguments.ensures in
+    record {
+      left = λ o.
+          let both = subst (LeftBelow c.args.news.from) e (c.loop-l.invariant.left o) in
+          subst (LeftBelow c.args.news.from) (sym p) (left_append c.args.news.from qs (waiting s rest) (left_split c.args.news.from t u qs h both.0) both.1);
+      same = same_after_arguments before now t u (waiting s rest) c.loop-l.invariant.same c.loop-l.invariant.inside e qs h ∙ ap unify (sym p);
+      inside = subst (OccurBefore before) (sym p) (inside_after_arguments before now t u (waiting s rest) c.loop-l.invariant.same c.loop-l.invariant.inside e qs h);
+    }
+
+pub returns-in-Clash : goal.returns-in-Clash
+returns-in-Clash c =
+    let s = c.args.bindings.now in
+    let l = c.met-left.result in
+    let r = c.met-right.result in
+    let t = full s (raised_tree l.term) in
+    let u = full s (raised_tree r.term) in
+    let rest = c.pop.new.self.items in
+    let e = waiting_first s c.loop-l.equations.items rest c.in-Some.l c.in-Some.r t u c.in-Some.ensures.items c.met-left.ensures.same c.met-right.ensures.same in
+    let before = waiting s c.args.equations.now.items in
+    let now = waiting s c.loop-l.equations.items in
+    let h = sym c.in_ok-step.ensures.step ∙ ap (step_of s l.term.base r.term.base) c.in-Clash.is in
+    record {
+      left = λ o. (subst (LeftBelow c.args.news.from) e (c.loop-l.invariant.left o)).1;
+      next = after_clash before now t u (waiting s rest) c.loop-l.invariant.same c.loop-l.invariant.inside e h;
+    }

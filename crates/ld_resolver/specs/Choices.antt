@@ -1,0 +1,60 @@
+-- The choices of a search, and what is left to be met from them. Nothing here has to be believed.
+use Rattle.std.specs.Prelude.{◌≡◌, ℕ, suc, ◌-◌, ◌≤◌, List, [], ◌∷◌, ◌++◌, map, length, drop, Option, None, Some}
+use Rattle.std.specs.List.{AllByRecursion, range_with_len}
+use Rattle.cti_terms.specs.declared.atom_list.Atom.{Atom}
+use Rattle.cti_terms.specs.declared.derivation.Goal.{Goal}
+use Rattle.cti_terms.specs.Listing.{Listing}
+use Rattle.cti_terms.specs.Unify.{Binding}
+use Rattle.cti_terms.specs.Resolve.{over, raised}
+use Rattle.ld_resolver.specs.declared.choices.Choice.{Choice}
+use Rattle.ld_resolver.specs.declared.choices.Start.{Start}
+use Rattle.ld_resolver.specs.Store.{made, full}
+use Rattle.ld_resolver.specs.Tails.{tail_at}
+use Rattle.ld_resolver.specs.Below.{AtomsBelow, FreeFrom}
+use Rattle.ld_resolver.specs.Walk.{Visit, walk_by, walk}
+
+-- the first bindings that were made, m of them
+abbrev pub kept : List Binding → ℕ → List Binding
+kept s m = drop (length s - m) s
+
+-- the goal of a first atom and a rest, with these bindings and this counter
+abbrev pub goal_from : List Binding → ℕ → Atom → List Atom → Goal
+goal_from s n a rest = record { atoms = map (over (full s)) (a ∷ rest); fresh = n }
+
+-- the goal of a choice
+abbrev pub goal_of : List Binding → List (List Atom) → Choice → Goal
+goal_of s rests c = goal_from (kept s c.mark) c.fresh (raised c.base c.atom.now) (tail_at rests c.rest)
+
+-- the clauses that are left to be tried
+abbrev pub clauses_left : Listing → Choice → List ℕ
+clauses_left p c = range_with_len c.next (suc (length p.clauses) - c.next)
+
+-- what is left to be met from choices, the last one first, by nodes of at most suc n steps
+abbrev pub left : Listing → List Atom → ℕ → List Binding → List (List Atom) → List Choice → List Visit
+left p q n s rests [] = []
+left p q n s rests (c ∷ below) =
+    walk_by p q (walk p q (n - length below)) (made (kept s c.mark)) (length below) (goal_of s rests c) (clauses_left p c)
+    ++ left p q n s rests below
+
+-- a choice of a search with these bindings and these rests
+pub record IsChoice (p : Listing) (s : List Binding) (rests : List (List Atom)) (c : Choice) : Type 0 where
+  pub mark : c.mark ≤ length s
+  pub rest : c.rest ≤ length rests
+  pub from_one : 1 ≤ c.next
+  pub to_end : c.next ≤ suc (length p.clauses)
+  pub free : FreeFrom c.fresh (kept s c.mark)
+  pub below : AtomsBelow c.fresh (goal_of s rests c).atoms
+
+-- choices, the last one first, each with the bindings of the ones before it and maybe more
+abbrev pub AreChoices : Listing → List Binding → List (List Atom) → List Choice → Type 0
+AreChoices p s rests [] = Unit {0}
+AreChoices p s rests (c ∷ below) = IsChoice p s rests c × AllByRecursion (λ (d : Choice). d.mark ≤ c.mark) below × AreChoices p s rests below
+
+-- rests with more rests behind them
+abbrev pub GrowsTo : List (List Atom) → List (List Atom) → Type 0
+GrowsTo before now = (more : List (List Atom)) × (now ≡ before ++ more)
+
+-- the first atom and the rest of a goal that has atoms
+abbrev pub IsStart : List Atom → List (List Atom) → Option Start → Type 0
+IsStart atoms rests None = atoms ≡ []
+IsStart atoms rests (Some t) = (atoms ≡ raised t.base t.atom.now ∷ tail_at rests t.rest) × (t.rest ≤ length rests)

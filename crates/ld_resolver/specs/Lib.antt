@@ -1,0 +1,15 @@
+pub mod Pending
+pub mod Raised
+pub mod Shapes
+pub mod Store
+pub mod Walk
+pub mod Below
+pub mod Tails
+pub mod Choices
+pub mod Searches
+pub mod Measured
+pub mod Told
+pub mod AnswerCode
+pub mod Progress
+pub mod Runs
+pub mod Order

@@ -1,0 +1,91 @@
+-- The state of a search, and what its steps do to what is left to be met. Nothing here has to be believed.
+use Rattle.std.specs.Prelude.{◌≡◌, ℕ, suc, ◌+◌, ◌-◌, ◌≤◌, ◌<◌, Bool, true, false, List, [], ◌∷◌, ◌++◌, map, reverse, length, slice_get, None, Some}
+use Rattle.std.specs.List.{AllByRecursion}
+use Rattle.cti_terms.specs.declared.atom_list.Atom.{Atom}
+use Rattle.cti_terms.specs.declared.clauses.Clause.{Clause as ProgramClause}
+use Rattle.cti_terms.specs.declared.derivation.Goal.{Goal}
+use Rattle.cti_terms.specs.Listing.{Listing, IsClause}
+use Rattle.cti_terms.specs.Unify.{Binding}
+use Rattle.cti_terms.specs.Resolve.{over, raised}
+use Rattle.cti_terms.specs.Answers.{answer_by}
+use Rattle.ld_resolver.specs.declared.choices.Choice.{Choice}
+use Rattle.ld_resolver.specs.declared.search.Taken.{Taken}
+use Rattle.ld_resolver.specs.declared.search.Taken.TheVariants.{Nothing, Exhausted, Clause}
+use Rattle.ld_resolver.specs.declared.search.Attempt.{Attempt}
+use Rattle.ld_resolver.specs.declared.search.Attempt.TheVariants.{Ended, Failed, Resolved}
+use Rattle.ld_resolver.specs.declared.search.Search.{Search}
+use Rattle.ld_resolver.specs.Store.{made, full}
+use Rattle.ld_resolver.specs.Tails.{tail_at}
+use Rattle.ld_resolver.specs.Below.{AtomsBelow, FreeFrom}
+use Rattle.ld_resolver.specs.Walk.{Visit, walk}
+use Rattle.ld_resolver.specs.Choices.{left, AreChoices}
+
+-- how many attempts are left at choices, with one to see that there are no more
+abbrev pub attempts_at : Listing → List Choice → ℕ
+attempts_at p [] = 0
+attempts_at p (c ∷ below) = (suc (suc (length p.clauses)) - c.next) + attempts_at p below
+
+-- each choice has a clause that counts from 1 and is at most one past the last
+abbrev pub AreNumbered : Listing → List Choice → Type 0
+AreNumbered p = AllByRecursion (λ (c : Choice). (1 ≤ c.next) × (c.next ≤ suc (length p.clauses)))
+
+-- how a clause is taken at choices, the last one first
+abbrev pub IsTaken : Listing → List Choice → Taken → List Choice → Type 0
+IsTaken p old Nothing new = (old ≡ []) × (new ≡ [])
+IsTaken p old Exhausted new = (c : Choice) × (old ≡ c ∷ new) × (length p.clauses < c.next)
+IsTaken p old (Clause c k) new = (below : List Choice) × (old ≡ c ∷ below) × (new ≡ record c { next = c.next + 1 } ∷ below)
+    × (c.next ≤ length p.clauses) × (slice_get p.clauses (c.next - 1) ≡ Some k.now) × IsClause p.preds k.now
+
+-- the choices of a search, the last one first
+abbrev pub choices_of : Search → List Choice
+choices_of x = reverse x.choices.items
+
+-- what every search keeps between its steps
+abbrev pub IsSearch : Search → Type 0
+IsSearch x = AreChoices x.program.now x.bindings x.tails (choices_of x)
+
+-- what is left to be met, for the atoms of a query, by nodes of at most suc n steps
+abbrev pub left_of : List Atom → ℕ → Search → List Visit
+left_of q n x = left x.program.now q n x.bindings x.tails (choices_of x)
+
+abbrev pub attempts_left : Search → ℕ
+attempts_left x = attempts_at x.program.now (choices_of x)
+
+-- the goal of raised atoms and a rest
+abbrev pub goal_with : List Binding → List Atom → List Atom → ℕ → Goal
+goal_with s atoms rest n = record { atoms = map (over (full s)) (atoms ++ rest); fresh = n }
+
+-- the goal that a clause leaves at a choice
+abbrev pub node_goal : Search → Choice → ProgramClause → Goal
+node_goal x c k = goal_with x.bindings (map (raised c.fresh) k.body) (tail_at x.tails c.rest) (c.fresh + k.vars)
+
+-- what is met at the node of this goal, and then below it
+abbrev pub met_at : List Atom → ℕ → Search → Goal → List Visit
+met_at q n x h =
+    record { steps = length (choices_of x); answer = answer_by q (made x.bindings) h.atoms }
+    ∷ walk x.program.now q (n - (length (choices_of x) - 1)) (made x.bindings) (length (choices_of x)) h
+
+-- a clause at a choice leaves a node, which the search has not entered yet
+pub record IsNode (old : Search) (c : Choice) (k : ProgramClause) (new : Search) : Type 0 where
+  pub met : (q : List Atom) (n : ℕ) → left_of q n old ≡ met_at q n new (node_goal new c k) ++ left_of q n new
+  pub fewer : attempts_left new < attempts_left old
+  pub some : 0 < length (choices_of new)
+  pub rest : c.rest ≤ length new.tails
+  pub free : FreeFrom (c.fresh + k.vars) new.bindings
+  pub below : AtomsBelow (c.fresh + k.vars) (node_goal new c k).atoms
+
+-- what an attempt does
+abbrev pub IsAttempt : Search → Attempt → Search → Type 0
+IsAttempt old Ended new = choices_of old ≡ []
+IsAttempt old Failed new = ((q : List Atom) (n : ℕ) → left_of q n old ≡ left_of q n new) × (attempts_left new < attempts_left old)
+IsAttempt old (Resolved c k) new = IsNode old c k.now new
+
+-- what is kept by each step
+abbrev pub KeepsCount : Search → Search → Type 0
+KeepsCount old new = length (choices_of new) ≤ length (choices_of old)
+
+-- a goal is entered: it has atoms, and is left to be walked, or it has none
+abbrev pub IsEntered : Search → Goal → Bool → Search → Type 0
+IsEntered old h true new = ((q : List Atom) (bs : List Binding) → answer_by q bs h.atoms ≡ None)
+    × ((q : List Atom) (n : ℕ) → walk old.program.now q (suc (n - length (choices_of old))) (made old.bindings) (length (choices_of old)) h ++ left_of q n old ≡ left_of q n new)
+IsEntered old h false new = (h.atoms ≡ []) × ((q : List Atom) (n : ℕ) → left_of q n old ≡ left_of q n new)

@@ -1,0 +1,67 @@
+//! Attempts to resolve a goal by a clause.
+
+ghost use Rattle.std.specs.Prelude.{◌≡◌, ◌≤◌, ◌<◌, ◌+◌, ◌++◌, [], ◌∷◌, IfOk, OnOk, length, map};
+ghost use Rattle.std.specs.List.{AllByRecursion};
+ghost use Rattle.cti_terms.specs.Tree.{is_below};
+ghost use Rattle.cti_terms.specs.Resolve.{over, raised, head_equations};
+ghost use Rattle.ld_resolver.specs.Store.{full, made};
+ghost use Rattle.ld_resolver.specs.Pending.{IsUnified, Extends, KeepsFree};
+ghost use Rattle.ld_resolver.specs.Below.{ArgumentsBelow, FreeFrom};
+ghost use Rattle.ld_resolver.specs.Choices.{kept};
+
+use crate::bindings::Bindings;
+use crate::choices::Choice;
+use crate::raised_term::RaisedTerm;
+use crate::unification::{push_equations, solve};
+use cti_terms::Clause;
+use std::alloc::{AllocError, Global};
+
+/// Stacks that are used again from one attempt to the next.
+#[derive(Drop)]
+pub struct Stacks<'p> {
+    equations: Vec<(RaisedTerm<'p>, RaisedTerm<'p>)>,
+    pub terms: Vec<RaisedTerm<'p>>,
+}
+
+impl<'p> Stacks<'p> {
+    /// Empty stacks. It takes no memory.
+    pub fn new(alloc: Global) -> Stacks<'p> {
+        Stacks {
+            equations: Vec::new(alloc),
+            terms: Vec::new(alloc),
+        }
+    }
+}
+
+/// Unifies the first atom of a choice with the head of a clause, whose variables are raised by the choice's counter.
+///
+/// Bindings that were made after the choice's are taken back first.
+pub fn unify_head<'p>(
+    bindings: &mut Bindings<'p>,
+    stacks: &mut Stacks<'p>,
+    choice: Choice<'p>,
+    clause: &'p Clause,
+) -> Result<bool, AllocError>
+    requires mark { choice.mark ≤ length bindings.old }
+    requires free { FreeFrom choice.fresh (kept bindings.old choice.mark) }
+    requires below { ArgumentsBelow choice.fresh (over (full (kept bindings.old choice.mark)) (raised choice.base choice.atom.now)).args }
+    ensures unifier { IfOk result (IsUnified (made (kept bindings.old choice.entry.mark)) (head_equations (over (full (kept bindings.old choice.entry.mark)) (raised choice.entry.base choice.entry.atom.now)) choice.entry.fresh clause.now) (made bindings.new)) }
+    ensures extended { OnOk result (Extends bindings.new (kept bindings.old choice.entry.mark)) }
+    ensures free { OnOk result (KeepsFree (head_equations (over (full (kept bindings.old choice.entry.mark)) (raised choice.entry.base choice.entry.atom.now)) choice.entry.fresh clause.now) (kept bindings.old choice.entry.mark) bindings.new) }
+{
+    bindings.undo(choice.mark);
+    stacks.equations.clear();
+    push_equations(
+        &mut stacks.equations,
+        choice.atom.args.as_slice(),
+        choice.base,
+        clause.head.args.as_slice(),
+        choice.fresh,
+    )?;
+    solve(
+        bindings,
+        &mut stacks.equations,
+        choice.fresh,
+        &mut stacks.terms,
+    )
+}

@@ -1,0 +1,21 @@
+//! Laws of the definitions that a run speaks of. Each is a function that does nothing, and whose clauses are proved.
+
+ghost use Rattle.std.specs.Prelude.{◌≡◌, ◌≢◌, ◌↔◌, ◌≤◌, ◌<◌, ℕ, List, [], length};
+ghost use Rattle.cti_terms.specs.declared.derivation.Goal.{Goal};
+ghost use Rattle.cti_terms.specs.Listing.{Listing};
+ghost use Rattle.cti_terms.specs.Derive.{IsDerivation, Bounded};
+ghost use Rattle.cti_terms.specs.Nodes.{nodes, HasMoreNodes};
+ghost use Rattle.ld_resolver.specs.Order.{IsIn, AreAscending};
+
+/// The nodes of at most d steps are the derivations of at most d steps but the empty one, in lexicographic order.
+pub fn nodes_are_derivations()
+    ensures each { (p : Listing) (g : Goal) (d : ℕ) (ks : List ℕ)
+        → IsIn ks (nodes p d g) ↔ ((ks ≢ []) × (length ks ≤ d) × IsDerivation p g ks) }
+    ensures order { (p : Listing) (g : Goal) (d : ℕ) → AreAscending (nodes p d g) }
+{}
+
+/// A bounded goal has finitely many nodes, and with a budget of at least their number there are no more.
+pub fn bounded_goals_have_finitely_many_nodes()
+    ensures finite { (p : Listing) (g : Goal) → Bounded p g → (n : ℕ) × ((d : ℕ) → length (nodes p d g) ≤ n) }
+    ensures finished { (p : Listing) (g : Goal) → Bounded p g → (n : ℕ) × ((budget : ℕ) → n ≤ budget → ¬ HasMoreNodes p g budget) }
+{}

@@ -1,0 +1,29 @@
+//! A resolver: runs queries of a logic program within a budget.
+//!
+//! A run looks at the derivations from a goal in the order of Prolog's search, with the occurs check, and gives the
+//! answers, how many derivations it looked at, and whether there are more. What it answers is proved to be what the
+//! definitions of `cti_terms` say, which substitute in whole goals. The code binds variables in a store instead,
+//! takes bindings back where it chooses another clause, and shares the rests of goals.
+//!
+//! Stands on `cti_terms`, and on `indexmap`, which numbers the variables of an answer in the order of first occurrence.
+#![tactic(auto)]
+
+mod answer;
+mod answer_list;
+mod attempts;
+mod bindings;
+mod choices;
+mod laws;
+mod occurs_check;
+mod raised_term;
+mod running;
+mod search;
+mod tails;
+#[cfg(test)]
+mod tests;
+mod unification;
+
+pub use answer::Answer;
+pub use answer_list::Answers;
+pub use laws::{bounded_goals_have_finitely_many_nodes, nodes_are_derivations};
+pub use running::{Ending, Ran, run};

@@ -1,0 +1,54 @@
+//! Whether a variable occurs in a term under the bindings.
+
+ghost use Rattle.std.specs.Prelude.{◌≡◌, ◌++◌, IfOk, OnOk, map};
+ghost use Rattle.cti_terms.specs.Tree.{instance};
+ghost use Rattle.cti_terms.specs.Spell.{tree_of};
+ghost use Rattle.cti_terms.specs.Unify.{occurs};
+ghost use Rattle.ld_resolver.specs.Raised.{raise, raised_tree};
+ghost use Rattle.ld_resolver.specs.Store.{full};
+ghost use Rattle.ld_resolver.specs.Pending.{raw};
+
+use crate::bindings::Bindings;
+use crate::raised_term::{RaisedTerm, Shape};
+use cti_terms::Term;
+use std::alloc::AllocError;
+
+/// Puts the arguments of a raised term on the stack.
+pub fn push_arguments<'p>(
+    stack: &mut Vec<RaisedTerm<'p>>,
+    args: &'p [Term],
+    base: u32,
+) -> Result<(), AllocError>
+    ensures { OnOk result (raw stack.new.items ≡ raw stack.old.items ++ map (instance (raise base)) (map tree_of args.now)) }
+{
+    for term in args {
+        stack.push(RaisedTerm { term, base })?;
+    }
+    Ok(())
+}
+
+/// Whether a free variable occurs in a term under the bindings. The stack may hold anything, and is used up.
+pub fn occurs_in<'p>(
+    bindings: &Bindings<'p>,
+    variable: usize,
+    term: RaisedTerm<'p>,
+    stack: &mut Vec<RaisedTerm<'p>>,
+) -> Result<bool, AllocError>
+    ensures { IfOk result (λ found. found ≡ occurs variable (full bindings.now (raised_tree term.entry))) }
+{
+    stack.clear();
+    stack.push(term)?;
+    while let Some(next) = stack.pop() {
+        let met = bindings.met(next);
+        match met.shape {
+            Shape::Variable(other) => {
+                if variable == other {
+                    return Ok(true);
+                }
+            }
+            Shape::Integer(_) => {}
+            Shape::Compound(_, args) => push_arguments(stack, args, met.term.base)?,
+        }
+    }
+    Ok(false)
+}

@@ -1,0 +1,51 @@
+//! Terms of the program with raised variables.
+
+ghost use Rattle.std.specs.Prelude.{◌≡◌, ℕ, ◌+◌, ◌<◌, ◌^◌};
+ghost use Rattle.ld_resolver.specs.Raised.{raised_tree};
+ghost use Rattle.ld_resolver.specs.Shapes.{shape_tree, IsSmall};
+
+use cti_terms::{Name, Term};
+
+/// A term of the program in which each variable stands for the one whose number is greater by `base`.
+#[derive(Clone, Copy, Drop)]
+pub struct RaisedTerm<'p> {
+    pub term: &'p Term,
+    pub base: u32,
+}
+
+/// The kind of a raised term, with the number of the raised variable, or with the arguments as the program spells them.
+#[derive(Clone, Copy, Drop)]
+pub enum Shape<'p> {
+    Variable(usize),
+    Integer(i128),
+    Compound(Name, &'p [Term]),
+}
+
+/// A term that is no bound variable, with its kind.
+#[derive(Clone, Copy, Drop)]
+pub struct Met<'p> {
+    pub term: RaisedTerm<'p>,
+    pub shape: Shape<'p>,
+}
+
+/// The number of a raised variable.
+fn raised_variable(variable: u32, base: u32) -> usize
+    ensures number { result ≡ variable + base }
+    ensures small { result < 2 ^ 33 }
+{
+    variable as usize + base as usize
+}
+
+impl<'p> RaisedTerm<'p> {
+    /// The kind of a raised term.
+    pub fn shape(self) -> Shape<'p>
+        ensures tree { raised_tree self.entry ≡ shape_tree self.entry.base result }
+        ensures small { IsSmall result }
+    {
+        match self.term {
+            Term::Var(x) => Shape::Variable(raised_variable(*x, self.base)),
+            Term::Int(n) => Shape::Integer(*n),
+            Term::Fun(f, args) => Shape::Compound(*f, args.as_slice()),
+        }
+    }
+}

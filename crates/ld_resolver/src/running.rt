@@ -1,0 +1,118 @@
+//! The run of a query.
+
+ghost use Rattle.std.specs.Prelude.{◌≡◌, ◌↔◌, ℕ, ◌+◌, [], IfOk, map, length};
+ghost use Rattle.cti_terms.specs.Nodes.{first_nodes, HasMoreNodes, longest};
+ghost use Rattle.cti_terms.specs.Answers.{answers};
+ghost use Rattle.ld_resolver.specs.Told.{told};
+ghost use Rattle.ld_resolver.specs.Runs.{IsGoalOf};
+ghost use Rattle.ld_resolver.specs.Progress.{IsUnderWay};
+
+use crate::answer::make_answer;
+use crate::answer_list::Answers;
+use crate::search::{Attempt, Search};
+use cti_terms::{Goal, Program};
+use std::alloc::{AllocError, Global};
+
+/// How a run ended.
+#[derive(Clone, Copy, Debug, PartialEq, Eq)]
+pub enum Ending {
+    /// There are no more nodes.
+    Finished,
+
+    /// There are more nodes than the budget.
+    Stopped,
+}
+
+/// What a run has found.
+#[derive(Debug, Drop)]
+pub struct Ran {
+    /// The answers, in the order in which they were found.
+    pub answers: Answers,
+
+    /// How many nodes were looked at: derivations that are not empty.
+    pub steps: u64,
+
+    /// The length of the longest derivation that was looked at, 0 where there was none.
+    pub longest: u64,
+
+    pub ending: Ending,
+}
+
+/// The counter of the goal that a clause leaves. Above all variables that can be numbered, it is out of memory.
+fn counter_after(fresh: u32, vars: u32) -> Result<u32, AllocError>
+    ensures { IfOk result (λ n. n ≡ fresh + vars) }
+{
+    match fresh.checked_add(vars) {
+        Some(sum) => Ok(sum),
+        None => Err(AllocError),
+    }
+}
+
+/// Enters the goal, and gives the answers of the empty derivation.
+fn begin<'p>(alloc: Global, search: &mut Search<'p>, goal: &'p Goal) -> Result<Answers, AllocError>
+    requires bindings { search.old.bindings ≡ [] }
+    requires tails { search.old.tails ≡ [] }
+    requires choices { search.old.choices.items ≡ [] }
+    requires goal { IsGoalOf search.old.program.now goal.now }
+    ensures { IfOk result (λ answers. (n : ℕ) → IsUnderWay search.old.program.now goal.now n search.new 0 0 answers) }
+{
+    let mut answers = Answers::new(alloc);
+    if search.enter(goal.atoms.as_slice(), 0, 0, goal.fresh)? {
+        return Ok(answers);
+    }
+    answers.push(search.answer(alloc, goal.atoms.as_slice())?)?;
+    Ok(answers)
+}
+
+/// Runs a query: walks the derivations from a goal in the lexicographic order of their clauses' numbers.
+///
+/// The empty derivation and the first `budget` others are looked at, and whether there is one more.
+///
+/// Source: SLD-resolution with the leftmost atom selected, depth first, with the occurs check.
+pub fn run(alloc: Global, program: &Program, goal: &Goal, budget: u64) -> Result<Ran, AllocError>
+    requires { IsGoalOf program.now goal.now }
+
+    // The answers, told in order, and the measures of what was looked at.
+    ensures answers { IfOk result (λ ran. ran.answers ≡ map told (answers program.now goal.now budget)) }
+    ensures steps { IfOk result (λ ran. ran.steps ≡ length (first_nodes program.now goal.now budget)) }
+    ensures longest { IfOk result (λ ran. ran.longest ≡ longest (first_nodes program.now goal.now budget)) }
+
+    // Stopped comes exactly where there are more nodes than the budget, and Finished exactly where there are not.
+    ensures stopped { IfOk result (λ ran. (ran.ending ≡ Ending.Stopped) ↔ HasMoreNodes program.now goal.now budget) }
+    ensures finished { IfOk result (λ ran. (ran.ending ≡ Ending.Finished) ↔ ¬ HasMoreNodes program.now goal.now budget) }
+{
+    let mut search = Search::new(alloc, program);
+    let mut answers = begin(alloc, &mut search, goal)?;
+    let mut steps = 0;
+    let mut longest = 0;
+    loop {
+        match search.attempt()? {
+            Attempt::Ended => {
+                return Ok(Ran {
+                    answers,
+                    steps,
+                    longest,
+                    ending: Ending::Finished,
+                });
+            }
+            Attempt::Failed => {}
+            Attempt::Resolved(choice, clause) => {
+                if steps == budget {
+                    return Ok(Ran {
+                        answers,
+                        steps,
+                        longest,
+                        ending: Ending::Stopped,
+                    });
+                }
+                steps += 1;
+                longest = longest.max(search.choices.len() as u64);
+                let fresh = counter_after(choice.fresh, clause.vars)?;
+                if search.enter(clause.body.as_slice(), choice.fresh, choice.rest, fresh)? {
+                    continue;
+                }
+                answers.push(search.answer(alloc, goal.atoms.as_slice())?)?;
+            }
+        }
+    }
+}

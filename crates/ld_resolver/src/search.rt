@@ -1,0 +1,157 @@
+//! The search for the nodes of a goal.
+
+ghost use Rattle.std.specs.Prelude.{◌≡◌, ◌≤◌, ◌<◌, ◌+◌, ◌++◌, [], ◌∷◌, IfOk, OnOk, length, map, reverse};
+ghost use Rattle.cti_terms.specs.Resolve.{raised};
+ghost use Rattle.ld_resolver.specs.Below.{AtomsBelow, FreeFrom};
+ghost use Rattle.ld_resolver.specs.Tails.{tail_at};
+ghost use Rattle.ld_resolver.specs.Told.{told};
+ghost use Rattle.ld_resolver.specs.Measured.{answered_atoms};
+ghost use Rattle.ld_resolver.specs.Searches.{AreNumbered, IsTaken, IsSearch, IsAttempt, IsEntered, choices_of, attempts_left, goal_with};
+
+use crate::answer::{Answer, make_answer};
+use crate::attempts::{Stacks, unify_head};
+use crate::bindings::Bindings;
+use crate::choices::{Choice, goal_start};
+use crate::tails::Tails;
+use cti_terms::{Atom, Clause, Program};
+use std::alloc::{AllocError, Global};
+
+/// The clause that was taken at the last choice: there is no choice, or it had no more clauses and is gone.
+#[derive(Clone, Copy, Drop)]
+pub enum Taken<'p> {
+    Nothing,
+    Exhausted,
+    Clause(Choice<'p>, &'p Clause),
+}
+
+/// What an attempt found: the search has ended, no node, or the node of a clause at a choice.
+#[derive(Clone, Copy, Drop)]
+pub enum Attempt<'p> {
+    Ended,
+    Failed,
+    Resolved(Choice<'p>, &'p Clause),
+}
+
+/// The state of a search, with stacks of its own in the place of recursion.
+#[derive(Drop)]
+pub struct Search<'p> {
+    pub program: &'p Program,
+    pub bindings: Bindings<'p>,
+    pub tails: Tails<'p>,
+    pub choices: Vec<Choice<'p>>,
+    pub stacks: Stacks<'p>,
+}
+
+/// Takes the next clause at the last choice.
+fn take_clause<'p>(
+    program: &'p Program,
+    choices: &mut Vec<Choice<'p>>,
+) -> Result<Taken<'p>, AllocError>
+    requires { AreNumbered program.now (reverse choices.old.items) }
+    ensures { IfOk result (λ t. IsTaken program.now (reverse choices.old.items) t (reverse choices.new.items)) }
+{
+    let choice = match choices.pop() {
+        Some(choice) => choice,
+        None => return Ok(Taken::Nothing),
+    };
+    if choice.next > program.clauses() {
+        return Ok(Taken::Exhausted);
+    }
+    choices.push(Choice {
+        atom: choice.atom,
+        base: choice.base,
+        rest: choice.rest,
+        fresh: choice.fresh,
+        next: choice.next + 1,
+        mark: choice.mark,
+    })?;
+    Ok(Taken::Clause(choice, program.clause(choice.next)))
+}
+
+impl<'p> Search<'p> {
+    /// A search without choices. It takes no memory.
+    pub fn new(alloc: Global, program: &'p Program) -> Search<'p>
+        ensures program { result.program.now ≡ program.now }
+        ensures bindings { result.bindings ≡ [] }
+        ensures tails { result.tails ≡ [] }
+        ensures choices { result.choices.items ≡ [] }
+    {
+        Search {
+            program,
+            bindings: Bindings::new(alloc),
+            tails: Tails::new(alloc),
+            choices: Vec::new(alloc),
+            stacks: Stacks::new(alloc),
+        }
+    }
+
+    /// Tries the next clause at the last choice.
+    pub fn attempt(&mut self) -> Result<Attempt<'p>, AllocError>
+        requires { IsSearch self.old }
+        ensures search { OnOk result (IsSearch self.new) }
+        ensures program { self.new.program.now ≡ self.old.program.now }
+        ensures tails { self.new.tails ≡ self.old.tails }
+        ensures attempt { IfOk result (λ a. IsAttempt self.old a self.new) }
+        ensures count { OnOk result (length (choices_of self.new) ≤ length (choices_of self.old)) }
+    {
+        match take_clause(self.program, &mut self.choices)? {
+            Taken::Nothing => Ok(Attempt::Ended),
+            Taken::Exhausted => Ok(Attempt::Failed),
+            Taken::Clause(choice, clause) => {
+                if clause.head.pred.0 != choice.atom.pred.0 {
+                    return Ok(Attempt::Failed);
+                }
+                if unify_head(&mut self.bindings, &mut self.stacks, choice, clause)? {
+                    Ok(Attempt::Resolved(choice, clause))
+                } else {
+                    Ok(Attempt::Failed)
+                }
+            }
+        }
+    }
+
+    /// Adds the choice of a goal: atoms that are raised, and then a rest. It answers whether the goal has atoms.
+    pub fn enter(
+        &mut self,
+        atoms: &'p [Atom],
+        base: u32,
+        rest: usize,
+        fresh: u32,
+    ) -> Result<bool, AllocError>
+        requires search { IsSearch self.old }
+        requires rest { rest ≤ length self.old.tails }
+        requires free { FreeFrom fresh self.old.bindings }
+        requires below { AtomsBelow fresh (goal_with self.old.bindings (map (raised base) atoms.now) (tail_at self.old.tails rest) fresh).atoms }
+        ensures search { OnOk result (IsSearch self.new) }
+        ensures program { self.new.program.now ≡ self.old.program.now }
+        ensures bindings { self.new.bindings ≡ self.old.bindings }
+        ensures entered { IfOk result (λ more. IsEntered self.old (goal_with self.old.bindings (map (raised base) atoms.now) (tail_at self.old.tails rest) fresh) more self.new) }
+        ensures attempts { OnOk result (attempts_left self.new ≤ attempts_left self.old + length self.old.program.now.clauses + 1) }
+        ensures count { OnOk result (length (choices_of self.new) ≤ length (choices_of self.old) + 1) }
+    {
+        match goal_start(&mut self.tails, atoms, base, rest)? {
+            Some(start) => {
+                self.choices.push(Choice {
+                    atom: start.atom,
+                    base: start.base,
+                    rest: start.rest,
+                    fresh,
+                    next: 1,
+                    mark: self.bindings.len(),
+                })?;
+                Ok(true)
+            }
+            None => Ok(false),
+        }
+    }
+    /// The answer that the bindings give of a query.
+    pub fn answer(&mut self, alloc: Global, query: &'p [Atom]) -> Result<Answer, AllocError>
+        ensures answer { IfOk result (λ a. a ≡ told (answered_atoms self.old.bindings query.now)) }
+        ensures program { self.new.program.now ≡ self.old.program.now }
+        ensures bindings { self.new.bindings ≡ self.old.bindings }
+        ensures tails { self.new.tails ≡ self.old.tails }
+        ensures choices { self.new.choices.items ≡ self.old.choices.items }
+    {
+        make_answer(alloc, &self.bindings, query, &mut self.stacks.terms)
+    }
+}
