@@ -1,1 +1,14 @@
+pub mod Append
+pub mod Best
+pub mod Claims
+pub mod Descent
 pub mod Grounds
+pub mod Loop
+pub mod Modes
+pub mod Refutation
+pub mod Replacing
+pub mod Rows
+pub mod Short
+pub mod Sizes
+pub mod Systems
+pub mod View

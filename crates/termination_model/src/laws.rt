@@ -3,6 +3,10 @@
 ghost use Rattle.std.specs.Prelude.{◌↔◌, ℕ, Bool, IsTrue, List};
 ghost use Rattle.cti_terms.specs.Listing.{Listing};
 ghost use Rattle.cti_terms.specs.Tree.{Tree};
+ghost use Rattle.termination_model.specs.Append.{AppendEnds};
+ghost use Rattle.termination_model.specs.Best.{SmallerIsBetter};
+ghost use Rattle.termination_model.specs.Loop.{LoopGoesOn};
+ghost use Rattle.termination_model.specs.Refutation.{NoneDecreases};
 ghost use Rattle.termination_model.specs.Grounds.{Family, InEachClosedIsClosed, IsClosed, IsInEachClosed, IsInside, IsLeast};
 
 /// What is in each closed family, and the least closed family.
@@ -20,4 +24,24 @@ pub fn closed_families()
     // So two least families have the same rows.
     ensures one { (truth : (ℕ → Bool) → Tree → Bool) (p : Listing) (family other : Family)
         → IsLeast truth p family → IsLeast truth p other → IsInside family other }
+{}
+
+/// Where a refutation stands, no mapping decreases.
+pub fn a_refutation_excludes_mappings()
+    ensures { NoneDecreases }
+{}
+
+/// Measures with the smallest supports admit what any measures admit.
+pub fn smaller_supports_are_better()
+    ensures { SmallerIsBetter }
+{}
+
+/// An example: append's queries with a rigid first argument are bounded.
+pub fn append_is_bounded()
+    ensures { AppendEnds }
+{}
+
+/// An example: a query that calls itself is not bounded.
+pub fn a_loop_goes_on()
+    ensures { LoopGoesOn }
 {}

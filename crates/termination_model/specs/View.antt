@@ -1,0 +1,102 @@
+-- A component as its measures see it: its clauses in order, with the predicates as members or as lower ones.
+--
+-- A view holds all that mappings and preconditions of a component depend on, so that two components with equal views
+-- have the same ones, whatever the numbers of their predicates and clauses are.
+--
+-- To believe: `DescendsIn`, `KeepsRuleIn`, `upward_union`, where mappings or preconditions of a component are spoken of.
+use Rattle.std.specs.Prelude.{◌≡◌, ℕ, zero, suc, ◌==◌, ℤ, pos, negsuc, Bool, true, false, ◌&&◌, if◌then◌else◌, List, [], ◌∷◌, ◌++◌, map, filter, take, slice_get, Some}
+use Rattle.std.specs.List.{AllByRecursion, list_any}
+use Rattle.linear_rows.specs.Rows.{HoldsOn}
+use Rattle.cti_terms.specs.Tree.{Tree}
+use Rattle.cti_terms.specs.declared.atom_list.Atom.{Atom}
+use Rattle.cti_terms.specs.declared.clauses.Clause.{Clause}
+use Rattle.cti_terms.specs.Listing.{Listing}
+use Rattle.termination_model.specs.Rows.{scaled, added, Covers}
+use Rattle.termination_model.specs.Systems.{row_over}
+use Rattle.termination_model.specs.Claims.{Mapping, Measure, Claims, Serves}
+
+-- a member, by its place among the members, or a predicate below, with the rows that it upward_union
+pub data Place : Type 0 where
+  Member : ℕ → Place
+  Lower : (List Bool → Bool) → Place
+
+pub record Call : Type 0 where
+  pub args : List Tree
+  pub rows : List (List ℤ)
+  pub grounds : List Bool → Bool
+  pub place : Place
+
+pub record Rule : Type 0 where
+  pub member : ℕ
+  pub args : List Tree
+  pub vars : ℕ
+  pub body : List Call
+
+-- the size rows of calls, in order, over n variables
+abbrev pub system_of : (ℕ → Tree → List ℤ) → ℕ → List Call → List (List ℤ)
+system_of expression n [] = []
+system_of expression n (b ∷ bs) = map (row_over expression n b.args) b.rows ++ system_of expression n bs
+
+module _ (truth : (ℕ → Bool) → Tree → Bool) (expression : ℕ → Tree → List ℤ) where
+  abbrev pub level_over : ℕ → ℕ → List Tree → Mapping → List ℤ
+  level_over n q ts l = row_over expression n ts (pos (l.offset q) ∷ map pos (l.coefficients q))
+
+  abbrev pub fall_over : Rule → ℕ → List Tree → ℕ → Mapping → List ℤ
+  fall_over k q ts d l = added (level_over k.vars k.member k.args l) (scaled (negsuc 0) (added (level_over k.vars q ts l) (pos d ∷ [])))
+
+  abbrev pub FallsOver : Rule → List (List ℤ) → ℕ → List Tree → ℕ → List Mapping → Type 0
+  FallsOver k rows q ts i [] = ⊥
+  FallsOver k rows q ts zero (l ∷ ls) = HoldsOn (suc k.vars) rows (fall_over k q ts 1 l)
+  FallsOver k rows q ts (suc i) (l ∷ ls) = HoldsOn (suc k.vars) rows (fall_over k q ts 0 l) × FallsOver k rows q ts i ls
+
+  abbrev pub DescendsIn : Measure → Rule → Type 0
+  DescendsIn m k =
+      (j : ℕ) (b : Call) (q : ℕ) → slice_get k.body j ≡ Some b → b.place ≡ Member q
+      → (i : ℕ) × FallsOver k (system_of expression k.vars (take j k.body)) q b.args i m.mappings
+
+  abbrev pub IsAllowed : Measure → Place → List Bool → Type 0
+  IsAllowed m (Member q) bs = m.pre q bs ≡ true
+  IsAllowed m (Lower f) bs = f bs ≡ true
+
+  abbrev pub KeepsRuleIn : Measure → Rule → Type 0
+  KeepsRuleIn m k =
+      (v : ℕ → Bool) → m.pre k.member (map (truth v) k.args) ≡ true
+      → (j : ℕ) (b : Call) → slice_get k.body j ≡ Some b → AllByRecursion (λ (x : Call). x.grounds (map (truth v) x.args) ≡ true) (take j k.body)
+      → IsAllowed m b.place (map (truth v) b.args)
+
+  -- what is asked of a measure
+  pub record ServesIn (view : List Rule) (m : Measure) : Type 0 where
+    pub covered : (q : ℕ) (bs : List Bool) → m.pre q bs ≡ true → AllByRecursion (λ (l : Mapping). Covers (l.coefficients q) bs) m.mappings
+    pub descends : AllByRecursion (DescendsIn m) view
+    pub rule : AllByRecursion (KeepsRuleIn m) view
+
+-- f is true at each upper row
+abbrev pub all_upper : (List Bool → Bool) → List Bool → Bool
+all_upper f [] = f []
+all_upper f (true ∷ bs) = all_upper (λ us. f (true ∷ us)) bs
+all_upper f (false ∷ bs) = all_upper (λ us. f (true ∷ us)) bs && all_upper (λ us. f (false ∷ us)) bs
+
+abbrev pub upward_union : Claims → ℕ → List Bool → Bool
+upward_union c q bs = list_any (λ m. all_upper (m.pre q) bs) (c.measures (c.rank q))
+
+abbrev pub place_of : Claims → ℕ → (ℕ → ℕ) → ℕ → Place
+place_of c r index q = if c.rank q == r then Member (index q) else Lower (upward_union c q)
+
+abbrev pub call_of : Claims → ℕ → (ℕ → ℕ) → Atom → Call
+call_of c r index a = record { args = a.args; rows = c.rows a.pred.0; grounds = c.grounds a.pred.0; place = place_of c r index a.pred.0 }
+
+abbrev pub rule_of : Claims → ℕ → (ℕ → ℕ) → Clause → Rule
+rule_of c r index k = record { member = index k.head.pred.0; args = k.head.args; vars = k.vars; body = map (call_of c r index) k.body }
+
+abbrev pub view_of : Listing → Claims → ℕ → (ℕ → ℕ) → List Rule
+view_of p c r index = map (rule_of c r index) (filter (λ k. c.rank k.head.pred.0 == r) p.clauses)
+
+-- a measure of members as one of predicates
+abbrev pub spread_mapping : (ℕ → ℕ) → Mapping → Mapping
+spread_mapping index l = record { coefficients = λ q. l.coefficients (index q); offset = λ q. l.offset (index q) }
+
+abbrev pub spread : (ℕ → ℕ) → Measure → Measure
+spread index m = record { mappings = map (spread_mapping index) m.mappings; pre = λ q. m.pre (index q) }
+
+abbrev pub ViewsServe : Type 0
+ViewsServe = (p : Listing) (c : Claims) (r : ℕ) (index : ℕ → ℕ) (m : Measure) → ServesIn c.truth c.expression (view_of p c r index) m → Serves p c r (spread index m)
