@@ -1,0 +1,11 @@
+pub mod NumberLemmas
+pub mod ListLemmas
+pub mod NameLemmas
+pub mod RangeLemmas
+pub mod BackLemmas
+pub mod NameBackLemmas
+pub mod FactBackLemmas
+pub mod LineLemmas
+pub mod OneLine
+pub mod TextLemmas
+pub mod Examples

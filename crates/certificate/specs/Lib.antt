@@ -1,0 +1,6 @@
+pub mod Text
+pub mod Range
+pub mod Lines
+pub mod Reading
+pub mod Parse
+pub mod Shortening

@@ -1,0 +1,114 @@
+//! The facts of a certificate.
+
+use crate::cell::CertCell;
+use crate::how::CertHow;
+use crate::pred_text::PredText;
+use crate::sequence::Sequence;
+
+/// One line of a certificate.
+///
+/// Clauses, calls, mappings, rows, steps and arguments are numbered from 1. A row has its constant first.
+#[derive(Debug, Drop)]
+pub enum Fact {
+    /// The version of the format.
+    Cti {
+        version: i128,
+    },
+    /// The modes of a predicate, each a list of argument numbers.
+    Terminates {
+        pred: PredText,
+        modes: Sequence<Sequence<u32>>,
+    },
+    /// A size row: its value at the sizes of the arguments is at least 0.
+    Size {
+        pred: PredText,
+        index: u64,
+        row: Sequence<i128>,
+    },
+    /// A clause keeps a size row of its head, by these multipliers.
+    By {
+        clause: u32,
+        index: u64,
+        scale: i128,
+        multipliers: Sequence<i128>,
+    },
+    /// Rows of the groundness model.
+    Grounds {
+        pred: PredText,
+        index: u64,
+        cube: Sequence<CertCell>,
+    },
+    /// A predicate's coefficients and offset in a level mapping.
+    Measure {
+        pred: PredText,
+        mapping: u32,
+        coeffs: Sequence<i128>,
+        offset: i128,
+    },
+    /// A mapping decreases from a clause's head to one of its calls, by these multipliers.
+    Falls {
+        clause: u32,
+        call: u32,
+        mapping: u32,
+        scale: i128,
+        multipliers: Sequence<i128>,
+    },
+    /// Rows of the precondition for a mapping.
+    Pre {
+        pred: PredText,
+        mapping: u32,
+        index: u64,
+        cube: Sequence<CertCell>,
+    },
+    /// A refutation with so many points follows, for the component whose first predicate this is. It is written `none`.
+    Refuted {
+        pred: PredText,
+        points: u64,
+    },
+    /// The values of a clause's variables at the pair of its head and a call, multiplied by `t`.
+    Point {
+        clause: u32,
+        call: u32,
+        t: i128,
+        w: Sequence<i128>,
+    },
+    /// After a point with a `t` of 0: a point of the pair with a `t` of at least 1.
+    At {
+        clause: u32,
+        call: u32,
+        t: i128,
+        w: Sequence<i128>,
+    },
+    /// A note: the image at a step.
+    Image {
+        step: u64,
+        clause: u32,
+        pred: PredText,
+        rows: Sequence<Sequence<i128>>,
+    },
+    /// A note: the head's rows after a step.
+    Step {
+        step: u64,
+        pred: PredText,
+        how: CertHow,
+        rows: Sequence<Sequence<i128>>,
+    },
+    /// A note: the image of a step is weakened.
+    WeakImage {
+        step: u64,
+    },
+    /// A note: the rows of a step are weakened.
+    WeakStep {
+        step: u64,
+    },
+    /// A note: this support was not decided. It has one list of argument numbers for each member of the component.
+    Blown {
+        pred: PredText,
+        support: Sequence<Sequence<u32>>,
+    },
+    /// A note: the component has so many argument positions, which is more than 12.
+    Large {
+        pred: PredText,
+        positions: u64,
+    },
+}

@@ -1,0 +1,27 @@
+//! Certificates: the facts that show a program's modes, and their text.
+#![tactic(auto)]
+
+mod cell;
+mod certificate;
+mod fact;
+mod fault;
+mod field;
+mod how;
+mod line_fault;
+mod lists;
+mod names;
+mod numbers;
+mod pred_text;
+mod printing;
+mod reading;
+mod sequence;
+#[cfg(test)]
+mod tests;
+
+pub use cell::CertCell;
+pub use certificate::{Certificate, MOST_BYTES, one_text};
+pub use fact::Fact;
+pub use fault::CertFault;
+pub use how::CertHow;
+pub use pred_text::PredText;
+pub use sequence::Sequence;

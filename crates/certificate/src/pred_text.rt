@@ -1,0 +1,10 @@
+//! Predicates by their names.
+
+use crate::sequence::Sequence;
+
+/// A predicate: the bytes of its name, and how many arguments it has.
+#[derive(Debug, Drop)]
+pub struct PredText {
+    pub name: Sequence<u8>,
+    pub arity: u32,
+}
