@@ -1,11 +1,19 @@
 pub mod ViewLemmas
 pub mod NameLemmas
-pub mod Readings
-pub mod Sound
-pub mod TokenLemmas
-pub mod Renaming
+pub mod MachineLemmas
+pub mod WalkLemmas
+pub mod VariableLemmas
+pub mod TextLemmas
+pub mod LexLemmas
+pub mod SymbolLemmas
+pub mod ScanLemmas
+pub mod RunLemmas
+pub mod TableLemmas
+pub mod DirectiveLemmas
+pub mod AnswerLemmas
+pub mod QueryLemmas
+pub mod MeasureLemmas
+pub mod WeightLemmas
 pub mod FitLemmas
-pub mod NumberLemmas
-pub mod Progress
-pub mod Examples
-pub mod SpellingLemmas
+pub mod OneAnswer
+mod Examples

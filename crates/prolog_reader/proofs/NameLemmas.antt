@@ -1,15 +1,15 @@
 -- Lemmas on lists of texts: the place of a text, and that later texts change nothing.
-use Rattle.std.proofs.Common.{◌≡◌, ℕ, ◌+◌, ◌<◌, ◌≤◌, Bool, true, false, not, cond, nat_eq, ltb, ◌||◌, List, [], ◌∷◌, ◌++◌, length, map, get_or, Some, None, position, refl, ap, sym, ◌∙◌, append-nil, append_assoc, length-append, inl, inr, ◌⊎◌, arith}
+use Rattle.std.proofs.Common.{◌≡◌, ℕ, ◌+◌, ◌<◌, ◌≤◌, Bool, true, false, not, cond, nat_eq, ltb, ◌||◌, List, [], ◌∷◌, ◌++◌, length, map, get_or, slice_get, Some, None, position, refl, ap, sym, ◌∙◌, append-nil, append_assoc, length-append, eq-eqb, inl, inr, ◌⊎◌, arith}
 use Rattle.std.specs.List.{list_any, position_or_len}
 use Rattle.std.specs.Cmp.Lexicographic.{pointwise, same_text}
 use Rattle.std.proofs.lemmas.Bool.{ltb-true, ltb-false}
 use Rattle.std.proofs.lemmas.List.Sums.{passes_at_first}
-use Rattle.std.proofs.lemmas.List.{length-map}
+use Rattle.std.proofs.lemmas.List.Folds.{position_or_len_push}
+use Rattle.std.proofs.lemmas.Option.{slice_get_within}
 use Rattle.std.proofs.Math.ListN.{get_or-append}
 use Rattle.std.proofs.Math.Seq.{get_or-append_seam}
 use Rattle.cti_terms.specs.Numbers.{number_of, with_text}
-use Rattle.prolog_reader.specs.Symbols.{is_anonymous, variable_number, with_variable}
-use Rattle.prolog_reader.specs.Reading.{Extends, name_text}
+use Rattle.prolog_reader.specs.Names.{Extends, name_text, IsNumber}
 
 module _ {X : Type 0} (p : X → Bool) where
   -- a list has an element that passes, and the first place is within it, or it has none
@@ -94,31 +94,71 @@ extends_trans xs ys zs h g = (h.0 ++ g.0, g.1 ∙ ap (λ (us : List (List ℕ)).
 pub extends_self : (xs : List (List ℕ)) → Extends xs xs
 extends_self xs = ([], sym (append-nil xs))
 
-module _ {X : Type 0} (now : X → List ℕ) (seen : List (List ℕ)) (names : List X) (name : List ℕ) (view : seen ≡ map now names) where
-  -- a variable that was there has its number
-  pub variable_found : (i : ℕ) → is_anonymous name ≡ false → Some i ≡ position (λ n. pointwise nat_eq name (now n)) names → (i ≡ variable_number seen name) × (seen ≡ with_variable seen name)
-  variable_found i plain h =
-      let place = found_place (λ n. pointwise nat_eq name (now n)) names i h in
-      let same = position-map now (pointwise nat_eq name) names in
-      let number : i ≡ number_of seen name = place.0 ∙ sym same.0 ∙ ap (λ (l : List (List ℕ)). number_of l name) (sym view) in
-      let there : list_any (pointwise nat_eq name) seen ≡ true = ap (list_any (pointwise nat_eq name)) view ∙ same.1 ∙ place.1 in
-      (rw plain number, rw plain (sym (text_there seen name there)))
-
-  -- `_`, and a variable that was not there, have the next number
-  pub variable_new : (is_anonymous name ≡ true) ⊎ ((is_anonymous name ≡ false) × (None ≡ position (λ n. pointwise nat_eq name (now n)) names))
-      → (length names ≡ variable_number seen name) × (seen ++ name ∷ [] ≡ with_variable seen name)
-  variable_new (inl anonymous) = (rw anonymous (sym (ap length view ∙ length-map names now)), rw anonymous refl)
-  variable_new (inr away) =
-      let place = no_place (λ n. pointwise nat_eq name (now n)) names away.1 in
-      let same = position-map now (pointwise nat_eq name) names in
-      let number : length names ≡ number_of seen name = place.0 ∙ sym same.0 ∙ ap (λ (l : List (List ℕ)). number_of l name) (sym view) in
-      let gone : list_any (pointwise nat_eq name) seen ≡ false = ap (list_any (pointwise nat_eq name)) view ∙ same.1 ∙ place.1 in
-      (rw away.0 number, rw away.0 (sym (text_away seen name gone)))
-
--- one variable or `_` more at most
-pub length-with_variable : (seen : List (List ℕ)) (name : List ℕ) → length (with_variable seen name) ≤ length seen + 1
-length-with_variable seen name = by_test (is_anonymous name) refl
+-- a place that is found stays where more follows
+pub first_in : {X : Type 0} (p : X → Bool) (xs ys : List X) → position_or_len p xs < length xs → position_or_len p (xs ++ ys) ≡ position_or_len p xs
+first_in p [] ys h = absurd (omega (arith, h))
+first_in p (x ∷ xs) ys h = by_test (p x) refl (λ k. first_in p xs ys k)
   where
-    by_test : (b : Bool) → is_anonymous name ≡ b → length (with_variable seen name) ≤ length seen + 1
-    by_test true e = rw e (omega (arith, length-append seen (name ∷ [])))
-    by_test false e = rw e (length-with_text seen name)
+    by_test : (b : Bool) → p x ≡ b → (position_or_len p xs < length xs → position_or_len p (xs ++ ys) ≡ position_or_len p xs) → position_or_len p (x ∷ (xs ++ ys)) ≡ position_or_len p (x ∷ xs)
+    by_test true e more = rw e refl
+    by_test false e more = rw e (ap (λ n. 1 + n) (more (let k = rw e at h in omega (arith, k))))
+
+-- and one that passes behind others that do not
+pub first_behind : {X : Type 0} (p : X → Bool) (xs : List X) (x : X) → position_or_len p xs ≡ length xs → p x ≡ true → position_or_len p (xs ++ x ∷ []) ≡ length xs
+first_behind p [] x h is = rw is refl
+first_behind p (y ∷ ys) x h is = by_test (p y) refl (λ k. first_behind p ys x k is)
+  where
+    by_test : (b : Bool) → p y ≡ b → (position_or_len p ys ≡ length ys → position_or_len p (ys ++ x ∷ []) ≡ length ys) → position_or_len p (y ∷ (ys ++ x ∷ [])) ≡ length (y ∷ ys)
+    by_test true e more = let k = rw e at h in absurd (omega (arith, k))
+    by_test false e more = rw e (let k = rw e at h in omega (arith, more (omega (arith, k))))
+
+-- a text is the same as itself
+pub itself : (text : List ℕ) → pointwise nat_eq text text ≡ true
+itself [] = refl
+itself (b ∷ bs) = rw (eq-eqb b b refl, itself bs) refl
+
+-- a text that is put to the names has its number in every later list
+pub number_kept : (texts : List (List ℕ)) (text : List ℕ) → IsNumber (with_text texts text) text (number_of texts text)
+number_kept texts text later ext = by_place (placed (pointwise nat_eq text) texts)
+  where
+    by_place : Placed (pointwise nat_eq text) texts → number_of later text ≡ number_of texts text
+    by_place (inl there) =
+        let whole : later ≡ texts ++ ext.0 = ext.1 ∙ ap (λ (us : List (List ℕ)). us ++ ext.0) (text_there texts text there.0) in
+        rw whole (first_in (pointwise nat_eq text) texts ext.0 there.1)
+    by_place (inr away) =
+        let whole : later ≡ (texts ++ text ∷ []) ++ ext.0 = ext.1 ∙ ap (λ (us : List (List ℕ)). us ++ ext.0) (text_away texts text away.0) in
+        let behind = first_behind (pointwise nat_eq text) texts text away.1 (itself text) in
+        rw whole (first_in (pointwise nat_eq text) (texts ++ text ∷ []) ext.0 (omega (arith, behind, length-append texts (text ∷ []))) ∙ behind ∙ sym away.1)
+
+-- what is found by its number is within the list
+pub got_within : (xs : List (List ℕ)) (n : ℕ) (x : List ℕ) → slice_get xs n ≡ Some x → n < length xs
+got_within xs n x h = slice_get_within xs n x h
+
+-- a text is not the same with one byte in front
+longer : (b : ℕ) (text : List ℕ) → pointwise nat_eq text (b ∷ text) ≡ false
+longer b text = by_test (pointwise nat_eq text (b ∷ text)) refl
+  where
+    by_test : (t : Bool) → pointwise nat_eq text (b ∷ text) ≡ t → pointwise nat_eq text (b ∷ text) ≡ false
+    by_test true e = absurd (let k = ap (λ (xs : List ℕ). length xs) (same_text text (b ∷ text) (sym e)) in omega (arith, k))
+    by_test false e = e
+
+-- a text that has its number in every later list is there
+pub number_within : (names : List (List ℕ)) (text : List ℕ) (n : ℕ) → IsNumber names text n → n < length names
+number_within names text n number = by_place (placed (pointwise nat_eq text) names)
+  where
+    here : number_of names text ≡ n
+    here = number names ([], sym (append-nil names))
+
+    there : number_of (names ++ (0 ∷ text) ∷ []) text ≡ n
+    there = number (names ++ (0 ∷ text) ∷ []) ((0 ∷ text) ∷ [], refl)
+
+    by_place : Placed (pointwise nat_eq text) names → n < length names
+    by_place (inl k) = omega (arith, k.1, here)
+    by_place (inr k) =
+        let pushed = position_or_len_push (pointwise nat_eq text) names (0 ∷ text) in
+        let same : position_or_len (pointwise nat_eq text) (names ++ (0 ∷ text) ∷ []) ≡ length names + 1 =
+        pushed ∙ rw (eq-eqb (position_or_len (pointwise nat_eq text) names) (length names) k.1, longer 0 text) refl in
+        absurd (omega (arith, same, here, there, k.1))
+
+pub extends_length : (xs ys : List (List ℕ)) → Extends xs ys → length xs ≤ length ys
+extends_length xs ys h = omega (arith, ap (λ (zs : List (List ℕ)). length zs) h.1, length-append xs h.0)

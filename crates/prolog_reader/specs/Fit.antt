@@ -1,22 +1,19 @@
--- What callers need of the facts that are read: all numbers are in range. It follows from `ReadsFacts`.
-use Rattle.std.specs.Prelude.{◌≤◌, ℕ, Bool, false, IsTrue, nat_le, List, length, sum_by}
+-- What callers need of the clauses that are read: all numbers are in range.
+use Rattle.std.specs.Prelude.{◌≤◌, ℕ, IsTrue, List, sum_by}
 use Rattle.std.specs.List.{AllByRecursion}
-use Rattle.prolog_reader.specs.Placed.{Tree, tree, Var, Fun, Clause, arity, nodes, is_below, is_known}
+use Rattle.prolog_reader.specs.Clauses.{Clause, nodes, is_below, is_known}
 
--- a name with at most so many arguments
-abbrev pub has_arity : ℕ → Tree ℕ → Bool
-has_arity most (tree at (Var v)) = false
-has_arity most (tree at (Fun n ts)) = nat_le (arity ts) most
-
--- a fact in which each name has a number below `names`
-pub record IsFit (names : ℕ) (c : Clause ℕ) : Type 0 where
-  pub short : IsTrue (has_arity 12 c.term)
-  pub few : c.vars ≤ 48
+-- a clause in which each variable is below its number of variables, and each name below `names`
+pub record IsFit (names : ℕ) (c : Clause) : Type 0 where
   pub below : IsTrue (is_below c.vars c.term)
   pub known : IsTrue (is_known names c.term)
 
--- the facts of a text of so many bytes: each node of a term takes a byte
-pub record AreFit (bytes names : ℕ) (clauses : List (Clause ℕ)) : Type 0 where
+-- the clauses of a text, whose terms have together at most two nodes for each byte that a text may have
+pub record AreFit (names : ℕ) (clauses : List Clause) : Type 0 where
   pub each : AllByRecursion (IsFit names) clauses
-  pub few : length clauses ≤ 16384
-  pub small : sum_by (λ (c : Clause ℕ). nodes c.term) clauses ≤ bytes
+  pub small : sum_by (λ (c : Clause). nodes c.term) clauses ≤ 2097152
+
+-- the clause of a query
+pub record IsQueryFit (names : ℕ) (c : Clause) : Type 0 where
+  pub fit : IsFit names c
+  pub small : nodes c.term ≤ 2097152

@@ -16,11 +16,11 @@ pub struct ReadClauses {
 impl Model for ReadClauses {
     ghost use Rattle.std.specs.Prelude.{List, ℕ, map};
     ghost use Rattle.std.specs.Coded.{coded_list};
-    ghost use Rattle.prolog_reader.specs.Placed.{Clause};
+    ghost use Rattle.prolog_reader.specs.Clauses.{Clause};
     ghost use Rattle.prolog_reader.specs.Coding.{coded_clause};
     ghost use Rattle.prolog_reader.specs.Terms.{clause_of};
 
-    ghost Value = { List (Clause ℕ) };
+    ghost Value = { List Clause };
 
     ghost coded = { coded_list coded_clause };
 

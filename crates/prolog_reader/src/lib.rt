@@ -1,26 +1,38 @@
-//! Reads a text of facts, such as `edge(a,b).`, into terms with places.
+//! Reads program texts and queries into terms with places, by operators that a text may change.
 //!
-//! The reader is a machine with a stack of what is open, which takes a token at a time and never recurses. What a text reads
-//! as is the grammar of `specs/Grammar.antt`. Stands on `cti_terms` for names, `prolog_tokens` for tokens, and `thiserror`.
+//! The reader is a machine with a stack of what is open, which takes a token at a time and never recurses. What tokens read as is
+//! the grammar of `prolog_grammar`, and what a text reads as stands in `specs/Reading.antt`. Stands on `cti_terms` for names,
+//! `prolog_tokens` for tokens, `prolog_grammar` for the grammar and its laws, and `thiserror`.
 #![tactic(auto)]
 
 mod clause;
+mod clause_reading;
 mod clauses;
+mod directives;
 mod fault;
+mod frame;
+mod kind;
 mod limits;
 mod machine;
+mod natural;
+mod operators;
+mod part;
 mod reading;
+mod symbol;
 mod symbols;
 mod term;
 #[cfg(test)]
 mod tests;
 mod text;
 mod variables;
+mod words;
 
 pub use clause::ReadClause;
 pub use clauses::ReadClauses;
-pub use fault::{ReadFault, ReadKind};
-pub use limits::{MOST_ARGUMENTS, MOST_BYTES, MOST_FACTS, MOST_OPEN, MOST_VARIABLES};
-pub use reading::{one_numbering, one_reading, read_text};
+pub use fault::{OpFault, ReadFault, ReadKind};
+pub use kind::OpKind;
+pub use limits::{MOST_BYTES, MOST_OPENERS, MOST_PRIORITY};
+pub use operators::Ops;
+pub use reading::{one_answer, read_query, read_text};
 pub use term::{ReadShape, ReadTerm};
 pub use text::ReadText;

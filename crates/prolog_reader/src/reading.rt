@@ -1,118 +1,248 @@
-//! Reading a text.
+//! Reading texts and queries.
 
-ghost use Rattle.std.specs.Prelude.{◌≡◌, ◌≢◌, ◌≤◌, ◌<◌, ◌+◌, ℕ, List, length, IfOk, IfErr, IfSome, IfNone, MatchResult, Err};
-ghost use Rattle.std.specs.List.{AllByRecursion, AllPairs};
-ghost use Rattle.prolog_reader.specs.declared.fault.ReadFault.TheVariants.{Fault as TheFault, Memory};
+ghost use Rattle.std.specs.Prelude.{◌≡◌, nat_lt, ◌≤◌, ◌<◌, ◌+◌, ℕ, List, length, Ok, Err, IfOk, IfErr, Result};
+ghost use Rattle.prolog_reader.specs.declared.fault.ReadFault.TheVariants.{Fault as Refused};
 ghost use Rattle.prolog_reader.specs.declared.fault.ReadKind.TheVariants.{Long as TooLong};
-ghost use Rattle.prolog_reader.specs.Placed.{Clause};
-ghost use Rattle.prolog_reader.specs.Reading.{Reads, ReadsFacts, IsReadable, spelled, Extends};
-ghost use Rattle.prolog_reader.specs.Fit.{IsFit, AreFit};
-ghost use Rattle.prolog_reader.specs.Cause.{Cause};
+ghost use Rattle.prolog_reader.specs.Names.{Extends};
+ghost use Rattle.prolog_reader.specs.Terms.{clause_of};
+ghost use Rattle.prolog_reader.specs.Meanings.{table_of};
+ghost use Rattle.prolog_reader.specs.Table.{Table, standard};
+ghost use Rattle.prolog_reader.specs.Knowing.{AreKnown, AreWords};
+ghost use Rattle.prolog_reader.specs.Reading.{Answer, Fault, IsTextAnswer, IsQueryAnswer};
+ghost use Rattle.prolog_reader.specs.Clauses.{Clause};
+ghost use Rattle.prolog_reader.specs.Fit.{AreFit, IsQueryFit};
+ghost use Rattle.prolog_reader.specs.Answers.{AnswersText, AnswersQuery, RefusesText, RefusesQuery, SaysText, SaysQuery};
 
+use crate::clause::ReadClause;
+use crate::clause_reading::{Found, read_clause};
 use crate::clauses::ReadClauses;
+use crate::directives::obey;
 use crate::fault::{ReadFault, ReadKind};
-use crate::limits::{MOST_BYTES, MOST_FACTS};
-use crate::machine::{Mode, Move, is_start, step};
-use crate::symbols::next_symbol;
+use crate::limits::MOST_BYTES;
+use crate::operators::Ops;
+use crate::symbol::Known;
 use crate::text::ReadText;
-use crate::variables::Variables;
+use crate::words::{Words, find_known, find_words};
 use cti_terms::Names;
 use prolog_tokens::Lexer;
 use std::alloc::{AllocError, Global};
 
-/// Reads a text of facts, such as `edge(a,b).`
+/// Reads all clauses of a text of at most 1,048,576 bytes. A clause `:- op(P,T,N)` sets operators for the clauses after it.
 ///
 /// A place counts bytes from 0. Names that the text adds stay in `names`, also after a refusal. That memory runs out only
 /// where a growth was refused is said by no clause.
 ///
-/// Source: ISO/IEC 13211-1:1995, 6.2.1 and 6.3.3, without operators.
+/// Source: ISO/IEC 13211-1:1995, 6.2, in this project's profile.
 pub fn read_text(alloc: Global, text: &[u8], names: &mut Names) -> Result<ReadText, ReadFault>
     requires room { length names.old ≤ 4292870143 }
 
-    // What is read is the list of facts that the text is.
-    ensures found { IfOk result (λ read. ReadsFacts text.now names.new read.clauses) }
+    // What is read is what the text reads as, and a refusal is its first fault.
+    ensures found { IfOk result (λ read. AnswersText names.new text.now (Ok (read.clauses, table_of read.ops))) }
+    ensures refused { IfErr result (λ fault. RefusesText names.new text.now fault) }
 
-    // A list of facts is read, and as no other one, unless memory runs out.
-    ensures only { (facts : List (Clause (List ℕ))) → Reads text.now facts → MatchResult result (λ read. spelled names.new read.clauses ≡ facts) (λ fault. fault ≡ Memory) }
+    // No text has two answers: what it reads as by the names is what is read, or it is refused as it has to be, unless memory runs out.
+    ensures only { (later : List (List ℕ)) (answer : Answer) → Extends names.new later → IsTextAnswer later text.now answer → SaysText result answer }
 
-    // Each refusal has its cause: `Unbuilt` where the text is no list of facts, `Long` where it has too many bytes.
-    ensures refused { IfErr result (λ fault. Cause text.now fault) }
-
-    // A text with too many bytes is refused before all else.
-    ensures long { 1048576 < length text.now → result ≡ Err (TheFault TooLong 0) }
-
-    // Earlier names keep their numbers, and there are at most so many more as the text has bytes.
+    // Earlier names keep their numbers, and there are at most so many more as the text has bytes and the operators names.
     ensures kept { Extends names.old names.new }
-    ensures few { length names.new ≤ length names.old + length text.now }
+    ensures few { length names.new ≤ length names.old + length text.now + 53 }
 
-    // Names and variables of the facts are in range, and so are arguments, variables and nodes.
-    ensures fit { IfOk result (λ read. AreFit (length text.now) (length names.new) read.clauses) }
+    // Names and variables of the clauses are in range, and so are the nodes of all terms together.
+    ensures fit { IfOk result (λ read. AreFit (length names.new) read.clauses) }
 {
-    if text.len() > MOST_BYTES {
+    read_short(alloc, text, names)
+}
+
+/// Whether a text has too many bytes.
+fn is_long(text: &[u8]) -> bool
+    ensures { result ≡ nat_lt 1048576 (length text.now) }
+{
+    text.len() > MOST_BYTES
+}
+
+/// Reads all clauses of a text, if it is short enough.
+fn read_short(alloc: Global, text: &[u8], names: &mut Names) -> Result<ReadText, ReadFault>
+    requires room { length names.old ≤ 4292870143 }
+    ensures found { IfOk result (λ read. AnswersText names.new text.now (Ok (read.clauses, table_of read.ops))) }
+    ensures refused { IfErr result (λ fault. RefusesText names.new text.now fault) }
+    ensures kept { Extends names.old names.new }
+    ensures few { length names.new ≤ length names.old + length text.now + 53 }
+    ensures fit { IfOk result (λ read. AreFit (length names.new) read.clauses) }
+{
+    if is_long(text) {
         return Err(ReadFault::Fault {
             kind: ReadKind::Long,
             at: 0,
         });
     }
-    match read_facts(alloc, text, names)? {
-        Some(clauses) => Ok(ReadText { clauses }),
-        None => Err(ReadFault::Fault {
-            kind: ReadKind::Unbuilt,
-            at: 0,
-        }),
-    }
+    let words = find_words(names)?;
+    let ops = Ops::standard(alloc, names)?;
+    read_clauses(alloc, text, names, words, ops)
 }
 
-/// The facts of a text, or `None` where it is no list of facts.
-fn read_facts(
+/// Reads the clauses of a text by these operators.
+fn read_clauses(
     alloc: Global,
     text: &[u8],
     names: &mut Names,
-) -> Result<Option<ReadClauses>, AllocError>
+    words: Words,
+    ops: Ops,
+) -> Result<ReadText, ReadFault>
     requires short { length text.now ≤ 1048576 }
-    requires room { length names.old ≤ 4292870143 }
-    ensures found { IfOk result (λ read. IfSome read (λ clauses. ReadsFacts text.now names.new clauses)) }
-    ensures fit { IfOk result (λ read. IfSome read (λ clauses. AreFit (length text.now) (length names.new) clauses)) }
-    ensures unreadable { IfOk result (λ read. IfNone read (IsReadable text.now → ⊥)) }
+    requires room { length names.old ≤ 4293000000 }
+    requires words { AreWords names.old words }
+    requires standard { (later : List (List ℕ)) → Extends names.old later → table_of ops ≡ standard later }
+    ensures found { IfOk result (λ read. AnswersText names.new text.now (Ok (read.clauses, table_of read.ops))) }
+    ensures refused { IfErr result (λ fault. RefusesText names.new text.now fault) }
     ensures kept { Extends names.old names.new }
     ensures few { length names.new ≤ length names.old + length text.now }
+    ensures fit { IfOk result (λ read. AreFit (length names.new) read.clauses) }
 {
+    let mut ops = ops;
     let mut lexer = Lexer::new(text);
-    let mut before = 0;
-    let mut variables = Variables::new(alloc);
-    let mut stack = Vec::new(alloc);
-    let mut mode = Mode::Want;
     let mut clauses = ReadClauses::new(alloc);
-    'tokens: loop {
-        let token = match lexer.next() {
+    'clauses: loop {
+        let first = match lexer.next() {
             Ok(Some(token)) => token,
-            Ok(None) if is_start(&mode, &stack) => return Ok(Some(clauses)),
-            _ => return Ok(None),
+            Ok(None) => return Ok(ReadText { clauses, ops }),
+            Err(fault) => {
+                return Err(ReadFault::Fault {
+                    kind: ReadKind::Lex(fault.kind),
+                    at: fault.at,
+                });
+            }
         };
-        let symbol = next_symbol(text, &mut variables, names, before, token)?;
-        before = token.end;
-        match step(alloc, &mut stack, mode, symbol)? {
-            Move::Next(next) => mode = next,
-            Move::Done(clause) => {
-                if clauses.len() == MOST_FACTS {
-                    return Ok(None);
+        match read_clause(
+            alloc,
+            text,
+            &mut lexer,
+            names,
+            &ops,
+            words.known,
+            first,
+            false,
+        )? {
+            Found::Clause(clause) => {
+                if !obey(&mut ops, &words, &clause.term)? {
+                    return Err(ReadFault::Fault {
+                        kind: ReadKind::BadOp,
+                        at: clause.term.at,
+                    });
                 }
                 clauses.push(clause)?;
-                mode = Mode::Want;
             }
-            Move::Fault => return Ok(None),
+            Found::Refused { kind, at } => return Err(ReadFault::Fault { kind, at }),
         }
     }
 }
 
-/// No text is read as two lists of facts.
-pub fn one_reading()
-    ensures { (text : List ℕ) (facts others : List (Clause (List ℕ))) → Reads text facts → Reads text others → facts ≡ others }
-{}
+/// Reads one term with an optional end, by these operators. Nothing may stand behind it.
+///
+/// A place counts bytes from 0. Names that the query adds stay in `names`, also after a refusal.
+///
+/// Source: ISO/IEC 13211-1:1995, 6.2, in this project's profile.
+pub fn read_query(
+    alloc: Global,
+    text: &[u8],
+    names: &mut Names,
+    ops: &Ops,
+) -> Result<ReadClause, ReadFault>
+    requires room { length names.old ≤ 4292870143 }
 
-/// No text is read as two lists of facts under the same names, of which no two have the same text.
-pub fn one_numbering()
-    ensures { (text : List ℕ) (names : List (List ℕ)) (clauses others : List (Clause ℕ)) → AllPairs (λ a b. a ≢ b) names
-        → AllByRecursion (IsFit (length names)) clauses → AllByRecursion (IsFit (length names)) others
-        → ReadsFacts text names clauses → ReadsFacts text names others → clauses ≡ others }
+    // What is read is what the query reads as by the operators, and a refusal is its first fault.
+    ensures found { IfOk result (λ clause. AnswersQuery names.new (table_of ops.now) text.now (Ok (clause_of clause))) }
+    ensures refused { IfErr result (λ fault. RefusesQuery names.new (table_of ops.now) text.now fault) }
+
+    // No query has two answers.
+    ensures only { (later : List (List ℕ)) (answer : Result Clause Fault) → Extends names.new later → IsQueryAnswer later (table_of ops.now) text.now answer → SaysQuery result answer }
+
+    // Earlier names keep their numbers, and there are at most so many more as the query has bytes and the syntax names.
+    ensures kept { Extends names.old names.new }
+    ensures few { length names.new ≤ length names.old + length text.now + 4 }
+
+    // Names and variables of the term are in range, and so are its nodes.
+    ensures fit { IfOk result (λ clause. IsQueryFit (length names.new) (clause_of clause)) }
+{
+    read_short_query(alloc, text, names, ops)
+}
+
+/// Reads a query, if it is short enough.
+fn read_short_query(
+    alloc: Global,
+    text: &[u8],
+    names: &mut Names,
+    ops: &Ops,
+) -> Result<ReadClause, ReadFault>
+    requires room { length names.old ≤ 4292870143 }
+    ensures found { IfOk result (λ clause. AnswersQuery names.new (table_of ops.now) text.now (Ok (clause_of clause))) }
+    ensures refused { IfErr result (λ fault. RefusesQuery names.new (table_of ops.now) text.now fault) }
+    ensures kept { Extends names.old names.new }
+    ensures few { length names.new ≤ length names.old + length text.now + 4 }
+    ensures fit { IfOk result (λ clause. IsQueryFit (length names.new) (clause_of clause)) }
+{
+    if is_long(text) {
+        return Err(ReadFault::Fault {
+            kind: ReadKind::Long,
+            at: 0,
+        });
+    }
+    let known = find_known(names)?;
+    read_term(alloc, text, names, known, ops)
+}
+
+/// Reads a query by these names.
+fn read_term(
+    alloc: Global,
+    text: &[u8],
+    names: &mut Names,
+    known: Known,
+    ops: &Ops,
+) -> Result<ReadClause, ReadFault>
+    requires short { length text.now ≤ 1048576 }
+    requires room { length names.old ≤ 4293000000 }
+    requires known { AreKnown names.old known }
+    ensures found { IfOk result (λ clause. AnswersQuery names.new (table_of ops.now) text.now (Ok (clause_of clause))) }
+    ensures refused { IfErr result (λ fault. RefusesQuery names.new (table_of ops.now) text.now fault) }
+    ensures kept { Extends names.old names.new }
+    ensures few { length names.new ≤ length names.old + length text.now }
+    ensures fit { IfOk result (λ clause. IsQueryFit (length names.new) (clause_of clause)) }
+{
+    let mut lexer = Lexer::new(text);
+    let first = match lexer.next() {
+        Ok(Some(token)) => token,
+        Ok(None) => {
+            return Err(ReadFault::Fault {
+                kind: ReadKind::Unexpected,
+                at: text.len() as u32,
+            });
+        }
+        Err(fault) => {
+            return Err(ReadFault::Fault {
+                kind: ReadKind::Lex(fault.kind),
+                at: fault.at,
+            });
+        }
+    };
+    let clause = match read_clause(alloc, text, &mut lexer, names, ops, known, first, true)? {
+        Found::Clause(clause) => clause,
+        Found::Refused { kind, at } => return Err(ReadFault::Fault { kind, at }),
+    };
+    match lexer.next() {
+        Ok(None) => Ok(clause),
+        Ok(Some(token)) => Err(ReadFault::Fault {
+            kind: ReadKind::Unexpected,
+            at: token.start,
+        }),
+        Err(fault) => Err(ReadFault::Fault {
+            kind: ReadKind::Lex(fault.kind),
+            at: fault.at,
+        }),
+    }
+}
+
+/// By the same names a text has one answer, and by the same names and operators a query has: the clauses that it reads as, or its first
+/// fault. So no text is read as two programs, and none is both read and refused.
+pub fn one_answer()
+    ensures text { (names : List (List ℕ)) (text : List ℕ) (answer other : Answer) → IsTextAnswer names text answer → IsTextAnswer names text other → answer ≡ other }
+    ensures query { (names : List (List ℕ)) (table : Table) (text : List ℕ) (answer other : Result Clause Fault) → IsQueryAnswer names table text answer → IsQueryAnswer names table text other → answer ≡ other }
 {}

@@ -6,13 +6,16 @@ use cti_terms::Name;
 #[cycle(read_terms)]
 #[derive(Debug, Drop)]
 pub enum ReadShape {
-    /// A variable, by its number in its clause: they are numbered from 0 in the order of their first occurrence.
+    /// A variable, by its number in its clause: they are numbered from 0 in the order of their first occurrence, and each `_` is
+    /// one of its own.
     Var(u32),
+    /// An integer of absolute value at most 2^127 - 1.
+    Int(i128),
     /// A name and its arguments. An atom has none.
     Fun(Name, Vec<ReadTerm>),
 }
 
-/// A term and its place, which is the first byte of its first token, counted from 0.
+/// A term and its place, which is the first byte of its first token, counted from 0. A parenthesis round a term is one of its tokens.
 #[cycle(read_terms)]
 #[derive(Debug, Drop)]
 pub struct ReadTerm {

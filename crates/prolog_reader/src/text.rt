@@ -1,9 +1,11 @@
 //! What a text reads as.
 
 use crate::clauses::ReadClauses;
+use crate::operators::Ops;
 
-/// The clauses of a text, in its order.
+/// The clauses of a text in its order, and the operators after the last one.
 #[derive(Debug, Drop)]
 pub struct ReadText {
     pub clauses: ReadClauses,
+    pub ops: Ops,
 }

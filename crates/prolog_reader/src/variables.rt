@@ -1,33 +1,19 @@
-//! The variables of a fact.
+//! The variables of a clause.
 
-ghost use Rattle.std.specs.Prelude.{◌≡◌, ◌<◌, ◌^◌, [], length, nat_eq, position, IfOk, OnOk, OnErr};
-ghost use Rattle.std.specs.Cmp.Lexicographic.{pointwise};
-ghost use Rattle.prolog_reader.specs.Symbols.{is_anonymous, variable_number, with_variable};
+ghost use Rattle.std.specs.Prelude.{◌≡◌, ◌<◌, ◌^◌, ◌-◌, IfOk, OnOk};
+ghost use Rattle.prolog_reader.specs.Symbols.{is_anonymous, none_seen, variable_number, with_variable};
+ghost use Rattle.prolog_reader.specs.Numbering.{seen_of, AreNumbered};
 
+use cti_terms::Names;
 use std::alloc::{AllocError, Global};
-use std::marker::Model;
 
-/// The variables of the fact that is under way, in the order of their numbers. Contracts see the list of their names.
-///
-/// A fact with too many variables is refused at the first one too many, so a search among them is short.
-#[derive(Drop)]
-pub struct Variables<'a> {
-    names: Vec<&'a [u8]>,
-}
-
-impl<'a> Model for Variables<'a> {
-    ghost use Rattle.std.specs.Prelude.{List, ℕ, map};
-
-    ghost Value = { List (List ℕ) };
-
-    ghost view = { λ v. map (λ n. n.now) v.names.items };
-}
-
-/// The place of a variable that was there.
-fn place(names: &[&[u8]], name: &[u8]) -> Option<usize>
-    ensures { result ≡ position (λ n. pointwise nat_eq name.now n.now) names.now }
-{
-    names.iter().position(|known| name == *known)
+/// The variables of the clause that is under way: the names of those that have one, the number of each of these, and how many
+/// variables there are with each `_`.
+#[derive(Debug, Drop)]
+pub struct Variables {
+    names: Names,
+    numbers: Vec<u32>,
+    count: u32,
 }
 
 /// Whether a variable is `_`.
@@ -37,44 +23,48 @@ fn is_anonymous(name: &[u8]) -> bool
     name == b"_".as_slice()
 }
 
-impl<'a> Variables<'a> {
+impl Variables {
     /// No variables. It takes no memory.
-    pub fn new(alloc: Global) -> Variables<'a>
-        ensures { result ≡ [] }
+    pub fn new(alloc: Global) -> Variables
+        ensures none { seen_of result ≡ none_seen }
+        ensures numbered { AreNumbered result }
     {
         Variables {
-            names: Vec::new(alloc),
+            names: Names::new(alloc),
+            numbers: Vec::new(alloc),
+            count: 0,
         }
     }
 
     /// How many variables there are.
-    pub fn len(&self) -> usize
-        ensures { result ≡ length self.now }
+    pub fn count(&self) -> u32
+        ensures { result ≡ (seen_of self.now).count }
     {
-        self.names.len()
+        self.count
     }
 
-    /// Forgets all variables, where a fact ends.
-    pub fn clear(&mut self)
-        ensures { self.new ≡ [] }
+    /// The number of a variable: its own where it was there, or the next. The variable `_` is another one each time. After an error
+    /// nothing is said of the variables.
+    pub fn number(&mut self, name: &[u8]) -> Result<u32, AllocError>
+        requires numbered { AreNumbered self.old }
+        requires few { (seen_of self.old).count < 2 ^ 32 - 1 }
+        ensures number { IfOk result (λ n. n ≡ variable_number (seen_of self.old) name.now) }
+        ensures within { IfOk result (λ n. n < (seen_of self.new).count) }
+        ensures added { OnOk result (seen_of self.new ≡ with_variable (seen_of self.old) name.now) }
+        ensures numbered { OnOk result (AreNumbered self.new) }
     {
-        self.names.clear();
-    }
-
-    /// The number of a variable: its own where it was there, or the next. The variable `_` is another one each time.
-    pub fn number(&mut self, name: &'a [u8]) -> Result<u32, AllocError>
-        requires { length self.old < 2 ^ 32 }
-        ensures number { IfOk result (λ n. n ≡ variable_number self.old name.now) }
-        ensures added { OnOk result (self.new ≡ with_variable self.old name.now) }
-        ensures err { OnErr result (self.new ≡ self.old) }
-    {
-        if !is_anonymous(name) {
-            if let Some(number) = place(&self.names, name) {
-                return Ok(number as u32);
-            }
+        let next = self.count;
+        if is_anonymous(name) {
+            self.count += 1;
+            return Ok(next);
         }
-        let number = self.names.len();
-        self.names.push(name)?;
-        Ok(number as u32)
+        let place = self.names.intern(name)?;
+        let at = place.0 as usize;
+        if at < self.numbers.len() {
+            return Ok(self.numbers[at]);
+        }
+        self.numbers.push(next)?;
+        self.count += 1;
+        Ok(next)
     }
 }

@@ -1,5 +1,5 @@
-use Rattle.prolog_reader.proofs.Progress.{reads_once}
+use Rattle.prolog_reader.proofs.OneAnswer.{only_text}
 use Rattle.prolog_reader.proofs.reading.read_text.Goals as goal
 
-pub returns-in-Some-clause-only : goal.returns-in-Some-clause-only
-returns-in-Some-clause-only c = λ facts r. reads_once c.args.text.now _ facts (rw c.in-Some.is at c.in_ok-clauses.ensures.found) r
+pub returns-clause-only : goal.returns-clause-only
+returns-clause-only c = only_text c.read_short.new.names c.args.text.now c.read_short.result c.read_short.ensures.found c.read_short.ensures.refused

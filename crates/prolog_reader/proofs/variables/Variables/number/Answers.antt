@@ -1,29 +1,47 @@
-use Rattle.std.proofs.Common.{◌≡◌, ◌∙◌, ◌++◌, ◌∷◌, [], ap, sym, inl, inr, ◌⊎◌, true, false, None, position, nat_eq, List, ℕ, map}
-use Rattle.std.specs.Cmp.Lexicographic.{pointwise}
-use Rattle.std.proofs.lemmas.List.{map-append}
-use Rattle.prolog_reader.specs.Symbols.{is_anonymous}
-use Rattle.prolog_reader.proofs.NameLemmas.{variable_found, variable_new}
+use Rattle.std.proofs.Common.{ℕ, List, [], ◌∷◌, ◌++◌, ◌+◌, ◌<◌, ◌≤◌, length, length-append, get_or, subst, ap, ◌∙◌, sym, arith}
+use Rattle.prolog_reader.specs.Symbols.{Seen}
+use Rattle.prolog_reader.proofs.VariableLemmas.{variable_there, variable_away, each_pushed}
 use Rattle.prolog_reader.proofs.variables.Variables.number.Goals as goal
-use Rattle.prolog_reader.proofs.variables.Variables.number.Goals.{then-not-is_anonymous+in_default, else-not-is_anonymous}
 
-pub returns-in-Some-clause-number : goal.returns-in-Some-clause-number
-returns-in-Some-clause-number c = (variable_found (λ n. n.now) _ _ _ (sym c.self.view_is) _ (sym c.is_anonymous.ensures ∙ c.if-not-is_anonymous.true) (c.in-Some.ensures ∙ ap (position (λ n. pointwise nat_eq c.args.name.now n.now)) c.deref.ensures.value)).0
+pub returns-then-at-len-clause-added : goal.returns-then-at-len-clause-added
+returns-then-at-len-clause-added c =
+    let s = c.args.self.now in
+    let within : c.in_ok-place.place.0 < length s.numbers.items = omega (arith, c.if-at-len.true, c.len.ensures, s.numbers.ok.0) in
+    let h = variable_there s.names s.numbers.items s.count c.args.name.now c.requires.numbered.paired (sym c.is_anonymous.ensures ∙ c.if-is_anonymous.false) (omega (arith, within, c.in_ok-place.ensures.number)) in
+    let seen : List (List ℕ) → Seen = λ ns. record { named = ns; numbers = s.numbers.items; count = s.count } in
+    ap seen (c.in_ok-place.ensures.added ∙ h.0) ∙ sym h.1
 
-pub returns-in-Some-clause-added : goal.returns-in-Some-clause-added
-returns-in-Some-clause-added c = (variable_found (λ n. n.now) _ _ _ (sym c.self.view_is) _ (sym c.is_anonymous.ensures ∙ c.if-not-is_anonymous.true) (c.in-Some.ensures ∙ ap (position (λ n. pointwise nat_eq c.args.name.now n.now)) c.deref.ensures.value)).1
-
--- why the variable is a new one
-pub fresh : (c : goal.In_ok-push) → (is_anonymous c.args.name.now ≡ true) ⊎ ((is_anonymous c.args.name.now ≡ false) × (None ≡ position (λ n. pointwise nat_eq c.args.name.now n.now) c.self.inside.names.items))
-fresh c =
-    elim c.if-not-is_anonymous.branch [
-      | then-not-is_anonymous+in_default w ↦ inr (sym c.is_anonymous.ensures ∙ w.if-not-is_anonymous.true, w.in_default.ensures ∙ ap (position (λ n. pointwise nat_eq c.args.name.now n.now)) w.deref.ensures.value)
-      | else-not-is_anonymous w ↦ inl (sym c.is_anonymous.ensures ∙ w.if-not-is_anonymous.false)
-    ]
-
-pub returns-clause-number : goal.returns-clause-number
-returns-clause-number c = c.len-number.ensures ∙ c.self.inside.names.ok.0 ∙ (variable_new (λ n. n.now) c.args.self.now _ _ (sym c.self.view_is) (fresh c)).0
+pub returns-then-at-len-clause-numbered : goal.returns-then-at-len-clause-numbered
+returns-then-at-len-clause-numbered c =
+    let s = c.args.self.now in
+    let within : c.in_ok-place.place.0 < length s.numbers.items = omega (arith, c.if-at-len.true, c.len.ensures, s.numbers.ok.0) in
+    let h = variable_there s.names s.numbers.items s.count c.args.name.now c.requires.numbered.paired (sym c.is_anonymous.ensures ∙ c.if-is_anonymous.false) (omega (arith, within, c.in_ok-place.ensures.number)) in
+    record { paired = ap (λ (ns : List (List ℕ)). length ns) (c.in_ok-place.ensures.added ∙ h.0) ∙ c.requires.numbered.paired; counted = c.requires.numbered.counted; each = c.requires.numbered.each }
 
 pub returns-clause-added : goal.returns-clause-added
 returns-clause-added c =
-    ap (λ l. map (λ n. n.now) l) c.in_ok-push.ensures.items ∙ map-append (λ n. n.now) c.self.inside.names.items (c.args.name ∷ []) ∙ ap (λ (l : List (List ℕ)). l ++ c.args.name.now ∷ []) c.self.view_is
-    ∙ (variable_new (λ n. n.now) c.args.self.now _ _ (sym c.self.view_is) (fresh c)).1
+    let s = c.args.self.now in
+    let past : length s.numbers.items ≤ c.in_ok-place.place.0 = omega (arith, c.if-at-len.false, c.len.ensures, s.numbers.ok.0) in
+    let h = variable_away s.names s.numbers.items s.count c.args.name.now c.requires.numbered.paired (sym c.is_anonymous.ensures ∙ c.if-is_anonymous.false) (omega (arith, past, c.in_ok-place.ensures.number)) in
+    let seen : List (List ℕ) → List ℕ → Seen = λ ns xs. record { named = ns; numbers = xs; count = s.count + 1 } in
+    ap (λ ns. seen ns c.push.new.self.items) (c.in_ok-place.ensures.added ∙ h.0) ∙ ap (λ xs. seen (s.names ++ c.args.name.now ∷ []) xs) c.in_ok-push.ensures.items ∙ sym h.1
+
+pub returns-clause-numbered : goal.returns-clause-numbered
+returns-clause-numbered c =
+    let s = c.args.self.now in
+    let past : length s.numbers.items ≤ c.in_ok-place.place.0 = omega (arith, c.if-at-len.false, c.len.ensures, s.numbers.ok.0) in
+    let h = variable_away s.names s.numbers.items s.count c.args.name.now c.requires.numbered.paired (sym c.is_anonymous.ensures ∙ c.if-is_anonymous.false) (omega (arith, past, c.in_ok-place.ensures.number)) in
+    let names = ap (λ (ns : List (List ℕ)). length ns) (c.in_ok-place.ensures.added ∙ h.0) in
+    let numbers = ap (λ (xs : List ℕ). length xs) c.in_ok-push.ensures.items in
+    record {
+      paired = names ∙ simp length-append (omega (arith, c.requires.numbered.paired, simp length-append at numbers));
+      counted = omega (arith, c.requires.numbered.counted, simp length-append at numbers);
+      each = λ i d h. subst (λ (xs : List ℕ). get_or xs i d < s.count + 1) (sym c.in_ok-push.ensures.items)
+          (each_pushed s.numbers.items s.count i d (λ j k. c.requires.numbered.each j d k) (subst (λ (xs : List ℕ). i < length xs) c.in_ok-push.ensures.items h));
+    }
+
+pub returns-then-at-len-clause-within : goal.returns-then-at-len-clause-within
+returns-then-at-len-clause-within c =
+    let s = c.args.self.now in
+    let within : c.in_ok-place.place.0 < length s.numbers.items = omega (arith, c.if-at-len.true, c.len.ensures, s.numbers.ok.0) in
+    subst (λ n. n < s.count) (sym c.index.ensures) (c.requires.numbered.each c.in_ok-place.place.0 c.index.result.now within)

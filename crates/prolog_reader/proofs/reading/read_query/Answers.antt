@@ -1,0 +1,6 @@
+use Rattle.prolog_reader.specs.Meanings.{table_of}
+use Rattle.prolog_reader.proofs.OneAnswer.{only_query}
+use Rattle.prolog_reader.proofs.reading.read_query.Goals as goal
+
+pub returns-clause-only : goal.returns-clause-only
+returns-clause-only c = only_query c.read_short_query.new.names (table_of c.args.ops.now) c.args.text.now c.read_short_query.result c.read_short_query.ensures.found c.read_short_query.ensures.refused

@@ -1,0 +1,40 @@
+//! Tokens as the machine takes them.
+
+use crate::natural::Natural;
+use cti_terms::Name;
+
+/// The names that the syntax itself makes terms of: `,` and `[]` and `{}` and `.`.
+#[derive(Clone, Copy, Debug, PartialEq, Eq)]
+pub struct Known {
+    pub comma: Name,
+    pub nil: Name,
+    pub curly: Name,
+    pub cell: Name,
+}
+
+/// A token as the machine takes it, with the place of its first byte where a term may begin there.
+#[derive(Debug, Drop)]
+pub enum Symbol {
+    /// A variable, by its number in the clause.
+    Var { at: u32, number: u32 },
+    /// An integer.
+    Int { at: u32, value: Natural },
+    /// An integer directly after the unquoted name `-`.
+    Joined { at: u32, value: Natural },
+    /// A text, as its character codes.
+    Text { at: u32, codes: Vec<char> },
+    /// A name, quoted or not.
+    Name { at: u32, name: Name },
+    /// A parenthesis with layout, a comment or nothing before it.
+    Paren { at: u32 },
+    /// A parenthesis directly after the token before it.
+    Touching { at: u32 },
+    ParenEnd,
+    Bracket { at: u32 },
+    BracketEnd,
+    Brace { at: u32 },
+    BraceEnd,
+    Comma,
+    Bar,
+    End,
+}

@@ -1,0 +1,82 @@
+//! Names that mean something to the reader.
+
+ghost use Rattle.std.specs.Prelude.{◌≡◌, ◌≤◌, ◌+◌, ℕ, List, length, codes, IfOk};
+ghost use Rattle.prolog_reader.specs.Names.{Extends, IsNumber};
+ghost use Rattle.prolog_reader.specs.Knowing.{AreKnown, AreWords};
+
+use crate::symbol::Known;
+use cti_terms::{Name, Names};
+use std::alloc::AllocError;
+
+/// The names that the syntax makes terms of, and those of an `op` clause.
+#[derive(Clone, Copy, Debug, PartialEq, Eq)]
+pub struct Words {
+    pub known: Known,
+    pub neck: Name,
+    pub op: Name,
+    pub xfx: Name,
+    pub xfy: Name,
+    pub yfx: Name,
+    pub fx: Name,
+    pub fy: Name,
+    pub bar: Name,
+}
+
+/// The name of a text.
+fn word(names: &mut Names, text: &[u8]) -> Result<Name, AllocError>
+    requires { length names.old ≤ 4294967200 }
+    ensures number { IfOk result (λ n. IsNumber names.new text.now n.0) }
+    ensures kept { Extends names.old names.new }
+    ensures few { length names.new ≤ length names.old + 1 }
+{
+    let name = names.intern(text)?;
+    Ok(name)
+}
+
+/// Finds the names that the syntax itself makes terms of.
+pub fn find_known(names: &mut Names) -> Result<Known, AllocError>
+    requires { length names.old ≤ 4294967100 }
+    ensures known { IfOk result (λ known. AreKnown names.new known) }
+    ensures kept { Extends names.old names.new }
+    ensures few { length names.new ≤ length names.old + 4 }
+{
+    let comma = word(names, b",")?;
+    let nil = word(names, b"[]")?;
+    let curly = word(names, b"{}")?;
+    let cell = word(names, b".")?;
+    Ok(Known {
+        comma,
+        nil,
+        curly,
+        cell,
+    })
+}
+
+/// Finds all these names.
+pub fn find_words(names: &mut Names) -> Result<Words, AllocError>
+    requires { length names.old ≤ 4294967050 }
+    ensures words { IfOk result (λ words. AreWords names.new words) }
+    ensures kept { Extends names.old names.new }
+    ensures few { length names.new ≤ length names.old + 12 }
+{
+    let known = find_known(names)?;
+    let neck = word(names, b":-")?;
+    let op = word(names, b"op")?;
+    let xfx = word(names, b"xfx")?;
+    let xfy = word(names, b"xfy")?;
+    let yfx = word(names, b"yfx")?;
+    let fx = word(names, b"fx")?;
+    let fy = word(names, b"fy")?;
+    let bar = word(names, b"|")?;
+    Ok(Words {
+        known,
+        neck,
+        op,
+        xfx,
+        xfy,
+        yfx,
+        fx,
+        fy,
+        bar,
+    })
+}
