@@ -1,0 +1,15 @@
+mod Examples
+pub mod PartLemmas
+pub mod TermLemmas
+pub mod OrderLemmas
+pub mod ListLemmas
+pub mod BodyLemmas
+pub mod TaskLemmas
+pub mod RuleLemmas
+pub mod CopyLemmas
+pub mod NumberLemmas
+pub mod Later
+pub mod NumberingLemmas
+pub mod FormLemmas
+pub mod OutcomeLemmas
+pub mod QueryLemmas

@@ -1,0 +1,11 @@
+use Rattle.std.proofs.Common.{◌≡◌, ◌∙◌, length, map, get_or, sym, ap, subst}
+use Rattle.prolog_reader.specs.Clauses.{Clause}
+use Rattle.prolog_reader.specs.Fit.{IsFit}
+use Rattle.prolog_reader.specs.Terms.{clause_of}
+use Rattle.clause_normal.proofs.ListLemmas.{all_mapped_at}
+use Rattle.clause_normal.proofs.clauses.text_rules.Goals as goal
+
+pub add_clause-requires-clause-fit : goal.add_clause-requires-clause-fit
+add_clause-requires-clause-fit c =
+    let P = IsFit (length c.args.names.now) in
+    subst (λ t. P (clause_of t)) (sym c.clause-item.is) (all_mapped_at P clause_of c.args.clauses.now c.clauses.clause-index c.clause-item.result c.requires.fit.each c.clauses-test.true)

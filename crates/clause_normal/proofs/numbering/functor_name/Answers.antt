@@ -1,0 +1,20 @@
+use Rattle.std.proofs.Common.{◌≡◌, ◌∙◌, ℕ, List, sym, ap, subst}
+use Rattle.std.proofs.lemmas.Option.{slice_get_within}
+use Rattle.cti_terms.specs.Numbers.{number_of, with_text}
+use Rattle.prolog_reader.specs.Names.{Extends}
+use Rattle.clause_normal.specs.declared.rule.Functor.{Functor}
+use Rattle.clause_normal.specs.Numbering.{name_number, choice_text}
+use Rattle.clause_normal.specs.RuleViews.{functor_of}
+use Rattle.clause_normal.proofs.NumberLemmas.{number_kept}
+use Rattle.clause_normal.proofs.numbering.functor_name.Goals as goal
+
+pub returns-in_ok-name-in-Chosen-clause-number : goal.returns-in_ok-name-in-Chosen-clause-number
+returns-in_ok-name-in-Chosen-clause-number c = λ later ext.
+    let text = c.as_bytes.result.now in
+    let text_is : text ≡ choice_text c.in-Chosen.number = c.as_bytes.ensures.value ∙ c.in_ok-text-in-Chosen.ensures.ok in
+    let E : List (List ℕ) → Type 0 = λ ns. Extends ns later in
+    ap (λ (f : Functor). name_number later (functor_of f)) c.in-Chosen.is ∙ ap (number_of later) (sym text_is)
+    ∙ number_kept c.args.names.now text later (subst E c.in_ok-name-in-Chosen.ensures.added ext) ∙ sym c.in_ok-name-in-Chosen.ensures.number
+
+pub returns-in_ok-name-in-Chosen-clause-known : goal.returns-in_ok-name-in-Chosen-clause-known
+returns-in_ok-name-in-Chosen-clause-known c = λ _. slice_get_within c.intern.new.self c.in_ok-name-in-Chosen.name.0 c.as_bytes.result.now c.in_ok-name-in-Chosen.ensures.spelled

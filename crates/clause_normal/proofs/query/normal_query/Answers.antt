@@ -1,0 +1,98 @@
+use Rattle.std.proofs.Common.{◌≡◌, ◌<◌, ◌∙◌, ◌+◌, ◌++◌, ℕ, [], List, Some, None, Ok, Err, Option, length, map, sym, ap, subst, arith, position, if◌then◌else◌}
+use Rattle.std.specs.List.{AllByRecursion}
+use Rattle.cti_terms.specs.Listing.{Listing}
+use Rattle.cti_terms.specs.declared.atom_list.Atom.{Atom}
+use Rattle.cti_terms.specs.declared.derivation.Goal.{Goal as Query}
+use Rattle.cti_terms.specs.declared.predicates.Pred.{Pred}
+use Rattle.prolog_reader.specs.Clauses.{place}
+use Rattle.prolog_reader.specs.Names.{Extends}
+use Rattle.prolog_reader.specs.Terms.{tree_of, clause_of}
+use Rattle.prolog_reader.proofs.NameLemmas.{extends_self}
+use Rattle.prolog_reader.proofs.ViewLemmas.{tree_of_parts}
+use Rattle.clause_normal.specs.declared.part.Item.{Item}
+use Rattle.clause_normal.specs.declared.rule.Call.{Call as CodeCall}
+use Rattle.clause_normal.specs.Bodies.{Goal}
+use Rattle.clause_normal.specs.NormalForm.{Fault, variables_fault}
+use Rattle.clause_normal.specs.Numbering.{is_equality, with_equality_clause, atoms_after, with_calls, call_variables}
+use Rattle.clause_normal.specs.Query.{query_goals, query_fault, query_calls, query_form, with_query, query_goal, new_equality}
+use Rattle.clause_normal.specs.Rules.{Call}
+use Rattle.clause_normal.specs.RuleViews.{call_of, CallIsFit, IsNamed}
+use Rattle.clause_normal.specs.Terms.{occurrences, firsts}
+use Rattle.clause_normal.specs.Views.{goal_of, IsTermFit, ItemIsFit}
+use Rattle.clause_normal.proofs.QueryLemmas.{if_fault_map, query_err, query_bad, query_many, query_well}
+use Rattle.clause_normal.proofs.query.normal_query.Goals as goal
+
+pub returns-in-Err-clause-exact : goal.returns-in-Err-clause-exact
+returns-in-Err-clause-exact c =
+    let names = c.args.names.now in
+    let p = c.args.program.now in
+    let gs = query_goals names (tree_of c.args.query.now.term) in
+    let v = variables_fault (place (tree_of c.args.query.now.term)) (occurrences (tree_of c.args.query.now.term)) in
+    let goals : map (goal_of names) c.deref.result.now ≡ gs = ap (λ (is : List Item). map (goal_of names) is) c.deref.ensures.value ∙ c.in_ok-items.ensures.goals in
+    query_err _ p c.in-Err.fault
+    (if_fault_map c.in-Err.fault (λ f. query_fault (map (goal_of names) c.deref.result.now) ≡ Some f) (λ f. query_form names p (clause_of c.args.query.now) ≡ Err f)
+    (λ f e. query_bad names p (query_calls gs) (query_fault gs) v f (sym (ap query_fault goals) ∙ e)) (c.in-Err.ensures names))
+
+pub returns-in-Err-check_variables-clause-exact : goal.returns-in-Err-check_variables-clause-exact
+returns-in-Err-check_variables-clause-exact c =
+    let names = c.args.names.now in
+    let p = c.args.program.now in
+    let t = c.args.query.now.term in
+    let gs = query_goals names (tree_of t) in
+    let v = variables_fault (place (tree_of t)) (occurrences (tree_of t)) in
+    let goals : map (goal_of names) c.deref.result.now ≡ gs = ap (λ (is : List Item). map (goal_of names) is) c.deref.ensures.value ∙ c.in_ok-items.ensures.goals in
+    let none : query_fault gs ≡ None = sym (ap query_fault goals) ∙ c.in-Ok.ensures names in
+    let xs : c.deref-2.result.now ≡ occurrences (tree_of t) = c.deref-2.ensures.value ∙ c.in_ok-variables.ensures.value in
+    let at : place (tree_of t) ≡ t.at = ap place (tree_of_parts t) in
+    let same : v ≡ variables_fault t.at c.deref-2.result.now = (λ i. variables_fault (at i) (sym xs i)) in
+    query_err _ p c.in-Err-check_variables.fault
+    (if_fault_map c.in-Err-check_variables.fault (λ f. variables_fault t.at c.deref-2.result.now ≡ Some f) (λ f. query_form names p (clause_of c.args.query.now) ≡ Err f)
+    (λ f e. query_many names p (query_calls gs) (query_fault gs) v f none (same ∙ e)) c.in-Err-check_variables.ensures)
+
+pub add_atoms-requires-clause-fit : goal.add_atoms-requires-clause-fit
+add_atoms-requires-clause-fit c =
+    let n = length c.args.names.now in
+    let vars = c.args.query.now.vars in
+    let fit : IsTermFit n vars c.args.query.now.term = record { known = c.requires.fit.fit.known; below = c.requires.fit.fit.below } in
+    let items = subst (λ (is : List Item). AllByRecursion (ItemIsFit n vars) is) (sym c.deref-3.ensures.value) (c.in_ok-items.ensures.fit vars fit) in
+    subst (λ (cs : List CodeCall). AllByRecursion (CallIsFit n) cs) (sym c.deref-6.ensures.value) (c.in_ok-calls.ensures.fit n vars items)
+
+pub returns-clause-exact : goal.returns-clause-exact
+returns-clause-exact c =
+    let names = c.args.names.now in
+    let p = c.args.program.now in
+    let t = c.args.query.now.term in
+    let gs = query_goals names (tree_of t) in
+    let v = variables_fault (place (tree_of t)) (occurrences (tree_of t)) in
+    let goals : map (goal_of names) c.deref.result.now ≡ gs = ap (λ (is : List Item). map (goal_of names) is) c.deref.ensures.value ∙ c.in_ok-items.ensures.goals in
+    let none : query_fault gs ≡ None = sym (ap query_fault goals) ∙ c.in-Ok.ensures names in
+    let xs : c.deref-2.result.now ≡ occurrences (tree_of t) = c.deref-2.ensures.value ∙ c.in_ok-variables.ensures.value in
+    let at : place (tree_of t) ≡ t.at = ap place (tree_of_parts t) in
+    let few : v ≡ None = (λ i. variables_fault (at i) (sym xs i)) ∙ c.in-Ok-check_variables.ensures in
+    let cs = query_calls gs in
+    let calls : map call_of c.in_ok-calls.calls.items ≡ cs =
+    c.in_ok-calls.ensures.calls names ∙ ap (λ (is : List Item). query_calls (map (goal_of names) is)) c.deref-3.ensures.value ∙ ap query_calls c.in_ok-items.ensures.goals in
+    let here : map call_of c.deref-6.result.now ≡ cs = ap (λ (cs : List CodeCall). map call_of cs) c.deref-6.ensures.value ∙ calls in
+    let h = rw c.in-Some.is at c.in_ok-order.ensures in
+    let order : c.in-Some.order.items ≡ firsts (call_variables cs) =
+    h.0 ∙ ap firsts (c.deref-5.ensures.value ∙ c.in_ok-occurrences.ensures ∙ ap (λ (cs : List CodeCall). call_variables (map call_of cs)) c.deref-4.ensures.value ∙ ap call_variables calls) in
+    let named = subst (λ (cs : List CodeCall). AllByRecursion (λ (k : CodeCall). IsNamed k.functor) cs) (sym c.deref-6.ensures.value) c.in_ok-calls.ensures.named in
+    let same : c.add_atoms.new.names ≡ names = c.in_ok-atoms.ensures.named named in
+    let ext : Extends c.add_atoms.new.names names = subst (λ (ns : List (List ℕ)). Extends c.add_atoms.new.names ns) same (extends_self c.add_atoms.new.names) in
+    let atoms : c.in_ok-atoms.atoms ≡ atoms_after names (firsts (call_variables cs)) p.preds cs =
+    c.in_ok-atoms.ensures.atoms names ext ∙ (λ i. atoms_after names ((c.deref-7.ensures.value ∙ order) i) p.preds (here i)) in
+    let preds : c.add_atoms.new.program.preds ≡ with_calls names p.preds cs = c.in_ok-atoms.ensures.preds names ext ∙ ap (with_calls names p.preds) here in
+    let known = c.has_equality-known.ensures in
+    let clauses : c.add_new_equality.new.program.clauses ≡ with_equality_clause (new_equality names p.preds (with_calls names p.preds cs)) p.clauses =
+    c.in_ok-add_new_equality.ensures.clauses
+    ∙ (λ i. with_equality_clause (if known i then None else position (is_equality (same i)) (preds i)) (c.in_ok-atoms.ensures.clauses i)) in
+    let all : c.add_new_equality.new.program.preds ≡ with_calls names p.preds cs = c.in_ok-add_new_equality.ensures.preds ∙ preds in
+    let listing : c.add_new_equality.new.program ≡ with_query names p cs = λ i. record { preds = all i; clauses = clauses i } in
+    let fresh : c.len.result ≡ length (firsts (call_variables cs)) = omega (arith, c.len.ensures, c.in-Some.order.ok.0, ap (λ (xs : List ℕ). length xs) order) in
+    let made : Query = record { atoms = c.in_ok-atoms.atoms; fresh = c.len.result } in
+    let query : made ≡ query_goal names p cs = λ i. record { atoms = atoms i; fresh = fresh i } in
+    query_well names p cs (query_fault gs) v none few ∙ (λ i. Ok (sym listing i, sym query i))
+
+pub returns-clause-known : goal.returns-clause-known
+returns-clause-known c =
+    subst (λ (ps : List Pred). AllByRecursion (λ (q : Pred). q.name.0 < length c.add_atoms.new.names) ps) (sym c.in_ok-add_new_equality.ensures.preds) (c.in_ok-atoms.ensures.known c.requires.known)

@@ -1,0 +1,26 @@
+use Rattle.std.proofs.Common.{◌≡◌, ◌<◌, ◌∙◌, ℕ, [], List, Result, Ok, length, map, sym, ap, subst}
+use Rattle.std.specs.List.{AllByRecursion}
+use Rattle.cti_terms.specs.Listing.{Listing}
+use Rattle.cti_terms.specs.declared.predicates.Pred.{Pred}
+use Rattle.prolog_reader.proofs.NameLemmas.{extends_self}
+use Rattle.clause_normal.specs.declared.rule.Rule.{Rule as CodeRule}
+use Rattle.clause_normal.specs.NormalForm.{Fault, normal_rules, program_of}
+use Rattle.clause_normal.specs.Numbering.{with_equality, with_rules}
+use Rattle.clause_normal.specs.RuleViews.{rule_of}
+use Rattle.clause_normal.proofs.Later.{rules_stay}
+use Rattle.clause_normal.proofs.text_program.normal.Goals as goal
+
+pub returns-clause-exact : goal.returns-clause-exact
+returns-clause-exact c =
+    let names = c.args.names.now in
+    let later = c.program_of.new.names in
+    let cs = c.args.text.now.clauses in
+    let none : Listing = record { preds = []; clauses = [] } in
+    let program : c.in_ok-program.program ≡ with_rules later none (map rule_of c.in-Ok.rules.items) =
+    c.in_ok-program.ensures.program later (extends_self later) ∙ ap (λ (rs : List CodeRule). with_rules later none (map rule_of rs)) c.deref.ensures.value in
+    ap (program_of later) (rules_stay names later c.in_ok-program.ensures.kept [] 1 cs c.requires.fit.each ∙ ap (normal_rules names [] 1) (sym c.as_slice.ensures) ∙ c.in-Ok.ensures.rules)
+    ∙ ap (λ (p : Listing). Ok (with_equality later p)) (sym program) ∙ ap (λ (p : Listing). Ok p) (sym c.in_ok-add_equality.ensures.program)
+
+pub returns-clause-known : goal.returns-clause-known
+returns-clause-known c =
+    subst (λ (ps : List Pred). AllByRecursion (λ (q : Pred). q.name.0 < length c.program_of.new.names) ps) (sym (ap (λ (p : Listing). p.preds) c.in_ok-add_equality.ensures.program)) c.in_ok-program.ensures.known

@@ -1,0 +1,16 @@
+pub mod Words
+pub mod Terms
+pub mod Bodies
+pub mod Rules
+pub mod Numbering
+pub mod NormalForm
+pub mod Views
+pub mod Stacks
+pub mod Counts
+pub mod Tallies
+pub mod Tasks
+pub mod RuleViews
+pub mod Levels
+pub mod FormViews
+pub mod Faults
+pub mod Query

@@ -1,0 +1,245 @@
+//! The clauses of a text, one after the other.
+
+ghost use Rattle.std.specs.Prelude.{◌≡◌, ◌<◌, ◌≤◌, ◌+◌, ◌*◌, ◌++◌, ◌∷◌, [], ◌^◌, ℕ, IsTrue, Some, None, not, length, map, nat_lt, if◌then◌else◌, Ok, Err, MatchResult, IfOk, OnOk};
+ghost use Rattle.std.specs.List.{AllByRecursion};
+ghost use Rattle.prolog_reader.specs.Clauses.{is_known, nodes};
+ghost use Rattle.prolog_reader.specs.Fit.{IsFit, AreFit};
+ghost use Rattle.prolog_reader.specs.Terms.{tree_of, clause_of};
+ghost use Rattle.clause_normal.specs.Faults.{AnswersFault, AnswersHead, AnswersNext, AnswersNumber, IfFault};
+ghost use Rattle.clause_normal.specs.NormalForm.{goals_fault, variables_fault, with_form, with_clause, normal_rules, clause};
+ghost use Rattle.clause_normal.specs.Bodies.{no_goals};
+ghost use Rattle.clause_normal.specs.RuleViews.{rule_of, RuleIsFit};
+ghost use Rattle.clause_normal.specs.Tallies.{AreNone};
+ghost use Rattle.clause_normal.specs.Terms.{firsts, occurrences};
+ghost use Rattle.clause_normal.specs.declared.fault.NormKind.TheVariants.{ManyClauses};
+ghost use Rattle.clause_normal.specs.Views.{goals_of, branch_work, IsTermFit};
+
+use crate::body::Tallies;
+use crate::checking::body_fault;
+use crate::fault::{NormFault, NormKind};
+use crate::forms::{Form, form_of, head_of};
+use crate::limits::MOST_TEXT_CLAUSES;
+use crate::making::make_rules;
+use crate::order::firsts;
+use crate::rule::{Call, Pending, Rule};
+use crate::tally::Tally;
+use crate::variables::term_variables;
+use cti_terms::{MOST_VARIABLES, Names};
+use prolog_reader::{ReadClause, ReadTerm};
+use std::alloc::{AllocError, Global};
+
+/// Whether there are no more different variables than a clause has.
+fn are_few(alloc: Global, variables: &[u32]) -> Result<bool, AllocError>
+    ensures { IfOk result (λ few. few ≡ not (nat_lt 48 (length (firsts variables.now)))) }
+{
+    match firsts(alloc, variables, MOST_VARIABLES as usize)? {
+        Some(_) => Ok(true),
+        None => Ok(false),
+    }
+}
+
+/// The head of a clause as a call.
+fn head_call<'a>(names: &Names, head: &'a ReadTerm) -> Result<Call<'a>, NormFault>
+    requires { IsTrue (is_known (length names.now) (tree_of head.now)) }
+    ensures { AnswersHead names.now (tree_of head.now) result }
+{
+    match head_of(names, head) {
+        Ok(call) => Ok(call),
+        Err(kind) => Err(NormFault::Fault { kind, at: head.at }),
+    }
+}
+
+/// Tells the fault of a body, if it has one.
+fn check_body(
+    alloc: Global,
+    names: &Names,
+    tallies: &mut Tallies,
+    all: &[u32],
+    body: &ReadTerm,
+) -> Result<(), NormFault>
+    requires fit { IsTermFit (length names.now) (length tallies.old.clause.counts.items) body.now }
+    requires below { AllByRecursion (λ x. x < length tallies.old.clause.counts.items) all.now }
+    requires none { AreNone (length tallies.old.clause.counts.items) tallies.old }
+    ensures none { OnOk result (AreNone (length tallies.old.clause.counts.items) tallies.new) }
+    ensures fault { AnswersFault (goals_fault (goals_of names.now body.now all.now)) result }
+{
+    match body_fault(alloc, names, tallies, all, body)? {
+        Some((kind, at)) => Err(NormFault::Fault { kind, at }),
+        None => Ok(()),
+    }
+}
+
+/// Tells the fault of a clause at a place with too many different variables.
+pub(crate) fn check_variables(alloc: Global, variables: &[u32], at: u32) -> Result<(), NormFault>
+    ensures { AnswersFault (variables_fault at variables.now) result }
+{
+    if are_few(alloc, variables)? {
+        Ok(())
+    } else {
+        Err(NormFault::Fault {
+            kind: NormKind::ManyVariables,
+            at,
+        })
+    }
+}
+
+/// Tells the fault of a clause at a place with which there are too many.
+fn check_count(made: &[Rule], at: u32) -> Result<(), NormFault>
+    ensures fault { AnswersFault (if nat_lt 16384 (length made.now) then Some (ManyClauses, at) else None) result }
+    ensures count { OnOk result (length made.now ≤ 16384) }
+{
+    if made.len() > MOST_TEXT_CLAUSES {
+        Err(NormFault::Fault {
+            kind: NormKind::ManyClauses,
+            at,
+        })
+    } else {
+        Ok(())
+    }
+}
+
+/// Adds a clause at the end.
+fn push_rule<'a>(made: &mut Vec<Rule<'a>>, rule: Rule<'a>) -> Result<(), AllocError>
+    ensures { OnOk result (made.new.items ≡ made.old.items ++ rule.entry ∷ []) }
+{
+    made.push(rule)?;
+    Ok(())
+}
+
+/// Adds the clause that a head alone is, which is the term of the clause.
+fn add_fact<'a>(
+    alloc: Global,
+    names: &Names,
+    made: &mut Vec<Rule<'a>>,
+    term: &'a ReadTerm,
+) -> Result<(), NormFault>
+    requires { IsTrue (is_known (length names.now) (tree_of term.now)) }
+    ensures made { (vars n : ℕ) → AnswersNext (with_form names.now (map rule_of made.old.items) n (record { term = tree_of term.now; vars = vars }) (clause (tree_of term.now) no_goals)) (map rule_of made.new.items) n result }
+    ensures count { OnOk result (length made.new.items ≤ 16384) }
+    ensures fit { OnOk result (AllByRecursion (RuleIsFit (length names.now)) made.old.items → AllByRecursion (RuleIsFit (length names.now)) made.new.items) }
+{
+    let head = match head_call(names, term) {
+        Ok(head) => head,
+        Err(fault) => return Err(fault),
+    };
+    let variables = term_variables(alloc, term)?;
+    match check_variables(alloc, &variables, term.at) {
+        Ok(()) => {}
+        Err(fault) => return Err(fault),
+    }
+    push_rule(
+        made,
+        Rule {
+            head,
+            body: Vec::new(alloc),
+        },
+    )?;
+    check_count(made, term.at)
+}
+
+/// Adds the clauses that a head with a body becomes, and answers the number of the next disjunction.
+fn add_implication<'a>(
+    alloc: Global,
+    names: &Names,
+    made: &mut Vec<Rule<'a>>,
+    next: u64,
+    term: &ReadTerm,
+    vars: u32,
+    head: &'a ReadTerm,
+    body: &'a ReadTerm,
+) -> Result<u64, NormFault>
+    requires room { next + branch_work body.now < 2 ^ 64 }
+    requires term { IsTermFit (length names.now) vars term.now }
+    requires head { IsTermFit (length names.now) vars head.now }
+    requires body { IsTermFit (length names.now) vars body.now }
+    requires variables { occurrences (tree_of term.now) ≡ occurrences (tree_of head.now) ++ occurrences (tree_of body.now) }
+    ensures made { AnswersNumber (with_form names.now (map rule_of made.old.items) next (record { term = tree_of term.now; vars = vars })
+        (clause (tree_of head.now) (goals_of names.now body.now (occurrences (tree_of head.now) ++ occurrences (tree_of body.now))))) (map rule_of made.new.items) result }
+    ensures few { IfOk result (λ n. n ≤ next + branch_work body.now) }
+    ensures count { OnOk result (length made.new.items ≤ 16384) }
+    ensures fit { OnOk result (AllByRecursion (RuleIsFit (length names.now)) made.old.items → AllByRecursion (RuleIsFit (length names.now)) made.new.items) }
+{
+    let head = match head_call(names, head) {
+        Ok(head) => head,
+        Err(fault) => return Err(fault),
+    };
+    let all = term_variables(alloc, term)?;
+    let mut tallies = Tallies {
+        clause: Tally::new(alloc, vars)?,
+        choice: Tally::new(alloc, vars)?,
+    };
+    match check_body(alloc, names, &mut tallies, &all, body) {
+        Ok(()) => {}
+        Err(fault) => return Err(fault),
+    }
+    match check_variables(alloc, &all, term.at) {
+        Ok(()) => {}
+        Err(fault) => return Err(fault),
+    }
+    let pending = Pending { head, all, body };
+    let after = make_rules(alloc, names, &mut tallies, made, next, pending)?;
+    match check_count(made, term.at) {
+        Ok(()) => Ok(after),
+        Err(fault) => Err(fault),
+    }
+}
+
+/// Adds the clauses that a clause of a text becomes, and answers the number of the next disjunction.
+fn add_clause<'a>(
+    alloc: Global,
+    names: &Names,
+    made: &mut Vec<Rule<'a>>,
+    next: u64,
+    clause: &'a ReadClause,
+) -> Result<u64, NormFault>
+    requires room { next + 3 * nodes (tree_of clause.now.term) + 1 < 2 ^ 64 }
+    requires fit { IsFit (length names.now) (clause_of clause.now) }
+    ensures made { AnswersNumber (with_clause names.now (map rule_of made.old.items) next (clause_of clause.now)) (map rule_of made.new.items) result }
+    ensures few { IfOk result (λ n. n ≤ next + 3 * nodes (tree_of clause.now.term)) }
+    ensures count { OnOk result (length made.old.items ≤ 16384 → length made.new.items ≤ 16384) }
+    ensures fit { OnOk result (AllByRecursion (RuleIsFit (length names.now)) made.old.items → AllByRecursion (RuleIsFit (length names.now)) made.new.items) }
+{
+    match form_of(names, &clause.term) {
+        Form::Skipped => Ok(next),
+        Form::Refused(kind) => Err(NormFault::Fault {
+            kind,
+            at: clause.term.at,
+        }),
+        Form::Fact(term) => match add_fact(alloc, names, made, term) {
+            Ok(()) => Ok(next),
+            Err(fault) => Err(fault),
+        },
+        Form::Rule(head, body) => add_implication(
+            alloc,
+            names,
+            made,
+            next,
+            &clause.term,
+            clause.vars,
+            head,
+            body,
+        ),
+    }
+}
+
+/// The clauses that the clauses of a text become.
+pub(crate) fn text_rules<'a>(
+    alloc: Global,
+    names: &Names,
+    clauses: &'a [ReadClause],
+) -> Result<Vec<Rule<'a>>, NormFault>
+    requires fit { AreFit (length names.now) (map clause_of clauses.now) }
+    ensures rules { MatchResult result (λ v. normal_rules names.now [] 1 (map clause_of clauses.now) ≡ Ok (map rule_of v.items)) (λ e. IfFault e (λ f. normal_rules names.now [] 1 (map clause_of clauses.now) ≡ Err f)) }
+    ensures fit { IfOk result (λ v. AllByRecursion (RuleIsFit (length names.now)) v.items) }
+    ensures count { IfOk result (λ v. length v.items ≤ 16384) }
+{
+    let mut made = Vec::new(alloc);
+    let mut next = 1;
+    'clauses: for clause in clauses {
+        match add_clause(alloc, names, &mut made, next, clause) {
+            Ok(after) => next = after,
+            Err(fault) => return Err(fault),
+        }
+    }
+    Ok(made)
+}

@@ -1,0 +1,34 @@
+//! The normal form of a text's clauses: a program of pure clauses, or the first fault.
+//!
+//! A body is a conjunction of calls, and each disjunction becomes a predicate of its own, whose clauses are its branches.
+//! `specs/NormalForm.antt` says which program that is and which fault comes first, and `specs/Query.antt` the same of queries.
+//! Stands on `cti_terms` for programs, `prolog_reader` for clauses with places, and `thiserror`.
+#![tactic(auto)]
+
+mod body;
+mod branches;
+mod checking;
+mod clauses;
+mod copying;
+mod fault;
+mod forms;
+mod level;
+mod limits;
+mod making;
+mod numbering;
+mod order;
+mod part;
+mod query;
+mod rule;
+mod tally;
+mod task;
+#[cfg(test)]
+mod tests;
+mod text_program;
+mod variables;
+mod words;
+
+pub use fault::{NormFault, NormKind};
+pub use limits::MOST_TEXT_CLAUSES;
+pub use query::normal_query;
+pub use text_program::normal;

@@ -1,0 +1,54 @@
+//! How often variables occur.
+
+ghost use Rattle.std.specs.Prelude.{◌≡◌, ◌<◌, [], length, slice_index, IfOk};
+ghost use Rattle.std.specs.List.{AllByRecursion};
+ghost use Rattle.clause_normal.specs.Counts.{AreCounts};
+
+use std::alloc::{AllocError, Global};
+
+/// How often each variable occurs.
+#[derive(Debug, Drop)]
+pub(crate) struct Tally {
+    pub(crate) counts: Vec<usize>,
+}
+
+impl Tally {
+    /// So many variables, none of which occurs.
+    pub(crate) fn new(alloc: Global, vars: u32) -> Result<Tally, AllocError>
+        ensures { IfOk result (λ t. AreCounts vars [] t.counts.items) }
+    {
+        Ok(Tally {
+            counts: vec![in alloc; 0; vars as usize]?,
+        })
+    }
+
+    /// Counts these variables, where none was counted.
+    pub(crate) fn add(&mut self, variables: &[u32])
+        requires none { AreCounts (length self.old.counts.items) [] self.old.counts.items }
+        requires below { AllByRecursion (λ x. x < length self.old.counts.items) variables.now }
+        ensures { AreCounts (length self.old.counts.items) variables.now self.new.counts.items }
+    {
+        for x in variables {
+            self.counts[*x as usize] += 1;
+        }
+    }
+
+    /// Forgets these variables, which were counted.
+    pub(crate) fn remove(&mut self, variables: &[u32])
+        requires counted { AreCounts (length self.old.counts.items) variables.now self.old.counts.items }
+        requires below { AllByRecursion (λ x. x < length self.old.counts.items) variables.now }
+        ensures { AreCounts (length self.old.counts.items) [] self.new.counts.items }
+    {
+        for x in variables {
+            self.counts[*x as usize] -= 1;
+        }
+    }
+
+    /// How often a variable was counted.
+    pub(crate) fn of(&self, x: u32) -> usize
+        requires { x < length self.now.counts.items }
+        ensures { result ≡ slice_index self.now.counts.items x }
+    {
+        self.counts[x as usize]
+    }
+}
