@@ -1,7 +1,7 @@
+pub mod WordLemmas
 pub mod Taking
-pub mod Adding
-pub mod LineLemmas
-pub mod FactLemmas
-pub mod ReadLemmas
+pub mod ModeLemmas
+pub mod PlaceLemmas
+pub mod SourceLemmas
 pub mod AnswerLemmas
-pub mod Examples
+pub mod OutcomeLemmas

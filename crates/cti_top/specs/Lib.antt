@@ -2,9 +2,12 @@ pub mod Causes
 pub mod Told
 pub mod Held
 pub mod Status
-pub mod Refusal
 pub mod Words
-pub mod FactProgram
-pub mod Adding
+pub mod Line
+pub mod Places
+pub mod Refusal
+pub mod Programs
 pub mod Modes
+pub mod Faults
 pub mod Outcome
+pub mod Answers

@@ -1,50 +1,46 @@
--- What is printed for a program of facts, and what it promises.
+-- What is printed for a program: its modes, as far as they are known.
 --
--- To believe: `certificate_text`, `EveryQueryEnds`, `PrintsModes`, `IsModesOf`.
-use Rattle.std.specs.Prelude.{◌≡◌, ◌≢◌, ℕ, ◌<◌, List, [], ◌∷◌, ◌++◌, length, codes, decimal}
+-- A predicate that reaches no cycle of calls has the empty mode: all of its queries end. Of other predicates nothing is said.
+--
+-- To believe: all of this file, over the program of a text, `ReachesNoCycle` of call_components, `text_of` of certificate and `Bounded` of
+-- cti_terms.
+use Rattle.std.specs.Prelude.{◌≡◌, ℕ, suc, pos, List, [], ◌∷◌}
+use Rattle.cti_terms.specs.Derive.{query, Bounded}
 use Rattle.cti_terms.specs.Listing.{Listing}
-use Rattle.std.specs.List.{AllPairs}
-use Rattle.cti_terms.specs.Derive.{IsDerivation, Bounded}
 use Rattle.cti_terms.specs.declared.atom_list.Atom.{Atom}
 use Rattle.cti_terms.specs.declared.predicates.Pred.{Pred}
-use Rattle.prolog_reader.specs.Placed.{Clause as Fact}
-use Rattle.prolog_reader.specs.Reading.{ReadsFacts, name_text}
-use Rattle.cti_top.specs.FactProgram.{IsFactProgram}
+use Rattle.call_components.specs.Calls.{ReachesNoCycle}
+use Rattle.certificate.specs.declared.fact.Fact.{Fact}
+use Rattle.certificate.specs.declared.fact.Fact.TheVariants.{Cti, Terminates}
+use Rattle.certificate.specs.declared.pred_text.PredText.{PredText}
+use Rattle.certificate.specs.Text.{text_of}
+use Rattle.prolog_reader.specs.Names.{name_text}
+use Rattle.prolog_reader.specs.Table.{Table}
+use Rattle.cti_top.specs.Programs.{IsProgramOf}
 
--- the indicator of a predicate: its name, a slash and its arity
-abbrev pub indicator : List (List ℕ) → Pred → List ℕ
-indicator names p = name_text names p.name.0 ++ codes "/" ++ decimal p.arity
+-- a predicate by its name's text
+abbrev pub pred_text : List (List ℕ) → Pred → PredText
+pred_text names q = record { name = name_text names q.name.0; arity = q.arity }
 
--- the line of a predicate: each of its queries ends
-abbrev pub predicate_line : List (List ℕ) → Pred → List ℕ
-predicate_line names p = codes "terminates(" ++ indicator names p ++ codes ",[[]]).\n"
+-- the modes of the predicate of this number
+pub data HasModes (p : Listing) (q : ℕ) : List (List ℕ) → Type 0 where
+  all_end : ReachesNoCycle p q → HasModes p q ([] ∷ [])
+  unknown : (ReachesNoCycle p q → ⊥) → HasModes p q []
 
--- a line for each predicate, in order
-abbrev pub predicate_lines : List (List ℕ) → List Pred → List ℕ
-predicate_lines names [] = []
-predicate_lines names (p ∷ ps) = predicate_line names p ++ predicate_lines names ps
+-- the facts are those of these predicates, which are numbered from q on
+pub data AreModes (p : Listing) (names : List (List ℕ)) : ℕ → List Pred → List Fact → Type 0 where
+  no_more : {q : ℕ} → AreModes p names q [] []
+  one_more : {q : ℕ} {pred : Pred} {preds : List Pred} {facts : List Fact} (modes : List (List ℕ))
+      → HasModes p q modes → AreModes p names (suc q) preds facts → AreModes p names q (pred ∷ preds) (Terminates (pred_text names pred) modes ∷ facts)
 
--- the version, and the lines of the predicates
-abbrev pub certificate_text : List (List ℕ) → List Pred → List ℕ
-certificate_text names preds = codes "cti(1).\n" ++ predicate_lines names preds
-
--- every query of one atom, with any terms and any counter, has no derivation of two or more steps, and so is bounded
-pub record EveryQueryEnds (p : Listing) : Type 0 where
-  pub short : (a : Atom) (fresh : ℕ) (ks : List ℕ) → IsDerivation p (record { atoms = a ∷ []; fresh = fresh }) ks → length ks < 2
-  pub bounded : (a : Atom) (fresh : ℕ) → Bounded p (record { atoms = a ∷ []; fresh = fresh })
-
--- The text is what is printed for these facts, with names by their numbers among texts of which no two are equal: the facts
--- are a program, the text has a line for each of its predicates, and every query of it ends.
-pub record PrintsModes (names : List (List ℕ)) (facts : List (Fact ℕ)) (text : List ℕ) : Type 0 where
-  pub program : Listing
-  pub distinct : AllPairs (λ (a b : List ℕ). a ≢ b) names
-  pub is : IsFactProgram facts program
-  pub printed : text ≡ certificate_text names program.preds
-  pub ends : EveryQueryEnds program
-
--- the text is what is printed for a program's bytes: they are some facts, and it is printed for these
+-- The text is what is printed for a program's bytes: the version and the modes of its predicates, in order; and each query of a predicate
+-- with the empty mode is bounded, with any terms and any counter.
 pub record IsModesOf (bytes text : List ℕ) : Type 0 where
   pub names : List (List ℕ)
-  pub facts : List (Fact ℕ)
-  pub reads : ReadsFacts bytes names facts
-  pub prints : PrintsModes names facts text
+  pub program : Listing
+  pub table : Table
+  pub is : IsProgramOf bytes names program table
+  pub facts : List Fact
+  pub modes : AreModes program names 0 program.preds facts
+  pub printed : text ≡ text_of (Cti (pos 1) ∷ facts)
+  pub ends : (a : Atom) (fresh : ℕ) → ReachesNoCycle program a.pred.0 → Bounded program (query a fresh)

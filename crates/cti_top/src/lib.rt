@@ -2,27 +2,30 @@
 #![tactic(auto)]
 
 mod answering;
-mod facts;
 mod files;
+mod line;
 mod memory_files;
 mod memory_sink;
 mod modes;
+mod places;
 mod real_files;
 mod real_sink;
 mod refusal;
+mod request;
 mod sink;
+mod source;
 mod status;
 mod sure;
 #[cfg(test)]
 mod tests;
 mod top_call;
-mod words;
 mod writing;
 
 pub use files::{Files, LoadFault};
 pub use memory_files::MemFiles;
 pub use memory_sink::MemSink;
 pub use real_files::RealFiles;
+pub use places::Position;
 pub use real_sink::RealSink;
 pub use refusal::{Subject, refusal_text};
 pub use sink::{Sink, SinkFault};

@@ -64,26 +64,38 @@ fn repeated(alloc: Global, first: &[u8], text: &[u8], count: usize) -> Result<Ve
 }
 
 #[test]
-fn facts_and_their_modes(rt: HostRuntime) -> Result<(), Fail> {
+fn programs_and_their_modes(rt: HostRuntime) -> Result<(), Fail> {
     let alloc = rt.alloc();
     for (text, lines) in [
+        ("", ""),
+        ("edge(a,b).\nedge(b,c).\n", "terminates(edge/2,[[]]).\n"),
         (
-            b"edge(a,b).\nedge(b,c).\n".as_slice(),
-            b"cti(1).\nterminates(edge/2,[[]]).\n".as_slice(),
-        ),
-        (b"".as_slice(), b"cti(1).\n".as_slice()),
-        (
-            b"p(a,b,c,d,e,f,g,h,i,j,k,l).".as_slice(),
-            b"cti(1).\nterminates(p/12,[[]]).\n".as_slice(),
+            "r :- p, q. p :- p. q.",
+            "terminates(r/0,[]).\nterminates(p/0,[]).\nterminates(q/0,[[]]).\n",
         ),
         (
-            b"q(X, f(_)) . p. q. p(p).".as_slice(),
-            b"cti(1).\nterminates(q/2,[[]]).\nterminates(p/0,[[]]).\nterminates(q/0,[[]]).\nterminates(p/1,[[]]).\n".as_slice(),
+            "p(X) :- q(X).",
+            "terminates(p/1,[[]]).\nterminates(q/1,[[]]).\n",
         ),
+        (
+            "p(a,b,c,d,e,f,g,h,i,j,k,l).",
+            "terminates(p/12,[[]]).\n",
+        ),
+        (
+            "mem(X,[Y|T]) :- ( X = Y ; mem(X,T) ).",
+            "terminates(mem/2,[]).\nterminates('$or1'/3,[]).\nterminates('='/2,[[]]).\n",
+        ),
+        (
+            ":- op(700,xfx,===).\nX === X.",
+            "terminates('==='/2,[[]]).\n",
+        ),
+        ("p('é'). % ü", "terminates(p/1,[[]]).\n"),
+        ("p :- fail, true.", "terminates(p/0,[[]]).\nterminates(fail/0,[[]]).\n"),
     ] {
-        let (status, taken) = infer(alloc, text)?;
-        assert_eq!(rt; status, Status::Done, "{text:?}");
-        assert_eq!(rt; taken.as_slice(), lines, "{text:?}");
+        let (status, taken) = infer(alloc, text.as_bytes())?;
+        let lines = repeated(alloc, b"cti(1).\n", lines.as_bytes(), 1)?;
+        assert_eq!(rt; status, Status::Done, "{text}");
+        assert_eq!(rt; taken, lines, "{text}");
     }
     Ok(())
 }
@@ -91,25 +103,35 @@ fn facts_and_their_modes(rt: HostRuntime) -> Result<(), Fail> {
 #[test]
 fn refused_programs(rt: HostRuntime) -> Result<(), Fail> {
     let alloc = rt.alloc();
-    let many_variables = repeated(alloc, b"p(_", b",_", 48)?;
-    let many_variables = repeated(alloc, &many_variables, b").", 1)?;
-    let many_facts = repeated(alloc, b"", b"p.\n", 16_385)?;
-    let long = repeated(alloc, b"", b"\n", 1_048_577)?;
-    let unbuilt = b"refused(program,1,1,17).\n".as_slice();
     for (text, line) in [
-        (b"p(a,b,c,d,e,f,g,h,i,j,k,l,m).".as_slice(), unbuilt),
-        (many_variables.as_slice(), unbuilt),
-        (b"is(a).".as_slice(), unbuilt),
-        (b"p :- q.".as_slice(), unbuilt),
-        (b"p(a".as_slice(), unbuilt),
-        (b"p(1).".as_slice(), unbuilt),
-        (many_facts.as_slice(), unbuilt),
-        (long.as_slice(), b"refused(program,1,1,8).\n".as_slice()),
+        ("X :- a.", "refused(program,1,1,12).\n"),
+        ("p(a", "refused(program,1,4,6).\n"),
+        ("p :- X.", "refused(program,1,6,11).\n"),
+        ("p(a,b,c,d,e,f,g,h,i,j,k,l,m).", "refused(program,1,1,9).\n"),
+        ("true.", "refused(program,1,1,12).\n"),
+        ("append :- call(x).", "refused(program,1,11,11).\n"),
+        ("a = b = c.", "refused(program,1,7,6).\n"),
+        ("p(1.5).", "refused(program,1,3,4).\n"),
+        ("p(X) :- !, q(X).", "refused(program,1,9,11).\n"),
+        ("p('ab", "refused(program,1,3,2).\n"),
+        (":- op(1201,xfx,foo).", "refused(program,1,1,14).\n"),
+        (":- use_module(library(lists)).", "refused(program,1,1,13).\n"),
+        (":- :- --> a.", "refused(program,1,7,6).\n"),
+        ("p(é).", "refused(program,1,3,1).\n"),
+        ("p.\nq :-\n  r(X),\n  Y.", "refused(program,4,3,11).\n"),
+        (
+            "p(a,b,c,d,e,f,g,h,i,j,k,l,m).\nq",
+            "refused(program,2,2,6).\n",
+        ),
     ] {
-        let (status, taken) = infer(alloc, text)?;
-        assert_eq!(rt; status, Status::Refused);
-        assert_eq!(rt; taken.as_slice(), line);
+        let (status, taken) = infer(alloc, text.as_bytes())?;
+        assert_eq!(rt; status, Status::Refused, "{text}");
+        assert_eq!(rt; taken.as_slice(), line.as_bytes(), "{text}");
     }
+    let long = repeated(alloc, b"", b"\n", 1_048_577)?;
+    let (status, taken) = infer(alloc, &long)?;
+    assert_eq!(rt; status, Status::Refused);
+    assert_eq!(rt; taken.as_slice(), b"refused(program,1,1,8).\n".as_slice());
     Ok(())
 }
 
@@ -120,7 +142,10 @@ fn other_statuses(rt: HostRuntime) -> Result<(), Fail> {
         ["infer"].as_slice(),
         ["infer", "a", "b"].as_slice(),
         ["infer", "-x"].as_slice(),
-        ["infer", ""].as_slice(),
+        ["infer", "--help"].as_slice(),
+        ["--help"].as_slice(),
+        ["help"].as_slice(),
+        ["--version"].as_slice(),
         ["prove", "a"].as_slice(),
     ] {
         let mut out = sink(alloc, 99, &[])?;

@@ -2,9 +2,9 @@
 
 ghost use Rattle.std.specs.Prelude.{◌≡◌, List, ℕ, map, Some};
 ghost use Rattle.cti_top.specs.Causes.{Rose};
-ghost use Rattle.cti_top.specs.Words.{infer_file};
-ghost use Rattle.cti_top.specs.Outcome.{HasFile, IsDoneOrMemory, Outcome};
-ghost use Rattle.prolog_reader.specs.Reading.{IsReadable};
+ghost use Rattle.cti_top.specs.Words.{asks, infer};
+ghost use Rattle.cti_top.specs.Programs.{IsRefused};
+ghost use Rattle.cti_top.specs.Outcome.{HasFile, IsDoneOrMemory, IsShort, Outcome};
 
 use crate::answering::answer_for;
 use crate::files::Files;
@@ -15,7 +15,7 @@ use std::alloc::Global;
 
 /// Carries out the command that the words after the program's name ask for.
 ///
-/// `infer FILE` reads the facts of a file and writes, for each predicate, that each of its queries ends. The answer is
+/// `infer FILE` reads the program of a file and writes, for each predicate, its modes as far as they are known. The answer is
 /// complete, and all memory is taken, before the first byte is written.
 pub fn command<F: Files, S: Sink>(
     alloc: Global,
@@ -23,15 +23,16 @@ pub fn command<F: Files, S: Sink>(
     files: &mut F,
     out: &mut S,
 ) -> Status
-    ensures outcome { Outcome (F.told files.old) (map (λ w. w.now) words.now) (S.taken out.old) (S.taken out.new) result }
+    ensures outcome { Outcome (F.told files.old) (map (λ w. w.now) words.entry.now) (S.taken out.old) (S.taken out.new) result }
 
     // A fault of a file comes only from a failed load of the file that the words name, and one of the sink only from a failed write.
     ensures file_fault { result ≡ Status.FileFault
-        → (name : List ℕ) × (infer_file (map (λ w. w.now) words.now) ≡ Some name) × Rose (F.faults files.old name) (F.faults files.new name) }
+        → (name : List ℕ) × (asks (map (λ w. w.now) words.entry.now) ≡ Some (infer name)) × Rose (F.faults files.old name) (F.faults files.new name) }
     ensures out_fault { result ≡ Status.OutFault → Rose (S.faults out.old) (S.faults out.new) }
 
-    // A file that is told and is a list of facts is answered, unless memory runs out or a count of faults rises.
-    ensures complete { (name bytes : List ℕ) → infer_file (map (λ w. w.now) words.now) ≡ Some name → HasFile (F.told files.old) name bytes → IsReadable bytes
+    // A file that is told, is short and has no fault is answered, unless memory runs out or a count of faults rises.
+    ensures complete { (name bytes : List ℕ) → asks (map (λ w. w.now) words.entry.now) ≡ Some (infer name) → HasFile (F.told files.old) name bytes → IsShort bytes
+        → ((kind at : ℕ) → IsRefused bytes kind at → ⊥)
         → (Rose (F.faults files.old name) (F.faults files.new name) → ⊥) → (Rose (S.faults out.old) (S.faults out.new) → ⊥) → IsDoneOrMemory result }
 {
     match answer_for(alloc, words, files) {

@@ -1,0 +1,42 @@
+-- Words that the command line takes.
+use Rattle.std.proofs.Common.{ℕ, nat_eq, codes, option_map, ◌≡◌, Bool, true, false, List, [], ◌∷◌, Option, Some, refl, is_some}
+use Rattle.clap.specs.Words.{Kinds, Text, fault_of, first_of, subcommand_of}
+use Rattle.clap.specs.Kinds.{check_kinds, or_else}
+use Rattle.clap.specs.Faults.{defaults_fault, level_fault, settle_fault, walk_fault}
+use Rattle.clap.specs.Simple.{Shape, built}
+use Rattle.clap.specs.Walk.{Held, Names, settled, walk, walk_from}
+use Rattle.clap.proofs.OnLiterals.{clap_on_literals}
+use Rattle.cti_top.specs.Words.{line}
+
+or_else_nil : (a b : Kinds) → or_else a b ≡ [] → (a ≡ []) × (b ≡ [])
+or_else_nil [] b h = (refl, h)
+or_else_nil (k ∷ ks) b h = cc
+
+wants_one : (x y : Bool) → check_kinds x true y ≡ [] → ⊥
+wants_one true y h = cc
+wants_one false y h = cc
+
+-- a level that needs a subcommand and has no fault has one
+level_needs : (s : Shape) (names : Names) (h : Held) (words : List Text) (has : Bool) (below : Kinds) → s.subcommand_required ≡ true → level_fault s names h words has below ≡ [] → has ≡ true
+level_needs s names h words true below needs none = refl
+level_needs s names h words false below needs none =
+    let end = (walk s.rules names h words).held in
+    let a = or_else_nil (walk_fault s names (walk_from h) words) _ none in
+    let b = or_else_nil below _ a.1 in
+    let c = or_else_nil (settle_fault s.rules s.args_override_self end) _ b.1 in
+    let d = or_else_nil (defaults_fault (settled s.rules end).rows s.rules) _ c.1 in
+    let last = rw needs at d.1 in
+    absurd (search (wants_one, last))
+
+-- words that are taken enter a subcommand
+pub is_entered : (words : List Text) → fault_of line words ≡ [] → is_some (subcommand_of line words) ≡ true
+is_entered words h = level_needs (built line).top _ _ _ _ _ refl h
+
+-- a file's name that does not begin with a dash is taken
+pub infer_taken : (c : ℕ) (cs : List ℕ) → nat_eq c 45 ≡ false → fault_of line (codes "infer" ∷ (c ∷ cs) ∷ []) ≡ []
+unfolding clap_on_literals
+infer_taken c cs h = simp h
+
+pub infer_rows : (c : ℕ) (cs : List ℕ) → nat_eq c 45 ≡ false → option_map {U = Text × Option Text} (λ p. (p.0, first_of (codes "file") p.1)) (subcommand_of line (codes "infer" ∷ (c ∷ cs) ∷ [])) ≡ Some (codes "infer", Some (c ∷ cs))
+unfolding clap_on_literals
+infer_rows c cs h = simp h

@@ -1,0 +1,14 @@
+use Rattle.std.proofs.Common.{map}
+use Rattle.cti_top.proofs.OutcomeLemmas.{outcome_of, done_or_memory}
+use Rattle.cti_top.proofs.top_call.command.Goals as goal
+
+pub returns-in-Ok-write_text-clause-outcome : goal.returns-in-Ok-write_text-clause-outcome
+returns-in-Ok-write_text-clause-outcome g c =
+    outcome_of (g.F.Files.told c.args.files.now) (map (λ w. w.now) c.args.words.now) _ _ c.in-Ok.answer.status c.in-Ok.answer.text.items c.in-Ok.ensures.answered (rw c.deref.ensures.value at c.in-Ok-write_text.ensures.whole)
+
+pub returns-in-Ok-write_text-clause-complete : goal.returns-in-Ok-write_text-clause-complete
+returns-in-Ok-write_text-clause-complete g c name bytes asked has short none calm still =
+    done_or_memory (g.F.Files.told c.args.files.now) (map (λ w. w.now) c.args.words.now) c.in-Ok.answer.status c.in-Ok.answer.text.items name bytes c.in-Ok.ensures.answered asked has short none
+
+pub returns-in-Ok-clause-outcome : goal.returns-in-Ok-clause-outcome
+returns-in-Ok-clause-outcome g c = (c.in-Ok.answer.status, c.in-Ok.answer.text.items, c.in-Ok.ensures.answered, rw c.deref.ensures.value at c.in-Err-write_text.ensures.part)

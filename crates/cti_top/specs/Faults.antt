@@ -1,0 +1,23 @@
+-- What a fault of a text is. Nothing here has to be believed.
+use Rattle.std.specs.Prelude.{ℕ, List}
+use Rattle.cti_top.specs.declared.source.SourceFault.{SourceFault}
+use Rattle.cti_top.specs.declared.source.SourceFault.TheVariants as source
+use Rattle.prolog_reader.specs.declared.fault.ReadFault.{ReadFault}
+use Rattle.prolog_reader.specs.declared.fault.ReadFault.TheVariants as reading
+use Rattle.clause_normal.specs.declared.fault.NormFault.{NormFault}
+use Rattle.clause_normal.specs.declared.fault.NormFault.TheVariants as normal
+use Rattle.cti_top.specs.Refusal.{read_number, normal_number}
+use Rattle.cti_top.specs.Programs.{IsRefused}
+
+-- the bytes of a program are refused so; want of memory says nothing
+abbrev pub IsProgramFault : List ℕ → SourceFault → Type 0
+IsProgramFault bytes (source.Refused kind at) = IsRefused bytes kind at
+IsProgramFault bytes source.Memory = Unit {0}
+
+abbrev pub read_fault : ReadFault → SourceFault
+read_fault (reading.Fault kind at) = source.Refused (read_number kind) at
+read_fault reading.Memory = source.Memory
+
+abbrev pub normal_fault : NormFault → SourceFault
+normal_fault (normal.Fault kind at) = source.Refused (normal_number kind) at
+normal_fault normal.Memory = source.Memory

@@ -1,0 +1,61 @@
+//! The command line, part by part, as `clap` reads it.
+
+ghost use Rattle.std.specs.Prelude.{◌≡◌, IfOk, false, codes};
+ghost use Rattle.cti_top.specs.Words.{line, top_line, infer_line, required_word};
+ghost use Rattle.cti_top.specs.Line.{IsLine};
+ghost use Rattle.clap.specs.declared.Command.TheViews.{out-Command};
+ghost use Rattle.clap.specs.Words.{app_of, rule_of, with_rule, with_subcommand};
+
+use clap::{Arg, Command};
+use std::alloc::{AllocError, Global};
+
+/// A positional word that has to be given.
+fn word<'a>(alloc: Global, id: &'a str) -> Arg<'a>
+    ensures rule { rule_of result ≡ required_word id.entry.now }
+    ensures local { result.global ≡ false }
+{
+    Arg::new(alloc, id).required(true)
+}
+
+/// The command with one argument more.
+fn with_argument<'a>(command: Command<'a>, arg: Arg<'a>) -> Result<Command<'a>, AllocError>
+    requires local { arg.global ≡ false }
+    requires globals { (out-Command command).has_globals ≡ false }
+    ensures { IfOk result (IsLine (with_rule (app_of command.entry) (rule_of arg.entry))) }
+{
+    command.arg(arg)
+}
+
+/// The command with one subcommand more.
+fn with_command<'a>(command: Command<'a>, sub: Command<'a>) -> Result<Command<'a>, AllocError>
+    requires local { (out-Command sub).has_globals ≡ false }
+    requires globals { (out-Command command).has_globals ≡ false }
+    ensures { IfOk result (IsLine (with_subcommand (app_of command.entry) (app_of sub.entry).top)) }
+{
+    command.subcommand(sub)
+}
+
+/// The command line without its subcommands.
+fn top<'a>(alloc: Global) -> Command<'a>
+    ensures { IsLine top_line result }
+{
+    Command::new(alloc, "cti")
+        .no_binary_name(true)
+        .disable_help_flag(true)
+        .disable_help_subcommand(true)
+        .subcommand_required(true)
+}
+
+/// `infer FILE`
+fn infer<'a>(alloc: Global) -> Result<Command<'a>, AllocError>
+    ensures { IfOk result (IsLine infer_line) }
+{
+    with_argument(Command::new(alloc, "infer"), word(alloc, "file"))
+}
+
+/// The command line, with no words read.
+pub fn command_line<'a>(alloc: Global) -> Result<Command<'a>, AllocError>
+    ensures { IfOk result (IsLine line) }
+{
+    with_command(top(alloc), infer(alloc)?)
+}

@@ -1,0 +1,126 @@
+//! The program of a text, and the goal of a query.
+
+ghost use Rattle.std.specs.Prelude.{◌≡◌, ◌<◌, ◌≤◌, ℕ, length, IfOk, IfErr};
+ghost use Rattle.std.specs.List.{AllByRecursion};
+ghost use Rattle.cti_terms.specs.Listing.{IsProgram};
+ghost use Rattle.cti_terms.specs.declared.predicates.Pred.{Pred as ThePred};
+ghost use Rattle.prolog_reader.specs.Meanings.{table_of};
+ghost use Rattle.cti_top.specs.Refusal.{lexical_number, read_number, normal_number};
+ghost use Rattle.cti_top.specs.Programs.{IsProgramOf};
+ghost use Rattle.cti_top.specs.Faults.{IsProgramFault, read_fault, normal_fault};
+
+use clause_normal::{NormFault, NormKind, normal};
+use cti_terms::{Names, Program};
+use prolog_reader::{Ops, ReadFault, ReadKind, read_text};
+use prolog_tokens::LexKind;
+use std::alloc::Global;
+
+/// A program, with the names and the operators that its text leaves.
+#[derive(Drop)]
+pub struct Source {
+    pub names: Names,
+    pub ops: Ops,
+    pub program: Program,
+}
+
+/// Why a text is refused. A place counts bytes from 0.
+#[derive(Clone, Copy, Debug, PartialEq, Eq)]
+pub enum SourceFault {
+    /// The text is refused at this place; the kind is its number in the printed line.
+    Refused { kind: u32, at: u32 },
+    /// Memory ran out.
+    Memory,
+}
+
+/// The number of a lexical fault's kind.
+fn lexical_number(kind: LexKind) -> u32
+    ensures { result ≡ lexical_number kind }
+{
+    match kind {
+        LexKind::BadByte => 1,
+        LexKind::Unclosed => 2,
+        LexKind::BadEscape => 3,
+        LexKind::Float => 4,
+        LexKind::WideNumber => 5,
+    }
+}
+
+/// The number of the kind of a fault in reading.
+fn read_number(kind: ReadKind) -> u32
+    ensures { result ≡ read_number kind }
+{
+    match kind {
+        ReadKind::Lex(kind) => lexical_number(kind),
+        ReadKind::Unexpected => 6,
+        ReadKind::Deep => 7,
+        ReadKind::Long => 8,
+        ReadKind::BadOp => 14,
+    }
+}
+
+/// The number of the kind of a fault of the normal form.
+fn normal_number(kind: NormKind) -> u32
+    ensures { result ≡ normal_number kind }
+{
+    match kind {
+        NormKind::Arity => 9,
+        NormKind::ManyVariables => 10,
+        NormKind::NotPure => 11,
+        NormKind::BadHead => 12,
+        NormKind::Directive => 13,
+        NormKind::ManyClauses => 15,
+    }
+}
+
+/// A fault in reading as one of the text.
+fn read_fault(fault: ReadFault) -> SourceFault
+    ensures { result ≡ read_fault fault }
+{
+    match fault {
+        ReadFault::Fault { kind, at } => SourceFault::Refused {
+            kind: read_number(kind),
+            at,
+        },
+        ReadFault::Memory => SourceFault::Memory,
+    }
+}
+
+/// A fault of the normal form as one of the text.
+fn normal_fault(fault: NormFault) -> SourceFault
+    ensures { result ≡ normal_fault fault }
+{
+    match fault {
+        NormFault::Fault { kind, at } => SourceFault::Refused {
+            kind: normal_number(kind),
+            at,
+        },
+        NormFault::Memory => SourceFault::Memory,
+    }
+}
+
+/// The program that the bytes of a text are.
+pub fn program_in(alloc: Global, bytes: &[u8]) -> Result<Source, SourceFault>
+    requires short { length bytes.now ≤ 1048576 }
+    ensures program { IfOk result (λ s. IsProgramOf bytes.now s.names s.program (table_of s.ops)) }
+    ensures known { IfOk result (λ s. AllByRecursion (λ (q : ThePred). q.name.0 < length s.names) s.program.preds) }
+    ensures sound { IfOk result (λ s. IsProgram s.program) }
+    ensures refused { IfErr result (λ fault. IsProgramFault bytes.now fault) }
+{
+    let mut names = Names::new(alloc);
+    let text = match read_text(alloc, bytes, &mut names) {
+        Ok(text) => text,
+        Err(fault) => return Err(read_fault(fault)),
+    };
+    let program = normal(alloc, &text, &mut names);
+    // No two names have the same text, so that the texts tell the names apart.
+    names.count();
+    let program = match program {
+        Ok(program) => program,
+        Err(fault) => return Err(normal_fault(fault)),
+    };
+    Ok(Source {
+        names,
+        ops: text.ops,
+        program,
+    })
+}

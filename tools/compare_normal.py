@@ -1,0 +1,161 @@
+#!/usr/bin/env python3
+"""Compares the normal form of texts and queries with an independent reading of the definitions on random texts, outside the gate.
+
+Usage: tools/compare_normal.py FOLDER ORACLE SEED COUNT
+
+FOLDER is where tools/normal_driver.sh makes its program. ORACLE is a folder with a Python package that has `reader`, `normal`
+and `gen_programs`. Prints texts on which the two differ, and the count.
+"""
+import random
+import subprocess
+import sys
+from importlib import import_module
+from pathlib import Path
+
+READ_KINDS = {
+    1: "Lex(BadByte)", 2: "Lex(Unclosed)", 3: "Lex(BadEscape)", 4: "Lex(Float)", 5: "Lex(WideNumber)",
+    6: "Unexpected", 7: "Deep", 8: "Long", 14: "BadOp",
+}
+KINDS = {9: "Arity", 10: "ManyVariables", 11: "NotPure", 12: "BadHead", 13: "Directive", 15: "ManyClauses"}
+
+
+def term(part):
+    if part[0] == "f":
+        return f"f{part[1].hex()}(" + "".join(term(arg) + "," for arg in part[2]) + ")"
+    return f"{part[0]}{part[1]}"
+
+
+def atom(part):
+    return f"{part[0]}(" + "".join(term(arg) + "," for arg in part[1]) + ")"
+
+
+def shown(program):
+    preds = "".join(f"{name.hex()}/{arity} " for name, arity in program.preds)
+    return preds + "".join(atom(c.head) + "".join(map(atom, c.body)) + f":{c.nvars};" for c in program.clauses)
+
+
+def wanted(reader, normal, text, query):
+    """What the driver has to print."""
+    try:
+        read = reader.read_text(text)
+        program = normal.normal(read)
+    except reader.ReadFault as fault:
+        return f"{READ_KINDS[fault.kind]} {fault.at}"
+    except normal.NormFault as fault:
+        return f"{KINDS[fault.kind]} {fault.at}"
+    out = shown(program)
+    if query is None:
+        return out
+    try:
+        later, goal, fresh = normal.normal_query(reader.read_query(query, read.ops), program)
+    except reader.ReadFault as fault:
+        return f"{out}?{READ_KINDS[fault.kind]} {fault.at}"
+    except normal.NormFault as fault:
+        return f"{out}?{KINDS[fault.kind]} {fault.at}{shown(program)}"
+    return f"{out}?" + "".join(map(atom, goal)) + f":{fresh};{shown(later)}"
+
+
+def random_argument(rng, variables, depth):
+    chance = rng.random()
+    if chance < 0.6 or depth == 0:
+        return f"V{rng.randrange(variables)}" if rng.random() < 0.85 else rng.choice(["_", "a", "7", "[]"])
+    if chance < 0.8:
+        return "f(" + ",".join(random_argument(rng, variables, depth - 1) for _ in range(rng.randint(1, 3))) + ")"
+    return "[" + random_argument(rng, variables, depth - 1) + "|" + random_argument(rng, variables, depth - 1) + "]"
+
+
+def random_call(rng, variables, odd):
+    """A call, and now and then a goal that is none."""
+    chance = rng.random()
+    if chance < odd:
+        return rng.choice(["X", "3", "!", "call(a)", "'$or1'", "'$orb'(X)", "a = b", "fail", "true", "(a --> b)", "(:- a)",
+                           "\\+ a", "a -> b", "X is 1", "p(" + ",".join(["a"] * 13) + ")", "q(" + ",".join("V%d" % n for n in range(12)) + ")"])
+    if chance < odd + 0.1:
+        return f"V{rng.randrange(variables)} = " + random_argument(rng, variables, 1)
+    if chance < odd + 0.2:
+        return rng.choice(["true", "fail", "a"])
+    count = rng.choice([0, 1, 1, 2, 2, 3])
+    name = rng.choice(["p", "q", "r", "s", "'=.'"])
+    return name if count == 0 else f"{name}(" + ",".join(random_argument(rng, variables, 2) for _ in range(count)) + ")"
+
+
+def random_body(rng, variables, odd, depth):
+    chance = rng.random()
+    if depth == 0 or chance < 0.35:
+        return random_call(rng, variables, odd)
+    joint = "," if chance < 0.7 else ";"
+    return "( " + f" {joint} ".join(random_body(rng, variables, odd, depth - 1) for _ in range(rng.randint(2, 3))) + " )"
+
+
+def random_text(rng):
+    """Clauses with disjunctions in each other. Some have many variables, and some a fault."""
+    out = []
+    for _ in range(rng.choice([1, 1, 2, 3, 6])):
+        variables = rng.choice([1, 2, 3, 5, 9, 20, 60])
+        odd = rng.choice([0, 0, 0, 0.01, 0.05])
+        chance = rng.random()
+        if chance < 0.03:
+            out.append(rng.choice([":- a.", "?- a.", "a --> b.", ":- discontiguous(p/1).", ":- op(700, xfx, ===).", "1.", "true.", "X = X.",
+                                   "'$or'(a).", "a :- (b :- c).", "(a , b).", "fail :- a.", "h(" + ",".join(["_"] * 49) + ").",
+                                   "h(f(" + ",".join(["_"] * 49) + ")).", "h(f(" + ",".join(["_"] * 48) + "))."]))
+            continue
+        count = rng.randint(0, 3)
+        head = rng.choice(["p", "q", "r", "s", "a"])
+        if count:
+            head += "(" + ",".join(random_argument(rng, variables, 2) for _ in range(count)) + ")"
+        out.append(head + "." if chance < 0.15 else f"{head} :- {random_body(rng, variables, odd, rng.randint(0, 5))}.")
+    return " ".join(out).encode()
+
+
+def random_case(rng, programs):
+    chance = rng.random()
+    if chance < 0.15:
+        text = programs.whole_text(rng)
+    elif chance < 0.25:
+        text = programs.mutate(rng, programs.whole_text(rng))
+    elif chance < 0.4:
+        text = programs.mutate(rng, random_text(rng))
+    else:
+        text = random_text(rng)
+    query = None
+    if rng.random() < 0.5:
+        odd = rng.choice([0, 0, 0, 0.1])
+        variables = rng.choice([1, 3, 9, 70])
+        parts = [random_call(rng, variables, odd) for _ in range(rng.choice([1, 1, 2, 3, 40]))]
+        query = (" , ".join(parts) if rng.random() < 0.8 else random_body(rng, variables, odd, 3)).encode()
+        query += rng.choice([b".", b".", b""])
+    return text, query
+
+
+def main():
+    sys.setrecursionlimit(100000)
+    folder, oracle, seed, count = sys.argv[1], Path(sys.argv[2]).resolve(), int(sys.argv[3]), int(sys.argv[4])
+    sys.path.insert(0, str(oracle.parent))
+    reader, normal, programs = (import_module(f"{oracle.name}.{name}") for name in ["reader", "normal", "gen_programs"])
+    rng = random.Random(seed)
+    cases = [random_case(rng, programs) for _ in range(count)]
+    lines = "".join(text.hex() + ("" if query is None else " " + query.hex()) + "\n" for text, query in cases)
+    driver = Path(__file__).resolve().parent / "normal_driver.sh"
+    given = subprocess.run([driver, folder], input=lines, capture_output=True, text=True)
+    answers = given.stdout.splitlines()[: len(cases)]
+    different = []
+    kinds = {}
+    for (text, query), answer in zip(cases, answers):
+        want = wanted(reader, normal, text, query)
+        first, _, second = want.partition("?")
+        for part, name in [(first, "text"), (second, "query")]:
+            if part or name == "text":
+                word = part.split(" ")[0]
+                kind = name + " " + (word if word in [*KINDS.values(), *READ_KINDS.values()] else "normal")
+                kinds[kind] = kinds.get(kind, 0) + 1
+        if want != answer:
+            different.append((text, query, want, answer))
+    for text, query, want, answer in different[:5]:
+        print(f"{text[:300]} {query}\n  wanted {want[:300]}\n  given  {answer[:300]}")
+    print(f"{len(cases)} cases, {len(answers)} answers, {len(different)} different: {dict(sorted(kinds.items()))}")
+    if len(answers) != len(cases):
+        print(given.stderr[-2000:], given.stdout[-500:])
+    sys.exit(1 if different or len(answers) != len(cases) else 0)
+
+
+main()

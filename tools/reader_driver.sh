@@ -1,0 +1,124 @@
+#!/usr/bin/env bash
+# Builds a program that prints what texts and queries read as, for comparisons outside the gate. Each line that it reads is a text in
+# hexadecimal digits, or a text and a query with a space between. It answers a line: the clauses or the fault; the clause or the fault
+# of the query, by the operators that the text leaves; the names in hexadecimal digits; and the microseconds of the text.
+# Usage: tools/reader_driver.sh FOLDER      (prints the program's path)
+set -eu
+top=$(cd "$(dirname "$0")/.." && pwd)
+work=$1
+for name in cti_terms prolog_tokens prolog_grammar prolog_reader; do
+    mkdir -p "$work/crates/$name"
+    for part in src specs proofs; do
+        rm -rf "$work/crates/$name/$part"
+        cp -r "$top/crates/$name/$part" "$work/crates/$name/"
+    done
+done
+mkdir -p "$work/crates/driver/src"
+cp "$top/HANDLES" "$work/"
+[ -d "$work/.git" ] || git init -q "$work"
+: >"$work/crates/driver/stdin"
+cat >"$work/crates/driver/src/main.rt" <<'RUST'
+//! What texts and queries given in hex read as.
+#![tactic(auto)]
+
+mod show;
+
+use std::io;
+
+fn value(byte: u8) -> u8 {
+    match byte {
+        b'0'..=b'9' => byte - 48,
+        b'a'..=b'f' => byte - 87,
+        _ => 0,
+    }
+}
+
+fn main(rt: HostRuntime) -> io::Result<()> {
+    for line in rt.lines(rt.alloc()) {
+        let line = line?;
+        let mut text = Vec::new(rt.alloc());
+        let mut query = Vec::new(rt.alloc());
+        let mut is_query = false;
+        let mut high = None;
+        for byte in line.as_str().as_bytes() {
+            if *byte == b' ' {
+                is_query = true;
+                continue;
+            }
+            match high {
+                None => high = Some(value(*byte)),
+                Some(first) => {
+                    let both = first.wrapping_mul(16).wrapping_add(value(*byte));
+                    if is_query {
+                        query.push(both)?;
+                    } else {
+                        text.push(both)?;
+                    }
+                    high = None;
+                }
+            }
+        }
+        if text.len() <= 1048577 && query.len() <= 1048577 {
+            show::show(&rt, &text, &query, is_query)?;
+        }
+    }
+    Ok(())
+}
+RUST
+cat >"$work/crates/driver/src/show.rt" <<'RUST'
+//! What one text and query read as.
+ghost use Rattle.std.specs.Prelude.{◌≤◌, length};
+
+use cti_terms::{Name, Names};
+use prolog_reader::{read_query, read_text};
+use std::io;
+use std::time::Instant;
+
+pub fn show(rt: &HostRuntime, text: &[u8], query: &[u8], is_query: bool) -> io::Result<()>
+    requires text { length text.now ≤ 1048577 }
+    requires query { length query.now ≤ 1048577 }
+{
+    let mut names = Names::new(rt.alloc());
+    let start = Instant::now(rt)?;
+    match read_text(rt.alloc(), text, &mut names) {
+        Ok(read) => {
+            let time = start.elapsed(rt)?.as_micros();
+            print!(rt; "{:?}", read.clauses)?;
+            if is_query {
+                match read_query(rt.alloc(), query, &mut names, &read.ops) {
+                    Ok(clause) => print!(rt; "|{clause:?}")?,
+                    Err(fault) => print!(rt; "|{fault:?}")?,
+                }
+            } else {
+                print!(rt; "|")?;
+            }
+            spell(rt, &names)?;
+            println!(rt; "|{time}")
+        }
+        Err(fault) => {
+            let time = start.elapsed(rt)?.as_micros();
+            println!(rt; "{fault:?}|||{time}")
+        }
+    }
+}
+
+fn spell(rt: &HostRuntime, names: &Names) -> io::Result<()> {
+    print!(rt; "|")?;
+    for number in 0..names.count() {
+        for byte in names.text(Name(number)) {
+            print!(rt; "{:02x}", *byte)?;
+        }
+        print!(rt; ",")?;
+    }
+    Ok(())
+}
+RUST
+cat >"$work/crates.txt" <<'CRATES'
+cti_terms: indexmap
+prolog_tokens:
+prolog_grammar:
+prolog_reader: cti_terms prolog_tokens prolog_grammar thiserror
+driver: cti_terms prolog_reader
+CRATES
+(cd "$work/crates/driver" && rt run </dev/null >"$work/driver.log" 2>&1) || { tail -n 20 "$work/driver.log" >&2; exit 1; }
+echo "$work/crates/driver/out/driver"
