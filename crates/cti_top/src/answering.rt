@@ -41,7 +41,13 @@ fn refused(alloc: Global, bytes: &[u8], kind: u32, at: u32) -> Result<Answer, Al
     let position = position_of(bytes, at);
     Ok(Answer {
         status: Status::Refused,
-        text: refusal_text(alloc, Subject::Program, position.line, position.column, kind)?,
+        text: refusal_text(
+            alloc,
+            Subject::Program,
+            position.line,
+            position.column,
+            kind,
+        )?,
     })
 }
 

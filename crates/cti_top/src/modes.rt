@@ -70,7 +70,11 @@ fn add_modes(
 }
 
 /// The certificate of the modes that are known: the version, and the modes of each predicate in order.
-pub fn known_modes(alloc: Global, names: &Names, program: &Program) -> Result<Certificate, AllocError>
+pub fn known_modes(
+    alloc: Global,
+    names: &Names,
+    program: &Program,
+) -> Result<Certificate, AllocError>
     requires { AllByRecursion (λ (q : ThePred). q.name.0 < length names.now) program.now.preds }
     ensures { IfOk result (λ c. (facts : List TheFact) × AreModes program.now names.now 0 program.now.preds facts × (c.facts ≡ Cti (pos 1) ∷ facts)) }
 {

@@ -77,10 +77,7 @@ fn programs_and_their_modes(rt: HostRuntime) -> Result<(), Fail> {
             "p(X) :- q(X).",
             "terminates(p/1,[[]]).\nterminates(q/1,[[]]).\n",
         ),
-        (
-            "p(a,b,c,d,e,f,g,h,i,j,k,l).",
-            "terminates(p/12,[[]]).\n",
-        ),
+        ("p(a,b,c,d,e,f,g,h,i,j,k,l).", "terminates(p/12,[[]]).\n"),
         (
             "mem(X,[Y|T]) :- ( X = Y ; mem(X,T) ).",
             "terminates(mem/2,[]).\nterminates('$or1'/3,[]).\nterminates('='/2,[[]]).\n",
@@ -90,7 +87,10 @@ fn programs_and_their_modes(rt: HostRuntime) -> Result<(), Fail> {
             "terminates('==='/2,[[]]).\n",
         ),
         ("p('é'). % ü", "terminates(p/1,[[]]).\n"),
-        ("p :- fail, true.", "terminates(p/0,[[]]).\nterminates(fail/0,[[]]).\n"),
+        (
+            "p :- fail, true.",
+            "terminates(p/0,[[]]).\nterminates(fail/0,[[]]).\n",
+        ),
     ] {
         let (status, taken) = infer(alloc, text.as_bytes())?;
         let lines = repeated(alloc, b"cti(1).\n", lines.as_bytes(), 1)?;
@@ -115,7 +115,10 @@ fn refused_programs(rt: HostRuntime) -> Result<(), Fail> {
         ("p(X) :- !, q(X).", "refused(program,1,9,11).\n"),
         ("p('ab", "refused(program,1,3,2).\n"),
         (":- op(1201,xfx,foo).", "refused(program,1,1,14).\n"),
-        (":- use_module(library(lists)).", "refused(program,1,1,13).\n"),
+        (
+            ":- use_module(library(lists)).",
+            "refused(program,1,1,13).\n",
+        ),
         (":- :- --> a.", "refused(program,1,7,6).\n"),
         ("p(é).", "refused(program,1,3,1).\n"),
         ("p.\nq :-\n  r(X),\n  Y.", "refused(program,4,3,11).\n"),
