@@ -194,11 +194,7 @@ fn queries_and_their_answers(rt: HostRuntime) -> Result<(), Fail> {
             "p(A,B,C,D,E,F,G,H)",
             "answer([p('X y','\\n\\x1f\\é\\'',[],'{}',[](a),[[]|b],'.'(a),'.'(a,b,c))]).\nran(1,1,finished).\n",
         ),
-        (
-            "'.'(a,[]).",
-            "[X]",
-            "answer([[a]]).\nran(1,1,finished).\n",
-        ),
+        ("'.'(a,[]).", "[X]", "answer([[a]]).\nran(1,1,finished).\n"),
     ] {
         let (status, taken) = run(alloc, text.as_bytes(), query, &[])?;
         assert_eq!(rt; status, Status::Done, "{query}");
@@ -261,11 +257,7 @@ fn refused_queries(rt: HostRuntime) -> Result<(), Fail> {
     for (text, query, line) in [
         (APPEND, "app(X", "refused(query,1,6,6).\n"),
         (APPEND, "app(X,Y,Z),\n  !", "refused(query,2,3,11).\n"),
-        (
-            APPEND,
-            "(app(X,Y,Z) ; true)",
-            "refused(query,1,1,11).\n",
-        ),
+        (APPEND, "(app(X,Y,Z) ; true)", "refused(query,1,1,11).\n"),
         (APPEND, "a === X", "refused(query,1,3,6).\n"),
         (APPEND, "", "refused(query,1,1,6).\n"),
         (
