@@ -7,14 +7,14 @@ use Rattle.clause_normal.specs.Words.{is_name}
 use Rattle.std.specs.List.{AllByRecursion, list_any, position_or_len}
 use Rattle.std.proofs.lemmas.Bool.{and_parts, lt-ltb}
 use Rattle.cti_terms.specs.Tree.{Tree as Term, Trees as Terms, Variable, Integer, Compound, End, More, instance, all_instances, is_below, truth, all_truths, trees}
-use Rattle.cti_terms.specs.Listing.{is_pred, with_pred, IsAtom, IsClause}
+use Rattle.cti_terms.specs.Listing.{Listing, is_pred, with_pred, IsAtom, IsClause}
 use Rattle.cti_terms.specs.declared.atom_list.Atom.{Atom}
 use Rattle.cti_terms.specs.declared.predicates.Pred.{Pred}
 use Rattle.prolog_reader.specs.Names.{Extends}
 use Rattle.prolog_reader.proofs.NameLemmas.{Placed, placed}
 use Rattle.clause_normal.specs.Terms.{variables, all_variables, list_variables, is_among, with_number, with_numbers, firsts, renumbered}
 use Rattle.clause_normal.specs.Rules.{Call, Rule}
-use Rattle.clause_normal.specs.Numbering.{call_variables, order_of, atoms_after, pred_of, is_equality, equality_clause, HasArity}
+use Rattle.clause_normal.specs.Numbering.{call_variables, order_of, atoms_after, pred_of, is_equality, equality_clause, with_equality_clause, with_equality, HasArity}
 use Rattle.clause_normal.proofs.ListLemmas.{all_append, all_front, all_back}
 
 pub all_weaker : {X : Type 0} (P Q : X → Type 0) → ((x : X) → P x → Q x) → (xs : List X) → AllByRecursion P xs → AllByRecursion Q xs
@@ -164,3 +164,11 @@ equality_is_clause names preds q e =
       small = lit≤ tt;
       short = lit≤ tt;
     }
+
+-- a program without =/2 gets no clause of it
+pub room_left : (names : List (List ℕ)) (p q : Listing) → q ≡ with_equality names p → position (is_equality names) q.preds ≡ None → length p.clauses ≤ 16384 → length q.clauses < 16385
+room_left names p q e none few =
+    let preds : q.preds ≡ p.preds = ap (λ (r : Listing). r.preds) e in
+    let same : position (is_equality names) p.preds ≡ None = ap (position (is_equality names)) (sym preds) ∙ none in
+    let clauses : q.clauses ≡ p.clauses = ap (λ (r : Listing). r.clauses) e ∙ ap (λ k. with_equality_clause k p.clauses) same in
+    omega (arith, few, ap length clauses)

@@ -2,6 +2,7 @@
 
 ghost use Rattle.std.specs.Prelude.{◌≡◌, ◌<◌, ◌≤◌, ◌+◌, ◌++◌, ◌∷◌, [], ℕ, List, length, map, false, if◌then◌else◌, None, is_some, position, slice_get, IfOk, IfErr, OnOk, OnErr};
 ghost use Rattle.std.specs.List.{AllByRecursion};
+ghost use Rattle.cti_terms.specs.Listing.{IsAtom};
 ghost use Rattle.cti_terms.specs.declared.predicates.Pred.{Pred as ThePred};
 ghost use Rattle.prolog_reader.specs.Fit.{IsQueryFit};
 ghost use Rattle.prolog_reader.specs.Terms.{tree_of, clause_of};
@@ -169,6 +170,9 @@ pub fn normal_query(
 
     // The very goal of the definition with the program that it needs, or its very fault.
     ensures exact { AnswersQuery (query_form names.old program.old (clause_of query.now)) program.new result }
+
+    // The goal is one of that program: each variable is below its counter.
+    ensures goal { IfOk result (λ g. AllByRecursion (IsAtom program.new.preds g.fresh) g.atoms) }
 
     // No name is added, and the names of the predicates stay known.
     ensures names { names.new ≡ names.old }

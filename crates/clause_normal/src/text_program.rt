@@ -1,6 +1,6 @@
 //! The program of a text.
 
-ghost use Rattle.std.specs.Prelude.{◌≡◌, ◌<◌, ◌≤◌, ◌+◌, [], ℕ, List, Ok, Err, length, map, position, option_map, IfOk, OnOk, OnErr, MatchResult};
+ghost use Rattle.std.specs.Prelude.{◌≡◌, ◌<◌, ◌≤◌, ◌+◌, [], ℕ, List, None, Ok, Err, length, map, position, option_map, IfOk, OnOk, OnErr, MatchResult};
 ghost use Rattle.std.specs.List.{AllByRecursion};
 ghost use Rattle.cti_terms.specs.Listing.{IsProgram};
 ghost use Rattle.cti_terms.specs.declared.predicates.Pred.{Pred as ThePred};
@@ -107,6 +107,9 @@ pub fn normal(alloc: Global, text: &ReadText, names: &mut Names) -> Result<Progr
     ensures kept { Extends names.old names.new }
     ensures known { IfOk result (λ p. AllByRecursion (λ (q : ThePred). q.name.0 < length names.new) p.preds) }
     ensures sound { IfOk result IsProgram }
+
+    // There is room for one clause more where =/2 is no predicate of the program.
+    ensures room { IfOk result (λ p. position (is_equality names.new) p.preds ≡ None → length p.clauses < 16385) }
 {
     let rules = match text_rules(alloc, names, text.clauses.as_slice()) {
         Ok(rules) => rules,

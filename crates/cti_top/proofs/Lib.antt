@@ -3,5 +3,7 @@ pub mod Taking
 pub mod ModeLemmas
 pub mod PlaceLemmas
 pub mod SourceLemmas
+pub mod QueryLemmas
+pub mod StepLemmas
 pub mod AnswerLemmas
 pub mod OutcomeLemmas

@@ -1,5 +1,5 @@
 -- What a fault of a text is. Nothing here has to be believed.
-use Rattle.std.specs.Prelude.{ℕ, List}
+use Rattle.std.specs.Prelude.{ℕ, ◌≤◌, List, length, min}
 use Rattle.cti_top.specs.declared.source.SourceFault.{SourceFault}
 use Rattle.cti_top.specs.declared.source.SourceFault.TheVariants as source
 use Rattle.prolog_reader.specs.declared.fault.ReadFault.{ReadFault}
@@ -8,11 +8,17 @@ use Rattle.clause_normal.specs.declared.fault.NormFault.{NormFault}
 use Rattle.clause_normal.specs.declared.fault.NormFault.TheVariants as normal
 use Rattle.cti_top.specs.Refusal.{read_number, normal_number}
 use Rattle.cti_top.specs.Programs.{IsRefused}
+use Rattle.cti_top.specs.Queries.{Known, IsQueryRefused}
 
 -- the bytes of a program are refused so; want of memory says nothing
 abbrev pub IsProgramFault : List ℕ → SourceFault → Type 0
 IsProgramFault bytes (source.Refused kind at) = IsRefused bytes kind at
 IsProgramFault bytes source.Memory = Unit {0}
+
+-- the query is refused so, and its place is no further on than a short text
+abbrev pub IsQueryFault : Known → List ℕ → SourceFault → Type 0
+IsQueryFault known query (source.Refused kind at) = IsQueryRefused known query kind at × (min at (length query) ≤ 1048576)
+IsQueryFault known query source.Memory = Unit {0}
 
 abbrev pub read_fault : ReadFault → SourceFault
 read_fault (reading.Fault kind at) = source.Refused (read_number kind) at

@@ -8,6 +8,9 @@ pub mod Places
 pub mod Refusal
 pub mod Programs
 pub mod Modes
+pub mod Queries
+pub mod Runs
+pub mod Known
 pub mod Faults
 pub mod Outcome
 pub mod Answers

@@ -1,7 +1,7 @@
 -- The numbers of the statuses.
 use Rattle.std.specs.Prelude.{ℕ}
 use Rattle.cti_top.specs.declared.status.Status.{Status}
-use Rattle.cti_top.specs.declared.status.Status.TheVariants.{Done, Usage, Refused, FileFault, OutFault, Memory}
+use Rattle.cti_top.specs.declared.status.Status.TheVariants.{Done, Usage, Refused, FileFault, OutFault, Memory, Stopped}
 
 -- the number with which the process ends
 abbrev pub number_of : Status → ℕ
@@ -11,3 +11,4 @@ number_of Refused = 3
 number_of FileFault = 4
 number_of OutFault = 5
 number_of Memory = 6
+number_of Stopped = 7

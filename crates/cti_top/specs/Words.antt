@@ -4,7 +4,11 @@
 -- word like any other.
 --
 -- To believe: all of this file, over the definitions of `clap`.
-use Rattle.std.specs.Prelude.{ℕ, true, List, [], ◌∷◌, Option, Some, None, option_map, unwrap_or, codes}
+use Rattle.std.specs.Prelude.{ℕ, Bool, true, ◌&&◌, nat_lt, nat_le, List, [], ◌∷◌, ◌++◌, length, Option, Some, None, option_map, option_and_then, unwrap_or, codes, if◌then◌else◌}
+use Rattle.std.specs.Char.{is_digit}
+use Rattle.std.specs.List.{list_all}
+use Rattle.std.specs.Str.{bytes_eq}
+use Rattle.std.specs.Str.Parse.{digits_value}
 use Rattle.clap.specs.Words.{App, Kinds, Row, Rule, Text, Shape, fault_of, subcommand_of, first_of, new_app, new_rule, with_rule, with_subcommand}
 use Rattle.clap.specs.Simple.{on_top}
 
@@ -15,6 +19,14 @@ required_word id = record (new_rule id) { required = true }
 -- infer FILE
 abbrev pub infer_line : App
 infer_line = with_rule (new_app (codes "infer")) (required_word (codes "file"))
+
+-- an option with one value
+abbrev pub option : Text → Rule
+option id = record (new_rule id) { long = Some id }
+
+-- run FILE QUERY --steps N
+abbrev pub run_line : App
+run_line = with_rule (with_rule (with_rule (new_app (codes "run")) (required_word (codes "file"))) (required_word (codes "query"))) (option (codes "steps"))
 
 -- no words of help, no program's name, and a subcommand has to be given
 abbrev pub settings : Shape → Shape
@@ -30,19 +42,43 @@ top_line = on_top settings (new_app (codes "cti"))
 
 -- the command line
 abbrev pub line : App
-line = with_subcommand top_line infer_line.top
+line = with_subcommand (with_subcommand top_line infer_line.top) run_line.top
 
--- what is asked for, by its texts
+-- what is asked for, by its texts: the modes of a file's program, or a query of it with a number of nodes
 pub data Ask : Type 0 where
   infer : Text → Ask
+  run : Text → Text → ℕ → Ask
+
+-- one to seven decimal digits
+abbrev pub is_short_number : Text → Bool
+is_short_number text = nat_lt 0 (length text) && (nat_le (length text) 7 && list_all (λ b. is_digit b 10) text)
+
+-- from 1 to 1,000,000
+abbrev pub is_step_number : ℕ → Bool
+is_step_number n = nat_lt 0 n && nat_le n 1000000
+
+-- the number of nodes that a text asks for
+abbrev pub steps_in : Text → Option ℕ
+steps_in text = if is_short_number text && is_step_number (digits_value 10 text) then Some (digits_value 10 text) else None
+
+-- the same of an option's value, which is 100,000 where it is absent
+abbrev pub steps_of : Option Text → Option ℕ
+steps_of None = Some 100000
+steps_of (Some text) = steps_in text
 
 -- the word of this name, which is always given
 abbrev pub given : Text → List Row → Text
 given id rows = unwrap_or (first_of id rows) []
 
--- what words without a fault ask for: there is one command, so its word is the one before these rows
+-- what a command asks for: `run` is the one beside `infer`
+abbrev pub ask_by : Text → List Row → Option Ask
+ask_by name rows =
+    if bytes_eq name (codes "infer") then Some (infer (given (codes "file") rows))
+    else option_map (run (given (codes "file") rows) (given (codes "query") rows)) (steps_of (first_of (codes "steps") rows))
+
+-- what words without a fault ask for
 abbrev pub ask_if : Kinds → Option (Text × List Row) → Option Ask
-ask_if [] subcommand = option_map (λ p. infer (given (codes "file") p.1)) subcommand
+ask_if [] subcommand = option_and_then (λ p. ask_by p.0 p.1) subcommand
 ask_if (k ∷ ks) subcommand = None
 
 -- what the words ask for; the usage is written where it is nothing
@@ -51,4 +87,4 @@ asks words = ask_if (fault_of line words) (subcommand_of line words)
 
 -- one line for each command
 abbrev pub usage_lines : List ℕ
-usage_lines = codes "usage: cti infer FILE\n"
+usage_lines = codes "usage: cti infer FILE\n" ++ codes "usage: cti run FILE QUERY --steps N\n"

@@ -1,6 +1,7 @@
 //! The top call of `cti`, and the traits of the outside.
 #![tactic(auto)]
 
+mod answer;
 mod answering;
 mod files;
 mod line;
@@ -8,13 +9,16 @@ mod memory_files;
 mod memory_sink;
 mod modes;
 mod places;
+mod querying;
 mod real_files;
 mod real_sink;
 mod refusal;
 mod request;
+mod running;
 mod sink;
 mod source;
 mod status;
+mod steps;
 mod sure;
 #[cfg(test)]
 mod tests;
@@ -31,4 +35,5 @@ pub use refusal::{Subject, refusal_text};
 pub use sink::{Sink, SinkFault};
 pub use status::Status;
 pub use sure::{SureFiles, SureSink};
+pub use term_text::run_text;
 pub use top_call::command;

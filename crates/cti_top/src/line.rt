@@ -1,7 +1,7 @@
 //! The command line, part by part, as `clap` reads it.
 
 ghost use Rattle.std.specs.Prelude.{◌≡◌, IfOk, false, codes};
-ghost use Rattle.cti_top.specs.Words.{line, top_line, infer_line, required_word};
+ghost use Rattle.cti_top.specs.Words.{line, top_line, infer_line, run_line, required_word, option};
 ghost use Rattle.cti_top.specs.Line.{IsLine};
 ghost use Rattle.clap.specs.declared.Command.TheViews.{out-Command};
 ghost use Rattle.clap.specs.Words.{app_of, rule_of, with_rule, with_subcommand};
@@ -15,6 +15,14 @@ fn word<'a>(alloc: Global, id: &'a str) -> Arg<'a>
     ensures local { result.global ≡ false }
 {
     Arg::new(alloc, id).required(true)
+}
+
+/// An option with one value.
+fn option<'a>(alloc: Global, id: &'a str) -> Arg<'a>
+    ensures rule { rule_of result ≡ option id.entry.now }
+    ensures local { result.global ≡ false }
+{
+    Arg::new(alloc, id).long(id)
 }
 
 /// The command with one argument more.
@@ -53,9 +61,19 @@ fn infer<'a>(alloc: Global) -> Result<Command<'a>, AllocError>
     with_argument(Command::new(alloc, "infer"), word(alloc, "file"))
 }
 
+/// `run FILE QUERY --steps N`
+fn run<'a>(alloc: Global) -> Result<Command<'a>, AllocError>
+    ensures { IfOk result (IsLine run_line) }
+{
+    let run = with_argument(Command::new(alloc, "run"), word(alloc, "file"))?;
+    let run = with_argument(run, word(alloc, "query"))?;
+    with_argument(run, option(alloc, "steps"))
+}
+
 /// The command line, with no words read.
 pub fn command_line<'a>(alloc: Global) -> Result<Command<'a>, AllocError>
     ensures { IfOk result (IsLine line) }
 {
-    with_command(top(alloc), infer(alloc)?)
+    let command = with_command(top(alloc), infer(alloc)?)?;
+    with_command(command, run(alloc)?)
 }

@@ -1,6 +1,6 @@
 //! Places in a text, as they are printed.
 
-ghost use Rattle.std.specs.Prelude.{◌≡◌, ◌≤◌, length};
+ghost use Rattle.std.specs.Prelude.{◌≡◌, ◌≤◌, length, min};
 ghost use Rattle.cti_top.specs.Places.{line_from, column_from, line_of, column_of};
 
 /// A line and a column, which count from 1. Columns count bytes.
@@ -31,7 +31,7 @@ fn position_after(before: &[u8]) -> Position
 /// The place of a byte of a text, or of the end of the text where there is none.
 #[tactic(auto, using(crate::proofs::PlaceLemmas::up_to))]
 pub fn position_of(text: &[u8], at: u32) -> Position
-    requires { length text.now ≤ 16777216 }
+    requires { min at (length text.now) ≤ 16777216 }
     ensures line { result.line ≡ line_of text.now at }
     ensures column { result.column ≡ column_of text.now at }
 {

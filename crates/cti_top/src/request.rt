@@ -1,10 +1,13 @@
 //! What the words of the command line ask for.
 
-ghost use Rattle.std.specs.Prelude.{◌≡◌, ◌≢◌, map, [], Some, None, option_map, IfOk, IfSome, IfNone, IsErrOf};
+ghost use Rattle.std.specs.Prelude.{◌≡◌, ◌≢◌, map, [], Some, None, option_map, IfOk, IfErr, IfSome, IfNone, IsErrOf};
 ghost use Rattle.clap.specs.Words.{fault_of, first_of, found_of, rows_of, subcommand_of, subcommand_rows_of};
-ghost use Rattle.cti_top.specs.Words.{asks, given, infer, line, usage_lines};
+ghost use Rattle.cti_top.specs.Words.{asks, ask_by, given, line, usage_lines};
+ghost use Rattle.cti_top.specs.Outcome.{program_file};
+ghost use Rattle.cti_top.specs.Answers.{ask_of};
 
 use crate::line::command_line;
+use crate::steps::steps_of;
 use clap::ArgMatches;
 use clap::error::ErrorKind;
 use std::alloc::{AllocError, Global};
@@ -16,6 +19,27 @@ pub enum Refusal {
     Usage,
     /// Memory ran out.
     Memory,
+}
+
+/// What the words ask for.
+#[derive(Clone, Copy, Debug)]
+pub enum Request<'a> {
+    /// The modes of the program in a file.
+    Infer(&'a str),
+    /// A run of a query of the program in a file, and how many nodes are looked at.
+    Run(&'a str, &'a str, u64),
+}
+
+impl<'a> Request<'a> {
+    /// The file that has the program.
+    pub fn file(self) -> &'a str
+        ensures { result.now ≡ program_file (ask_of self.entry) }
+    {
+        match self {
+            Request::Infer(file) => file,
+            Request::Run(file, _, _) => file,
+        }
+    }
 }
 
 /// The matches of the words, or why there are none.
@@ -61,15 +85,30 @@ fn word<'a>(matches: &ArgMatches<'a>, id: &str) -> &'a str
     }
 }
 
-/// The file whose program's modes the words ask for, or why they ask for nothing.
+/// What a command asks for by its arguments, or why it asks for nothing.
+fn request_by<'a>(name: &str, given: &ArgMatches<'a>) -> Result<Request<'a>, Refusal>
+    ensures asked { IfOk result (λ r. ask_by name.now (rows_of (found_of given.now)) ≡ Some (ask_of r)) }
+    ensures usage { IfErr result (λ e. (e ≡ Refusal.Usage) × (ask_by name.now (rows_of (found_of given.now)) ≡ None)) }
+{
+    let file = word(given, "file");
+    if name == "infer" {
+        return Ok(Request::Infer(file));
+    }
+    match steps_of(value(given, "steps")) {
+        Some(steps) => Ok(Request::Run(file, word(given, "query"), steps)),
+        None => Err(Refusal::Usage),
+    }
+}
+
+/// What the words ask for, or why they ask for nothing.
 #[tactic(auto, using(crate::proofs::WordLemmas::is_entered))]
-pub fn file_to_infer<'a>(alloc: Global, words: &'a [&'a str]) -> Result<&'a str, Refusal>
-    ensures asked { IfOk result (λ file. asks (map (λ w. w.now) words.entry.now) ≡ Some (infer file.now)) }
+pub fn request_in<'a>(alloc: Global, words: &'a [&'a str]) -> Result<Request<'a>, Refusal>
+    ensures asked { IfOk result (λ r. asks (map (λ w. w.now) words.entry.now) ≡ Some (ask_of r)) }
     ensures usage { IsErrOf result Refusal.Usage → asks (map (λ w. w.now) words.entry.now) ≡ None }
 {
     let matches = matches_of(alloc, words)?;
     match entered(&matches) {
-        Some((_, given)) => Ok(word(given, "file")),
+        Some((name, given)) => request_by(name, given),
         None => Err(Refusal::Usage),
     }
 }
@@ -78,5 +117,7 @@ pub fn file_to_infer<'a>(alloc: Global, words: &'a [&'a str]) -> Result<&'a str,
 pub fn usage_text(alloc: Global) -> Result<Vec<u8>, AllocError>
     ensures { IfOk result (λ text. text.items ≡ usage_lines) }
 {
-    Vec::from_slice(alloc, b"usage: cti infer FILE\n")
+    let mut text = Vec::from_slice(alloc, b"usage: cti infer FILE\n")?;
+    text.extend_from_slice(b"usage: cti run FILE QUERY --steps N\n")?;
+    Ok(text)
 }

@@ -1,10 +1,11 @@
-//! The program of a text, and the goal of a query.
+//! The program of a text.
 
-ghost use Rattle.std.specs.Prelude.{◌≡◌, ◌<◌, ◌≤◌, ℕ, length, IfOk, IfErr};
+ghost use Rattle.std.specs.Prelude.{◌≡◌, ◌<◌, ◌≤◌, ℕ, None, length, position, IfOk, IfErr};
 ghost use Rattle.std.specs.List.{AllByRecursion};
 ghost use Rattle.cti_terms.specs.Listing.{IsProgram};
 ghost use Rattle.cti_terms.specs.declared.predicates.Pred.{Pred as ThePred};
 ghost use Rattle.prolog_reader.specs.Meanings.{table_of};
+ghost use Rattle.clause_normal.specs.Numbering.{is_equality};
 ghost use Rattle.cti_top.specs.Refusal.{lexical_number, read_number, normal_number};
 ghost use Rattle.cti_top.specs.Programs.{IsProgramOf};
 ghost use Rattle.cti_top.specs.Faults.{IsProgramFault, read_fault, normal_fault};
@@ -14,6 +15,9 @@ use cti_terms::{Names, Program};
 use prolog_reader::{Ops, ReadFault, ReadKind, read_text};
 use prolog_tokens::LexKind;
 use std::alloc::Global;
+
+/// The number of the refusal of a text that is too long.
+pub const TOO_LONG: u32 = 8;
 
 /// A program, with the names and the operators that its text leaves.
 #[derive(Drop)]
@@ -73,7 +77,7 @@ fn normal_number(kind: NormKind) -> u32
 }
 
 /// A fault in reading as one of the text.
-fn read_fault(fault: ReadFault) -> SourceFault
+pub fn read_fault(fault: ReadFault) -> SourceFault
     ensures { result ≡ read_fault fault }
 {
     match fault {
@@ -86,7 +90,7 @@ fn read_fault(fault: ReadFault) -> SourceFault
 }
 
 /// A fault of the normal form as one of the text.
-fn normal_fault(fault: NormFault) -> SourceFault
+pub fn normal_fault(fault: NormFault) -> SourceFault
     ensures { result ≡ normal_fault fault }
 {
     match fault {
@@ -104,6 +108,7 @@ pub fn program_in(alloc: Global, bytes: &[u8]) -> Result<Source, SourceFault>
     ensures program { IfOk result (λ s. IsProgramOf bytes.now s.names s.program (table_of s.ops)) }
     ensures known { IfOk result (λ s. AllByRecursion (λ (q : ThePred). q.name.0 < length s.names) s.program.preds) }
     ensures sound { IfOk result (λ s. IsProgram s.program) }
+    ensures room { IfOk result (λ s. position (is_equality s.names) s.program.preds ≡ None → length s.program.clauses < 16385) }
     ensures refused { IfErr result (λ fault. IsProgramFault bytes.now fault) }
 {
     let mut names = Names::new(alloc);

@@ -10,7 +10,7 @@ pub enum Status {
     Done,
     /// The words are no command; the usage was written.
     Usage,
-    /// The program was refused; the line that says why was written.
+    /// The program or the query was refused; the line that says why was written.
     Refused,
     /// The file could not be loaded; nothing was written.
     FileFault,
@@ -18,11 +18,12 @@ pub enum Status {
     OutFault,
     /// There was no memory; nothing was written.
     Memory,
+    /// The query has more nodes than were asked for; the answers among those were written.
+    Stopped,
 }
 
 impl Status {
-    /// The number with which the process ends, from 0 to 7. The number 1 is kept for a certificate that is not valid, and 7
-    /// for a search that was stopped.
+    /// The number with which the process ends, from 0 to 7. The number 1 is kept for a certificate that is not valid.
     pub fn number(self) -> u8
         ensures { result ≡ number_of self }
     {
@@ -33,6 +34,7 @@ impl Status {
             Status::FileFault => 4,
             Status::OutFault => 5,
             Status::Memory => 6,
+            Status::Stopped => 7,
         }
     }
 }

@@ -9,7 +9,7 @@ use std::collections::BTreeMap;
 use std::test::Fail;
 
 /// What the usage says.
-const USAGE: &[u8] = b"usage: cti infer FILE\n";
+const USAGE: &[u8] = b"usage: cti infer FILE\nusage: cti run FILE QUERY --steps N\n";
 
 /// A store with one file, `a.pl`.
 fn files(alloc: Global, text: &[u8]) -> Result<BTreeMap<String, Vec<u8>>, AllocError> {
@@ -51,6 +51,25 @@ fn infer(alloc: Global, text: &[u8]) -> Result<(Status, Vec<u8>), AllocError> {
         &mut store(alloc, text, &[])?,
         &mut out,
     );
+    Ok((status, out.taken))
+}
+
+/// Concatenation of lists.
+const APPEND: &str = "app([],L,L).\napp([H|T],L,[H|R]) :- app(T,L,R).\n";
+
+/// The status and the bytes of `run a.pl QUERY`, with further words, where the file has this text.
+fn run(
+    alloc: Global,
+    text: &[u8],
+    query: &str,
+    more: &[&str],
+) -> Result<(Status, Vec<u8>), AllocError> {
+    let mut words = vec![in alloc; "run", "a.pl", query]?;
+    for word in more {
+        words.push(*word)?;
+    }
+    let mut out = sink(alloc, 4096, &[])?;
+    let status = command(alloc, &words, &mut store(alloc, text, &[])?, &mut out);
     Ok((status, out.taken))
 }
 
@@ -139,6 +158,216 @@ fn refused_programs(rt: HostRuntime) -> Result<(), Fail> {
 }
 
 #[test]
+fn queries_and_their_answers(rt: HostRuntime) -> Result<(), Fail> {
+    let alloc = rt.alloc();
+    for (text, query, lines) in [
+        ("p(Y,f(Y)).", "p(X,X)", "ran(0,0,finished).\n"),
+        (
+            APPEND,
+            "app([a],Y,Z)",
+            "answer([app([a],_1,[a|_1])]).\nran(2,2,finished).\n",
+        ),
+        (APPEND, "true", "answer([]).\nran(0,0,finished).\n"),
+        (APPEND, "foo(X)", "ran(0,0,finished).\n"),
+        (
+            "p(-1,- 1,-(1),0'a,0x1F,\"ab\").",
+            "p(A,B,C,D,E,F)",
+            "answer([p(-1,'-'(1),'-'(1),97,31,[97,98])]).\nran(1,1,finished).\n",
+        ),
+        (
+            "mem(X,[Y|T]) :- ( X = Y ; mem(X,T) ).",
+            "mem(X,[a,b])",
+            "answer([mem(a,[a,b])]).\nanswer([mem(b,[a,b])]).\nran(8,5,finished).\n",
+        ),
+        (
+            ":- op(700,xfx,===).\nX === X.",
+            "a === X.",
+            "answer(['==='(a,a)]).\nran(1,1,finished).\n",
+        ),
+        (
+            "q(f(X,Y,X)).\nr(Y).",
+            "q(A), r(B)",
+            "answer([q(f(_1,_2,_1)),r(_3)]).\nran(2,2,finished).\n",
+        ),
+        (
+            "p('X y','\\n\\x1f\\é''',[],{},'[]'(a),[[]|b],'.'(a),'.'(a,b,c)).",
+            "p(A,B,C,D,E,F,G,H)",
+            "answer([p('X y','\\n\\x1f\\é\\'',[],'{}',[](a),[[]|b],'.'(a),'.'(a,b,c))]).\nran(1,1,finished).\n",
+        ),
+        (
+            "'.'(a,[]).",
+            "[X]",
+            "answer([[a]]).\nran(1,1,finished).\n",
+        ),
+    ] {
+        let (status, taken) = run(alloc, text.as_bytes(), query, &[])?;
+        assert_eq!(rt; status, Status::Done, "{query}");
+        assert_eq!(rt; taken.as_slice(), lines.as_bytes(), "{query}");
+    }
+    Ok(())
+}
+
+#[test]
+fn nodes_that_are_asked_for(rt: HostRuntime) -> Result<(), Fail> {
+    let alloc = rt.alloc();
+    let first = "answer([app([],[a],[a])]).\n";
+    let both = "answer([app([],[a],[a])]).\nanswer([app([a],[],[a])]).\n";
+    for (steps, wanted, lines, last) in [
+        ("3", Status::Done, both, "ran(3,2,finished).\n"),
+        ("1000000", Status::Done, both, "ran(3,2,finished).\n"),
+        ("2", Status::Stopped, first, "ran(2,1,stopped).\n"),
+        ("0000001", Status::Stopped, first, "ran(1,1,stopped).\n"),
+    ] {
+        let (status, taken) = run(
+            alloc,
+            APPEND.as_bytes(),
+            "app(X,Y,[a])",
+            &["--steps", steps],
+        )?;
+        assert_eq!(rt; status, wanted, "{steps}");
+        let lines = repeated(alloc, lines.as_bytes(), last.as_bytes(), 1)?;
+        assert_eq!(rt; taken, lines, "{steps}");
+    }
+    for steps in [
+        "0", "0000000", "00000001", "1000001", "", "+5", "-5", "5x", " 5", "٣",
+    ] {
+        let (status, taken) = run(alloc, b"p.", "p", &["--steps", steps])?;
+        assert_eq!(rt; status, Status::Usage, "{steps}");
+        assert_eq!(rt; taken.as_slice(), USAGE, "{steps}");
+    }
+    Ok(())
+}
+
+#[test]
+fn a_search_without_end(rt: HostRuntime) -> Result<(), Fail> {
+    let alloc = rt.alloc();
+    for (more, line) in [
+        (
+            ["--steps", "1000000"].as_slice(),
+            "ran(1000000,1000000,stopped).\n",
+        ),
+        ([].as_slice(), "ran(100000,100000,stopped).\n"),
+    ] {
+        let (status, taken) = run(alloc, b"p(s(X)) :- p(X).", "p(X)", more)?;
+        assert_eq!(rt; status, Status::Stopped, "{line}");
+        assert_eq!(rt; taken.as_slice(), line.as_bytes(), "{line}");
+    }
+    Ok(())
+}
+
+#[test]
+fn refused_queries(rt: HostRuntime) -> Result<(), Fail> {
+    let alloc = rt.alloc();
+    for (text, query, line) in [
+        (APPEND, "app(X", "refused(query,1,6,6).\n"),
+        (APPEND, "app(X,Y,Z),\n  !", "refused(query,2,3,11).\n"),
+        (
+            APPEND,
+            "(app(X,Y,Z) ; true)",
+            "refused(query,1,1,11).\n",
+        ),
+        (APPEND, "a === X", "refused(query,1,3,6).\n"),
+        (APPEND, "", "refused(query,1,1,6).\n"),
+        (
+            APPEND,
+            "p(a,b,c,d,e,f,g,h,i,j,k,l,m)",
+            "refused(query,1,1,9).\n",
+        ),
+        ("p(a", "app(X", "refused(program,1,4,6).\n"),
+    ] {
+        let (status, taken) = run(alloc, text.as_bytes(), query, &[])?;
+        assert_eq!(rt; status, Status::Refused, "{query}");
+        assert_eq!(rt; taken.as_slice(), line.as_bytes(), "{query}");
+    }
+    let long = repeated(alloc, b"p", b" ", 1_048_576)?;
+    let query = std::str::from_utf8(&long).unwrap_or("");
+    let (status, taken) = run(alloc, b"p.", query, &[])?;
+    assert_eq!(rt; status, Status::Refused);
+    assert_eq!(rt; taken.as_slice(), b"refused(query,1,1,8).\n".as_slice());
+    Ok(())
+}
+
+/// A term of one name around another so often.
+fn nested(alloc: Global, inner: &[u8], count: usize) -> Result<Vec<u8>, AllocError> {
+    let mut text = repeated(alloc, b"", b"s(", count)?;
+    text.extend_from_slice(inner)?;
+    for _ in 0..count {
+        text.push(b')')?;
+    }
+    Ok(text)
+}
+
+/// A text that consists of these.
+fn joined(alloc: Global, parts: &[&[u8]]) -> Result<Vec<u8>, AllocError> {
+    let mut text = Vec::new(alloc);
+    for part in parts {
+        text.extend_from_slice(part)?;
+    }
+    Ok(text)
+}
+
+/// What is written for one answer that is this term, or is too large, after so many nodes.
+fn one_answer(
+    alloc: Global,
+    term: &[u8],
+    is_told: bool,
+    last: &[u8],
+) -> Result<Vec<u8>, AllocError> {
+    if is_told {
+        joined(alloc, &[b"answer([", term, b"]).\n", last])
+    } else {
+        joined(alloc, &[b"answer(large).\n", last])
+    }
+}
+
+#[test]
+fn deep_answers(rt: HostRuntime) -> Result<(), Fail> {
+    let alloc = rt.alloc();
+    let step = nested(alloc, b"X", 990)?;
+    for (outer, is_told) in [(38, true), (39, false)] {
+        let head = nested(alloc, b"X", outer)?;
+        let program = joined(
+            alloc,
+            &[
+                b"q(",
+                &head,
+                b") :- g(0,A), g(A,B), g(B,C), g(C,X).\ng(X,",
+                &step,
+                b").\n",
+            ],
+        )?;
+        let deep = nested(alloc, b"0", 3960 + outer)?;
+        let term = joined(alloc, &[b"q(", &deep, b")"])?;
+        let lines = one_answer(alloc, &term, is_told, b"ran(5,5,finished).\n")?;
+        let (status, taken) = run(alloc, &program, "q(X)", &[])?;
+        assert_eq!(rt; status, Status::Done);
+        assert!(rt; taken == lines, "{outer}");
+    }
+    Ok(())
+}
+
+#[test]
+fn large_answers(rt: HostRuntime) -> Result<(), Fail> {
+    let alloc = rt.alloc();
+    for (count, is_told) in [(99_997, true), (99_998, false)] {
+        let term = repeated(alloc, b"p(f(a", b",a", count)?;
+        let term = joined(alloc, &[&term, b"))"])?;
+        let program = joined(alloc, &[&term, b".\n"])?;
+        let lines = one_answer(alloc, &term, is_told, b"ran(1,1,finished).\n")?;
+        let (status, taken) = run(alloc, &program, "p(X)", &[])?;
+        assert_eq!(rt; status, Status::Done);
+        assert!(rt; taken == lines, "{count}");
+    }
+    let list = repeated(alloc, b"app(X,Y,[a", b",a", 299)?;
+    let list = joined(alloc, &[&list, b"])"])?;
+    let query = std::str::from_utf8(&list).unwrap_or("");
+    let (status, taken) = run(alloc, APPEND.as_bytes(), query, &[])?;
+    assert_eq!(rt; status, Status::Done);
+    assert_eq!(rt; taken.iter().filter(|byte| **byte == b'\n').count(), 302);
+    Ok(())
+}
+
+#[test]
 fn other_statuses(rt: HostRuntime) -> Result<(), Fail> {
     let alloc = rt.alloc();
     for words in [
@@ -150,6 +379,10 @@ fn other_statuses(rt: HostRuntime) -> Result<(), Fail> {
         ["help"].as_slice(),
         ["--version"].as_slice(),
         ["prove", "a"].as_slice(),
+        ["run", "a.pl"].as_slice(),
+        ["run", "a.pl", "p", "q"].as_slice(),
+        ["run", "a.pl", "p", "--steps"].as_slice(),
+        ["infer", "a.pl", "--steps", "5"].as_slice(),
     ] {
         let mut out = sink(alloc, 99, &[])?;
         let status = command(alloc, words, &mut store(alloc, b"", &[])?, &mut out);

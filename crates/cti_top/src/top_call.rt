@@ -2,9 +2,10 @@
 
 ghost use Rattle.std.specs.Prelude.{◌≡◌, List, ℕ, map, Some};
 ghost use Rattle.cti_top.specs.Causes.{Rose};
-ghost use Rattle.cti_top.specs.Words.{asks, infer};
+ghost use Rattle.cti_top.specs.Words.{Ask, asks, infer, run};
 ghost use Rattle.cti_top.specs.Programs.{IsRefused};
-ghost use Rattle.cti_top.specs.Outcome.{HasFile, IsDoneOrMemory, IsShort, Outcome};
+ghost use Rattle.cti_top.specs.Outcome.{HasFile, IsDoneOrMemory, IsRanOrMemory, IsShort, Outcome, program_file};
+ghost use Rattle.cti_top.specs.Runs.{IsRefusedQuery};
 
 use crate::answering::answer_for;
 use crate::files::Files;
@@ -15,7 +16,9 @@ use std::alloc::Global;
 
 /// Carries out the command that the words after the program's name ask for.
 ///
-/// `infer FILE` reads the program of a file and writes, for each predicate, its modes as far as they are known. The answer is
+/// `infer FILE` reads the program of a file and writes, for each predicate, its modes as far as they are known. `run FILE QUERY
+/// --steps N` reads a query of the program too, and writes its answers among the empty derivation and the first N others, then how
+/// many there were, the length of the longest, and whether there are more. N is from 1 to 1,000,000, and else 100,000. The answer is
 /// complete, and all memory is taken, before the first byte is written.
 pub fn command<F: Files, S: Sink>(
     alloc: Global,
@@ -27,13 +30,18 @@ pub fn command<F: Files, S: Sink>(
 
     // A fault of a file comes only from a failed load of the file that the words name, and one of the sink only from a failed write.
     ensures file_fault { result ≡ Status.FileFault
-        → (name : List ℕ) × (asks (map (λ w. w.now) words.entry.now) ≡ Some (infer name)) × Rose (F.faults files.old name) (F.faults files.new name) }
+        → (ask : Ask) × (asks (map (λ w. w.now) words.entry.now) ≡ Some ask) × Rose (F.faults files.old (program_file ask)) (F.faults files.new (program_file ask)) }
     ensures out_fault { result ≡ Status.OutFault → Rose (S.faults out.old) (S.faults out.new) }
 
     // A file that is told, is short and has no fault is answered, unless memory runs out or a count of faults rises.
     ensures complete { (name bytes : List ℕ) → asks (map (λ w. w.now) words.entry.now) ≡ Some (infer name) → HasFile (F.told files.old) name bytes → IsShort bytes
         → ((kind at : ℕ) → IsRefused bytes kind at → ⊥)
         → (Rose (F.faults files.old name) (F.faults files.new name) → ⊥) → (Rose (S.faults out.old) (S.faults out.new) → ⊥) → IsDoneOrMemory result }
+
+    // The same of a query that has no fault either: it is run, and its search may be stopped.
+    ensures complete_run { (name query bytes : List ℕ) (steps : ℕ) → asks (map (λ w. w.now) words.entry.now) ≡ Some (run name query steps) → HasFile (F.told files.old) name bytes
+        → IsShort bytes → ((kind at : ℕ) → IsRefused bytes kind at → ⊥) → ((kind at : ℕ) → IsRefusedQuery bytes query kind at → ⊥)
+        → (Rose (F.faults files.old name) (F.faults files.new name) → ⊥) → (Rose (S.faults out.old) (S.faults out.new) → ⊥) → IsRanOrMemory result }
 {
     match answer_for(alloc, words, files) {
         Ok(answer) => match write_text(&answer.text, out) {

@@ -1,6 +1,7 @@
-use Rattle.std.proofs.Common.{◌≡◌, ◌<◌, ◌∙◌, ◌+◌, ◌++◌, ℕ, [], List, Some, None, Ok, Err, Option, length, map, sym, ap, subst, arith, position, if◌then◌else◌}
+use Rattle.std.proofs.Common.{◌≡◌, ◌<◌, ◌∙◌, ◌+◌, ◌++◌, ℕ, [], List, Some, None, Ok, Err, Option, length, map, sym, ap, subst, arith, position, if◌then◌else◌, IsTrue}
 use Rattle.std.specs.List.{AllByRecursion}
-use Rattle.cti_terms.specs.Listing.{Listing}
+use Rattle.cti_terms.specs.Listing.{Listing, IsAtom}
+use Rattle.cti_terms.specs.Tree.{Tree as Term, is_below}
 use Rattle.cti_terms.specs.declared.atom_list.Atom.{Atom}
 use Rattle.cti_terms.specs.declared.derivation.Goal.{Goal as Query}
 use Rattle.cti_terms.specs.declared.predicates.Pred.{Pred}
@@ -19,6 +20,7 @@ use Rattle.clause_normal.specs.Rules.{Call}
 use Rattle.clause_normal.specs.RuleViews.{call_of, CallIsFit, IsNamed}
 use Rattle.clause_normal.specs.Terms.{occurrences, firsts}
 use Rattle.clause_normal.specs.Views.{goal_of, IsTermFit, ItemIsFit}
+use Rattle.clause_normal.proofs.NumberingLemmas.{all_among, atoms_below, are_atoms}
 use Rattle.clause_normal.proofs.QueryLemmas.{if_fault_map, query_err, query_bad, query_many, query_well}
 use Rattle.clause_normal.proofs.query.normal_query.Goals as goal
 
@@ -96,3 +98,28 @@ returns-clause-exact c =
 pub returns-clause-known : goal.returns-clause-known
 returns-clause-known c =
     subst (λ (ps : List Pred). AllByRecursion (λ (q : Pred). q.name.0 < length c.add_atoms.new.names) ps) (sym c.in_ok-add_new_equality.ensures.preds) (c.in_ok-atoms.ensures.known c.requires.known)
+
+pub returns-clause-goal : goal.returns-clause-goal
+returns-clause-goal c =
+    let names = c.args.names.now in
+    let p = c.args.program.now in
+    let t = c.args.query.now.term in
+    let cs = query_calls (query_goals names (tree_of t)) in
+    let order = firsts (call_variables cs) in
+    let calls : map call_of c.in_ok-calls.calls.items ≡ cs =
+    c.in_ok-calls.ensures.calls names ∙ ap (λ (is : List Item). query_calls (map (goal_of names) is)) c.deref-3.ensures.value ∙ ap query_calls c.in_ok-items.ensures.goals in
+    let here : map call_of c.deref-6.result.now ≡ cs = ap (λ (cs : List CodeCall). map call_of cs) c.deref-6.ensures.value ∙ calls in
+    let h = rw c.in-Some.is at c.in_ok-order.ensures in
+    let ordered : c.in-Some.order.items ≡ order =
+    h.0 ∙ ap firsts (c.deref-5.ensures.value ∙ c.in_ok-occurrences.ensures ∙ ap (λ (cs : List CodeCall). call_variables (map call_of cs)) c.deref-4.ensures.value ∙ ap call_variables calls) in
+    let named = subst (λ (cs : List CodeCall). AllByRecursion (λ (k : CodeCall). IsNamed k.functor) cs) (sym c.deref-6.ensures.value) c.in_ok-calls.ensures.named in
+    let same : c.add_atoms.new.names ≡ names = c.in_ok-atoms.ensures.named named in
+    let ext : Extends c.add_atoms.new.names names = subst (λ (ns : List (List ℕ)). Extends c.add_atoms.new.names ns) same (extends_self c.add_atoms.new.names) in
+    let atoms : c.in_ok-atoms.atoms ≡ atoms_after names order p.preds cs =
+    c.in_ok-atoms.ensures.atoms names ext ∙ (λ i. atoms_after names ((c.deref-7.ensures.value ∙ ordered) i) p.preds (here i)) in
+    let fresh : c.len.result ≡ length order = omega (arith, c.len.ensures, c.in-Some.order.ok.0, ap (λ (xs : List ℕ). length xs) ordered) in
+    let Below : List Atom → Type 0 = λ xs. AllByRecursion (λ (a : Atom). AllByRecursion (λ (t : Term). IsTrue (is_below (length order) t)) a.args) xs in
+    let below = subst Below (sym atoms) (atoms_below order names p.preds cs (all_among [] (call_variables cs))) in
+    let all = are_atoms c.add_atoms.new.program.preds (length order) c.in_ok-atoms.atoms c.in_ok-atoms.ensures.arity below in
+    let counted = subst (λ (n : ℕ). AllByRecursion (IsAtom c.add_atoms.new.program.preds n) c.in_ok-atoms.atoms) (sym fresh) all in
+    subst (λ (ps : List Pred). AllByRecursion (IsAtom ps c.len.result) c.in_ok-atoms.atoms) (sym c.in_ok-add_new_equality.ensures.preds) counted

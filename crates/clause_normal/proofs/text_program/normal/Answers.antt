@@ -1,13 +1,14 @@
-use Rattle.std.proofs.Common.{◌≡◌, ◌<◌, ◌∙◌, ℕ, [], List, Result, Ok, length, map, sym, ap, subst}
+use Rattle.std.proofs.Common.{◌≡◌, ◌<◌, ◌∙◌, ℕ, [], List, Result, Ok, None, length, position, arith, map, sym, ap, subst}
 use Rattle.std.specs.List.{AllByRecursion}
 use Rattle.cti_terms.specs.Listing.{Listing}
 use Rattle.cti_terms.specs.declared.predicates.Pred.{Pred}
 use Rattle.prolog_reader.proofs.NameLemmas.{extends_self}
 use Rattle.clause_normal.specs.declared.rule.Rule.{Rule as CodeRule}
 use Rattle.clause_normal.specs.NormalForm.{Fault, normal_rules, program_of}
-use Rattle.clause_normal.specs.Numbering.{with_equality, with_rules}
+use Rattle.clause_normal.specs.Numbering.{is_equality, with_equality, with_rules}
 use Rattle.clause_normal.specs.RuleViews.{rule_of}
 use Rattle.clause_normal.proofs.Later.{rules_stay}
+use Rattle.clause_normal.proofs.NumberingLemmas.{room_left}
 use Rattle.clause_normal.proofs.text_program.normal.Goals as goal
 
 pub returns-clause-exact : goal.returns-clause-exact
@@ -24,3 +25,8 @@ returns-clause-exact c =
 pub returns-clause-known : goal.returns-clause-known
 returns-clause-known c =
     subst (λ (ps : List Pred). AllByRecursion (λ (q : Pred). q.name.0 < length c.program_of.new.names) ps) (sym (ap (λ (p : Listing). p.preds) c.in_ok-add_equality.ensures.program)) c.in_ok-program.ensures.known
+
+pub returns-clause-room : goal.returns-clause-room
+returns-clause-room c none =
+    let later = c.program_of.new.names in
+    room_left later c.in_ok-program.program c.add_equality.new.program c.in_ok-add_equality.ensures.program none c.in_ok-program.ensures.room

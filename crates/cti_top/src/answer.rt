@@ -1,0 +1,34 @@
+//! A text to be written, and the status that it goes with.
+
+ghost use Rattle.std.specs.Prelude.{◌≡◌, ◌≤◌, length, min, IfOk};
+ghost use Rattle.cti_top.specs.Answers.{RefusesAt};
+
+use crate::places::position_of;
+use crate::refusal::{Subject, refusal_text};
+use crate::status::Status;
+use std::alloc::{AllocError, Global};
+
+/// A text to be written, and the status that it goes with.
+#[derive(Drop)]
+pub struct Answer {
+    pub status: Status,
+    pub text: Vec<u8>,
+}
+
+/// The answer that refuses a text for a fault of this kind at this byte.
+pub fn refused(
+    alloc: Global,
+    subject: Subject,
+    text: &[u8],
+    kind: u32,
+    at: u32,
+) -> Result<Answer, AllocError>
+    requires { min at (length text.now) ≤ 1048576 }
+    ensures { IfOk result (λ a. RefusesAt subject text.now kind at a.status a.text.items) }
+{
+    let position = position_of(text, at);
+    Ok(Answer {
+        status: Status::Refused,
+        text: refusal_text(alloc, subject, position.line, position.column, kind)?,
+    })
+}
