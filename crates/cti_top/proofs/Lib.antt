@@ -5,5 +5,6 @@ pub mod PlaceLemmas
 pub mod SourceLemmas
 pub mod QueryLemmas
 pub mod StepLemmas
+pub mod RunLemmas
 pub mod AnswerLemmas
 pub mod OutcomeLemmas

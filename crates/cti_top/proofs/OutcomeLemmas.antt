@@ -5,7 +5,8 @@ use Rattle.std.specs.Prelude.{Result, Ok, IfOk}
 use Rattle.cti_top.specs.Told.{Map, TellsAt, TellsMore, Takes}
 use Rattle.cti_top.specs.Words.{Ask, infer, run, asks}
 use Rattle.cti_top.specs.Programs.{IsRefused}
-use Rattle.cti_top.specs.Runs.{Ends, more, no_more, IsRunOf, IsRefusedQuery}
+use Rattle.cti_top.specs.Runs.{Ends, IsRunOf, IsRefusedQuery}
+use Rattle.cti_top.specs.Runs as runs
 use Rattle.cti_terms.specs.Listing.{Listing}
 use Rattle.cti_terms.specs.declared.derivation.Goal.{Goal}
 use Rattle.ld_resolver.specs.declared.running.Ending.{Ending}
@@ -79,9 +80,9 @@ done_or_memory told words status text name bytes (query_refused f q n b kind at 
 
 -- a run ends as it was asked, or is stopped
 done_or_stopped : {p : Listing} {g : Goal} {n : ℕ} {e : Ending} (status : Status) → Ends p g n status e → (status ≡ Done) ⊎ (status ≡ Stopped)
-done_or_stopped status h = elim h [
-  | more m ↦ inr refl
-  | no_more m ↦ inl refl
+done_or_stopped status h = elim h as (λ s e _. (s ≡ Done) ⊎ (s ≡ Stopped)) [
+  | runs.more m ↦ inr refl
+  | runs.no_more m ↦ inl refl
 ]
 
 ended : (status : Status) → (status ≡ Done) ⊎ (status ≡ Stopped) → IsRanOrMemory status
@@ -89,7 +90,7 @@ ended status (inl h) = inl h
 ended status (inr h) = inr (inl h)
 
 -- the query that was asked
-query_of : Ask → List ℕ
+abbrev query_of : Ask → List ℕ
 query_of (infer f) = f
 query_of (run f q n) = q
 

@@ -1,8 +1,7 @@
 -- Why a query is refused, and what stays known where it adds names.
-use Rattle.std.proofs.Common.{◌≡◌, ◌≢◌, ℕ, ◌<◌, ◌≤◌, ◌==◌, ◌&&◌, Bool, not, cond, ◌+◌, length, List, [], ◌∷◌, Option, Some, None, refl, ap, Ok, Err, position, codes, arith, nat_lt}
+use Rattle.std.proofs.Common.{◌≡◌, ℕ, ◌<◌, ◌≤◌, ◌==◌, ◌&&◌, not, cond, ◌+◌, length, List, [], ◌∷◌, Some, None, refl, ap, Err, position, codes, arith, nat_lt}
 use Rattle.std.specs.List.{AllByRecursion, position_or_len}
 use Rattle.cti_terms.specs.Listing.{Listing}
-use Rattle.cti_terms.specs.declared.derivation.Goal.{Goal}
 use Rattle.cti_terms.specs.declared.predicates.Pred.{Pred}
 use Rattle.prolog_reader.specs.declared.fault.ReadFault.{ReadFault}
 use Rattle.prolog_reader.specs.declared.fault.ReadFault.TheVariants as reading

@@ -1,11 +1,9 @@
 -- Why the text of a program is refused.
-use Rattle.std.proofs.Common.{◌≡◌, ◌≢◌, ℕ, List, refl, Ok, Err}
-use Rattle.std.specs.List.{AllPairs}
+use Rattle.std.proofs.Common.{◌≡◌, ℕ, List, refl, Err}
 use Rattle.prolog_reader.specs.declared.fault.ReadFault.{ReadFault}
 use Rattle.prolog_reader.specs.declared.fault.ReadFault.TheVariants as reading
-use Rattle.prolog_reader.specs.Answers.{AnswersText, RefusesText}
+use Rattle.prolog_reader.specs.Answers.{RefusesText}
 use Rattle.prolog_reader.specs.Clauses.{Clause}
-use Rattle.prolog_reader.specs.Names.{Extends}
 use Rattle.prolog_reader.specs.Table.{Table}
 use Rattle.clause_normal.specs.declared.fault.NormFault.{NormFault}
 use Rattle.clause_normal.specs.declared.fault.NormFault.TheVariants as normal

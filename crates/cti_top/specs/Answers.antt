@@ -11,7 +11,14 @@ use Rattle.cti_top.specs.declared.request.Request.TheVariants as request
 use Rattle.cti_top.specs.declared.refusal.Subject.{Subject}
 use Rattle.cti_top.specs.declared.refusal.Subject.TheVariants.{Program, Query}
 use Rattle.cti_top.specs.declared.status.Status.{Status}
-use Rattle.cti_top.specs.declared.status.Status.TheVariants.{Done, Refused}
+use Rattle.cti_top.specs.declared.status.Status.TheVariants.{Done, Refused, Stopped}
+use Rattle.ld_resolver.specs.declared.running.Ending.{Ending}
+use Rattle.ld_resolver.specs.declared.running.Ending.TheVariants as ending
+
+-- the status of a run that ended so
+abbrev pub status_of : Ending → Status
+status_of ending.Finished = Done
+status_of ending.Stopped = Stopped
 
 -- a request, by its texts
 abbrev pub ask_of : Request → Ask
@@ -19,9 +26,9 @@ ask_of (request.Infer file) = infer file.now
 ask_of (request.Run file query steps) = run file.now query.now steps
 
 -- the answer that refuses a text for a fault of this kind at this byte
-pub record RefusesAt (subject : Subject) (text : List ℕ) (kind at : ℕ) (status : Status) (line : List ℕ) : Type 0 where
-  pub status : status ≡ Refused
-  pub line : line ≡ refusal_line subject (line_of text at) (column_of text at) kind
+pub record RefusesAt (subject : Subject) (text : List ℕ) (kind at : ℕ) (s : Status) (written : List ℕ) : Type 0 where
+  pub status : s ≡ Refused
+  pub line : written ≡ refusal_line subject (line_of text at) (column_of text at) kind
 
 -- the answer to a query of the program that these bytes are: what is printed for it, or why it is refused
 abbrev pub AnswersQuery : List ℕ → List ℕ → ℕ → Status → List ℕ → Type 0

@@ -4,7 +4,7 @@
 -- among texts of which no two are equal; the normal form adds those of the disjunctions' predicates.
 --
 -- To believe: all of this file, and below it `AnswersText` of prolog_reader and `normal_form` of clause_normal.
-use Rattle.std.specs.Prelude.{◌≡◌, ◌≢◌, ℕ, ◌⊎◌, List, Ok, Err}
+use Rattle.std.specs.Prelude.{◌≡◌, ◌≢◌, ℕ, List, Ok, Err}
 use Rattle.std.specs.List.{AllPairs}
 use Rattle.cti_terms.specs.Listing.{Listing}
 use Rattle.prolog_reader.specs.declared.fault.ReadKind.{ReadKind}

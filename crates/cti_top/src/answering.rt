@@ -54,7 +54,7 @@ fn modes_of(alloc: Global, source: &Source) -> Result<Answer, AllocError>
 fn answer_of(alloc: Global, source: Source, request: Request) -> Result<Answer, AllocError>
     requires known { AllByRecursion (λ (q : ThePred). q.name.0 < length source.names) source.program.preds }
     requires room { position (is_equality source.names) source.program.preds ≡ None → length source.program.clauses < 16385 }
-    ensures { IfOk result (λ a. (bytes : List ℕ) → IsKnown bytes (known_of source.entry) → AnswersAsk bytes (ask_of request.entry) a.status a.text.items) }
+    ensures { IfOk result (λ a. (bytes : List ℕ) → IsKnown bytes (known_of source) → AnswersAsk bytes (ask_of request.entry) a.status a.text.items) }
 {
     match request {
         Request::Infer(_) => modes_of(alloc, &source),

@@ -5,7 +5,7 @@ ghost use Rattle.std.specs.List.{AllByRecursion};
 ghost use Rattle.cti_terms.specs.declared.predicates.Pred.{Pred as ThePred};
 ghost use Rattle.clause_normal.specs.Numbering.{is_equality};
 ghost use Rattle.ld_resolver.specs.Runs.{IsGoalOf};
-ghost use Rattle.cti_top.specs.Answers.{AnswersQuery};
+ghost use Rattle.cti_top.specs.Answers.{AnswersQuery, status_of};
 ghost use Rattle.cti_top.specs.Known.{known_of};
 ghost use Rattle.cti_top.specs.Runs.{IsKnown, IsTextOfRun};
 
@@ -20,7 +20,9 @@ use std::alloc::{AllocError, Global};
 use term_text::run_text;
 
 /// The status of a run that ended so.
-fn status_of(ending: Ending) -> Status {
+fn status_of(ending: Ending) -> Status
+    ensures { result ≡ status_of ending }
+{
     match ending {
         Ending::Finished => Status::Done,
         Ending::Stopped => Status::Stopped,
@@ -48,7 +50,7 @@ pub fn run_of(
 ) -> Result<Answer, AllocError>
     requires known { AllByRecursion (λ (q : ThePred). q.name.0 < length source.names) source.program.preds }
     requires room { position (is_equality source.names) source.program.preds ≡ None → length source.program.clauses < 16385 }
-    ensures { IfOk result (λ a. (bytes : List ℕ) → IsKnown bytes (known_of source.entry) → AnswersQuery bytes query.now steps a.status a.text.items) }
+    ensures { IfOk result (λ a. (bytes : List ℕ) → IsKnown bytes (known_of source) → AnswersQuery bytes query.now steps a.status a.text.items) }
 {
     match query_in(alloc, &mut source, query) {
         Ok(goal) => ran(alloc, &source, &goal, steps),

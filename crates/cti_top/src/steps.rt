@@ -37,7 +37,7 @@ fn steps_in(text: &[u8]) -> Option<u64>
 
 /// The same of an option's value, which is 100,000 where it is absent.
 pub fn steps_of(text: Option<&str>) -> Option<u64>
-    ensures { result ≡ steps_of (option_map (λ s. s.now) text) }
+    ensures { result ≡ steps_of (option_map (λ s. s.now) text.entry) }
 {
     match text {
         Some(text) => steps_in(text.as_bytes()),
