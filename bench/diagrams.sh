@@ -3,21 +3,15 @@
 # 1 second and 200 MB). Builds two small programs over a copy of the crate, as `rt run` does: each is proved first.
 # Usage: bench/diagrams.sh [FOLDER], where FOLDER (default: a new one below /tmp) keeps the build for another run.
 set -eu
-top=$(cd "$(dirname "$0")/.." && pwd)
+. "$(dirname "$0")/../tools/workspace.sh"
 work=${1:-$(mktemp -d)}
-mkdir -p "$work/crates/bool_diagrams"
-for part in src specs proofs; do
-    rm -rf "$work/crates/bool_diagrams/$part"
-    cp -r "$top/crates/bool_diagrams/$part" "$work/crates/bool_diagrams/"
-done
-cp "$top/HANDLES" "$work/"
-[ -d "$work/.git" ] || git init -q "$work"
+workspace "$work" bool_diagrams
 
-# program NAME BODY INVARIANT: a program that joins diagrams in a loop over v and prints what it holds
-program() {
+# joining NAME BODY INVARIANT: a program that joins diagrams in a loop over v and prints what it holds
+joining() {
     local crate="$work/crates/$1"
-    mkdir -p "$crate/src" "$crate/proofs/main"
-    : >"$crate/stdin"
+    program "$work" "$1" bool_diagrams
+    mkdir -p "$crate/proofs/main"
     cat >"$crate/src/main.rt" <<RUST
 //! Joins diagrams, to be timed.
 #![tactic(auto)]
@@ -39,7 +33,7 @@ invariant-loop-v l = $3
 ANTT
 }
 
-program bench_parity '    let mut all = table.var(0)?;
+joining bench_parity '    let mut all = table.var(0)?;
     let mut even = table.var(0)?;
     let mut odd = table.var(1)?;
     for v in 1..64u32 {
@@ -56,7 +50,7 @@ program bench_parity '    let mut all = table.var(0)?;
     println!(rt; "{found}")?;
     Ok(())' 'record { all_known : IsDiagram l.table l.all; even_known : IsDiagram l.table l.even; odd_known : IsDiagram l.table l.odd }'
 
-program bench_pairs '    let mut pairs = table.truth(true);
+joining bench_pairs '    let mut pairs = table.truth(true);
     for v in 0..14u32 {
         let left = table.var(v)?;
         let right = table.var(v + 14)?;
@@ -67,13 +61,11 @@ program bench_pairs '    let mut pairs = table.truth(true);
     println!(rt; "{found}")?;
     Ok(())' 'IsDiagram l.table l.pairs'
 
-printf 'bool_diagrams:\nbench_parity: bool_diagrams\nbench_pairs: bool_diagrams\n' >"$work/crates.txt"
-for name in bench_parity bench_pairs; do
-    (cd "$work/crates/$name" && rt run >"$work/$name.log" 2>&1) || { tail -n 20 "$work/$name.log"; exit 1; }
-done
+parity=$(build "$work" bench_parity)
+pairs=$(build "$work" bench_pairs)
 
 TIMEFORMAT='  %3R seconds'
 echo "parity of 64 variables:"
-time "$work/crates/bench_parity/out/bench_parity"
+time "$parity"
 echo "14 pairs in a bad order, with at most 200 MB:"
-time (ulimit -v 204800; "$work/crates/bench_pairs/out/bench_pairs")
+time (ulimit -v 204800; "$pairs")

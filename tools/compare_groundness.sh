@@ -3,25 +3,14 @@
 # The program that it builds is run without a proof (`rt try`), since it makes programs from numbers that it is given.
 # Usage: tools/compare_groundness.sh ORACLE PROGRAM..      (ORACLE: a folder with the Python modules `normal`, `engines`, `model`)
 set -eu
-top=$(cd "$(dirname "$0")/.." && pwd)
+. "$(dirname "$0")/workspace.sh"
 oracle=$(realpath "$1")
 shift
 work=$(mktemp -d)
 trap 'rm -rf "$work"' EXIT
-mkdir -p "$work/crates"
-for crate in cti_terms call_components bool_diagrams term_size termination_model groundness; do
-    mkdir -p "$work/crates/$crate"
-    for part in src specs proofs; do
-        cp -r "$top/crates/$crate/$part" "$work/crates/$crate/"
-    done
-done
-cp "$top/HANDLES" "$work/"
-git init -q "$work"
-mkdir -p "$work/crates/drive/src"
-: >"$work/crates/drive/stdin"
-grep -E '^(cti_terms|call_components|bool_diagrams|term_size|termination_model|groundness):' "$top/crates.txt" >"$work/crates.txt"
-echo 'drive: groundness bool_diagrams call_components cti_terms term_size' >>"$work/crates.txt"
-cat >"$work/crates/drive/src/main.rt" <<'RUST'
+workspace "$work" cti_terms call_components bool_diagrams term_size termination_model groundness
+program "$work" driver groundness bool_diagrams call_components cti_terms term_size
+cat >"$work/crates/driver/src/main.rt" <<'RUST'
 //! Groundness of programs given by numbers.
 #![tactic(auto)]
 
@@ -174,6 +163,6 @@ for name in sys.argv[3:]:
 (work / "wanted").write_text("\n".join(wanted) + "\n")
 PYTHON
 
-(cd "$work/crates/drive" && rt try <"$work/numbers" >"$work/given" 2>"$work/log") || { tail -n 20 "$work/log"; exit 1; }
+(cd "$work/crates/driver" && rt try <"$work/numbers" >"$work/given" 2>"$work/log") || { tail -n 20 "$work/log"; exit 1; }
 diff "$work/wanted" "$work/given"
 echo "$(wc -l <"$work/wanted") programs, no difference"

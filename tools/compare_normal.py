@@ -1,12 +1,13 @@
 #!/usr/bin/env python3
 """Compares the normal form of texts and queries with an independent reading of the definitions on random texts, outside the gate.
 
-Usage: tools/compare_normal.py FOLDER ORACLE SEED COUNT
+Usage: tools/compare_normal.py DRIVER ORACLE SEED COUNT
 
-FOLDER is where tools/normal_driver.sh makes its program. ORACLE is a folder with a Python package that has `reader`, `normal`
+DRIVER is the program that tools/normal_driver.sh builds. ORACLE is a folder with a Python package that has `reader`, `normal`
 and `gen_programs`. Prints texts on which the two differ, and the count.
 """
 import random
+import re
 import subprocess
 import sys
 from importlib import import_module
@@ -21,38 +22,54 @@ KINDS = {9: "Arity", 10: "ManyVariables", 11: "NotPure", 12: "BadHead", 13: "Dir
 
 def term(part):
     if part[0] == "f":
-        return f"f{part[1].hex()}(" + "".join(term(arg) + "," for arg in part[2]) + ")"
-    return f"{part[0]}{part[1]}"
+        return f"Fun(Name({part[1].hex()}), [" + ", ".join(map(term, part[2])) + "])"
+    return f"{'Var' if part[0] == 'v' else 'Int'}({part[1]})"
 
 
 def atom(part):
-    return f"{part[0]}(" + "".join(term(arg) + "," for arg in part[1]) + ")"
+    return f"Atom {{ pred: PredId({part[0]}), args: Terms {{ items: [" + ", ".join(map(term, part[1])) + "] } }"
+
+
+def atoms(parts):
+    return "Atoms { items: [" + ", ".join(map(atom, parts)) + "] }"
 
 
 def shown(program):
-    preds = "".join(f"{name.hex()}/{arity} " for name, arity in program.preds)
-    return preds + "".join(atom(c.head) + "".join(map(atom, c.body)) + f":{c.nvars};" for c in program.clauses)
+    preds = "".join(f"Pred {{ name: Name({name.hex()}), arity: {arity} }}" for name, arity in program.preds)
+    return preds + "".join(f"Clause {{ head: {atom(c.head)}, body: {atoms(c.body)}, vars: {c.nvars} }}" for c in program.clauses)
+
+
+def fault(kind, at):
+    return f"Fault {{ kind: {kind}, at: {at} }}"
 
 
 def wanted(reader, normal, text, query):
-    """What the driver has to print."""
+    """What the driver has to print: the program or the fault, and what it says of the query."""
     try:
         read = reader.read_text(text)
         program = normal.normal(read)
-    except reader.ReadFault as fault:
-        return f"{READ_KINDS[fault.kind]} {fault.at}"
-    except normal.NormFault as fault:
-        return f"{KINDS[fault.kind]} {fault.at}"
-    out = shown(program)
+    except reader.ReadFault as found:
+        return fault(READ_KINDS[found.kind], found.at), ""
+    except normal.NormFault as found:
+        return fault(KINDS[found.kind], found.at), ""
+    first = shown(program)
     if query is None:
-        return out
+        return first, ""
     try:
         later, goal, fresh = normal.normal_query(reader.read_query(query, read.ops), program)
-    except reader.ReadFault as fault:
-        return f"{out}?{READ_KINDS[fault.kind]} {fault.at}"
-    except normal.NormFault as fault:
-        return f"{out}?{KINDS[fault.kind]} {fault.at}{shown(program)}"
-    return f"{out}?" + "".join(map(atom, goal)) + f":{fresh};{shown(later)}"
+    except reader.ReadFault as found:
+        return first, fault(READ_KINDS[found.kind], found.at)
+    except normal.NormFault as found:
+        return first, f"{fault(KINDS[found.kind], found.at)}&{first}"
+    return first, f"Goal {{ atoms: {atoms(goal)}, fresh: {fresh} }}&{shown(later)}"
+
+
+def given(answer):
+    """What the driver printed, with the texts of names in the place of their numbers."""
+    first, second, names, _ = answer.split("|")
+    names = names.split(",")
+    spell = lambda part: re.sub(r"Name\((\d+)\)", lambda m: f"Name({names[int(m.group(1))]})", part)
+    return spell(first), spell(second)
 
 
 def random_argument(rng, variables, depth):
@@ -108,12 +125,15 @@ def random_text(rng):
 
 
 def random_case(rng, programs):
+    """A text: whole, a mutant, near the depth limit, or with many disjunctions; and a query after some."""
     chance = rng.random()
-    if chance < 0.15:
+    if chance < 0.25:
         text = programs.whole_text(rng)
-    elif chance < 0.25:
+    elif chance < 0.45:
         text = programs.mutate(rng, programs.whole_text(rng))
-    elif chance < 0.4:
+    elif chance < 0.48:
+        text = programs.deep_text(rng)
+    elif chance < 0.6:
         text = programs.mutate(rng, random_text(rng))
     else:
         text = random_text(rng)
@@ -127,34 +147,34 @@ def random_case(rng, programs):
     return text, query
 
 
+def kind_of(part):
+    found = re.match(r"Fault \{ kind: (.*), at: ", part)
+    return found.group(1) if found else "normal"
+
+
 def main():
     sys.setrecursionlimit(100000)
-    folder, oracle, seed, count = sys.argv[1], Path(sys.argv[2]).resolve(), int(sys.argv[3]), int(sys.argv[4])
+    driver, oracle, seed, count = sys.argv[1], Path(sys.argv[2]).resolve(), int(sys.argv[3]), int(sys.argv[4])
     sys.path.insert(0, str(oracle.parent))
     reader, normal, programs = (import_module(f"{oracle.name}.{name}") for name in ["reader", "normal", "gen_programs"])
     rng = random.Random(seed)
     cases = [random_case(rng, programs) for _ in range(count)]
     lines = "".join(text.hex() + ("" if query is None else " " + query.hex()) + "\n" for text, query in cases)
-    driver = Path(__file__).resolve().parent / "normal_driver.sh"
-    given = subprocess.run([driver, folder], input=lines, capture_output=True, text=True)
-    answers = given.stdout.splitlines()[: len(cases)]
+    run = subprocess.run([driver], input=lines, capture_output=True, text=True)
+    answers = run.stdout.splitlines()
     different = []
     kinds = {}
     for (text, query), answer in zip(cases, answers):
-        want = wanted(reader, normal, text, query)
-        first, _, second = want.partition("?")
-        for part, name in [(first, "text"), (second, "query")]:
+        want, found = wanted(reader, normal, text, query), given(answer)
+        for name, part in zip(["text", "query"], want):
             if part or name == "text":
-                word = part.split(" ")[0]
-                kind = name + " " + (word if word in [*KINDS.values(), *READ_KINDS.values()] else "normal")
+                kind = f"{name} {kind_of(part)}"
                 kinds[kind] = kinds.get(kind, 0) + 1
-        if want != answer:
-            different.append((text, query, want, answer))
+        if want != found:
+            different.append((text, query, want, found))
     for text, query, want, answer in different[:5]:
-        print(f"{text[:300]} {query}\n  wanted {want[:300]}\n  given  {answer[:300]}")
+        print(f"{text[:300]} {query}\n  wanted {want}\n  given  {answer}"[:2000])
     print(f"{len(cases)} cases, {len(answers)} answers, {len(different)} different: {dict(sorted(kinds.items()))}")
-    if len(answers) != len(cases):
-        print(given.stderr[-2000:], given.stdout[-500:])
     sys.exit(1 if different or len(answers) != len(cases) else 0)
 
 

@@ -4,21 +4,12 @@
 # and then its coefficients. It answers a line for each.
 # Usage: tools/elimination_driver.sh FOLDER      (prints the program's path)
 set -eu
-top=$(cd "$(dirname "$0")/.." && pwd)
+. "$(dirname "$0")/workspace.sh"
 work=$1
-mkdir -p "$work/crates"
-for crate in exact128 rational128 linear_rows fourier; do
-    for part in src specs proofs; do
-        mkdir -p "$work/crates/$crate"
-        rm -rf "$work/crates/$crate/$part"
-        cp -r "$top/crates/$crate/$part" "$work/crates/$crate/"
-    done
-done
-cp "$top/HANDLES" "$work/"
-[ -d "$work/.git" ] || git init -q "$work"
-mkdir -p "$work/crates/drive/src" "$work/crates/drive/proofs/row" "$work/crates/drive/proofs/rows"
-: >"$work/crates/drive/stdin"
-cat >"$work/crates/drive/src/main.rt" <<'RUST'
+workspace "$work" exact128 rational128 linear_rows fourier
+program "$work" driver linear_rows fourier
+mkdir -p "$work/crates/driver/proofs/row" "$work/crates/driver/proofs/rows"
+cat >"$work/crates/driver/src/main.rt" <<'RUST'
 // Answers lines `kind width variable numbers ..`, of which kind 0 is an elimination and 1 a solving.
 #![tactic(auto)]
 
@@ -145,17 +136,17 @@ fn main(rt: HostRuntime) -> io::Result<()> {
     Ok(())
 }
 RUST
-cat >"$work/crates/drive/proofs/row/Invariants.antt" <<'ANTT'
+cat >"$work/crates/driver/proofs/row/Invariants.antt" <<'ANTT'
 use Rattle.std.proofs.Common.{◌≡◌, length}
-use Rattle.drive.proofs.row.Given as goal
+use Rattle.driver.proofs.row.Given as goal
 
 abbrev pub invariant-loop-k : goal.invariant-loop-k
 invariant-loop-k l = length l.coeffs ≡ l.k
 ANTT
-cat >"$work/crates/drive/proofs/rows/Invariants.antt" <<'ANTT'
+cat >"$work/crates/driver/proofs/rows/Invariants.antt" <<'ANTT'
 use Rattle.std.proofs.Common.{length, ◌-◌, ◌≡◌}
 use Rattle.linear_rows.specs.Plain.{HaveWidth}
-use Rattle.drive.proofs.rows.Given as goal
+use Rattle.driver.proofs.rows.Given as goal
 
 abbrev pub invariant-loop-at : goal.invariant-loop-at
 invariant-loop-at l = record {
@@ -166,6 +157,4 @@ invariant-loop-at l = record {
 abbrev pub decreases-loop-at : goal.decreases-loop-at
 decreases-loop-at l = length l.numbers - l.at
 ANTT
-printf 'exact128:\nrational128: exact128\nlinear_rows: exact128\nfourier: exact128 rational128 linear_rows\ndrive: linear_rows fourier\n' >"$work/crates.txt"
-(cd "$work/crates/drive" && rt run </dev/null >"$work/drive.log" 2>&1) || { tail -n 20 "$work/drive.log" >&2; exit 1; }
-echo "$work/crates/drive/out/drive"
+build "$work" driver

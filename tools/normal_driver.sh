@@ -1,29 +1,19 @@
 #!/usr/bin/env bash
-# Makes a program that prints the normal form of texts, for comparisons outside the gate, and runs it unproved on standard input.
-# Each line that it reads is a text in hexadecimal digits, or a text and a query with a space between; it answers a line for each:
-# the predicates and clauses, or the fault and its place, and then the goal of the query with the program that it needs.
-# Usage: tools/normal_driver.sh FOLDER <LINES
+# Builds a program that prints the normal form of texts, for comparisons outside the gate. Each line that it reads is a text in
+# hexadecimal digits, or a text and a query with a space between. It answers a line: the program or the fault; the goal of the query
+# or its fault, and the program that it needs; the names in hexadecimal digits; and the microseconds of the text.
+# Usage: tools/normal_driver.sh FOLDER      (prints the program's path)
 set -eu
-top=$(cd "$(dirname "$0")/.." && pwd)
+. "$(dirname "$0")/workspace.sh"
 work=$1
-for name in cti_terms prolog_tokens prolog_grammar prolog_reader clause_normal; do
-    mkdir -p "$work/crates/$name"
-    for part in src specs proofs; do
-        rm -rf "$work/crates/$name/$part"
-        cp -r "$top/crates/$name/$part" "$work/crates/$name/"
-    done
-done
-mkdir -p "$work/crates/driver/src"
-cp "$top/HANDLES" "$work/"
-[ -d "$work/.git" ] || git init -q "$work"
-: >"$work/crates/driver/stdin"
+workspace "$work" cti_terms prolog_tokens prolog_grammar prolog_reader clause_normal
+program "$work" driver clause_normal cti_terms prolog_reader
 cat >"$work/crates/driver/src/main.rt" <<'RUST'
-//! The normal form of texts given in hex.
+//! The normal form of texts and queries given in hex.
 #![tactic(auto)]
 
-use clause_normal::{NormFault, normal, normal_query};
-use cti_terms::{Atom, Names, PredId, Program, Term};
-use prolog_reader::{ReadFault, read_query, read_text};
+mod show;
+
 use std::io;
 
 fn value(byte: u8) -> u8 {
@@ -34,134 +24,100 @@ fn value(byte: u8) -> u8 {
     }
 }
 
-fn show_name(rt: &HostRuntime, text: &[u8]) -> io::Result<()> {
-    for byte in text {
-        print!(rt; "{:02x}", *byte)?;
-    }
-    Ok(())
-}
-
-fn show(rt: &HostRuntime, names: &Names, term: &Term) -> io::Result<()> {
-    match term {
-        Term::Var(number) => print!(rt; "v{}", *number)?,
-        Term::Int(number) => print!(rt; "i{}", *number)?,
-        Term::Fun(name, terms) => {
-            print!(rt; "f")?;
-            show_name(rt, names.text(*name))?;
-            print!(rt; "(")?;
-            for part in terms.as_slice() {
-                show(rt, names, part)?;
-                print!(rt; ",")?;
-            }
-            print!(rt; ")")?;
-        }
-    }
-    Ok(())
-}
-
-fn show_atom(rt: &HostRuntime, names: &Names, atom: &Atom) -> io::Result<()> {
-    print!(rt; "{}(", atom.pred.0)?;
-    for part in atom.args.as_slice() {
-        show(rt, names, part)?;
-        print!(rt; ",")?;
-    }
-    print!(rt; ")")?;
-    Ok(())
-}
-
-fn show_program(rt: &HostRuntime, names: &Names, program: &Program) -> io::Result<()> {
-    for i in 0..program.preds() {
-        let pred = program.pred(PredId(i));
-        show_name(rt, names.text(pred.name))?;
-        print!(rt; "/{} ", pred.arity)?;
-    }
-    for k in 0..program.clauses() {
-        let clause = program.clause(k + 1);
-        show_atom(rt, names, &clause.head)?;
-        for atom in clause.body.as_slice() {
-            show_atom(rt, names, atom)?;
-        }
-        print!(rt; ":{};", clause.vars)?;
-    }
-    Ok(())
-}
-
-fn unread(rt: &HostRuntime, fault: ReadFault) -> io::Result<()> {
-    match fault {
-        ReadFault::Fault { kind, at } => print!(rt; "{kind:?} {at}")?,
-        ReadFault::Memory => print!(rt; "Memory")?,
-    }
-    Ok(())
-}
-
-fn refused(rt: &HostRuntime, fault: NormFault) -> io::Result<()> {
-    match fault {
-        NormFault::Fault { kind, at } => print!(rt; "{kind:?} {at}")?,
-        NormFault::Memory => print!(rt; "Memory")?,
-    }
-    Ok(())
-}
-
-fn bytes(rt: &HostRuntime, hex: &[u8]) -> io::Result<Vec<u8>> {
-    let mut text = Vec::new(rt.alloc());
-    for pair in hex.chunks_exact(2) {
-        text.push(value(pair[0]).wrapping_mul(16).wrapping_add(value(pair[1])))?;
-    }
-    Ok(text)
-}
-
-fn answer(rt: &HostRuntime, hex: &[u8]) -> io::Result<()> {
-    let mut at = 0;
-    while at < hex.len() && hex[at] != b' ' {
-        at += 1;
-    }
-    let text = bytes(rt, &hex[..at])?;
-    let mut names = Names::new(rt.alloc());
-    let read = match read_text(rt.alloc(), &text, &mut names) {
-        Ok(read) => read,
-        Err(fault) => return unread(rt, fault),
-    };
-    let mut program = match normal(rt.alloc(), &read, &mut names) {
-        Ok(program) => program,
-        Err(fault) => return refused(rt, fault),
-    };
-    show_program(rt, &names, &program)?;
-    if at < hex.len() {
-        let query = bytes(rt, &hex[at + 1..])?;
-        print!(rt; "?")?;
-        let query = match read_query(rt.alloc(), &query, &mut names, &read.ops) {
-            Ok(query) => query,
-            Err(fault) => return unread(rt, fault),
-        };
-        match normal_query(rt.alloc(), &query, &mut names, &mut program) {
-            Ok(goal) => {
-                for atom in goal.atoms.as_slice() {
-                    show_atom(rt, &names, atom)?;
-                }
-                print!(rt; ":{};", goal.fresh)?;
-            }
-            Err(fault) => refused(rt, fault)?,
-        }
-        show_program(rt, &names, &program)?;
-    }
-    Ok(())
-}
-
 fn main(rt: HostRuntime) -> io::Result<()> {
     for line in rt.lines(rt.alloc()) {
         let line = line?;
-        answer(&rt, line.as_str().as_bytes())?;
-        println!(rt)?;
+        let mut text = Vec::new(rt.alloc());
+        let mut query = Vec::new(rt.alloc());
+        let mut is_query = false;
+        let mut high = None;
+        for byte in line.as_str().as_bytes() {
+            if *byte == b' ' {
+                is_query = true;
+                continue;
+            }
+            match high {
+                None => high = Some(value(*byte)),
+                Some(first) => {
+                    let both = first.wrapping_mul(16).wrapping_add(value(*byte));
+                    if is_query {
+                        query.push(both)?;
+                    } else {
+                        text.push(both)?;
+                    }
+                    high = None;
+                }
+            }
+        }
+        if text.len() <= 1048577 && query.len() <= 1048577 {
+            show::show(&rt, &text, &query, is_query)?;
+        }
     }
     Ok(())
 }
 RUST
-cat >"$work/crates.txt" <<'CRATES'
-cti_terms: indexmap
-prolog_tokens:
-prolog_grammar:
-prolog_reader: cti_terms prolog_tokens prolog_grammar thiserror
-clause_normal: cti_terms prolog_grammar prolog_reader thiserror
-driver: clause_normal cti_terms prolog_reader
-CRATES
-cd "$work/crates/driver" && rt try --seconds 300 --steps 2000000000
+cat >"$work/crates/driver/src/show.rt" <<'RUST'
+//! The normal form of one text and query.
+ghost use Rattle.std.specs.Prelude.{◌≤◌, length};
+
+use clause_normal::{normal, normal_query};
+use cti_terms::{Name, Names, PredId, Program};
+use prolog_reader::{ReadText, read_query, read_text};
+use std::io;
+use std::time::Instant;
+
+pub fn show(rt: &HostRuntime, text: &[u8], query: &[u8], is_query: bool) -> io::Result<()>
+    requires text { length text.now ≤ 1048577 }
+    requires query { length query.now ≤ 1048577 }
+{
+    let mut names = Names::new(rt.alloc());
+    let start = Instant::now(rt)?;
+    let read = match read_text(rt.alloc(), text, &mut names) {
+        Ok(read) => read,
+        Err(fault) => return println!(rt; "{fault:?}|||0"),
+    };
+    let mut program = match normal(rt.alloc(), &read, &mut names) {
+        Ok(program) => program,
+        Err(fault) => return println!(rt; "{fault:?}|||0"),
+    };
+    let time = start.elapsed(rt)?.as_micros();
+    show_program(rt, &program)?;
+    print!(rt; "|")?;
+    if is_query {
+        show_query(rt, query, &read, &mut names, &mut program)?;
+    }
+    print!(rt; "|")?;
+    for number in 0..names.count() {
+        for byte in names.text(Name(number)) {
+            print!(rt; "{:02x}", *byte)?;
+        }
+        print!(rt; ",")?;
+    }
+    println!(rt; "|{time}")
+}
+
+fn show_query(rt: &HostRuntime, query: &[u8], read: &ReadText, names: &mut Names, program: &mut Program) -> io::Result<()>
+    requires query { length query.now ≤ 1048577 }
+{
+    let query = match read_query(rt.alloc(), query, names, &read.ops) {
+        Ok(query) => query,
+        Err(fault) => return print!(rt; "{fault:?}"),
+    };
+    match normal_query(rt.alloc(), &query, names, program) {
+        Ok(goal) => print!(rt; "{goal:?}&")?,
+        Err(fault) => print!(rt; "{fault:?}&")?,
+    }
+    show_program(rt, program)
+}
+
+fn show_program(rt: &HostRuntime, program: &Program) -> io::Result<()> {
+    for number in 0..program.preds() {
+        print!(rt; "{:?}", program.pred(PredId(number)))?;
+    }
+    for k in 1..=program.clauses() {
+        print!(rt; "{:?}", program.clause(k))?;
+    }
+    Ok(())
+}
+RUST
+build "$work" driver

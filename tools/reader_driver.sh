@@ -4,19 +4,10 @@
 # of the query, by the operators that the text leaves; the names in hexadecimal digits; and the microseconds of the text.
 # Usage: tools/reader_driver.sh FOLDER      (prints the program's path)
 set -eu
-top=$(cd "$(dirname "$0")/.." && pwd)
+. "$(dirname "$0")/workspace.sh"
 work=$1
-for name in cti_terms prolog_tokens prolog_grammar prolog_reader; do
-    mkdir -p "$work/crates/$name"
-    for part in src specs proofs; do
-        rm -rf "$work/crates/$name/$part"
-        cp -r "$top/crates/$name/$part" "$work/crates/$name/"
-    done
-done
-mkdir -p "$work/crates/driver/src"
-cp "$top/HANDLES" "$work/"
-[ -d "$work/.git" ] || git init -q "$work"
-: >"$work/crates/driver/stdin"
+workspace "$work" cti_terms prolog_tokens prolog_grammar prolog_reader
+program "$work" driver cti_terms prolog_reader
 cat >"$work/crates/driver/src/main.rt" <<'RUST'
 //! What texts and queries given in hex read as.
 #![tactic(auto)]
@@ -113,12 +104,4 @@ fn spell(rt: &HostRuntime, names: &Names) -> io::Result<()> {
     Ok(())
 }
 RUST
-cat >"$work/crates.txt" <<'CRATES'
-cti_terms: indexmap
-prolog_tokens:
-prolog_grammar:
-prolog_reader: cti_terms prolog_tokens prolog_grammar thiserror
-driver: cti_terms prolog_reader
-CRATES
-(cd "$work/crates/driver" && rt run </dev/null >"$work/driver.log" 2>&1) || { tail -n 20 "$work/driver.log" >&2; exit 1; }
-echo "$work/crates/driver/out/driver"
+build "$work" driver

@@ -3,16 +3,10 @@
 # hexadecimal digits; it answers a line of tokens, each with its characters and their spelling, and how they end.
 # Usage: tools/tokens_driver.sh FOLDER      (prints the program's path)
 set -eu
-top=$(cd "$(dirname "$0")/.." && pwd)
+. "$(dirname "$0")/workspace.sh"
 work=$1
-mkdir -p "$work/crates/prolog_tokens" "$work/crates/driver/src"
-for part in src specs proofs; do
-    rm -rf "$work/crates/prolog_tokens/$part"
-    cp -r "$top/crates/prolog_tokens/$part" "$work/crates/prolog_tokens/"
-done
-cp "$top/HANDLES" "$work/"
-[ -d "$work/.git" ] || git init -q "$work"
-: >"$work/crates/driver/stdin"
+workspace "$work" prolog_tokens
+program "$work" driver prolog_tokens
 cat >"$work/crates/driver/src/main.rt" <<'RUST'
 //! Tokens of texts given in hex.
 #![tactic(auto)]
@@ -108,6 +102,4 @@ use Rattle.driver.proofs.show.show.Given as goal
 abbrev pub invariant-tokens : goal.invariant-tokens
 invariant-tokens l = l.lexer.text ≡ l.text
 ANTT
-printf 'prolog_tokens:\ndriver: prolog_tokens\n' >"$work/crates.txt"
-(cd "$work/crates/driver" && rt run </dev/null >"$work/driver.log" 2>&1) || { tail -n 20 "$work/driver.log" >&2; exit 1; }
-echo "$work/crates/driver/out/driver"
+build "$work" driver
