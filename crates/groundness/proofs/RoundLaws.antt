@@ -13,15 +13,6 @@ use Rattle.groundness.specs.Missing.{all_missing}
 use Rattle.groundness.specs.Sets.{family_of, has_row}
 use Rattle.groundness.proofs.MissingLaws.{all_missing_kept}
 
-pub or_false : (a b : Bool) → (a || b) ≡ false → (a ≡ false) × (b ≡ false)
-or_false true b h = cc
-or_false false b h = (refl, h)
-
-has_row_later : (a : Option Pred) (T T2 : List Rows) → Keeps T T2 → (b : Option Diagram) → ((d : Diagram) → b ≡ Some d → IsDiagram T d) → (row : List Bool) → has_row a T2 b row ≡ has_row a T b row
-has_row_later None T T2 K b known row = refl
-has_row_later (Some p) T T2 K None known row = refl
-has_row_later (Some p) T T2 K (Some d) known row = ap (λ x. (p.arity == length row) && x) (holds_later T T2 d K (known d refl) (values_of row))
-
 module _ (preds : List Pred) (T T2 : List Rows) (K : Keeps T T2) (sets : List Diagram) (known : (r : ℕ) (d : Diagram) → slice_get sets r ≡ Some d → IsDiagram T d) where
   family_later : family_of preds T2 sets ≡ family_of preds T sets
   family_later = λ i r row. has_row_later (slice_get preds r) T T2 K (slice_get sets r) (known r) row i

@@ -37,7 +37,7 @@ pub(crate) fn rigid_rows<N: Norm>(
 }
 
 /// The rows of a set on which a variable says whether a term is rigid.
-pub(crate) fn bound_rows<N: Norm>(
+pub fn bound_rows<N: Norm>(
     norm: &N,
     table: &mut Table,
     set: Diagram,

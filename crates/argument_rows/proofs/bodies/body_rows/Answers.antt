@@ -5,10 +5,10 @@ use Rattle.bool_diagrams.specs.Cubes.{truth_rows}
 use Rattle.bool_diagrams.specs.Rows.{holds}
 use Rattle.bool_diagrams.proofs.CallerLemmas.{holds_later, keeps_twice, known_later}
 use Rattle.cti_terms.specs.declared.atom_list.Atom.{Atom}
-use Rattle.groundness.specs.Sets.{HasAtom}
-use Rattle.groundness.proofs.ListLaws.{at_place, indexed, there, up_to_more}
-use Rattle.groundness.proofs.RowLaws.{both}
-use Rattle.groundness.proofs.clause_rows.body_rows.Goals as goal
+use Rattle.argument_rows.specs.Ready.{HasAtom}
+use Rattle.argument_rows.proofs.ListLaws.{at_place, indexed, there, up_to_more}
+use Rattle.argument_rows.proofs.RowLaws.{both}
+use Rattle.argument_rows.proofs.bodies.body_rows.Goals as goal
 
 abbrev none : Diagram
 none = record { 0 = 0 }

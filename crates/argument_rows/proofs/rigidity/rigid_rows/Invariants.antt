@@ -1,7 +1,7 @@
 use Rattle.std.proofs.Common.{◌↔◌, ◌<◌, ℕ, Bool, IsTrue, Contains}
 use Rattle.bool_diagrams.specs.Rows.{IsDiagram, Keeps, holds}
 use Rattle.term_size.specs.Members.{members}
-use Rattle.groundness.proofs.rigidity.rigid_rows.Given as goal
+use Rattle.argument_rows.proofs.rigidity.rigid_rows.Given as goal
 
 abbrev pub invariant-loop-x : goal.invariant-loop-x
 invariant-loop-x g l =

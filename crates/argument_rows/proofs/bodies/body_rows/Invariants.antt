@@ -1,7 +1,7 @@
 use Rattle.std.proofs.Common.{◌↔◌, ℕ, Bool, IsTrue}
 use Rattle.bool_diagrams.specs.Rows.{IsDiagram, Keeps, holds}
-use Rattle.groundness.specs.Sets.{HasAtoms}
-use Rattle.groundness.proofs.clause_rows.body_rows.Given as goal
+use Rattle.argument_rows.specs.Ready.{HasAtoms}
+use Rattle.argument_rows.proofs.bodies.body_rows.Given as goal
 
 abbrev pub invariant-loop-atom : goal.invariant-loop-atom
 invariant-loop-atom g l =

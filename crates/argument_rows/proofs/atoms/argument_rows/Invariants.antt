@@ -1,7 +1,7 @@
 use Rattle.std.proofs.Common.{◌≡◌, ℕ, Bool}
 use Rattle.bool_diagrams.specs.Rows.{IsDiagram, Keeps, holds}
-use Rattle.groundness.proofs.ArgumentLaws.{mixed}
-use Rattle.groundness.proofs.atom_rows.argument_rows.Given as goal
+use Rattle.argument_rows.proofs.ArgumentLaws.{mixed}
+use Rattle.argument_rows.proofs.atoms.argument_rows.Given as goal
 
 abbrev pub invariant-loop-place : goal.invariant-loop-place
 invariant-loop-place g l =

@@ -5,9 +5,9 @@ use Rattle.std.proofs.lemmas.List.{length-map}
 use Rattle.bool_diagrams.proofs.CallerLemmas.{keeps_twice}
 use Rattle.cti_terms.specs.Spell.{tree_of}
 use Rattle.cti_terms.specs.Tree.{Tree, is_below, nodes_of}
-use Rattle.groundness.proofs.ListLaws.{at_place, by_places, mapped_place, place_below, sum_part}
-use Rattle.groundness.proofs.ArgumentLaws.{mixed, argument_step, mixed_start, mixed_end, from_zero, number_at}
-use Rattle.groundness.proofs.atom_rows.argument_rows.Goals as goal
+use Rattle.argument_rows.proofs.ListLaws.{at_place, by_places, mapped_place, place_below, sum_part}
+use Rattle.argument_rows.proofs.ArgumentLaws.{mixed, argument_step, mixed_start, mixed_end, from_zero, number_at}
+use Rattle.argument_rows.proofs.atoms.argument_rows.Goals as goal
 
 pub loop-place-init : goal.loop-place-init
 loop-place-init g c =

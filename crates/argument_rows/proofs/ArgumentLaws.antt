@@ -9,9 +9,9 @@ use Rattle.bool_diagrams.specs.Rows.{iff}
 use Rattle.bool_diagrams.specs.Renaming.{renamed}
 use Rattle.cti_terms.specs.Tree.{Tree, is_below}
 use Rattle.term_size.specs.Norm.{IsNorm}
-use Rattle.groundness.proofs.NormLaws.{truth_agrees}
-use Rattle.groundness.proofs.ListLaws.{by_places, indexed, mapped_place}
-use Rattle.groundness.proofs.RowLaws.{decided, with_same, with_other}
+use Rattle.argument_rows.proofs.NormLaws.{truth_agrees}
+use Rattle.argument_rows.proofs.ListLaws.{by_places, indexed, mapped_place}
+use Rattle.argument_rows.proofs.RowLaws.{decided, with_same, with_other}
 
 -- the truth of the first n arguments, and beyond them the variables that stand for arguments
 abbrev pub mixed : ((ℕ → Bool) → Tree → Bool) → List Tree → (ℕ → Bool) → ℕ → ℕ → Bool
