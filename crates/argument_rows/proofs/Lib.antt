@@ -1,6 +1,11 @@
 pub mod ArgumentLaws
+pub mod AtomLaws
 pub mod CallerLemmas
+pub mod CellLaws
+pub mod CoverLaws
 pub mod ListLaws
+pub mod ModeLaws
 pub mod NormLaws
 pub mod RowLaws
 pub mod SetLaws
+pub mod UpperLaws

@@ -1,6 +1,6 @@
 //! Rows all of whose upper rows are in a set.
 
-ghost use Rattle.std.specs.Prelude.{◌≡◌, ◌×◌, ◌≤◌, ◌<◌, ◌&&◌, ℕ, Bool, true, IfOk, List, length, slice_get, Some};
+ghost use Rattle.std.specs.Prelude.{◌≡◌, ◌≤◌, ◌<◌, ◌&&◌, ℕ, Bool, true, IfOk, List, length, slice_get, Some};
 ghost use Rattle.std.specs.List.{list_any};
 ghost use Rattle.bool_diagrams.specs.declared.diagram.Diagram.{Diagram};
 ghost use Rattle.bool_diagrams.specs.Cubes.{truth_rows};
