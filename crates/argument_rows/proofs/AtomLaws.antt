@@ -39,6 +39,10 @@ module _ (T T2 : List Rows) (K : Keeps T T2) (sets : List Diagram) (vars : ℕ) 
     λ h d e. holds_later T T2 d K (ready.known d e).0 (values_of (truth_row truth v b)) ∙ h d e,
   )
 
+pub chosen_ready : (T : List Rows) (pre allowed : List Diagram) (vars : ℕ) (b : Atom) (t : Bool) → IsReady T pre vars b → IsReady T allowed vars b → IsReady T (if t then pre else allowed) vars b
+chosen_ready T pre allowed vars b true p a = p
+chosen_ready T pre allowed vars b false p a = a
+
 module _ (truth : (ℕ → Bool) → Tree → Bool) (p : Listing) (trees : List Rows) (sets : List Diagram) (S : AreSets p.preds trees sets) (program : IsProgram p) (vars : ℕ) (v : ℕ → Bool) where
   pub ground_is : (b : Atom) → IsAtom p.preds vars b → HasAtom truth trees sets v b ↔ IsGround truth (family_of p.preds trees sets) v b
   ground_is b a = (forth, back)

@@ -56,3 +56,14 @@ pub any_more : {X : Type 0} → (f : X → Bool) (xs : List X) (n : ℕ) (x : X)
 any_more f [] n x e = cc
 any_more f (y ∷ ys) zero x e = let same : y ≡ x = cc in or_none (f x) ∙ ap (λ (z : _). f z || false) (sym same)
 any_more f (y ∷ ys) (suc n) x e = sym (or_assoc (f y) (list_any f (take n ys)) (f x)) ∙ ap (λ (b : Bool). f y || b) (any_more f ys n x e)
+
+pub any_next : {X : Type 0} → (f : X → Bool) (xs : List X) (n : ℕ) (x : X) → slice_get xs n ≡ Some x → (list_any f (take n xs) || f x) ≡ list_any f (take (n + 1) xs)
+any_next f xs n x e = let next : suc n ≡ n + 1 = omega arith in any_more f xs n x e ∙ ap (λ k. list_any f (take k xs)) next
+
+-- an element that fails the test changes nothing
+pub any_skipped : {X : Type 0} → (f : X → Bool) (xs : List X) (n : ℕ) (x : X) → slice_get xs n ≡ Some x → f x ≡ false → list_any f (take n xs) ≡ list_any f (take (n + 1) xs)
+any_skipped f xs n x e fails = sym (or_end (list_any f (take n xs))) ∙ (λ i. list_any f (take n xs) || sym fails i) ∙ any_next f xs n x e
+  where
+    or_end : (a : Bool) → (a || false) ≡ a
+    or_end true = refl
+    or_end false = refl

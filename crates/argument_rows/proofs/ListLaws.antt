@@ -56,6 +56,10 @@ there [] i d lt = absurd (omega arith)
 there (y ∷ ys) zero d lt = refl
 there (y ∷ ys) (suc i) d lt = there ys i d (omega arith)
 
+-- an element by its index
+pub from_index : {X : Type 0} → (xs : List X) (i : ℕ) (d x : X) → i < length xs → slice_index_or xs i d ≡ x → slice_get xs i ≡ Some x
+from_index xs i d x lt e = there xs i d lt ∙ ap Some e
+
 -- what holds up to a place, and one place further
 pub up_to_more : {X : Type 0} → (P : ℕ → X → Type 0) (xs : List X) (n : ℕ) (x : X) → slice_get xs n ≡ Some x
     → ((j : ℕ) (y : X) → j < n → slice_get xs j ≡ Some y → P j y) → P n x → (j : ℕ) (y : X) → j < n + 1 → slice_get xs j ≡ Some y → P j y

@@ -1,7 +1,8 @@
 -- Laws of rows: what each operation on diagrams does to what their rows say.
-use Rattle.std.proofs.Common.{◌≡◌, ◌⊎◌, inl, inr, ℕ, zero, suc, ◌<◌, ◌==◌, Bool, true, false, ◌&&◌, ◌||◌, IsTrue, List, [], ◌∷◌, length, refl, ap, sym, arith}
+use Rattle.std.proofs.Common.{◌≡◌, ◌⊎◌, inl, inr, ℕ, zero, suc, ◌<◌, ◌==◌, Bool, true, false, ◌&&◌, ◌||◌, if◌then◌else◌, IsTrue, List, [], ◌∷◌, length, refl, ap, sym, ◌∙◌, arith, Result, IfOk}
 use Rattle.std.proofs.lemmas.Bool.{eq-eqb}
 use Rattle.std.proofs.lemmas.Bool.Decides.{nat_tests}
+use Rattle.std.proofs.lemmas.Result.{IfOk-weaker}
 use Rattle.bool_diagrams.specs.Cubes.{values_of}
 use Rattle.bool_diagrams.specs.Tree.{with_value}
 use Rattle.bool_diagrams.specs.Rows.{iff}
@@ -80,3 +81,24 @@ unfolding first_row
 first_values zero row v lt = absurd (omega arith)
 first_values (suc n) row zero lt = refl
 first_values (suc n) row (suc v) lt = first_values n (λ u. row (suc u)) v (omega arith)
+
+-- a set where one variable is true, whatever that variable is
+pub raised_value : (old set rigid with_it : (ℕ → Bool) → Bool) (k : ℕ) (row : ℕ → Bool) → ((r : ℕ → Bool) → set r ≡ old r) → ((r : ℕ → Bool) → rigid r ≡ r k) → ((r : ℕ → Bool) → with_it r ≡ (set r && rigid r))
+    → (with_it (with_value row k false) || with_it (with_value row k true)) ≡ old (with_value row k true)
+raised_value old set rigid with_it k row same own both_are = (λ i. part false i || part true i) ∙ go (old (with_value row k false)) (old (with_value row k true))
+  where
+    part : (b : Bool) → with_it (with_value row k b) ≡ (old (with_value row k b) && b)
+    part b = both_are (with_value row k b) ∙ (λ i. same (with_value row k b) i && (own (with_value row k b) ∙ with_same row k b) i)
+
+    go : (a b : Bool) → ((a && false) || (b && true)) ≡ b
+    go true true = refl
+    go true false = refl
+    go false true = refl
+    go false false = refl
+
+pub with_agree : (row other : ℕ → Bool) (k : ℕ) (b : Bool) (v : ℕ) → row v ≡ other v → with_value row k b v ≡ with_value other k b v
+with_agree row other k b v e = ap (λ x. if v == k then b else x) e
+
+-- what follows from the last call's value follows from its result
+pub if_ok_then : {X E : Type 0} {P Q : X → Type 0} (r : Result X E) → IfOk r P → ((x : X) → P x → Q x) → IfOk r Q
+if_ok_then {P} {Q} r h f = IfOk-weaker r P Q f h

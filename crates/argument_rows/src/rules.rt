@@ -105,10 +105,31 @@ fn call_stays<N: Norm>(
         ↔ ((v : ℕ → Bool) → IsTrue (holds table.old reached v)
         → HasAtom (N.truth norm.now) table.old (if own then pre.now else allowed.now) v atom.now)) }
 {
-    let wanted = if own {
-        atom_rows(norm, table, pre, atom, vars)?
-    } else {
-        atom_rows(norm, table, allowed, atom, vars)?
-    };
+    let wanted = chosen_rows(norm, table, own, pre, allowed, atom, vars)?;
     is_inside(table, reached, wanted)
+}
+
+// The rows on which an atom is in one of two sets.
+fn chosen_rows<N: Norm>(
+    norm: &N,
+    table: &mut Table,
+    own: bool,
+    pre: &[Diagram],
+    allowed: &[Diagram],
+    atom: &Atom,
+    vars: u32,
+) -> Result<Diagram, AllocError>
+    requires few { vars ≤ MOST_VARIABLES }
+    requires pre { IsReady table.old pre.now vars atom.now }
+    requires allowed { IsReady table.old allowed.now vars atom.now }
+    ensures keeps { Keeps table.old table.new }
+    ensures known { IfOk result (IsDiagram table.new) }
+    ensures rows { IfOk result (λ d. (row : ℕ → Bool)
+        → IsTrue (holds table.new d row)
+        ↔ HasAtom (N.truth norm.now) table.old (if own then pre.now else allowed.now) row atom.now) }
+{
+    if own {
+        return atom_rows(norm, table, pre, atom, vars);
+    }
+    atom_rows(norm, table, allowed, atom, vars)
 }
