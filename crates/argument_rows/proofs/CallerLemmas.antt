@@ -1,12 +1,15 @@
--- For callers: sets stay what they are while the table grows.
-use Rattle.std.proofs.Common.{◌≡◌, ℕ, Bool, ◌&&◌, ◌==◌, List, length, slice_get, Option, None, Some, refl, ap}
+-- For callers: sets stay what they are while the table grows, and one set may be put in the place of another.
+use Rattle.std.proofs.Common.{◌≡◌, inl, inr, ℕ, zero, suc, ◌<◌, Bool, ◌&&◌, ◌==◌, List, [], ◌∷◌, length, slice_get, slice_set, Option, None, Some, refl, ap, sym, subst, ◌∙◌, arith}
+use Rattle.std.proofs.lemmas.Bool.{cases_eq}
+use Rattle.std.proofs.lemmas.List.{length-set}
 use Rattle.bool_diagrams.specs.declared.diagram.Diagram.{Diagram}
 use Rattle.bool_diagrams.specs.Cubes.{values_of}
-use Rattle.bool_diagrams.specs.Rows.{IsDiagram, Keeps}
+use Rattle.bool_diagrams.specs.Rows.{IsDiagram, Keeps, ReadsBelow}
 use Rattle.bool_diagrams.specs.Tree.{Tree as Rows}
-use Rattle.bool_diagrams.proofs.CallerLemmas.{holds_later}
+use Rattle.bool_diagrams.proofs.CallerLemmas.{holds_later, known_later}
 use Rattle.cti_terms.specs.declared.predicates.Pred.{Pred}
-use Rattle.argument_rows.specs.Sets.{family_of, has_row}
+use Rattle.termination_model.specs.Grounds.{HasArity}
+use Rattle.argument_rows.specs.Sets.{AreSets, family_of, has_row}
 
 has_row_later : (a : Option Pred) (T T2 : List Rows) → Keeps T T2 → (b : Option Diagram) → ((d : Diagram) → b ≡ Some d → IsDiagram T d) → (row : List Bool) → has_row a T2 b row ≡ has_row a T b row
 has_row_later None T T2 K b known row = refl
@@ -16,3 +19,45 @@ has_row_later (Some p) T T2 K (Some d) known row = ap (λ x. (p.arity == length 
 module _ (preds : List Pred) (T T2 : List Rows) (K : Keeps T T2) (sets : List Diagram) (known : (r : ℕ) (d : Diagram) → slice_get sets r ≡ Some d → IsDiagram T d) where
   pub family_later : family_of preds T2 sets ≡ family_of preds T sets
   family_later = λ i r row. has_row_later (slice_get preds r) T T2 K (slice_get sets r) (known r) row i
+
+pub reads_later : (T T2 : List Rows) → Keeps T T2 → (d : Diagram) → IsDiagram T d → (n : ℕ) → ReadsBelow T d n → ReadsBelow T2 d n
+reads_later T T2 K d known n reads row other agree = holds_later T T2 d K known row ∙ reads row other agree ∙ sym (holds_later T T2 d K known other)
+
+pub sets_later : (preds : List Pred) (T T2 : List Rows) → Keeps T T2 → (sets : List Diagram) → AreSets preds T sets → AreSets preds T2 sets
+sets_later preds T T2 K sets S = record {
+  each = S.each;
+  known = λ q d e. known_later T T2 d K (S.known q d e);
+  reads = λ q n d e a. reads_later T T2 K d (S.known q d e) n (S.reads q n d e a);
+}
+
+at_same : (sets : List Diagram) (q : ℕ) (d : Diagram) → q < length sets → slice_get (slice_set sets q d) q ≡ Some d
+at_same [] q d lt = absurd (omega arith)
+at_same (x ∷ sets) zero d lt = refl
+at_same (x ∷ sets) (suc q) d lt = at_same sets q d (omega arith)
+
+at_other : (sets : List Diagram) (q r : ℕ) (d : Diagram) → ((r ≡ q) → ⊥) → slice_get (slice_set sets q d) r ≡ slice_get sets r
+at_other [] q r d ne = refl
+at_other (x ∷ sets) zero zero d ne = absurd (ne refl)
+at_other (x ∷ sets) zero (suc r) d ne = refl
+at_other (x ∷ sets) (suc q) zero d ne = refl
+at_other (x ∷ sets) (suc q) (suc r) d ne = at_other sets q r d (λ e. ne (ap suc e))
+
+-- a set of the arity in the place of a predicate's set
+pub sets_with : (preds : List Pred) (T : List Rows) (sets : List Diagram) → AreSets preds T sets → (q : ℕ) (d : Diagram) → q < length sets → IsDiagram T d → ((n : ℕ) → HasArity preds q n → ReadsBelow T d n) → AreSets preds T (slice_set sets q d)
+sets_with preds T sets S q d lt known reads = record {
+  each = length-set sets q d ∙ S.each;
+  known = λ r x e. elim (cases_eq r q) [
+    | inl same ↦
+        let f : slice_get (slice_set sets q d) r ≡ Some d = ap (slice_get (slice_set sets q d)) same ∙ at_same sets q d lt in
+        let is : d ≡ x = cc in
+        subst (IsDiagram T) is known
+    | inr other ↦ S.known r x (sym (at_other sets q r d other) ∙ e)
+  ];
+  reads = λ r n x e a. elim (cases_eq r q) [
+    | inl same ↦
+        let f : slice_get (slice_set sets q d) r ≡ Some d = ap (slice_get (slice_set sets q d)) same ∙ at_same sets q d lt in
+        let is : d ≡ x = cc in
+        subst (λ (y : Diagram). ReadsBelow T y n) is (reads n (subst (λ m. HasArity preds m n) same a))
+    | inr other ↦ S.reads r n x (sym (at_other sets q r d other) ∙ e) a
+  ];
+}

@@ -2,6 +2,7 @@ pub mod ArgumentLaws
 pub mod AtomLaws
 pub mod CallerLemmas
 pub mod CellLaws
+pub mod ClaimLaws
 pub mod CoverLaws
 pub mod ListLaws
 pub mod ModeLaws
