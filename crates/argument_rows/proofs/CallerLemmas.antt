@@ -61,3 +61,18 @@ sets_with preds T sets S q d lt known reads = record {
     | inr other ↦ S.reads r n x (sym (at_other sets q r d other) ∙ e) a
   ];
 }
+
+pub no_sets : (T : List Rows) → AreSets [] T []
+no_sets T = record { each = refl; known = λ q d e. cc; reads = λ q n d e a. cc }
+
+-- a set for one more predicate
+pub sets_behind : (preds : List Pred) (T : List Rows) (sets : List Diagram) (p : Pred) (d : Diagram) → IsDiagram T d → ReadsBelow T d p.arity → AreSets preds T sets → AreSets (p ∷ preds) T (d ∷ sets)
+sets_behind preds T sets p d known reads S = record { each = ap suc S.each; known = known_at; reads = reads_at }
+  where
+    known_at : (q : ℕ) (x : Diagram) → slice_get (d ∷ sets) q ≡ Some x → IsDiagram T x
+    known_at zero x e = let is : d ≡ x = cc in subst (IsDiagram T) is known
+    known_at (suc q) x e = S.known q x e
+
+    reads_at : (q n : ℕ) (x : Diagram) → slice_get (d ∷ sets) q ≡ Some x → HasArity (p ∷ preds) q n → ReadsBelow T x n
+    reads_at zero n x e a = let is : d ≡ x = cc in subst (λ (y : Diagram). ReadsBelow T y n) is (subst (ReadsBelow T d) a reads)
+    reads_at (suc q) n x e a = S.reads q n x e a
