@@ -1,5 +1,5 @@
 -- What an atom and the first atoms of a body have in the sets, while the table grows and in the words of families.
-use Rattle.std.proofs.Common.{◌≡◌, ◌↔◌, ℕ, zero, suc, ◌<◌, ◌≤◌, Bool, true, false, IsTrue, List, [], ◌∷◌, length, map, take, slice_get, slice_index_or, Some, if◌then◌else◌, refl, ap, sym, subst, ◌∙◌, arith}
+use Rattle.std.proofs.Common.{◌≡◌, ◌↔◌, ℕ, zero, suc, Bool, true, false, IsTrue, List, [], ◌∷◌, length, take, slice_get, slice_index_or, Some, if◌then◌else◌, refl, sym, subst, ◌∙◌, arith}
 use Rattle.std.specs.List.{AllByRecursion}
 use Rattle.std.proofs.lemmas.List.{length-map}
 use Rattle.bool_diagrams.specs.declared.diagram.Diagram.{Diagram}
@@ -12,8 +12,8 @@ use Rattle.cti_terms.specs.declared.clauses.Clause.{Clause}
 use Rattle.cti_terms.specs.declared.predicates.Pred.{Pred}
 use Rattle.cti_terms.specs.Listing.{Listing, IsAtom, IsClause, IsProgram}
 use Rattle.cti_terms.specs.Tree.{Tree}
-use Rattle.termination_model.specs.Grounds.{Family, IsClosedUnder, IsGround, truth_row}
-use Rattle.argument_rows.specs.Ready.{HasAtom, HasAtoms, IsReady, IsReadyClause}
+use Rattle.termination_model.specs.Grounds.{IsClosedUnder, IsGround, truth_row}
+use Rattle.argument_rows.specs.Ready.{HasAtom, HasAtoms, IsReady}
 use Rattle.argument_rows.specs.Rules.{KeepsSets}
 use Rattle.argument_rows.specs.Sets.{AreSets, family_of}
 use Rattle.argument_rows.proofs.ListLaws.{by_places, from_places, place_below, there}

@@ -1,7 +1,6 @@
 -- Rows that are true at each positive coefficient, by places.
-use Rattle.std.proofs.Common.{◌≡◌, ℕ, zero, suc, ◌<◌, Bool, true, IsTrue, List, [], ◌∷◌, length, map, slice_get, Some, nat_lt, ltb-true, refl, ap, sym, ◌∙◌, arith}
+use Rattle.std.proofs.Common.{◌≡◌, ℕ, zero, suc, ◌<◌, Bool, true, IsTrue, List, [], ◌∷◌, length, map, slice_get, Some, nat_lt, ltb-true, ap, sym, ◌∙◌, arith}
 use Rattle.std.proofs.lemmas.Bool.Decides.{nat_tests}
-use Rattle.std.proofs.lemmas.List.{length-map}
 use Rattle.bool_diagrams.specs.Cubes.{values_of}
 use Rattle.termination_model.specs.Rows.{Covers}
 use Rattle.argument_rows.proofs.RowLaws.{first_row, first_values, length-first}

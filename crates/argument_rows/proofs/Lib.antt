@@ -4,6 +4,7 @@ pub mod CallerLemmas
 pub mod CellLaws
 pub mod ClaimLaws
 pub mod CoverLaws
+pub mod Examples
 pub mod ListLaws
 pub mod ModeLaws
 pub mod NormLaws

@@ -1,5 +1,5 @@
 -- The row of a mode, by places.
-use Rattle.std.proofs.Common.{◌≡◌, ℕ, zero, suc, ◌+◌, ◌*◌, ◌^◌, ◌%◌, ◌<◌, ◌==◌, Bool, true, List, bit_or, w64, refl, ap, sym, ◌∙◌, arith}
+use Rattle.std.proofs.Common.{◌≡◌, ℕ, zero, suc, ◌+◌, ◌*◌, ◌^◌, ◌%◌, ◌<◌, ◌==◌, true, List, bit_or, w64, ap, ◌∙◌, arith}
 use Rattle.std.proofs.lemmas.Nat.Bits.{bit_at_set_same, bit_at_set_other}
 use Rattle.bool_diagrams.specs.Rows.{bit_of}
 use Rattle.std.specs.List.{list_any}

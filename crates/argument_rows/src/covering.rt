@@ -13,11 +13,7 @@ use std::alloc::AllocError;
 /// Tells whether each row of a set is true wherever a coefficient is positive.
 ///
 /// `positive` says of each argument whether its coefficient is: the clause holds for all coefficients with these signs.
-pub fn is_covered(
-    table: &mut Table,
-    set: Diagram,
-    positive: &[bool],
-) -> Result<bool, AllocError>
+pub fn is_covered(table: &mut Table, set: Diagram, positive: &[bool]) -> Result<bool, AllocError>
     requires known { IsDiagram table.old set }
     requires reads { ReadsBelow table.old set (length positive.now) }
     requires narrow { length positive.now ≤ MOST_ARGUMENTS }

@@ -32,7 +32,11 @@ fn upper_rows_stay(rt: HostRuntime) -> Result<(), Fail> {
     let second = cube_rows(&mut table, &second, 2)?;
     let none = upper_rows(&mut table, first, 2)?;
     let union = upward_union(&mut table, [first, second].as_slice(), 2)?;
-    for (mode, before, after) in [([1, 1], true, true), ([2, 2], false, false), ([1, 2], true, true)] {
+    for (mode, before, after) in [
+        ([1, 1], true, true),
+        ([2, 2], false, false),
+        ([1, 2], true, true),
+    ] {
         assert!(rt; !admits(&table, none, mode.as_slice(), 2));
         assert_eq!(rt; admits(&table, second, mode.as_slice(), 2), before);
         assert_eq!(rt; admits(&table, union, mode.as_slice(), 2), after);
@@ -88,12 +92,7 @@ fn append(alloc: Global) -> Result<Program, AllocError>
 }
 
 // Whether the rows of the cubes are closed under a clause of the program above.
-fn closes(
-    alloc: Global,
-    program: &Program,
-    cubes: &[Cube],
-    k: u32,
-) -> Result<bool, AllocError>
+fn closes(alloc: Global, program: &Program, cubes: &[Cube], k: u32) -> Result<bool, AllocError>
     requires preds { program.now.preds ≡ (record { name = record { 0 = 2 }; arity = 3 }) ∷ [] }
     requires first { 1 ≤ k }
     requires last { k ≤ length program.now.clauses }
@@ -104,12 +103,7 @@ fn closes(
 }
 
 // Whether a clause of the program above keeps its calls in the rows of the cubes.
-fn stays(
-    alloc: Global,
-    program: &Program,
-    cubes: &[Cube],
-    k: u32,
-) -> Result<bool, AllocError>
+fn stays(alloc: Global, program: &Program, cubes: &[Cube], k: u32) -> Result<bool, AllocError>
     requires preds { program.now.preds ≡ (record { name = record { 0 = 2 }; arity = 3 }) ∷ [] }
     requires first { 1 ≤ k }
     requires last { k ≤ length program.now.clauses }
@@ -140,7 +134,10 @@ fn cube(alloc: Global, cells: [Cell; 3]) -> Result<Cube, AllocError> {
 fn rows_of_append_are_closed(rt: HostRuntime) -> Result<(), Fail> {
     let alloc = rt.alloc();
     let program = append(alloc)?;
-    let mut cubes = vec![in alloc; cube(alloc, [Cell::Zero, Cell::Any, Cell::Zero])?, cube(alloc, [Cell::One, Cell::Zero, Cell::Zero])?]?;
+    let mut cubes = vec![in alloc;
+        cube(alloc, [Cell::Zero, Cell::Any, Cell::Zero])?,
+        cube(alloc, [Cell::One, Cell::Zero, Cell::Zero])?,
+    ]?;
     assert!(rt; !closes(alloc, &program, &cubes, 1)?);
     assert!(rt; closes(alloc, &program, &cubes, 2)?);
     cubes.push(cube(alloc, [Cell::One, Cell::One, Cell::One])?)?;
@@ -158,6 +155,74 @@ fn calls_of_append_stay(rt: HostRuntime) -> Result<(), Fail> {
         let cubes = vec![in alloc; cube(alloc, [first, Cell::Any, Cell::Any])?]?;
         assert!(rt; stays(alloc, &program, &cubes, 1)?);
         assert_eq!(rt; stays(alloc, &program, &cubes, 2)?, wanted);
+    }
+    Ok(())
+}
+
+// p(X,f(X)) :- q(X).
+fn rule_of_two(alloc: Global) -> Result<Program, AllocError>
+    ensures preds { IfOk result (λ p. p.preds ≡ (record { name = record { 0 = 0 }; arity = 2 }) ∷ (record { name = record { 0 = 1 }; arity = 1 }) ∷ []) }
+    ensures clauses { IfOk result (λ p. length p.clauses ≡ 1) }
+{
+    let mut program = Program::new(alloc);
+    let p = program.add_pred(Name(0), 2)?;
+    let q = program.add_pred(Name(1), 1)?;
+    let second = Term::Fun(Name(2), vec![in alloc; Term::Var(0)]?);
+    let head = Atom {
+        pred: p,
+        args: Terms::from_vec(vec![in alloc; Term::Var(0), second]?),
+    };
+    let call = Atom {
+        pred: q,
+        args: Terms::from_vec(vec![in alloc; Term::Var(0)]?),
+    };
+    program.add_clause(Clause {
+        head,
+        body: Atoms::from_vec(vec![in alloc; call]?),
+        vars: 1,
+    })?;
+    Ok(program)
+}
+
+// Whether the rule keeps its call where p has these rows, and q every row or none.
+fn call_below_stays(
+    alloc: Global,
+    program: &Program,
+    cubes: &[Cube],
+    allowed: bool,
+) -> Result<bool, AllocError>
+    requires preds { program.now.preds ≡ (record { name = record { 0 = 0 }; arity = 2 }) ∷ (record { name = record { 0 = 1 }; arity = 1 }) ∷ [] }
+    requires last { 1 ≤ length program.now.clauses }
+{
+    let mut table = Table::new(alloc)?;
+    let pre = cube_rows(&mut table, cubes, 2)?;
+    let none = table.truth(false);
+    let below = table.truth(allowed);
+    keeps_rule(
+        &TermSize,
+        &mut table,
+        program,
+        [1, 0].as_slice(),
+        [none, none].as_slice(),
+        [pre, none].as_slice(),
+        [none, below].as_slice(),
+        1,
+    )
+}
+
+// No head has the row (0,1), so that row alone keeps the rule, also where q has no row. It is not upward closed, and with
+// (1,1) beside it the call has to have a row.
+#[test]
+fn rows_above_have_to_keep_the_rule(rt: HostRuntime) -> Result<(), Fail> {
+    let alloc = rt.alloc();
+    let program = rule_of_two(alloc)?;
+    for (first, allowed, wanted) in [
+        (Cell::Zero, false, true),
+        (Cell::Any, false, false),
+        (Cell::Any, true, true),
+    ] {
+        let cubes = vec![in alloc; Cube::new(vec![in alloc; first, Cell::One]?)]?;
+        assert_eq!(rt; call_below_stays(alloc, &program, &cubes, allowed)?, wanted);
     }
     Ok(())
 }

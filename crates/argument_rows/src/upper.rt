@@ -13,11 +13,7 @@ use std::alloc::AllocError;
 
 /// The rows that some set has with all rows that are upper to it. A row is upper to another where it is true wherever
 /// the other is.
-pub fn upward_union(
-    table: &mut Table,
-    sets: &[Diagram],
-    width: u32,
-) -> Result<Diagram, AllocError>
+pub fn upward_union(table: &mut Table, sets: &[Diagram], width: u32) -> Result<Diagram, AllocError>
     requires known { (i : ℕ) (d : Diagram) → slice_get sets.now i ≡ Some d → IsDiagram table.old d }
     requires reads { (i : ℕ) (d : Diagram) → slice_get sets.now i ≡ Some d → ReadsBelow table.old d width }
     requires narrow { width ≤ VARIABLES }

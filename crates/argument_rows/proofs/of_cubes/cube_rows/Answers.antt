@@ -1,4 +1,4 @@
-use Rattle.std.proofs.Common.{◌≡◌, ◌||◌, Bool, List, length, slice_get, Some, sym, ap, ◌∙◌, arith}
+use Rattle.std.proofs.Common.{◌≡◌, ◌||◌, List, length, slice_get, Some, sym, ap, ◌∙◌, arith}
 use Rattle.bool_diagrams.specs.declared.cube.Cell.{Cell}
 use Rattle.bool_diagrams.specs.Cubes.{covers, values_of}
 use Rattle.bool_diagrams.specs.Rows.{holds}

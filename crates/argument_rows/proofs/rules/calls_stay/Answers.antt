@@ -1,4 +1,4 @@
-use Rattle.std.proofs.Common.{◌≡◌, ℕ, IsTrue, List, length, slice_get, Some, if◌then◌else◌, refl, sym, ap, ◌∙◌, arith}
+use Rattle.std.proofs.Common.{◌≡◌, ℕ, List, length, slice_get, Some, if◌then◌else◌, refl, sym, ap, ◌∙◌, arith}
 use Rattle.std.proofs.lemmas.Bool.{and_parts}
 use Rattle.bool_diagrams.specs.Rows.{holds}
 use Rattle.bool_diagrams.proofs.CallerLemmas.{holds_later, keeps_twice}
@@ -40,8 +40,7 @@ returns-then-not-stays-clause-stay g c =
     let i = c.loop-atom.invariant in
     let at : slice_get c.args.clause.now.body n ≡ Some b = ap (λ (bs : List Atom). slice_get bs n) (sym c.as_slice-atom-items.ensures) ∙ at_place c.as_slice-atom-items.result.now n b c.loop-atom-test.true c.atom-item.is in
     let own = same_rank c.args.ranks.now b.pred.0 k.head.pred.0 in
-    let chosen = chosen_ready c.args.table.now c.args.pre.now c.args.allowed.now k.vars b own (c.requires.pre.body n b at) (c.requires.allowed.body n b at) in
-    (
+    let chosen = chosen_ready c.args.table.now c.args.pre.now c.args.allowed.now k.vars b own (c.requires.pre.body n b at) (c.requires.allowed.body n b at) in (
       λ t. cc,
       λ all. sym c.if-not-stays.true
           ∙ c.in_ok-stays.ensures.stays.1 (λ v t.

@@ -1,4 +1,4 @@
-use Rattle.std.proofs.Common.{◌≡◌, ◌↔◌, ◌-◌, ℕ, IsTrue, slice_get, Some, subst}
+use Rattle.std.proofs.Common.{◌≡◌, ◌↔◌, ◌-◌, IsTrue, slice_get, Some, subst}
 use Rattle.cti_terms.specs.declared.clauses.Clause.{Clause}
 use Rattle.argument_rows.specs.Rules.{KeepsSets, same_rank}
 use Rattle.argument_rows.specs.Sets.{family_of}

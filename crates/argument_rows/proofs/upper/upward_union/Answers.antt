@@ -1,4 +1,4 @@
-use Rattle.std.proofs.Common.{◌≡◌, ◌||◌, Bool, List, slice_get, slice_index_or, Some, sym, ap, ◌∙◌}
+use Rattle.std.proofs.Common.{◌≡◌, ◌||◌, slice_get, slice_index_or, Some, sym, ◌∙◌}
 use Rattle.bool_diagrams.specs.declared.diagram.Diagram.{Diagram}
 use Rattle.bool_diagrams.specs.Cubes.{truth_rows, values_of}
 use Rattle.bool_diagrams.proofs.CallerLemmas.{holds_later, keeps_twice}
