@@ -1,9 +1,9 @@
 -- For callers: sets stay what they are while the table grows, and one set may be put in the place of another.
-use Rattle.std.proofs.Common.{◌≡◌, inl, inr, ℕ, zero, suc, ◌<◌, Bool, ◌&&◌, ◌==◌, List, [], ◌∷◌, length, slice_get, slice_set, Option, None, Some, refl, ap, sym, subst, ◌∙◌, arith}
-use Rattle.std.proofs.lemmas.Bool.{cases_eq}
+use Rattle.std.proofs.Common.{◌≡◌, inl, inr, ℕ, zero, suc, ◌<◌, Bool, true, ◌&&◌, ◌==◌, List, [], ◌∷◌, length, slice_get, slice_set, Option, None, Some, refl, ap, sym, subst, ◌∙◌, arith}
+use Rattle.std.proofs.lemmas.Bool.{cases_eq, eq-eqb}
 use Rattle.std.proofs.lemmas.List.{length-set}
 use Rattle.bool_diagrams.specs.declared.diagram.Diagram.{Diagram}
-use Rattle.bool_diagrams.specs.Cubes.{values_of}
+use Rattle.bool_diagrams.specs.Cubes.{truth_rows, values_of}
 use Rattle.bool_diagrams.specs.Rows.{IsDiagram, Keeps, ReadsBelow}
 use Rattle.bool_diagrams.specs.Tree.{Tree as Rows}
 use Rattle.bool_diagrams.proofs.CallerLemmas.{holds_later, known_later}
@@ -19,6 +19,10 @@ has_row_later (Some p) T T2 K (Some d) known row = ap (λ x. (p.arity == length 
 module _ (preds : List Pred) (T T2 : List Rows) (K : Keeps T T2) (sets : List Diagram) (known : (r : ℕ) (d : Diagram) → slice_get sets r ≡ Some d → IsDiagram T d) where
   pub family_later : family_of preds T2 sets ≡ family_of preds T sets
   family_later = λ i r row. has_row_later (slice_get preds r) T T2 K (slice_get sets r) (known r) row i
+
+-- a row of the family is one of the predicate's diagram
+pub family_at : (preds : List Pred) (T : List Rows) (sets : List Diagram) (q : ℕ) (p : Pred) (d : Diagram) (row : List Bool) → slice_get preds q ≡ Some p → slice_get sets q ≡ Some d → p.arity ≡ length row → family_of preds T sets q row ≡ truth_rows T d row
+family_at preds T sets q p d row e f long = let same : (p.arity == length row) ≡ true = eq-eqb p.arity (length row) long in rw (e, f, same) refl
 
 pub reads_later : (T T2 : List Rows) → Keeps T T2 → (d : Diagram) → IsDiagram T d → (n : ℕ) → ReadsBelow T d n → ReadsBelow T2 d n
 reads_later T T2 K d known n reads row other agree = holds_later T T2 d K known row ∙ reads row other agree ∙ sym (holds_later T T2 d K known other)

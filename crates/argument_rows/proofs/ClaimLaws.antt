@@ -1,7 +1,10 @@
 -- For callers with claims: when calls stay in sets, the rule of preconditions is kept, and the other way round.
-use Rattle.std.proofs.Common.{◌≡◌, ◌↔◌, inl, inr, ℕ, suc, ◌<◌, ◌≤◌, ◌==◌, Bool, true, false, ◌&&◌, IsTrue, if◌then◌else◌, List, [], ◌∷◌, length, slice_get, Some, refl, ap, sym, subst, ◌∙◌, arith}
+use Rattle.std.proofs.Common.{◌≡◌, ◌↔◌, inl, inr, ℕ, suc, ◌<◌, ◌≤◌, ◌==◌, Bool, true, false, ◌&&◌, ◌||◌, IsTrue, if◌then◌else◌, List, [], ◌∷◌, length, slice_get, Some, refl, ap, sym, subst, ◌∙◌, arith}
 use Rattle.std.specs.List.{list_any}
 use Rattle.std.proofs.lemmas.Bool.Decides.{nat_tests}
+use Rattle.bool_diagrams.specs.declared.diagram.Diagram.{Diagram}
+use Rattle.bool_diagrams.specs.Cubes.{truth_rows}
+use Rattle.bool_diagrams.specs.Tree.{Tree as Rows}
 use Rattle.cti_terms.specs.declared.atom_list.Atom.{Atom}
 use Rattle.cti_terms.specs.declared.clauses.Clause.{Clause}
 use Rattle.termination_model.specs.Claims.{Admits, Claims, IsRanked, KeepsRule, Measure, SomeOf}
@@ -37,6 +40,24 @@ upper_some q row (m ∷ ms) (inr h) = or_right (all_upper (m.pre q) row) (list_a
 
 pub union_is : (c : Claims) (q : ℕ) (row : List Bool) → IsTrue (upward_union c q row) ↔ Admits c q row
 union_is c q row = (λ t. some_upper q row (c.measures (c.rank q)) t, λ a. upper_some q row (c.measures (c.rank q)) a)
+
+-- each measure's rows of a length are those of the diagram at its place
+abbrev pub HaveRowsOf : List Rows → ℕ → ℕ → List Measure → List Diagram → Type 0
+HaveRowsOf trees n q [] [] = Unit {0}
+HaveRowsOf trees n q [] (d ∷ sets) = ⊥
+HaveRowsOf trees n q (m ∷ ms) [] = ⊥
+HaveRowsOf trees n q (m ∷ ms) (d ∷ sets) = ((row : List Bool) → length row ≡ n → m.pre q row ≡ truth_rows trees d row) × HaveRowsOf trees n q ms sets
+
+-- so the union of their upward sets is what measures with these rows admit
+pub union_same : (trees : List Rows) (n q : ℕ) (ms : List Measure) (sets : List Diagram) → HaveRowsOf trees n q ms sets → (row : List Bool) → length row ≡ n
+    → list_any (λ (m : Measure). all_upper (m.pre q) row) ms ≡ list_any (λ (d : Diagram). all_upper (truth_rows trees d) row) sets
+union_same trees n q [] [] h row long = refl
+union_same trees n q [] (d ∷ sets) h row long = absurd h
+union_same trees n q (m ∷ ms) [] h row long = absurd h
+union_same trees n q (m ∷ ms) (d ∷ sets) h row long =
+    let first = all_upper_same (m.pre q) (truth_rows trees d) row (λ us l. h.0 us (l ∙ long)) in
+    let rest = union_same trees n q ms sets h.1 row long in
+    λ i. first i || rest i
 
 module _ (c : Claims) (m : Measure) (k : Clause) (allowed : Family) (together : ℕ → Bool) (ranks : (q : ℕ) → together q ≡ (c.rank q == c.rank k.head.pred.0)) where
   is_together : (q : ℕ) → c.rank q ≡ c.rank k.head.pred.0 → together q ≡ true

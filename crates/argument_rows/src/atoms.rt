@@ -1,6 +1,6 @@
 //! The truth rows of an atom, over the variables of its clause.
 
-ghost use Rattle.std.specs.Prelude.{◌≡◌, ◌↔◌, ◌≤◌, ◌<◌, ◌+◌, ℕ, Bool, IsTrue, IfOk, map, length, sum_by};
+ghost use Rattle.std.specs.Prelude.{◌≡◌, ◌↔◌, ◌≤◌, ◌<◌, ℕ, Bool, IsTrue, IfOk, map, length, sum_by};
 ghost use Rattle.std.specs.List.{AllByRecursion};
 ghost use Rattle.argument_rows.specs.Ready.{HasAtom, IsReady};
 ghost use Rattle.bool_diagrams.specs.Cubes.{truth_rows};

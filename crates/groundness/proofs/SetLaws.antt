@@ -18,6 +18,7 @@ use Rattle.argument_rows.specs.Ready.{HasAtoms, HasTruths, IsReadyClause}
 use Rattle.argument_rows.specs.Sets.{AreSets, family_of, has_row}
 use Rattle.groundness.specs.Sets.{AddsOnlyNeeded, Gives}
 use Rattle.groundness.specs.Missing.{all_missing}
+use Rattle.argument_rows.proofs.CallerLemmas.{sets_later, sets_with}
 use Rattle.argument_rows.proofs.SetLaws.{none, some_is, family_in, family_put, row_is, truths_of, atom_there}
 use Rattle.groundness.proofs.MissingLaws.{all_missing_set, missing_less}
 use Rattle.argument_rows.proofs.ListLaws.{by_places, from_places, indexed, mapped_place, place_below, sum_part, there}
@@ -40,27 +41,7 @@ module _ (p : Listing) (program : IsProgram p) (trees : List Rows) (sets : List 
     old_now row = holds_later trees T1 _ K1 (S.known k.head.pred.0 _ at_q) row
 
     pub added_sets : AreSets p.preds T2 (slice_set sets k.head.pred.0 joined)
-    added_sets = record {
-      each = length-set sets k.head.pred.0 joined ∙ S.each;
-      known = λ r d e. elim (cases_eq r k.head.pred.0) [
-        | inl same ↦
-            let f : slice_get (slice_set sets k.head.pred.0 joined) r ≡ Some joined = ap (slice_get (slice_set sets k.head.pred.0 joined)) same ∙ slice_get-set_same sets k.head.pred.0 joined (atom_there p program trees sets S k.vars k.head c.head) in
-            let is : joined ≡ d = cc in
-            subst (IsDiagram T2) is known
-        | inr other ↦ known_later trees T2 d (keeps_twice trees T1 T2 K1 K2) (S.known r d (sym (slice_get-set_other sets k.head.pred.0 r joined other) ∙ e))
-      ];
-      reads = λ r n d e ar. elim (cases_eq r k.head.pred.0) [
-        | inl same ↦
-            let f : slice_get (slice_set sets k.head.pred.0 joined) r ≡ Some joined = ap (slice_get (slice_set sets k.head.pred.0 joined)) same ∙ slice_get-set_same sets k.head.pred.0 joined (atom_there p program trees sets S k.vars k.head c.head) in
-            let is : joined ≡ d = cc in
-            subst (λ (x : Diagram). ReadsBelow T2 x n) is (joined_reads n (subst (λ m. HasArity p.preds m n) same ar))
-        | inr other ↦
-            let e' = sym (slice_get-set_other sets k.head.pred.0 r joined other) ∙ e in
-            λ row row' agree.
-            let kk = keeps_twice trees T1 T2 K1 K2 in
-            holds_later trees T2 d kk (S.known r d e') row ∙ S.reads r n d e' ar row row' agree ∙ sym (holds_later trees T2 d kk (S.known r d e') row')
-      ];
-    }
+    added_sets = sets_with p.preds T2 sets (sets_later p.preds trees T2 (keeps_twice trees T1 T2 K1 K2) sets S) k.head.pred.0 joined (atom_there p program trees sets S k.vars k.head c.head) known joined_reads
       where
         gives_other : (n : ℕ) → length k.head.args ≡ n → (row row' : ℕ → Bool) → ((v : ℕ) → v < n → row v ≡ row' v) → Gives truth trees sets k row → Gives truth trees sets k row'
         gives_other n l row row' agree s = (s.0, s.1, λ j t lt at. sym (agree j (omega arith)) ∙ s.2 j t lt at)

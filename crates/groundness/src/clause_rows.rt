@@ -1,10 +1,9 @@
 //! The truth rows that a clause gives to the predicate of its head.
 
-ghost use Rattle.std.specs.Prelude.{◌≡◌, ◌↔◌, ◌≤◌, ◌<◌, ◌+◌, ℕ, Bool, IsTrue, IfOk, length, sum_by, slice_get, Some};
+ghost use Rattle.std.specs.Prelude.{◌≡◌, ◌↔◌, ◌≤◌, ◌<◌, ◌+◌, ℕ, Bool, IsTrue, IfOk, length, sum_by};
 ghost use Rattle.std.specs.List.{AllByRecursion};
 ghost use Rattle.bool_diagrams.specs.Rows.{IsDiagram, Keeps, holds};
 ghost use Rattle.cti_terms.specs.Tree.{is_below, nodes_of};
-ghost use Rattle.cti_terms.specs.declared.atom_list.Atom.{Atom};
 ghost use Rattle.argument_rows.specs.Ready.{HasTruths, IsReadyClause};
 ghost use Rattle.groundness.specs.Sets.{Gives};
 
