@@ -68,7 +68,7 @@ mappings_of comps levels a = if is_recursive comps a then length (items_of level
 -- each number is above the one before it, and the first above this one
 abbrev pub Ascend : ℕ → List ℕ → Type 0
 Ascend last [] = Unit {0}
-Ascend last (a ∷ as) = (last < a) × Ascend a as
+Ascend last (a ∷ more) = (last < a) × Ascend a more
 
 -- argument numbers from 1, in ascending order
 abbrev pub IsMode : ℕ → List ℕ → Type 0

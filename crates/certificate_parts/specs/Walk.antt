@@ -1,5 +1,6 @@
 -- How the parts are read: fact by fact, from the front. Nothing here has to be believed.
-use Rattle.std.specs.Prelude.{◌≡◌, ℕ, zero, suc, ◌+◌, ℤ, pos, negsuc, Bool, true, false, not, ◌&&◌, ◌||◌, ◌==◌, nat_eq, nat_lt, nat_le, int_eq, int_le, if◌then◌else◌, List, [], ◌∷◌, ◌++◌, map, length, take, Option, None, Some, option_map, option_and_then, slice_get, Result, Ok, Err}
+use Rattle.std.specs.Prelude.{◌≡◌, ℕ, zero, suc, ◌+◌, ℤ, pos, negsuc, Bool, true, false, not, ◌&&◌, ◌||◌, ◌==◌, nat_eq, nat_lt, nat_le, if◌then◌else◌, List, [], ◌∷◌, ◌++◌, map, length, take, Option, None, Some, option_map, option_and_then, slice_get, Result, Ok, Err}
+use Rattle.std.specs.Ordering.{int_eq}
 use Rattle.std.specs.Borrow.{Bor}
 use Rattle.std.specs.List.{list_all}
 use Rattle.std.specs.Cmp.Lexicographic.{pointwise}
@@ -95,17 +96,17 @@ item_of s None = None
 item_of s (Some x) = Some (x, s)
 
 abbrev pub read_next : {A : Type 0} → (ℕ → Fact → Taken A) → ℕ → List Fact → Read A
-read_next take i [] = None
-read_next take i (f ∷ s) = take i f >>= item_of s
+read_next taken i [] = None
+read_next taken i (f ∷ s) = taken i f >>= item_of s
 
 -- the items of the facts in front, as long as they are of the kind
-abbrev pub go_on : {A : Type 0} → (List Fact → Read (List A)) → Fact → List Fact → Option A → Read (List A)
+abbrev pub go_on : {A : Type 0} → Read (List A) → Fact → List Fact → Option A → Read (List A)
 go_on more f s None = Some ([], f ∷ s)
-go_on more f s (Some x) = option_map (with_first x) (more s)
+go_on more f s (Some x) = option_map (with_first x) more
 
 unfoldable pub read_many : {A : Type 0} → (ℕ → Fact → Taken A) → ℕ → List Fact → Read (List A)
-read_many take i [] = Some ([], [])
-read_many take i (f ∷ s) = take i f >>= go_on (read_many take (suc i)) f s
+read_many taken i [] = Some ([], [])
+read_many taken i (f ∷ s) = taken i f >>= go_on (read_many taken (suc i) s) f s
 
 -- an item, where its shape is right
 abbrev pub kept : {A : Type 0} → Bool → A → Taken A
@@ -133,9 +134,9 @@ abbrev pub are_entries : List ℤ → Bool
 are_entries zs = list_all is_entry zs
 
 -- each number is above the one before it, and at most the arity
-unfoldable pub is_mode : ℕ → ℕ → List ℕ → Bool
+abbrev pub is_mode : ℕ → ℕ → List ℕ → Bool
 is_mode arity last [] = true
-is_mode arity last (a ∷ as) = (nat_lt last a && nat_le a arity) && is_mode arity a as
+is_mode arity last (a ∷ more) = (nat_lt last a && nat_le a arity) && is_mode arity a more
 
 abbrev pub cell_read : CertCell → Cell
 cell_read cell.Zero = side.Zero
@@ -262,8 +263,8 @@ unfoldable pub read_level : Listing → List (List ℕ) → Partition → List (
 read_level p names comps earlier a s =
     if is_recursive comps a
     then if first_of comps a == a
-      then read_many (take_level (pred_text p names a)) 0 s
-      else read_each (read_next (take_level (pred_text p names a))) 0 (length (items_of earlier (first_of comps a))) s
+    then read_many (take_level (pred_text p names a)) 0 s
+    else read_each (read_next (take_level (pred_text p names a))) 0 (length (items_of earlier (first_of comps a))) s
     else read_each (read_next (take_level (pred_text p names a))) 0 1 s
 
 unfoldable pub read_levels : Listing → List (List ℕ) → Partition → List (List LevelPart) → ℕ → ℕ → List Fact → Read (List (List LevelPart))

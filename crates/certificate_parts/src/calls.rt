@@ -1,18 +1,19 @@
 //! A program with the components of its calls.
 
-ghost use Rattle.std.specs.Prelude.{◌≡◌, ◌<◌, IsTrue, slice_get};
-ghost use Rattle.call_components.specs.Partition.{AreComponents};
-ghost use Rattle.certificate_parts.specs.Shape.{is_together, is_recursive, first_of, is_pair};
+ghost use Rattle.std.specs.Prelude.{◌≡◌, ℕ, ◌<◌, length, slice_get};
+ghost use Rattle.call_components.specs.Partition.{IsIn};
+ghost use Rattle.certificate_parts.specs.Shape.{is_together, is_recursive, first_of};
 
 use call_components::Components;
 use cti_terms::{PredId, Program};
 
 /// A program, and the components of its calls.
-#[derive(Clone, Copy, Debug)]
+#[derive(Clone, Copy)]
 pub(crate) struct Calls<'a> {
     pub(crate) p: &'a Program,
     pub(crate) comps: &'a Components,
-    ghost components: { AreComponents p.now comps.now },
+    ghost each: { length comps.now.of ≡ length p.now.preds },
+    ghost within: { (c a : ℕ) → IsIn comps.now c a → c < length comps.now.members },
 }
 
 impl<'a> Calls<'a> {

@@ -21,7 +21,7 @@ use std::alloc::Global;
 use termination_model::SizeRows;
 
 /// The facts of the proofs for a call, which are over so many rows.
-#[derive(Clone, Copy, Debug)]
+#[derive(Drop)]
 struct FallFact {
     clause: u64,
     call: u64,
@@ -61,7 +61,7 @@ impl Kind for FallFact {
 }
 
 /// The proofs for the calls of each clause.
-#[derive(Clone, Copy, Debug)]
+#[derive(Drop)]
 pub(crate) struct Falls<'a> {
     pub(crate) calls: Calls<'a>,
     pub(crate) rows: &'a SizeRows,

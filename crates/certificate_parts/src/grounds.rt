@@ -14,7 +14,7 @@ use cti_terms::{Names, Program};
 use std::alloc::Global;
 
 /// The facts of a predicate's ground rows.
-#[derive(Clone, Copy, Debug)]
+#[derive(Drop)]
 struct GroundFact<'a> {
     pred: Named<'a>,
 }
@@ -42,7 +42,7 @@ impl Kind for GroundFact<'_> {
 }
 
 /// The ground rows of each predicate.
-#[derive(Clone, Copy, Debug)]
+#[derive(Drop)]
 pub(crate) struct Grounds<'a> {
     pub(crate) p: &'a Program,
     pub(crate) names: &'a Names,

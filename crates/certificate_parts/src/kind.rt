@@ -24,7 +24,7 @@ pub(crate) trait Kind {
 }
 
 /// A reader of one fact of a kind, which must be there.
-#[derive(Clone, Copy, Debug)]
+#[derive(Drop)]
 pub(crate) struct Next<K> {
     pub(crate) kind: K,
 }

@@ -29,7 +29,7 @@ fn level(alloc: Global, arity: u32, coeffs: &[i128], offset: i128) -> Result<Lev
 }
 
 /// The facts of a predicate's levels.
-#[derive(Clone, Copy, Debug)]
+#[derive(Drop)]
 struct LevelFact<'a> {
     pred: Named<'a>,
 }

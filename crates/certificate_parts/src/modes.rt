@@ -30,12 +30,7 @@ fn is_mode(arity: u32, mode: &[u32]) -> bool
 fn are_modes(arity: u32, modes: &[Sequence<u32>]) -> bool
     ensures { result ≡ list_all (is_mode arity 0) modes.now }
 {
-    for mode in modes {
-        if !is_mode(arity, mode.as_slice()) {
-            return false;
-        }
-    }
-    true
+    modes.iter().all(|mode| is_mode(arity, mode.as_slice()))
 }
 
 /// A copy of modes.
@@ -51,7 +46,7 @@ fn copied(alloc: Global, modes: &[Sequence<u32>]) -> Result<Sequence<Sequence<u3
 }
 
 /// The facts of a predicate's modes.
-#[derive(Clone, Copy, Debug)]
+#[derive(Drop)]
 struct ModesFact<'a> {
     pred: Named<'a>,
 }
@@ -82,7 +77,7 @@ impl Kind for ModesFact<'_> {
 }
 
 /// The modes of each predicate.
-#[derive(Clone, Copy, Debug)]
+#[derive(Drop)]
 pub(crate) struct Modes<'a> {
     pub(crate) p: &'a Program,
     pub(crate) names: &'a Names,

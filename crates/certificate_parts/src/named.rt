@@ -8,7 +8,7 @@ use certificate::PredText;
 use cti_terms::{Names, PredId, Program};
 
 /// A predicate of a program: the text of its name, and how many arguments it has.
-#[derive(Clone, Copy, Debug)]
+#[derive(Clone, Copy)]
 pub(crate) struct Named<'a> {
     pub(crate) name: &'a [u8],
     pub(crate) arity: u32,

@@ -25,24 +25,14 @@ pub(crate) fn is_entry(number: i128) -> bool
 pub(crate) fn are_amounts(numbers: &[i128]) -> bool
     ensures { result ≡ are_amounts numbers.now }
 {
-    for number in numbers {
-        if !is_amount(*number) {
-            return false;
-        }
-    }
-    true
+    numbers.iter().all(|number| is_amount(*number))
 }
 
 /// Whether each number is in the range of rows.
 pub(crate) fn are_entries(numbers: &[i128]) -> bool
     ensures { result ≡ are_entries numbers.now }
 {
-    for number in numbers {
-        if !is_entry(*number) {
-            return false;
-        }
-    }
-    true
+    numbers.iter().all(|number| is_entry(*number))
 }
 
 /// A copy of numbers.

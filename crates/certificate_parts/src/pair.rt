@@ -9,7 +9,7 @@ use crate::calls::Calls;
 use cti_terms::Clause;
 
 /// A pair of a clause and one of its calls, both counted from 1.
-#[derive(Clone, Copy, Debug, PartialEq, Eq)]
+#[derive(Clone, Copy)]
 pub(crate) struct Pair {
     pub(crate) clause: u32,
     pub(crate) call: u32,

@@ -16,7 +16,7 @@ use cti_terms::{Names, Program};
 use std::alloc::Global;
 
 /// The facts of a predicate's precondition for a mapping.
-#[derive(Clone, Copy, Debug)]
+#[derive(Drop)]
 struct PreFact<'a> {
     pred: Named<'a>,
     mapping: u64,
@@ -49,7 +49,7 @@ impl Kind for PreFact<'_> {
 }
 
 /// The preconditions of a predicate, one for each mapping.
-#[derive(Clone, Copy, Debug)]
+#[derive(Drop)]
 struct PredCubes<'a> {
     p: &'a Program,
     names: &'a Names,
@@ -77,7 +77,7 @@ impl Reader for PredCubes<'_> {
 }
 
 /// The preconditions of each predicate.
-#[derive(Clone, Copy, Debug)]
+#[derive(Drop)]
 pub(crate) struct Preconditions<'a> {
     pub(crate) p: &'a Program,
     pub(crate) names: &'a Names,

@@ -67,22 +67,23 @@ fn parts<'f>(
     let (row_proofs, facts) = each(alloc, &Proofs { p, rows: &rows }, clauses, facts)?;
     let (grounds, facts) = each(alloc, &Grounds { p, names }, preds, facts)?;
     let (levels, facts) = levels(alloc, calls, names, facts)?;
+    let mappings = levels.as_slice();
     let falls = Falls {
         calls: *calls,
         rows: &rows,
-        levels: levels.as_slice(),
+        levels: mappings,
     };
     let (falls, facts) = each(alloc, &falls, clauses, facts)?;
     let cubes = Preconditions {
         p,
         names,
-        levels: levels.as_slice(),
+        levels: mappings,
     };
     let (preconditions, facts) = each(alloc, &cubes, preds, facts)?;
     let refutations = Refutations {
         calls: *calls,
         names,
-        levels: levels.as_slice(),
+        levels: mappings,
     };
     let (refutations, facts) = each(alloc, &refutations, preds, facts)?;
     Ok((

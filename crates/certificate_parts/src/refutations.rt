@@ -31,14 +31,14 @@ fn scaled_point(alloc: Global, vars: u32, t: i128, w: &[i128]) -> Result<ScaledP
 }
 
 /// A pair with its first point.
-#[derive(Debug, Drop)]
+#[derive(Drop)]
 pub(crate) struct FirstPoint {
     pub(crate) pair: Pair,
     pub(crate) point: ScaledPoint,
 }
 
 /// The fact of the first point of a pair of a predicate's component, after another pair.
-#[derive(Clone, Copy, Debug)]
+#[derive(Drop)]
 struct PointFact<'a> {
     calls: Calls<'a>,
     pred: u64,
@@ -73,7 +73,7 @@ impl Kind for PointFact<'_> {
 }
 
 /// The fact of the second point of a pair.
-#[derive(Clone, Copy, Debug)]
+#[derive(Drop)]
 struct SecondFact {
     pair: Pair,
     vars: u32,
@@ -182,7 +182,7 @@ fn points<'f>(
 }
 
 /// The fact that begins a refutation, and says how many points it has.
-#[derive(Clone, Copy, Debug)]
+#[derive(Drop)]
 struct RefutedFact<'a> {
     pred: Named<'a>,
 }
@@ -208,7 +208,7 @@ impl Kind for RefutedFact<'_> {
 }
 
 /// The refutations, one at most for each predicate.
-#[derive(Clone, Copy, Debug)]
+#[derive(Drop)]
 pub(crate) struct Refutations<'a> {
     pub(crate) calls: Calls<'a>,
     pub(crate) names: &'a Names,

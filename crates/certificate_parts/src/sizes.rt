@@ -33,7 +33,7 @@ fn size_row(alloc: Global, arity: u32, row: &[i128]) -> Result<Row, FactFault>
 }
 
 /// The facts of a predicate's size rows.
-#[derive(Clone, Copy, Debug)]
+#[derive(Drop)]
 struct RowFact<'a> {
     pred: Named<'a>,
 }
@@ -56,7 +56,7 @@ impl Kind for RowFact<'_> {
 }
 
 /// The size rows of each predicate.
-#[derive(Clone, Copy, Debug)]
+#[derive(Drop)]
 pub(crate) struct PredRows<'a> {
     pub(crate) p: &'a Program,
     pub(crate) names: &'a Names,
@@ -100,7 +100,7 @@ pub(crate) fn rows_of(rows: &SizeRows, pred: PredId) -> u64
 }
 
 /// The facts of the proofs for a clause, which are over so many rows.
-#[derive(Clone, Copy, Debug)]
+#[derive(Drop)]
 struct ProofFact {
     clause: u64,
     rows: u128,
@@ -146,7 +146,7 @@ fn rows_of_atoms(rows: &SizeRows, atoms: &[Atom]) -> u128
 }
 
 /// The proofs for each clause.
-#[derive(Clone, Copy, Debug)]
+#[derive(Drop)]
 pub(crate) struct Proofs<'a> {
     pub(crate) p: &'a Program,
     pub(crate) rows: &'a SizeRows,

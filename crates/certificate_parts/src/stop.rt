@@ -8,7 +8,7 @@ use certificate::Fact;
 use std::alloc::AllocError;
 
 /// Why reading stops.
-#[derive(Clone, Copy, Debug, PartialEq, Eq)]
+#[derive(Clone, Copy)]
 pub(crate) enum Stop {
     /// A fact is wrong, from which on so many facts are left; none, where one is missing.
     Wrong {
@@ -41,7 +41,7 @@ pub(crate) fn wrong(facts: &[Fact], reason: StructureReason) -> Stop
 }
 
 /// Why a fact at its place is not taken.
-#[derive(Clone, Copy, Debug, PartialEq, Eq)]
+#[derive(Clone, Copy)]
 pub(crate) enum FactFault {
     /// A length or a number of it is wrong.
     Shape,
