@@ -50,10 +50,10 @@ fn version(facts: &[Fact]) -> Result<&[Fact], Stop>
 
 /// The parts, and the notes after them.
 #[tactic(auto, unfolding(crate::specs::Walk::read_parts))]
-fn parts<'f>(
+fn parts<'a, 'f>(
     alloc: Global,
-    calls: &Calls,
-    names: &Names,
+    calls: &Calls<'a>,
+    names: &'a Names,
     facts: &'f [Fact],
 ) -> Result<(Parts, &'f [Fact]), Stop>
     ensures { Agrees result (read_parts calls.now.p.now names.now calls.now.comps.now facts.now) }
