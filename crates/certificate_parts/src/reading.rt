@@ -50,10 +50,10 @@ fn version(facts: &[Fact]) -> Result<&[Fact], Stop>
 
 /// The parts, and the notes after them.
 #[tactic(auto, unfolding(crate::specs::Walk::read_parts))]
-fn parts<'a, 'f>(
+fn parts<'f>(
     alloc: Global,
-    calls: &Calls<'a>,
-    names: &'a Names,
+    calls: &Calls,
+    names: &Names,
     facts: &'f [Fact],
 ) -> Result<(Parts, &'f [Fact]), Stop>
     ensures { Agrees result (read_parts calls.now.p.now names.now calls.now.comps.now facts.now) }
@@ -67,23 +67,22 @@ fn parts<'a, 'f>(
     let (row_proofs, facts) = each(alloc, &Proofs { p, rows: &rows }, clauses, facts)?;
     let (grounds, facts) = each(alloc, &Grounds { p, names }, preds, facts)?;
     let (levels, facts) = levels(alloc, calls, names, facts)?;
-    let mappings = levels.as_slice();
     let falls = Falls {
         calls: *calls,
         rows: &rows,
-        levels: mappings,
+        levels: levels.as_slice(),
     };
     let (falls, facts) = each(alloc, &falls, clauses, facts)?;
     let cubes = Preconditions {
         p,
         names,
-        levels: mappings,
+        levels: levels.as_slice(),
     };
     let (preconditions, facts) = each(alloc, &cubes, preds, facts)?;
     let refutations = Refutations {
         calls: *calls,
         names,
-        levels: mappings,
+        levels: levels.as_slice(),
     };
     let (refutations, facts) = each(alloc, &refutations, preds, facts)?;
     Ok((

@@ -41,30 +41,30 @@ returns-in_err-falls c =
     _ _ _ c.in_ok-rows.ensures (c.from_vec-rows.ensures ∙ c.into_vec.ensures)
     _ _ c.in_ok-row_proofs.ensures
     _ _ c.in_ok-grounds.ensures
-    _ _ _ c.in_ok-levels.ensures c.as_slice-mappings.ensures none
+    _ _ _ c.in_ok-levels.ensures c.as_slice.ensures none
 
 pub returns-in_err-preconditions : goal.returns-in_err-preconditions
 returns-in_err-preconditions c =
-    part_err c.from_residual-in_err-preconditions.result _ _ _ c.from_residual-in_err-preconditions.ensures c.in_err-preconditions.ensures λ none.
+    part_err c.from_residual-in_err-preconditions.result _ _ _ c.from_residual-in_err-preconditions.ensures (rw (c.as_slice-2.ensures, ← c.as_slice.ensures) at c.in_err-preconditions.ensures) λ none.
     cubes_none _ _ _ _ _ _ _ (c.from-preds.ensures ∙ c.preds.ensures.count) (c.from-clauses.ensures ∙ c.clauses.ensures.count) c.in_ok-facts.ensures
     _ _ c.in_ok-modes.ensures
     _ _ _ c.in_ok-rows.ensures (c.from_vec-rows.ensures ∙ c.into_vec.ensures)
     _ _ c.in_ok-row_proofs.ensures
     _ _ c.in_ok-grounds.ensures
-    _ _ _ c.in_ok-levels.ensures c.as_slice-mappings.ensures
+    _ _ _ c.in_ok-levels.ensures c.as_slice.ensures
     _ _ c.in_ok-falls.ensures none
 
 pub returns-in_err-refutations : goal.returns-in_err-refutations
 returns-in_err-refutations c =
-    part_err c.from_residual-in_err-refutations.result _ _ _ c.from_residual-in_err-refutations.ensures c.in_err-refutations.ensures λ none.
+    part_err c.from_residual-in_err-refutations.result _ _ _ c.from_residual-in_err-refutations.ensures (rw (c.as_slice-3.ensures, ← c.as_slice.ensures) at c.in_err-refutations.ensures) λ none.
     refutations_none _ _ _ _ _ _ _ (c.from-preds.ensures ∙ c.preds.ensures.count) (c.from-clauses.ensures ∙ c.clauses.ensures.count) c.in_ok-facts.ensures
     _ _ c.in_ok-modes.ensures
     _ _ _ c.in_ok-rows.ensures (c.from_vec-rows.ensures ∙ c.into_vec.ensures)
     _ _ c.in_ok-row_proofs.ensures
     _ _ c.in_ok-grounds.ensures
-    _ _ _ c.in_ok-levels.ensures c.as_slice-mappings.ensures
+    _ _ _ c.in_ok-levels.ensures c.as_slice.ensures
     _ _ c.in_ok-falls.ensures
-    _ _ c.in_ok-preconditions.ensures none
+    _ _ (rw (c.as_slice-2.ensures, ← c.as_slice.ensures) at c.in_ok-preconditions.ensures) none
 
 pub returns : goal.returns
 returns c =
@@ -73,7 +73,7 @@ returns c =
     _ _ _ c.in_ok-rows.ensures (c.from_vec-rows.ensures ∙ c.into_vec.ensures)
     _ _ c.in_ok-row_proofs.ensures
     _ _ c.in_ok-grounds.ensures
-    _ _ _ c.in_ok-levels.ensures c.as_slice-mappings.ensures
+    _ _ _ c.in_ok-levels.ensures c.as_slice.ensures
     _ _ c.in_ok-falls.ensures
-    _ _ c.in_ok-preconditions.ensures
-    _ _ c.in_ok-refutations.ensures
+    _ _ (rw (c.as_slice-2.ensures, ← c.as_slice.ensures) at c.in_ok-preconditions.ensures)
+    _ _ (rw (c.as_slice-3.ensures, ← c.as_slice.ensures) at c.in_ok-refutations.ensures)
