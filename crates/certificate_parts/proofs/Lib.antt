@@ -1,2 +1,4 @@
 pub mod LoopLemmas
 pub mod PartsLemmas
+pub mod KindLemmas
+pub mod SectionLemmas
