@@ -2,3 +2,4 @@ pub mod LoopLemmas
 pub mod PartsLemmas
 pub mod KindLemmas
 pub mod SectionLemmas
+pub mod TakeLemmas
