@@ -3,3 +3,4 @@ pub mod PartsLemmas
 pub mod KindLemmas
 pub mod SectionLemmas
 pub mod TakeLemmas
+pub mod PointLemmas

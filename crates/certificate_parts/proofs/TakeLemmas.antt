@@ -61,11 +61,11 @@ pub same_itself : (q : PredText) → same_pred q q ≡ true
 same_itself q = rw (name_itself q.name, eq-eqb q.arity q.arity refl) refl
 
 -- numbers in range
-amount_is : (z : ℤ) → is_amount z ≡ true → IsAmount z
+pub amount_is : (z : ℤ) → is_amount z ≡ true → IsAmount z
 amount_is (pos n) e = let h = leb-true n most_127 e in (omega (arith, ints), omega (arith, ints, h))
 amount_is (negsuc n) e = absurd (false≢true e)
 
-amount_back : (z : ℤ) → IsAmount z → is_amount z ≡ true
+pub amount_back : (z : ℤ) → IsAmount z → is_amount z ≡ true
 amount_back (pos n) h = le-leb n most_127 (omega (arith, ints, h.1))
 amount_back (negsuc n) h = absurd (omega (arith, ints, h.0))
 
