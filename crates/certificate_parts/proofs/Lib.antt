@@ -4,3 +4,5 @@ pub mod KindLemmas
 pub mod SectionLemmas
 pub mod TakeLemmas
 pub mod PointLemmas
+pub mod LevelLemmas
+pub mod StructureLemmas

@@ -28,6 +28,13 @@ pub all_from : {A : Type 0} (P : Fact → Type 0) (facts : ℕ → A → List Fa
 all_from P facts h i [] = tt
 all_from P facts h i (x ∷ xs) = all_both P (facts i x) (facts_from (suc i) facts xs) (h i x) (all_from P facts h (suc i) xs)
 
+-- the same of items with greater numbers
+pub others_from : {A : Type 0} (P : Fact → Type 0) (facts : ℕ → A → List Fact) (m i : ℕ) → ((j : ℕ) (x : A) → i < j → j < m → AllByRecursion P (facts j x))
+    → (j : ℕ) (xs : List A) → i < j → j + length xs ≤ m → AllByRecursion P (facts_from j facts xs)
+others_from P facts m i h j [] below fits = tt
+others_from P facts m i h j (x ∷ xs) below fits =
+    all_both P (facts j x) (facts_from (suc j) facts xs) (h j x below (omega (arith, fits))) (others_from P facts m i h (suc j) xs (omega (arith, below)) (omega (arith, fits)))
+
 pub all_weaker : {A : Type 0} (P Q : A → Type 0) → ((x : A) → P x → Q x) → (xs : List A) → AllByRecursion P xs → AllByRecursion Q xs
 all_weaker P Q h [] k = tt
 all_weaker P Q h (x ∷ xs) k = (h x k.0, all_weaker P Q h xs k.1)
@@ -93,6 +100,31 @@ module _ {A : Type 0} (taken : ℕ → Fact → Taken A) (line : ℕ → A → F
           let rest : q.1 ≡ t = ap (λ r. r.1) both in
           rw (← first, ← rest) (rw (one, others) refl, (right, all))
 
+  pub counted_sound : IsTaken → (i n : ℕ) (s t : List Fact) (xs : List A) → read_each (read_next taken) i n s ≡ Some (xs, t)
+      → (s ≡ lines_from i line xs ++ t) × (length xs ≡ n) × EachFrom i (λ _. good) xs
+  unfolding read_each
+  counted_sound h i zero s t xs e =
+      let both : ([], s) ≡ (xs, t) = same_some _ _ e in
+      let first : [] ≡ xs = ap (λ q. q.0) both in
+      let rest : s ≡ t = ap (λ q. q.1) both in
+      rw (← first, ← rest) (refl, refl, tt)
+  counted_sound h i (suc n) s t xs e =
+      bound (λ p. option_map (with_first p.0) (read_each (read_next taken) (suc i) n p.1)) (read_next taken i s) (xs, t) e λ p read more.
+      mapped (with_first p.0) (read_each (read_next taken) (suc i) n p.1) (xs, t) more λ q here both.
+      let (one, right) = next_sound h i s p.1 p.0 read in
+      let (others, count, all) = counted_sound h (suc i) n p.1 q.1 q.0 here in
+      let first : p.0 ∷ q.0 ≡ xs = ap (λ r. r.0) both in
+      let rest : q.1 ≡ t = ap (λ r. r.1) both in
+      rw (← first, ← rest) (one ∙ ap (λ u. line i p.0 ∷ u) others, ap suc count, (right, all))
+
+  pub counted_back : IsBack → (i n : ℕ) (xs : List A) (t : List Fact) → length xs ≡ n → EachFrom i (λ _. good) xs
+      → read_each (read_next taken) i n (lines_from i line xs ++ t) ≡ Some (xs, t)
+  unfolding read_each
+  counted_back h i zero [] t count all = refl
+  counted_back h i zero (x ∷ xs) t count all = absurd (omega (arith, count))
+  counted_back h i (suc n) [] t count all = absurd (omega (arith, count))
+  counted_back h i (suc n) (x ∷ xs) t count all = rw (h i x all.0, counted_back h (suc i) n xs t (omega (arith, count)) all.1) refl
+
   -- no fact is of the reader's kind
   abbrev pub AreOthers : List Fact → Type 0
   AreOthers t = AllByRecursion (λ f. (i : ℕ) → taken i f ≡ Some None) t
@@ -129,13 +161,7 @@ module _ {A : Type 0} (item : ℕ → List Fact → Read A) (facts : ℕ → A �
   -- Facts that are not those of a number may follow its item.
   module _ (other : ℕ → Fact → Type 0) (m : ℕ)
       (back : (i : ℕ) (x : A) (t : List Fact) → i < m → good i x → AllByRecursion (other i) t → item i (facts i x ++ t) ≡ Some (x, t))
-      (apart : (i j : ℕ) (x : A) → i < j → j < m → good j x → AllByRecursion (other i) (facts j x)) where
-    others_from : (i j : ℕ) (xs : List A) → i < j → j + length xs ≤ m → EachFrom j good xs → AllByRecursion (other i) (facts_from j facts xs)
-    others_from i j [] below fits h = tt
-    others_from i j (x ∷ xs) below fits h =
-        all_both (other i) (facts j x) (facts_from (suc j) facts xs) (apart i j x below (omega (arith, fits)) h.0)
-        (others_from i (suc j) xs (omega (arith, below)) (omega (arith, fits)) h.1)
-
+      (apart : (i j : ℕ) (x : A) → i < j → j < m → AllByRecursion (other i) (facts j x)) where
     pub each_back : (i n : ℕ) (xs : List A) (t : List Fact) → length xs ≡ n → i + n ≤ m → EachFrom i good xs → ((j : ℕ) → j < m → AllByRecursion (other j) t)
         → read_each item i n (facts_from i facts xs ++ t) ≡ Some (xs, t)
     unfolding read_each
@@ -145,7 +171,7 @@ module _ {A : Type 0} (item : ℕ → List Fact → Read A) (facts : ℕ → A �
     each_back i (suc n) (x ∷ xs) t count fits h rest =
         let fewer : length xs ≡ n = omega (arith, count) in
         let below : i < m = omega (arith, fits) in
-        let apart_here = others_from i (suc i) xs (omega arith) (omega (arith, fits, fewer)) h.1 in
+        let apart_here = others_from (other i) facts m i (λ j y. apart i j y) (suc i) xs (omega arith) (omega (arith, fits, fewer)) in
         let behind = all_both (other i) (facts_from (suc i) facts xs) t apart_here (rest i below) in
         rw (
           append_assoc (facts i x) (facts_from (suc i) facts xs) t,
