@@ -6,3 +6,4 @@ pub mod TakeLemmas
 pub mod PointLemmas
 pub mod LevelLemmas
 pub mod StructureLemmas
+pub mod ComponentLemmas
