@@ -7,3 +7,4 @@ pub mod PointLemmas
 pub mod LevelLemmas
 pub mod StructureLemmas
 pub mod ComponentLemmas
+pub mod WholeLemmas
