@@ -8,3 +8,4 @@ pub mod LevelLemmas
 pub mod StructureLemmas
 pub mod ComponentLemmas
 pub mod WholeLemmas
+pub mod Examples
