@@ -1,0 +1,18 @@
+//! The tests of a certificate's numbers: its size rows, its level mappings and its refutations.
+//!
+//! A certificate proves that size rows are kept and that level mappings fall by multipliers of rows, and that no
+//! mapping falls by points. Each test here finds the first fact that does not hold, with its line and the reason, and
+//! none exactly where all hold. What it means that they hold is defined in `specs/`, over plain lists of whole numbers,
+//! and the laws of `laws` lead from there to claims that show queries to end.
+//!
+//! Stands on `certificate_parts`, which gives the parts of a certificate, on `termination_model` and on `linear_rows`.
+#![tactic(auto)]
+
+mod fault;
+mod reason;
+mod row_proofs;
+mod targets;
+
+pub use fault::Fault;
+pub use reason::Reason;
+pub use row_proofs::{check_fall, check_size};

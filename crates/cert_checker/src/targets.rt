@@ -1,0 +1,1 @@
+//! Rows that multipliers have to show.
