@@ -1,0 +1,4 @@
+pub mod ColumnLengths
+pub mod RowSteps
+pub mod Sized
+pub mod TargetLists

@@ -49,7 +49,7 @@ pub record HaveRowProofs (p : Listing) (parts : Parts) : Type 0 where
 -- for each predicate its parts of its component's mappings, which are as many for each member
 pub record HaveLevels (p : Listing) (comps : Partition) (parts : Parts) : Type 0 where
   pub each : length parts.levels ≡ length p.preds
-  pub parts : (q : ℕ) (d : Pred) → slice_get p.preds q ≡ Some d → AllByRecursion (IsLevelPart d.arity) (list_at parts.levels q)
+  pub naturals : (q : ℕ) (d : Pred) → slice_get p.preds q ≡ Some d → AllByRecursion (IsLevelPart d.arity) (list_at parts.levels q)
   pub members : (a b : ℕ) → AreTogether comps a b → length (list_at parts.levels a) ≡ length (list_at parts.levels b)
 
 -- for each clause and each call of its own component the multipliers for each mapping, over the rows of the atoms before

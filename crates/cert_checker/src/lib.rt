@@ -8,11 +8,14 @@
 //! Stands on `certificate_parts`, which gives the parts of a certificate, on `termination_model` and on `linear_rows`.
 #![tactic(auto)]
 
+mod clause_systems;
 mod fault;
 mod reason;
 mod row_proofs;
+mod size_faults;
 mod targets;
 
 pub use fault::Fault;
 pub use reason::Reason;
 pub use row_proofs::{check_fall, check_size};
+pub use size_faults::size_fault;
