@@ -56,17 +56,17 @@ module _ (expression : ℕ → Tree → List ℤ) where
   abbrev pub fall_of : Clause → Atom → LevelPart → LevelPart → List ℤ
   fall_of c b head call = added (level_of c.vars c.head head) (scaled (negsuc 0) (added (level_of c.vars b call) (pos 1 ∷ [])))
 
-  -- each mapping falls from a clause's head to its call j
-  abbrev pub MappingsFall : List Rows → Clause → ℕ → Atom → List LevelPart → List LevelPart → List Multipliers → Type 0
-  MappingsFall rows c j b heads calls ms =
+  -- where the rows hold, each mapping falls from a clause's head to a call
+  abbrev pub MappingsFall : List (List ℤ) → Clause → Atom → List LevelPart → List LevelPart → List Multipliers → Type 0
+  MappingsFall rows c b heads calls ms =
       (m : ℕ) (head call : LevelPart) (by : Multipliers) → slice_get heads m ≡ Some head → slice_get calls m ≡ Some call → slice_get ms m ≡ Some by
-      → IsShown (short_system expression (rows_of rows) c.vars (take j c.body)) (fall_of c b head call) by
+      → IsShown rows (fall_of c b head call) by
 
   -- each mapping falls from a clause's head to each call of its component
   abbrev pub CallsFall : Partition → Parts → Clause → List (List Multipliers) → Type 0
   CallsFall comps parts c mss =
       (j : ℕ) (b : Atom) → slice_get c.body j ≡ Some b → AreTogether comps c.head.pred.0 b.pred.0
-      → MappingsFall parts.rows c j b (list_at parts.levels c.head.pred.0) (list_at parts.levels b.pred.0) (list_at mss j)
+      → MappingsFall (short_system expression (rows_of parts.rows) c.vars (take j c.body)) c b (list_at parts.levels c.head.pred.0) (list_at parts.levels b.pred.0) (list_at mss j)
 
   -- each mapping falls at each call of its component
   abbrev pub FallsHold : Listing → Partition → Parts → Type 0

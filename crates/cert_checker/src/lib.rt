@@ -9,13 +9,17 @@
 #![tactic(auto)]
 
 mod clause_systems;
+mod fall_faults;
 mod fault;
+mod measure_faults;
 mod reason;
 mod row_proofs;
 mod size_faults;
 mod targets;
 
+pub use fall_faults::fall_fault;
 pub use fault::Fault;
+pub use measure_faults::measure_fault;
 pub use reason::Reason;
 pub use row_proofs::{check_fall, check_size};
 pub use size_faults::size_fault;
