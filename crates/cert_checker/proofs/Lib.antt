@@ -1,4 +1,6 @@
+pub mod CallFacts
 pub mod ColumnLengths
+pub mod FallTargets
 pub mod RowSteps
 pub mod Sized
 pub mod TargetLists

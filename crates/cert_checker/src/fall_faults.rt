@@ -1,6 +1,6 @@
 //! Falls of mappings at calls.
 
-ghost use Rattle.std.specs.Prelude.{◌≡◌, ◌↔◌, ◌+◌, ◌<◌, ◌≤◌, ℕ, IfOk, IfSome, IsTrue, None, Some, length, map, slice_get};
+ghost use Rattle.std.specs.Prelude.{◌≡◌, ◌↔◌, ◌+◌, ◌-◌, ◌≤◌, ℕ, IfOk, IfSome, IsTrue, None, Some, length, map, slice_get};
 ghost use Rattle.std.specs.List.{AllByRecursion};
 ghost use Rattle.call_components.specs.Partition.{AreComponents};
 ghost use Rattle.cert_checker.specs.Proved.{CallsFall, FallsHold};
@@ -102,7 +102,7 @@ fn fall_columns<N: Norm>(
     join_columns(alloc, head.as_slice(), own.as_slice())
 }
 
-// The first fall of a clause that is not shown. Clauses count from 0, and the first fall has this line.
+// The first fall of a clause that is not shown. Clauses count from 1, and the first fall has this line.
 fn clause_fall_fault<N: Norm>(
     alloc: Global,
     p: &Program,
@@ -112,18 +112,19 @@ fn clause_fall_fault<N: Norm>(
     k: u32,
     line: u64,
 ) -> Result<Option<Fault>, AllocError>
-    requires there { k < length p.now.clauses }
+    requires first { 1 ≤ k }
+    requires last { k ≤ length p.now.clauses }
     requires components { AreComponents p.now comps.now }
     requires sizes { AreSizes p.now.preds parts.now.rows }
     requires levels { HaveLevels p.now comps.now parts.now }
     requires falls { HaveFalls p.now comps.now parts.now }
-    ensures { IfOk result (λ fault. (c : Clause) → slice_get p.now.clauses k ≡ Some c
-        → (fault ≡ None) ↔ CallsFall (N.expression norm.now) comps.now parts.now c (list_at parts.now.falls k)) }
+    ensures { IfOk result (λ fault. (c : Clause) → slice_get p.now.clauses (k - 1) ≡ Some c
+        → (fault ≡ None) ↔ CallsFall (N.expression norm.now) comps.now parts.now c (list_at parts.now.falls (k - 1))) }
 {
-    let clause = p.clause(k + 1);
+    let clause = p.clause(k);
     let component = comps.of(clause.head.pred);
     let heads = parts.levels.as_slice()[clause.head.pred.0 as usize].as_slice();
-    let proofs = parts.falls.as_slice()[k as usize].as_slice();
+    let proofs = parts.falls.as_slice()[k as usize - 1].as_slice();
     let mut system = first_system(alloc, norm, &parts.rows, clause)?;
     let mut atoms = 0;
     let mut line = line;
@@ -176,7 +177,7 @@ pub fn fall_fault<N: Norm>(
 {
     let mut line = line;
     for k in 0..p.clauses() {
-        let fault = clause_fall_fault(alloc, p, comps, norm, parts, k, line)?;
+        let fault = clause_fall_fault(alloc, p, comps, norm, parts, k + 1, line)?;
         if let Some(fault) = fault {
             return Ok(Some(fault));
         }
