@@ -1,4 +1,5 @@
 pub mod CallFacts
+pub mod Claims
 pub mod ColumnLengths
 pub mod FallTargets
 pub mod RowSteps

@@ -11,6 +11,7 @@
 mod clause_systems;
 mod fall_faults;
 mod fault;
+mod laws;
 mod measure_faults;
 mod reason;
 mod row_proofs;
@@ -19,6 +20,7 @@ mod targets;
 
 pub use fall_faults::fall_fault;
 pub use fault::Fault;
+pub use laws::numbers_show_claims;
 pub use measure_faults::measure_fault;
 pub use reason::Reason;
 pub use row_proofs::{check_fall, check_size};
