@@ -2,6 +2,7 @@ pub mod CallFacts
 pub mod Claims
 pub mod ColumnLengths
 pub mod FallTargets
+pub mod PointSteps
 pub mod RowSteps
 pub mod Sized
 pub mod SumLists
