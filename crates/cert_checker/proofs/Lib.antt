@@ -6,4 +6,5 @@ pub mod PointSteps
 pub mod RowSteps
 pub mod Sized
 pub mod SumLists
+pub mod SumSteps
 pub mod TargetLists
