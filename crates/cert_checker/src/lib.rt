@@ -24,6 +24,8 @@ mod refutation_faults;
 mod row_proofs;
 mod size_faults;
 mod targets;
+#[cfg(test)]
+mod tests;
 
 pub use fall_faults::fall_fault;
 pub use fault::Fault;
