@@ -1,6 +1,7 @@
 pub mod CallFacts
 pub mod Claims
 pub mod ColumnLengths
+pub mod Excludes
 pub mod FallTargets
 pub mod PointSteps
 pub mod RowSteps

@@ -1,4 +1,5 @@
 pub mod Claimed
+pub mod Excluded
 pub mod PairSums
 pub mod Proved
 pub mod Refuting
