@@ -1,5 +1,5 @@
 -- A certificate's refutations are refutations of the views of its claims.
-use Rattle.std.proofs.Common.{◌≡◌, ℕ, zero, suc, ◌+◌, ◌-◌, ◌<◌, ◌≤◌, ◌==◌, ◌≤ℤ◌, ◌⊎◌, inl, inr, ℤ, pos, Bool, true, false, if◌then◌else◌, cond, List, [], ◌∷◌, ◌++◌, All, Contains, map, take, length, slice_get, slice_index_or, unsigned_abs, Option, None, Some, IfSome, refl, sym, ap, subst, ◌∙◌, arith, eqb-true, eq-eqb}
+use Rattle.std.proofs.Common.{◌≡◌, ℕ, zero, suc, ◌-◌, ◌<◌, ◌≤◌, ◌==◌, ◌≤ℤ◌, inl, inr, ℤ, pos, Bool, true, false, if◌then◌else◌, cond, List, [], ◌∷◌, ◌++◌, map, take, length, slice_get, slice_index_or, unsigned_abs, Option, Some, IfSome, refl, sym, ap, subst, ◌∙◌, arith, eqb-true, eq-eqb}
 use Rattle.std.specs.Prelude.{filter}
 use Rattle.std.specs.List.{AllByRecursion}
 use Rattle.std.proofs.lemmas.Int.{ints}
@@ -8,28 +8,26 @@ use Rattle.std.proofs.lemmas.List.Elements.{All-from_recursion}
 use Rattle.exact128.specs.Sums.{dot, entry}
 use Rattle.linear_rows.specs.Rows.{AllHold, Holds}
 use Rattle.cti_terms.specs.Tree.{Tree}
-use Rattle.cti_terms.specs.Listing.{Listing, IsProgram}
+use Rattle.cti_terms.specs.Listing.{Listing}
 use Rattle.cti_terms.specs.declared.atom_list.Atom.{Atom}
 use Rattle.cti_terms.specs.declared.clauses.Clause.{Clause}
-use Rattle.call_components.specs.Partition.{Partition, AreComponents, IsIn}
-use Rattle.call_components.proofs.Lists.{contains_has}
+use Rattle.call_components.specs.Partition.{Partition, IsIn}
 use Rattle.certificate_parts.specs.declared.parts.PairPoint.{PairPoint}
 use Rattle.certificate_parts.specs.declared.parts.Parts.{Parts}
-use Rattle.certificate_parts.specs.declared.parts.Refutation.{Refutation}
 use Rattle.certificate_parts.specs.declared.parts.ScaledPoint.{ScaledPoint}
 use Rattle.termination_model.specs.Claims.{Claims, SomeOf}
 use Rattle.termination_model.specs.Grounds.{Family}
-use Rattle.termination_model.specs.Refutation.{Pair, Load, IsPair, IsRefutation, gather, head_load, call_load, values_at}
+use Rattle.termination_model.specs.Refutation.{Pair, Load, IsPair, gather, head_load, call_load, values_at}
 use Rattle.termination_model.specs.Rows.{added}
 use Rattle.termination_model.specs.Sizes.{rows_of}
 use Rattle.termination_model.specs.Systems.{row_over, system}
 use Rattle.termination_model.specs.View.{Member, Place, Call, place_of, rule_of, system_of, view_of}
 use Rattle.termination_model.specs.View as view
-use Rattle.termination_model.proofs.Lists.{by_places, from_places, indexed, mapped_place, place_below, there}
+use Rattle.termination_model.proofs.Lists.{by_places, from_places, indexed, mapped_place, there}
 use Rattle.cert_checker.specs.Claimed.{claims_of, rank_of}
 use Rattle.cert_checker.specs.Excluded.{IsNatural, IsPairIn, RefutationsExclude, itself, pair_of}
-use Rattle.cert_checker.specs.Refuting.{PointHolds, RefutationsHold, RowHolds, RowsHold, SumsRefute, atom_or_none, call_loads, call_of, clause_of, clause_or_none, head_loads, load_at, numbers_of, sizes_at, values_of}
-use Rattle.cert_checker.specs.Shape.{HaveRefutations, IsPairOf, list_at}
+use Rattle.cert_checker.specs.Refuting.{PointHolds, RowHolds, RowsHold, SumsRefute, atom_or_none, call_loads, call_of, clause_of, clause_or_none, head_loads, load_at, numbers_of, values_of}
+use Rattle.cert_checker.specs.Shape.{IsPairOf, list_at}
 use Rattle.cert_checker.proofs.Claims.{natural_is, naturals_are}
 use Rattle.cert_checker.proofs.ColumnLengths.{an_element}
 
