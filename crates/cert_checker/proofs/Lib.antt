@@ -1,0 +1,11 @@
+pub mod CallFacts
+pub mod Claims
+pub mod ColumnLengths
+pub mod Excludes
+pub mod FallTargets
+pub mod PointSteps
+pub mod RowSteps
+pub mod Sized
+pub mod SumLists
+pub mod SumSteps
+pub mod TargetLists
