@@ -1,0 +1,6 @@
+pub mod CoverLaws
+pub mod HoldLaws
+pub mod MarkLaws
+pub mod PlaceLaws
+pub mod RuleLaws
+pub mod SpellLaws
