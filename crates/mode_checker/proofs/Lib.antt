@@ -1,3 +1,4 @@
+pub mod ClaimedLaws
 pub mod CoverLaws
 pub mod HoldLaws
 pub mod MarkLaws

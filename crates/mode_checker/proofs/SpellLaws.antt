@@ -95,11 +95,11 @@ pub is_row_long : (o : Option Pred) (us row : List Bool) → length us ≡ lengt
 is_row_long None us row l = refl
 is_row_long (Some d) us row l = ap (λ n. d.arity == n) l
 
-any_none : {X : Type 0} → (f : X → Bool) (xs : List X) → ((x : X) → f x ≡ false) → list_any f xs ≡ false
+pub any_none : {X : Type 0} → (f : X → Bool) (xs : List X) → ((x : X) → f x ≡ false) → list_any f xs ≡ false
 any_none f [] h = refl
 any_none f (x ∷ xs) h = (λ i. h x i || list_any f xs) ∙ any_none f xs h
 
-upper_none : (row : List Bool) → all_upper (λ us. false) row ≡ false
+pub upper_none : (row : List Bool) → all_upper (λ us. false) row ≡ false
 upper_none [] = refl
 upper_none (true ∷ row) = upper_none row
 upper_none (false ∷ row) = (λ i. upper_none row i && all_upper (λ us. false) row)
