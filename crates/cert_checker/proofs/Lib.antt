@@ -1,0 +1,7 @@
+pub mod CallFacts
+pub mod Claims
+pub mod ColumnLengths
+pub mod FallTargets
+pub mod RowSteps
+pub mod Sized
+pub mod TargetLists
