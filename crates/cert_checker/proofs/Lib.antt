@@ -4,4 +4,5 @@ pub mod ColumnLengths
 pub mod FallTargets
 pub mod RowSteps
 pub mod Sized
+pub mod SumLists
 pub mod TargetLists

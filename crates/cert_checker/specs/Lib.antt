@@ -1,7 +1,10 @@
 pub mod Claimed
 pub mod Proved
+pub mod Refuting
 pub mod Shape
 pub mod Shown
 pub mod Shows
+pub mod Sums
+pub mod SystemPoints
 pub mod Systems
 pub mod Targets

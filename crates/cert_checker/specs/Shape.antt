@@ -1,7 +1,7 @@
 -- What the lists of a certificate's parts have: an element for each clause, predicate, call or row that they speak of.
 --
 -- This is what the structure of a certificate gives, before any number of it is tested. Nothing here has to be believed.
-use Rattle.std.specs.Prelude.{◌≡◌, ℕ, suc, ◌+◌, ◌<◌, ◌≤◌, ◌≤ℤ◌, ℤ, pos, true, List, [], ◌∷◌, All, length, take, slice_get, slice_index_or, Option, Some}
+use Rattle.std.specs.Prelude.{◌≡◌, ℕ, ◌+◌, ◌-◌, ◌≤◌, ◌≤ℤ◌, ℤ, pos, List, [], ◌∷◌, All, IfSome, length, take, slice_get, slice_index_or, Some}
 use Rattle.std.specs.List.{AllByRecursion}
 use Rattle.cti_terms.specs.Listing.{Listing}
 use Rattle.cti_terms.specs.declared.atom_list.Atom.{Atom}
@@ -11,6 +11,7 @@ use Rattle.call_components.specs.Partition.{Partition}
 use Rattle.linear_rows.specs.declared.multipliers.Multipliers.{Multipliers}
 use Rattle.certificate_parts.specs.declared.parts.LevelPart.{LevelPart}
 use Rattle.certificate_parts.specs.declared.parts.PairPoint.{PairPoint}
+use Rattle.certificate_parts.specs.declared.parts.Refutation.{Refutation}
 use Rattle.certificate_parts.specs.declared.parts.ScaledPoint.{ScaledPoint}
 use Rattle.certificate_parts.specs.declared.parts.Parts.{Parts}
 use Rattle.termination_model.specs.Sizes.{AreSizes, rows_of}
@@ -60,3 +61,18 @@ pub record HaveFalls (p : Listing) (comps : Partition) (parts : Parts) : Type 0 
       → length (list_at (list_at parts.falls k) j) ≡ length (list_at parts.levels c.head.pred.0)
   pub multipliers : (k j : ℕ) (c : Clause) (b : Atom) → slice_get p.clauses k ≡ Some c → slice_get c.body j ≡ Some b → AreTogether comps c.head.pred.0 b.pred.0
       → AllByRecursion (AreMultipliers (row_count (rows_of parts.rows) (take j c.body))) (list_at (list_at parts.falls k) j)
+
+-- a pair of the program, with points of the clause's variables
+pub record IsPairOf (p : Listing) (x : PairPoint) : Type 0 where
+  pub clause : Clause
+  pub there : slice_get p.clauses (x.clause - 1) ≡ Some clause
+  pub first : 1 ≤ x.clause
+  pub call : 1 ≤ x.call
+  pub last : x.call ≤ length clause.body
+  pub point : length x.point.w ≡ clause.vars
+  pub at : IfSome x.at (λ (y : ScaledPoint). length y.w ≡ clause.vars)
+
+-- for each predicate a refutation or none, with points of pairs
+pub record HaveRefutations (p : Listing) (parts : Parts) : Type 0 where
+  pub each : length parts.refutations ≡ length p.preds
+  pub pairs : (q : ℕ) (r : Refutation) → slice_get parts.refutations q ≡ Some (Some r) → AllByRecursion (IsPairOf p) r.points
