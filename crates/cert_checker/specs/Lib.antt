@@ -1,3 +1,4 @@
+pub mod Bounding
 pub mod Claimed
 pub mod Proved
 pub mod Refuting
@@ -8,3 +9,4 @@ pub mod Sums
 pub mod SystemPoints
 pub mod Systems
 pub mod Targets
+pub mod Valid
