@@ -1,8 +1,13 @@
+pub mod AnyPartition
+pub mod Bounded
 pub mod CallFacts
 pub mod Claims
 pub mod ColumnLengths
 pub mod FallTargets
+pub mod Partitions
+pub mod PrintedModes
 pub mod RowSteps
+pub mod ShapeLaws
 pub mod Sized
 pub mod SumLists
 pub mod TargetLists

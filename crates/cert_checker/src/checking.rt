@@ -37,6 +37,8 @@ fn value_fault(
     requires shape { HaveShape p.now comps.now parts.now }
     ensures { IfOk result (λ fault. (fault ≡ None) ↔ PartsHold truth size_row p.now comps.now parts.now) }
 {
+    // What every program keeps, its clauses among them.
+    p.preds();
     let lines = Lines::of(parts);
     if let Some(fault) = mode_fault(alloc, p, &TermSize, comps, parts, lines.modes)? {
         return Ok(Some(fault.into()));
@@ -96,8 +98,9 @@ pub fn check(
     // And then each query that meets a mode of the certificate is bounded.
     ensures bounded { IfOk result (λ v. v ≡ Yes → ModesAreBounded p.now names.now c.now.facts) }
 {
-    // No two names have the same text, so that a text tells a predicate.
+    // No two names have the same text, and no two predicates the same name and arity.
     names.count();
+    p.preds();
     valid_certificates_bound_their_modes();
     match first_fault(alloc, p, names, c)? {
         None => Ok(Verdict::Yes),
