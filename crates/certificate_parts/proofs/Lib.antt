@@ -6,3 +6,6 @@ pub mod TakeLemmas
 pub mod PointLemmas
 pub mod LevelLemmas
 pub mod StructureLemmas
+pub mod ComponentLemmas
+pub mod WholeLemmas
+pub mod Examples

@@ -1,6 +1,6 @@
 //! Reading the parts of a certificate.
 
-ghost use Rattle.std.specs.Prelude.{◌≡◌, ℕ, List, IfOk, MatchResult, Some};
+ghost use Rattle.std.specs.Prelude.{◌≡◌, ◌≢◌, ◌<◌, length, ℕ, List, IfOk, MatchResult, Some};
 ghost use Rattle.std.specs.List.{prefix_len};
 ghost use Rattle.call_components.specs.Partition.{Partition, AreComponents};
 ghost use Rattle.certificate.specs.declared.fact.Fact.{Fact as TheFact};
@@ -8,7 +8,7 @@ ghost use Rattle.cti_terms.specs.Listing.{Listing};
 ghost use Rattle.certificate_parts.specs.declared.fault.PartsFault.TheVariants.{Memory};
 ghost use Rattle.certificate_parts.specs.declared.stop.Stop.TheVariants.{Memory as NoMemory};
 ghost use Rattle.certificate_parts.specs.declared.parts.Parts.{Parts as TheParts};
-ghost use Rattle.certificate_parts.specs.Order.{is_note};
+ghost use Rattle.certificate_parts.specs.Order.{is_note, pred_text};
 ghost use Rattle.certificate_parts.specs.Structure.{IsStructured, AreNamed, AreNotes};
 ghost use Rattle.certificate_parts.specs.Walk.{Agrees, AgreesRest, read_version, read_parts};
 
@@ -145,6 +145,15 @@ fn whole(alloc: Global, calls: &Calls, names: &Names, facts: &[Fact]) -> Result<
     Ok(parts)
 }
 
+/// The predicates of a program are told apart by their texts.
+fn told_apart(p: &Program, names: &Names)
+    requires { AreNamed names.now p.now.preds }
+    ensures { (a b : ℕ) → a < b → b < length p.now.preds → pred_text p.now names.now b ≢ pred_text p.now names.now a }
+{
+    let _preds = p.preds();
+    let _names = names.count();
+}
+
 /// The parts of a certificate: what it claims of each predicate and clause of a program, and with which proofs.
 ///
 /// It takes time linear in the sizes of the certificate and of the program. Fails with `Wrong`, and the line of the first wrong
@@ -165,6 +174,7 @@ pub fn parts_of(
     // The parts of a certificate are found, unless memory runs out; so it has no others, and none where a line is wrong.
     ensures only { (parts : TheParts) → IsStructured p.now names.now comps.now parts c.now.facts → MatchResult result (λ found. found ≡ parts) (λ fault. fault ≡ Memory) }
 {
+    told_apart(p, names);
     let facts = c.facts.as_slice();
     let calls = Calls { p, comps };
     match whole(alloc, &calls, names, facts) {
