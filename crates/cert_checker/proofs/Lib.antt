@@ -5,9 +5,11 @@ pub mod Claims
 pub mod ColumnLengths
 pub mod FallTargets
 pub mod Partitions
+pub mod PointSteps
 pub mod PrintedModes
 pub mod RowSteps
 pub mod ShapeLaws
 pub mod Sized
 pub mod SumLists
+pub mod SumSteps
 pub mod TargetLists

@@ -46,6 +46,12 @@ numbers_of x = x.t ∷ x.w
 abbrev pub ValueFits : ScaledPoint → List ℤ → Type 0
 ValueFits x row = DotFits (length row) row (numbers_of x)
 
+-- a row fits, and holds at a point with each number that its value forms
+pub record RowHolds (x : ScaledPoint) (row : List ℤ) : Type 0 where
+  pub numbers_fit : row_fits row ≡ true
+  pub value_fits : ValueFits x row
+  pub holds : pos 0 ≤ℤ dot row (numbers_of x)
+
 -- the values of expressions at a point, behind that of an offset, which is t
 abbrev pub values_of : List (List ℤ) → ScaledPoint → List ℤ
 values_of es x = x.t ∷ map (λ e. dot e (numbers_of x)) es
@@ -84,12 +90,6 @@ module _ (expression : ℕ → Tree → List ℤ) where
     pub positive : SomeOf (λ (x : PairPoint). pos 1 ≤ℤ x.point.t) xs
     pub fit : PairsFit p xs
     pub columns : (q : ℕ) → Contains members q → (i : ℕ) → entry (gather q (head_loads p xs)) i ≤ℤ entry (gather q (call_loads p xs)) i
-
-  -- a row fits, and holds at a point with each number that its value forms
-  pub record RowHolds (x : ScaledPoint) (row : List ℤ) : Type 0 where
-    pub row_fits : row_fits row ≡ true
-    pub value_fits : ValueFits x row
-    pub holds : pos 0 ≤ℤ dot row (numbers_of x)
 
   -- the rows of the atoms before the call hold at a point of the pair
   abbrev pub RowsHold : (ℕ → List (List ℤ)) → Clause → ℕ → ScaledPoint → Type 0
