@@ -13,3 +13,4 @@ pub mod Sized
 pub mod SumLists
 pub mod SumSteps
 pub mod TargetLists
+pub mod Validity
