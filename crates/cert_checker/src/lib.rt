@@ -32,6 +32,8 @@ mod row_proofs;
 mod size_faults;
 mod targets;
 mod verdict;
+#[cfg(test)]
+mod worked_certificates;
 
 pub use bounding::valid_certificates_bound_their_modes;
 pub use checking::check;
