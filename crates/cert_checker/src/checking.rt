@@ -27,6 +27,7 @@ use std::alloc::{AllocError, Global};
 use term_size::TermSize;
 
 // The first fault of the parts of a certificate, in the order of its lines.
+#[tactic(auto, using(crate::proofs::AnyPartition::all_hold))]
 fn value_fault(
     alloc: Global,
     p: &Program,
@@ -52,7 +53,8 @@ fn value_fault(
     if let Some(fault) = fall_fault(alloc, p, comps, &TermSize, parts, lines.falls)? {
         return Ok(Some(fault));
     }
-    refutation_fault(alloc, p, comps, &TermSize, parts, lines.refutations)
+    let fault = refutation_fault(alloc, p, comps, &TermSize, parts, lines.refutations)?;
+    Ok(fault)
 }
 
 // The first fault of a certificate.
