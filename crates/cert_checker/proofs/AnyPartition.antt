@@ -10,17 +10,11 @@ use Rattle.call_components.specs.Partition.{AreComponents, IsIn, Partition}
 use Rattle.certificate_parts.specs.Shape.{is_together}
 use Rattle.certificate_parts.specs.declared.parts.Parts.{Parts}
 use Rattle.mode_checker.specs.Modes.{ModesHold, allowed, grounds_of, precondition}
-use Rattle.cert_checker.specs.Proved.{ByHold, FallsHold, MeasuresAreZero}
+use Rattle.cert_checker.specs.Proved.{FallsHold, MeasuresAreZero}
 use Rattle.cert_checker.specs.Refuting.{RefutationsHold, SumsRefute}
 use Rattle.cert_checker.specs.Valid.{PartsHold}
 use Rattle.cert_checker.proofs.ColumnLengths.{an_element}
 use Rattle.cert_checker.proofs.Partitions.{is_together_same, members_move, moved, recursion_moves, together_moves}
-
--- what parts claim holds where each of its five parts does
-pub all_hold : (truth : (ℕ → Bool) → Tree → Bool) (expression : ℕ → Tree → List ℤ) (p : Listing) (comps : Partition) (parts : Parts)
-    → ModesHold truth p comps parts → ByHold expression p parts → MeasuresAreZero comps parts → FallsHold expression p comps parts → RefutationsHold expression p comps parts
-    → PartsHold truth expression p comps parts
-all_hold truth expression p comps parts modes rows measures falls refutations = record { modes = modes; rows = rows; measures = measures; falls = falls; refutations = refutations }
 
 module _ (truth : (ℕ → Bool) → Tree → Bool) (expression : ℕ → Tree → List ℤ) (p : Listing) (one other : Partition) (a : AreComponents p one) (b : AreComponents p other) (parts : Parts) where
   modes : ModesHold truth p one parts → ModesHold truth p other parts

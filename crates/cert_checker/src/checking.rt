@@ -27,7 +27,6 @@ use std::alloc::{AllocError, Global};
 use term_size::TermSize;
 
 // The first fault of the parts of a certificate, in the order of its lines.
-#[tactic(auto, using(crate::proofs::AnyPartition::all_hold))]
 fn value_fault(
     alloc: Global,
     p: &Program,

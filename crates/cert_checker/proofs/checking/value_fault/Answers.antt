@@ -1,3 +1,4 @@
+use Rattle.std.proofs.Common.{refl}
 use Rattle.cert_checker.proofs.ShapeLaws.{are_sizes, have_falls, have_levels, have_refutations, have_row_proofs}
 use Rattle.cert_checker.proofs.checking.value_fault.Goals as goal
 
@@ -24,3 +25,16 @@ refutation_fault-requires-clause-sizes c = are_sizes c.args.p.now c.args.comps.n
 
 pub refutation_fault-requires-clause-refutations : goal.refutation_fault-requires-clause-refutations
 refutation_fault-requires-clause-refutations c = have_refutations c.args.p.now c.args.comps.now c.args.parts.now c.requires.shape
+
+-- the last fault decides, since the tests before it have found none
+pub returns : goal.returns
+returns c = (
+  λ none. record {
+    modes = c.in_ok-fault.ensures.0 c.in_default.is;
+    rows = c.in_ok-fault-2.ensures.0 c.in_default-2.is;
+    measures = c.in_default-measure_fault.ensures.0 refl;
+    falls = c.in_ok-fault-3.ensures.0 c.in_default-3.is;
+    refutations = c.in_ok-fault-4.ensures.0 none;
+  },
+  λ hold. c.in_ok-fault-4.ensures.1 hold.refutations,
+)
