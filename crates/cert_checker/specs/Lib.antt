@@ -1,3 +1,4 @@
+pub mod Bounding
 pub mod Claimed
 pub mod Excluded
 pub mod PairSums
@@ -10,3 +11,4 @@ pub mod Sums
 pub mod SystemPoints
 pub mod Systems
 pub mod Targets
+pub mod Valid
