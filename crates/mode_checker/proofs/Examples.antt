@@ -1,8 +1,7 @@
 -- The modes of `app([],L,L).` and `app([H|T],L,[H|R]) :- app(T,L,R).`, with a mapping by the first argument and one by the third.
 --
 -- The modes [1] and [3] hold. The mode [2] does not, and [3] does not without the second precondition.
-use Rattle.std.proofs.Common.{◌≡◌, inl, inr, ℕ, zero, suc, pos, Bool, true, false, ◌&&◌, IsTrue, List, [], ◌∷◌, map, Option, None, Some, refl, sym, ◌∙◌}
-use Rattle.bool_diagrams.specs.Rows.{iff}
+use Rattle.std.proofs.Common.{◌≡◌, ℕ, pos, true, false, List, [], ◌∷◌, map, None, refl}
 use Rattle.bool_diagrams.specs.declared.cube.Cell.{Cell}
 use Rattle.bool_diagrams.specs.declared.cube.Cell.TheVariants.{Zero, One, Any}
 use Rattle.call_components.specs.Partition.{Partition}
@@ -11,9 +10,8 @@ use Rattle.certificate_parts.specs.declared.parts.Parts.{Parts}
 use Rattle.cti_terms.specs.Listing.{Listing}
 use Rattle.cti_terms.specs.Tree.{Tree, Variable, Compound, End, More, truth}
 use Rattle.cti_terms.specs.declared.atom_list.Atom.{Atom}
-use Rattle.cti_terms.specs.declared.clauses.Clause.{Clause}
 use Rattle.termination_model.specs.Descent.{mode_row}
-use Rattle.mode_checker.specs.Modes.{ModesHold, allowed, coefficients_of, grounds_of, precondition}
+use Rattle.mode_checker.specs.Modes.{ModesHold, allowed, precondition}
 
 abbrev call : List Tree → Atom
 call args = record { pred = record { 0 = 0 }; args = args }

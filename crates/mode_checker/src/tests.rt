@@ -161,8 +161,16 @@ fn faults_of_append(rt: HostRuntime) -> Result<(), Fail> {
         (2, "terminates(app/3,[[2]]).", Some(ModeReason::Mode)),
         (2, "terminates(app/3,[]).", None),
         (11, "", Some(ModeReason::Ground)),
-        (13, "measure(app/3,2,[1,0,0],0).", Some(ModeReason::Precondition)),
-        (16, "pre(app/3,1,1,[x,x,x]).", Some(ModeReason::Precondition)),
+        (
+            13,
+            "measure(app/3,2,[1,0,0],0).",
+            Some(ModeReason::Precondition),
+        ),
+        (
+            16,
+            "pre(app/3,1,1,[x,x,x]).",
+            Some(ModeReason::Precondition),
+        ),
         (17, "", Some(ModeReason::Mode)),
     ] {
         let found = fault(alloc, &program, &names, APPEND.as_slice(), number, new)?;
@@ -182,7 +190,11 @@ fn faults_of_a_pair(rt: HostRuntime) -> Result<(), Fail> {
         (0, "", None),
         (2, "terminates(p/2,[[1],[2]]).", Some((2, ModeReason::Mode))),
         (3, "terminates(q/1,[[]]).", None),
-        (5, "measure(q/1,1,[1],0).", Some((3, ModeReason::Precondition))),
+        (
+            5,
+            "measure(q/1,1,[1],0).",
+            Some((3, ModeReason::Precondition)),
+        ),
         (7, "pre(p/2,1,1,[0,1]).", Some((2, ModeReason::Mode))),
         (8, "pre(q/1,1,1,[0]).", Some((2, ModeReason::Precondition))),
         (8, "pre(q/1,1,1,[1]).", None),
