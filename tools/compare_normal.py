@@ -1,5 +1,5 @@
 #!/usr/bin/env python3
-"""Compares the normal form of texts and queries with an independent reading of the definitions on random texts, outside the gate.
+"""Compares the normal form of texts with an independent reading of the definitions on random texts, outside the gate.
 
 Usage: tools/compare_normal.py DRIVER ORACLE SEED COUNT
 
@@ -43,33 +43,21 @@ def fault(kind, at):
     return f"Fault {{ kind: {kind}, at: {at} }}"
 
 
-def wanted(reader, normal, text, query):
-    """What the driver has to print: the program or the fault, and what it says of the query."""
+def wanted(reader, normal, text):
+    """What the driver has to print: the program or the fault."""
     try:
-        read = reader.read_text(text)
-        program = normal.normal(read)
+        return shown(normal.normal(reader.read_text(text)))
     except reader.ReadFault as found:
-        return fault(READ_KINDS[found.kind], found.at), ""
+        return fault(READ_KINDS[found.kind], found.at)
     except normal.NormFault as found:
-        return fault(KINDS[found.kind], found.at), ""
-    first = shown(program)
-    if query is None:
-        return first, ""
-    try:
-        later, goal, fresh = normal.normal_query(reader.read_query(query, read.ops), program)
-    except reader.ReadFault as found:
-        return first, fault(READ_KINDS[found.kind], found.at)
-    except normal.NormFault as found:
-        return first, f"{fault(KINDS[found.kind], found.at)}&{first}"
-    return first, f"Goal {{ atoms: {atoms(goal)}, fresh: {fresh} }}&{shown(later)}"
+        return fault(KINDS[found.kind], found.at)
 
 
 def given(answer):
     """What the driver printed, with the texts of names in the place of their numbers."""
-    first, second, names, _ = answer.split("|")
+    program, names, _ = answer.split("|")
     names = names.split(",")
-    spell = lambda part: re.sub(r"Name\((\d+)\)", lambda m: f"Name({names[int(m.group(1))]})", part)
-    return spell(first), spell(second)
+    return re.sub(r"Name\((\d+)\)", lambda m: f"Name({names[int(m.group(1))]})", program)
 
 
 def random_argument(rng, variables, depth):
@@ -125,31 +113,22 @@ def random_text(rng):
 
 
 def random_case(rng, programs):
-    """A text: whole, a mutant, near the depth limit, or with many disjunctions; and a query after some."""
+    """A text: whole, a mutant, near the depth limit, or with many disjunctions."""
     chance = rng.random()
-    if chance < 0.25:
-        text = programs.whole_text(rng)
-    elif chance < 0.45:
-        text = programs.mutate(rng, programs.whole_text(rng))
-    elif chance < 0.48:
-        text = programs.deep_text(rng)
-    elif chance < 0.6:
-        text = programs.mutate(rng, random_text(rng))
-    else:
-        text = random_text(rng)
-    query = None
-    if rng.random() < 0.5:
-        odd = rng.choice([0, 0, 0, 0.1])
-        variables = rng.choice([1, 3, 9, 70])
-        parts = [random_call(rng, variables, odd) for _ in range(rng.choice([1, 1, 2, 3, 40]))]
-        query = (" , ".join(parts) if rng.random() < 0.8 else random_body(rng, variables, odd, 3)).encode()
-        query += rng.choice([b".", b".", b""])
-    return text, query
+    if chance < 0.3:
+        return programs.whole_text(rng)
+    if chance < 0.55:
+        return programs.mutate(rng, programs.whole_text(rng))
+    if chance < 0.58:
+        return programs.deep_text(rng)
+    if chance < 0.68:
+        return programs.mutate(rng, random_text(rng))
+    return random_text(rng)
 
 
-def kind_of(part):
-    found = re.match(r"Fault \{ kind: (.*), at: ", part)
-    return found.group(1) if found else "normal"
+def kind_of(answer):
+    found = re.match(r"Fault \{ kind: (.*), at: ", answer)
+    return found.group(1) if found else "program"
 
 
 def main():
@@ -158,24 +137,20 @@ def main():
     sys.path.insert(0, str(oracle.parent))
     reader, normal, programs = (import_module(f"{oracle.name}.{name}") for name in ["reader", "normal", "gen_programs"])
     rng = random.Random(seed)
-    cases = [random_case(rng, programs) for _ in range(count)]
-    lines = "".join(text.hex() + ("" if query is None else " " + query.hex()) + "\n" for text, query in cases)
-    run = subprocess.run([driver], input=lines, capture_output=True, text=True)
-    answers = run.stdout.splitlines()
+    texts = [random_case(rng, programs) for _ in range(count)]
+    lines = "".join(text.hex() + "\n" for text in texts)
+    answers = subprocess.run([driver], input=lines, capture_output=True, text=True).stdout.splitlines()
     different = []
     kinds = {}
-    for (text, query), answer in zip(cases, answers):
-        want, found = wanted(reader, normal, text, query), given(answer)
-        for name, part in zip(["text", "query"], want):
-            if part or name == "text":
-                kind = f"{name} {kind_of(part)}"
-                kinds[kind] = kinds.get(kind, 0) + 1
+    for text, answer in zip(texts, answers):
+        want, found = wanted(reader, normal, text), given(answer)
+        kinds[kind_of(want)] = kinds.get(kind_of(want), 0) + 1
         if want != found:
-            different.append((text, query, want, found))
-    for text, query, want, answer in different[:5]:
-        print(f"{text[:300]} {query}\n  wanted {want}\n  given  {answer}"[:2000])
-    print(f"{len(cases)} cases, {len(answers)} answers, {len(different)} different: {dict(sorted(kinds.items()))}")
-    sys.exit(1 if different or len(answers) != len(cases) else 0)
+            different.append((text, want, found))
+    for text, want, found in different[:5]:
+        print(f"{text[:300]}\n  wanted {want[:500]}\n  given  {found[:500]}")
+    print(f"{len(texts)} texts, {len(answers)} answers, {len(different)} different: {dict(sorted(kinds.items()))}")
+    sys.exit(1 if different or len(answers) != len(texts) else 0)
 
 
 main()

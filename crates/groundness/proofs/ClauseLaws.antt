@@ -7,11 +7,12 @@ use Rattle.bool_diagrams.specs.Tree.{Tree as Rows}
 use Rattle.cti_terms.specs.declared.clauses.Clause.{Clause}
 use Rattle.cti_terms.specs.Tree.{Tree, is_below}
 use Rattle.term_size.specs.Norm.{IsNorm}
-use Rattle.groundness.specs.Sets.{Gives, HasAtoms, HasTruths, IsReadyClause}
-use Rattle.groundness.proofs.NormLaws.{truth_agrees}
-use Rattle.groundness.proofs.ArgumentLaws.{truths_agree}
-use Rattle.groundness.proofs.ListLaws.{by_places}
-use Rattle.groundness.proofs.RowLaws.{IsSomewhere}
+use Rattle.argument_rows.specs.Ready.{HasAtoms, HasTruths, IsReadyClause}
+use Rattle.groundness.specs.Sets.{Gives}
+use Rattle.argument_rows.proofs.NormLaws.{truth_agrees}
+use Rattle.argument_rows.proofs.ArgumentLaws.{truths_agree}
+use Rattle.argument_rows.proofs.ListLaws.{by_places}
+use Rattle.groundness.proofs.Somewhere.{IsSomewhere}
 
 -- v below n, and from there on the row
 upon : ℕ → (ℕ → Bool) → (ℕ → Bool) → ℕ → Bool
@@ -58,6 +59,6 @@ module _ (size : (ℕ → ℕ) → Tree → ℕ) (truth : (ℕ → Bool) → Tre
               (B w).1 atoms,
               λ j u lt at.
                   upon_above k.vars s.0 (λ v. row (name v)) (48 + j) (omega (arith, ready.few)) ∙ ap row (names j lt) ∙ s.2 j u lt at
-                  ∙ sym (truth_agrees size truth expression norm k.vars u w s.0 (by_places (λ t. IsTrue (is_below k.vars t)) k.head.args ready.below j u at) agree),
+                  ∙ sym (truth_agrees size truth expression norm k.vars u w s.0 (by_places (λ t. IsTrue (is_below k.vars t)) k.head.args ready.head.below j u at) agree),
             ),
           )

@@ -1,9 +1,6 @@
-pub mod ArgumentLaws
 pub mod ClauseLaws
-pub mod ListLaws
-pub mod NormLaws
+pub mod Examples
 pub mod MissingLaws
 pub mod RoundLaws
-pub mod RowLaws
 pub mod SetLaws
-pub mod Examples
+pub mod Somewhere

@@ -43,22 +43,6 @@ missing_less n s s' h apart =
       | inr other ↦ omega arith
     ]
 
--- the first values of a row
-pub first_row : ℕ → (ℕ → Bool) → List Bool
-first_row zero row = []
-first_row (suc n) row = row 0 ∷ first_row n (λ v. row (suc v))
-
-pub length-first : (n : ℕ) (row : ℕ → Bool) → length (first_row n row) ≡ n
-unfolding first_row
-length-first zero row = refl
-length-first (suc n) row = ap suc (length-first n (λ v. row (suc v)))
-
-pub first_values : (n : ℕ) (row : ℕ → Bool) (v : ℕ) → v < n → values_of (first_row n row) v ≡ row v
-unfolding first_row
-first_values zero row v lt = absurd (omega arith)
-first_values (suc n) row zero lt = refl
-first_values (suc n) row (suc v) lt = first_values n (λ u. row (suc u)) v (omega arith)
-
 rows_later : (T T2 : List Rows) → Keeps T T2 → (d : Diagram) → IsDiagram T d → truth_rows T2 d ≡ truth_rows T d
 rows_later T T2 K d known = λ i row. holds_later T T2 d K known (values_of row) i
 

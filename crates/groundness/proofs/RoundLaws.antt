@@ -1,34 +1,21 @@
 -- What stays of sets while the table grows, and what a round of clauses does.
-use Rattle.std.proofs.Common.{◌≡◌, ℕ, ◌<◌, ◌≤◌, Bool, true, false, ◌||◌, ◌&&◌, ◌==◌, List, length, slice_get, Option, None, Some, refl, ap, sym, subst, arith}
+use Rattle.std.proofs.Common.{◌≡◌, ℕ, ◌<◌, ◌≤◌, Bool, true, false, List, slice_get, Some, refl, ap, sym, subst, arith}
 use Rattle.bool_diagrams.specs.declared.diagram.Diagram.{Diagram}
-use Rattle.bool_diagrams.specs.Cubes.{values_of}
 use Rattle.bool_diagrams.specs.Rows.{IsDiagram, Keeps}
 use Rattle.bool_diagrams.specs.Tree.{Tree as Rows}
-use Rattle.bool_diagrams.proofs.CallerLemmas.{holds_later}
 use Rattle.cti_terms.specs.declared.clauses.Clause.{Clause}
 use Rattle.cti_terms.specs.declared.predicates.Pred.{Pred}
 use Rattle.cti_terms.specs.Tree.{Tree}
 use Rattle.termination_model.specs.Grounds.{Family, IsClosedUnder}
 use Rattle.groundness.specs.Missing.{all_missing}
-use Rattle.groundness.specs.Sets.{family_of, has_row}
+use Rattle.argument_rows.specs.Sets.{family_of}
+use Rattle.argument_rows.proofs.CallerLemmas.{family_later}
 use Rattle.groundness.proofs.MissingLaws.{all_missing_kept}
 
-pub or_false : (a b : Bool) → (a || b) ≡ false → (a ≡ false) × (b ≡ false)
-or_false true b h = cc
-or_false false b h = (refl, h)
-
-has_row_later : (a : Option Pred) (T T2 : List Rows) → Keeps T T2 → (b : Option Diagram) → ((d : Diagram) → b ≡ Some d → IsDiagram T d) → (row : List Bool) → has_row a T2 b row ≡ has_row a T b row
-has_row_later None T T2 K b known row = refl
-has_row_later (Some p) T T2 K None known row = refl
-has_row_later (Some p) T T2 K (Some d) known row = ap (λ x. (p.arity == length row) && x) (holds_later T T2 d K (known d refl) (values_of row))
-
 module _ (preds : List Pred) (T T2 : List Rows) (K : Keeps T T2) (sets : List Diagram) (known : (r : ℕ) (d : Diagram) → slice_get sets r ≡ Some d → IsDiagram T d) where
-  family_later : family_of preds T2 sets ≡ family_of preds T sets
-  family_later = λ i r row. has_row_later (slice_get preds r) T T2 K (slice_get sets r) (known r) row i
-
   pub closed_later : (truth : (ℕ → Bool) → Tree → Bool) (sets' : List Diagram) → sets' ≡ sets → (c : Clause) → IsClosedUnder truth (family_of preds T sets) c → IsClosedUnder truth (family_of preds T2 sets') c
   closed_later truth sets' same c h =
-      subst (λ (xs : List Diagram). IsClosedUnder truth (family_of preds T2 xs) c) (sym same) (subst (λ (f : Family). IsClosedUnder truth f c) (sym family_later) h)
+      subst (λ (xs : List Diagram). IsClosedUnder truth (family_of preds T2 xs) c) (sym same) (subst (λ (f : Family). IsClosedUnder truth f c) (sym (family_later preds T T2 K sets known)) h)
 
   pub step_kept : (sets' : List Diagram) (added : Bool) → (added ≡ true → all_missing preds T2 sets' < all_missing preds T sets) → (added ≡ false → sets' ≡ sets) → all_missing preds T2 sets' ≤ all_missing preds T sets
   step_kept sets' true less same = let l = less refl in omega arith

@@ -1,92 +1,29 @@
 -- What it does to the family of the sets that the rows of a clause are added.
-use Rattle.std.proofs.Common.{◌≡◌, ◌↔◌, inl, inr, ℕ, suc, ◌<◌, ◌≤◌, ◌==◌, Bool, true, false, ◌||◌, IsTrue, List, [], ◌∷◌, length, map, slice_get, slice_set, slice_index_or, Option, None, Some, IsSomeAnd, refl, ap, sym, subst, ◌∙◌, arith, eqb-true}
-use Rattle.std.proofs.lemmas.Bool.{and_parts, cases_eq, eq-eqb}
-use Rattle.std.proofs.lemmas.List.{length-map, length-set}
+use Rattle.std.proofs.Common.{◌≡◌, ◌↔◌, inl, inr, ℕ, ◌<◌, Bool, ◌||◌, IsTrue, List, length, slice_get, slice_set, slice_index_or, Some, refl, ap, sym, subst, ◌∙◌, arith}
+use Rattle.std.proofs.lemmas.Bool.{cases_eq}
+use Rattle.std.proofs.lemmas.List.{length-map}
 use Rattle.bool_diagrams.specs.declared.diagram.Diagram.{Diagram}
 use Rattle.bool_diagrams.specs.Cubes.{truth_rows, values_of}
 use Rattle.bool_diagrams.specs.Rows.{IsDiagram, Keeps, HaveSameRows, ReadsBelow, holds}
 use Rattle.bool_diagrams.specs.Tree.{Tree as Rows}
-use Rattle.bool_diagrams.proofs.CallerLemmas.{holds_later, keeps_twice, known_later}
+use Rattle.bool_diagrams.proofs.CallerLemmas.{holds_later, keeps_twice}
 use Rattle.call_components.proofs.Lists.{slice_get-set_same, slice_get-set_other}
-use Rattle.cti_terms.specs.declared.atom_list.Atom.{Atom}
 use Rattle.cti_terms.specs.declared.clauses.Clause.{Clause}
 use Rattle.cti_terms.specs.declared.predicates.Pred.{Pred}
-use Rattle.cti_terms.specs.Listing.{Listing, IsAtom, IsClause, IsProgram, atom_nodes}
+use Rattle.cti_terms.specs.Listing.{Listing, IsAtom, IsClause, IsProgram}
 use Rattle.cti_terms.specs.Tree.{Tree}
 use Rattle.termination_model.specs.Grounds.{Family, HasArity, IsClosed, IsClosedUnder, IsGround, IsInside, truth_row}
-use Rattle.groundness.specs.Sets.{AddsOnlyNeeded, AreSets, Gives, HasAtoms, HasTruths, IsReadyClause, family_of, has_row}
+use Rattle.argument_rows.specs.Ready.{HasAtoms}
+use Rattle.argument_rows.specs.Sets.{AreSets, family_of}
+use Rattle.groundness.specs.Sets.{AddsOnlyNeeded, Gives}
 use Rattle.groundness.specs.Missing.{all_missing}
-use Rattle.groundness.proofs.MissingLaws.{all_missing_set, missing_less, first_row, first_values, length-first}
-use Rattle.groundness.proofs.ListLaws.{by_places, from_places, indexed, mapped_place, place_below, sum_part, there}
-use Rattle.groundness.proofs.RowLaws.{both, or_cases, or_left, or_right}
-
-abbrev pub none : Diagram
-none = record { 0 = 0 }
-
-pub some_is : {X : Type 0} → (Q : X → Type 0) (o : Option X) → IsSomeAnd o Q → (x : X) × (o ≡ Some x) × Q x
-some_is Q None h = absurd h
-some_is Q (Some x) h = (x, refl, h)
-
-pub same_bool : (a b : Bool) → (IsTrue a → IsTrue b) → (IsTrue b → IsTrue a) → a ≡ b
-same_bool true b f g = sym (f refl)
-same_bool false true f g = g refl
-same_bool false false f g = refl
-
--- a row of the family, and what it is read from
-pub family_in : (preds : List Pred) (trees : List Rows) (sets : List Diagram) (q : ℕ) (row : List Bool) → IsTrue (family_of preds trees sets q row)
-    → (p : Pred) × (d : Diagram) × (slice_get preds q ≡ Some p) × (slice_get sets q ≡ Some d) × (p.arity ≡ length row) × IsTrue (truth_rows trees d row)
-family_in preds trees sets q row h = go (slice_get preds q) (slice_get sets q) refl refl h
-  where
-    go : (a : Option Pred) (b : Option Diagram) → slice_get preds q ≡ a → slice_get sets q ≡ b → IsTrue (has_row a trees b row)
-        → (p : Pred) × (d : Diagram) × (slice_get preds q ≡ Some p) × (slice_get sets q ≡ Some d) × (p.arity ≡ length row) × IsTrue (truth_rows trees d row)
-    go None b e f h = cc
-    go (Some p) None e f h = cc
-    go (Some p) (Some d) e f h = let a = and_parts (p.arity == length row) (truth_rows trees d row) h in (p, d, e, f, eqb-true p.arity (length row) a.0, a.1)
-
-pub family_put : (preds : List Pred) (trees : List Rows) (sets : List Diagram) (q : ℕ) (row : List Bool) (p : Pred) (d : Diagram) → slice_get preds q ≡ Some p → slice_get sets q ≡ Some d → p.arity ≡ length row → IsTrue (truth_rows trees d row)
-    → IsTrue (family_of preds trees sets q row)
-family_put preds trees sets q row p d e f a h = rw (e, f) (both (p.arity == length row) (truth_rows trees d row) (eq-eqb p.arity (length row) a) h)
-
--- a row whose values are truths is the truth row
-pub row_is : (truth : (ℕ → Bool) → Tree → Bool) (v : ℕ → Bool) (row : List Bool) (ts : List Tree) → length row ≡ length ts → HasTruths truth v (values_of row) ts (length ts) → row ≡ map (truth v) ts
-row_is truth v [] [] e h = refl
-row_is truth v [] (t ∷ ts) e h = absurd (omega arith)
-row_is truth v (b ∷ row) [] e h = absurd (omega arith)
-row_is truth v (b ∷ row) (t ∷ ts) e h =
-    let first : b ≡ truth v t = h 0 t (omega arith) refl in
-    let rest = row_is truth v row ts (omega arith) (λ j u lt at. h (suc j) u (omega arith) at) in
-    λ i. first i ∷ rest i
-
-pub truths_of : (truth : (ℕ → Bool) → Tree → Bool) (v : ℕ → Bool) (ts : List Tree) → HasTruths truth v (values_of (map (truth v) ts)) ts (length ts)
-truths_of truth v ts = λ j t lt at. indexed (map (truth v) ts) j (truth v t) false (mapped_place (truth v) ts j t at)
+use Rattle.argument_rows.proofs.CallerLemmas.{sets_later, sets_with}
+use Rattle.argument_rows.proofs.SetLaws.{none, some_is, family_in, family_put, row_is, truths_of, atom_there}
+use Rattle.groundness.proofs.MissingLaws.{all_missing_set, missing_less}
+use Rattle.argument_rows.proofs.ListLaws.{by_places, from_places, place_below, there}
+use Rattle.argument_rows.proofs.RowLaws.{or_cases, or_left, or_right, same_bool, first_row, first_values, length-first}
 
 module _ (p : Listing) (program : IsProgram p) (trees : List Rows) (sets : List Diagram) (S : AreSets p.preds trees sets) where
-  pub atom_there : (vars : ℕ) (b : Atom) → IsAtom p.preds vars b → b.pred.0 < length sets
-  atom_there vars b a = let s = some_is (λ (q : Pred). q.arity ≡ length b.args) (slice_get p.preds b.pred.0) a.arity in let lt = place_below p.preds b.pred.0 s.0 s.1 in omega (arith, S.each)
-
-  pub atom_narrow : (vars : ℕ) (b : Atom) → IsAtom p.preds vars b → length b.args ≤ 12
-  atom_narrow vars b a =
-      let s = some_is (λ (q : Pred). q.arity ≡ length b.args) (slice_get p.preds b.pred.0) a.arity in
-      let n = by_places (λ (q : Pred). q.arity ≤ 12) p.preds program.arities b.pred.0 s.0 s.1 in
-      omega (arith, n, s.2)
-
-  pub ready : (k : Clause) → IsClause p.preds k → IsReadyClause trees sets k
-  ready k c = record {
-    few = c.few;
-    narrow = atom_narrow k.vars k.head c.head;
-    below = c.head.below;
-    small = omega (arith, c.small);
-    body = λ j b at.
-        let a = by_places (IsAtom p.preds k.vars) k.body c.body j b at in
-        record {
-          there = atom_there k.vars b a;
-          known = λ d e. (S.known b.pred.0 d e, S.reads b.pred.0 (length b.args) d e a.arity);
-          narrow = atom_narrow k.vars b a;
-          below = a.below;
-          small = omega (arith, c.small, sum_part atom_nodes k.body j b at);
-        };
-  }
-
   module _ (truth : (ℕ → Bool) → Tree → Bool) (T1 T2 : List Rows) (K1 : Keeps trees T1) (K2 : Keeps T1 T2) (k : Clause) (c : IsClause p.preds k) (given joined : Diagram) (known : IsDiagram T2 joined)
       (G : (row : ℕ → Bool) → IsTrue (holds T1 given row) ↔ Gives truth trees sets k row) (J : (row : ℕ → Bool) → holds T2 joined row ≡ (holds T1 (slice_index_or sets k.head.pred.0 none) row || holds T1 given row)) where
     q : ℕ
@@ -96,34 +33,14 @@ module _ (p : Listing) (program : IsProgram p) (trees : List Rows) (sets : List 
     d0 = slice_index_or sets k.head.pred.0 none
 
     at_q : slice_get sets k.head.pred.0 ≡ Some (slice_index_or sets k.head.pred.0 none)
-    at_q = there sets k.head.pred.0 none (atom_there k.vars k.head c.head)
+    at_q = there sets k.head.pred.0 none (atom_there p program trees sets S k.vars k.head c.head)
 
     -- the old set of the head, in the later tables
     pub old_now : (row : ℕ → Bool) → holds T1 (slice_index_or sets k.head.pred.0 none) row ≡ holds trees (slice_index_or sets k.head.pred.0 none) row
     old_now row = holds_later trees T1 _ K1 (S.known k.head.pred.0 _ at_q) row
 
     pub added_sets : AreSets p.preds T2 (slice_set sets k.head.pred.0 joined)
-    added_sets = record {
-      each = length-set sets k.head.pred.0 joined ∙ S.each;
-      known = λ r d e. elim (cases_eq r k.head.pred.0) [
-        | inl same ↦
-            let f : slice_get (slice_set sets k.head.pred.0 joined) r ≡ Some joined = ap (slice_get (slice_set sets k.head.pred.0 joined)) same ∙ slice_get-set_same sets k.head.pred.0 joined (atom_there k.vars k.head c.head) in
-            let is : joined ≡ d = cc in
-            subst (IsDiagram T2) is known
-        | inr other ↦ known_later trees T2 d (keeps_twice trees T1 T2 K1 K2) (S.known r d (sym (slice_get-set_other sets k.head.pred.0 r joined other) ∙ e))
-      ];
-      reads = λ r n d e ar. elim (cases_eq r k.head.pred.0) [
-        | inl same ↦
-            let f : slice_get (slice_set sets k.head.pred.0 joined) r ≡ Some joined = ap (slice_get (slice_set sets k.head.pred.0 joined)) same ∙ slice_get-set_same sets k.head.pred.0 joined (atom_there k.vars k.head c.head) in
-            let is : joined ≡ d = cc in
-            subst (λ (x : Diagram). ReadsBelow T2 x n) is (joined_reads n (subst (λ m. HasArity p.preds m n) same ar))
-        | inr other ↦
-            let e' = sym (slice_get-set_other sets k.head.pred.0 r joined other) ∙ e in
-            λ row row' agree.
-            let kk = keeps_twice trees T1 T2 K1 K2 in
-            holds_later trees T2 d kk (S.known r d e') row ∙ S.reads r n d e' ar row row' agree ∙ sym (holds_later trees T2 d kk (S.known r d e') row')
-      ];
-    }
+    added_sets = sets_with p.preds T2 sets (sets_later p.preds trees T2 (keeps_twice trees T1 T2 K1 K2) sets S) k.head.pred.0 joined (atom_there p program trees sets S k.vars k.head c.head) known joined_reads
       where
         gives_other : (n : ℕ) → length k.head.args ≡ n → (row row' : ℕ → Bool) → ((v : ℕ) → v < n → row v ≡ row' v) → Gives truth trees sets k row → Gives truth trees sets k row'
         gives_other n l row row' agree s = (s.0, s.1, λ j t lt at. sym (agree j (omega arith)) ∙ s.2 j t lt at)
@@ -147,7 +64,7 @@ module _ (p : Listing) (program : IsProgram p) (trees : List Rows) (sets : List 
         let a = by_places (IsAtom p.preds k.vars) k.body c.body j b at in
         let w = some_is (λ (x : Pred). x.arity ≡ length b.args) (slice_get p.preds b.pred.0) a.arity in
         let d = slice_index_or sets b.pred.0 none in
-        let e = there sets b.pred.0 none (atom_there k.vars b a) in
+        let e = there sets b.pred.0 none (atom_there p program trees sets S k.vars b a) in
         inside b.pred.0 (truth_row truth s.0 b) (family_put p.preds trees sets b.pred.0 (truth_row truth s.0 b) w.0 d w.1 e (w.2 ∙ sym (length-map b.args (truth s.0))) (s.1 j b (place_below k.body j b at) at d e)))))
 
     pub added_needed : (i : ℕ) → slice_get p.clauses i ≡ Some k → AddsOnlyNeeded truth p (family_of p.preds trees sets) (family_of p.preds T2 (slice_set sets k.head.pred.0 joined))
@@ -162,7 +79,7 @@ module _ (p : Listing) (program : IsProgram p) (trees : List Rows) (sets : List 
       where
         here : (other : Family) → IsClosed truth p other → IsInside (family_of p.preds trees sets) other → (r : ℕ) (row : List Bool) → r ≡ k.head.pred.0 → (x : Pred) (d : Diagram) → slice_get p.preds r ≡ Some x → slice_get (slice_set sets k.head.pred.0 joined) r ≡ Some d → x.arity ≡ length row → IsTrue (truth_rows T2 d row) → IsTrue (other r row)
         here other closed inside r row same x d ex ed ar t =
-            let f : slice_get (slice_set sets k.head.pred.0 joined) r ≡ Some joined = ap (slice_get (slice_set sets k.head.pred.0 joined)) same ∙ slice_get-set_same sets k.head.pred.0 joined (atom_there k.vars k.head c.head) in
+            let f : slice_get (slice_set sets k.head.pred.0 joined) r ≡ Some joined = ap (slice_get (slice_set sets k.head.pred.0 joined)) same ∙ slice_get-set_same sets k.head.pred.0 joined (atom_there p program trees sets S k.vars k.head c.head) in
             let is : d ≡ joined = cc in
             let ex' : slice_get p.preds k.head.pred.0 ≡ Some x = ap (slice_get p.preds) (sym same) ∙ ex in
             let a = some_is (λ (y : Pred). y.arity ≡ length k.head.args) (slice_get p.preds k.head.pred.0) c.head.arity in
@@ -204,6 +121,6 @@ module _ (p : Listing) (program : IsProgram p) (trees : List Rows) (sets : List 
             let ar : HasArity p.preds k.head.pred.0 x.arity = rw ex refl in
             let late = holds_later trees T2 (slice_index_or sets k.head.pred.0 none) kk (S.known k.head.pred.0 _ at_q) row in
             let agree = λ (v : ℕ) (lt : v < x.arity). sym (first_values x.arity row v lt) in
-            let e1 = added_sets.reads k.head.pred.0 x.arity joined (slice_get-set_same sets k.head.pred.0 joined (atom_there k.vars k.head c.head)) ar row (values_of (first_row x.arity row)) agree in
+            let e1 = added_sets.reads k.head.pred.0 x.arity joined (slice_get-set_same sets k.head.pred.0 joined (atom_there p program trees sets S k.vars k.head c.head)) ar row (values_of (first_row x.arity row)) agree in
             let e2 = S.reads k.head.pred.0 x.arity _ at_q ar row (values_of (first_row x.arity row)) agree in
             same_bool _ _ (λ t. grows row (sym late ∙ t)) (λ t. late ∙ e2 ∙ back (first_row x.arity row) (length-first x.arity row) (sym e1 ∙ t))

@@ -1,16 +1,15 @@
 //! The truth rows that a clause gives to the predicate of its head.
 
-ghost use Rattle.std.specs.Prelude.{◌≡◌, ◌↔◌, ◌≤◌, ◌<◌, ◌+◌, ℕ, Bool, IsTrue, IfOk, length, sum_by, slice_get, Some};
+ghost use Rattle.std.specs.Prelude.{◌≡◌, ◌↔◌, ◌≤◌, ◌<◌, ◌+◌, ℕ, Bool, IsTrue, IfOk, length, sum_by};
 ghost use Rattle.std.specs.List.{AllByRecursion};
 ghost use Rattle.bool_diagrams.specs.Rows.{IsDiagram, Keeps, holds};
 ghost use Rattle.cti_terms.specs.Tree.{is_below, nodes_of};
-ghost use Rattle.cti_terms.specs.declared.atom_list.Atom.{Atom};
-ghost use Rattle.groundness.specs.Sets.{Gives, HasAtoms, HasTruths, IsReady, IsReadyClause};
+ghost use Rattle.argument_rows.specs.Ready.{HasTruths, IsReadyClause};
+ghost use Rattle.groundness.specs.Sets.{Gives};
 
-use crate::atom_rows::{ARGUMENTS, PLACES, argument_rows};
-use crate::rigidity::bound_rows;
+use argument_rows::{ARGUMENTS, PLACES, body_rows, bound_rows};
 use bool_diagrams::{Diagram, Table};
-use cti_terms::{Atoms, Clause, MOST_ARGUMENTS, MOST_NODES, MOST_VARIABLES, Terms};
+use cti_terms::{Clause, MOST_ARGUMENTS, MOST_NODES, MOST_VARIABLES, Terms};
 use std::alloc::AllocError;
 use term_size::Norm;
 
@@ -32,30 +31,6 @@ pub(crate) fn clause_rows<N: Norm>(
     let given = somewhere(table, bound, clause.vars)?;
     let count = clause.head.args.len();
     let rows = table.rename(given, &PLACES[..count], &ARGUMENTS[..count])?;
-    Ok(rows)
-}
-
-// The rows of a clause's variables on which each atom of the body is in its set.
-fn body_rows<N: Norm>(
-    norm: &N,
-    table: &mut Table,
-    sets: &[Diagram],
-    body: &Atoms,
-    vars: u32,
-) -> Result<Diagram, AllocError>
-    requires few { vars ≤ MOST_VARIABLES }
-    requires ready { (j : ℕ) (b : Atom) → slice_get body.now j ≡ Some b → IsReady table.old sets.now vars b }
-    ensures keeps { Keeps table.old table.new }
-    ensures known { IfOk result (IsDiagram table.new) }
-    ensures rows { IfOk result (λ d. (row : ℕ → Bool)
-        → IsTrue (holds table.new d row) ↔ HasAtoms (N.truth norm.now) table.old sets.now row body.now (length body.now)) }
-{
-    let mut rows = table.truth(true);
-    for atom in body.as_slice() {
-        let set = sets[atom.pred.0 as usize];
-        let holding = argument_rows(norm, table, set, &atom.args, vars)?;
-        rows = table.and(rows, holding)?;
-    }
     Ok(rows)
 }
 

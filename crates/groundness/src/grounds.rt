@@ -24,6 +24,13 @@ impl Model for Grounds {
 }
 
 impl Grounds {
+    /// The sets of all predicates, in the order of their numbers. It takes no memory.
+    pub fn as_slice(&self) -> &[Diagram]
+        ensures { result.now ≡ self.now }
+    {
+        self.sets.as_slice()
+    }
+
     /// The set of a predicate. It takes no memory.
     pub fn of(&self, p: PredId) -> Diagram
         requires { p.0 < length self.now }

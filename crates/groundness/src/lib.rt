@@ -3,13 +3,11 @@
 //! Where a norm says which terms are rigid, a row in the set of a predicate is a way in which the arguments of an atom
 //! can be rigid, or not, once the atom has succeeded.
 //!
-//! Stands on `termination_model`, which says what the least family is, and on `bool_diagrams`.
+//! Stands on `termination_model`, which says what the least family is, and on `argument_rows`, whose sets these are.
 #![tactic(auto)]
 
-mod atom_rows;
 mod clause_rows;
 mod grounds;
-mod rigidity;
 mod solving;
 
 pub use grounds::Grounds;

@@ -7,7 +7,8 @@ ghost use Rattle.call_components.specs.Partition.{AreComponents};
 ghost use Rattle.cti_terms.specs.Listing.{IsProgram};
 ghost use Rattle.cti_terms.specs.declared.clauses.Clause.{Clause};
 ghost use Rattle.groundness.specs.Missing.{all_missing};
-ghost use Rattle.groundness.specs.Sets.{AddsOnlyNeeded, AreSets, family_of};
+ghost use Rattle.argument_rows.specs.Sets.{AreSets, family_of};
+ghost use Rattle.groundness.specs.Sets.{AddsOnlyNeeded};
 ghost use Rattle.termination_model.specs.Grounds.{IsClosedUnder, IsLeast};
 
 use crate::clause_rows::clause_rows;

@@ -4,9 +4,9 @@ use Rattle.bool_diagrams.specs.Rows.{holds, iff}
 use Rattle.bool_diagrams.proofs.CallerLemmas.{keeps_twice}
 use Rattle.cti_terms.specs.Spell.{tree_of}
 use Rattle.cti_terms.specs.Tree.{Tree, is_below, nodes_of}
-use Rattle.groundness.proofs.ListLaws.{at_place, by_places, mapped_place, place_below, sum_part, up_to_more}
-use Rattle.groundness.proofs.ArgumentLaws.{number_at}
-use Rattle.groundness.proofs.RowLaws.{both, iff_same, iff_true}
+use Rattle.argument_rows.proofs.ListLaws.{at_place, by_places, mapped_place, place_below, sum_part, up_to_more}
+use Rattle.argument_rows.proofs.ArgumentLaws.{number_at}
+use Rattle.argument_rows.proofs.RowLaws.{both, iff_same, iff_true}
 use Rattle.groundness.proofs.clause_rows.head_rows.Goals as goal
 
 pub bound_rows-requires-clause-below : goal.bound_rows-requires-clause-below

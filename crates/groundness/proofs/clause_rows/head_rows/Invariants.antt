@@ -1,6 +1,6 @@
 use Rattle.std.proofs.Common.{◌↔◌, ◌+◌, ℕ, Bool, IsTrue}
 use Rattle.bool_diagrams.specs.Rows.{IsDiagram, Keeps, holds}
-use Rattle.groundness.specs.Sets.{HasTruths}
+use Rattle.argument_rows.specs.Ready.{HasTruths}
 use Rattle.groundness.proofs.clause_rows.head_rows.Given as goal
 
 abbrev pub invariant-loop-place : goal.invariant-loop-place

@@ -1,6 +1,6 @@
 use Rattle.std.proofs.Common.{◌↔◌, ℕ, Bool, IsTrue}
 use Rattle.bool_diagrams.specs.Rows.{IsDiagram, Keeps, holds}
-use Rattle.groundness.proofs.RowLaws.{IsSomewhere}
+use Rattle.groundness.proofs.Somewhere.{IsSomewhere}
 use Rattle.groundness.proofs.clause_rows.somewhere.Given as goal
 
 abbrev pub invariant-loop-variable : goal.invariant-loop-variable

@@ -2,10 +2,10 @@ use Rattle.std.proofs.Common.{inl, inr, slice_get, ap, ◌∙◌, arith}
 use Rattle.std.proofs.lemmas.Bool.{cases_eq}
 use Rattle.bool_diagrams.proofs.CallerLemmas.{keeps_twice}
 use Rattle.termination_model.specs.Grounds.{IsClosedUnder}
-use Rattle.groundness.specs.Sets.{family_of}
-use Rattle.groundness.proofs.ListLaws.{from_places, place_below}
-use Rattle.groundness.proofs.RoundLaws.{or_false, closed_later, step_kept}
-use Rattle.groundness.proofs.RowLaws.{or_cases}
+use Rattle.argument_rows.specs.Sets.{family_of}
+use Rattle.argument_rows.proofs.ListLaws.{from_places, place_below}
+use Rattle.groundness.proofs.RoundLaws.{closed_later, step_kept}
+use Rattle.argument_rows.proofs.RowLaws.{or_cases, or_false}
 use Rattle.groundness.proofs.solving.add_once.Goals as goal
 
 pub loop-k-preserved : goal.loop-k-preserved

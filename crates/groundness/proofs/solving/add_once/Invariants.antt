@@ -2,7 +2,8 @@ use Rattle.std.proofs.Common.{◌≡◌, ◌<◌, ◌≤◌, ℕ, true, false, s
 use Rattle.bool_diagrams.specs.Rows.{Keeps}
 use Rattle.cti_terms.specs.declared.clauses.Clause.{Clause}
 use Rattle.groundness.specs.Missing.{all_missing}
-use Rattle.groundness.specs.Sets.{AddsOnlyNeeded, AreSets, family_of}
+use Rattle.argument_rows.specs.Sets.{AreSets, family_of}
+use Rattle.groundness.specs.Sets.{AddsOnlyNeeded}
 use Rattle.termination_model.specs.Grounds.{IsClosedUnder}
 use Rattle.groundness.proofs.solving.add_once.Given as goal
 

@@ -1,9 +1,10 @@
 use Rattle.std.proofs.Common.{◌≡◌, ◌-◌, refl, subst}
 use Rattle.bool_diagrams.proofs.CallerLemmas.{known_later, keeps_twice}
 use Rattle.termination_model.specs.Grounds.{IsClosedUnder}
-use Rattle.groundness.specs.Sets.{family_of}
-use Rattle.groundness.proofs.ListLaws.{there}
-use Rattle.groundness.proofs.SetLaws.{none, ready, atom_there, added_sets, added_needed, added_closed, added_less}
+use Rattle.argument_rows.specs.Sets.{family_of}
+use Rattle.argument_rows.proofs.ListLaws.{there}
+use Rattle.argument_rows.proofs.SetLaws.{none, ready, atom_there}
+use Rattle.groundness.proofs.SetLaws.{added_sets, added_needed, added_closed, added_less}
 use Rattle.groundness.proofs.solving.add_rows.Goals as goal
 
 pub clause_rows-requires : goal.clause_rows-requires

@@ -2,7 +2,7 @@ use Rattle.std.proofs.Common.{◌≡◌, IsTrue, List, length, drop, subst, arit
 use Rattle.std.proofs.lemmas.List.{take_at}
 use Rattle.bool_diagrams.specs.declared.diagram.Diagram.{Diagram}
 use Rattle.bool_diagrams.proofs.CallerLemmas.{keeps_twice}
-use Rattle.groundness.specs.Sets.{family_of}
+use Rattle.argument_rows.specs.Sets.{family_of}
 use Rattle.groundness.proofs.solving.solve.Goals as goal
 
 pub loop-sets-preserved : goal.loop-sets-preserved

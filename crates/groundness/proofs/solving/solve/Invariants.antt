@@ -1,6 +1,6 @@
 use Rattle.bool_diagrams.specs.Rows.{Keeps}
 use Rattle.groundness.specs.Missing.{all_missing}
-use Rattle.groundness.specs.Sets.{AreSets, family_of}
+use Rattle.argument_rows.specs.Sets.{AreSets, family_of}
 use Rattle.termination_model.specs.Grounds.{Family, IsClosed, IsInside}
 use Rattle.groundness.proofs.solving.solve.Given as goal
 

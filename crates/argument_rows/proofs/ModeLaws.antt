@@ -1,0 +1,19 @@
+-- The row of a mode, by places.
+use Rattle.std.proofs.Common.{◌≡◌, ℕ, zero, suc, ◌+◌, ◌*◌, ◌^◌, ◌%◌, ◌<◌, ◌==◌, true, List, bit_or, w64, ap, ◌∙◌, arith}
+use Rattle.std.proofs.lemmas.Nat.Bits.{bit_at_set_same, bit_at_set_other}
+use Rattle.bool_diagrams.specs.Rows.{bit_of}
+use Rattle.std.specs.List.{list_any}
+use Rattle.bool_diagrams.specs.Cubes.{values_of}
+use Rattle.termination_model.specs.Descent.{mode_row}
+
+pub mode_place : (mode : List ℕ) (i n v : ℕ) → v < n → values_of (mode_row mode i n) v ≡ list_any (λ j. j == v + i) mode
+mode_place mode i zero v lt = absurd (omega arith)
+mode_place mode i (suc n) zero lt = let e : i ≡ 0 + i = omega arith in ap (λ k. list_any (λ j. j == k) mode) e
+mode_place mode i (suc n) (suc v) lt = let e : v + suc i ≡ suc v + i = omega arith in mode_place mode (suc i) n v (omega arith) ∙ ap (λ k. list_any (λ j. j == k) mode) e
+
+-- one bit is set, and the others stay
+pub bit_added : (n k : ℕ) → k < 64 → bit_of (bit_or n (1 * 2 ^ k % 2 ^ 64)) k ≡ true
+bit_added n k within = ap (λ b. b == 1) (bit_at_set_same w64 n k within)
+
+pub bit_kept : (n k : ℕ) → k < 64 → (i : ℕ) → ((i ≡ k) → ⊥) → bit_of (bit_or n (1 * 2 ^ k % 2 ^ 64)) i ≡ bit_of n i
+bit_kept n k within i other = ap (λ b. b == 1) (bit_at_set_other w64 n k within i other)

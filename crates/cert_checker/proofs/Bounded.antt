@@ -1,0 +1,156 @@
+-- A valid certificate's claims show that queries end, so that each query that meets one of its modes is bounded.
+--
+-- What holding modes show is a premise here, which the law of `mode_checker` gives.
+use Rattle.std.proofs.Common.{◌≡◌, ◌≢◌, ℕ, zero, suc, ◌+◌, ◌<◌, ◌≤◌, ◌≤ℤ◌, ◌==◌, ◌||◌, ℤ, pos, negsuc, Bool, true, false, IsTrue, List, [], ◌∷◌, ◌++◌, All, map, length, Contains, slice_get, slice_index_or, unwrap_or, unsigned_abs, Option, None, Some, IsSomeAnd, refl, sym, ap, subst, ◌∙◌, arith, eqb-true}
+use Rattle.std.specs.List.{AllByRecursion, AllPairs, list_any}
+use Rattle.std.proofs.lemmas.Option.{slice_get_within}
+use Rattle.cti_terms.specs.Derive.{query, Bounded}
+use Rattle.cti_terms.specs.Listing.{IsProgram, Listing}
+use Rattle.cti_terms.specs.Tree.{Tree, size, truth}
+use Rattle.cti_terms.specs.declared.atom_list.Atom.{Atom}
+use Rattle.cti_terms.specs.declared.clauses.Clause.{Clause}
+use Rattle.cti_terms.specs.declared.predicates.Pred.{Pred}
+use Rattle.call_components.proofs.Lists.{all_append, all_both, all_map, has_contains}
+use Rattle.call_components.specs.Partition.{AreComponents, IsIn, Partition}
+use Rattle.call_components.specs.Table.{Has}
+use Rattle.certificate.specs.declared.fact.Fact.{Fact}
+use Rattle.certificate.specs.declared.fact.Fact.TheVariants as fact
+use Rattle.certificate_parts.specs.Numbered.{facts_from, lines_from}
+use Rattle.certificate_parts.specs.Order as order
+use Rattle.certificate_parts.specs.Shape as shape
+use Rattle.certificate_parts.specs.Structure.{AreNamed, AreNotes, IsStructured}
+use Rattle.certificate_parts.specs.declared.parts.LevelPart.{LevelPart}
+use Rattle.certificate_parts.specs.declared.parts.Parts.{Parts}
+use Rattle.certificate_parts.specs.declared.parts.Refutation.{Refutation}
+use Rattle.certificate_parts.specs.declared.parts.ScaledPoint.{ScaledPoint}
+use Rattle.mode_checker.specs.Claimed.{ClaimModes, HoldingModesShow, IsMeasure, KeepsRows, ShowModes}
+use Rattle.mode_checker.specs.Modes as holding
+use Rattle.term_size.specs.Occurrences.{size_row}
+use Rattle.term_size.specs.TermSize.{is_a_norm}
+use Rattle.termination_model.proofs.Lists.{by_places, from_places, indexed, there}
+use Rattle.termination_model.proofs.Proved.{shown}
+use Rattle.termination_model.proofs.Query.{modes_end}
+use Rattle.termination_model.specs.Claims.{Admits, Claims, Measure, Shows}
+use Rattle.termination_model.specs.Descent.{Meets, mode_row}
+use Rattle.termination_model.specs.Grounds.{Family, HasArity}
+use Rattle.termination_model.specs.Rows.{IsUpper}
+use Rattle.termination_model.specs.Short.{DescendsProved, ServesProved, ShowsProved}
+use Rattle.cert_checker.specs.Bounding.{FactIsBounded, IsOf, ModeIsBounded, ModesAreBounded, NamedAreRigid}
+use Rattle.cert_checker.specs.Claimed.{claims_of, coefficients_of, mapping_count, mapping_of, measure_of, measures_from, rank_of}
+use Rattle.cert_checker.specs.Shape.{AreTogether, HaveLevels, IsLevelPart, list_at}
+use Rattle.cert_checker.specs.Valid.{IsValid, PartsHold}
+use Rattle.cert_checker.proofs.Claims.{falls, ranked, sizes}
+use Rattle.cert_checker.proofs.ColumnLengths.{an_element}
+use Rattle.cert_checker.proofs.PrintedModes.{listed_bounded, meets_row, same_pred}
+use Rattle.cert_checker.proofs.ShapeLaws.{arity_at, have_falls, have_levels, have_row_proofs, items_are, one_of, some_is}
+
+-- the claims of parts, with the sets of truth rows that they spell
+abbrev claims : Listing → Partition → Parts → Claims
+claims p comps parts = claims_of size truth size_row comps parts (holding.grounds_of p parts) (holding.precondition p parts)
+
+measure_length : (parts : Parts) (pre : ℕ → Family) (m n : ℕ) → length (measures_from parts pre m n) ≡ n
+measure_length parts pre m zero = refl
+measure_length parts pre m (suc n) = ap suc (measure_length parts pre (suc m) n)
+
+measure_at : (parts : Parts) (pre : ℕ → Family) (k n i m : ℕ) (x : Measure) → m ≡ k + i → slice_get (measures_from parts pre k n) i ≡ Some x → measure_of parts pre m ≡ x
+measure_at parts pre k zero i m x at e = cc
+measure_at parts pre k (suc n) zero m x at e = let here : m ≡ k = omega (arith, at) in let same : measure_of parts pre k ≡ x = cc in ap (measure_of parts pre) here ∙ same
+measure_at parts pre k (suc n) (suc i) m x at e = measure_at parts pre (suc k) n i m x (omega (arith, at)) e
+
+natural_is : (z : ℤ) → pos 0 ≤ℤ z → unsigned_abs z ≡ holding.natural z
+natural_is (pos n) h = refl
+natural_is (negsuc n) h = absurd (omega (arith, h))
+
+naturals_are : (xs : List ℤ) → All (λ x. pos 0 ≤ℤ x) xs → map unsigned_abs xs ≡ map holding.natural xs
+naturals_are [] h = refl
+naturals_are (x ∷ xs) h = λ i. natural_is x (h 0 x (omega arith)) i ∷ naturals_are xs (λ k d lt. h (suc k) d (omega (arith, lt))) i
+
+part_coefficients : (n : ℕ) (ls : List LevelPart) (m : ℕ) → AllByRecursion (IsLevelPart n) ls → coefficients_of (slice_get ls m) ≡ holding.naturals (slice_get ls m)
+part_coefficients n [] m h = refl
+part_coefficients n (l ∷ ls) zero h = naturals_are l.coeffs h.0.naturals
+part_coefficients n (l ∷ ls) (suc m) h = part_coefficients n ls m h.1
+
+count_of : (parts : Parts) (ms : List ℕ) (n : ℕ) → 0 < length ms → ((q : ℕ) → slice_get ms 0 ≡ Some q → length (list_at parts.levels q) ≡ n) → mapping_count parts ms ≡ n
+count_of parts [] n some each = absurd (omega (arith, some))
+count_of parts (q ∷ ms) n some each = each q refl
+
+module _ (p : Listing) (comps : Partition) (parts : Parts) (prog : IsProgram p) (are : AreComponents p comps) (have : shape.HaveShape p comps parts) where
+  rank_in : (q r : ℕ) → IsIn comps r q → rank_of comps q ≡ r
+  rank_in q r h = indexed comps.of q r (length comps.members) h
+
+  levels : HaveLevels p comps parts
+  levels = have_levels p comps parts have are
+
+  -- a component has as many measures as each member has preconditions
+  measure_count : (q : ℕ) → q < length p.preds → length ((claims p comps parts).measures (rank_of comps q)) ≡ length (shape.items_of parts.preconditions q)
+  measure_count q lt =
+      let (r, hq) = an_element comps.of q (omega (arith, lt, are.each)) in
+      let ms = list_at comps.members r in
+      let at : slice_get comps.members r ≡ Some ms = there comps.members r [] (are.within r q hq) in
+      let count : mapping_count parts ms ≡ length (list_at parts.levels q) = count_of parts ms (length (list_at parts.levels q)) (are.ascending r ms at).1
+      (λ x e. levels.members x q ((are.members r ms at x).0 (has_contains ms x (0, e)) ∙ sym hq)) in
+      let inner = one_of parts.preconditions have.preconditions q (list_at parts.preconditions q) (there parts.preconditions q [] (omega (arith, lt, have.preconditions.count))) in
+      measure_length parts (holding.precondition p parts) 0 (mapping_count parts (list_at comps.members (rank_of comps q)))
+      ∙ ap (λ (n : ℕ). mapping_count parts (list_at comps.members n)) (rank_in q r hq)
+      ∙ count
+      ∙ sym (ap length (items_are parts.levels q))
+      ∙ sym inner.count
+      ∙ sym (ap length (items_are parts.preconditions q))
+
+  coefficients_are : (m q : ℕ) → q < length p.preds → (mapping_of parts m).coefficients q ≡ holding.coefficients_of parts.levels m q
+  coefficients_are m q lt =
+      let (d, at) = an_element p.preds q lt in
+      part_coefficients d.arity (list_at parts.levels q) m (levels.naturals q d at) ∙ ap (λ (ls : List LevelPart). holding.naturals (slice_get ls m)) (sym (items_are parts.levels q))
+
+  claim_modes : ClaimModes truth p comps parts (claims p comps parts)
+  claim_modes = record {
+    truth = refl;
+    ranks = rank_in;
+    grounds = refl;
+    each = measure_count;
+    measures = λ r m x e.
+        subst (IsMeasure p parts (claims p comps parts) r m) (measure_at parts (holding.precondition p parts) 0 (mapping_count parts (list_at comps.members r)) m m x (omega arith) e)
+        (record { pre = refl; mapping = mapping_of parts m; single = refl; coefficients = λ q lt in_rank. coefficients_are m q lt });
+  }
+
+  module _ (modes_show : HoldingModesShow) (hold : PartsHold truth size_row p comps parts) where
+    shown_modes : ShowModes p parts (claims p comps parts)
+    shown_modes = modes_show truth p comps parts (claims p comps parts) prog are claim_modes hold.modes
+
+    shown_claims : ShowsProved p (claims p comps parts)
+    shown_claims = record {
+      norm = is_a_norm;
+      ranked = ranked size truth size_row p comps parts (holding.grounds_of p parts) (holding.precondition p parts) prog are;
+      sizes = sizes size truth size_row p comps parts (holding.grounds_of p parts) (holding.precondition p parts) (have_row_proofs p comps parts have) hold.rows;
+      closed = shown_modes.closed;
+      measures = λ r.
+          all_both (KeepsRows p (claims p comps parts) r) (λ (m : Measure). AllByRecursion (λ (k : Clause). rank_of comps k.head.pred.0 ≡ r → DescendsProved (claims p comps parts) m k) p.clauses)
+          (ServesProved p (claims p comps parts) r) (λ m keeps descends. record { covered = keeps.covered; descends = descends; rule = keeps.rule })
+          ((claims p comps parts).measures r) (shown_modes.measures r)
+          (falls size truth size_row p comps parts (holding.grounds_of p parts) (holding.precondition p parts) prog are levels (have_falls p comps parts have are prog) hold.falls r);
+    }
+
+    -- each query that meets a mode of its predicate's part is bounded
+    query_ends : (q : ℕ) (mode : List ℕ) → Admits (claims p comps parts) q (mode_row mode 1 (shape.arity_of p q)) → (a : Atom) (n : ℕ) → a.pred.0 ≡ q → HasArity p.preds a.pred.0 (length a.args)
+        → shape.arity_of p q ≡ length a.args → Meets (claims p comps parts) mode a → Bounded p (query a n)
+    query_ends q mode admits a n same arity long meets =
+        modes_end p (claims p comps parts) prog (shown p (claims p comps parts) prog shown_claims) a n arity mode
+        (subst (λ (k : ℕ). Admits (claims p comps parts) a.pred.0 (mode_row mode 1 k)) long (subst (λ (k : ℕ). Admits (claims p comps parts) k (mode_row mode 1 (shape.arity_of p q))) (sym same) admits)) meets
+
+-- a valid certificate of a program bounds its modes
+pub valid_bounds : HoldingModesShow → (p : Listing) (names : List (List ℕ)) (facts : List Fact) → IsProgram p → AreNamed names p.preds → AllPairs (λ a b. a ≢ b) names
+    → IsValid p names facts → ModesAreBounded p names facts
+valid_bounds modes_show p names facts prog named distinct valid =
+    let parts = valid.parts in
+    let have = valid.structured.shape in
+    subst (ModesAreBounded p names) (sym valid.structured.is) (listed_bounded p names parts valid.structured.notes valid.structured.are_notes (λ q modes at.
+    let (e, ee) = an_element p.preds q (omega (arith, slice_get_within parts.modes q modes at, have.modes.count)) in
+    let admitted = subst (AllByRecursion (λ mode. Admits (claims p valid.comps parts) q (mode_row mode 1 (shape.arity_of p q)))) (ap (λ (o : Option (List (List ℕ))). unwrap_or o []) at)
+    ((shown_modes p valid.comps parts prog valid.components have modes_show valid.hold).modes q) in
+    all_map (λ mode. Admits (claims p valid.comps parts) q (mode_row mode 1 (shape.arity_of p q))) (ModeIsBounded p names (order.pred_text p names q))
+    (λ mode admits a n is rigid.
+    let same : q ≡ a.pred.0 = same_pred p names prog named distinct a.pred.0 q is.pred e is.there ee is.name is.arity in
+    let long : shape.arity_of p q ≡ length a.args = arity_at p q e ee ∙ sym (ap (λ (o : Option Pred). (order.text_or_none names o).arity) ee) ∙ sym is.arguments in
+    query_ends p valid.comps parts prog valid.components have modes_show valid.hold q mode admits a n (sym same)
+    (some_is (λ (d : Pred). d.arity ≡ length a.args) (slice_get p.preds a.pred.0) is.pred is.there (is.arity ∙ sym is.arguments)) long (meets_row mode 1 a.args rigid))
+    modes admitted))

@@ -1,0 +1,33 @@
+-- A certificate is valid exactly where its only parts hold.
+--
+-- That the parts do not depend on the partition is a premise here, which the law of `certificate_parts` gives.
+use Rattle.std.proofs.Common.{◌≡◌, ◌↔◌, ℕ, List, sym, subst}
+use Rattle.cti_terms.specs.Listing.{Listing}
+use Rattle.cti_terms.specs.Tree.{truth}
+use Rattle.call_components.specs.Partition.{AreComponents, Partition}
+use Rattle.certificate.specs.declared.fact.Fact.{Fact}
+use Rattle.certificate_parts.specs.Structure.{IsStructured}
+use Rattle.certificate_parts.specs.declared.parts.Parts.{Parts}
+use Rattle.term_size.specs.Occurrences.{size_row}
+use Rattle.cert_checker.specs.Valid.{IsValid, PartsHold}
+use Rattle.cert_checker.proofs.AnyPartition.{parts_hold}
+
+abbrev pub OneStructure : Type 0
+OneStructure = (p : Listing) (names : List (List ℕ)) (one other : Partition) (parts : Parts) (facts : List Fact) → AreComponents p one → AreComponents p other
+    → IsStructured p names one parts facts → IsStructured p names other parts facts
+
+module _ (one_structure : OneStructure) (p : Listing) (names : List (List ℕ)) (comps : Partition) (are : AreComponents p comps) (facts : List Fact) where
+  -- the parts of a valid certificate are its parts for this partition
+  moved : (valid : IsValid p names facts) → IsStructured p names comps valid.parts facts
+  moved valid = one_structure p names valid.comps comps valid.parts facts valid.components are valid.structured
+
+  pub decided : (P : Type 0) (parts : Parts) → IsStructured p names comps parts facts → ((own : Parts) → IsStructured p names comps own facts → parts ≡ own)
+      → P ↔ PartsHold truth size_row p comps parts → P ↔ IsValid p names facts
+  decided P parts structured only decides = (
+    λ none. record { comps = comps; components = are; parts = parts; structured = structured; hold = decides.0 none },
+    λ valid. decides.1 (subst (PartsHold truth size_row p comps) (sym (only valid.parts (moved valid))) (parts_hold truth size_row p valid.comps comps valid.components are valid.parts valid.hold)),
+  )
+
+  -- and without parts it is not valid
+  pub without_parts : ((own : Parts) → IsStructured p names comps own facts → ⊥) → IsValid p names facts → ⊥
+  without_parts none valid = none valid.parts (moved valid)

@@ -1,0 +1,5 @@
+use Rattle.cert_checker.proofs.Bounded.{valid_bounds}
+use Rattle.cert_checker.proofs.bounding.valid_certificates_bound_their_modes.Goals as goal
+
+pub returns : goal.returns
+returns c = valid_bounds c.holding_modes_show.ensures

@@ -1,0 +1,331 @@
+use Rattle.std.proofs.Common.{◌≡◌, ◌↔◌, ◌-◌, ℕ, ℤ, List, IsTrue, map, take, length, slice_get, Option, Some, None, refl, sym, ap, subst, ◌∙◌, arith, below_more}
+use Rattle.std.specs.List.{AllByRecursion}
+use Rattle.cti_terms.specs.Listing.{IsAtom}
+use Rattle.cti_terms.specs.Tree.{is_below}
+use Rattle.cti_terms.specs.declared.atom_list.Atom.{Atom}
+use Rattle.cti_terms.specs.declared.clauses.Clause.{Clause}
+use Rattle.certificate_parts.specs.declared.parts.LevelPart.{LevelPart}
+use Rattle.linear_rows.specs.Plain.{plain_rows}
+use Rattle.linear_rows.specs.declared.multipliers.Multipliers.{Multipliers}
+use Rattle.termination_model.specs.Sizes.{rows_of}
+use Rattle.termination_model.specs.Systems.{short_system}
+use Rattle.termination_model.proofs.Lists.{at_place, by_places, one_element, place_below}
+use Rattle.cert_checker.specs.Proved.{CallsFall, MappingsFall}
+use Rattle.cert_checker.specs.Shape.{AreMultipliers, AreTogether, IsLevelPart, list_at, row_count}
+use Rattle.cert_checker.specs.Systems.{IsSystemUpTo}
+use Rattle.cert_checker.specs.Targets.{AreFallColumns}
+use Rattle.cert_checker.specs.declared.fault.Fault.{Fault}
+use Rattle.cert_checker.proofs.CallFacts.{can_weigh, in_levels, in_preds, level_parts, list_at_is, mappings_decided}
+use Rattle.cert_checker.proofs.RowSteps.{system_count}
+use Rattle.cert_checker.proofs.Sized.{sized_clause}
+use Rattle.cert_checker.proofs.fall_faults.clause_fall_fault.Goals as goal
+
+pub first_system-requires : goal.first_system-requires
+first_system-requires g c =
+    let p = c.args.p.now in
+    let comps = c.args.comps.now in
+    let parts = c.args.parts.now in
+    let clause = c.clause-clause.result.now in
+    sized_clause p.preds parts.rows clause c.requires.sizes c.clause-clause.ensures.sound
+
+pub of-requires : goal.of-requires
+of-requires g c =
+    let p = c.args.p.now in
+    let comps = c.args.comps.now in
+    let parts = c.args.parts.now in
+    let clause = c.clause-clause.result.now in
+    let n = c.loop-j.j in
+    let b = c.index-as_slice-j.result in
+    let at : slice_get clause.body n ≡ Some b = ap (λ (bs : List Atom). slice_get bs n) (sym c.as_slice-in-loop-j.ensures) ∙ at_place c.as_slice-in-loop-j.result.now n b (omega (arith, ap length c.as_slice-in-loop-j.ensures, c.len-j-end.ensures)) c.index-as_slice-j.is in
+    let atom : IsAtom p.preds clause.vars b = by_places (IsAtom p.preds clause.vars) clause.body c.clause-clause.ensures.sound.body n b at in
+    omega (arith, in_preds p comps parts c.requires.levels clause.vars b atom, c.requires.components.each)
+
+pub loop-j-preserved-then-of-component : goal.loop-j-preserved-then-of-component
+loop-j-preserved-then-of-component g c =
+    let p = c.args.p.now in
+    let comps = c.args.comps.now in
+    let parts = c.args.parts.now in
+    let clause = c.clause-clause.result.now in
+    let n = c.loop-j.j in
+    let b = c.index-as_slice-j.result in
+    let at : slice_get clause.body n ≡ Some b = ap (λ (bs : List Atom). slice_get bs n) (sym c.as_slice-in-loop-j.ensures) ∙ at_place c.as_slice-in-loop-j.result.now n b (omega (arith, ap length c.as_slice-in-loop-j.ensures, c.len-j-end.ensures)) c.index-as_slice-j.is in
+    let atom : IsAtom p.preds clause.vars b = by_places (IsAtom p.preds clause.vars) clause.body c.clause-clause.ensures.sound.body n b at in
+    let e = g.N.Norm.expression c.args.norm.now in
+    let order = c.loop-j.invariant.order in
+    record {
+      order = omega arith;
+      system = c.loop-j.invariant.system;
+      calls = below_more (λ (j : ℕ). (x : Atom) → slice_get clause.body j ≡ Some x → AreTogether comps clause.head.pred.0 x.pred.0
+          → MappingsFall e (short_system e (rows_of parts.rows) clause.vars (take j clause.body)) clause x (list_at parts.levels clause.head.pred.0) (list_at parts.levels x.pred.0) (list_at c.as_slice-proofs.result.now j)) n c.loop-j.invariant.calls
+          (λ x ex to.
+          let same : b ≡ x = one_element clause.body n b x at ex in
+          let one : Some c.of-component.result ≡ Some c.of.result = sym c.of-component.ensures ∙ to ∙ sym (ap (λ (y : Atom). slice_get comps.of y.pred.0) same) ∙ c.of.ensures in
+          let equal : c.of-component.result ≡ c.of.result = cc in
+          absurd (let apart = c.if-of-component.true in omega (arith, apart, equal)));
+    }
+
+pub extend-requires-clause-sized : goal.extend-requires-clause-sized
+extend-requires-clause-sized g c =
+    let p = c.args.p.now in
+    let comps = c.args.comps.now in
+    let parts = c.args.parts.now in
+    let clause = c.clause-clause.result.now in
+    sized_clause p.preds parts.rows clause c.requires.sizes c.clause-clause.ensures.sound
+
+pub bounds-as_slice-call : goal.bounds-as_slice-call
+bounds-as_slice-call g c =
+    let p = c.args.p.now in
+    let comps = c.args.comps.now in
+    let parts = c.args.parts.now in
+    let clause = c.clause-clause.result.now in
+    let n = c.loop-j.j in
+    let b = c.index-as_slice-j.result in
+    let at : slice_get clause.body n ≡ Some b = ap (λ (bs : List Atom). slice_get bs n) (sym c.as_slice-in-loop-j.ensures) ∙ at_place c.as_slice-in-loop-j.result.now n b (omega (arith, ap length c.as_slice-in-loop-j.ensures, c.len-j-end.ensures)) c.index-as_slice-j.is in
+    let atom : IsAtom p.preds clause.vars b = by_places (IsAtom p.preds clause.vars) clause.body c.clause-clause.ensures.sound.body n b at in
+    omega (arith, in_levels p comps parts c.requires.levels clause.vars b atom, ap length c.as_slice-in-loop-j-2.ensures)
+
+pub bounds-proofs-j : goal.bounds-proofs-j
+bounds-proofs-j g c =
+    let p = c.args.p.now in
+    let comps = c.args.comps.now in
+    let parts = c.args.parts.now in
+    let clause = c.clause-clause.result.now in
+    let n = c.loop-j.j in
+    let b = c.index-as_slice-j.result in
+    let at : slice_get clause.body n ≡ Some b = ap (λ (bs : List Atom). slice_get bs n) (sym c.as_slice-in-loop-j.ensures) ∙ at_place c.as_slice-in-loop-j.result.now n b (omega (arith, ap length c.as_slice-in-loop-j.ensures, c.len-j-end.ensures)) c.index-as_slice-j.is in
+    let atom : IsAtom p.preds clause.vars b = by_places (IsAtom p.preds clause.vars) clause.body c.clause-clause.ensures.sound.body n b at in
+    let k = c.args.k - 1 in
+    let first = c.requires.first in
+    let last = c.requires.last in
+    let proofs : c.as_slice-proofs.result.now ≡ list_at parts.falls k = list_at_is c.as_slice-2.result.now parts.falls k c.index-as_slice-k.result c.as_slice-proofs.result.now c.as_slice-2.ensures (omega (arith, c.requires.falls.each)) c.index-as_slice-k.is c.as_slice-proofs.ensures in
+    omega (arith, place_below clause.body n b at, c.requires.falls.calls k clause c.clause-clause.ensures.there, ap length proofs)
+
+pub fall_columns-requires-clause-below : goal.fall_columns-requires-clause-below
+fall_columns-requires-clause-below g c =
+    let p = c.args.p.now in
+    let comps = c.args.comps.now in
+    let parts = c.args.parts.now in
+    let clause = c.clause-clause.result.now in
+    let n = c.loop-j.j in
+    let b = c.index-as_slice-j.result in
+    let at : slice_get clause.body n ≡ Some b = ap (λ (bs : List Atom). slice_get bs n) (sym c.as_slice-in-loop-j.ensures) ∙ at_place c.as_slice-in-loop-j.result.now n b (omega (arith, ap length c.as_slice-in-loop-j.ensures, c.len-j-end.ensures)) c.index-as_slice-j.is in
+    let atom : IsAtom p.preds clause.vars b = by_places (IsAtom p.preds clause.vars) clause.body c.clause-clause.ensures.sound.body n b at in
+    let e = g.N.Norm.expression c.args.norm.now in
+    let is : IsSystemUpTo e (rows_of parts.rows) clause n c.extend.new.system = c.in_ok-extend.ensures in
+    subst (λ (w : ℕ). AllByRecursion (λ t. IsTrue (is_below w t)) b.args) (sym is.head_width) atom.below
+
+pub mapping_fault-requires-clause-heads : goal.mapping_fault-requires-clause-heads
+mapping_fault-requires-clause-heads g c =
+    let p = c.args.p.now in
+    let comps = c.args.comps.now in
+    let parts = c.args.parts.now in
+    let clause = c.clause-clause.result.now in
+    let n = c.loop-j.j in
+    let b = c.index-as_slice-j.result in
+    let at : slice_get clause.body n ≡ Some b = ap (λ (bs : List Atom). slice_get bs n) (sym c.as_slice-in-loop-j.ensures) ∙ at_place c.as_slice-in-loop-j.result.now n b (omega (arith, ap length c.as_slice-in-loop-j.ensures, c.len-j-end.ensures)) c.index-as_slice-j.is in
+    let atom : IsAtom p.preds clause.vars b = by_places (IsAtom p.preds clause.vars) clause.body c.clause-clause.ensures.sound.body n b at in
+    let head = clause.head.pred.0 in
+    let k = c.args.k - 1 in
+    let in_head = in_levels p comps parts c.requires.levels clause.vars clause.head c.clause-clause.ensures.sound.head in
+    let in_call = in_levels p comps parts c.requires.levels clause.vars b atom in
+    let first = c.requires.first in
+    let last = c.requires.last in
+    let together : AreTogether comps head b.pred.0 = let same : c.of-component.result ≡ c.of.result = omega (arith, c.if-of-component.false) in c.of-component.ensures ∙ ap Some same ∙ sym c.of.ensures in
+    let heads : c.as_slice-heads.result.now ≡ list_at parts.levels head = list_at_is c.as_slice.result.now parts.levels head c.index-as_slice-clause.result c.as_slice-heads.result.now c.as_slice.ensures in_head c.index-as_slice-clause.is c.as_slice-heads.ensures in
+    let proofs : c.as_slice-proofs.result.now ≡ list_at parts.falls k = list_at_is c.as_slice-2.result.now parts.falls k c.index-as_slice-k.result c.as_slice-proofs.result.now c.as_slice-2.ensures (omega (arith, c.requires.falls.each)) c.index-as_slice-k.is c.as_slice-proofs.ensures in
+    let calls : c.as_slice-calls.result.now ≡ list_at parts.levels b.pred.0 = list_at_is c.as_slice-in-loop-j-2.result.now parts.levels b.pred.0 c.index-as_slice-call.result c.as_slice-calls.result.now c.as_slice-in-loop-j-2.ensures in_call c.index-as_slice-call.is c.as_slice-calls.ensures in
+    let own : c.as_slice-own.result.now ≡ list_at (list_at parts.falls k) n =
+    list_at_is c.as_slice-proofs.result.now (list_at parts.falls k) n c.index-proofs-j.result c.as_slice-own.result.now proofs (omega (arith, place_below clause.body n b at, c.requires.falls.calls k clause c.clause-clause.ensures.there)) c.index-proofs-j.is c.as_slice-own.ensures in
+    ap length heads ∙ sym (c.requires.falls.mappings k n clause b c.clause-clause.ensures.there at together) ∙ sym (ap length own)
+
+pub mapping_fault-requires-clause-calls : goal.mapping_fault-requires-clause-calls
+mapping_fault-requires-clause-calls g c =
+    let p = c.args.p.now in
+    let comps = c.args.comps.now in
+    let parts = c.args.parts.now in
+    let clause = c.clause-clause.result.now in
+    let n = c.loop-j.j in
+    let b = c.index-as_slice-j.result in
+    let at : slice_get clause.body n ≡ Some b = ap (λ (bs : List Atom). slice_get bs n) (sym c.as_slice-in-loop-j.ensures) ∙ at_place c.as_slice-in-loop-j.result.now n b (omega (arith, ap length c.as_slice-in-loop-j.ensures, c.len-j-end.ensures)) c.index-as_slice-j.is in
+    let atom : IsAtom p.preds clause.vars b = by_places (IsAtom p.preds clause.vars) clause.body c.clause-clause.ensures.sound.body n b at in
+    let head = clause.head.pred.0 in
+    let k = c.args.k - 1 in
+    let in_head = in_levels p comps parts c.requires.levels clause.vars clause.head c.clause-clause.ensures.sound.head in
+    let in_call = in_levels p comps parts c.requires.levels clause.vars b atom in
+    let first = c.requires.first in
+    let last = c.requires.last in
+    let together : AreTogether comps head b.pred.0 = let same : c.of-component.result ≡ c.of.result = omega (arith, c.if-of-component.false) in c.of-component.ensures ∙ ap Some same ∙ sym c.of.ensures in
+    let heads : c.as_slice-heads.result.now ≡ list_at parts.levels head = list_at_is c.as_slice.result.now parts.levels head c.index-as_slice-clause.result c.as_slice-heads.result.now c.as_slice.ensures in_head c.index-as_slice-clause.is c.as_slice-heads.ensures in
+    let proofs : c.as_slice-proofs.result.now ≡ list_at parts.falls k = list_at_is c.as_slice-2.result.now parts.falls k c.index-as_slice-k.result c.as_slice-proofs.result.now c.as_slice-2.ensures (omega (arith, c.requires.falls.each)) c.index-as_slice-k.is c.as_slice-proofs.ensures in
+    let calls : c.as_slice-calls.result.now ≡ list_at parts.levels b.pred.0 = list_at_is c.as_slice-in-loop-j-2.result.now parts.levels b.pred.0 c.index-as_slice-call.result c.as_slice-calls.result.now c.as_slice-in-loop-j-2.ensures in_call c.index-as_slice-call.is c.as_slice-calls.ensures in
+    let own : c.as_slice-own.result.now ≡ list_at (list_at parts.falls k) n =
+    list_at_is c.as_slice-proofs.result.now (list_at parts.falls k) n c.index-proofs-j.result c.as_slice-own.result.now proofs (omega (arith, place_below clause.body n b at, c.requires.falls.calls k clause c.clause-clause.ensures.there)) c.index-proofs-j.is c.as_slice-own.ensures in
+    ap length calls ∙ sym (c.requires.levels.members head b.pred.0 together) ∙ sym (c.requires.falls.mappings k n clause b c.clause-clause.ensures.there at together) ∙ sym (ap length own)
+
+pub mapping_fault-requires-clause-multipliers : goal.mapping_fault-requires-clause-multipliers
+mapping_fault-requires-clause-multipliers g c =
+    let p = c.args.p.now in
+    let comps = c.args.comps.now in
+    let parts = c.args.parts.now in
+    let clause = c.clause-clause.result.now in
+    let n = c.loop-j.j in
+    let b = c.index-as_slice-j.result in
+    let at : slice_get clause.body n ≡ Some b = ap (λ (bs : List Atom). slice_get bs n) (sym c.as_slice-in-loop-j.ensures) ∙ at_place c.as_slice-in-loop-j.result.now n b (omega (arith, ap length c.as_slice-in-loop-j.ensures, c.len-j-end.ensures)) c.index-as_slice-j.is in
+    let atom : IsAtom p.preds clause.vars b = by_places (IsAtom p.preds clause.vars) clause.body c.clause-clause.ensures.sound.body n b at in
+    let head = clause.head.pred.0 in
+    let k = c.args.k - 1 in
+    let in_head = in_levels p comps parts c.requires.levels clause.vars clause.head c.clause-clause.ensures.sound.head in
+    let in_call = in_levels p comps parts c.requires.levels clause.vars b atom in
+    let first = c.requires.first in
+    let last = c.requires.last in
+    let together : AreTogether comps head b.pred.0 = let same : c.of-component.result ≡ c.of.result = omega (arith, c.if-of-component.false) in c.of-component.ensures ∙ ap Some same ∙ sym c.of.ensures in
+    let heads : c.as_slice-heads.result.now ≡ list_at parts.levels head = list_at_is c.as_slice.result.now parts.levels head c.index-as_slice-clause.result c.as_slice-heads.result.now c.as_slice.ensures in_head c.index-as_slice-clause.is c.as_slice-heads.ensures in
+    let proofs : c.as_slice-proofs.result.now ≡ list_at parts.falls k = list_at_is c.as_slice-2.result.now parts.falls k c.index-as_slice-k.result c.as_slice-proofs.result.now c.as_slice-2.ensures (omega (arith, c.requires.falls.each)) c.index-as_slice-k.is c.as_slice-proofs.ensures in
+    let calls : c.as_slice-calls.result.now ≡ list_at parts.levels b.pred.0 = list_at_is c.as_slice-in-loop-j-2.result.now parts.levels b.pred.0 c.index-as_slice-call.result c.as_slice-calls.result.now c.as_slice-in-loop-j-2.ensures in_call c.index-as_slice-call.is c.as_slice-calls.ensures in
+    let own : c.as_slice-own.result.now ≡ list_at (list_at parts.falls k) n =
+    list_at_is c.as_slice-proofs.result.now (list_at parts.falls k) n c.index-proofs-j.result c.as_slice-own.result.now proofs (omega (arith, place_below clause.body n b at, c.requires.falls.calls k clause c.clause-clause.ensures.there)) c.index-proofs-j.is c.as_slice-own.ensures in
+    let e = g.N.Norm.expression c.args.norm.now in
+    let is : IsSystemUpTo e (rows_of parts.rows) clause n c.extend.new.system = c.in_ok-extend.ensures in
+    subst (λ (count : ℕ). AllByRecursion (AreMultipliers count) c.as_slice-own.result.now) (sym (system_count e (rows_of parts.rows) clause n c.extend.new.system is))
+    (subst (AllByRecursion (AreMultipliers (row_count (rows_of parts.rows) (take n clause.body)))) (sym own) (c.requires.falls.multipliers k n clause b c.clause-clause.ensures.there at together))
+
+pub mapping_fault-requires-clause-parts : goal.mapping_fault-requires-clause-parts
+mapping_fault-requires-clause-parts g c =
+    let p = c.args.p.now in
+    let comps = c.args.comps.now in
+    let parts = c.args.parts.now in
+    let clause = c.clause-clause.result.now in
+    let n = c.loop-j.j in
+    let b = c.index-as_slice-j.result in
+    let at : slice_get clause.body n ≡ Some b = ap (λ (bs : List Atom). slice_get bs n) (sym c.as_slice-in-loop-j.ensures) ∙ at_place c.as_slice-in-loop-j.result.now n b (omega (arith, ap length c.as_slice-in-loop-j.ensures, c.len-j-end.ensures)) c.index-as_slice-j.is in
+    let atom : IsAtom p.preds clause.vars b = by_places (IsAtom p.preds clause.vars) clause.body c.clause-clause.ensures.sound.body n b at in
+    let head = clause.head.pred.0 in
+    let k = c.args.k - 1 in
+    let in_head = in_levels p comps parts c.requires.levels clause.vars clause.head c.clause-clause.ensures.sound.head in
+    let in_call = in_levels p comps parts c.requires.levels clause.vars b atom in
+    let first = c.requires.first in
+    let last = c.requires.last in
+    let together : AreTogether comps head b.pred.0 = let same : c.of-component.result ≡ c.of.result = omega (arith, c.if-of-component.false) in c.of-component.ensures ∙ ap Some same ∙ sym c.of.ensures in
+    let heads : c.as_slice-heads.result.now ≡ list_at parts.levels head = list_at_is c.as_slice.result.now parts.levels head c.index-as_slice-clause.result c.as_slice-heads.result.now c.as_slice.ensures in_head c.index-as_slice-clause.is c.as_slice-heads.ensures in
+    let proofs : c.as_slice-proofs.result.now ≡ list_at parts.falls k = list_at_is c.as_slice-2.result.now parts.falls k c.index-as_slice-k.result c.as_slice-proofs.result.now c.as_slice-2.ensures (omega (arith, c.requires.falls.each)) c.index-as_slice-k.is c.as_slice-proofs.ensures in
+    let calls : c.as_slice-calls.result.now ≡ list_at parts.levels b.pred.0 = list_at_is c.as_slice-in-loop-j-2.result.now parts.levels b.pred.0 c.index-as_slice-call.result c.as_slice-calls.result.now c.as_slice-in-loop-j-2.ensures in_call c.index-as_slice-call.is c.as_slice-calls.ensures in
+    let own : c.as_slice-own.result.now ≡ list_at (list_at parts.falls k) n =
+    list_at_is c.as_slice-proofs.result.now (list_at parts.falls k) n c.index-proofs-j.result c.as_slice-own.result.now proofs (omega (arith, place_below clause.body n b at, c.requires.falls.calls k clause c.clause-clause.ensures.there)) c.index-proofs-j.is c.as_slice-own.ensures in
+    let e = g.N.Norm.expression c.args.norm.now in
+    let is : IsSystemUpTo e (rows_of parts.rows) clause n c.extend.new.system = c.in_ok-extend.ensures in
+    let columns : AreFallColumns (map (e clause.vars) clause.head.args) (map (e clause.vars) b.args) clause.vars c.as_slice-columns.result.now =
+    subst (λ (xs : List (List ℤ)). AreFallColumns (map (e clause.vars) clause.head.args) (map (e clause.vars) b.args) clause.vars xs) (sym c.as_slice-columns.ensures.value)
+    (subst (λ (hs : List (List ℤ)). AreFallColumns hs (map (e clause.vars) b.args) clause.vars c.in_ok-columns.columns.items) is.head
+    (subst (λ (w : ℕ). AreFallColumns (plain_rows c.extend.new.system.head.list) (map (e w) b.args) w c.in_ok-columns.columns.items) is.head_width c.in_ok-columns.ensures)) in
+    let head_parts : AllByRecursion (IsLevelPart (length clause.head.args)) c.as_slice-heads.result.now = subst (AllByRecursion (IsLevelPart (length clause.head.args))) (sym heads) (level_parts p comps parts c.requires.levels clause.vars clause.head c.clause-clause.ensures.sound.head) in
+    let call_parts : AllByRecursion (IsLevelPart (length b.args)) c.as_slice-calls.result.now = subst (AllByRecursion (IsLevelPart (length b.args))) (sym calls) (level_parts p comps parts c.requires.levels clause.vars b atom) in
+    can_weigh clause b c.as_slice-columns.result.now c.as_slice-heads.result.now c.as_slice-calls.result.now head_parts call_parts e columns
+
+pub returns-in-Some : goal.returns-in-Some
+returns-in-Some g c =
+    let p = c.args.p.now in
+    let comps = c.args.comps.now in
+    let parts = c.args.parts.now in
+    let clause = c.clause-clause.result.now in
+    let n = c.loop-j.j in
+    let b = c.index-as_slice-j.result in
+    let at : slice_get clause.body n ≡ Some b = ap (λ (bs : List Atom). slice_get bs n) (sym c.as_slice-in-loop-j.ensures) ∙ at_place c.as_slice-in-loop-j.result.now n b (omega (arith, ap length c.as_slice-in-loop-j.ensures, c.len-j-end.ensures)) c.index-as_slice-j.is in
+    let atom : IsAtom p.preds clause.vars b = by_places (IsAtom p.preds clause.vars) clause.body c.clause-clause.ensures.sound.body n b at in
+    let head = clause.head.pred.0 in
+    let k = c.args.k - 1 in
+    let in_head = in_levels p comps parts c.requires.levels clause.vars clause.head c.clause-clause.ensures.sound.head in
+    let in_call = in_levels p comps parts c.requires.levels clause.vars b atom in
+    let first = c.requires.first in
+    let last = c.requires.last in
+    let together : AreTogether comps head b.pred.0 = let same : c.of-component.result ≡ c.of.result = omega (arith, c.if-of-component.false) in c.of-component.ensures ∙ ap Some same ∙ sym c.of.ensures in
+    let heads : c.as_slice-heads.result.now ≡ list_at parts.levels head = list_at_is c.as_slice.result.now parts.levels head c.index-as_slice-clause.result c.as_slice-heads.result.now c.as_slice.ensures in_head c.index-as_slice-clause.is c.as_slice-heads.ensures in
+    let proofs : c.as_slice-proofs.result.now ≡ list_at parts.falls k = list_at_is c.as_slice-2.result.now parts.falls k c.index-as_slice-k.result c.as_slice-proofs.result.now c.as_slice-2.ensures (omega (arith, c.requires.falls.each)) c.index-as_slice-k.is c.as_slice-proofs.ensures in
+    let calls : c.as_slice-calls.result.now ≡ list_at parts.levels b.pred.0 = list_at_is c.as_slice-in-loop-j-2.result.now parts.levels b.pred.0 c.index-as_slice-call.result c.as_slice-calls.result.now c.as_slice-in-loop-j-2.ensures in_call c.index-as_slice-call.is c.as_slice-calls.ensures in
+    let own : c.as_slice-own.result.now ≡ list_at (list_at parts.falls k) n =
+    list_at_is c.as_slice-proofs.result.now (list_at parts.falls k) n c.index-proofs-j.result c.as_slice-own.result.now proofs (omega (arith, place_below clause.body n b at, c.requires.falls.calls k clause c.clause-clause.ensures.there)) c.index-proofs-j.is c.as_slice-own.ensures in
+    let e = g.N.Norm.expression c.args.norm.now in
+    let is : IsSystemUpTo e (rows_of parts.rows) clause n c.extend.new.system = c.in_ok-extend.ensures in
+    let columns : AreFallColumns (map (e clause.vars) clause.head.args) (map (e clause.vars) b.args) clause.vars c.as_slice-columns.result.now =
+    subst (λ (xs : List (List ℤ)). AreFallColumns (map (e clause.vars) clause.head.args) (map (e clause.vars) b.args) clause.vars xs) (sym c.as_slice-columns.ensures.value)
+    (subst (λ (hs : List (List ℤ)). AreFallColumns hs (map (e clause.vars) b.args) clause.vars c.in_ok-columns.columns.items) is.head
+    (subst (λ (w : ℕ). AreFallColumns (plain_rows c.extend.new.system.head.list) (map (e w) b.args) w c.in_ok-columns.columns.items) is.head_width c.in_ok-columns.ensures)) in
+    let head_parts : AllByRecursion (IsLevelPart (length clause.head.args)) c.as_slice-heads.result.now = subst (AllByRecursion (IsLevelPart (length clause.head.args))) (sym heads) (level_parts p comps parts c.requires.levels clause.vars clause.head c.clause-clause.ensures.sound.head) in
+    let call_parts : AllByRecursion (IsLevelPart (length b.args)) c.as_slice-calls.result.now = subst (AllByRecursion (IsLevelPart (length b.args))) (sym calls) (level_parts p comps parts c.requires.levels clause.vars b atom) in
+    let rows = short_system e (rows_of parts.rows) clause.vars (take n clause.body) in
+    let decided : (c.in_ok-fault.fault ≡ None) ↔ MappingsFall e rows clause b (list_at parts.levels head) (list_at parts.levels b.pred.0) (list_at (list_at parts.falls k) n) =
+    subst (λ (rs : List (List ℤ)). (c.in_ok-fault.fault ≡ None) ↔ MappingsFall e rs clause b (list_at parts.levels head) (list_at parts.levels b.pred.0) (list_at (list_at parts.falls k) n)) is.rows
+    (subst (λ (hs : List LevelPart). (c.in_ok-fault.fault ≡ None) ↔ MappingsFall e (plain_rows c.extend.new.system.rows.list) clause b hs (list_at parts.levels b.pred.0) (list_at (list_at parts.falls k) n)) heads
+    (subst (λ (cs : List LevelPart). (c.in_ok-fault.fault ≡ None) ↔ MappingsFall e (plain_rows c.extend.new.system.rows.list) clause b c.as_slice-heads.result.now cs (list_at (list_at parts.falls k) n)) calls
+    (subst (λ (ms : List Multipliers). (c.in_ok-fault.fault ≡ None) ↔ MappingsFall e (plain_rows c.extend.new.system.rows.list) clause b c.as_slice-heads.result.now c.as_slice-calls.result.now ms) own
+    (mappings_decided clause b c.as_slice-columns.result.now c.as_slice-heads.result.now c.as_slice-calls.result.now head_parts call_parts (g.N.Norm.size c.args.norm.now) (g.N.Norm.truth c.args.norm.now) e (g.met.N.Norm.laws c.args.norm.now)
+    (c.in_ok-fault.fault ≡ None) (plain_rows c.extend.new.system.rows.list) c.as_slice-own.result.now columns c.in_ok-fault.ensures)))) in
+    λ x ex.
+    let same : clause ≡ x = one_element p.clauses k clause x c.clause-clause.ensures.there ex in
+    subst (λ (y : Clause). (Some c.in-Some.fault ≡ None) ↔ CallsFall e comps parts y (list_at parts.falls k)) same
+    (λ h. cc, λ all. let none = decided.1 (all n b at together) in let some = c.in-Some.is in cc)
+
+pub loop-j-preserved : goal.loop-j-preserved
+loop-j-preserved g c =
+    let p = c.args.p.now in
+    let comps = c.args.comps.now in
+    let parts = c.args.parts.now in
+    let clause = c.clause-clause.result.now in
+    let n = c.loop-j.j in
+    let b = c.index-as_slice-j.result in
+    let at : slice_get clause.body n ≡ Some b = ap (λ (bs : List Atom). slice_get bs n) (sym c.as_slice-in-loop-j.ensures) ∙ at_place c.as_slice-in-loop-j.result.now n b (omega (arith, ap length c.as_slice-in-loop-j.ensures, c.len-j-end.ensures)) c.index-as_slice-j.is in
+    let atom : IsAtom p.preds clause.vars b = by_places (IsAtom p.preds clause.vars) clause.body c.clause-clause.ensures.sound.body n b at in
+    let head = clause.head.pred.0 in
+    let k = c.args.k - 1 in
+    let in_head = in_levels p comps parts c.requires.levels clause.vars clause.head c.clause-clause.ensures.sound.head in
+    let in_call = in_levels p comps parts c.requires.levels clause.vars b atom in
+    let first = c.requires.first in
+    let last = c.requires.last in
+    let together : AreTogether comps head b.pred.0 = let same : c.of-component.result ≡ c.of.result = omega (arith, c.if-of-component.false) in c.of-component.ensures ∙ ap Some same ∙ sym c.of.ensures in
+    let heads : c.as_slice-heads.result.now ≡ list_at parts.levels head = list_at_is c.as_slice.result.now parts.levels head c.index-as_slice-clause.result c.as_slice-heads.result.now c.as_slice.ensures in_head c.index-as_slice-clause.is c.as_slice-heads.ensures in
+    let proofs : c.as_slice-proofs.result.now ≡ list_at parts.falls k = list_at_is c.as_slice-2.result.now parts.falls k c.index-as_slice-k.result c.as_slice-proofs.result.now c.as_slice-2.ensures (omega (arith, c.requires.falls.each)) c.index-as_slice-k.is c.as_slice-proofs.ensures in
+    let calls : c.as_slice-calls.result.now ≡ list_at parts.levels b.pred.0 = list_at_is c.as_slice-in-loop-j-2.result.now parts.levels b.pred.0 c.index-as_slice-call.result c.as_slice-calls.result.now c.as_slice-in-loop-j-2.ensures in_call c.index-as_slice-call.is c.as_slice-calls.ensures in
+    let own : c.as_slice-own.result.now ≡ list_at (list_at parts.falls k) n =
+    list_at_is c.as_slice-proofs.result.now (list_at parts.falls k) n c.index-proofs-j.result c.as_slice-own.result.now proofs (omega (arith, place_below clause.body n b at, c.requires.falls.calls k clause c.clause-clause.ensures.there)) c.index-proofs-j.is c.as_slice-own.ensures in
+    let e = g.N.Norm.expression c.args.norm.now in
+    let is : IsSystemUpTo e (rows_of parts.rows) clause n c.extend.new.system = c.in_ok-extend.ensures in
+    let columns : AreFallColumns (map (e clause.vars) clause.head.args) (map (e clause.vars) b.args) clause.vars c.as_slice-columns.result.now =
+    subst (λ (xs : List (List ℤ)). AreFallColumns (map (e clause.vars) clause.head.args) (map (e clause.vars) b.args) clause.vars xs) (sym c.as_slice-columns.ensures.value)
+    (subst (λ (hs : List (List ℤ)). AreFallColumns hs (map (e clause.vars) b.args) clause.vars c.in_ok-columns.columns.items) is.head
+    (subst (λ (w : ℕ). AreFallColumns (plain_rows c.extend.new.system.head.list) (map (e w) b.args) w c.in_ok-columns.columns.items) is.head_width c.in_ok-columns.ensures)) in
+    let head_parts : AllByRecursion (IsLevelPart (length clause.head.args)) c.as_slice-heads.result.now = subst (AllByRecursion (IsLevelPart (length clause.head.args))) (sym heads) (level_parts p comps parts c.requires.levels clause.vars clause.head c.clause-clause.ensures.sound.head) in
+    let call_parts : AllByRecursion (IsLevelPart (length b.args)) c.as_slice-calls.result.now = subst (AllByRecursion (IsLevelPart (length b.args))) (sym calls) (level_parts p comps parts c.requires.levels clause.vars b atom) in
+    let rows = short_system e (rows_of parts.rows) clause.vars (take n clause.body) in
+    let decided : (c.in_ok-fault.fault ≡ None) ↔ MappingsFall e rows clause b (list_at parts.levels head) (list_at parts.levels b.pred.0) (list_at (list_at parts.falls k) n) =
+    subst (λ (rs : List (List ℤ)). (c.in_ok-fault.fault ≡ None) ↔ MappingsFall e rs clause b (list_at parts.levels head) (list_at parts.levels b.pred.0) (list_at (list_at parts.falls k) n)) is.rows
+    (subst (λ (hs : List LevelPart). (c.in_ok-fault.fault ≡ None) ↔ MappingsFall e (plain_rows c.extend.new.system.rows.list) clause b hs (list_at parts.levels b.pred.0) (list_at (list_at parts.falls k) n)) heads
+    (subst (λ (cs : List LevelPart). (c.in_ok-fault.fault ≡ None) ↔ MappingsFall e (plain_rows c.extend.new.system.rows.list) clause b c.as_slice-heads.result.now cs (list_at (list_at parts.falls k) n)) calls
+    (subst (λ (ms : List Multipliers). (c.in_ok-fault.fault ≡ None) ↔ MappingsFall e (plain_rows c.extend.new.system.rows.list) clause b c.as_slice-heads.result.now c.as_slice-calls.result.now ms) own
+    (mappings_decided clause b c.as_slice-columns.result.now c.as_slice-heads.result.now c.as_slice-calls.result.now head_parts call_parts (g.N.Norm.size c.args.norm.now) (g.N.Norm.truth c.args.norm.now) e (g.met.N.Norm.laws c.args.norm.now)
+    (c.in_ok-fault.fault ≡ None) (plain_rows c.extend.new.system.rows.list) c.as_slice-own.result.now columns c.in_ok-fault.ensures)))) in
+    record {
+      order = omega arith;
+      system = is;
+      calls = below_more (λ (j : ℕ). (x : Atom) → slice_get clause.body j ≡ Some x → AreTogether comps clause.head.pred.0 x.pred.0
+          → MappingsFall e (short_system e (rows_of parts.rows) clause.vars (take j clause.body)) clause x (list_at parts.levels clause.head.pred.0) (list_at parts.levels x.pred.0) (list_at c.as_slice-proofs.result.now j)) n c.loop-j.invariant.calls
+          (λ x ex to.
+          let same : b ≡ x = one_element clause.body n b x at ex in
+          subst (λ (y : Atom). MappingsFall e rows clause y (list_at parts.levels head) (list_at parts.levels y.pred.0) (list_at c.as_slice-proofs.result.now n)) same
+          (subst (λ (mss : List (List Multipliers)). MappingsFall e rows clause b (list_at parts.levels head) (list_at parts.levels b.pred.0) (list_at mss n)) (sym proofs) (decided.0 c.in_default.is)));
+    }
+
+pub returns : goal.returns
+returns g c =
+    let p = c.args.p.now in
+    let comps = c.args.comps.now in
+    let parts = c.args.parts.now in
+    let clause = c.clause-clause.result.now in
+    let e = g.N.Norm.expression c.args.norm.now in
+    let k = c.args.k - 1 in
+    let first = c.requires.first in
+    let last = c.requires.last in
+    let proofs : c.as_slice-proofs.result.now ≡ list_at parts.falls k = list_at_is c.as_slice-2.result.now parts.falls k c.index-as_slice-k.result c.as_slice-proofs.result.now c.as_slice-2.ensures (omega (arith, c.requires.falls.each)) c.index-as_slice-k.is c.as_slice-proofs.ensures in
+    let nothing : Option Fault = None in
+    λ x ex.
+    let same : clause ≡ x = one_element p.clauses k clause x c.clause-clause.ensures.there ex in
+    subst (λ (y : Clause). (nothing ≡ nothing) ↔ CallsFall e comps parts y (list_at parts.falls k)) same
+    (λ none. subst (CallsFall e comps parts clause) proofs (λ j b ej. c.loop-j.invariant.calls j (omega (arith, place_below clause.body j b ej, c.len-j-end.ensures)) b ej), λ all. refl)

@@ -1,0 +1,14 @@
+pub mod Bounding
+pub mod Claimed
+pub mod Excluded
+pub mod PairSums
+pub mod Proved
+pub mod Refuting
+pub mod Shape
+pub mod Shown
+pub mod Shows
+pub mod Sums
+pub mod SystemPoints
+pub mod Systems
+pub mod Targets
+pub mod Valid

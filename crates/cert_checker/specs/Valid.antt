@@ -1,0 +1,34 @@
+-- When a certificate of a program is valid.
+--
+-- Its facts are those of some parts, and what the parts claim holds: their modes, and the numbers that prove their size
+-- rows, mappings and refutations. Sizes are term sizes. It does not matter how the components are numbered.
+--
+-- To believe: `IsValid`, over the definitions that it names, where a Yes is to mean that the certificate is valid. That
+-- queries end asks for none of this: see Bounding.antt.
+use Rattle.std.specs.Prelude.{ℕ, ℤ, Bool, List}
+use Rattle.cti_terms.specs.Listing.{Listing}
+use Rattle.cti_terms.specs.Tree.{Tree, truth}
+use Rattle.call_components.specs.Partition.{Partition, AreComponents}
+use Rattle.certificate.specs.declared.fact.Fact.{Fact}
+use Rattle.certificate_parts.specs.Structure.{IsStructured}
+use Rattle.certificate_parts.specs.declared.parts.Parts.{Parts}
+use Rattle.mode_checker.specs.Modes.{ModesHold}
+use Rattle.term_size.specs.Occurrences.{size_row}
+use Rattle.cert_checker.specs.Proved.{ByHold, FallsHold, MeasuresAreZero}
+use Rattle.cert_checker.specs.Refuting.{RefutationsHold}
+
+-- what the parts claim holds
+pub record PartsHold (truth : (ℕ → Bool) → Tree → Bool) (expression : ℕ → Tree → List ℤ) (p : Listing) (comps : Partition) (parts : Parts) : Type 0 where
+  pub modes : ModesHold truth p comps parts
+  pub rows : ByHold expression p parts
+  pub measures : MeasuresAreZero comps parts
+  pub falls : FallsHold expression p comps parts
+  pub refutations : RefutationsHold expression p comps parts
+
+-- the facts are those of parts that hold
+pub record IsValid (p : Listing) (names : List (List ℕ)) (facts : List Fact) : Type 0 where
+  pub comps : Partition
+  pub components : AreComponents p comps
+  pub parts : Parts
+  pub structured : IsStructured p names comps parts facts
+  pub hold : PartsHold truth size_row p comps parts

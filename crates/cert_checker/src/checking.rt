@@ -1,0 +1,110 @@
+//! The check of a certificate.
+
+ghost use Rattle.std.specs.Prelude.{◌≡◌, ◌↔◌, IfOk, None};
+ghost use Rattle.call_components.specs.Partition.{AreComponents};
+ghost use Rattle.certificate_parts.specs.Shape.{HaveShape};
+ghost use Rattle.certificate_parts.specs.Structure.{AreNamed};
+ghost use Rattle.cert_checker.specs.Bounding.{ModesAreBounded};
+ghost use Rattle.cert_checker.specs.Valid.{IsValid, PartsHold};
+ghost use Rattle.cert_checker.specs.declared.verdict.Verdict.TheVariants.{Yes};
+ghost use Rattle.cti_terms.specs.Tree.{truth};
+ghost use Rattle.term_size.specs.Occurrences.{size_row};
+
+use crate::bounding::valid_certificates_bound_their_modes;
+use crate::fall_faults::fall_fault;
+use crate::fault::Fault;
+use crate::lines::Lines;
+use crate::measure_faults::measure_fault;
+use crate::refutation_faults::refutation_fault;
+use crate::size_faults::size_fault;
+use crate::verdict::Verdict;
+use call_components::{Components, components};
+use certificate::Certificate;
+use certificate_parts::{Parts, PartsFault, one_structure, parts_of};
+use cti_terms::{Names, Program};
+use mode_checker::mode_fault;
+use std::alloc::{AllocError, Global};
+use term_size::TermSize;
+
+// The first fault of the parts of a certificate, in the order of its lines.
+fn value_fault(
+    alloc: Global,
+    p: &Program,
+    comps: &Components,
+    parts: &Parts,
+) -> Result<Option<Fault>, AllocError>
+    requires components { AreComponents p.now comps.now }
+    requires shape { HaveShape p.now comps.now parts.now }
+    ensures { IfOk result (λ fault. (fault ≡ None) ↔ PartsHold truth size_row p.now comps.now parts.now) }
+{
+    // What every program keeps, its clauses among them.
+    p.preds();
+    let lines = Lines::of(parts);
+    if let Some(fault) = mode_fault(alloc, p, &TermSize, comps, parts, lines.modes)? {
+        return Ok(Some(fault.into()));
+    }
+    if let Some(fault) = size_fault(alloc, p, &TermSize, parts, lines.row_proofs)? {
+        return Ok(Some(fault));
+    }
+    if let Some(fault) = measure_fault(p, comps, parts, lines.measures) {
+        return Ok(Some(fault));
+    }
+    if let Some(fault) = fall_fault(alloc, p, comps, &TermSize, parts, lines.falls)? {
+        return Ok(Some(fault));
+    }
+    let fault = refutation_fault(alloc, p, comps, &TermSize, parts, lines.refutations)?;
+    Ok(fault)
+}
+
+// The first fault of a certificate.
+fn first_fault(
+    alloc: Global,
+    p: &Program,
+    names: &Names,
+    c: &Certificate,
+) -> Result<Option<Fault>, AllocError>
+    requires named { AreNamed names.now p.now.preds }
+    ensures { IfOk result (λ fault. (fault ≡ None) ↔ IsValid p.now names.now c.now.facts) }
+{
+    let comps = components(alloc, p)?;
+    // The parts do not depend on how the components are numbered.
+    one_structure();
+    match parts_of(alloc, p, names, &comps, c) {
+        Ok(parts) => value_fault(alloc, p, &comps, &parts),
+        Err(PartsFault::Wrong { line, reason }) => Ok(Some(Fault {
+            line,
+            reason: reason.into(),
+        })),
+        Err(PartsFault::Memory) => Err(AllocError),
+    }
+}
+
+/// Whether a certificate of a program is valid.
+///
+/// The names are those that gave the program's. Where the certificate is not valid, the verdict has the first line of a
+/// fact that does not hold, and the first reason there; no clause says so. Sizes are term sizes.
+///
+/// Source: the conditions of Mesnard and Neumerkel 2001, with a proof for each size row, mapping and refutation.
+pub fn check(
+    alloc: Global,
+    p: &Program,
+    names: &Names,
+    c: &Certificate,
+) -> Result<Verdict, AllocError>
+    requires named { AreNamed names.now p.now.preds }
+
+    // The answer is Yes exactly where the certificate is valid.
+    ensures yes { IfOk result (λ v. (v ≡ Yes) ↔ IsValid p.now names.now c.now.facts) }
+
+    // And then each query that meets a mode of the certificate is bounded.
+    ensures bounded { IfOk result (λ v. v ≡ Yes → ModesAreBounded p.now names.now c.now.facts) }
+{
+    // No two names have the same text, and no two predicates the same name and arity.
+    names.count();
+    p.preds();
+    valid_certificates_bound_their_modes();
+    match first_fault(alloc, p, names, c)? {
+        None => Ok(Verdict::Yes),
+        Some(Fault { line, reason }) => Ok(Verdict::No { line, reason }),
+    }
+}

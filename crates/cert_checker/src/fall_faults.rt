@@ -1,0 +1,187 @@
+//! Falls of mappings at calls.
+
+ghost use Rattle.std.specs.Prelude.{◌≡◌, ◌↔◌, ◌+◌, ◌-◌, ◌≤◌, ℕ, IfOk, IfSome, IsTrue, None, Some, length, map, slice_get};
+ghost use Rattle.std.specs.List.{AllByRecursion};
+ghost use Rattle.call_components.specs.Partition.{AreComponents};
+ghost use Rattle.cert_checker.specs.Proved.{CallsFall, FallsHold};
+ghost use Rattle.cert_checker.specs.Shape.{AreMultipliers, HaveFalls, HaveLevels, list_at};
+ghost use Rattle.cert_checker.specs.Shown.{IsShown, ReasonShows};
+ghost use Rattle.cert_checker.specs.Targets.{AreFallColumns, CanBeWeighed, fall_weights};
+ghost use Rattle.certificate_parts.specs.declared.parts.LevelPart.{LevelPart};
+ghost use Rattle.cti_terms.specs.Listing.{atom_nodes};
+ghost use Rattle.cti_terms.specs.Tree.{is_below};
+ghost use Rattle.cti_terms.specs.declared.clauses.Clause.{Clause};
+ghost use Rattle.linear_rows.specs.Plain.{HaveWidth, plain_rows};
+ghost use Rattle.linear_rows.specs.declared.multipliers.Multipliers.{Multipliers};
+ghost use Rattle.termination_model.specs.Replacing.{over_columns};
+ghost use Rattle.termination_model.specs.Sizes.{AreSizes};
+
+use crate::clause_systems::{extend, first_system};
+use crate::fault::Fault;
+use crate::reason::Reason;
+use crate::row_proofs::check_fall;
+use crate::targets::{join_columns, weigh_fall};
+use call_components::Components;
+use certificate::Sequence;
+use certificate_parts::{LevelPart, Parts};
+use cti_terms::{Atom, MOST_NODES, MOST_VARIABLES, Program};
+use linear_rows::{Multipliers, Numbers, Proof, Row, Rows, System};
+use std::alloc::{AllocError, Global};
+use term_size::Norm;
+use termination_model::{add_expressions, columns, replaced};
+
+// Why multipliers do not show a fall, if they do not.
+fn fall_reason(rows: &Rows, target: Option<Row>, by: &Multipliers) -> Option<Reason>
+    requires multipliers { AreMultipliers (length rows.now.list) by.now }
+    requires width { HaveWidth rows.now.width rows.now.list }
+    requires target { IfSome target (λ t. length t.coeffs ≡ rows.now.width) }
+    ensures { ReasonShows (plain_rows rows.now.list) target by.now result }
+{
+    let Some(target) = target else {
+        return Some(Reason::Wide);
+    };
+    match check_fall(rows, &target, by) {
+        Proof::Holds => None,
+        Proof::Fails => Some(Reason::Measure),
+        Proof::Wide => Some(Reason::Wide),
+    }
+}
+
+// The first mapping that its multipliers do not show to fall. The first one has this line.
+//
+// The columns are those of the head's arguments and of the call's.
+fn mapping_fault(
+    alloc: Global,
+    rows: &Rows,
+    columns: &[Numbers],
+    heads: &[LevelPart],
+    calls: &[LevelPart],
+    proofs: &[Multipliers],
+    line: u64,
+) -> Result<Option<Fault>, AllocError>
+    requires heads { length heads.now ≡ length proofs.now }
+    requires calls { length calls.now ≡ length proofs.now }
+    requires multipliers { AllByRecursion (AreMultipliers (length rows.now.list)) proofs.now }
+    requires parts { (m : ℕ) (head call : LevelPart) → slice_get heads.now m ≡ Some head → slice_get calls.now m ≡ Some call → CanBeWeighed columns.now head call }
+    requires width { HaveWidth rows.now.width rows.now.list }
+    requires count { length columns.now ≡ rows.now.width + 1 }
+    ensures { IfOk result (λ fault. (fault ≡ None) ↔ ((m : ℕ) (head call : LevelPart) (by : Multipliers)
+        → slice_get heads.now m ≡ Some head → slice_get calls.now m ≡ Some call → slice_get proofs.now m ≡ Some by
+        → IsShown (plain_rows rows.now.list) (over_columns columns.now (fall_weights head call)) by)) }
+{
+    for m in 0..proofs.len() {
+        let weights = weigh_fall(alloc, &heads[m], &calls[m])?;
+        let target = replaced(alloc, weights.as_slice(), columns)?;
+        if let Some(reason) = fall_reason(rows, target, &proofs[m]) {
+            return Ok(Some(Fault {
+                line: line.saturating_add(m as u64),
+                reason,
+            }));
+        }
+    }
+    Ok(None)
+}
+
+// The columns of a clause's head and of a call of its body, over the clause's variables.
+fn fall_columns<N: Norm>(
+    alloc: Global,
+    norm: &N,
+    system: &System,
+    call: &Atom,
+) -> Result<Vec<Numbers>, AllocError>
+    requires few { system.now.head.width ≤ MOST_VARIABLES }
+    requires below { AllByRecursion (λ t. IsTrue (is_below system.now.head.width t)) call.now.args }
+    requires small { atom_nodes call.now ≤ MOST_NODES }
+    ensures { IfOk result (λ columns. AreFallColumns (plain_rows system.now.head.list) (map (N.expression norm.now system.now.head.width) call.now.args)
+        system.now.head.width columns.items) }
+{
+    let head = columns(alloc, &system.head)?;
+    let mut sizes = Rows::new(alloc, system.head.width);
+    add_expressions(alloc, norm, &call.args, &mut sizes)?;
+    let own = columns(alloc, &sizes)?;
+    join_columns(alloc, head.as_slice(), own.as_slice())
+}
+
+// The first fall of a clause that is not shown. Clauses count from 1, and the first fall has this line.
+fn clause_fall_fault<N: Norm>(
+    alloc: Global,
+    p: &Program,
+    comps: &Components,
+    norm: &N,
+    parts: &Parts,
+    k: u32,
+    line: u64,
+) -> Result<Option<Fault>, AllocError>
+    requires first { 1 ≤ k }
+    requires last { k ≤ length p.now.clauses }
+    requires components { AreComponents p.now comps.now }
+    requires sizes { AreSizes p.now.preds parts.now.rows }
+    requires levels { HaveLevels p.now comps.now parts.now }
+    requires falls { HaveFalls p.now comps.now parts.now }
+    ensures { IfOk result (λ fault. (c : Clause) → slice_get p.now.clauses (k - 1) ≡ Some c
+        → (fault ≡ None) ↔ CallsFall (N.expression norm.now) comps.now parts.now c (list_at parts.now.falls (k - 1))) }
+{
+    let clause = p.clause(k);
+    let component = comps.of(clause.head.pred);
+    let heads = parts.levels.as_slice()[clause.head.pred.0 as usize].as_slice();
+    let proofs = parts.falls.as_slice()[k as usize - 1].as_slice();
+    let mut system = first_system(alloc, norm, &parts.rows, clause)?;
+    let mut atoms = 0;
+    let mut line = line;
+    for j in 0..clause.body.len() {
+        let call = &clause.body.as_slice()[j];
+        if comps.of(call.pred) != component {
+            continue;
+        }
+        extend(alloc, norm, &parts.rows, clause, atoms, j, &mut system)?;
+        atoms = j;
+        let calls = parts.levels.as_slice()[call.pred.0 as usize].as_slice();
+        let own = proofs[j].as_slice();
+        let columns = fall_columns(alloc, norm, &system, call)?;
+        let columns = columns.as_slice();
+        let fault = mapping_fault(alloc, &system.rows, columns, heads, calls, own, line)?;
+        if let Some(fault) = fault {
+            return Ok(Some(fault));
+        }
+        line = line.saturating_add(own.len() as u64);
+    }
+    Ok(None)
+}
+
+// The line behind the falls of a clause.
+fn line_after(proofs: &[Sequence<Multipliers>], line: u64) -> u64 {
+    let mut line = line;
+    for own in proofs {
+        line = line.saturating_add(own.len() as u64);
+    }
+    line
+}
+
+/// The first mapping that its multipliers do not show to fall at a call of the clause's own component.
+///
+/// There is one line for each clause, each such call and each mapping, from the given line on. `Measure` says that the
+/// multipliers fail over the rows of the atoms before the call, and `Wide` that a number does not fit.
+pub fn fall_fault<N: Norm>(
+    alloc: Global,
+    p: &Program,
+    comps: &Components,
+    norm: &N,
+    parts: &Parts,
+    line: u64,
+) -> Result<Option<Fault>, AllocError>
+    requires components { AreComponents p.now comps.now }
+    requires sizes { AreSizes p.now.preds parts.now.rows }
+    requires levels { HaveLevels p.now comps.now parts.now }
+    requires falls { HaveFalls p.now comps.now parts.now }
+    ensures { IfOk result (λ fault. (fault ≡ None) ↔ FallsHold (N.expression norm.now) p.now comps.now parts.now) }
+{
+    let mut line = line;
+    for k in 0..p.clauses() {
+        let fault = clause_fall_fault(alloc, p, comps, norm, parts, k + 1, line)?;
+        if let Some(fault) = fault {
+            return Ok(Some(fault));
+        }
+        line = line_after(parts.falls.as_slice()[k as usize].as_slice(), line);
+    }
+    Ok(None)
+}

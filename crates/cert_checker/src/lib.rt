@@ -1,0 +1,50 @@
+//! The check of a certificate: a Yes means that it is valid, and that the queries that meet its modes end.
+//!
+//! A certificate proves that size rows are kept and that level mappings fall by multipliers of rows, and that no
+//! mapping falls by points. Each test here finds the first fact that does not hold, with its line and the reason, and
+//! none exactly where all hold. What it means that they hold is defined in `specs/`, over plain lists of whole numbers,
+//! and the laws of `laws` lead from there to claims that show queries to end. `check` asks all tests, those of the
+//! structure and of the modes among them: `IsValid` of `specs/Valid.antt` says what makes a certificate valid, and
+//! `ModesAreBounded` of `specs/Bounding.antt` what that means for queries.
+//!
+//! Stands on `certificate_parts`, which gives the parts of a certificate, on `mode_checker`, on `termination_model` and
+//! on `linear_rows`.
+#![tactic(auto)]
+
+mod bounding;
+mod checking;
+mod clause_systems;
+mod fall_faults;
+mod fault;
+mod laws;
+mod lines;
+mod lower_faults;
+mod measure_faults;
+mod member_sums;
+mod pair_sums;
+mod point_faults;
+mod point_values;
+mod reached;
+mod reaching;
+mod reason;
+mod refutation_faults;
+mod row_proofs;
+mod size_faults;
+mod targets;
+#[cfg(test)]
+mod tests;
+mod verdict;
+#[cfg(test)]
+mod worked_certificates;
+
+pub use bounding::valid_certificates_bound_their_modes;
+pub use checking::check;
+pub use fall_faults::fall_fault;
+pub use fault::Fault;
+pub use laws::{numbers_show_claims, refutations_are_those_of_views};
+pub use measure_faults::measure_fault;
+pub use reason::Reason;
+pub use refutation_faults::refutation_fault;
+pub use row_proofs::{check_fall, check_size};
+pub use size_faults::size_fault;
+pub use verdict::Verdict;

@@ -1,0 +1,71 @@
+//! The mappings of components that are not recursive.
+
+ghost use Rattle.std.specs.Prelude.{◌≡◌, ◌↔◌, IsTrue, None, false, pos};
+ghost use Rattle.std.specs.List.{AllByRecursion};
+ghost use Rattle.call_components.specs.Partition.{AreComponents};
+ghost use Rattle.cert_checker.specs.Proved.{IsZero, MeasuresAreZero};
+ghost use Rattle.cert_checker.specs.Shape.{HaveLevels};
+
+use crate::fault::Fault;
+use crate::reason::Reason;
+use call_components::Components;
+use certificate_parts::{LevelPart, Parts};
+use cti_terms::{PredId, Program};
+
+// Whether all numbers are 0.
+fn are_zero(numbers: &[i128]) -> bool
+    ensures { IsTrue result ↔ AllByRecursion (λ a. a ≡ pos 0) numbers.now }
+{
+    for number in numbers {
+        if *number != 0 {
+            return false;
+        }
+    }
+    true
+}
+
+// Whether a predicate's part of a mapping is 0.
+fn is_zero(part: &LevelPart) -> bool
+    ensures { IsTrue result ↔ IsZero part.now }
+{
+    part.offset == 0 && are_zero(part.coeffs.as_slice())
+}
+
+// The first part that is not 0, where a component is not recursive. The first one has this line.
+fn part_fault(recursive: bool, parts: &[LevelPart], line: u64) -> Option<Fault>
+    ensures { (result ≡ None) ↔ (recursive ≡ false → AllByRecursion IsZero parts.now) }
+{
+    if recursive {
+        return None;
+    }
+    for m in 0..parts.len() {
+        if !is_zero(&parts[m]) {
+            return Some(Fault {
+                line: line.saturating_add(m as u64),
+                reason: Reason::Measure,
+            });
+        }
+    }
+    None
+}
+
+/// The first part of a mapping that is not 0, where the component is not recursive.
+///
+/// There is one line for each predicate and each mapping of its component, from the given line on. The reason is
+/// `Measure`. It takes no memory.
+pub fn measure_fault(p: &Program, comps: &Components, parts: &Parts, line: u64) -> Option<Fault>
+    requires components { AreComponents p.now comps.now }
+    requires levels { HaveLevels p.now comps.now parts.now }
+    ensures { (result ≡ None) ↔ MeasuresAreZero comps.now parts.now }
+{
+    let mut line = line;
+    for q in 0..p.preds() {
+        let own = parts.levels.as_slice()[q as usize].as_slice();
+        let recursive = comps.recursive(comps.of(PredId(q)));
+        if let Some(fault) = part_fault(recursive, own, line) {
+            return Some(fault);
+        }
+        line = line.saturating_add(own.len() as u64);
+    }
+    None
+}

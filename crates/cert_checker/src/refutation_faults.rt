@@ -1,0 +1,84 @@
+//! Refutations of components.
+
+ghost use Rattle.std.specs.Prelude.{◌≡◌, ◌↔◌, IfOk, None, map};
+ghost use Rattle.std.specs.List.{AllByRecursion};
+ghost use Rattle.call_components.specs.Numbers.{number_of};
+ghost use Rattle.call_components.specs.Partition.{AreComponents};
+ghost use Rattle.cert_checker.specs.Refuting.{PointHolds, RefutationsHold, SumsRefute};
+ghost use Rattle.cert_checker.specs.Shape.{HaveRefutations, IsPairOf};
+ghost use Rattle.termination_model.specs.Sizes.{AreSizes, rows_of};
+
+use crate::fault::Fault;
+use crate::pair_sums::sums_reason;
+use crate::point_faults::points_fault;
+use call_components::Components;
+use certificate_parts::{PairPoint, Parts};
+use cti_terms::{PredId, Program};
+use std::alloc::{AllocError, Global};
+use term_size::Norm;
+use termination_model::SizeRows;
+
+// The first fact of a refutation that does not hold: that of the sums, which has this line, or one of the points.
+fn group_fault<N: Norm>(
+    alloc: Global,
+    p: &Program,
+    norm: &N,
+    sizes: &SizeRows,
+    members: &[PredId],
+    points: &[PairPoint],
+    line: u64,
+) -> Result<Option<Fault>, AllocError>
+    requires sizes { AreSizes p.now.preds sizes.now }
+    requires pairs { AllByRecursion (IsPairOf p.now) points.now }
+    ensures { IfOk result (λ fault. (fault ≡ None) ↔ (SumsRefute (N.expression norm.now) p.now (map number_of members.now) points.now
+        × AllByRecursion (PointHolds (N.expression norm.now) p.now (rows_of sizes.now)) points.now)) }
+{
+    let reason = sums_reason(alloc, p, norm, sizes, members, points)?;
+    if let Some(reason) = reason {
+        return Ok(Some(Fault { line, reason }));
+    }
+    points_fault(alloc, p, norm, sizes, points, line.saturating_add(1))
+}
+
+// The line behind the points of a refutation. The first point has this line.
+fn line_after(points: &[PairPoint], line: u64) -> u64 {
+    let mut line = line;
+    for x in points {
+        line = line.saturating_add(1 + u64::from(x.at.is_some()));
+    }
+    line
+}
+
+/// The first fact of a refutation that does not hold.
+///
+/// There is one line for each refutation, by the numbers of the predicates, and after it one for each point, and one
+/// more for a second point, from the given line on. `Refutation` says that the sums refute nothing, or that a row does
+/// not hold at a point, and `Wide` that a number or a row does not fit.
+pub fn refutation_fault<N: Norm>(
+    alloc: Global,
+    p: &Program,
+    comps: &Components,
+    norm: &N,
+    parts: &Parts,
+    line: u64,
+) -> Result<Option<Fault>, AllocError>
+    requires components { AreComponents p.now comps.now }
+    requires sizes { AreSizes p.now.preds parts.now.rows }
+    requires refutations { HaveRefutations p.now parts.now }
+    ensures { IfOk result (λ fault. (fault ≡ None) ↔ RefutationsHold (N.expression norm.now) p.now comps.now parts.now) }
+{
+    let mut line = line;
+    for q in 0..p.preds() {
+        let Some(refutation) = &parts.refutations.as_slice()[q as usize] else {
+            continue;
+        };
+        let members = comps.members(comps.of(PredId(q)));
+        let points = refutation.points.as_slice();
+        let fault = group_fault(alloc, p, norm, &parts.rows, members, points, line)?;
+        if let Some(fault) = fault {
+            return Ok(Some(fault));
+        }
+        line = line_after(points, line.saturating_add(1));
+    }
+    Ok(None)
+}

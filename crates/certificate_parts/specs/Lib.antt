@@ -1,0 +1,5 @@
+pub mod Numbered
+pub mod Order
+pub mod Shape
+pub mod Structure
+pub mod Walk

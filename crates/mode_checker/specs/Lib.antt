@@ -1,0 +1,4 @@
+pub mod Claimed
+pub mod Marks
+pub mod Modes
+pub mod Sets
