@@ -75,7 +75,6 @@ done_or_memory told words status text name bytes (program_too_long k a m s e) as
 done_or_memory told words status text name bytes (program_refused k b kind at a t r s e) asked has short none =
     let same = same_bytes told (program_file k) name b bytes (ap program_file (same_Some _ _ (sym a ∙ asked))) has t in
     absurd (none kind at (rw same at r))
-
 done_or_memory told words status text name bytes (query_refused f q n b kind at a t r s e) asked has short none = absurd (infer_or_run name f q n (same_Some _ _ (sym asked ∙ a)))
 
 -- a run ends as it was asked, or is stopped

@@ -40,3 +40,8 @@ infer_taken c cs h = simp h
 pub infer_rows : (c : ℕ) (cs : List ℕ) → nat_eq c 45 ≡ false → option_map {U = Text × Option Text} (λ p. (p.0, first_of (codes "file") p.1)) (subcommand_of line (codes "infer" ∷ (c ∷ cs) ∷ [])) ≡ Some (codes "infer", Some (c ∷ cs))
 unfolding clap_on_literals
 infer_rows c cs h = simp h
+
+-- a file and a query that do not begin with a dash are taken
+pub run_taken : (c d : ℕ) (cs ds : List ℕ) → nat_eq c 45 ≡ false → nat_eq d 45 ≡ false → fault_of line (codes "run" ∷ (c ∷ cs) ∷ (d ∷ ds) ∷ []) ≡ []
+unfolding clap_on_literals
+run_taken c d cs ds h k = simp (h, k)

@@ -57,19 +57,10 @@ fn infer(alloc: Global, text: &[u8]) -> Result<(Status, Vec<u8>), AllocError> {
 /// Concatenation of lists.
 const APPEND: &str = "app([],L,L).\napp([H|T],L,[H|R]) :- app(T,L,R).\n";
 
-/// The status and the bytes of `run a.pl QUERY`, with further words, where the file has this text.
-fn run(
-    alloc: Global,
-    text: &[u8],
-    query: &str,
-    more: &[&str],
-) -> Result<(Status, Vec<u8>), AllocError> {
-    let mut words = vec![in alloc; "run", "a.pl", query]?;
-    for word in more {
-        words.push(*word)?;
-    }
+/// The status and the bytes of these words, where the file has this text.
+fn answered(alloc: Global, text: &[u8], words: &[&str]) -> Result<(Status, Vec<u8>), AllocError> {
     let mut out = sink(alloc, 4096, &[])?;
-    let status = command(alloc, &words, &mut store(alloc, text, &[])?, &mut out);
+    let status = command(alloc, words, &mut store(alloc, text, &[])?, &mut out);
     Ok((status, out.taken))
 }
 
@@ -194,13 +185,9 @@ fn queries_and_their_answers(rt: HostRuntime) -> Result<(), Fail> {
             "p(A,B,C,D,E,F,G,H)",
             "answer([p('X y','\\n\\x1f\\é\\'',[],'{}',[](a),[[]|b],'.'(a),'.'(a,b,c))]).\nran(1,1,finished).\n",
         ),
-        (
-            "'.'(a,[]).",
-            "[X]",
-            "answer([[a]]).\nran(1,1,finished).\n",
-        ),
+        ("'.'(a,[]).", "[X]", "answer([[a]]).\nran(1,1,finished).\n"),
     ] {
-        let (status, taken) = run(alloc, text.as_bytes(), query, &[])?;
+        let (status, taken) = answered(alloc, text.as_bytes(), &["run", "a.pl", query])?;
         assert_eq!(rt; status, Status::Done, "{query}");
         assert_eq!(rt; taken.as_slice(), lines.as_bytes(), "{query}");
     }
@@ -218,11 +205,10 @@ fn nodes_that_are_asked_for(rt: HostRuntime) -> Result<(), Fail> {
         ("2", Status::Stopped, first, "ran(2,1,stopped).\n"),
         ("0000001", Status::Stopped, first, "ran(1,1,stopped).\n"),
     ] {
-        let (status, taken) = run(
+        let (status, taken) = answered(
             alloc,
             APPEND.as_bytes(),
-            "app(X,Y,[a])",
-            &["--steps", steps],
+            &["run", "a.pl", "app(X,Y,[a])", "--steps", steps],
         )?;
         assert_eq!(rt; status, wanted, "{steps}");
         let lines = repeated(alloc, lines.as_bytes(), last.as_bytes(), 1)?;
@@ -231,7 +217,7 @@ fn nodes_that_are_asked_for(rt: HostRuntime) -> Result<(), Fail> {
     for steps in [
         "0", "0000000", "00000001", "1000001", "", "+5", "-5", "5x", " 5", "٣",
     ] {
-        let (status, taken) = run(alloc, b"p.", "p", &["--steps", steps])?;
+        let (status, taken) = answered(alloc, b"p.", &["run", "a.pl", "p", "--steps", steps])?;
         assert_eq!(rt; status, Status::Usage, "{steps}");
         assert_eq!(rt; taken.as_slice(), USAGE, "{steps}");
     }
@@ -241,14 +227,17 @@ fn nodes_that_are_asked_for(rt: HostRuntime) -> Result<(), Fail> {
 #[test]
 fn a_search_without_end(rt: HostRuntime) -> Result<(), Fail> {
     let alloc = rt.alloc();
-    for (more, line) in [
+    for (words, line) in [
         (
-            ["--steps", "1000000"].as_slice(),
+            ["run", "a.pl", "p(X)", "--steps", "1000000"].as_slice(),
             "ran(1000000,1000000,stopped).\n",
         ),
-        ([].as_slice(), "ran(100000,100000,stopped).\n"),
+        (
+            ["run", "a.pl", "p(X)"].as_slice(),
+            "ran(100000,100000,stopped).\n",
+        ),
     ] {
-        let (status, taken) = run(alloc, b"p(s(X)) :- p(X).", "p(X)", more)?;
+        let (status, taken) = answered(alloc, b"p(s(X)) :- p(X).", words)?;
         assert_eq!(rt; status, Status::Stopped, "{line}");
         assert_eq!(rt; taken.as_slice(), line.as_bytes(), "{line}");
     }
@@ -261,11 +250,7 @@ fn refused_queries(rt: HostRuntime) -> Result<(), Fail> {
     for (text, query, line) in [
         (APPEND, "app(X", "refused(query,1,6,6).\n"),
         (APPEND, "app(X,Y,Z),\n  !", "refused(query,2,3,11).\n"),
-        (
-            APPEND,
-            "(app(X,Y,Z) ; true)",
-            "refused(query,1,1,11).\n",
-        ),
+        (APPEND, "(app(X,Y,Z) ; true)", "refused(query,1,1,11).\n"),
         (APPEND, "a === X", "refused(query,1,3,6).\n"),
         (APPEND, "", "refused(query,1,1,6).\n"),
         (
@@ -275,13 +260,13 @@ fn refused_queries(rt: HostRuntime) -> Result<(), Fail> {
         ),
         ("p(a", "app(X", "refused(program,1,4,6).\n"),
     ] {
-        let (status, taken) = run(alloc, text.as_bytes(), query, &[])?;
+        let (status, taken) = answered(alloc, text.as_bytes(), &["run", "a.pl", query])?;
         assert_eq!(rt; status, Status::Refused, "{query}");
         assert_eq!(rt; taken.as_slice(), line.as_bytes(), "{query}");
     }
     let long = repeated(alloc, b"p", b" ", 1_048_576)?;
     let query = std::str::from_utf8(&long).unwrap_or("");
-    let (status, taken) = run(alloc, b"p.", query, &[])?;
+    let (status, taken) = answered(alloc, b"p.", &["run", "a.pl", query])?;
     assert_eq!(rt; status, Status::Refused);
     assert_eq!(rt; taken.as_slice(), b"refused(query,1,1,8).\n".as_slice());
     Ok(())
@@ -339,7 +324,7 @@ fn deep_answers(rt: HostRuntime) -> Result<(), Fail> {
         let deep = nested(alloc, b"0", 3960 + outer)?;
         let term = joined(alloc, &[b"q(", &deep, b")"])?;
         let lines = one_answer(alloc, &term, is_told, b"ran(5,5,finished).\n")?;
-        let (status, taken) = run(alloc, &program, "q(X)", &[])?;
+        let (status, taken) = answered(alloc, &program, &["run", "a.pl", "q(X)"])?;
         assert_eq!(rt; status, Status::Done);
         assert!(rt; taken == lines, "{outer}");
     }
@@ -354,14 +339,14 @@ fn large_answers(rt: HostRuntime) -> Result<(), Fail> {
         let term = joined(alloc, &[&term, b"))"])?;
         let program = joined(alloc, &[&term, b".\n"])?;
         let lines = one_answer(alloc, &term, is_told, b"ran(1,1,finished).\n")?;
-        let (status, taken) = run(alloc, &program, "p(X)", &[])?;
+        let (status, taken) = answered(alloc, &program, &["run", "a.pl", "p(X)"])?;
         assert_eq!(rt; status, Status::Done);
         assert!(rt; taken == lines, "{count}");
     }
     let list = repeated(alloc, b"app(X,Y,[a", b",a", 299)?;
     let list = joined(alloc, &[&list, b"])"])?;
     let query = std::str::from_utf8(&list).unwrap_or("");
-    let (status, taken) = run(alloc, APPEND.as_bytes(), query, &[])?;
+    let (status, taken) = answered(alloc, APPEND.as_bytes(), &["run", "a.pl", query])?;
     assert_eq!(rt; status, Status::Done);
     assert_eq!(rt; taken.iter().filter(|byte| **byte == b'\n').count(), 302);
     Ok(())

@@ -211,7 +211,13 @@ fn begin_tail<'t>(
     ensures work { OnOk result (left_work stack.new.items ≤ 3 * nodes_of (tree_of tail.now) + left_work stack.old.items) }
 {
     match tail {
-        Term::Fun(name, args) => begin_compound_tail(name_text(names, *name), args, tail, stack, out),
+        Term::Fun(name, args) => begin_compound_tail(
+            name_text(names, *name),
+            args,
+            tail,
+            stack,
+            out,
+        ),
         _ => begin_other_tail(tail, stack, out),
     }
 }
