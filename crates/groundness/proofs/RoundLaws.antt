@@ -1,16 +1,14 @@
 -- What stays of sets while the table grows, and what a round of clauses does.
-use Rattle.std.proofs.Common.{◌≡◌, ℕ, ◌<◌, ◌≤◌, Bool, true, false, ◌||◌, ◌&&◌, ◌==◌, List, length, slice_get, Option, None, Some, refl, ap, sym, subst, arith}
+use Rattle.std.proofs.Common.{◌≡◌, ℕ, ◌<◌, ◌≤◌, Bool, true, false, List, slice_get, Some, refl, ap, sym, subst, arith}
 use Rattle.bool_diagrams.specs.declared.diagram.Diagram.{Diagram}
-use Rattle.bool_diagrams.specs.Cubes.{values_of}
 use Rattle.bool_diagrams.specs.Rows.{IsDiagram, Keeps}
 use Rattle.bool_diagrams.specs.Tree.{Tree as Rows}
-use Rattle.bool_diagrams.proofs.CallerLemmas.{holds_later}
 use Rattle.cti_terms.specs.declared.clauses.Clause.{Clause}
 use Rattle.cti_terms.specs.declared.predicates.Pred.{Pred}
 use Rattle.cti_terms.specs.Tree.{Tree}
 use Rattle.termination_model.specs.Grounds.{Family, IsClosedUnder}
 use Rattle.groundness.specs.Missing.{all_missing}
-use Rattle.argument_rows.specs.Sets.{family_of, has_row}
+use Rattle.argument_rows.specs.Sets.{family_of}
 use Rattle.argument_rows.proofs.CallerLemmas.{family_later}
 use Rattle.groundness.proofs.MissingLaws.{all_missing_kept}
 

@@ -1,28 +1,27 @@
 -- What it does to the family of the sets that the rows of a clause are added.
-use Rattle.std.proofs.Common.{◌≡◌, ◌↔◌, inl, inr, ℕ, suc, ◌<◌, ◌≤◌, ◌==◌, Bool, true, false, ◌||◌, IsTrue, List, [], ◌∷◌, length, map, slice_get, slice_set, slice_index_or, Option, None, Some, IsSomeAnd, refl, ap, sym, subst, ◌∙◌, arith, eqb-true}
-use Rattle.std.proofs.lemmas.Bool.{and_parts, cases_eq, eq-eqb}
-use Rattle.std.proofs.lemmas.List.{length-map, length-set}
+use Rattle.std.proofs.Common.{◌≡◌, ◌↔◌, inl, inr, ℕ, ◌<◌, Bool, ◌||◌, IsTrue, List, length, slice_get, slice_set, slice_index_or, Some, refl, ap, sym, subst, ◌∙◌, arith}
+use Rattle.std.proofs.lemmas.Bool.{cases_eq}
+use Rattle.std.proofs.lemmas.List.{length-map}
 use Rattle.bool_diagrams.specs.declared.diagram.Diagram.{Diagram}
 use Rattle.bool_diagrams.specs.Cubes.{truth_rows, values_of}
 use Rattle.bool_diagrams.specs.Rows.{IsDiagram, Keeps, HaveSameRows, ReadsBelow, holds}
 use Rattle.bool_diagrams.specs.Tree.{Tree as Rows}
-use Rattle.bool_diagrams.proofs.CallerLemmas.{holds_later, keeps_twice, known_later}
+use Rattle.bool_diagrams.proofs.CallerLemmas.{holds_later, keeps_twice}
 use Rattle.call_components.proofs.Lists.{slice_get-set_same, slice_get-set_other}
-use Rattle.cti_terms.specs.declared.atom_list.Atom.{Atom}
 use Rattle.cti_terms.specs.declared.clauses.Clause.{Clause}
 use Rattle.cti_terms.specs.declared.predicates.Pred.{Pred}
-use Rattle.cti_terms.specs.Listing.{Listing, IsAtom, IsClause, IsProgram, atom_nodes}
+use Rattle.cti_terms.specs.Listing.{Listing, IsAtom, IsClause, IsProgram}
 use Rattle.cti_terms.specs.Tree.{Tree}
 use Rattle.termination_model.specs.Grounds.{Family, HasArity, IsClosed, IsClosedUnder, IsGround, IsInside, truth_row}
-use Rattle.argument_rows.specs.Ready.{HasAtoms, HasTruths, IsReadyClause}
-use Rattle.argument_rows.specs.Sets.{AreSets, family_of, has_row}
+use Rattle.argument_rows.specs.Ready.{HasAtoms}
+use Rattle.argument_rows.specs.Sets.{AreSets, family_of}
 use Rattle.groundness.specs.Sets.{AddsOnlyNeeded, Gives}
 use Rattle.groundness.specs.Missing.{all_missing}
 use Rattle.argument_rows.proofs.CallerLemmas.{sets_later, sets_with}
 use Rattle.argument_rows.proofs.SetLaws.{none, some_is, family_in, family_put, row_is, truths_of, atom_there}
 use Rattle.groundness.proofs.MissingLaws.{all_missing_set, missing_less}
-use Rattle.argument_rows.proofs.ListLaws.{by_places, from_places, indexed, mapped_place, place_below, sum_part, there}
-use Rattle.argument_rows.proofs.RowLaws.{both, or_cases, or_left, or_right, same_bool, first_row, first_values, length-first}
+use Rattle.argument_rows.proofs.ListLaws.{by_places, from_places, place_below, there}
+use Rattle.argument_rows.proofs.RowLaws.{or_cases, or_left, or_right, same_bool, first_row, first_values, length-first}
 
 module _ (p : Listing) (program : IsProgram p) (trees : List Rows) (sets : List Diagram) (S : AreSets p.preds trees sets) where
   module _ (truth : (ℕ → Bool) → Tree → Bool) (T1 T2 : List Rows) (K1 : Keeps trees T1) (K2 : Keeps T1 T2) (k : Clause) (c : IsClause p.preds k) (given joined : Diagram) (known : IsDiagram T2 joined)
