@@ -1,9 +1,9 @@
 -- What is known at a call of a clause: its predicate is there, and its component's mappings can be weighed.
-use Rattle.std.proofs.Common.{◌≡◌, ◌↔◌, ℕ, suc, ◌+◌, ◌-◌, ◌<◌, ℤ, pos, neg_ℤ, ◌-ℤ◌, Bool, List, [], ◌∷◌, ◌++◌, map, length, get_or, slice_get, Option, Some, None, Result, Ok, Err, IfOk, IsSomeAnd, refl, sym, ap, subst, ◌∙◌, arith}
+use Rattle.std.proofs.Common.{◌≡◌, ◌↔◌, ℕ, ◌<◌, ℤ, pos, neg_ℤ, ◌-ℤ◌, Bool, List, [], ◌∷◌, map, length, get_or, slice_get, Option, Some, None, Result, Ok, Err, IfOk, IsSomeAnd, refl, sym, ap, subst, ◌∙◌, arith}
 use Rattle.std.specs.List.{AllByRecursion}
 use Rattle.std.proofs.lemmas.List.{length-append, length-map}
 use Rattle.cti_terms.specs.Tree.{Tree}
-use Rattle.cti_terms.specs.Listing.{Listing, IsAtom, IsClause}
+use Rattle.cti_terms.specs.Listing.{Listing, IsAtom}
 use Rattle.cti_terms.specs.declared.atom_list.Atom.{Atom}
 use Rattle.cti_terms.specs.declared.clauses.Clause.{Clause}
 use Rattle.cti_terms.specs.declared.predicates.Pred.{Pred}
@@ -45,7 +45,7 @@ module _ (p : Listing) (comps : Partition) (parts : Parts) (levels : HaveLevels 
       subst (λ (n : ℕ). AllByRecursion (IsLevelPart n) (list_at parts.levels a.pred.0)) arity (levels.naturals a.pred.0 d at)
 
 module _ (c : Clause) (b : Atom) (columns : List (List ℤ)) (heads calls : List LevelPart)
-  (head_parts : AllByRecursion (IsLevelPart (length c.head.args)) heads) (call_parts : AllByRecursion (IsLevelPart (length b.args)) calls) where
+    (head_parts : AllByRecursion (IsLevelPart (length c.head.args)) heads) (call_parts : AllByRecursion (IsLevelPart (length b.args)) calls) where
   pub can_weigh : (expression : ℕ → Tree → List ℤ) → AreFallColumns (map (expression c.vars) c.head.args) (map (expression c.vars) b.args) c.vars columns
       → (m : ℕ) (head call : LevelPart) → slice_get heads m ≡ Some head → slice_get calls m ≡ Some call → CanBeWeighed columns head call
   can_weigh expression are m head call eh ec =

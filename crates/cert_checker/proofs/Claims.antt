@@ -1,5 +1,5 @@
 -- Where a certificate's numbers hold, its claims have proved sizes and falls.
-use Rattle.std.proofs.Common.{◌≡◌, ℕ, zero, suc, ◌+◌, ◌<◌, ◌≤◌, ◌≤ℤ◌, ℤ, pos, negsuc, Bool, List, [], ◌∷◌, All, Any, map, take, length, slice_get, slice_index_or, get_or, unsigned_abs, Option, None, Some, refl, sym, ap, subst, ◌∙◌, arith}
+use Rattle.std.proofs.Common.{◌≡◌, ℕ, zero, suc, ◌+◌, ◌<◌, ◌≤◌, ◌≤ℤ◌, ℤ, pos, negsuc, Bool, List, [], ◌∷◌, All, Any, map, take, length, slice_get, unsigned_abs, Option, Some, refl, sym, ap, subst, ◌∙◌, arith}
 use Rattle.std.specs.List.{AllByRecursion}
 use Rattle.std.proofs.lemmas.Int.{ints}
 use Rattle.cti_terms.specs.Tree.{Tree}
@@ -7,7 +7,6 @@ use Rattle.cti_terms.specs.Listing.{Listing, IsAtom, IsClause, IsProgram}
 use Rattle.cti_terms.specs.declared.atom_list.Atom.{Atom}
 use Rattle.cti_terms.specs.declared.clauses.Clause.{Clause}
 use Rattle.cti_terms.specs.declared.predicates.Pred.{Pred}
-use Rattle.call_components.specs.Calls.{Calls}
 use Rattle.call_components.specs.Partition.{Partition, AreComponents, IsIn}
 use Rattle.call_components.proofs.Lists.{any_here, any_there, has_contains}
 use Rattle.certificate_parts.specs.declared.parts.LevelPart.{LevelPart}
@@ -20,13 +19,13 @@ use Rattle.termination_model.specs.Rows.{scaled, added}
 use Rattle.termination_model.specs.Short.{Provable, SizesProved, DescendsProved}
 use Rattle.termination_model.specs.Sizes.{rows_of}
 use Rattle.termination_model.specs.Systems.{row_over, short_system}
-use Rattle.termination_model.proofs.Lists.{by_places, from_places, indexed, one_element, place_below, there}
+use Rattle.termination_model.proofs.Lists.{by_places, from_places, place_below, there}
 use Rattle.cert_checker.specs.Claimed.{claims_of, coefficients_of, measure_of, measures_from, mapping_of, offset_of, rank_of, mapping_count}
-use Rattle.cert_checker.specs.Proved.{ByHold, FallsHold, fall_of, level_of}
-use Rattle.cert_checker.specs.Shape.{AreMultipliers, AreTogether, HaveFalls, HaveLevels, HaveRowProofs, IsLevelPart, list_at, row_count}
+use Rattle.cert_checker.specs.Proved.{FallsHold, fall_of, level_of}
+use Rattle.cert_checker.specs.Shape.{AreMultipliers, AreTogether, HaveFalls, HaveLevels, IsLevelPart, list_at, row_count}
 use Rattle.cert_checker.specs.Shown.{IsShown}
 use Rattle.cert_checker.specs.Shows.{ClausesAreRanked, FallsAreProved, SizesAreProved}
-use Rattle.cert_checker.proofs.CallFacts.{in_preds, level_parts}
+use Rattle.cert_checker.proofs.CallFacts.{level_parts}
 use Rattle.cert_checker.proofs.ColumnLengths.{an_element}
 use Rattle.cert_checker.proofs.Sized.{some_below}
 
@@ -66,7 +65,7 @@ count_of parts [] n some each = absurd (omega arith)
 count_of parts (q ∷ ms) n some each = each q refl
 
 module _ (size : (ℕ → ℕ) → Tree → ℕ) (truth : (ℕ → Bool) → Tree → Bool) (expression : ℕ → Tree → List ℤ)
-  (p : Listing) (comps : Partition) (parts : Parts) (grounds : Family) (pre : ℕ → Family) where
+    (p : Listing) (comps : Partition) (parts : Parts) (grounds : Family) (pre : ℕ → Family) where
   abbrev claims : Claims
   claims = claims_of size truth expression comps parts grounds pre
 
@@ -112,9 +111,11 @@ module _ (size : (ℕ → ℕ) → Tree → ℕ) (truth : (ℕ → Bool) → Tre
           let (by, eb) = an_element (list_at (list_at parts.falls k) j) m (omega (arith, lt, have.mappings k j c b at ej together)) in
           let multipliers = by_places (AreMultipliers (row_count (rows_of parts.rows) (take j c.body))) (list_at (list_at parts.falls k) j) (have.multipliers k j c b at ej together) m by eb in
           let head_is = by_places (IsLevelPart (length c.head.args)) (list_at parts.levels c.head.pred.0) (level_parts p comps parts levels c.vars c.head is.head) m head eh in
-          let call_is = by_places (IsLevelPart (length b.args)) (list_at parts.levels b.pred.0) (level_parts p comps parts levels c.vars b atom) m call ec in
-          (0, subst (Provable (short_system expression (rows_of parts.rows) c.vars (take j c.body))) (sym (fall_is (length c.head.args) (length b.args) c b head call m head_is call_is eh ec))
-          (provable (row_count (rows_of parts.rows) (take j c.body)) (short_system expression (rows_of parts.rows) c.vars (take j c.body)) (fall_of expression c b head call) by multipliers (hold k c at j b ej together m head call by eh ec eb)))
+          let call_is = by_places (IsLevelPart (length b.args)) (list_at parts.levels b.pred.0) (level_parts p comps parts levels c.vars b atom) m call ec in (
+            0,
+            subst (Provable (short_system expression (rows_of parts.rows) c.vars (take j c.body))) (sym (fall_is (length c.head.args) (length b.args) c b head call m head_is call_is eh ec))
+                (provable (row_count (rows_of parts.rows) (take j c.body)) (short_system expression (rows_of parts.rows) c.vars (take j c.body)) (fall_of expression c b head call) by multipliers (hold k c at j b ej together m head call by eh ec eb)),
+          )
 
 pub falls : (size : (ℕ → ℕ) → Tree → ℕ) (truth : (ℕ → Bool) → Tree → Bool) (expression : ℕ → Tree → List ℤ) → FallsAreProved size truth expression
 falls size truth expression p comps parts grounds pre prog are levels have hold r =

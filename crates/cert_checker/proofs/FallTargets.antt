@@ -1,6 +1,5 @@
 -- The target of a fall, column by column.
-use Rattle.std.proofs.Common.{◌≡◌, ℕ, zero, suc, ◌+◌, ◌<◌, ◌≤◌, ℤ, pos, negsuc, neg_ℤ, Bool, ◌+ℤ◌, ◌-ℤ◌, ◌*ℤ◌, List, [], ◌∷◌, ◌++◌, All, map, length, replicate, slice_get, slice_index_or, Some, refl, sym, ap, ◌∙◌, arith}
-use Rattle.std.specs.List.{AllByRecursion}
+use Rattle.std.proofs.Common.{◌≡◌, ℕ, zero, suc, ◌+◌, ◌<◌, ◌≤◌, ℤ, pos, negsuc, neg_ℤ, Bool, ◌+ℤ◌, ◌-ℤ◌, ◌*ℤ◌, List, [], ◌∷◌, ◌++◌, All, map, length, replicate, slice_index_or, refl, sym, ap, ◌∙◌, arith}
 use Rattle.std.proofs.lemmas.Int.{ints}
 use Rattle.std.proofs.lemmas.List.{length-append, length-map}
 use Rattle.exact128.proofs.Rings.{rings}
@@ -13,7 +12,7 @@ use Rattle.term_size.specs.Norm.{IsNorm}
 use Rattle.termination_model.specs.Replacing.{AreColumns, column_over, over_columns, unit_at}
 use Rattle.termination_model.specs.Rows.{scaled, added, combined, substituted}
 use Rattle.termination_model.specs.Systems.{row_over}
-use Rattle.termination_model.proofs.Lists.{any_default, there}
+use Rattle.termination_model.proofs.Lists.{any_default}
 use Rattle.termination_model.proofs.Proved.{length-substituted}
 use Rattle.termination_model.proofs.RowColumns.{over_list}
 use Rattle.termination_model.proofs.SystemLaws.{widths}
@@ -83,7 +82,7 @@ call_part o u ms xs =
 
 weights_in : (head call : LevelPart) (hs cs : List (List ℤ)) (x : ℕ) → length head.coeffs ≡ length hs
     → dot (fall_weights head call) (column_over hs x ++ column_over cs x)
-      ≡ dot (head.offset ∷ head.coeffs) (column_over hs x) +ℤ negsuc 0 *ℤ (dot (call.offset ∷ call.coeffs) (column_over cs x) +ℤ unit_at x)
+    ≡ dot (head.offset ∷ head.coeffs) (column_over hs x) +ℤ negsuc 0 *ℤ (dot (call.offset ∷ call.coeffs) (column_over cs x) +ℤ unit_at x)
 weights_in head call hs cs x e =
     dot_joined (head.offset ∷ head.coeffs) ((neg_ℤ call.offset -ℤ pos 1) ∷ map neg_ℤ call.coeffs) (column_over hs x) (column_over cs x) (ap suc (e ∙ sym (length-map hs (λ r. entry r x))))
     ∙ ap (λ z. dot (head.offset ∷ head.coeffs) (column_over hs x) +ℤ z) (call_part call.offset (unit_at x) call.coeffs (map (λ r. entry r x) cs))

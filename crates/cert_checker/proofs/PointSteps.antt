@@ -1,17 +1,15 @@
 -- What the test of a system at a point decides.
-use Rattle.std.proofs.Common.{◌≡◌, ◌↔◌, ℕ, ◌-◌, ◌≤◌, ℤ, pos, Bool, true, false, ◌||◌, not, if◌then◌else◌, List, [], ◌∷◌, map, take, slice_get, Option, Some, None, IfSome, refl, sym, ap, subst, ◌∙◌, arith}
+use Rattle.std.proofs.Common.{◌≡◌, ◌↔◌, ℕ, ◌-◌, ℤ, pos, Bool, true, false, ◌||◌, not, if◌then◌else◌, List, [], ◌∷◌, map, take, slice_get, Option, Some, None, IfSome, refl, sym, ap, subst, ◌∙◌}
 use Rattle.std.specs.List.{AllByRecursion}
 use Rattle.cti_terms.specs.Tree.{Tree}
 use Rattle.cti_terms.specs.Listing.{Listing}
 use Rattle.cti_terms.specs.declared.clauses.Clause.{Clause}
 use Rattle.certificate_parts.specs.declared.parts.PairPoint.{PairPoint}
 use Rattle.certificate_parts.specs.declared.parts.ScaledPoint.{ScaledPoint}
-use Rattle.linear_rows.specs.Plain.{HaveWidth, plain_rows}
 use Rattle.linear_rows.specs.declared.system.System.{System}
 use Rattle.termination_model.specs.Sizes.{wide_rows}
 use Rattle.termination_model.specs.Systems.{row_fits, short_row, system}
 use Rattle.cert_checker.specs.Refuting.{PointHolds, RowHolds, RowsHold, clause_of, clause_or_none}
-use Rattle.cert_checker.specs.Shape.{IsPairOf}
 use Rattle.cert_checker.specs.SystemPoints.{SystemHolds, ValueHolds}
 use Rattle.cert_checker.specs.Systems.{IsSystemUpTo}
 

@@ -1,5 +1,5 @@
 -- The atoms of a program's clauses have size rows where there are rows for each predicate.
-use Rattle.std.proofs.Common.{◌≡◌, ℕ, zero, suc, ◌<◌, ◌≤◌, List, [], ◌∷◌, length, slice_get, Some, Option, None, IsSomeAnd, sum_by, subst, ap, arith}
+use Rattle.std.proofs.Common.{◌≡◌, ℕ, zero, suc, ◌<◌, ◌≤◌, List, [], ◌∷◌, length, slice_get, IsSomeAnd, subst, arith}
 use Rattle.cti_terms.specs.Listing.{IsAtom, IsClause, atom_nodes}
 use Rattle.cti_terms.specs.declared.atom_list.Atom.{Atom}
 use Rattle.cti_terms.specs.declared.clauses.Clause.{Clause}

@@ -1,5 +1,5 @@
 -- Sums of lists, place by place, and sums for each predicate, a load at a time.
-use Rattle.std.proofs.Common.{◌≡◌, ℕ, zero, suc, ◌+◌, ◌<◌, ◌≤◌, ◌==◌, max, ℤ, pos, ◌+ℤ◌, Bool, true, false, if◌then◌else◌, List, [], ◌∷◌, ◌++◌, length, refl, sym, ap, subst, ◌∙◌, arith}
+use Rattle.std.proofs.Common.{◌≡◌, ℕ, zero, suc, ◌+◌, ◌==◌, max, ℤ, ◌+ℤ◌, Bool, true, false, if◌then◌else◌, List, [], ◌∷◌, ◌++◌, length, refl, sym, ap, ◌∙◌, arith}
 use Rattle.std.proofs.lemmas.Int.{ints}
 use Rattle.exact128.specs.Sums.{entry}
 use Rattle.termination_model.specs.Rows.{added}
@@ -43,7 +43,7 @@ gather_push q (g ∷ hs) h = both (g.0 == q) (h.0 == q) (gather_push q hs h)
   where
     both : (a b : Bool) → gather q (hs ++ h ∷ []) ≡ (if b then added (gather q hs) h.1 else gather q hs)
         → (if a then added g.1 (gather q (hs ++ h ∷ [])) else gather q (hs ++ h ∷ []))
-          ≡ (if b then added (if a then added g.1 (gather q hs) else gather q hs) h.1 else (if a then added g.1 (gather q hs) else gather q hs))
+        ≡ (if b then added (if a then added g.1 (gather q hs) else gather q hs) h.1 else (if a then added g.1 (gather q hs) else gather q hs))
     both true true e = ap (added g.1) e ∙ sym (added_assoc g.1 (gather q hs) h.1)
     both true false e = ap (added g.1) e
     both false true e = e

@@ -1,5 +1,5 @@
 -- Sums for each predicate, as a loop over loads forms them.
-use Rattle.std.proofs.Common.{◌≡◌, ℕ, zero, suc, ◌+◌, ◌<◌, ◌≤◌, ◌==◌, ℤ, Bool, true, false, if◌then◌else◌, List, [], ◌∷◌, ◌++◌, ◌⊎◌, inl, inr, length, take, slice_get, Some, refl, sym, ap, subst, ◌∙◌, arith, below_more, eqb-true, eq-eqb}
+use Rattle.std.proofs.Common.{◌≡◌, ℕ, zero, suc, ◌+◌, ◌<◌, ◌≤◌, ◌==◌, ℤ, Bool, true, false, if◌then◌else◌, List, [], ◌∷◌, ◌⊎◌, inl, inr, length, take, slice_get, Some, refl, sym, ap, subst, ◌∙◌, arith, below_more, eqb-true, eq-eqb}
 use Rattle.std.specs.BTreeMap.{BTreeMap}
 use Rattle.linear_rows.specs.Plain.{HaveWidth, plain_rows}
 use Rattle.linear_rows.specs.declared.row.Row.{Row}

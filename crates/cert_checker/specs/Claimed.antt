@@ -5,7 +5,7 @@
 -- preconditions for mapping m, counted from 0. A number that names no predicate has a rank without measures.
 --
 -- To believe: nothing, where only `Bounded` is wanted.
-use Rattle.std.specs.Prelude.{ℕ, zero, suc, ℤ, pos, Bool, List, [], ◌∷◌, map, length, slice_get, slice_index_or, unsigned_abs, Option, None, Some}
+use Rattle.std.specs.Prelude.{ℕ, zero, suc, ℤ, Bool, List, [], ◌∷◌, map, length, slice_get, slice_index_or, unsigned_abs, Option, None, Some}
 use Rattle.cti_terms.specs.Tree.{Tree}
 use Rattle.call_components.specs.Partition.{Partition}
 use Rattle.certificate_parts.specs.declared.parts.LevelPart.{LevelPart}

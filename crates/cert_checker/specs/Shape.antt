@@ -14,7 +14,7 @@ use Rattle.certificate_parts.specs.declared.parts.PairPoint.{PairPoint}
 use Rattle.certificate_parts.specs.declared.parts.Refutation.{Refutation}
 use Rattle.certificate_parts.specs.declared.parts.ScaledPoint.{ScaledPoint}
 use Rattle.certificate_parts.specs.declared.parts.Parts.{Parts}
-use Rattle.termination_model.specs.Sizes.{AreSizes, rows_of}
+use Rattle.termination_model.specs.Sizes.{rows_of}
 
 -- the list at a place of a list of lists, or the empty one past the end
 abbrev pub list_at : {X : Type 0} → List (List X) → ℕ → List X

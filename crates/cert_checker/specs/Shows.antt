@@ -36,4 +36,4 @@ module _ (size : (ℕ → ℕ) → Tree → ℕ) (truth : (ℕ → Bool) → Tre
       (p : Listing) (comps : Partition) (parts : Parts) (grounds : Family) (pre : ℕ → Family)
       → IsProgram p → AreComponents p comps → HaveLevels p comps parts → HaveFalls p comps parts → FallsHold expression p comps parts
       → (r : ℕ) → (let c = claims_of size truth expression comps parts grounds pre in
-          AllByRecursion (λ (m : Measure). AllByRecursion (λ (k : Clause). rank_of comps k.head.pred.0 ≡ r → DescendsProved c m k) p.clauses) (c.measures r))
+      AllByRecursion (λ (m : Measure). AllByRecursion (λ (k : Clause). rank_of comps k.head.pred.0 ≡ r → DescendsProved c m k) p.clauses) (c.measures r))

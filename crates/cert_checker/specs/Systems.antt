@@ -35,6 +35,7 @@ module _ (expression : ℕ → Tree → List ℤ) (size_rows : ℕ → List (Lis
     pub wide : s.wide ≡ wide_system expression size_rows c.vars (take j c.body)
     pub head_width : s.head.width ≡ c.vars
     pub head : plain_rows s.head.list ≡ map (expression c.vars) c.head.args
+
   -- the system is that of the clause of its number, where it has one
   abbrev pub IsReached : Listing → Reached → Type 0
   IsReached p r = (c : Clause) → 1 ≤ r.clause → slice_get p.clauses (r.clause - 1) ≡ Some c → IsSystemUpTo c r.atoms r.system

@@ -31,6 +31,8 @@ mod refutation_faults;
 mod row_proofs;
 mod size_faults;
 mod targets;
+#[cfg(test)]
+mod tests;
 mod verdict;
 
 pub use bounding::valid_certificates_bound_their_modes;

@@ -1,4 +1,4 @@
-use Rattle.std.proofs.Common.{◌≡◌, ◌↔◌, ◌+◌, ◌-◌, ◌<◌, ◌≤◌, ℕ, ℤ, List, IsTrue, map, take, length, slice_get, Option, Some, None, refl, sym, ap, subst, ◌∙◌, arith, below_more}
+use Rattle.std.proofs.Common.{◌≡◌, ◌↔◌, ◌-◌, ℕ, ℤ, List, IsTrue, map, take, length, slice_get, Option, Some, None, refl, sym, ap, subst, ◌∙◌, arith, below_more}
 use Rattle.std.specs.List.{AllByRecursion}
 use Rattle.cti_terms.specs.Listing.{IsAtom}
 use Rattle.cti_terms.specs.Tree.{is_below}
@@ -7,15 +7,13 @@ use Rattle.cti_terms.specs.declared.clauses.Clause.{Clause}
 use Rattle.certificate_parts.specs.declared.parts.LevelPart.{LevelPart}
 use Rattle.linear_rows.specs.Plain.{plain_rows}
 use Rattle.linear_rows.specs.declared.multipliers.Multipliers.{Multipliers}
-use Rattle.termination_model.specs.Replacing.{over_columns}
 use Rattle.termination_model.specs.Sizes.{rows_of}
 use Rattle.termination_model.specs.Systems.{short_system}
 use Rattle.termination_model.proofs.Lists.{at_place, by_places, one_element, place_below}
 use Rattle.cert_checker.specs.Proved.{CallsFall, MappingsFall}
 use Rattle.cert_checker.specs.Shape.{AreMultipliers, AreTogether, IsLevelPart, list_at, row_count}
-use Rattle.cert_checker.specs.Shown.{IsShown}
 use Rattle.cert_checker.specs.Systems.{IsSystemUpTo}
-use Rattle.cert_checker.specs.Targets.{AreFallColumns, CanBeWeighed, fall_weights}
+use Rattle.cert_checker.specs.Targets.{AreFallColumns}
 use Rattle.cert_checker.specs.declared.fault.Fault.{Fault}
 use Rattle.cert_checker.proofs.CallFacts.{can_weigh, in_levels, in_preds, level_parts, list_at_is, mappings_decided}
 use Rattle.cert_checker.proofs.RowSteps.{system_count}
@@ -58,7 +56,7 @@ loop-j-preserved-then-of-component g c =
       order = omega arith;
       system = c.loop-j.invariant.system;
       calls = below_more (λ (j : ℕ). (x : Atom) → slice_get clause.body j ≡ Some x → AreTogether comps clause.head.pred.0 x.pred.0
-        → MappingsFall e (short_system e (rows_of parts.rows) clause.vars (take j clause.body)) clause x (list_at parts.levels clause.head.pred.0) (list_at parts.levels x.pred.0) (list_at c.as_slice-proofs.result.now j)) n c.loop-j.invariant.calls
+          → MappingsFall e (short_system e (rows_of parts.rows) clause.vars (take j clause.body)) clause x (list_at parts.levels clause.head.pred.0) (list_at parts.levels x.pred.0) (list_at c.as_slice-proofs.result.now j)) n c.loop-j.invariant.calls
           (λ x ex to.
           let same : b ≡ x = one_element clause.body n b x at ex in
           let one : Some c.of-component.result ≡ Some c.of.result = sym c.of-component.ensures ∙ to ∙ sym (ap (λ (y : Atom). slice_get comps.of y.pred.0) same) ∙ c.of.ensures in
@@ -308,7 +306,7 @@ loop-j-preserved g c =
       order = omega arith;
       system = is;
       calls = below_more (λ (j : ℕ). (x : Atom) → slice_get clause.body j ≡ Some x → AreTogether comps clause.head.pred.0 x.pred.0
-        → MappingsFall e (short_system e (rows_of parts.rows) clause.vars (take j clause.body)) clause x (list_at parts.levels clause.head.pred.0) (list_at parts.levels x.pred.0) (list_at c.as_slice-proofs.result.now j)) n c.loop-j.invariant.calls
+          → MappingsFall e (short_system e (rows_of parts.rows) clause.vars (take j clause.body)) clause x (list_at parts.levels clause.head.pred.0) (list_at parts.levels x.pred.0) (list_at c.as_slice-proofs.result.now j)) n c.loop-j.invariant.calls
           (λ x ex to.
           let same : b ≡ x = one_element clause.body n b x at ex in
           subst (λ (y : Atom). MappingsFall e rows clause y (list_at parts.levels head) (list_at parts.levels y.pred.0) (list_at c.as_slice-proofs.result.now n)) same

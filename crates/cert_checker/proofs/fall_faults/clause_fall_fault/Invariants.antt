@@ -13,5 +13,5 @@ invariant-loop-j g l = record {
   system : IsSystemUpTo (g.N.Norm.expression l.norm) (rows_of l.parts.rows) l.clause l.atoms l.system;
   calls : (j : ℕ) → j < l.j → (b : Atom) → slice_get l.clause.body j ≡ Some b → AreTogether l.comps l.clause.head.pred.0 b.pred.0
       → MappingsFall (g.N.Norm.expression l.norm) (short_system (g.N.Norm.expression l.norm) (rows_of l.parts.rows) l.clause.vars (take j l.clause.body)) l.clause b
-          (list_at l.parts.levels l.clause.head.pred.0) (list_at l.parts.levels b.pred.0) (list_at l.proofs j);
+      (list_at l.parts.levels l.clause.head.pred.0) (list_at l.parts.levels b.pred.0) (list_at l.proofs j);
 }

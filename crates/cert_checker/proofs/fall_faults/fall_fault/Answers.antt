@@ -1,6 +1,6 @@
-use Rattle.std.proofs.Common.{◌≡◌, ◌↔◌, ◌+◌, ◌-◌, ◌<◌, ℕ, refl, slice_get, Some, None, subst, arith, below_more}
+use Rattle.std.proofs.Common.{◌≡◌, ◌↔◌, ◌+◌, ◌-◌, ℕ, refl, slice_get, Some, None, subst, arith, below_more}
 use Rattle.cti_terms.specs.declared.clauses.Clause.{Clause}
-use Rattle.termination_model.proofs.Lists.{one_element, place_below}
+use Rattle.termination_model.proofs.Lists.{place_below}
 use Rattle.cert_checker.specs.Proved.{CallsFall}
 use Rattle.cert_checker.specs.Shape.{list_at}
 use Rattle.cert_checker.proofs.ColumnLengths.{an_element}

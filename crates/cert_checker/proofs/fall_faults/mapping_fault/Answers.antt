@@ -1,4 +1,4 @@
-use Rattle.std.proofs.Common.{rules, ◌≡◌, ◌↔◌, ◌+◌, ◌<◌, ◌≤ℤ◌, ℕ, ℤ, pos, List, All, get_or, length, slice_get, Some, None, refl, sym, ap, subst, ◌∙◌, arith, below_more}
+use Rattle.std.proofs.Common.{◌≡◌, ◌↔◌, ℕ, ℤ, List, All, length, slice_get, Some, None, refl, sym, subst, ◌∙◌, arith, below_more}
 use Rattle.certificate_parts.specs.declared.parts.LevelPart.{LevelPart}
 use Rattle.linear_rows.specs.Plain.{plain_rows}
 use Rattle.linear_rows.specs.declared.multipliers.Multipliers.{Multipliers}
@@ -59,7 +59,7 @@ loop-m-preserved c =
     let decided : (c.fall_reason.result ≡ None) ↔ IsShown (plain_rows c.args.rows.now.list) (over_columns c.args.columns.now (fall_weights head call)) by =
     c.fall_reason.ensures (over_columns c.args.columns.now (fall_weights head call)) fits in
     below_more (λ (m : ℕ). (h k : LevelPart) (x : Multipliers) → slice_get c.args.heads.now m ≡ Some h → slice_get c.args.calls.now m ≡ Some k → slice_get c.args.proofs.now m ≡ Some x
-        → IsShown (plain_rows c.args.rows.now.list) (over_columns c.args.columns.now (fall_weights h k)) x) n c.loop-m.invariant
+    → IsShown (plain_rows c.args.rows.now.list) (over_columns c.args.columns.now (fall_weights h k)) x) n c.loop-m.invariant
     (λ h k x eh ek ex.
     let first : head ≡ h = one_element c.args.heads.now n head h at_head eh in
     let second : call ≡ k = one_element c.args.calls.now n call k at_call ek in

@@ -1,4 +1,4 @@
-use Rattle.std.proofs.Common.{◌≡◌, ◌<◌, ◌+◌, ◌≤ℤ◌, ℕ, ℤ, List, get_or, map, length, slice_get, Some, refl, subst, sym, ◌∙◌, arith, below_more}
+use Rattle.std.proofs.Common.{◌≡◌, ◌≤ℤ◌, ℕ, ℤ, List, get_or, map, slice_get, Some, refl, subst, sym, ◌∙◌, arith, below_more}
 use Rattle.std.proofs.lemmas.List.{length-map}
 use Rattle.call_components.specs.Numbers.{number_of}
 use Rattle.call_components.proofs.Lists.{contains_has, has_contains}
@@ -26,8 +26,7 @@ returns-then-not-are_at_most c =
     let members = c.args.members.now in
     let n = c.loop-member.member-index in
     let m : PredId = get_or members n (record { 0 = 0 }) in
-    let at : slice_get members n ≡ Some m = there members n (record { 0 = 0 }) c.loop-member-test.true in
-    (
+    let at : slice_get members n ≡ Some m = there members n (record { 0 = 0 }) c.loop-member-test.true in (
       λ h. cc,
       λ all. sym c.if-not-are_at_most.true ∙ c.are_at_most.ensures.1 (λ i.
           subst (λ (xs : List ℤ). entry xs i ≤ℤ entry c.sums_of.result.now i) (sym c.sums_of-head.ensures)

@@ -1,4 +1,4 @@
-use Rattle.std.proofs.Common.{rules, ◌≡◌, ◌<◌, ◌+◌, ◌+ℤ◌, ◌∷◌, ◌++◌, [], ℕ, ℤ, List, length, true, false, sym, subst, ap, ◌∙◌, arith, below_more, FitsSigned}
+use Rattle.std.proofs.Common.{rules, ◌≡◌, ◌+ℤ◌, ◌∷◌, [], ℕ, ℤ, List, length, sym, subst, ap, ◌∙◌, arith, below_more, FitsSigned}
 use Rattle.std.specs.Int.{w128}
 use Rattle.std.proofs.lemmas.Int.{to_z-of_z}
 use Rattle.std.proofs.lemmas.List.{length-append}
@@ -46,8 +46,7 @@ returns c =
     let xs = c.args.xs.now in
     let ys = c.args.ys.now in
     let i = c.loop-i.invariant in
-    let all : c.loop-i.i ≡ length (added xs ys) = omega (arith, length-sum xs ys, c.max-i-end.ensures, c.len.ensures, c.len-2.ensures) in
-    (
+    let all : c.loop-i.i ≡ length (added xs ys) = omega (arith, length-sum xs ys, c.max-i-end.ensures, c.len.ensures, c.len-2.ensures) in (
       row_that_fits (added xs ys) (λ k lt. i.fit k (omega (arith, all))),
       same_lists c.loop-i.sums (added xs ys) (i.long ∙ all) (λ k lt. i.each k (omega (arith, i.long))),
     )

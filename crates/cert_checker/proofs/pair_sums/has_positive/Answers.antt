@@ -1,4 +1,4 @@
-use Rattle.std.proofs.Common.{rules, ◌≡◌, ◌<◌, ◌+◌, ◌≤ℤ◌, ℕ, pos, slice_get, Some, refl, subst, arith, below_more, FitsSigned}
+use Rattle.std.proofs.Common.{rules, ◌≡◌, ◌≤ℤ◌, ℕ, pos, slice_get, Some, refl, subst, arith, below_more, FitsSigned}
 use Rattle.std.specs.Int.{w128}
 use Rattle.std.proofs.lemmas.Int.{ints, to_z-of_z}
 use Rattle.certificate_parts.specs.declared.parts.PairPoint.{PairPoint}

@@ -1,4 +1,4 @@
-use Rattle.std.proofs.Common.{◌≡◌, ◌↔◌, ◌⊎◌, inl, inr, ◌<◌, ◌+◌, ◌-◌, ◌≤◌, ℕ, suc, ℤ, Bool, true, false, List, map, length, slice_get, Some, refl, sym, subst, ap, ◌∙◌, arith, below_more}
+use Rattle.std.proofs.Common.{◌≡◌, ◌⊎◌, inl, inr, ◌-◌, ℕ, suc, ℤ, Bool, true, false, List, length, slice_get, Some, refl, sym, subst, arith, below_more}
 use Rattle.std.specs.List.{AllByRecursion}
 use Rattle.std.proofs.lemmas.List.{length-map}
 use Rattle.certificate_parts.specs.declared.parts.PairPoint.{PairPoint}
@@ -45,8 +45,7 @@ returns-then-not-branch-clause-fit g c =
     let inv = c.loop-x.invariant in
     let heads : Bool → Type 0 = AddsLoad c.loop-x.heads c.add_pair.new.heads (clause_of p x).head.pred.0 (sizes_at e (clause_of p x).head x.point) x.point in
     let calls : Bool → Type 0 = AddsLoad c.loop-x.calls c.add_pair.new.calls (call_of p x).pred.0 (sizes_at e (call_of p x) x.point) x.point in
-    let wide : heads false ⊎ calls false = subst (AddsBoth heads calls) c.if-not-branch.true c.in_ok-add_pair.ensures in
-    (
+    let wide : heads false ⊎ calls false = subst (AddsBoth heads calls) c.if-not-branch.true c.in_ok-add_pair.ensures in (
       λ h. cc,
       λ fit.
           let values = by_places (PairFits e p) points fit.values n x at in
@@ -87,8 +86,7 @@ returns-clause-fit g c =
     let p = c.args.p.now in
     let points = c.args.points.now in
     let n = c.loop-x.x-index in
-    let inv = c.loop-x.invariant in
-    (
+    let inv = c.loop-x.invariant in (
       λ h. record {
         values = from_places (PairFits e p) points (λ i x ex. inv.values i (omega (arith, place_below points i x ex)) x ex);
         heads = all_fit (head_loads e p points) n (omega (arith, length-map points (λ (y : PairPoint). load_at e (clause_of p y).head y.point))) inv.head_sums;

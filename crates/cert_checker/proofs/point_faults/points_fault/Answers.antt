@@ -1,5 +1,4 @@
-use Rattle.std.proofs.Common.{◌≡◌, ◌↔◌, ◌<◌, ◌+◌, ◌-◌, ◌≤◌, ℕ, ℤ, List, Option, None, length, slice_get, Some, IfSome, refl, sym, subst, ap, ◌∙◌, arith, below_more}
-use Rattle.std.specs.List.{AllByRecursion}
+use Rattle.std.proofs.Common.{◌≡◌, ◌↔◌, ◌-◌, ℕ, None, length, slice_get, Some, refl, sym, subst, arith, below_more}
 use Rattle.certificate_parts.specs.declared.parts.PairPoint.{PairPoint}
 use Rattle.certificate_parts.specs.declared.parts.ScaledPoint.{ScaledPoint}
 use Rattle.linear_rows.specs.Plain.{HaveWidth}

@@ -1,6 +1,5 @@
-use Rattle.std.proofs.Common.{rules, ◌≡◌, ◌↔◌, ◌<◌, ◌+◌, ◌≤ℤ◌, ℕ, ℤ, pos, List, length, None, slice_get, Some, sym, subst, ap, ◌∙◌, arith, below_more, FitsSigned}
+use Rattle.std.proofs.Common.{rules, ◌≡◌, ◌≤ℤ◌, ℕ, ℤ, pos, List, length, slice_get, Some, sym, subst, ap, ◌∙◌, arith, below_more, FitsSigned}
 use Rattle.std.specs.Int.{w128}
-use Rattle.std.specs.List.{AllByRecursion}
 use Rattle.std.proofs.lemmas.Int.{ints, to_z-of_z}
 use Rattle.std.proofs.lemmas.List.{length-map}
 use Rattle.exact128.specs.Sums.{dot}
@@ -55,8 +54,7 @@ returns c =
     let list = c.args.system.now.rows.list in
     let point = c.args.point.now in
     let es = plain_rows list in
-    let all : c.loop-row.row-index ≡ length es = omega (arith, ap length c.as_slice-row-items.ensures, length-map list plain_row) in
-    (
+    let all : c.loop-row.row-index ≡ length es = omega (arith, ap length c.as_slice-row-items.ensures, length-map list plain_row) in (
       λ none. (c.if-system.false, from_places (ValueHolds point) es (λ i r er. c.loop-row.invariant.0 none i (omega (arith, all, place_below es i r er)) r er)),
       λ h. c.loop-row.invariant.1 (λ i lt r er. by_places (ValueHolds point) es h.1 i r er),
     )

@@ -1,4 +1,4 @@
-use Rattle.std.proofs.Common.{rules, ◌≡◌, ◌<◌, ◌+◌, ◌∷◌, ◌++◌, [], ℕ, ℤ, List, map, take, length, slice_get, Some, sym, subst, ap, ◌∙◌, arith, below_more, FitsSigned}
+use Rattle.std.proofs.Common.{rules, ◌≡◌, ◌∷◌, ◌++◌, [], ℕ, ℤ, List, take, length, slice_get, Some, sym, subst, ap, ◌∙◌, arith, below_more, FitsSigned}
 use Rattle.std.specs.Int.{w128}
 use Rattle.std.proofs.lemmas.Int.{to_z-of_z}
 use Rattle.std.proofs.lemmas.List.{length-map}
@@ -43,8 +43,7 @@ pub returns : goal.returns
 returns c =
     let es = plain_rows c.args.sizes.now.list in
     let point = c.args.point.now in
-    let all : c.loop-size.size-index ≡ length es = omega (arith, ap length c.as_slice-size-items.ensures, length-map c.args.sizes.now.list plain_row) in
-    (
+    let all : c.loop-size.size-index ≡ length es = omega (arith, ap length c.as_slice-size-items.ensures, length-map c.args.sizes.now.list plain_row) in (
       from_places (ValueFits point) es (λ i e ee. c.loop-size.invariant.fit i (omega (arith, all, place_below es i e ee)) e ee),
       c.loop-size.invariant.values ∙ ap (λ (k : ℕ). values_of (take k es) point) all ∙ ap (λ (xs : List (List ℤ)). values_of xs point) (take-length es),
     )

@@ -1,4 +1,4 @@
-use Rattle.std.proofs.Common.{◌≡◌, ◌↔◌, ◌<◌, ◌+◌, ℕ, List, Option, None, map, length, slice_get, Some, refl, sym, subst, ap, ◌∙◌, arith, below_more}
+use Rattle.std.proofs.Common.{◌≡◌, ℕ, List, Option, map, length, slice_get, Some, refl, sym, subst, ap, ◌∙◌, arith, below_more}
 use Rattle.std.specs.List.{AllByRecursion}
 use Rattle.call_components.specs.Numbers.{number_of}
 use Rattle.call_components.specs.Partition.{IsIn}

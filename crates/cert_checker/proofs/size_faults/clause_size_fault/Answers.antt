@@ -1,7 +1,6 @@
-use Rattle.std.proofs.Common.{◌≡◌, refl, ◌↔◌, ◌+◌, ◌<◌, ℕ, suc, ℤ, List, All, get_or, length, map, slice_get, Some, None, sym, ap, subst, ◌∙◌, arith, below_more, take}
+use Rattle.std.proofs.Common.{◌≡◌, refl, ◌↔◌, ℕ, suc, ℤ, List, All, length, map, slice_get, Some, None, sym, ap, subst, ◌∙◌, arith, below_more}
 use Rattle.std.proofs.lemmas.List.{length-map}
 use Rattle.std.proofs.Math.Seq.{take-length}
-use Rattle.cti_terms.specs.declared.atom_list.Atom.{Atom}
 use Rattle.linear_rows.specs.Plain.{plain_row, plain_rows}
 use Rattle.linear_rows.specs.declared.multipliers.Multipliers.{Multipliers}
 use Rattle.linear_rows.specs.declared.row.Row.{Row}

@@ -1,4 +1,4 @@
-use Rattle.std.proofs.Common.{◌≡◌, [], refl, ◌↔◌, ◌+◌, ◌-◌, ◌<◌, ℕ, List, get_or, length, slice_get, Some, None, sym, ap, subst, ◌∙◌, arith, below_more}
+use Rattle.std.proofs.Common.{◌≡◌, [], refl, ◌↔◌, ◌+◌, ◌-◌, ℕ, List, length, slice_get, Some, None, ap, subst, ◌∙◌, arith, below_more}
 use Rattle.cti_terms.specs.declared.clauses.Clause.{Clause}
 use Rattle.linear_rows.specs.declared.multipliers.Multipliers.{Multipliers}
 use Rattle.termination_model.proofs.Lists.{any_default, one_element, place_below}
