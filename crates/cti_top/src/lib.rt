@@ -3,7 +3,9 @@
 
 mod answer;
 mod answering;
+mod checking;
 mod files;
+mod laws;
 mod line;
 mod memory_files;
 mod memory_sink;
@@ -23,9 +25,11 @@ mod sure;
 #[cfg(test)]
 mod tests;
 mod top_call;
+mod verdict_text;
 mod writing;
 
 pub use files::{Files, LoadFault};
+pub use laws::valid_certificates_bound_their_nodes;
 pub use memory_files::MemFiles;
 pub use memory_sink::MemSink;
 pub use places::Position;
@@ -37,3 +41,4 @@ pub use status::Status;
 pub use sure::{SureFiles, SureSink};
 pub use term_text::run_text;
 pub use top_call::command;
+pub use verdict_text::verdict_text;
