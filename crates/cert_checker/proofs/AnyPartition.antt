@@ -41,12 +41,14 @@ module _ (truth : (ℕ → Bool) → Tree → Bool) (expression : ℕ → Tree �
   refutations h q d r ns at eq en =
       let (c, hq) = moved p other one b a d q eq in
       let (ms, em) = an_element one.members c (a.within c q hq) in
-      let (sums, points) = h q c r ms at hq em in
-      (record {
-        positive = sums.positive;
-        fit = sums.fit;
-        columns = λ x has. sums.columns x (members_move p other one b a d c q x ns ms eq hq en em has);
-      }, points)
+      let (sums, points) = h q c r ms at hq em in (
+        record {
+          positive = sums.positive;
+          fit = sums.fit;
+          columns = λ x has. sums.columns x (members_move p other one b a d c q x ns ms eq hq en em has);
+        },
+        points,
+      )
 
   pub parts_hold : PartsHold truth expression p one parts → PartsHold truth expression p other parts
   parts_hold h = record {

@@ -88,7 +88,7 @@ module _ (p : Listing) (comps : Partition) (parts : Parts) (prog : IsProgram p) 
       let ms = list_at comps.members r in
       let at : slice_get comps.members r ≡ Some ms = there comps.members r [] (are.within r q hq) in
       let count : mapping_count parts ms ≡ length (list_at parts.levels q) = count_of parts ms (length (list_at parts.levels q)) (are.ascending r ms at).1
-          (λ x e. levels.members x q ((are.members r ms at x).0 (has_contains ms x (0, e)) ∙ sym hq)) in
+      (λ x e. levels.members x q ((are.members r ms at x).0 (has_contains ms x (0, e)) ∙ sym hq)) in
       let inner = one_of parts.preconditions have.preconditions q (list_at parts.preconditions q) (there parts.preconditions q [] (omega (arith, lt, have.preconditions.count))) in
       measure_length parts (holding.precondition p parts) 0 (mapping_count parts (list_at comps.members (rank_of comps q)))
       ∙ ap (λ (n : ℕ). mapping_count parts (list_at comps.members n)) (rank_in q r hq)
@@ -146,11 +146,11 @@ valid_bounds modes_show p names facts prog named distinct valid =
     subst (ModesAreBounded p names) (sym valid.structured.is) (listed_bounded p names parts valid.structured.notes valid.structured.are_notes (λ q modes at.
     let (e, ee) = an_element p.preds q (omega (arith, slice_get_within parts.modes q modes at, have.modes.count)) in
     let admitted = subst (AllByRecursion (λ mode. Admits (claims p valid.comps parts) q (mode_row mode 1 (shape.arity_of p q)))) (ap (λ (o : Option (List (List ℕ))). unwrap_or o []) at)
-        ((shown_modes p valid.comps parts prog valid.components have modes_show valid.hold).modes q) in
+    ((shown_modes p valid.comps parts prog valid.components have modes_show valid.hold).modes q) in
     all_map (λ mode. Admits (claims p valid.comps parts) q (mode_row mode 1 (shape.arity_of p q))) (ModeIsBounded p names (order.pred_text p names q))
     (λ mode admits a n is rigid.
-      let same : q ≡ a.pred.0 = same_pred p names prog named distinct a.pred.0 q is.pred e is.there ee is.name is.arity in
-      let long : shape.arity_of p q ≡ length a.args = arity_at p q e ee ∙ sym (ap (λ (o : Option Pred). (order.text_or_none names o).arity) ee) ∙ sym is.arguments in
-      query_ends p valid.comps parts prog valid.components have modes_show valid.hold q mode admits a n (sym same)
-      (some_is (λ (d : Pred). d.arity ≡ length a.args) (slice_get p.preds a.pred.0) is.pred is.there (is.arity ∙ sym is.arguments)) long (meets_row mode 1 a.args rigid))
+    let same : q ≡ a.pred.0 = same_pred p names prog named distinct a.pred.0 q is.pred e is.there ee is.name is.arity in
+    let long : shape.arity_of p q ≡ length a.args = arity_at p q e ee ∙ sym (ap (λ (o : Option Pred). (order.text_or_none names o).arity) ee) ∙ sym is.arguments in
+    query_ends p valid.comps parts prog valid.components have modes_show valid.hold q mode admits a n (sym same)
+    (some_is (λ (d : Pred). d.arity ≡ length a.args) (slice_get p.preds a.pred.0) is.pred is.there (is.arity ∙ sym is.arguments)) long (meets_row mode 1 a.args rigid))
     modes admitted))

@@ -92,17 +92,18 @@ module _ (p : Listing) (names : List (List ℕ)) where
   pub listed_bounded : (parts : Parts) (notes : List Fact) → AreNotes notes
       → ((q : ℕ) (modes : List (List ℕ)) → slice_get parts.modes q ≡ Some modes → AllByRecursion (ModeIsBounded p names (order.pred_text p names q)) modes)
       → ModesAreBounded p names (order.listed p names parts notes)
-  listed_bounded parts notes are h =
-      (tt,
-      all_append Q (order.mode_facts p names parts.modes) _ (each_facts Q (λ a ms. fact.Terminates (order.pred_text p names a) ms ∷ []) 0 parts.modes (λ k n ms at e. (subst (λ (q : ℕ). AllByRecursion (ModeIsBounded p names (order.pred_text p names q)) ms) (let same : k ≡ n = omega (arith, at) in same) (h k ms e), tt)))
-      (all_append Q (order.size_facts p names parts.rows) _ (all_facts Q (λ a r. lines_from 0 (order.size_line (order.pred_text p names a)) r.list) 0 parts.rows (λ a r. all_lines Q (order.size_line (order.pred_text p names a)) 0 r.list (λ n x. tt)))
-      (all_append Q (order.proof_facts parts.row_proofs) _ (all_facts Q (λ k ms. lines_from 0 (order.by_line k) ms) 0 parts.row_proofs (λ k ms. all_lines Q (order.by_line k) 0 ms (λ n x. tt)))
-      (all_append Q (order.ground_facts p names parts.grounds) _ (all_facts Q (λ a cs. lines_from 0 (order.grounds_line (order.pred_text p names a)) cs) 0 parts.grounds (λ a cs. all_lines Q (order.grounds_line (order.pred_text p names a)) 0 cs (λ n x. tt)))
-      (all_append Q (order.level_facts p names parts.levels) _ (all_facts Q (λ a ls. lines_from 0 (order.measure_line (order.pred_text p names a)) ls) 0 parts.levels (λ a ls. all_lines Q (order.measure_line (order.pred_text p names a)) 0 ls (λ n x. tt)))
-      (all_append Q (order.fall_facts parts.falls) _ (all_facts Q (λ k calls. facts_from 0 (λ j ms. lines_from 0 (order.falls_line k j) ms) calls) 0 parts.falls (λ k calls. all_facts Q (λ j ms. lines_from 0 (order.falls_line k j) ms) 0 calls (λ j ms. all_lines Q (order.falls_line k j) 0 ms (λ n x. tt))))
-      (all_append Q (order.pre_facts p names parts.preconditions) _ (all_facts Q (λ a ms. facts_from 0 (λ m cs. lines_from 0 (order.pre_line (order.pred_text p names a) m) cs) ms) 0 parts.preconditions (λ a ms. all_facts Q (λ m cs. lines_from 0 (order.pre_line (order.pred_text p names a) m) cs) 0 ms (λ m cs. all_lines Q (order.pre_line (order.pred_text p names a) m) 0 cs (λ n x. tt))))
-      (all_append Q (order.refuted_facts p names parts.refutations) notes (all_facts Q (λ a r. order.refutation_facts (order.pred_text p names a) r) 0 parts.refutations (λ a r. refutation_bounded (order.pred_text p names a) r))
-      (all_map (λ f. IsTrue (order.is_note f)) Q (note_is_bounded p names) notes are)))))))))
+  listed_bounded parts notes are h = (
+    tt,
+    all_append Q (order.mode_facts p names parts.modes) _ (each_facts Q (λ a ms. fact.Terminates (order.pred_text p names a) ms ∷ []) 0 parts.modes (λ k n ms at e. (subst (λ (q : ℕ). AllByRecursion (ModeIsBounded p names (order.pred_text p names q)) ms) (let same : k ≡ n = omega (arith, at) in same) (h k ms e), tt)))
+        (all_append Q (order.size_facts p names parts.rows) _ (all_facts Q (λ a r. lines_from 0 (order.size_line (order.pred_text p names a)) r.list) 0 parts.rows (λ a r. all_lines Q (order.size_line (order.pred_text p names a)) 0 r.list (λ n x. tt)))
+        (all_append Q (order.proof_facts parts.row_proofs) _ (all_facts Q (λ k ms. lines_from 0 (order.by_line k) ms) 0 parts.row_proofs (λ k ms. all_lines Q (order.by_line k) 0 ms (λ n x. tt)))
+        (all_append Q (order.ground_facts p names parts.grounds) _ (all_facts Q (λ a cs. lines_from 0 (order.grounds_line (order.pred_text p names a)) cs) 0 parts.grounds (λ a cs. all_lines Q (order.grounds_line (order.pred_text p names a)) 0 cs (λ n x. tt)))
+        (all_append Q (order.level_facts p names parts.levels) _ (all_facts Q (λ a ls. lines_from 0 (order.measure_line (order.pred_text p names a)) ls) 0 parts.levels (λ a ls. all_lines Q (order.measure_line (order.pred_text p names a)) 0 ls (λ n x. tt)))
+        (all_append Q (order.fall_facts parts.falls) _ (all_facts Q (λ k calls. facts_from 0 (λ j ms. lines_from 0 (order.falls_line k j) ms) calls) 0 parts.falls (λ k calls. all_facts Q (λ j ms. lines_from 0 (order.falls_line k j) ms) 0 calls (λ j ms. all_lines Q (order.falls_line k j) 0 ms (λ n x. tt))))
+        (all_append Q (order.pre_facts p names parts.preconditions) _ (all_facts Q (λ a ms. facts_from 0 (λ m cs. lines_from 0 (order.pre_line (order.pred_text p names a) m) cs) ms) 0 parts.preconditions (λ a ms. all_facts Q (λ m cs. lines_from 0 (order.pre_line (order.pred_text p names a) m) cs) 0 ms (λ m cs. all_lines Q (order.pre_line (order.pred_text p names a) m) 0 cs (λ n x. tt))))
+        (all_append Q (order.refuted_facts p names parts.refutations) notes (all_facts Q (λ a r. order.refutation_facts (order.pred_text p names a) r) 0 parts.refutations (λ a r. refutation_bounded (order.pred_text p names a) r))
+        (all_map (λ f. IsTrue (order.is_note f)) Q (note_is_bounded p names) notes are)))))))),
+  )
 
   -- a predicate is told by its text
   pub same_pred : IsProgram p → AreNamed names p.preds → AllPairs (λ a b. a ≢ b) names → (q r : ℕ) (d e : Pred) → slice_get p.preds q ≡ Some d → slice_get p.preds r ≡ Some e

@@ -226,7 +226,7 @@ module _ (p : Listing) where
             let bs = body_at k c e in
             let inner = clause_falls k c e in
             let each = one_of (list_at parts.falls k) inner j (list_at (list_at parts.falls k) j)
-                (list_there (list_at parts.falls k) (length c.body) j (inner.count ∙ ap length bs) (slice_get_within c.body j b ej)) in
+            (list_there (list_at parts.falls k) (length c.body) j (inner.count ∙ ap length bs) (slice_get_within c.body j b ej)) in
             let head = subst (λ (h : ℕ). AreEach (shape.proofs_of_call comps parts.levels h (slice_get (shape.body_of p k) j)) (λ _. shape.AreMultipliers (shape.rows_of_atoms parts.rows (take j (shape.body_of p k)))) (list_at (list_at parts.falls k) j)) (head_at k c e) each in
             let body = subst (λ (s : List Atom). AreEach (shape.proofs_of_call comps parts.levels c.head.pred.0 (slice_get s j)) (λ _. shape.AreMultipliers (shape.rows_of_atoms parts.rows (take j s))) (list_at (list_at parts.falls k) j)) bs head in
             subst (λ (o : Option Atom). AreEach (shape.proofs_of_call comps parts.levels c.head.pred.0 o) (λ _. shape.AreMultipliers (shape.rows_of_atoms parts.rows (take j c.body))) (list_at (list_at parts.falls k) j)) ej body

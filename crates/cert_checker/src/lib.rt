@@ -34,6 +34,8 @@ mod targets;
 #[cfg(test)]
 mod tests;
 mod verdict;
+#[cfg(test)]
+mod worked_certificates;
 
 pub use bounding::valid_certificates_bound_their_modes;
 pub use checking::check;

@@ -12,11 +12,11 @@ returns-in-Ok c =
     if_ok_more (λ (fault : Option Fault). (fault ≡ None) ↔ PartsHold truth size_row c.args.p.now c.in_ok-comps.comps c.in-Ok.parts)
     (λ (fault : Option Fault). (fault ≡ None) ↔ IsValid c.args.p.now c.args.names.now c.args.c.now.facts)
     (λ fault decides. decided c.one_structure.ensures c.args.p.now c.args.names.now c.in_ok-comps.comps c.in_ok-comps.ensures c.args.c.now.facts
-      (fault ≡ None) c.in-Ok.parts c.in-Ok.ensures.found c.in-Ok.ensures.only decides) c.value_fault.result c.value_fault.ensures
+    (fault ≡ None) c.in-Ok.parts c.in-Ok.ensures.found c.in-Ok.ensures.only decides) c.value_fault.result c.value_fault.ensures
 
 pub returns-in-Err-Wrong : goal.returns-in-Err-Wrong
 returns-in-Err-Wrong c = (
   λ some. cc,
   λ valid. absurd (without_parts c.one_structure.ensures c.args.p.now c.args.names.now c.in_ok-comps.comps c.in_ok-comps.ensures c.args.c.now.facts
-    (λ own is. let wrong = c.in-Err-Wrong.ensures.only own is in cc) valid),
+      (λ own is. let wrong = c.in-Err-Wrong.ensures.only own is in cc) valid),
 )

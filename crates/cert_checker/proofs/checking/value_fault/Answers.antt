@@ -37,10 +37,13 @@ pub returns : goal.returns
 returns c =
     if_ok_more (λ (fault : Option Fault). (fault ≡ None) ↔ RefutationsHold size_row c.args.p.now c.args.comps.now c.args.parts.now)
     (λ (fault : Option Fault). (fault ≡ None) ↔ PartsHold truth size_row c.args.p.now c.args.comps.now c.args.parts.now)
-    (λ fault decides. (λ none. record {
-      modes = c.in_ok-fault.ensures.0 c.in_default.is;
-      rows = c.in_ok-fault-2.ensures.0 c.in_default-2.is;
-      measures = c.in_default-measure_fault.ensures.0 refl;
-      falls = c.in_ok-fault-3.ensures.0 c.in_default-3.is;
-      refutations = decides.0 none;
-    }, λ hold. decides.1 hold.refutations)) c.refutation_fault.result c.refutation_fault.ensures
+    (λ fault decides. (
+      λ none. record {
+        modes = c.in_ok-fault.ensures.0 c.in_default.is;
+        rows = c.in_ok-fault-2.ensures.0 c.in_default-2.is;
+        measures = c.in_default-measure_fault.ensures.0 refl;
+        falls = c.in_ok-fault-3.ensures.0 c.in_default-3.is;
+        refutations = decides.0 none;
+      },
+      λ hold. decides.1 hold.refutations,
+    )) c.refutation_fault.result c.refutation_fault.ensures

@@ -1,0 +1,106 @@
+#!/usr/bin/env bash
+# Builds a program that checks certificates, for comparisons outside the gate. Each line that it reads is a program's text and a
+# certificate's, both in hexadecimal digits, with a space between. It answers a line: `yes.`, `no(Line,Reason).`, `program` or
+# `certificate` where the text is none.
+# Usage: tools/check_driver.sh FOLDER      (prints the program's path)
+set -eu
+. "$(dirname "$0")/workspace.sh"
+work=$1
+workspace "$work" cti_terms prolog_tokens prolog_grammar prolog_reader clause_normal call_components exact128 linear_rows term_size \
+    bool_diagrams termination_model argument_rows certificate certificate_parts mode_checker cert_checker
+program "$work" driver cert_checker certificate clause_normal cti_terms prolog_reader
+cat >"$work/crates/driver/src/main.rt" <<'RUST'
+//! What is answered to certificates given in hex.
+#![tactic(auto)]
+
+mod show;
+
+use std::io;
+
+fn value(byte: u8) -> u8 {
+    match byte {
+        b'0'..=b'9' => byte - 48,
+        b'a'..=b'f' => byte - 87,
+        _ => 0,
+    }
+}
+
+fn main(rt: HostRuntime) -> io::Result<()> {
+    for line in rt.lines(rt.alloc()) {
+        let line = line?;
+        let mut text = Vec::new(rt.alloc());
+        let mut certificate = Vec::new(rt.alloc());
+        let mut behind = false;
+        let mut high = None;
+        for byte in line.as_str().as_bytes() {
+            if *byte == b' ' {
+                behind = true;
+                continue;
+            }
+            match high {
+                None => high = Some(value(*byte)),
+                Some(first) => {
+                    let both = first.wrapping_mul(16).wrapping_add(value(*byte));
+                    if behind {
+                        certificate.push(both)?;
+                    } else {
+                        text.push(both)?;
+                    }
+                    high = None;
+                }
+            }
+        }
+        if text.len() <= 1048577 {
+            show::show(&rt, &text, &certificate)?;
+        }
+    }
+    Ok(())
+}
+RUST
+cat >"$work/crates/driver/src/show.rt" <<'RUST'
+//! What is answered to one certificate.
+ghost use Rattle.std.specs.Prelude.{◌≤◌, length};
+
+use cert_checker::{Reason, Verdict, check};
+use certificate::Certificate;
+use clause_normal::normal;
+use cti_terms::Names;
+use prolog_reader::read_text;
+use std::io;
+
+fn number(reason: Reason) -> u32 {
+    match reason {
+        Reason::Version => 1,
+        Reason::Missing => 2,
+        Reason::Extra => 3,
+        Reason::Shape => 4,
+        Reason::SizeRow => 5,
+        Reason::Measure => 6,
+        Reason::Ground => 7,
+        Reason::Precondition => 8,
+        Reason::Mode => 9,
+        Reason::Refutation => 10,
+        Reason::Wide => 11,
+    }
+}
+
+pub fn show(rt: &HostRuntime, text: &[u8], certificate: &[u8]) -> io::Result<()>
+    requires text { length text.now ≤ 1048577 }
+{
+    let mut names = Names::new(rt.alloc());
+    let Ok(read) = read_text(rt.alloc(), text, &mut names) else {
+        return println!(rt; "program");
+    };
+    let Ok(program) = normal(rt.alloc(), &read, &mut names) else {
+        return println!(rt; "program");
+    };
+    let Ok(certificate) = Certificate::read(rt.alloc(), certificate) else {
+        return println!(rt; "certificate");
+    };
+    match check(rt.alloc(), &program, &names, &certificate)? {
+        Verdict::Yes => println!(rt; "yes."),
+        Verdict::No { line, reason } => println!(rt; "no({line},{}).", number(reason)),
+    }
+}
+RUST
+build "$work" driver
