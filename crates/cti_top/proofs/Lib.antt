@@ -8,3 +8,4 @@ pub mod StepLemmas
 pub mod RunLemmas
 pub mod AnswerLemmas
 pub mod OutcomeLemmas
+pub mod MeetsLemmas
