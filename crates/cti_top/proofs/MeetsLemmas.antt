@@ -1,7 +1,5 @@
 -- A query that meets a printed mode is bounded.
-use Rattle.std.proofs.Common.{◌≡◌, ℕ, zero, suc, List, [], ◌∷◌, Some}
-use Rattle.std.specs.Prelude.{slice_get}
-use Rattle.std.specs.List.{AllByRecursion}
+use Rattle.std.proofs.Common.{ℕ, List}
 use Rattle.certificate.specs.declared.fact.Fact.{Fact}
 use Rattle.certificate.specs.declared.fact.Fact.TheVariants.{Terminates}
 use Rattle.cert_checker.specs.Bounding.{FactIsBounded, ModeIsBounded, ModesAreBounded}

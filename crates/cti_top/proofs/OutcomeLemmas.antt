@@ -1,37 +1,52 @@
 -- What the status of the top call says.
 use Rattle.std.proofs.Common.{◌≡◌, ℕ, ◌≤◌, ◌<◌, List, length, Option, Some, None, ◌⊎◌, refl, ap, sym, ◌∙◌, inl, inr, arith}
 use Rattle.std.proofs.lemmas.Option.{none-some, same_Some}
-use Rattle.std.specs.Prelude.{Result, Ok, IfOk}
 use Rattle.cti_top.specs.Told.{Map, TellsAt, TellsMore, Takes}
 use Rattle.cti_top.specs.Words.{Ask, infer, check, run, asks}
 use Rattle.cti_top.specs.Programs.{IsRefused}
 use Rattle.certificate.specs.Reading.{IsTextOf}
 use Rattle.certificate.specs.Reading.{most_bytes as most_certificate_bytes}
 use Rattle.certificate.specs.declared.certificate.Certificate.{Certificate}
-use Rattle.cti_top.specs.Checks.{IsVerdictOn, IsCheckOf}
+use Rattle.cti_top.specs.Checks.{IsVerdictOn}
 use Rattle.cti_top.specs.Checks as checks
 use Rattle.cti_top.specs.Queries.{Known}
-use Rattle.cti_top.specs.Causes.{Rose}
 use Rattle.certificate.specs.declared.fact.Fact.{Fact}
 use Rattle.cti_top.specs.Runs.{Ends, IsKnown, IsRunOf, IsRefusedQuery}
 use Rattle.cti_top.specs.Runs as runs
 use Rattle.cti_terms.specs.Listing.{Listing}
 use Rattle.cti_terms.specs.declared.derivation.Goal.{Goal}
 use Rattle.ld_resolver.specs.declared.running.Ending.{Ending}
-use Rattle.cti_top.specs.Answers.{AnswersText, AnswersCertificate, AnswersProgram, AnswersRequest}
+use Rattle.cti_top.specs.Answers.{AnswersCertificate, AnswersProgram, AnswersRequest}
 use Rattle.cti_top.specs.Answers as answers
-use Rattle.cti_top.specs.Outcome.{most_bytes, program_file, IsAnswer, usage, modes, ran, checked, program_too_long, program_refused, query_refused, certificate_too_long, certificate_refused, Outcome, HasFile, IsDoneOrMemory, IsRanOrMemory, IsCheckedOrMemory, FileRose}
+use Rattle.cti_top.specs.Outcome.{most_bytes, program_file, IsAnswer, usage, modes, ran, checked, program_too_long, program_refused, query_refused, certificate_too_long, certificate_refused, Outcome, HasFile, IsDoneOrMemory, IsRanOrMemory, IsCheckedOrMemory}
 use Rattle.cti_top.specs.declared.status.Status.{Status}
 use Rattle.cti_top.specs.declared.status.Status.TheVariants.{Done, No, Usage, Refused, FileFault, OutFault, Memory, Stopped}
 
-not_file : (told : Map) (words : List (List ℕ)) (text : List ℕ) → IsAnswer told words FileFault text → ⊥
+-- a verdict is written with its status
+done_or_no : {p : Listing} {names : List (List ℕ)} {facts : List Fact} {status : Status} {text : List ℕ} → IsVerdictOn p names facts status text → (status ≡ Done) ⊎ (status ≡ No)
+done_or_no (checks.valid v bounded s e) = inl s
+done_or_no (checks.not_valid line reason v s e) = inr s
+
+file_unlike : (FileFault ≡ Done) ⊎ (FileFault ≡ No) → ⊥
+file_unlike (inl e) = cc
+file_unlike (inr e) = cc
+
+out_unlike : (OutFault ≡ Done) ⊎ (OutFault ≡ No) → ⊥
+out_unlike (inl e) = cc
+out_unlike (inr e) = cc
+
+memory_unlike : (Memory ≡ Done) ⊎ (Memory ≡ No) → ⊥
+memory_unlike (inl e) = cc
+memory_unlike (inr e) = cc
+
+pub not_file : (told : Map) (words : List (List ℕ)) (text : List ℕ) → IsAnswer told words FileFault text → ⊥
 not_file told words text (usage n s e) = cc
 not_file told words text (modes f b a t m s) = cc
 not_file told words text (ran f q n b a t r) = elim r.ran.ends [ ]
 not_file told words text (program_too_long k a m s e) = cc
 not_file told words text (program_refused k b kind at a t r s e) = cc
 not_file told words text (query_refused f q n b kind at a t r s e) = cc
-not_file told words text (checked f c b d k a t i u h) = elim h.verdict [ ]
+not_file told words text (checked f c b d k a t i u h) = file_unlike (done_or_no h.verdict)
 not_file told words text (certificate_too_long f c b k a t i m s e) = cc
 not_file told words text (certificate_refused f c b d k l a t i u r s e) = cc
 
@@ -42,7 +57,7 @@ not_out told words text (ran f q n b a t r) = elim r.ran.ends [ ]
 not_out told words text (program_too_long k a m s e) = cc
 not_out told words text (program_refused k b kind at a t r s e) = cc
 not_out told words text (query_refused f q n b kind at a t r s e) = cc
-not_out told words text (checked f c b d k a t i u h) = elim h.verdict [ ]
+not_out told words text (checked f c b d k a t i u h) = out_unlike (done_or_no h.verdict)
 not_out told words text (certificate_too_long f c b k a t i m s e) = cc
 not_out told words text (certificate_refused f c b d k l a t i u r s e) = cc
 
@@ -53,7 +68,7 @@ not_memory told words text (ran f q n b a t r) = elim r.ran.ends [ ]
 not_memory told words text (program_too_long k a m s e) = cc
 not_memory told words text (program_refused k b kind at a t r s e) = cc
 not_memory told words text (query_refused f q n b kind at a t r s e) = cc
-not_memory told words text (checked f c b d k a t i u h) = elim h.verdict [ ]
+not_memory told words text (checked f c b d k a t i u h) = memory_unlike (done_or_no h.verdict)
 not_memory told words text (certificate_too_long f c b k a t i m s e) = cc
 not_memory told words text (certificate_refused f c b d k l a t i u r s e) = cc
 
@@ -159,10 +174,9 @@ ran_or_memory told words status text name query bytes steps (certificate_too_lon
 ran_or_memory told words status text name query bytes steps (certificate_refused f c b d k l a t i u r s e) asked has short none no_fault =
     absurd (check_or_run f c name query steps (one_ask words _ _ a asked))
 
--- a verdict is written with its status
-yes_or_no : {p : Listing} {names : List (List ℕ)} {facts : List Fact} {status : Status} {text : List ℕ} → IsVerdictOn p names facts status text → IsCheckedOrMemory status
-yes_or_no (checks.valid v bounded s e) = inl s
-yes_or_no (checks.not_valid line reason v s e) = inr (inl s)
+yes_or_no : (status : Status) → (status ≡ Done) ⊎ (status ≡ No) → IsCheckedOrMemory status
+yes_or_no status (inl h) = inl h
+yes_or_no status (inr h) = inr (inl h)
 
 -- a certificate's text is checked, where its program has no fault
 pub checked_or_memory : (told : Map) (words : List (List ℕ)) (status : Status) (text name certificate bytes certified : List ℕ) (c : Certificate) → IsAnswer told words status text
@@ -172,7 +186,7 @@ checked_or_memory told words status text name certificate bytes certified c (usa
 checked_or_memory told words status text name certificate bytes certified c (modes f b a t m s) asked has short none held is = inl s
 checked_or_memory told words status text name certificate bytes certified c (ran f q n b a t r) asked has short none held is =
     absurd (check_or_run name certificate f q n (one_ask words _ _ asked a))
-checked_or_memory told words status text name certificate bytes certified c (checked f d b e k a t i u h) asked has short none held is = yes_or_no h.verdict
+checked_or_memory told words status text name certificate bytes certified c (checked f d b e k a t i u h) asked has short none held is = yes_or_no status (done_or_no h.verdict)
 checked_or_memory told words status text name certificate bytes certified c (program_too_long k a m s e) asked has short none held is =
     absurd (no_long told words (check name certificate) bytes asked has k a m short)
 checked_or_memory told words status text name certificate bytes certified c (program_refused k b kind at a t r s e) asked has short none held is =
@@ -207,24 +221,3 @@ pub request_answered : (told : Map) (words : List (List ℕ)) (ask : Ask) (statu
     → IsAnswer told words status text
 request_answered told words ask status text a (answers.read bytes t h) = answered told words ask bytes status text a t h
 request_answered told words ask status text a (answers.long m h) = program_too_long ask a m h.status h.printed
-
--- the count of the program's file rose
-pub program_rose : (ask : Ask) (before after : List ℕ → ℕ) → Rose (before (program_file ask)) (after (program_file ask)) → FileRose ask before after
-program_rose (infer file) before after h = h
-program_rose (check file name) before after h = inl h
-program_rose (run file query n) before after h = h
-
--- a count that rises later rises
-pub rose_later : (before mid after : ℕ) → before ≤ mid → Rose mid after → Rose before after
-rose_later before mid after le h = omega (arith, le, h)
-
--- and so with the counts of files
-pub file_rose_later : (ask : Ask) (before mid after : List ℕ → ℕ) → ((n : List ℕ) → before n ≤ mid n) → FileRose ask mid after → FileRose ask before after
-file_rose_later (infer file) before mid after le h = rose_later _ _ _ (le file) h
-file_rose_later (check file name) before mid after le (inl h) = inl (rose_later _ _ _ (le file) h)
-file_rose_later (check file name) before mid after le (inr h) = inr (rose_later _ _ _ (le name) h)
-file_rose_later (run file query n) before mid after le h = rose_later _ _ _ (le file) h
-
--- what is so of an answer
-pub at_ok : {A E : Type 0} (P : A → Type 0) (r s : Result A E) (a : A) → s ≡ r → s ≡ Ok a → IfOk r P → P a
-at_ok P r s a e f h = rw (sym e ∙ f) at h

@@ -16,7 +16,6 @@ use Rattle.cert_checker.specs.declared.reason.Reason.{Reason}
 use Rattle.cert_checker.specs.declared.verdict.Verdict.TheVariants as verdict
 use Rattle.cti_terms.specs.Listing.{Listing}
 use Rattle.cti_top.specs.Queries.{Known}
-use Rattle.cti_top.specs.Runs.{IsKnown}
 use Rattle.cti_top.specs.Verdicts.{verdict_line}
 use Rattle.cti_top.specs.declared.status.Status.{Status}
 use Rattle.cti_top.specs.declared.status.Status.TheVariants.{Done, No}

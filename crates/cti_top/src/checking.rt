@@ -15,7 +15,7 @@ use crate::files::{Files, LoadFault};
 use crate::refusal::{Subject, refusal_text};
 use crate::source::Source;
 use crate::status::Status;
-use crate::verdict_text::verdict_text;
+use crate::verdicts::verdict_text;
 use cert_checker::{Verdict, check};
 use certificate::{CertFault, Certificate, MOST_BYTES};
 use std::alloc::{AllocError, Global};

@@ -25,7 +25,7 @@ mod sure;
 #[cfg(test)]
 mod tests;
 mod top_call;
-mod verdict_text;
+mod verdicts;
 mod writing;
 
 pub use files::{Files, LoadFault};
@@ -41,4 +41,4 @@ pub use status::Status;
 pub use sure::{SureFiles, SureSink};
 pub use term_text::run_text;
 pub use top_call::command;
-pub use verdict_text::verdict_text;
+pub use verdicts::verdict_text;
