@@ -3,6 +3,7 @@ pub mod Bounded
 pub mod CallFacts
 pub mod Claims
 pub mod ColumnLengths
+pub mod Examples
 pub mod FallTargets
 pub mod Partitions
 pub mod PointSteps

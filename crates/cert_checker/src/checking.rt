@@ -52,7 +52,8 @@ fn value_fault(
     if let Some(fault) = fall_fault(alloc, p, comps, &TermSize, parts, lines.falls)? {
         return Ok(Some(fault));
     }
-    refutation_fault(alloc, p, comps, &TermSize, parts, lines.refutations)
+    let fault = refutation_fault(alloc, p, comps, &TermSize, parts, lines.refutations)?;
+    Ok(fault)
 }
 
 // The first fault of a certificate.

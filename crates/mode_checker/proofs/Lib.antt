@@ -1,0 +1,7 @@
+pub mod ClaimedLaws
+pub mod CoverLaws
+pub mod HoldLaws
+pub mod MarkLaws
+pub mod PlaceLaws
+pub mod RuleLaws
+pub mod SpellLaws

@@ -22,8 +22,8 @@ pub record IsMeasure (p : Listing) (parts : Parts) (c : Claims) (r m : ℕ) (x :
   pub coefficients : (q : ℕ) → q < length p.preds → c.rank q ≡ r → mapping.coefficients q ≡ coefficients_of parts.levels m q
 
 -- the claims' truth, ranks, ground rows and measures are those of the parts
-pub record ClaimModes (truth : (ℕ → Bool) → Tree → Bool) (p : Listing) (comps : Partition) (parts : Parts) (c : Claims) : Type 0 where
-  pub truth : c.truth ≡ truth
+pub record ClaimModes (rigid : (ℕ → Bool) → Tree → Bool) (p : Listing) (comps : Partition) (parts : Parts) (c : Claims) : Type 0 where
+  pub truth : c.truth ≡ rigid
   pub ranks : (q r : ℕ) → IsIn comps r q → c.rank q ≡ r
   pub grounds : c.grounds ≡ grounds_of p parts
   pub each : (q : ℕ) → q < length p.preds → length (c.measures (c.rank q)) ≡ length (items_of parts.preconditions q)

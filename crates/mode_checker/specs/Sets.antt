@@ -1,5 +1,5 @@
 -- The sets that the parts of a certificate spell, as diagrams. Nothing here has to be believed.
-use Rattle.std.specs.Prelude.{◌≡◌, ◌≤◌, ℕ, Bool, false, IsTrue, List, length, slice_get, slice_index_or, Some}
+use Rattle.std.specs.Prelude.{◌≡◌, ◌≤◌, ◌<◌, ℕ, ℤ, nat_lt, Bool, false, IsTrue, List, length, slice_get, slice_index_or, Some}
 use Rattle.std.specs.List.{AllByRecursion, list_any}
 use Rattle.argument_rows.specs.Rules.{KeepsSets, same_rank}
 use Rattle.argument_rows.specs.Sets.{AreSets, family_of, has_row}
@@ -18,7 +18,7 @@ use Rattle.cti_terms.specs.declared.predicates.Pred.{Pred}
 use Rattle.termination_model.specs.Grounds.{Family, HasArity}
 use Rattle.termination_model.specs.Rows.{Covers}
 use Rattle.termination_model.specs.View.{all_upper}
-use Rattle.mode_checker.specs.Modes.{allowed, coefficients_of, grounds_of, naturals, precondition}
+use Rattle.mode_checker.specs.Modes.{allowed, coefficients_of, grounds_of, natural, naturals, precondition}
 use Rattle.mode_checker.specs.declared.sets.Sets.{Sets}
 
 -- a diagram of the table, over so many arguments, with the rows of that many values that a set has
@@ -74,6 +74,10 @@ pub record SpellParts (p : Listing) (parts : Parts) (trees : List Rows) (sets : 
 -- the set of a predicate in the mapping of this number, or else this one
 abbrev pub set_at : List (List Diagram) → Diagram → ℕ → ℕ → Diagram
 set_at sets none m q = slice_index_or (items_of sets q) m none
+
+-- whether a coefficient is positive
+abbrev pub is_positive : ℤ → Bool
+is_positive a = nat_lt 0 (natural a)
 
 -- each row of a mapping's set is true at its positive coefficients
 abbrev pub AreCovered : List Rows → List LevelPart → List Diagram → Type 0

@@ -1,12 +1,10 @@
 //! Whether the rows of preconditions are true at each positive coefficient.
 
-ghost use Rattle.std.specs.Prelude.{◌≡◌, ◌↔◌, ◌<◌, ℕ, Bool, IfOk, IsTrue, List, OnOk, length, map, nat_lt, slice_get, Some};
+ghost use Rattle.std.specs.Prelude.{◌≡◌, ◌↔◌, ◌<◌, ℕ, Bool, IfOk, IsTrue, List, OnOk, length, map, slice_get, Some};
 ghost use Rattle.bool_diagrams.specs.Rows.{Keeps};
 ghost use Rattle.certificate_parts.specs.Shape.{arity_of, items_of};
 ghost use Rattle.mode_checker.specs.Marks.{is_clear};
-ghost use Rattle.mode_checker.specs.Modes.{coefficients_of, natural};
-ghost use Rattle.mode_checker.specs.Sets.{AreCovered, HaveLevels, mapping_family};
-ghost use Rattle.termination_model.specs.Rows.{Covers};
+ghost use Rattle.mode_checker.specs.Sets.{AreCovered, HaveLevels, is_positive};
 
 use crate::fault::ModeReason;
 use crate::marks::Marks;
@@ -67,11 +65,18 @@ fn are_covered(
 
 // Whether each of these numbers is positive.
 fn signs(alloc: Global, numbers: &[i128]) -> Result<Vec<bool>, AllocError>
-    ensures { IfOk result (λ signs. signs.items ≡ map (nat_lt 0) (map natural numbers.now)) }
+    ensures { IfOk result (λ signs. signs.items ≡ map is_positive numbers.now) }
 {
     let mut signs = Vec::new(alloc);
     for number in numbers {
-        signs.push(*number > 0)?;
+        signs.push(is_positive(*number))?;
     }
     Ok(signs)
+}
+
+// Whether a number is positive.
+fn is_positive(number: i128) -> bool
+    ensures { result ≡ is_positive number }
+{
+    number > 0
 }

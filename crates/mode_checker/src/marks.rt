@@ -31,9 +31,11 @@ impl Marks {
         ensures each { IfOk result (λ marks. length marks ≡ count) }
         ensures clear { IfOk result (λ marks. is_clear marks ≡ true) }
     {
-        Ok(Marks {
-            reasons: vec![in alloc; None; count]?,
-        })
+        let mut reasons = Vec::new(alloc);
+        for _pred in 0..count {
+            reasons.push(None)?;
+        }
+        Ok(Marks { reasons })
     }
 
     /// Marks a predicate for a reason that stands against it, unless it has a mark.

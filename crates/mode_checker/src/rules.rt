@@ -40,8 +40,31 @@ pub(crate) fn mark_broken<N: Norm>(
         × AllByRecursion (KeepsEach (N.truth norm.now) p.now table.old ranks.now sets.now) p.now.clauses)) }
 {
     let mut chosen = vec![in alloc; sets.none; p.preds() as usize]?;
+    mark_each(norm, table, p, ranks, sets, &mut chosen, marks)
+}
+
+// The same, with room for a set of each predicate.
+fn mark_each<N: Norm>(
+    norm: &N,
+    table: &mut Table,
+    p: &Program,
+    ranks: &[u32],
+    sets: &Sets,
+    chosen: &mut [Diagram],
+    marks: &mut Marks,
+) -> Result<(), AllocError>
+    requires ranks { length ranks.now ≡ length p.now.preds }
+    requires ready { AreReady p.now table.old sets.now }
+    requires chosen { AreSets p.now.preds table.old chosen.old }
+    requires marks { length marks.old ≡ length p.now.preds }
+    ensures keeps { Keeps table.old table.new }
+    ensures each { OnOk result (length marks.new ≡ length marks.old) }
+    ensures kept { OnOk result (IsTrue (is_clear marks.new)
+        ↔ (IsTrue (is_clear marks.old)
+        × AllByRecursion (KeepsEach (N.truth norm.now) p.now table.old ranks.now sets.now) p.now.clauses)) }
+{
     for k in 0..p.clauses() {
-        let kept = keeps_each(norm, table, p, ranks, sets, &mut chosen, k + 1)?;
+        let kept = keeps_each(norm, table, p, ranks, sets, chosen, k + 1)?;
         marks.note(p.clause(k + 1).head.pred, kept, ModeReason::Precondition);
     }
     Ok(())

@@ -1,10 +1,4 @@
-use Rattle.std.proofs.Common.{◌≡◌, ◌↔◌, None, Option, refl}
-use Rattle.cti_terms.specs.Tree.{truth}
-use Rattle.term_size.specs.Occurrences.{size_row}
-use Rattle.cert_checker.specs.Refuting.{RefutationsHold}
-use Rattle.cert_checker.specs.Valid.{PartsHold}
-use Rattle.cert_checker.specs.declared.fault.Fault.{Fault}
-use Rattle.cert_checker.proofs.CallFacts.{if_ok_more}
+use Rattle.std.proofs.Common.{refl}
 use Rattle.cert_checker.proofs.ShapeLaws.{are_sizes, have_falls, have_levels, have_refutations, have_row_proofs}
 use Rattle.cert_checker.proofs.checking.value_fault.Goals as goal
 
@@ -34,16 +28,13 @@ refutation_fault-requires-clause-refutations c = have_refutations c.args.p.now c
 
 -- the last fault decides, since the tests before it have found none
 pub returns : goal.returns
-returns c =
-    if_ok_more (λ (fault : Option Fault). (fault ≡ None) ↔ RefutationsHold size_row c.args.p.now c.args.comps.now c.args.parts.now)
-    (λ (fault : Option Fault). (fault ≡ None) ↔ PartsHold truth size_row c.args.p.now c.args.comps.now c.args.parts.now)
-    (λ fault decides. (
-      λ none. record {
-        modes = c.in_ok-fault.ensures.0 c.in_default.is;
-        rows = c.in_ok-fault-2.ensures.0 c.in_default-2.is;
-        measures = c.in_default-measure_fault.ensures.0 refl;
-        falls = c.in_ok-fault-3.ensures.0 c.in_default-3.is;
-        refutations = decides.0 none;
-      },
-      λ hold. decides.1 hold.refutations,
-    )) c.refutation_fault.result c.refutation_fault.ensures
+returns c = (
+  λ none. record {
+    modes = c.in_ok-fault.ensures.0 c.in_default.is;
+    rows = c.in_ok-fault-2.ensures.0 c.in_default-2.is;
+    measures = c.in_default-measure_fault.ensures.0 refl;
+    falls = c.in_ok-fault-3.ensures.0 c.in_default-3.is;
+    refutations = c.in_ok-fault-4.ensures.0 none;
+  },
+  λ hold. c.in_ok-fault-4.ensures.1 hold.refutations,
+)
