@@ -7,4 +7,6 @@ pub mod QueryLemmas
 pub mod StepLemmas
 pub mod RunLemmas
 pub mod AnswerLemmas
+pub mod CheckLemmas
 pub mod OutcomeLemmas
+pub mod MeetsLemmas

@@ -24,11 +24,11 @@ pub decided : (p : Listing) (q : ℕ) (b : Bool) → IsTrue b ↔ ReachesNoCycle
 decided p q true h = all_end (h.0 refl)
 decided p q false h = unknown (λ r. false≢true (h.1 r))
 
--- the predicate of this number has what all have
-pub known_at : (F : Pred → Type 0) (preds : List Pred) (n : ℕ) (pred : Pred) → AllByRecursion F preds → slice_get preds n ≡ Some pred → F pred
-known_at F [] n pred all at = cc
-known_at F (q ∷ preds) zero pred all at = let same : q ≡ pred = cc in rw same at all.0
-known_at F (q ∷ preds) (suc n) pred all at = known_at F preds n pred all.1 at
+-- what stands at a place has what all have
+pub known_at : {A : Type 0} (F : A → Type 0) (xs : List A) (n : ℕ) (x : A) → AllByRecursion F xs → slice_get xs n ≡ Some x → F x
+known_at F [] n x all at = cc
+known_at F (y ∷ xs) zero x all at = let same : y ≡ x = cc in rw same at all.0
+known_at F (y ∷ xs) (suc n) x all at = known_at F xs n x all.1 at
 
 -- one more is taken
 pub taken : {A : Type 0} (xs : List A) (n : ℕ) (x : A) → slice_get xs n ≡ Some x → take (suc n) xs ≡ take n xs ++ x ∷ []

@@ -1,27 +1,54 @@
 -- What the status of the top call says.
 use Rattle.std.proofs.Common.{◌≡◌, ℕ, ◌≤◌, ◌<◌, List, length, Option, Some, None, ◌⊎◌, refl, ap, sym, ◌∙◌, inl, inr, arith}
 use Rattle.std.proofs.lemmas.Option.{none-some, same_Some}
-use Rattle.std.specs.Prelude.{Result, Ok, IfOk}
 use Rattle.cti_top.specs.Told.{Map, TellsAt, TellsMore, Takes}
-use Rattle.cti_top.specs.Words.{Ask, infer, run, asks}
+use Rattle.cti_top.specs.Words.{Ask, infer, check, run, asks}
 use Rattle.cti_top.specs.Programs.{IsRefused}
-use Rattle.cti_top.specs.Runs.{Ends, IsRunOf, IsRefusedQuery}
+use Rattle.certificate.specs.Reading.{IsTextOf}
+use Rattle.certificate.specs.Reading.{most_bytes as most_certificate_bytes}
+use Rattle.certificate.specs.declared.certificate.Certificate.{Certificate}
+use Rattle.cti_top.specs.Checks.{IsVerdictOn}
+use Rattle.cti_top.specs.Checks as checks
+use Rattle.cti_top.specs.Queries.{Known}
+use Rattle.certificate.specs.declared.fact.Fact.{Fact}
+use Rattle.cti_top.specs.Runs.{Ends, IsKnown, IsRunOf, IsRefusedQuery}
 use Rattle.cti_top.specs.Runs as runs
 use Rattle.cti_terms.specs.Listing.{Listing}
 use Rattle.cti_terms.specs.declared.derivation.Goal.{Goal}
 use Rattle.ld_resolver.specs.declared.running.Ending.{Ending}
-use Rattle.cti_top.specs.Answers.{AnswersProgram}
-use Rattle.cti_top.specs.Outcome.{most_bytes, program_file, IsAnswer, usage, modes, ran, program_too_long, program_refused, query_refused, Outcome, HasFile, IsDoneOrMemory, IsRanOrMemory}
+use Rattle.cti_top.specs.Answers.{AnswersCertificate, AnswersProgram, AnswersRequest}
+use Rattle.cti_top.specs.Answers as answers
+use Rattle.cti_top.specs.Outcome.{most_bytes, program_file, IsAnswer, usage, modes, ran, checked, program_too_long, program_refused, query_refused, certificate_too_long, certificate_refused, Outcome, HasFile, IsDoneOrMemory, IsRanOrMemory, IsCheckedOrMemory}
 use Rattle.cti_top.specs.declared.status.Status.{Status}
-use Rattle.cti_top.specs.declared.status.Status.TheVariants.{Done, Usage, Refused, FileFault, OutFault, Memory, Stopped}
+use Rattle.cti_top.specs.declared.status.Status.TheVariants.{Done, No, Usage, Refused, FileFault, OutFault, Memory, Stopped}
 
-not_file : (told : Map) (words : List (List ℕ)) (text : List ℕ) → IsAnswer told words FileFault text → ⊥
+-- a verdict is written with its status
+done_or_no : {p : Listing} {names : List (List ℕ)} {facts : List Fact} {status : Status} {text : List ℕ} → IsVerdictOn p names facts status text → (status ≡ Done) ⊎ (status ≡ No)
+done_or_no (checks.valid v bounded s e) = inl s
+done_or_no (checks.not_valid line reason v s e) = inr s
+
+file_unlike : (FileFault ≡ Done) ⊎ (FileFault ≡ No) → ⊥
+file_unlike (inl e) = cc
+file_unlike (inr e) = cc
+
+out_unlike : (OutFault ≡ Done) ⊎ (OutFault ≡ No) → ⊥
+out_unlike (inl e) = cc
+out_unlike (inr e) = cc
+
+memory_unlike : (Memory ≡ Done) ⊎ (Memory ≡ No) → ⊥
+memory_unlike (inl e) = cc
+memory_unlike (inr e) = cc
+
+pub not_file : (told : Map) (words : List (List ℕ)) (text : List ℕ) → IsAnswer told words FileFault text → ⊥
 not_file told words text (usage n s e) = cc
 not_file told words text (modes f b a t m s) = cc
 not_file told words text (ran f q n b a t r) = elim r.ran.ends [ ]
 not_file told words text (program_too_long k a m s e) = cc
 not_file told words text (program_refused k b kind at a t r s e) = cc
 not_file told words text (query_refused f q n b kind at a t r s e) = cc
+not_file told words text (checked f c b d k a t i u h) = file_unlike (done_or_no h.verdict)
+not_file told words text (certificate_too_long f c b k a t i m s e) = cc
+not_file told words text (certificate_refused f c b d k l a t i u r s e) = cc
 
 not_out : (told : Map) (words : List (List ℕ)) (text : List ℕ) → IsAnswer told words OutFault text → ⊥
 not_out told words text (usage n s e) = cc
@@ -30,6 +57,9 @@ not_out told words text (ran f q n b a t r) = elim r.ran.ends [ ]
 not_out told words text (program_too_long k a m s e) = cc
 not_out told words text (program_refused k b kind at a t r s e) = cc
 not_out told words text (query_refused f q n b kind at a t r s e) = cc
+not_out told words text (checked f c b d k a t i u h) = out_unlike (done_or_no h.verdict)
+not_out told words text (certificate_too_long f c b k a t i m s e) = cc
+not_out told words text (certificate_refused f c b d k l a t i u r s e) = cc
 
 not_memory : (told : Map) (words : List (List ℕ)) (text : List ℕ) → IsAnswer told words Memory text → ⊥
 not_memory told words text (usage n s e) = cc
@@ -38,11 +68,15 @@ not_memory told words text (ran f q n b a t r) = elim r.ran.ends [ ]
 not_memory told words text (program_too_long k a m s e) = cc
 not_memory told words text (program_refused k b kind at a t r s e) = cc
 not_memory told words text (query_refused f q n b kind at a t r s e) = cc
+not_memory told words text (checked f c b d k a t i u h) = memory_unlike (done_or_no h.verdict)
+not_memory told words text (certificate_too_long f c b k a t i m s e) = cc
+not_memory told words text (certificate_refused f c b d k l a t i u r s e) = cc
 
 -- a whole answer that the sink took
 pub outcome_of : (told : Map) (words : List (List ℕ)) (before after : Option (List ℕ)) (status : Status) (text : List ℕ)
     → IsAnswer told words status text → Takes before text after → Outcome told words before after status
 outcome_of told words before after Done text a t = (text, a, t)
+outcome_of told words before after No text a t = (text, a, t)
 outcome_of told words before after Usage text a t = (text, a, t)
 outcome_of told words before after Refused text a t = (text, a, t)
 outcome_of told words before after Stopped text a t = (text, a, t)
@@ -50,11 +84,12 @@ outcome_of told words before after FileFault text a t = absurd (not_file told wo
 outcome_of told words before after OutFault text a t = absurd (not_out told words text a)
 outcome_of told words before after Memory text a t = absurd (not_memory told words text a)
 
-long_or_short : (told : Map) (file name bytes : List ℕ) → file ≡ name → HasFile told name bytes → length bytes ≤ most_bytes → TellsMore told file most_bytes → ⊥
-long_or_short None file name bytes e h short more = h
-long_or_short (Some files) file name bytes e h short more =
+-- a file is too long or short enough
+long_or_short : (told : Map) (most : ℕ) (file name bytes : List ℕ) → file ≡ name → HasFile told name bytes → length bytes ≤ most → TellsMore told file most → ⊥
+long_or_short None most file name bytes e h short more = h
+long_or_short (Some files) most file name bytes e h short more =
     let same = same_Some _ _ (sym more.1 ∙ ap files e ∙ h) in
-    let long : most_bytes < length bytes = rw same at more.2 in
+    let long : most < length bytes = rw same at more.2 in
     omega (arith, short, long)
 
 same_bytes : (told : Map) (file name b bytes : List ℕ) → file ≡ name → HasFile told name bytes → TellsAt told file b → b ≡ bytes
@@ -64,18 +99,41 @@ same_bytes (Some files) file name b bytes e h t = same_Some _ _ (sym t ∙ ap fi
 infer_or_run : (name f q : List ℕ) (n : ℕ) → infer name ≡ run f q n → ⊥
 infer_or_run name f q n e = cc
 
+infer_or_check : (name f c : List ℕ) → infer name ≡ check f c → ⊥
+infer_or_check name f c e = cc
+
+check_or_run : (file c f q : List ℕ) (n : ℕ) → check file c ≡ run f q n → ⊥
+check_or_run file c f q n e = cc
+
+-- what is asked for is asked for once
+one_ask : (words : List (List ℕ)) (x y : Ask) → asks words ≡ Some x → asks words ≡ Some y → x ≡ y
+one_ask words x y a b = same_Some _ _ (sym a ∙ b)
+
+-- the program's file has no fault
+module _ (told : Map) (words : List (List ℕ)) (ask : Ask) (bytes : List ℕ) (asked : asks words ≡ Some ask) (has : HasFile told (program_file ask) bytes) where
+  no_long : (k : Ask) → asks words ≡ Some k → TellsMore told (program_file k) most_bytes → length bytes ≤ most_bytes → ⊥
+  no_long k a m short = long_or_short told most_bytes (program_file k) (program_file ask) bytes (ap program_file (one_ask words k ask a asked)) has short m
+
+  no_refusal : (k : Ask) (b : List ℕ) (kind at : ℕ) → asks words ≡ Some k → TellsAt told (program_file k) b → IsRefused b kind at
+      → ((kind at : ℕ) → IsRefused bytes kind at → ⊥) → ⊥
+  no_refusal k b kind at a t r none =
+      let same = same_bytes told (program_file k) (program_file ask) b bytes (ap program_file (one_ask words k ask a asked)) has t in
+      none kind at (rw same at r)
+
 -- a file without a fault is answered
 pub done_or_memory : (told : Map) (words : List (List ℕ)) (status : Status) (text name bytes : List ℕ) → IsAnswer told words status text → asks words ≡ Some (infer name)
     → HasFile told name bytes → length bytes ≤ most_bytes → ((kind at : ℕ) → IsRefused bytes kind at → ⊥) → IsDoneOrMemory status
 done_or_memory told words status text name bytes (usage n s e) asked has short none = absurd (none-some _ (sym n ∙ asked))
 done_or_memory told words status text name bytes (modes f b a t m s) asked has short none = inl s
-done_or_memory told words status text name bytes (ran f q n b a t r) asked has short none = absurd (infer_or_run name f q n (same_Some _ _ (sym asked ∙ a)))
-done_or_memory told words status text name bytes (program_too_long k a m s e) asked has short none =
-    absurd (long_or_short told (program_file k) name bytes (ap program_file (same_Some _ _ (sym a ∙ asked))) has short m)
+done_or_memory told words status text name bytes (ran f q n b a t r) asked has short none = absurd (infer_or_run name f q n (one_ask words _ _ asked a))
+done_or_memory told words status text name bytes (checked f c b d k a t i u h) asked has short none = absurd (infer_or_check name f c (one_ask words _ _ asked a))
+done_or_memory told words status text name bytes (program_too_long k a m s e) asked has short none = absurd (no_long told words (infer name) bytes asked has k a m short)
 done_or_memory told words status text name bytes (program_refused k b kind at a t r s e) asked has short none =
-    let same = same_bytes told (program_file k) name b bytes (ap program_file (same_Some _ _ (sym a ∙ asked))) has t in
-    absurd (none kind at (rw same at r))
-done_or_memory told words status text name bytes (query_refused f q n b kind at a t r s e) asked has short none = absurd (infer_or_run name f q n (same_Some _ _ (sym asked ∙ a)))
+    absurd (no_refusal told words (infer name) bytes asked has k b kind at a t r none)
+done_or_memory told words status text name bytes (query_refused f q n b kind at a t r s e) asked has short none = absurd (infer_or_run name f q n (one_ask words _ _ asked a))
+done_or_memory told words status text name bytes (certificate_too_long f c b k a t i m s e) asked has short none = absurd (infer_or_check name f c (one_ask words _ _ asked a))
+done_or_memory told words status text name bytes (certificate_refused f c b d k l a t i u r s e) asked has short none =
+    absurd (infer_or_check name f c (one_ask words _ _ asked a))
 
 -- a run ends as it was asked, or is stopped
 done_or_stopped : {p : Listing} {g : Goal} {n : ℕ} {e : Ending} (status : Status) → Ends p g n status e → (status ≡ Done) ⊎ (status ≡ Stopped)
@@ -88,9 +146,10 @@ ended : (status : Status) → (status ≡ Done) ⊎ (status ≡ Stopped) → IsR
 ended status (inl h) = inl h
 ended status (inr h) = inr (inl h)
 
--- the query that was asked
+-- the query that was asked, or the name of the certificate
 abbrev query_of : Ask → List ℕ
 query_of (infer f) = f
+query_of (check f c) = c
 query_of (run f q n) = q
 
 -- a query without a fault is answered, where its file has none
@@ -100,25 +159,65 @@ pub ran_or_memory : (told : Map) (words : List (List ℕ)) (status : Status) (te
 ran_or_memory told words status text name query bytes steps (usage n s e) asked has short none no_fault = absurd (none-some _ (sym n ∙ asked))
 ran_or_memory told words status text name query bytes steps (modes f b a t m s) asked has short none no_fault = inl s
 ran_or_memory told words status text name query bytes steps (ran f q n b a t r) asked has short none no_fault = ended status (done_or_stopped status r.ran.ends)
+ran_or_memory told words status text name query bytes steps (checked f c b d k a t i u h) asked has short none no_fault = absurd (check_or_run f c name query steps (one_ask words _ _ a asked))
 ran_or_memory told words status text name query bytes steps (program_too_long k a m s e) asked has short none no_fault =
-    absurd (long_or_short told (program_file k) name bytes (ap program_file (same_Some _ _ (sym a ∙ asked))) has short m)
+    absurd (no_long told words (run name query steps) bytes asked has k a m short)
 ran_or_memory told words status text name query bytes steps (program_refused k b kind at a t r s e) asked has short none no_fault =
-    let same = same_bytes told (program_file k) name b bytes (ap program_file (same_Some _ _ (sym a ∙ asked))) has t in
-    absurd (none kind at (rw same at r))
+    absurd (no_refusal told words (run name query steps) bytes asked has k b kind at a t r none)
 ran_or_memory told words status text name query bytes steps (query_refused f q n b kind at a t r s e) asked has short none no_fault =
-    let one = same_Some _ _ (sym a ∙ asked) in
+    let one = one_ask words _ _ a asked in
     let same = same_bytes told f name b bytes (ap program_file one) has t in
     let same_query : q ≡ query = ap query_of one in
     absurd (no_fault kind at (rw (same, same_query) at r))
+ran_or_memory told words status text name query bytes steps (certificate_too_long f c b k a t i m s e) asked has short none no_fault =
+    absurd (check_or_run f c name query steps (one_ask words _ _ a asked))
+ran_or_memory told words status text name query bytes steps (certificate_refused f c b d k l a t i u r s e) asked has short none no_fault =
+    absurd (check_or_run f c name query steps (one_ask words _ _ a asked))
+
+yes_or_no : (status : Status) → (status ≡ Done) ⊎ (status ≡ No) → IsCheckedOrMemory status
+yes_or_no status (inl h) = inl h
+yes_or_no status (inr h) = inr (inl h)
+
+-- a certificate's text is checked, where its program has no fault
+pub checked_or_memory : (told : Map) (words : List (List ℕ)) (status : Status) (text name certificate bytes certified : List ℕ) (c : Certificate) → IsAnswer told words status text
+    → asks words ≡ Some (check name certificate) → HasFile told name bytes → length bytes ≤ most_bytes → ((kind at : ℕ) → IsRefused bytes kind at → ⊥)
+    → HasFile told certificate certified → IsTextOf c certified → IsCheckedOrMemory status
+checked_or_memory told words status text name certificate bytes certified c (usage n s e) asked has short none held is = absurd (none-some _ (sym n ∙ asked))
+checked_or_memory told words status text name certificate bytes certified c (modes f b a t m s) asked has short none held is = inl s
+checked_or_memory told words status text name certificate bytes certified c (ran f q n b a t r) asked has short none held is =
+    absurd (check_or_run name certificate f q n (one_ask words _ _ asked a))
+checked_or_memory told words status text name certificate bytes certified c (checked f d b e k a t i u h) asked has short none held is = yes_or_no status (done_or_no h.verdict)
+checked_or_memory told words status text name certificate bytes certified c (program_too_long k a m s e) asked has short none held is =
+    absurd (no_long told words (check name certificate) bytes asked has k a m short)
+checked_or_memory told words status text name certificate bytes certified c (program_refused k b kind at a t r s e) asked has short none held is =
+    absurd (no_refusal told words (check name certificate) bytes asked has k b kind at a t r none)
+checked_or_memory told words status text name certificate bytes certified c (query_refused f q n b kind at a t r s e) asked has short none held is =
+    absurd (check_or_run name certificate f q n (one_ask words _ _ asked a))
+checked_or_memory told words status text name certificate bytes certified c (certificate_too_long f d b k a t i m s e) asked has short none held is =
+    absurd (long_or_short told most_certificate_bytes d certificate certified (ap query_of (one_ask words _ _ a asked)) held is.short m)
+checked_or_memory told words status text name certificate bytes certified c (certificate_refused f d b e k l a t i u r s o) asked has short none held is =
+    let same = same_bytes told d certificate e certified (ap query_of (one_ask words _ _ a asked)) held u in
+    absurd (r.none c (rw same is))
+
+-- the answer to a certificate, whose program was read
+certified : (told : Map) (words : List (List ℕ)) (file name bytes : List ℕ) (known : Known) (status : Status) (text : List ℕ) → asks words ≡ Some (check file name)
+    → TellsAt told file bytes → IsKnown bytes known → AnswersCertificate told known name status text → IsAnswer told words status text
+certified told words file name bytes known status text a t i (answers.read d u (inl h)) = checked file name bytes d known a t i u h
+certified told words file name bytes known status text a t i (answers.read d u (inr (line, r, h))) =
+    certificate_refused file name bytes d known line a t i u r h.status h.printed
+certified told words file name bytes known status text a t i (answers.long m h) = certificate_too_long file name bytes known a t i m h.status h.printed
 
 -- the answer to the bytes of the file
-pub answered : (told : Map) (words : List (List ℕ)) (ask : Ask) (bytes : List ℕ) (status : Status) (text : List ℕ) → asks words ≡ Some ask → TellsAt told (program_file ask) bytes
-    → AnswersProgram bytes ask status text → IsAnswer told words status text
+answered : (told : Map) (words : List (List ℕ)) (ask : Ask) (bytes : List ℕ) (status : Status) (text : List ℕ) → asks words ≡ Some ask → TellsAt told (program_file ask) bytes
+    → AnswersProgram told bytes ask status text → IsAnswer told words status text
 answered told words (infer file) bytes status text a t (inl (s, m)) = modes file bytes a t m s
+answered told words (check file name) bytes status text a t (inl (known, i, h)) = certified told words file name bytes known status text a t i h
 answered told words (run file query n) bytes status text a t (inl (inl r)) = ran file query n bytes a t r
 answered told words (run file query n) bytes status text a t (inl (inr (kind, at, r, h))) = query_refused file query n bytes kind at a t r h.status h.line
 answered told words ask bytes status text a t (inr (kind, at, r, h)) = program_refused ask bytes kind at a t r h.status h.line
 
--- what is so of an answer
-pub at_ok : {A E : Type 0} (P : A → Type 0) (r s : Result A E) (a : A) → s ≡ r → s ≡ Ok a → IfOk r P → P a
-at_ok P r s a e f h = rw (sym e ∙ f) at h
+-- the answer to what is asked
+pub request_answered : (told : Map) (words : List (List ℕ)) (ask : Ask) (status : Status) (text : List ℕ) → asks words ≡ Some ask → AnswersRequest told ask status text
+    → IsAnswer told words status text
+request_answered told words ask status text a (answers.read bytes t h) = answered told words ask bytes status text a t h
+request_answered told words ask status text a (answers.long m h) = program_too_long ask a m h.status h.printed

@@ -1,17 +1,24 @@
--- What the answer to a program's bytes is. Nothing here has to be believed.
+-- What the answer to a program's bytes is, step by step. Nothing here has to be believed.
 use Rattle.std.specs.Prelude.{ℕ, ◌≡◌, ◌⊎◌, List}
-use Rattle.cti_top.specs.Words.{Ask, infer, run}
+use Rattle.cert_checker.specs.declared.verdict.Verdict.{Verdict}
+use Rattle.cert_checker.specs.declared.verdict.Verdict.TheVariants as verdict
+use Rattle.certificate.specs.Reading.{most_bytes}
+use Rattle.cti_top.specs.Words.{Ask, infer, check, run}
+use Rattle.cti_top.specs.Told.{Map, TellsAt, TellsMore}
+use Rattle.cti_top.specs.Checks.{IsCheckOf, IsRefusedCertificate}
+use Rattle.cti_top.specs.Queries.{Known}
+use Rattle.cti_top.specs.Outcome.{most_bytes as most_program_bytes, program_file}
 use Rattle.cti_top.specs.Places.{line_of, column_of}
 use Rattle.cti_top.specs.Refusal.{refusal_line}
 use Rattle.cti_top.specs.Programs.{IsRefused}
 use Rattle.cti_top.specs.Modes.{IsModesOf}
-use Rattle.cti_top.specs.Runs.{IsRunOf, IsRefusedQuery}
+use Rattle.cti_top.specs.Runs.{IsKnown, IsRunOf, IsRefusedQuery}
 use Rattle.cti_top.specs.declared.request.Request.{Request}
 use Rattle.cti_top.specs.declared.request.Request.TheVariants as request
 use Rattle.cti_top.specs.declared.refusal.Subject.{Subject}
-use Rattle.cti_top.specs.declared.refusal.Subject.TheVariants.{Program, Query}
+use Rattle.cti_top.specs.declared.refusal.Subject.TheVariants.{Program, Certificate, Query}
 use Rattle.cti_top.specs.declared.status.Status.{Status}
-use Rattle.cti_top.specs.declared.status.Status.TheVariants.{Done, Refused, Stopped}
+use Rattle.cti_top.specs.declared.status.Status.TheVariants.{Done, No, Refused, Stopped}
 use Rattle.ld_resolver.specs.declared.running.Ending.{Ending}
 use Rattle.ld_resolver.specs.declared.running.Ending.TheVariants as ending
 
@@ -20,9 +27,15 @@ abbrev pub status_of : Ending → Status
 status_of ending.Finished = Done
 status_of ending.Stopped = Stopped
 
+-- the status that goes with a verdict
+abbrev pub verdict_status : Verdict → Status
+verdict_status verdict.Yes = Done
+verdict_status (verdict.No line reason) = No
+
 -- a request, by its texts
 abbrev pub ask_of : Request → Ask
 ask_of (request.Infer file) = infer file.now
+ask_of (request.Check file certificate) = check file.now certificate.now
 ask_of (request.Run file query steps) = run file.now query.now steps
 
 -- the answer that refuses a text for a fault of this kind at this byte
@@ -35,11 +48,32 @@ abbrev pub AnswersQuery : List ℕ → List ℕ → ℕ → Status → List ℕ 
 AnswersQuery bytes query n status text =
     IsRunOf bytes query n status text ⊎ ((kind : ℕ) × (at : ℕ) × IsRefusedQuery bytes query kind at × RefusesAt Query query kind at status text)
 
+-- the text is this line, which refuses what was read
+pub record Refuses (subject : Subject) (line column kind : ℕ) (s : Status) (written : List ℕ) : Type 0 where
+  pub status : s ≡ Refused
+  pub printed : written ≡ refusal_line subject line column kind
+
+-- the answer to a certificate's text: its check, or why it is refused
+abbrev pub AnswersText : Known → List ℕ → Status → List ℕ → Type 0
+AnswersText known certified status text = IsCheckOf known certified status text ⊎ ((line : ℕ) × IsRefusedCertificate certified line × Refuses Certificate line 1 16 status text)
+
+-- the answer to the certificate in a file
+pub data AnswersCertificate (told : Map) (known : Known) (name : List ℕ) (status : Status) (text : List ℕ) : Type 0 where
+  read : (certified : List ℕ) → TellsAt told name certified → AnswersText known certified status text → AnswersCertificate told known name status text
+  long : TellsMore told name most_bytes → Refuses Certificate 1 1 8 status text → AnswersCertificate told known name status text
+
 -- what is asked for of the program that these bytes are
-abbrev pub AnswersAsk : List ℕ → Ask → Status → List ℕ → Type 0
-AnswersAsk bytes (infer file) status text = (status ≡ Done) × IsModesOf bytes text
-AnswersAsk bytes (run file query steps) status text = AnswersQuery bytes query steps status text
+abbrev pub AnswersAsk : Map → List ℕ → Ask → Status → List ℕ → Type 0
+AnswersAsk told bytes (infer file) status text = (status ≡ Done) × IsModesOf bytes text
+AnswersAsk told bytes (check file certificate) status text = (known : Known) × IsKnown bytes known × AnswersCertificate told known certificate status text
+AnswersAsk told bytes (run file query steps) status text = AnswersQuery bytes query steps status text
 
 -- the same, or why the program is refused
-abbrev pub AnswersProgram : List ℕ → Ask → Status → List ℕ → Type 0
-AnswersProgram bytes ask status text = AnswersAsk bytes ask status text ⊎ ((kind : ℕ) × (at : ℕ) × IsRefused bytes kind at × RefusesAt Program bytes kind at status text)
+abbrev pub AnswersProgram : Map → List ℕ → Ask → Status → List ℕ → Type 0
+AnswersProgram told bytes ask status text =
+    AnswersAsk told bytes ask status text ⊎ ((kind : ℕ) × (at : ℕ) × IsRefused bytes kind at × RefusesAt Program bytes kind at status text)
+
+-- the same of the program in a file
+pub data AnswersRequest (told : Map) (ask : Ask) (status : Status) (text : List ℕ) : Type 0 where
+  read : (bytes : List ℕ) → TellsAt told (program_file ask) bytes → AnswersProgram told bytes ask status text → AnswersRequest told ask status text
+  long : TellsMore told (program_file ask) most_program_bytes → Refuses Program 1 1 8 status text → AnswersRequest told ask status text

@@ -10,6 +10,9 @@ pub mod Programs
 pub mod Modes
 pub mod Queries
 pub mod Runs
+pub mod Verdicts
+pub mod Checks
+pub mod Meets
 pub mod Known
 pub mod Faults
 pub mod Outcome

@@ -3,15 +3,19 @@
 -- To believe: all of this file.
 use Rattle.std.specs.Prelude.{ℕ, ◌≡◌, ◌≤◌, ◌⊎◌, List, length, Option, Some, None}
 use Rattle.cti_top.specs.Told.{Map, TellsAt, TellsMore, Takes, TakesPart}
-use Rattle.cti_top.specs.Words.{Ask, infer, run, asks, usage_lines}
+use Rattle.cti_top.specs.Words.{Ask, infer, check, run, asks, usage_lines}
 use Rattle.cti_top.specs.Places.{line_of, column_of}
 use Rattle.cti_top.specs.Refusal.{refusal_line}
 use Rattle.cti_top.specs.Programs.{IsRefused}
 use Rattle.cti_top.specs.Modes.{IsModesOf}
-use Rattle.cti_top.specs.Runs.{IsRunOf, IsRefusedQuery}
-use Rattle.cti_top.specs.declared.refusal.Subject.TheVariants.{Program, Query}
+use Rattle.cti_top.specs.Checks.{IsCheckOf, IsRefusedCertificate}
+use Rattle.cti_top.specs.Queries.{Known}
+use Rattle.cti_top.specs.Runs.{IsKnown, IsRunOf, IsRefusedQuery}
+use Rattle.certificate.specs.Reading.{most_bytes as most_certificate_bytes}
+use Rattle.cti_top.specs.Causes.{Rose}
+use Rattle.cti_top.specs.declared.refusal.Subject.TheVariants.{Program, Certificate, Query}
 use Rattle.cti_top.specs.declared.status.Status.{Status}
-use Rattle.cti_top.specs.declared.status.Status.TheVariants.{Done, Usage, Refused, FileFault, OutFault, Memory, Stopped}
+use Rattle.cti_top.specs.declared.status.Status.TheVariants.{Done, No, Usage, Refused, FileFault, OutFault, Memory, Stopped}
 
 -- the most bytes that a program has
 abbrev pub most_bytes : ℕ
@@ -20,15 +24,19 @@ most_bytes = 1048576
 -- the words ask for something that is done with the program in this file
 abbrev pub program_file : Ask → List ℕ
 program_file (infer file) = file
+program_file (check file certificate) = file
 program_file (run file query steps) = file
 
--- The answer to the words: the usage exactly where they ask for nothing; the modes of the program that they name; the run of their query;
--- or why the program's text or the query is refused. Where the store tells its map, the bytes are those at the file's name.
+-- The answer to the words: the usage exactly where they ask for nothing; the modes of the program that they name; the check of their
+-- certificate; the run of their query; or why the program's text, the certificate's or the query is refused. Where the store tells its
+-- map, the bytes are those at the file's name.
 pub data IsAnswer (told : Map) (words : List (List ℕ)) (status : Status) (text : List ℕ) : Type 0 where
   usage : asks words ≡ None → status ≡ Usage → text ≡ usage_lines → IsAnswer told words status text
   modes : (file bytes : List ℕ) → asks words ≡ Some (infer file) → TellsAt told file bytes → IsModesOf bytes text → status ≡ Done → IsAnswer told words status text
   ran : (file query : List ℕ) (steps : ℕ) (bytes : List ℕ) → asks words ≡ Some (run file query steps) → TellsAt told file bytes → IsRunOf bytes query steps status text
       → IsAnswer told words status text
+  checked : (file certificate bytes certified : List ℕ) (known : Known) → asks words ≡ Some (check file certificate) → TellsAt told file bytes → IsKnown bytes known
+      → TellsAt told certificate certified → IsCheckOf known certified status text → IsAnswer told words status text
   program_too_long : (ask : Ask) → asks words ≡ Some ask → TellsMore told (program_file ask) most_bytes → status ≡ Refused
       → text ≡ refusal_line Program 1 1 8 → IsAnswer told words status text
   program_refused : (ask : Ask) (bytes : List ℕ) (kind at : ℕ) → asks words ≡ Some ask → TellsAt told (program_file ask) bytes → IsRefused bytes kind at → status ≡ Refused
@@ -36,6 +44,11 @@ pub data IsAnswer (told : Map) (words : List (List ℕ)) (status : Status) (text
   query_refused : (file query : List ℕ) (steps : ℕ) (bytes : List ℕ) (kind at : ℕ) → asks words ≡ Some (run file query steps) → TellsAt told file bytes
       → IsRefusedQuery bytes query kind at → status ≡ Refused → text ≡ refusal_line Query (line_of query at) (column_of query at) kind
       → IsAnswer told words status text
+  certificate_too_long : (file certificate bytes : List ℕ) (known : Known) → asks words ≡ Some (check file certificate) → TellsAt told file bytes → IsKnown bytes known
+      → TellsMore told certificate most_certificate_bytes → status ≡ Refused → text ≡ refusal_line Certificate 1 1 8 → IsAnswer told words status text
+  certificate_refused : (file certificate bytes certified : List ℕ) (known : Known) (line : ℕ) → asks words ≡ Some (check file certificate) → TellsAt told file bytes
+      → IsKnown bytes known → TellsAt told certificate certified → IsRefusedCertificate certified line → status ≡ Refused
+      → text ≡ refusal_line Certificate line 1 16 → IsAnswer told words status text
 
 -- What the sink took, for each status: the whole answer; a proper prefix of an answer; or nothing.
 abbrev pub Outcome : Map → List (List ℕ) → Option (List ℕ) → Option (List ℕ) → Status → Type 0
@@ -60,3 +73,13 @@ IsDoneOrMemory status = (status ≡ Done) ⊎ (status ≡ Memory)
 -- the same of a query, whose search may have been stopped
 abbrev pub IsRanOrMemory : Status → Type 0
 IsRanOrMemory status = (status ≡ Done) ⊎ (status ≡ Stopped) ⊎ (status ≡ Memory)
+
+-- the same of a certificate, which may not be valid
+abbrev pub IsCheckedOrMemory : Status → Type 0
+IsCheckedOrMemory status = (status ≡ Done) ⊎ (status ≡ No) ⊎ (status ≡ Memory)
+
+-- the count of the program's file rose, or that of the certificate's
+abbrev pub FileRose : Ask → (List ℕ → ℕ) → (List ℕ → ℕ) → Type 0
+FileRose (infer file) before after = Rose (before file) (after file)
+FileRose (check file certificate) before after = Rose (before file) (after file) ⊎ Rose (before certificate) (after certificate)
+FileRose (run file query steps) before after = Rose (before file) (after file)

@@ -20,6 +20,10 @@ required_word id = record (new_rule id) { required = true }
 abbrev pub infer_line : App
 infer_line = with_rule (new_app (codes "infer")) (required_word (codes "file"))
 
+-- check FILE CERT
+abbrev pub check_line : App
+check_line = with_rule (with_rule (new_app (codes "check")) (required_word (codes "file"))) (required_word (codes "certificate"))
+
 -- an option with one value
 abbrev pub option : Text → Rule
 option id = record (new_rule id) { long = Some id }
@@ -42,11 +46,12 @@ top_line = on_top settings (new_app (codes "cti"))
 
 -- the command line
 abbrev pub line : App
-line = with_subcommand (with_subcommand top_line infer_line.top) run_line.top
+line = with_subcommand (with_subcommand (with_subcommand top_line infer_line.top) check_line.top) run_line.top
 
--- what is asked for, by its texts: the modes of a file's program, or a query of it with a number of nodes
+-- what is asked for, by its texts: the modes of a file's program, the check of a file's certificate of it, or a query of it with a number of nodes
 pub data Ask : Type 0 where
   infer : Text → Ask
+  check : Text → Text → Ask
   run : Text → Text → ℕ → Ask
 
 -- one to seven decimal digits
@@ -70,10 +75,11 @@ steps_of (Some text) = steps_in text
 abbrev pub given : Text → List Row → Text
 given id rows = unwrap_or (first_of id rows) []
 
--- what a command asks for: `run` is the one beside `infer`
+-- what a command asks for: `run` is the one beside `infer` and `check`
 abbrev pub ask_by : Text → List Row → Option Ask
 ask_by name rows =
     if bytes_eq name (codes "infer") then Some (infer (given (codes "file") rows))
+    else if bytes_eq name (codes "check") then Some (check (given (codes "file") rows) (given (codes "certificate") rows))
     else option_map (run (given (codes "file") rows) (given (codes "query") rows)) (steps_of (first_of (codes "steps") rows))
 
 -- what words without a fault ask for
@@ -87,4 +93,4 @@ asks words = ask_if (fault_of line words) (subcommand_of line words)
 
 -- one line for each command
 abbrev pub usage_lines : List ℕ
-usage_lines = codes "usage: cti infer FILE\n" ++ codes "usage: cti run FILE QUERY --steps N\n"
+usage_lines = codes "usage: cti infer FILE\n" ++ codes "usage: cti check FILE CERT\n" ++ codes "usage: cti run FILE QUERY --steps N\n"

@@ -2,9 +2,11 @@
 
 ghost use Rattle.std.specs.Prelude.{◌≡◌, ◌≤◌, length, min, IfOk};
 ghost use Rattle.cti_top.specs.Answers.{RefusesAt};
+ghost use Rattle.cti_top.specs.Refusal.{refusal_line};
 
 use crate::places::position_of;
 use crate::refusal::{Subject, refusal_text};
+use crate::source::TOO_LONG;
 use crate::status::Status;
 use std::alloc::{AllocError, Global};
 
@@ -13,6 +15,16 @@ use std::alloc::{AllocError, Global};
 pub struct Answer {
     pub status: Status,
     pub text: Vec<u8>,
+}
+
+/// The answer that refuses a text that is too long.
+pub fn too_long(alloc: Global, subject: Subject) -> Result<Answer, AllocError>
+    ensures { IfOk result (λ a. (a.status ≡ Status.Refused) × (a.text.items ≡ refusal_line subject 1 1 8)) }
+{
+    Ok(Answer {
+        status: Status::Refused,
+        text: refusal_text(alloc, subject, 1, 1, TOO_LONG)?,
+    })
 }
 
 /// The answer that refuses a text for a fault of this kind at this byte.

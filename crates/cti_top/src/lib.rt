@@ -3,7 +3,9 @@
 
 mod answer;
 mod answering;
+mod checking;
 mod files;
+mod laws;
 mod line;
 mod memory_files;
 mod memory_sink;
@@ -23,12 +25,13 @@ mod sure;
 #[cfg(test)]
 mod tests;
 mod top_call;
+mod verdicts;
 mod writing;
 
 pub use files::{Files, LoadFault};
+pub use laws::valid_certificates_bound_their_nodes;
 pub use memory_files::MemFiles;
 pub use memory_sink::MemSink;
-pub use places::Position;
 pub use real_files::RealFiles;
 pub use real_sink::RealSink;
 pub use refusal::{Subject, refusal_text};
@@ -37,3 +40,4 @@ pub use status::Status;
 pub use sure::{SureFiles, SureSink};
 pub use term_text::run_text;
 pub use top_call::command;
+pub use verdicts::verdict_text;

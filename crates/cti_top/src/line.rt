@@ -1,7 +1,7 @@
 //! The command line, part by part, as `clap` reads it.
 
 ghost use Rattle.std.specs.Prelude.{◌≡◌, IfOk, false, codes};
-ghost use Rattle.cti_top.specs.Words.{line, top_line, infer_line, run_line, required_word, option};
+ghost use Rattle.cti_top.specs.Words.{line, top_line, infer_line, check_line, run_line, required_word, option};
 ghost use Rattle.cti_top.specs.Line.{IsLine};
 ghost use Rattle.clap.specs.declared.Command.TheViews.{out-Command};
 ghost use Rattle.clap.specs.Words.{app_of, rule_of, with_rule, with_subcommand};
@@ -61,6 +61,14 @@ fn infer<'a>(alloc: Global) -> Result<Command<'a>, AllocError>
     with_argument(Command::new(alloc, "infer"), word(alloc, "file"))
 }
 
+/// `check FILE CERT`
+fn check<'a>(alloc: Global) -> Result<Command<'a>, AllocError>
+    ensures { IfOk result (IsLine check_line) }
+{
+    let check = with_argument(Command::new(alloc, "check"), word(alloc, "file"))?;
+    with_argument(check, word(alloc, "certificate"))
+}
+
 /// `run FILE QUERY --steps N`
 fn run<'a>(alloc: Global) -> Result<Command<'a>, AllocError>
     ensures { IfOk result (IsLine run_line) }
@@ -75,5 +83,6 @@ pub fn command_line<'a>(alloc: Global) -> Result<Command<'a>, AllocError>
     ensures { IfOk result (IsLine line) }
 {
     let command = with_command(top(alloc), infer(alloc)?)?;
+    let command = with_command(command, check(alloc)?)?;
     with_command(command, run(alloc)?)
 }

@@ -28,7 +28,7 @@ impl Subject {
 }
 
 /// Appends a comma and a number.
-fn push_field(text: &mut Vec<u8>, number: u32) -> Result<(), AllocError>
+pub fn push_field(text: &mut Vec<u8>, number: u32) -> Result<(), AllocError>
     ensures { OnOk result (text.new.items ≡ text.old.items ++ field number) }
 {
     text.extend_from_slice(b",")?;

@@ -26,6 +26,8 @@ pub enum Refusal {
 pub enum Request<'a> {
     /// The modes of the program in a file.
     Infer(&'a str),
+    /// The check of the certificate in the second file, for the program in the first.
+    Check(&'a str, &'a str),
     /// A run of a query of the program in a file, and how many nodes are looked at.
     Run(&'a str, &'a str, u64),
 }
@@ -37,6 +39,7 @@ impl<'a> Request<'a> {
     {
         match self {
             Request::Infer(file) => file,
+            Request::Check(file, _) => file,
             Request::Run(file, _, _) => file,
         }
     }
@@ -94,6 +97,9 @@ fn request_by<'a>(name: &str, given: &ArgMatches<'a>) -> Result<Request<'a>, Ref
     if name == "infer" {
         return Ok(Request::Infer(file));
     }
+    if name == "check" {
+        return Ok(Request::Check(file, word(given, "certificate")));
+    }
     match steps_of(value(given, "steps")) {
         Some(steps) => Ok(Request::Run(file, word(given, "query"), steps)),
         None => Err(Refusal::Usage),
@@ -118,6 +124,7 @@ pub fn usage_text(alloc: Global) -> Result<Vec<u8>, AllocError>
     ensures { IfOk result (λ text. text.items ≡ usage_lines) }
 {
     let mut text = Vec::from_slice(alloc, b"usage: cti infer FILE\n")?;
+    text.extend_from_slice(b"usage: cti check FILE CERT\n")?;
     text.extend_from_slice(b"usage: cti run FILE QUERY --steps N\n")?;
     Ok(text)
 }

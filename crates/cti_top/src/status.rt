@@ -3,16 +3,20 @@
 ghost use Rattle.std.specs.Prelude.{◌≡◌};
 ghost use Rattle.cti_top.specs.Status.{number_of};
 
+use std::alloc::AllocError;
+
 /// How a call of `command` ended.
 #[derive(Clone, Copy, Debug, PartialEq, Eq)]
 pub enum Status {
     /// The answer was written.
     Done,
+    /// The certificate is not valid; the line that says why was written.
+    No,
     /// The words are no command; the usage was written.
     Usage,
-    /// The program or the query was refused; the line that says why was written.
+    /// The program, the certificate or the query was refused; the line that says why was written.
     Refused,
-    /// The file could not be loaded; nothing was written.
+    /// A file could not be loaded; nothing was written.
     FileFault,
     /// The sink failed; a proper prefix of the answer was written.
     OutFault,
@@ -23,12 +27,13 @@ pub enum Status {
 }
 
 impl Status {
-    /// The number with which the process ends, from 0 to 7. The number 1 is kept for a certificate that is not valid.
+    /// The number with which the process ends, from 0 to 7.
     pub fn number(self) -> u8
         ensures { result ≡ number_of self }
     {
         match self {
             Status::Done => 0,
+            Status::No => 1,
             Status::Usage => 2,
             Status::Refused => 3,
             Status::FileFault => 4,
@@ -36,5 +41,15 @@ impl Status {
             Status::Memory => 6,
             Status::Stopped => 7,
         }
+    }
+}
+
+impl From<AllocError> for Status {
+    ghost use Rattle.cti_top.specs.declared.status.Status.TheVariants.{Memory};
+
+    ghost from_gives = { λ _ s. s ≡ Memory };
+
+    fn from(_error: AllocError) -> Status {
+        Status::Memory
     }
 }

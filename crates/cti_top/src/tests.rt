@@ -9,7 +9,7 @@ use std::collections::BTreeMap;
 use std::test::Fail;
 
 /// What the usage says.
-const USAGE: &[u8] = b"usage: cti infer FILE\nusage: cti run FILE QUERY --steps N\n";
+const USAGE: &[u8] = b"usage: cti infer FILE\nusage: cti check FILE CERT\nusage: cti run FILE QUERY --steps N\n";
 
 /// A store with one file, `a.pl`.
 fn files(alloc: Global, text: &[u8]) -> Result<BTreeMap<String, Vec<u8>>, AllocError> {
@@ -272,6 +272,133 @@ fn refused_queries(rt: HostRuntime) -> Result<(), Fail> {
     Ok(())
 }
 
+/// The certificate of `APPEND`, line by line.
+const APPEND_LINES: [&str; 17] = [
+    "cti(1).",
+    "terminates(app/3,[[1],[3]]).",
+    "size(app/3,1,[0,1,1,-1]).",
+    "size(app/3,2,[0,-1,-1,1]).",
+    "by(1,1,1,[]).",
+    "by(1,2,1,[]).",
+    "by(2,1,1,[1,0]).",
+    "by(2,2,1,[0,1]).",
+    "grounds(app/3,1,[0,x,0]).",
+    "grounds(app/3,2,[1,0,0]).",
+    "grounds(app/3,3,[1,1,1]).",
+    "measure(app/3,1,[1,0,0],0).",
+    "measure(app/3,2,[0,0,1],0).",
+    "falls(2,1,1,1,[]).",
+    "falls(2,1,2,1,[]).",
+    "pre(app/3,1,1,[1,x,x]).",
+    "pre(app/3,2,1,[x,x,1]).",
+];
+
+/// The lines of the certificate of `APPEND`, where the line of this number has another text in its place.
+fn changed(alloc: Global, number: usize, text: &str) -> Result<Vec<u8>, AllocError> {
+    let mut whole = Vec::new(alloc);
+    for (index, line) in APPEND_LINES.iter().enumerate() {
+        let line = if index + 1 == number { text } else { *line };
+        if line.is_empty() {
+            continue;
+        }
+        whole.extend_from_slice(line.as_bytes())?;
+        whole.push(b'\n')?;
+    }
+    Ok(whole)
+}
+
+/// The status and the bytes of `check a.pl a.cert`, where the files have these texts.
+fn checked(alloc: Global, text: &[u8], certificate: &[u8]) -> Result<(Status, Vec<u8>), AllocError> {
+    let mut out = sink(alloc, 4096, &[])?;
+    let mut store = store(alloc, text, &[])?;
+    store.files.insert(
+        String::from_str(alloc, "a.cert")?,
+        Vec::from_slice(alloc, certificate)?,
+    )?;
+    let status = command(alloc, &["check", "a.pl", "a.cert"], &mut store, &mut out);
+    Ok((status, out.taken))
+}
+
+#[test]
+fn certificates_of_append(rt: HostRuntime) -> Result<(), Fail> {
+    let alloc = rt.alloc();
+    for (number, text, wanted, line) in [
+        (0, "", Status::Done, "yes.\n"),
+        (7, "by(2,1,1,[2,0]).", Status::No, "no(7,5).\n"),
+        (2, "terminates(app/3,[[2]]).", Status::No, "no(2,9).\n"),
+        (16, "pre(app/3,1,1,[x,x,x]).", Status::No, "no(2,8).\n"),
+        (17, "", Status::No, "no(2,9).\n"),
+        (
+            17,
+            "pre(app/3,2,1,[x,x,1]).\npre(app/3,2,1,[x,x,1]).",
+            Status::No,
+            "no(18,3).\n",
+        ),
+        (
+            3,
+            "size(app/3,1,[0,1,1,-1]). ",
+            Status::Refused,
+            "refused(certificate,3,1,16).\n",
+        ),
+    ] {
+        let certificate = changed(alloc, number, text)?;
+        let (status, taken) = checked(alloc, APPEND.as_bytes(), &certificate)?;
+        assert_eq!(rt; status, wanted, "{line}");
+        assert_eq!(rt; taken.as_slice(), line.as_bytes(), "{line}");
+    }
+    Ok(())
+}
+
+/// A certificate of two predicates, the mode of which is admitted only where sets need not be closed upwards.
+const RISE: &str = "cti(1).\nterminates(p/2,[[2]]).\nterminates(q/1,[]).\nsize(p/2,1,[-1,0,0]).\nsize(q/1,1,[-1,0]).\nby(1,1,1,[1]).\nby(2,1,1,[1]).\nmeasure(p/2,1,[0,0],0).\npre(p/2,1,1,[0,1]).\npre(p/2,1,2,[1,0]).\nnone(q/1,1).\npoint(2,1,1,[]).\n";
+
+#[test]
+fn other_certificates(rt: HostRuntime) -> Result<(), Fail> {
+    let alloc = rt.alloc();
+    for (text, certificate, wanted, line) in [
+        (
+            "p :- p.",
+            "cti(1).\nterminates(p/0,[]).\nsize(p/0,1,[-1]).\nby(1,1,1,[1]).\nnone(p/0,1).\npoint(1,1,1,[]).\n",
+            Status::Done,
+            "yes.\n",
+        ),
+        (
+            "p :- p.",
+            "cti(1).\nterminates(p/0,[]).\nsize(p/0,1,[-1]).\nby(1,1,1,[1]).\nnone(p/0,1).\npoint(1,1,0,[]).\nat(1,1,1,[]).\n",
+            Status::No,
+            "no(5,10).\n",
+        ),
+        (
+            "p :- p.",
+            "cti(2).\nterminates(p/0,[]).\nsize(p/0,1,[-1]).\nby(1,1,1,[1]).\nnone(p/0,1).\npoint(1,1,1,[]).\n",
+            Status::No,
+            "no(1,1).\n",
+        ),
+        (
+            APPEND,
+            "cti(1).\nterminates(app/3,[[1],[3]]).\nsize(app/3,1,[0,1,1,-1]).\n",
+            Status::No,
+            "no(4,2).\n",
+        ),
+        (
+            "p(X,f(X)) :- q(X).\nq(a) :- q(a).\n",
+            RISE,
+            Status::No,
+            "no(2,9).\n",
+        ),
+        ("p :- ", "cti(1)", Status::Refused, "refused(program,1,6,6).\n"),
+        ("p.", "cti(1)", Status::Refused, "refused(certificate,1,1,16).\n"),
+    ] {
+        let (status, taken) = checked(alloc, text.as_bytes(), certificate.as_bytes())?;
+        assert_eq!(rt; status, wanted, "{line}");
+        assert_eq!(rt; taken.as_slice(), line.as_bytes(), "{line}");
+    }
+    let (status, taken) = answered(alloc, b"p.", &["check", "a.pl", "a.cert"])?;
+    assert_eq!(rt; status, Status::FileFault);
+    assert!(rt; taken.is_empty());
+    Ok(())
+}
+
 /// A term of one name around another so often.
 fn nested(alloc: Global, inner: &[u8], count: usize) -> Result<Vec<u8>, AllocError> {
     let mut text = repeated(alloc, b"", b"s(", count)?;
@@ -364,6 +491,9 @@ fn other_statuses(rt: HostRuntime) -> Result<(), Fail> {
         ["help"].as_slice(),
         ["--version"].as_slice(),
         ["prove", "a"].as_slice(),
+        ["check", "a.pl"].as_slice(),
+        ["check", "a.pl", "a.cert", "b"].as_slice(),
+        ["check", "a.pl", "a.cert", "--steps", "5"].as_slice(),
         ["run", "a.pl"].as_slice(),
         ["run", "a.pl", "p", "q"].as_slice(),
         ["run", "a.pl", "p", "--steps"].as_slice(),

@@ -1,10 +1,12 @@
 //! The top call.
 
 ghost use Rattle.std.specs.Prelude.{◌≡◌, List, ℕ, map, Some};
+ghost use Rattle.certificate.specs.Reading.{IsTextOf};
+ghost use Rattle.certificate.specs.declared.certificate.Certificate.{Certificate as TheCertificate};
 ghost use Rattle.cti_top.specs.Causes.{Rose};
-ghost use Rattle.cti_top.specs.Words.{Ask, asks, infer, run};
+ghost use Rattle.cti_top.specs.Words.{Ask, asks, check, infer, run};
 ghost use Rattle.cti_top.specs.Programs.{IsRefused};
-ghost use Rattle.cti_top.specs.Outcome.{HasFile, IsDoneOrMemory, IsRanOrMemory, IsShort, Outcome, program_file};
+ghost use Rattle.cti_top.specs.Outcome.{FileRose, HasFile, IsCheckedOrMemory, IsDoneOrMemory, IsRanOrMemory, IsShort, Outcome};
 ghost use Rattle.cti_top.specs.Runs.{IsRefusedQuery};
 
 use crate::answering::answer_for;
@@ -16,7 +18,8 @@ use std::alloc::Global;
 
 /// Carries out the command that the words after the program's name ask for.
 ///
-/// `infer FILE` reads the program of a file and writes, for each predicate, its modes as far as they are known. `run FILE QUERY
+/// `infer FILE` reads the program of a file and writes, for each predicate, its modes as far as they are known. `check FILE CERT`
+/// reads a certificate of it too, and writes `yes.` where it is valid, and `no(Line,Reason).` where it is not. `run FILE QUERY
 /// --steps N` reads a query of the program too, and writes its answers among the empty derivation and the first N others, then how
 /// many there were, the length of the longest, and whether there are more. N is from 1 to 1,000,000, and else 100,000. The answer is
 /// complete, and all memory is taken, before the first byte is written.
@@ -28,15 +31,22 @@ pub fn command<F: Files, S: Sink>(
 ) -> Status
     ensures outcome { Outcome (F.told files.old) (map (λ w. w.now) words.entry.now) (S.taken out.old) (S.taken out.new) result }
 
-    // A fault of a file comes only from a failed load of the file that the words name, and one of the sink only from a failed write.
+    // A fault of a file comes only from a failed load of a file that the words name, and one of the sink only from a failed write.
     ensures file_fault { result ≡ Status.FileFault
-        → (ask : Ask) × (asks (map (λ w. w.now) words.entry.now) ≡ Some ask) × Rose (F.faults files.old (program_file ask)) (F.faults files.new (program_file ask)) }
+        → (ask : Ask) × (asks (map (λ w. w.now) words.entry.now) ≡ Some ask) × FileRose ask (F.faults files.old) (F.faults files.new) }
     ensures out_fault { result ≡ Status.OutFault → Rose (S.faults out.old) (S.faults out.new) }
 
     // A file that is told, is short and has no fault is answered, unless memory runs out or a count of faults rises.
     ensures complete { (name bytes : List ℕ) → asks (map (λ w. w.now) words.entry.now) ≡ Some (infer name) → HasFile (F.told files.old) name bytes → IsShort bytes
         → ((kind at : ℕ) → IsRefused bytes kind at → ⊥)
         → (Rose (F.faults files.old name) (F.faults files.new name) → ⊥) → (Rose (S.faults out.old) (S.faults out.new) → ⊥) → IsDoneOrMemory result }
+
+    // The same of a certificate's text within its limit: it is checked.
+    ensures complete_check { (name certificate bytes certified : List ℕ) (c : TheCertificate) → asks (map (λ w. w.now) words.entry.now) ≡ Some (check name certificate)
+        → HasFile (F.told files.old) name bytes → IsShort bytes → ((kind at : ℕ) → IsRefused bytes kind at → ⊥)
+        → HasFile (F.told files.old) certificate certified → IsTextOf c certified
+        → (Rose (F.faults files.old name) (F.faults files.new name) → ⊥) → (Rose (F.faults files.old certificate) (F.faults files.new certificate) → ⊥)
+        → (Rose (S.faults out.old) (S.faults out.new) → ⊥) → IsCheckedOrMemory result }
 
     // The same of a query that has no fault either: it is run, and its search may be stopped.
     ensures complete_run { (name query bytes : List ℕ) (steps : ℕ) → asks (map (λ w. w.now) words.entry.now) ≡ Some (run name query steps) → HasFile (F.told files.old) name bytes

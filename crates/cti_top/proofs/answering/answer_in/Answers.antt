@@ -1,0 +1,14 @@
+use Rattle.std.proofs.Common.{ℕ, List, subst}
+use Rattle.cti_top.specs.Answers.{ask_of, AnswersProgram}
+use Rattle.cti_top.specs.Answers as answers
+use Rattle.cti_top.specs.Told.{Map, TellsAt}
+use Rattle.cti_top.proofs.AnswerLemmas.{if_ok}
+use Rattle.cti_top.proofs.answering.answer_in.Goals as goal
+
+pub returns-in-Ok-clause-answered : goal.returns-in-Ok-clause-answered
+returns-in-Ok-clause-answered g c =
+    let told = g.F.Files.told c.args.files.now in
+    let ask = ask_of c.args.request in
+    let bytes = c.deref.result.now in
+    let at = subst (λ (name : List ℕ). TellsAt told name bytes) c.file.ensures (rw (← c.deref.ensures.value) at c.in-Ok.ensures.bytes) in
+    if_ok c.answer_to.result (λ a h. answers.read bytes at (subst (λ (m : Map). AnswersProgram m bytes ask a.status a.text.items) c.load.ensures.stays h)) c.answer_to.ensures.answered
