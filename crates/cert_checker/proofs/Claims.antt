@@ -29,10 +29,10 @@ use Rattle.cert_checker.proofs.CallFacts.{level_parts}
 use Rattle.cert_checker.proofs.ColumnLengths.{an_element}
 use Rattle.cert_checker.proofs.Sized.{some_below}
 
-natural_is : (x : ℤ) → pos 0 ≤ℤ x → pos (unsigned_abs x) ≡ x
+pub natural_is : (x : ℤ) → pos 0 ≤ℤ x → pos (unsigned_abs x) ≡ x
 natural_is x h = omega (arith, ints)
 
-naturals_are : (xs : List ℤ) → All (λ x. pos 0 ≤ℤ x) xs → map pos (map unsigned_abs xs) ≡ xs
+pub naturals_are : (xs : List ℤ) → All (λ x. pos 0 ≤ℤ x) xs → map pos (map unsigned_abs xs) ≡ xs
 naturals_are [] h = refl
 naturals_are (x ∷ xs) h =
     let here = natural_is x (h 0 x (omega arith)) in

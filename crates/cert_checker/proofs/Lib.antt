@@ -4,6 +4,7 @@ pub mod CallFacts
 pub mod Claims
 pub mod ColumnLengths
 pub mod Examples
+pub mod Excludes
 pub mod FallTargets
 pub mod Partitions
 pub mod PointSteps

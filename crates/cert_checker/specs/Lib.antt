@@ -1,5 +1,6 @@
 pub mod Bounding
 pub mod Claimed
+pub mod Excluded
 pub mod PairSums
 pub mod Proved
 pub mod Refuting

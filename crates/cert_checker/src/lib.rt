@@ -41,7 +41,7 @@ pub use bounding::valid_certificates_bound_their_modes;
 pub use checking::check;
 pub use fall_faults::fall_fault;
 pub use fault::Fault;
-pub use laws::numbers_show_claims;
+pub use laws::{numbers_show_claims, refutations_are_those_of_views};
 pub use measure_faults::measure_fault;
 pub use reason::Reason;
 pub use refutation_faults::refutation_fault;

@@ -5,7 +5,7 @@ ghost use Rattle.certificate_parts.specs.Structure.{AreNamed};
 
 use crate::{Reason, Verdict, check};
 use certificate::Certificate;
-use cti_terms::{Atom, Atoms, Clause, Name, Names, PredId, Program, Term, Terms};
+use cti_terms::{Atom, Atoms, Clause, Names, Program, Term, Terms};
 use std::alloc::{AllocError, Global};
 use std::test::Fail;
 
@@ -30,55 +30,44 @@ const APPEND: [&str; 17] = [
     "pre(app/3,2,1,[x,x,1]).",
 ];
 
-/// An atom of these arguments.
-fn atom(pred: PredId, args: Vec<Term>) -> Atom {
-    Atom {
-        pred,
-        args: Terms::from_vec(args),
-    }
-}
-
-/// A body of one atom.
-fn call(alloc: Global, atom: Atom) -> Result<Atoms, AllocError> {
-    let mut body = Atoms::new(alloc);
-    body.push(atom)?;
-    Ok(body)
-}
-
-/// A list of a head, by its variable, and a tail.
-fn cell(alloc: Global, dot: Name, head: u32, tail: u32) -> Result<Term, AllocError> {
-    Ok(Term::Fun(dot, vec![in alloc; Term::Var(head), Term::Var(tail)]?))
-}
-
-/// `app([],L,L).` and `app([H|T],L,[H|R]) :- app(T,L,R).`
+// `app([],L,L).` and `app([H|T],L,[H|R]) :- app(T,L,R).`
 fn append(alloc: Global) -> Result<(Program, Names), AllocError>
     ensures { IfOk result (λ r. AreNamed r.1 r.0.preds) }
 {
     let mut names = Names::new(alloc);
     let name = names.intern(b"app")?;
     let mut program = Program::new(alloc);
-    let app = program.add_pred(name, 3)?;
-    let none = Term::Fun(Name(1), Vec::new(alloc));
+    let pred = program.add_pred(name, 3)?;
+    let nil = Term::Fun(names.intern(b"[]")?, Vec::new(alloc));
+    let cons = names.intern(b".")?;
+    let head = Atom {
+        pred,
+        args: Terms::from_vec(vec![in alloc; nil, Term::Var(0), Term::Var(0)]?),
+    };
     program.add_clause(Clause {
-        head: atom(app, vec![in alloc; none, Term::Var(0), Term::Var(0)]?),
+        head,
         body: Atoms::new(alloc),
         vars: 1,
     })?;
-    let first = cell(alloc, Name(2), 0, 1)?;
-    let last = cell(alloc, Name(2), 0, 3)?;
-    let inner = atom(
-        app,
-        vec![in alloc; Term::Var(1), Term::Var(2), Term::Var(3)]?,
-    );
+    let first = Term::Fun(cons, vec![in alloc; Term::Var(0), Term::Var(1)]?);
+    let third = Term::Fun(cons, vec![in alloc; Term::Var(0), Term::Var(3)]?);
+    let head = Atom {
+        pred,
+        args: Terms::from_vec(vec![in alloc; first, Term::Var(2), third]?),
+    };
+    let call = Atom {
+        pred,
+        args: Terms::from_vec(vec![in alloc; Term::Var(1), Term::Var(2), Term::Var(3)]?),
+    };
     program.add_clause(Clause {
-        head: atom(app, vec![in alloc; first, Term::Var(2), last]?),
-        body: call(alloc, inner)?,
+        head,
+        body: Atoms::from_vec(vec![in alloc; call]?),
         vars: 4,
     })?;
     Ok((program, names))
 }
 
-/// `p :- p.`
+// `p :- p.`
 fn cycle(alloc: Global) -> Result<(Program, Names), AllocError>
     ensures { IfOk result (λ r. AreNamed r.1 r.0.preds) }
 {
@@ -86,35 +75,58 @@ fn cycle(alloc: Global) -> Result<(Program, Names), AllocError>
     let name = names.intern(b"p")?;
     let mut program = Program::new(alloc);
     let p = program.add_pred(name, 0)?;
+    let call = Atom {
+        pred: p,
+        args: Terms::new(alloc),
+    };
     program.add_clause(Clause {
-        head: atom(p, Vec::new(alloc)),
-        body: call(alloc, atom(p, Vec::new(alloc)))?,
+        head: Atom {
+            pred: p,
+            args: Terms::new(alloc),
+        },
+        body: Atoms::from_vec(vec![in alloc; call]?),
         vars: 0,
     })?;
     Ok((program, names))
 }
 
-/// `p(X,f(X)) :- q(X).` and `q(a) :- q(a).`
+// `p(X,f(X)) :- q(X).` and `q(a) :- q(a).`
 fn paired(alloc: Global) -> Result<(Program, Names), AllocError>
     ensures { IfOk result (λ r. AreNamed r.1 r.0.preds) }
 {
     let mut names = Names::new(alloc);
-    let first = names.intern(b"p")?;
-    let second = names.intern(b"q")?;
+    let p_name = names.intern(b"p")?;
+    let q_name = names.intern(b"q")?;
+    let wrap = names.intern(b"f")?;
+    let constant = names.intern(b"a")?;
     let mut program = Program::new(alloc);
-    let p = program.add_pred(first, 2)?;
-    let q = program.add_pred(second, 1)?;
-    let own = Term::Fun(Name(2), vec![in alloc; Term::Var(0)]?);
+    let p = program.add_pred(p_name, 2)?;
+    let q = program.add_pred(q_name, 1)?;
+    let wrapped = Term::Fun(wrap, vec![in alloc; Term::Var(0)]?);
+    let head = Atom {
+        pred: p,
+        args: Terms::from_vec(vec![in alloc; Term::Var(0), wrapped]?),
+    };
+    let call = Atom {
+        pred: q,
+        args: Terms::from_vec(vec![in alloc; Term::Var(0)]?),
+    };
     program.add_clause(Clause {
-        head: atom(p, vec![in alloc; Term::Var(0), own]?),
-        body: call(alloc, atom(q, vec![in alloc; Term::Var(0)]?))?,
+        head,
+        body: Atoms::from_vec(vec![in alloc; call]?),
         vars: 1,
     })?;
-    let head = Term::Fun(Name(3), Vec::new(alloc));
-    let again = Term::Fun(Name(3), Vec::new(alloc));
+    let head = Atom {
+        pred: q,
+        args: Terms::from_vec(vec![in alloc; Term::Fun(constant, Vec::new(alloc))]?),
+    };
+    let call = Atom {
+        pred: q,
+        args: Terms::from_vec(vec![in alloc; Term::Fun(constant, Vec::new(alloc))]?),
+    };
     program.add_clause(Clause {
-        head: atom(q, vec![in alloc; head]?),
-        body: call(alloc, atom(q, vec![in alloc; again]?))?,
+        head,
+        body: Atoms::from_vec(vec![in alloc; call]?),
         vars: 0,
     })?;
     Ok((program, names))

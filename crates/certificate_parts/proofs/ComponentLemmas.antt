@@ -1,27 +1,24 @@
 -- What the components of a program say does not depend on their numbers, and predicates are told apart by their texts.
-use Rattle.std.proofs.Common.{◌≡◌, ◌≢◌, ℕ, zero, suc, ◌+◌, ◌<◌, ◌≤◌, Bool, true, false, ◌&&◌, ◌==◌, if◌then◌else◌, List, [], ◌∷◌, take, length, slice_get, slice_index, slice_index_or, Option, Some, None, option_map, option_and_then, unwrap_or, refl, ap, ap₂, sym, ◌∙◌, subst, arith, eqb-true, eq-eqb, nat_lt, ltb-true, ltb-false, add-one}
+use Rattle.std.proofs.Common.{◌≡◌, ◌≢◌, ℕ, zero, suc, ◌+◌, ◌<◌, ◌≤◌, Bool, true, false, List, [], ◌∷◌, length, slice_get, slice_index, slice_index_or, Option, Some, None, option_and_then, unwrap_or, refl, ap, ap₂, sym, ◌∙◌, subst, arith, eqb-true, eq-eqb, nat_lt, ltb-true, ltb-false, add-one}
 use Rattle.std.proofs.lemmas.Bool.{false≢true}
 use Rattle.std.proofs.lemmas.Option.{none-some}
-use Rattle.std.specs.Prelude.{IsTrue, AllPairs}
+use Rattle.std.specs.Prelude.{AllPairs}
 use Rattle.std.specs.List.{AllByRecursion}
 use Rattle.std.specs.List.Sorted.{IsStrictlyIncreasing}
-use Rattle.call_components.specs.Calls.{Calls}
 use Rattle.call_components.specs.Partition.{Partition, IsIn, AreComponents}
 use Rattle.cti_terms.specs.declared.atom_list.Atom.{Atom}
 use Rattle.cti_terms.specs.declared.clauses.Clause.{Clause}
 use Rattle.cti_terms.specs.declared.predicates.Pred.{Pred}
 use Rattle.cti_terms.specs.Listing.{Listing, numbered, IsProgram}
-use Rattle.linear_rows.specs.declared.multipliers.Multipliers.{Multipliers}
 use Rattle.certificate.specs.declared.fact.Fact.{Fact}
 use Rattle.certificate_parts.specs.declared.parts.LevelPart.{LevelPart}
 use Rattle.certificate_parts.specs.declared.parts.PairPoint.{PairPoint}
 use Rattle.certificate_parts.specs.declared.parts.Refutation.{Refutation}
 use Rattle.certificate_parts.specs.declared.parts.Parts.{Parts}
-use Rattle.certificate_parts.specs.Numbered.{EachFrom, AreEach}
 use Rattle.certificate_parts.specs.Order.{text_or_none, pred_text}
-use Rattle.certificate_parts.specs.Shape.{arity_of, head_of, body_of, rows_of_atoms, items_of, is_same, is_together, is_recursive, first_of, mappings_of, proofs_of_call, is_own_call, is_own_clause, is_pair, AreMultipliers, IsLevel, IsPairPoint, PairsAscend, IsOpen, IsRefutation, HaveShape}
+use Rattle.certificate_parts.specs.Shape.{head_of, body_of, is_same, is_together, is_recursive, first_of, mappings_of, proofs_of_call, is_own_call, is_own_clause, is_pair, IsPairPoint, IsRefutation, HaveShape}
 use Rattle.certificate_parts.specs.Structure.{AreNamed, IsStructured}
-use Rattle.certificate_parts.proofs.SectionLemmas.{same_some, bound, all_weaker, each_weaker}
+use Rattle.certificate_parts.proofs.SectionLemmas.{same_some, all_weaker, each_weaker}
 
 -- places of lists
 found : {A : Type 0} (xs : List A) (i : ℕ) → i < length xs → (x : A) × (slice_get xs i ≡ Some x)

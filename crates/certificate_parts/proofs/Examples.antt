@@ -1,13 +1,11 @@
 -- The definitions at work: a certificate for append/3, and one for p/0, which has no clause.
-use Rattle.std.proofs.Common.{◌≡◌, ℕ, ℤ, pos, negsuc, true, false, List, [], ◌∷◌, length, Some, None, refl, arith}
+use Rattle.std.proofs.Common.{◌≡◌, ℕ, ℤ, pos, negsuc, true, false, List, [], ◌∷◌, Some, None, refl, arith}
 use Rattle.std.proofs.lemmas.Int.{ints}
 use Rattle.std.specs.Prelude.{codes}
-use Rattle.bool_diagrams.specs.declared.cube.Cell.{Cell}
 use Rattle.bool_diagrams.specs.declared.cube.Cell.TheVariants as side
 use Rattle.call_components.specs.Partition.{Partition}
 use Rattle.certificate.specs.declared.cell.CertCell.TheVariants as cell
 use Rattle.certificate.specs.declared.pred_text.PredText.{PredText}
-use Rattle.certificate.specs.declared.fact.Fact.{Fact}
 use Rattle.certificate.specs.declared.fact.Fact.TheVariants as fact
 use Rattle.cti_terms.specs.Listing.{Listing, numbered}
 use Rattle.linear_rows.specs.declared.multipliers.Multipliers.{Multipliers}
@@ -16,7 +14,7 @@ use Rattle.termination_model.specs.Append.{append, append_cons}
 use Rattle.certificate_parts.specs.declared.parts.LevelPart.{LevelPart}
 use Rattle.certificate_parts.specs.declared.parts.PairPoint.{PairPoint}
 use Rattle.certificate_parts.specs.declared.parts.Parts.{Parts}
-use Rattle.certificate_parts.specs.Order.{listed, point_facts, refutation_facts, is_note}
+use Rattle.certificate_parts.specs.Order.{listed, refutation_facts, is_note}
 use Rattle.certificate_parts.specs.Shape.{rows_of_atoms, mappings_of, proofs_of_call, is_pair, HaveShape}
 use Rattle.certificate_parts.specs.Structure.{IsStructured}
 

@@ -1,6 +1,6 @@
 -- Reading the levels and the proofs for calls: what is read is listed so, and what is listed so is read.
-use Rattle.std.proofs.Common.{◌≡◌, ◌≢◌, ℕ, zero, suc, ◌+◌, ◌<◌, ◌≤◌, ◌⊎◌, inl, inr, Bool, true, false, ◌&&◌, ◌==◌, if◌then◌else◌, List, [], ◌∷◌, ◌++◌, length, take, sum_by, slice_get, Option, Some, None, option_map, unwrap_or, refl, ap, sym, ◌∙◌, subst, arith, eqb-true, eq-eqb, ne_eqb, append_assoc, append-nil, eq-or-lt_of_le}
-use Rattle.std.proofs.lemmas.Bool.{false≢true, and_parts}
+use Rattle.std.proofs.Common.{◌≡◌, ◌≢◌, ℕ, zero, suc, ◌+◌, ◌<◌, ◌≤◌, ◌⊎◌, inl, inr, Bool, true, false, ◌==◌, if◌then◌else◌, List, [], ◌∷◌, ◌++◌, length, take, slice_get, Option, Some, None, option_map, unwrap_or, refl, ap, sym, ◌∙◌, subst, arith, eqb-true, eq-eqb, append_assoc, append-nil}
+use Rattle.std.proofs.lemmas.Bool.{false≢true}
 use Rattle.std.proofs.lemmas.List.Sums.{sum_by_push}
 use Rattle.std.specs.List.{AllByRecursion}
 use Rattle.call_components.specs.Partition.{Partition}
@@ -16,7 +16,7 @@ use Rattle.certificate_parts.specs.Numbered.{facts_from, lines_from, EachFrom, A
 use Rattle.certificate_parts.specs.Order.{text_or_none, pred_text, measure_line, falls_line}
 use Rattle.certificate_parts.specs.Shape.{arity_of, rows_of, rows_of_atoms, items_of, is_recursive, first_of, mappings_of, proofs_of_call, AreMultipliers, IsLevel}
 use Rattle.certificate_parts.specs.Walk.{same_pred, with_first, take_level, take_fall, read_each, read_next, read_many, read_level, read_levels, read_call, read_calls}
-use Rattle.certificate_parts.proofs.SectionLemmas.{same_some, bound, mapped, all_both, all_from, others_from, each_all, all_each, counted_sound, counted_back, many_sound, many_back, AreOthers}
+use Rattle.certificate_parts.proofs.SectionLemmas.{same_some, bound, mapped, all_both, all_from, others_from, each_all, all_each, counted_sound, counted_back, many_sound, many_back}
 use Rattle.certificate_parts.proofs.TakeLemmas.{same_is, level_taken, level_given, fall_taken, fall_given}
 
 -- the arity of a predicate's text is the predicate's

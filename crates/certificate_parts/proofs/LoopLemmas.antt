@@ -1,8 +1,8 @@
 -- Lemmas on the loops that read items.
-use Rattle.std.proofs.Common.{◌≡◌, ℕ, zero, suc, ◌+◌, ◌-◌, ◌<◌, ◌≤◌, ◌⊎◌, inl, inr, Bool, true, false, ◌&&◌, if◌then◌else◌, nat_lt, nat_le, List, [], ◌∷◌, ◌++◌, length, take, drop, Option, Some, None, option_map, option_and_then, Result, Ok, Err, refl, ap, sym, ◌∙◌, arith, append-nil, append_assoc, slice_index, slice_index_or, IsErr, IsErrAnd, le-ltb, lt-ltb, le-leb, leb-true}
+use Rattle.std.proofs.Common.{◌≡◌, ℕ, zero, suc, ◌+◌, ◌<◌, ◌≤◌, ◌⊎◌, inl, inr, Bool, true, false, ◌&&◌, if◌then◌else◌, nat_lt, nat_le, List, [], ◌∷◌, ◌++◌, length, drop, Some, None, option_map, Result, Ok, Err, refl, ap, sym, ◌∙◌, arith, append-nil, append_assoc, slice_index_or, IsErr, IsErrAnd, le-ltb, lt-ltb, le-leb, leb-true}
 use Rattle.std.proofs.lemmas.Bool.{false≢true}
 use Rattle.std.specs.Borrow.{Bor}
-use Rattle.std.specs.List.{AllByRecursion, prefix_len}
+use Rattle.std.specs.List.{prefix_len}
 use Rattle.std.specs.Prelude.{IsTrue}
 use Rattle.call_components.specs.Partition.{Partition}
 use Rattle.certificate.specs.declared.fact.Fact.{Fact}

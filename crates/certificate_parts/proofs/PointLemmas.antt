@@ -1,5 +1,5 @@
 -- Reading a refutation: what is read is listed so, and what is listed so is read.
-use Rattle.std.proofs.Common.{◌≡◌, ◌≢◌, ℕ, zero, suc, ◌+◌, ◌<◌, ◌≤◌, ◌⊎◌, inl, inr, Bool, true, false, ◌&&◌, ◌||◌, ◌==◌, if◌then◌else◌, nat_lt, List, [], ◌∷◌, ◌++◌, length, Option, Some, None, option_map, refl, ap, ap₂, sym, ◌∙◌, subst, arith, eqb-true, eq-eqb, ne_eqb, lt-ltb, ltb-true, append_assoc}
+use Rattle.std.proofs.Common.{◌≡◌, ◌≢◌, ℕ, zero, suc, ◌≤◌, ◌⊎◌, inl, inr, Bool, true, false, ◌&&◌, ◌||◌, ◌==◌, if◌then◌else◌, nat_lt, List, [], ◌∷◌, ◌++◌, length, Option, Some, None, option_map, refl, ap, sym, ◌∙◌, subst, arith, eqb-true, eq-eqb, lt-ltb, ltb-true, append_assoc}
 use Rattle.std.proofs.lemmas.Bool.{false≢true, and_parts}
 use Rattle.std.proofs.lemmas.Bool.Decides.{Decides-int_eq}
 use Rattle.std.proofs.lemmas.Option.{none-some}
@@ -18,7 +18,7 @@ use Rattle.certificate_parts.specs.declared.refutations.FirstPoint.{FirstPoint}
 use Rattle.certificate_parts.specs.Numbered.{facts_from}
 use Rattle.certificate_parts.specs.Order.{pred_text, at_facts, point_facts, refutation_facts}
 use Rattle.certificate_parts.specs.Shape.{vars_of, items_of, first_of, is_recursive, is_pair, IsBefore, pair_of, PairsAscend, IsPoint, HasSecond, IsPairPoint, IsOpen, IsRefutation}
-use Rattle.certificate_parts.specs.Walk.{Read, Taken, kept, is_amount, are_amounts, is_before, pair_end, paired, point_read, pair_point, with_first, read_next, take_point, take_second, take_refuted, read_second, read_point, read_points, read_group, refutation_read, is_open, read_refutation}
+use Rattle.certificate_parts.specs.Walk.{Taken, is_amount, are_amounts, is_before, pair_end, paired, point_read, pair_point, with_first, read_next, take_point, take_second, take_refuted, read_second, read_point, read_points, read_group, refutation_read, is_open, read_refutation}
 use Rattle.certificate_parts.proofs.KindLemmas.{split_point, split_second, IsPoint as IsPointFact, IsAt}
 use Rattle.certificate_parts.proofs.SectionLemmas.{same_some, bound, mapped, IsTaken, IsBack, next_sound, next_back}
 use Rattle.certificate_parts.proofs.TakeLemmas.{other_taken, placed, kept_is, amount_is, amount_back, amounts_are, amounts_back, refuted_taken, refuted_given}

@@ -1,5 +1,5 @@
 -- Reading the sections of a certificate: what is read is listed so, and what is listed so is read.
-use Rattle.std.proofs.Common.{◌≡◌, ◌≢◌, ℕ, zero, suc, ◌+◌, ◌<◌, ◌≤◌, ◌⊎◌, inl, inr, Bool, true, false, ◌&&◌, ◌==◌, List, [], ◌∷◌, ◌++◌, length, slice_get, Option, Some, None, option_map, refl, ap, sym, ◌∙◌, subst, arith, ne_eqb}
+use Rattle.std.proofs.Common.{◌≡◌, ◌≢◌, ℕ, suc, ◌<◌, ◌⊎◌, inl, inr, List, [], ◌∷◌, ◌++◌, length, Option, Some, None, refl, ap, sym, subst, arith, ne_eqb}
 use Rattle.std.proofs.lemmas.Bool.{false≢true}
 use Rattle.std.specs.Prelude.{IsTrue}
 use Rattle.std.specs.List.{AllByRecursion}
@@ -14,15 +14,14 @@ use Rattle.linear_rows.specs.declared.row.Row.{Row}
 use Rattle.linear_rows.specs.declared.row.Rows.{Rows}
 use Rattle.certificate_parts.specs.declared.parts.LevelPart.{LevelPart}
 use Rattle.certificate_parts.specs.declared.parts.ScaledPoint.{ScaledPoint}
-use Rattle.certificate_parts.specs.declared.parts.PairPoint.{PairPoint}
 use Rattle.certificate_parts.specs.declared.parts.Refutation.{Refutation}
-use Rattle.certificate_parts.specs.Numbered.{facts_from, lines_from, EachFrom, AreEach}
+use Rattle.certificate_parts.specs.Numbered.{facts_from, lines_from, AreEach}
 use Rattle.certificate_parts.specs.Order.{pred_text, size_line, by_line, grounds_line, measure_line, falls_line, pre_line, at_facts, point_facts, refutation_facts, mode_facts, size_facts, proof_facts, ground_facts, level_facts, fall_facts, pre_facts, refuted_facts, is_note}
-use Rattle.certificate_parts.specs.Shape.{arity_of, head_of, body_of, rows_of, rows_of_atoms, items_of, proofs_of_call, IsMode, IsSizeRow, AreMultipliers, IsWide, IsRefutation}
+use Rattle.certificate_parts.specs.Shape.{arity_of, head_of, body_of, rows_of, rows_of_atoms, items_of, IsMode, IsSizeRow, AreMultipliers, IsWide, IsRefutation}
 use Rattle.certificate_parts.specs.Structure.{AreNotes}
-use Rattle.certificate_parts.specs.Walk.{take_modes, take_row, take_proof, take_ground, take_level, take_pre, take_refuted, read_next, read_many, read_each, read_modes, read_rows, read_proofs, read_grounds, read_falls, read_cubes, read_pre, read_refutation}
+use Rattle.certificate_parts.specs.Walk.{take_modes, take_row, take_proof, take_ground, take_level, take_pre, take_refuted, read_many, read_each, read_modes, read_rows, read_proofs, read_grounds, read_falls, read_cubes, read_pre, read_refutation}
 use Rattle.certificate_parts.proofs.KindLemmas.{kind, split_row, split_ground, split_level, split_pre, split_refuted, IsSize, IsGrounds, IsMeasure, IsPre, IsRefuted}
-use Rattle.certificate_parts.proofs.SectionLemmas.{same_some, mapped, all_both, all_from, all_weaker, each_all, all_each, next_sound, next_back, counted_sound, counted_back, many_sound, many_back, each_sound, each_back}
+use Rattle.certificate_parts.proofs.SectionLemmas.{mapped, all_from, all_weaker, next_sound, next_back, counted_sound, counted_back, many_sound, many_back, each_sound, each_back}
 use Rattle.certificate_parts.proofs.TakeLemmas.{modes_taken, modes_given, row_taken, row_given, proof_taken, proof_given, ground_taken, ground_given, pre_taken, pre_given, same_itself}
 use Rattle.certificate_parts.proofs.PointLemmas.{refutation_sound, refutation_given}
 use Rattle.certificate_parts.proofs.LevelLemmas.{arity_text, not_same, NoLevel, IsCall, calls_sound, calls_back}

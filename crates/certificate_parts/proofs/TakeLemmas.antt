@@ -1,21 +1,17 @@
 -- Each reader of one fact takes the line of what it gives, and gives what a line shows.
-use Rattle.std.proofs.Common.{◌≡◌, ℕ, zero, suc, ◌<◌, ◌≤◌, ◌⊎◌, inl, inr, Bool, true, false, ◌&&◌, ◌||◌, ◌==◌, nat_eq, nat_lt, nat_le, List, [], ◌∷◌, map, length, Option, Some, None, option_map, refl, ap, ap₂, sym, ◌∙◌, arith, eqb-true, eq-eqb, le-leb, leb-true, lt-ltb, ltb-true}
+use Rattle.std.proofs.Common.{◌≡◌, ℕ, suc, ◌≤◌, ◌⊎◌, inl, inr, Bool, true, false, ◌&&◌, ◌==◌, nat_eq, nat_lt, nat_le, List, [], ◌∷◌, map, length, Some, None, refl, ap, ap₂, sym, ◌∙◌, arith, eqb-true, eq-eqb, le-leb, leb-true, lt-ltb, ltb-true}
 use Rattle.std.proofs.lemmas.Bool.{false≢true, and_parts}
 use Rattle.std.proofs.lemmas.Int.{ints}
-use Rattle.std.specs.Prelude.{ℤ, pos, negsuc, IsTrue}
-use Rattle.std.specs.Ordering.{int_eq}
+use Rattle.std.specs.Prelude.{ℤ, pos, negsuc}
 use Rattle.std.specs.List.{AllByRecursion, list_all}
 use Rattle.std.specs.Cmp.Lexicographic.{pointwise}
 use Rattle.bool_diagrams.specs.declared.cube.Cell.{Cell}
 use Rattle.bool_diagrams.specs.declared.cube.Cell.TheVariants as side
-use Rattle.call_components.specs.Partition.{Partition}
 use Rattle.certificate.specs.declared.cell.CertCell.{CertCell}
 use Rattle.certificate.specs.declared.cell.CertCell.TheVariants as cell
 use Rattle.certificate.specs.declared.pred_text.PredText.{PredText}
-use Rattle.certificate.specs.declared.fact.Fact.{Fact}
 use Rattle.certificate.specs.declared.fact.Fact.TheVariants as fact
 use Rattle.certificate.specs.Range.{most_127, IsEntry, IsAmount, AreEntries, AreAmounts}
-use Rattle.cti_terms.specs.Listing.{Listing}
 use Rattle.linear_rows.specs.declared.multipliers.Multipliers.{Multipliers}
 use Rattle.linear_rows.specs.declared.row.Row.{Row}
 use Rattle.certificate_parts.specs.declared.parts.LevelPart.{LevelPart}

@@ -1,10 +1,9 @@
 -- Reading a whole certificate: what is read is its parts, and its parts are read.
-use Rattle.std.proofs.Common.{◌≡◌, ◌≢◌, ℕ, ◌<◌, ◌≤◌, Bool, true, false, if◌then◌else◌, List, [], ◌∷◌, ◌++◌, length, Option, Some, None, refl, ap, sym, ◌∙◌, subst, arith}
+use Rattle.std.proofs.Common.{◌≡◌, ◌≢◌, ℕ, ◌<◌, Bool, true, false, if◌then◌else◌, List, [], ◌∷◌, ◌++◌, length, Some, None, refl, ap, ◌∙◌, subst, arith}
 use Rattle.std.proofs.lemmas.Bool.Decides.{Decides-int_eq}
 use Rattle.std.proofs.lemmas.Option.{none-some}
-use Rattle.std.specs.Prelude.{ℤ, pos}
+use Rattle.std.specs.Prelude.{pos}
 use Rattle.std.specs.Ordering.{int_eq}
-use Rattle.std.specs.List.{AllByRecursion}
 use Rattle.call_components.specs.Partition.{Partition, AreComponents}
 use Rattle.certificate.specs.declared.fact.Fact.{Fact}
 use Rattle.certificate.specs.declared.fact.Fact.TheVariants as fact
@@ -12,7 +11,7 @@ use Rattle.cti_terms.specs.Listing.{Listing}
 use Rattle.certificate_parts.specs.declared.parts.Parts.{Parts}
 use Rattle.certificate_parts.specs.Order.{pred_text, mode_facts, size_facts, proof_facts, ground_facts, level_facts, fall_facts, pre_facts, refuted_facts, listed}
 use Rattle.certificate_parts.specs.Shape.{HaveShape}
-use Rattle.certificate_parts.specs.Structure.{AreNotes, IsStructured}
+use Rattle.certificate_parts.specs.Structure.{AreNotes}
 use Rattle.certificate_parts.specs.Walk.{read_version, read_modes, read_rows, read_proofs, read_grounds, read_levels, read_falls, read_pre, read_refutation, read_each, read_parts}
 use Rattle.certificate_parts.proofs.KindLemmas.{kind}
 use Rattle.certificate_parts.proofs.SectionLemmas.{same_some, bound, all_both, all_weaker}

@@ -1,5 +1,5 @@
 -- How the parts are read: fact by fact, from the front. Nothing here has to be believed.
-use Rattle.std.specs.Prelude.{◌≡◌, ℕ, zero, suc, ◌+◌, ℤ, pos, negsuc, Bool, true, false, not, ◌&&◌, ◌||◌, ◌==◌, nat_eq, nat_lt, nat_le, if◌then◌else◌, List, [], ◌∷◌, ◌++◌, map, length, take, Option, None, Some, option_map, option_and_then, slice_get, Result, Ok, Err}
+use Rattle.std.specs.Prelude.{◌≡◌, ℕ, zero, suc, ◌+◌, ℤ, pos, negsuc, Bool, true, false, ◌&&◌, ◌||◌, ◌==◌, nat_eq, nat_lt, nat_le, if◌then◌else◌, List, [], ◌∷◌, ◌++◌, map, length, Option, None, Some, option_map, option_and_then, Result, Ok, Err}
 use Rattle.std.specs.Ordering.{int_eq}
 use Rattle.std.specs.Borrow.{Bor}
 use Rattle.std.specs.List.{list_all}
@@ -30,8 +30,8 @@ use Rattle.certificate_parts.specs.declared.stop.FactFault.{FactFault}
 use Rattle.certificate_parts.specs.declared.stop.FactFault.TheVariants as fault
 use Rattle.certificate_parts.specs.declared.stop.Stop.{Stop}
 use Rattle.certificate_parts.specs.declared.stop.Stop.TheVariants as stop
-use Rattle.certificate_parts.specs.Order.{pred_text, is_note}
-use Rattle.certificate_parts.specs.Shape.{arity_of, head_of, body_of, vars_of, rows_of, rows_of_atoms, items_of, is_together, is_recursive, first_of, proofs_of_call, is_pair}
+use Rattle.certificate_parts.specs.Order.{pred_text}
+use Rattle.certificate_parts.specs.Shape.{arity_of, head_of, body_of, vars_of, rows_of, rows_of_atoms, items_of, is_recursive, first_of, proofs_of_call, is_pair}
 
 -- a value and the facts after it, if there is one
 abbrev pub Read : Type 0 → Type 0

@@ -1,12 +1,15 @@
 //! The parts of a certificate for `append/3`, and the first wrong lines of texts near it.
 
-ghost use Rattle.std.specs.Prelude.{IfOk};
+ghost use Rattle.std.specs.Prelude.{◌≡◌, ◌≤◌, IfOk, IsSomeAnd, slice_get, pos, [], ◌∷◌};
+ghost use Rattle.cti_terms.specs.Tree.{Integer};
+ghost use Rattle.cti_terms.specs.Listing.{IsClause};
+ghost use Rattle.cti_terms.specs.declared.limits.TheConstants.{MOST_VARIABLES};
 ghost use Rattle.certificate_parts.specs.Structure.{AreNamed};
 
 use crate::{Parts, PartsFault, StructureReason, parts_of};
 use call_components::components;
 use certificate::Certificate;
-use cti_terms::{Atom, Atoms, Clause, Name, Names, PredId, Program, Term, Terms};
+use cti_terms::{Atom, Atoms, Clause, Names, Pred, PredId, Program, Term, Terms};
 use std::alloc::{AllocError, Global};
 use std::test::Fail;
 
@@ -31,11 +34,37 @@ const APPEND: [&str; 17] = [
     "pre(app/3,2,1,[x,x,1]).",
 ];
 
-/// An atom with three arguments, which are all the same variable.
-fn atom(alloc: Global, pred: PredId) -> Result<Atom, AllocError> {
+/// An atom with three arguments.
+fn atom(alloc: Global, pred: PredId) -> Result<Atom, AllocError>
+    ensures pred { IfOk result (λ a. a.pred ≡ pred) }
+    ensures args { IfOk result (λ a. a.args ≡ Integer (pos 0) ∷ Integer (pos 0) ∷ Integer (pos 0) ∷ []) }
+{
     Ok(Atom {
         pred,
-        args: Terms::from_vec(vec![in alloc; Term::Var(0), Term::Var(0), Term::Var(0)]?),
+        args: Terms::from_vec(vec![in alloc; Term::Int(0), Term::Int(0), Term::Int(0)]?),
+    })
+}
+
+/// A clause whose body calls the predicate of its head, or nothing.
+fn clause(
+    alloc: Global,
+    preds: &[Pred],
+    pred: PredId,
+    calls: bool,
+    vars: u32,
+) -> Result<Clause, AllocError>
+    requires known { IsSomeAnd (slice_get preds.now pred.0) (λ q. q.arity ≡ 3) }
+    requires few { vars ≤ MOST_VARIABLES }
+    ensures { IfOk result (IsClause preds.now) }
+{
+    let mut body = Atoms::new(alloc);
+    if calls {
+        body.push(atom(alloc, pred)?)?;
+    }
+    Ok(Clause {
+        head: atom(alloc, pred)?,
+        body,
+        vars,
     })
 }
 
@@ -47,18 +76,9 @@ fn append(alloc: Global) -> Result<(Program, Names), AllocError>
     let name = names.intern(b"app")?;
     let mut program = Program::new(alloc);
     let pred = program.add_pred(name, 3)?;
-    program.add_clause(Clause {
-        head: atom(alloc, pred)?,
-        body: Atoms::new(alloc),
-        vars: 1,
-    })?;
-    let mut body = Atoms::new(alloc);
-    body.push(atom(alloc, pred)?)?;
-    program.add_clause(Clause {
-        head: atom(alloc, pred)?,
-        body,
-        vars: 4,
-    })?;
+    let preds = [*program.pred(pred)];
+    program.add_clause(clause(alloc, preds.as_slice(), pred, false, 1)?)?;
+    program.add_clause(clause(alloc, preds.as_slice(), pred, true, 4)?)?;
     Ok((program, names))
 }
 
@@ -112,6 +132,10 @@ fn the_parts_of_append(rt: HostRuntime) -> Result<(), Fail> {
         return Err("no parts".into());
     };
     assert_eq!(rt; parts.modes.len(), 1);
+    assert_eq!(rt; parts.rows.len(), 1);
+    assert_eq!(rt; parts.row_proofs.len(), 2);
+    assert_eq!(rt; parts.falls.len(), 2);
+    assert_eq!(rt; parts.refutations.len(), 1);
     Ok(())
 }
 
@@ -290,9 +314,7 @@ fn refutations(rt: HostRuntime) -> Result<(), Fail> {
         ),
     ] {
         let mut lines = vec![in alloc; APPEND[0], APPEND[1]]?;
-        for line in group {
-            lines.push(*line)?;
-        }
+        lines.extend_from_slice(group)?;
         assert_eq!(rt;
             first_wrong(alloc, lines.as_slice())?,
             wanted,

@@ -1,6 +1,6 @@
 -- Holding modes, in the words of claims.
-use Rattle.std.proofs.Common.{◌≡◌, ◌↔◌, inl, inr, ℕ, ◌<◌, ◌==◌, Bool, true, false, ◌&&◌, IsTrue, List, [], ◌∷◌, length, slice_get, slice_index_or, Option, None, Some, refl, ap, sym, subst, ◌∙◌, arith}
-use Rattle.std.specs.List.{AllByRecursion, list_any}
+use Rattle.std.proofs.Common.{◌≡◌, inl, inr, ℕ, ◌<◌, ◌==◌, Bool, true, false, ◌&&◌, IsTrue, List, length, slice_get, slice_index_or, Some, refl, ap, sym, subst, ◌∙◌, arith}
+use Rattle.std.specs.List.{AllByRecursion}
 use Rattle.std.proofs.lemmas.Bool.{and_parts, cases_lt}
 use Rattle.argument_rows.proofs.ClaimLaws.{all_upper_same, rule_from_sets, union_is}
 use Rattle.argument_rows.proofs.ListLaws.{by_places, from_places, place_below, there}
@@ -13,14 +13,13 @@ use Rattle.cti_terms.specs.Listing.{IsAtom, IsClause, IsProgram, Listing}
 use Rattle.cti_terms.specs.Tree.{Tree}
 use Rattle.cti_terms.specs.declared.atom_list.Atom.{Atom}
 use Rattle.cti_terms.specs.declared.clauses.Clause.{Clause}
-use Rattle.cti_terms.specs.declared.predicates.Pred.{Pred}
 use Rattle.termination_model.specs.Claims.{Admits, Claims, IsCovered, KeepsRule, Mapping, Measure}
 use Rattle.termination_model.specs.Descent.{mode_row}
-use Rattle.termination_model.specs.Grounds.{Family, IsClosed, IsGround, truth_row}
+use Rattle.termination_model.specs.Grounds.{Family, IsClosed, truth_row}
 use Rattle.termination_model.specs.Rows.{Covers}
 use Rattle.termination_model.specs.View.{all_upper, upward_union}
 use Rattle.mode_checker.specs.Claimed.{ClaimModes, HoldingModesShow, IsMeasure, KeepsRows, ShowModes}
-use Rattle.mode_checker.specs.Modes.{ModesHold, allowed, coefficients_of, cube_row, grounds_of, is_row, precondition}
+use Rattle.mode_checker.specs.Modes.{ModesHold, allowed, cube_row, grounds_of, is_row, precondition}
 use Rattle.mode_checker.proofs.PlaceLaws.{any_same, items_at, nothing_at}
 use Rattle.mode_checker.proofs.RuleLaws.{atom_below, keeps_agree}
 use Rattle.mode_checker.proofs.SpellLaws.{any_none, row_of, upper_none}

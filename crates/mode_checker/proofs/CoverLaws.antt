@@ -1,5 +1,5 @@
 -- Sets whose rows are true at positive coefficients.
-use Rattle.std.proofs.Common.{◌≡◌, ◌↔◌, ℕ, ◌<◌, ℤ, nat_lt, Bool, IsTrue, List, [], ◌∷◌, length, map, slice_get, Some, refl, ap, sym, ◌∙◌}
+use Rattle.std.proofs.Common.{◌≡◌, ◌↔◌, ℕ, ℤ, nat_lt, Bool, IsTrue, List, [], ◌∷◌, length, map, slice_get, Some, refl, ap, sym, ◌∙◌}
 use Rattle.std.proofs.lemmas.List.{length-map}
 use Rattle.argument_rows.proofs.CallerLemmas.{reads_later}
 use Rattle.bool_diagrams.proofs.CallerLemmas.{holds_later, known_later}

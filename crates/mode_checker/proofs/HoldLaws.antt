@@ -1,5 +1,5 @@
 -- What is tested of the sets is what holding modes are.
-use Rattle.std.proofs.Common.{◌≡◌, ◌↔◌, inl, inr, ℕ, zero, suc, ◌<◌, ◌≤◌, ◌==◌, Bool, true, false, ◌&&◌, IsTrue, List, [], ◌∷◌, length, pos, slice_get, slice_index_or, Option, None, Some, unwrap_or, refl, ap, sym, subst, ◌∙◌, arith, eqb-true}
+use Rattle.std.proofs.Common.{◌≡◌, ◌↔◌, inl, inr, ℕ, zero, suc, ◌<◌, ◌==◌, Bool, true, ◌&&◌, IsTrue, List, [], length, pos, slice_get, slice_index_or, Option, None, Some, unwrap_or, refl, ap, sym, subst, ◌∙◌, arith, eqb-true}
 use Rattle.std.specs.List.{AllByRecursion, list_all}
 use Rattle.std.proofs.lemmas.Bool.{and_parts, cases_lt, eq-eqb}
 use Rattle.argument_rows.proofs.ListLaws.{by_places, from_places, place_below, there}
@@ -11,12 +11,10 @@ use Rattle.bool_diagrams.proofs.CallerLemmas.{holds_later}
 use Rattle.bool_diagrams.specs.Cubes.{truth_rows, values_of}
 use Rattle.bool_diagrams.specs.Rows.{Keeps}
 use Rattle.bool_diagrams.specs.Tree.{Tree as Rows}
-use Rattle.bool_diagrams.specs.declared.cube.Cell.{Cell}
 use Rattle.bool_diagrams.specs.declared.diagram.Diagram.{Diagram}
 use Rattle.call_components.specs.Partition.{AreComponents, Partition}
 use Rattle.certificate_parts.specs.Numbered.{AreEach}
-use Rattle.certificate_parts.specs.Shape.{HaveShape, IsLevel, IsMode, IsWide, arity_of, is_same, is_together, items_of, mappings_of}
-use Rattle.certificate_parts.specs.declared.parts.LevelPart.{LevelPart}
+use Rattle.certificate_parts.specs.Shape.{HaveShape, IsLevel, IsWide, arity_of, is_same, is_together, items_of, mappings_of}
 use Rattle.certificate_parts.specs.declared.parts.Parts.{Parts}
 use Rattle.cti_terms.specs.Listing.{IsAtom, IsClause, IsProgram, Listing}
 use Rattle.cti_terms.specs.Tree.{Tree}
@@ -26,7 +24,7 @@ use Rattle.cti_terms.specs.declared.predicates.Pred.{Pred}
 use Rattle.termination_model.specs.Descent.{mode_row}
 use Rattle.termination_model.specs.Grounds.{Family, IsClosed}
 use Rattle.termination_model.specs.Rows.{Covers}
-use Rattle.mode_checker.specs.Modes.{ModesHold, allowed, coefficients_of, grounds_of, naturals, precondition}
+use Rattle.mode_checker.specs.Modes.{allowed, coefficients_of, grounds_of, naturals, precondition}
 use Rattle.mode_checker.specs.Sets.{AreCovered, AreReady, HaveLevels, KeepsEach, SpellParts, mapping_family}
 use Rattle.mode_checker.specs.declared.sets.Sets.{Sets}
 use Rattle.mode_checker.proofs.CoverLaws.{covered_later}

@@ -1,5 +1,6 @@
 pub mod ClaimedLaws
 pub mod CoverLaws
+pub mod Examples
 pub mod HoldLaws
 pub mod MarkLaws
 pub mod PlaceLaws

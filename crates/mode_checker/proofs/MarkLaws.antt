@@ -1,5 +1,5 @@
 -- When no predicate is marked.
-use Rattle.std.proofs.Common.{◌≡◌, ◌↔◌, ℕ, zero, suc, ◌+◌, ◌<◌, Bool, true, false, ◌&&◌, IsTrue, List, [], ◌∷◌, length, ◌++◌, slice_get, slice_set, slice_index_or, Option, None, Some, refl, ap, sym, subst, ◌∙◌, arith}
+use Rattle.std.proofs.Common.{◌≡◌, ◌↔◌, ℕ, zero, suc, ◌+◌, ◌<◌, Bool, true, false, ◌&&◌, IsTrue, List, [], ◌∷◌, length, ◌++◌, slice_set, Option, None, Some, refl, sym, ◌∙◌, arith}
 use Rattle.std.proofs.lemmas.Bool.{and_parts}
 use Rattle.argument_rows.proofs.RowLaws.{both}
 use Rattle.mode_checker.specs.Marks.{is_clear, is_unmarked}

@@ -1,20 +1,19 @@
 -- The sets that are chosen for a clause, and the rule of preconditions that is tested with them.
-use Rattle.std.proofs.Common.{◌≡◌, ◌↔◌, ◌⊎◌, inl, inr, ℕ, zero, suc, ◌+◌, ◌<◌, ◌≤◌, ◌==◌, Bool, true, false, ◌&&◌, IsTrue, if◌then◌else◌, List, [], ◌∷◌, length, map, slice_get, slice_set, slice_index_or, Option, None, Some, refl, ap, sym, subst, ◌∙◌, arith}
-use Rattle.std.specs.List.{AllByRecursion}
+use Rattle.std.proofs.Common.{◌≡◌, ◌↔◌, ◌⊎◌, inl, inr, ℕ, ◌<◌, ◌==◌, Bool, true, false, ◌&&◌, if◌then◌else◌, List, length, slice_get, slice_set, Option, None, Some, refl, ap, sym, subst, ◌∙◌}
 use Rattle.std.proofs.lemmas.Bool.{cases_eq}
 use Rattle.argument_rows.specs.Rules.{KeepsSets, same_rank}
 use Rattle.argument_rows.specs.Sets.{AreSets, family_of, has_row}
 use Rattle.argument_rows.proofs.CallerLemmas.{family_later}
 use Rattle.argument_rows.proofs.ListLaws.{indexed, place_below}
-use Rattle.argument_rows.proofs.SetLaws.{none, some_is}
+use Rattle.argument_rows.proofs.SetLaws.{some_is}
 use Rattle.bool_diagrams.proofs.CallerLemmas.{holds_later}
-use Rattle.bool_diagrams.specs.Cubes.{truth_rows, values_of}
+use Rattle.bool_diagrams.specs.Cubes.{values_of}
 use Rattle.bool_diagrams.specs.Rows.{IsDiagram, Keeps, ReadsBelow}
 use Rattle.bool_diagrams.specs.Tree.{Tree as Rows}
 use Rattle.bool_diagrams.specs.declared.diagram.Diagram.{Diagram}
 use Rattle.call_components.proofs.Lists.{slice_get-set_same, slice_get-set_other}
-use Rattle.certificate_parts.specs.Shape.{arity_of, items_of}
-use Rattle.cti_terms.specs.Listing.{IsAtom, IsClause, IsProgram, Listing}
+use Rattle.certificate_parts.specs.Shape.{items_of}
+use Rattle.cti_terms.specs.Listing.{IsAtom, Listing}
 use Rattle.cti_terms.specs.Tree.{Tree}
 use Rattle.cti_terms.specs.declared.atom_list.Atom.{Atom}
 use Rattle.cti_terms.specs.declared.clauses.Clause.{Clause}

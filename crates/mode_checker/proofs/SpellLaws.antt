@@ -1,5 +1,5 @@
 -- Diagrams that have the rows which cubes cover.
-use Rattle.std.proofs.Common.{◌≡◌, inl, inr, ℕ, zero, suc, ◌<◌, ◌≤◌, ◌==◌, Bool, true, false, ◌&&◌, ◌||◌, List, [], ◌∷◌, length, slice_get, slice_index_or, Option, None, Some, option_map, unwrap_or, refl, ap, sym, subst, ◌∙◌, arith, eqb-true}
+use Rattle.std.proofs.Common.{◌≡◌, inl, inr, ℕ, ◌<◌, ◌≤◌, ◌==◌, Bool, true, false, ◌&&◌, ◌||◌, List, [], ◌∷◌, length, slice_get, slice_index_or, Option, None, Some, option_map, unwrap_or, refl, ap, sym, subst, ◌∙◌, arith, eqb-true}
 use Rattle.std.specs.List.{list_any}
 use Rattle.std.proofs.lemmas.Bool.{cases_lt}
 use Rattle.argument_rows.specs.Sets.{AreSets, family_of, has_row}
@@ -9,18 +9,17 @@ use Rattle.argument_rows.proofs.ListLaws.{by_places, place_below, there}
 use Rattle.argument_rows.proofs.SetLaws.{none, some_is}
 use Rattle.bool_diagrams.proofs.CallerLemmas.{holds_later, known_later}
 use Rattle.bool_diagrams.specs.Cubes.{covered, truth_rows, values_of}
-use Rattle.bool_diagrams.specs.Rows.{IsDiagram, Keeps, ReadsBelow, holds}
+use Rattle.bool_diagrams.specs.Rows.{IsDiagram, Keeps, ReadsBelow}
 use Rattle.bool_diagrams.specs.Tree.{Tree as Rows}
 use Rattle.bool_diagrams.specs.declared.cube.Cell.{Cell}
 use Rattle.bool_diagrams.specs.declared.diagram.Diagram.{Diagram}
 use Rattle.certificate_parts.specs.Shape.{arity_of, items_of}
-use Rattle.certificate_parts.specs.declared.parts.Parts.{Parts}
 use Rattle.cti_terms.specs.Listing.{IsProgram, Listing}
 use Rattle.cti_terms.specs.declared.predicates.Pred.{Pred}
-use Rattle.termination_model.specs.Grounds.{Family, HasArity}
+use Rattle.termination_model.specs.Grounds.{Family}
 use Rattle.termination_model.specs.View.{all_upper}
-use Rattle.mode_checker.specs.Modes.{allowed, cube_row, grounds_of, is_row, precondition}
-use Rattle.mode_checker.specs.Sets.{AllSpelled, AreMappingSets, AreReady, AreSpelled, HasRows, HaveRows, SpellParts, mapping_family, upward}
+use Rattle.mode_checker.specs.Modes.{cube_row, is_row}
+use Rattle.mode_checker.specs.Sets.{AllSpelled, AreMappingSets, AreReady, AreSpelled, HasRows, HaveRows, mapping_family, upward}
 use Rattle.mode_checker.specs.declared.sets.Sets.{Sets}
 use Rattle.mode_checker.proofs.PlaceLaws.{any_same, items_at, nothing_at}
 

@@ -1,7 +1,7 @@
 -- What holding modes give to claims that say what the parts of a certificate say.
 --
 -- To believe: nothing, where only `Bounded` is wanted.
-use Rattle.std.specs.Prelude.{◌≡◌, ◌<◌, ℕ, Bool, List, [], ◌∷◌, length, slice_get, Some}
+use Rattle.std.specs.Prelude.{◌≡◌, ◌<◌, ℕ, Bool, [], ◌∷◌, length, slice_get, Some}
 use Rattle.std.specs.List.{AllByRecursion}
 use Rattle.call_components.specs.Partition.{AreComponents, IsIn, Partition}
 use Rattle.certificate_parts.specs.Shape.{arity_of, items_of}

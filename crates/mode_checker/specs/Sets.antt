@@ -1,6 +1,6 @@
 -- The sets that the parts of a certificate spell, as diagrams. Nothing here has to be believed.
-use Rattle.std.specs.Prelude.{◌≡◌, ◌≤◌, ◌<◌, ℕ, ℤ, nat_lt, Bool, false, IsTrue, List, length, slice_get, slice_index_or, Some}
-use Rattle.std.specs.List.{AllByRecursion, list_any}
+use Rattle.std.specs.Prelude.{◌≡◌, ◌≤◌, ℕ, ℤ, nat_lt, Bool, false, IsTrue, List, length, slice_get, slice_index_or, Some}
+use Rattle.std.specs.List.{list_any}
 use Rattle.argument_rows.specs.Rules.{KeepsSets, same_rank}
 use Rattle.argument_rows.specs.Sets.{AreSets, family_of, has_row}
 use Rattle.bool_diagrams.specs.Cubes.{covered, truth_rows}
@@ -15,10 +15,10 @@ use Rattle.cti_terms.specs.Listing.{Listing}
 use Rattle.cti_terms.specs.Tree.{Tree}
 use Rattle.cti_terms.specs.declared.clauses.Clause.{Clause}
 use Rattle.cti_terms.specs.declared.predicates.Pred.{Pred}
-use Rattle.termination_model.specs.Grounds.{Family, HasArity}
+use Rattle.termination_model.specs.Grounds.{Family}
 use Rattle.termination_model.specs.Rows.{Covers}
 use Rattle.termination_model.specs.View.{all_upper}
-use Rattle.mode_checker.specs.Modes.{allowed, coefficients_of, grounds_of, natural, naturals, precondition}
+use Rattle.mode_checker.specs.Modes.{allowed, grounds_of, natural, naturals, precondition}
 use Rattle.mode_checker.specs.declared.sets.Sets.{Sets}
 
 -- a diagram of the table, over so many arguments, with the rows of that many values that a set has

@@ -45,7 +45,21 @@ pub fn mode_fault<N: Norm>(
     let preconditions = sets.preconditions.as_slice();
     mark_open(norm, &mut table, p, sets.grounds.as_slice(), &mut marks)?;
     mark_uncovered(alloc, &mut table, p, levels, preconditions, &mut marks)?;
-    mark_broken(alloc, norm, &mut table, p, ranks.as_slice(), &sets, &mut marks)?;
-    mark_refused(&table, p, parts.modes.as_slice(), sets.allowed.as_slice(), &mut marks);
+    mark_broken(
+        alloc,
+        norm,
+        &mut table,
+        p,
+        ranks.as_slice(),
+        &sets,
+        &mut marks,
+    )?;
+    mark_refused(
+        &table,
+        p,
+        parts.modes.as_slice(),
+        sets.allowed.as_slice(),
+        &mut marks,
+    );
     Ok(marks.first(line))
 }

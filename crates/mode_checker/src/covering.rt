@@ -1,6 +1,6 @@
 //! Whether the rows of preconditions are true at each positive coefficient.
 
-ghost use Rattle.std.specs.Prelude.{◌≡◌, ◌↔◌, ◌<◌, ℕ, Bool, IfOk, IsTrue, List, OnOk, length, map, slice_get, Some};
+ghost use Rattle.std.specs.Prelude.{◌≡◌, ◌↔◌, ◌<◌, ℕ, IfOk, IsTrue, OnOk, length, map};
 ghost use Rattle.bool_diagrams.specs.Rows.{Keeps};
 ghost use Rattle.certificate_parts.specs.Shape.{arity_of, items_of};
 ghost use Rattle.mode_checker.specs.Marks.{is_clear};

@@ -1,6 +1,6 @@
 //! Whether preconditions keep their rule.
 
-ghost use Rattle.std.specs.Prelude.{◌≡◌, ◌↔◌, ◌≤◌, ◌-◌, ℕ, IfOk, IsTrue, OnOk, length, slice_get, Some};
+ghost use Rattle.std.specs.Prelude.{◌≡◌, ◌↔◌, ◌≤◌, ◌-◌, IfOk, IsTrue, OnOk, length, slice_get, Some};
 ghost use Rattle.std.specs.List.{AllByRecursion};
 ghost use Rattle.argument_rows.specs.Sets.{AreSets};
 ghost use Rattle.bool_diagrams.specs.Rows.{Keeps};

@@ -1,9 +1,9 @@
 //! The sets that the parts of a certificate spell.
 
-ghost use Rattle.std.specs.Prelude.{◌≡◌, ◌≤◌, ◌<◌, IfOk, length, slice_index_or};
+ghost use Rattle.std.specs.Prelude.{◌≡◌, ◌≤◌, ◌<◌, IfOk, length};
 ghost use Rattle.bool_diagrams.specs.Cubes.{covered};
 ghost use Rattle.bool_diagrams.specs.Rows.{Keeps};
-ghost use Rattle.certificate_parts.specs.Shape.{HaveShape, items_of};
+ghost use Rattle.certificate_parts.specs.Shape.{items_of};
 ghost use Rattle.mode_checker.specs.Sets.{AllSpelled, AreMappingSets, AreReady, AreSpelled, HaveRows, SpellParts, set_at, upward};
 
 use argument_rows::{cube_rows, upward_union};

@@ -1,4 +1,4 @@
-use Rattle.std.proofs.Common.{◌∙◌, sym, arith, ◌+◌, ◌-◌, suc, ◌≡◌}
+use Rattle.std.proofs.Common.{◌∙◌, sym, arith, ◌+◌, ◌-◌}
 use Rattle.certificate_parts.proofs.LoopLemmas.{part_err, each_end, each_none, each_more}
 use Rattle.certificate_parts.proofs.reader.each.Goals as goal
 

@@ -1,4 +1,4 @@
-use Rattle.std.proofs.Common.{◌≡◌, ◌-◌, length}
+use Rattle.std.proofs.Common.{◌≡◌, ◌-◌}
 use Rattle.certificate_parts.specs.Walk.{read_points, with_all}
 use Rattle.certificate_parts.proofs.refutations.points.Given as goal
 

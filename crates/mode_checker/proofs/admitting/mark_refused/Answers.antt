@@ -1,4 +1,4 @@
-use Rattle.std.proofs.Common.{◌≡◌, ◌↔◌, ◌∙◌, ◌<◌, ℕ, IsTrue, IsSomeAnd, Bool, List, length, slice_get, slice_index_or, Option, Some, refl, sym, subst, arith}
+use Rattle.std.proofs.Common.{◌≡◌, ◌∙◌, ◌<◌, ℕ, IsTrue, IsSomeAnd, List, length, slice_get, slice_index_or, Option, Some, refl, sym, subst, arith}
 use Rattle.std.specs.List.{list_all}
 use Rattle.argument_rows.proofs.ListLaws.{at_place, place_below, there}
 use Rattle.argument_rows.proofs.SetLaws.{none}

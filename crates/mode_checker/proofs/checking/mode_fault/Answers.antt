@@ -1,4 +1,4 @@
-use Rattle.std.proofs.Common.{◌≡◌, ◌↔◌, ◌∙◌, ◌<◌, ℕ, IsTrue, List, None, length, slice_get, Some, ap, sym, subst, arith}
+use Rattle.std.proofs.Common.{◌≡◌, ◌↔◌, ◌∙◌, ◌<◌, ℕ, IsTrue, List, length, slice_get, Some, sym, subst}
 use Rattle.std.specs.List.{list_all}
 use Rattle.argument_rows.proofs.CallerLemmas.{sets_later}
 use Rattle.argument_rows.specs.Sets.{AreSets, family_of}
@@ -62,8 +62,7 @@ returns g c =
     let refused = subst (λ (ms : List (List (List ℕ))). IsTrue (is_clear c.mark_refused.new.marks) ↔ (IsTrue (is_clear c.mark_broken.new.marks)
     × ((q : ℕ) (d : Diagram) → slice_get sets.allowed.items q ≡ Some d → IsTrue (list_all (λ (mode : List ℕ). truth_rows c.mark_broken.new.table d (mode_row mode 1 (arity_of p q))) (items_of ms q))))) c.as_slice-3.ensures
     (subst (λ (ds : List Diagram). IsTrue (is_clear c.mark_refused.new.marks) ↔ (IsTrue (is_clear c.mark_broken.new.marks)
-    × ((q : ℕ) (d : Diagram) → slice_get ds q ≡ Some d → IsTrue (list_all (λ (mode : List ℕ). truth_rows c.mark_broken.new.table d (mode_row mode 1 (arity_of p q))) (items_of c.as_slice-3.result.now q))))) c.as_slice-4.ensures.value c.mark_refused.ensures.admitted) in
-    (
+    × ((q : ℕ) (d : Diagram) → slice_get ds q ≡ Some d → IsTrue (list_all (λ (mode : List ℕ). truth_rows c.mark_broken.new.table d (mode_row mode 1 (arity_of p q))) (items_of c.as_slice-3.result.now q))))) c.as_slice-4.ensures.value c.mark_refused.ensures.admitted) in (
       λ none.
           let d = refused.0 (c.first.ensures.0 none) in
           let b = broken.0 d.0 in

@@ -1,4 +1,4 @@
-use Rattle.std.proofs.Common.{◌≡◌, ◌↔◌, ◌∙◌, ◌+◌, ◌-◌, ◌<◌, ℕ, IsTrue, slice_get, Some, subst, arith}
+use Rattle.std.proofs.Common.{◌≡◌, ◌↔◌, ◌∙◌, ◌+◌, ◌-◌, ℕ, IsTrue, slice_get, Some, subst, arith}
 use Rattle.argument_rows.proofs.CallerLemmas.{family_later}
 use Rattle.argument_rows.proofs.ListLaws.{by_places, from_places, place_below}
 use Rattle.argument_rows.specs.Sets.{family_of}

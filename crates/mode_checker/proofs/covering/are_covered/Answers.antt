@@ -1,4 +1,4 @@
-use Rattle.std.proofs.Common.{◌≡◌, ◌↔◌, ◌∙◌, ℕ, ◌<◌, Bool, IsTrue, List, length, map, nat_lt, slice_get, slice_index_or, Some, refl, ap, sym, subst, arith}
+use Rattle.std.proofs.Common.{◌≡◌, ◌∙◌, ℕ, Bool, IsTrue, List, length, map, slice_get, slice_index_or, Some, refl, ap, sym, subst, arith}
 use Rattle.argument_rows.proofs.ListLaws.{at_place, place_below, there}
 use Rattle.argument_rows.proofs.SetLaws.{none}
 use Rattle.bool_diagrams.proofs.CallerLemmas.{keeps_twice}
@@ -6,7 +6,7 @@ use Rattle.bool_diagrams.specs.Cubes.{truth_rows}
 use Rattle.bool_diagrams.specs.declared.diagram.Diagram.{Diagram}
 use Rattle.certificate_parts.specs.declared.parts.LevelPart.{LevelPart}
 use Rattle.termination_model.specs.Rows.{Covers}
-use Rattle.mode_checker.specs.Modes.{natural, naturals}
+use Rattle.mode_checker.specs.Modes.{naturals}
 use Rattle.mode_checker.specs.Sets.{is_positive}
 use Rattle.mode_checker.proofs.CoverLaws.{covered_here, signs_of}
 use Rattle.mode_checker.proofs.PlaceLaws.{below_more}

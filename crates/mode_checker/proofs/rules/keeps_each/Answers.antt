@@ -1,4 +1,4 @@
-use Rattle.std.proofs.Common.{◌≡◌, ◌↔◌, ◌∙◌, ◌-◌, inl, inr, ℕ, ◌<◌, IsTrue, true, false, List, length, slice_get, None, Some, refl, ap, sym, subst, arith}
+use Rattle.std.proofs.Common.{◌≡◌, ◌↔◌, ◌∙◌, inl, inr, ℕ, IsTrue, true, false, List, length, slice_get, Some, refl, ap, sym, subst, arith}
 use Rattle.std.proofs.lemmas.Bool.{cases_lt}
 use Rattle.argument_rows.proofs.CallerLemmas.{sets_later}
 use Rattle.argument_rows.proofs.ListLaws.{at_place}

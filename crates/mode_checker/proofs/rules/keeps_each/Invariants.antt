@@ -1,4 +1,4 @@
-use Rattle.std.proofs.Common.{◌≡◌, ◌<◌, ℕ}
+use Rattle.std.proofs.Common.{◌<◌, ℕ}
 use Rattle.argument_rows.specs.Rules.{KeepsSets, same_rank}
 use Rattle.argument_rows.specs.Sets.{AreSets, family_of}
 use Rattle.bool_diagrams.specs.Rows.{Keeps}

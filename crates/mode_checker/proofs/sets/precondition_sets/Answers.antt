@@ -1,14 +1,12 @@
-use Rattle.std.proofs.Common.{◌≡◌, ◌∙◌, ◌+◌, ◌<◌, ℕ, Bool, List, length, slice_get, Some, ap, sym, subst, arith}
+use Rattle.std.proofs.Common.{◌≡◌, ◌∙◌, ◌<◌, ℕ, List, length, slice_get, Some, ap, sym, subst, arith}
 use Rattle.argument_rows.proofs.ListLaws.{at_place}
 use Rattle.bool_diagrams.proofs.CallerLemmas.{keeps_twice}
-use Rattle.bool_diagrams.specs.Cubes.{covered}
-use Rattle.bool_diagrams.specs.Rows.{ReadsBelow}
 use Rattle.bool_diagrams.specs.declared.cube.Cell.{Cell}
 use Rattle.bool_diagrams.specs.declared.diagram.Diagram.{Diagram}
 use Rattle.certificate_parts.specs.Shape.{arity_of, items_of}
-use Rattle.mode_checker.specs.Sets.{AreSpelled, HasRows, upward}
+use Rattle.mode_checker.specs.Sets.{AreSpelled}
 use Rattle.mode_checker.proofs.PlaceLaws.{items_at, pushed, pushed_length}
-use Rattle.mode_checker.proofs.SpellLaws.{arity_at, arity_few, has_later, spelled_later, upward_later}
+use Rattle.mode_checker.proofs.SpellLaws.{arity_at, spelled_later}
 use Rattle.mode_checker.proofs.sets.precondition_sets.Goals as goal
 
 pub loop-q-preserved : goal.loop-q-preserved

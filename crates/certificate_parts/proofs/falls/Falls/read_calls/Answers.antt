@@ -1,4 +1,4 @@
-use Rattle.std.proofs.Common.{◌≡◌, ◌∙◌, sym, ap, arith, add-one, ◌+◌, length}
+use Rattle.std.proofs.Common.{◌∙◌, sym, ap, arith, add-one, ◌+◌}
 use Rattle.certificate_parts.specs.Walk.{read_call}
 use Rattle.certificate_parts.proofs.LoopLemmas.{length_more, part_err, calls_end, calls_none, calls_more}
 use Rattle.certificate_parts.proofs.falls.Falls.read_calls.Goals as goal

@@ -1,4 +1,4 @@
-use Rattle.std.proofs.Common.{◌≡◌, ◌∙◌, true, refl, ap, arith, length}
+use Rattle.std.proofs.Common.{◌≡◌, true, refl, ap, arith, length}
 use Rattle.argument_rows.proofs.ListLaws.{place_below}
 use Rattle.mode_checker.specs.Marks.{is_clear, is_unmarked}
 use Rattle.mode_checker.proofs.PlaceLaws.{all_true}

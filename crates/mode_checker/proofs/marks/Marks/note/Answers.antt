@@ -1,4 +1,4 @@
-use Rattle.std.proofs.Common.{◌≡◌, ◌∙◌, ◌&&◌, ◌<◌, length, sym, ap, arith}
+use Rattle.std.proofs.Common.{◌∙◌, ◌&&◌, ◌<◌, length, sym, ap, arith}
 use Rattle.mode_checker.specs.Marks.{is_clear}
 use Rattle.mode_checker.proofs.MarkLaws.{and_false, marked_set}
 use Rattle.mode_checker.proofs.marks.Marks.note.Goals as goal
