@@ -41,6 +41,11 @@ pub infer_rows : (c : ℕ) (cs : List ℕ) → nat_eq c 45 ≡ false → option_
 unfolding clap_on_literals
 infer_rows c cs h = simp h
 
+-- two files' names that do not begin with a dash are taken
+pub check_taken : (c d : ℕ) (cs ds : List ℕ) → nat_eq c 45 ≡ false → nat_eq d 45 ≡ false → fault_of line (codes "check" ∷ (c ∷ cs) ∷ (d ∷ ds) ∷ []) ≡ []
+unfolding clap_on_literals
+check_taken c d cs ds h k = simp (h, k)
+
 -- a file and a query that do not begin with a dash are taken
 pub run_taken : (c d : ℕ) (cs ds : List ℕ) → nat_eq c 45 ≡ false → nat_eq d 45 ≡ false → fault_of line (codes "run" ∷ (c ∷ cs) ∷ (d ∷ ds) ∷ []) ≡ []
 unfolding clap_on_literals
