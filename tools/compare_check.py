@@ -14,6 +14,7 @@ import subprocess
 import sys
 from collections import Counter
 from importlib import import_module
+from pathlib import Path
 
 MUTANTS = 25
 SECONDS = 5
@@ -125,10 +126,11 @@ def cases(rng, oracle):
 
 
 def main():
-    driver, folder, seed, count = sys.argv[1:]
-    sys.path.insert(0, folder)
+    driver, oracle, seed, count = sys.argv[1:]
+    package = Path(oracle).resolve()
+    sys.path.insert(0, str(package.parent))
     names = ["infer", "check", "certificate", "gen_programs", "fuzz_engines", "normal", "reader"]
-    oracle = {name: import_module(f"oracle.{name}") for name in names}
+    oracle = {name: import_module(f"{package.name}.{name}") for name in names}
     signal.signal(signal.SIGALRM, stop)
     rng = random.Random(int(seed))
     answers, wrong, slow = Counter(), 0, 0

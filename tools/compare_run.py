@@ -39,9 +39,9 @@ def random_case(rng, generator):
 
 def main():
     program, oracle, seed, count = sys.argv[1:]
-    sys.path.insert(0, oracle)
-    commands = import_module("oracle.commands")
-    generator = import_module("oracle.gen_programs")
+    package = Path(oracle).resolve()
+    sys.path.insert(0, str(package.parent))
+    commands, generator = (import_module(f"{package.name}.{name}") for name in ["commands", "gen_programs"])
     rng = random.Random(int(seed))
     statuses, answers, wrong = Counter(), 0, 0
     with tempfile.TemporaryDirectory() as folder:
