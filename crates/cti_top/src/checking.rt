@@ -34,11 +34,7 @@ fn status_of(verdict: Verdict) -> Status
 }
 
 /// The answer to a certificate: whether it is valid.
-fn checked(
-    alloc: Global,
-    source: &Source,
-    certificate: &Certificate,
-) -> Result<Answer, AllocError>
+fn checked(alloc: Global, source: &Source, certificate: &Certificate) -> Result<Answer, AllocError>
     requires known { AllByRecursion (λ (q : ThePred). q.name.0 < length source.now.names) source.now.program.preds }
     ensures { IfOk result (λ a. IsVerdictOn source.now.program source.now.names certificate.now.facts a.status a.text.items) }
 {

@@ -9,7 +9,8 @@ use std::collections::BTreeMap;
 use std::test::Fail;
 
 /// What the usage says.
-const USAGE: &[u8] = b"usage: cti infer FILE\nusage: cti check FILE CERT\nusage: cti run FILE QUERY --steps N\n";
+const USAGE: &[u8] =
+    b"usage: cti infer FILE\nusage: cti check FILE CERT\nusage: cti run FILE QUERY --steps N\n";
 
 /// A store with one file, `a.pl`.
 fn files(alloc: Global, text: &[u8]) -> Result<BTreeMap<String, Vec<u8>>, AllocError> {
@@ -308,7 +309,11 @@ fn changed(alloc: Global, number: usize, text: &str) -> Result<Vec<u8>, AllocErr
 }
 
 /// The status and the bytes of `check a.pl a.cert`, where the files have these texts.
-fn checked(alloc: Global, text: &[u8], certificate: &[u8]) -> Result<(Status, Vec<u8>), AllocError> {
+fn checked(
+    alloc: Global,
+    text: &[u8],
+    certificate: &[u8],
+) -> Result<(Status, Vec<u8>), AllocError> {
     let mut out = sink(alloc, 4096, &[])?;
     let mut store = store(alloc, text, &[])?;
     store.files.insert(
@@ -350,7 +355,8 @@ fn certificates_of_append(rt: HostRuntime) -> Result<(), Fail> {
 }
 
 /// A certificate of two predicates, the mode of which is admitted only where sets need not be closed upwards.
-const RISE: &str = "cti(1).\nterminates(p/2,[[2]]).\nterminates(q/1,[]).\nsize(p/2,1,[-1,0,0]).\nsize(q/1,1,[-1,0]).\nby(1,1,1,[1]).\nby(2,1,1,[1]).\nmeasure(p/2,1,[0,0],0).\npre(p/2,1,1,[0,1]).\npre(p/2,1,2,[1,0]).\nnone(q/1,1).\npoint(2,1,1,[]).\n";
+const RISE: &str =
+    "cti(1).\nterminates(p/2,[[2]]).\nterminates(q/1,[]).\nsize(p/2,1,[-1,0,0]).\nsize(q/1,1,[-1,0]).\nby(1,1,1,[1]).\nby(2,1,1,[1]).\nmeasure(p/2,1,[0,0],0).\npre(p/2,1,1,[0,1]).\npre(p/2,1,2,[1,0]).\nnone(q/1,1).\npoint(2,1,1,[]).\n";
 
 #[test]
 fn other_certificates(rt: HostRuntime) -> Result<(), Fail> {
@@ -386,8 +392,18 @@ fn other_certificates(rt: HostRuntime) -> Result<(), Fail> {
             Status::No,
             "no(2,9).\n",
         ),
-        ("p :- ", "cti(1)", Status::Refused, "refused(program,1,6,6).\n"),
-        ("p.", "cti(1)", Status::Refused, "refused(certificate,1,1,16).\n"),
+        (
+            "p :- ",
+            "cti(1)",
+            Status::Refused,
+            "refused(program,1,6,6).\n",
+        ),
+        (
+            "p.",
+            "cti(1)",
+            Status::Refused,
+            "refused(certificate,1,1,16).\n",
+        ),
     ] {
         let (status, taken) = checked(alloc, text.as_bytes(), certificate.as_bytes())?;
         assert_eq!(rt; status, wanted, "{line}");
