@@ -9,54 +9,7 @@ work=$1
 workspace "$work" cti_terms prolog_tokens prolog_grammar prolog_reader clause_normal call_components exact128 linear_rows term_size \
     bool_diagrams termination_model argument_rows certificate certificate_parts mode_checker cert_checker
 program "$work" driver cert_checker certificate clause_normal cti_terms prolog_reader
-cat >"$work/crates/driver/src/main.rt" <<'RUST'
-//! What is answered to certificates given in hex.
-#![tactic(auto)]
-
-mod show;
-
-use std::io;
-
-fn value(byte: u8) -> u8 {
-    match byte {
-        b'0'..=b'9' => byte - 48,
-        b'a'..=b'f' => byte - 87,
-        _ => 0,
-    }
-}
-
-fn main(rt: HostRuntime) -> io::Result<()> {
-    for line in rt.lines(rt.alloc()) {
-        let line = line?;
-        let mut text = Vec::new(rt.alloc());
-        let mut certificate = Vec::new(rt.alloc());
-        let mut behind = false;
-        let mut high = None;
-        for byte in line.as_str().as_bytes() {
-            if *byte == b' ' {
-                behind = true;
-                continue;
-            }
-            match high {
-                None => high = Some(value(*byte)),
-                Some(first) => {
-                    let both = first.wrapping_mul(16).wrapping_add(value(*byte));
-                    if behind {
-                        certificate.push(both)?;
-                    } else {
-                        text.push(both)?;
-                    }
-                    high = None;
-                }
-            }
-        }
-        if text.len() <= 1048577 {
-            show::show(&rt, &text, &certificate)?;
-        }
-    }
-    Ok(())
-}
-RUST
+hex_lines "$work" driver 1048577 16777217
 cat >"$work/crates/driver/src/show.rt" <<'RUST'
 //! What is answered to one certificate.
 ghost use Rattle.std.specs.Prelude.{◌≤◌, length};
@@ -84,7 +37,7 @@ fn number(reason: Reason) -> u32 {
     }
 }
 
-pub fn show(rt: &HostRuntime, text: &[u8], certificate: &[u8]) -> io::Result<()>
+pub fn show(rt: &HostRuntime, text: &[u8], certificate: &[u8], _: bool) -> io::Result<()>
     requires text { length text.now ≤ 1048577 }
 {
     let mut names = Names::new(rt.alloc());

@@ -7,43 +7,7 @@ set -eu
 work=$1
 workspace "$work" cti_terms prolog_tokens prolog_grammar prolog_reader clause_normal
 program "$work" driver clause_normal cti_terms prolog_reader
-cat >"$work/crates/driver/src/main.rt" <<'RUST'
-//! The normal form of texts given in hex.
-#![tactic(auto)]
-
-mod show;
-
-use std::io;
-
-fn value(byte: u8) -> u8 {
-    match byte {
-        b'0'..=b'9' => byte - 48,
-        b'a'..=b'f' => byte - 87,
-        _ => 0,
-    }
-}
-
-fn main(rt: HostRuntime) -> io::Result<()> {
-    for line in rt.lines(rt.alloc()) {
-        let line = line?;
-        let mut text = Vec::new(rt.alloc());
-        let mut high = None;
-        for byte in line.as_str().as_bytes() {
-            match high {
-                None => high = Some(value(*byte)),
-                Some(first) => {
-                    text.push(first.wrapping_mul(16).wrapping_add(value(*byte)))?;
-                    high = None;
-                }
-            }
-        }
-        if text.len() <= 1048577 {
-            show::show(&rt, &text)?;
-        }
-    }
-    Ok(())
-}
-RUST
+hex_lines "$work" driver 1048577 0
 cat >"$work/crates/driver/src/show.rt" <<'RUST'
 //! The normal form of one text.
 ghost use Rattle.std.specs.Prelude.{◌≤◌, length};
@@ -54,7 +18,7 @@ use prolog_reader::read_text;
 use std::io;
 use std::time::Instant;
 
-pub fn show(rt: &HostRuntime, text: &[u8]) -> io::Result<()>
+pub fn show(rt: &HostRuntime, text: &[u8], _: &[u8], _: bool) -> io::Result<()>
     requires text { length text.now ≤ 1048577 }
 {
     let mut names = Names::new(rt.alloc());

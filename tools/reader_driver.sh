@@ -8,54 +8,7 @@ set -eu
 work=$1
 workspace "$work" cti_terms prolog_tokens prolog_grammar prolog_reader
 program "$work" driver cti_terms prolog_reader
-cat >"$work/crates/driver/src/main.rt" <<'RUST'
-//! What texts and queries given in hex read as.
-#![tactic(auto)]
-
-mod show;
-
-use std::io;
-
-fn value(byte: u8) -> u8 {
-    match byte {
-        b'0'..=b'9' => byte - 48,
-        b'a'..=b'f' => byte - 87,
-        _ => 0,
-    }
-}
-
-fn main(rt: HostRuntime) -> io::Result<()> {
-    for line in rt.lines(rt.alloc()) {
-        let line = line?;
-        let mut text = Vec::new(rt.alloc());
-        let mut query = Vec::new(rt.alloc());
-        let mut is_query = false;
-        let mut high = None;
-        for byte in line.as_str().as_bytes() {
-            if *byte == b' ' {
-                is_query = true;
-                continue;
-            }
-            match high {
-                None => high = Some(value(*byte)),
-                Some(first) => {
-                    let both = first.wrapping_mul(16).wrapping_add(value(*byte));
-                    if is_query {
-                        query.push(both)?;
-                    } else {
-                        text.push(both)?;
-                    }
-                    high = None;
-                }
-            }
-        }
-        if text.len() <= 1048577 && query.len() <= 1048577 {
-            show::show(&rt, &text, &query, is_query)?;
-        }
-    }
-    Ok(())
-}
-RUST
+hex_lines "$work" driver 1048577 1048577
 cat >"$work/crates/driver/src/show.rt" <<'RUST'
 //! What one text and query read as.
 ghost use Rattle.std.specs.Prelude.{◌≤◌, length};

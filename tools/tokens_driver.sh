@@ -7,37 +7,7 @@ set -eu
 work=$1
 workspace "$work" prolog_tokens
 program "$work" driver prolog_tokens
-cat >"$work/crates/driver/src/main.rt" <<'RUST'
-//! Tokens of texts given in hex.
-#![tactic(auto)]
-
-mod show;
-
-use std::io;
-
-fn value(byte: u8) -> u8 {
-    match byte {
-        b'0'..=b'9' => byte - 48,
-        b'a'..=b'f' => byte - 87,
-        _ => 0,
-    }
-}
-
-fn main(rt: HostRuntime) -> io::Result<()> {
-    for line in rt.lines(rt.alloc()) {
-        let line = line?;
-        let hex = line.as_str().as_bytes();
-        let mut text = Vec::new(rt.alloc());
-        for pair in hex.chunks_exact(2) {
-            text.push(value(pair[0]).wrapping_mul(16).wrapping_add(value(pair[1])))?;
-        }
-        if text.len() <= 16777216 {
-            show::show(&rt, &text)?;
-        }
-    }
-    Ok(())
-}
-RUST
+hex_lines "$work" driver 16777216 0
 cat >"$work/crates/driver/src/show.rt" <<'RUST'
 //! The tokens of one text.
 ghost use Rattle.std.specs.Prelude.{◌≤◌, length};
@@ -46,7 +16,7 @@ use prolog_tokens::{Lexer, TokenKind, decode, quote};
 use std::io;
 use std::alloc::Global;
 
-pub fn show(rt: &HostRuntime, text: &[u8]) -> io::Result<()>
+pub fn show(rt: &HostRuntime, text: &[u8], _: &[u8], _: bool) -> io::Result<()>
     requires { length text.now ≤ 16777216 }
 {
     let mut lexer = Lexer::new(text);

@@ -28,6 +28,59 @@ program() {
     echo "$name: $*" >>"$work/crates.txt"
 }
 
+# hex_lines FOLDER NAME FIRST SECOND: the main file of a program that reads lines of a text, or of two with a space between, in
+# hexadecimal digits. It gives each line to `show::show(rt, first, second, has_second)`, where the texts have at most FIRST and SECOND bytes.
+hex_lines() {
+    cat >"$1/crates/$2/src/main.rt" <<RUST
+//! Answers lines of texts given in hex.
+#![tactic(auto)]
+
+mod show;
+
+use std::io;
+
+fn value(byte: u8) -> u8 {
+    match byte {
+        b'0'..=b'9' => byte - 48,
+        b'a'..=b'f' => byte - 87,
+        _ => 0,
+    }
+}
+
+fn main(rt: HostRuntime) -> io::Result<()> {
+    for line in rt.lines(rt.alloc()) {
+        let line = line?;
+        let mut first = Vec::new(rt.alloc());
+        let mut second = Vec::new(rt.alloc());
+        let mut has_second = false;
+        let mut high = None;
+        for byte in line.as_str().as_bytes() {
+            if *byte == b' ' {
+                has_second = true;
+                continue;
+            }
+            match high {
+                None => high = Some(value(*byte)),
+                Some(digit) => {
+                    let both = digit.wrapping_mul(16).wrapping_add(value(*byte));
+                    if has_second {
+                        second.push(both)?;
+                    } else {
+                        first.push(both)?;
+                    }
+                    high = None;
+                }
+            }
+        }
+        if first.len() <= $3 && second.len() <= $4 {
+            show::show(&rt, &first, &second, has_second)?;
+        }
+    }
+    Ok(())
+}
+RUST
+}
+
 # build FOLDER NAME: proves and builds the program, and prints its path
 build() {
     local work=$1 name=$2
