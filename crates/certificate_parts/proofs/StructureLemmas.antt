@@ -17,7 +17,7 @@ use Rattle.certificate_parts.specs.declared.parts.ScaledPoint.{ScaledPoint}
 use Rattle.certificate_parts.specs.declared.parts.Refutation.{Refutation}
 use Rattle.certificate_parts.specs.Numbered.{facts_from, lines_from, AreEach}
 use Rattle.certificate_parts.specs.Order.{pred_text, size_line, by_line, grounds_line, measure_line, falls_line, pre_line, at_facts, point_facts, refutation_facts, mode_facts, size_facts, proof_facts, ground_facts, level_facts, fall_facts, pre_facts, refuted_facts, is_note}
-use Rattle.certificate_parts.specs.Shape.{arity_of, head_of, body_of, rows_of, rows_of_atoms, items_of, IsMode, IsSizeRow, AreMultipliers, IsWide, IsRefutation}
+use Rattle.certificate_parts.specs.Shape.{arity_of, head_of, body_of, rows_of, rows_of_atoms, items_of, IsMode, IsSizeRow, AreMultipliers, HasWidth, IsRefutation}
 use Rattle.certificate_parts.specs.Structure.{AreNotes}
 use Rattle.certificate_parts.specs.Walk.{take_modes, take_row, take_proof, take_ground, take_level, take_pre, take_refuted, read_many, read_each, read_modes, read_rows, read_proofs, read_grounds, read_falls, read_cubes, read_pre, read_refutation}
 use Rattle.certificate_parts.proofs.KindLemmas.{kind, split_row, split_ground, split_level, split_pre, split_refuted, IsSize, IsGrounds, IsMeasure, IsPre, IsRefuted}
@@ -195,52 +195,52 @@ module _ (p : Listing) (names : List (List ℕ)) where
         0 (length p.preds) xs t h.count (omega arith) h.each
         (λ j below. all_weaker (λ f. 2 < kind f) (λ f. (i : ℕ) → take_row (text j) i f ≡ Some None) (λ f late. no_row (text j) f late) t later)
 
-    pub grounds_listed : (xs : List (List (List Cell))) (t : List Fact) → AreEach (length p.preds) (λ a. AllByRecursion (IsWide (arity_of p a))) xs → AreLater 4 t
+    pub grounds_listed : (xs : List (List (List Cell))) (t : List Fact) → AreEach (length p.preds) (λ a. AllByRecursion (HasWidth (arity_of p a))) xs → AreLater 4 t
         → read_each (read_grounds p names) 0 (length p.preds) (ground_facts p names xs ++ t) ≡ Some (xs, t)
     unfolding read_grounds take_ground
     grounds_listed xs t h later =
-        each_back (read_grounds p names) (λ a cs. lines_from 0 (grounds_line (pred_text p names a)) cs) (λ a cs. AllByRecursion (IsWide (arity_of p a)) cs)
+        each_back (read_grounds p names) (λ a cs. lines_from 0 (grounds_line (pred_text p names a)) cs) (λ a cs. AllByRecursion (HasWidth (arity_of p a)) cs)
         (λ a f. (i : ℕ) → take_ground (text a) i f ≡ Some None) (length p.preds)
         (λ a x t below right none.
-        many_back (take_ground (text a)) (grounds_line (text a)) _ (ground_given (text a)) 0 x t (from_arity (λ n. AllByRecursion (IsWide n) x) a right) none)
+        many_back (take_ground (text a)) (grounds_line (text a)) _ (ground_given (text a)) 0 x t (from_arity (λ n. AllByRecursion (HasWidth n) x) a right) none)
         (λ a b x less below. all_from (λ f. (i : ℕ) → take_ground (text a) i f ≡ Some None) (λ k c. grounds_line (text b) k c ∷ [])
         (λ k c. (λ i. rw (not_same (text b) (text a) (apart a b less below)) refl, tt)) 0 x)
         0 (length p.preds) xs t h.count (omega arith) h.each
         (λ j below. all_weaker (λ f. 4 < kind f) (λ f. (i : ℕ) → take_ground (text j) i f ≡ Some None) (λ f late. no_ground (text j) f late) t later)
 
   pub grounds_section : (s t : List Fact) (xs : List (List (List Cell))) → read_each (read_grounds p names) 0 (length p.preds) s ≡ Some (xs, t)
-      → (s ≡ ground_facts p names xs ++ t) × AreEach (length p.preds) (λ a. AllByRecursion (IsWide (arity_of p a))) xs
+      → (s ≡ ground_facts p names xs ++ t) × AreEach (length p.preds) (λ a. AllByRecursion (HasWidth (arity_of p a))) xs
   unfolding read_grounds
   grounds_section s t xs e =
-      let (whole, count, each) = each_sound (read_grounds p names) (λ a cs. lines_from 0 (grounds_line (pred_text p names a)) cs) (λ a cs. AllByRecursion (IsWide (arity_of p a)) cs)
+      let (whole, count, each) = each_sound (read_grounds p names) (λ a cs. lines_from 0 (grounds_line (pred_text p names a)) cs) (λ a cs. AllByRecursion (HasWidth (arity_of p a)) cs)
       (λ a s t x read.
       let (one, right) = many_sound (take_ground (text a)) (grounds_line (text a)) _ (ground_taken (text a)) 0 s t x read in
-      (one, at_arity (λ n. AllByRecursion (IsWide n) x) a right))
+      (one, at_arity (λ n. AllByRecursion (HasWidth n) x) a right))
       0 (length p.preds) s t xs e in
       (whole, record { count = count; each = each })
 
   -- the cubes of one predicate
   module _ (levels : List (List LevelPart)) (a : ℕ) where
     pub cubes_section : (s t : List Fact) (xs : List (List (List Cell))) → read_pre p names levels a s ≡ Some (xs, t)
-        → (s ≡ facts_from 0 (λ m cs. lines_from 0 (pre_line (pred_text p names a) m) cs) xs ++ t) × AreEach (length (items_of levels a)) (λ _. AllByRecursion (IsWide (arity_of p a))) xs
+        → (s ≡ facts_from 0 (λ m cs. lines_from 0 (pre_line (pred_text p names a) m) cs) xs ++ t) × AreEach (length (items_of levels a)) (λ _. AllByRecursion (HasWidth (arity_of p a))) xs
     unfolding read_pre read_cubes
     cubes_section s t xs e =
-        let (whole, count, each) = each_sound (read_cubes p names a) (λ m cs. lines_from 0 (pre_line (pred_text p names a) m) cs) (λ m cs. AllByRecursion (IsWide (arity_of p a)) cs)
+        let (whole, count, each) = each_sound (read_cubes p names a) (λ m cs. lines_from 0 (pre_line (pred_text p names a) m) cs) (λ m cs. AllByRecursion (HasWidth (arity_of p a)) cs)
         (λ m s t x read.
         let (one, right) = many_sound (take_pre (text a) m) (pre_line (text a) m) _ (pre_taken (text a) m) 0 s t x read in
-        (one, at_arity (λ n. AllByRecursion (IsWide n) x) a right))
+        (one, at_arity (λ n. AllByRecursion (HasWidth n) x) a right))
         0 (length (items_of levels a)) s t xs e in
         (whole, record { count = count; each = each })
 
-    pub cubes_listed : (xs : List (List (List Cell))) (t : List Fact) → AreEach (length (items_of levels a)) (λ _. AllByRecursion (IsWide (arity_of p a))) xs
+    pub cubes_listed : (xs : List (List (List Cell))) (t : List Fact) → AreEach (length (items_of levels a)) (λ _. AllByRecursion (HasWidth (arity_of p a))) xs
         → AllByRecursion (λ f. (m i : ℕ) → take_pre (pred_text p names a) m i f ≡ Some None) t
         → read_pre p names levels a (facts_from 0 (λ m cs. lines_from 0 (pre_line (pred_text p names a) m) cs) xs ++ t) ≡ Some (xs, t)
     unfolding read_pre read_cubes take_pre
     cubes_listed xs t h others =
-        each_back (read_cubes p names a) (λ m cs. lines_from 0 (pre_line (pred_text p names a) m) cs) (λ m cs. AllByRecursion (IsWide (arity_of p a)) cs)
+        each_back (read_cubes p names a) (λ m cs. lines_from 0 (pre_line (pred_text p names a) m) cs) (λ m cs. AllByRecursion (HasWidth (arity_of p a)) cs)
         (λ m f. (i : ℕ) → take_pre (text a) m i f ≡ Some None) (length (items_of levels a))
         (λ m x t below right none.
-        many_back (take_pre (text a) m) (pre_line (text a) m) _ (pre_given (text a) m) 0 x t (from_arity (λ n. AllByRecursion (IsWide n) x) a right) none)
+        many_back (take_pre (text a) m) (pre_line (text a) m) _ (pre_given (text a) m) 0 x t (from_arity (λ n. AllByRecursion (HasWidth n) x) a right) none)
         (λ m n x less below. all_from (λ f. (i : ℕ) → take_pre (text a) m i f ≡ Some None) (λ k c. pre_line (text a) n k c ∷ [])
         (λ k c. (λ i. rw (same_itself (text a), ne_eqb (suc n) (suc m) (λ same. absurd (omega (arith, same, less)))) refl, tt)) 0 x)
         0 (length (items_of levels a)) xs t h.count (omega arith) h.each
@@ -248,21 +248,21 @@ module _ (p : Listing) (names : List (List ℕ)) where
 
   module _ (levels : List (List LevelPart)) where
     pub pre_section : (s t : List Fact) (xs : List (List (List (List Cell)))) → read_each (read_pre p names levels) 0 (length p.preds) s ≡ Some (xs, t)
-        → (s ≡ pre_facts p names xs ++ t) × AreEach (length p.preds) (λ a. AreEach (length (items_of levels a)) (λ _. AllByRecursion (IsWide (arity_of p a)))) xs
+        → (s ≡ pre_facts p names xs ++ t) × AreEach (length p.preds) (λ a. AreEach (length (items_of levels a)) (λ _. AllByRecursion (HasWidth (arity_of p a)))) xs
     pre_section s t xs e =
         let (whole, count, each) = each_sound (read_pre p names levels) (λ a ms. facts_from 0 (λ m cs. lines_from 0 (pre_line (pred_text p names a) m) cs) ms)
-        (λ a ms. AreEach (length (items_of levels a)) (λ _. AllByRecursion (IsWide (arity_of p a))) ms)
+        (λ a ms. AreEach (length (items_of levels a)) (λ _. AllByRecursion (HasWidth (arity_of p a))) ms)
         (λ a s t x read. cubes_section levels a s t x read)
         0 (length p.preds) s t xs e in
         (whole, record { count = count; each = each })
 
     pub pre_listed : ((a b : ℕ) → a < b → b < length p.preds → pred_text p names b ≢ pred_text p names a) → (xs : List (List (List (List Cell)))) (t : List Fact)
-        → AreEach (length p.preds) (λ a. AreEach (length (items_of levels a)) (λ _. AllByRecursion (IsWide (arity_of p a)))) xs → AreLater 7 t
+        → AreEach (length p.preds) (λ a. AreEach (length (items_of levels a)) (λ _. AllByRecursion (HasWidth (arity_of p a)))) xs → AreLater 7 t
         → read_each (read_pre p names levels) 0 (length p.preds) (pre_facts p names xs ++ t) ≡ Some (xs, t)
     unfolding take_pre
     pre_listed apart xs t h later =
         each_back (read_pre p names levels) (λ a ms. facts_from 0 (λ m cs. lines_from 0 (pre_line (pred_text p names a) m) cs) ms)
-        (λ a ms. AreEach (length (items_of levels a)) (λ _. AllByRecursion (IsWide (arity_of p a))) ms)
+        (λ a ms. AreEach (length (items_of levels a)) (λ _. AllByRecursion (HasWidth (arity_of p a))) ms)
         (λ a f. (m i : ℕ) → take_pre (text a) m i f ≡ Some None) (length p.preds)
         (λ a x t below right none. cubes_listed levels a x t right none)
         (λ a b x less below. all_from (λ f. (m i : ℕ) → take_pre (text a) m i f ≡ Some None) (λ n cs. lines_from 0 (pre_line (text b) n) cs)

@@ -16,7 +16,7 @@ use Rattle.linear_rows.specs.declared.multipliers.Multipliers.{Multipliers}
 use Rattle.linear_rows.specs.declared.row.Row.{Row}
 use Rattle.certificate_parts.specs.declared.parts.LevelPart.{LevelPart}
 use Rattle.certificate_parts.specs.Order.{cell_of, size_line, by_line, grounds_line, measure_line, falls_line, pre_line}
-use Rattle.certificate_parts.specs.Shape.{Ascend, IsMode, IsSizeRow, AreMultipliers, IsWide, IsLevel}
+use Rattle.certificate_parts.specs.Shape.{Ascend, IsMode, IsSizeRow, AreMultipliers, HasWidth, IsLevel}
 use Rattle.certificate_parts.specs.Walk.{Taken, at_place, kept, same_pred, is_amount, is_entry, are_amounts, are_entries, is_mode, cell_read, row_read, multipliers_read, cube_read, level_read, take_modes, take_row, take_proof, take_ground, take_level, take_fall, take_pre, take_refuted}
 use Rattle.certificate_parts.proofs.KindLemmas.{split_modes, split_row, split_proof, split_ground, split_level, split_fall, split_pre, split_refuted, IsTerminates, IsSize, IsBy, IsGrounds, IsMeasure, IsFalls, IsPre, IsRefuted}
 use Rattle.certificate_parts.proofs.SectionLemmas.{same_some, IsTaken, IsBack}
@@ -160,12 +160,12 @@ multipliers_are rows scale list x e =
 multipliers_back : (rows : ℕ) (x : Multipliers) → AreMultipliers rows x → multipliers_read rows x.scale x.list ≡ Some (Some x)
 multipliers_back rows x h = rw (eq-eqb (length x.list) rows h.0, amount_back x.scale h.1, amounts_back x.list h.2) refl
 
-cube_is : (arity : ℕ) (cells : List CertCell) (x : List Cell) → cube_read arity cells ≡ Some (Some x) → (cells ≡ map cell_of x) × IsWide arity x
+cube_is : (arity : ℕ) (cells : List CertCell) (x : List Cell) → cube_read arity cells ≡ Some (Some x) → (cells ≡ map cell_of x) × HasWidth arity x
 cube_is arity cells x e =
     let (right, same) = kept_is (length cells == arity) (map cell_read cells) x e in
     rw (← same) (sym (cells_shown cells), many_read cells ∙ eqb-true (length cells) arity right)
 
-cube_back : (arity : ℕ) (x : List Cell) → IsWide arity x → cube_read arity (map cell_of x) ≡ Some (Some x)
+cube_back : (arity : ℕ) (x : List Cell) → HasWidth arity x → cube_read arity (map cell_of x) ≡ Some (Some x)
 cube_back arity x h = rw (eq-eqb (length (map cell_of x)) arity (many_cells x ∙ h), cells_again x) refl
 
 level_is : (arity : ℕ) (coeffs : List ℤ) (offset : ℤ) (x : LevelPart) → level_read arity coeffs offset ≡ Some (Some x)
@@ -227,11 +227,11 @@ pub proof_given : (k rows : ℕ) → IsBack (take_proof k rows) (by_line k) (Are
 unfolding take_proof
 proof_given k rows i x h = rw (eq-eqb (suc k) (suc k) refl, eq-eqb (suc i) (suc i) refl, multipliers_back rows x h) refl
 
-pub ground_taken : (pred : PredText) → IsTaken (take_ground pred) (grounds_line pred) (IsWide pred.arity)
+pub ground_taken : (pred : PredText) → IsTaken (take_ground pred) (grounds_line pred) (HasWidth pred.arity)
 unfolding take_ground
 ground_taken pred i f x e = go (split_ground f)
   where
-    go : ((q : PredText) (j : ℕ) → take_ground q j f ≡ Some None) ⊎ IsGrounds f → (f ≡ grounds_line pred i x) × IsWide pred.arity x
+    go : ((q : PredText) (j : ℕ) → take_ground q j f ≡ Some None) ⊎ IsGrounds f → (f ≡ grounds_line pred i x) × HasWidth pred.arity x
     go (inl none) = other_taken (take_ground pred i f) x (none pred i) e
     go (inr (q, index, cells, is)) =
         let (here, some) = placed (same_pred q pred && (index == suc i)) (cube_read pred.arity cells) x (rw is at e) in
@@ -239,7 +239,7 @@ ground_taken pred i f x e = go (split_ground f)
         let (whole, right) = cube_is pred.arity cells x some in
         (rw (is, same_is q pred same, eqb-true index (suc i) number, whole) refl, right)
 
-pub ground_given : (pred : PredText) → IsBack (take_ground pred) (grounds_line pred) (IsWide pred.arity)
+pub ground_given : (pred : PredText) → IsBack (take_ground pred) (grounds_line pred) (HasWidth pred.arity)
 unfolding take_ground
 ground_given pred i x h = rw (same_itself pred, eq-eqb (suc i) (suc i) refl, cube_back pred.arity x h) refl
 
@@ -276,11 +276,11 @@ pub fall_given : (k j rows : ℕ) → IsBack (take_fall k j rows) (falls_line k 
 unfolding take_fall
 fall_given k j rows m x h = rw (eq-eqb (suc k) (suc k) refl, eq-eqb (suc j) (suc j) refl, eq-eqb (suc m) (suc m) refl, multipliers_back rows x h) refl
 
-pub pre_taken : (pred : PredText) (m : ℕ) → IsTaken (take_pre pred m) (pre_line pred m) (IsWide pred.arity)
+pub pre_taken : (pred : PredText) (m : ℕ) → IsTaken (take_pre pred m) (pre_line pred m) (HasWidth pred.arity)
 unfolding take_pre
 pre_taken pred m i f x e = go (split_pre f)
   where
-    go : ((q : PredText) (m j : ℕ) → take_pre q m j f ≡ Some None) ⊎ IsPre f → (f ≡ pre_line pred m i x) × IsWide pred.arity x
+    go : ((q : PredText) (m j : ℕ) → take_pre q m j f ≡ Some None) ⊎ IsPre f → (f ≡ pre_line pred m i x) × HasWidth pred.arity x
     go (inl none) = other_taken (take_pre pred m i f) x (none pred m i) e
     go (inr (q, mapping, index, cells, is)) =
         let (here, some) = placed (same_pred q pred && ((mapping == suc m) && (index == suc i))) (cube_read pred.arity cells) x (rw is at e) in
@@ -289,7 +289,7 @@ pre_taken pred m i f x e = go (split_pre f)
         let (whole, right) = cube_is pred.arity cells x some in
         (rw (is, same_is q pred same, eqb-true mapping (suc m) two, eqb-true index (suc i) number, whole) refl, right)
 
-pub pre_given : (pred : PredText) (m : ℕ) → IsBack (take_pre pred m) (pre_line pred m) (IsWide pred.arity)
+pub pre_given : (pred : PredText) (m : ℕ) → IsBack (take_pre pred m) (pre_line pred m) (HasWidth pred.arity)
 unfolding take_pre
 pre_given pred m i x h = rw (same_itself pred, eq-eqb (suc m) (suc m) refl, eq-eqb (suc i) (suc i) refl, cube_back pred.arity x h) refl
 

@@ -80,8 +80,8 @@ IsSizeRow arity row = (length row.coeffs ≡ arity) × AreEntries (row.constant 
 abbrev pub AreMultipliers : ℕ → Multipliers → Type 0
 AreMultipliers rows m = (length m.list ≡ rows) × IsAmount m.scale × AreAmounts m.list
 
-abbrev pub IsWide : {A : Type 0} → ℕ → List A → Type 0
-IsWide arity cells = length cells ≡ arity
+abbrev pub HasWidth : {A : Type 0} → ℕ → List A → Type 0
+HasWidth arity cells = length cells ≡ arity
 
 abbrev pub IsLevel : ℕ → LevelPart → Type 0
 IsLevel arity level = (length level.coeffs ≡ arity) × AreAmounts level.coeffs × IsAmount level.offset
@@ -149,12 +149,12 @@ pub record HaveShape (p : Listing) (comps : Partition) (parts : Parts) : Type 0 
   -- a proof for each size row of the head, over the rows of the whole body
   pub row_proofs : AreEach (length p.clauses)
       (λ k. AreEach (rows_of parts.rows (head_of p k)) (λ _. AreMultipliers (rows_of_atoms parts.rows (body_of p k)))) parts.row_proofs
-  pub grounds : AreEach (length p.preds) (λ a. AllByRecursion (IsWide (arity_of p a))) parts.grounds
+  pub grounds : AreEach (length p.preds) (λ a. AllByRecursion (HasWidth (arity_of p a))) parts.grounds
   pub levels : AreEach (length p.preds) (λ a ls. (length ls ≡ mappings_of comps parts.levels a) × AllByRecursion (IsLevel (arity_of p a)) ls) parts.levels
   -- for a call to the own component a proof for each mapping, over the rows of the atoms before the call
   pub falls : AreEach (length p.clauses)
       (λ k. AreEach (length (body_of p k)) (λ j. AreEach (proofs_of_call comps parts.levels (head_of p k) (slice_get (body_of p k) j)) (λ _. AreMultipliers (rows_of_atoms parts.rows (take j (body_of p k))))))
       parts.falls
   pub preconditions : AreEach (length p.preds)
-      (λ a. AreEach (length (items_of parts.levels a)) (λ _. AllByRecursion (IsWide (arity_of p a)))) parts.preconditions
+      (λ a. AreEach (length (items_of parts.levels a)) (λ _. AllByRecursion (HasWidth (arity_of p a)))) parts.preconditions
   pub refutations : AreEach (length p.preds) (IsRefutation p comps parts.levels) parts.refutations

@@ -6,6 +6,7 @@ ghost use Rattle.cti_terms.specs.Listing.{IsClause};
 ghost use Rattle.cti_terms.specs.declared.limits.TheConstants.{MOST_VARIABLES};
 ghost use Rattle.certificate_parts.specs.Structure.{AreNamed};
 
+use crate::StructureReason::{Extra, Missing, Shape, Version};
 use crate::{Parts, PartsFault, StructureReason, parts_of};
 use call_components::components;
 use certificate::Certificate;
@@ -143,76 +144,24 @@ fn the_parts_of_append(rt: HostRuntime) -> Result<(), Fail> {
 fn lines_replaced(rt: HostRuntime) -> Result<(), Fail> {
     let alloc = rt.alloc();
     for (line, new, wanted) in [
-        (1, "cti(2).", Some((1, StructureReason::Version))),
-        (
-            1,
-            "terminates(app/3,[[1],[3]]).",
-            Some((1, StructureReason::Extra)),
-        ),
-        (
-            2,
-            "terminates(app/3,[[3,1]]).",
-            Some((2, StructureReason::Shape)),
-        ),
-        (
-            2,
-            "terminates(app/3,[[1,1]]).",
-            Some((2, StructureReason::Shape)),
-        ),
-        (
-            2,
-            "terminates(app/3,[[4]]).",
-            Some((2, StructureReason::Shape)),
-        ),
+        (1, "cti(2).", Some((1, Version))),
+        (1, "terminates(app/3,[[1],[3]]).", Some((1, Extra))),
+        (2, "terminates(app/3,[[3,1]]).", Some((2, Shape))),
+        (2, "terminates(app/3,[[1,1]]).", Some((2, Shape))),
+        (2, "terminates(app/3,[[4]]).", Some((2, Shape))),
         (2, "terminates(app/3,[[],[1,2,3]]).", None),
-        (
-            2,
-            "terminates(app/2,[[1]]).",
-            Some((2, StructureReason::Extra)),
-        ),
-        (
-            2,
-            "terminates(apq/3,[[1]]).",
-            Some((2, StructureReason::Extra)),
-        ),
-        (
-            3,
-            "size(app/3,1,[0,1,1]).",
-            Some((3, StructureReason::Shape)),
-        ),
-        (
-            3,
-            "size(app/3,2,[0,1,1,1]).",
-            Some((3, StructureReason::Extra)),
-        ),
-        (7, "by(2,1,1,[1]).", Some((7, StructureReason::Shape))),
-        (7, "by(1,1,1,[1,0]).", Some((7, StructureReason::Extra))),
-        (
-            10,
-            "grounds(app/3,2,[1,0]).",
-            Some((10, StructureReason::Shape)),
-        ),
-        (
-            12,
-            "measure(app/3,1,[1,0],0).",
-            Some((12, StructureReason::Shape)),
-        ),
-        (
-            14,
-            "falls(2,1,1,1,[1]).",
-            Some((14, StructureReason::Shape)),
-        ),
-        (14, "falls(2,2,1,1,[]).", Some((14, StructureReason::Extra))),
-        (
-            16,
-            "pre(app/3,1,1,[1,x]).",
-            Some((16, StructureReason::Shape)),
-        ),
-        (
-            16,
-            "pre(app/3,3,1,[1,x,x]).",
-            Some((16, StructureReason::Extra)),
-        ),
+        (2, "terminates(app/2,[[1]]).", Some((2, Extra))),
+        (2, "terminates(apq/3,[[1]]).", Some((2, Extra))),
+        (3, "size(app/3,1,[0,1,1]).", Some((3, Shape))),
+        (3, "size(app/3,2,[0,1,1,1]).", Some((3, Extra))),
+        (7, "by(2,1,1,[1]).", Some((7, Shape))),
+        (7, "by(1,1,1,[1,0]).", Some((7, Extra))),
+        (10, "grounds(app/3,2,[1,0]).", Some((10, Shape))),
+        (12, "measure(app/3,1,[1,0],0).", Some((12, Shape))),
+        (14, "falls(2,1,1,1,[1]).", Some((14, Shape))),
+        (14, "falls(2,2,1,1,[]).", Some((14, Extra))),
+        (16, "pre(app/3,1,1,[1,x]).", Some((16, Shape))),
+        (16, "pre(app/3,3,1,[1,x,x]).", Some((16, Extra))),
         (17, "image(1,2,app/3,[]).", None),
     ] {
         let lines = edited(alloc, APPEND.as_slice(), line - 1, line, Some(new))?;
@@ -226,13 +175,13 @@ fn lines_taken_out_and_put_in(rt: HostRuntime) -> Result<(), Fail> {
     let alloc = rt.alloc();
     for (from, to, new, wanted) in [
         (16, 17, None, None),
-        (16, 16, Some(APPEND[16]), Some((18, StructureReason::Extra))),
-        (3, 17, None, Some((4, StructureReason::Missing))),
-        (0, 17, None, Some((1, StructureReason::Missing))),
-        (8, 9, None, Some((9, StructureReason::Extra))),
+        (16, 16, Some(APPEND[16]), Some((18, Extra))),
+        (3, 17, None, Some((4, Missing))),
+        (0, 17, None, Some((1, Missing))),
+        (8, 9, None, Some((9, Extra))),
         (8, 11, None, None),
-        (12, 13, None, Some((14, StructureReason::Extra))),
-        (14, 17, None, Some((15, StructureReason::Missing))),
+        (12, 13, None, Some((14, Extra))),
+        (14, 17, None, Some((15, Missing))),
     ] {
         let lines = edited(alloc, APPEND.as_slice(), from, to, new)?;
         assert_eq!(rt;
@@ -248,79 +197,38 @@ fn lines_taken_out_and_put_in(rt: HostRuntime) -> Result<(), Fail> {
 fn refutations(rt: HostRuntime) -> Result<(), Fail> {
     let alloc = rt.alloc();
     for (group, wanted) in [
+        ("none(app/3,1).\npoint(2,1,1,[0,0,0,0]).", None),
         (
-            ["none(app/3,1).", "point(2,1,1,[0,0,0,0])."].as_slice(),
+            "none(app/3,1).\npoint(2,1,0,[0,0,0,1]).\nat(2,1,1,[0,0,0,0]).",
             None,
         ),
         (
-            [
-                "none(app/3,1).",
-                "point(2,1,0,[0,0,0,1]).",
-                "at(2,1,1,[0,0,0,0]).",
-            ]
-            .as_slice(),
-            None,
+            "none(app/3,1).\npoint(2,1,0,[0,0,0,1]).",
+            Some((5, Missing)),
         ),
         (
-            ["none(app/3,1).", "point(2,1,0,[0,0,0,1])."].as_slice(),
-            Some((5, StructureReason::Missing)),
+            "none(app/3,1).\npoint(2,1,0,[0,0,0,1]).\nat(2,1,0,[0,0,0,0]).",
+            Some((5, Shape)),
         ),
         (
-            [
-                "none(app/3,1).",
-                "point(2,1,0,[0,0,0,1]).",
-                "at(2,1,0,[0,0,0,0]).",
-            ]
-            .as_slice(),
-            Some((5, StructureReason::Shape)),
+            "none(app/3,1).\npoint(2,1,0,[0,0,0,1]).\nat(2,2,1,[0,0,0,0]).",
+            Some((5, Extra)),
         ),
         (
-            [
-                "none(app/3,1).",
-                "point(2,1,0,[0,0,0,1]).",
-                "at(2,2,1,[0,0,0,0]).",
-            ]
-            .as_slice(),
-            Some((5, StructureReason::Extra)),
+            "none(app/3,2).\npoint(2,1,1,[0,0,0,0]).\npoint(2,1,1,[0,0,0,0]).",
+            Some((5, Extra)),
         ),
         (
-            [
-                "none(app/3,2).",
-                "point(2,1,1,[0,0,0,0]).",
-                "point(2,1,1,[0,0,0,0]).",
-            ]
-            .as_slice(),
-            Some((5, StructureReason::Extra)),
+            "none(app/3,2).\npoint(2,1,1,[0,0,0,0]).",
+            Some((5, Missing)),
         ),
-        (
-            ["none(app/3,2).", "point(2,1,1,[0,0,0,0])."].as_slice(),
-            Some((5, StructureReason::Missing)),
-        ),
-        (
-            ["none(app/3,1).", "point(2,2,1,[0,0,0,0])."].as_slice(),
-            Some((4, StructureReason::Extra)),
-        ),
-        (
-            ["none(app/3,1).", "point(2,1,1,[0,0,0])."].as_slice(),
-            Some((4, StructureReason::Shape)),
-        ),
-        (
-            ["none(app/2,1)."].as_slice(),
-            Some((3, StructureReason::Extra)),
-        ),
-        (
-            ["none(app/3,1)."].as_slice(),
-            Some((4, StructureReason::Missing)),
-        ),
+        ("none(app/3,1).\npoint(2,2,1,[0,0,0,0]).", Some((4, Extra))),
+        ("none(app/3,1).\npoint(2,1,1,[0,0,0]).", Some((4, Shape))),
+        ("none(app/2,1).", Some((3, Extra))),
+        ("none(app/3,1).", Some((4, Missing))),
     ] {
-        let mut lines = vec![in alloc; APPEND[0], APPEND[1]]?;
-        lines.extend_from_slice(group)?;
-        assert_eq!(rt;
-            first_wrong(alloc, lines.as_slice())?,
-            wanted,
-            "{}",
-            group.len()
-        );
+        let lines = [APPEND[0], APPEND[1], group];
+        assert_eq!(rt; first_wrong(alloc, lines.as_slice())?, wanted, "{group}");
     }
     Ok(())
 }

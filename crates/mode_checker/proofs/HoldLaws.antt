@@ -14,7 +14,7 @@ use Rattle.bool_diagrams.specs.Tree.{Tree as Rows}
 use Rattle.bool_diagrams.specs.declared.diagram.Diagram.{Diagram}
 use Rattle.call_components.specs.Partition.{AreComponents, Partition}
 use Rattle.certificate_parts.specs.Numbered.{AreEach}
-use Rattle.certificate_parts.specs.Shape.{HaveShape, IsLevel, IsWide, arity_of, is_same, is_together, items_of, mappings_of}
+use Rattle.certificate_parts.specs.Shape.{HaveShape, IsLevel, HasWidth, arity_of, is_same, is_together, items_of, mappings_of}
 use Rattle.certificate_parts.specs.declared.parts.Parts.{Parts}
 use Rattle.cti_terms.specs.Listing.{IsAtom, IsClause, IsProgram, Listing}
 use Rattle.cti_terms.specs.Tree.{Tree}
@@ -58,7 +58,7 @@ module _ (truth : (ℕ → Bool) → Tree → Bool) (p : Listing) (program : IsP
       let l = there parts.levels q [] (omega (arith, lt, shape.levels.count)) in
       let own = each_at (length p.preds) (λ a ls. (length ls ≡ mappings_of comps parts.levels a) × AllByRecursion (IsLevel (arity_of p a)) ls) parts.levels shape.levels q _ l in
       let c = there parts.preconditions q [] (omega (arith, lt, shape.preconditions.count)) in
-      let cubes = each_at (length p.preds) (λ a. AreEach (length (items_of parts.levels a)) (λ _. AllByRecursion (IsWide (arity_of p a)))) parts.preconditions shape.preconditions q _ c in
+      let cubes = each_at (length p.preds) (λ a. AreEach (length (items_of parts.levels a)) (λ _. AllByRecursion (HasWidth (arity_of p a)))) parts.preconditions shape.preconditions q _ c in
       record {
         few = omega (arith, few, wide);
         each = S.each q ∙ ap length (items_at parts.preconditions q _ c) ∙ cubes.count;
