@@ -273,8 +273,9 @@ fn refused_queries(rt: HostRuntime) -> Result<(), Fail> {
     Ok(())
 }
 
-/// The certificate of `APPEND`, line by line.
-const APPEND_LINES: [&str; 17] = [
+/// The lines of the certificate of `APPEND` by their numbers: none has the number 0.
+const APPEND_LINES: [&str; 18] = [
+    "",
     "cti(1).",
     "terminates(app/3,[[1],[3]]).",
     "size(app/3,1,[0,1,1,-1]).",
@@ -294,16 +295,47 @@ const APPEND_LINES: [&str; 17] = [
     "pre(app/3,2,1,[x,x,1]).",
 ];
 
-/// The lines of the certificate of `APPEND`, where the line of this number has another text in its place.
-fn changed(alloc: Global, number: usize, text: &str) -> Result<Vec<u8>, AllocError> {
-    let mut whole = Vec::new(alloc);
-    for (index, line) in APPEND_LINES.iter().enumerate() {
-        let line = if index + 1 == number { text } else { *line };
-        if line.is_empty() {
-            continue;
+/// The answers to the certificate of `APPEND` without the line of each number.
+const LEFT_OUT: [&str; 18] = [
+    "yes.\n",
+    "no(1,3).\n",
+    "no(2,3).\n",
+    "no(3,3).\n",
+    "no(5,3).\n",
+    "no(5,3).\n",
+    "no(6,3).\n",
+    "no(7,3).\n",
+    "no(8,3).\n",
+    "no(9,3).\n",
+    "no(10,3).\n",
+    "no(2,7).\n",
+    "no(12,3).\n",
+    "no(14,3).\n",
+    "no(14,3).\n",
+    "no(15,3).\n",
+    "no(2,9).\n",
+    "no(2,9).\n",
+];
+
+/// The certificate of `APPEND`, where the lines of these numbers have other texts, or none.
+fn changed(alloc: Global, changes: &[(usize, &str)]) -> Result<Vec<u8>, AllocError> {
+    let mut lines = APPEND_LINES;
+    for (number, text) in changes {
+        if let Some(line) = lines.get_mut(*number) {
+            *line = *text;
         }
-        whole.extend_from_slice(line.as_bytes())?;
-        whole.push(b'\n')?;
+    }
+    lines_of(alloc, lines.as_slice())
+}
+
+/// The text of these lines, but for the empty ones.
+fn lines_of(alloc: Global, lines: &[&str]) -> Result<Vec<u8>, AllocError> {
+    let mut whole = Vec::new(alloc);
+    for line in lines {
+        if !line.is_empty() {
+            whole.extend_from_slice(line.as_bytes())?;
+            whole.push(b'\n')?;
+        }
     }
     Ok(whole)
 }
@@ -327,29 +359,91 @@ fn checked(
 #[test]
 fn certificates_of_append(rt: HostRuntime) -> Result<(), Fail> {
     let alloc = rt.alloc();
-    for (number, text, wanted, line) in [
-        (0, "", Status::Done, "yes.\n"),
-        (7, "by(2,1,1,[2,0]).", Status::No, "no(7,5).\n"),
-        (2, "terminates(app/3,[[2]]).", Status::No, "no(2,9).\n"),
-        (16, "pre(app/3,1,1,[x,x,x]).", Status::No, "no(2,8).\n"),
-        (17, "", Status::No, "no(2,9).\n"),
+    let double = (12, "measure(app/3,1,[2,0,0],0).");
+    let wide = "falls(2,1,1,170141183460469231731687303715884105727,[]).";
+    for (changes, wanted, line) in [
+        ([double].as_slice(), Status::Done, "yes.\n"),
         (
-            17,
-            "pre(app/3,2,1,[x,x,1]).\npre(app/3,2,1,[x,x,1]).",
-            Status::No,
-            "no(18,3).\n",
+            [(14, "falls(2,1,1,2,[]).")].as_slice(),
+            Status::Done,
+            "yes.\n",
         ),
         (
-            3,
-            "size(app/3,1,[0,1,1,-1]). ",
+            [(14, "falls(2,1,1,0,[]).")].as_slice(),
+            Status::No,
+            "no(14,6).\n",
+        ),
+        ([double, (14, wide)].as_slice(), Status::No, "no(14,11).\n"),
+        (
+            [(3, "size(app/3,1,[0,1,1]).")].as_slice(),
+            Status::No,
+            "no(3,4).\n",
+        ),
+        (
+            [(7, "by(2,1,1,[2,0]).")].as_slice(),
+            Status::No,
+            "no(7,5).\n",
+        ),
+        (
+            [(9, ""), (10, ""), (11, "")].as_slice(),
+            Status::No,
+            "no(2,7).\n",
+        ),
+        (
+            [(10, "grounds(app/3,2,[1,1,0]).")].as_slice(),
+            Status::No,
+            "no(2,7).\n",
+        ),
+        (
+            [(12, "measure(app/3,1,[0,1,0],0).")].as_slice(),
+            Status::No,
+            "no(2,8).\n",
+        ),
+        (
+            [(2, "terminates(app/3,[[2]]).")].as_slice(),
+            Status::No,
+            "no(2,9).\n",
+        ),
+        (
+            [(16, "pre(app/3,1,1,[x,x,x]).")].as_slice(),
+            Status::No,
+            "no(2,8).\n",
+        ),
+        (
+            [(3, "size(app/3,1,[0,1,1,-1]). ")].as_slice(),
             Status::Refused,
             "refused(certificate,3,1,16).\n",
         ),
     ] {
-        let certificate = changed(alloc, number, text)?;
+        let certificate = changed(alloc, changes)?;
         let (status, taken) = checked(alloc, APPEND.as_bytes(), &certificate)?;
         assert_eq!(rt; status, wanted, "{line}");
         assert_eq!(rt; taken.as_slice(), line.as_bytes(), "{line}");
+    }
+    Ok(())
+}
+
+#[test]
+fn lines_left_out(rt: HostRuntime) -> Result<(), Fail> {
+    let alloc = rt.alloc();
+    for (number, line) in LEFT_OUT.iter().enumerate() {
+        let certificate = changed(alloc, &[(number, "")])?;
+        let (_, taken) = checked(alloc, APPEND.as_bytes(), &certificate)?;
+        assert_eq!(rt; taken.as_slice(), line.as_bytes(), "{number}");
+    }
+    Ok(())
+}
+
+#[test]
+fn lines_doubled(rt: HostRuntime) -> Result<(), Fail> {
+    let alloc = rt.alloc();
+    for (number, line) in APPEND_LINES.iter().enumerate().skip(1) {
+        let twice = format!(in alloc; "{line}\n{line}")?;
+        let certificate = changed(alloc, &[(number, twice.as_str())])?;
+        let (status, taken) = checked(alloc, APPEND.as_bytes(), &certificate)?;
+        let wanted = format!(in alloc; "no({},3).\n", number + 1)?;
+        assert_eq!(rt; status, Status::No, "{number}");
+        assert_eq!(rt; taken.as_slice(), wanted.as_bytes(), "{number}");
     }
     Ok(())
 }
