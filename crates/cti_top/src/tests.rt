@@ -215,6 +215,12 @@ fn nodes_that_are_asked_for(rt: HostRuntime) -> Result<(), Fail> {
         let lines = repeated(alloc, lines.as_bytes(), last.as_bytes(), 1)?;
         assert_eq!(rt; taken, lines, "{steps}");
     }
+    Ok(())
+}
+
+#[test]
+fn numbers_of_nodes_that_are_none(rt: HostRuntime) -> Result<(), Fail> {
+    let alloc = rt.alloc();
     for steps in [
         "0", "0000000", "00000001", "1000001", "", "+5", "-5", "5x", " 5", "٣",
     ] {
@@ -357,7 +363,27 @@ fn checked(
 }
 
 #[test]
-fn certificates_of_append(rt: HostRuntime) -> Result<(), Fail> {
+fn certificates_of_append_that_are_not_valid(rt: HostRuntime) -> Result<(), Fail> {
+    let alloc = rt.alloc();
+    for (number, text, line) in [
+        (2, "terminates(app/3,[[2]]).", "no(2,9).\n"),
+        (3, "size(app/3,1,[0,1,1]).", "no(3,4).\n"),
+        (7, "by(2,1,1,[2,0]).", "no(7,5).\n"),
+        (10, "grounds(app/3,2,[1,1,0]).", "no(2,7).\n"),
+        (12, "measure(app/3,1,[0,1,0],0).", "no(2,8).\n"),
+        (14, "falls(2,1,1,0,[]).", "no(14,6).\n"),
+        (16, "pre(app/3,1,1,[x,x,x]).", "no(2,8).\n"),
+    ] {
+        let certificate = changed(alloc, &[(number, text)])?;
+        let (status, taken) = checked(alloc, APPEND.as_bytes(), &certificate)?;
+        assert_eq!(rt; status, Status::No, "{line}");
+        assert_eq!(rt; taken.as_slice(), line.as_bytes(), "{line}");
+    }
+    Ok(())
+}
+
+#[test]
+fn other_certificates_of_append(rt: HostRuntime) -> Result<(), Fail> {
     let alloc = rt.alloc();
     let double = (12, "measure(app/3,1,[2,0,0],0).");
     let wide = "falls(2,1,1,170141183460469231731687303715884105727,[]).";
@@ -368,46 +394,11 @@ fn certificates_of_append(rt: HostRuntime) -> Result<(), Fail> {
             Status::Done,
             "yes.\n",
         ),
-        (
-            [(14, "falls(2,1,1,0,[]).")].as_slice(),
-            Status::No,
-            "no(14,6).\n",
-        ),
         ([double, (14, wide)].as_slice(), Status::No, "no(14,11).\n"),
-        (
-            [(3, "size(app/3,1,[0,1,1]).")].as_slice(),
-            Status::No,
-            "no(3,4).\n",
-        ),
-        (
-            [(7, "by(2,1,1,[2,0]).")].as_slice(),
-            Status::No,
-            "no(7,5).\n",
-        ),
         (
             [(9, ""), (10, ""), (11, "")].as_slice(),
             Status::No,
             "no(2,7).\n",
-        ),
-        (
-            [(10, "grounds(app/3,2,[1,1,0]).")].as_slice(),
-            Status::No,
-            "no(2,7).\n",
-        ),
-        (
-            [(12, "measure(app/3,1,[0,1,0],0).")].as_slice(),
-            Status::No,
-            "no(2,8).\n",
-        ),
-        (
-            [(2, "terminates(app/3,[[2]]).")].as_slice(),
-            Status::No,
-            "no(2,9).\n",
-        ),
-        (
-            [(16, "pre(app/3,1,1,[x,x,x]).")].as_slice(),
-            Status::No,
-            "no(2,8).\n",
         ),
         (
             [(3, "size(app/3,1,[0,1,1,-1]). ")].as_slice(),
@@ -452,40 +443,38 @@ fn lines_doubled(rt: HostRuntime) -> Result<(), Fail> {
 const RISE: &str =
     "cti(1).\nterminates(p/2,[[2]]).\nterminates(q/1,[]).\nsize(p/2,1,[-1,0,0]).\nsize(q/1,1,[-1,0]).\nby(1,1,1,[1]).\nby(2,1,1,[1]).\nmeasure(p/2,1,[0,0],0).\npre(p/2,1,1,[0,1]).\npre(p/2,1,2,[1,0]).\nnone(q/1,1).\npoint(2,1,1,[]).\n";
 
+/// The certificate of `p :- p.` after its first line, up to the point of its refutation.
+const LOOP: &str = "terminates(p/0,[]).\nsize(p/0,1,[-1]).\nby(1,1,1,[1]).\nnone(p/0,1).\n";
+
 #[test]
-fn other_certificates(rt: HostRuntime) -> Result<(), Fail> {
+fn certificates_of_a_loop(rt: HostRuntime) -> Result<(), Fail> {
     let alloc = rt.alloc();
-    for (text, certificate, wanted, line) in [
+    for (first, last, wanted, line) in [
+        ("cti(1).\n", "point(1,1,1,[]).\n", Status::Done, "yes.\n"),
         (
-            "p :- p.",
-            "cti(1).\nterminates(p/0,[]).\nsize(p/0,1,[-1]).\nby(1,1,1,[1]).\nnone(p/0,1).\npoint(1,1,1,[]).\n",
-            Status::Done,
-            "yes.\n",
-        ),
-        (
-            "p :- p.",
-            "cti(1).\nterminates(p/0,[]).\nsize(p/0,1,[-1]).\nby(1,1,1,[1]).\nnone(p/0,1).\npoint(1,1,0,[]).\nat(1,1,1,[]).\n",
+            "cti(1).\n",
+            "point(1,1,0,[]).\nat(1,1,1,[]).\n",
             Status::No,
             "no(5,10).\n",
         ),
-        (
-            "p :- p.",
-            "cti(2).\nterminates(p/0,[]).\nsize(p/0,1,[-1]).\nby(1,1,1,[1]).\nnone(p/0,1).\npoint(1,1,1,[]).\n",
-            Status::No,
-            "no(1,1).\n",
-        ),
-        (
-            APPEND,
-            "cti(1).\nterminates(app/3,[[1],[3]]).\nsize(app/3,1,[0,1,1,-1]).\n",
-            Status::No,
-            "no(4,2).\n",
-        ),
-        (
-            "p(X,f(X)) :- q(X).\nq(a) :- q(a).\n",
-            RISE,
-            Status::No,
-            "no(2,9).\n",
-        ),
+        ("cti(2).\n", "point(1,1,1,[]).\n", Status::No, "no(1,1).\n"),
+    ] {
+        let certificate = joined(alloc, &[first.as_bytes(), LOOP.as_bytes(), last.as_bytes()])?;
+        let (status, taken) = checked(alloc, b"p :- p.", &certificate)?;
+        assert_eq!(rt; status, wanted, "{line}");
+        assert_eq!(rt; taken.as_slice(), line.as_bytes(), "{line}");
+    }
+    Ok(())
+}
+
+#[test]
+fn other_certificates(rt: HostRuntime) -> Result<(), Fail> {
+    let alloc = rt.alloc();
+    let cut = "cti(1).\nterminates(app/3,[[1],[3]]).\nsize(app/3,1,[0,1,1,-1]).\n";
+    let rising = "p(X,f(X)) :- q(X).\nq(a) :- q(a).\n";
+    for (text, certificate, wanted, line) in [
+        (APPEND, cut, Status::No, "no(4,2).\n"),
+        (rising, RISE, Status::No, "no(2,9).\n"),
         (
             "p :- ",
             "cti(1)",
@@ -590,7 +579,7 @@ fn large_answers(rt: HostRuntime) -> Result<(), Fail> {
 }
 
 #[test]
-fn other_statuses(rt: HostRuntime) -> Result<(), Fail> {
+fn words_that_are_no_command(rt: HostRuntime) -> Result<(), Fail> {
     let alloc = rt.alloc();
     for words in [
         ["infer"].as_slice(),
@@ -614,6 +603,12 @@ fn other_statuses(rt: HostRuntime) -> Result<(), Fail> {
         assert_eq!(rt; status, Status::Usage);
         assert_eq!(rt; out.taken.as_slice(), USAGE);
     }
+    Ok(())
+}
+
+#[test]
+fn faults_of_files_and_sinks(rt: HostRuntime) -> Result<(), Fail> {
+    let alloc = rt.alloc();
     let mut out = sink(alloc, 8, &[2])?;
     let status = command(
         alloc,
