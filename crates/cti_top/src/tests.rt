@@ -385,32 +385,41 @@ fn certificates_of_append_that_are_not_valid(rt: HostRuntime) -> Result<(), Fail
 #[test]
 fn other_certificates_of_append(rt: HostRuntime) -> Result<(), Fail> {
     let alloc = rt.alloc();
-    let double = (12, "measure(app/3,1,[2,0,0],0).");
+    let double = "measure(app/3,1,[2,0,0],0).";
     let wide = "falls(2,1,1,170141183460469231731687303715884105727,[]).";
-    for (changes, wanted, line) in [
-        ([double].as_slice(), Status::Done, "yes.\n"),
+    let blank = "size(app/3,1,[0,1,1,-1]). ";
+    for (measure, falls, size, wanted, line) in [
         (
-            [(14, "falls(2,1,1,2,[]).")].as_slice(),
+            double,
+            APPEND_LINES[14],
+            APPEND_LINES[3],
             Status::Done,
             "yes.\n",
         ),
-        ([double, (14, wide)].as_slice(), Status::No, "no(14,11).\n"),
         (
-            [(9, ""), (10, ""), (11, "")].as_slice(),
-            Status::No,
-            "no(2,7).\n",
+            APPEND_LINES[12],
+            "falls(2,1,1,2,[]).",
+            APPEND_LINES[3],
+            Status::Done,
+            "yes.\n",
         ),
+        (double, wide, APPEND_LINES[3], Status::No, "no(14,11).\n"),
         (
-            [(3, "size(app/3,1,[0,1,1,-1]). ")].as_slice(),
+            double,
+            wide,
+            blank,
             Status::Refused,
             "refused(certificate,3,1,16).\n",
         ),
     ] {
-        let certificate = changed(alloc, changes)?;
+        let certificate = changed(alloc, &[(12, measure), (14, falls), (3, size)])?;
         let (status, taken) = checked(alloc, APPEND.as_bytes(), &certificate)?;
         assert_eq!(rt; status, wanted, "{line}");
         assert_eq!(rt; taken.as_slice(), line.as_bytes(), "{line}");
     }
+    let certificate = changed(alloc, &[(9, ""), (10, ""), (11, "")])?;
+    let (_, taken) = checked(alloc, APPEND.as_bytes(), &certificate)?;
+    assert_eq!(rt; taken.as_slice(), b"no(2,7).\n".as_slice());
     Ok(())
 }
 
