@@ -18,7 +18,7 @@ lines = Path("examples/append.cert").read_text().splitlines()
 def appends(count):
     """The text of so many copies of append, and its certificate, each copy's lines beside those of the others."""
     text = "".join(
-        f"a{n:05}([],L,L).\na{n:05}([H|T],L,[H|R]) :- a{n:05}(T,L,R).\n" for n in range(count)
+        f"append{n:05}([],L,L).\nappend{n:05}([H|T],L,[H|R]) :- append{n:05}(T,L,R).\n" for n in range(count)
     )
     groups = []
     for line in lines[1:]:
@@ -34,7 +34,7 @@ def appends(count):
                     clause, rest = line.split("(")[1].split(",", 1)
                     facts.append(f"{kind}({2 * n + int(clause)},{rest}")
                 else:
-                    facts.append(line.replace("app/", f"a{n:05}/"))
+                    facts.append(line.replace("app/", f"append{n:05}/"))
     return text, "\n".join(facts) + "\n"
 
 
