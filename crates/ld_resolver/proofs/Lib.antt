@@ -1,6 +1,7 @@
 pub mod AnswerLaws
 pub mod AttemptLaws
 pub mod BelowLaws
+pub mod CoverLaws
 pub mod HeadLaws
 pub mod OrderLaws
 pub mod PendingLaws
@@ -10,4 +11,5 @@ pub mod StoreLaws
 pub mod TailLaws
 pub mod ToldLaws
 pub mod UnifySteps
+pub mod VisitLaws
 pub mod WalkLaws

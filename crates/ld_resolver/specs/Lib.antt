@@ -13,3 +13,4 @@ pub mod AnswerCode
 pub mod Progress
 pub mod Runs
 pub mod Order
+pub mod Visits

@@ -13,6 +13,7 @@ use crate::bindings::Bindings;
 use crate::choices::Choice;
 use crate::raised_term::RaisedTerm;
 use crate::unification::{push_equations, solve};
+use crate::visited::Visited;
 use cti_terms::Clause;
 use std::alloc::{AllocError, Global};
 
@@ -21,6 +22,7 @@ use std::alloc::{AllocError, Global};
 pub struct Stacks<'p> {
     equations: Vec<(RaisedTerm<'p>, RaisedTerm<'p>)>,
     pub terms: Vec<RaisedTerm<'p>>,
+    visited: Visited,
 }
 
 impl<'p> Stacks<'p> {
@@ -29,6 +31,7 @@ impl<'p> Stacks<'p> {
         Stacks {
             equations: Vec::new(alloc),
             terms: Vec::new(alloc),
+            visited: Visited::new(alloc),
         }
     }
 }
@@ -63,5 +66,6 @@ pub fn unify_head<'p>(
         &mut stacks.equations,
         choice.fresh,
         &mut stacks.terms,
+        &mut stacks.visited,
     )
 }

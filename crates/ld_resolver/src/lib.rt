@@ -22,6 +22,7 @@ mod tails;
 #[cfg(test)]
 mod tests;
 mod unification;
+mod visited;
 
 pub use answer::Answer;
 pub use answer_list::Answers;

@@ -10,6 +10,7 @@ ghost use Rattle.ld_resolver.specs.Pending.{raw};
 
 use crate::bindings::Bindings;
 use crate::raised_term::{RaisedTerm, Shape};
+use crate::visited::Visited;
 use cti_terms::Term;
 use std::alloc::AllocError;
 
@@ -27,27 +28,37 @@ pub fn push_arguments<'p>(
     Ok(())
 }
 
-/// Whether a free variable occurs in a term under the bindings. The stack may hold anything, and is used up.
+/// Whether a free variable occurs in a term under the bindings. Each bound variable is looked into once.
+///
+/// The stack and the visited variables may be any, and are used up.
 pub fn occurs_in<'p>(
     bindings: &Bindings<'p>,
     variable: usize,
     term: RaisedTerm<'p>,
     stack: &mut Vec<RaisedTerm<'p>>,
+    visited: &mut Visited,
 ) -> Result<bool, AllocError>
     ensures { IfOk result (λ found. found ≡ occurs variable (full bindings.now (raised_tree term.entry))) }
 {
     stack.clear();
+    visited.clear();
     stack.push(term)?;
     while let Some(next) = stack.pop() {
-        let met = bindings.met(next);
-        match met.shape {
-            Shape::Variable(other) => {
-                if variable == other {
-                    return Ok(true);
+        match next.shape() {
+            Shape::Variable(other) => match bindings.value(other) {
+                Some(bound) => {
+                    if visited.visit(other)? {
+                        stack.push(bound)?;
+                    }
                 }
-            }
+                None => {
+                    if variable == other {
+                        return Ok(true);
+                    }
+                }
+            },
             Shape::Integer(_) => {}
-            Shape::Compound(_, args) => push_arguments(stack, args, met.term.base)?,
+            Shape::Compound(_, args) => push_arguments(stack, args, next.base)?,
         }
     }
     Ok(false)

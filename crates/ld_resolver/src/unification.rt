@@ -14,6 +14,7 @@ ghost use Rattle.ld_resolver.specs.Pending.{args_full, raw_equations, waiting, s
 use crate::bindings::Bindings;
 use crate::occurs_check::occurs_in;
 use crate::raised_term::{Met, RaisedTerm, Shape};
+use crate::visited::Visited;
 use cti_terms::{Name, Term};
 use std::alloc::AllocError;
 
@@ -85,6 +86,7 @@ fn bound_or_clash<'p>(
     term: RaisedTerm<'p>,
     apart: bool,
     stack: &mut Vec<RaisedTerm<'p>>,
+    visited: &mut Visited,
 ) -> Result<Found<'p>, AllocError>
     requires apart { apart ≡ true → occurs variable (full bindings.now (raised_tree term)) ≡ false }
     requires small { variable < 2 ^ 33 }
@@ -96,7 +98,7 @@ fn bound_or_clash<'p>(
     if apart {
         return Ok(Found::Binds(variable, term));
     }
-    if occurs_in(bindings, variable, term, stack)? {
+    if occurs_in(bindings, variable, term, stack, visited)? {
         Ok(Found::Clash)
     } else {
         Ok(Found::Binds(variable, term))
@@ -142,6 +144,7 @@ fn step<'p>(
     right: Met<'p>,
     news: News,
     stack: &mut Vec<RaisedTerm<'p>>,
+    visited: &mut Visited,
 ) -> Result<Found<'p>, AllocError>
     requires below { news.only ≡ true → TermBelow news.from (full bindings.now (raised_tree left.term)) }
     requires left { IsMet bindings.now left }
@@ -153,13 +156,13 @@ fn step<'p>(
         (Shape::Variable(x), Shape::Variable(y)) => Ok(nothing_or_bound(x, y, right.term)),
         (Shape::Variable(x), Shape::Integer(_)) => Ok(Found::Binds(x, right.term)),
         (Shape::Variable(x), Shape::Compound(_, _)) => {
-            bound_or_clash(bindings, x, right.term, false, stack)
+            bound_or_clash(bindings, x, right.term, false, stack, visited)
         }
         (Shape::Integer(_), Shape::Variable(y)) => Ok(Found::Binds(y, left.term)),
         (Shape::Integer(m), Shape::Integer(n)) => Ok(nothing_or_clash(m, n)),
         (Shape::Integer(_), Shape::Compound(_, _)) => Ok(Found::Clash),
         (Shape::Compound(_, _), Shape::Variable(y)) => {
-            bound_or_clash(bindings, y, left.term, news.is_apart(y), stack)
+            bound_or_clash(bindings, y, left.term, news.is_apart(y), stack, visited)
         }
         (Shape::Compound(_, _), Shape::Integer(_)) => Ok(Found::Clash),
         (Shape::Compound(f, ts), Shape::Compound(g, us)) => Ok(arguments_or_clash(f, ts, g, us)),
@@ -172,6 +175,7 @@ fn next_binding<'p>(
     equations: &mut Vec<(RaisedTerm<'p>, RaisedTerm<'p>)>,
     news: News,
     stack: &mut Vec<RaisedTerm<'p>>,
+    visited: &mut Visited,
 ) -> Result<Next<'p>, AllocError>
     requires { news.only ≡ true → LeftBelow news.from (waiting bindings.now equations.old.items) }
     ensures left { OnOk result (news.only ≡ true → LeftBelow news.from (waiting bindings.now equations.new.items)) }
@@ -180,7 +184,7 @@ fn next_binding<'p>(
     while let Some((l, r)) = equations.pop() {
         let left = bindings.met(l);
         let right = bindings.met(r);
-        match step(bindings, left, right, news, stack)? {
+        match step(bindings, left, right, news, stack, visited)? {
             Found::Nothing => {}
             Found::Binds(x, term) => return Ok(Next::Bound(x, term)),
             Found::Arguments(ts, us) => {
@@ -198,6 +202,7 @@ pub fn solve<'p>(
     equations: &mut Vec<(RaisedTerm<'p>, RaisedTerm<'p>)>,
     from: u32,
     stack: &mut Vec<RaisedTerm<'p>>,
+    visited: &mut Visited,
 ) -> Result<bool, AllocError>
     requires { LeftBelow from (waiting bindings.old equations.old.items) }
     ensures unifier { IfOk result (IsUnified (made bindings.old) (waiting bindings.old equations.old.items) (made bindings.new)) }
@@ -207,7 +212,7 @@ pub fn solve<'p>(
     let mut only = true;
     loop {
         let news = News { from, only };
-        match next_binding(bindings, equations, news, stack)? {
+        match next_binding(bindings, equations, news, stack, visited)? {
             Next::Solved => return Ok(true),
             Next::Failed => return Ok(false),
             Next::Bound(x, term) => {
