@@ -14,9 +14,7 @@ use Rattle.ld_resolver.specs.Store.{made, full, all_full, one_more, chain, chain
 use Rattle.ld_resolver.specs.Pending.{raw, weight, occurs_left}
 use Rattle.ld_resolver.specs.Visits.{is_among, rank, OccursBelow, IsCovered, last_chain, remaining}
 use Rattle.ld_resolver.proofs.PendingLaws.{or_second_true, occurs_left-append, weight-append, raw_more}
-
-off : false ≡ true → ⊥
-off h = cc
+use Rattle.ld_resolver.proofs.VisitLaws.{off}
 
 -- ---- numbers that fall
 

@@ -1,11 +1,12 @@
--- Laws of the occurs check, which visits each bound variable once.
+-- Laws of visited variables and their flags.
 use Rattle.std.proofs.Common.{◌≡◌, ◌≢◌, ℕ, zero, suc, ◌+◌, ◌<◌, Bool, true, false, ◌||◌, ◌==◌, List, [], ◌∷◌, ◌++◌, length, drop, set, get_or, refl, ap, sym, ◌∙◌, arith, eqb-true}
 use Rattle.std.proofs.lemmas.List.{at_drop_more}
 use Rattle.ld_resolver.specs.Visits.{is_among, flag, AreFlags}
 use Rattle.ld_resolver.proofs.StoreLaws.{eqb_same}
 use Rattle.ld_resolver.proofs.PendingLaws.{or_second_true, or_second_false}
 
--- ---- flags
+pub off : false ≡ true → ⊥
+off h = cc
 
 set_same : (fs : List Bool) (i : ℕ) (v : Bool) → i < length fs → flag (set fs i v) i ≡ v
 set_same [] i v h = absurd (omega (arith, h))
@@ -25,10 +26,7 @@ flag_within (f ∷ fs) zero h = omega arith
 flag_within (f ∷ fs) (suc i) h = let k = flag_within fs i h in omega (arith, k)
 
 differs : (y x : ℕ) → (y == x) ≡ false → y ≢ x
-differs y x h = λ e. cc_off (sym h ∙ ap (λ z. y == z) (sym e) ∙ eqb_same y)
-  where
-    cc_off : false ≡ true → ⊥
-    cc_off k = cc
+differs y x h = λ e. off (sym h ∙ ap (λ z. y == z) (sym e) ∙ eqb_same y)
 
 among_more : (ys : List ℕ) (y x : ℕ) → is_among (ys ++ y ∷ []) x ≡ (is_among ys x || (y == x))
 among_more [] y x = go (y == x)
@@ -71,9 +69,6 @@ flags_less fs ys i y h within e small x up = go (y == x) refl
         let down = set_same fs y false small in
         let at = ap (flag (set fs y false)) (eqb-true y x d) in
         absurd (off (sym down ∙ at ∙ up))
-      where
-        off : false ≡ true → ⊥
-        off k = cc
     go false d =
         let was = h x (sym (set_other fs y x false (differs y x d)) ∙ up) in
         sym (among_left ys i y x within e ∙ ap (λ b. b || is_among (drop (i + 1) ys) x) d) ∙ was
