@@ -1,9 +1,9 @@
 -- What an attempt at the last choice does.
-use Rattle.std.proofs.Common.{◌≡◌, ◌≢◌, ℕ, suc, ◌+◌, ◌-◌, ◌<◌, ◌≤◌, true, List, ◌∷◌, ◌++◌, map, length, slice_get, Option, None, Some, option_map, ap, sym, ◌∙◌, subst, arith}
+use Rattle.std.proofs.Common.{◌≡◌, ℕ, suc, ◌+◌, ◌-◌, ◌<◌, ◌≤◌, true, List, ◌∷◌, ◌++◌, map, length, Option, None, Some, option_map, ap, sym, ◌∙◌, subst, arith}
 use Rattle.cti_terms.specs.declared.atom_list.Atom.{Atom}
 use Rattle.cti_terms.specs.declared.clauses.Clause.{Clause}
 use Rattle.cti_terms.specs.declared.derivation.Goal.{Goal}
-use Rattle.cti_terms.specs.Listing.{Listing, IsClause}
+use Rattle.cti_terms.specs.Listing.{Listing}
 use Rattle.cti_terms.specs.Unify.{Binding}
 use Rattle.cti_terms.specs.UnifyFunction.{unify}
 use Rattle.cti_terms.specs.Resolve.{over, raised, head_equations, answered, resolve}
@@ -15,12 +15,12 @@ use Rattle.ld_resolver.specs.Tails.{tail_at}
 use Rattle.ld_resolver.specs.Below.{AtomsBelow, FreeFrom}
 use Rattle.ld_resolver.specs.Walk.{walk}
 use Rattle.ld_resolver.specs.Choices.{kept, goal_of, left, AreChoices}
-use Rattle.ld_resolver.specs.Searches.{attempts_at, goal_with}
-use Rattle.ld_resolver.proofs.SearchLaws.{later_choices, no_node, node, fewer_attempts, resolve_at, another_pred, same_pred, left_goal, node_free, head_below, goal_below}
+use Rattle.ld_resolver.specs.Searches.{attempts_at, goal_with, IsTakenAt}
+use Rattle.ld_resolver.proofs.SearchLaws.{later_choices, no_node, node, fewer_attempts, resolve_at, same_pred, left_goal, node_free, head_below, goal_below}
 
-module _ (p : Listing) (s now : List Binding) (rests : List (List Atom)) (old new : List Choice) (c : Choice) (k : Clause) (all : AreChoices p s rests old) (t : (below : List Choice) × (old ≡ c ∷ below) × (new ≡ record c { next = c.next + 1 } ∷ below) × (c.next ≤ length p.clauses) × (slice_get p.clauses (c.next - 1) ≡ Some k) × IsClause p.preds k) (e : Extends now (kept s c.mark)) where
-  here : AreChoices p s rests (c ∷ t.0)
-  here = subst (AreChoices p s rests) t.1 all
+module _ (p : Listing) (s now : List Binding) (rests : List (List Atom)) (old new : List Choice) (c : Choice) (k : Clause) (all : AreChoices p s rests old) (t : IsTakenAt p old c k new) (e : Extends now (kept s c.mark)) where
+  here : AreChoices p s rests (c ∷ t.below)
+  here = subst (AreChoices p s rests) t.was all
 
   first : Atom
   first = over (full (kept s c.mark)) (raised c.base c.atom.now)
@@ -30,25 +30,20 @@ module _ (p : Listing) (s now : List Binding) (rests : List (List Atom)) (old ne
 
   -- the choices stay choices
   pub taken_choices : AreChoices p now rests new
-  taken_choices = subst (AreChoices p now rests) (sym t.2) (later_choices p s now rests c t.0 here t.3 e)
+  taken_choices = subst (AreChoices p now rests) (sym t.is) (later_choices p s now rests c t.below here t.within t.m t.next e)
 
   pub taken_fewer : attempts_at p new < attempts_at p old
   taken_fewer =
-      let less = fewer_attempts p s now rests c t.0 here t.3 e in
-      omega (arith, less, ap (attempts_at p) t.1, ap (attempts_at p) t.2)
+      let less = fewer_attempts p s now rests c t.below here t.within t.m t.next e in
+      omega (arith, less, ap (attempts_at p) t.was, ap (attempts_at p) t.is)
 
   -- no goal is left
   pub taken_failed : resolve p (goal_of s rests c) c.next ≡ None → (q : List Atom) (n : ℕ) → left p q n s rests old ≡ left p q n now rests new
-  taken_failed r q n = ap (left p q n s rests) t.1 ∙ no_node p s now rests c t.0 here t.3 e q n r ∙ ap (left p q n now rests) (sym t.2)
-
-  pub fails_by_pred : c.atom.now.pred.0 ≢ k.head.pred.0 → resolve p (goal_of s rests c) c.next ≡ None
-  fails_by_pred d =
-      resolve_at p (over (full (kept s c.mark)) (raised c.base c.atom.now)) (map (over (full (kept s c.mark))) (tail_at rests c.rest)) c.fresh c.next k here.0.from_one t.4
-      ∙ another_pred (over (full (kept s c.mark)) (raised c.base c.atom.now)) (map (over (full (kept s c.mark))) (tail_at rests c.rest)) c.fresh k d
+  taken_failed r q n = ap (left p q n s rests) t.was ∙ no_node p s now rests c t.below here t.within t.m t.next e q n r ∙ ap (left p q n now rests) (sym t.is)
 
   resolves : (o : Option (List Binding)) → c.atom.now.pred.0 ≡ k.head.pred.0 → unify (head_equations (over (full (kept s c.mark)) (raised c.base c.atom.now)) c.fresh k) ≡ o → resolve p (goal_of s rests c) c.next ≡ option_map (answered (map (over (full (kept s c.mark))) (tail_at rests c.rest)) c.fresh k) o
   resolves o h u =
-      resolve_at p (over (full (kept s c.mark)) (raised c.base c.atom.now)) (map (over (full (kept s c.mark))) (tail_at rests c.rest)) c.fresh c.next k here.0.from_one t.4
+      resolve_at p (over (full (kept s c.mark)) (raised c.base c.atom.now)) (map (over (full (kept s c.mark))) (tail_at rests c.rest)) c.fresh c.next k here.0.from_one t.there
       ∙ same_pred (over (full (kept s c.mark)) (raised c.base c.atom.now)) (map (over (full (kept s c.mark))) (tail_at rests c.rest)) c.fresh k h
       ∙ ap (option_map (answered (map (over (full (kept s c.mark))) (tail_at rests c.rest)) c.fresh k)) u
 
@@ -65,14 +60,14 @@ module _ (p : Listing) (s now : List Binding) (rests : List (List Atom)) (old ne
         resolves (Some u.0) h u.1
         ∙ ap (λ (g : Goal). Some (u.0, g)) (left_goal (kept s c.mark) now u.0 (tail_at rests c.rest) c.fresh k u.2 here.0.free)
 
-    count : length new ≡ suc (length t.0)
-    count = ap length t.2
+    count : length new ≡ suc (length t.below)
+    count = ap length t.is
 
     pub taken_met : (q : List Atom) (n : ℕ) → left p q n s rests old ≡ (record { steps = length new; answer = answer_by q (made now) left_by_node.atoms } ∷ walk p q (n - (length new - 1)) (made now) (length new) left_by_node) ++ left p q n now rests new
     taken_met q n =
-        ap (left p q n s rests) t.1
-        ∙ node p s now rests c t.0 here t.3 e q n u.0 left_by_node found u.2
-        ∙ (λ i. (record { steps = sym count i; answer = answer_by q (made now) left_by_node.atoms } ∷ walk p q (n - (sym count i - 1)) (made now) (sym count i) left_by_node) ++ left p q n now rests (sym t.2 i))
+        ap (left p q n s rests) t.was
+        ∙ node p s now rests c t.below here t.within t.m t.next e q n u.0 left_by_node found u.2
+        ∙ (λ i. (record { steps = sym count i; answer = answer_by q (made now) left_by_node.atoms } ∷ walk p q (n - (sym count i - 1)) (made now) (sym count i) left_by_node) ++ left p q n now rests (sym t.is i))
 
     pub taken_some : 0 < length new
     taken_some = omega (arith, count)
@@ -83,7 +78,7 @@ module _ (p : Listing) (s now : List Binding) (rests : List (List Atom)) (old ne
     pub taken_free : KeepsFree (head_equations (over (full (kept s c.mark)) (raised c.base c.atom.now)) c.fresh k) (kept s c.mark) now → FreeFrom (c.fresh + k.vars) now
     taken_free keeps =
         node_free (kept s c.mark) now (head_equations (over (full (kept s c.mark)) (raised c.base c.atom.now)) c.fresh k) c.fresh (c.fresh + k.vars) (omega arith) here.0.free
-        (head_below (over (full (kept s c.mark)) (raised c.base c.atom.now)) c.fresh k here.0.below.0 t.5.head.below) keeps
+        (head_below (over (full (kept s c.mark)) (raised c.base c.atom.now)) c.fresh k here.0.below.0 t.clause.head.below) keeps
 
     pub taken_below : AtomsBelow (c.fresh + k.vars) left_by_node.atoms
-    taken_below = goal_below p.preds (kept s c.mark) now u.0 (raised c.base c.atom.now) (tail_at rests c.rest) c.fresh k u.2 here.0.free u.1 here.0.below t.5
+    taken_below = goal_below p.preds (kept s c.mark) now u.0 (raised c.base c.atom.now) (tail_at rests c.rest) c.fresh k u.2 here.0.free u.1 here.0.below t.clause

@@ -19,13 +19,15 @@ use Rattle.ld_resolver.specs.Store.{made, full}
 use Rattle.ld_resolver.specs.Pending.{Extends, KeepsFree}
 use Rattle.ld_resolver.specs.Tails.{tail_at}
 use Rattle.ld_resolver.specs.Below.{ArgumentsBelow, AtomsBelow, FreeFrom}
-use Rattle.ld_resolver.specs.Walk.{entered, walk_by, walk}
+use Rattle.ld_resolver.specs.Walk.{Visit, entered, walk_by, walk}
+use Rattle.ld_resolver.specs.Chain.{IsNext}
 use Rattle.ld_resolver.specs.Choices.{kept, goal_from, goal_of, clauses_left, left, IsChoice, AreChoices, GrowsTo}
 use Rattle.ld_resolver.specs.Searches.{attempts_at, AreNumbered, goal_with}
 use Rattle.ld_resolver.proofs.StoreLaws.{applied-append, eqb_same}
 use Rattle.ld_resolver.proofs.BelowLaws.{full_raised, applied_below, wider, all_wider, pairs_below, arguments_raised, atoms_over, below_append, not_below}
 use Rattle.cti_terms.proofs.UnifyLaws.{AllBelow, unify_finds}
 use Rattle.ld_resolver.proofs.TailLaws.{tail_kept}
+use Rattle.ld_resolver.proofs.ChainLaws.{clause_at}
 
 -- ---- bindings that are kept
 
@@ -83,6 +85,7 @@ stay_choice p s now rests rests_now c e f m r is = record {
   rest = r;
   from_one = is.from_one;
   to_end = is.to_end;
+  pred = is.pred;
   free = subst (FreeFrom c.fresh) (sym e) is.free;
   below = subst (λ (g : Goal). AtomsBelow c.fresh g.atoms) (λ i. goal_from (sym e i) c.fresh (raised c.base c.atom.now) (sym f i)) is.below;
 }
@@ -108,7 +111,7 @@ choices_grown p s rests now (c ∷ below) g all =
 
 pub are_numbered : (p : Listing) (s : List Binding) (rests : List (List Atom)) (cs : List Choice) → AreChoices p s rests cs → AreNumbered p cs
 are_numbered p s rests [] all = tt
-are_numbered p s rests (c ∷ below) all = ((all.0.from_one, all.0.to_end), are_numbered p s rests below all.2)
+are_numbered p s rests (c ∷ below) all = ((all.0.from_one, all.0.to_end, all.0.pred), are_numbered p s rests below all.2)
 
 pub within_all : (p : Listing) (s : List Binding) (rests : List (List Atom)) (cs : List Choice) → AreChoices p s rests cs → Within (length s) cs
 within_all p s rests [] all = tt
@@ -126,12 +129,8 @@ clause_left p c h =
 
 -- ---- resolution by a clause
 
-there : (cs : List Clause) (k : ℕ) (c : Clause) → 1 ≤ k → slice_get cs (k - 1) ≡ Some c → numbered cs k ≡ Some c
-there cs zero c l h = absurd (omega (arith, l))
-there cs (suc i) c l h = let e : suc i - 1 ≡ i = omega arith in ap (slice_get cs) (sym e) ∙ h
-
 pub resolve_at : (p : Listing) (a : Atom) (rest : List Atom) (n k : ℕ) (c : Clause) → 1 ≤ k → slice_get p.clauses (k - 1) ≡ Some c → resolve p (record { atoms = a ∷ rest; fresh = n }) k ≡ resolve_by (a ∷ rest) n c
-resolve_at p a rest n k c l h = ap (option_and_then (resolve_by (a ∷ rest) n)) (there p.clauses k c l h)
+resolve_at p a rest n k c l h = ap (option_and_then (resolve_by (a ∷ rest) n)) (clause_at p.clauses k c l h)
 
 pub another_pred : (a : Atom) (rest : List Atom) (n : ℕ) (c : Clause) → a.pred.0 ≢ c.head.pred.0 → resolve_by (a ∷ rest) n c ≡ None
 another_pred a rest n c d = ap (λ b. if b then option_map (answered rest n c) (unify (head_equations a n c)) else None) (off (a.pred.0) (c.head.pred.0) d)
@@ -141,6 +140,26 @@ another_pred a rest n c d = ap (λ b. if b then option_map (answered rest n c) (
 
 pub same_pred : (a : Atom) (rest : List Atom) (n : ℕ) (c : Clause) → a.pred.0 ≡ c.head.pred.0 → resolve_by (a ∷ rest) n c ≡ option_map (answered rest n c) (unify (head_equations a n c))
 same_pred a rest n c e = ap (λ b. if b then option_map (answered rest n c) (unify (head_equations a n c)) else None) (ap (λ x. a.pred.0 == x) (sym e) ∙ eqb_same a.pred.0)
+
+-- ---- clauses that are passed over
+
+-- clauses that leave no goal are not met
+met_by_none : (p : Listing) (q : List Atom) (deeper : List Binding → ℕ → Goal → List Visit) (bs : List Binding) (l : ℕ) (h : Goal) (k gap m : ℕ) → m ≡ gap + k → m ≤ suc (length p.clauses) → ((j : ℕ) → k ≤ j → j < m → resolve p h j ≡ None) → walk_by p q deeper bs l h (range_with_len k (suc (length p.clauses) - k)) ≡ walk_by p q deeper bs l h (range_with_len m (suc (length p.clauses) - m))
+met_by_none p q deeper bs l h k zero m e b none = let same : k ≡ m = omega (arith, e) in ap (λ x. walk_by p q deeper bs l h (range_with_len x (suc (length p.clauses) - x))) same
+met_by_none p q deeper bs l h k (suc gap) m e b none =
+    let one : suc (length p.clauses) - k ≡ suc (suc (length p.clauses) - (k + 1)) = omega (arith, e, b) in
+    ap (λ d. walk_by p q deeper bs l h (range_with_len k d)) one
+    ∙ ap (λ o. entered q deeper bs l o ++ walk_by p q deeper bs l h (range_with_len (k + 1) (suc (length p.clauses) - (k + 1)))) (none k (omega arith) (omega (arith, e)))
+    ∙ met_by_none p q deeper bs l h (k + 1) gap m (omega (arith, e)) b (λ j low high. none j (omega (arith, low)) high)
+
+-- nor are those of other predicates
+pub met_by_others : (p : Listing) (q : List Atom) (deeper : List Binding → ℕ → Goal → List Visit) (bs : List Binding) (l : ℕ) (a : Atom) (rest : List Atom) (n k m : ℕ) → IsNext p a.pred.0 k m → walk_by p q deeper bs l (record { atoms = a ∷ rest; fresh = n }) (range_with_len k (suc (length p.clauses) - k)) ≡ walk_by p q deeper bs l (record { atoms = a ∷ rest; fresh = n }) (range_with_len m (suc (length p.clauses) - m))
+met_by_others p q deeper bs l a rest n k m is =
+    met_by_none p q deeper bs l (record { atoms = a ∷ rest; fresh = n }) k (m - k) m (omega (arith, is.from)) is.to_end (λ j low high. other j low high (numbered p.clauses j) refl)
+  where
+    other : (j : ℕ) → k ≤ j → j < m → (o : Option Clause) → numbered p.clauses j ≡ o → option_and_then (resolve_by (a ∷ rest) n) o ≡ None
+    other j low high None e = refl
+    other j low high (Some c) e = another_pred a rest n c (is.others j c low high e)
 
 -- ---- the goal that is left
 
@@ -197,9 +216,9 @@ extends_self s m = (take (length s - m) s, sym (take-append-drop (length s - m) 
 pub left_gone : (p : Listing) (q : List Atom) (n : ℕ) (s : List Binding) (rests : List (List Atom)) (c : Choice) (below : List Choice) → length p.clauses < c.next → left p q n s rests (c ∷ below) ≡ left p q n s rests below
 left_gone p q n s rests c below h = ap (λ (ks : List ℕ). walk_by p q (walk p q (n - length below)) (made (kept s c.mark)) (length below) (goal_of s rests c) ks ++ left p q n s rests below) (no_clause_left p c h)
 
-module _ (p : Listing) (s now : List Binding) (rests : List (List Atom)) (c : Choice) (below : List Choice) (all : AreChoices p s rests (c ∷ below)) (inside : c.next ≤ length p.clauses) (e : Extends now (kept s c.mark)) where
+module _ (p : Listing) (s now : List Binding) (rests : List (List Atom)) (c : Choice) (below : List Choice) (all : AreChoices p s rests (c ∷ below)) (inside : c.next ≤ length p.clauses) (m : ℕ) (after : IsNext p c.atom.now.pred.0 (suc c.next) m) (e : Extends now (kept s c.mark)) where
   abbrev pub after_c : Choice
-  after_c = record c { next = c.next + 1 }
+  after_c = record c { next = m }
 
   stays : Within c.mark (after_c ∷ below)
   stays = ((let h : c.mark ≤ c.mark = omega arith in h), all.1)
@@ -208,8 +227,9 @@ module _ (p : Listing) (s now : List Binding) (rests : List (List Atom)) (c : Ch
   same_mark = record {
     mark = all.0.mark;
     rest = all.0.rest;
-    from_one = omega arith;
-    to_end = omega (arith, inside);
+    from_one = omega (arith, after.from);
+    to_end = after.to_end;
+    pred = after.found;
     free = all.0.free;
     below = all.0.below;
   }
@@ -220,11 +240,16 @@ module _ (p : Listing) (s now : List Binding) (rests : List (List Atom)) (c : Ch
   pub left_by_clause : (q : List Atom) (n : ℕ) (o : Option (List Binding × Goal)) → resolve p (goal_of s rests c) c.next ≡ o → left p q n s rests (c ∷ below) ≡ entered q (walk p q (n - length below)) (made (kept s c.mark)) (length below) o ++ left p q n now rests (after_c ∷ below)
   left_by_clause q n o r =
       ap (λ (ks : List ℕ). walk_by p q (walk p q (n - length below)) (made (kept s c.mark)) (length below) (goal_of s rests c) ks ++ left p q n s rests below) (clause_left p c inside)
+      ∙ ap (λ (vs : List Visit). (entered q (walk p q (n - length below)) (made (kept s c.mark)) (length below) (resolve p (goal_of s rests c) c.next) ++ vs) ++ left p q n s rests below)
+      (met_by_others p q (walk p q (n - length below)) (made (kept s c.mark)) (length below) (over (full (kept s c.mark)) (raised c.base c.atom.now)) (map (over (full (kept s c.mark))) (tail_at rests c.rest)) c.fresh (c.next + 1) m (subst (λ k. IsNext p c.atom.now.pred.0 k m) next_is after))
       ∙ append_assoc (entered q (walk p q (n - length below)) (made (kept s c.mark)) (length below) (resolve p (goal_of s rests c) c.next)) (walk_by p q (walk p q (n - length below)) (made (kept s c.mark)) (length below) (goal_of s rests c) (clauses_left p after_c)) (left p q n s rests below)
       ∙ (λ i. entered q (walk p q (n - length below)) (made (kept s c.mark)) (length below) (r i) ++ sym (left_stays p q n s now rests rests (after_c ∷ below) (stay_through s now rests c.mark (after_c ∷ below) stays all.0.mark e)) i)
+    where
+      next_is : suc c.next ≡ c.next + 1
+      next_is = omega arith
 
   pub fewer_attempts : attempts_at p (after_c ∷ below) < attempts_at p (c ∷ below)
-  fewer_attempts = omega (arith, inside)
+  fewer_attempts = omega (arith, inside, after.from)
 
   -- the clause leaves no goal
   pub no_node : (q : List Atom) (n : ℕ) → resolve p (goal_of s rests c) c.next ≡ None → left p q n s rests (c ∷ below) ≡ left p q n now rests (after_c ∷ below)
@@ -247,7 +272,7 @@ module _ (p : Listing) (s now : List Binding) (rests : List (List Atom)) (c : Ch
 start_goal : (s : List Binding) (atoms : List Atom) (a : Atom) (rest : List Atom) (n : ℕ) → atoms ≡ a ∷ rest → goal_with s atoms [] n ≡ goal_from s n a rest
 start_goal s atoms a rest n e = λ i. record { atoms = map (over (full s)) ((append-nil atoms ∙ e) i); fresh = n }
 
-module _ (p : Listing) (s : List Binding) (rests now : List (List Atom)) (cs : List Choice) (all : AreChoices p s rests cs) (g : GrowsTo rests now) (c : Choice) (atoms rest : List Atom) (e : atoms ++ rest ≡ raised c.base c.atom.now ∷ tail_at now c.rest) (within : c.rest ≤ length now) (first : c.next ≡ 1) (mark : c.mark ≡ length s) (free : FreeFrom c.fresh s) (below : AtomsBelow c.fresh (goal_with s atoms rest c.fresh).atoms) where
+module _ (p : Listing) (s : List Binding) (rests now : List (List Atom)) (cs : List Choice) (all : AreChoices p s rests cs) (g : GrowsTo rests now) (c : Choice) (atoms rest : List Atom) (e : atoms ++ rest ≡ raised c.base c.atom.now ∷ tail_at now c.rest) (within : c.rest ≤ length now) (first : IsNext p c.atom.now.pred.0 1 c.next) (mark : c.mark ≡ length s) (free : FreeFrom c.fresh s) (below : AtomsBelow c.fresh (goal_with s atoms rest c.fresh).atoms) where
   all_kept : kept s c.mark ≡ s
   all_kept = ap (kept s) mark ∙ kept_all s
 
@@ -259,8 +284,9 @@ module _ (p : Listing) (s : List Binding) (rests now : List (List Atom)) (cs : L
     record {
       mark = omega (arith, mark);
       rest = within;
-      from_one = omega (arith, first);
-      to_end = omega (arith, first);
+      from_one = first.from;
+      to_end = first.to_end;
+      pred = first.found;
       free = subst (FreeFrom c.fresh) (sym all_kept) free;
       below = subst (λ (h : Goal). AtomsBelow c.fresh h.atoms) (sym same_goal) below;
     },
@@ -268,22 +294,21 @@ module _ (p : Listing) (s : List Binding) (rests now : List (List Atom)) (cs : L
     choices_grown p s rests now cs g all,
   )
 
-  clauses_all : clauses_left p c ≡ range_with_len 1 (length p.clauses)
-  clauses_all = λ i. range_with_len (first i) ((ap (λ k. suc (length p.clauses) - k) first ∙ count) i)
+  clauses_all : (q : List Atom) (deeper : List Binding → ℕ → Goal → List Visit) (bs : List Binding) (l : ℕ) → walk_by p q deeper bs l (goal_of s now c) (range_with_len 1 (length p.clauses)) ≡ walk_by p q deeper bs l (goal_of s now c) (clauses_left p c)
+  clauses_all q deeper bs l =
+      ap (λ k. walk_by p q deeper bs l (goal_of s now c) (range_with_len 1 k)) (sym count)
+      ∙ met_by_others p q deeper bs l (over (full (kept s c.mark)) (raised c.base c.atom.now)) (map (over (full (kept s c.mark))) (tail_at now c.rest)) c.fresh 1 c.next first
     where
       count : suc (length p.clauses) - 1 ≡ length p.clauses
       count = omega arith
 
   pub left_entered : (q : List Atom) (n : ℕ) → walk p q (suc (n - length cs)) (made s) (length cs) (goal_with s atoms rest c.fresh) ++ left p q n s rests cs ≡ left p q n s now (c ∷ cs)
-  left_entered q n = λ i.
-      walk_by p q (walk p q (n - length cs)) (made (sym all_kept i)) (length cs) (sym same_goal i) (sym clauses_all i)
-      ++ sym (left_stays p q n s s rests now cs (stay_grown p s rests now cs g all)) i
+  left_entered q n =
+      (λ i. walk_by p q (walk p q (n - length cs)) (made (sym all_kept i)) (length cs) (sym same_goal i) (range_with_len 1 (length p.clauses)) ++ sym (left_stays p q n s s rests now cs (stay_grown p s rests now cs g all)) i)
+      ∙ ap (λ (vs : List Visit). vs ++ left p q n s now cs) (clauses_all q (walk p q (n - length cs)) (made (kept s c.mark)) (length cs))
 
   pub no_answer : (q : List Atom) (bs : List Binding) → answer_by q bs (goal_with s atoms rest c.fresh).atoms ≡ None
   no_answer q bs = ap (λ (h : Goal). answer_by q bs h.atoms) (sym same_goal)
-
-  pub attempts_entered : attempts_at p (c ∷ cs) ≡ suc (length p.clauses) + attempts_at p cs
-  attempts_entered = omega (arith, first)
 
 -- ---- the counter of a goal that is left
 

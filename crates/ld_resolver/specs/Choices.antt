@@ -3,7 +3,8 @@ use Rattle.std.specs.Prelude.{◌≡◌, ℕ, suc, ◌-◌, ◌≤◌, List, [],
 use Rattle.std.specs.List.{AllByRecursion, range_with_len}
 use Rattle.cti_terms.specs.declared.atom_list.Atom.{Atom}
 use Rattle.cti_terms.specs.declared.derivation.Goal.{Goal}
-use Rattle.cti_terms.specs.Listing.{Listing}
+use Rattle.cti_terms.specs.declared.clauses.Clause.{Clause}
+use Rattle.cti_terms.specs.Listing.{Listing, numbered}
 use Rattle.cti_terms.specs.Unify.{Binding}
 use Rattle.cti_terms.specs.Resolve.{over, raised}
 use Rattle.ld_resolver.specs.declared.choices.Choice.{Choice}
@@ -42,6 +43,7 @@ pub record IsChoice (p : Listing) (s : List Binding) (rests : List (List Atom)) 
   pub rest : c.rest ≤ length rests
   pub from_one : 1 ≤ c.next
   pub to_end : c.next ≤ suc (length p.clauses)
+  pub pred : (k : Clause) → numbered p.clauses c.next ≡ Some k → c.atom.now.pred.0 ≡ k.head.pred.0
   pub free : FreeFrom c.fresh (kept s c.mark)
   pub below : AtomsBelow c.fresh (goal_of s rests c).atoms
 

@@ -5,6 +5,7 @@ pub mod Store
 pub mod Walk
 pub mod Below
 pub mod Tails
+pub mod Chain
 pub mod Choices
 pub mod Searches
 pub mod Measured

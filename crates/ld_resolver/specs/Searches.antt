@@ -4,7 +4,7 @@ use Rattle.std.specs.List.{AllByRecursion}
 use Rattle.cti_terms.specs.declared.atom_list.Atom.{Atom}
 use Rattle.cti_terms.specs.declared.clauses.Clause.{Clause as ProgramClause}
 use Rattle.cti_terms.specs.declared.derivation.Goal.{Goal}
-use Rattle.cti_terms.specs.Listing.{Listing, IsClause}
+use Rattle.cti_terms.specs.Listing.{Listing, IsClause, numbered}
 use Rattle.cti_terms.specs.Unify.{Binding}
 use Rattle.cti_terms.specs.Resolve.{over, raised}
 use Rattle.cti_terms.specs.Answers.{answer_by}
@@ -18,6 +18,7 @@ use Rattle.ld_resolver.specs.Store.{made, full}
 use Rattle.ld_resolver.specs.Tails.{tail_at}
 use Rattle.ld_resolver.specs.Below.{AtomsBelow, FreeFrom}
 use Rattle.ld_resolver.specs.Walk.{Visit, walk}
+use Rattle.ld_resolver.specs.Chain.{IsNext}
 use Rattle.ld_resolver.specs.Choices.{left, AreChoices}
 
 -- how many attempts are left at choices, with one to see that there are no more
@@ -25,16 +26,27 @@ abbrev pub attempts_at : Listing → List Choice → ℕ
 attempts_at p [] = 0
 attempts_at p (c ∷ below) = (suc (suc (length p.clauses)) - c.next) + attempts_at p below
 
--- each choice has a clause that counts from 1 and is at most one past the last
+-- each choice has a clause of its predicate that counts from 1, or one past the last
 abbrev pub AreNumbered : Listing → List Choice → Type 0
-AreNumbered p = AllByRecursion (λ (c : Choice). (1 ≤ c.next) × (c.next ≤ suc (length p.clauses)))
+AreNumbered p = AllByRecursion (λ (c : Choice). (1 ≤ c.next) × (c.next ≤ suc (length p.clauses)) × ((k : ProgramClause) → numbered p.clauses c.next ≡ Some k → c.atom.now.pred.0 ≡ k.head.pred.0))
+
+-- a clause is taken at the last choice, which goes on with the next clause of its predicate
+pub record IsTakenAt (p : Listing) (old : List Choice) (c : Choice) (k : ProgramClause) (new : List Choice) : Type 0 where
+  pub below : List Choice
+  pub m : ℕ
+  pub was : old ≡ c ∷ below
+  pub is : new ≡ record c { next = m } ∷ below
+  pub within : c.next ≤ length p.clauses
+  pub there : slice_get p.clauses (c.next - 1) ≡ Some k
+  pub clause : IsClause p.preds k
+  pub pred : c.atom.now.pred.0 ≡ k.head.pred.0
+  pub next : IsNext p c.atom.now.pred.0 (suc c.next) m
 
 -- how a clause is taken at choices, the last one first
 abbrev pub IsTaken : Listing → List Choice → Taken → List Choice → Type 0
 IsTaken p old Nothing new = (old ≡ []) × (new ≡ [])
 IsTaken p old Exhausted new = (c : Choice) × (old ≡ c ∷ new) × (length p.clauses < c.next)
-IsTaken p old (Clause c k) new = (below : List Choice) × (old ≡ c ∷ below) × (new ≡ record c { next = c.next + 1 } ∷ below)
-    × (c.next ≤ length p.clauses) × (slice_get p.clauses (c.next - 1) ≡ Some k.now) × IsClause p.preds k.now
+IsTaken p old (Clause c k) new = IsTakenAt p old c k.now new
 
 -- the choices of a search, the last one first
 abbrev pub choices_of : Search → List Choice

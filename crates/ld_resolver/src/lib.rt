@@ -13,6 +13,7 @@ mod answer_list;
 mod attempts;
 mod bindings;
 mod choices;
+mod clause_chain;
 mod laws;
 mod occurs_check;
 mod raised_term;

@@ -3,12 +3,14 @@
 ghost use Rattle.std.specs.Prelude.{◌≡◌, ◌↔◌, ℕ, ◌+◌, [], IfOk, map, length};
 ghost use Rattle.cti_terms.specs.Nodes.{first_nodes, HasMoreNodes, longest};
 ghost use Rattle.cti_terms.specs.Answers.{answers};
+ghost use Rattle.ld_resolver.specs.Chain.{IsChain};
 ghost use Rattle.ld_resolver.specs.Told.{told};
 ghost use Rattle.ld_resolver.specs.Runs.{IsGoalOf};
 ghost use Rattle.ld_resolver.specs.Progress.{IsUnderWay};
 
 use crate::answer::make_answer;
 use crate::answer_list::Answers;
+use crate::clause_chain::ClauseChain;
 use crate::search::{Attempt, Search};
 use cti_terms::{Goal, Program};
 use std::alloc::{AllocError, Global};
@@ -49,7 +51,13 @@ fn counter_after(fresh: u32, vars: u32) -> Result<u32, AllocError>
 }
 
 /// Enters the goal, and gives the answers of the empty derivation.
-fn begin<'p>(alloc: Global, search: &mut Search<'p>, goal: &'p Goal) -> Result<Answers, AllocError>
+fn begin<'p>(
+    alloc: Global,
+    search: &mut Search<'p>,
+    chain: &ClauseChain,
+    goal: &'p Goal,
+) -> Result<Answers, AllocError>
+    requires chain { IsChain search.old.program.now chain.now }
     requires bindings { search.old.bindings ≡ [] }
     requires tails { search.old.tails ≡ [] }
     requires choices { search.old.choices.items ≡ [] }
@@ -57,7 +65,7 @@ fn begin<'p>(alloc: Global, search: &mut Search<'p>, goal: &'p Goal) -> Result<A
     ensures { IfOk result (λ answers. (n : ℕ) → IsUnderWay search.old.program.now goal.now n search.new 0 0 answers) }
 {
     let mut answers = Answers::new(alloc);
-    if search.enter(goal.atoms.as_slice(), 0, 0, goal.fresh)? {
+    if search.enter(chain, goal.atoms.as_slice(), 0, 0, goal.fresh)? {
         return Ok(answers);
     }
     answers.push(search.answer(alloc, goal.atoms.as_slice())?)?;
@@ -81,12 +89,13 @@ pub fn run(alloc: Global, program: &Program, goal: &Goal, budget: u64) -> Result
     ensures stopped { IfOk result (λ ran. (ran.ending ≡ Ending.Stopped) ↔ HasMoreNodes program.now goal.now budget) }
     ensures finished { IfOk result (λ ran. (ran.ending ≡ Ending.Finished) ↔ ¬ HasMoreNodes program.now goal.now budget) }
 {
+    let chain = ClauseChain::new(alloc, program)?;
     let mut search = Search::new(alloc, program);
-    let mut answers = begin(alloc, &mut search, goal)?;
+    let mut answers = begin(alloc, &mut search, &chain, goal)?;
     let mut steps = 0;
     let mut longest = 0;
     loop {
-        match search.attempt()? {
+        match search.attempt(&chain)? {
             Attempt::Ended => {
                 return Ok(Ran {
                     answers,
@@ -108,7 +117,8 @@ pub fn run(alloc: Global, program: &Program, goal: &Goal, budget: u64) -> Result
                 steps += 1;
                 longest = longest.max(search.choices.len() as u64);
                 let fresh = counter_after(choice.fresh, clause.vars)?;
-                if search.enter(clause.body.as_slice(), choice.fresh, choice.rest, fresh)? {
+                let body = clause.body.as_slice();
+                if search.enter(&chain, body, choice.fresh, choice.rest, fresh)? {
                     continue;
                 }
                 answers.push(search.answer(alloc, goal.atoms.as_slice())?)?;

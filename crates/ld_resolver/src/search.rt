@@ -3,6 +3,7 @@
 ghost use Rattle.std.specs.Prelude.{◌≡◌, ◌≤◌, ◌<◌, ◌+◌, ◌++◌, [], ◌∷◌, IfOk, OnOk, length, map, reverse};
 ghost use Rattle.cti_terms.specs.Resolve.{raised};
 ghost use Rattle.ld_resolver.specs.Below.{AtomsBelow, FreeFrom};
+ghost use Rattle.ld_resolver.specs.Chain.{IsChain};
 ghost use Rattle.ld_resolver.specs.Tails.{tail_at};
 ghost use Rattle.ld_resolver.specs.Told.{told};
 ghost use Rattle.ld_resolver.specs.Measured.{answered_atoms};
@@ -12,6 +13,7 @@ use crate::answer::{Answer, make_answer};
 use crate::attempts::{Stacks, unify_head};
 use crate::bindings::Bindings;
 use crate::choices::{Choice, goal_start};
+use crate::clause_chain::ClauseChain;
 use crate::tails::Tails;
 use cti_terms::{Atom, Clause, Program};
 use std::alloc::{AllocError, Global};
@@ -45,9 +47,11 @@ pub struct Search<'p> {
 /// Takes the next clause at the last choice.
 fn take_clause<'p>(
     program: &'p Program,
+    chain: &ClauseChain,
     choices: &mut Vec<Choice<'p>>,
 ) -> Result<Taken<'p>, AllocError>
-    requires { AreNumbered program.now (reverse choices.old.items) }
+    requires chain { IsChain program.now chain.now }
+    requires numbered { AreNumbered program.now (reverse choices.old.items) }
     ensures { IfOk result (λ t. IsTaken program.now (reverse choices.old.items) t (reverse choices.new.items)) }
 {
     let choice = match choices.pop() {
@@ -62,7 +66,7 @@ fn take_clause<'p>(
         base: choice.base,
         rest: choice.rest,
         fresh: choice.fresh,
-        next: choice.next + 1,
+        next: chain.after(choice.next),
         mark: choice.mark,
     })?;
     Ok(Taken::Clause(choice, program.clause(choice.next)))
@@ -86,21 +90,19 @@ impl<'p> Search<'p> {
     }
 
     /// Tries the next clause at the last choice.
-    pub fn attempt(&mut self) -> Result<Attempt<'p>, AllocError>
-        requires { IsSearch self.old }
+    pub fn attempt(&mut self, chain: &ClauseChain) -> Result<Attempt<'p>, AllocError>
+        requires search { IsSearch self.old }
+        requires chain { IsChain self.old.program.now chain.now }
         ensures search { OnOk result (IsSearch self.new) }
         ensures program { self.new.program.now ≡ self.old.program.now }
         ensures tails { self.new.tails ≡ self.old.tails }
         ensures attempt { IfOk result (λ a. IsAttempt self.old a self.new) }
         ensures count { OnOk result (length (choices_of self.new) ≤ length (choices_of self.old)) }
     {
-        match take_clause(self.program, &mut self.choices)? {
+        match take_clause(self.program, chain, &mut self.choices)? {
             Taken::Nothing => Ok(Attempt::Ended),
             Taken::Exhausted => Ok(Attempt::Failed),
             Taken::Clause(choice, clause) => {
-                if clause.head.pred.0 != choice.atom.pred.0 {
-                    return Ok(Attempt::Failed);
-                }
                 if unify_head(&mut self.bindings, &mut self.stacks, choice, clause)? {
                     Ok(Attempt::Resolved(choice, clause))
                 } else {
@@ -113,12 +115,14 @@ impl<'p> Search<'p> {
     /// Adds the choice of a goal: atoms that are raised, and then a rest. It answers whether the goal has atoms.
     pub fn enter(
         &mut self,
+        chain: &ClauseChain,
         atoms: &'p [Atom],
         base: u32,
         rest: usize,
         fresh: u32,
     ) -> Result<bool, AllocError>
         requires search { IsSearch self.old }
+        requires chain { IsChain self.old.program.now chain.now }
         requires rest { rest ≤ length self.old.tails }
         requires free { FreeFrom fresh self.old.bindings }
         requires below { AtomsBelow fresh (goal_with self.old.bindings (map (raised base) atoms.now) (tail_at self.old.tails rest) fresh).atoms }
@@ -136,7 +140,7 @@ impl<'p> Search<'p> {
                     base: start.base,
                     rest: start.rest,
                     fresh,
-                    next: 1,
+                    next: chain.first(start.atom.pred),
                     mark: self.bindings.len(),
                 })?;
                 Ok(true)

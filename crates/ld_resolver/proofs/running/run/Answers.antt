@@ -88,13 +88,24 @@ loop-answers-preserved-then-branch c =
     let k = c.in-Resolved.clause.now in
     let node = subst (λ (a : Attempt). IsAttempt l.search a mid) c.in-Resolved.is c.in_ok-attempt.ensures.attempt in
     let less : l.steps < n = omega (arith, l.invariant.within, c.if-steps-budget.false) in
-    let h : goal_with mid.bindings (map (raised choice.fresh) c.as_slice.result.now) (tail_at mid.tails choice.rest) c.in_ok-fresh-in-Resolved.fresh ≡ node_goal mid choice k =
-    λ i. goal_with mid.bindings (map (raised choice.fresh) (c.as_slice.ensures i)) (tail_at mid.tails choice.rest) (c.in_ok-fresh-in-Resolved.ensures i) in
-    let entered = subst (λ (h : Goal). IsEntered mid h true new) h (subst (λ (b : Bool). IsEntered mid (goal_with mid.bindings (map (raised choice.fresh) c.as_slice.result.now) (tail_at mid.tails choice.rest) c.in_ok-fresh-in-Resolved.fresh) b new) c.if-branch.true c.in_ok-enter-in-Resolved.ensures.entered) in
+    let h : goal_with mid.bindings (map (raised choice.fresh) c.as_slice-body.result.now) (tail_at mid.tails choice.rest) c.in_ok-fresh-in-Resolved.fresh ≡ node_goal mid choice k =
+    λ i. goal_with mid.bindings (map (raised choice.fresh) (c.as_slice-body.ensures i)) (tail_at mid.tails choice.rest) (c.in_ok-fresh-in-Resolved.ensures i) in
+    let entered = subst (λ (h : Goal). IsEntered mid h true new) h (subst (λ (b : Bool). IsEntered mid (goal_with mid.bindings (map (raised choice.fresh) c.as_slice-body.result.now) (tail_at mid.tails choice.rest) c.in_ok-fresh-in-Resolved.fresh) b new) c.if-branch.true c.in_ok-enter-in-Resolved.ensures.entered) in
     let count : c.len.result ≡ length (choices_of mid) = c.len.ensures ∙ mid.choices.ok.0 ∙ sym (length-reverse mid.choices.items) in
     let most : max l.longest (length (choices_of mid)) ≡ c.max-longest.result = omega (arith, c.max-longest.ensures, count) in
     let under = with_atoms p g n l.search mid new choice k l.steps l.longest l.answers l.invariant node less c.attempt.ensures.program c.in_ok-attempt.ensures.count c.in_ok-enter-in-Resolved.ensures.search c.enter.ensures.program c.in_ok-enter-in-Resolved.ensures.count entered in
     subst (λ m. IsUnderWay p g n new (l.steps + 1) m l.answers) most under
+
+pub loop-answers-smaller-then-branch : goal.loop-answers-smaller-then-branch
+loop-answers-smaller-then-branch c =
+    let l = c.loop-answers in
+    let mid = c.attempt.new.self in
+    let new = c.enter.new.self in
+    let choice = c.in-Resolved.choice in
+    let k = c.in-Resolved.clause.now in
+    let node = subst (λ (a : Attempt). IsAttempt l.search a mid) c.in-Resolved.is c.in_ok-attempt.ensures.attempt in
+    let less : l.steps < c.args.budget = omega (arith, l.invariant.within, c.if-steps-budget.false) in
+    less_to_do c.args.program.now c.args.goal.now c.args.budget l.search mid new choice k l.steps l.longest l.answers l.invariant node less c.attempt.ensures.program c.in_ok-attempt.ensures.count new c.in_ok-enter-in-Resolved.ensures.attempts refl
 
 pub loop-answers-smaller : goal.loop-answers-smaller
 loop-answers-smaller c =
@@ -121,13 +132,13 @@ loop-answers-preserved c =
     let k = c.in-Resolved.clause.now in
     let node = subst (λ (a : Attempt). IsAttempt l.search a mid) c.in-Resolved.is c.in_ok-attempt.ensures.attempt in
     let less : l.steps < n = omega (arith, l.invariant.within, c.if-steps-budget.false) in
-    let h : goal_with mid.bindings (map (raised choice.fresh) c.as_slice.result.now) (tail_at mid.tails choice.rest) c.in_ok-fresh-in-Resolved.fresh ≡ node_goal mid choice k =
-    λ i. goal_with mid.bindings (map (raised choice.fresh) (c.as_slice.ensures i)) (tail_at mid.tails choice.rest) (c.in_ok-fresh-in-Resolved.ensures i) in
-    let entered = subst (λ (h : Goal). IsEntered mid h false new) h (subst (λ (b : Bool). IsEntered mid (goal_with mid.bindings (map (raised choice.fresh) c.as_slice.result.now) (tail_at mid.tails choice.rest) c.in_ok-fresh-in-Resolved.fresh) b new) c.if-branch.false c.in_ok-enter-in-Resolved.ensures.entered) in
+    let h : goal_with mid.bindings (map (raised choice.fresh) c.as_slice-body.result.now) (tail_at mid.tails choice.rest) c.in_ok-fresh-in-Resolved.fresh ≡ node_goal mid choice k =
+    λ i. goal_with mid.bindings (map (raised choice.fresh) (c.as_slice-body.ensures i)) (tail_at mid.tails choice.rest) (c.in_ok-fresh-in-Resolved.ensures i) in
+    let entered = subst (λ (h : Goal). IsEntered mid h false new) h (subst (λ (b : Bool). IsEntered mid (goal_with mid.bindings (map (raised choice.fresh) c.as_slice-body.result.now) (tail_at mid.tails choice.rest) c.in_ok-fresh-in-Resolved.fresh) b new) c.if-branch.false c.in_ok-enter-in-Resolved.ensures.entered) in
     let count : c.len.result ≡ length (choices_of mid) = c.len.ensures ∙ mid.choices.ok.0 ∙ sym (length-reverse mid.choices.items) in
     let most : max l.longest (length (choices_of mid)) ≡ c.max-longest.result = omega (arith, c.max-longest.ensures, count) in
     let same : SameSearch new last = record { program = c.answer.ensures.program; bindings = c.answer.ensures.bindings; tails = c.answer.ensures.tails; choices = c.answer.ensures.choices } in
     let a = c.in_ok-answer-in-Resolved.field-0 in
-    let is_told = c.in_ok-answer-in-Resolved.ensures.answer ∙ ap (λ (q : List Atom). told (answered_atoms new.bindings q)) c.as_slice-in-Resolved.ensures in
+    let is_told = c.in_ok-answer-in-Resolved.ensures.answer ∙ ap (λ (q : List Atom). told (answered_atoms new.bindings q)) c.as_slice.ensures in
     let under = without_atoms p g n l.search mid new choice k l.steps l.longest l.answers l.invariant node less c.attempt.ensures.program c.in_ok-attempt.ensures.count last a c.in_ok-enter-in-Resolved.ensures.search c.enter.ensures.program c.enter.ensures.bindings c.in_ok-enter-in-Resolved.ensures.count entered same is_told in
     subst (λ (w : ℕ × List Answer). IsUnderWay p g n last (l.steps + 1) w.0 w.1) (λ i. (most i, sym c.in_ok-push-in-Resolved.ensures i)) under

@@ -1,30 +1,16 @@
-use Rattle.std.proofs.Common.{reverse, sym, subst}
+use Rattle.std.proofs.Common.{reverse, subst}
 use Rattle.cti_terms.specs.Resolve.{over, raised, head_equations}
 use Rattle.ld_resolver.specs.declared.search.Taken.{Taken}
 use Rattle.ld_resolver.specs.Store.{made, full}
 use Rattle.ld_resolver.specs.Pending.{IsUnified}
 use Rattle.ld_resolver.specs.Choices.{kept}
 use Rattle.ld_resolver.specs.Searches.{IsTaken}
-use Rattle.ld_resolver.proofs.SearchLaws.{are_numbered, extends_self}
-use Rattle.ld_resolver.proofs.AttemptLaws.{taken_choices, taken_fewer, taken_failed, fails_by_pred, fails_by_unifier, taken_met, taken_some, taken_rest, taken_free, taken_below}
+use Rattle.ld_resolver.proofs.SearchLaws.{are_numbered}
+use Rattle.ld_resolver.proofs.AttemptLaws.{taken_choices, taken_fewer, taken_failed, fails_by_unifier, taken_met, taken_some, taken_rest, taken_free, taken_below}
 use Rattle.ld_resolver.proofs.search.Search.attempt.Goals as goal
 
-pub take_clause-requires : goal.take_clause-requires
-take_clause-requires c = let x = c.args.self.now in are_numbered x.program.now x.bindings x.tails (reverse x.choices.items) c.requires
-
-pub returns-then-clause-choice-clause-attempt : goal.returns-then-clause-choice-clause-attempt
-returns-then-clause-choice-clause-attempt c =
-    let x = c.args.self.now in
-    let p = x.program.now in
-    let old = reverse x.choices.items in
-    let new = reverse c.take_clause.new.choices.items in
-    let choice = c.in-Clause.choice in
-    let k = c.in-Clause.clause.now in
-    let t = subst (λ (t : Taken). IsTaken p old t new) c.in-Clause.is c.in_ok-take_clause.ensures in
-    let e = extends_self x.bindings choice.mark in (
-      taken_failed p x.bindings x.bindings x.tails old new choice k c.requires t e (fails_by_pred p x.bindings x.bindings x.tails old new choice k c.requires t e (λ h. c.if-clause-choice.true (sym h))),
-      taken_fewer p x.bindings x.bindings x.tails old new choice k c.requires t e,
-    )
+pub take_clause-requires-clause-numbered : goal.take_clause-requires-clause-numbered
+take_clause-requires-clause-numbered c = let x = c.args.self.now in are_numbered x.program.now x.bindings x.tails (reverse x.choices.items) c.requires.search
 
 pub returns-then-branch-clause-search : goal.returns-then-branch-clause-search
 returns-then-branch-clause-search c =
@@ -32,7 +18,7 @@ returns-then-branch-clause-search c =
     let old = reverse x.choices.items in
     let new = reverse c.take_clause.new.choices.items in
     let t = subst (λ (t : Taken). IsTaken x.program.now old t new) c.in-Clause.is c.in_ok-take_clause.ensures in
-    taken_choices x.program.now x.bindings c.unify_head.new.bindings x.tails old new c.in-Clause.choice c.in-Clause.clause.now c.requires t c.in_ok-unify_head-in-Clause.ensures.extended
+    taken_choices x.program.now x.bindings c.unify_head.new.bindings x.tails old new c.in-Clause.choice c.in-Clause.clause.now c.requires.search t c.in_ok-unify_head-in-Clause.ensures.extended
 
 pub returns-then-branch-clause-attempt : goal.returns-then-branch-clause-attempt
 returns-then-branch-clause-attempt c =
@@ -45,15 +31,15 @@ returns-then-branch-clause-attempt c =
     let t = subst (λ (t : Taken). IsTaken p old t new) c.in-Clause.is c.in_ok-take_clause.ensures in
     let now = c.unify_head.new.bindings in
     let e = c.in_ok-unify_head-in-Clause.ensures.extended in
-    let h = sym c.if-clause-choice.false in
+    let h = t.pred in
     let u = subst (IsUnified (made (kept x.bindings choice.mark)) (head_equations (over (full (kept x.bindings choice.mark)) (raised choice.base choice.atom.now)) choice.fresh k) (made now)) c.if-branch.true c.in_ok-unify_head-in-Clause.ensures.unifier in
     record {
-      met = taken_met p x.bindings now x.tails old new choice k c.requires t e h u;
-      fewer = taken_fewer p x.bindings now x.tails old new choice k c.requires t e;
-      some = taken_some p x.bindings now x.tails old new choice k c.requires t e h u;
-      rest = taken_rest p x.bindings now x.tails old new choice k c.requires t e h u;
-      free = taken_free p x.bindings now x.tails old new choice k c.requires t e h u c.in_ok-unify_head-in-Clause.ensures.free;
-      below = taken_below p x.bindings now x.tails old new choice k c.requires t e h u;
+      met = taken_met p x.bindings now x.tails old new choice k c.requires.search t e h u;
+      fewer = taken_fewer p x.bindings now x.tails old new choice k c.requires.search t e;
+      some = taken_some p x.bindings now x.tails old new choice k c.requires.search t e h u;
+      rest = taken_rest p x.bindings now x.tails old new choice k c.requires.search t e h u;
+      free = taken_free p x.bindings now x.tails old new choice k c.requires.search t e h u c.in_ok-unify_head-in-Clause.ensures.free;
+      below = taken_below p x.bindings now x.tails old new choice k c.requires.search t e h u;
     }
 
 pub returns-else-branch-clause-search : goal.returns-else-branch-clause-search
@@ -62,7 +48,7 @@ returns-else-branch-clause-search c =
     let old = reverse x.choices.items in
     let new = reverse c.take_clause.new.choices.items in
     let t = subst (λ (t : Taken). IsTaken x.program.now old t new) c.in-Clause.is c.in_ok-take_clause.ensures in
-    taken_choices x.program.now x.bindings c.unify_head.new.bindings x.tails old new c.in-Clause.choice c.in-Clause.clause.now c.requires t c.in_ok-unify_head-in-Clause.ensures.extended
+    taken_choices x.program.now x.bindings c.unify_head.new.bindings x.tails old new c.in-Clause.choice c.in-Clause.clause.now c.requires.search t c.in_ok-unify_head-in-Clause.ensures.extended
 
 pub returns-else-branch-clause-attempt : goal.returns-else-branch-clause-attempt
 returns-else-branch-clause-attempt c =
@@ -75,8 +61,8 @@ returns-else-branch-clause-attempt c =
     let t = subst (λ (t : Taken). IsTaken p old t new) c.in-Clause.is c.in_ok-take_clause.ensures in
     let now = c.unify_head.new.bindings in
     let e = c.in_ok-unify_head-in-Clause.ensures.extended in
-    let h = sym c.if-clause-choice.false in
+    let h = t.pred in
     let u = subst (IsUnified (made (kept x.bindings choice.mark)) (head_equations (over (full (kept x.bindings choice.mark)) (raised choice.base choice.atom.now)) choice.fresh k) (made now)) c.if-branch.false c.in_ok-unify_head-in-Clause.ensures.unifier in (
-      taken_failed p x.bindings now x.tails old new choice k c.requires t e (fails_by_unifier p x.bindings now x.tails old new choice k c.requires t e h u),
-      taken_fewer p x.bindings now x.tails old new choice k c.requires t e,
+      taken_failed p x.bindings now x.tails old new choice k c.requires.search t e (fails_by_unifier p x.bindings now x.tails old new choice k c.requires.search t e h u),
+      taken_fewer p x.bindings now x.tails old new choice k c.requires.search t e,
     )

@@ -1,0 +1,56 @@
+//! The clauses of each predicate, one after the other.
+
+ghost use Rattle.std.specs.Prelude.{ℕ, ◌+◌, ◌≤◌, IfOk, length};
+ghost use Rattle.cti_terms.specs.Listing.{Listing};
+ghost use Rattle.ld_resolver.specs.Chain.{IsChain, IsNext, IsAfter};
+
+use cti_terms::{PredId, Program};
+use std::alloc::{AllocError, Global};
+
+/// For each predicate of a program the number of its first clause, and for each clause the number of the next one of
+/// its predicate. One past the last clause stands for none.
+#[derive(Drop)]
+pub struct ClauseChain {
+    first: Vec<u32>,
+    next: Vec<u32>,
+    none: u32,
+}
+
+impl ClauseChain {
+    /// The chain of a program, in time linear in its predicates and clauses.
+    pub fn new(alloc: Global, program: &Program) -> Result<ClauseChain, AllocError>
+        ensures { IfOk result (IsChain program.now) }
+    {
+        let none = program.clauses() + 1;
+        let mut first = vec![in alloc; none; program.preds() as usize]?;
+        let mut next = vec![in alloc; none; program.clauses() as usize]?;
+        let mut number = program.clauses();
+        while number > 0 {
+            let pred = program.clause(number).head.pred.0 as usize;
+            let place = number as usize - 1;
+            next[place] = first[pred];
+            first[pred] = number;
+            number -= 1;
+        }
+        Ok(ClauseChain { first, next, none })
+    }
+
+    /// The number of a predicate's first clause.
+    pub fn first(&self, pred: PredId) -> u32
+        ensures { (p : Listing) → IsChain p self.now → IsNext p pred.0 1 result }
+    {
+        match self.first.get(pred.0 as usize) {
+            Some(number) => *number,
+            None => self.none,
+        }
+    }
+
+    /// The number of the next clause of the same predicate.
+    pub fn after(&self, number: u32) -> u32
+        requires first { 1 ≤ number }
+        requires last { number ≤ length self.now.next.items }
+        ensures { (p : Listing) → IsChain p self.now → IsAfter p number result }
+    {
+        self.next[number as usize - 1]
+    }
+}
