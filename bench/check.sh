@@ -60,19 +60,5 @@ for name, make, count in [("appends", appends, 8192), ("facts", facts, 16384)]:
 PYTHON
 
 for name in appends_half appends facts_half facts; do
-    python3 - "$program" "$folder/$name" <<'PYTHON'
-import resource
-import subprocess
-import sys
-import time
-from pathlib import Path
-
-begin = time.monotonic()
-run = subprocess.run([sys.argv[1], "check", f"{sys.argv[2]}.pl", f"{sys.argv[2]}.cert"], stdout=subprocess.PIPE)
-seconds = time.monotonic() - begin
-memory = resource.getrusage(resource.RUSAGE_CHILDREN).ru_maxrss // 1024
-file = Path(f"{sys.argv[2]}.cert")
-answer = run.stdout.decode().strip()
-print(f"{file.stem}: {file.stat().st_size} bytes, {answer} {seconds:.2f} s, {memory} MB")
-PYTHON
+    python3 bench/timed.py "$folder/$name.cert" "$program" check "$folder/$name.pl" "$folder/$name.cert"
 done

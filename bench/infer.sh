@@ -23,18 +23,5 @@ for name, text in [("long", long_fact * 16384), ("different", different)]:
 PYTHON
 
 for name in long_half long different_half different; do
-    python3 - "$program" "$folder/$name.pl" <<'PYTHON'
-import resource
-import subprocess
-import sys
-import time
-from pathlib import Path
-
-begin = time.monotonic()
-run = subprocess.run([sys.argv[1], "infer", sys.argv[2]], stdout=subprocess.DEVNULL)
-seconds = time.monotonic() - begin
-memory = resource.getrusage(resource.RUSAGE_CHILDREN).ru_maxrss // 1024
-file = Path(sys.argv[2])
-print(f"{file.stem}: {file.stat().st_size} bytes, status {run.returncode}, {seconds:.2f} s, {memory} MB")
-PYTHON
+    python3 bench/timed.py "$folder/$name.pl" "$program" infer "$folder/$name.pl"
 done
