@@ -1,5 +1,7 @@
 #!/usr/bin/env bash
-# Times `cti infer` on 1 MB of facts, outside the gate: long facts, facts of different names, and half as much of each.
+# Times `cti infer`, outside the gate: 1 MB of facts (long ones, and of different names) and half as much, quicksort, generated programs
+# of 150 and 300 predicates, a chain and a ring of 3,000 predicates in a shuffled order, and a clause of 48 variables; and `cti check` on
+# the certificates of the generated ones.
 # Usage: bench/infer.sh [PROGRAM]     (PROGRAM is bin/cti where none is named)
 set -eu
 cd "$(dirname "$0")/.."
@@ -8,20 +10,72 @@ folder=$(mktemp -d)
 trap 'rm -rf "$folder"' EXIT
 
 python3 - "$folder" <<'PYTHON'
+import random
 import sys
 from pathlib import Path
 
 folder = Path(sys.argv[1])
+
+
+def write(name, text):
+    (folder / f"{name}.pl").write_text(text)
+
+
+def whole_lines(text, length):
+    """The lines of a text that end within a length."""
+    text = text[:length]
+    return text[: text.rindex("\n") + 1]
+
+
+def generated(count):
+    """Appends, reversals and compositions by turns, each over the predicate before it."""
+    clauses = []
+    for k in range(1, count + 1):
+        own, below = f"p{k}", f"p{k - 1}"
+        if k % 3 == 1:
+            clauses += [f"{own}([],L,L).", f"{own}([H|T],L,[H|R]) :- {own}(T,L,R)."]
+        elif k % 3 == 2:
+            clauses += [f"{own}([],[]).", f"{own}([H|T],R) :- {own}(T,S), {below}(S,[H],R)."]
+        else:
+            clauses += [f"{own}(X,Y) :- {below}(X,Z), {below}(Z,Y)."]
+    return "\n".join(clauses) + "\n"
+
+
+def shuffled(clauses):
+    random.Random(1).shuffle(clauses)
+    return "\n".join(clauses) + "\n"
+
+
 long_fact = "p(" + ",".join(["abcd"] * 11) + ").\n"
 different = "".join(f"p{n:05}(" + ",".join(f"a{n:05}x{k}" for k in range(6)) + ").\n" for n in range(16384))
 for name, text in [("long", long_fact * 16384), ("different", different)]:
-    text = text[: 1048576]
-    text = text[: text.rindex("\n") + 1]
-    half = text[: len(text) // 2]
-    (folder / f"{name}.pl").write_text(text)
-    (folder / f"{name}_half.pl").write_text(half[: half.rindex("\n") + 1])
+    text = whole_lines(text, 1048576)
+    write(name, text)
+    write(f"{name}_half", whole_lines(text, len(text) // 2))
+write(
+    "quicksort",
+    "app([],L,L).\napp([H|T],L,[H|R]) :- app(T,L,R).\nqs([],[]).\n"
+    "qs([H|T],S) :- part(H,T,L,G), qs(L,A), qs(G,B), app(A,[H|B],S).\npart(_,[],[],[]).\n"
+    "part(Y,[X|Xs],[X|L],G) :- leq(X,Y), part(Y,Xs,L,G).\npart(Y,[X|Xs],L,[X|G]) :- leq(Y,X), part(Y,Xs,L,G).\n"
+    "leq(0,_).\nleq(s(X),s(Y)) :- leq(X,Y).\n",
+)
+for count in (150, 300):
+    write(f"generated_{count}", generated(count))
+write("chain", shuffled([f"p{n}(X,Y,Z) :- p{n + 1}(X,Y,Z)." for n in range(2999)] + ["p2999(a,b,c)."]))
+write("ring", shuffled([f"p{n}(X) :- p{n + 1}(X)." for n in range(2999)] + ["p2999(s(X)) :- p0(X)."]))
+groups = [",".join(f"X{12 * g + k}" for k in range(1, 13)) for g in range(4)]
+write(
+    "wide",
+    "r(A,B,C,D,E,F,G,H,I,J,K,L).\nq(X,X).\np :- "
+    + ", ".join([f"r({group})" for group in groups] + [f"q(X{k},X{k + 24})" for k in range(1, 25)])
+    + ".\n",
+)
 PYTHON
 
-for name in long_half long different_half different; do
+for name in long_half long different_half different quicksort generated_150 generated_300 chain ring wide; do
     python3 bench/timed.py "$folder/$name.pl" "$program" infer "$folder/$name.pl"
+done
+for name in generated_150 generated_300; do
+    "$program" infer "$folder/$name.pl" > "$folder/$name.cert"
+    python3 bench/timed.py "$folder/$name.cert" "$program" check "$folder/$name.pl" "$folder/$name.cert"
 done

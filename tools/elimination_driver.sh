@@ -1,22 +1,22 @@
 #!/usr/bin/env bash
 # Builds a program that eliminates and solves systems of rows, for the bench and for comparisons, outside the gate.
-# It reads lines `kind width variable numbers ..`: kind 0 is an elimination and kind 1 a solving; each row is its constant
-# and then its coefficients. It answers a line for each.
+# It reads lines `kind width variable numbers ..`: kind 0 is an elimination, kind 1 a solving by elimination, kind 2 one by
+# pivots, and kind 3 only reads the line; each row is its constant and then its coefficients. It answers a line for each.
 # Usage: tools/elimination_driver.sh FOLDER      (prints the program's path)
 set -eu
 . "$(dirname "$0")/workspace.sh"
 work=$1
-workspace "$work" exact128 rational128 linear_rows fourier
-program "$work" driver linear_rows fourier
+workspace "$work" exact128 rational128 linear_rows fourier simplex
+program "$work" driver linear_rows fourier simplex
 mkdir -p "$work/crates/driver/proofs/row" "$work/crates/driver/proofs/rows"
 cat >"$work/crates/driver/src/main.rt" <<'RUST'
-// Answers lines `kind width variable numbers ..`, of which kind 0 is an elimination and 1 a solving.
+// Answers lines `kind width variable numbers ..`, of which kind 0 is an elimination, 1 and 2 are solvings.
 #![tactic(auto)]
 
 ghost use Rattle.std.specs.Prelude.{◌≡◌, IfOk, length};
 ghost use Rattle.linear_rows.specs.Plain.{HaveWidth};
 
-use fourier::{eliminate, solve, ElimFault, Solved};
+use fourier::{eliminate, ElimFault, Solved};
 use linear_rows::{Numbers, Row, Rows};
 use std::alloc::{AllocError, Global};
 use std::io;
@@ -84,12 +84,20 @@ fn answer_eliminate(rt: &impl Print, alloc: Global, width: u32, var: u32, number
     }
 }
 
-fn answer_solve(rt: &impl Print, alloc: Global, width: u32, numbers: &[i128]) -> io::Result<()> {
+fn answer_solve(rt: &impl Print, alloc: Global, kind: i128, width: u32, numbers: &[i128]) -> io::Result<()> {
     let given = match rows(alloc, width, numbers) {
         Ok(given) => given,
         Err(_) => return Ok(()),
     };
-    match solve(alloc, &given) {
+    if kind > 2 {
+        return println!(rt; "{} rows", given.list.len());
+    }
+    let solved = if kind == 1 {
+        fourier::solve(alloc, &given)
+    } else {
+        simplex::solve(alloc, &given)
+    };
+    match solved {
         Ok(Solved::Point(point)) => {
             print!(rt; "point {} |", point.t)?;
             print_numbers(rt, point.w.as_slice())?;
@@ -129,7 +137,7 @@ fn main(rt: HostRuntime) -> io::Result<()> {
             if numbers[0] == 0 {
                 answer_eliminate(&rt, alloc, width, var, &numbers[3..])?;
             } else {
-                answer_solve(&rt, alloc, width, &numbers[3..])?;
+                answer_solve(&rt, alloc, numbers[0], width, &numbers[3..])?;
             }
         }
     }

@@ -4,7 +4,7 @@ ghost use Rattle.bool_diagrams.specs.Joins.{IsDecided, Joins, absorbing, neutral
 ghost use Rattle.bool_diagrams.specs.Rows.{IsOf};
 
 /// A connective of two truth values.
-#[derive(Clone, Copy, Debug, PartialEq, Eq, Hash)]
+#[derive(Clone, Copy, PartialEq, Eq, Hash)]
 pub(crate) enum Connective {
     And,
     Or,

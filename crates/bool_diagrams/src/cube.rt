@@ -4,7 +4,7 @@ ghost use Rattle.std.specs.Prelude.{◌≡◌};
 use std::marker::Model;
 
 /// What a cube says of one variable.
-#[derive(Clone, Copy, Debug, PartialEq, Eq)]
+#[derive(Clone, Copy, PartialEq, Eq)]
 pub enum Cell {
     /// False.
     Zero,
@@ -17,7 +17,7 @@ pub enum Cell {
 /// A cell for each variable, variable 0 first: the rows that agree with each of them.
 ///
 /// Contracts see it as the list of its cells.
-#[derive(Debug, Drop)]
+#[derive(Drop)]
 pub struct Cube {
     cells: Vec<Cell>,
 }

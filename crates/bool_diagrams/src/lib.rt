@@ -19,6 +19,3 @@ mod table;
 pub use cube::{Cell, Cube};
 pub use diagram::Diagram;
 pub use table::{Table, VARIABLES};
-
-#[cfg(test)]
-mod tests;

@@ -8,13 +8,16 @@ use std::collections::HashMap;
 use std::hash::Hash;
 
 /// An operation with its operands: diagrams by their numbers.
-#[derive(Clone, Copy, Debug, PartialEq, Eq, Hash)]
+#[derive(Clone, Copy, PartialEq, Eq, Hash)]
 pub(crate) enum Key {
     /// Two diagrams, joined row by row.
     Join(Connective, u64, u64),
     /// A diagram whose halves, the variable false and true, are joined.
     Quantify(Connective, u64, u32),
 }
+
+// How much room for each answer a map keeps when its answers are forgotten.
+const ROOM: usize = 16;
 
 /// Maps each key to the number of the diagram that answers it.
 #[derive(Drop)]
@@ -47,10 +50,18 @@ impl<K: Eq + Hash + Copy> Memo<K> {
         Ok(())
     }
 
-    /// Forgets every answer.
-    pub(crate) fn clear(&mut self)
+    /// Forgets every answer, in the time of keeping these: a map with far more room than answers is dropped, since to
+    /// clear it would write all of its room.
+    pub(crate) fn clear(&mut self, alloc: Global)
         ensures { IsEmpty self.new.answers }
     {
+        if self.answers.is_empty() {
+            return;
+        }
+        if self.answers.capacity() / ROOM > self.answers.len() {
+            self.answers = HashMap::new(alloc);
+            return;
+        }
         self.answers.clear();
     }
 }

@@ -17,11 +17,20 @@ use std::marker::Model;
 pub const VARIABLES: u32 = 64;
 
 /// Diagrams over one set of shared nodes, so that equal sets of rows are one diagram.
-#[derive(Drop)]
 pub struct Table {
     nodes: Vec<Node>,
     unique: HashMap<Node, u64>,
     memo: Memo<Key>,
+}
+
+impl Drop for Table {
+    fn drop(self) {
+        let Table {
+            nodes: _,
+            unique: _,
+            memo: _,
+        } = self;
+    }
 }
 
 impl Model for Table {
@@ -178,7 +187,8 @@ impl Table {
     pub(crate) fn forget(&mut self)
         ensures { self.new ≡ self.old }
     {
-        self.memo.clear();
+        let alloc = self.alloc();
+        self.memo.clear(alloc);
     }
 }
 

@@ -3,7 +3,7 @@ use Rattle.std.proofs.Common.{◌≡◌, ℕ, List, [], ◌∷◌, map, refl, ar
 use Rattle.cti_terms.specs.declared.atom_list.Atom.{Atom}
 use Rattle.cti_terms.specs.declared.clauses.Clause.{Clause}
 use Rattle.cti_terms.specs.Listing.{Listing}
-use Rattle.call_components.specs.Calls.{Calls, Reaches, itself, onward, ReachesNoCycle}
+use Rattle.call_components.specs.Calls.{Calls}
 use Rattle.call_components.specs.Table.{callees, Has}
 use Rattle.call_components.proofs.Tables.{callees_have}
 
@@ -23,23 +23,13 @@ callees_of_r = refl
 p_calls_itself : Calls example 1 1
 p_calls_itself = (1, rule 1 (1 ∷ []), omega arith, refl, (refl, (0, call 1, omega arith, refl, refl)))
 
--- q calls nothing, and so reaches no cycle
+-- q calls nothing
 q_calls_nothing : (b : ℕ) → Calls example 2 b → ⊥
 q_calls_nothing b h = none (callees_have 2 b example.clauses h)
   where
     none : Has [] b → ⊥
     none (k, e) = cc
 
-q_reaches_none : ReachesNoCycle example 2
-q_reaches_none b c way next back = go way next
-  where
-    go : {b : ℕ} → Reaches (Calls example) 2 b → Calls example b c → ⊥
-    go itself next = q_calls_nothing c next
-    go (onward {b = x} call rest) next = q_calls_nothing x call
-
 -- r calls p, which calls itself
 r_calls_p : Calls example 0 1
 r_calls_p = (0, rule 0 (1 ∷ 2 ∷ []), omega arith, refl, (refl, (0, call 1, omega arith, refl, refl)))
-
-r_reaches_one : ReachesNoCycle example 0 → ⊥
-r_reaches_one none = none 1 1 (onward r_calls_p itself) p_calls_itself itself

@@ -1,5 +1,3 @@
-pub mod AcyclicLaws
-pub mod Answered
 pub mod Closing
 mod Examples
 pub mod Lists

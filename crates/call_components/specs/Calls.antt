@@ -1,6 +1,6 @@
 -- Who calls whom in a program, and who reaches whom by calls.
 --
--- Predicates are told by their numbers. To believe: `Calls`, `Reaches`, `ReachesNoCycle`.
+-- Predicates are told by their numbers. To believe: `Calls`, `Reaches`.
 use Rattle.std.specs.Prelude.{◌≡◌, ℕ, Any}
 use Rattle.cti_terms.specs.declared.atom_list.Atom.{Atom}
 use Rattle.cti_terms.specs.declared.clauses.Clause.{Clause}
@@ -14,7 +14,3 @@ Calls p a b = Any (λ (k : Clause). (k.head.pred.0 ≡ a) × Any (λ (x : Atom).
 pub data Reaches (calls : ℕ → ℕ → Type 0) : ℕ → ℕ → Type 0 where
   itself : {a : ℕ} → Reaches calls a a
   onward : {a b c : ℕ} → calls a b → Reaches calls b c → Reaches calls a c
-
--- no call that it reaches leads back to its caller
-abbrev pub ReachesNoCycle : Listing → ℕ → Type 0
-ReachesNoCycle p a = (b c : ℕ) → Reaches (Calls p) a b → Calls p b c → Reaches (Calls p) c b → ⊥

@@ -9,7 +9,7 @@ use std::alloc::{AllocError, Global};
 use std::marker::Model;
 
 /// How far the search has come with a predicate.
-#[derive(Clone, Copy, Debug)]
+#[derive(Clone, Copy)]
 pub(crate) enum Mark {
     /// It was not met yet.
     Unseen,
@@ -20,7 +20,7 @@ pub(crate) enum Mark {
 }
 
 /// A mark for each predicate. Contracts see the list.
-#[derive(Debug, Drop)]
+#[derive(Drop)]
 pub(crate) struct Marks {
     items: Vec<Mark>,
 }

@@ -10,7 +10,7 @@ use cti_terms::PredId;
 use std::alloc::{AllocError, Global};
 
 /// The component of each predicate, and how many components there are.
-#[derive(Debug, Drop)]
+#[derive(Drop)]
 pub(crate) struct Numbering {
     pub(crate) of: Vec<u32>,
     pub(crate) count: u32,

@@ -11,11 +11,20 @@ use std::marker::Model;
 ///
 /// Contracts see a `Partition`. That it is a given program's is `AreComponents`, which `components` ensures and which
 /// whoever takes both requires.
-#[derive(Debug, Drop)]
 pub struct Components {
     pub(crate) of: Vec<u32>,
     pub(crate) members: PredLists,
     pub(crate) recursive: Vec<bool>,
+}
+
+impl Drop for Components {
+    fn drop(self) {
+        let Components {
+            of: _,
+            members: _,
+            recursive: _,
+        } = self;
+    }
 }
 
 impl Model for Components {

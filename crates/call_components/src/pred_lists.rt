@@ -9,7 +9,7 @@ use std::alloc::{AllocError, Global};
 use std::marker::Model;
 
 /// Rows of predicates, numbered from 0. Contracts see the list of the rows.
-#[derive(Debug, Drop)]
+#[derive(Drop)]
 pub(crate) struct PredLists {
     rows: Vec<Preds>,
 }

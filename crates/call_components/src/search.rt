@@ -12,7 +12,7 @@ use cti_terms::PredId;
 use std::alloc::{AllocError, Global};
 
 /// Open predicates that reach each other, up to where the next segment begins.
-#[derive(Clone, Copy, Debug)]
+#[derive(Clone, Copy)]
 pub(crate) struct Segment {
     /// The place of its first predicate in the row of open predicates.
     pub(crate) first: usize,
@@ -26,7 +26,7 @@ pub(crate) struct Segment {
 /// segments from that one's on. A last segment none of whose calls waits is a component.
 ///
 /// Source: path-based search for strong components, Dijkstra 1976 and Gabow 2000.
-#[derive(Debug, Drop)]
+#[derive(Drop)]
 pub(crate) struct Search {
     pub(crate) marks: Marks,
     /// The predicates that were opened and not closed yet, in the order in which they were opened.

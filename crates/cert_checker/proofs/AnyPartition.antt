@@ -4,16 +4,17 @@ use Rattle.std.specs.List.{AllByRecursion}
 use Rattle.cti_terms.specs.Listing.{Listing}
 use Rattle.cti_terms.specs.Tree.{Tree}
 use Rattle.cti_terms.specs.declared.clauses.Clause.{Clause}
-use Rattle.argument_rows.specs.Rules.{KeepsSets}
+use Rattle.truth_rows.specs.Rules.{KeepsSets}
 use Rattle.call_components.proofs.Lists.{all_map}
 use Rattle.call_components.specs.Partition.{AreComponents, IsIn, Partition}
-use Rattle.certificate_parts.specs.Shape.{is_together}
-use Rattle.certificate_parts.specs.declared.parts.Parts.{Parts}
-use Rattle.mode_checker.specs.Modes.{ModesHold, allowed, grounds_of, precondition}
+use Rattle.cert_structure.specs.Shape.{is_together}
+use Rattle.cert_structure.specs.declared.parts.Parts.{Parts}
+use Rattle.cert_modes.specs.Modes.{ModesHold, allowed, grounds_of, precondition}
 use Rattle.cert_checker.specs.Proved.{FallsHold, MeasuresAreZero}
-use Rattle.cert_checker.specs.Refuting.{RefutationsHold, SumsRefute}
+use Rattle.number_tests.specs.Refuting.{SumsRefute}
+use Rattle.cert_checker.specs.Refuting.{RefutationsHold}
 use Rattle.cert_checker.specs.Valid.{PartsHold}
-use Rattle.cert_checker.proofs.ColumnLengths.{an_element}
+use Rattle.number_tests.proofs.ColumnLengths.{an_element}
 use Rattle.cert_checker.proofs.Partitions.{is_together_same, members_move, moved, recursion_moves, together_moves}
 
 module _ (truth : (ℕ → Bool) → Tree → Bool) (expression : ℕ → Tree → List ℤ) (p : Listing) (one other : Partition) (a : AreComponents p one) (b : AreComponents p other) (parts : Parts) where

@@ -1,6 +1,6 @@
 -- A valid certificate's claims show that queries end, so that each query that meets one of its modes is bounded.
 --
--- What holding modes show is a premise here, which the law of `mode_checker` gives.
+-- What holding modes show is a premise here, which the law of `cert_modes` gives.
 use Rattle.std.proofs.Common.{◌≡◌, ◌≢◌, ℕ, zero, suc, ◌+◌, ◌<◌, ◌≤◌, ◌≤ℤ◌, ◌==◌, ◌||◌, ℤ, pos, negsuc, Bool, true, false, IsTrue, List, [], ◌∷◌, ◌++◌, All, map, length, Contains, slice_get, slice_index_or, unwrap_or, unsigned_abs, Option, None, Some, IsSomeAnd, refl, sym, ap, subst, ◌∙◌, arith, eqb-true}
 use Rattle.std.specs.List.{AllByRecursion, AllPairs, list_any}
 use Rattle.std.proofs.lemmas.Option.{slice_get_within}
@@ -15,16 +15,16 @@ use Rattle.call_components.specs.Partition.{AreComponents, IsIn, Partition}
 use Rattle.call_components.specs.Table.{Has}
 use Rattle.certificate.specs.declared.fact.Fact.{Fact}
 use Rattle.certificate.specs.declared.fact.Fact.TheVariants as fact
-use Rattle.certificate_parts.specs.Numbered.{facts_from, lines_from}
-use Rattle.certificate_parts.specs.Order as order
-use Rattle.certificate_parts.specs.Shape as shape
-use Rattle.certificate_parts.specs.Structure.{AreNamed, AreNotes, IsStructured}
-use Rattle.certificate_parts.specs.declared.parts.LevelPart.{LevelPart}
-use Rattle.certificate_parts.specs.declared.parts.Parts.{Parts}
-use Rattle.certificate_parts.specs.declared.parts.Refutation.{Refutation}
-use Rattle.certificate_parts.specs.declared.parts.ScaledPoint.{ScaledPoint}
-use Rattle.mode_checker.specs.Claimed.{ClaimModes, HoldingModesShow, IsMeasure, KeepsRows, ShowModes}
-use Rattle.mode_checker.specs.Modes as holding
+use Rattle.cert_structure.specs.Numbered.{facts_from, lines_from}
+use Rattle.cert_structure.specs.Order as order
+use Rattle.cert_structure.specs.Shape as shape
+use Rattle.cert_structure.specs.Structure.{AreNamed, AreNotes, IsStructured}
+use Rattle.number_tests.specs.declared.level_part.LevelPart.{LevelPart}
+use Rattle.cert_structure.specs.declared.parts.Parts.{Parts}
+use Rattle.number_tests.specs.declared.refutation.Refutation.{Refutation}
+use Rattle.linear_rows.specs.declared.point.Point.{Point}
+use Rattle.cert_modes.specs.Claimed.{ClaimModes, HoldingModesShow, IsMeasure, KeepsRows, ShowModes}
+use Rattle.cert_modes.specs.Modes as holding
 use Rattle.term_size.specs.Occurrences.{size_row}
 use Rattle.term_size.specs.TermSize.{is_a_norm}
 use Rattle.termination_model.proofs.Lists.{by_places, from_places, indexed, there}
@@ -36,11 +36,12 @@ use Rattle.termination_model.specs.Grounds.{Family, HasArity}
 use Rattle.termination_model.specs.Rows.{IsUpper}
 use Rattle.termination_model.specs.Short.{DescendsProved, ServesProved, ShowsProved}
 use Rattle.cert_checker.specs.Bounding.{FactIsBounded, IsOf, ModeIsBounded, ModesAreBounded, NamedAreRigid}
-use Rattle.cert_checker.specs.Claimed.{claims_of, coefficients_of, mapping_count, mapping_of, measure_of, measures_from, rank_of}
-use Rattle.cert_checker.specs.Shape.{AreTogether, HaveLevels, IsLevelPart, list_at}
+use Rattle.cert_checker.specs.Claimed.{claims_of, natural_coefficients, mapping_count, mapping_of, measure_of, measures_from, rank_of}
+use Rattle.number_tests.specs.Shape.{IsLevelPart, list_at}
+use Rattle.cert_checker.specs.Shape.{AreTogether, HaveLevels}
 use Rattle.cert_checker.specs.Valid.{IsValid, PartsHold}
 use Rattle.cert_checker.proofs.Claims.{falls, ranked, sizes}
-use Rattle.cert_checker.proofs.ColumnLengths.{an_element}
+use Rattle.number_tests.proofs.ColumnLengths.{an_element}
 use Rattle.cert_checker.proofs.PrintedModes.{listed_bounded, meets_row, same_pred}
 use Rattle.cert_checker.proofs.ShapeLaws.{arity_at, have_falls, have_levels, have_row_proofs, items_are, one_of, some_is}
 
@@ -65,7 +66,7 @@ naturals_are : (xs : List ℤ) → All (λ x. pos 0 ≤ℤ x) xs → map unsigne
 naturals_are [] h = refl
 naturals_are (x ∷ xs) h = λ i. natural_is x (h 0 x (omega arith)) i ∷ naturals_are xs (λ k d lt. h (suc k) d (omega (arith, lt))) i
 
-part_coefficients : (n : ℕ) (ls : List LevelPart) (m : ℕ) → AllByRecursion (IsLevelPart n) ls → coefficients_of (slice_get ls m) ≡ holding.naturals (slice_get ls m)
+part_coefficients : (n : ℕ) (ls : List LevelPart) (m : ℕ) → AllByRecursion (IsLevelPart n) ls → natural_coefficients (slice_get ls m) ≡ holding.naturals (slice_get ls m)
 part_coefficients n [] m h = refl
 part_coefficients n (l ∷ ls) zero h = naturals_are l.coeffs h.0.naturals
 part_coefficients n (l ∷ ls) (suc m) h = part_coefficients n ls m h.1

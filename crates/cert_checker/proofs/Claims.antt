@@ -9,8 +9,8 @@ use Rattle.cti_terms.specs.declared.clauses.Clause.{Clause}
 use Rattle.cti_terms.specs.declared.predicates.Pred.{Pred}
 use Rattle.call_components.specs.Partition.{Partition, AreComponents, IsIn}
 use Rattle.call_components.proofs.Lists.{any_here, any_there, has_contains}
-use Rattle.certificate_parts.specs.declared.parts.LevelPart.{LevelPart}
-use Rattle.certificate_parts.specs.declared.parts.Parts.{Parts}
+use Rattle.number_tests.specs.declared.level_part.LevelPart.{LevelPart}
+use Rattle.cert_structure.specs.declared.parts.Parts.{Parts}
 use Rattle.linear_rows.specs.declared.multipliers.Multipliers.{Multipliers}
 use Rattle.linear_rows.specs.Proves.{Proves}
 use Rattle.termination_model.specs.Claims.{Measure, Claims, IsRanked, fall_row}
@@ -20,14 +20,16 @@ use Rattle.termination_model.specs.Short.{Provable, SizesProved, DescendsProved}
 use Rattle.termination_model.specs.Sizes.{rows_of}
 use Rattle.termination_model.specs.Systems.{row_over, short_system}
 use Rattle.termination_model.proofs.Lists.{by_places, from_places, place_below, there}
-use Rattle.cert_checker.specs.Claimed.{claims_of, coefficients_of, measure_of, measures_from, mapping_of, offset_of, rank_of, mapping_count}
-use Rattle.cert_checker.specs.Proved.{FallsHold, fall_of, level_of}
-use Rattle.cert_checker.specs.Shape.{AreMultipliers, AreTogether, HaveFalls, HaveLevels, IsLevelPart, list_at, row_count}
-use Rattle.cert_checker.specs.Shown.{IsShown}
+use Rattle.cert_checker.specs.Claimed.{claims_of, natural_coefficients, measure_of, measures_from, mapping_of, natural_offset, rank_of, mapping_count}
+use Rattle.number_tests.specs.Proved.{fall_of, level_of}
+use Rattle.cert_checker.specs.Proved.{FallsHold}
+use Rattle.linear_rows.specs.Showing.{AreMultipliers, IsShown}
+use Rattle.number_tests.specs.Shape.{IsLevelPart, list_at, row_count}
+use Rattle.cert_checker.specs.Shape.{AreTogether, HaveFalls, HaveLevels}
 use Rattle.cert_checker.specs.Shows.{ClausesAreRanked, FallsAreProved, SizesAreProved}
-use Rattle.cert_checker.proofs.CallFacts.{level_parts}
-use Rattle.cert_checker.proofs.ColumnLengths.{an_element}
-use Rattle.cert_checker.proofs.Sized.{some_below}
+use Rattle.cert_checker.proofs.LevelFacts.{level_parts}
+use Rattle.number_tests.proofs.ColumnLengths.{an_element}
+use Rattle.number_tests.proofs.Sized.{some_below}
 
 pub natural_is : (x : ℤ) → pos 0 ≤ℤ x → pos (unsigned_abs x) ≡ x
 natural_is x h = omega (arith, ints)
@@ -70,9 +72,9 @@ module _ (size : (ℕ → ℕ) → Tree → ℕ) (truth : (ℕ → Bool) → Tre
   claims = claims_of size truth expression comps parts grounds pre
 
   level_is : (n vars : ℕ) (a : Atom) (l : LevelPart) (m : ℕ) → IsLevelPart n l → slice_get (list_at parts.levels a.pred.0) m ≡ Some l
-      → row_over expression vars a.args (pos (offset_of (slice_get (list_at parts.levels a.pred.0) m)) ∷ map pos (coefficients_of (slice_get (list_at parts.levels a.pred.0) m))) ≡ level_of expression vars a l
+      → row_over expression vars a.args (pos (natural_offset (slice_get (list_at parts.levels a.pred.0) m)) ∷ map pos (natural_coefficients (slice_get (list_at parts.levels a.pred.0) m))) ≡ level_of expression vars a l
   level_is n vars a l m is at =
-      ap (λ (o : Option LevelPart). row_over expression vars a.args (pos (offset_of o) ∷ map pos (coefficients_of o))) at
+      ap (λ (o : Option LevelPart). row_over expression vars a.args (pos (natural_offset o) ∷ map pos (natural_coefficients o))) at
       ∙ ap (row_over expression vars a.args) (λ i. natural_is l.offset is.offset i ∷ naturals_are l.coeffs is.naturals i)
 
   fall_is : (n k : ℕ) (c : Clause) (b : Atom) (head call : LevelPart) (m : ℕ) → IsLevelPart n head → IsLevelPart k call

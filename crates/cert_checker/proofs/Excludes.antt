@@ -12,9 +12,9 @@ use Rattle.cti_terms.specs.Listing.{Listing}
 use Rattle.cti_terms.specs.declared.atom_list.Atom.{Atom}
 use Rattle.cti_terms.specs.declared.clauses.Clause.{Clause}
 use Rattle.call_components.specs.Partition.{Partition, IsIn}
-use Rattle.certificate_parts.specs.declared.parts.PairPoint.{PairPoint}
-use Rattle.certificate_parts.specs.declared.parts.Parts.{Parts}
-use Rattle.certificate_parts.specs.declared.parts.ScaledPoint.{ScaledPoint}
+use Rattle.number_tests.specs.declared.pair_point.PairPoint.{PairPoint}
+use Rattle.cert_structure.specs.declared.parts.Parts.{Parts}
+use Rattle.linear_rows.specs.declared.point.Point.{Point}
 use Rattle.termination_model.specs.Claims.{Claims, SomeOf}
 use Rattle.termination_model.specs.Grounds.{Family}
 use Rattle.termination_model.specs.Refutation.{Pair, Load, IsPair, gather, head_load, call_load, values_at}
@@ -26,10 +26,10 @@ use Rattle.termination_model.specs.View as view
 use Rattle.termination_model.proofs.Lists.{by_places, from_places, indexed, mapped_place, there}
 use Rattle.cert_checker.specs.Claimed.{claims_of, rank_of}
 use Rattle.cert_checker.specs.Excluded.{IsNatural, IsPairIn, RefutationsExclude, itself, pair_of}
-use Rattle.cert_checker.specs.Refuting.{PointHolds, RowHolds, RowsHold, SumsRefute, atom_or_none, call_loads, call_of, clause_of, clause_or_none, head_loads, load_at, numbers_of, values_of}
-use Rattle.cert_checker.specs.Shape.{IsPairOf, list_at}
+use Rattle.number_tests.specs.Refuting.{PointHolds, RowHolds, RowsHold, SumsRefute, atom_or_none, call_loads, call_of, clause_of, clause_or_none, head_loads, load_at, numbers_of, values_of}
+use Rattle.number_tests.specs.Shape.{IsPairOf, list_at}
 use Rattle.cert_checker.proofs.Claims.{natural_is, naturals_are}
-use Rattle.cert_checker.proofs.ColumnLengths.{an_element}
+use Rattle.number_tests.proofs.ColumnLengths.{an_element}
 
 -- an element that passes a test is among the mapped ones that do
 some_kept : {X Y : Type 0} → (t : X → Bool) (g : X → Y) (xs : List X) (i : ℕ) (x : X) → slice_get xs i ≡ Some x → t x ≡ true → SomeOf (λ (y : Y). y ≡ g x) (map g (filter t xs))
@@ -45,7 +45,7 @@ some_kept t g (a ∷ xs) (suc i) x e passes = go (t a) (some_kept t g xs i x e p
     go true rest = inr rest
     go false rest = rest
 
-take_mapped : {X Y : Type 0} → (f : X → Y) (j : ℕ) (xs : List X) → take j (map f xs) ≡ map f (take j xs)
+pub take_mapped : {X Y : Type 0} → (f : X → Y) (j : ℕ) (xs : List X) → take j (map f xs) ≡ map f (take j xs)
 take_mapped f zero xs = refl
 take_mapped f (suc j) [] = refl
 take_mapped f (suc j) (x ∷ xs) = ap (λ s. f x ∷ s) (take_mapped f j xs)
@@ -74,7 +74,7 @@ map_twice f g [] = refl
 map_twice f g (x ∷ xs) = ap (λ s. g (f x) ∷ s) (map_twice f g xs)
 
 -- the numbers of a natural point
-numbers_are : (x : ScaledPoint) → IsNatural x → (pos (unsigned_abs x.t) ∷ map pos (map unsigned_abs x.w)) ≡ numbers_of x
+numbers_are : (x : Point) → IsNatural x → (pos (unsigned_abs x.t) ∷ map pos (map unsigned_abs x.w)) ≡ numbers_of x
 numbers_are x is = λ i. natural_is x.t is.t i ∷ naturals_are x.w is.w i
 
 module _ (size : (ℕ → ℕ) → Tree → ℕ) (truth : (ℕ → Bool) → Tree → Bool) (expression : ℕ → Tree → List ℤ)
@@ -82,12 +82,12 @@ module _ (size : (ℕ → ℕ) → Tree → ℕ) (truth : (ℕ → Bool) → Tre
   abbrev claims : Claims
   claims = claims_of size truth expression comps parts grounds pre
 
-  system_same : (n : ℕ) (bs : List Atom) → system_of expression n (map (view.call_of claims r itself) bs) ≡ system expression (rows_of parts.rows) n bs
+  pub system_same : (n : ℕ) (bs : List Atom) → system_of expression n (map (view.call_of claims r itself) bs) ≡ system expression (rows_of parts.rows) n bs
   system_same n [] = refl
   system_same n (b ∷ bs) = ap (λ s. map (row_over expression n b.args) (rows_of parts.rows b.pred.0) ++ s) (system_same n bs)
 
   -- rows that hold at a natural point hold there as the view's rows
-  all_hold : (c : Clause) (j : ℕ) (x : ScaledPoint) → IsNatural x → RowsHold expression (rows_of parts.rows) c j x
+  all_hold : (c : Clause) (j : ℕ) (x : Point) → IsNatural x → RowsHold expression (rows_of parts.rows) c j x
       → AllHold (system_of expression c.vars (take j (map (view.call_of claims r itself) c.body))) (unsigned_abs x.t) (map unsigned_abs x.w)
   all_hold c j x is hold =
       let rows : system_of expression c.vars (take j (map (view.call_of claims r itself) c.body)) ≡ system expression (rows_of parts.rows) c.vars (take j c.body) =
@@ -101,7 +101,7 @@ module _ (size : (ℕ → ℕ) → Tree → ℕ) (truth : (ℕ → Bool) → Tre
   rank_is : (q : ℕ) → IsIn comps r q → rank_of comps q ≡ r
   rank_is q e = indexed comps.of q r (length comps.members) e
 
-  values_same : (n : ℕ) (ts : List Tree) (x : ScaledPoint) → length x.w ≡ n → IsNatural x
+  values_same : (n : ℕ) (ts : List Tree) (x : Point) → length x.w ≡ n → IsNatural x
       → values_at truth expression n (map unsigned_abs x.w) (unsigned_abs x.t) ts ≡ values_of (map (expression (length x.w)) ts) x
   values_same n ts x same is =
       (λ i. natural_is x.t is.t i ∷ map (λ e. dot e (numbers_are x is i)) (map (expression n) ts)) ∙ ap (λ (k : ℕ). values_of (map (expression k) ts) x) (sym same)
@@ -136,11 +136,11 @@ module _ (size : (ℕ → ℕ) → Tree → ℕ) (truth : (ℕ → Bool) → Tre
       ];
     }
       where
-        second : (y : ScaledPoint) × (x.at ≡ Some y) × IsNatural y × (pos 1 ≤ℤ y.t)
+        second : (y : Point) × (x.at ≡ Some y) × IsNatural y × (pos 1 ≤ℤ y.t)
             → (w : List ℕ) × (t : ℕ) × (1 ≤ t) × (length w ≡ (clause_of p x).vars) × AllHold (system_of expression (clause_of p x).vars (take (x.call - 1) (map (view.call_of claims r itself) (clause_of p x).body))) t w
         second (y, at, natural, some) =
-            let wide : length y.w ≡ pair.clause.vars = subst (λ (o : Option ScaledPoint). IfSome o (λ (z : ScaledPoint). length z.w ≡ pair.clause.vars)) at pair.at in
-            let rows : RowsHold expression (rows_of parts.rows) (clause_of p x) (x.call - 1) y = subst (λ (o : Option ScaledPoint). IfSome o (RowsHold expression (rows_of parts.rows) (clause_of p x) (x.call - 1))) at hold.1 in
+            let wide : length y.w ≡ pair.clause.vars = subst (λ (o : Option Point). IfSome o (λ (z : Point). length z.w ≡ pair.clause.vars)) at pair.at in
+            let rows : RowsHold expression (rows_of parts.rows) (clause_of p x) (x.call - 1) y = subst (λ (o : Option Point). IfSome o (RowsHold expression (rows_of parts.rows) (clause_of p x) (x.call - 1))) at hold.1 in
             (map unsigned_abs y.w, unsigned_abs y.t, omega (arith, ints, some), length-map y.w unsigned_abs ∙ wide ∙ ap (λ (c : Clause). c.vars) (sym own), all_hold (clause_of p x) (x.call - 1) y natural rows)
 
         place_yes : (b : Bool) → b ≡ true → (if b then Member (call_of p x).pred.0 else view.Lower (view.upward_union claims (call_of p x).pred.0)) ≡ Member (call_of p x).pred.0
@@ -153,7 +153,7 @@ module _ (size : (ℕ → ℕ) → Tree → ℕ) (truth : (ℕ → Bool) → Tre
     call_same : call_load truth expression (pair_of p claims r x) ≡ load_at expression (call_of p x) x.point
     call_same = ap (λ (vs : List ℤ). ((call_of p x).pred.0, vs)) (values_same (clause_of p x).vars (call_of p x).args x.point width inside.natural)
 
-in_range : (xs : List ℕ) (i d r : ℕ) → slice_index_or xs i d ≡ r → r < d → slice_get xs i ≡ Some r
+pub in_range : (xs : List ℕ) (i d r : ℕ) → slice_index_or xs i d ≡ r → r < d → slice_get xs i ≡ Some r
 in_range [] i d r e lt = absurd (omega (arith, e))
 in_range (x ∷ xs) zero d r e lt = ap Some e
 in_range (x ∷ xs) (suc i) d r e lt = in_range xs i d r e lt

@@ -3,9 +3,9 @@ use Rattle.std.proofs.Common.{◌≡◌, ℕ, ◌<◌, ◌≤◌, Bool, true, fa
 use Rattle.std.proofs.lemmas.Option.{slice_get_cases, slice_get_past, slice_get_within}
 use Rattle.cti_terms.specs.Listing.{Listing}
 use Rattle.call_components.specs.Partition.{AreComponents, IsIn, Partition}
-use Rattle.certificate_parts.specs.Shape.{is_same, is_together}
+use Rattle.cert_structure.specs.Shape.{is_same, is_together}
 use Rattle.cert_checker.specs.Shape.{AreTogether}
-use Rattle.cert_checker.proofs.ColumnLengths.{an_element}
+use Rattle.number_tests.proofs.ColumnLengths.{an_element}
 
 equal_numbers : (n : ℕ) → IsTrue (n == n)
 equal_numbers n = eq-eqb n n refl

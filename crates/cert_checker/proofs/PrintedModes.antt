@@ -10,18 +10,18 @@ use Rattle.call_components.specs.Table.{Has}
 use Rattle.certificate.specs.declared.fact.Fact.{Fact}
 use Rattle.certificate.specs.declared.fact.Fact.TheVariants as fact
 use Rattle.certificate.specs.declared.pred_text.PredText.{PredText}
-use Rattle.certificate_parts.specs.Numbered.{facts_from, lines_from}
-use Rattle.certificate_parts.specs.Order as order
-use Rattle.certificate_parts.specs.Structure.{AreNamed, AreNotes}
-use Rattle.certificate_parts.specs.declared.parts.Parts.{Parts}
-use Rattle.certificate_parts.specs.declared.parts.PairPoint.{PairPoint}
-use Rattle.certificate_parts.specs.declared.parts.Refutation.{Refutation}
-use Rattle.certificate_parts.specs.declared.parts.ScaledPoint.{ScaledPoint}
+use Rattle.cert_structure.specs.Numbered.{facts_from, lines_from}
+use Rattle.cert_structure.specs.Order as order
+use Rattle.cert_structure.specs.Structure.{AreNamed, AreNotes}
+use Rattle.cert_structure.specs.declared.parts.Parts.{Parts}
+use Rattle.number_tests.specs.declared.pair_point.PairPoint.{PairPoint}
+use Rattle.number_tests.specs.declared.refutation.Refutation.{Refutation}
+use Rattle.linear_rows.specs.declared.point.Point.{Point}
 use Rattle.termination_model.proofs.Lists.{by_places, indexed}
 use Rattle.termination_model.specs.Descent.{mode_row}
 use Rattle.termination_model.specs.Rows.{IsUpper}
 use Rattle.cert_checker.specs.Bounding.{FactIsBounded, IsOf, ModeIsBounded, ModesAreBounded, NamedAreRigid}
-use Rattle.cert_checker.proofs.ColumnLengths.{an_element}
+use Rattle.number_tests.proofs.ColumnLengths.{an_element}
 
 -- what holds of each fact of each item holds of all facts
 each_facts : {A : Type 0} → (Q : Fact → Type 0) (facts : ℕ → A → List Fact) (i : ℕ) (xs : List A)
@@ -80,7 +80,7 @@ module _ (p : Listing) (names : List (List ℕ)) where
   abbrev Q : Fact → Type 0
   Q = FactIsBounded p names
 
-  at_bounded : (clause call : ℕ) (o : Option ScaledPoint) → AllByRecursion Q (order.at_facts clause call o)
+  at_bounded : (clause call : ℕ) (o : Option Point) → AllByRecursion Q (order.at_facts clause call o)
   at_bounded clause call None = tt
   at_bounded clause call (Some x) = (tt, tt)
 

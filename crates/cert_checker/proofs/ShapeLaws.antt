@@ -11,13 +11,13 @@ use Rattle.cti_terms.specs.declared.predicates.Pred.{Pred}
 use Rattle.call_components.proofs.Lists.{all_map}
 use Rattle.call_components.specs.Partition.{AreComponents, IsIn, Partition}
 use Rattle.certificate.specs.Range.{AreAmounts, IsAmount}
-use Rattle.certificate_parts.specs.Numbered.{AreEach, EachFrom}
-use Rattle.certificate_parts.specs.Shape as shape
-use Rattle.certificate_parts.specs.declared.parts.LevelPart.{LevelPart}
-use Rattle.certificate_parts.specs.declared.parts.PairPoint.{PairPoint}
-use Rattle.certificate_parts.specs.declared.parts.Parts.{Parts}
-use Rattle.certificate_parts.specs.declared.parts.Refutation.{Refutation}
-use Rattle.certificate_parts.specs.declared.parts.ScaledPoint.{ScaledPoint}
+use Rattle.cert_structure.specs.Numbered.{AreEach, EachFrom}
+use Rattle.cert_structure.specs.Shape as shape
+use Rattle.number_tests.specs.declared.level_part.LevelPart.{LevelPart}
+use Rattle.number_tests.specs.declared.pair_point.PairPoint.{PairPoint}
+use Rattle.cert_structure.specs.declared.parts.Parts.{Parts}
+use Rattle.number_tests.specs.declared.refutation.Refutation.{Refutation}
+use Rattle.linear_rows.specs.declared.point.Point.{Point}
 use Rattle.linear_rows.specs.Plain.{HaveWidth, plain_row}
 use Rattle.linear_rows.specs.declared.multipliers.Multipliers.{Multipliers}
 use Rattle.linear_rows.specs.declared.row.Row.{Row}
@@ -25,10 +25,12 @@ use Rattle.linear_rows.specs.declared.row.Rows.{Rows}
 use Rattle.termination_model.specs.Grounds.{HasArity}
 use Rattle.termination_model.specs.Sizes.{AreSizes, plain_or_none, rows_of}
 use Rattle.termination_model.proofs.Lists.{by_places, from_places, place_below, there}
-use Rattle.cert_checker.proofs.ColumnLengths.{an_element}
+use Rattle.number_tests.proofs.ColumnLengths.{an_element}
 use Rattle.cert_checker.proofs.Partitions.{is_together_in}
-use Rattle.cert_checker.proofs.Sized.{some_below}
-use Rattle.cert_checker.specs.Shape.{AreMultipliers, AreTogether, HaveFalls, HaveLevels, HaveRefutations, HaveRowProofs, IsLevelPart, IsPairOf, list_at, row_count}
+use Rattle.number_tests.proofs.Sized.{some_below}
+use Rattle.linear_rows.specs.Showing.{AreMultipliers}
+use Rattle.number_tests.specs.Shape.{IsLevelPart, IsPairOf, list_at, row_count}
+use Rattle.cert_checker.specs.Shape.{AreTogether, HaveFalls, HaveLevels, HaveRefutations, HaveRowProofs}
 
 -- what each element has by its number
 pub each_at : {X : Type 0} → (P : ℕ → X → Type 0) (i : ℕ) (xs : List X) → EachFrom i P xs → (k n : ℕ) (x : X) → n ≡ i + k → slice_get xs k ≡ Some x → P n x
@@ -96,7 +98,7 @@ and_right true c h = h
 and_right false c h = cc
 
 -- the element of a number that counts from 1
-numbered_is : {X : Type 0} → (xs : List X) (n : ℕ) (x : X) → numbered xs n ≡ Some x → (1 ≤ n) × (slice_get xs (n - 1) ≡ Some x)
+pub numbered_is : {X : Type 0} → (xs : List X) (n : ℕ) (x : X) → numbered xs n ≡ Some x → (1 ≤ n) × (slice_get xs (n - 1) ≡ Some x)
 numbered_is xs zero x e = cc
 numbered_is xs (suc i) x e = let same : i ≡ suc i - 1 = omega arith in (omega arith, subst (λ (k : ℕ). slice_get xs k ≡ Some x) same e)
 
@@ -149,7 +151,7 @@ module _ (p : Listing) where
         claused a call None h = cc
         claused a call (Some c) h = (c, refl, and_right (shape.is_together comps a c.head.pred.0) (shape.is_own_call comps a (numbered c.body call)) h)
 
-        second : (m n : ℕ) → m ≡ n → (t : ℤ) (o : Option ScaledPoint) → shape.HasSecond m t o → IfSome o (λ (y : ScaledPoint). length y.w ≡ n)
+        second : (m n : ℕ) → m ≡ n → (t : ℤ) (o : Option Point) → shape.HasSecond m t o → IfSome o (λ (y : Point). length y.w ≡ n)
         second m n same t None h = tt
         second m n same t (Some y) h = h.1.0 ∙ same
 

@@ -1,13 +1,13 @@
 -- A certificate is valid exactly where its only parts hold.
 --
--- That the parts do not depend on the partition is a premise here, which the law of `certificate_parts` gives.
+-- That the parts do not depend on the partition is a premise here, which the law of `cert_structure` gives.
 use Rattle.std.proofs.Common.{◌≡◌, ◌↔◌, ℕ, List, sym, subst}
 use Rattle.cti_terms.specs.Listing.{Listing}
 use Rattle.cti_terms.specs.Tree.{truth}
 use Rattle.call_components.specs.Partition.{AreComponents, Partition}
 use Rattle.certificate.specs.declared.fact.Fact.{Fact}
-use Rattle.certificate_parts.specs.Structure.{IsStructured}
-use Rattle.certificate_parts.specs.declared.parts.Parts.{Parts}
+use Rattle.cert_structure.specs.Structure.{IsStructured}
+use Rattle.cert_structure.specs.declared.parts.Parts.{Parts}
 use Rattle.term_size.specs.Occurrences.{size_row}
 use Rattle.cert_checker.specs.Valid.{IsValid, PartsHold}
 use Rattle.cert_checker.proofs.AnyPartition.{parts_hold}

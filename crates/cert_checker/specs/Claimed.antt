@@ -5,24 +5,15 @@
 -- preconditions for mapping m, counted from 0. A number that names no predicate has a rank without measures.
 --
 -- To believe: nothing, where only `Bounded` is wanted.
-use Rattle.std.specs.Prelude.{ℕ, zero, suc, ℤ, Bool, List, [], ◌∷◌, map, length, slice_get, slice_index_or, unsigned_abs, Option, None, Some}
+use Rattle.std.specs.Prelude.{ℕ, zero, suc, ℤ, Bool, List, [], ◌∷◌, length, slice_get, slice_index_or}
 use Rattle.cti_terms.specs.Tree.{Tree}
 use Rattle.call_components.specs.Partition.{Partition}
-use Rattle.certificate_parts.specs.declared.parts.LevelPart.{LevelPart}
-use Rattle.certificate_parts.specs.declared.parts.Parts.{Parts}
+pub use Rattle.number_tests.specs.Levels.{natural_coefficients, natural_offset}
+use Rattle.cert_structure.specs.declared.parts.Parts.{Parts}
 use Rattle.termination_model.specs.Grounds.{Family}
 use Rattle.termination_model.specs.Claims.{Mapping, Measure, Claims}
 use Rattle.termination_model.specs.Sizes.{rows_of}
-use Rattle.cert_checker.specs.Shape.{list_at}
-
--- the natural coefficients and the offset of a predicate's part, if there is one
-abbrev pub coefficients_of : Option LevelPart → List ℕ
-coefficients_of None = []
-coefficients_of (Some l) = map unsigned_abs l.coeffs
-
-abbrev pub offset_of : Option LevelPart → ℕ
-offset_of None = 0
-offset_of (Some l) = unsigned_abs l.offset
+use Rattle.number_tests.specs.Shape.{list_at}
 
 -- the component of a predicate
 abbrev pub rank_of : Partition → ℕ → ℕ
@@ -32,8 +23,8 @@ module _ (parts : Parts) where
   -- the mapping of number m
   abbrev pub mapping_of : ℕ → Mapping
   mapping_of m = record {
-    coefficients = λ q. coefficients_of (slice_get (list_at parts.levels q) m);
-    offset = λ q. offset_of (slice_get (list_at parts.levels q) m);
+    coefficients = λ q. natural_coefficients (slice_get (list_at parts.levels q) m);
+    offset = λ q. natural_offset (slice_get (list_at parts.levels q) m);
   }
 
   -- how many mappings a component with these members has

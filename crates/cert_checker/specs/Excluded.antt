@@ -6,21 +6,22 @@ use Rattle.std.specs.List.{AllByRecursion}
 use Rattle.cti_terms.specs.Tree.{Tree}
 use Rattle.cti_terms.specs.Listing.{Listing, IsProgram}
 use Rattle.call_components.specs.Partition.{Partition, AreComponents, IsIn}
-use Rattle.certificate_parts.specs.declared.parts.PairPoint.{PairPoint}
-use Rattle.certificate_parts.specs.declared.parts.Parts.{Parts}
-use Rattle.certificate_parts.specs.declared.parts.Refutation.{Refutation}
-use Rattle.certificate_parts.specs.declared.parts.ScaledPoint.{ScaledPoint}
+use Rattle.number_tests.specs.declared.pair_point.PairPoint.{PairPoint}
+use Rattle.cert_structure.specs.declared.parts.Parts.{Parts}
+use Rattle.number_tests.specs.declared.refutation.Refutation.{Refutation}
+use Rattle.linear_rows.specs.declared.point.Point.{Point}
 use Rattle.termination_model.specs.Claims.{Claims}
 use Rattle.termination_model.specs.Grounds.{Family}
 use Rattle.termination_model.specs.Refutation.{Pair, IsRefutation}
 use Rattle.termination_model.specs.View.{view_of, rule_of}
 use Rattle.termination_model.specs.View as view
 use Rattle.cert_checker.specs.Claimed.{claims_of}
-use Rattle.cert_checker.specs.Refuting.{RefutationsHold, call_of, clause_of}
+use Rattle.number_tests.specs.Refuting.{call_of, clause_of}
+use Rattle.cert_checker.specs.Refuting.{RefutationsHold}
 use Rattle.cert_checker.specs.Shape.{HaveRefutations}
 
 -- natural numbers t and w
-pub record IsNatural (x : ScaledPoint) : Type 0 where
+pub record IsNatural (x : Point) : Type 0 where
   pub t : pos 0 ≤ℤ x.t
   pub w : All (λ z. pos 0 ≤ℤ z) x.w
 
@@ -29,7 +30,7 @@ pub record IsPairIn (comps : Partition) (r : ℕ) (p : Listing) (x : PairPoint) 
   pub head : IsIn comps r (clause_of p x).head.pred.0
   pub call : IsIn comps r (call_of p x).pred.0
   pub natural : IsNatural x.point
-  pub positive : (pos 1 ≤ℤ x.point.t) ⊎ ((y : ScaledPoint) × (x.at ≡ Some y) × IsNatural y × (pos 1 ≤ℤ y.t))
+  pub positive : (pos 1 ≤ℤ x.point.t) ⊎ ((y : Point) × (x.at ≡ Some y) × IsNatural y × (pos 1 ≤ℤ y.t))
 
 -- a predicate's number stands for itself
 abbrev pub itself : ℕ → ℕ

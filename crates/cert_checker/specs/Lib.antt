@@ -1,14 +1,10 @@
 pub mod Bounding
 pub mod Claimed
 pub mod Excluded
-pub mod PairSums
+pub mod Fault
 pub mod Proved
+pub mod Refutes
 pub mod Refuting
 pub mod Shape
-pub mod Shown
 pub mod Shows
-pub mod Sums
-pub mod SystemPoints
-pub mod Systems
-pub mod Targets
 pub mod Valid

@@ -8,38 +8,15 @@ use Rattle.cti_terms.specs.declared.atom_list.Atom.{Atom}
 use Rattle.cti_terms.specs.declared.clauses.Clause.{Clause}
 use Rattle.cti_terms.specs.declared.predicates.Pred.{Pred}
 use Rattle.call_components.specs.Partition.{Partition}
-use Rattle.linear_rows.specs.declared.multipliers.Multipliers.{Multipliers}
-use Rattle.certificate_parts.specs.declared.parts.LevelPart.{LevelPart}
-use Rattle.certificate_parts.specs.declared.parts.PairPoint.{PairPoint}
-use Rattle.certificate_parts.specs.declared.parts.Refutation.{Refutation}
-use Rattle.certificate_parts.specs.declared.parts.ScaledPoint.{ScaledPoint}
-use Rattle.certificate_parts.specs.declared.parts.Parts.{Parts}
+use Rattle.number_tests.specs.declared.refutation.Refutation.{Refutation}
+use Rattle.cert_structure.specs.declared.parts.Parts.{Parts}
 use Rattle.termination_model.specs.Sizes.{rows_of}
-
--- the list at a place of a list of lists, or the empty one past the end
-abbrev pub list_at : {X : Type 0} → List (List X) → ℕ → List X
-list_at xss k = slice_index_or xss k []
+use Rattle.linear_rows.specs.Showing.{AreMultipliers}
+use Rattle.number_tests.specs.Shape.{IsLevelPart, IsPairOf, list_at, row_count}
 
 -- two predicates are of one component
 abbrev pub AreTogether : Partition → ℕ → ℕ → Type 0
 AreTogether comps a b = slice_get comps.of a ≡ slice_get comps.of b
-
--- how many size rows atoms have together
-abbrev pub row_count : (ℕ → List (List ℤ)) → List Atom → ℕ
-row_count rows [] = 0
-row_count rows (b ∷ bs) = length (rows b.pred.0) + row_count rows bs
-
--- a natural multiplier for each of n rows, and a natural scale
-pub record AreMultipliers (n : ℕ) (m : Multipliers) : Type 0 where
-  pub each : length m.list ≡ n
-  pub naturals : All (λ x. pos 0 ≤ℤ x) m.list
-  pub scale : pos 0 ≤ℤ m.scale
-
--- a natural coefficient for each of n arguments, and a natural offset
-pub record IsLevelPart (n : ℕ) (l : LevelPart) : Type 0 where
-  pub each : length l.coeffs ≡ n
-  pub naturals : All (λ x. pos 0 ≤ℤ x) l.coeffs
-  pub offset : pos 0 ≤ℤ l.offset
 
 -- for each clause the multipliers of each size row of its head, over the rows of its whole body
 pub record HaveRowProofs (p : Listing) (parts : Parts) : Type 0 where
@@ -61,16 +38,6 @@ pub record HaveFalls (p : Listing) (comps : Partition) (parts : Parts) : Type 0 
       → length (list_at (list_at parts.falls k) j) ≡ length (list_at parts.levels c.head.pred.0)
   pub multipliers : (k j : ℕ) (c : Clause) (b : Atom) → slice_get p.clauses k ≡ Some c → slice_get c.body j ≡ Some b → AreTogether comps c.head.pred.0 b.pred.0
       → AllByRecursion (AreMultipliers (row_count (rows_of parts.rows) (take j c.body))) (list_at (list_at parts.falls k) j)
-
--- a pair of the program, with points of the clause's variables
-pub record IsPairOf (p : Listing) (x : PairPoint) : Type 0 where
-  pub clause : Clause
-  pub there : slice_get p.clauses (x.clause - 1) ≡ Some clause
-  pub first : 1 ≤ x.clause
-  pub call : 1 ≤ x.call
-  pub last : x.call ≤ length clause.body
-  pub point : length x.point.w ≡ clause.vars
-  pub at : IfSome x.at (λ (y : ScaledPoint). length y.w ≡ clause.vars)
 
 -- for each predicate a refutation or none, with points of pairs
 pub record HaveRefutations (p : Listing) (parts : Parts) : Type 0 where

@@ -7,7 +7,7 @@ use Rattle.cti_terms.specs.Tree.{Tree}
 use Rattle.cti_terms.specs.Listing.{Listing, IsProgram}
 use Rattle.cti_terms.specs.declared.clauses.Clause.{Clause}
 use Rattle.call_components.specs.Partition.{Partition, AreComponents}
-use Rattle.certificate_parts.specs.declared.parts.Parts.{Parts}
+use Rattle.cert_structure.specs.declared.parts.Parts.{Parts}
 use Rattle.termination_model.specs.Grounds.{Family}
 use Rattle.termination_model.specs.Claims.{Measure, IsRanked}
 use Rattle.termination_model.specs.Short.{SizesProved, DescendsProved}

@@ -10,9 +10,9 @@ use Rattle.cti_terms.specs.Listing.{Listing}
 use Rattle.cti_terms.specs.Tree.{Tree, truth}
 use Rattle.call_components.specs.Partition.{Partition, AreComponents}
 use Rattle.certificate.specs.declared.fact.Fact.{Fact}
-use Rattle.certificate_parts.specs.Structure.{IsStructured}
-use Rattle.certificate_parts.specs.declared.parts.Parts.{Parts}
-use Rattle.mode_checker.specs.Modes.{ModesHold}
+use Rattle.cert_structure.specs.Structure.{IsStructured}
+use Rattle.cert_structure.specs.declared.parts.Parts.{Parts}
+use Rattle.cert_modes.specs.Modes.{ModesHold}
 use Rattle.term_size.specs.Occurrences.{size_row}
 use Rattle.cert_checker.specs.Proved.{ByHold, FallsHold, MeasuresAreZero}
 use Rattle.cert_checker.specs.Refuting.{RefutationsHold}

@@ -3,12 +3,12 @@
 ghost use Rattle.std.specs.Prelude.{◌≢◌, ℕ, List};
 ghost use Rattle.std.specs.List.{AllPairs};
 ghost use Rattle.certificate.specs.declared.fact.Fact.{Fact};
-ghost use Rattle.certificate_parts.specs.Structure.{AreNamed};
+ghost use Rattle.cert_structure.specs.Structure.{AreNamed};
 ghost use Rattle.cti_terms.specs.Listing.{IsProgram, Listing};
 ghost use Rattle.cert_checker.specs.Bounding.{ModesAreBounded};
 ghost use Rattle.cert_checker.specs.Valid.{IsValid};
 
-use mode_checker::holding_modes_show;
+use cert_modes::holding_modes_show;
 
 /// Where a certificate of a program is valid, each query that meets one of its modes is bounded.
 ///

@@ -2,9 +2,10 @@
 
 ghost use Rattle.std.specs.Prelude.{◌≡◌, ◌↔◌, IfOk, None};
 ghost use Rattle.call_components.specs.Partition.{AreComponents};
-ghost use Rattle.certificate_parts.specs.Shape.{HaveShape};
-ghost use Rattle.certificate_parts.specs.Structure.{AreNamed};
+ghost use Rattle.cert_structure.specs.Shape.{HaveShape};
+ghost use Rattle.cert_structure.specs.Structure.{AreNamed};
 ghost use Rattle.cert_checker.specs.Bounding.{ModesAreBounded};
+ghost use Rattle.cert_checker.specs.Refutes.{RefutedHaveNoMapping};
 ghost use Rattle.cert_checker.specs.Valid.{IsValid, PartsHold};
 ghost use Rattle.cert_checker.specs.declared.verdict.Verdict.TheVariants.{Yes};
 ghost use Rattle.cti_terms.specs.Tree.{truth};
@@ -19,10 +20,10 @@ use crate::refutation_faults::refutation_fault;
 use crate::size_faults::size_fault;
 use crate::verdict::Verdict;
 use call_components::{Components, components};
+use cert_modes::mode_fault;
+use cert_structure::{Parts, PartsFault, one_structure, parts_of};
 use certificate::Certificate;
-use certificate_parts::{Parts, PartsFault, one_structure, parts_of};
 use cti_terms::{Names, Program};
-use mode_checker::mode_fault;
 use std::alloc::{AllocError, Global};
 use term_size::TermSize;
 
@@ -64,8 +65,11 @@ fn first_fault(
     c: &Certificate,
 ) -> Result<Option<Fault>, AllocError>
     requires named { AreNamed names.now p.now.preds }
-    ensures { IfOk result (λ fault. (fault ≡ None) ↔ IsValid p.now names.now c.now.facts) }
+    ensures valid { IfOk result (λ fault. (fault ≡ None) ↔ IsValid p.now names.now c.now.facts) }
+    ensures excluded { IfOk result (λ fault. fault ≡ None → RefutedHaveNoMapping p.now names.now c.now.facts) }
 {
+    // What every program keeps.
+    p.preds();
     let comps = components(alloc, p)?;
     // The parts do not depend on how the components are numbered.
     one_structure();
@@ -98,6 +102,9 @@ pub fn check(
 
     // And then each query that meets a mode of the certificate is bounded.
     ensures bounded { IfOk result (λ v. v ≡ Yes → ModesAreBounded p.now names.now c.now.facts) }
+
+    // And no mapping of a component with a refutation decreases, for the size rows of the certificate.
+    ensures excluded { IfOk result (λ v. v ≡ Yes → RefutedHaveNoMapping p.now names.now c.now.facts) }
 {
     // No two names have the same text, and no two predicates the same name and arity.
     names.count();

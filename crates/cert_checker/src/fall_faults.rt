@@ -4,10 +4,11 @@ ghost use Rattle.std.specs.Prelude.{◌≡◌, ◌↔◌, ◌+◌, ◌-◌, ◌�
 ghost use Rattle.std.specs.List.{AllByRecursion};
 ghost use Rattle.call_components.specs.Partition.{AreComponents};
 ghost use Rattle.cert_checker.specs.Proved.{CallsFall, FallsHold};
-ghost use Rattle.cert_checker.specs.Shape.{AreMultipliers, HaveFalls, HaveLevels, list_at};
-ghost use Rattle.cert_checker.specs.Shown.{IsShown, ReasonShows};
-ghost use Rattle.cert_checker.specs.Targets.{AreFallColumns, CanBeWeighed, fall_weights};
-ghost use Rattle.certificate_parts.specs.declared.parts.LevelPart.{LevelPart};
+ghost use Rattle.linear_rows.specs.Showing.{AreMultipliers, IsShown};
+ghost use Rattle.number_tests.specs.Shape.{list_at};
+ghost use Rattle.cert_checker.specs.Shape.{HaveFalls, HaveLevels};
+ghost use Rattle.number_tests.specs.Targets.{AreFallColumns, CanBeWeighed, fall_weights};
+ghost use Rattle.number_tests.specs.declared.level_part.LevelPart.{LevelPart};
 ghost use Rattle.cti_terms.specs.Listing.{atom_nodes};
 ghost use Rattle.cti_terms.specs.Tree.{is_below};
 ghost use Rattle.cti_terms.specs.declared.clauses.Clause.{Clause};
@@ -16,36 +17,17 @@ ghost use Rattle.linear_rows.specs.declared.multipliers.Multipliers.{Multipliers
 ghost use Rattle.termination_model.specs.Replacing.{over_columns};
 ghost use Rattle.termination_model.specs.Sizes.{AreSizes};
 
-use crate::clause_systems::{extend, first_system};
 use crate::fault::Fault;
 use crate::reason::Reason;
-use crate::row_proofs::check_fall;
-use crate::targets::{join_columns, weigh_fall};
 use call_components::Components;
-use certificate::Sequence;
-use certificate_parts::{LevelPart, Parts};
-use cti_terms::{Atom, MOST_NODES, MOST_VARIABLES, Program};
-use linear_rows::{Multipliers, Numbers, Proof, Row, Rows, System};
+use cert_structure::{LevelPart, Parts};
+use cti_terms::Program;
+use linear_rows::{Multipliers, Numbers, Rows};
+use number_tests::{extend, fall_columns, fall_flaw, first_system, weigh_fall};
+use sequences::Sequence;
 use std::alloc::{AllocError, Global};
 use term_size::Norm;
-use termination_model::{add_expressions, columns, replaced};
-
-// Why multipliers do not show a fall, if they do not.
-fn fall_reason(rows: &Rows, target: Option<Row>, by: &Multipliers) -> Option<Reason>
-    requires multipliers { AreMultipliers (length rows.now.list) by.now }
-    requires width { HaveWidth rows.now.width rows.now.list }
-    requires target { IfSome target (λ t. length t.coeffs ≡ rows.now.width) }
-    ensures { ReasonShows (plain_rows rows.now.list) target by.now result }
-{
-    let Some(target) = target else {
-        return Some(Reason::Wide);
-    };
-    match check_fall(rows, &target, by) {
-        Proof::Holds => None,
-        Proof::Fails => Some(Reason::Measure),
-        Proof::Wide => Some(Reason::Wide),
-    }
-}
+use termination_model::replaced;
 
 // The first mapping that its multipliers do not show to fall. The first one has this line.
 //
@@ -72,34 +54,14 @@ fn mapping_fault(
     for m in 0..proofs.len() {
         let weights = weigh_fall(alloc, &heads[m], &calls[m])?;
         let target = replaced(alloc, weights.as_slice(), columns)?;
-        if let Some(reason) = fall_reason(rows, target, &proofs[m]) {
+        if let Some(flaw) = fall_flaw(rows, target, &proofs[m]) {
             return Ok(Some(Fault {
                 line: line.saturating_add(m as u64),
-                reason,
+                reason: Reason::of(flaw, Reason::Measure),
             }));
         }
     }
     Ok(None)
-}
-
-// The columns of a clause's head and of a call of its body, over the clause's variables.
-fn fall_columns<N: Norm>(
-    alloc: Global,
-    norm: &N,
-    system: &System,
-    call: &Atom,
-) -> Result<Vec<Numbers>, AllocError>
-    requires few { system.now.head.width ≤ MOST_VARIABLES }
-    requires below { AllByRecursion (λ t. IsTrue (is_below system.now.head.width t)) call.now.args }
-    requires small { atom_nodes call.now ≤ MOST_NODES }
-    ensures { IfOk result (λ columns. AreFallColumns (plain_rows system.now.head.list) (map (N.expression norm.now system.now.head.width) call.now.args)
-        system.now.head.width columns.items) }
-{
-    let head = columns(alloc, &system.head)?;
-    let mut sizes = Rows::new(alloc, system.head.width);
-    add_expressions(alloc, norm, &call.args, &mut sizes)?;
-    let own = columns(alloc, &sizes)?;
-    join_columns(alloc, head.as_slice(), own.as_slice())
 }
 
 // The first fall of a clause that is not shown. Clauses count from 1, and the first fall has this line.

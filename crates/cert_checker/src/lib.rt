@@ -7,35 +7,22 @@
 //! structure and of the modes among them: `IsValid` of `specs/Valid.antt` says what makes a certificate valid, and
 //! `ModesAreBounded` of `specs/Bounding.antt` what that means for queries.
 //!
-//! Stands on `certificate_parts`, which gives the parts of a certificate, on `mode_checker`, on `termination_model` and
-//! on `linear_rows`.
+//! Depends on `cert_structure`, which gives the parts of a certificate, on `cert_modes`, and on `number_tests`, which
+//! tests multipliers and points.
 #![tactic(auto)]
 
 mod bounding;
 mod checking;
-mod clause_systems;
 mod fall_faults;
 mod fault;
 mod laws;
 mod lines;
 mod lower_faults;
 mod measure_faults;
-mod member_sums;
-mod pair_sums;
-mod point_faults;
-mod point_values;
-mod reached;
-mod reaching;
 mod reason;
 mod refutation_faults;
-mod row_proofs;
 mod size_faults;
-mod targets;
-#[cfg(test)]
-mod tests;
 mod verdict;
-#[cfg(test)]
-mod worked_certificates;
 
 pub use bounding::valid_certificates_bound_their_modes;
 pub use checking::check;
@@ -43,8 +30,8 @@ pub use fall_faults::fall_fault;
 pub use fault::Fault;
 pub use laws::{numbers_show_claims, refutations_are_those_of_views};
 pub use measure_faults::measure_fault;
+pub use number_tests::{check_fall, check_size};
 pub use reason::Reason;
 pub use refutation_faults::refutation_fault;
-pub use row_proofs::{check_fall, check_size};
 pub use size_faults::size_fault;
 pub use verdict::Verdict;

@@ -1,7 +1,7 @@
 //! The lines of a certificate.
 
-use certificate::Sequence;
-use certificate_parts::Parts;
+use cert_structure::Parts;
+use sequences::Sequence;
 use termination_model::SizeRows;
 
 /// The line of the first mode. That of the version comes before it.

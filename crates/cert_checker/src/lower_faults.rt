@@ -2,8 +2,19 @@
 
 use crate::fault::Fault;
 use crate::reason::Reason;
-use certificate_parts::StructureReason;
-use mode_checker::{ModeFault, ModeReason};
+use cert_modes::{ModeFault, ModeReason};
+use cert_structure::StructureReason;
+use number_tests::Flaw;
+
+impl Reason {
+    /// The reason for a flaw: the given one where the numbers fail, and `Wide` where one does not fit.
+    pub(crate) fn of(flaw: Flaw, failing: Reason) -> Reason {
+        match flaw {
+            Flaw::Fails => failing,
+            Flaw::Wide => Reason::Wide,
+        }
+    }
+}
 
 impl From<StructureReason> for Reason {
     fn from(reason: StructureReason) -> Reason {

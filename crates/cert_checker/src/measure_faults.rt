@@ -9,7 +9,7 @@ ghost use Rattle.cert_checker.specs.Shape.{HaveLevels};
 use crate::fault::Fault;
 use crate::reason::Reason;
 use call_components::Components;
-use certificate_parts::{LevelPart, Parts};
+use cert_structure::{LevelPart, Parts};
 use cti_terms::{PredId, Program};
 
 // Whether all numbers are 0.

@@ -4,16 +4,18 @@ ghost use Rattle.std.specs.Prelude.{◌≡◌, ◌↔◌, IfOk, None, map};
 ghost use Rattle.std.specs.List.{AllByRecursion};
 ghost use Rattle.call_components.specs.Numbers.{number_of};
 ghost use Rattle.call_components.specs.Partition.{AreComponents};
-ghost use Rattle.cert_checker.specs.Refuting.{PointHolds, RefutationsHold, SumsRefute};
-ghost use Rattle.cert_checker.specs.Shape.{HaveRefutations, IsPairOf};
+ghost use Rattle.number_tests.specs.Refuting.{PointHolds, SumsRefute};
+ghost use Rattle.cert_checker.specs.Refuting.{RefutationsHold};
+ghost use Rattle.number_tests.specs.Shape.{IsPairOf};
+ghost use Rattle.cert_checker.specs.Shape.{HaveRefutations};
 ghost use Rattle.termination_model.specs.Sizes.{AreSizes, rows_of};
 
 use crate::fault::Fault;
-use crate::pair_sums::sums_reason;
-use crate::point_faults::points_fault;
+use crate::reason::Reason;
 use call_components::Components;
-use certificate_parts::{PairPoint, Parts};
+use cert_structure::{PairPoint, Parts};
 use cti_terms::{PredId, Program};
+use number_tests::{points_flaw, sums_flaw};
 use std::alloc::{AllocError, Global};
 use term_size::Norm;
 use termination_model::SizeRows;
@@ -33,11 +35,17 @@ fn group_fault<N: Norm>(
     ensures { IfOk result (λ fault. (fault ≡ None) ↔ (SumsRefute (N.expression norm.now) p.now (map number_of members.now) points.now
         × AllByRecursion (PointHolds (N.expression norm.now) p.now (rows_of sizes.now)) points.now)) }
 {
-    let reason = sums_reason(alloc, p, norm, sizes, members, points)?;
-    if let Some(reason) = reason {
+    if let Some(flaw) = sums_flaw(alloc, p, norm, sizes, members, points)? {
+        let reason = Reason::of(flaw, Reason::Refutation);
         return Ok(Some(Fault { line, reason }));
     }
-    points_fault(alloc, p, norm, sizes, points, line.saturating_add(1))
+    let Some(found) = points_flaw(alloc, p, norm, sizes, points)? else {
+        return Ok(None);
+    };
+    Ok(Some(Fault {
+        line: line.saturating_add(1).saturating_add(found.place),
+        reason: Reason::of(found.flaw, Reason::Refutation),
+    }))
 }
 
 // The line behind the points of a refutation. The first point has this line.

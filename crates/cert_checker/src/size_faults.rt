@@ -2,41 +2,24 @@
 
 ghost use Rattle.std.specs.Prelude.{◌≡◌, ◌↔◌, IfOk, IfSome, None, length};
 ghost use Rattle.std.specs.List.{AllByRecursion};
-ghost use Rattle.cert_checker.specs.Proved.{ByHold, RowsAreKept};
-ghost use Rattle.cert_checker.specs.Shape.{AreMultipliers, HaveRowProofs, row_count};
-ghost use Rattle.cert_checker.specs.Shown.{ReasonShows};
-ghost use Rattle.cert_checker.specs.Systems.{IsSizedClause};
+ghost use Rattle.number_tests.specs.Proved.{RowsAreKept};
+ghost use Rattle.cert_checker.specs.Proved.{ByHold};
+ghost use Rattle.linear_rows.specs.Showing.{AreMultipliers};
+ghost use Rattle.number_tests.specs.Shape.{row_count};
+ghost use Rattle.cert_checker.specs.Shape.{HaveRowProofs};
+ghost use Rattle.number_tests.specs.Systems.{IsSizedClause};
 ghost use Rattle.linear_rows.specs.Plain.{HaveWidth, plain_rows};
 ghost use Rattle.termination_model.specs.Sizes.{AreSizes, rows_of};
 
-use crate::clause_systems::{extend, first_system};
 use crate::fault::Fault;
 use crate::reason::Reason;
-use crate::row_proofs::check_size;
-use crate::targets::size_target;
-use certificate_parts::Parts;
+use cert_structure::Parts;
 use cti_terms::{Clause, Program};
-use linear_rows::{Multipliers, Proof, Row, Rows};
+use linear_rows::Multipliers;
+use number_tests::{extend, first_system, size_flaw, size_target};
 use std::alloc::{AllocError, Global};
 use term_size::Norm;
 use termination_model::{SizeRows, columns};
-
-// Why multipliers do not show a size row, if they do not.
-fn size_reason(rows: &Rows, target: Option<Row>, by: &Multipliers) -> Option<Reason>
-    requires multipliers { AreMultipliers (length rows.now.list) by.now }
-    requires width { HaveWidth rows.now.width rows.now.list }
-    requires target { IfSome target (λ t. length t.coeffs ≡ rows.now.width) }
-    ensures { ReasonShows (plain_rows rows.now.list) target by.now result }
-{
-    let Some(target) = target else {
-        return Some(Reason::Wide);
-    };
-    match check_size(rows, &target, by) {
-        Proof::Holds => None,
-        Proof::Fails => Some(Reason::SizeRow),
-        Proof::Wide => Some(Reason::Wide),
-    }
-}
 
 // The first size row of a clause's head that its multipliers do not show. The first one has this line.
 fn clause_size_fault<N: Norm>(
@@ -66,10 +49,10 @@ fn clause_size_fault<N: Norm>(
     let head = columns(alloc, &system.head)?;
     for i in 0..proofs.len() {
         let target = size_target(alloc, own.list.get(i), head.as_slice())?;
-        if let Some(reason) = size_reason(&system.rows, target, &proofs[i]) {
+        if let Some(flaw) = size_flaw(&system.rows, target, &proofs[i]) {
             return Ok(Some(Fault {
                 line: line.saturating_add(i as u64),
-                reason,
+                reason: Reason::of(flaw, Reason::SizeRow),
             }));
         }
     }

@@ -3,7 +3,7 @@
 use crate::reason::Reason;
 
 /// What is answered to a certificate of a program.
-#[derive(Clone, Copy, PartialEq, Eq, Debug)]
+#[derive(Clone, Copy, PartialEq, Eq)]
 pub enum Verdict {
     /// The certificate is valid.
     Yes,

@@ -10,7 +10,7 @@ use crate::line_fault::LineFault;
 use std::alloc::{AllocError, Global};
 
 /// A place of a cube: the truth value that its rows have there, or either.
-#[derive(Clone, Copy, Debug, PartialEq, Eq)]
+#[derive(Clone, Copy, PartialEq, Eq)]
 pub enum CertCell {
     /// False, written `0`.
     Zero,

@@ -16,14 +16,14 @@ use crate::line_fault::LineFault;
 use crate::numbers::after;
 use crate::printing::print_fact;
 use crate::reading::read_fact;
-use crate::sequence::Sequence;
+use sequences::Sequence;
 use std::alloc::{AllocError, Global};
 
 /// The most bytes of a certificate's text that is read.
 pub const MOST_BYTES: usize = 16_777_216;
 
 /// A certificate: its facts, in the order of their lines.
-#[derive(Debug, Drop)]
+#[derive(Drop)]
 pub struct Certificate {
     pub facts: Sequence<Fact>,
 }

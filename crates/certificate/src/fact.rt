@@ -3,12 +3,11 @@
 use crate::cell::CertCell;
 use crate::how::CertHow;
 use crate::pred_text::PredText;
-use crate::sequence::Sequence;
+use sequences::Sequence;
 
 /// One line of a certificate.
 ///
 /// Clauses, calls, mappings, rows, steps and arguments are numbered from 1. A row has its constant first.
-#[derive(Debug, Drop)]
 pub enum Fact {
     /// The version of the format.
     Cti {
@@ -111,4 +110,83 @@ pub enum Fact {
         pred: PredText,
         positions: u64,
     },
+}
+
+impl Drop for Fact {
+    fn drop(self) {
+        match self {
+            Fact::Cti { version: _ } => {}
+            Fact::Terminates { pred: _, modes: _ } => {}
+            Fact::Size {
+                pred: _,
+                index: _,
+                row: _,
+            } => {}
+            Fact::By {
+                clause: _,
+                index: _,
+                scale: _,
+                multipliers: _,
+            } => {}
+            Fact::Grounds {
+                pred: _,
+                index: _,
+                cube: _,
+            } => {}
+            Fact::Measure {
+                pred: _,
+                mapping: _,
+                coeffs: _,
+                offset: _,
+            } => {}
+            Fact::Falls {
+                clause: _,
+                call: _,
+                mapping: _,
+                scale: _,
+                multipliers: _,
+            } => {}
+            Fact::Pre {
+                pred: _,
+                mapping: _,
+                index: _,
+                cube: _,
+            } => {}
+            Fact::Refuted { pred: _, points: _ } => {}
+            Fact::Point {
+                clause: _,
+                call: _,
+                t: _,
+                w: _,
+            } => {}
+            Fact::At {
+                clause: _,
+                call: _,
+                t: _,
+                w: _,
+            } => {}
+            Fact::Image {
+                step: _,
+                clause: _,
+                pred: _,
+                rows: _,
+            } => {}
+            Fact::Step {
+                step: _,
+                pred: _,
+                how: _,
+                rows: _,
+            } => {}
+            Fact::WeakImage { step: _ } => {}
+            Fact::WeakStep { step: _ } => {}
+            Fact::Blown {
+                pred: _,
+                support: _,
+            } => {}
+            Fact::Large {
+                pred: _,
+                positions: _,
+            } => {}
+        }
+    }
 }

@@ -10,7 +10,7 @@ use crate::line_fault::LineFault;
 use std::alloc::{AllocError, Global};
 
 /// How the rows of a predicate came from its rows before a step and the image at that step.
-#[derive(Clone, Copy, Debug, PartialEq, Eq)]
+#[derive(Clone, Copy, PartialEq, Eq)]
 pub enum CertHow {
     /// The image was empty and nothing changed.
     None,

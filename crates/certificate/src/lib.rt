@@ -14,9 +14,6 @@ mod numbers;
 mod pred_text;
 mod printing;
 mod reading;
-mod sequence;
-#[cfg(test)]
-mod tests;
 
 pub use cell::CertCell;
 pub use certificate::{Certificate, MOST_BYTES, one_text};
@@ -24,4 +21,3 @@ pub use fact::Fact;
 pub use fault::CertFault;
 pub use how::CertHow;
 pub use pred_text::PredText;
-pub use sequence::Sequence;

@@ -9,7 +9,7 @@ ghost use Rattle.certificate.specs.Shortening.{list_shortens};
 use crate::field::Field;
 use crate::line_fault::LineFault;
 use crate::numbers::after;
-use crate::sequence::Sequence;
+use sequences::Sequence;
 use std::alloc::{AllocError, Global};
 
 impl<T: Field> Field for Sequence<T> {

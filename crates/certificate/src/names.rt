@@ -11,9 +11,9 @@ use crate::field::Field;
 use crate::line_fault::LineFault;
 use crate::numbers::{after, natural};
 use crate::pred_text::PredText;
-use crate::sequence::Sequence;
 use itoa::Buffer;
 use prolog_tokens::quote;
+use sequences::Sequence;
 use std::alloc::{AllocError, Global};
 
 /// The most arguments of a predicate.

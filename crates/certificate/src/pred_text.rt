@@ -1,9 +1,9 @@
 //! Predicates by their names.
 
-use crate::sequence::Sequence;
+use sequences::Sequence;
 
 /// A predicate: the bytes of its name, and how many arguments it has.
-#[derive(Debug, Drop)]
+#[derive(Drop)]
 pub struct PredText {
     pub name: Sequence<u8>,
     pub arity: u32,

@@ -9,7 +9,7 @@ use crate::fact::Fact;
 use crate::field::Field;
 use crate::line_fault::LineFault;
 use crate::numbers::after;
-use crate::sequence::Sequence;
+use sequences::Sequence;
 use std::alloc::Global;
 
 /// A part of a fact and the comma behind it.

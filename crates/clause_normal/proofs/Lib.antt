@@ -13,3 +13,4 @@ pub mod NumberingLemmas
 pub mod FormLemmas
 pub mod OutcomeLemmas
 pub mod QueryLemmas
+pub mod PlaceLemmas

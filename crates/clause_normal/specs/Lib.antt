@@ -4,6 +4,7 @@ pub mod Bodies
 pub mod Rules
 pub mod Numbering
 pub mod NormalForm
+pub mod ChoiceNames
 pub mod Views
 pub mod Stacks
 pub mod Counts

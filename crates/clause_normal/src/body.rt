@@ -20,10 +20,18 @@ use prolog_reader::ReadTerm;
 use std::alloc::{AllocError, Global};
 
 /// How often variables occur: in a clause, and in one of its disjunctions.
-#[derive(Debug, Drop)]
 pub(crate) struct Tallies {
     pub(crate) clause: Tally,
     pub(crate) choice: Tally,
+}
+
+impl Drop for Tallies {
+    fn drop(self) {
+        let Tallies {
+            clause: _,
+            choice: _,
+        } = self;
+    }
 }
 
 /// Those of these variables that occur more often in the clause than in the disjunction.

@@ -14,7 +14,7 @@ use cti_terms::{MOST_ARGUMENTS, Names};
 use prolog_reader::{ReadShape, ReadTerm};
 
 /// What the term of a clause is.
-#[derive(Debug, Drop)]
+#[derive(Drop)]
 pub(crate) enum Form<'a> {
     /// A directive that asks for nothing here.
     Skipped,

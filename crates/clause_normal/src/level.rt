@@ -58,7 +58,7 @@ fn add_branches<'a>(
 }
 
 /// What a body gives: its atoms, the clauses that its disjunctions ask for, and the number of the next disjunction.
-#[derive(Debug, Drop)]
+#[derive(Drop)]
 pub(crate) struct Level<'a> {
     pub(crate) calls: Vec<Call<'a>>,
     pub(crate) plans: Vec<Pending<'a>>,

@@ -12,6 +12,7 @@ mod clauses;
 mod copying;
 mod fault;
 mod forms;
+mod laws;
 mod level;
 mod limits;
 mod making;
@@ -22,13 +23,12 @@ mod query;
 mod rule;
 mod tally;
 mod task;
-#[cfg(test)]
-mod tests;
 mod text_program;
 mod variables;
 mod words;
 
 pub use fault::{NormFault, NormKind};
+pub use laws::faults_stand_in_their_texts;
 pub use limits::MOST_TEXT_CLAUSES;
 pub use query::normal_query;
 pub use text_program::normal;

@@ -5,6 +5,8 @@ ghost use Rattle.std.specs.List.{AllByRecursion};
 ghost use Rattle.cti_terms.specs.Listing.{with_pred, atom_nodes};
 ghost use Rattle.cti_terms.specs.declared.predicates.Pred.{Pred as ThePred};
 ghost use Rattle.prolog_reader.specs.Names.{Extends};
+ghost use Rattle.prolog_reader.specs.Naming.{with_names};
+ghost use Rattle.clause_normal.specs.ChoiceNames.{functor_texts, call_texts};
 ghost use Rattle.clause_normal.specs.Numbering.{name_number, pred_of, atom_after, atoms_after, with_calls, call_variables, with_rule, HasArity};
 ghost use Rattle.clause_normal.specs.RuleViews.{functor_of, args_of, call_of, rule_of, IsNamed, CallIsFit, FunctorIsFit, RuleIsFit};
 ghost use Rattle.clause_normal.specs.declared.rule.Call.{Call as TheCall};
@@ -25,6 +27,7 @@ fn functor_name(alloc: Global, names: &mut Names, functor: Functor) -> Result<Na
     ensures number { IfOk result (λ n. (later : List (List ℕ)) → Extends names.new later → name_number later (functor_of functor) ≡ n.0) }
     ensures known { IfOk result (λ n. FunctorIsFit (length names.old) functor → n.0 < length names.new) }
     ensures named { IsNamed functor → names.new ≡ names.old }
+    ensures added { OnOk result (names.new ≡ with_names names.old (functor_texts (functor_of functor))) }
 {
     match functor {
         Functor::Named(name) => Ok(name),
@@ -72,6 +75,7 @@ fn add_atom(
     ensures arity { IfOk result (HasArity program.new.preds) }
     ensures known { OnOk result (AllByRecursion (λ (p : ThePred). p.name.0 < length names.old) program.old.preds → AllByRecursion (λ (p : ThePred). p.name.0 < length names.new) program.new.preds) }
     ensures named { IsNamed call.now.functor → names.new ≡ names.old }
+    ensures added { OnOk result (names.new ≡ with_names names.old (functor_texts (call_of call.now).functor)) }
 {
     let name = functor_name(alloc, names, call.functor)?;
     if program.preds() == u32::MAX {
@@ -139,6 +143,7 @@ pub(crate) fn add_atoms(
     ensures arity { IfOk result (λ xs. AllByRecursion (HasArity program.new.preds) xs) }
     ensures known { OnOk result (AllByRecursion (λ (p : ThePred). p.name.0 < length names.old) program.old.preds → AllByRecursion (λ (p : ThePred). p.name.0 < length names.new) program.new.preds) }
     ensures named { AllByRecursion (λ (c : TheCall). IsNamed c.functor) calls.now → names.new ≡ names.old }
+    ensures added { OnOk result (names.new ≡ with_names names.old (call_texts (map call_of calls.now))) }
 {
     let mut atoms = Atoms::new(alloc);
     'calls: for call in calls {
@@ -160,6 +165,7 @@ pub(crate) fn add_rule(
     ensures kept { Extends names.old names.new }
     ensures count { OnOk result (length program.new.clauses ≡ length program.old.clauses + 1) }
     ensures program { OnOk result ((later : List (List ℕ)) → Extends names.new later → program.new ≡ with_rule later program.old (rule_of rule.now)) }
+    ensures added { OnOk result (names.new ≡ with_names names.old (call_texts ((rule_of rule.now).head ∷ (rule_of rule.now).body))) }
     ensures known { OnOk result (AllByRecursion (λ (p : ThePred). p.name.0 < length names.old) program.old.preds → AllByRecursion (λ (p : ThePred). p.name.0 < length names.new) program.new.preds) }
 {
     let variables = rule_variables(alloc, rule)?;

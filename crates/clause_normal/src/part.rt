@@ -12,7 +12,7 @@ use cti_terms::{MOST_ARGUMENTS, Name, Names};
 use prolog_reader::{ReadShape, ReadTerm};
 
 /// A goal of a body.
-#[derive(Debug, Drop)]
+#[derive(Drop)]
 pub(crate) enum Item<'a> {
     /// A call of a name with these arguments.
     Call(Name, &'a [ReadTerm]),
@@ -23,7 +23,7 @@ pub(crate) enum Item<'a> {
 }
 
 /// What a term is in a body.
-#[derive(Debug, Drop)]
+#[derive(Drop)]
 pub(crate) enum Part<'a> {
     /// A conjunction of two bodies.
     Both(&'a ReadTerm, &'a ReadTerm),

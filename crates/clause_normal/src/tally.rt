@@ -7,7 +7,7 @@ ghost use Rattle.clause_normal.specs.Counts.{AreCounts};
 use std::alloc::{AllocError, Global};
 
 /// How often each variable occurs.
-#[derive(Debug, Drop)]
+#[derive(Drop)]
 pub(crate) struct Tally {
     pub(crate) counts: Vec<usize>,
 }

@@ -15,7 +15,7 @@ use prolog_reader::ReadTerm;
 use std::alloc::{AllocError, Global};
 
 /// What is left to be looked at.
-#[derive(Debug, Drop)]
+#[derive(Drop)]
 pub(crate) enum Task<'a> {
     /// A goal of a body.
     Goal(Item<'a>),

@@ -1,11 +1,13 @@
 //! The program of a text.
 
-ghost use Rattle.std.specs.Prelude.{◌≡◌, ◌<◌, ◌≤◌, ◌+◌, [], ℕ, List, None, Ok, Err, length, map, position, option_map, IfOk, OnOk, OnErr, MatchResult};
+ghost use Rattle.std.specs.Prelude.{◌≡◌, ◌<◌, ◌≤◌, ◌+◌, [], ℕ, List, None, Ok, Err, length, map, position, option_map, IfOk, IfErr, OnOk, OnErr, MatchResult};
 ghost use Rattle.std.specs.List.{AllByRecursion};
 ghost use Rattle.cti_terms.specs.Listing.{IsProgram};
 ghost use Rattle.cti_terms.specs.declared.predicates.Pred.{Pred as ThePred};
 ghost use Rattle.prolog_reader.specs.Fit.{AreFit};
 ghost use Rattle.prolog_reader.specs.Names.{Extends};
+ghost use Rattle.prolog_reader.specs.Naming.{with_names};
+ghost use Rattle.clause_normal.specs.ChoiceNames.{rule_texts, program_names};
 ghost use Rattle.clause_normal.specs.Faults.{IfFault};
 ghost use Rattle.clause_normal.specs.NormalForm.{normal_form};
 ghost use Rattle.clause_normal.specs.Numbering.{is_equality, with_equality, with_rules, equality_clause};
@@ -26,6 +28,7 @@ fn program_of(alloc: Global, names: &mut Names, rules: &[Rule]) -> Result<Progra
     requires fit { AllByRecursion (RuleIsFit (length names.old)) rules.now }
     ensures kept { Extends names.old names.new }
     ensures program { IfOk result (λ p. (later : List (List ℕ)) → Extends names.new later → p ≡ with_rules later (record { preds = []; clauses = [] }) (map rule_of rules.now)) }
+    ensures added { OnOk result (names.new ≡ with_names names.old (rule_texts (map rule_of rules.now))) }
     ensures room { IfOk result (λ p. length p.clauses ≤ 16384) }
     ensures known { IfOk result (λ p. AllByRecursion (λ (q : ThePred). q.name.0 < length names.new) p.preds) }
 {
@@ -103,7 +106,10 @@ pub fn normal(alloc: Global, text: &ReadText, names: &mut Names) -> Result<Progr
     // The very program of the definition, or its very fault.
     ensures exact { MatchResult result (λ p. normal_form names.new text.now.clauses ≡ Ok p) (λ e. IfFault e (λ f. normal_form names.new text.now.clauses ≡ Err f)) }
 
-    // Earlier names keep their numbers, and those of the predicates are known.
+    // The names are those of the definition, and after a fault those that were there. Earlier names keep their numbers, and those of the
+    // predicates are known.
+    ensures names { OnOk result (names.new ≡ program_names names.old text.now.clauses) }
+    ensures fault { IfErr result (λ e. IfFault e (λ _. names.new ≡ names.old)) }
     ensures kept { Extends names.old names.new }
     ensures known { IfOk result (λ p. AllByRecursion (λ (q : ThePred). q.name.0 < length names.new) p.preds) }
     ensures sound { IfOk result IsProgram }

@@ -149,7 +149,7 @@ pub(crate) fn is_reserved(text: &[u8], arity: usize) -> bool
 }
 
 /// What a name does to the bodies that are its arguments.
-#[derive(Clone, Copy, Debug)]
+#[derive(Clone, Copy)]
 pub(crate) enum Connective {
     /// It joins two bodies.
     And,
@@ -178,7 +178,7 @@ pub(crate) fn connective_of(text: &[u8], arity: usize) -> Connective
 }
 
 /// What a name makes of a clause's term.
-#[derive(Clone, Copy, Debug)]
+#[derive(Clone, Copy)]
 pub(crate) enum Neck {
     /// A directive, as `:- dynamic(p)`.
     Directive,

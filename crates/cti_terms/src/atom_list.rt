@@ -8,14 +8,19 @@ use std::alloc::{AllocError, Global};
 use std::marker::Model;
 
 /// A predicate with its arguments, as many as its arity.
-#[derive(Debug, Drop)]
 pub struct Atom {
     pub pred: PredId,
     pub args: Terms,
 }
 
+impl Drop for Atom {
+    fn drop(self) {
+        let Atom { pred: _, args: _ } = self;
+    }
+}
+
 /// Atoms in a row. Contracts see the list.
-#[derive(Debug, Drop)]
+#[derive(Drop)]
 pub struct Atoms {
     items: Vec<Atom>,
 }

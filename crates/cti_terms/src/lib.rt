@@ -17,8 +17,6 @@ mod naming;
 mod predicates;
 mod syntax;
 mod term_list;
-#[cfg(test)]
-mod tests;
 
 pub use atom_list::{Atom, Atoms};
 pub use clauses::Clause;

@@ -13,10 +13,18 @@ use std::alloc::{AllocError, Global};
 use std::marker::Model;
 
 /// A program: a list of predicates and a list of clauses. Contracts see the two lists.
-#[derive(Debug, Drop)]
 pub struct Program {
     preds: IndexSet<Pred>,
     clauses: Vec<Clause>,
+}
+
+impl Drop for Program {
+    fn drop(self) {
+        let Program {
+            preds: _,
+            clauses: _,
+        } = self;
+    }
 }
 
 impl Model for Program {

@@ -13,9 +13,14 @@ use std::marker::Model;
 pub struct Name(pub u32);
 
 /// The texts of names, each at its name's number. Contracts see the list of the texts.
-#[derive(Debug, Drop)]
 pub struct Names {
     texts: IndexSet<Vec<u8>>,
+}
+
+impl Drop for Names {
+    fn drop(self) {
+        let Names { texts: _ } = self;
+    }
 }
 
 impl Model for Names {

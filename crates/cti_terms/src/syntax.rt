@@ -8,7 +8,7 @@ use crate::naming::Name;
 /// Contracts speak of the plain tree that a term spells.
 ///
 /// Source: abstract terms of ISO/IEC 13211-1:1995, without floats.
-#[derive(Debug, Drop)]
+#[derive(Drop)]
 pub enum Term {
     /// A variable, by its number in the clause or goal that it stands in.
     Var(u32),

@@ -8,7 +8,7 @@ use std::alloc::{AllocError, Global};
 use std::marker::Model;
 
 /// Terms in a row. Contracts see the list of the plain trees that they spell.
-#[derive(Debug, Drop)]
+#[derive(Drop)]
 pub struct Terms {
     items: Vec<Term>,
 }

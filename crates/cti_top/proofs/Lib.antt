@@ -10,3 +10,5 @@ pub mod AnswerLemmas
 pub mod CheckLemmas
 pub mod OutcomeLemmas
 pub mod MeetsLemmas
+pub mod OneAnswer
+pub mod RefusedLemmas

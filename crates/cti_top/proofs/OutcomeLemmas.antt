@@ -18,7 +18,7 @@ use Rattle.cti_terms.specs.declared.derivation.Goal.{Goal}
 use Rattle.ld_resolver.specs.declared.running.Ending.{Ending}
 use Rattle.cti_top.specs.Answers.{AnswersCertificate, AnswersProgram, AnswersRequest}
 use Rattle.cti_top.specs.Answers as answers
-use Rattle.cti_top.specs.Outcome.{most_bytes, program_file, IsAnswer, usage, modes, ran, checked, program_too_long, program_refused, query_refused, certificate_too_long, certificate_refused, Outcome, HasFile, IsDoneOrMemory, IsRanOrMemory, IsCheckedOrMemory}
+use Rattle.cti_top.specs.Outcome.{most_bytes, program_file, IsAnswer, usage, inferred, ran, checked, program_too_long, program_refused, query_refused, certificate_too_long, certificate_refused, Outcome, HasFile, IsDoneOrMemory, IsRanOrMemory, IsCheckedOrMemory}
 use Rattle.cti_top.specs.declared.status.Status.{Status}
 use Rattle.cti_top.specs.declared.status.Status.TheVariants.{Done, No, Usage, Refused, FileFault, OutFault, Memory, Stopped}
 
@@ -41,7 +41,7 @@ memory_unlike (inr e) = cc
 
 pub not_file : (told : Map) (words : List (List ℕ)) (text : List ℕ) → IsAnswer told words FileFault text → ⊥
 not_file told words text (usage n s e) = cc
-not_file told words text (modes f b a t m s) = cc
+not_file told words text (inferred f b a t m s) = cc
 not_file told words text (ran f q n b a t r) = elim r.ran.ends [ ]
 not_file told words text (program_too_long k a m s e) = cc
 not_file told words text (program_refused k b kind at a t r s e) = cc
@@ -52,7 +52,7 @@ not_file told words text (certificate_refused f c b d k l a t i u r s e) = cc
 
 not_out : (told : Map) (words : List (List ℕ)) (text : List ℕ) → IsAnswer told words OutFault text → ⊥
 not_out told words text (usage n s e) = cc
-not_out told words text (modes f b a t m s) = cc
+not_out told words text (inferred f b a t m s) = cc
 not_out told words text (ran f q n b a t r) = elim r.ran.ends [ ]
 not_out told words text (program_too_long k a m s e) = cc
 not_out told words text (program_refused k b kind at a t r s e) = cc
@@ -63,7 +63,7 @@ not_out told words text (certificate_refused f c b d k l a t i u r s e) = cc
 
 not_memory : (told : Map) (words : List (List ℕ)) (text : List ℕ) → IsAnswer told words Memory text → ⊥
 not_memory told words text (usage n s e) = cc
-not_memory told words text (modes f b a t m s) = cc
+not_memory told words text (inferred f b a t m s) = cc
 not_memory told words text (ran f q n b a t r) = elim r.ran.ends [ ]
 not_memory told words text (program_too_long k a m s e) = cc
 not_memory told words text (program_refused k b kind at a t r s e) = cc
@@ -92,21 +92,21 @@ long_or_short (Some files) most file name bytes e h short more =
     let long : most < length bytes = rw same at more.2 in
     omega (arith, short, long)
 
-same_bytes : (told : Map) (file name b bytes : List ℕ) → file ≡ name → HasFile told name bytes → TellsAt told file b → b ≡ bytes
+pub same_bytes : (told : Map) (file name b bytes : List ℕ) → file ≡ name → HasFile told name bytes → TellsAt told file b → b ≡ bytes
 same_bytes None file name b bytes e h t = absurd h
 same_bytes (Some files) file name b bytes e h t = same_Some _ _ (sym t ∙ ap files e ∙ h)
 
-infer_or_run : (name f q : List ℕ) (n : ℕ) → infer name ≡ run f q n → ⊥
+pub infer_or_run : (name f q : List ℕ) (n : ℕ) → infer name ≡ run f q n → ⊥
 infer_or_run name f q n e = cc
 
 infer_or_check : (name f c : List ℕ) → infer name ≡ check f c → ⊥
 infer_or_check name f c e = cc
 
-check_or_run : (file c f q : List ℕ) (n : ℕ) → check file c ≡ run f q n → ⊥
+pub check_or_run : (file c f q : List ℕ) (n : ℕ) → check file c ≡ run f q n → ⊥
 check_or_run file c f q n e = cc
 
 -- what is asked for is asked for once
-one_ask : (words : List (List ℕ)) (x y : Ask) → asks words ≡ Some x → asks words ≡ Some y → x ≡ y
+pub one_ask : (words : List (List ℕ)) (x y : Ask) → asks words ≡ Some x → asks words ≡ Some y → x ≡ y
 one_ask words x y a b = same_Some _ _ (sym a ∙ b)
 
 -- the program's file has no fault
@@ -124,7 +124,7 @@ module _ (told : Map) (words : List (List ℕ)) (ask : Ask) (bytes : List ℕ) (
 pub done_or_memory : (told : Map) (words : List (List ℕ)) (status : Status) (text name bytes : List ℕ) → IsAnswer told words status text → asks words ≡ Some (infer name)
     → HasFile told name bytes → length bytes ≤ most_bytes → ((kind at : ℕ) → IsRefused bytes kind at → ⊥) → IsDoneOrMemory status
 done_or_memory told words status text name bytes (usage n s e) asked has short none = absurd (none-some _ (sym n ∙ asked))
-done_or_memory told words status text name bytes (modes f b a t m s) asked has short none = inl s
+done_or_memory told words status text name bytes (inferred f b a t m s) asked has short none = inl s
 done_or_memory told words status text name bytes (ran f q n b a t r) asked has short none = absurd (infer_or_run name f q n (one_ask words _ _ asked a))
 done_or_memory told words status text name bytes (checked f c b d k a t i u h) asked has short none = absurd (infer_or_check name f c (one_ask words _ _ asked a))
 done_or_memory told words status text name bytes (program_too_long k a m s e) asked has short none = absurd (no_long told words (infer name) bytes asked has k a m short)
@@ -147,7 +147,7 @@ ended status (inl h) = inl h
 ended status (inr h) = inr (inl h)
 
 -- the query that was asked, or the name of the certificate
-abbrev query_of : Ask → List ℕ
+abbrev pub query_of : Ask → List ℕ
 query_of (infer f) = f
 query_of (check f c) = c
 query_of (run f q n) = q
@@ -157,7 +157,7 @@ pub ran_or_memory : (told : Map) (words : List (List ℕ)) (status : Status) (te
     → asks words ≡ Some (run name query steps) → HasFile told name bytes → length bytes ≤ most_bytes → ((kind at : ℕ) → IsRefused bytes kind at → ⊥)
     → ((kind at : ℕ) → IsRefusedQuery bytes query kind at → ⊥) → IsRanOrMemory status
 ran_or_memory told words status text name query bytes steps (usage n s e) asked has short none no_fault = absurd (none-some _ (sym n ∙ asked))
-ran_or_memory told words status text name query bytes steps (modes f b a t m s) asked has short none no_fault = inl s
+ran_or_memory told words status text name query bytes steps (inferred f b a t m s) asked has short none no_fault = inl s
 ran_or_memory told words status text name query bytes steps (ran f q n b a t r) asked has short none no_fault = ended status (done_or_stopped status r.ran.ends)
 ran_or_memory told words status text name query bytes steps (checked f c b d k a t i u h) asked has short none no_fault = absurd (check_or_run f c name query steps (one_ask words _ _ a asked))
 ran_or_memory told words status text name query bytes steps (program_too_long k a m s e) asked has short none no_fault =
@@ -183,7 +183,7 @@ pub checked_or_memory : (told : Map) (words : List (List ℕ)) (status : Status)
     → asks words ≡ Some (check name certificate) → HasFile told name bytes → length bytes ≤ most_bytes → ((kind at : ℕ) → IsRefused bytes kind at → ⊥)
     → HasFile told certificate certified → IsTextOf c certified → IsCheckedOrMemory status
 checked_or_memory told words status text name certificate bytes certified c (usage n s e) asked has short none held is = absurd (none-some _ (sym n ∙ asked))
-checked_or_memory told words status text name certificate bytes certified c (modes f b a t m s) asked has short none held is = inl s
+checked_or_memory told words status text name certificate bytes certified c (inferred f b a t m s) asked has short none held is = inl s
 checked_or_memory told words status text name certificate bytes certified c (ran f q n b a t r) asked has short none held is =
     absurd (check_or_run name certificate f q n (one_ask words _ _ asked a))
 checked_or_memory told words status text name certificate bytes certified c (checked f d b e k a t i u h) asked has short none held is = yes_or_no status (done_or_no h.verdict)
@@ -210,7 +210,7 @@ certified told words file name bytes known status text a t i (answers.long m h) 
 -- the answer to the bytes of the file
 answered : (told : Map) (words : List (List ℕ)) (ask : Ask) (bytes : List ℕ) (status : Status) (text : List ℕ) → asks words ≡ Some ask → TellsAt told (program_file ask) bytes
     → AnswersProgram told bytes ask status text → IsAnswer told words status text
-answered told words (infer file) bytes status text a t (inl (s, m)) = modes file bytes a t m s
+answered told words (infer file) bytes status text a t (inl (s, m)) = inferred file bytes a t m s
 answered told words (check file name) bytes status text a t (inl (known, i, h)) = certified told words file name bytes known status text a t i h
 answered told words (run file query n) bytes status text a t (inl (inl r)) = ran file query n bytes a t r
 answered told words (run file query n) bytes status text a t (inl (inr (kind, at, r, h))) = query_refused file query n bytes kind at a t r h.status h.line

@@ -9,8 +9,9 @@ use Rattle.prolog_reader.specs.declared.fault.ReadKind.TheVariants.{Long}
 use Rattle.prolog_reader.specs.Answers.{RefusesQuery}
 use Rattle.prolog_reader.specs.Clauses.{Clause}
 use Rattle.prolog_reader.specs.Names.{Extends}
+use Rattle.prolog_reader.specs.Naming.{BeginNames, query_own}
 use Rattle.prolog_reader.specs.Reading.{too_long_query}
-use Rattle.prolog_reader.proofs.NameLemmas.{extends_self}
+use Rattle.prolog_reader.proofs.TextNames.{names_of}
 use Rattle.clause_normal.specs.declared.fault.NormFault.{NormFault}
 use Rattle.clause_normal.specs.declared.fault.NormFault.TheVariants as normal
 use Rattle.clause_normal.specs.Numbering.{is_equality}
@@ -26,13 +27,15 @@ use Rattle.cti_top.specs.Faults.{IsQueryFault, read_fault, normal_fault}
 
 -- a query that is too long
 pub query_too_long : (known : Known) (query : List ℕ) → 1048576 < length query → IsQueryFault known query (source.Refused 8 0)
-query_too_long known query long = (queries.not_read known.names Long (extends_self known.names) (λ later ext. too_long_query long refl) refl, omega arith)
+query_too_long known query long =
+    let all = names_of query_own known.names query in
+    (queries.not_read all.0 Long all.1 (too_long_query long refl) refl, omega arith)
 
 -- a fault in reading refuses the query
-pub query_not_read : (known : Known) (query : List ℕ) (names : List (List ℕ)) (fault : ReadFault) (r : SourceFault) → length query ≤ 1048576 → Extends known.names names
-    → r ≡ read_fault fault → RefusesQuery names known.table query fault → IsQueryFault known query r
-query_not_read known query names (reading.Fault kind at) r short ext e h = rw e (queries.not_read names kind ext h refl, omega (arith, short))
-query_not_read known query names reading.Memory r short ext e h = rw e tt
+pub query_not_read : (known : Known) (query : List ℕ) (names : List (List ℕ)) (fault : ReadFault) (r : SourceFault) → length query ≤ 1048576
+    → BeginNames query_own known.names query names fault → r ≡ read_fault fault → RefusesQuery names known.table query fault → IsQueryFault known query r
+query_not_read known query names (reading.Fault kind at) r short b e h = rw e (queries.not_read b.all kind b.are (h b.all b.begin) refl, omega (arith, short))
+query_not_read known query names reading.Memory r short b e h = rw e tt
 
 -- and so does one of the normal form
 pub query_not_normal : (known : Known) (query : List ℕ) (names : List (List ℕ)) (clause : Clause) (p : Listing) (fault : NormFault) (r : SourceFault) → length query ≤ 1048576

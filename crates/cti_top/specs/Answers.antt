@@ -11,7 +11,7 @@ use Rattle.cti_top.specs.Outcome.{most_bytes as most_program_bytes, program_file
 use Rattle.cti_top.specs.Places.{line_of, column_of}
 use Rattle.cti_top.specs.Refusal.{refusal_line}
 use Rattle.cti_top.specs.Programs.{IsRefused}
-use Rattle.cti_top.specs.Modes.{IsModesOf}
+use Rattle.cti_top.specs.Inferred.{IsInferred}
 use Rattle.cti_top.specs.Runs.{IsKnown, IsRunOf, IsRefusedQuery}
 use Rattle.cti_top.specs.declared.request.Request.{Request}
 use Rattle.cti_top.specs.declared.request.Request.TheVariants as request
@@ -64,7 +64,7 @@ pub data AnswersCertificate (told : Map) (known : Known) (name : List ℕ) (stat
 
 -- what is asked for of the program that these bytes are
 abbrev pub AnswersAsk : Map → List ℕ → Ask → Status → List ℕ → Type 0
-AnswersAsk told bytes (infer file) status text = (status ≡ Done) × IsModesOf bytes text
+AnswersAsk told bytes (infer file) status text = (status ≡ Done) × IsInferred bytes text
 AnswersAsk told bytes (check file certificate) status text = (known : Known) × IsKnown bytes known × AnswersCertificate told known certificate status text
 AnswersAsk told bytes (run file query steps) status text = AnswersQuery bytes query steps status text
 

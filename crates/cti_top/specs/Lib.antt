@@ -7,7 +7,7 @@ pub mod Line
 pub mod Places
 pub mod Refusal
 pub mod Programs
-pub mod Modes
+pub mod Inferred
 pub mod Queries
 pub mod Runs
 pub mod Verdicts

@@ -1,13 +1,13 @@
 -- What each status of the top call says.
 --
 -- To believe: all of this file.
-use Rattle.std.specs.Prelude.{ℕ, ◌≡◌, ◌≤◌, ◌⊎◌, List, length, Option, Some, None}
+use Rattle.std.specs.Prelude.{ℕ, ◌≡◌, ◌⊎◌, List, Option, Some, None}
 use Rattle.cti_top.specs.Told.{Map, TellsAt, TellsMore, Takes, TakesPart}
 use Rattle.cti_top.specs.Words.{Ask, infer, check, run, asks, usage_lines}
 use Rattle.cti_top.specs.Places.{line_of, column_of}
 use Rattle.cti_top.specs.Refusal.{refusal_line}
 use Rattle.cti_top.specs.Programs.{IsRefused}
-use Rattle.cti_top.specs.Modes.{IsModesOf}
+use Rattle.cti_top.specs.Inferred.{IsInferred}
 use Rattle.cti_top.specs.Checks.{IsCheckOf, IsRefusedCertificate}
 use Rattle.cti_top.specs.Queries.{Known}
 use Rattle.cti_top.specs.Runs.{IsKnown, IsRunOf, IsRefusedQuery}
@@ -32,7 +32,7 @@ program_file (run file query steps) = file
 -- map, the bytes are those at the file's name.
 pub data IsAnswer (told : Map) (words : List (List ℕ)) (status : Status) (text : List ℕ) : Type 0 where
   usage : asks words ≡ None → status ≡ Usage → text ≡ usage_lines → IsAnswer told words status text
-  modes : (file bytes : List ℕ) → asks words ≡ Some (infer file) → TellsAt told file bytes → IsModesOf bytes text → status ≡ Done → IsAnswer told words status text
+  inferred : (file bytes : List ℕ) → asks words ≡ Some (infer file) → TellsAt told file bytes → IsInferred bytes text → status ≡ Done → IsAnswer told words status text
   ran : (file query : List ℕ) (steps : ℕ) (bytes : List ℕ) → asks words ≡ Some (run file query steps) → TellsAt told file bytes → IsRunOf bytes query steps status text
       → IsAnswer told words status text
   checked : (file certificate bytes certified : List ℕ) (known : Known) → asks words ≡ Some (check file certificate) → TellsAt told file bytes → IsKnown bytes known
@@ -62,10 +62,6 @@ abbrev pub HasFile : Map → List ℕ → List ℕ → Type 0
 HasFile None name bytes = ⊥
 HasFile (Some files) name bytes = files name ≡ Some bytes
 
--- the bytes are no more than a program may have
-abbrev pub IsShort : List ℕ → Type 0
-IsShort bytes = length bytes ≤ most_bytes
-
 -- the answer was written, or there was no memory for it
 abbrev pub IsDoneOrMemory : Status → Type 0
 IsDoneOrMemory status = (status ≡ Done) ⊎ (status ≡ Memory)
@@ -77,6 +73,10 @@ IsRanOrMemory status = (status ≡ Done) ⊎ (status ≡ Stopped) ⊎ (status �
 -- the same of a certificate, which may not be valid
 abbrev pub IsCheckedOrMemory : Status → Type 0
 IsCheckedOrMemory status = (status ≡ Done) ⊎ (status ≡ No) ⊎ (status ≡ Memory)
+
+-- the refusal was written, or there was no memory for it
+abbrev pub IsRefusedOrMemory : Status → Type 0
+IsRefusedOrMemory status = (status ≡ Refused) ⊎ (status ≡ Memory)
 
 -- the count of the program's file rose, or that of the certificate's
 abbrev pub FileRose : Ask → (List ℕ → ℕ) → (List ℕ → ℕ) → Type 0

@@ -1,17 +1,16 @@
 -- The goal that a query is of a program, or its refusal.
 --
--- A query is read with the operators that the program's text leaves, and by the program's names, to which it may add some. The normal form
--- may add predicates without clauses, and =/2 with its clause.
+-- A query is read with the operators that the program's text leaves, and by the program's names with those that the query adds. The
+-- normal form may add predicates without clauses, and =/2 with its clause.
 --
--- To believe: all of this file, and below it `AnswersQuery` of prolog_reader and `query_form` of clause_normal.
-use Rattle.std.specs.Prelude.{◌≡◌, ◌≢◌, ℕ, List, Ok, Err}
-use Rattle.std.specs.List.{AllPairs}
+-- To believe: all of this file, and below it `AreNamesOf` and `IsQueryAnswer` of prolog_reader and `query_form` of clause_normal.
+use Rattle.std.specs.Prelude.{◌≡◌, ℕ, List, Ok, Err}
 use Rattle.cti_terms.specs.Listing.{Listing}
 use Rattle.cti_terms.specs.declared.derivation.Goal.{Goal}
 use Rattle.prolog_reader.specs.declared.fault.ReadKind.{ReadKind}
-use Rattle.prolog_reader.specs.Answers.{AnswersQuery}
 use Rattle.prolog_reader.specs.Clauses.{Clause}
-use Rattle.prolog_reader.specs.Names.{Extends}
+use Rattle.prolog_reader.specs.Naming.{AreNamesOf, query_own}
+use Rattle.prolog_reader.specs.Reading.{IsQueryAnswer}
 use Rattle.prolog_reader.specs.Table.{Table}
 use Rattle.clause_normal.specs.declared.fault.NormKind.{NormKind}
 use Rattle.clause_normal.specs.Query.{query_form}
@@ -23,11 +22,10 @@ pub record Known : Type 0 where
   pub program : Listing
   pub table : Table
 
--- the query reads as this clause, by names of which those of the program are the first
+-- the query reads as this clause, by the program's names and those that it gives
 pub record ReadsQueryAs (known : Known) (query : List ℕ) (names : List (List ℕ)) (clause : Clause) : Type 0 where
-  pub reads : AnswersQuery names known.table query (Ok clause)
-  pub extends : Extends known.names names
-  pub distinct : AllPairs (λ (a b : List ℕ). a ≢ b) names
+  pub named : AreNamesOf query_own known.names query names
+  pub reads : IsQueryAnswer names known.table query (Ok clause)
 
 -- the query is this goal of this program
 pub record IsQueryOf (known : Known) (query : List ℕ) (names : List (List ℕ)) (p : Listing) (g : Goal) : Type 0 where
@@ -37,7 +35,7 @@ pub record IsQueryOf (known : Known) (query : List ℕ) (names : List (List ℕ)
 
 -- the query is refused for a fault of this kind at this byte
 pub data IsQueryRefused (known : Known) (query : List ℕ) (kind at : ℕ) : Type 0 where
-  not_read : (names : List (List ℕ)) (k : ReadKind) → Extends known.names names → AnswersQuery names known.table query (Err (k, at)) → kind ≡ read_number k
+  not_read : (names : List (List ℕ)) (k : ReadKind) → AreNamesOf query_own known.names query names → IsQueryAnswer names known.table query (Err (k, at)) → kind ≡ read_number k
       → IsQueryRefused known query kind at
   not_normal : (names : List (List ℕ)) (clause : Clause) (k : NormKind) → ReadsQueryAs known query names clause → query_form names known.program clause ≡ Err (k, at)
       → kind ≡ normal_number k → IsQueryRefused known query kind at

@@ -7,7 +7,7 @@ ghost use Rattle.prolog_reader.specs.Meanings.{table_of};
 ghost use Rattle.clause_normal.specs.Numbering.{is_equality};
 ghost use Rattle.cti_top.specs.Words.{Ask, asks, usage_lines};
 ghost use Rattle.cti_top.specs.Programs.{IsProgramOf};
-ghost use Rattle.cti_top.specs.Modes.{IsModesOf};
+ghost use Rattle.cti_top.specs.Inferred.{IsInferred};
 ghost use Rattle.cti_top.specs.Known.{known_of};
 ghost use Rattle.cti_top.specs.Runs.{IsKnown};
 ghost use Rattle.cti_top.specs.Outcome.{FileRose, IsAnswer};
@@ -16,23 +16,22 @@ ghost use Rattle.cti_top.specs.Answers.{ask_of, AnswersAsk, AnswersProgram, Answ
 use crate::answer::{Answer, refused, too_long};
 use crate::checking::check_of;
 use crate::files::{Files, LoadFault};
-use crate::modes::known_modes;
 use crate::refusal::Subject;
 use crate::request::{Refusal, Request, request_in, usage_text};
 use crate::running::run_of;
 use crate::source::{Source, SourceFault, program_in};
 use crate::status::Status;
 use prolog_reader::MOST_BYTES;
+use report::infer;
 use std::alloc::{AllocError, Global};
 
-/// The answer to a program that was read: its modes.
-#[tactic(auto, using(crate::proofs::AnswerLemmas::modes_printed))]
-fn modes_of(alloc: Global, source: &Source) -> Result<Answer, AllocError>
+/// The answer to a program that was read: the certificate of its modes.
+fn inferred(alloc: Global, source: &Source) -> Result<Answer, AllocError>
     requires known { AllByRecursion (λ (q : ThePred). q.name.0 < length source.now.names) source.now.program.preds }
     ensures { IfOk result (λ a. (a.status ≡ Status.Done)
-        × ((bytes : List ℕ) → IsProgramOf bytes source.now.names source.now.program (table_of source.now.ops) → IsModesOf bytes a.text.items)) }
+        × ((bytes : List ℕ) → IsProgramOf bytes source.now.names source.now.program (table_of source.now.ops) → IsInferred bytes a.text.items)) }
 {
-    let certificate = known_modes(alloc, &source.names, &source.program)?;
+    let certificate = infer(alloc, &source.program, &source.names)?;
     Ok(Answer {
         status: Status::Done,
         text: certificate.print(alloc)?,
@@ -53,7 +52,7 @@ fn answer_of<F: Files>(
     ensures others { IfErr result (λ e. (e ≡ Status.FileFault) ⊎ (e ≡ Status.Memory)) }
 {
     match request {
-        Request::Infer(_) => Ok(modes_of(alloc, &source)?),
+        Request::Infer(_) => Ok(inferred(alloc, &source)?),
         Request::Check(_, certificate) => check_of(alloc, &source, certificate, files),
         Request::Run(_, query, steps) => Ok(run_of(alloc, source, query.as_bytes(), steps)?),
     }

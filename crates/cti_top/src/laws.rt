@@ -1,15 +1,21 @@
-//! What a valid certificate says of the runs of queries. It is a function that does nothing, and whose clauses are proved.
+//! What a valid certificate says of the runs of queries, and that a text has one answer. They are functions that do nothing, and whose
+//! clauses are proved.
 
-ghost use Rattle.std.specs.Prelude.{◌≡◌, ◌≢◌, ◌≤◌, ℕ, List, length};
+ghost use Rattle.std.specs.Prelude.{◌≡◌, ◌≢◌, ◌≤◌, ◌⊎◌, ℕ, List, [], ◌∷◌, Some, codes, false, nat_eq, length};
 ghost use Rattle.std.specs.List.{AllPairs};
 ghost use Rattle.certificate.specs.declared.fact.Fact.{Fact};
-ghost use Rattle.certificate_parts.specs.Structure.{AreNamed};
+ghost use Rattle.cert_structure.specs.Structure.{AreNamed};
 ghost use Rattle.cert_checker.specs.Valid.{IsValid};
 ghost use Rattle.cti_terms.specs.Derive.{query};
 ghost use Rattle.cti_terms.specs.Listing.{IsProgram, Listing};
 ghost use Rattle.cti_terms.specs.Nodes.{nodes, HasMoreNodes};
 ghost use Rattle.cti_terms.specs.declared.atom_list.Atom.{Atom};
+ghost use Rattle.cti_terms.specs.declared.derivation.Goal.{Goal};
 ghost use Rattle.cti_top.specs.Meets.{MeetsMode};
+ghost use Rattle.cti_top.specs.Programs.{IsRefused};
+ghost use Rattle.cti_top.specs.Queries.{Known, IsQueryOf, IsQueryRefused};
+ghost use Rattle.cti_top.specs.Runs.{IsKnown};
+ghost use Rattle.cti_top.specs.Words.{asks, infer, check, run};
 
 use cert_checker::valid_certificates_bound_their_modes;
 use ld_resolver::bounded_goals_have_finitely_many_nodes;
@@ -28,3 +34,36 @@ pub fn valid_certificates_bound_their_nodes()
     valid_certificates_bound_their_modes();
     bounded_goals_have_finitely_many_nodes();
 }
+
+/// What words ask for where files and the query are not empty and do not begin with a dash.
+pub fn plain_words_ask()
+    ensures infer { (c : ℕ) (cs : List ℕ) → nat_eq c 45 ≡ false → asks (codes "infer" ∷ (c ∷ cs) ∷ []) ≡ Some (infer (c ∷ cs)) }
+    ensures check { (c d : ℕ) (cs ds : List ℕ) → nat_eq c 45 ≡ false → nat_eq d 45 ≡ false
+        → asks (codes "check" ∷ (c ∷ cs) ∷ (d ∷ ds) ∷ []) ≡ Some (check (c ∷ cs) (d ∷ ds)) }
+    ensures run { (c d : ℕ) (cs ds : List ℕ) → nat_eq c 45 ≡ false → nat_eq d 45 ≡ false
+        → asks (codes "run" ∷ (c ∷ cs) ∷ (d ∷ ds) ∷ []) ≡ Some (run (c ∷ cs) (d ∷ ds) 100000) }
+{}
+
+/// Bytes are exactly one program, with its names and operators, or they are refused, for one fault at one place; and never both. The same of
+/// a query of a program. No two names of a program have the same text.
+pub fn a_text_has_one_answer()
+    ensures some { (bytes : List ℕ) → ((known : Known) × IsKnown bytes known) ⊎ ((kind : ℕ) × (at : ℕ) × IsRefused bytes kind at) }
+    ensures program { (bytes : List ℕ) (known other : Known) → IsKnown bytes known → IsKnown bytes other → known ≡ other }
+    ensures refused { (bytes : List ℕ) (kind at other place : ℕ) → IsRefused bytes kind at → IsRefused bytes other place → (kind ≡ other) × (at ≡ place) }
+    ensures distinct { (bytes : List ℕ) (known : Known) → IsKnown bytes known → AllPairs (λ a b. a ≢ b) known.names }
+    ensures apart { (bytes : List ℕ) (known : Known) → IsKnown bytes known → (kind at : ℕ) → IsRefused bytes kind at → ⊥ }
+    ensures some_goal { (known : Known) (query : List ℕ) → ((names : List (List ℕ)) × (p : Listing) × (g : Goal) × IsQueryOf known query names p g)
+        ⊎ ((kind : ℕ) × (at : ℕ) × IsQueryRefused known query kind at) }
+    ensures goal { (known : Known) (query : List ℕ) (names other : List (List ℕ)) (p q : Listing) (g h : Goal) → IsQueryOf known query names p g → IsQueryOf known query other q h
+        → (names ≡ other) × (p ≡ q) × (g ≡ h) }
+    ensures query_refused { (known : Known) (query : List ℕ) (kind at other place : ℕ) → IsQueryRefused known query kind at → IsQueryRefused known query other place
+        → (kind ≡ other) × (at ≡ place) }
+    ensures query_apart { (known : Known) (query : List ℕ) (names : List (List ℕ)) (p : Listing) (g : Goal) (kind at : ℕ) → IsQueryOf known query names p g
+        → IsQueryRefused known query kind at → ⊥ }
+{}
+
+/// The place of a refusal is one of the text, or its end.
+pub fn refusals_stand_in_their_texts()
+    ensures text { (bytes : List ℕ) (kind at : ℕ) → IsRefused bytes kind at → at ≤ length bytes }
+    ensures query { (known : Known) (query : List ℕ) (kind at : ℕ) → IsQueryRefused known query kind at → at ≤ length query }
+{}

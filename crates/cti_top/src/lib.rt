@@ -9,7 +9,6 @@ mod laws;
 mod line;
 mod memory_files;
 mod memory_sink;
-mod modes;
 mod places;
 mod querying;
 mod real_files;
@@ -22,14 +21,15 @@ mod source;
 mod status;
 mod steps;
 mod sure;
-#[cfg(test)]
-mod tests;
 mod top_call;
 mod verdicts;
 mod writing;
 
 pub use files::{Files, LoadFault};
-pub use laws::valid_certificates_bound_their_nodes;
+pub use laws::{
+    a_text_has_one_answer, plain_words_ask, refusals_stand_in_their_texts,
+    valid_certificates_bound_their_nodes,
+};
 pub use memory_files::MemFiles;
 pub use memory_sink::MemSink;
 pub use real_files::RealFiles;

@@ -34,7 +34,7 @@ impl Files for SureFiles {
 }
 
 /// A sink that never fails: it takes each piece whole, drops it and tells no bytes.
-#[derive(Clone, Copy, Debug)]
+#[derive(Clone, Copy)]
 pub struct SureSink;
 
 impl Sink for SureSink {

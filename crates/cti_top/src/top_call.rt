@@ -6,8 +6,11 @@ ghost use Rattle.certificate.specs.declared.certificate.Certificate.{Certificate
 ghost use Rattle.cti_top.specs.Causes.{Rose};
 ghost use Rattle.cti_top.specs.Words.{Ask, asks, check, infer, run};
 ghost use Rattle.cti_top.specs.Programs.{IsRefused};
-ghost use Rattle.cti_top.specs.Outcome.{FileRose, HasFile, IsCheckedOrMemory, IsDoneOrMemory, IsRanOrMemory, IsShort, Outcome};
-ghost use Rattle.cti_top.specs.Runs.{IsRefusedQuery};
+ghost use Rattle.cti_top.specs.Outcome.{FileRose, HasFile, IsCheckedOrMemory, IsDoneOrMemory, IsRanOrMemory, IsRefusedOrMemory, Outcome, program_file};
+ghost use Rattle.cti_top.specs.Queries.{IsQueryOf, Known};
+ghost use Rattle.cti_top.specs.Runs.{IsKnown, IsRefusedQuery};
+ghost use Rattle.cti_terms.specs.Listing.{Listing};
+ghost use Rattle.cti_terms.specs.declared.derivation.Goal.{Goal};
 
 use crate::answering::answer_for;
 use crate::files::Files;
@@ -36,22 +39,27 @@ pub fn command<F: Files, S: Sink>(
         → (ask : Ask) × (asks (map (λ w. w.now) words.entry.now) ≡ Some ask) × FileRose ask (F.faults files.old) (F.faults files.new) }
     ensures out_fault { result ≡ Status.OutFault → Rose (S.faults out.old) (S.faults out.new) }
 
-    // A file that is told, is short and has no fault is answered, unless memory runs out or a count of faults rises.
-    ensures complete { (name bytes : List ℕ) → asks (map (λ w. w.now) words.entry.now) ≡ Some (infer name) → HasFile (F.told files.old) name bytes → IsShort bytes
-        → ((kind at : ℕ) → IsRefused bytes kind at → ⊥)
+    // A file that is told and is a program is answered, unless memory runs out or a count of faults rises.
+    ensures complete { (name bytes : List ℕ) (known : Known) → asks (map (λ w. w.now) words.entry.now) ≡ Some (infer name) → HasFile (F.told files.old) name bytes → IsKnown bytes known
         → (Rose (F.faults files.old name) (F.faults files.new name) → ⊥) → (Rose (S.faults out.old) (S.faults out.new) → ⊥) → IsDoneOrMemory result }
 
     // The same of a certificate's text within its limit: it is checked.
-    ensures complete_check { (name certificate bytes certified : List ℕ) (c : TheCertificate) → asks (map (λ w. w.now) words.entry.now) ≡ Some (check name certificate)
-        → HasFile (F.told files.old) name bytes → IsShort bytes → ((kind at : ℕ) → IsRefused bytes kind at → ⊥)
-        → HasFile (F.told files.old) certificate certified → IsTextOf c certified
+    ensures complete_check { (name certificate bytes certified : List ℕ) (known : Known) (c : TheCertificate) → asks (map (λ w. w.now) words.entry.now) ≡ Some (check name certificate)
+        → HasFile (F.told files.old) name bytes → IsKnown bytes known → HasFile (F.told files.old) certificate certified → IsTextOf c certified
         → (Rose (F.faults files.old name) (F.faults files.new name) → ⊥) → (Rose (F.faults files.old certificate) (F.faults files.new certificate) → ⊥)
         → (Rose (S.faults out.old) (S.faults out.new) → ⊥) → IsCheckedOrMemory result }
 
-    // The same of a query that has no fault either: it is run, and its search may be stopped.
-    ensures complete_run { (name query bytes : List ℕ) (steps : ℕ) → asks (map (λ w. w.now) words.entry.now) ≡ Some (run name query steps) → HasFile (F.told files.old) name bytes
-        → IsShort bytes → ((kind at : ℕ) → IsRefused bytes kind at → ⊥) → ((kind at : ℕ) → IsRefusedQuery bytes query kind at → ⊥)
+    // The same of a query that is a goal of the program: it is run, and its search may be stopped.
+    ensures complete_run { (name query bytes : List ℕ) (steps : ℕ) (known : Known) (names : List (List ℕ)) (program : Listing) (goal : Goal)
+        → asks (map (λ w. w.now) words.entry.now) ≡ Some (run name query steps) → HasFile (F.told files.old) name bytes → IsKnown bytes known → IsQueryOf known query names program goal
         → (Rose (F.faults files.old name) (F.faults files.new name) → ⊥) → (Rose (S.faults out.old) (S.faults out.new) → ⊥) → IsRanOrMemory result }
+
+    // A file that is refused is answered by its refusal, in the same way, and so is a query.
+    ensures complete_refused { (ask : Ask) (bytes : List ℕ) (kind at : ℕ) → asks (map (λ w. w.now) words.entry.now) ≡ Some ask → HasFile (F.told files.old) (program_file ask) bytes
+        → IsRefused bytes kind at → (FileRose ask (F.faults files.old) (F.faults files.new) → ⊥) → (Rose (S.faults out.old) (S.faults out.new) → ⊥) → IsRefusedOrMemory result }
+    ensures complete_query_refused { (name query bytes : List ℕ) (steps kind at : ℕ) → asks (map (λ w. w.now) words.entry.now) ≡ Some (run name query steps)
+        → HasFile (F.told files.old) name bytes → IsRefusedQuery bytes query kind at
+        → (Rose (F.faults files.old name) (F.faults files.new name) → ⊥) → (Rose (S.faults out.old) (S.faults out.new) → ⊥) → IsRefusedOrMemory result }
 {
     match answer_for(alloc, words, files) {
         Ok(answer) => match write_text(&answer.text, out) {

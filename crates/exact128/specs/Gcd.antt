@@ -1,6 +1,6 @@
 -- The greatest common divisor of two natural numbers.
 --
--- Source: Euclid's algorithm. That it is the greatest common divisor is the lemma `gcd_is` of proofs/Gcds.antt.
+-- Source: Euclid's algorithm. That it is the greatest common divisor is a clause of the function `gcd`.
 use Rattle.std.specs.Prelude.{ℕ, zero, suc, ◌%◌}
 
 -- what so many steps of Euclid's algorithm leave of a and b

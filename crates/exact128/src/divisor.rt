@@ -1,5 +1,6 @@
 // The greatest common divisor, and divisions that leave no rest.
 ghost use Rattle.std.specs.Prelude.{◌≡◌, ◌<◌, ◌≤◌, ◌^◌, ◌/◌, pos, ◌≤ℤ◌, unsigned_abs, int_div};
+ghost use Rattle.std.specs.Int.{IsGcd};
 ghost use Rattle.exact128.specs.Gcd.{gcd};
 
 /// The greatest common divisor. That of 0 and 0 is 0.
@@ -7,6 +8,7 @@ ghost use Rattle.exact128.specs.Gcd.{gcd};
 /// Source: Euclid's algorithm.
 pub fn gcd(a: u128, b: u128) -> u128
     ensures value { result ≡ gcd a b }
+    ensures greatest { IsGcd a b result }
     ensures some { 0 < b → 0 < result }
     ensures within { 0 < b → result ≤ b }
 {

@@ -7,8 +7,6 @@
 mod checked;
 mod divisor;
 mod natural;
-#[cfg(test)]
-mod tests;
 mod wide_sum;
 
 pub use checked::{fits, minus, plus, times};

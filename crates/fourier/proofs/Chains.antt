@@ -1,9 +1,12 @@
 -- A loop of steps.
-use Rattle.std.proofs.Common.{◌≡◌, ℕ, zero, suc, ℤ, List, [], ◌∷◌, ◌++◌, append_assoc, append-nil, ◌+◌, ◌<◌, ◌≤◌, Bool, true, false, cond, Some, None, refl, sym, subst, ap, ◌∙◌, arith}
+use Rattle.std.proofs.Common.{◌≡◌, ℕ, zero, suc, ℤ, List, [], ◌∷◌, ◌++◌, append_assoc, append-nil, ◌+◌, ◌<◌, ◌≤◌, Bool, true, false, cond, Option, Some, None, Err, refl, sym, subst, ap, ◌∙◌, arith}
 use Rattle.linear_rows.specs.Blown.{numbers_fit, step_fits, step_fault, fault_of, blown_from, blown_step, or_else}
 use Rattle.linear_rows.specs.Step.{eliminated, all_eliminated, columns}
 use Rattle.fourier.specs.Adding.{AllFit, AllLong}
-use Rattle.fourier.specs.History.{history_of}
+use Rattle.fourier.specs.History.{history_of, IsBlownAt, StepsSay}
+use Rattle.fourier.specs.declared.fault.StepFault.{StepFault}
+use Rattle.fourier.specs.declared.fault.StepFault.TheVariants.{Wide, Many, Memory}
+use Rattle.fourier.specs.Saying.{IsMany, StepSays, fault_at}
 use Rattle.fourier.proofs.Stays.{fit_stays, long_stays}
 
 -- what is left to do says what the whole says
@@ -82,3 +85,19 @@ going_end many last count i rows current before h g = turn g.rest g.place g.hist
 pub not_fit : (last count : ℕ) (rows : List (List ℤ)) → numbers_fit rows ≡ false → blown_step last (columns 1 count) rows ≡ Some (0, true)
 unfolding blown_step
 not_fit last count rows e = rw e refl
+
+-- what is known exactly is also said briefly
+pub blown_said : (brief : Bool) (s : ℕ) (wide : Bool) (o : Option (ℕ × Bool)) → o ≡ Some (s, wide) → IsBlownAt brief s wide o
+blown_said false s wide o e = e
+blown_said true s wide o e = (wide, e)
+
+blown_many : (brief : Bool) (fault : Option Bool) (s : ℕ) (o : Option (ℕ × Bool)) → IsMany brief fault → ((wide : Bool) → fault ≡ Some wide → o ≡ Some (s, wide)) → IsBlownAt brief s false o
+blown_many false fault s o many is = is false many
+blown_many true fault s o many is = (many.0, is many.0 many.1)
+
+-- a step's fault is that of the steps
+pub steps_fault : (brief : Bool) (m k number : ℕ) (ks : List ℕ) (current rows : List (List ℤ)) (fault : StepFault) → StepSays brief m k current (Err fault)
+    → ((wide : Bool) → step_fault m k current ≡ Some wide → blown_step m ks rows ≡ Some (number, wide)) → StepsSay brief m ks rows (Err (fault_at number fault))
+steps_fault brief m k number ks current rows Wide says is = blown_said brief number true (blown_step m ks rows) (is true says)
+steps_fault brief m k number ks current rows Many says is = blown_many brief (step_fault m k current) number (blown_step m ks rows) says is
+steps_fault brief m k number ks current rows Memory says is = tt

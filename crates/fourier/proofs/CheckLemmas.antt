@@ -8,7 +8,7 @@ use Rattle.exact128.specs.Fits.{Fits, fits}
 use Rattle.exact128.specs.Sums.{entry, dot, DotFits}
 use Rattle.exact128.proofs.FitsLemmas.{to_fits, of_fits, both, either_bool}
 use Rattle.linear_rows.specs.Rows.{column}
-use Rattle.linear_rows.specs.Proves.{goal_number, ColumnFits, Refutes}
+use Rattle.linear_rows.specs.Proves.{goal_number, ColumnFits, AllColumnsFit, Refutes}
 use Rattle.linear_rows.specs.Verdict.{Says}
 use Rattle.linear_rows.specs.Solving.{sums_fit, refutes_in}
 use Rattle.linear_rows.specs.declared.multipliers.Proof.TheVariants.{Holds, Fails, Wide}
@@ -126,3 +126,7 @@ fails_not n rows ms target et r s =
     let q = r.proves target et s.0 s.1 in
     let f = s.3.1 in
     absurd (omega (arith, ints, q, f))
+
+-- each number of the test of all columns fits
+pub all_columns : (n : ℕ) (rows : List (List ℤ)) (ms target : List ℤ) → length target ≡ n + 1 → length ms ≡ length rows → refutes_in rows ms 0 (n + 1) ≡ true → AllColumnsFit rows ms target (pos 0)
+all_columns n rows ms target et e t k h = all_of_true rows ms target 0 (n + 1) e t k (omega arith) (omega arith)

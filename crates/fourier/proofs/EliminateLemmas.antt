@@ -1,5 +1,5 @@
 -- One step, as an elimination of one variable.
-use Rattle.std.proofs.Common.{◌≡◌, ℕ, ℤ, pos, List, [], ◌∷◌, ◌+◌, ◌≤◌, Bool, true, false, Some, None, length, refl, ap, arith}
+use Rattle.std.proofs.Common.{◌≡◌, ℕ, ℤ, pos, List, [], ◌∷◌, ◌+◌, ◌≤◌, Bool, true, false, Some, None, Err, length, refl, ap, arith}
 use Rattle.std.specs.Prelude.{All, ◌↔◌}
 use Rattle.std.proofs.lemmas.List.Elements.{All-nil, All-cons, All-head, All-tail}
 use Rattle.exact128.specs.Sums.{entry}
@@ -12,6 +12,9 @@ use Rattle.linear_rows.proofs.Members.{to_All}
 use Rattle.linear_rows.proofs.Whole.{left_on, kept_on, back_on}
 use Rattle.linear_rows.proofs.Origins.{gone}
 use Rattle.fourier.specs.Adding.{AllLong}
+use Rattle.fourier.specs.Saying.{Eliminates, EliminatesAll}
+use Rattle.fourier.specs.declared.fault.ElimFault.{ElimFault}
+use Rattle.fourier.specs.declared.fault.ElimFault.TheVariants.{Blown, Memory}
 
 pub one_not_fit : (m k : ℕ) (rows : List (List ℤ)) → numbers_fit rows ≡ false → blown_step m (k ∷ []) rows ≡ Some (0, true)
 unfolding blown_step
@@ -39,3 +42,8 @@ all_hold_on m k rows left km e = rw e (to_All (HoldsOn (m + 1) rows) (eliminated
 
 pub same_points : (m k : ℕ) (rows left : List (List ℤ)) → 1 ≤ k → k ≤ m → left ≡ eliminated m k rows → HasFloor m k rows → (row : List ℤ) → entry row k ≡ pos 0 → HoldsOn (m + 1) left row ↔ HoldsOn (m + 1) rows row
 same_points m k rows left k1 km e f row z = rw e (back_on m k rows row km, kept_on m k rows f.row row k1 km f.here f.floors z)
+
+-- the elimination of one column is that of a list of columns
+pub said_once : (m k : ℕ) (rows : List (List ℤ)) (fault : ElimFault) → EliminatesAll m (k ∷ []) rows (Err fault) → Eliminates m k rows (Err fault)
+said_once m k rows (Blown step wide) e = e
+said_once m k rows Memory e = tt

@@ -1,3 +1,4 @@
+pub mod Sequences
 pub mod Loops
 pub mod Alls
 pub mod NumberTests
@@ -14,3 +15,4 @@ pub mod ValueLemmas
 pub mod CheckLemmas
 pub mod SolveLemmas
 pub mod SparseLemmas
+pub mod Crowds

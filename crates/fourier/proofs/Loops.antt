@@ -89,7 +89,7 @@ pub fold-map : {K X Y : Type 0} (G : K → Y → K) (f : X → Y) (start : K) (x
 fold-map G f start [] = refl
 fold-map G f start (x ∷ xs) = fold-map G f (G start (f x)) xs
 
-fold-append : {K X : Type 0} (G : K → X → K) (start : K) (xs ys : List X) → fold G start (xs ++ ys) ≡ fold G (fold G start xs) ys
+pub fold-append : {K X : Type 0} (G : K → X → K) (start : K) (xs ys : List X) → fold G start (xs ++ ys) ≡ fold G (fold G start xs) ys
 fold-append G start [] ys = refl
 fold-append G start (x ∷ xs) ys = fold-append G (G start x) xs ys
 

@@ -1,25 +1,28 @@
 -- How a solving ends.
-use Rattle.std.proofs.Common.{◌≡◌, ℕ, zero, suc, ℤ, pos, List, [], ◌∷◌, ◌+◌, ◌<◌, ◌≤◌, Bool, true, false, cond, Option, Some, None, Result, Ok, Err, drop, length, get_or, refl, sym, subst, ap, ◌∙◌, arith, inl, inr}
+use Rattle.std.proofs.Common.{◌≡◌, ℕ, zero, suc, ℤ, pos, List, [], ◌∷◌, ◌+◌, ◌<◌, ◌≤◌, Bool, true, false, cond, Option, Some, None, Result, Ok, Err, drop, take, length, get_or, refl, sym, subst, ap, ◌∙◌, arith, inl, inr}
 use Rattle.std.specs.Prelude.{All, IfOk}
 use Rattle.std.proofs.lemmas.List.Elements.{All-nil, All-cons}
 use Rattle.exact128.specs.Fractions.{then_do}
+use Rattle.exact128.specs.Sums.{entry}
 use Rattle.linear_rows.specs.Members.{In}
 use Rattle.linear_rows.specs.Proves.{Refutes}
 use Rattle.linear_rows.specs.Blown.{numbers_fit, step_fits, step_fault, fault_of, blown_from, blown_step, or_else}
 use Rattle.linear_rows.specs.Step.{eliminated, all_eliminated, columns}
-use Rattle.linear_rows.specs.Solving.{start_rows, values_of, whole_values, common_of, made_whole, refutes_in, found_of, end_of, solved_by, solution}
-use Rattle.linear_rows.specs.Solving.Solution.{Blown, Refuted}
+use Rattle.linear_rows.specs.Showing.{bottom_row}
+use Rattle.linear_rows.specs.Solving.{Solution, zeros, start_rows, values_of, whole_values, common_of, made_whole, point_fits, refutes_in, found_of, end_of, solved_by, solution}
+use Rattle.linear_rows.specs.Solving.Solution.{Blown, Found, Refuted}
 use Rattle.linear_rows.proofs.Members.{to_All}
 use Rattle.linear_rows.proofs.Founds.{found_holds}
 use Rattle.linear_rows.proofs.Refutes.{start_carries, left_refutes, refuted_refutes}
 use Rattle.fourier.specs.Adding.{AllFit, AllLong}
 use Rattle.fourier.specs.History.{history_of, values_back, AllLongerThan, StepsSay}
-use Rattle.fourier.specs.Solves.{Spells, Decides, whole_back}
+use Rattle.fourier.specs.Solves.{Spells, SpellsUnless, Decides, RefutesInFit, whole_back}
 use Rattle.fourier.specs.declared.fault.ElimFault.{ElimFault}
 use Rattle.fourier.specs.declared.fault.ElimFault.TheVariants.{Blown as BlownFault, Memory}
-use Rattle.fourier.specs.declared.point.Solved.{Solved}
-use Rattle.fourier.specs.declared.point.Solved.TheVariants.{Point as PointFound, Refuted as RefutedBy}
+use Rattle.fourier.specs.declared.solved.Solved.{Solved}
+use Rattle.fourier.specs.declared.solved.Solved.TheVariants.{Point as PointFound, Refuted as RefutedBy}
 use Rattle.fourier.proofs.Alls.{rows_fit}
+use Rattle.fourier.proofs.CheckLemmas.{all_columns}
 use Rattle.fourier.proofs.Stays.{fit_stays, long_stays}
 use Rattle.fourier.proofs.ValueLemmas.{length-history, values_same}
 
@@ -116,12 +119,60 @@ end_found n given left before e el h eb =
     ap (λ o. found_of n given (then_do o (λ vs. then_do (common_of (pos 1) vs) (λ c. made_whole c vs)))) back
     ∙ sym (ap (solved_by n given) e ∙ ap (end_of n given) (sym el ∙ nothing_left left h))
 
-pub fault_spells : (n : ℕ) (given : List (List ℤ)) (f : ElimFault) → StepsSay (n + 1) (columns 1 (n + 1)) (start_rows n given) (Err f) → Spells (solution n given) (Err f)
-fault_spells n given (BlownFault s b) e = end_blown n given s b e
-fault_spells n given Memory e = tt
+pub fault_spells : (brief : Bool) (n : ℕ) (given : List (List ℤ)) (f : ElimFault) → StepsSay brief (n + 1) (columns 1 (n + 1)) (start_rows n given) (Err f) → SpellsUnless brief (solution n given) (Err f)
+fault_spells false n given (BlownFault s b) e = end_blown n given s b e
+fault_spells true n given (BlownFault s b) e = (s, e.0, end_blown n given s e.0 e.1)
+fault_spells brief n given Memory e = tt
+
+-- what is said exactly is also said briefly
+pub spells_unless : (brief : Bool) (s : Solution) (r : Result Solved ElimFault) → Spells s r → SpellsUnless brief s r
+spells_unless brief s (Ok solved) h = h
+spells_unless false s (Err (BlownFault step wide)) h = h
+spells_unless true s (Err (BlownFault step wide)) h = (step, wide, h)
+spells_unless brief s (Err Memory) h = tt
+
+pub spells_exactly : (s : Solution) (r : Result Solved ElimFault) → SpellsUnless false s r → Spells s r
+spells_exactly s (Ok solved) h = h
+spells_exactly s (Err (BlownFault step wide)) h = h
+spells_exactly s (Err Memory) h = tt
 
 -- ---- what an answer shows
 pub spells_decides : (n : ℕ) (given : List (List ℤ)) (r : Result Solved ElimFault) → AllLong (n + 1) given → Spells (solution n given) r → IfOk r (Decides n given)
 spells_decides n given (Ok (PointFound p)) wide s = found_holds n given p.t p.w wide s
 spells_decides n given (Ok (RefutedBy m)) wide s = (s.0, refuted_refutes n given m.list wide s.1)
 spells_decides n given (Err f) wide s = tt
+
+-- ---- a refutation's test is in numbers that fit
+choose : (n : ℕ) (given : List (List ℤ)) (xs ms : List ℤ) (b : Bool) → refutes_in given xs 0 (n + 1) ≡ b → cond b (Refuted xs) (Blown (n + 1) true) ≡ Refuted ms → refutes_in given ms 0 (n + 1) ≡ true
+choose n given xs ms true is e = let same : xs ≡ ms = cc in subst (λ (l : List ℤ). refutes_in given l 0 (n + 1) ≡ true) same is
+choose n given xs ms false is e = cc
+
+found_not : (n : ℕ) (given : List (List ℤ)) (ms : List ℤ) (o : Option (List ℤ)) → found_of n given o ≡ Refuted ms → ⊥
+found_not n given ms None e = cc
+found_not n given ms (Some xs) e = either (point_fits given (entry xs n) (take n xs)) e
+  where
+    either : (b : Bool) → cond b (Found (entry xs n) (take n xs)) (Blown (n + 1) true) ≡ Refuted ms → ⊥
+    either true e = cc
+    either false e = cc
+
+end_fits : (n : ℕ) (given left : List (List ℤ)) (ms : List ℤ) → end_of n given left ≡ Refuted ms → refutes_in given ms 0 (n + 1) ≡ true
+end_fits n given [] ms e = absurd (found_not n given ms (whole_values (n + 1) (columns 1 (n + 1)) (start_rows n given)) e)
+end_fits n given (r ∷ rs) ms e = choose n given (drop (n + 2) r) ms (refutes_in given (drop (n + 2) r) 0 (n + 1)) refl e
+
+solved_fits : (n : ℕ) (given : List (List ℤ)) (ms : List ℤ) (o : Option (ℕ × Bool)) → solved_by n given o ≡ Refuted ms → refutes_in given ms 0 (n + 1) ≡ true
+solved_fits n given ms (Some (s, b)) e = cc
+solved_fits n given ms None e = end_fits n given (all_eliminated (n + 1) (columns 1 (n + 1)) (start_rows n given)) ms e
+
+refuted_fits : (n : ℕ) (given : List (List ℤ)) (ms : List ℤ) → solution n given ≡ Refuted ms → refutes_in given ms 0 (n + 1) ≡ true
+unfolding solution
+refuted_fits n given ms e = solved_fits n given ms (blown_step (n + 1) (columns 1 (n + 1)) (start_rows n given)) e
+
+length-zeros : (n : ℕ) → length (zeros n) ≡ n
+length-zeros zero = refl
+length-zeros (suc n) = ap suc (length-zeros n)
+
+pub spells_proved : (n : ℕ) (given : List (List ℤ)) (r : Result Solved ElimFault) → AllLong (n + 1) given → Spells (solution n given) r → IfOk r (RefutesInFit n given)
+spells_proved n given (Ok (PointFound p)) wide s = tt
+spells_proved n given (Ok (RefutedBy m)) wide s =
+    all_columns n given m.list (bottom_row n) (ap suc (length-zeros n) ∙ omega arith) (refuted_refutes n given m.list wide s.1).long (refuted_fits n given m.list s.1)
+spells_proved n given (Err f) wide s = tt

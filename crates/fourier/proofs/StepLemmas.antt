@@ -1,14 +1,15 @@
 -- Rows that are added one after the other are cleaned, unless there are too many.
 use Rattle.std.proofs.Common.{◌≡◌, ℕ, suc, ℤ, List, [], ◌∷◌, ◌++◌, ◌+◌, ◌<◌, ◌≤◌, Bool, true, false, cond, not, Some, None, map, length, refl, sym, subst, ap, ◌∙◌, arith, length-append, inl, inr, ◌⊎◌}
-use Rattle.std.specs.Prelude.{fold, filter, int_le}
+use Rattle.std.specs.Prelude.{fold, filter, int_le, nat_lt, Result, Ok, Err, OnOk}
 use Rattle.std.proofs.lemmas.Bool.{lt-ltb, le-ltb}
 use Rattle.exact128.specs.Sums.{entry}
 use Rattle.linear_rows.specs.Elimination.{without}
 use Rattle.linear_rows.specs.Cleaning.{reduced, agree, is_trivial, insert_row}
 use Rattle.linear_rows.specs.Equation.{equation_from, combinations_by, step}
-use Rattle.linear_rows.specs.Blown.{step_fits, step_fault, solved_rows_fit, crossings_fit}
+use Rattle.linear_rows.specs.Blown.{step_fits, step_fault, fault_of, solved_rows_fit, crossings_fit}
 use Rattle.linear_rows.specs.Step.{eliminated}
 use Rattle.fourier.specs.Adding.{insert_clean, add_row, add_rows}
+use Rattle.fourier.specs.Saying.{FitsUnless, IsMany}
 
 clean_fold : (m : ℕ) (kept rows : List (List ℤ)) → fold (insert_clean m) kept rows ≡ fold (insert_row m) kept (filter (λ r. not (is_trivial m r)) (map reduced rows))
 unfolding insert_clean
@@ -50,7 +51,7 @@ pub record Capped (kept all : List (List ℤ)) : Type 0 where
   pub few : length kept ≤ 4096 → kept ≡ all
   pub many : 4096 < length kept → 4096 < length all
 
-added_full : (m : ℕ) (kept rows : List (List ℤ)) → 4096 < length kept → add_rows m kept rows ≡ kept
+pub added_full : (m : ℕ) (kept rows : List (List ℤ)) → 4096 < length kept → add_rows m kept rows ≡ kept
 unfolding add_row
 added_full m kept [] h = refl
 added_full m kept (r ∷ rs) h = rw (lt-ltb 4096 (length kept) h) (added_full m kept rs h)
@@ -98,6 +99,33 @@ step_few m k rows kept e c h =
     let is = c.few h in
     let le : length (eliminated m k rows) ≤ 4096 = omega (arith, ap length is) in
     (is, rw (e, le-ltb 4096 (length (eliminated m k rows)) le) refl)
+
+-- the same, also for brief steps
+crowded : (fits many : Bool) → many ≡ false → (wide : Bool) × (fault_of fits many ≡ Some wide)
+crowded true true e = cc
+crowded true false e = (false, refl)
+crowded false many e = (true, refl)
+
+pub said_many : (brief : Bool) (m k : ℕ) (rows kept : List (List ℤ)) → FitsUnless brief kept (step_fits m k rows) → Capped kept (eliminated m k rows) → 4096 < length kept → IsMany brief (step_fault m k rows)
+unfolding step_fault
+said_many false m k rows kept e c h = step_many m k rows kept e c h
+said_many true m k rows kept e c h = crowded (step_fits m k rows) (not (nat_lt 4096 (length (eliminated m k rows)))) (ap not (lt-ltb 4096 (length (eliminated m k rows)) (c.many h)))
+
+pub said_few : (brief : Bool) (m k : ℕ) (rows kept : List (List ℤ)) → FitsUnless brief kept (step_fits m k rows) → Capped kept (eliminated m k rows) → length kept ≤ 4096 → (kept ≡ eliminated m k rows) × (step_fault m k rows ≡ None)
+said_few false m k rows kept e c h = step_few m k rows kept e c h
+said_few true m k rows kept e c h = step_few m k rows kept (e h) c h
+
+pub fits_unless : (brief : Bool) (kept : List (List ℤ)) (b : Bool) → b ≡ true → FitsUnless brief kept b
+fits_unless false kept b e = e
+fits_unless true kept b e = λ _. e
+
+pub unless_crowded : (brief : Bool) (kept : List (List ℤ)) (b : Bool) → brief ≡ true → 4096 < length kept → FitsUnless brief kept b
+unless_crowded false kept b e h = cc
+unless_crowded true kept b e h = λ few. absurd (omega arith)
+
+pub ok_unless : {T E : Type 0} (brief : Bool) (kept : List (List ℤ)) (b : Bool) (r : Result T E) → OnOk r (b ≡ true) → OnOk r (FitsUnless brief kept b)
+ok_unless brief kept b (Ok x) h = fits_unless brief kept b h
+ok_unless brief kept b (Err e) h = h
 
 -- the test of the numbers, by the equation that there is
 pub fits_solved : (m k i j : ℕ) (rows : List (List ℤ)) → equation_from (m + 1) k rows 0 rows ≡ Some (i, j) → solved_rows_fit k i j rows ≡ step_fits m k rows

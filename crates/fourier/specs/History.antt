@@ -1,5 +1,5 @@
 -- The lists of rows before each step, and the values that are chosen from them in the reverse order.
-use Rattle.std.specs.Prelude.{◌≡◌, ℕ, ℤ, pos, List, [], ◌∷◌, Option, Some, None, Result, Ok, Err, All, ◌<◌, length}
+use Rattle.std.specs.Prelude.{◌≡◌, ℕ, ℤ, pos, Bool, true, false, List, [], ◌∷◌, Option, Some, None, Result, Ok, Err, All, ◌<◌, length}
 use Rattle.exact128.specs.Fractions.{Fraction, whole, then_do}
 use Rattle.linear_rows.specs.Elimination.{rising}
 use Rattle.linear_rows.specs.Step.{eliminated, all_eliminated}
@@ -25,9 +25,14 @@ values_back (k ∷ ks) [] = Some []
 values_back (k ∷ ks) (rows ∷ hs) =
     then_do (values_back ks hs) (λ vs. then_do (greatest k vs (whole (pos 0)) (rising k rows)) (λ v. Some (v ∷ vs)))
 
+-- the first blown step is this one, and has the fault; a brief step does not say which
+abbrev pub IsBlownAt : Bool → ℕ → Bool → Option (ℕ × Bool) → Type 0
+IsBlownAt false step wide blown = blown ≡ Some (step, wide)
+IsBlownAt true step wide blown = (w : Bool) × (blown ≡ Some (step, w))
+
 -- what steps answer that eliminate these columns: the rows before each and the rows left, or the first blown step
-abbrev pub StepsSay : ℕ → List ℕ → List (List ℤ) → Result Steps ElimFault → Type 0
-StepsSay m ks rows (Ok steps) =
+abbrev pub StepsSay : Bool → ℕ → List ℕ → List (List ℤ) → Result Steps ElimFault → Type 0
+StepsSay brief m ks rows (Ok steps) =
     (steps.left ≡ all_eliminated m ks rows) × (steps.before ≡ history_of m ks rows) × (blown_step m ks rows ≡ None)
-StepsSay m ks rows (Err (Blown step wide)) = blown_step m ks rows ≡ Some (step, wide)
-StepsSay m ks rows (Err Memory) = Unit {0}
+StepsSay brief m ks rows (Err (Blown step wide)) = IsBlownAt brief step wide (blown_step m ks rows)
+StepsSay brief m ks rows (Err Memory) = Unit {0}

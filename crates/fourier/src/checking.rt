@@ -1,8 +1,8 @@
 // The last checks of a solving: whether their numbers fit.
-ghost use Rattle.std.specs.Prelude.{◌≡◌, pos, negsuc, length, ◌∷◌, drop, IfOk, ◌*ℤ◌, ◌+ℤ◌, SomeIff};
+ghost use Rattle.std.specs.Prelude.{◌≡◌, pos, length, ◌∷◌, drop, IfOk, ◌*ℤ◌, ◌+ℤ◌, SomeIff};
 ghost use Rattle.exact128.specs.Fits.{Fits};
 ghost use Rattle.linear_rows.specs.Plain.{plain_row, plain_rows, HaveWidth};
-ghost use Rattle.linear_rows.specs.Solving.{sums_fit, point_fits, zeros};
+ghost use Rattle.linear_rows.specs.Solving.{sums_fit, point_fits};
 
 use crate::line::Line;
 use exact128::{plus, times};
@@ -59,18 +59,4 @@ pub fn carried(alloc: Global, line: &Line, from: usize) -> Result<Numbers, Alloc
         numbers.push(line.entry(k))?;
     }
     Ok(numbers)
-}
-
-/// The row of constant -1 and coefficients 0, which holds nowhere.
-pub fn minus_one(alloc: Global, width: u32) -> Result<Row, AllocError>
-    ensures { IfOk result (λ row. plain_row row ≡ negsuc 0 ∷ zeros width) }
-{
-    let mut coeffs = Numbers::new(alloc);
-    for _ in 0..width {
-        coeffs.push(0)?;
-    }
-    Ok(Row {
-        constant: -1,
-        coeffs,
-    })
 }

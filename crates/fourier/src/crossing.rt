@@ -1,12 +1,13 @@
 // Combinations of two rows in which a column vanishes.
-ghost use Rattle.std.specs.Prelude.{◌≡◌, true, false, pos, ◌≤ℤ◌, ◌<ℤ◌, length, map, IfOk, OnOk};
+ghost use Rattle.std.specs.Prelude.{◌≡◌, ◌&&◌, nat_lt, true, false, pos, ◌≤ℤ◌, ◌<ℤ◌, length, map, IfOk, OnOk};
 ghost use Rattle.exact128.specs.Fits.{Fits};
 ghost use Rattle.exact128.specs.Sums.{entry};
 ghost use Rattle.linear_rows.specs.Elimination.{crossed, crossings, falling};
 ghost use Rattle.linear_rows.specs.Blown.{crossed_fits, crossings_fit, all_of};
 ghost use Rattle.fourier.specs.Adding.{add_row, add_rows, AllFit, AllLong, OneLength};
+ghost use Rattle.fourier.specs.Saying.{FitsUnless};
 
-use crate::cleaning::add;
+use crate::cleaning::{MOST_ROWS, add};
 use crate::line::Line;
 use crate::lines::Lines;
 use crate::sign::{is_negative, is_positive, negated};
@@ -15,20 +16,26 @@ use linear_rows::RowFault;
 use std::alloc::Global;
 
 /// The kept rows with the combinations of each row that rises in column `k` and each that falls there.
+///
+/// A brief one stops where the kept rows are too many, since then no more are kept.
 pub fn cross_rising(
     alloc: Global,
     kept: &mut Lines,
     rows: &Lines,
     k: usize,
     last: usize,
+    brief: bool,
 ) -> Result<(), RowFault>
     requires fit { AllFit rows.now }
     requires long { OneLength rows.now }
     ensures kept { OnOk result (kept.new ≡ add_rows last kept.old (crossings k rows.now)) }
-    ensures fits { OnOk result (crossings_fit k rows.now ≡ true) }
+    ensures fits { OnOk result (FitsUnless brief kept.new (crossings_fit k rows.now)) }
     ensures wide { result ≡ Err RowFault.Wide → crossings_fit k rows.now ≡ false }
 {
     for i in 0..rows.len() {
+        if is_crowded(brief, kept) {
+            return Ok(());
+        }
         if is_positive(rows.get(i).entry(k)) {
             match cross_falling(alloc, kept, rows.get(i), rows, k, last) {
                 Ok(()) => {}
@@ -37,6 +44,13 @@ pub fn cross_rising(
         }
     }
     Ok(())
+}
+
+// Whether a brief step need not go on.
+fn is_crowded(brief: bool, kept: &Lines) -> bool
+    ensures { result ≡ (brief && nat_lt 4096 (length kept.now)) }
+{
+    brief && kept.len() > MOST_ROWS
 }
 
 // The kept rows with the combinations of `r` and the rows that fall in column `k`.

@@ -7,7 +7,7 @@ ghost use Rattle.linear_rows.specs.Step.{HasFloor};
 ghost use Rattle.fourier.specs.Saying.{Eliminates};
 
 use crate::converting::{lines_of, rows_of};
-use crate::fault::{ElimFault, StepFault};
+use crate::fault::ElimFault;
 use crate::stepping::step;
 use linear_rows::Rows;
 use std::alloc::Global;
@@ -41,16 +41,8 @@ pub fn eliminate(alloc: Global, rows: &Rows, var: u32) -> Result<Rows, ElimFault
         });
     }
     let last = rows.width as usize;
-    match step(alloc, &lines, var as usize + 1, last) {
+    match step(alloc, &lines, var as usize + 1, last, false) {
         Ok(left) => Ok(rows_of(alloc, &left, rows.width)?),
-        Err(StepFault::Wide) => Err(ElimFault::Blown {
-            step: 1,
-            wide: true,
-        }),
-        Err(StepFault::Many) => Err(ElimFault::Blown {
-            step: 1,
-            wide: false,
-        }),
-        Err(StepFault::Memory) => Err(ElimFault::Memory),
+        Err(fault) => Err(fault.at(1)),
     }
 }

@@ -19,10 +19,25 @@ pub enum ElimFault {
 pub enum StepFault {
     /// A number that it forms does not fit.
     Wide,
-    /// Its numbers fit, and it leaves more than 4,096 rows.
+    /// It leaves more than 4,096 rows, and its numbers fit, but for a brief step, which does not look at all of them.
     Many,
     /// Memory was refused.
     Memory,
+}
+
+impl StepFault {
+    ghost use Rattle.fourier.specs.Saying.{fault_at};
+
+    /// The fault of an elimination in which the step has this number.
+    pub fn at(self, step: u32) -> ElimFault
+        ensures { result ≡ fault_at step self }
+    {
+        match self {
+            StepFault::Wide => ElimFault::Blown { step, wide: true },
+            StepFault::Many => ElimFault::Blown { step, wide: false },
+            StepFault::Memory => ElimFault::Memory,
+        }
+    }
 }
 
 impl From<AllocError> for ElimFault {

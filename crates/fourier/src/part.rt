@@ -4,14 +4,14 @@ ghost use Rattle.fourier.specs.Sparse.{first_zeros, rest_at};
 ghost use Rattle.linear_rows.specs.Solving.{zeros};
 
 /// A number behind so many zeros.
-#[derive(Clone, Copy, PartialEq, Eq, Debug)]
+#[derive(Clone, Copy, PartialEq, Eq)]
 pub struct Part {
     pub zeros: usize,
     pub number: i128,
 }
 
 /// Where a walk over parts stands: so many zeros before the part at a place.
-#[derive(Clone, Copy, PartialEq, Eq, Debug)]
+#[derive(Clone, Copy, PartialEq, Eq)]
 pub struct Place {
     pub index: usize,
     pub before: usize,

@@ -4,7 +4,7 @@ ghost use Rattle.linear_rows.specs.Step.{columns};
 ghost use Rattle.fourier.specs.Adding.{OneLength};
 ghost use Rattle.fourier.specs.History.{StepsSay};
 
-use crate::fault::{ElimFault, StepFault};
+use crate::fault::ElimFault;
 use crate::history::History;
 use crate::lines::Lines;
 use crate::stepping::step;
@@ -17,17 +17,18 @@ pub struct Steps {
     pub left: Lines,
 }
 
-/// Eliminates the columns 1 to `count` in order. The columns 1 to `last` are compared.
+/// Eliminates the columns 1 to `count` in order, by brief steps or by whole ones. The columns 1 to `last` are compared.
 pub fn eliminate_columns(
     alloc: Global,
     rows: Lines,
     count: usize,
     last: usize,
+    brief: bool,
 ) -> Result<Steps, ElimFault>
     requires long { OneLength rows }
     requires count { count ≤ last }
     requires last { last < 2 ^ 32 }
-    ensures { StepsSay last (columns 1 count) rows result }
+    ensures { StepsSay brief last (columns 1 count) rows result }
 {
     if !rows.fit() {
         return Err(ElimFault::Blown {
@@ -38,20 +39,12 @@ pub fn eliminate_columns(
     let mut before = History::new(alloc);
     let mut current = rows;
     for i in 0..count {
-        match step(alloc, &current, i + 1, last) {
+        match step(alloc, &current, i + 1, last, brief) {
             Ok(next) => {
                 before.push(current)?;
                 current = next;
             }
-            Err(StepFault::Wide) => return Err(ElimFault::Blown {
-                step: i as u32 + 1,
-                wide: true,
-            }),
-            Err(StepFault::Many) => return Err(ElimFault::Blown {
-                step: i as u32 + 1,
-                wide: false,
-            }),
-            Err(StepFault::Memory) => return Err(ElimFault::Memory),
+            Err(fault) => return Err(fault.at(i as u32 + 1)),
         }
     }
     Ok(Steps {

@@ -1,24 +1,24 @@
 // Solving of rows over naturals.
-ghost use Rattle.std.specs.Prelude.{◌≡◌, ◌+◌, ◌<◌, ◌^◌, All, length, IfOk, drop, take, true, pos, None, Some, if◌then◌else◌};
+ghost use Rattle.std.specs.Prelude.{◌≡◌, ◌+◌, ◌<◌, ◌^◌, All, length, IfOk, IfSome, drop, take, true, pos, None, Some, if◌then◌else◌};
 ghost use Rattle.linear_rows.specs.Plain.{plain_rows, HaveWidth};
 ghost use Rattle.linear_rows.specs.Proves.{Refutes};
 ghost use Rattle.linear_rows.specs.Solving.{solution, found_of, refutes_in};
 ghost use Rattle.linear_rows.specs.Solving.Solution.{Blown as BlownStep, Refuted as RefutedBy};
 ghost use Rattle.fourier.specs.Adding.{AllFit};
 ghost use Rattle.fourier.specs.History.{AllLongerThan};
-ghost use Rattle.fourier.specs.Solves.{Spells, Decides, whole_back};
+ghost use Rattle.fourier.specs.Solves.{Spells, SpellsUnless, SpellsOrBlown, Decides, RefutesInFit, whole_back};
 
-use crate::checking::{carried, minus_one, point_fits};
+use crate::checking::{carried, point_fits};
 use crate::fault::{ElimFault, ValueFault};
 use crate::history::History;
 use crate::line::Line;
-use crate::point::{Point, Solved};
 use crate::scaling::{common_of, made_whole};
 use crate::sequence::eliminate_columns;
+use crate::solved::Solved;
 use crate::starting::start_rows;
 use crate::valuing::values_of;
-use linear_rows::{Multipliers, Numbers, Proof, Rows, proves};
-use std::alloc::Global;
+use linear_rows::{Multipliers, Numbers, Point, Proof, Row, Rows, proves};
+use std::alloc::{AllocError, Global};
 
 /// Finds a point at which all rows hold, or multipliers that show that they hold nowhere.
 ///
@@ -36,13 +36,43 @@ pub fn solve(alloc: Global, rows: &Rows) -> Result<Solved, ElimFault>
 
     // What it is for.
     ensures decides { IfOk result (Decides rows.now.width (plain_rows rows.now.list)) }
+
+    // For multipliers `proves` of the row of constant -1 and coefficients 0 answers Holds.
+    ensures proved { IfOk result (RefutesInFit rows.now.width (plain_rows rows.now.list)) }
+{
+    solved(alloc, rows, false)
+}
+
+/// Finds what `solve` finds, or nothing where the solving is blown.
+///
+/// It stops in the first step that leaves too many rows, and so is quicker there.
+pub fn solve_briefly(alloc: Global, rows: &Rows) -> Result<Option<Solved>, AllocError>
+    requires { HaveWidth rows.now.width rows.now.list }
+
+    // The very solution of that definition, but for how a solving is blown.
+    ensures spells { IfOk result (SpellsOrBlown (solution rows.now.width (plain_rows rows.now.list))) }
+
+    // What it is for.
+    ensures decides { IfOk result (λ o. IfSome o (Decides rows.now.width (plain_rows rows.now.list))) }
+{
+    match solved(alloc, rows, true) {
+        Ok(solved) => Ok(Some(solved)),
+        Err(ElimFault::Blown { .. }) => Ok(None),
+        Err(ElimFault::Memory) => Err(AllocError),
+    }
+}
+
+// What solving finds, by brief steps or by whole ones.
+fn solved(alloc: Global, rows: &Rows, brief: bool) -> Result<Solved, ElimFault>
+    requires { HaveWidth rows.now.width rows.now.list }
+    ensures { SpellsUnless brief (solution rows.now.width (plain_rows rows.now.list)) result }
 {
     // So many variables begin as 2^64 numbers, for which there is no memory.
     let Some(last) = rows.width.checked_add(1) else {
         return Err(ElimFault::Memory);
     };
     let start = start_rows(alloc, rows)?;
-    let steps = match eliminate_columns(alloc, start, last as usize, last as usize) {
+    let steps = match eliminate_columns(alloc, start, last as usize, last as usize, brief) {
         Ok(steps) => steps,
         Err(fault) => return Err(fault),
     };
@@ -118,7 +148,7 @@ fn refuted(alloc: Global, rows: &Rows, line: &Line, last: u32) -> Result<Solved,
     ensures { Spells (if refutes_in (plain_rows rows.now.list) (drop (last + 1) line.now) 0 (rows.now.width + 1) then RefutedBy (drop (last + 1) line.now) else (BlownStep last true)) result }
 {
     let list = carried(alloc, line, last as usize + 1)?;
-    let target = minus_one(alloc, rows.width)?;
+    let target = Row::bottom(alloc, rows.width)?;
     match proves(rows, list.as_slice(), &target, 0) {
         Proof::Holds => Ok(Solved::Refuted(Multipliers { scale: 0, list })),
         Proof::Fails => Err(ElimFault::Blown {

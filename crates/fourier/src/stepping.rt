@@ -3,7 +3,7 @@ ghost use Rattle.std.specs.Prelude.{◌≡◌, true, false, ◌<◌, ◌≤◌, 
 ghost use Rattle.linear_rows.specs.Equation.{equation_from, combinations_by};
 ghost use Rattle.linear_rows.specs.Blown.{step_fits};
 ghost use Rattle.fourier.specs.Adding.{add_rows, AllFit, OneLength};
-ghost use Rattle.fourier.specs.Saying.{StepSays};
+ghost use Rattle.fourier.specs.Saying.{FitsUnless, StepSays};
 
 use crate::cleaning::{MOST_ROWS, add_without};
 use crate::crossing::cross_rising;
@@ -14,19 +14,27 @@ use linear_rows::RowFault;
 use std::alloc::Global;
 
 /// The rows that a step leaves, which eliminates column `k`. The columns 1 to `last` are compared.
-pub fn step(alloc: Global, rows: &Lines, k: usize, last: usize) -> Result<Lines, StepFault>
+///
+/// A brief step stops once its rows are too many, and then does not look for numbers that do not fit.
+pub fn step(
+    alloc: Global,
+    rows: &Lines,
+    k: usize,
+    last: usize,
+    brief: bool,
+) -> Result<Lines, StepFault>
     requires fit { AllFit rows.now }
     requires long { OneLength rows.now }
     requires k { k ≤ last }
     requires last { last < 2 ^ 32 }
-    ensures { StepSays last k rows.now result }
+    ensures { StepSays brief last k rows.now result }
 {
     let mut kept = Lines::new(alloc);
     match add_without(alloc, &mut kept, rows, k, last) {
         Ok(()) => {}
         Err(_) => return Err(StepFault::Memory),
     }
-    match combinations(alloc, &mut kept, rows, k, last) {
+    match combinations(alloc, &mut kept, rows, k, last, brief) {
         Ok(()) => {}
         Err(RowFault::Wide) => return Err(StepFault::Wide),
         Err(RowFault::Memory) => return Err(StepFault::Memory),
@@ -44,17 +52,18 @@ fn combinations(
     rows: &Lines,
     k: usize,
     last: usize,
+    brief: bool,
 ) -> Result<(), RowFault>
     requires fit { AllFit rows.now }
     requires long { OneLength rows.now }
     requires k { k ≤ last }
     requires last { last < 2 ^ 32 }
     ensures kept { OnOk result (kept.new ≡ add_rows last kept.old (combinations_by (equation_from (last + 1) k rows.now 0 rows.now) k rows.now)) }
-    ensures fits { OnOk result (step_fits last k rows.now ≡ true) }
+    ensures fits { OnOk result (FitsUnless brief kept.new (step_fits last k rows.now)) }
     ensures wide { result ≡ Err RowFault.Wide → step_fits last k rows.now ≡ false }
 {
     match equation(rows, k, last + 1) {
         Some((i, j)) => cross_equation(alloc, kept, rows, i, j, k, last),
-        None => cross_rising(alloc, kept, rows, k, last),
+        None => cross_rising(alloc, kept, rows, k, last, brief),
     }
 }

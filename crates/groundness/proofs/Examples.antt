@@ -11,7 +11,7 @@ use Rattle.bool_diagrams.specs.Rows.{iff}
 use Rattle.bool_diagrams.specs.declared.cube.Cell.TheVariants.{Zero, One, Any}
 use Rattle.bool_diagrams.specs.Tree.{Tree as Rows}
 use Rattle.bool_diagrams.specs.declared.diagram.Diagram.{Diagram}
-use Rattle.argument_rows.specs.Sets.{family_of}
+use Rattle.truth_rows.specs.Sets.{family_of}
 use Rattle.termination_model.specs.Grounds.{Family, IsClosed, IsLeast}
 
 abbrev call : List Tree → Atom

@@ -1,6 +1,9 @@
 pub mod ClauseLaws
 pub mod Examples
+pub mod MarkLaws
 pub mod MissingLaws
 pub mod RoundLaws
 pub mod SetLaws
 pub mod Somewhere
+pub mod StartLaws
+pub mod UserLaws

@@ -1,5 +1,5 @@
 -- What it does to the family of the sets that the rows of a clause are added.
-use Rattle.std.proofs.Common.{◌≡◌, ◌↔◌, inl, inr, ℕ, ◌<◌, Bool, ◌||◌, IsTrue, List, length, slice_get, slice_set, slice_index_or, Some, refl, ap, sym, subst, ◌∙◌, arith}
+use Rattle.std.proofs.Common.{◌≡◌, ◌↔◌, inl, inr, ℕ, ◌<◌, Bool, ◌||◌, IsTrue, List, length, slice_get, slice_set, slice_index_or, Option, Some, refl, ap, sym, subst, ◌∙◌, arith}
 use Rattle.std.proofs.lemmas.Bool.{cases_eq}
 use Rattle.std.proofs.lemmas.List.{length-map}
 use Rattle.bool_diagrams.specs.declared.diagram.Diagram.{Diagram}
@@ -13,15 +13,16 @@ use Rattle.cti_terms.specs.declared.predicates.Pred.{Pred}
 use Rattle.cti_terms.specs.Listing.{Listing, IsAtom, IsClause, IsProgram}
 use Rattle.cti_terms.specs.Tree.{Tree}
 use Rattle.termination_model.specs.Grounds.{Family, HasArity, IsClosed, IsClosedUnder, IsGround, IsInside, truth_row}
-use Rattle.argument_rows.specs.Ready.{HasAtoms}
-use Rattle.argument_rows.specs.Sets.{AreSets, family_of}
+use Rattle.truth_rows.specs.Ready.{HasAtoms}
+use Rattle.truth_rows.specs.Sets.{AreSets, family_of, has_row}
 use Rattle.groundness.specs.Sets.{AddsOnlyNeeded, Gives}
+use Rattle.groundness.specs.Marks.{IsApart}
 use Rattle.groundness.specs.Missing.{all_missing}
-use Rattle.argument_rows.proofs.CallerLemmas.{sets_later, sets_with}
-use Rattle.argument_rows.proofs.SetLaws.{none, some_is, family_in, family_put, row_is, truths_of, atom_there}
+use Rattle.truth_rows.proofs.CallerLemmas.{family_later, sets_later, sets_with}
+use Rattle.truth_rows.proofs.SetLaws.{none, some_is, family_in, family_put, row_is, truths_of, atom_there}
 use Rattle.groundness.proofs.MissingLaws.{all_missing_set, missing_less}
-use Rattle.argument_rows.proofs.ListLaws.{by_places, from_places, place_below, there}
-use Rattle.argument_rows.proofs.RowLaws.{or_cases, or_left, or_right, same_bool, first_row, first_values, length-first}
+use Rattle.truth_rows.proofs.ListLaws.{by_places, from_places, place_below, there}
+use Rattle.truth_rows.proofs.RowLaws.{or_cases, or_left, or_right, same_bool, first_row, first_values, length-first}
 
 module _ (p : Listing) (program : IsProgram p) (trees : List Rows) (sets : List Diagram) (S : AreSets p.preds trees sets) where
   module _ (truth : (ℕ → Bool) → Tree → Bool) (T1 T2 : List Rows) (K1 : Keeps trees T1) (K2 : Keeps T1 T2) (k : Clause) (c : IsClause p.preds k) (given joined : Diagram) (known : IsDiagram T2 joined)
@@ -105,6 +106,49 @@ module _ (p : Listing) (program : IsProgram p) (trees : List Rows) (sets : List 
         let gives = (G (values_of row)).1 (v, atoms, truths_of truth v k.head.args) in
         family_put p.preds T2 sets k.head.pred.0 row a.0 (slice_index_or sets k.head.pred.0 none) a.1 at_q (a.2 ∙ sym (length-map k.head.args (truth v)))
         (same (values_of row) ∙ J (values_of row) ∙ or_right _ _ gives)
+
+    -- the sets of the other predicates stay, and that of the head grows
+    pub added_others : (r : ℕ) → ((r ≡ k.head.pred.0) → ⊥) → family_of p.preds T2 (slice_set sets k.head.pred.0 joined) r ≡ family_of p.preds trees sets r
+    added_others r ne = λ i row.
+        (ap (λ (o : Option Diagram). has_row (slice_get p.preds r) T2 o row) (slice_get-set_other sets k.head.pred.0 r joined ne)
+        ∙ ap (λ (f : Family). f r row) (family_later p.preds trees T2 (keeps_twice trees T1 T2 K1 K2) sets S.known)) i
+
+    put_joined : (row : List Bool) → length row ≡ length k.head.args → IsTrue (holds T2 joined (values_of row)) → IsTrue (family_of p.preds T2 (slice_set sets k.head.pred.0 joined) k.head.pred.0 row)
+    put_joined row long t =
+        let a = some_is (λ (x : Pred). x.arity ≡ length k.head.args) (slice_get p.preds k.head.pred.0) c.head.arity in
+        family_put p.preds T2 (slice_set sets k.head.pred.0 joined) k.head.pred.0 row a.0 joined a.1 (slice_get-set_same sets k.head.pred.0 joined (atom_there p program trees sets S k.vars k.head c.head)) (a.2 ∙ sym long) t
+
+    pub added_inside : IsInside (family_of p.preds trees sets) (family_of p.preds T2 (slice_set sets k.head.pred.0 joined))
+    added_inside r row t = elim (cases_eq r k.head.pred.0) [
+      | inl same ↦ subst (λ m. IsTrue (family_of p.preds T2 (slice_set sets k.head.pred.0 joined) m row)) (sym same) (own (subst (λ m. IsTrue (family_of p.preds trees sets m row)) same t))
+      | inr other ↦ ap (λ (f : List Bool → Bool). f row) (added_others r other) ∙ t
+    ]
+      where
+        own : IsTrue (family_of p.preds trees sets k.head.pred.0 row) → IsTrue (family_of p.preds T2 (slice_set sets k.head.pred.0 joined) k.head.pred.0 row)
+        own h =
+            let f = family_in p.preds trees sets k.head.pred.0 row h in
+            let a = some_is (λ (x : Pred). x.arity ≡ length k.head.args) (slice_get p.preds k.head.pred.0) c.head.arity in
+            let e = f.2 in
+            let g = a.1 in
+            let px : f.0 ≡ a.0 = cc in
+            let u = f.3 in
+            let w = at_q in
+            let is : f.1 ≡ slice_index_or sets k.head.pred.0 none = cc in
+            put_joined row (sym f.4 ∙ ap (λ (x : Pred). x.arity) px ∙ a.2)
+            (J (values_of row) ∙ or_left _ _ (old_now (values_of row) ∙ subst (λ (y : Diagram). IsTrue (truth_rows trees y row)) is f.5))
+
+    -- a clause whose body does not ask for its head gives nothing more
+    pub added_apart : IsApart k k.head.pred.0 → IsClosedUnder truth (family_of p.preds T2 (slice_set sets k.head.pred.0 joined)) k
+    added_apart apart = λ v body.
+        let row = truth_row truth v k.head in
+        let atoms : HasAtoms truth trees sets v k.body (length k.body) = λ j b lt at d e.
+        (let t = by_places (IsGround truth (family_of p.preds T2 (slice_set sets k.head.pred.0 joined)) v) k.body body j b at in
+        let f = family_in p.preds trees sets b.pred.0 (truth_row truth v b) (ap (λ (f : List Bool → Bool). f (truth_row truth v b)) (sym (added_others b.pred.0 (apart j b at))) ∙ t) in
+        let g = f.3 in
+        let is : f.1 ≡ d = cc in
+        subst (λ (y : Diagram). IsTrue (truth_rows trees y (truth_row truth v b))) is f.5) in
+        let gives = (G (values_of row)).1 (v, atoms, truths_of truth v k.head.args) in
+        put_joined row (length-map k.head.args (truth v)) (J (values_of row) ∙ or_right _ _ gives)
 
     pub added_less : (HaveSameRows T2 (slice_index_or sets k.head.pred.0 none) joined → ⊥) → all_missing p.preds T2 (slice_set sets k.head.pred.0 joined) < all_missing p.preds trees sets
     added_less apart =

@@ -5,7 +5,7 @@ use Rattle.bool_diagrams.specs.Tree.{Tree as Rows}
 use Rattle.cti_terms.specs.declared.clauses.Clause.{Clause}
 use Rattle.cti_terms.specs.Listing.{Listing}
 use Rattle.cti_terms.specs.Tree.{Tree}
-use Rattle.argument_rows.specs.Ready.{HasAtoms, HasTruths}
+use Rattle.truth_rows.specs.Ready.{HasAtoms, HasTruths}
 use Rattle.termination_model.specs.Grounds.{Family, IsClosed, IsInside}
 
 -- whatever closed family has the rows of the first has those of the second

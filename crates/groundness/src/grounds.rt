@@ -9,7 +9,7 @@ use std::marker::Model;
 /// A set of truth rows for each predicate, as a diagram of the table that it was made in: variable i is argument i.
 ///
 /// Contracts see the list of the diagrams, and `family_of` says which rows they have.
-#[derive(Debug, Drop)]
+#[derive(Drop)]
 pub struct Grounds {
     pub(crate) sets: Vec<Diagram>,
 }

@@ -3,15 +3,14 @@
 //! Where a norm says which terms are rigid, a row in the set of a predicate is a way in which the arguments of an atom
 //! can be rigid, or not, once the atom has succeeded.
 //!
-//! Stands on `termination_model`, which says what the least family is, and on `argument_rows`, whose sets these are.
+//! Stands on `termination_model`, which says what the least family is, and on `truth_rows`, whose sets these are.
 #![tactic(auto)]
 
+mod clause_lists;
 mod clause_rows;
 mod grounds;
+mod marks;
 mod solving;
 
 pub use grounds::Grounds;
 pub use solving::solve;
-
-#[cfg(test)]
-mod tests;

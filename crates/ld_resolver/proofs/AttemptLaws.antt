@@ -1,5 +1,5 @@
 -- What an attempt at the last choice does.
-use Rattle.std.proofs.Common.{◌≡◌, ℕ, suc, ◌+◌, ◌-◌, ◌<◌, ◌≤◌, true, List, ◌∷◌, ◌++◌, map, length, Option, None, Some, option_map, ap, sym, ◌∙◌, subst, arith}
+use Rattle.std.proofs.Common.{◌≡◌, ℕ, ◌+◌, ◌-◌, ◌<◌, ◌≤◌, ◌⊎◌, inl, inr, true, List, ◌∷◌, ◌++◌, map, length, Option, None, Some, option_map, ap, sym, ◌∙◌, subst, arith}
 use Rattle.cti_terms.specs.declared.atom_list.Atom.{Atom}
 use Rattle.cti_terms.specs.declared.clauses.Clause.{Clause}
 use Rattle.cti_terms.specs.declared.derivation.Goal.{Goal}
@@ -13,10 +13,10 @@ use Rattle.ld_resolver.specs.Store.{made, full}
 use Rattle.ld_resolver.specs.Pending.{Extends, KeepsFree, IsUnified}
 use Rattle.ld_resolver.specs.Tails.{tail_at}
 use Rattle.ld_resolver.specs.Below.{AtomsBelow, FreeFrom}
-use Rattle.ld_resolver.specs.Walk.{walk}
+use Rattle.ld_resolver.specs.Walk.{Visit, walk}
 use Rattle.ld_resolver.specs.Choices.{kept, goal_of, left, AreChoices}
-use Rattle.ld_resolver.specs.Searches.{attempts_at, goal_with, IsTakenAt}
-use Rattle.ld_resolver.proofs.SearchLaws.{later_choices, no_node, node, fewer_attempts, resolve_at, same_pred, left_goal, node_free, head_below, goal_below}
+use Rattle.ld_resolver.specs.Searches.{AreWithin, attempts_at, goal_with, IsTakenAt}
+use Rattle.ld_resolver.proofs.SearchLaws.{left_gone, later_choices, no_node, node, fewer_attempts, resolve_at, same_pred, left_goal, node_free, head_below, goal_below}
 
 module _ (p : Listing) (s now : List Binding) (rests : List (List Atom)) (old new : List Choice) (c : Choice) (k : Clause) (all : AreChoices p s rests old) (t : IsTakenAt p old c k new) (e : Extends now (kept s c.mark)) where
   here : AreChoices p s rests (c ∷ t.below)
@@ -30,16 +30,50 @@ module _ (p : Listing) (s now : List Binding) (rests : List (List Atom)) (old ne
 
   -- the choices stay choices
   pub taken_choices : AreChoices p now rests new
-  taken_choices = subst (AreChoices p now rests) (sym t.is) (later_choices p s now rests c t.below here t.within t.m t.next e)
+  taken_choices = go t.is
+    where
+      later : AreChoices p now rests (record c { next = t.m } ∷ t.below)
+      later = later_choices p s now rests c t.below here t.within t.m t.next e
+
+      go : (new ≡ record c { next = t.m } ∷ t.below) ⊎ ((new ≡ t.below) × (length p.clauses < t.m)) → AreChoices p now rests new
+      go (inl same) = subst (AreChoices p now rests) (sym same) later
+      go (inr gone) = subst (AreChoices p now rests) (sym gone.0) later.2
 
   pub taken_fewer : attempts_at p new < attempts_at p old
-  taken_fewer =
-      let less = fewer_attempts p s now rests c t.below here t.within t.m t.next e in
-      omega (arith, less, ap (attempts_at p) t.was, ap (attempts_at p) t.is)
+  taken_fewer = go t.is
+    where
+      less : attempts_at p (record c { next = t.m } ∷ t.below) < attempts_at p (c ∷ t.below)
+      less = fewer_attempts p s now rests c t.below here t.within t.m t.next e
+
+      go : (new ≡ record c { next = t.m } ∷ t.below) ⊎ ((new ≡ t.below) × (length p.clauses < t.m)) → attempts_at p new < attempts_at p old
+      go (inl same) = omega (arith, less, ap (attempts_at p) t.was, ap (attempts_at p) same)
+      go (inr gone) = omega (arith, less, ap (attempts_at p) t.was, ap (attempts_at p) gone.0)
+
+  -- a choice that is gone has nothing left
+  same_left : (q : List Atom) (n : ℕ) → left p q n now rests (record c { next = t.m } ∷ t.below) ≡ left p q n now rests new
+  same_left q n = go t.is
+    where
+      go : (new ≡ record c { next = t.m } ∷ t.below) ⊎ ((new ≡ t.below) × (length p.clauses < t.m)) → left p q n now rests (record c { next = t.m } ∷ t.below) ≡ left p q n now rests new
+      go (inl same) = ap (left p q n now rests) (sym same)
+      go (inr gone) = left_gone p q n now rests (record c { next = t.m }) t.below gone.1 ∙ ap (left p q n now rests) (sym gone.0)
+
+  -- no more steps lead to the choices
+  pub taken_within : (d : ℕ) → AreWithin d old → AreWithin d new
+  taken_within d within = go t.is
+    where
+      all_old : AreWithin d (c ∷ t.below)
+      all_old = subst (AreWithin d) t.was within
+
+      go : (new ≡ record c { next = t.m } ∷ t.below) ⊎ ((new ≡ t.below) × (length p.clauses < t.m)) → AreWithin d new
+      go (inl same) = subst (AreWithin d) (sym same) (all_old.0, all_old.1)
+      go (inr gone) = subst (AreWithin d) (sym gone.0) all_old.1
+
+  pub taken_depth : (d : ℕ) → AreWithin d old → c.depth ≤ d
+  taken_depth d within = (subst (AreWithin d) t.was within).0
 
   -- no goal is left
   pub taken_failed : resolve p (goal_of s rests c) c.next ≡ None → (q : List Atom) (n : ℕ) → left p q n s rests old ≡ left p q n now rests new
-  taken_failed r q n = ap (left p q n s rests) t.was ∙ no_node p s now rests c t.below here t.within t.m t.next e q n r ∙ ap (left p q n now rests) (sym t.is)
+  taken_failed r q n = ap (left p q n s rests) t.was ∙ no_node p s now rests c t.below here t.within t.m t.next e q n r ∙ same_left q n
 
   resolves : (o : Option (List Binding)) → c.atom.now.pred.0 ≡ k.head.pred.0 → unify (head_equations (over (full (kept s c.mark)) (raised c.base c.atom.now)) c.fresh k) ≡ o → resolve p (goal_of s rests c) c.next ≡ option_map (answered (map (over (full (kept s c.mark))) (tail_at rests c.rest)) c.fresh k) o
   resolves o h u =
@@ -60,17 +94,11 @@ module _ (p : Listing) (s now : List Binding) (rests : List (List Atom)) (old ne
         resolves (Some u.0) h u.1
         ∙ ap (λ (g : Goal). Some (u.0, g)) (left_goal (kept s c.mark) now u.0 (tail_at rests c.rest) c.fresh k u.2 here.0.free)
 
-    count : length new ≡ suc (length t.below)
-    count = ap length t.is
-
-    pub taken_met : (q : List Atom) (n : ℕ) → left p q n s rests old ≡ (record { steps = length new; answer = answer_by q (made now) left_by_node.atoms } ∷ walk p q (n - (length new - 1)) (made now) (length new) left_by_node) ++ left p q n now rests new
+    pub taken_met : (q : List Atom) (n : ℕ) → left p q n s rests old ≡ (record { steps = c.depth + 1; answer = answer_by q (made now) left_by_node.atoms } ∷ walk p q (n - c.depth) (made now) (c.depth + 1) left_by_node) ++ left p q n now rests new
     taken_met q n =
         ap (left p q n s rests) t.was
         ∙ node p s now rests c t.below here t.within t.m t.next e q n u.0 left_by_node found u.2
-        ∙ (λ i. (record { steps = sym count i; answer = answer_by q (made now) left_by_node.atoms } ∷ walk p q (n - (sym count i - 1)) (made now) (sym count i) left_by_node) ++ left p q n now rests (sym t.is i))
-
-    pub taken_some : 0 < length new
-    taken_some = omega (arith, count)
+        ∙ ap (λ (vs : List Visit). (record { steps = c.depth + 1; answer = answer_by q (made now) left_by_node.atoms } ∷ walk p q (n - c.depth) (made now) (c.depth + 1) left_by_node) ++ vs) (same_left q n)
 
     pub taken_rest : c.rest ≤ length rests
     taken_rest = here.0.rest

@@ -165,3 +165,13 @@ left_split n (Compound f ts) (Compound g us) qs e h = go ((f == g) && (arity ts 
         let these : pairs ts us ≡ qs = cc in
         subst (LeftBelow n) these (left_pairs n ts us h)
     go false e = cc
+
+-- a greater limit
+pub left_wider : (m n : ℕ) (es : List Equation) → m ≤ n → LeftBelow m es → LeftBelow n es
+left_wider m n [] l h = tt
+left_wider m n (e ∷ es) l h = ((λ y o. let k = h.0 y o in omega (arith, l, k)), left_wider m n es l h.1)
+
+-- a term of variables below the limit comes for a variable
+pub left_bound : (n x : ℕ) (v : Tree) (es : List Equation) → TermBelow n v → LeftBelow n es → LeftBelow n (replaced x v es)
+left_bound n x v [] b h = tt
+left_bound n x v (e ∷ es) b h = ((λ y o. elim (comes y x v e.0 o) [ inl k ↦ b y k | inr k ↦ h.0 y k.0 ]), left_bound n x v es b h.1)

@@ -12,7 +12,7 @@ use Rattle.ld_resolver.specs.declared.raised_term.RaisedTerm.{RaisedTerm}
 use Rattle.ld_resolver.specs.Raised.{raise, raised_tree}
 use Rattle.ld_resolver.specs.Store.{made, full, all_full, one_more, chain, chain_of}
 use Rattle.ld_resolver.specs.Pending.{raw, weight, occurs_left}
-use Rattle.ld_resolver.specs.Visits.{is_among, rank, OccursBelow, IsCovered, last_chain, remaining}
+use Rattle.ld_resolver.specs.Visits.{is_among, rank, OccursBelow, IsCovered, IsWanted, last_chain, remaining}
 use Rattle.ld_resolver.proofs.PendingLaws.{or_second_true, occurs_left-append, weight-append, raw_more}
 use Rattle.ld_resolver.proofs.VisitLaws.{off}
 
@@ -202,3 +202,13 @@ module _ (s : List Binding) (x : ℕ) where
           let b = below_arguments n (nodes_of (full s t)) (chain_of s t) (map tree_of args) (omega (arith, nodes)) (sym (ap (occurs x) e) ∙ k.1) in
           below_right m ts (map (instance (raise n)) (map tree_of args)) (below_more (rank s t) m (map (instance (raise n)) (map tree_of args)) (omega (arith, k.0)) b)
     ]) ys
+
+-- ---- variables that are asked for
+
+pub still_wanted : (v m n x : ℕ) → m ≤ n → IsWanted v n x → IsWanted v m x
+still_wanted v m n x l (inl e) = inl e
+still_wanted v m n x l (inr h) = inr (omega (arith, l, h))
+
+pub not_met : (v n y x : ℕ) → (v ≡ y → ⊥) → y < n → IsWanted v n x → x ≡ y → ⊥
+not_met v n y x apart l (inl e) same = apart (sym e ∙ same)
+not_met v n y x apart l (inr h) same = omega (arith, l, h, same)

@@ -5,6 +5,7 @@ pub mod ChainLaws
 pub mod CoverLaws
 pub mod HeadLaws
 pub mod OrderLaws
+pub mod FirstLaws
 pub mod PendingLaws
 pub mod ProgressLaws
 pub mod SearchLaws

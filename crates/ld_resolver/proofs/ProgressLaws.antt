@@ -24,7 +24,7 @@ use Rattle.ld_resolver.specs.Walk.{Visit, visit, walk, most_steps, met_answers}
 use Rattle.cti_terms.specs.declared.clauses.Clause.{Clause}
 use Rattle.ld_resolver.specs.declared.choices.Choice.{Choice}
 use Rattle.ld_resolver.specs.Choices.{left, AreChoices}
-use Rattle.ld_resolver.specs.Searches.{IsSearch, IsNode, IsEntered, goal_with, node_goal, left_of, choices_of, attempts_at, attempts_left}
+use Rattle.ld_resolver.specs.Searches.{AreWithin, IsSearch, IsNode, IsEntered, goal_with, node_goal, left_of, choices_of, attempts_at, attempts_left}
 use Rattle.ld_resolver.specs.Progress.{scaled, told_after, IsDone, IsUnderWay, to_do}
 use Rattle.ld_resolver.proofs.BelowLaws.{raised_below, raised_zero}
 use Rattle.ld_resolver.proofs.SearchLaws.{walk_none}
@@ -207,32 +207,42 @@ module _ (x y : Search) (e : SameSearch x y) where
   same_is : IsSearch x → IsSearch y
   same_is h = subst (λ (w : Listing × List Binding × List (List Atom) × List Choice). AreChoices w.0 w.1 w.2 (reverse w.3)) (λ i. (sym e.program i, sym e.bindings i, sym e.tails i, sym e.choices i)) h
 
-  same_count : length (choices_of y) ≡ length (choices_of x)
-  same_count = ap (λ (l : List Choice). length (reverse l)) e.choices
+  same_within : (d : ℕ) → AreWithin d (choices_of x) → AreWithin d (choices_of y)
+  same_within d h = subst (λ (l : List Choice). AreWithin d (reverse l)) (sym e.choices) h
 
   pub same_attempts : attempts_left y ≡ attempts_left x
   same_attempts = λ i. attempts_at (e.program i) (reverse (e.choices i))
 
 -- ---- a node that is entered
 
-module _ (p : Listing) (g : Goal) (n : ℕ) (old mid new : Search) (c : Choice) (k : Clause) (steps most : ℕ) (told_now : List Answer) (u : IsUnderWay p g n old steps most told_now) (node : IsNode old c k mid) (less : steps < n) (program_mid : mid.program.now ≡ old.program.now) (count_mid : length (choices_of mid) ≤ length (choices_of old)) where
-  deep : suc (n - length (choices_of mid)) ≡ n - (length (choices_of mid) - 1)
-  deep = omega (arith, node.some, count_mid, u.depth, less)
+within_more : (d : ℕ) (cs : List Choice) → AreWithin d cs → AreWithin (d + 1) cs
+within_more d [] h = tt
+within_more d (c ∷ cs) h = (omega (arith, h.0), within_more d cs h.1)
+
+module _ (p : Listing) (g : Goal) (n : ℕ) (old mid new : Search) (c : Choice) (k : Clause) (steps most : ℕ) (told_now : List Answer) (u : IsUnderWay p g n old steps most told_now) (node : IsNode old c k mid) (less : steps < n) (program_mid : mid.program.now ≡ old.program.now) (within_mid : (d : ℕ) → AreWithin d (choices_of old) → AreWithin d (choices_of mid)) where
+  bound : c.depth ≤ steps
+  bound = node.within steps u.depth
+
+  deep : suc (n - (c.depth + 1)) ≡ n - c.depth
+  deep = omega (arith, bound, less)
+
+  later : AreWithin (steps + 1) (choices_of mid)
+  later = within_more steps (choices_of mid) (within_mid steps u.depth)
 
   abbrev here : Visit
-  here = record { steps = length (choices_of mid); answer = answer_by g.atoms (made mid.bindings) (node_goal mid c k).atoms }
+  here = record { steps = c.depth + 1; answer = answer_by g.atoms (made mid.bindings) (node_goal mid c k).atoms }
 
   abbrev below_here : ℕ → List Visit
-  below_here d = walk mid.program.now g.atoms d (made mid.bindings) (length (choices_of mid)) (node_goal mid c k)
+  below_here d = walk mid.program.now g.atoms d (made mid.bindings) (c.depth + 1) (node_goal mid c k)
 
   -- it has atoms
-  pub with_atoms : IsSearch new → new.program.now ≡ mid.program.now → length (choices_of new) ≤ length (choices_of mid) + 1 → IsEntered mid (node_goal mid c k) true new → IsUnderWay p g n new (steps + 1) (max most (length (choices_of mid))) told_now
-  with_atoms is program count e = record {
+  pub with_atoms : IsSearch new → new.program.now ≡ mid.program.now → ((d : ℕ) → AreWithin d (choices_of mid) → c.depth + 1 ≤ d → AreWithin d (choices_of new)) → IsEntered mid (c.depth + 1) (node_goal mid c k) true new → IsUnderWay p g n new (steps + 1) (max most (c.depth + 1)) told_now
+  with_atoms is program all e = record {
     search = is;
     program = program ∙ program_mid ∙ u.program;
     done = (u.done.0 ++ here ∷ [], done_more p g n u.done.0 (left_of g.atoms n old) (left_of g.atoms n new) here steps most told_now told_now u.done.1 left_now told_same);
     within = omega (arith, less);
-    depth = omega (arith, count, count_mid, u.depth);
+    depth = all (steps + 1) later (omega (arith, bound));
   }
     where
       left_now : left_of g.atoms n old ≡ here ∷ left_of g.atoms n new
@@ -242,20 +252,20 @@ module _ (p : Listing) (g : Goal) (n : ℕ) (old mid new : Search) (c : Choice) 
       told_same = sym (append-nil told_now) ∙ ap (λ (o : Option (List Atom)). told_now ++ map told (cons_option o [])) (sym (e.0 g.atoms (made mid.bindings)))
 
   -- it has none, and is an answer
-  pub without_atoms : (last : Search) (a : Answer) → IsSearch new → new.program.now ≡ mid.program.now → new.bindings ≡ mid.bindings → length (choices_of new) ≤ length (choices_of mid) + 1 → IsEntered mid (node_goal mid c k) false new → SameSearch new last → a ≡ told (answered_atoms new.bindings g.atoms) → IsUnderWay p g n last (steps + 1) (max most (length (choices_of mid))) (told_now ++ a ∷ [])
-  without_atoms last a is program bindings count e same is_told = record {
+  pub without_atoms : (last : Search) (a : Answer) → IsSearch new → new.program.now ≡ mid.program.now → new.bindings ≡ mid.bindings → ((d : ℕ) → AreWithin d (choices_of mid) → c.depth + 1 ≤ d → AreWithin d (choices_of new)) → IsEntered mid (c.depth + 1) (node_goal mid c k) false new → SameSearch new last → a ≡ told (answered_atoms new.bindings g.atoms) → IsUnderWay p g n last (steps + 1) (max most (c.depth + 1)) (told_now ++ a ∷ [])
+  without_atoms last a is program bindings all e same is_told = record {
     search = same_is new last same is;
     program = same.program ∙ program ∙ program_mid ∙ u.program;
     done = (u.done.0 ++ here ∷ [], done_more p g n u.done.0 (left_of g.atoms n old) (left_of g.atoms n last) here steps most told_now (told_now ++ a ∷ []) u.done.1 left_now told_one);
     within = omega (arith, less);
-    depth = omega (arith, count, count_mid, u.depth, same_count new last same);
+    depth = same_within new last same (steps + 1) (all (steps + 1) later (omega (arith, bound)));
   }
     where
       left_now : left_of g.atoms n old ≡ here ∷ left_of g.atoms n last
       left_now =
           node.met g.atoms n
           ∙ ap (λ (w : List Visit). here ∷ w)
-          (ap (λ (w : List Visit). w ++ left_of g.atoms n mid) (walk_none mid.program.now g.atoms (n - (length (choices_of mid) - 1)) (made mid.bindings) (length (choices_of mid)) (node_goal mid c k) e.0)
+          (ap (λ (w : List Visit). w ++ left_of g.atoms n mid) (walk_none mid.program.now g.atoms (n - c.depth) (made mid.bindings) (c.depth + 1) (node_goal mid c k) e.0)
           ∙ e.1 g.atoms n
           ∙ same_left new last same g.atoms n)
 
@@ -277,17 +287,17 @@ module _ (p : Listing) (g : Goal) (n : ℕ) (old mid new : Search) (c : Choice) 
 pub entered_goal : (g : Goal) (s : List Binding) (rests : List (List Atom)) (atoms : List Atom) → s ≡ [] → atoms ≡ g.atoms → goal_with s (map (raised 0) atoms) (tail_at rests 0) g.fresh ≡ g
 entered_goal g s rests atoms b e = (λ i. goal_with (b i) (map (raised 0) (e i)) [] g.fresh) ∙ root_goal g
 
-module _ (g : Goal) (n : ℕ) (old new : Search) (b : old.bindings ≡ []) (ch : old.choices.items ≡ []) (is : IsSearch new) (program : new.program.now ≡ old.program.now) (count : length (choices_of new) ≤ length (choices_of old) + 1) where
-  first_walk : walk old.program.now g.atoms (suc (n - length (choices_of old))) (made old.bindings) (length (choices_of old)) g ++ left_of g.atoms n old ≡ walk old.program.now g.atoms (suc n) [] 0 g
+module _ (g : Goal) (n : ℕ) (old new : Search) (b : old.bindings ≡ []) (ch : old.choices.items ≡ []) (is : IsSearch new) (program : new.program.now ≡ old.program.now) (all : (d : ℕ) → AreWithin d (choices_of old) → 0 ≤ d → AreWithin d (choices_of new)) where
+  first_walk : walk old.program.now g.atoms (suc (n - 0)) (made old.bindings) 0 g ++ left_of g.atoms n old ≡ walk old.program.now g.atoms (suc n) [] 0 g
   first_walk =
-      (λ i. walk old.program.now g.atoms (suc (n - length (reverse (ch i)))) (made (b i)) (length (reverse (ch i))) g ++ left old.program.now g.atoms n old.bindings old.tails (reverse (ch i)))
+      (λ i. walk old.program.now g.atoms (suc (n - 0)) (made (b i)) 0 g ++ left old.program.now g.atoms n old.bindings old.tails (reverse (ch i)))
       ∙ append-nil (walk old.program.now g.atoms (suc (n - 0)) [] 0 g)
       ∙ ap (λ d. walk old.program.now g.atoms (suc d) [] 0 g) (let e : n - 0 ≡ n = omega arith in e)
 
-  none_before : length (choices_of old) ≡ 0
-  none_before = ap (λ (l : List Choice). length (reverse l)) ch
+  none_deep : AreWithin 0 (choices_of new)
+  none_deep = all 0 (subst (λ (l : List Choice). AreWithin 0 (reverse l)) (sym ch) tt) (omega arith)
 
-  pub begun_with_atoms : IsEntered old g true new → IsUnderWay old.program.now g n new 0 0 []
+  pub begun_with_atoms : IsEntered old 0 g true new → IsUnderWay old.program.now g n new 0 0 []
   begun_with_atoms e = record {
     search = is;
     program = program;
@@ -301,10 +311,10 @@ module _ (g : Goal) (n : ℕ) (old new : Search) (b : old.bindings ≡ []) (ch :
       },
     );
     within = omega arith;
-    depth = omega (arith, count, none_before);
+    depth = none_deep;
   }
 
-  pub begun_without_atoms : (last : Search) (a : Answer) → IsEntered old g false new → new.bindings ≡ old.bindings → SameSearch new last → a ≡ told (answered_atoms new.bindings g.atoms) → IsUnderWay old.program.now g n last 0 0 (a ∷ [])
+  pub begun_without_atoms : (last : Search) (a : Answer) → IsEntered old 0 g false new → new.bindings ≡ old.bindings → SameSearch new last → a ≡ told (answered_atoms new.bindings g.atoms) → IsUnderWay old.program.now g n last 0 0 (a ∷ [])
   begun_without_atoms last a e bindings same is_told = record {
     search = same_is new last same is;
     program = same.program ∙ program;
@@ -322,7 +332,7 @@ module _ (g : Goal) (n : ℕ) (old new : Search) (b : old.bindings ≡ []) (ch :
       },
     );
     within = omega arith;
-    depth = omega (arith, count, none_before, same_count new last same);
+    depth = same_within new last same 0 none_deep;
   }
     where
       told_one : a ∷ [] ≡ told_after g []

@@ -68,7 +68,7 @@ Stay s now rests rests_now = AllByRecursion (λ (c : Choice). (kept now c.mark �
 pub left_stays : (p : Listing) (q : List Atom) (n : ℕ) (s now : List Binding) (rests rests_now : List (List Atom)) (cs : List Choice) → Stay s now rests rests_now cs → left p q n now rests_now cs ≡ left p q n s rests cs
 left_stays p q n s now rests rests_now [] h = refl
 left_stays p q n s now rests rests_now (c ∷ below) h =
-    λ i. walk_by p q (walk p q (n - length below)) (made (h.0.0 i)) (length below) (goal_from (h.0.0 i) c.fresh (raised c.base c.atom.now) (h.0.1 i)) (clauses_left p c)
+    λ i. walk_by p q (walk p q (n - c.depth)) (made (h.0.0 i)) c.depth (goal_from (h.0.0 i) c.fresh (raised c.base c.atom.now) (h.0.1 i)) (clauses_left p c)
     ++ left_stays p q n s now rests rests_now below h.1 i
 
 -- each choice has at most m bindings
@@ -214,7 +214,7 @@ extends_self s m = (take (length s - m) s, sym (take-append-drop (length s - m) 
 
 -- a choice without more clauses goes
 pub left_gone : (p : Listing) (q : List Atom) (n : ℕ) (s : List Binding) (rests : List (List Atom)) (c : Choice) (below : List Choice) → length p.clauses < c.next → left p q n s rests (c ∷ below) ≡ left p q n s rests below
-left_gone p q n s rests c below h = ap (λ (ks : List ℕ). walk_by p q (walk p q (n - length below)) (made (kept s c.mark)) (length below) (goal_of s rests c) ks ++ left p q n s rests below) (no_clause_left p c h)
+left_gone p q n s rests c below h = ap (λ (ks : List ℕ). walk_by p q (walk p q (n - c.depth)) (made (kept s c.mark)) c.depth (goal_of s rests c) ks ++ left p q n s rests below) (no_clause_left p c h)
 
 module _ (p : Listing) (s now : List Binding) (rests : List (List Atom)) (c : Choice) (below : List Choice) (all : AreChoices p s rests (c ∷ below)) (inside : c.next ≤ length p.clauses) (m : ℕ) (after : IsNext p c.atom.now.pred.0 (suc c.next) m) (e : Extends now (kept s c.mark)) where
   abbrev pub after_c : Choice
@@ -237,13 +237,13 @@ module _ (p : Listing) (s now : List Binding) (rests : List (List Atom)) (c : Ch
   pub later_choices : AreChoices p now rests (after_c ∷ below)
   later_choices = choices_through p s now rests c.mark (after_c ∷ below) stays all.0.mark e (same_mark, all.1, all.2)
 
-  pub left_by_clause : (q : List Atom) (n : ℕ) (o : Option (List Binding × Goal)) → resolve p (goal_of s rests c) c.next ≡ o → left p q n s rests (c ∷ below) ≡ entered q (walk p q (n - length below)) (made (kept s c.mark)) (length below) o ++ left p q n now rests (after_c ∷ below)
+  pub left_by_clause : (q : List Atom) (n : ℕ) (o : Option (List Binding × Goal)) → resolve p (goal_of s rests c) c.next ≡ o → left p q n s rests (c ∷ below) ≡ entered q (walk p q (n - c.depth)) (made (kept s c.mark)) c.depth o ++ left p q n now rests (after_c ∷ below)
   left_by_clause q n o r =
-      ap (λ (ks : List ℕ). walk_by p q (walk p q (n - length below)) (made (kept s c.mark)) (length below) (goal_of s rests c) ks ++ left p q n s rests below) (clause_left p c inside)
-      ∙ ap (λ (vs : List Visit). (entered q (walk p q (n - length below)) (made (kept s c.mark)) (length below) (resolve p (goal_of s rests c) c.next) ++ vs) ++ left p q n s rests below)
-      (met_by_others p q (walk p q (n - length below)) (made (kept s c.mark)) (length below) (over (full (kept s c.mark)) (raised c.base c.atom.now)) (map (over (full (kept s c.mark))) (tail_at rests c.rest)) c.fresh (c.next + 1) m (subst (λ k. IsNext p c.atom.now.pred.0 k m) next_is after))
-      ∙ append_assoc (entered q (walk p q (n - length below)) (made (kept s c.mark)) (length below) (resolve p (goal_of s rests c) c.next)) (walk_by p q (walk p q (n - length below)) (made (kept s c.mark)) (length below) (goal_of s rests c) (clauses_left p after_c)) (left p q n s rests below)
-      ∙ (λ i. entered q (walk p q (n - length below)) (made (kept s c.mark)) (length below) (r i) ++ sym (left_stays p q n s now rests rests (after_c ∷ below) (stay_through s now rests c.mark (after_c ∷ below) stays all.0.mark e)) i)
+      ap (λ (ks : List ℕ). walk_by p q (walk p q (n - c.depth)) (made (kept s c.mark)) c.depth (goal_of s rests c) ks ++ left p q n s rests below) (clause_left p c inside)
+      ∙ ap (λ (vs : List Visit). (entered q (walk p q (n - c.depth)) (made (kept s c.mark)) c.depth (resolve p (goal_of s rests c) c.next) ++ vs) ++ left p q n s rests below)
+      (met_by_others p q (walk p q (n - c.depth)) (made (kept s c.mark)) c.depth (over (full (kept s c.mark)) (raised c.base c.atom.now)) (map (over (full (kept s c.mark))) (tail_at rests c.rest)) c.fresh (c.next + 1) m (subst (λ k. IsNext p c.atom.now.pred.0 k m) next_is after))
+      ∙ append_assoc (entered q (walk p q (n - c.depth)) (made (kept s c.mark)) c.depth (resolve p (goal_of s rests c) c.next)) (walk_by p q (walk p q (n - c.depth)) (made (kept s c.mark)) c.depth (goal_of s rests c) (clauses_left p after_c)) (left p q n s rests below)
+      ∙ (λ i. entered q (walk p q (n - c.depth)) (made (kept s c.mark)) c.depth (r i) ++ sym (left_stays p q n s now rests rests (after_c ∷ below) (stay_through s now rests c.mark (after_c ∷ below) stays all.0.mark e)) i)
     where
       next_is : suc c.next ≡ c.next + 1
       next_is = omega arith
@@ -256,16 +256,10 @@ module _ (p : Listing) (s now : List Binding) (rests : List (List Atom)) (c : Ch
   no_node q n r = left_by_clause q n None r
 
   -- it leaves one
-  pub node : (q : List Atom) (n : ℕ) (bs : List Binding) (h : Goal) → resolve p (goal_of s rests c) c.next ≡ Some (bs, h) → made now ≡ made (kept s c.mark) ++ bs → left p q n s rests (c ∷ below) ≡ (record { steps = suc (length below); answer = answer_by q (made now) h.atoms } ∷ walk p q (n - (suc (length below) - 1)) (made now) (suc (length below)) h) ++ left p q n now rests (after_c ∷ below)
+  pub node : (q : List Atom) (n : ℕ) (bs : List Binding) (h : Goal) → resolve p (goal_of s rests c) c.next ≡ Some (bs, h) → made now ≡ made (kept s c.mark) ++ bs → left p q n s rests (c ∷ below) ≡ (record { steps = c.depth + 1; answer = answer_by q (made now) h.atoms } ∷ walk p q (n - c.depth) (made now) (c.depth + 1) h) ++ left p q n now rests (after_c ∷ below)
   node q n bs h r m =
       left_by_clause q n (Some (bs, h)) r
-      ∙ (λ i. (record { steps = count i; answer = answer_by q (sym m i) h.atoms } ∷ walk p q (n - depth i) (sym m i) (count i) h) ++ left p q n now rests (after_c ∷ below))
-    where
-      count : length below + 1 ≡ suc (length below)
-      count = omega arith
-
-      depth : length below ≡ suc (length below) - 1
-      depth = omega arith
+      ∙ (λ i. (record { steps = c.depth + 1; answer = answer_by q (sym m i) h.atoms } ∷ walk p q (n - c.depth) (sym m i) (c.depth + 1) h) ++ left p q n now rests (after_c ∷ below))
 
 -- ---- a goal that is entered
 
@@ -302,10 +296,10 @@ module _ (p : Listing) (s : List Binding) (rests now : List (List Atom)) (cs : L
       count : suc (length p.clauses) - 1 ≡ length p.clauses
       count = omega arith
 
-  pub left_entered : (q : List Atom) (n : ℕ) → walk p q (suc (n - length cs)) (made s) (length cs) (goal_with s atoms rest c.fresh) ++ left p q n s rests cs ≡ left p q n s now (c ∷ cs)
+  pub left_entered : (q : List Atom) (n : ℕ) → walk p q (suc (n - c.depth)) (made s) c.depth (goal_with s atoms rest c.fresh) ++ left p q n s rests cs ≡ left p q n s now (c ∷ cs)
   left_entered q n =
-      (λ i. walk_by p q (walk p q (n - length cs)) (made (sym all_kept i)) (length cs) (sym same_goal i) (range_with_len 1 (length p.clauses)) ++ sym (left_stays p q n s s rests now cs (stay_grown p s rests now cs g all)) i)
-      ∙ ap (λ (vs : List Visit). vs ++ left p q n s now cs) (clauses_all q (walk p q (n - length cs)) (made (kept s c.mark)) (length cs))
+      (λ i. walk_by p q (walk p q (n - c.depth)) (made (sym all_kept i)) c.depth (sym same_goal i) (range_with_len 1 (length p.clauses)) ++ sym (left_stays p q n s s rests now cs (stay_grown p s rests now cs g all)) i)
+      ∙ ap (λ (vs : List Visit). vs ++ left p q n s now cs) (clauses_all q (walk p q (n - c.depth)) (made (kept s c.mark)) c.depth)
 
   pub no_answer : (q : List Atom) (bs : List Binding) → answer_by q bs (goal_with s atoms rest c.fresh).atoms ≡ None
   no_answer q bs = ap (λ (h : Goal). answer_by q bs h.atoms) (sym same_goal)

@@ -34,7 +34,7 @@ clauses_left p c = range_with_len c.next (suc (length p.clauses) - c.next)
 abbrev pub left : Listing → List Atom → ℕ → List Binding → List (List Atom) → List Choice → List Visit
 left p q n s rests [] = []
 left p q n s rests (c ∷ below) =
-    walk_by p q (walk p q (n - length below)) (made (kept s c.mark)) (length below) (goal_of s rests c) (clauses_left p c)
+    walk_by p q (walk p q (n - c.depth)) (made (kept s c.mark)) c.depth (goal_of s rests c) (clauses_left p c)
     ++ left p q n s rests below
 
 -- a choice of a search with these bindings and these rests

@@ -12,6 +12,7 @@ use Rattle.ld_resolver.specs.declared.unification.Next.{Next}
 use Rattle.ld_resolver.specs.declared.unification.Next.TheVariants.{Solved, Failed, Bound}
 use Rattle.ld_resolver.specs.Raised.{raised_tree, raise}
 use Rattle.ld_resolver.specs.Store.{stored, full, all_full, MayBind}
+use Rattle.ld_resolver.specs.Below.{TermBelow}
 
 -- the trees of raised terms
 abbrev pub raw : List RaisedTerm → List Tree
@@ -50,14 +51,14 @@ args_full s n ts = all_full s (all_instances (raise n) (trees_of ts))
 -- the step of the definition that the code found, at terms with their variables raised by n and by m
 abbrev pub step_of : List Binding → ℕ → ℕ → Found → Step
 step_of s n m Nothing = Step.Dropped
-step_of s n m (Binds x t) = Step.Bound x (full s (raised_tree t))
+step_of s n m (Binds x t above) = Step.Bound x (full s (raised_tree t))
 step_of s n m (Arguments ts us) = Step.Split (pairs (args_full s n ts.now) (args_full s m us.now))
 step_of s n m Clash = Step.Failed
 
--- the binding that was found may be made
+-- the binding that was found may be made, and its number is above the variables of its term
 abbrev pub IsFit : List Binding → Found → Type 0
 IsFit s Nothing = Unit {0}
-IsFit s (Binds x t) = (x < 2 ^ 33) × MayBind s x (raised_tree t)
+IsFit s (Binds x t above) = (x < 2 ^ 33) × MayBind s x (raised_tree t) × TermBelow above (full s (raised_tree t))
 IsFit s (Arguments ts us) = Unit {0}
 IsFit s Clash = Unit {0}
 
@@ -76,7 +77,7 @@ pub record GoesOn (before : List Equation) (x : ℕ) (t : Tree) (now : List Equa
 abbrev pub IsNext : List Binding → List Equation → Next → List Equation → Type 0
 IsNext s before Solved left = unify before ≡ Some []
 IsNext s before Failed left = unify before ≡ None
-IsNext s before (Bound x t) left = (x < 2 ^ 33) × MayBind s x (raised_tree t) × GoesOn before x (full s (raised_tree t)) (replaced x (full s (raised_tree t)) left)
+IsNext s before (Bound x t above) left = (x < 2 ^ 33) × MayBind s x (raised_tree t) × TermBelow above (full s (raised_tree t)) × GoesOn before x (full s (raised_tree t)) (replaced x (full s (raised_tree t)) left)
 
 -- whether the bindings went on by the unifier of these equations
 abbrev pub IsUnified : List Binding → List Equation → List Binding → Bool → Type 0

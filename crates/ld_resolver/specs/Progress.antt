@@ -8,7 +8,7 @@ use Rattle.ld_resolver.specs.declared.answer.Answer.{Answer}
 use Rattle.ld_resolver.specs.declared.search.Search.{Search}
 use Rattle.ld_resolver.specs.Told.{told}
 use Rattle.ld_resolver.specs.Walk.{Visit, walk, most_steps, met_answers}
-use Rattle.ld_resolver.specs.Searches.{IsSearch, left_of, choices_of, attempts_left}
+use Rattle.ld_resolver.specs.Searches.{AreWithin, IsSearch, left_of, choices_of, attempts_left}
 
 -- k times w
 abbrev pub scaled : ℕ → ℕ → ℕ
@@ -32,7 +32,7 @@ pub record IsUnderWay (p : Listing) (g : Goal) (n : ℕ) (x : Search) (steps lon
   pub program : x.program.now ≡ p
   pub done : (done : List Visit) × IsDone p g n done (left_of g.atoms n x) steps longest answers
   pub within : steps ≤ n
-  pub depth : length (choices_of x) ≤ steps + 1
+  pub depth : AreWithin steps (choices_of x)
 
 -- a number that falls at each attempt
 abbrev pub to_do : Listing → ℕ → Search → ℕ → ℕ

@@ -1,5 +1,5 @@
 -- The state of a search, and what its steps do to what is left to be met. Nothing here has to be believed.
-use Rattle.std.specs.Prelude.{◌≡◌, ℕ, suc, ◌+◌, ◌-◌, ◌≤◌, ◌<◌, Bool, true, false, List, [], ◌∷◌, ◌++◌, map, reverse, length, slice_get, None, Some}
+use Rattle.std.specs.Prelude.{◌≡◌, ℕ, suc, ◌+◌, ◌-◌, ◌≤◌, ◌<◌, ◌⊎◌, Bool, true, false, List, [], ◌∷◌, ◌++◌, map, reverse, length, slice_get, None, Some}
 use Rattle.std.specs.List.{AllByRecursion}
 use Rattle.cti_terms.specs.declared.atom_list.Atom.{Atom}
 use Rattle.cti_terms.specs.declared.clauses.Clause.{Clause as ProgramClause}
@@ -30,12 +30,20 @@ attempts_at p (c ∷ below) = (suc (suc (length p.clauses)) - c.next) + attempts
 abbrev pub AreNumbered : Listing → List Choice → Type 0
 AreNumbered p = AllByRecursion (λ (c : Choice). (1 ≤ c.next) × (c.next ≤ suc (length p.clauses)) × ((k : ProgramClause) → numbered p.clauses c.next ≡ Some k → c.atom.now.pred.0 ≡ k.head.pred.0))
 
--- a clause is taken at the last choice, which goes on with the next clause of its predicate
+-- at most d steps lead to each choice
+abbrev pub AreWithin : ℕ → List Choice → Type 0
+AreWithin d = AllByRecursion (λ (c : Choice). c.depth ≤ d)
+
+-- a choice is put back, or has no more clauses
+abbrev pub IsPutBack : Listing → List Choice → Choice → List Choice → Type 0
+IsPutBack p old c new = (new ≡ c ∷ old) ⊎ ((new ≡ old) × (length p.clauses < c.next))
+
+-- a clause is taken at the last choice, which goes on with the next clause of its predicate, or goes where there is none
 pub record IsTakenAt (p : Listing) (old : List Choice) (c : Choice) (k : ProgramClause) (new : List Choice) : Type 0 where
   pub below : List Choice
   pub m : ℕ
   pub was : old ≡ c ∷ below
-  pub is : new ≡ record c { next = m } ∷ below
+  pub is : IsPutBack p below (record c { next = m }) new
   pub within : c.next ≤ length p.clauses
   pub there : slice_get p.clauses (c.next - 1) ≡ Some k
   pub clause : IsClause p.preds k
@@ -71,17 +79,17 @@ goal_with s atoms rest n = record { atoms = map (over (full s)) (atoms ++ rest);
 abbrev pub node_goal : Search → Choice → ProgramClause → Goal
 node_goal x c k = goal_with x.bindings (map (raised c.fresh) k.body) (tail_at x.tails c.rest) (c.fresh + k.vars)
 
--- what is met at the node of this goal, and then below it
-abbrev pub met_at : List Atom → ℕ → Search → Goal → List Visit
-met_at q n x h =
-    record { steps = length (choices_of x); answer = answer_by q (made x.bindings) h.atoms }
-    ∷ walk x.program.now q (n - (length (choices_of x) - 1)) (made x.bindings) (length (choices_of x)) h
+-- what is met at the node of this goal, to which l steps and one more lead, and then below it
+abbrev pub met_at : List Atom → ℕ → Search → ℕ → Goal → List Visit
+met_at q n x l h =
+    record { steps = l + 1; answer = answer_by q (made x.bindings) h.atoms }
+    ∷ walk x.program.now q (n - l) (made x.bindings) (l + 1) h
 
 -- a clause at a choice leaves a node, which the search has not entered yet
 pub record IsNode (old : Search) (c : Choice) (k : ProgramClause) (new : Search) : Type 0 where
-  pub met : (q : List Atom) (n : ℕ) → left_of q n old ≡ met_at q n new (node_goal new c k) ++ left_of q n new
+  pub met : (q : List Atom) (n : ℕ) → left_of q n old ≡ met_at q n new c.depth (node_goal new c k) ++ left_of q n new
   pub fewer : attempts_left new < attempts_left old
-  pub some : 0 < length (choices_of new)
+  pub within : (d : ℕ) → AreWithin d (choices_of old) → c.depth ≤ d
   pub rest : c.rest ≤ length new.tails
   pub free : FreeFrom (c.fresh + k.vars) new.bindings
   pub below : AtomsBelow (c.fresh + k.vars) (node_goal new c k).atoms
@@ -92,12 +100,8 @@ IsAttempt old Ended new = choices_of old ≡ []
 IsAttempt old Failed new = ((q : List Atom) (n : ℕ) → left_of q n old ≡ left_of q n new) × (attempts_left new < attempts_left old)
 IsAttempt old (Resolved c k) new = IsNode old c k.now new
 
--- what is kept by each step
-abbrev pub KeepsCount : Search → Search → Type 0
-KeepsCount old new = length (choices_of new) ≤ length (choices_of old)
-
 -- a goal is entered: it has atoms, and is left to be walked, or it has none
-abbrev pub IsEntered : Search → Goal → Bool → Search → Type 0
-IsEntered old h true new = ((q : List Atom) (bs : List Binding) → answer_by q bs h.atoms ≡ None)
-    × ((q : List Atom) (n : ℕ) → walk old.program.now q (suc (n - length (choices_of old))) (made old.bindings) (length (choices_of old)) h ++ left_of q n old ≡ left_of q n new)
-IsEntered old h false new = (h.atoms ≡ []) × ((q : List Atom) (n : ℕ) → left_of q n old ≡ left_of q n new)
+abbrev pub IsEntered : Search → ℕ → Goal → Bool → Search → Type 0
+IsEntered old l h true new = ((q : List Atom) (bs : List Binding) → answer_by q bs h.atoms ≡ None)
+    × ((q : List Atom) (n : ℕ) → walk old.program.now q (suc (n - l)) (made old.bindings) l h ++ left_of q n old ≡ left_of q n new)
+IsEntered old l h false new = (h.atoms ≡ []) × ((q : List Atom) (n : ℕ) → left_of q n old ≡ left_of q n new)

@@ -1,9 +1,12 @@
 -- Variables that a check has visited, and what is still to come of their terms. Nothing here has to be believed.
-use Rattle.std.specs.Prelude.{◌≡◌, ℕ, suc, ◌+◌, ◌*◌, ◌<◌, Bool, true, false, ◌||◌, ◌==◌, ◌⊎◌, List, [], ◌∷◌, ◌++◌, length, get_or}
+use Rattle.std.specs.Prelude.{◌≡◌, ℕ, suc, ◌+◌, ◌*◌, ◌<◌, ◌≤◌, Bool, true, false, ◌||◌, ◌==◌, ◌⊎◌, List, [], ◌∷◌, ◌++◌, length, get_or}
 use Rattle.cti_terms.specs.Tree.{Tree, Variable, nodes_of}
 use Rattle.cti_terms.specs.Unify.{Binding, occurs}
 use Rattle.ld_resolver.specs.Store.{full, chain_of}
 use Rattle.ld_resolver.specs.Pending.{weight}
+use Rattle.ld_resolver.specs.Below.{TermBelow}
+use Rattle.ld_resolver.specs.declared.occurs_check.Occurrence.{Occurrence}
+use Rattle.ld_resolver.specs.declared.occurs_check.Occurrence.TheVariants.{Found, Below}
 
 -- whether a variable is one of these
 abbrev pub is_among : List ℕ → ℕ → Bool
@@ -45,3 +48,12 @@ last_chain s (t ∷ u ∷ ts) = last_chain s (u ∷ ts)
 -- a number that falls from a stack to the next one
 abbrev pub remaining : List Binding → List Tree → ℕ
 remaining s ts = weight s ts * suc (length s) + last_chain s ts
+
+-- this variable, and those from a number on
+abbrev pub IsWanted : ℕ → ℕ → ℕ → Type 0
+IsWanted variable above x = (x ≡ variable) ⊎ (above ≤ x)
+
+-- whether a variable occurs in a term, or else a number above all that occur
+abbrev pub IsOccurrence : ℕ → Tree → Occurrence → Type 0
+IsOccurrence x t Found = occurs x t ≡ true
+IsOccurrence x t (Below m) = (occurs x t ≡ false) × TermBelow m t

@@ -22,7 +22,7 @@ use indexmap::IndexSet;
 use std::alloc::{AllocError, Global};
 
 /// An answer: the query's atoms as a derivation leaves them, or that they are too large to be told.
-#[derive(Debug, Drop)]
+#[derive(Drop)]
 pub enum Answer {
     /// The atoms, with their variables numbered from 0 by first occurrence.
     Atoms(Atoms),

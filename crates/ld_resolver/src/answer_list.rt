@@ -7,7 +7,7 @@ use std::alloc::{AllocError, Global};
 use std::marker::Model;
 
 /// Answers in a row. Contracts see the list.
-#[derive(Debug, Drop)]
+#[derive(Drop)]
 pub struct Answers {
     items: Vec<Answer>,
 }

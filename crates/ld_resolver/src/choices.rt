@@ -21,6 +21,8 @@ pub struct Choice<'p> {
     pub next: u32,
     /// How many bindings the goal has.
     pub mark: usize,
+    /// How many steps lead to the goal.
+    pub depth: u64,
 }
 
 /// The first atom of a goal, whose variables are raised, and the number of the goal's rest.

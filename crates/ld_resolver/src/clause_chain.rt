@@ -9,11 +9,20 @@ use std::alloc::{AllocError, Global};
 
 /// For each predicate of a program the number of its first clause, and for each clause the number of the next one of
 /// its predicate. One past the last clause stands for none.
-#[derive(Drop)]
 pub struct ClauseChain {
     first: Vec<u32>,
     next: Vec<u32>,
     none: u32,
+}
+
+impl Drop for ClauseChain {
+    fn drop(self) {
+        let ClauseChain {
+            first: _,
+            next: _,
+            none: _,
+        } = self;
+    }
 }
 
 impl ClauseChain {

@@ -1,11 +1,12 @@
 //! Laws of the definitions that a run speaks of. Each is a function that does nothing, and whose clauses are proved.
 
-ghost use Rattle.std.specs.Prelude.{◌≡◌, ◌≢◌, ◌↔◌, ◌≤◌, ◌<◌, ℕ, List, [], length};
+ghost use Rattle.std.specs.Prelude.{◌≡◌, ◌≢◌, ◌↔◌, ◌≤◌, ◌<◌, ◌⊎◌, ℕ, List, [], length};
+ghost use Rattle.std.specs.List.{AllByRecursion};
 ghost use Rattle.cti_terms.specs.declared.derivation.Goal.{Goal};
 ghost use Rattle.cti_terms.specs.Listing.{Listing};
 ghost use Rattle.cti_terms.specs.Derive.{IsDerivation, Bounded};
-ghost use Rattle.cti_terms.specs.Nodes.{nodes, HasMoreNodes};
-ghost use Rattle.ld_resolver.specs.Order.{IsIn, AreAscending};
+ghost use Rattle.cti_terms.specs.Nodes.{nodes, first_nodes, HasMoreNodes};
+ghost use Rattle.ld_resolver.specs.Order.{Before, IsIn, AreAscending};
 
 /// The nodes of at most d steps are the derivations of at most d steps but the empty one, in lexicographic order.
 pub fn nodes_are_derivations()
@@ -18,4 +19,16 @@ pub fn nodes_are_derivations()
 pub fn bounded_goals_have_finitely_many_nodes()
     ensures finite { (p : Listing) (g : Goal) → Bounded p g → (n : ℕ) × ((d : ℕ) → length (nodes p d g) ≤ n) }
     ensures finished { (p : Listing) (g : Goal) → Bounded p g → (n : ℕ) × ((budget : ℕ) → n ≤ budget → ¬ HasMoreNodes p g budget) }
+{}
+
+/// The first n nodes are derivations but the empty one, in lexicographic order, and every other such derivation comes after all of them,
+/// however long it is. There are more exactly where there is another one.
+pub fn first_nodes_come_first()
+    ensures each { (p : Listing) (g : Goal) (n : ℕ) (ks : List ℕ) → IsIn ks (first_nodes p g n) → (ks ≢ []) × IsDerivation p g ks }
+    ensures order { (p : Listing) (g : Goal) (n : ℕ) → AreAscending (first_nodes p g n) }
+    ensures others { (p : Listing) (g : Goal) (n : ℕ) (ks : List ℕ) → ks ≢ [] → IsDerivation p g ks
+        → IsIn ks (first_nodes p g n) ⊎ (HasMoreNodes p g n × ((length (first_nodes p g n) ≡ n) × AllByRecursion (λ (ls : List ℕ). Before ls ks) (first_nodes p g n))) }
+    ensures more { (p : Listing) (g : Goal) (n : ℕ) → HasMoreNodes p g n
+        → (ks : List ℕ) × (ks ≢ []) × IsDerivation p g ks × (IsIn ks (first_nodes p g n) → ⊥) }
+    ensures enough { (p : Listing) (g : Goal) (n : ℕ) → ((d : ℕ) → length (nodes p d g) ≤ n) → (budget : ℕ) → n ≤ budget → ¬ HasMoreNodes p g budget }
 {}

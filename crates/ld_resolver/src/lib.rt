@@ -20,12 +20,12 @@ mod raised_term;
 mod running;
 mod search;
 mod tails;
-#[cfg(test)]
-mod tests;
 mod unification;
 mod visited;
 
 pub use answer::Answer;
 pub use answer_list::Answers;
-pub use laws::{bounded_goals_have_finitely_many_nodes, nodes_are_derivations};
+pub use laws::{
+    bounded_goals_have_finitely_many_nodes, first_nodes_come_first, nodes_are_derivations,
+};
 pub use running::{Ending, Ran, run};

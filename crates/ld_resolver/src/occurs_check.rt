@@ -1,18 +1,34 @@
 //! Whether a variable occurs in a term under the bindings.
 
-ghost use Rattle.std.specs.Prelude.{◌≡◌, ◌++◌, IfOk, OnOk, map};
+ghost use Rattle.std.specs.Prelude.{◌≡◌, ◌≤◌, ◌<◌, ◌^◌, ◌++◌, IfOk, OnOk, map};
 ghost use Rattle.cti_terms.specs.Tree.{instance};
 ghost use Rattle.cti_terms.specs.Spell.{tree_of};
-ghost use Rattle.cti_terms.specs.Unify.{occurs};
 ghost use Rattle.ld_resolver.specs.Raised.{raise, raised_tree};
 ghost use Rattle.ld_resolver.specs.Store.{full};
 ghost use Rattle.ld_resolver.specs.Pending.{raw};
+ghost use Rattle.ld_resolver.specs.Visits.{IsOccurrence};
 
 use crate::bindings::Bindings;
 use crate::raised_term::{RaisedTerm, Shape};
 use crate::visited::Visited;
 use cti_terms::Term;
 use std::alloc::AllocError;
+
+/// Whether a variable occurs in a term, or else a number above each variable that does.
+#[derive(Clone, Copy, Drop)]
+pub enum Occurrence {
+    Found,
+    Below(usize),
+}
+
+/// A number above these variables.
+fn past(above: usize, other: usize) -> usize
+    requires { other < 2 ^ 33 }
+    ensures older { above ≤ result }
+    ensures newer { other < result }
+{
+    above.max(other + 1)
+}
 
 /// Puts the arguments of a raised term on the stack.
 pub fn push_arguments<'p>(
@@ -28,7 +44,8 @@ pub fn push_arguments<'p>(
     Ok(())
 }
 
-/// Whether a free variable occurs in a term under the bindings. Each bound variable is looked into once.
+/// Whether a free variable occurs in a term under the bindings, or else a number above all that occur. Each bound
+/// variable is looked into once.
 ///
 /// The stack and the visited variables may be any, and are used up.
 pub fn occurs_in<'p>(
@@ -37,12 +54,13 @@ pub fn occurs_in<'p>(
     term: RaisedTerm<'p>,
     stack: &mut Vec<RaisedTerm<'p>>,
     visited: &mut Visited,
-) -> Result<bool, AllocError>
-    ensures { IfOk result (λ found. found ≡ occurs variable (full bindings.now (raised_tree term.entry))) }
+) -> Result<Occurrence, AllocError>
+    ensures { IfOk result (IsOccurrence variable (full bindings.now (raised_tree term.entry))) }
 {
     stack.clear();
     visited.clear();
     stack.push(term)?;
+    let mut above = 0;
     while let Some(next) = stack.pop() {
         match next.shape() {
             Shape::Variable(other) => match bindings.value(other) {
@@ -53,13 +71,14 @@ pub fn occurs_in<'p>(
                 }
                 None => {
                     if variable == other {
-                        return Ok(true);
+                        return Ok(Occurrence::Found);
                     }
+                    above = past(above, other);
                 }
             },
             Shape::Integer(_) => {}
             Shape::Compound(_, args) => push_arguments(stack, args, next.base)?,
         }
     }
-    Ok(false)
+    Ok(Occurrence::Below(above))
 }

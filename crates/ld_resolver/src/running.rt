@@ -26,7 +26,7 @@ pub enum Ending {
 }
 
 /// What a run has found.
-#[derive(Debug, Drop)]
+#[derive(Drop)]
 pub struct Ran {
     /// The answers, in the order in which they were found.
     pub answers: Answers,
@@ -65,7 +65,7 @@ fn begin<'p>(
     ensures { IfOk result (λ answers. (n : ℕ) → IsUnderWay search.old.program.now goal.now n search.new 0 0 answers) }
 {
     let mut answers = Answers::new(alloc);
-    if search.enter(chain, goal.atoms.as_slice(), 0, 0, goal.fresh)? {
+    if search.enter(chain, goal.atoms.as_slice(), 0, 0, goal.fresh, 0)? {
         return Ok(answers);
     }
     answers.push(search.answer(alloc, goal.atoms.as_slice())?)?;
@@ -115,10 +115,11 @@ pub fn run(alloc: Global, program: &Program, goal: &Goal, budget: u64) -> Result
                     });
                 }
                 steps += 1;
-                longest = longest.max(search.choices.len() as u64);
+                let depth = choice.depth + 1;
+                longest = longest.max(depth);
                 let fresh = counter_after(choice.fresh, clause.vars)?;
                 let body = clause.body.as_slice();
-                if search.enter(&chain, body, choice.fresh, choice.rest, fresh)? {
+                if search.enter(&chain, body, choice.fresh, choice.rest, fresh, depth)? {
                     continue;
                 }
                 answers.push(search.answer(alloc, goal.atoms.as_slice())?)?;

@@ -1,13 +1,13 @@
 //! The search for the nodes of a goal.
 
-ghost use Rattle.std.specs.Prelude.{◌≡◌, ◌≤◌, ◌<◌, ◌+◌, ◌++◌, [], ◌∷◌, IfOk, OnOk, length, map, reverse};
+ghost use Rattle.std.specs.Prelude.{◌≡◌, ℕ, ◌≤◌, ◌<◌, ◌+◌, ◌++◌, [], ◌∷◌, IfOk, OnOk, length, map, reverse};
 ghost use Rattle.cti_terms.specs.Resolve.{raised};
 ghost use Rattle.ld_resolver.specs.Below.{AtomsBelow, FreeFrom};
 ghost use Rattle.ld_resolver.specs.Chain.{IsChain};
 ghost use Rattle.ld_resolver.specs.Tails.{tail_at};
 ghost use Rattle.ld_resolver.specs.Told.{told};
 ghost use Rattle.ld_resolver.specs.Measured.{answered_atoms};
-ghost use Rattle.ld_resolver.specs.Searches.{AreNumbered, IsTaken, IsSearch, IsAttempt, IsEntered, choices_of, attempts_left, goal_with};
+ghost use Rattle.ld_resolver.specs.Searches.{AreNumbered, AreWithin, IsPutBack, IsTaken, IsSearch, IsAttempt, IsEntered, choices_of, attempts_left, goal_with};
 
 use crate::answer::{Answer, make_answer};
 use crate::attempts::{Stacks, unify_head};
@@ -35,7 +35,6 @@ pub enum Attempt<'p> {
 }
 
 /// The state of a search, with stacks of its own in the place of recursion.
-#[derive(Drop)]
 pub struct Search<'p> {
     pub program: &'p Program,
     pub bindings: Bindings<'p>,
@@ -44,7 +43,33 @@ pub struct Search<'p> {
     pub stacks: Stacks<'p>,
 }
 
-/// Takes the next clause at the last choice.
+impl Drop for Search<'_> {
+    fn drop(self) {
+        let Search {
+            program: _,
+            bindings: _,
+            tails: _,
+            choices: _,
+            stacks: _,
+        } = self;
+    }
+}
+
+/// Puts a choice back, unless it has no more clauses.
+fn put_back<'p>(
+    program: &'p Program,
+    choices: &mut Vec<Choice<'p>>,
+    choice: Choice<'p>,
+) -> Result<(), AllocError>
+    ensures { OnOk result (IsPutBack program.now (reverse choices.old.items) choice.entry (reverse choices.new.items)) }
+{
+    if choice.next <= program.clauses() {
+        choices.push(choice)?;
+    }
+    Ok(())
+}
+
+/// Takes the next clause at the last choice, which goes where it has no more.
 fn take_clause<'p>(
     program: &'p Program,
     chain: &ClauseChain,
@@ -61,14 +86,8 @@ fn take_clause<'p>(
     if choice.next > program.clauses() {
         return Ok(Taken::Exhausted);
     }
-    choices.push(Choice {
-        atom: choice.atom,
-        base: choice.base,
-        rest: choice.rest,
-        fresh: choice.fresh,
-        next: chain.after(choice.next),
-        mark: choice.mark,
-    })?;
+    let next = chain.after(choice.next);
+    put_back(program, choices, Choice { next, ..choice })?;
     Ok(Taken::Clause(choice, program.clause(choice.next)))
 }
 
@@ -97,7 +116,7 @@ impl<'p> Search<'p> {
         ensures program { self.new.program.now ≡ self.old.program.now }
         ensures tails { self.new.tails ≡ self.old.tails }
         ensures attempt { IfOk result (λ a. IsAttempt self.old a self.new) }
-        ensures count { OnOk result (length (choices_of self.new) ≤ length (choices_of self.old)) }
+        ensures depths { OnOk result ((d : ℕ) → AreWithin d (choices_of self.old) → AreWithin d (choices_of self.new)) }
     {
         match take_clause(self.program, chain, &mut self.choices)? {
             Taken::Nothing => Ok(Attempt::Ended),
@@ -112,7 +131,7 @@ impl<'p> Search<'p> {
         }
     }
 
-    /// Adds the choice of a goal: atoms that are raised, and then a rest. It answers whether the goal has atoms.
+    /// Adds the choice of a goal that so many steps lead to: atoms that are raised, and then a rest. It answers whether the goal has atoms.
     pub fn enter(
         &mut self,
         chain: &ClauseChain,
@@ -120,6 +139,7 @@ impl<'p> Search<'p> {
         base: u32,
         rest: usize,
         fresh: u32,
+        depth: u64,
     ) -> Result<bool, AllocError>
         requires search { IsSearch self.old }
         requires chain { IsChain self.old.program.now chain.now }
@@ -129,9 +149,9 @@ impl<'p> Search<'p> {
         ensures search { OnOk result (IsSearch self.new) }
         ensures program { self.new.program.now ≡ self.old.program.now }
         ensures bindings { self.new.bindings ≡ self.old.bindings }
-        ensures entered { IfOk result (λ more. IsEntered self.old (goal_with self.old.bindings (map (raised base) atoms.now) (tail_at self.old.tails rest) fresh) more self.new) }
+        ensures entered { IfOk result (λ more. IsEntered self.old depth (goal_with self.old.bindings (map (raised base) atoms.now) (tail_at self.old.tails rest) fresh) more self.new) }
         ensures attempts { OnOk result (attempts_left self.new ≤ attempts_left self.old + length self.old.program.now.clauses + 1) }
-        ensures count { OnOk result (length (choices_of self.new) ≤ length (choices_of self.old) + 1) }
+        ensures depths { OnOk result ((d : ℕ) → AreWithin d (choices_of self.old) → depth ≤ d → AreWithin d (choices_of self.new)) }
     {
         match goal_start(&mut self.tails, atoms, base, rest)? {
             Some(start) => {
@@ -142,6 +162,7 @@ impl<'p> Search<'p> {
                     fresh,
                     next: chain.first(start.atom.pred),
                     mark: self.bindings.len(),
+                    depth,
                 })?;
                 Ok(true)
             }

@@ -12,33 +12,18 @@ ghost use Rattle.ld_resolver.specs.Below.{TermBelow, LeftBelow};
 ghost use Rattle.ld_resolver.specs.Pending.{args_full, raw_equations, waiting, step_of, IsFit, IsNext, IsUnified, Extends, KeepsFree};
 
 use crate::bindings::Bindings;
-use crate::occurs_check::occurs_in;
+use crate::occurs_check::{Occurrence, occurs_in};
 use crate::raised_term::{Met, RaisedTerm, Shape};
 use crate::visited::Visited;
 use cti_terms::{Name, Term};
 use std::alloc::AllocError;
 
-/// From which number on variables are new, and whether only new variables were bound so far.
-#[derive(Clone, Copy, Drop)]
-pub struct News {
-    pub from: u32,
-    pub only: bool,
-}
-
-impl News {
-    /// Whether it is known that this variable occurs in no left side.
-    fn is_apart(self, variable: usize) -> bool
-        ensures { result ≡ true → (self.only ≡ true) × (self.from ≤ variable) }
-    {
-        self.only && variable >= self.from as usize
-    }
-}
-
-/// What the first equation asks for: nothing, a binding, the equations of arguments in its place, or it fails.
+/// What the first equation asks for: nothing, a binding with a number above the variables of its term, the equations of
+/// arguments in its place, or it fails.
 #[derive(Clone, Copy, Drop)]
 pub enum Found<'p> {
     Nothing,
-    Binds(usize, RaisedTerm<'p>),
+    Binds(usize, RaisedTerm<'p>, usize),
     Arguments(&'p [Term], &'p [Term]),
     Clash,
 }
@@ -48,7 +33,7 @@ pub enum Found<'p> {
 pub enum Next<'p> {
     Solved,
     Failed,
-    Bound(usize, RaisedTerm<'p>),
+    Bound(usize, RaisedTerm<'p>, usize),
 }
 
 /// Puts the equations of arguments on the stack, the first one on top, as many as both sides have.
@@ -79,30 +64,46 @@ pub fn push_equations<'p>(
     Ok(())
 }
 
-/// What a free variable and a compound term under the bindings ask for, of which it may be known that they are apart.
+/// What a free variable and a compound term under the bindings ask for.
 fn bound_or_clash<'p>(
     bindings: &Bindings<'p>,
     variable: usize,
     term: RaisedTerm<'p>,
-    apart: bool,
     stack: &mut Vec<RaisedTerm<'p>>,
     visited: &mut Visited,
 ) -> Result<Found<'p>, AllocError>
-    requires apart { apart ≡ true → occurs variable (full bindings.now (raised_tree term)) ≡ false }
     requires small { variable < 2 ^ 33 }
     requires free { stored bindings.now variable ≡ None }
     requires followed { IsOpen bindings.now (raised_tree term) }
     ensures step { IfOk result (λ f. (n m : ℕ) → step_of bindings.now n m f ≡ bound variable (full bindings.now (raised_tree term.entry))) }
     ensures fit { IfOk result (IsFit bindings.now) }
 {
-    if apart {
-        return Ok(Found::Binds(variable, term));
+    match occurs_in(bindings, variable, term, stack, visited)? {
+        Occurrence::Found => Ok(Found::Clash),
+        Occurrence::Below(above) => Ok(Found::Binds(variable, term, above)),
     }
-    if occurs_in(bindings, variable, term, stack, visited)? {
-        Ok(Found::Clash)
-    } else {
-        Ok(Found::Binds(variable, term))
+}
+
+/// The same of a term all of whose variables are below a limit: one from the limit on does not occur in it.
+fn apart_or_bound<'p>(
+    bindings: &Bindings<'p>,
+    variable: usize,
+    term: RaisedTerm<'p>,
+    limit: usize,
+    stack: &mut Vec<RaisedTerm<'p>>,
+    visited: &mut Visited,
+) -> Result<Found<'p>, AllocError>
+    requires below { TermBelow limit (full bindings.now (raised_tree term)) }
+    requires small { variable < 2 ^ 33 }
+    requires free { stored bindings.now variable ≡ None }
+    requires followed { IsOpen bindings.now (raised_tree term) }
+    ensures step { IfOk result (λ f. (n m : ℕ) → step_of bindings.now n m f ≡ bound variable (full bindings.now (raised_tree term.entry))) }
+    ensures fit { IfOk result (IsFit bindings.now) }
+{
+    if limit <= variable {
+        return Ok(Found::Binds(variable, term, limit));
     }
+    bound_or_clash(bindings, variable, term, stack, visited)
 }
 
 /// What two compound terms ask for.
@@ -127,26 +128,27 @@ fn nothing_or_clash<'p>(m: i128, n: i128) -> Found<'p>
 
 /// What two free variables ask for, of which the right one is this term.
 fn nothing_or_bound<'p>(x: usize, y: usize, term: RaisedTerm<'p>) -> Found<'p>
+    requires { y < 2 ^ 33 }
     ensures step { (s : List Binding) (i j : ℕ) → full s (raised_tree term.entry) ≡ Variable y → step_of s i j result ≡ first_step (Variable x) (Variable y) }
     ensures fit { (s : List Binding) → x < 2 ^ 33 → stored s x ≡ None → IsOpen s (raised_tree term.entry) → full s (raised_tree term.entry) ≡ Variable y → IsFit s result }
 {
     if x == y {
         Found::Nothing
     } else {
-        Found::Binds(x, term)
+        Found::Binds(x, term, y + 1)
     }
 }
 
-/// What an equation of two terms asks for. While only new variables are bound, they do not occur in left sides.
+/// What an equation of two terms asks for, of which the left one has variables below the limit alone.
 fn step<'p>(
     bindings: &Bindings<'p>,
     left: Met<'p>,
     right: Met<'p>,
-    news: News,
+    limit: usize,
     stack: &mut Vec<RaisedTerm<'p>>,
     visited: &mut Visited,
 ) -> Result<Found<'p>, AllocError>
-    requires below { news.only ≡ true → TermBelow news.from (full bindings.now (raised_tree left.term)) }
+    requires below { TermBelow limit (full bindings.now (raised_tree left.term)) }
     requires left { IsMet bindings.now left }
     requires right { IsMet bindings.now right }
     ensures step { IfOk result (λ f. step_of bindings.now left.entry.term.base right.entry.term.base f ≡ first_step (full bindings.now (raised_tree left.entry.term)) (full bindings.now (raised_tree right.entry.term))) }
@@ -154,15 +156,15 @@ fn step<'p>(
 {
     match (left.shape, right.shape) {
         (Shape::Variable(x), Shape::Variable(y)) => Ok(nothing_or_bound(x, y, right.term)),
-        (Shape::Variable(x), Shape::Integer(_)) => Ok(Found::Binds(x, right.term)),
+        (Shape::Variable(x), Shape::Integer(_)) => Ok(Found::Binds(x, right.term, 0)),
         (Shape::Variable(x), Shape::Compound(_, _)) => {
-            bound_or_clash(bindings, x, right.term, false, stack, visited)
+            bound_or_clash(bindings, x, right.term, stack, visited)
         }
-        (Shape::Integer(_), Shape::Variable(y)) => Ok(Found::Binds(y, left.term)),
+        (Shape::Integer(_), Shape::Variable(y)) => Ok(Found::Binds(y, left.term, 0)),
         (Shape::Integer(m), Shape::Integer(n)) => Ok(nothing_or_clash(m, n)),
         (Shape::Integer(_), Shape::Compound(_, _)) => Ok(Found::Clash),
         (Shape::Compound(_, _), Shape::Variable(y)) => {
-            bound_or_clash(bindings, y, left.term, news.is_apart(y), stack, visited)
+            apart_or_bound(bindings, y, left.term, limit, stack, visited)
         }
         (Shape::Compound(_, _), Shape::Integer(_)) => Ok(Found::Clash),
         (Shape::Compound(f, ts), Shape::Compound(g, us)) => Ok(arguments_or_clash(f, ts, g, us)),
@@ -173,20 +175,20 @@ fn step<'p>(
 fn next_binding<'p>(
     bindings: &Bindings<'p>,
     equations: &mut Vec<(RaisedTerm<'p>, RaisedTerm<'p>)>,
-    news: News,
+    limit: usize,
     stack: &mut Vec<RaisedTerm<'p>>,
     visited: &mut Visited,
 ) -> Result<Next<'p>, AllocError>
-    requires { news.only ≡ true → LeftBelow news.from (waiting bindings.now equations.old.items) }
-    ensures left { OnOk result (news.only ≡ true → LeftBelow news.from (waiting bindings.now equations.new.items)) }
+    requires { LeftBelow limit (waiting bindings.now equations.old.items) }
+    ensures left { OnOk result (LeftBelow limit (waiting bindings.now equations.new.items)) }
     ensures next { IfOk result (λ n. IsNext bindings.now (waiting bindings.now equations.old.items) n (waiting bindings.now equations.new.items)) }
 {
     while let Some((l, r)) = equations.pop() {
         let left = bindings.met(l);
         let right = bindings.met(r);
-        match step(bindings, left, right, news, stack, visited)? {
+        match step(bindings, left, right, limit, stack, visited)? {
             Found::Nothing => {}
-            Found::Binds(x, term) => return Ok(Next::Bound(x, term)),
+            Found::Binds(x, term, above) => return Ok(Next::Bound(x, term, above)),
             Found::Arguments(ts, us) => {
                 push_equations(equations, ts, left.term.base, us, right.term.base)?
             }
@@ -209,14 +211,13 @@ pub fn solve<'p>(
     ensures extended { OnOk result (Extends bindings.new bindings.old) }
     ensures free { OnOk result (KeepsFree (waiting bindings.old equations.old.items) bindings.old bindings.new) }
 {
-    let mut only = true;
+    let mut limit = from as usize;
     loop {
-        let news = News { from, only };
-        match next_binding(bindings, equations, news, stack, visited)? {
+        match next_binding(bindings, equations, limit, stack, visited)? {
             Next::Solved => return Ok(true),
             Next::Failed => return Ok(false),
-            Next::Bound(x, term) => {
-                only = news.is_apart(x);
+            Next::Bound(x, term, above) => {
+                limit = limit.max(above);
                 bindings.bind(x, term)?;
             }
         }

@@ -12,3 +12,5 @@ pub mod Blown
 pub mod Solving
 pub mod Systems
 pub mod Irredundant
+pub mod Replacing
+pub mod Showing

@@ -11,16 +11,16 @@ mod combining;
 mod laws;
 mod multipliers;
 mod numbers;
+mod point;
 mod proving;
 mod row;
 mod system;
-#[cfg(test)]
-mod tests;
 
 pub use combining::{RowFault, combine};
 pub use laws::{elimination_projects, proofs_are_sound, solving_decides};
 pub use multipliers::{Multipliers, Proof};
 pub use numbers::Numbers;
+pub use point::Point;
 pub use proving::proves;
 pub use row::{Row, RowList, Rows};
 pub use system::System;

@@ -2,7 +2,7 @@
 use crate::numbers::Numbers;
 
 /// One multiplier for each row of a list, and the scale of the target.
-#[derive(Debug, Drop)]
+#[derive(Drop)]
 pub struct Multipliers {
     pub scale: i128,
     pub list: Numbers,

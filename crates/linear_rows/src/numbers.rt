@@ -6,7 +6,7 @@ use std::alloc::{AllocError, Global};
 use std::marker::Model;
 
 /// A list of numbers, which contracts see as a list.
-#[derive(Debug, Drop)]
+#[derive(Drop)]
 pub struct Numbers {
     items: Vec<i128>,
 }
@@ -20,6 +20,8 @@ impl Model for Numbers {
 }
 
 impl Numbers {
+    ghost use Rattle.linear_rows.specs.Solving.{zeros};
+
     /// Makes the empty list.
     pub fn new(alloc: Global) -> Self
         ensures { result ≡ [] }
@@ -27,6 +29,14 @@ impl Numbers {
         Numbers {
             items: Vec::new(alloc),
         }
+    }
+
+    /// Makes a list of so many numbers 0.
+    pub fn zeros(alloc: Global, count: usize) -> Result<Self, AllocError>
+        ensures { IfOk result (λ n. n ≡ zeros count) }
+    {
+        let items = vec![in alloc; 0; count]?;
+        Ok(Numbers { items })
     }
 
     /// Makes a list of the numbers of a `Vec`, without taking memory.

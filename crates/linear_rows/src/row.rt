@@ -1,19 +1,46 @@
 // Rows and lists of them.
-ghost use Rattle.std.specs.Prelude.{◌≡◌, length, ◌<◌, slice_index_or, [], ◌∷◌, ◌++◌, OnOk, IsTrue, ◌↔◌, alloc_error};
+ghost use Rattle.std.specs.Prelude.{◌≡◌, length, ◌<◌, slice_index_or, [], ◌∷◌, ◌++◌, OnOk, IfOk, IsTrue, ◌↔◌, alloc_error};
 
 use crate::numbers::Numbers;
 use std::alloc::{AllocError, Global};
 use std::marker::Model;
 
 /// A linear row: the constant and the products of the coefficients with the variables sum to at least 0.
-#[derive(Debug, Drop)]
+#[derive(Drop)]
 pub struct Row {
     pub constant: i128,
     pub coeffs: Numbers,
 }
 
+impl Row {
+    ghost use Rattle.linear_rows.specs.Plain.{plain_row};
+    ghost use Rattle.linear_rows.specs.Showing.{bottom_row};
+
+    /// Makes the row of so many coefficients that holds nowhere: its constant is -1, and its coefficients are 0.
+    pub fn bottom(alloc: Global, width: u32) -> Result<Row, AllocError>
+        ensures { IfOk result (λ r. plain_row r ≡ bottom_row width) }
+    {
+        let coeffs = Numbers::zeros(alloc, width as usize)?;
+        Ok(Row {
+            constant: -1,
+            coeffs,
+        })
+    }
+
+    /// Makes a copy.
+    pub fn copy(&self, alloc: Global) -> Result<Row, AllocError>
+        ensures { IfOk result (λ r. r ≡ self.now) }
+    {
+        let coeffs = self.coeffs.copy(alloc)?;
+        Ok(Row {
+            constant: self.constant,
+            coeffs,
+        })
+    }
+}
+
 /// A list of rows, which contracts see as a list.
-#[derive(Debug, Drop)]
+#[derive(Drop)]
 pub struct RowList {
     items: Vec<Row>,
 }
@@ -89,10 +116,21 @@ impl RowList {
         self.items.push(row)?;
         Ok(())
     }
+
+    /// Makes a copy.
+    pub fn copy(&self, alloc: Global) -> Result<RowList, AllocError>
+        ensures { IfOk result (λ r. r ≡ self.now) }
+    {
+        let mut items = Vec::new(alloc);
+        for row in self.items.as_slice() {
+            items.push(row.copy(alloc)?)?;
+        }
+        Ok(RowList { items })
+    }
 }
 
 /// Rows of `width` coefficients each.
-#[derive(Debug, Drop)]
+#[derive(Drop)]
 pub struct Rows {
     pub width: u32,
     pub list: RowList,
@@ -121,5 +159,15 @@ impl Rows {
         ensures rows { HaveWidth self.old.width self.old.list → HaveWidth self.new.width self.new.list }
     {
         self.list.push(row)
+    }
+    /// Makes a copy.
+    pub fn copy(&self, alloc: Global) -> Result<Rows, AllocError>
+        ensures { IfOk result (λ r. r ≡ self.now) }
+    {
+        let list = self.list.copy(alloc)?;
+        Ok(Rows {
+            width: self.width,
+            list,
+        })
     }
 }

@@ -5,7 +5,7 @@ use crate::row::Rows;
 ///
 /// Both lists have the width `variables`. `wide` says that a row had a number that does not fit, and stands as the row
 /// of zeros.
-#[derive(Debug, Drop)]
+#[derive(Drop)]
 pub struct System {
     pub variables: u32,
     pub rows: Rows,

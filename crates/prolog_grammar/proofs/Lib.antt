@@ -16,3 +16,5 @@ mod ExampleTable
 mod Examples
 mod DepthExamples
 mod TermExamples
+pub mod Keeps
+pub mod PlacesKept

@@ -5,6 +5,7 @@ pub mod Syntax
 pub mod Depth
 pub mod Fault
 pub mod Placed
+pub mod Places
 pub mod Machine
 pub mod Run
 pub mod Walk

@@ -1,5 +1,6 @@
 pub mod ViewLemmas
 pub mod NameLemmas
+pub mod NamingLemmas
 pub mod MachineLemmas
 pub mod WalkLemmas
 pub mod VariableLemmas
@@ -16,4 +17,8 @@ pub mod MeasureLemmas
 pub mod WeightLemmas
 pub mod FitLemmas
 pub mod OneAnswer
+pub mod TextNames
+pub mod SomeAnswer
+pub mod PlaceLemmas
+pub mod DistinctLemmas
 mod Examples

@@ -28,7 +28,7 @@ use Rattle.prolog_reader.specs.Answers.{AnswersText, AnswersQuery, RefusesText, 
 use Rattle.prolog_reader.proofs.RunLemmas.{walk_none}
 
 -- a text has one list of tokens
-lexes_once : {c : Cursor} {ts ts' : List TextToken} {e e' : Option LexFault} → Lexes c ts e → Lexes c ts' e' → (ts ≡ ts') × (e ≡ e')
+pub lexes_once : {c : Cursor} {ts ts' : List TextToken} {e e' : Option LexFault} → Lexes c ts e → Lexes c ts' e' → (ts ≡ ts') × (e ≡ e')
 lexes_once (ends h) other = let r = at_end other h in (sym r.0, sym r.1)
 lexes_once (fails {e = f} h) other = let r = at_fault other f h in (sym r.0, sym r.1)
 lexes_once (goes_on {t = t} h later) other =

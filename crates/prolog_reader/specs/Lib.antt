@@ -2,8 +2,10 @@ pub mod Clauses
 pub mod Coding
 pub mod Terms
 pub mod Fit
+pub mod Places
 pub mod Table
 pub mod Names
+pub mod Naming
 pub mod Meanings
 pub mod Views
 pub mod Symbols

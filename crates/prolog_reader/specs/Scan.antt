@@ -15,6 +15,7 @@ use Rattle.prolog_reader.specs.declared.clause_reading.Found.{Found}
 use Rattle.prolog_reader.specs.declared.clause_reading.Found.TheVariants as found
 use Rattle.prolog_reader.specs.Clauses.{Clause}
 use Rattle.prolog_reader.specs.Terms.{clause_of}
+use Rattle.prolog_reader.specs.Naming.{with_names, name_texts}
 use Rattle.prolog_reader.specs.Symbols.{Seen, none_seen, token_of, tokens_of, seen_after}
 use Rattle.prolog_reader.specs.Table.{Table}
 use Rattle.prolog_reader.specs.Views.{table_rules}
@@ -78,3 +79,14 @@ Closes (Ok r) vars at (found.Clause c) = clause_of c ≡ record { term = part_tr
 Closes (Err (unexpected rest)) vars at (found.Refused kind place) = (kind ≡ Unexpected) × (place ≡ at)
 Closes (Err (deep rest)) vars at (found.Refused kind place) = (kind ≡ Deep) × (place ≡ at)
 Closes _ vars at _ = ⊥
+
+-- where the text goes on behind a clause that is read
+abbrev pub GoesOn : Found → Cursor → List TextToken → Option LexFault → Type 0
+GoesOn (found.Clause c) at rest fault = Lexes at rest fault
+GoesOn (found.Refused kind place) at rest fault = Unit {0}
+
+-- what these tokens name is put to the names, but for the rest of them
+pub record Names (text : List ℕ) (before after : List (List ℕ)) (ts : List TextToken) (fault : Option LexFault) (at : Cursor) (found : Found) : Type 0 where
+  pub rest : List TextToken
+  pub same : with_names before (name_texts text ts) ≡ with_names after (name_texts text rest)
+  pub later : GoesOn found at rest fault

@@ -15,7 +15,7 @@ ghost use Rattle.prolog_reader.specs.Knowing.{AreKnown};
 ghost use Rattle.prolog_reader.specs.Ranges.{IsWithin};
 ghost use Rattle.prolog_reader.specs.FoundFit.{AreWithin, IsFoundFit};
 ghost use Rattle.prolog_reader.specs.Measures.{IsStateFine, state_nodes};
-ghost use Rattle.prolog_reader.specs.Scan.{closing_of, IsNextFault, Closes, Finds};
+ghost use Rattle.prolog_reader.specs.Scan.{closing_of, IsNextFault, Closes, Finds, Names as ReadNames};
 
 use crate::clause::ReadClause;
 use crate::fault::ReadKind;
@@ -31,7 +31,7 @@ use prolog_tokens::{Lexer, Token};
 use std::alloc::{AllocError, Global};
 
 /// What reading a clause comes to.
-#[derive(Debug, Drop)]
+#[derive(Drop)]
 pub enum Found {
     Clause(ReadClause),
     Refused { kind: ReadKind, at: u32 },
@@ -141,6 +141,7 @@ pub fn read_clause(
     requires room { length names.old + length text.now ≤ 4294967000 + first.start }
     ensures found { IfOk result (λ found. (later : List (List ℕ)) (ts : List TextToken) (fault : Option LexFault) → Extends names.new later → Lexes lexer.old ts fault
         → Finds later text.now fault (closing_of is_query fault) (table_of ops.now) (first ∷ ts) lexer.new found) }
+    ensures added { IfOk result (λ found. (ts : List TextToken) (fault : Option LexFault) → Lexes lexer.old ts fault → ReadNames text.now names.old names.new (first ∷ ts) fault lexer.new found) }
     ensures fit { IfOk result (λ found. (count : ℕ) → length names.new ≤ count → IsFoundFit count (2 * first.start) (2 * lexer.new.at) found) }
     ensures same { lexer.new.text ≡ text.now }
     ensures on { (lexer.old.at ≤ lexer.new.at) × (lexer.new.at ≤ length text.now) }

@@ -8,7 +8,7 @@ use std::alloc::{AllocError, Global};
 use std::marker::Model;
 
 /// Clauses in a row. Contracts see the list of the plain clauses.
-#[derive(Debug, Drop)]
+#[derive(Drop)]
 pub struct ReadClauses {
     items: Vec<ReadClause>,
 }

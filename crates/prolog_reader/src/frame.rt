@@ -4,7 +4,7 @@ use crate::part::Part;
 use cti_terms::Name;
 
 /// A name that arguments may follow, by its place: a token, `[` and `]`, or `{` and `}`.
-#[derive(Clone, Copy, Debug, PartialEq, Eq)]
+#[derive(Clone, Copy, PartialEq, Eq)]
 pub enum Head {
     Plain { at: u32, name: Name },
     Brackets { at: u32 },
@@ -12,7 +12,7 @@ pub enum Head {
 }
 
 /// What stands between an opening token and the term under way.
-#[derive(Debug, Drop)]
+#[derive(Drop)]
 pub enum Open {
     Group { at: u32 },
     Curly { at: u32 },
@@ -22,7 +22,7 @@ pub enum Open {
 }
 
 /// What is open: an operator whose right side is under way, or an opening token. The bound is that of the term round it.
-#[derive(Debug, Drop)]
+#[derive(Drop)]
 pub enum Frame {
     Infix {
         bound: u32,
@@ -43,7 +43,7 @@ pub enum Frame {
 }
 
 /// What was read last, in a term with that bound.
-#[derive(Debug, Drop)]
+#[derive(Drop)]
 pub enum Mode {
     /// An operand begins here.
     Want {
@@ -79,7 +79,7 @@ pub enum Mode {
 }
 
 /// Where a token leads.
-#[derive(Debug, Drop)]
+#[derive(Drop)]
 pub enum Next {
     GoOn(Mode),
     /// The token is expected, and no token behind it is.

@@ -21,8 +21,6 @@ mod reading;
 mod symbol;
 mod symbols;
 mod term;
-#[cfg(test)]
-mod tests;
 mod text;
 mod variables;
 mod words;

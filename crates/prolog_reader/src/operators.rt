@@ -3,6 +3,7 @@
 ghost use Rattle.std.specs.Prelude.{◌≡◌, ◌≤◌, ◌<◌, ◌+◌, ◌-◌, ◌^◌, ℕ, List, None, length, map, option_map, IfOk, IfErr, OnOk, OnErr, Ok};
 ghost use Rattle.prolog_reader.specs.Meanings.{infix_of, prefix_of, table_of};
 ghost use Rattle.prolog_reader.specs.Names.{Extends, name_text};
+ghost use Rattle.prolog_reader.specs.Naming.{with_names, clause_texts, comparison_texts, arithmetic_texts, operator_texts};
 ghost use Rattle.prolog_reader.specs.Table.{no_operators, with_infix, with_prefix, infix_meaning, prefix_meaning, with_operator, with_texts, clause_operators, comparison_operators, arithmetic_operators, standard, priority_in, setting, IsCauseOf, is_reserved};
 
 use crate::fault::OpFault;
@@ -13,7 +14,7 @@ use std::alloc::{AllocError, Global};
 use std::collections::BTreeMap;
 
 /// An infix operator: its priority, and the greatest priorities that its sides may have.
-#[derive(Clone, Copy, Debug, PartialEq, Eq)]
+#[derive(Clone, Copy, PartialEq, Eq)]
 pub struct Infix {
     pub priority: u32,
     pub left: u32,
@@ -21,14 +22,14 @@ pub struct Infix {
 }
 
 /// A prefix operator: its priority, and the greatest priority that its operand may have.
-#[derive(Clone, Copy, Debug, PartialEq, Eq)]
+#[derive(Clone, Copy, PartialEq, Eq)]
 pub struct Prefix {
     pub priority: u32,
     pub right: u32,
 }
 
 /// The operators in force: each name has at most one infix and one prefix meaning. Contracts see the two meanings of each name, `table_of`.
-#[derive(Debug, Drop)]
+#[derive(Drop)]
 pub struct Ops {
     infixes: BTreeMap<u32, Infix>,
     prefixes: BTreeMap<u32, Prefix>,
@@ -63,6 +64,7 @@ impl Ops {
     pub fn standard(alloc: Global, names: &mut Names) -> Result<Ops, AllocError>
         requires room { length names.old ≤ 4294967000 }
         ensures table { IfOk result (λ ops. (later : List (List ℕ)) → Extends names.new later → table_of ops ≡ standard later) }
+        ensures added { OnOk result (names.new ≡ with_names names.old operator_texts) }
         ensures kept { Extends names.old names.new }
         ensures few { length names.new ≤ length names.old + 41 }
     {
@@ -194,6 +196,7 @@ impl Ops {
     ) -> Result<(), AllocError>
         requires room { length names.old + length texts.now ≤ 4294967200 }
         ensures ok { OnOk result ((later : List (List ℕ)) → Extends names.new later → table_of self.new ≡ with_texts later (table_of self.old) priority kind (map (λ t. t.now) texts.now)) }
+        ensures added { OnOk result (names.new ≡ with_names names.old (map (λ t. t.now) texts.now)) }
         ensures kept { Extends names.old names.new }
         ensures few { length names.new ≤ length names.old + length texts.now }
     {
@@ -208,6 +211,7 @@ impl Ops {
     fn set_clause_operators(&mut self, names: &mut Names) -> Result<(), AllocError>
         requires room { length names.old ≤ 4294967100 }
         ensures ok { OnOk result ((later : List (List ℕ)) → Extends names.new later → table_of self.new ≡ clause_operators later (table_of self.old)) }
+        ensures added { OnOk result (names.new ≡ with_names names.old clause_texts) }
         ensures kept { Extends names.old names.new }
         ensures few { length names.new ≤ length names.old + 7 }
     {
@@ -223,6 +227,7 @@ impl Ops {
     fn set_comparison_operators(&mut self, names: &mut Names) -> Result<(), AllocError>
         requires room { length names.old ≤ 4294967100 }
         ensures ok { OnOk result ((later : List (List ℕ)) → Extends names.new later → table_of self.new ≡ comparison_operators later (table_of self.old)) }
+        ensures added { OnOk result (names.new ≡ with_names names.old comparison_texts) }
         ensures kept { Extends names.old names.new }
         ensures few { length names.new ≤ length names.old + 16 }
     {
@@ -245,6 +250,7 @@ impl Ops {
     fn set_arithmetic_operators(&mut self, names: &mut Names) -> Result<(), AllocError>
         requires room { length names.old ≤ 4294967100 }
         ensures ok { OnOk result ((later : List (List ℕ)) → Extends names.new later → table_of self.new ≡ arithmetic_operators later (table_of self.old)) }
+        ensures added { OnOk result (names.new ≡ with_names names.old arithmetic_texts) }
         ensures kept { Extends names.old names.new }
         ensures few { length names.new ≤ length names.old + 15 }
     {

@@ -15,7 +15,7 @@ use cti_terms::Name;
 use std::alloc::{AllocError, Global};
 
 /// A term and how deep it is, counted up to the limit.
-#[derive(Debug, Drop)]
+#[derive(Drop)]
 pub struct Part {
     pub term: ReadTerm,
     pub depth: u32,

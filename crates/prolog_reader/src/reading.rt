@@ -1,9 +1,12 @@
 //! Reading texts and queries.
 
-ghost use Rattle.std.specs.Prelude.{◌≡◌, nat_lt, ◌≤◌, ◌<◌, ◌+◌, ℕ, List, length, Ok, Err, IfOk, IfErr, Result};
+ghost use Rattle.std.specs.Prelude.{◌≡◌, nat_lt, ◌≤◌, ◌<◌, ◌+◌, [], ℕ, List, length, Ok, Err, IfOk, IfErr, Result};
 ghost use Rattle.prolog_reader.specs.declared.fault.ReadFault.TheVariants.{Fault as Refused};
 ghost use Rattle.prolog_reader.specs.declared.fault.ReadKind.TheVariants.{Long as TooLong};
 ghost use Rattle.prolog_reader.specs.Names.{Extends};
+ghost use Rattle.prolog_reader.specs.Naming.{AreNamesOf, BeginNames, text_own, query_own};
+ghost use Rattle.prolog_grammar.specs.Places.{IsPlaced};
+ghost use Rattle.prolog_reader.specs.Places.{ArePlacedClauses, IsFaultPlaced};
 ghost use Rattle.prolog_reader.specs.Terms.{clause_of};
 ghost use Rattle.prolog_reader.specs.Meanings.{table_of};
 ghost use Rattle.prolog_reader.specs.Table.{Table, standard};
@@ -43,9 +46,17 @@ pub fn read_text(alloc: Global, text: &[u8], names: &mut Names) -> Result<ReadTe
     // No text has two answers: what it reads as by the names is what is read, or it is refused as it has to be, unless memory runs out.
     ensures only { (later : List (List ℕ)) (answer : Answer) → Extends names.new later → IsTextAnswer later text.now answer → SaysText result answer }
 
-    // Earlier names keep their numbers, and there are at most so many more as the text has bytes and the operators names.
+    // The names are those that the text gives, and after a refusal the first of them. Earlier names keep their numbers.
+    ensures names { IfOk result (λ read. AreNamesOf text_own names.old text.now names.new) }
+    ensures begin { IfErr result (λ fault. BeginNames text_own names.old text.now names.new fault) }
     ensures kept { Extends names.old names.new }
+
+    // There are at most so many more as the text has bytes and the operators names.
     ensures few { length names.new ≤ length names.old + length text.now + 53 }
+
+    // The terms stand within the text, and so does the place of a refusal.
+    ensures placed { IfOk result (λ read. ArePlacedClauses (length text.now) read.clauses) }
+    ensures place { IfErr result (λ fault. IsFaultPlaced (length text.now) fault) }
 
     // Names and variables of the clauses are in range, and so are the nodes of all terms together.
     ensures fit { IfOk result (λ read. AreFit (length names.new) read.clauses) }
@@ -65,6 +76,8 @@ fn read_short(alloc: Global, text: &[u8], names: &mut Names) -> Result<ReadText,
     requires room { length names.old ≤ 4292870143 }
     ensures found { IfOk result (λ read. AnswersText names.new text.now (Ok (read.clauses, table_of read.ops))) }
     ensures refused { IfErr result (λ fault. RefusesText names.new text.now fault) }
+    ensures names { IfOk result (λ read. AreNamesOf text_own names.old text.now names.new) }
+    ensures begin { IfErr result (λ fault. BeginNames text_own names.old text.now names.new fault) }
     ensures kept { Extends names.old names.new }
     ensures few { length names.new ≤ length names.old + length text.now + 53 }
     ensures fit { IfOk result (λ read. AreFit (length names.new) read.clauses) }
@@ -94,6 +107,8 @@ fn read_clauses(
     requires standard { (later : List (List ℕ)) → Extends names.old later → table_of ops ≡ standard later }
     ensures found { IfOk result (λ read. AnswersText names.new text.now (Ok (read.clauses, table_of read.ops))) }
     ensures refused { IfErr result (λ fault. RefusesText names.new text.now fault) }
+    ensures names { IfOk result (λ read. AreNamesOf [] names.old text.now names.new) }
+    ensures begin { IfErr result (λ fault. BeginNames [] names.old text.now names.new fault) }
     ensures kept { Extends names.old names.new }
     ensures few { length names.new ≤ length names.old + length text.now }
     ensures fit { IfOk result (λ read. AreFit (length names.new) read.clauses) }
@@ -156,9 +171,17 @@ pub fn read_query(
     // No query has two answers.
     ensures only { (later : List (List ℕ)) (answer : Result Clause Fault) → Extends names.new later → IsQueryAnswer later (table_of ops.now) text.now answer → SaysQuery result answer }
 
-    // Earlier names keep their numbers, and there are at most so many more as the query has bytes and the syntax names.
+    // The names are those that the query gives, and after a refusal the first of them. Earlier names keep their numbers.
+    ensures names { IfOk result (λ clause. AreNamesOf query_own names.old text.now names.new) }
+    ensures begin { IfErr result (λ fault. BeginNames query_own names.old text.now names.new fault) }
     ensures kept { Extends names.old names.new }
+
+    // There are at most so many more as the query has bytes and the syntax names.
     ensures few { length names.new ≤ length names.old + length text.now + 4 }
+
+    // The term stands within the query, and so does the place of a refusal.
+    ensures placed { IfOk result (λ clause. IsPlaced (length text.now) (clause_of clause).term) }
+    ensures place { IfErr result (λ fault. IsFaultPlaced (length text.now) fault) }
 
     // Names and variables of the term are in range, and so are its nodes.
     ensures fit { IfOk result (λ clause. IsQueryFit (length names.new) (clause_of clause)) }
@@ -176,6 +199,8 @@ fn read_short_query(
     requires room { length names.old ≤ 4292870143 }
     ensures found { IfOk result (λ clause. AnswersQuery names.new (table_of ops.now) text.now (Ok (clause_of clause))) }
     ensures refused { IfErr result (λ fault. RefusesQuery names.new (table_of ops.now) text.now fault) }
+    ensures names { IfOk result (λ clause. AreNamesOf query_own names.old text.now names.new) }
+    ensures begin { IfErr result (λ fault. BeginNames query_own names.old text.now names.new fault) }
     ensures kept { Extends names.old names.new }
     ensures few { length names.new ≤ length names.old + length text.now + 4 }
     ensures fit { IfOk result (λ clause. IsQueryFit (length names.new) (clause_of clause)) }
@@ -203,6 +228,8 @@ fn read_term(
     requires known { AreKnown names.old known }
     ensures found { IfOk result (λ clause. AnswersQuery names.new (table_of ops.now) text.now (Ok (clause_of clause))) }
     ensures refused { IfErr result (λ fault. RefusesQuery names.new (table_of ops.now) text.now fault) }
+    ensures names { IfOk result (λ clause. AreNamesOf [] names.old text.now names.new) }
+    ensures begin { IfErr result (λ fault. BeginNames [] names.old text.now names.new fault) }
     ensures kept { Extends names.old names.new }
     ensures few { length names.new ≤ length names.old + length text.now }
     ensures fit { IfOk result (λ clause. IsQueryFit (length names.new) (clause_of clause)) }
@@ -240,9 +267,13 @@ fn read_term(
     }
 }
 
-/// By the same names a text has one answer, and by the same names and operators a query has: the clauses that it reads as, or its first
-/// fault. So no text is read as two programs, and none is both read and refused.
+/// By the same names a text has exactly one answer, and by the same names and operators a query has: the clauses that it reads as, or its
+/// first fault. So no text is read as two programs, and none is both read and refused. And a text gives one list of names.
 pub fn one_answer()
     ensures text { (names : List (List ℕ)) (text : List ℕ) (answer other : Answer) → IsTextAnswer names text answer → IsTextAnswer names text other → answer ≡ other }
+    ensures some_text { (names : List (List ℕ)) (text : List ℕ) → (answer : Answer) × IsTextAnswer names text answer }
+    ensures names { (own earlier : List (List ℕ)) (text : List ℕ) (names other : List (List ℕ)) → AreNamesOf own earlier text names → AreNamesOf own earlier text other → names ≡ other }
+    ensures some_names { (own earlier : List (List ℕ)) (text : List ℕ) → (names : List (List ℕ)) × AreNamesOf own earlier text names }
     ensures query { (names : List (List ℕ)) (table : Table) (text : List ℕ) (answer other : Result Clause Fault) → IsQueryAnswer names table text answer → IsQueryAnswer names table text other → answer ≡ other }
+    ensures some_query { (names : List (List ℕ)) (table : Table) (text : List ℕ) → (answer : Result Clause Fault) × IsQueryAnswer names table text answer }
 {}

@@ -4,7 +4,7 @@ use crate::natural::Natural;
 use cti_terms::Name;
 
 /// The names that the syntax itself makes terms of: `,` and `[]` and `{}` and `.`.
-#[derive(Clone, Copy, Debug, PartialEq, Eq)]
+#[derive(Clone, Copy, PartialEq, Eq)]
 pub struct Known {
     pub comma: Name,
     pub nil: Name,
@@ -13,7 +13,6 @@ pub struct Known {
 }
 
 /// A token as the machine takes it, with the place of its first byte where a term may begin there.
-#[derive(Debug, Drop)]
 pub enum Symbol {
     /// A variable, by its number in the clause.
     Var { at: u32, number: u32 },
@@ -37,4 +36,26 @@ pub enum Symbol {
     Comma,
     Bar,
     End,
+}
+
+impl Drop for Symbol {
+    fn drop(self) {
+        match self {
+            Symbol::Var { at: _, number: _ } => {}
+            Symbol::Int { at: _, value: _ } => {}
+            Symbol::Joined { at: _, value: _ } => {}
+            Symbol::Text { at: _, codes: _ } => {}
+            Symbol::Name { at: _, name: _ } => {}
+            Symbol::Paren { at: _ } => {}
+            Symbol::Touching { at: _ } => {}
+            Symbol::ParenEnd => {}
+            Symbol::Bracket { at: _ } => {}
+            Symbol::BracketEnd => {}
+            Symbol::Brace { at: _ } => {}
+            Symbol::BraceEnd => {}
+            Symbol::Comma => {}
+            Symbol::Bar => {}
+            Symbol::End => {}
+        }
+    }
 }

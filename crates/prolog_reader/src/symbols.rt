@@ -1,12 +1,13 @@
 //! The tokens of a text as the machine takes them.
 
-ghost use Rattle.std.specs.Prelude.{◌≡◌, ◌<◌, ◌≤◌, ◌+◌, ◌-◌, ◌^◌, ℕ, List, length, drop, nat_abs, IfOk, OnOk, IfSome, if◌then◌else◌};
+ghost use Rattle.std.specs.Prelude.{◌≡◌, ◌<◌, ◌≤◌, ◌+◌, ◌-◌, ◌^◌, ◌∷◌, [], ℕ, List, length, drop, nat_abs, IfOk, OnOk, IfSome, if◌then◌else◌};
 ghost use Rattle.cti_terms.specs.Numbers.{number_of};
 ghost use Rattle.prolog_tokens.specs.Items.{item_characters};
 ghost use Rattle.prolog_tokens.specs.Decoding.{IsTokenOf, bytes_of, characters_of};
 ghost use Rattle.prolog_tokens.specs.declared.token.TokenKind.TheVariants.{Text as TextKind, Int as IntKind};
 ghost use Rattle.prolog_grammar.specs.Token.{integer as integer_value, Leaf, Joined as JoinedToken, Name as NameToken};
 ghost use Rattle.prolog_reader.specs.Names.{Extends, IsNumber};
+ghost use Rattle.prolog_reader.specs.Naming.{with_names, token_texts};
 ghost use Rattle.prolog_reader.specs.Symbols.{is_minus, touches_before, joins_before, token_of as plain_token, seen_after};
 ghost use Rattle.prolog_reader.specs.Numbering.{seen_of, AreNumbered};
 ghost use Rattle.prolog_reader.specs.Views.{token_of};
@@ -67,6 +68,7 @@ fn name(alloc: Global, text: &[u8], names: &mut Names, token: Token) -> Result<N
     requires room { length names.old < 2 ^ 32 - 1 }
     ensures number { IfOk result (λ n. IsNumber names.new (characters_of text.now token) n.0) }
     ensures known { IfOk result (λ n. n.0 < length names.new) }
+    ensures added { OnOk result (names.new ≡ with_names names.old (characters_of text.now token ∷ [])) }
     ensures kept { Extends names.old names.new }
     ensures more { length names.new ≤ length names.old + 1 }
 {
@@ -110,6 +112,7 @@ fn integer(at: u32, value: i128, joined: bool) -> Symbol
 }
 
 /// A token as the machine takes it, after the variables and the token before it. After an error nothing is said of the variables.
+#[tactic(auto, using(crate::proofs::NamingLemmas::names_none))]
 pub fn next_symbol(
     alloc: Global,
     text: &[u8],
@@ -128,6 +131,7 @@ pub fn next_symbol(
     ensures fine { IfOk result (λ s. IsTokenFine (length names.new) (seen_of variables.new).count (token_of s)) }
     ensures seen { OnOk result (seen_of variables.new ≡ seen_after text.now (seen_of variables.old) token) }
     ensures numbered { OnOk result (AreNumbered variables.new) }
+    ensures added { OnOk result (names.new ≡ with_names names.old (token_texts text.now token)) }
     ensures kept { Extends names.old names.new }
     ensures more { length names.new ≤ length names.old + 1 }
 {

@@ -4,7 +4,7 @@ use cti_terms::Name;
 
 /// What a term is.
 #[cycle(read_terms)]
-#[derive(Debug, Drop)]
+#[derive(Drop)]
 pub enum ReadShape {
     /// A variable, by its number in its clause: they are numbered from 0 in the order of their first occurrence, and each `_` is
     /// one of its own.
@@ -17,7 +17,7 @@ pub enum ReadShape {
 
 /// A term and its place, which is the first byte of its first token, counted from 0. A parenthesis round a term is one of its tokens.
 #[cycle(read_terms)]
-#[derive(Debug, Drop)]
+#[derive(Drop)]
 pub struct ReadTerm {
     pub at: u32,
     pub shape: ReadShape,

@@ -4,7 +4,7 @@ use crate::clauses::ReadClauses;
 use crate::operators::Ops;
 
 /// The clauses of a text in its order, and the operators after the last one.
-#[derive(Debug, Drop)]
+#[derive(Drop)]
 pub struct ReadText {
     pub clauses: ReadClauses,
     pub ops: Ops,

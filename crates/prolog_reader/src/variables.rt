@@ -9,11 +9,20 @@ use std::alloc::{AllocError, Global};
 
 /// The variables of the clause that is under way: the names of those that have one, the number of each of these, and how many
 /// variables there are with each `_`.
-#[derive(Debug, Drop)]
 pub struct Variables {
     names: Names,
     numbers: Vec<u32>,
     count: u32,
+}
+
+impl Drop for Variables {
+    fn drop(self) {
+        let Variables {
+            names: _,
+            numbers: _,
+            count: _,
+        } = self;
+    }
 }
 
 /// Whether a variable is `_`.

@@ -1,7 +1,8 @@
 //! Names that mean something to the reader.
 
-ghost use Rattle.std.specs.Prelude.{◌≡◌, ◌≤◌, ◌+◌, ℕ, List, length, codes, IfOk};
+ghost use Rattle.std.specs.Prelude.{◌≡◌, ◌≤◌, ◌+◌, ◌∷◌, [], ℕ, List, length, codes, IfOk, OnOk};
 ghost use Rattle.prolog_reader.specs.Names.{Extends, IsNumber};
+ghost use Rattle.prolog_reader.specs.Naming.{with_names, syntax_texts, word_texts};
 ghost use Rattle.prolog_reader.specs.Knowing.{AreKnown, AreWords};
 
 use crate::symbol::Known;
@@ -9,7 +10,7 @@ use cti_terms::{Name, Names};
 use std::alloc::AllocError;
 
 /// The names that the syntax makes terms of, and those of an `op` clause.
-#[derive(Clone, Copy, Debug, PartialEq, Eq)]
+#[derive(Clone, Copy, PartialEq, Eq)]
 pub struct Words {
     pub known: Known,
     pub neck: Name,
@@ -26,6 +27,7 @@ pub struct Words {
 fn word(names: &mut Names, text: &[u8]) -> Result<Name, AllocError>
     requires { length names.old ≤ 4294967200 }
     ensures number { IfOk result (λ n. IsNumber names.new text.now n.0) }
+    ensures added { OnOk result (names.new ≡ with_names names.old (text.now ∷ [])) }
     ensures kept { Extends names.old names.new }
     ensures few { length names.new ≤ length names.old + 1 }
 {
@@ -37,6 +39,7 @@ fn word(names: &mut Names, text: &[u8]) -> Result<Name, AllocError>
 pub fn find_known(names: &mut Names) -> Result<Known, AllocError>
     requires { length names.old ≤ 4294967100 }
     ensures known { IfOk result (λ known. AreKnown names.new known) }
+    ensures added { OnOk result (names.new ≡ with_names names.old syntax_texts) }
     ensures kept { Extends names.old names.new }
     ensures few { length names.new ≤ length names.old + 4 }
 {
@@ -56,6 +59,7 @@ pub fn find_known(names: &mut Names) -> Result<Known, AllocError>
 pub fn find_words(names: &mut Names) -> Result<Words, AllocError>
     requires { length names.old ≤ 4294967050 }
     ensures words { IfOk result (λ words. AreWords names.new words) }
+    ensures added { OnOk result (names.new ≡ with_names names.old word_texts) }
     ensures kept { Extends names.old names.new }
     ensures few { length names.new ≤ length names.old + 12 }
 {

@@ -19,3 +19,4 @@ pub mod StreamLemmas
 pub mod AppendLemmas
 pub mod SpellingLemmas
 pub mod ReadBackLemmas
+pub mod FaultPlaces

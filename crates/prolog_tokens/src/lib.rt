@@ -15,8 +15,6 @@ mod lexer;
 mod numbers;
 mod piece;
 mod quoting;
-#[cfg(test)]
-mod tests;
 mod token;
 
 pub use decoding::{decode, items_are_decoded};

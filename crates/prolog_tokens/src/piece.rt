@@ -10,7 +10,7 @@ use crate::fault::LexKind;
 use crate::numbers::{digits_len, scalar};
 
 /// What stands at one place of a quoted item.
-#[derive(Clone, Copy, Debug, PartialEq, Eq)]
+#[derive(Clone, Copy, PartialEq, Eq)]
 pub enum Piece {
     /// A character, and how many bytes spell it.
     Character(char, usize),

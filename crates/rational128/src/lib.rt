@@ -5,7 +5,5 @@
 #![tactic(auto)]
 
 mod ratio;
-#[cfg(test)]
-mod tests;
 
 pub use ratio::{Ratio, Wide};

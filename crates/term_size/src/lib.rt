@@ -18,6 +18,3 @@ pub use norm::Norm;
 pub use size_expr::{Coefficients, SizeExpr};
 pub use term_size::TermSize;
 pub use var_set::{SET_VARIABLES, VarSet};
-
-#[cfg(test)]
-mod tests;

@@ -5,7 +5,7 @@ ghost use Rattle.std.specs.Prelude.{◌≡◌, length};
 use std::marker::Model;
 
 /// The size of a term as an expression: a constant, and a coefficient for each variable of the clause.
-#[derive(Debug, Drop)]
+#[derive(Drop)]
 pub struct SizeExpr {
     /// What the term counts by itself.
     pub constant: i128,
@@ -15,7 +15,7 @@ pub struct SizeExpr {
 }
 
 /// Coefficients in a row. Contracts see the list.
-#[derive(Debug, Drop)]
+#[derive(Drop)]
 pub struct Coefficients {
     items: Vec<i128>,
 }

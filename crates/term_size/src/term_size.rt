@@ -16,7 +16,7 @@ use std::alloc::{AllocError, Global};
 /// A term is rigid exactly where it has no variable.
 ///
 /// Source: the structural term size of Sohn and Van Gelder 1991.
-#[derive(Clone, Copy, Debug, PartialEq, Eq)]
+#[derive(Clone, Copy, PartialEq, Eq)]
 pub struct TermSize;
 
 impl Norm for TermSize {

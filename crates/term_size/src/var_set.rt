@@ -7,7 +7,7 @@ ghost use Rattle.term_size.specs.Members.{members};
 pub const SET_VARIABLES: u32 = 64;
 
 /// A set of variables below 64. Contracts speak of the list of its members.
-#[derive(Clone, Copy, Debug, PartialEq, Eq)]
+#[derive(Clone, Copy, PartialEq, Eq)]
 pub struct VarSet(u64);
 
 impl VarSet {

@@ -7,7 +7,5 @@
 mod part;
 mod run_lines;
 mod spelling;
-#[cfg(test)]
-mod tests;
 
 pub use run_lines::run_text;

@@ -9,6 +9,7 @@ use Rattle.exact128.specs.Sums.{dot, entry}
 use Rattle.linear_rows.specs.Rows.{AllHold, HoldsOn}
 use Rattle.cti_terms.specs.Tree.{Tree}
 use Rattle.termination_model.specs.Rows.{scaled, added, combined, substituted}
+use Rattle.termination_model.specs.Best.{coefficient}
 use Rattle.termination_model.specs.Claims.{Mapping, SomeOf}
 use Rattle.termination_model.specs.View.{Member, Call, Rule, system_of, level_over, fall_over}
 use Rattle.termination_model.specs.Refutation.{Pair, Load, gather, Decreases, head_load, call_load, IsPair, NoneDecreases}
@@ -27,23 +28,28 @@ unfolding dot
 dot_nil [] = refl
 dot_nil (a ∷ cs) = refl
 
--- natural coefficients keep the order of values
-dot_order : (cs : List ℕ) (xs ys : List ℤ) → ((i : ℕ) → entry xs i ≤ℤ entry ys i) → dot (map pos cs) xs ≤ℤ dot (map pos cs) ys
+-- a natural multiple keeps the order, and one by 0 asks for none
+scaled_order : (a : ℕ) (x y : ℤ) → (0 < a → x ≤ℤ y) → (pos a *ℤ x) ≤ℤ (pos a *ℤ y)
+scaled_order zero x y h = omega (arith, ints)
+scaled_order (suc a) x y h = let m = mul_mono x y (suc a) (h (omega arith)) in omega (arith, ints, m, *ℤ_comm x (pos (suc a)), *ℤ_comm y (pos (suc a)))
+
+-- natural coefficients keep the order of values, where only those at positive ones are in order
+dot_order : (cs : List ℕ) (xs ys : List ℤ) → ((i : ℕ) → 0 < coefficient cs i → entry xs i ≤ℤ entry ys i) → dot (map pos cs) xs ≤ℤ dot (map pos cs) ys
 unfolding dot
 dot_order [] xs ys h = omega (arith, ints)
 dot_order (a ∷ cs) [] [] h = omega (arith, ints)
 dot_order (a ∷ cs) [] (y ∷ ys) h =
-    let here : pos 0 ≤ℤ (pos a *ℤ y) = mul_nonneg (pos a) y (omega (arith, ints)) (h 0) in
+    let here = scaled_order a (pos 0) y (h 0) in
     let rest : dot (map pos cs) [] ≤ℤ dot (map pos cs) ys = dot_order cs [] ys (λ i. h (suc i)) in
-    omega (arith, ints, dot_nil (map pos cs))
+    omega (arith, ints, dot_nil (map pos cs), here)
 dot_order (a ∷ cs) (x ∷ xs) [] h =
-    let here = mul_mono x (pos 0) a (h 0) in
+    let here = scaled_order a x (pos 0) (h 0) in
     let rest : dot (map pos cs) xs ≤ℤ dot (map pos cs) [] = dot_order cs xs [] (λ i. h (suc i)) in
-    omega (arith, ints, dot_nil (map pos cs), *ℤ_comm x (pos a))
+    omega (arith, ints, dot_nil (map pos cs), here)
 dot_order (a ∷ cs) (x ∷ xs) (y ∷ ys) h =
-    let here = mul_mono x y a (h 0) in
+    let here = scaled_order a x y (h 0) in
     let rest = dot_order cs xs ys (λ i. h (suc i)) in
-    omega (arith, ints, *ℤ_comm x (pos a), *ℤ_comm y (pos a))
+    omega (arith, ints, here, rest)
 
 -- the sum of levels
 abbrev summed : (ℕ → List ℕ) → List Load → ℤ
@@ -87,7 +93,7 @@ all_members : (f : ℕ → List ℕ) (hs : List Load) (n : ℕ) → AllByRecursi
 all_members f [] n l = no_loads f n
 all_members f (h ∷ hs) n l = omega (arith, ints, one_more f h hs n l.0, all_members f hs n l.1)
 
-order : (f : ℕ → List ℕ) (hs gs : List Load) (n : ℕ) → ((q i : ℕ) → entry (gather q hs) i ≤ℤ entry (gather q gs) i) → by_member f hs n ≤ℤ by_member f gs n
+order : (f : ℕ → List ℕ) (hs gs : List Load) (n : ℕ) → ((q i : ℕ) → 0 < coefficient (f q) i → entry (gather q hs) i ≤ℤ entry (gather q gs) i) → by_member f hs n ≤ℤ by_member f gs n
 order f hs gs zero h = omega (arith, ints)
 order f hs gs (suc n) h = let rest = order f hs gs n h in let here = dot_order (f n) (gather n hs) (gather n gs) (h n) in omega (arith, ints)
 
@@ -99,7 +105,7 @@ all_below : (hs : List Load) (n : ℕ) → above hs ≤ n → AllByRecursion (λ
 all_below [] n l = tt
 all_below (h ∷ hs) n l = (omega arith, all_below hs n (omega arith))
 
-lighter : (f : ℕ → List ℕ) (hs gs : List Load) → ((q i : ℕ) → entry (gather q hs) i ≤ℤ entry (gather q gs) i) → summed f hs ≤ℤ summed f gs
+lighter : (f : ℕ → List ℕ) (hs gs : List Load) → ((q i : ℕ) → 0 < coefficient (f q) i → entry (gather q hs) i ≤ℤ entry (gather q gs) i) → summed f hs ≤ℤ summed f gs
 lighter f hs gs h =
     let n = above hs + above gs in
     let o = order f hs gs n h in
@@ -182,7 +188,7 @@ some_time [] h = absurd h
 some_time (p ∷ ps) (inl h) = omega arith
 some_time (p ∷ ps) (inr h) = omega (arith, some_time ps h)
 
-abbrev weights : Mapping → ℕ → List ℕ
+abbrev pub weights : Mapping → ℕ → List ℕ
 weights l q = l.offset q ∷ l.coefficients q
 
 from_in : {X : Type 0} (P : X → Type 0) (xs : List X) (x : X) → AllByRecursion P xs → SomeOf (λ y. y ≡ x) xs → P x
@@ -231,9 +237,16 @@ module _ (truth : (ℕ → Bool) → Tree → Bool) (expression : ℕ → Tree �
   all_fall (p ∷ ps) h =
       sum_step _ _ _ _ p.t (times ps) (falls p h.0) (all_fall ps h.1)
 
-pub none_decreases : NoneDecreases
-none_decreases truth expression view ps l r d =
-    let f = all_fall truth expression view l d ps r.pairs in
-    let o = lighter (weights l) (map (head_load truth expression) ps) (map (call_load truth expression) ps) r.columns in
-    let one = some_time ps r.positive in
+-- only the coefficients and offsets that are positive have to be in order
+pub none_at : (truth : (ℕ → Bool) → Tree → Bool) (expression : ℕ → Tree → List ℤ) (view : List Rule) (ps : List Pair) (l : Mapping)
+    → AllByRecursion (IsPair truth expression view) ps → SomeOf (λ (p : Pair). 1 ≤ p.t) ps
+    → ((q i : ℕ) → 0 < coefficient (weights l q) i → entry (gather q (map (head_load truth expression) ps)) i ≤ℤ entry (gather q (map (call_load truth expression) ps)) i)
+    → Decreases truth expression view l → ⊥
+none_at truth expression view ps l pairs positive columns d =
+    let f = all_fall truth expression view l d ps pairs in
+    let o = lighter (weights l) (map (head_load truth expression) ps) (map (call_load truth expression) ps) columns in
+    let one = some_time ps positive in
     omega (arith, ints)
+
+pub none_decreases : NoneDecreases
+none_decreases truth expression view ps l r d = none_at truth expression view ps l r.pairs r.positive (λ q i k. r.columns q i) d

@@ -5,7 +5,7 @@ use Rattle.std.specs.Prelude.{◌≡◌, ℕ, zero, suc, ◌<◌, Bool, true, �
 use Rattle.std.specs.List.{AllByRecursion}
 use Rattle.cti_terms.specs.Tree.{Tree}
 use Rattle.termination_model.specs.Rows.{IsUpper, Covers}
-use Rattle.termination_model.specs.Grounds.{Family, IsInside}
+use Rattle.termination_model.specs.Grounds.{Family}
 use Rattle.termination_model.specs.Claims.{Mapping, Measure, SomeOf}
 use Rattle.termination_model.specs.View.{Rule, KeepsRuleIn}
 
@@ -25,7 +25,7 @@ IsSupported ls q i = SomeOf (λ (l : Mapping). 0 < coefficient (l.coefficients q
 abbrev pub IsWithin : List Mapping → List Mapping → Type 0
 IsWithin ks ls = (q i : ℕ) → IsSupported ks q i → IsSupported ls q i
 
-module _ (truth : (ℕ → Bool) → Tree → Bool) (expression : ℕ → Tree → List ℤ) (view : List Rule) where
+module _ (known : Family) (truth : (ℕ → Bool) → Tree → Bool) (expression : ℕ → Tree → List ℤ) (view : List Rule) where
   -- the measure's rows keep the rule of preconditions
   pub record Keeps (m : Measure) : Type 0 where
     pub covered : (q : ℕ) (bs : List Bool) → m.pre q bs ≡ true → AreCovered m.mappings q bs
@@ -34,7 +34,7 @@ module _ (truth : (ℕ → Bool) → Tree → Bool) (expression : ℕ → Tree �
   -- and no other rows of these mappings that keep it are more
   pub record IsGreatest (m : Measure) : Type 0 where
     pub keeps : Keeps m
-    pub greatest : (pre : Family) → Keeps (record { mappings = m.mappings; pre = pre }) → IsInside pre m.pre
+    pub greatest : (pre : Family) → Keeps (record { mappings = m.mappings; pre = pre }) → (q : ℕ) (bs : List Bool) → known q bs ≡ true → pre q bs ≡ true → m.pre q bs ≡ true
 
 -- some measure has the row and all that are upper to it
 abbrev pub AreAdmitted : List Measure → ℕ → List Bool → Type 0
@@ -42,7 +42,7 @@ AreAdmitted ms q bs = SomeOf (λ (m : Measure). (us : List Bool) → IsUpper us 
 
 -- measures one of which lies within each of the others admit at least what these admit
 abbrev pub SmallerIsBetter : Type 0
-SmallerIsBetter = (truth : (ℕ → Bool) → Tree → Bool) (expression : ℕ → Tree → List ℤ) (view : List Rule) (ms ns : List Measure)
-    → AllByRecursion (IsGreatest truth expression view) ms → AllByRecursion (Keeps truth expression view) ns
+SmallerIsBetter = (known : Family) → ((q : ℕ) (us bs : List Bool) → known q bs ≡ true → IsUpper us bs → known q us ≡ true) → (truth : (ℕ → Bool) → Tree → Bool) (expression : ℕ → Tree → List ℤ) (view : List Rule) (ms ns : List Measure)
+    → AllByRecursion (IsGreatest known truth expression view) ms → AllByRecursion (Keeps known truth expression view) ns
     → AllByRecursion (λ (n : Measure). SomeOf (λ (m : Measure). IsWithin m.mappings n.mappings) ms) ns
-    → (q : ℕ) (bs : List Bool) → AreAdmitted ns q bs → AreAdmitted ms q bs
+    → (q : ℕ) (bs : List Bool) → known q bs ≡ true → AreAdmitted ns q bs → AreAdmitted ms q bs

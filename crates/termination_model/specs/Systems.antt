@@ -6,11 +6,11 @@
 --
 -- To believe: `row_over`, `system`, `short_system`. The expression is that of a norm, the rows are one list for each
 -- predicate, by its number, and each list of numbers begins with the constant.
-use Rattle.std.specs.Prelude.{ℕ, ℤ, pos, Bool, true, ◌&&◌, if◌then◌else◌, List, [], ◌∷◌, ◌++◌, map}
-use Rattle.exact128.specs.Fits.{fits}
+use Rattle.std.specs.Prelude.{ℕ, ℤ, pos, if◌then◌else◌, List, [], ◌∷◌, ◌++◌, map}
 use Rattle.cti_terms.specs.Tree.{Tree}
 use Rattle.cti_terms.specs.declared.atom_list.Atom.{Atom}
-use Rattle.termination_model.specs.Rows.{substituted}
+use Rattle.linear_rows.specs.Replacing.{substituted}
+pub use Rattle.linear_rows.specs.Replacing.{row_fits}
 
 -- a row over arguments, over n variables instead
 abbrev pub row_over : (ℕ → Tree → List ℤ) → ℕ → List Tree → List ℤ → List ℤ
@@ -20,11 +20,6 @@ row_over expression n ts = substituted n (map (expression n) ts)
 abbrev pub system : (ℕ → Tree → List ℤ) → (ℕ → List (List ℤ)) → ℕ → List Atom → List (List ℤ)
 system expression rows n [] = []
 system expression rows n (b ∷ bs) = map (row_over expression n b.args) (rows b.pred.0) ++ system expression rows n bs
-
--- whether each number of a row fits
-abbrev pub row_fits : List ℤ → Bool
-row_fits [] = true
-row_fits (z ∷ zs) = fits z && row_fits zs
 
 -- a row with a number that does not fit gives way to zeros
 abbrev pub short_row : List ℤ → List ℤ

@@ -4,7 +4,9 @@ ghost use Rattle.std.specs.Prelude.{◌↔◌, ℕ, Bool, IsTrue, List};
 ghost use Rattle.cti_terms.specs.Listing.{Listing};
 ghost use Rattle.cti_terms.specs.Tree.{Tree};
 ghost use Rattle.termination_model.specs.Append.{AppendEnds};
+ghost use Rattle.termination_model.specs.AppendChain.{AppendHasThisChain};
 ghost use Rattle.termination_model.specs.Best.{SmallerIsBetter};
+ghost use Rattle.termination_model.specs.ChainKept.{ChainsKeep};
 ghost use Rattle.termination_model.specs.Loop.{LoopGoesOn};
 ghost use Rattle.termination_model.specs.Refutation.{NoneDecreases};
 ghost use Rattle.termination_model.specs.Grounds.{Family, InEachClosedIsClosed, IsClosed, IsInEachClosed, IsInside, IsLeast};
@@ -44,4 +46,14 @@ pub fn append_is_bounded()
 /// An example: a query that calls itself is not bounded.
 pub fn a_loop_goes_on()
     ensures { LoopGoesOn }
+{}
+
+/// The last rows of a legal chain hold wherever the rows of a clause's body do.
+pub fn last_rows_are_kept()
+    ensures { ChainsKeep }
+{}
+
+/// An example: append has a legal chain of four steps, which ends with x1 + x2 = x3.
+pub fn append_has_this_chain()
+    ensures { AppendHasThisChain }
 {}

@@ -5,22 +5,31 @@
 //! rule. Claims of all four kinds show that each query that meets a mode is bounded: the functions of `descent` say so.
 //! `system` gives the size rows of a clause's body over the clause's variables.
 //!
-//! Stands on `cti_terms`, `term_size` and `linear_rows`.
+//! How size rows come about is defined too: by legal chains of steps, whose last rows the clauses keep.
+//!
+//! Stands on `cti_terms`, `call_components`, `term_size` and `linear_rows`.
 #![tactic(auto)]
 
+mod choosing;
 mod descent;
+mod how;
 mod laws;
 mod replacing;
 mod sizes;
+mod supports;
 mod systems;
-#[cfg(test)]
-mod tests;
 
+pub use choosing::number_sets;
 pub use descent::{a_query_is_bounded, proofs_show, views_serve};
+pub use how::How;
 pub use laws::{
-    a_loop_goes_on, a_refutation_excludes_mappings, append_is_bounded, closed_families,
-    smaller_supports_are_better,
+    a_loop_goes_on, a_refutation_excludes_mappings, append_has_this_chain, append_is_bounded,
+    closed_families, last_rows_are_kept, smaller_supports_are_better,
 };
 pub use replacing::{add_expressions, columns, replaced};
-pub use sizes::{SizeProofs, SizeRows, Sizes};
+pub use sizes::{SizeRows, Sizes};
+pub use supports::{
+    all_positions_cover, points_give_mappings, refuted_systems_exclude_mappings,
+    systems_give_mappings, views_are_ready,
+};
 pub use systems::{add_atom, system};

@@ -1,13 +1,14 @@
 //! Size rows of predicates, with their proofs.
 
-ghost use Rattle.std.specs.Prelude.{◌≡◌, ◌<◌, [], ◌∷◌, ◌++◌, OnOk, OnErr, length, slice_get, Some};
+ghost use Rattle.std.specs.Prelude.{◌≡◌, ◌<◌, [], ◌∷◌, ◌++◌, OnOk, OnErr, length, slice_get, slice_set, Some};
 
 use linear_rows::{Multipliers, Rows};
+use sequences::Sequence;
 use std::alloc::{AllocError, Global};
 use std::marker::Model;
 
 /// The size rows of each predicate, by its number. Contracts see the list.
-#[derive(Debug, Drop)]
+#[derive(Drop)]
 pub struct SizeRows {
     items: Vec<Rows>,
 }
@@ -53,6 +54,21 @@ impl SizeRows {
         &self.items[place]
     }
 
+    /// The rows of each predicate, in their order.
+    pub fn as_slice(&self) -> &[Rows]
+        ensures { result.now ≡ self.now }
+    {
+        self.items.as_slice()
+    }
+
+    /// Puts these rows in the place of a predicate's. It takes no memory.
+    pub fn set(&mut self, place: usize, rows: Rows)
+        requires { place < length self.old }
+        ensures { self.new ≡ slice_set self.old place rows }
+    {
+        self.items[place] = rows;
+    }
+
     /// Adds the rows of the next predicate.
     pub fn push(&mut self, rows: Rows) -> Result<(), AllocError>
         ensures ok { OnOk result (self.new ≡ self.old ++ rows ∷ []) }
@@ -63,54 +79,17 @@ impl SizeRows {
     }
 }
 
-/// Multipliers in a row. Contracts see the list.
-#[derive(Debug, Drop)]
-pub struct SizeProofs {
-    items: Vec<Multipliers>,
-}
-
-impl Model for SizeProofs {
-    ghost use Rattle.std.specs.Prelude.{List};
-    ghost use Rattle.linear_rows.specs.declared.multipliers.Multipliers.{Multipliers};
-
-    ghost Value = { List Multipliers };
-
-    ghost view = { λ r. r.items.items };
-}
-
-impl SizeProofs {
-    /// No proofs. It takes no memory.
-    pub fn new(alloc: Global) -> SizeProofs
-        ensures { result ≡ [] }
-    {
-        SizeProofs {
-            items: Vec::new(alloc),
-        }
-    }
-
-    /// The proofs, in their order.
-    pub fn as_slice(&self) -> &[Multipliers]
-        ensures { result.now ≡ self.now }
-    {
-        self.items.as_slice()
-    }
-
-    /// Adds a proof at the end.
-    pub fn push(&mut self, proof: Multipliers) -> Result<(), AllocError>
-        ensures ok { OnOk result (self.new ≡ self.old ++ proof ∷ []) }
-        ensures err { OnErr result (self.new ≡ self.old) }
-    {
-        self.items.push(proof)?;
-        Ok(())
-    }
-}
-
-/// The size rows of each predicate, and one proof for each clause and each row of its head.
+/// The size rows of each predicate, and for each clause the proofs of its head's rows.
 ///
 /// A row says that its constant and the products of its coefficients with the sizes of the arguments sum to at least 0.
-/// Proofs go by the clauses of the program, and for one clause by the rows of its head.
-#[derive(Debug, Drop)]
+/// The proofs of a clause go by the rows of its head.
 pub struct Sizes {
     pub rows: SizeRows,
-    pub proofs: SizeProofs,
+    pub proofs: Sequence<Sequence<Multipliers>>,
+}
+
+impl Drop for Sizes {
+    fn drop(self) {
+        let Sizes { rows: _, proofs: _ } = self;
+    }
 }

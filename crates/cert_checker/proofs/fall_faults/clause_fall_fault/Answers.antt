@@ -4,20 +4,24 @@ use Rattle.cti_terms.specs.Listing.{IsAtom}
 use Rattle.cti_terms.specs.Tree.{is_below}
 use Rattle.cti_terms.specs.declared.atom_list.Atom.{Atom}
 use Rattle.cti_terms.specs.declared.clauses.Clause.{Clause}
-use Rattle.certificate_parts.specs.declared.parts.LevelPart.{LevelPart}
+use Rattle.number_tests.specs.declared.level_part.LevelPart.{LevelPart}
 use Rattle.linear_rows.specs.Plain.{plain_rows}
 use Rattle.linear_rows.specs.declared.multipliers.Multipliers.{Multipliers}
 use Rattle.termination_model.specs.Sizes.{rows_of}
 use Rattle.termination_model.specs.Systems.{short_system}
 use Rattle.termination_model.proofs.Lists.{at_place, by_places, one_element, place_below}
-use Rattle.cert_checker.specs.Proved.{CallsFall, MappingsFall}
-use Rattle.cert_checker.specs.Shape.{AreMultipliers, AreTogether, IsLevelPart, list_at, row_count}
-use Rattle.cert_checker.specs.Systems.{IsSystemUpTo}
-use Rattle.cert_checker.specs.Targets.{AreFallColumns}
+use Rattle.number_tests.specs.Proved.{MappingsFall}
+use Rattle.cert_checker.specs.Proved.{CallsFall}
+use Rattle.linear_rows.specs.Showing.{AreMultipliers}
+use Rattle.number_tests.specs.Shape.{IsLevelPart, list_at, row_count}
+use Rattle.cert_checker.specs.Shape.{AreTogether}
+use Rattle.number_tests.specs.Systems.{IsSystemUpTo}
+use Rattle.number_tests.specs.Targets.{AreFallColumns}
 use Rattle.cert_checker.specs.declared.fault.Fault.{Fault}
-use Rattle.cert_checker.proofs.CallFacts.{can_weigh, in_levels, in_preds, level_parts, list_at_is, mappings_decided}
-use Rattle.cert_checker.proofs.RowSteps.{system_count}
-use Rattle.cert_checker.proofs.Sized.{sized_clause}
+use Rattle.number_tests.proofs.CallFacts.{can_weigh, list_at_is, mappings_decided}
+use Rattle.cert_checker.proofs.LevelFacts.{in_levels, in_preds, level_parts}
+use Rattle.number_tests.proofs.RowSteps.{system_count}
+use Rattle.number_tests.proofs.Sized.{sized_clause}
 use Rattle.cert_checker.proofs.fall_faults.clause_fall_fault.Goals as goal
 
 pub first_system-requires : goal.first_system-requires

@@ -2,9 +2,10 @@ use Rattle.std.proofs.Common.{◌≡◌, ◌<◌, ◌≤◌, ℕ, slice_get, tak
 use Rattle.cti_terms.specs.declared.atom_list.Atom.{Atom}
 use Rattle.termination_model.specs.Sizes.{rows_of}
 use Rattle.termination_model.specs.Systems.{short_system}
-use Rattle.cert_checker.specs.Proved.{MappingsFall}
-use Rattle.cert_checker.specs.Shape.{AreTogether, list_at}
-use Rattle.cert_checker.specs.Systems.{IsSystemUpTo}
+use Rattle.number_tests.specs.Proved.{MappingsFall}
+use Rattle.number_tests.specs.Shape.{list_at}
+use Rattle.cert_checker.specs.Shape.{AreTogether}
+use Rattle.number_tests.specs.Systems.{IsSystemUpTo}
 use Rattle.cert_checker.proofs.fall_faults.clause_fall_fault.Given as goal
 
 abbrev pub invariant-loop-j : goal.invariant-loop-j

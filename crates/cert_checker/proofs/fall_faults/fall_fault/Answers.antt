@@ -2,8 +2,8 @@ use Rattle.std.proofs.Common.{◌≡◌, ◌↔◌, ◌+◌, ◌-◌, ℕ, refl,
 use Rattle.cti_terms.specs.declared.clauses.Clause.{Clause}
 use Rattle.termination_model.proofs.Lists.{place_below}
 use Rattle.cert_checker.specs.Proved.{CallsFall}
-use Rattle.cert_checker.specs.Shape.{list_at}
-use Rattle.cert_checker.proofs.ColumnLengths.{an_element}
+use Rattle.number_tests.specs.Shape.{list_at}
+use Rattle.number_tests.proofs.ColumnLengths.{an_element}
 use Rattle.cert_checker.proofs.fall_faults.fall_fault.Goals as goal
 
 pub returns-in-Some : goal.returns-in-Some

@@ -1,7 +1,7 @@
 use Rattle.std.proofs.Common.{◌≡◌, ◌<◌, ℕ, slice_get, Some}
 use Rattle.cti_terms.specs.declared.clauses.Clause.{Clause}
 use Rattle.cert_checker.specs.Proved.{CallsFall}
-use Rattle.cert_checker.specs.Shape.{list_at}
+use Rattle.number_tests.specs.Shape.{list_at}
 use Rattle.cert_checker.proofs.fall_faults.fall_fault.Given as goal
 
 abbrev pub invariant-loop-k : goal.invariant-loop-k

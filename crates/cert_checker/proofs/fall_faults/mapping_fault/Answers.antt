@@ -1,11 +1,11 @@
 use Rattle.std.proofs.Common.{◌≡◌, ◌↔◌, ℕ, ℤ, List, All, length, slice_get, Some, None, refl, sym, subst, ◌∙◌, arith, below_more}
-use Rattle.certificate_parts.specs.declared.parts.LevelPart.{LevelPart}
+use Rattle.number_tests.specs.declared.level_part.LevelPart.{LevelPart}
 use Rattle.linear_rows.specs.Plain.{plain_rows}
 use Rattle.linear_rows.specs.declared.multipliers.Multipliers.{Multipliers}
 use Rattle.termination_model.specs.Replacing.{IsRowIfFits, over_columns}
 use Rattle.termination_model.proofs.Lists.{at_place, one_element, place_below}
-use Rattle.cert_checker.specs.Shown.{IsShown}
-use Rattle.cert_checker.specs.Targets.{CanBeWeighed, fall_weights}
+use Rattle.linear_rows.specs.Showing.{IsShown}
+use Rattle.number_tests.specs.Targets.{CanBeWeighed, fall_weights}
 use Rattle.cert_checker.proofs.fall_faults.mapping_fault.Goals as goal
 
 pub weigh_fall-requires-clause-coefficients : goal.weigh_fall-requires-clause-coefficients
@@ -40,8 +40,8 @@ returns-in-Some c =
     let at_by : slice_get c.args.proofs.now n ≡ Some by = at_place c.args.proofs.now n by (omega arith) c.index-proofs-m.is in
     let weights : c.as_slice.result.now ≡ fall_weights head call = c.as_slice.ensures.value ∙ c.in_ok-weights.ensures in
     let fits : IsRowIfFits (over_columns c.args.columns.now (fall_weights head call)) c.in_ok-target.target = subst (λ (ws : List ℤ). IsRowIfFits (over_columns c.args.columns.now ws) c.in_ok-target.target) weights c.in_ok-target.ensures in
-    let decided : (c.fall_reason.result ≡ None) ↔ IsShown (plain_rows c.args.rows.now.list) (over_columns c.args.columns.now (fall_weights head call)) by =
-    c.fall_reason.ensures (over_columns c.args.columns.now (fall_weights head call)) fits in
+    let decided : (c.fall_flaw.result ≡ None) ↔ IsShown (plain_rows c.args.rows.now.list) (over_columns c.args.columns.now (fall_weights head call)) by =
+    c.fall_flaw.ensures (over_columns c.args.columns.now (fall_weights head call)) fits in
     (λ h. cc, λ all. let none = decided.1 (all n head call by at_head at_call at_by) in let some = c.in-Some.is in cc)
 
 pub loop-m-preserved : goal.loop-m-preserved
@@ -56,8 +56,8 @@ loop-m-preserved c =
     let at_by : slice_get c.args.proofs.now n ≡ Some by = at_place c.args.proofs.now n by (omega arith) c.index-proofs-m.is in
     let weights : c.as_slice.result.now ≡ fall_weights head call = c.as_slice.ensures.value ∙ c.in_ok-weights.ensures in
     let fits : IsRowIfFits (over_columns c.args.columns.now (fall_weights head call)) c.in_ok-target.target = subst (λ (ws : List ℤ). IsRowIfFits (over_columns c.args.columns.now ws) c.in_ok-target.target) weights c.in_ok-target.ensures in
-    let decided : (c.fall_reason.result ≡ None) ↔ IsShown (plain_rows c.args.rows.now.list) (over_columns c.args.columns.now (fall_weights head call)) by =
-    c.fall_reason.ensures (over_columns c.args.columns.now (fall_weights head call)) fits in
+    let decided : (c.fall_flaw.result ≡ None) ↔ IsShown (plain_rows c.args.rows.now.list) (over_columns c.args.columns.now (fall_weights head call)) by =
+    c.fall_flaw.ensures (over_columns c.args.columns.now (fall_weights head call)) fits in
     below_more (λ (m : ℕ). (h k : LevelPart) (x : Multipliers) → slice_get c.args.heads.now m ≡ Some h → slice_get c.args.calls.now m ≡ Some k → slice_get c.args.proofs.now m ≡ Some x
     → IsShown (plain_rows c.args.rows.now.list) (over_columns c.args.columns.now (fall_weights h k)) x) n c.loop-m.invariant
     (λ h k x eh ek ex.

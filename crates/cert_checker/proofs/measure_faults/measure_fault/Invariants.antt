@@ -2,7 +2,7 @@ use Rattle.std.proofs.Common.{◌≡◌, ◌<◌, ℕ, slice_get, Some, false}
 use Rattle.std.specs.List.{AllByRecursion}
 use Rattle.call_components.specs.Partition.{IsIn}
 use Rattle.cert_checker.specs.Proved.{IsZero}
-use Rattle.cert_checker.specs.Shape.{list_at}
+use Rattle.number_tests.specs.Shape.{list_at}
 use Rattle.cert_checker.proofs.measure_faults.measure_fault.Given as goal
 
 abbrev pub invariant-loop-q : goal.invariant-loop-q

@@ -1,5 +1,5 @@
 use Rattle.std.proofs.Common.{◌≡◌, ◌<◌, ℕ, slice_get, Some}
-use Rattle.certificate_parts.specs.declared.parts.LevelPart.{LevelPart}
+use Rattle.number_tests.specs.declared.level_part.LevelPart.{LevelPart}
 use Rattle.cert_checker.specs.Proved.{IsZero}
 use Rattle.cert_checker.proofs.measure_faults.part_fault.Given as goal
 

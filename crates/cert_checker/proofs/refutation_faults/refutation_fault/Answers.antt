@@ -2,11 +2,11 @@ use Rattle.std.proofs.Common.{◌≡◌, ℕ, List, Option, map, length, slice_g
 use Rattle.std.specs.List.{AllByRecursion}
 use Rattle.call_components.specs.Numbers.{number_of}
 use Rattle.call_components.specs.Partition.{IsIn}
-use Rattle.certificate_parts.specs.declared.parts.PairPoint.{PairPoint}
-use Rattle.certificate_parts.specs.declared.parts.Refutation.{Refutation}
+use Rattle.number_tests.specs.declared.pair_point.PairPoint.{PairPoint}
+use Rattle.number_tests.specs.declared.refutation.Refutation.{Refutation}
 use Rattle.termination_model.specs.Sizes.{rows_of}
 use Rattle.termination_model.proofs.Lists.{at_place, place_below}
-use Rattle.cert_checker.specs.Refuting.{PointHolds, SumsRefute}
+use Rattle.number_tests.specs.Refuting.{PointHolds, SumsRefute}
 use Rattle.cert_checker.proofs.refutation_faults.refutation_fault.Goals as goal
 
 pub loop-q-preserved : goal.loop-q-preserved

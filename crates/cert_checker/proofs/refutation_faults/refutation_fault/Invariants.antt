@@ -1,9 +1,9 @@
 use Rattle.std.proofs.Common.{◌≡◌, ◌<◌, ℕ, List, slice_get, Some}
 use Rattle.std.specs.List.{AllByRecursion}
 use Rattle.call_components.specs.Partition.{IsIn}
-use Rattle.certificate_parts.specs.declared.parts.Refutation.{Refutation}
+use Rattle.number_tests.specs.declared.refutation.Refutation.{Refutation}
 use Rattle.termination_model.specs.Sizes.{rows_of}
-use Rattle.cert_checker.specs.Refuting.{PointHolds, SumsRefute}
+use Rattle.number_tests.specs.Refuting.{PointHolds, SumsRefute}
 use Rattle.cert_checker.proofs.refutation_faults.refutation_fault.Given as goal
 
 abbrev pub invariant-loop-q : goal.invariant-loop-q

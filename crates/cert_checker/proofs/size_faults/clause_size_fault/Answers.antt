@@ -7,11 +7,12 @@ use Rattle.linear_rows.specs.declared.row.Row.{Row}
 use Rattle.termination_model.specs.Replacing.{IsRowIfFits, over_columns}
 use Rattle.termination_model.specs.Sizes.{plain_or_none, rows_of}
 use Rattle.termination_model.proofs.Lists.{at_place, by_places, mapped_place, one_element, place_below}
-use Rattle.cert_checker.specs.Proved.{RowIsKept}
-use Rattle.cert_checker.specs.Shape.{AreMultipliers, row_count}
-use Rattle.cert_checker.specs.Systems.{IsSystemUpTo}
-use Rattle.cert_checker.proofs.ColumnLengths.{column_lengths, element_of}
-use Rattle.cert_checker.proofs.RowSteps.{head_columns, row_decided, system_count}
+use Rattle.number_tests.specs.Proved.{RowIsKept}
+use Rattle.linear_rows.specs.Showing.{AreMultipliers}
+use Rattle.number_tests.specs.Shape.{row_count}
+use Rattle.number_tests.specs.Systems.{IsSystemUpTo}
+use Rattle.number_tests.proofs.ColumnLengths.{column_lengths, element_of}
+use Rattle.number_tests.proofs.RowSteps.{head_columns, row_decided, system_count}
 use Rattle.cert_checker.proofs.size_faults.clause_size_fault.Goals as goal
 
 pub size_target-requires-clause-lengths : goal.size_target-requires-clause-lengths
@@ -32,8 +33,8 @@ size_target-requires-clause-lengths g c =
     subst (λ (cs : List (List ℤ)). All (λ x. length x ≡ suc (length row.coeffs)) cs) (sym c.as_slice.ensures.value)
     (column_lengths (map (e clause.vars) clause.head.args) clause.vars (suc (length row.coeffs)) c.in_ok-head.head.items columns long)
 
-pub size_reason-requires-clause-multipliers : goal.size_reason-requires-clause-multipliers
-size_reason-requires-clause-multipliers g c =
+pub size_flaw-requires-clause-multipliers : goal.size_flaw-requires-clause-multipliers
+size_flaw-requires-clause-multipliers g c =
     let e = g.N.Norm.expression c.args.norm.now in
     let clause = c.args.clause.now in
     let sizes = c.args.sizes.now in
@@ -62,9 +63,9 @@ returns-in-Some g c =
     let is : IsSystemUpTo e (rows_of sizes) clause (length clause.body) c.extend.new.system = subst (λ (j : ℕ). IsSystemUpTo e (rows_of sizes) clause j c.extend.new.system) c.len.ensures c.in_ok-extend.ensures in
     let at_row : slice_get (rows_of sizes clause.head.pred.0) n ≡ Some (plain_row row) = ap (λ (rs : List (List ℤ)). slice_get rs n) rows ∙ mapped_place plain_row own n row at in
     let at_by : slice_get c.args.proofs.now n ≡ Some c.index-proofs-i.result = at_place c.args.proofs.now n c.index-proofs-i.result (omega arith) c.index-proofs-i.is in
-    let decided : (c.size_reason.result ≡ None) ↔ RowIsKept e sizes clause (plain_row row) c.index-proofs-i.result =
-    row_decided (g.N.Norm.size c.args.norm.now) (g.N.Norm.truth c.args.norm.now) e (g.met.N.Norm.laws c.args.norm.now) sizes clause c.extend.new.system c.in_ok-head.head.items row c.in_ok-target.target c.index-proofs-i.result c.size_reason.result
-    is c.in_ok-head.ensures (subst (λ (cs : List (List ℤ)). IsRowIfFits (over_columns cs (plain_row row)) c.in_ok-target.target) c.as_slice.ensures.value c.in_ok-target.ensures) c.size_reason.ensures in
+    let decided : (c.size_flaw.result ≡ None) ↔ RowIsKept e sizes clause (plain_row row) c.index-proofs-i.result =
+    row_decided (g.N.Norm.size c.args.norm.now) (g.N.Norm.truth c.args.norm.now) e (g.met.N.Norm.laws c.args.norm.now) sizes clause c.extend.new.system c.in_ok-head.head.items row c.in_ok-target.target c.index-proofs-i.result c.size_flaw.result
+    is c.in_ok-head.ensures (subst (λ (cs : List (List ℤ)). IsRowIfFits (over_columns cs (plain_row row)) c.in_ok-target.target) c.as_slice.ensures.value c.in_ok-target.ensures) c.size_flaw.ensures in
     (λ h. cc, λ all. let none = decided.1 (all n (plain_row row) c.index-proofs-i.result at_row at_by) in let some = c.in-Some.is in cc)
 
 pub loop-i-preserved : goal.loop-i-preserved
@@ -81,9 +82,9 @@ loop-i-preserved g c =
     let is : IsSystemUpTo e (rows_of sizes) clause (length clause.body) c.extend.new.system = subst (λ (j : ℕ). IsSystemUpTo e (rows_of sizes) clause j c.extend.new.system) c.len.ensures c.in_ok-extend.ensures in
     let at_row : slice_get (rows_of sizes clause.head.pred.0) n ≡ Some (plain_row row) = ap (λ (rs : List (List ℤ)). slice_get rs n) rows ∙ mapped_place plain_row own n row at in
     let at_by : slice_get c.args.proofs.now n ≡ Some c.index-proofs-i.result = at_place c.args.proofs.now n c.index-proofs-i.result (omega arith) c.index-proofs-i.is in
-    let decided : (c.size_reason.result ≡ None) ↔ RowIsKept e sizes clause (plain_row row) c.index-proofs-i.result =
-    row_decided (g.N.Norm.size c.args.norm.now) (g.N.Norm.truth c.args.norm.now) e (g.met.N.Norm.laws c.args.norm.now) sizes clause c.extend.new.system c.in_ok-head.head.items row c.in_ok-target.target c.index-proofs-i.result c.size_reason.result
-    is c.in_ok-head.ensures (subst (λ (cs : List (List ℤ)). IsRowIfFits (over_columns cs (plain_row row)) c.in_ok-target.target) c.as_slice.ensures.value c.in_ok-target.ensures) c.size_reason.ensures in
+    let decided : (c.size_flaw.result ≡ None) ↔ RowIsKept e sizes clause (plain_row row) c.index-proofs-i.result =
+    row_decided (g.N.Norm.size c.args.norm.now) (g.N.Norm.truth c.args.norm.now) e (g.met.N.Norm.laws c.args.norm.now) sizes clause c.extend.new.system c.in_ok-head.head.items row c.in_ok-target.target c.index-proofs-i.result c.size_flaw.result
+    is c.in_ok-head.ensures (subst (λ (cs : List (List ℤ)). IsRowIfFits (over_columns cs (plain_row row)) c.in_ok-target.target) c.as_slice.ensures.value c.in_ok-target.ensures) c.size_flaw.ensures in
     below_more (λ (i : ℕ). (r : List ℤ) (by : Multipliers) → slice_get (rows_of sizes clause.head.pred.0) i ≡ Some r → slice_get c.args.proofs.now i ≡ Some by → RowIsKept e sizes clause r by) n c.loop-i.invariant
     (λ r by er eb.
     let first : plain_row row ≡ r = one_element (rows_of sizes clause.head.pred.0) n (plain_row row) r at_row er in

@@ -2,9 +2,9 @@ use Rattle.std.proofs.Common.{◌≡◌, [], refl, ◌↔◌, ◌+◌, ◌-◌, 
 use Rattle.cti_terms.specs.declared.clauses.Clause.{Clause}
 use Rattle.linear_rows.specs.declared.multipliers.Multipliers.{Multipliers}
 use Rattle.termination_model.proofs.Lists.{any_default, one_element, place_below}
-use Rattle.cert_checker.specs.Proved.{RowsAreKept}
-use Rattle.cert_checker.specs.Shape.{list_at}
-use Rattle.cert_checker.proofs.Sized.{sized_clause}
+use Rattle.number_tests.specs.Proved.{RowsAreKept}
+use Rattle.number_tests.specs.Shape.{list_at}
+use Rattle.number_tests.proofs.Sized.{sized_clause}
 use Rattle.cert_checker.proofs.size_faults.size_fault.Goals as goal
 
 pub clause_size_fault-requires-clause-sized : goal.clause_size_fault-requires-clause-sized

@@ -1,11 +1,14 @@
 use Rattle.std.proofs.Common.{◌≡◌, ◌∙◌, ◌+◌, ◌++◌, ◌∷◌, [], ℕ, List, length, map, drop, get_or, sum_by, sym, ap, subst, arith, append_assoc, length-append}
-use Rattle.std.proofs.lemmas.List.{at_drop_more}
+use Rattle.std.proofs.lemmas.List.{at_drop_more, drop_all}
 use Rattle.std.proofs.lemmas.List.Sums.{sum_by-cons, sum_by-append}
 use Rattle.cti_terms.specs.Listing.{atom_nodes}
 use Rattle.cti_terms.specs.declared.atom_list.Atom.{Atom}
 use Rattle.cti_terms.specs.declared.predicates.Pred.{Pred}
 use Rattle.prolog_reader.proofs.NameLemmas.{extends_trans}
 use Rattle.clause_normal.specs.declared.rule.Call.{Call as CodeCall}
+use Rattle.prolog_reader.specs.Naming.{with_names}
+use Rattle.prolog_reader.proofs.NamingLemmas.{names_none, names_more}
+use Rattle.clause_normal.specs.ChoiceNames.{functor_texts, call_texts}
 use Rattle.clause_normal.specs.Numbering.{atom_after, atoms_after, with_calls, HasArity}
 use Rattle.clause_normal.specs.Rules.{Call}
 use Rattle.clause_normal.specs.RuleViews.{call_of, IsNamed}
@@ -43,6 +46,9 @@ calls-preserved c =
           ∙ inv.preds later (extends_trans c.calls.names c.add_atom.new.names later add.kept ext);
       clauses = add.clauses ∙ inv.clauses;
       nodes = omega (arith, inv.nodes, add.nodes, ap (λ (xs : List Atom). sum_by atom_nodes xs) pushed, sum_by-append atom_nodes c.calls.atoms (atom ∷ []), sum_by-cons atom_nodes atom []);
+      added =
+          ap (λ (n : List (List ℕ)). with_names n (call_texts rest)) add.added ∙ sym (names_more c.calls.names (functor_texts (call_of it).functor) (call_texts rest))
+          ∙ ap (λ (cs : List Call). with_names c.calls.names (call_texts cs)) (sym left) ∙ inv.added;
       named = λ h. add.named (subst (λ (k : CodeCall). IsNamed k.functor) there (all_at (λ (k : CodeCall). IsNamed k.functor) items i it h c.calls-test.true)) ∙ inv.named h;
       count = omega (arith, inv.count, ap (λ (xs : List Atom). length xs) pushed, length-append c.calls.atoms (atom ∷ []));
       more = omega (arith, inv.more, add.more);
@@ -50,3 +56,8 @@ calls-preserved c =
       arity = all_push (HasArity new) c.calls.atoms c.push.new.self atom pushed (arities_still old new add.still c.calls.atoms inv.arity) add.arity;
       known = λ h. add.known (inv.known h);
     }
+
+pub returns-clause-added : goal.returns-clause-added
+returns-clause-added c =
+    let none : drop c.calls.call-index c.args.calls.now ≡ [] = drop_all c.calls.call-index c.args.calls.now (omega arith) in
+    sym (names_none c.calls.names) ∙ ap (λ (cs : List CodeCall). with_names c.calls.names (call_texts (map call_of cs))) (sym none) ∙ c.calls.invariant.added

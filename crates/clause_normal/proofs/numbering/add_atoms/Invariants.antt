@@ -3,6 +3,8 @@ use Rattle.std.specs.List.{AllByRecursion}
 use Rattle.cti_terms.specs.Listing.{atom_nodes}
 use Rattle.cti_terms.specs.declared.predicates.Pred.{Pred}
 use Rattle.prolog_reader.specs.Names.{Extends}
+use Rattle.prolog_reader.specs.Naming.{with_names}
+use Rattle.clause_normal.specs.ChoiceNames.{call_texts}
 use Rattle.clause_normal.specs.Numbering.{atoms_after, with_calls, HasArity}
 use Rattle.clause_normal.specs.RuleViews.{call_of, IsNamed}
 use Rattle.clause_normal.specs.declared.rule.Call.{Call}
@@ -17,6 +19,7 @@ invariant-calls l =
       preds : (later : List (List ℕ)) → Extends l.names later → with_calls later l.program.preds left ≡ with_calls later l.fn.program.preds (map call_of l.calls);
       clauses : l.program.clauses ≡ l.fn.program.clauses;
       nodes : l.fn.left ≡ l.left + sum_by atom_nodes l.atoms;
+      added : with_names l.names (call_texts left) ≡ with_names l.fn.names (call_texts (map call_of l.calls));
       named : AllByRecursion (λ (c : Call). IsNamed c.functor) l.calls → l.names ≡ l.fn.names;
       count : length l.atoms ≡ l.call-index;
       more : length l.fn.program.preds ≤ length l.program.preds;

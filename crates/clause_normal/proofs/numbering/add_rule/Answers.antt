@@ -1,4 +1,4 @@
-use Rattle.std.proofs.Common.{◌≡◌, ◌∙◌, ◌+◌, ◌++◌, ◌∷◌, [], ℕ, true, IsTrue, List, length, map, sym, ap, subst, arith}
+use Rattle.std.proofs.Common.{◌≡◌, ◌∙◌, ◌++◌, ◌∷◌, [], ℕ, true, IsTrue, List, length, map, sym, ap, subst, arith}
 use Rattle.std.specs.List.{AllByRecursion}
 use Rattle.cti_terms.specs.Listing.{with_pred, IsAtom}
 use Rattle.cti_terms.specs.Tree.{Tree as Term, is_below}
@@ -8,12 +8,14 @@ use Rattle.cti_terms.specs.declared.predicates.Pred.{Pred}
 use Rattle.prolog_reader.specs.Names.{Extends}
 use Rattle.prolog_reader.proofs.NameLemmas.{extends_trans, extends_self}
 use Rattle.clause_normal.specs.declared.rule.Call.{Call as CodeCall}
-use Rattle.clause_normal.specs.Numbering.{atom_after, atoms_after, with_calls, pred_of, order_of, call_variables, HasArity}
-use Rattle.clause_normal.specs.Rules.{Call, Rule}
+use Rattle.clause_normal.specs.Numbering.{atom_after, atoms_after, with_calls, pred_of, order_of, call_variables}
 use Rattle.clause_normal.specs.RuleViews.{call_of, rule_of}
 use Rattle.clause_normal.specs.Terms.{firsts, is_among, list_variables}
 use Rattle.clause_normal.proofs.ListLemmas.{all_front, all_back}
 use Rattle.clause_normal.proofs.NumberingLemmas.{all_among, list_below, atoms_below, are_atoms, arity_still}
+use Rattle.prolog_reader.specs.Naming.{with_names}
+use Rattle.clause_normal.specs.ChoiceNames.{functor_texts, call_texts}
+use Rattle.prolog_reader.proofs.NamingLemmas.{names_then}
 use Rattle.clause_normal.proofs.numbering.add_rule.Goals as goal
 
 -- the order of the variables
@@ -115,3 +117,8 @@ returns-clause-program c = λ later ext.
     let clauses : c.add_clause.new.self.clauses ≡ old.clauses ++ made ∷ [] =
     c.in_ok-add_clause.ensures.clauses ∙ ap (λ (cs : List Clause). cs ++ clause ∷ []) (c.in_ok-body.ensures.clauses ∙ c.in_ok-head.ensures.clauses) ∙ ap (λ (k : Clause). old.clauses ++ k ∷ []) same in
     λ i. record { preds = preds i; clauses = clauses i }
+
+pub returns-clause-added : goal.returns-clause-added
+returns-clause-added c =
+    names_then c.args.names.now c.add_atom.new.names c.add_atoms.new.names (functor_texts (call_of c.args.rule.now.head).functor) (call_texts (map call_of c.args.rule.now.body.items)) c.in_ok-head.ensures.added
+    (c.in_ok-body.ensures.added ∙ ap (λ (cs : List CodeCall). with_names c.add_atom.new.names (call_texts (map call_of cs))) c.deref-3.ensures.value)

@@ -3,9 +3,12 @@ use Rattle.std.proofs.lemmas.Option.{slice_get_within}
 use Rattle.cti_terms.specs.Numbers.{number_of, with_text}
 use Rattle.prolog_reader.specs.Names.{Extends}
 use Rattle.clause_normal.specs.declared.rule.Functor.{Functor}
+use Rattle.prolog_reader.specs.Naming.{with_names}
+use Rattle.clause_normal.specs.ChoiceNames.{functor_texts}
 use Rattle.clause_normal.specs.Numbering.{name_number, choice_text}
 use Rattle.clause_normal.specs.RuleViews.{functor_of}
 use Rattle.clause_normal.proofs.NumberLemmas.{number_kept}
+use Rattle.prolog_reader.proofs.NamingLemmas.{names_none, names_one}
 use Rattle.clause_normal.proofs.numbering.functor_name.Goals as goal
 
 pub returns-in_ok-name-in-Chosen-clause-number : goal.returns-in_ok-name-in-Chosen-clause-number
@@ -18,3 +21,13 @@ returns-in_ok-name-in-Chosen-clause-number c = λ later ext.
 
 pub returns-in_ok-name-in-Chosen-clause-known : goal.returns-in_ok-name-in-Chosen-clause-known
 returns-in_ok-name-in-Chosen-clause-known c = λ _. slice_get_within c.intern.new.self c.in_ok-name-in-Chosen.name.0 c.as_bytes.result.now c.in_ok-name-in-Chosen.ensures.spelled
+
+pub returns-in_ok-name-in-Chosen-clause-added : goal.returns-in_ok-name-in-Chosen-clause-added
+returns-in_ok-name-in-Chosen-clause-added c =
+    let text = c.as_bytes.result.now in
+    let text_is : text ≡ choice_text c.in-Chosen.number = c.as_bytes.ensures.value ∙ c.in_ok-text-in-Chosen.ensures.ok in
+    c.in_ok-name-in-Chosen.ensures.added ∙ ap (with_text c.args.names.now) text_is ∙ sym (names_one c.args.names.now (choice_text c.in-Chosen.number))
+    ∙ ap (λ (f : Functor). with_names c.args.names.now (functor_texts (functor_of f))) (sym c.in-Chosen.is)
+
+pub returns-in-Named-clause-added : goal.returns-in-Named-clause-added
+returns-in-Named-clause-added c = sym (names_none c.args.names.now) ∙ ap (λ (f : Functor). with_names c.args.names.now (functor_texts (functor_of f))) (sym c.in-Named.is)

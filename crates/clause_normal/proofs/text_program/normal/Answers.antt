@@ -1,14 +1,17 @@
-use Rattle.std.proofs.Common.{◌≡◌, ◌<◌, ◌∙◌, ℕ, [], List, Result, Ok, None, length, position, arith, map, sym, ap, subst}
+use Rattle.std.proofs.Common.{◌≡◌, ◌<◌, ◌∙◌, [], List, Result, Ok, length, map, sym, ap, subst}
 use Rattle.std.specs.List.{AllByRecursion}
 use Rattle.cti_terms.specs.Listing.{Listing}
 use Rattle.cti_terms.specs.declared.predicates.Pred.{Pred}
 use Rattle.prolog_reader.proofs.NameLemmas.{extends_self}
 use Rattle.clause_normal.specs.declared.rule.Rule.{Rule as CodeRule}
 use Rattle.clause_normal.specs.NormalForm.{Fault, normal_rules, program_of}
-use Rattle.clause_normal.specs.Numbering.{is_equality, with_equality, with_rules}
+use Rattle.clause_normal.specs.Numbering.{with_equality, with_rules}
 use Rattle.clause_normal.specs.RuleViews.{rule_of}
+use Rattle.clause_normal.specs.Rules.{Rule}
 use Rattle.clause_normal.proofs.Later.{rules_stay}
 use Rattle.clause_normal.proofs.NumberingLemmas.{room_left}
+use Rattle.prolog_reader.specs.Naming.{with_names}
+use Rattle.clause_normal.specs.ChoiceNames.{rule_texts, made_texts}
 use Rattle.clause_normal.proofs.text_program.normal.Goals as goal
 
 pub returns-clause-exact : goal.returns-clause-exact
@@ -30,3 +33,9 @@ pub returns-clause-room : goal.returns-clause-room
 returns-clause-room c none =
     let later = c.program_of.new.names in
     room_left later c.in_ok-program.program c.add_equality.new.program c.in_ok-add_equality.ensures.program none c.in_ok-program.ensures.room
+
+pub returns-clause-names : goal.returns-clause-names
+returns-clause-names c =
+    let names = c.args.names.now in
+    c.in_ok-program.ensures.added ∙ ap (λ (rs : List CodeRule). with_names names (rule_texts (map rule_of rs))) c.deref.ensures.value
+    ∙ ap (λ (r : Result (List Rule) Fault). with_names names (made_texts r)) (sym (ap (normal_rules names [] 1) (sym c.as_slice.ensures) ∙ c.in-Ok.ensures.rules))

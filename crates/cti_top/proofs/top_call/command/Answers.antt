@@ -1,6 +1,8 @@
-use Rattle.std.proofs.Common.{map, subst}
+use Rattle.std.proofs.Common.{map, subst, inl}
 use Rattle.cti_top.specs.Outcome.{IsAnswer}
 use Rattle.cti_top.specs.declared.status.Status.{Status}
+use Rattle.cti_top.proofs.OneAnswer.{is_short, none_refused, no_query_refused}
+use Rattle.cti_top.proofs.RefusedLemmas.{refused_answer, query_refused_answer}
 use Rattle.cti_top.proofs.OutcomeLemmas.{not_file, outcome_of, done_or_memory, ran_or_memory, checked_or_memory}
 use Rattle.cti_top.proofs.top_call.command.Goals as goal
 
@@ -16,16 +18,25 @@ returns-in-Ok-write_text-clause-file_fault g c e =
     absurd (not_file told words text (subst (λ (s : Status). IsAnswer told words s text) e c.in-Ok.ensures.answered))
 
 pub returns-in-Ok-write_text-clause-complete : goal.returns-in-Ok-write_text-clause-complete
-returns-in-Ok-write_text-clause-complete g c name bytes asked has short none calm still =
-    done_or_memory (g.F.Files.told c.args.files.now) (map (λ w. w.now) c.args.words.now) c.in-Ok.answer.status c.in-Ok.answer.text.items name bytes c.in-Ok.ensures.answered asked has short none
+returns-in-Ok-write_text-clause-complete g c name bytes known asked has is calm still =
+    done_or_memory (g.F.Files.told c.args.files.now) (map (λ w. w.now) c.args.words.now) c.in-Ok.answer.status c.in-Ok.answer.text.items name bytes c.in-Ok.ensures.answered asked has (is_short bytes known is) (none_refused bytes known is)
 
 pub returns-in-Ok-write_text-clause-complete_check : goal.returns-in-Ok-write_text-clause-complete_check
-returns-in-Ok-write_text-clause-complete_check g c name certificate bytes certified d asked has short none held is calm calm_too still =
-    checked_or_memory (g.F.Files.told c.args.files.now) (map (λ w. w.now) c.args.words.now) c.in-Ok.answer.status c.in-Ok.answer.text.items name certificate bytes certified d c.in-Ok.ensures.answered asked has short none held is
+returns-in-Ok-write_text-clause-complete_check g c name certificate bytes certified known d asked has is held written calm calm_too still =
+    checked_or_memory (g.F.Files.told c.args.files.now) (map (λ w. w.now) c.args.words.now) c.in-Ok.answer.status c.in-Ok.answer.text.items name certificate bytes certified d c.in-Ok.ensures.answered asked has (is_short bytes known is) (none_refused bytes known is) held written
 
 pub returns-in-Ok-write_text-clause-complete_run : goal.returns-in-Ok-write_text-clause-complete_run
-returns-in-Ok-write_text-clause-complete_run g c name query bytes steps asked has short none no_fault calm still =
-    ran_or_memory (g.F.Files.told c.args.files.now) (map (λ w. w.now) c.args.words.now) c.in-Ok.answer.status c.in-Ok.answer.text.items name query bytes steps c.in-Ok.ensures.answered asked has short none no_fault
+returns-in-Ok-write_text-clause-complete_run g c name query bytes steps known names program goal asked has is as_goal calm still =
+    ran_or_memory (g.F.Files.told c.args.files.now) (map (λ w. w.now) c.args.words.now) c.in-Ok.answer.status c.in-Ok.answer.text.items name query bytes steps c.in-Ok.ensures.answered asked has (is_short bytes known is) (none_refused bytes known is)
+    (no_query_refused bytes query known names program goal is as_goal)
 
 pub returns-in-Ok-clause-outcome : goal.returns-in-Ok-clause-outcome
 returns-in-Ok-clause-outcome g c = (c.in-Ok.answer.status, c.in-Ok.answer.text.items, c.in-Ok.ensures.answered, rw c.deref.ensures.value at c.in-Err-write_text.ensures.part)
+
+pub returns-in-Ok-write_text-clause-complete_refused : goal.returns-in-Ok-write_text-clause-complete_refused
+returns-in-Ok-write_text-clause-complete_refused g c ask bytes kind at asked has refused calm still =
+    inl (refused_answer (g.F.Files.told c.args.files.now) (map (λ w. w.now) c.args.words.now) c.in-Ok.answer.status c.in-Ok.answer.text.items ask bytes kind at c.in-Ok.ensures.answered asked has refused)
+
+pub returns-in-Ok-write_text-clause-complete_query_refused : goal.returns-in-Ok-write_text-clause-complete_query_refused
+returns-in-Ok-write_text-clause-complete_query_refused g c name query bytes steps kind at asked has refused calm still =
+    inl (query_refused_answer (g.F.Files.told c.args.files.now) (map (λ w. w.now) c.args.words.now) c.in-Ok.answer.status c.in-Ok.answer.text.items name query bytes steps kind at c.in-Ok.ensures.answered asked has refused)

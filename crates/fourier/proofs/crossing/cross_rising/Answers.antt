@@ -7,6 +7,11 @@ use Rattle.linear_rows.specs.Elimination.{is_positive, crossed, falling, crossin
 use Rattle.linear_rows.specs.Blown.{crossed_fits, crossings_fit, all_of}
 use Rattle.fourier.specs.Adding.{add_row, AllLong}
 use Rattle.linear_rows.proofs.Steps.{positive_is}
+use Rattle.std.specs.Prelude.{nat_lt}
+use Rattle.std.proofs.lemmas.Bool.{ltb-true}
+use Rattle.exact128.proofs.FitsLemmas.{both}
+use Rattle.fourier.proofs.Crowds.{full_all}
+use Rattle.fourier.proofs.StepLemmas.{fits_unless, unless_crowded}
 use Rattle.fourier.proofs.Loops.{done_none, done_yes, done_no, done_all, not_all, at_long, fold-flat_map}
 use Rattle.fourier.proofs.crossing.cross_rising.Goals as goal
 use Rattle.fourier.proofs.crossing.cross_rising.Goals.{then-is_positive+in-Ok, else-is_positive}
@@ -53,12 +58,24 @@ returns-in-Err-clause-wide c =
     λ is. not_all (λ r. is_positive (entry r c.args.k)) (λ r. all_of (crossed_fits c.args.k r) (falling c.args.k c.args.rows.now)) c.args.rows.now c.loop-i.i [] lt t
     (sym (ap (λ r. all_of (crossed_fits c.args.k r) (falling c.args.k c.args.rows.now)) c.get-then-is_positive.ensures) ∙ c.in-Err.ensures.wide is)
 
+pub returns-then-is_crowded : goal.returns-then-is_crowded
+unfolding crossings
+returns-then-is_crowded c =
+    let two = both c.args.brief (nat_lt 4096 (length c.loop-i.kept)) (sym c.is_crowded.ensures ∙ c.if-is_crowded.true) in
+    let many : 4096 < length c.loop-i.kept = ltb-true 4096 (length c.loop-i.kept) two.1 in
+    let all = full_all c.args.last (λ r. map (λ s. crossed c.args.k r s) (falling c.args.k c.args.rows.now)) (λ r. is_positive (entry r c.args.k)) c.args.kept.now c.loop-i.kept c.args.rows.now c.loop-i.i c.loop-i.invariant.kept_is many in
+    record {
+      kept = all ∙ fold-flat_map (add_row c.args.last) (λ r. map (λ s. crossed c.args.k r s) (falling c.args.k c.args.rows.now)) c.args.kept.now (rising c.args.k c.args.rows.now);
+      fits = unless_crowded c.args.brief c.loop-i.kept (crossings_fit c.args.k c.args.rows.now) two.0 many;
+      wide = λ is. cc;
+    }
+
 pub returns : goal.returns
 unfolding crossings crossings_fit
 returns c =
     let d = done_all _ (λ r. all_of (crossed_fits c.args.k r) (falling c.args.k c.args.rows.now)) (λ r. is_positive (entry r c.args.k)) c.args.kept.now c.loop-i.kept c.args.rows.now c.loop-i.i (omega arith) c.loop-i.invariant in
     record {
       kept = d.kept_is ∙ fold-flat_map (add_row c.args.last) (λ r. map (λ s. crossed c.args.k r s) (falling c.args.k c.args.rows.now)) c.args.kept.now (rising c.args.k c.args.rows.now);
-      fits = d.pass;
+      fits = fits_unless c.args.brief c.loop-i.kept (crossings_fit c.args.k c.args.rows.now) d.pass;
       wide = λ is. cc;
     }

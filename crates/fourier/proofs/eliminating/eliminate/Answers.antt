@@ -1,11 +1,13 @@
-use Rattle.std.proofs.Common.{◌≡◌, ◌+◌, true, false, Some, Err, arith, sym, subst, ap, ◌∙◌}
+use Rattle.std.proofs.Common.{◌≡◌, ◌+◌, ◌∷◌, [], true, false, Err, arith, sym, subst, ap, ◌∙◌}
 use Rattle.linear_rows.specs.Plain.{plain_rows}
 use Rattle.linear_rows.specs.Step.{eliminated}
 use Rattle.linear_rows.specs.Blown.{numbers_fit, step_fault}
 use Rattle.fourier.specs.Adding.{AllLong}
-use Rattle.fourier.specs.Saying.{StepSays}
+use Rattle.fourier.specs.Saying.{Eliminates, fault_at}
+use Rattle.fourier.specs.declared.fault.ElimFault.{ElimFault}
+use Rattle.fourier.proofs.Sequences.{fault_said}
 use Rattle.fourier.proofs.Stays.{long_stays}
-use Rattle.fourier.proofs.EliminateLemmas.{one_not_fit, one_blown, one_whole, long_of, all_vanish, all_hold_on, same_points}
+use Rattle.fourier.proofs.EliminateLemmas.{one_not_fit, one_blown, said_once, one_whole, long_of, all_vanish, all_hold_on, same_points}
 use Rattle.fourier.proofs.eliminating.eliminate.Goals as goal
 
 pub returns-then-not-fit-clause-exact : goal.returns-then-not-fit-clause-exact
@@ -43,14 +45,12 @@ returns-in-Ok-clause-complete c =
     same_points c.args.rows.now.width (c.args.var + 1) (plain_rows c.args.rows.now.list) (plain_rows c.in_ok-rows_of-in-Ok.field-0.list) (omega arith) (omega (arith, c.requires.column))
     (c.in_ok-rows_of-in-Ok.ensures.rows ∙ c.in-Ok.ensures.0 ∙ ap (eliminated c.args.rows.now.width (c.args.var + 1)) c.in_ok-lines.ensures)
 
-pub returns-in-Err-Wide-clause-exact : goal.returns-in-Err-Wide-clause-exact
-returns-in-Err-Wide-clause-exact c =
-    let e : numbers_fit (plain_rows c.args.rows.now.list) ≡ true = cc (c.fit.ensures.value, c.if-not-fit.false, ap numbers_fit c.in_ok-lines.ensures) in
-    let f : step_fault c.args.rows.now.width (c.args.var + 1) c.in_ok-lines.lines ≡ Some true = subst (λ f. StepSays c.args.rows.now.width (c.args.var + 1) c.in_ok-lines.lines (Err f)) c.in-Err-Wide.field-0-is c.in-Err-Wide.ensures in
-    one_blown c.args.rows.now.width (c.args.var + 1) (plain_rows c.args.rows.now.list) true e (sym (ap (step_fault c.args.rows.now.width (c.args.var + 1)) c.in_ok-lines.ensures) ∙ f)
-
-pub returns-in-Err-Many-clause-exact : goal.returns-in-Err-Many-clause-exact
-returns-in-Err-Many-clause-exact c =
-    let e : numbers_fit (plain_rows c.args.rows.now.list) ≡ true = cc (c.fit.ensures.value, c.if-not-fit.false, ap numbers_fit c.in_ok-lines.ensures) in
-    let f : step_fault c.args.rows.now.width (c.args.var + 1) c.in_ok-lines.lines ≡ Some false = subst (λ f. StepSays c.args.rows.now.width (c.args.var + 1) c.in_ok-lines.lines (Err f)) c.in-Err-Many.field-0-is c.in-Err-Many.ensures in
-    one_blown c.args.rows.now.width (c.args.var + 1) (plain_rows c.args.rows.now.list) false e (sym (ap (step_fault c.args.rows.now.width (c.args.var + 1)) c.in_ok-lines.ensures) ∙ f)
+pub returns-clause-exact : goal.returns-clause-exact
+returns-clause-exact c =
+    let m = c.args.rows.now.width in
+    let k = c.args.var + 1 in
+    let rows = plain_rows c.args.rows.now.list in
+    let e : numbers_fit rows ≡ true = cc (c.fit.ensures.value, c.if-not-fit.false, ap numbers_fit c.in_ok-lines.ensures) in
+    subst (λ (f : ElimFault). Eliminates m k rows (Err f)) (sym c.at.ensures)
+    (said_once m k rows (fault_at 1 c.in-Err.fault)
+    (fault_said m k 1 (k ∷ []) c.in_ok-lines.lines rows c.in-Err.fault c.in-Err.ensures (λ wide f. one_blown m k rows wide e (sym (ap (step_fault m k) c.in_ok-lines.ensures) ∙ f))))

@@ -1,10 +1,12 @@
 use Rattle.std.proofs.Common.{◌≡◌, ◌+◌, true, arith, sym, ◌∙◌, subst, OnOk, Some, None, get_or, []}
 use Rattle.exact128.specs.Sums.{entry}
 use Rattle.linear_rows.specs.Equation.{equation_from}
+use Rattle.linear_rows.specs.Blown.{step_fits}
+use Rattle.fourier.specs.Saying.{FitsUnless}
 use Rattle.linear_rows.proofs.Steps.{positive_is}
 use Rattle.linear_rows.proofs.Whole.{opposite_falls}
 use Rattle.linear_rows.proofs.Places.{equation_is}
-use Rattle.fourier.proofs.StepLemmas.{fits_solved, fits_crossed}
+use Rattle.fourier.proofs.StepLemmas.{ok_unless, fits_solved, fits_crossed}
 use Rattle.fourier.proofs.stepping.combinations.Goals as goal
 
 pub cross_equation-requires-clause-i : goal.cross_equation-requires-clause-i
@@ -34,7 +36,8 @@ cross_equation-requires-clause-falls c =
 pub returns-in-Some-clause-fits : goal.returns-in-Some-clause-fits
 returns-in-Some-clause-fits c =
     let e : equation_from (c.args.last + 1) c.args.k c.args.rows.now 0 c.args.rows.now ≡ Some (c.in-Some.i, c.in-Some.j) = sym c.equation.ensures ∙ c.in-Some.is in
-    subst (λ b. OnOk c.cross_equation.result (b ≡ true)) (fits_solved c.args.last c.args.k c.in-Some.i c.in-Some.j c.args.rows.now e) c.cross_equation.ensures.fits
+    ok_unless c.args.brief c.cross_equation.new.kept (step_fits c.args.last c.args.k c.args.rows.now) c.cross_equation.result
+    (subst (λ b. OnOk c.cross_equation.result (b ≡ true)) (fits_solved c.args.last c.args.k c.in-Some.i c.in-Some.j c.args.rows.now e) c.cross_equation.ensures.fits)
 
 pub returns-in-Some-clause-wide : goal.returns-in-Some-clause-wide
 returns-in-Some-clause-wide c =
@@ -44,7 +47,7 @@ returns-in-Some-clause-wide c =
 pub returns-in-None-clause-fits : goal.returns-in-None-clause-fits
 returns-in-None-clause-fits c =
     let e : equation_from (c.args.last + 1) c.args.k c.args.rows.now 0 c.args.rows.now ≡ None = sym c.equation.ensures ∙ c.in-None.is in
-    subst (λ b. OnOk c.cross_rising.result (b ≡ true)) (fits_crossed c.args.last c.args.k c.args.rows.now e) c.cross_rising.ensures.fits
+    subst (λ b. OnOk c.cross_rising.result (FitsUnless c.args.brief c.cross_rising.new.kept b)) (fits_crossed c.args.last c.args.k c.args.rows.now e) c.cross_rising.ensures.fits
 
 pub returns-in-None-clause-wide : goal.returns-in-None-clause-wide
 returns-in-None-clause-wide c =

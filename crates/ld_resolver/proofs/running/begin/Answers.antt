@@ -25,8 +25,8 @@ returns-then-branch c = λ n.
     let g = c.args.goal.now in
     let new = c.enter.new.self in
     let h = entered_goal g x.bindings x.tails c.as_slice.result.now c.requires.bindings c.as_slice.ensures in
-    let entered = subst (λ (h : Goal). IsEntered x h true new) h (subst (λ (b : Bool). IsEntered x (goal_with x.bindings (map (raised 0) c.as_slice.result.now) (tail_at x.tails 0) g.fresh) b new) c.if-branch.true c.in_ok-enter.ensures.entered) in
-    let under = begun_with_atoms g n x new c.requires.bindings c.requires.choices c.in_ok-enter.ensures.search c.enter.ensures.program c.in_ok-enter.ensures.count entered in
+    let entered = subst (λ (h : Goal). IsEntered x 0 h true new) h (subst (λ (b : Bool). IsEntered x 0 (goal_with x.bindings (map (raised 0) c.as_slice.result.now) (tail_at x.tails 0) g.fresh) b new) c.if-branch.true c.in_ok-enter.ensures.entered) in
+    let under = begun_with_atoms g n x new c.requires.bindings c.requires.choices c.in_ok-enter.ensures.search c.enter.ensures.program c.in_ok-enter.ensures.depths entered in
     subst (IsUnderWay x.program.now g n new 0 0) (sym c.new-answers.ensures) under
 
 pub returns : goal.returns
@@ -35,10 +35,10 @@ returns c = λ n.
     let g = c.args.goal.now in
     let new = c.enter.new.self in
     let h = entered_goal g x.bindings x.tails c.as_slice.result.now c.requires.bindings c.as_slice.ensures in
-    let entered = subst (λ (h : Goal). IsEntered x h false new) h (subst (λ (b : Bool). IsEntered x (goal_with x.bindings (map (raised 0) c.as_slice.result.now) (tail_at x.tails 0) g.fresh) b new) c.if-branch.false c.in_ok-enter.ensures.entered) in
+    let entered = subst (λ (h : Goal). IsEntered x 0 h false new) h (subst (λ (b : Bool). IsEntered x 0 (goal_with x.bindings (map (raised 0) c.as_slice.result.now) (tail_at x.tails 0) g.fresh) b new) c.if-branch.false c.in_ok-enter.ensures.entered) in
     let a = c.in_ok-answer.field-0 in
     let same : SameSearch new c.answer.new.self = record { program = c.answer.ensures.program; bindings = c.answer.ensures.bindings; tails = c.answer.ensures.tails; choices = c.answer.ensures.choices } in
     let is_told = c.in_ok-answer.ensures.answer ∙ ap (λ (l : List Atom). told (answered_atoms new.bindings l)) c.as_slice-2.ensures in
-    let under = begun_without_atoms g n x new c.requires.bindings c.requires.choices c.in_ok-enter.ensures.search c.enter.ensures.program c.in_ok-enter.ensures.count c.answer.new.self a entered c.enter.ensures.bindings same is_told in
+    let under = begun_without_atoms g n x new c.requires.bindings c.requires.choices c.in_ok-enter.ensures.search c.enter.ensures.program c.in_ok-enter.ensures.depths c.answer.new.self a entered c.enter.ensures.bindings same is_told in
     let list = c.in_ok-push.ensures ∙ ap (λ (l : List Answer). l ++ a ∷ []) c.new-answers.ensures in
     subst (IsUnderWay x.program.now g n c.answer.new.self 0 0) (sym list) under

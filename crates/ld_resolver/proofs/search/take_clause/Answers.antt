@@ -1,6 +1,5 @@
 use Rattle.std.proofs.Common.{◌≡◌, suc, ◌≤◌, [], ◌∷◌, length, reverse, ap, sym, ◌∙◌, subst, arith}
 use Rattle.std.proofs.lemmas.List.{reverse-append}
-use Rattle.ld_resolver.specs.declared.choices.Choice.{Choice}
 use Rattle.ld_resolver.specs.Chain.{IsNext}
 use Rattle.ld_resolver.specs.Searches.{AreNumbered}
 use Rattle.ld_resolver.proofs.ChainLaws.{clause_at}
@@ -12,7 +11,6 @@ returns c =
     let choice = c.in-Some.choice in
     let k = c.clause.result.now in
     let below = reverse c.pop.new.self.items in
-    let later : Choice = record { atom = choice.atom; base = choice.base; rest = choice.rest; fresh = choice.fresh; next = c.after.result; mark = choice.mark } in
     let was : reverse c.args.choices.now.items ≡ choice ∷ below = ap reverse c.in-Some.ensures.items ∙ reverse-append c.pop.new.self.items (choice ∷ []) in
     let numbers = (subst (AreNumbered p) was c.requires.numbered).0 in
     let within : choice.next ≤ length p.clauses = omega (arith, c.if-choice-clauses.false, c.clauses.ensures.count) in
@@ -20,12 +18,12 @@ returns c =
     let same = numbers.2 k there in
     record {
       below = below;
-      m = c.after.result;
+      m = c.after-next.result;
       was = was;
-      is = ap reverse c.in_ok-push.ensures.items ∙ reverse-append c.pop.new.self.items (later ∷ []);
+      is = c.in_ok-put_back.ensures;
       within = within;
       there = c.clause.ensures.there;
       clause = c.clause.ensures.sound;
       pred = same;
-      next = subst (λ f. IsNext p f (suc choice.next) c.after.result) (sym same) (c.after.ensures p c.requires.chain k there);
+      next = subst (λ f. IsNext p f (suc choice.next) c.after-next.result) (sym same) (c.after-next.ensures p c.requires.chain k there);
     }

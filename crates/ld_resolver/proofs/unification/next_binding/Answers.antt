@@ -24,7 +24,7 @@ loop-l-preserved-in-Nothing c =
     let now = waiting s c.loop-l.equations.items in
     let h = sym c.in_ok-step.ensures.step ∙ ap (step_of s l.term.base r.term.base) c.in-Nothing.is in
     record {
-      left = λ o. (subst (LeftBelow c.args.news.from) e (c.loop-l.invariant.left o)).1;
+      left = (subst (LeftBelow c.args.limit) e c.loop-l.invariant.left).1;
       same = same_after_nothing before now t u (waiting s rest) c.loop-l.invariant.same c.loop-l.invariant.inside e h;
       inside = inside_after_nothing before now t u (waiting s rest) c.loop-l.invariant.same c.loop-l.invariant.inside e;
     }
@@ -43,8 +43,8 @@ returns-in-Binds c =
     let h = sym c.in_ok-step.ensures.step ∙ ap (step_of s l.term.base r.term.base) c.in-Binds.is in
     let fit = subst (IsFit s) c.in-Binds.is c.in_ok-step.ensures.fit in
     record {
-      left = λ o. (subst (LeftBelow c.args.news.from) e (c.loop-l.invariant.left o)).1;
-      next = (fit.0, fit.1, after_binding before now t u (waiting s rest) c.loop-l.invariant.same c.loop-l.invariant.inside e c.in-Binds.x (full s (raised_tree c.in-Binds.term)) h);
+      left = (subst (LeftBelow c.args.limit) e c.loop-l.invariant.left).1;
+      next = (fit.0, fit.1, fit.2, after_binding before now t u (waiting s rest) c.loop-l.invariant.same c.loop-l.invariant.inside e c.in-Binds.x (full s (raised_tree c.in-Binds.term)) h);
     }
 
 pub loop-l-smaller : goal.loop-l-smaller
@@ -77,9 +77,9 @@ loop-l-preserved c =
     let h = sym c.in_ok-step.ensures.step ∙ ap (step_of s l.term.base r.term.base) c.in-Arguments.is in
     let p = waiting_pushed s l.term.base r.term.base c.in-Arguments.ts.now c.in-Arguments.us.now c.push_equations.new.stack.items rest c.in_ok-push_equations-in-Arguments.ensures in
     record {
-      left = λ o.
-          let both = subst (LeftBelow c.args.news.from) e (c.loop-l.invariant.left o) in
-          subst (LeftBelow c.args.news.from) (sym p) (left_append c.args.news.from qs (waiting s rest) (left_split c.args.news.from t u qs h both.0) both.1);
+      left =
+          let both = subst (LeftBelow c.args.limit) e c.loop-l.invariant.left in
+          subst (LeftBelow c.args.limit) (sym p) (left_append c.args.limit qs (waiting s rest) (left_split c.args.limit t u qs h both.0) both.1);
       same = same_after_arguments before now t u (waiting s rest) c.loop-l.invariant.same c.loop-l.invariant.inside e qs h ∙ ap unify (sym p);
       inside = subst (OccurBefore before) (sym p) (inside_after_arguments before now t u (waiting s rest) c.loop-l.invariant.same c.loop-l.invariant.inside e qs h);
     }
@@ -97,6 +97,6 @@ returns-in-Clash c =
     let now = waiting s c.loop-l.equations.items in
     let h = sym c.in_ok-step.ensures.step ∙ ap (step_of s l.term.base r.term.base) c.in-Clash.is in
     record {
-      left = λ o. (subst (LeftBelow c.args.news.from) e (c.loop-l.invariant.left o)).1;
+      left = (subst (LeftBelow c.args.limit) e c.loop-l.invariant.left).1;
       next = after_clash before now t u (waiting s rest) c.loop-l.invariant.same c.loop-l.invariant.inside e h;
     }

@@ -1,4 +1,4 @@
-use Rattle.std.proofs.Common.{◌≡◌, true}
+use Rattle.std.proofs.Common.{◌≡◌}
 use Rattle.cti_terms.specs.UnifyFunction.{unify, work}
 use Rattle.ld_resolver.specs.Below.{LeftBelow}
 use Rattle.ld_resolver.specs.Pending.{waiting, OccurBefore}
@@ -7,7 +7,7 @@ use Rattle.ld_resolver.proofs.unification.next_binding.Given as goal
 abbrev pub invariant-loop-l : goal.invariant-loop-l
 invariant-loop-l l = record {
   same : unify (waiting l.bindings l.fn.equations.items) ≡ unify (waiting l.bindings l.equations.items);
-  left : l.news.only ≡ true → LeftBelow l.news.from (waiting l.bindings l.equations.items);
+  left : LeftBelow l.limit (waiting l.bindings l.equations.items);
   inside : OccurBefore (waiting l.bindings l.fn.equations.items) (waiting l.bindings l.equations.items);
 }
 

@@ -1,4 +1,4 @@
-use Rattle.std.proofs.Common.{◌≡◌, ◌<◌, true, List, [], ◌∷◌, ◌++◌, append_assoc, option_map, None, ap, sym, ◌∙◌, subst}
+use Rattle.std.proofs.Common.{◌≡◌, ◌<◌, true, List, [], ◌∷◌, ◌++◌, append_assoc, option_map, None, arith, ap, sym, ◌∙◌, subst}
 use Rattle.cti_terms.specs.Unify.{Equation, Binding, replaced}
 use Rattle.cti_terms.specs.UnifyFunction.{unify, occurring, above_equations, occurs_in}
 use Rattle.cti_terms.proofs.UnifyLaws.{below_equations}
@@ -7,7 +7,7 @@ use Rattle.ld_resolver.specs.Raised.{raised_tree}
 use Rattle.ld_resolver.specs.Store.{stored, full, made}
 use Rattle.ld_resolver.specs.Pending.{raw_equations, waiting, IsNext}
 use Rattle.ld_resolver.specs.Below.{LeftBelow}
-use Rattle.ld_resolver.proofs.BelowLaws.{left_replaced}
+use Rattle.ld_resolver.proofs.BelowLaws.{left_bound, left_wider}
 use Rattle.ld_resolver.proofs.PendingLaws.{under_more}
 use Rattle.ld_resolver.proofs.UnifySteps.{fewer_occur, option_map_twice, stays_free}
 use Rattle.ld_resolver.proofs.unification.solve.Goals as goal
@@ -22,7 +22,7 @@ loop-x-smaller c =
     let left = c.next_binding.new.equations.items in
     let n = subst (λ (n : Next). IsNext s before n (waiting s left)) c.in-Bound.is c.in_ok-next_binding.ensures.next in
     let same : waiting c.bind.new.self left ≡ replaced x (full s t) (waiting s left) = ap (λ b. waiting b left) c.in_ok-bind-in-Bound.ensures ∙ under_more s (x, t) (raw_equations left) in
-    let less = fewer_occur (above_equations first) x (full s t) before (replaced x (full s t) (waiting s left)) (λ y h. below_equations y first (c.loop-x.invariant.inside y h)) n.2 in
+    let less = fewer_occur (above_equations first) x (full s t) before (replaced x (full s t) (waiting s left)) (λ y h. below_equations y first (c.loop-x.invariant.inside y h)) n.3 in
     subst (λ (es : List Equation). occurring (above_equations first) es < occurring (above_equations first) before) (sym same) less
 
 pub loop-x-preserved : goal.loop-x-preserved
@@ -43,13 +43,16 @@ loop-x-preserved c =
         old.0 ++ b ∷ [],
         ap made c.in_ok-bind-in-Bound.ensures ∙ ap (λ l. l ++ b ∷ []) old.1 ∙ append_assoc (made c.args.bindings.now) old.0 (b ∷ []),
         old.2
-            ∙ ap (option_map (λ cs. old.0 ++ cs)) (n.2.unifier ∙ ap (λ es. option_map (λ cs. b ∷ cs) (unify es)) (sym same))
+            ∙ ap (option_map (λ cs. old.0 ++ cs)) (n.3.unifier ∙ ap (λ es. option_map (λ cs. b ∷ cs) (unify es)) (sym same))
             ∙ option_map_twice old.0 b (unify (waiting c.bind.new.self left)),
       );
-      left = λ o.
-          let apart = c.is_apart-only.ensures o in
-          subst (LeftBelow c.args.from) (sym same) (left_replaced c.args.from x (full s t) (waiting s left) apart.1 (c.in_ok-next_binding.ensures.left apart.0));
-      inside = λ y h. c.loop-x.invariant.inside y (n.2.inside y (subst (λ (es : List Equation). occurs_in y es ≡ true) same h));
-      free = λ y gone free. subst (λ (b : List Binding). stored b y ≡ None) (sym c.in_ok-bind-in-Bound.ensures) (stays_free x y t s first gone (c.loop-x.invariant.inside x n.2.there) (c.loop-x.invariant.free y gone free));
+      left =
+          let limit = c.loop-x.limit in
+          let above = c.in-Bound.above in
+          let now = c.max-limit.result in
+          subst (LeftBelow now) (sym same)
+          (left_bound now x (full s t) (waiting s left) (λ y o. let k = n.2 y o in omega (arith, k, c.max-limit.ensures)) (left_wider limit now (waiting s left) (omega (arith, c.max-limit.ensures)) c.in_ok-next_binding.ensures.left));
+      inside = λ y h. c.loop-x.invariant.inside y (n.3.inside y (subst (λ (es : List Equation). occurs_in y es ≡ true) same h));
+      free = λ y gone free. subst (λ (b : List Binding). stored b y ≡ None) (sym c.in_ok-bind-in-Bound.ensures) (stays_free x y t s first gone (c.loop-x.invariant.inside x n.3.there) (c.loop-x.invariant.free y gone free));
       extended = ((x, t) ∷ c.loop-x.invariant.extended.0, c.in_ok-bind-in-Bound.ensures ∙ ap (λ l. (x, t) ∷ l) c.loop-x.invariant.extended.1);
     }

@@ -1,4 +1,4 @@
-use Rattle.std.proofs.Common.{◌≡◌, true, List, ◌++◌, option_map}
+use Rattle.std.proofs.Common.{◌≡◌, List, ◌++◌, option_map}
 use Rattle.cti_terms.specs.Unify.{Binding}
 use Rattle.cti_terms.specs.UnifyFunction.{unify, occurring, above_equations}
 use Rattle.ld_resolver.specs.Store.{made}
@@ -9,7 +9,7 @@ use Rattle.ld_resolver.proofs.unification.solve.Given as goal
 abbrev pub invariant-loop-x : goal.invariant-loop-x
 invariant-loop-x l = record {
   so_far : (bs : List Binding) × (made l.bindings ≡ made l.fn.bindings ++ bs) × (unify (waiting l.fn.bindings l.fn.equations.items) ≡ option_map (λ cs. bs ++ cs) (unify (waiting l.bindings l.equations.items)));
-  left : l.only ≡ true → LeftBelow l.from (waiting l.bindings l.equations.items);
+  left : LeftBelow l.limit (waiting l.bindings l.equations.items);
   inside : OccurBefore (waiting l.fn.bindings l.fn.equations.items) (waiting l.bindings l.equations.items);
   free : KeepsFree (waiting l.fn.bindings l.fn.equations.items) l.fn.bindings l.bindings;
   extended : Extends l.bindings l.fn.bindings;

@@ -17,11 +17,13 @@ use Rattle.prolog_reader.proofs.FitLemmas.{known_within, next_fine, next_within,
 use Rattle.prolog_reader.proofs.LexLemmas.{cursor}
 use Rattle.prolog_reader.proofs.NameLemmas.{extends_self, extends_trans, extends_length}
 use Rattle.prolog_reader.proofs.RunLemmas.{running_start, taken, goes_next, finishes, is_unexpected, is_deep, is_stuck, is_lexical, is_ended, cursor_is, part_tree_view, clause_by, text_here, at_here, given_here, count_after}
+use Rattle.prolog_reader.proofs.NamingLemmas.{naming_start, names_next, names_read, names_refused, names_stuck, names_ended}
 use Rattle.prolog_reader.proofs.clause_reading.read_clause.Goals as goal
 
 pub tokens-init : goal.tokens-init
 tokens-init c = record {
   running = running_start c.args.text.now c.args.names.now c.args.is_query (rules_of c.args.ops.now c.args.known) c.args.lexer.now c.args.lexer.now c.args.first _ _ refl (ap (λ fs. want 1200 (frames_of fs)) c.new-stack.ensures.items) c.new-variables.ensures.none;
+  naming = naming_start c.args.text.now c.args.names.now c.args.lexer.now c.args.lexer.now c.args.first refl;
   counted = ap (λ fs. height (frames_of fs)) (sym c.new-stack.ensures.items);
   bounded = omega arith;
   numbered = c.new-variables.ensures.numbered;
@@ -289,56 +291,6 @@ returns-in_err-found-in-Ok-None-clause-few c =
     let moved = ap (λ (x : Cursor). x.at) (rw c.in-Ok-None.field-0-is at c.in-Ok-None.ensures.after) in
     omega (arith, c.tokens.invariant.names, within, at, size, moved, c.in_ok-symbol.ensures.more)
 
-pub tokens-smaller-in-Ok-Some : goal.tokens-smaller-in-Ok-Some
-tokens-smaller-in-Ok-Some c =
-    let after = ap (λ (x : Cursor). x.at) (rw c.in-Ok-Some.field-0-is at c.in-Ok-Some.ensures.after) in
-    let progress = rw c.in-Ok-Some.field-0-is at c.in-Ok-Some.ensures.progress in
-    let size = ap (λ (t : List ℕ). length t) (text_here c.tokens.lexer c.args.text.now c.tokens.token.end c.tokens.invariant.here) in
-    omega (arith, after, progress, size)
-
-pub tokens-preserved-in-Ok-Some : goal.tokens-preserved-in-Ok-Some
-tokens-preserved-in-Ok-Some c =
-    let known = λ (count : ℕ) (few : length c.next_symbol.new.names ≤ count). known_within c.args.names.now (known_of c.args.known) count c.requires.known
-    (omega (arith, few, extends_length c.args.names.now c.next_symbol.new.names (extends_trans c.args.names.now c.tokens.names c.next_symbol.new.names c.tokens.invariant.kept c.in_ok-symbol.ensures.kept))) in
-    let grows = ap (λ (q : Seen). q.count) c.in_ok-symbol.ensures.seen in
-    let grown = count_grows c.args.text.now (seen_of c.tokens.variables) c.tokens.token in
-    let longer = extends_length c.tokens.names c.next_symbol.new.names c.in_ok-symbol.ensures.kept in
-    let weighs = token_weight c.next_symbol.new.names c.args.text.now (seen_of c.tokens.variables) c.tokens.before c.tokens.token (token_of c.in_ok-symbol.symbol) c.tokens.invariant.given
-    (c.in_ok-symbol.ensures.value c.next_symbol.new.names (extends_self _)) in
-    let moved = next_within (length c.next_symbol.new.names) (seen_of c.next_symbol.new.variables).count (table_of c.args.ops.now) (known_of c.args.known) (state_of c.tokens.mode c.tokens.stack.items) (token_of c.in_ok-symbol.symbol) c.is_touched-touch.result (go_on (state_of c.in-GoOn.next c.step.new.stack.items)) (known (length c.next_symbol.new.names) (omega arith))
-    (c.tokens.invariant.fine (length c.next_symbol.new.names) (seen_of c.next_symbol.new.variables).count (omega (arith, longer)) (omega (arith, grows, grown))) (rw c.in-GoOn.is at c.in_ok-next.ensures.moves) in
-    let t = taken c.args.text.now c.tokens.names c.next_symbol.new.names c.args.is_query (rules_of c.args.ops.now c.args.known) c.args.lexer.now c.tokens.lexer c.args.first
-    (state_of c.tokens.mode c.tokens.stack.items) (seen_of c.tokens.variables) (seen_of c.next_symbol.new.variables) c.tokens.before c.tokens.token (go_on (state_of c.in-GoOn.next c.step.new.stack.items)) (token_of c.in_ok-symbol.symbol) c.is_touched-touch.result
-    c.tokens.invariant.running c.in_ok-symbol.ensures.kept c.tokens.invariant.here c.in_ok-symbol.ensures.seen (rw c.in-GoOn.is at c.in_ok-next.ensures.moves) c.in_ok-symbol.ensures.value c.is_touched-touch.ensures in
-    let is = sym (rw c.in-Ok-Some.field-0-is at c.in-Ok-Some.ensures.value) in
-    let after = rw c.in-Ok-Some.field-0-is at c.in-Ok-Some.ensures.after in
-    let progress = rw c.in-Ok-Some.field-0-is at c.in-Ok-Some.ensures.progress in
-    let same = text_here c.tokens.lexer c.args.text.now c.tokens.token.end c.tokens.invariant.here in
-    let at = after ∙ ap (λ (x : List ℕ). cursor x c.in-Ok-Some.token.end) same in
-    let end = at_here c.tokens.lexer c.args.text.now c.tokens.token.end c.tokens.invariant.here in
-    let size = ap (λ (x : List ℕ). length x) same in
-    let counts = rw c.in-GoOn.is at c.in_ok-next.ensures.counts in
-    let within = token_within c.args.text.now c.tokens.token c.tokens.invariant.given in
-    record {
-      running = goes_next c.args.text.now c.next_symbol.new.names c.next_symbol.new.names c.args.is_query (rules_of c.args.ops.now c.args.known) c.args.lexer.now c.tokens.lexer c.args.first
-          (state_of c.in-GoOn.next c.step.new.stack.items) (seen_of c.next_symbol.new.variables) c.tokens.token c.in-Ok-Some.token c.next.new.self t same is at;
-      counted = counts.0;
-      bounded = counts.1;
-      numbered = c.in_ok-symbol.ensures.numbered;
-      here = at;
-      given = given_here c.tokens.lexer c.args.text.now c.tokens.token.end c.in-Ok-Some.token c.tokens.invariant.here is;
-      within = record { ordered = omega (arith, progress); ended = omega (arith, progress, size) };
-      within_before = c.tokens.invariant.within;
-      variables = omega (arith, c.tokens.invariant.variables, within, progress, end, ap (λ (s : Seen). s.count) c.in_ok-symbol.ensures.seen, count_after c.args.text.now (seen_of c.tokens.variables) c.tokens.token);
-      names = omega (arith, c.tokens.invariant.names, within, progress, end, c.in_ok-symbol.ensures.more);
-      kept = extends_trans c.args.names.now c.tokens.names c.next_symbol.new.names c.tokens.invariant.kept c.in_ok-symbol.ensures.kept;
-      on = omega (arith, c.tokens.invariant.on, end, progress);
-      fine = λ count vars a b. next_fine count vars (table_of c.args.ops.now) (known_of c.args.known) (state_of c.tokens.mode c.tokens.stack.items) (token_of c.in_ok-symbol.symbol) c.is_touched-touch.result (go_on (state_of c.in-GoOn.next c.step.new.stack.items)) (known count a)
-          (c.tokens.invariant.fine count vars (omega (arith, longer, a)) (omega (arith, grows, grown, b)))
-          (token_more (length c.next_symbol.new.names) count (seen_of c.next_symbol.new.variables).count vars (token_of c.in_ok-symbol.symbol) c.in_ok-symbol.ensures.fine a b) (rw c.in-GoOn.is at c.in_ok-next.ensures.moves);
-      nodes = omega (arith, c.tokens.invariant.nodes, moved, weighs, progress, end);
-    }
-
 pub tokens-smaller : goal.tokens-smaller
 tokens-smaller c =
     let after = ap (λ (x : Cursor). x.at) (rw c.in-Ok-Some.field-0-is at c.in-Ok-Some.ensures.after) in
@@ -372,6 +324,7 @@ tokens-preserved c =
     record {
       running = goes_next c.args.text.now c.next_symbol.new.names c.next_symbol.new.names c.args.is_query (rules_of c.args.ops.now c.args.known) c.args.lexer.now c.tokens.lexer c.args.first
           (state_of c.in-GoOn.next c.step.new.stack.items) (seen_of c.next_symbol.new.variables) c.tokens.token c.in-Ok-Some.token c.next.new.self t same is at;
+      naming = names_next c.args.text.now c.args.names.now c.tokens.names c.next_symbol.new.names c.args.lexer.now c.tokens.lexer c.args.first c.tokens.token c.tokens.invariant.naming c.in_ok-symbol.ensures.added c.in-Ok-Some.token c.next.new.self same is at;
       counted = counts.0;
       bounded = counts.1;
       numbered = c.in_ok-symbol.ensures.numbered;
@@ -430,3 +383,24 @@ returns-in-Ok-None-clause-fit c = λ count few.
 
 pub returns-in-Stuck-clause-fit : goal.returns-in-Stuck-clause-fit
 returns-in-Stuck-clause-fit c = λ count few. c.next_fault.ensures.fit count (2 * c.args.first.start) (2 * c.next_fault.new.lexer.at)
+
+pub returns-in-Finished-clause-added : goal.returns-in-Finished-clause-added
+returns-in-Finished-clause-added c = names_read c.args.text.now c.args.names.now c.tokens.names c.next_symbol.new.names c.args.lexer.now c.tokens.lexer c.args.first c.tokens.token c.tokens.invariant.naming c.in_ok-symbol.ensures.added _
+
+pub returns-in-Unexpected-clause-added : goal.returns-in-Unexpected-clause-added
+returns-in-Unexpected-clause-added c = names_refused c.args.text.now c.args.names.now c.tokens.names c.next_symbol.new.names c.args.lexer.now c.tokens.lexer c.args.first c.tokens.token c.tokens.invariant.naming c.in_ok-symbol.ensures.added _ _ _
+
+pub returns-in-Deep-clause-added : goal.returns-in-Deep-clause-added
+returns-in-Deep-clause-added c = names_refused c.args.text.now c.args.names.now c.tokens.names c.next_symbol.new.names c.args.lexer.now c.tokens.lexer c.args.first c.tokens.token c.tokens.invariant.naming c.in_ok-symbol.ensures.added _ _ _
+
+pub returns-in-Err-clause-added : goal.returns-in-Err-clause-added
+returns-in-Err-clause-added c = names_refused c.args.text.now c.args.names.now c.tokens.names c.next_symbol.new.names c.args.lexer.now c.tokens.lexer c.args.first c.tokens.token c.tokens.invariant.naming c.in_ok-symbol.ensures.added _ _ _
+
+pub returns-in-Stuck-clause-added : goal.returns-in-Stuck-clause-added
+returns-in-Stuck-clause-added c = names_stuck c.args.text.now c.args.names.now c.tokens.names c.next_symbol.new.names c.args.lexer.now c.tokens.lexer c.args.first c.tokens.token c.tokens.invariant.naming c.in_ok-symbol.ensures.added _ _ c.next_fault.ensures.fault
+
+pub returns-in-Ok-None-clause-added : goal.returns-in-Ok-None-clause-added
+returns-in-Ok-None-clause-added c =
+    let after = rw c.in-Ok-None.field-0-is at c.in-Ok-None.ensures.after in
+    let at = after ∙ ap (λ (x : List ℕ). cursor x (length x)) (text_here c.tokens.lexer c.args.text.now c.tokens.token.end c.tokens.invariant.here) in
+    names_ended c.args.text.now c.args.names.now c.tokens.names c.next_symbol.new.names c.args.lexer.now c.tokens.lexer c.args.first c.tokens.token c.tokens.invariant.naming c.in_ok-symbol.ensures.added _ c.next.new.self (sym (rw c.in-Ok-None.field-0-is at c.in-Ok-None.ensures.value)) at

@@ -8,12 +8,14 @@ use Rattle.prolog_reader.specs.Views.{rules_of, frames_of, state_of, FitsOpeners
 use Rattle.prolog_reader.specs.Measures.{IsStateFine, state_nodes}
 use Rattle.prolog_reader.proofs.LexLemmas.{cursor}
 use Rattle.prolog_reader.proofs.RunLemmas.{Running}
+use Rattle.prolog_reader.proofs.NamingLemmas.{Naming}
 use Rattle.prolog_reader.proofs.clause_reading.read_clause.Given as goal
 
 -- the run comes from here to the same as from the start; each name and variable took a byte
 abbrev pub invariant-tokens : goal.invariant-tokens
 invariant-tokens l = record {
   running : Running l.text l.names l.is_query (rules_of l.ops l.known) l.fn.lexer l.lexer l.fn.first (state_of l.mode l.stack.items) (seen_of l.variables) l.before l.token;
+  naming : Naming l.text l.fn.names l.names l.fn.lexer l.lexer l.fn.first l.token;
   counted : l.openers ≡ height (frames_of l.stack.items);
   bounded : FitsOpeners l.mode l.openers;
   numbered : AreNumbered l.variables;

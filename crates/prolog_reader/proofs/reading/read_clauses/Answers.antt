@@ -16,11 +16,13 @@ use Rattle.prolog_reader.proofs.LexLemmas.{cursor}
 use Rattle.prolog_reader.proofs.NameLemmas.{extends_self, extends_trans, extends_length}
 use Rattle.prolog_reader.proofs.RunLemmas.{cursor_is, given_here}
 use Rattle.prolog_reader.proofs.AnswerLemmas.{reading_start, ends_read, lexical_found, refused_found, bad_found, clause_found}
+use Rattle.prolog_reader.proofs.TextNames.{named_start, all_named, some_named, refused_named, clause_named}
 use Rattle.prolog_reader.proofs.reading.read_clauses.Goals as goal
 
 pub clauses-init : goal.clauses-init
 clauses-init c = record {
   reading = reading_start c.args.text.now c.args.names.now c.new-lexer.result (table_of c.args.ops) c.new-clauses.result c.new-lexer.ensures c.new-clauses.ensures c.requires.standard;
+  named = named_start c.args.text.now c.args.names.now c.new-lexer.result c.new-lexer.ensures;
   same = ap (λ (x : Cursor). x.text) c.new-lexer.ensures;
   within = omega (arith, ap (λ (x : Cursor). x.at) c.new-lexer.ensures);
   names = omega arith;
@@ -34,6 +36,8 @@ returns-in-Ok-None c = record {
   found = ends_read c.args.text.now c.clauses.names c.clauses.names c.clauses.lexer (table_of c.clauses.ops) c.clauses.clauses c.clauses.invariant.reading (extends_self _) c.requires.short
       (sym (rw c.in-Ok-None.field-0-is at c.in-Ok-None.ensures.value));
   refused = tt;
+  names = all_named c.args.text.now c.args.names.now c.clauses.names c.clauses.lexer c.clauses.invariant.named (sym (rw c.in-Ok-None.field-0-is at c.in-Ok-None.ensures.value));
+  begin = tt;
   kept = c.clauses.invariant.kept;
   few = omega (arith, c.clauses.invariant.names, c.clauses.invariant.within);
   fit = record { each = c.clauses.invariant.each (length c.clauses.names) (omega arith); small = omega (arith, c.clauses.invariant.small, c.clauses.invariant.within, c.requires.short) };
@@ -44,6 +48,8 @@ returns-in-Err c = record {
   found = tt;
   refused = lexical_found c.args.text.now c.clauses.names c.clauses.names c.clauses.lexer (table_of c.clauses.ops) c.clauses.clauses c.clauses.invariant.reading (extends_self _) c.requires.short c.in-Err.fault
       (sym c.in-Err.ensures.value);
+  names = tt;
+  begin = some_named c.args.text.now c.args.names.now c.clauses.names c.clauses.lexer c.clauses.invariant.named;
   kept = c.clauses.invariant.kept;
   few = omega (arith, c.clauses.invariant.names, c.clauses.invariant.within);
   fit = tt;
@@ -76,6 +82,8 @@ returns-in-Refused c =
     record {
       found = tt;
       refused = refused_found c.args.text.now c.clauses.names c.read_clause.new.names c.clauses.lexer (table_of c.clauses.ops) c.clauses.clauses c.clauses.invariant.reading c.in_ok-clause.ensures.kept c.requires.short c.in-Ok-Some.token is c.clauses.invariant.same c.next.new.self c.read_clause.new.lexer begins c.in-Refused.kind c.in-Refused.at c.in_ok-clause.field-0 c.in-Refused.is c.in_ok-clause.ensures.found;
+      names = tt;
+      begin = refused_named c.args.text.now c.args.names.now c.clauses.names c.clauses.lexer c.clauses.invariant.named c.in-Ok-Some.token is c.clauses.invariant.same c.next.new.self c.read_clause.new.lexer begins c.read_clause.new.names c.in_ok-clause.field-0 c.in_ok-clause.ensures.added;
       kept = extends_trans c.args.names.now c.clauses.names c.read_clause.new.names c.clauses.invariant.kept c.in_ok-clause.ensures.kept;
       few = omega (arith, c.clauses.invariant.names, progress, c.in_ok-clause.ensures.few, c.in_ok-clause.ensures.on);
       fit = tt;
@@ -90,6 +98,13 @@ returns-then-not-branch-clause-refused c =
     bad_found c.args.text.now c.clauses.names c.read_clause.new.names c.clauses.lexer (table_of c.clauses.ops) c.clauses.clauses c.clauses.invariant.reading c.in_ok-clause.ensures.kept c.requires.short c.in-Ok-Some.token is c.clauses.invariant.same c.next.new.self c.read_clause.new.lexer begins c.in-Clause.clause c.in_ok-clause.field-0 c.in-Clause.is c.in_ok-clause.ensures.found
     (λ later ext. ap (λ (w : Words). effect w (table_of c.clauses.ops) (tree_of c.in-Clause.clause.term)) (c.requires.words later (extends_trans c.args.names.now c.read_clause.new.names later (extends_trans c.args.names.now c.clauses.names c.read_clause.new.names c.clauses.invariant.kept c.in_ok-clause.ensures.kept) ext)) ∙ c.in_ok-obey-in-Clause.ensures ∙ ap (λ b. done_effect b (table_of c.obey.new.ops)) c.if-not-branch.true)
 
+pub returns-then-not-branch-clause-begin : goal.returns-then-not-branch-clause-begin
+returns-then-not-branch-clause-begin c =
+    let is = sym (rw c.in-Ok-Some.field-0-is at c.in-Ok-Some.ensures.value) in
+    let after = rw c.in-Ok-Some.field-0-is at c.in-Ok-Some.ensures.after in
+    let begins = after ∙ ap (λ (x : List ℕ). cursor x c.in-Ok-Some.token.end) c.clauses.invariant.same in
+    refused_named c.args.text.now c.args.names.now c.clauses.names c.clauses.lexer c.clauses.invariant.named c.in-Ok-Some.token is c.clauses.invariant.same c.next.new.self c.read_clause.new.lexer begins c.read_clause.new.names c.in_ok-clause.field-0 c.in_ok-clause.ensures.added
+
 pub clauses-preserved : goal.clauses-preserved
 clauses-preserved c =
     let is = sym (rw c.in-Ok-Some.field-0-is at c.in-Ok-Some.ensures.value) in
@@ -99,6 +114,7 @@ clauses-preserved c =
     record {
       reading = clause_found c.args.text.now c.clauses.names c.read_clause.new.names c.clauses.lexer (table_of c.clauses.ops) c.clauses.clauses c.clauses.invariant.reading c.in_ok-clause.ensures.kept c.requires.short c.in-Ok-Some.token is c.clauses.invariant.same c.next.new.self c.read_clause.new.lexer begins c.in-Clause.clause c.in_ok-clause.field-0 (table_of c.obey.new.ops) c.push.new.self c.in-Clause.is c.in_ok-clause.ensures.found
           (λ later ext. ap (λ (w : Words). effect w (table_of c.clauses.ops) (tree_of c.in-Clause.clause.term)) (c.requires.words later (extends_trans c.args.names.now c.read_clause.new.names later (extends_trans c.args.names.now c.clauses.names c.read_clause.new.names c.clauses.invariant.kept c.in_ok-clause.ensures.kept) ext)) ∙ c.in_ok-obey-in-Clause.ensures ∙ ap (λ b. done_effect b (table_of c.obey.new.ops)) c.if-not-branch.false) c.in_ok-push-in-Clause.ensures.ok;
+      named = clause_named c.args.text.now c.args.names.now c.clauses.names c.clauses.lexer c.clauses.invariant.named c.in-Ok-Some.token is c.clauses.invariant.same c.next.new.self c.read_clause.new.lexer begins c.read_clause.new.names c.in_ok-clause.field-0 c.in_ok-clause.ensures.added c.in-Clause.clause c.in-Clause.is;
       same = c.in_ok-clause.ensures.same;
       within = c.in_ok-clause.ensures.on.1;
       names = omega (arith, c.clauses.invariant.names, progress, c.in_ok-clause.ensures.few);

@@ -6,12 +6,14 @@ use Rattle.prolog_reader.specs.Meanings.{table_of}
 use Rattle.prolog_reader.specs.Names.{Extends}
 use Rattle.prolog_reader.specs.Table.{standard}
 use Rattle.prolog_reader.proofs.AnswerLemmas.{Reading}
+use Rattle.prolog_reader.proofs.TextNames.{Named}
 use Rattle.prolog_reader.proofs.reading.read_clauses.Given as goal
 
 -- what is read from here stands behind the clauses so far; each name took a byte
 abbrev pub invariant-clauses : goal.invariant-clauses
 invariant-clauses l = record {
   reading : Reading l.text l.names standard l.lexer (table_of l.ops) l.clauses;
+  named : Named l.text l.fn.names l.names l.lexer;
   same : l.lexer.text ≡ l.text;
   within : l.lexer.at ≤ length l.text;
   names : length l.names ≤ length l.fn.names + l.lexer.at;

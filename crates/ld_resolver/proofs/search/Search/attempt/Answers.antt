@@ -6,7 +6,7 @@ use Rattle.ld_resolver.specs.Pending.{IsUnified}
 use Rattle.ld_resolver.specs.Choices.{kept}
 use Rattle.ld_resolver.specs.Searches.{IsTaken}
 use Rattle.ld_resolver.proofs.SearchLaws.{are_numbered}
-use Rattle.ld_resolver.proofs.AttemptLaws.{taken_choices, taken_fewer, taken_failed, fails_by_unifier, taken_met, taken_some, taken_rest, taken_free, taken_below}
+use Rattle.ld_resolver.proofs.AttemptLaws.{taken_choices, taken_fewer, taken_failed, fails_by_unifier, taken_met, taken_within, taken_depth, taken_rest, taken_free, taken_below}
 use Rattle.ld_resolver.proofs.search.Search.attempt.Goals as goal
 
 pub take_clause-requires-clause-numbered : goal.take_clause-requires-clause-numbered
@@ -36,7 +36,7 @@ returns-then-branch-clause-attempt c =
     record {
       met = taken_met p x.bindings now x.tails old new choice k c.requires.search t e h u;
       fewer = taken_fewer p x.bindings now x.tails old new choice k c.requires.search t e;
-      some = taken_some p x.bindings now x.tails old new choice k c.requires.search t e h u;
+      within = taken_depth p x.bindings now x.tails old new choice k c.requires.search t e;
       rest = taken_rest p x.bindings now x.tails old new choice k c.requires.search t e h u;
       free = taken_free p x.bindings now x.tails old new choice k c.requires.search t e h u c.in_ok-unify_head-in-Clause.ensures.free;
       below = taken_below p x.bindings now x.tails old new choice k c.requires.search t e h u;
@@ -66,3 +66,19 @@ returns-else-branch-clause-attempt c =
       taken_failed p x.bindings now x.tails old new choice k c.requires.search t e (fails_by_unifier p x.bindings now x.tails old new choice k c.requires.search t e h u),
       taken_fewer p x.bindings now x.tails old new choice k c.requires.search t e,
     )
+
+pub returns-then-branch-clause-depths : goal.returns-then-branch-clause-depths
+returns-then-branch-clause-depths c =
+    let x = c.args.self.now in
+    let old = reverse x.choices.items in
+    let new = reverse c.take_clause.new.choices.items in
+    let t = subst (λ (t : Taken). IsTaken x.program.now old t new) c.in-Clause.is c.in_ok-take_clause.ensures in
+    taken_within x.program.now x.bindings c.unify_head.new.bindings x.tails old new c.in-Clause.choice c.in-Clause.clause.now c.requires.search t c.in_ok-unify_head-in-Clause.ensures.extended
+
+pub returns-else-branch-clause-depths : goal.returns-else-branch-clause-depths
+returns-else-branch-clause-depths c =
+    let x = c.args.self.now in
+    let old = reverse x.choices.items in
+    let new = reverse c.take_clause.new.choices.items in
+    let t = subst (λ (t : Taken). IsTaken x.program.now old t new) c.in-Clause.is c.in_ok-take_clause.ensures in
+    taken_within x.program.now x.bindings c.unify_head.new.bindings x.tails old new c.in-Clause.choice c.in-Clause.clause.now c.requires.search t c.in_ok-unify_head-in-Clause.ensures.extended

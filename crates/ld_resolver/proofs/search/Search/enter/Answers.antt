@@ -5,7 +5,7 @@ use Rattle.ld_resolver.specs.declared.choices.Choice.{Choice}
 use Rattle.ld_resolver.specs.Store.{full}
 use Rattle.ld_resolver.specs.Tails.{tail_at}
 use Rattle.ld_resolver.specs.Choices.{left, AreChoices, IsStart}
-use Rattle.ld_resolver.specs.Searches.{choices_of}
+use Rattle.ld_resolver.specs.Searches.{AreWithin, choices_of}
 use Rattle.ld_resolver.proofs.SearchLaws.{choice_entered, left_entered, no_answer, choices_grown, left_stays, stay_grown}
 use Rattle.ld_resolver.proofs.search.Search.enter.Goals as goal
 
@@ -16,7 +16,7 @@ returns-in_ok-push-in-Some-clause-search c =
     let atoms = map (raised c.args.base) c.args.atoms.now in
     let rest = tail_at x.tails c.args.rest in
     let start = c.in-Some.start in
-    let new : Choice = record { atom = start.atom; base = start.base; rest = start.rest; fresh = c.args.fresh; next = c.first.result; mark = c.len.result } in
+    let new : Choice = record { atom = start.atom; base = start.base; rest = start.rest; fresh = c.args.fresh; next = c.first.result; mark = c.len.result; depth = c.args.depth } in
     let st = subst (IsStart (atoms ++ rest) now) c.in-Some.is c.in_ok-start.ensures.start in
     let items = ap reverse c.in_ok-push-in-Some.ensures.items ∙ reverse-append x.choices.items (new ∷ []) in
     subst (AreChoices x.program.now x.bindings now) (sym items)
@@ -29,7 +29,7 @@ returns-in_ok-push-in-Some-clause-entered c =
     let atoms = map (raised c.args.base) c.args.atoms.now in
     let rest = tail_at x.tails c.args.rest in
     let start = c.in-Some.start in
-    let new : Choice = record { atom = start.atom; base = start.base; rest = start.rest; fresh = c.args.fresh; next = c.first.result; mark = c.len.result } in
+    let new : Choice = record { atom = start.atom; base = start.base; rest = start.rest; fresh = c.args.fresh; next = c.first.result; mark = c.len.result; depth = c.args.depth } in
     let st = subst (IsStart (atoms ++ rest) now) c.in-Some.is c.in_ok-start.ensures.start in
     let items = ap reverse c.in_ok-push-in-Some.ensures.items ∙ reverse-append x.choices.items (new ∷ []) in (
       no_answer x.program.now x.bindings x.tails now (choices_of x) c.requires.search c.in_ok-start.ensures.grown new atoms rest st.0 st.1 (c.first.ensures x.program.now c.requires.chain) c.len.ensures.count c.requires.free c.requires.below,
@@ -51,3 +51,11 @@ returns-in-None-clause-entered c =
       ap (map (over (full x.bindings))) st,
       λ q n. sym (left_stays x.program.now q n x.bindings x.bindings x.tails now (choices_of x) (stay_grown x.program.now x.bindings x.tails now (choices_of x) c.in_ok-start.ensures.grown c.requires.search)),
     )
+
+pub returns-in_ok-push-in-Some-clause-depths : goal.returns-in_ok-push-in-Some-clause-depths
+returns-in_ok-push-in-Some-clause-depths c = λ d old here.
+    let x = c.args.self.now in
+    let start = c.in-Some.start in
+    let new : Choice = record { atom = start.atom; base = start.base; rest = start.rest; fresh = c.args.fresh; next = c.first.result; mark = c.len.result; depth = c.args.depth } in
+    let items = ap reverse c.in_ok-push-in-Some.ensures.items ∙ reverse-append x.choices.items (new ∷ []) in
+    subst (AreWithin d) (sym items) (here, old)

@@ -1,12 +1,22 @@
-use Rattle.std.proofs.Common.{◌≡◌, ◌+◌, ◌++◌, ◌∷◌, [], ℕ, List, length, map, take, sym, ap, ◌∙◌, arith, subst, take_all, Bor}
+use Rattle.std.proofs.Common.{◌≡◌, ◌+◌, ◌++◌, ◌∷◌, [], ℕ, List, length, map, take, refl, sym, ap, ◌∙◌, arith, subst, take_all, Bor}
 use Rattle.std.proofs.lemmas.List.{take_more, map-append}
 use Rattle.cti_terms.specs.Numbers.{number_of}
 use Rattle.prolog_reader.specs.Names.{Extends}
 use Rattle.prolog_reader.specs.Meanings.{table_of}
 use Rattle.prolog_reader.specs.Table.{Table, with_operator, with_texts}
-use Rattle.prolog_reader.proofs.NameLemmas.{number_kept, extends_with_text, extends_trans, length-with_text}
+use Rattle.prolog_reader.proofs.NameLemmas.{number_kept, extends_self, extends_with_text, extends_trans, length-with_text}
+use Rattle.prolog_reader.specs.Naming.{with_names}
+use Rattle.prolog_reader.proofs.NamingLemmas.{names_none, names_one, names_then}
 use Rattle.prolog_reader.proofs.TableLemmas.{with_texts_push}
 use Rattle.prolog_reader.proofs.operators.Ops.put_texts.Goals as goal
+
+pub texts-init : goal.texts-init
+texts-init c = record {
+  set = λ later ext. refl;
+  added = sym (names_none c.args.names.now);
+  kept = extends_self c.args.names.now;
+  few = omega arith;
+}
 
 pub texts-preserved : goal.texts-preserved
 texts-preserved c =
@@ -27,6 +37,9 @@ texts-preserved c =
           ∙ ap (λ n. with_operator (with_texts later (table_of c.args.self.now) c.args.priority c.args.kind (map {A = Bor (List ℕ)} {B = List ℕ} (λ t. t.now) (take c.texts.text-index c.args.texts.now))) c.args.priority c.args.kind n) (sym number)
           ∙ sym (with_texts_push later (table_of c.args.self.now) c.args.priority c.args.kind (map {A = Bor (List ℕ)} {B = List ℕ} (λ t. t.now) (take c.texts.text-index c.args.texts.now)) text)
           ∙ ap (with_texts later (table_of c.args.self.now) c.args.priority c.args.kind) (sym one);
+      added =
+          names_then c.args.names.now c.texts.names c.intern.new.self (map {A = Bor (List ℕ)} {B = List ℕ} (λ t. t.now) (take c.texts.text-index c.args.texts.now)) (text ∷ []) c.texts.invariant.added
+          (added ∙ sym (names_one c.texts.names text)) ∙ ap (with_names c.args.names.now) (sym one);
       kept = extends_trans c.args.names.now c.texts.names c.intern.new.self c.texts.invariant.kept grown;
       few = omega (arith, c.texts.invariant.few, ap (λ (ns : List (List ℕ)). length ns) added, length-with_text c.texts.names text);
     }
@@ -35,3 +48,8 @@ pub returns-clause-ok : goal.returns-clause-ok
 returns-clause-ok c = λ later ext.
     let whole : take c.texts.text-index c.args.texts.now ≡ c.args.texts.now = take_all c.texts.text-index c.args.texts.now (omega arith) in
     c.texts.invariant.set later ext ∙ ap (λ ts. with_texts later (table_of c.args.self.now) c.args.priority c.args.kind (map (λ (t : Bor (List ℕ)). t.now) ts)) whole
+
+pub returns-clause-added : goal.returns-clause-added
+returns-clause-added c =
+    let whole : take c.texts.text-index c.args.texts.now ≡ c.args.texts.now = take_all c.texts.text-index c.args.texts.now (omega arith) in
+    c.texts.invariant.added ∙ ap (λ ts. with_names c.args.names.now (map (λ (t : Bor (List ℕ)). t.now) ts)) whole

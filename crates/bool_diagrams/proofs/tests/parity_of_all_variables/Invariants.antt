@@ -1,9 +1,0 @@
-use Rattle.bool_diagrams.specs.Rows.{IsDiagram}
-use Rattle.bool_diagrams.proofs.tests.parity_of_all_variables.Given as goal
-
-abbrev pub invariant-loop-variable : goal.invariant-loop-variable
-invariant-loop-variable g l = record {
-  all_known : IsDiagram l.table l.all;
-  even_known : IsDiagram l.table l.even;
-  odd_known : IsDiagram l.table l.odd;
-}

@@ -1,6 +1,0 @@
-use Rattle.termination_model.specs.Sizes.{rows_of}
-use Rattle.cert_checker.specs.Systems.{IsSystemUpTo}
-use Rattle.cert_checker.proofs.clause_systems.extend.Given as goal
-
-abbrev pub invariant-loop-i : goal.invariant-loop-i
-invariant-loop-i g l = IsSystemUpTo (g.N.Norm.expression l.norm) (rows_of l.sizes) l.clause l.i l.system

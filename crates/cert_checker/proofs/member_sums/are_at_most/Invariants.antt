@@ -1,6 +1,0 @@
-use Rattle.std.proofs.Common.{◌<◌, ◌≤ℤ◌, ℕ}
-use Rattle.exact128.specs.Sums.{entry}
-use Rattle.cert_checker.proofs.member_sums.are_at_most.Given as goal
-
-abbrev pub invariant-loop-i : goal.invariant-loop-i
-invariant-loop-i l = (k : ℕ) → k < l.i → entry l.xs k ≤ℤ entry l.ys k

@@ -1,8 +1,0 @@
-use Rattle.std.proofs.Common.{◌+◌}
-use Rattle.linear_rows.specs.Plain.{plain_row}
-use Rattle.linear_rows.proofs.ColumnSums.{IsSumTo}
-use Rattle.cert_checker.specs.Refuting.{numbers_of}
-use Rattle.cert_checker.proofs.point_values.value_at.Given as goal
-
-abbrev pub invariant-loop-x : goal.invariant-loop-x
-invariant-loop-x l = IsSumTo (l.x + 1) (plain_row l.row) (numbers_of l.point) l.sum

@@ -1,0 +1,45 @@
+use Rattle.std.proofs.Common.{◌↔◌, ◌∙◌, ◌<◌, ℕ, IsTrue, List, length, sym, subst, arith}
+use Rattle.truth_rows.proofs.ListLaws.{at_place}
+use Rattle.bool_diagrams.proofs.CallerLemmas.{keeps_twice}
+use Rattle.bool_diagrams.specs.declared.diagram.Diagram.{Diagram}
+use Rattle.cert_structure.specs.Shape.{arity_of, items_of}
+use Rattle.number_tests.specs.declared.level_part.LevelPart.{LevelPart}
+use Rattle.cert_modes.specs.Marks.{is_clear}
+use Rattle.cert_modes.specs.Sets.{AreCovered, HaveLevels}
+use Rattle.cert_modes.proofs.CoverLaws.{covered_later, levels_later}
+use Rattle.cert_modes.proofs.MarkLaws.{clear_more}
+use Rattle.cert_modes.proofs.PlaceLaws.{items_at}
+use Rattle.cert_modes.proofs.covering.mark_uncovered.Goals as goal
+
+pub are_covered-requires : goal.are_covered-requires
+are_covered-requires c =
+    let q = c.loop-q.q in
+    let lt : q < length c.args.p.now.preds = omega (arith, c.loop-q-test.true, c.preds-q-end.ensures.count, c.loop-q.auto.q-end) in
+    let levels = c.args.levels.now in
+    let sets = c.args.sets.now in
+    let own = c.as_slice-own.ensures ∙ sym (items_at levels q c.index-levels-q.result (at_place levels q c.index-levels-q.result (omega (arith, c.requires.levels, lt)) c.index-levels-q.is)) in
+    let set = c.as_slice.ensures ∙ sym (items_at sets q c.index-sets-q.result (at_place sets q c.index-sets-q.result (omega (arith, c.requires.sets, lt)) c.index-sets-q.is)) in
+    let have = levels_later c.args.table.now c.loop-q.table c.loop-q.invariant.keeps (arity_of c.args.p.now q) (items_of levels q) (items_of sets q) (c.requires.each q lt) in (
+      arity_of c.args.p.now q,
+      subst (λ (ls : List LevelPart). HaveLevels c.loop-q.table (arity_of c.args.p.now q) ls c.as_slice.result.now) (sym own)
+          (subst (λ (ds : List Diagram). HaveLevels c.loop-q.table (arity_of c.args.p.now q) (items_of levels q) ds) (sym set) have),
+    )
+
+pub loop-q-preserved : goal.loop-q-preserved
+loop-q-preserved c =
+    let i = c.loop-q.invariant in
+    let q = c.loop-q.q in
+    let lt : q < length c.args.p.now.preds = omega (arith, c.loop-q-test.true, c.preds-q-end.ensures.count, c.loop-q.auto.q-end) in
+    let levels = c.args.levels.now in
+    let sets = c.args.sets.now in
+    let own = c.as_slice-own.ensures ∙ sym (items_at levels q c.index-levels-q.result (at_place levels q c.index-levels-q.result (omega (arith, c.requires.levels, lt)) c.index-levels-q.is)) in
+    let set = c.as_slice.ensures ∙ sym (items_at sets q c.index-sets-q.result (at_place sets q c.index-sets-q.result (omega (arith, c.requires.sets, lt)) c.index-sets-q.is)) in
+    let now = subst (λ (ls : List LevelPart). IsTrue c.in_ok-covered.covered ↔ AreCovered c.loop-q.table ls (items_of sets q)) own
+    (subst (λ (ds : List Diagram). IsTrue c.in_ok-covered.covered ↔ AreCovered c.loop-q.table c.as_slice-own.result.now ds) set c.in_ok-covered.ensures.covered) in
+    let later = covered_later c.args.table.now c.loop-q.table i.keeps (items_of levels q) (items_of sets q) (c.requires.each q lt).known in
+    record {
+      keeps = keeps_twice _ _ _ i.keeps c.are_covered.ensures.keeps;
+      each = c.note.ensures.each ∙ i.each;
+      covered = clear_more (λ (j : ℕ). AreCovered c.args.table.now (items_of levels j) (items_of sets j)) q (IsTrue (is_clear c.args.marks.now))
+          (is_clear c.loop-q.marks) (is_clear c.note.new.self) c.in_ok-covered.covered i.covered (λ t. later.0 (now.0 t), λ s. now.1 (later.1 s)) c.note.ensures.clear;
+    }

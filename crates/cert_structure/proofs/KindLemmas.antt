@@ -1,0 +1,260 @@
+-- For each kind of reader: a fact is of its kind, or it takes nothing.
+use Rattle.std.proofs.Common.{◌≡◌, ℕ, ◌⊎◌, inl, inr, List, Some, None, refl}
+use Rattle.std.specs.Prelude.{ℤ}
+use Rattle.call_components.specs.Partition.{Partition}
+use Rattle.certificate.specs.declared.cell.CertCell.{CertCell}
+use Rattle.certificate.specs.declared.pred_text.PredText.{PredText}
+use Rattle.certificate.specs.declared.fact.Fact.{Fact}
+use Rattle.certificate.specs.declared.fact.Fact.TheVariants as fact
+use Rattle.cti_terms.specs.Listing.{Listing}
+use Rattle.cert_structure.specs.Walk.{take_modes, take_row, take_proof, take_ground, take_level, take_fall, take_pre, take_refuted, take_point, take_second}
+
+-- the place of a fact's kind in the order of the format
+abbrev pub kind : Fact → ℕ
+kind (fact.Cti version) = 0
+kind (fact.Terminates q modes) = 1
+kind (fact.Size q index row) = 2
+kind (fact.By clause index scale list) = 3
+kind (fact.Grounds q index cells) = 4
+kind (fact.Measure q mapping coeffs offset) = 5
+kind (fact.Falls clause call mapping scale list) = 6
+kind (fact.Pre q mapping index cells) = 7
+kind (fact.Refuted q points) = 8
+kind (fact.Point clause call t w) = 8
+kind (fact.At clause call t w) = 8
+kind (fact.Image step clause q rows) = 9
+kind (fact.Step step q how rows) = 9
+kind (fact.WeakImage step) = 9
+kind (fact.WeakStep step) = 9
+kind (fact.Blown q support) = 9
+kind (fact.Large q positions) = 9
+
+abbrev pub IsTerminates : Fact → Type 0
+IsTerminates f = (q : PredText) × (modes : List (List ℕ)) × (f ≡ fact.Terminates q modes)
+
+pub split_modes : (f : Fact) → ((pred : PredText) (i : ℕ) → take_modes pred i f ≡ Some None) ⊎ IsTerminates f
+unfolding take_modes
+split_modes (fact.Cti version) = inl (λ pred i. refl)
+split_modes (fact.Terminates q modes) = inr (q, modes, refl)
+split_modes (fact.Size q index row) = inl (λ pred i. refl)
+split_modes (fact.By clause index scale list) = inl (λ pred i. refl)
+split_modes (fact.Grounds q index cells) = inl (λ pred i. refl)
+split_modes (fact.Measure q mapping coeffs offset) = inl (λ pred i. refl)
+split_modes (fact.Falls clause call mapping scale list) = inl (λ pred i. refl)
+split_modes (fact.Pre q mapping index cells) = inl (λ pred i. refl)
+split_modes (fact.Refuted q points) = inl (λ pred i. refl)
+split_modes (fact.Point clause call t w) = inl (λ pred i. refl)
+split_modes (fact.At clause call t w) = inl (λ pred i. refl)
+split_modes (fact.Image step clause q rows) = inl (λ pred i. refl)
+split_modes (fact.Step step q how rows) = inl (λ pred i. refl)
+split_modes (fact.WeakImage step) = inl (λ pred i. refl)
+split_modes (fact.WeakStep step) = inl (λ pred i. refl)
+split_modes (fact.Blown q support) = inl (λ pred i. refl)
+split_modes (fact.Large q positions) = inl (λ pred i. refl)
+
+abbrev pub IsSize : Fact → Type 0
+IsSize f = (q : PredText) × (index : ℕ) × (row : List ℤ) × (f ≡ fact.Size q index row)
+
+pub split_row : (f : Fact) → ((pred : PredText) (i : ℕ) → take_row pred i f ≡ Some None) ⊎ IsSize f
+unfolding take_row
+split_row (fact.Cti version) = inl (λ pred i. refl)
+split_row (fact.Terminates q modes) = inl (λ pred i. refl)
+split_row (fact.Size q index row) = inr (q, index, row, refl)
+split_row (fact.By clause index scale list) = inl (λ pred i. refl)
+split_row (fact.Grounds q index cells) = inl (λ pred i. refl)
+split_row (fact.Measure q mapping coeffs offset) = inl (λ pred i. refl)
+split_row (fact.Falls clause call mapping scale list) = inl (λ pred i. refl)
+split_row (fact.Pre q mapping index cells) = inl (λ pred i. refl)
+split_row (fact.Refuted q points) = inl (λ pred i. refl)
+split_row (fact.Point clause call t w) = inl (λ pred i. refl)
+split_row (fact.At clause call t w) = inl (λ pred i. refl)
+split_row (fact.Image step clause q rows) = inl (λ pred i. refl)
+split_row (fact.Step step q how rows) = inl (λ pred i. refl)
+split_row (fact.WeakImage step) = inl (λ pred i. refl)
+split_row (fact.WeakStep step) = inl (λ pred i. refl)
+split_row (fact.Blown q support) = inl (λ pred i. refl)
+split_row (fact.Large q positions) = inl (λ pred i. refl)
+
+abbrev pub IsBy : Fact → Type 0
+IsBy f = (clause : ℕ) × (index : ℕ) × (scale : ℤ) × (list : List ℤ) × (f ≡ fact.By clause index scale list)
+
+pub split_proof : (f : Fact) → ((k rows i : ℕ) → take_proof k rows i f ≡ Some None) ⊎ IsBy f
+unfolding take_proof
+split_proof (fact.Cti version) = inl (λ k rows i. refl)
+split_proof (fact.Terminates q modes) = inl (λ k rows i. refl)
+split_proof (fact.Size q index row) = inl (λ k rows i. refl)
+split_proof (fact.By clause index scale list) = inr (clause, index, scale, list, refl)
+split_proof (fact.Grounds q index cells) = inl (λ k rows i. refl)
+split_proof (fact.Measure q mapping coeffs offset) = inl (λ k rows i. refl)
+split_proof (fact.Falls clause call mapping scale list) = inl (λ k rows i. refl)
+split_proof (fact.Pre q mapping index cells) = inl (λ k rows i. refl)
+split_proof (fact.Refuted q points) = inl (λ k rows i. refl)
+split_proof (fact.Point clause call t w) = inl (λ k rows i. refl)
+split_proof (fact.At clause call t w) = inl (λ k rows i. refl)
+split_proof (fact.Image step clause q rows) = inl (λ k rows i. refl)
+split_proof (fact.Step step q how rows) = inl (λ k rows i. refl)
+split_proof (fact.WeakImage step) = inl (λ k rows i. refl)
+split_proof (fact.WeakStep step) = inl (λ k rows i. refl)
+split_proof (fact.Blown q support) = inl (λ k rows i. refl)
+split_proof (fact.Large q positions) = inl (λ k rows i. refl)
+
+abbrev pub IsGrounds : Fact → Type 0
+IsGrounds f = (q : PredText) × (index : ℕ) × (cells : List CertCell) × (f ≡ fact.Grounds q index cells)
+
+pub split_ground : (f : Fact) → ((pred : PredText) (i : ℕ) → take_ground pred i f ≡ Some None) ⊎ IsGrounds f
+unfolding take_ground
+split_ground (fact.Cti version) = inl (λ pred i. refl)
+split_ground (fact.Terminates q modes) = inl (λ pred i. refl)
+split_ground (fact.Size q index row) = inl (λ pred i. refl)
+split_ground (fact.By clause index scale list) = inl (λ pred i. refl)
+split_ground (fact.Grounds q index cells) = inr (q, index, cells, refl)
+split_ground (fact.Measure q mapping coeffs offset) = inl (λ pred i. refl)
+split_ground (fact.Falls clause call mapping scale list) = inl (λ pred i. refl)
+split_ground (fact.Pre q mapping index cells) = inl (λ pred i. refl)
+split_ground (fact.Refuted q points) = inl (λ pred i. refl)
+split_ground (fact.Point clause call t w) = inl (λ pred i. refl)
+split_ground (fact.At clause call t w) = inl (λ pred i. refl)
+split_ground (fact.Image step clause q rows) = inl (λ pred i. refl)
+split_ground (fact.Step step q how rows) = inl (λ pred i. refl)
+split_ground (fact.WeakImage step) = inl (λ pred i. refl)
+split_ground (fact.WeakStep step) = inl (λ pred i. refl)
+split_ground (fact.Blown q support) = inl (λ pred i. refl)
+split_ground (fact.Large q positions) = inl (λ pred i. refl)
+
+abbrev pub IsMeasure : Fact → Type 0
+IsMeasure f = (q : PredText) × (mapping : ℕ) × (coeffs : List ℤ) × (offset : ℤ) × (f ≡ fact.Measure q mapping coeffs offset)
+
+pub split_level : (f : Fact) → ((pred : PredText) (i : ℕ) → take_level pred i f ≡ Some None) ⊎ IsMeasure f
+unfolding take_level
+split_level (fact.Cti version) = inl (λ pred i. refl)
+split_level (fact.Terminates q modes) = inl (λ pred i. refl)
+split_level (fact.Size q index row) = inl (λ pred i. refl)
+split_level (fact.By clause index scale list) = inl (λ pred i. refl)
+split_level (fact.Grounds q index cells) = inl (λ pred i. refl)
+split_level (fact.Measure q mapping coeffs offset) = inr (q, mapping, coeffs, offset, refl)
+split_level (fact.Falls clause call mapping scale list) = inl (λ pred i. refl)
+split_level (fact.Pre q mapping index cells) = inl (λ pred i. refl)
+split_level (fact.Refuted q points) = inl (λ pred i. refl)
+split_level (fact.Point clause call t w) = inl (λ pred i. refl)
+split_level (fact.At clause call t w) = inl (λ pred i. refl)
+split_level (fact.Image step clause q rows) = inl (λ pred i. refl)
+split_level (fact.Step step q how rows) = inl (λ pred i. refl)
+split_level (fact.WeakImage step) = inl (λ pred i. refl)
+split_level (fact.WeakStep step) = inl (λ pred i. refl)
+split_level (fact.Blown q support) = inl (λ pred i. refl)
+split_level (fact.Large q positions) = inl (λ pred i. refl)
+
+abbrev pub IsFalls : Fact → Type 0
+IsFalls f = (clause : ℕ) × (call : ℕ) × (mapping : ℕ) × (scale : ℤ) × (list : List ℤ) × (f ≡ fact.Falls clause call mapping scale list)
+
+pub split_fall : (f : Fact) → ((k j rows m : ℕ) → take_fall k j rows m f ≡ Some None) ⊎ IsFalls f
+unfolding take_fall
+split_fall (fact.Cti version) = inl (λ k j rows m. refl)
+split_fall (fact.Terminates q modes) = inl (λ k j rows m. refl)
+split_fall (fact.Size q index row) = inl (λ k j rows m. refl)
+split_fall (fact.By clause index scale list) = inl (λ k j rows m. refl)
+split_fall (fact.Grounds q index cells) = inl (λ k j rows m. refl)
+split_fall (fact.Measure q mapping coeffs offset) = inl (λ k j rows m. refl)
+split_fall (fact.Falls clause call mapping scale list) = inr (clause, call, mapping, scale, list, refl)
+split_fall (fact.Pre q mapping index cells) = inl (λ k j rows m. refl)
+split_fall (fact.Refuted q points) = inl (λ k j rows m. refl)
+split_fall (fact.Point clause call t w) = inl (λ k j rows m. refl)
+split_fall (fact.At clause call t w) = inl (λ k j rows m. refl)
+split_fall (fact.Image step clause q rows) = inl (λ k j rows m. refl)
+split_fall (fact.Step step q how rows) = inl (λ k j rows m. refl)
+split_fall (fact.WeakImage step) = inl (λ k j rows m. refl)
+split_fall (fact.WeakStep step) = inl (λ k j rows m. refl)
+split_fall (fact.Blown q support) = inl (λ k j rows m. refl)
+split_fall (fact.Large q positions) = inl (λ k j rows m. refl)
+
+abbrev pub IsPre : Fact → Type 0
+IsPre f = (q : PredText) × (mapping : ℕ) × (index : ℕ) × (cells : List CertCell) × (f ≡ fact.Pre q mapping index cells)
+
+pub split_pre : (f : Fact) → ((pred : PredText) (m i : ℕ) → take_pre pred m i f ≡ Some None) ⊎ IsPre f
+unfolding take_pre
+split_pre (fact.Cti version) = inl (λ pred m i. refl)
+split_pre (fact.Terminates q modes) = inl (λ pred m i. refl)
+split_pre (fact.Size q index row) = inl (λ pred m i. refl)
+split_pre (fact.By clause index scale list) = inl (λ pred m i. refl)
+split_pre (fact.Grounds q index cells) = inl (λ pred m i. refl)
+split_pre (fact.Measure q mapping coeffs offset) = inl (λ pred m i. refl)
+split_pre (fact.Falls clause call mapping scale list) = inl (λ pred m i. refl)
+split_pre (fact.Pre q mapping index cells) = inr (q, mapping, index, cells, refl)
+split_pre (fact.Refuted q points) = inl (λ pred m i. refl)
+split_pre (fact.Point clause call t w) = inl (λ pred m i. refl)
+split_pre (fact.At clause call t w) = inl (λ pred m i. refl)
+split_pre (fact.Image step clause q rows) = inl (λ pred m i. refl)
+split_pre (fact.Step step q how rows) = inl (λ pred m i. refl)
+split_pre (fact.WeakImage step) = inl (λ pred m i. refl)
+split_pre (fact.WeakStep step) = inl (λ pred m i. refl)
+split_pre (fact.Blown q support) = inl (λ pred m i. refl)
+split_pre (fact.Large q positions) = inl (λ pred m i. refl)
+
+abbrev pub IsRefuted : Fact → Type 0
+IsRefuted f = (q : PredText) × (points : ℕ) × (f ≡ fact.Refuted q points)
+
+pub split_refuted : (f : Fact) → ((pred : PredText) (i : ℕ) → take_refuted pred i f ≡ Some None) ⊎ IsRefuted f
+unfolding take_refuted
+split_refuted (fact.Cti version) = inl (λ pred i. refl)
+split_refuted (fact.Terminates q modes) = inl (λ pred i. refl)
+split_refuted (fact.Size q index row) = inl (λ pred i. refl)
+split_refuted (fact.By clause index scale list) = inl (λ pred i. refl)
+split_refuted (fact.Grounds q index cells) = inl (λ pred i. refl)
+split_refuted (fact.Measure q mapping coeffs offset) = inl (λ pred i. refl)
+split_refuted (fact.Falls clause call mapping scale list) = inl (λ pred i. refl)
+split_refuted (fact.Pre q mapping index cells) = inl (λ pred i. refl)
+split_refuted (fact.Refuted q points) = inr (q, points, refl)
+split_refuted (fact.Point clause call t w) = inl (λ pred i. refl)
+split_refuted (fact.At clause call t w) = inl (λ pred i. refl)
+split_refuted (fact.Image step clause q rows) = inl (λ pred i. refl)
+split_refuted (fact.Step step q how rows) = inl (λ pred i. refl)
+split_refuted (fact.WeakImage step) = inl (λ pred i. refl)
+split_refuted (fact.WeakStep step) = inl (λ pred i. refl)
+split_refuted (fact.Blown q support) = inl (λ pred i. refl)
+split_refuted (fact.Large q positions) = inl (λ pred i. refl)
+
+abbrev pub IsPoint : Fact → Type 0
+IsPoint f = (clause : ℕ) × (call : ℕ) × (t : ℤ) × (w : List ℤ) × (f ≡ fact.Point clause call t w)
+
+pub split_point : (f : Fact) → ((p : Listing) (comps : Partition) (a : ℕ) (last : ℕ × ℕ) (i : ℕ) → take_point p comps a last i f ≡ Some None) ⊎ IsPoint f
+unfolding take_point
+split_point (fact.Cti version) = inl (λ p comps a last i. refl)
+split_point (fact.Terminates q modes) = inl (λ p comps a last i. refl)
+split_point (fact.Size q index row) = inl (λ p comps a last i. refl)
+split_point (fact.By clause index scale list) = inl (λ p comps a last i. refl)
+split_point (fact.Grounds q index cells) = inl (λ p comps a last i. refl)
+split_point (fact.Measure q mapping coeffs offset) = inl (λ p comps a last i. refl)
+split_point (fact.Falls clause call mapping scale list) = inl (λ p comps a last i. refl)
+split_point (fact.Pre q mapping index cells) = inl (λ p comps a last i. refl)
+split_point (fact.Refuted q points) = inl (λ p comps a last i. refl)
+split_point (fact.Point clause call t w) = inr (clause, call, t, w, refl)
+split_point (fact.At clause call t w) = inl (λ p comps a last i. refl)
+split_point (fact.Image step clause q rows) = inl (λ p comps a last i. refl)
+split_point (fact.Step step q how rows) = inl (λ p comps a last i. refl)
+split_point (fact.WeakImage step) = inl (λ p comps a last i. refl)
+split_point (fact.WeakStep step) = inl (λ p comps a last i. refl)
+split_point (fact.Blown q support) = inl (λ p comps a last i. refl)
+split_point (fact.Large q positions) = inl (λ p comps a last i. refl)
+
+abbrev pub IsAt : Fact → Type 0
+IsAt f = (clause : ℕ) × (call : ℕ) × (t : ℤ) × (w : List ℤ) × (f ≡ fact.At clause call t w)
+
+pub split_second : (f : Fact) → ((pair : ℕ × ℕ) (vars i : ℕ) → take_second pair vars i f ≡ Some None) ⊎ IsAt f
+unfolding take_second
+split_second (fact.Cti version) = inl (λ pair vars i. refl)
+split_second (fact.Terminates q modes) = inl (λ pair vars i. refl)
+split_second (fact.Size q index row) = inl (λ pair vars i. refl)
+split_second (fact.By clause index scale list) = inl (λ pair vars i. refl)
+split_second (fact.Grounds q index cells) = inl (λ pair vars i. refl)
+split_second (fact.Measure q mapping coeffs offset) = inl (λ pair vars i. refl)
+split_second (fact.Falls clause call mapping scale list) = inl (λ pair vars i. refl)
+split_second (fact.Pre q mapping index cells) = inl (λ pair vars i. refl)
+split_second (fact.Refuted q points) = inl (λ pair vars i. refl)
+split_second (fact.Point clause call t w) = inl (λ pair vars i. refl)
+split_second (fact.At clause call t w) = inr (clause, call, t, w, refl)
+split_second (fact.Image step clause q rows) = inl (λ pair vars i. refl)
+split_second (fact.Step step q how rows) = inl (λ pair vars i. refl)
+split_second (fact.WeakImage step) = inl (λ pair vars i. refl)
+split_second (fact.WeakStep step) = inl (λ pair vars i. refl)
+split_second (fact.Blown q support) = inl (λ pair vars i. refl)
+split_second (fact.Large q positions) = inl (λ pair vars i. refl)

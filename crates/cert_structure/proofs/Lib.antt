@@ -1,0 +1,12 @@
+pub mod LoopLemmas
+pub mod PartsLemmas
+pub mod KindLemmas
+pub mod SectionLemmas
+pub mod TakeLemmas
+pub mod PointLemmas
+pub mod LevelLemmas
+pub mod StructureLemmas
+pub mod ComponentLemmas
+pub mod WholeLemmas
+pub mod Examples
+pub mod WritingLemmas

@@ -1,0 +1,292 @@
+-- Reading a refutation: what is read is listed so, and what is listed so is read.
+use Rattle.std.proofs.Common.{◌≡◌, ◌≢◌, ℕ, zero, suc, ◌≤◌, ◌⊎◌, inl, inr, Bool, true, false, ◌&&◌, ◌||◌, ◌==◌, if◌then◌else◌, nat_lt, List, [], ◌∷◌, ◌++◌, length, Option, Some, None, option_map, refl, ap, sym, ◌∙◌, subst, arith, eqb-true, eq-eqb, lt-ltb, ltb-true, append_assoc}
+use Rattle.std.proofs.lemmas.Bool.{false≢true, and_parts}
+use Rattle.std.proofs.lemmas.Bool.Decides.{Decides-int_eq}
+use Rattle.std.proofs.lemmas.Option.{none-some}
+use Rattle.std.specs.Prelude.{ℤ, pos, IsTrue}
+use Rattle.std.specs.Ordering.{int_eq}
+use Rattle.std.specs.List.{AllByRecursion}
+use Rattle.call_components.specs.Partition.{Partition}
+use Rattle.certificate.specs.declared.fact.Fact.{Fact}
+use Rattle.certificate.specs.declared.fact.Fact.TheVariants as fact
+use Rattle.cti_terms.specs.Listing.{Listing, numbered}
+use Rattle.number_tests.specs.declared.level_part.LevelPart.{LevelPart}
+use Rattle.linear_rows.specs.declared.point.Point.{Point}
+use Rattle.number_tests.specs.declared.pair_point.PairPoint.{PairPoint}
+use Rattle.number_tests.specs.declared.refutation.Refutation.{Refutation}
+use Rattle.cert_structure.specs.declared.refutations.FirstPoint.{FirstPoint}
+use Rattle.cert_structure.specs.Numbered.{facts_from}
+use Rattle.cert_structure.specs.Order.{pred_text, at_facts, point_facts, refutation_facts}
+use Rattle.cert_structure.specs.Shape.{vars_of, items_of, first_of, is_recursive, is_pair, IsBefore, pair_of, PairsAscend, IsPoint, HasSecond, IsPairPoint, IsOpen, IsRefutation}
+use Rattle.cert_structure.specs.Walk.{Taken, is_amount, are_amounts, is_before, pair_end, paired, point_read, pair_point, with_first, read_next, take_point, take_second, take_refuted, read_second, read_point, read_points, read_group, refutation_read, is_open, read_refutation}
+use Rattle.cert_structure.proofs.KindLemmas.{split_point, split_second, IsPoint as IsPointFact, IsAt}
+use Rattle.cert_structure.proofs.SectionLemmas.{same_some, bound, mapped, IsTaken, IsBack, next_sound, next_back}
+use Rattle.cert_structure.proofs.TakeLemmas.{other_taken, placed, kept_is, amount_is, amount_back, amounts_are, amounts_back, refuted_taken, refuted_given}
+
+-- pairs in order
+before_is : (q r : ℕ × ℕ) → is_before q r ≡ true → IsBefore q r
+before_is q r e = go (nat_lt q.0 r.0) refl e
+  where
+    go : (b : Bool) → nat_lt q.0 r.0 ≡ b → (b || ((q.0 == r.0) && nat_lt q.1 r.1)) ≡ true → IsBefore q r
+    go true less h = inl (ltb-true q.0 r.0 less)
+    go false less h = let (same, call) = and_parts (q.0 == r.0) (nat_lt q.1 r.1) h in inr (eqb-true q.0 r.0 same, ltb-true q.1 r.1 call)
+
+before_back : (q r : ℕ × ℕ) → IsBefore q r → is_before q r ≡ true
+before_back q r (inl h) = rw (lt-ltb q.0 r.0 h) refl
+before_back q r (inr h) = go (nat_lt q.0 r.0)
+  where
+    go : (b : Bool) → (b || ((q.0 == r.0) && nat_lt q.1 r.1)) ≡ true
+    go true = refl
+    go false = rw (eq-eqb q.0 r.0 h.0, lt-ltb q.1 r.1 h.1) refl
+
+-- points
+point_is : (vars : ℕ) (t : ℤ) (w : List ℤ) (x : Point) → point_read vars t w ≡ Some (Some x) → (record { t = t; w = w } ≡ x) × IsPoint vars x
+point_is vars t w x e =
+    let (right, same) = kept_is ((length w == vars) && (is_amount t && are_amounts w)) (record { t = t; w = w }) x e in
+    let (wide, more) = and_parts (length w == vars) (is_amount t && are_amounts w) right in
+    let (one, others) = and_parts (is_amount t) (are_amounts w) more in
+    rw (← same) (refl, (eqb-true (length w) vars wide, amount_is t one, amounts_are w others))
+
+point_back : (vars : ℕ) (x : Point) → IsPoint vars x → point_read vars x.t x.w ≡ Some (Some x)
+point_back vars x h = rw (eq-eqb (length x.w) vars h.0, amount_back x.t h.1, amounts_back x.w h.2) refl
+
+abbrev first_point : ℕ → ℕ → Point → FirstPoint
+first_point clause call x = record { pair = record { clause = clause; call = call }; point = x }
+
+paired_is : (clause call : ℕ) (o : Taken Point) (y : FirstPoint) → paired clause call o ≡ Some (Some y) → (x : Point) × (o ≡ Some (Some x)) × (first_point clause call x ≡ y)
+paired_is clause call None y e = absurd (none-some _ e)
+paired_is clause call (Some None) y e = other_taken (Some None) y refl e
+paired_is clause call (Some (Some x)) y e = (x, refl, same_some _ _ (same_some _ _ e))
+
+module _ (p : Listing) (comps : Partition) (a : ℕ) where
+  -- what is asked of a pair and its first point
+  record IsFirst (last : ℕ × ℕ) (y : FirstPoint) : Type 0 where
+    pair : IsTrue (is_pair p comps a y.pair.clause y.pair.call)
+    before : IsBefore last (pair_end y.pair)
+    point : IsPoint (vars_of (numbered p.clauses y.pair.clause)) y.point
+
+  first_taken : (last : ℕ × ℕ) → IsTaken (take_point p comps a last) (λ _ y. fact.Point y.pair.clause y.pair.call y.point.t y.point.w) (IsFirst last)
+  unfolding take_point
+  first_taken last i f y e = go (split_point f)
+    where
+      go : ((p : Listing) (comps : Partition) (a : ℕ) (last : ℕ × ℕ) (i : ℕ) → take_point p comps a last i f ≡ Some None) ⊎ IsPointFact f
+          → (f ≡ fact.Point y.pair.clause y.pair.call y.point.t y.point.w) × IsFirst last y
+      go (inl none) = other_taken (take_point p comps a last i f) y (none p comps a last i) e
+      go (inr (clause, call, t, w, is)) =
+          let (here, some) = placed (is_pair p comps a clause call && is_before last (clause, call))
+          (paired clause call (point_read (vars_of (numbered p.clauses clause)) t w)) y (rw is at e) in
+          let (own, later) = and_parts (is_pair p comps a clause call) (is_before last (clause, call)) here in
+          let (x, read, same) = paired_is clause call (point_read (vars_of (numbered p.clauses clause)) t w) y some in
+          let (whole, right) = point_is (vars_of (numbered p.clauses clause)) t w x read in
+          rw (← same) (rw (is, ← whole) refl, record { pair = own; before = before_is last (clause, call) later; point = right })
+
+  first_given : (last : ℕ × ℕ) → IsBack (take_point p comps a last) (λ _ y. fact.Point y.pair.clause y.pair.call y.point.t y.point.w) (IsFirst last)
+  unfolding take_point
+  first_given last i y h =
+      rw (h.pair, before_back last (pair_end y.pair) h.before, point_back (vars_of (numbered p.clauses y.pair.clause)) y.point h.point) refl
+
+second_taken : (pair : ℕ × ℕ) (vars : ℕ) → IsTaken (take_second pair vars) (λ _ y. fact.At pair.0 pair.1 y.t y.w) (λ y. IsPoint vars y × (y.t ≢ pos 0))
+unfolding take_second
+second_taken pair vars i f y e = go (split_second f)
+  where
+    inner : (t : ℤ) (w : List ℤ) (b : Bool) → int_eq t (pos 0) ≡ b → (if b then None else point_read vars t w) ≡ Some (Some y)
+        → (record { t = t; w = w } ≡ y) × IsPoint vars y × (t ≢ pos 0)
+    inner t w true test some = absurd (none-some _ some)
+    inner t w false test some =
+        let (whole, right) = point_is vars t w y some in
+        (whole, right, λ null. false≢true (sym test ∙ (Decides-int_eq t (pos 0)).1 null))
+
+    go : ((pair : ℕ × ℕ) (vars i : ℕ) → take_second pair vars i f ≡ Some None) ⊎ IsAt f → (f ≡ fact.At pair.0 pair.1 y.t y.w) × (IsPoint vars y × (y.t ≢ pos 0))
+    go (inl none) = other_taken (take_second pair vars i f) y (none pair vars i) e
+    go (inr (clause, call, t, w, is)) =
+        let (here, some) = placed ((clause == pair.0) && (call == pair.1)) (if int_eq t (pos 0) then None else point_read vars t w) y (rw is at e) in
+        let (one, two) = and_parts (clause == pair.0) (call == pair.1) here in
+        let (whole, right, not_zero) = inner t w (int_eq t (pos 0)) refl some in
+        let own : t ≡ y.t = ap (λ z. z.t) whole in
+        (rw (is, eqb-true clause pair.0 one, eqb-true call pair.1 two, ← whole) refl, (right, λ null. not_zero (own ∙ null)))
+
+not_null : (t : ℤ) → t ≢ pos 0 → int_eq t (pos 0) ≡ false
+not_null t h = go (int_eq t (pos 0)) refl
+  where
+    go : (b : Bool) → int_eq t (pos 0) ≡ b → b ≡ false
+    go true e = absurd (h ((Decides-int_eq t (pos 0)).0 e))
+    go false e = refl
+
+second_given : (pair : ℕ × ℕ) (vars : ℕ) → IsBack (take_second pair vars) (λ _ y. fact.At pair.0 pair.1 y.t y.w) (λ y. IsPoint vars y × (y.t ≢ pos 0))
+unfolding take_second
+second_given pair vars i y h = rw (eq-eqb pair.0 pair.0 refl, eq-eqb pair.1 pair.1 refl, not_null y.t h.1, point_back vars y h.0) refl
+
+-- the second point
+abbrev vars_at : Listing → FirstPoint → ℕ
+vars_at p x = vars_of (numbered p.clauses x.pair.clause)
+
+abbrev with_second : FirstPoint → Point × List Fact → PairPoint × List Fact
+with_second x y = (pair_point x (Some y.0), y.1)
+
+second_sound : (p : Listing) (x : FirstPoint) (s t : List Fact) (y : PairPoint) → read_second p x s ≡ Some (y, t)
+    → (s ≡ at_facts x.pair.clause x.pair.call y.at ++ t) × HasSecond (vars_at p x) x.point.t y.at × (pair_point x y.at ≡ y)
+unfolding read_second
+second_sound p x s t y e = go (int_eq x.point.t (pos 0)) refl e
+  where
+    go : (b : Bool) → int_eq x.point.t (pos 0) ≡ b
+        → (if b
+        then option_map (with_second x) (read_next (take_second (pair_end x.pair) (vars_at p x)) 0 s)
+        else Some (pair_point x None, s)) ≡ Some (y, t)
+        → (s ≡ at_facts x.pair.clause x.pair.call y.at ++ t) × HasSecond (vars_at p x) x.point.t y.at × (pair_point x y.at ≡ y)
+    go true test read =
+        mapped (with_second x) (read_next (take_second (pair_end x.pair) (vars_at p x)) 0 s) (y, t) read λ q here both.
+        let (one, right) = next_sound (take_second (pair_end x.pair) (vars_at p x)) (λ _ y. fact.At x.pair.clause x.pair.call y.t y.w) _ (second_taken (pair_end x.pair) (vars_at p x)) 0 s q.1 q.0 here in
+        let first : pair_point x (Some q.0) ≡ y = ap (λ r. r.0) both in
+        let rest : q.1 ≡ t = ap (λ r. r.1) both in
+        rw (← first, ← rest) (one, ((Decides-int_eq x.point.t (pos 0)).0 test, right.0, right.1), refl)
+    go false test read =
+        let both : (pair_point x None, s) ≡ (y, t) = same_some _ _ read in
+        let first : pair_point x None ≡ y = ap (λ r. r.0) both in
+        let rest : s ≡ t = ap (λ r. r.1) both in
+        rw (← first, ← rest) (refl, (λ null. false≢true (sym test ∙ (Decides-int_eq x.point.t (pos 0)).1 null)), refl)
+
+second_back : (p : Listing) (x : FirstPoint) (at : Option Point) (t : List Fact) → HasSecond (vars_at p x) x.point.t at
+    → read_second p x (at_facts x.pair.clause x.pair.call at ++ t) ≡ Some (pair_point x at, t)
+unfolding read_second
+second_back p x None t h = rw (not_null x.point.t h) refl
+second_back p x (Some y) t h =
+    rw (
+      (Decides-int_eq x.point.t (pos 0)).1 h.0,
+      next_back (take_second (pair_end x.pair) (vars_at p x)) (λ _ y. fact.At x.pair.clause x.pair.call y.t y.w) _ (second_given (pair_end x.pair) (vars_at p x)) 0 y t (h.1, h.2),
+    ) refl
+
+module _ (p : Listing) (comps : Partition) (a : ℕ) where
+  point_sound : (last : ℕ × ℕ) (s t : List Fact) (y : PairPoint) → read_point p comps a last s ≡ Some (y, t)
+      → (s ≡ point_facts y ++ t) × IsBefore last (pair_of y) × IsPairPoint p comps a y
+  unfolding read_point
+  point_sound last s t y e =
+      bound (λ x. read_second p x.0 x.1) (read_next (take_point p comps a last) 0 s) (y, t) e λ q here more.
+      let (one, right) = next_sound (take_point p comps a last) (λ _ y. fact.Point y.pair.clause y.pair.call y.point.t y.point.w) _ (first_taken p comps a last) 0 s q.1 q.0 here in
+      let (others, second, same) = second_sound p q.0 q.1 t y more in
+      let back : pair_point q.0 y.at ≡ y = same in
+      subst (λ z. (s ≡ point_facts z ++ t) × IsBefore last (pair_of z) × IsPairPoint p comps a z) back
+      (rw (one, others) refl, right.before, record { pair = right.pair; point = right.point; second = second })
+
+  point_given : (last : ℕ × ℕ) (y : PairPoint) (t : List Fact) → IsBefore last (pair_of y) → IsPairPoint p comps a y
+      → read_point p comps a last (point_facts y ++ t) ≡ Some (y, t)
+  unfolding read_point
+  point_given last y t before h =
+      let x : FirstPoint = first_point y.clause y.call y.point in
+      let first : IsFirst p comps a last (first_point y.clause y.call y.point) = record { pair = h.pair; before = before; point = h.point } in
+      rw (
+        next_back (take_point p comps a last) (λ _ y. fact.Point y.pair.clause y.pair.call y.point.t y.point.w) _ (first_given p comps a last) 0 (first_point y.clause y.call y.point) (at_facts y.clause y.call y.at ++ t) first,
+        second_back p (first_point y.clause y.call y.point) y.at t h.second,
+      ) refl
+
+  points_sound : (n : ℕ) (last : ℕ × ℕ) (i : ℕ) (s t : List Fact) (xs : List PairPoint) → read_points p comps a last n s ≡ Some (xs, t)
+      → (s ≡ facts_from i (λ _ x. point_facts x) xs ++ t) × (length xs ≡ n) × PairsAscend last xs × AllByRecursion (IsPairPoint p comps a) xs
+  unfolding read_points
+  points_sound zero last i s t xs e =
+      let both : ([], s) ≡ (xs, t) = same_some _ _ e in
+      let first : [] ≡ xs = ap (λ q. q.0) both in
+      let rest : s ≡ t = ap (λ q. q.1) both in
+      rw (← first, ← rest) (refl, refl, tt, tt)
+  points_sound (suc n) last i s t xs e =
+      bound (λ x. option_map (with_first x.0) (read_points p comps a (x.0.clause, x.0.call) n x.1)) (read_point p comps a last s) (xs, t) e λ q read more.
+      mapped (with_first q.0) (read_points p comps a (q.0.clause, q.0.call) n q.1) (xs, t) more λ r here both.
+      let (one, before, right) = point_sound last s q.1 q.0 read in
+      let (others, count, ascend, all) = points_sound n (q.0.clause, q.0.call) (suc i) q.1 r.1 r.0 here in
+      let first : q.0 ∷ r.0 ≡ xs = ap (λ z. z.0) both in
+      let rest : r.1 ≡ t = ap (λ z. z.1) both in
+      rw (← first, ← rest)
+      (one ∙ ap (λ u. point_facts q.0 ++ u) others ∙ sym (append_assoc (point_facts q.0) (facts_from (suc i) (λ _ x. point_facts x) r.0) r.1), ap suc count, (before, ascend), (right, all))
+
+  points_given : (n : ℕ) (last : ℕ × ℕ) (i : ℕ) (xs : List PairPoint) (t : List Fact) → length xs ≡ n → PairsAscend last xs → AllByRecursion (IsPairPoint p comps a) xs
+      → read_points p comps a last n (facts_from i (λ _ x. point_facts x) xs ++ t) ≡ Some (xs, t)
+  unfolding read_points
+  points_given zero last i [] t count ascend all = refl
+  points_given zero last i (x ∷ xs) t count ascend all = absurd (omega (arith, count))
+  points_given (suc n) last i [] t count ascend all = absurd (omega (arith, count))
+  points_given (suc n) last i (x ∷ xs) t count ascend all =
+      rw (
+        append_assoc (point_facts x) (facts_from (suc i) (λ _ x. point_facts x) xs) t,
+        point_given last x (facts_from (suc i) (λ _ x. point_facts x) xs ++ t) ascend.0 all.0,
+        points_given n (pair_of x) (suc i) xs t (omega (arith, count)) ascend.1 all.1,
+      ) refl
+
+abbrev as_refutation : List PairPoint × List Fact → Option Refutation × List Fact
+as_refutation x = (Some (record { points = x.0 }), x.1)
+
+-- a refutation as it stands, whatever the component
+abbrev IsGroup : Listing → Partition → ℕ → Option Refutation → Type 0
+IsGroup p comps a None = Unit {0}
+IsGroup p comps a (Some r) = (1 ≤ length r.points) × PairsAscend (0, 0) r.points × AllByRecursion (IsPairPoint p comps a) r.points
+
+module _ (p : Listing) (names : List (List ℕ)) (comps : Partition) (a : ℕ) where
+  group_sound : (s t : List Fact) (o : Option Refutation) → read_group p names comps a s ≡ Some (o, t)
+      → (s ≡ refutation_facts (pred_text p names a) o ++ t) × IsGroup p comps a o
+  unfolding read_group
+  group_sound [] t o e =
+      let both : (None, []) ≡ (o, t) = same_some _ _ e in
+      let first : None ≡ o = ap (λ q. q.0) both in
+      let rest : [] ≡ t = ap (λ q. q.1) both in
+      rw (← first, ← rest) (refl, tt)
+  group_sound (f ∷ s) t o e =
+      bound (refutation_read (λ n. read_points p comps a (0, 0) n s) f s) (take_refuted (pred_text p names a) 0 f) (o, t) e go
+    where
+      go : (c : Option ℕ) → take_refuted (pred_text p names a) 0 f ≡ Some c → refutation_read (λ n. read_points p comps a (0, 0) n s) f s c ≡ Some (o, t)
+          → (f ∷ s ≡ refutation_facts (pred_text p names a) o ++ t) × IsGroup p comps a o
+      go None taken read =
+          let both : (None, f ∷ s) ≡ (o, t) = same_some _ _ read in
+          let first : None ≡ o = ap (λ q. q.0) both in
+          let rest : f ∷ s ≡ t = ap (λ q. q.1) both in
+          rw (← first, ← rest) (refl, tt)
+      go (Some n) taken read =
+          mapped as_refutation (read_points p comps a (0, 0) n s) (o, t) read λ q here both.
+          let (begins, some) = refuted_taken (pred_text p names a) 0 f n taken in
+          let (others, count, ascend, all) = points_sound p comps a n (0, 0) 0 s q.1 q.0 here in
+          let first : Some (record { points = q.0 }) ≡ o = ap (λ z. z.0) both in
+          let rest : q.1 ≡ t = ap (λ z. z.1) both in
+          rw (← first, ← rest) (rw (begins, others, ← count) refl, (rw (← count) at some, ascend, all))
+
+  group_given : (t : List Fact) (o : Option Refutation) → IsGroup p comps a o → AllByRecursion (λ f. take_refuted (pred_text p names a) 0 f ≡ Some None) t
+      → read_group p names comps a (refutation_facts (pred_text p names a) o ++ t) ≡ Some (o, t)
+  unfolding read_group
+  group_given [] None h others = refl
+  group_given (f ∷ t) None h others = rw others.0 refl
+  group_given t (Some r) h others =
+      rw (refuted_given (pred_text p names a) 0 (length r.points) h.0, points_given p comps a (length r.points) (0, 0) 0 r.points t refl h.1 h.2) refl
+
+open_is : (comps : Partition) (levels : List (List LevelPart)) (a : ℕ) → is_open comps levels a ≡ true → IsOpen comps levels a
+open_is comps levels a e =
+    let (one, more) = and_parts (is_recursive comps a) ((first_of comps a == a) && (length (items_of levels a) == 0)) e in
+    let (two, three) = and_parts (first_of comps a == a) (length (items_of levels a) == 0) more in
+    record { recursive = one; first = eqb-true (first_of comps a) a two; none = eqb-true (length (items_of levels a)) 0 three }
+
+open_back : (comps : Partition) (levels : List (List LevelPart)) (a : ℕ) → IsOpen comps levels a → is_open comps levels a ≡ true
+open_back comps levels a h = rw (h.recursive, eq-eqb (first_of comps a) a h.first, eq-eqb (length (items_of levels a)) 0 h.none) refl
+
+module _ (p : Listing) (names : List (List ℕ)) (comps : Partition) (levels : List (List LevelPart)) (a : ℕ) where
+  pub refutation_sound : (s t : List Fact) (o : Option Refutation) → read_refutation p names comps levels a s ≡ Some (o, t)
+      → (s ≡ refutation_facts (pred_text p names a) o ++ t) × IsRefutation p comps levels a o
+  unfolding read_refutation
+  refutation_sound s t o e = go (is_open comps levels a) refl e
+    where
+      shaped : (o : Option Refutation) → is_open comps levels a ≡ true → IsGroup p comps a o → IsRefutation p comps levels a o
+      shaped None opened h = tt
+      shaped (Some r) opened h = (open_is comps levels a opened, h.0, h.1, h.2)
+
+      go : (b : Bool) → is_open comps levels a ≡ b → (if b then read_group p names comps a s else Some (None, s)) ≡ Some (o, t)
+          → (s ≡ refutation_facts (pred_text p names a) o ++ t) × IsRefutation p comps levels a o
+      go true opened read = let (whole, right) = group_sound p names comps a s t o read in (whole, shaped o opened right)
+      go false opened read =
+          let both : (None, s) ≡ (o, t) = same_some _ _ read in
+          let first : None ≡ o = ap (λ q. q.0) both in
+          let rest : s ≡ t = ap (λ q. q.1) both in
+          rw (← first, ← rest) (refl, tt)
+
+  pub refutation_given : (t : List Fact) (o : Option Refutation) → IsRefutation p comps levels a o
+      → AllByRecursion (λ f. take_refuted (pred_text p names a) 0 f ≡ Some None) t
+      → read_refutation p names comps levels a (refutation_facts (pred_text p names a) o ++ t) ≡ Some (o, t)
+  unfolding read_refutation
+  refutation_given t None h others = go (is_open comps levels a)
+    where
+      go : (b : Bool) → (if b then read_group p names comps a t else Some (None, t)) ≡ Some (None, t)
+      go true = group_given p names comps a t None tt others
+      go false = refl
+  refutation_given t (Some r) h others = rw (open_back comps levels a h.0, group_given p names comps a t (Some r) (h.1, h.2, h.3) others) refl

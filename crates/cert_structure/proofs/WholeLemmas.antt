@@ -1,0 +1,136 @@
+-- Reading a whole certificate: what is read is its parts, and its parts are read.
+use Rattle.std.proofs.Common.{◌≡◌, ◌≢◌, ℕ, ◌<◌, Bool, true, false, if◌then◌else◌, List, [], ◌∷◌, ◌++◌, length, Some, None, refl, ap, ◌∙◌, subst, arith}
+use Rattle.std.proofs.lemmas.Bool.Decides.{Decides-int_eq}
+use Rattle.std.proofs.lemmas.Option.{none-some}
+use Rattle.std.specs.Prelude.{pos}
+use Rattle.std.specs.Ordering.{int_eq}
+use Rattle.call_components.specs.Partition.{Partition, AreComponents}
+use Rattle.certificate.specs.declared.fact.Fact.{Fact}
+use Rattle.certificate.specs.declared.fact.Fact.TheVariants as fact
+use Rattle.cti_terms.specs.Listing.{Listing}
+use Rattle.cert_structure.specs.declared.parts.Parts.{Parts}
+use Rattle.cert_structure.specs.Order.{pred_text, mode_facts, size_facts, proof_facts, ground_facts, level_facts, fall_facts, pre_facts, refuted_facts, listed}
+use Rattle.cert_structure.specs.Shape.{HaveShape}
+use Rattle.cert_structure.specs.Structure.{AreNotes}
+use Rattle.cert_structure.specs.Walk.{read_version, read_modes, read_rows, read_proofs, read_grounds, read_levels, read_falls, read_pre, read_refutation, read_each, read_parts}
+use Rattle.cert_structure.proofs.KindLemmas.{kind}
+use Rattle.cert_structure.proofs.SectionLemmas.{same_some, bound, all_both, all_weaker}
+use Rattle.cert_structure.proofs.LevelLemmas.{NoLevel, levels_sound, levels_back}
+use Rattle.cert_structure.proofs.StructureLemmas.{AreLater, proofs_later, grounds_later, levels_later, falls_later, pre_later, refuted_later, notes_later, no_level, modes_section, modes_listed, rows_section, rows_listed, proofs_section, proofs_listed, grounds_section, grounds_listed, falls_section, falls_listed, pre_section, pre_listed, refuted_section, refuted_listed}
+use Rattle.cert_structure.proofs.ComponentLemmas.{first_le}
+use Rattle.cert_structure.proofs.PartsLemmas.{all_read}
+
+version_sound : (s t : List Fact) → read_version s ≡ Some t → s ≡ fact.Cti (pos 1) ∷ t
+unfolding read_version
+version_sound [] t e = absurd (none-some _ e)
+version_sound (fact.Cti version ∷ s) t e = go (int_eq version (pos 1)) refl e
+  where
+    go : (b : Bool) → int_eq version (pos 1) ≡ b → (if b then Some s else None) ≡ Some t → fact.Cti version ∷ s ≡ fact.Cti (pos 1) ∷ t
+    go true one same =
+        let number : version ≡ pos 1 = (Decides-int_eq version (pos 1)).0 one in
+        let rest : s ≡ t = same_some s t same in
+        rw (number, rest) refl
+    go false one same = absurd (none-some _ same)
+version_sound (fact.Terminates q modes ∷ s) t e = absurd (none-some _ e)
+version_sound (fact.Size q index row ∷ s) t e = absurd (none-some _ e)
+version_sound (fact.By clause index scale list ∷ s) t e = absurd (none-some _ e)
+version_sound (fact.Grounds q index cells ∷ s) t e = absurd (none-some _ e)
+version_sound (fact.Measure q mapping coeffs offset ∷ s) t e = absurd (none-some _ e)
+version_sound (fact.Falls clause call mapping scale list ∷ s) t e = absurd (none-some _ e)
+version_sound (fact.Pre q mapping index cells ∷ s) t e = absurd (none-some _ e)
+version_sound (fact.Refuted q points ∷ s) t e = absurd (none-some _ e)
+version_sound (fact.Point clause call v w ∷ s) t e = absurd (none-some _ e)
+version_sound (fact.At clause call v w ∷ s) t e = absurd (none-some _ e)
+version_sound (fact.Image step clause q rows ∷ s) t e = absurd (none-some _ e)
+version_sound (fact.Step step q how rows ∷ s) t e = absurd (none-some _ e)
+version_sound (fact.WeakImage step ∷ s) t e = absurd (none-some _ e)
+version_sound (fact.WeakStep step ∷ s) t e = absurd (none-some _ e)
+version_sound (fact.Blown q support ∷ s) t e = absurd (none-some _ e)
+version_sound (fact.Large q positions ∷ s) t e = absurd (none-some _ e)
+
+module _ (p : Listing) (names : List (List ℕ)) (comps : Partition) (h : AreComponents p comps) where
+  abbrev IsRead : List Fact → Parts → List Fact → Type 0
+  IsRead s parts t = (s ≡ listed p names parts t) × HaveShape p comps parts
+
+  pub parts_sound : (s t : List Fact) (parts : Parts) → read_parts p names comps s ≡ Some (parts, t) → (s ≡ listed p names parts t) × HaveShape p comps parts
+  unfolding read_parts
+  parts_sound s t parts e =
+      bound _ (read_version s) _ e λ s0 e0 more0.
+      bound _ (read_each (read_modes p names) 0 (length p.preds) s0) _ more0 λ modes e1 more1.
+      bound _ (read_each (read_rows p names) 0 (length p.preds) modes.1) _ more1 λ rows e2 more2.
+      bound _ (read_each (read_proofs p rows.0) 0 (length p.clauses) rows.1) _ more2 λ proofs e3 more3.
+      bound _ (read_each (read_grounds p names) 0 (length p.preds) proofs.1) _ more3 λ grounds e4 more4.
+      bound _ (read_levels p names comps [] 0 (length p.preds) grounds.1) _ more4 λ levels e5 more5.
+      bound _ (read_each (read_falls p comps rows.0 levels.0) 0 (length p.clauses) levels.1) _ more5 λ falls e6 more6.
+      bound _ (read_each (read_pre p names levels.0) 0 (length p.preds) falls.1) _ more6 λ cubes e7 more7.
+      bound _ (read_each (read_refutation p names comps levels.0) 0 (length p.preds) cubes.1) _ more7 λ refutations e8 more8.
+      let whole0 = version_sound s s0 e0 in
+      let (whole1, right1) = modes_section p names s0 modes.1 modes.0 e1 in
+      let (whole2, right2) = rows_section p names modes.1 rows.1 rows.0 e2 in
+      let (whole3, right3) = proofs_section p rows.0 rows.1 proofs.1 proofs.0 e3 in
+      let (whole4, right4) = grounds_section p names proofs.1 grounds.1 grounds.0 e4 in
+      let (xs, all, count, whole5, right5) = levels_sound p names comps (first_le p comps h) (length p.preds) [] 0 grounds.1 levels.1 levels.0 refl (omega arith) e5 in
+      let (whole6, right6) = falls_section p rows.0 comps levels.0 levels.1 falls.1 falls.0 e6 in
+      let (whole7, right7) = pre_section p names levels.0 falls.1 cubes.1 cubes.0 e7 in
+      let (whole8, right8) = refuted_section p names levels.0 comps cubes.1 refutations.1 refutations.0 e8 in
+      let own5 : grounds.1 ≡ level_facts p names levels.0 ++ levels.1 = rw all whole5 in
+      let last : (record { modes = modes.0; rows = rows.0; row_proofs = proofs.0; grounds = grounds.0; levels = levels.0; falls = falls.0; preconditions = cubes.0; refutations = refutations.0 }, refutations.1) ≡ (parts, t) = same_some _ _ more8 in
+      let first : record { modes = modes.0; rows = rows.0; row_proofs = proofs.0; grounds = grounds.0; levels = levels.0; falls = falls.0; preconditions = cubes.0; refutations = refutations.0 } ≡ parts = ap (λ q. q.0) last in
+      let rest : refutations.1 ≡ t = ap (λ q. q.1) last in
+      subst (λ u. IsRead s parts u) rest
+      (subst (λ q. IsRead s q refutations.1) first (
+        whole0
+            ∙ ap (λ u. fact.Cti (pos 1) ∷ u)
+            (whole1
+            ∙ ap (λ u. mode_facts p names modes.0 ++ u)
+            (whole2
+            ∙ ap (λ u. size_facts p names rows.0 ++ u)
+            (whole3
+            ∙ ap (λ u. proof_facts proofs.0 ++ u)
+            (whole4
+            ∙ ap (λ u. ground_facts p names grounds.0 ++ u)
+            (own5
+            ∙ ap (λ u. level_facts p names levels.0 ++ u)
+            (whole6 ∙ ap (λ u. fall_facts falls.0 ++ u) (whole7 ∙ ap (λ u. pre_facts p names cubes.0 ++ u) whole8))))))),
+        record {
+          modes = right1;
+          rows = right2;
+          row_proofs = right3;
+          grounds = right4;
+          levels = record { count = rw all count; each = rw (← all) at right5 };
+          falls = right6;
+          preconditions = right7;
+          refutations = right8;
+        },
+      ))
+
+  pub parts_back : ((a b : ℕ) → a < b → b < length p.preds → pred_text p names b ≢ pred_text p names a) → (parts : Parts) (notes : List Fact) → HaveShape p comps parts → AreNotes notes
+      → read_parts p names comps (listed p names parts notes) ≡ Some (parts, notes)
+  unfolding read_version
+  parts_back apart parts notes shape are =
+      let s7 = refuted_facts p names parts.refutations ++ notes in
+      let s6 = pre_facts p names parts.preconditions ++ s7 in
+      let s5 = fall_facts parts.falls ++ s6 in
+      let s4 = level_facts p names parts.levels ++ s5 in
+      let s3 = ground_facts p names parts.grounds ++ s4 in
+      let s2 = proof_facts parts.row_proofs ++ s3 in
+      let s1 = size_facts p names parts.rows ++ s2 in
+      let s0 = mode_facts p names parts.modes ++ s1 in
+      let late7 : (m : ℕ) → m < 8 → AreLater m s7 = λ m few. all_both (λ f. m < kind f) (refuted_facts p names parts.refutations) notes (refuted_later p names m few parts.refutations) (notes_later m (omega (arith, few)) notes are) in
+      let late6 : (m : ℕ) → m < 7 → AreLater m s6 = λ m few. all_both (λ f. m < kind f) (pre_facts p names parts.preconditions) s7 (pre_later p names m few parts.preconditions) (late7 m (omega (arith, few))) in
+      let late5 : (m : ℕ) → m < 6 → AreLater m s5 = λ m few. all_both (λ f. m < kind f) (fall_facts parts.falls) s6 (falls_later m few parts.falls) (late6 m (omega (arith, few))) in
+      let late4 : (m : ℕ) → m < 5 → AreLater m s4 = λ m few. all_both (λ f. m < kind f) (level_facts p names parts.levels) s5 (levels_later p names m few parts.levels) (late5 m (omega (arith, few))) in
+      let late3 : (m : ℕ) → m < 4 → AreLater m s3 = λ m few. all_both (λ f. m < kind f) (ground_facts p names parts.grounds) s4 (grounds_later p names m few parts.grounds) (late4 m (omega (arith, few))) in
+      let late2 : (m : ℕ) → m < 3 → AreLater m s2 = λ m few. all_both (λ f. m < kind f) (proof_facts parts.row_proofs) s3 (proofs_later m few parts.row_proofs) (late3 m (omega (arith, few))) in
+      all_read p names comps (fact.Cti (pos 1) ∷ s0) s0 (length p.preds) (length p.clauses) refl refl refl
+      parts.modes s1 (modes_listed p names parts.modes s1 shape.modes)
+      parts.rows parts.rows s2 (rows_listed p names apart parts.rows s2 shape.rows (late2 2 (omega arith))) refl
+      parts.row_proofs s3 (proofs_listed p parts.rows parts.row_proofs s3 shape.row_proofs)
+      parts.grounds s4 (grounds_listed p names apart parts.grounds s4 shape.grounds (late4 4 (omega arith)))
+      parts.levels parts.levels s5
+      (levels_back p names comps (first_le p comps h) apart (length p.preds) [] 0 parts.levels s5 parts.levels refl (omega arith) shape.levels.count refl shape.levels.each
+      (λ b. all_weaker (λ f. 5 < kind f) (NoLevel (pred_text p names b)) (λ f late. no_level (pred_text p names b) f late) s5 (late5 5 (omega arith))))
+      refl
+      parts.falls s6 (falls_listed p parts.rows comps parts.levels parts.falls s6 shape.falls)
+      parts.preconditions s7 (pre_listed p names parts.levels apart parts.preconditions s7 shape.preconditions (late7 7 (omega arith)))
+      parts.refutations notes (refuted_listed p names parts.levels comps apart parts.refutations notes shape.refutations (notes_later 8 (omega arith) notes are))

@@ -1,0 +1,17 @@
+use Rattle.std.proofs.Common.{◌∙◌, sym, arith, ◌+◌, ◌-◌}
+use Rattle.cert_structure.proofs.LoopLemmas.{part_err, points_end, points_none, points_more}
+use Rattle.cert_structure.proofs.refutations.points.Goals as goal
+
+pub returns-in_err-point : goal.returns-in_err-point
+returns-in_err-point c =
+    part_err c.from_residual.result _ _ _ c.from_residual.ensures c.in_err-point.ensures λ none.
+    sym c.loop.invariant ∙ points_none _ _ _ c.loop.points _ _ _ (c.args.count - (c.loop.counter + 1)) (omega arith) none
+
+pub loop-preserved : goal.loop-preserved
+loop-preserved c =
+    rw c.in_ok-push.ensures.ok
+    (points_more _ _ _ c.loop.points (c.loop.last.clause, c.loop.last.call) (c.args.count - c.loop.counter) _ (c.args.count - (c.loop.counter + 1)) _ _ (omega arith) c.in_ok-point.ensures
+    ∙ c.loop.invariant)
+
+pub returns : goal.returns
+returns c = sym c.loop.invariant ∙ points_end _ _ _ c.loop.points _ _ _ (omega arith)

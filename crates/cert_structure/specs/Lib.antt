@@ -1,0 +1,6 @@
+pub mod Numbered
+pub mod Order
+pub mod Shape
+pub mod Structure
+pub mod Walk
+pub mod Written

@@ -1,0 +1,312 @@
+-- How the parts are read: fact by fact, from the front. Nothing here has to be believed.
+use Rattle.std.specs.Prelude.{◌≡◌, ℕ, zero, suc, ◌+◌, ℤ, pos, negsuc, Bool, true, false, ◌&&◌, ◌||◌, ◌==◌, nat_eq, nat_lt, nat_le, if◌then◌else◌, List, [], ◌∷◌, ◌++◌, map, length, Option, None, Some, option_map, option_and_then, Result, Ok, Err}
+use Rattle.std.specs.Ordering.{int_eq}
+use Rattle.std.specs.Borrow.{Bor}
+use Rattle.std.specs.List.{list_all}
+use Rattle.std.specs.Cmp.Lexicographic.{pointwise}
+use Rattle.bool_diagrams.specs.declared.cube.Cell.{Cell}
+use Rattle.bool_diagrams.specs.declared.cube.Cell.TheVariants as side
+use Rattle.call_components.specs.Partition.{Partition}
+use Rattle.certificate.specs.declared.cell.CertCell.{CertCell}
+use Rattle.certificate.specs.declared.cell.CertCell.TheVariants as cell
+use Rattle.certificate.specs.declared.pred_text.PredText.{PredText}
+use Rattle.certificate.specs.declared.fact.Fact.{Fact}
+use Rattle.certificate.specs.declared.fact.Fact.TheVariants as fact
+use Rattle.certificate.specs.Range.{most_127}
+use Rattle.cti_terms.specs.declared.atom_list.Atom.{Atom}
+use Rattle.cti_terms.specs.Listing.{Listing, numbered}
+use Rattle.linear_rows.specs.declared.multipliers.Multipliers.{Multipliers}
+use Rattle.linear_rows.specs.declared.row.Row.{Row}
+use Rattle.linear_rows.specs.declared.row.Rows.{Rows}
+use Rattle.number_tests.specs.declared.level_part.LevelPart.{LevelPart}
+use Rattle.linear_rows.specs.declared.point.Point.{Point}
+use Rattle.number_tests.specs.declared.pair_point.PairPoint.{PairPoint}
+use Rattle.number_tests.specs.declared.refutation.Refutation.{Refutation}
+use Rattle.cert_structure.specs.declared.parts.Parts.{Parts}
+use Rattle.cert_structure.specs.declared.named.Named.{Named}
+use Rattle.cert_structure.specs.declared.pair.Pair.{Pair}
+use Rattle.cert_structure.specs.declared.refutations.FirstPoint.{FirstPoint}
+use Rattle.cert_structure.specs.declared.stop.FactFault.{FactFault}
+use Rattle.cert_structure.specs.declared.stop.FactFault.TheVariants as fault
+use Rattle.cert_structure.specs.declared.stop.Stop.{Stop}
+use Rattle.cert_structure.specs.declared.stop.Stop.TheVariants as stop
+use Rattle.cert_structure.specs.Order.{pred_text}
+use Rattle.cert_structure.specs.Shape.{arity_of, head_of, body_of, vars_of, rows_of, rows_of_atoms, items_of, is_recursive, first_of, proofs_of_call, is_pair}
+
+-- a value and the facts after it, if there is one
+abbrev pub Read : Type 0 → Type 0
+Read A = Option (A × List Fact)
+
+-- what a fact is to a reader: an item, no fact of the reader's kind (`Some None`), or one of wrong shape (`None`)
+abbrev pub Taken : Type 0 → Type 0
+Taken A = Option (Option A)
+
+-- the code read what it should; want of memory is free
+abbrev pub Agrees : {A : Type 0} → Result (A × Bor (List Fact)) Stop → Read A → Type 0
+Agrees (Ok p) o = o ≡ Some (p.0, p.1.now)
+Agrees (Err (stop.Wrong left reason)) o = o ≡ None
+Agrees (Err stop.Memory) o = Unit {0}
+
+-- the same of one fact
+abbrev pub AgreesFact : {A : Type 0} → Result (Option A) FactFault → Taken A → Type 0
+AgreesFact (Ok x) o = o ≡ Some x
+AgreesFact (Err fault.Shape) o = o ≡ None
+AgreesFact (Err fault.Memory) o = Unit {0}
+
+-- the code took an item of a right shape
+abbrev pub AgreesKept : {A : Type 0} → Result A FactFault → Taken A → Type 0
+AgreesKept (Ok x) o = o ≡ Some (Some x)
+AgreesKept (Err fault.Shape) o = o ≡ None
+AgreesKept (Err fault.Memory) o = Unit {0}
+
+-- the code read the facts that are left
+abbrev pub AgreesRest : Result (Bor (List Fact)) Stop → Option (List Fact) → Type 0
+AgreesRest (Ok s) o = o ≡ Some s.now
+AgreesRest (Err (stop.Wrong left reason)) o = o ≡ None
+AgreesRest (Err stop.Memory) o = Unit {0}
+
+-- a predicate of the code, as a fact has it
+abbrev pub named : Named → PredText
+named n = record { name = n.name.now; arity = n.arity }
+
+-- a pair of the code
+abbrev pub pair_end : Pair → ℕ × ℕ
+pair_end q = (q.clause, q.call)
+
+infixl 10 ◌>>=◌
+abbrev ◌>>=◌ : {A B : Type 0} → Option A → (A → Option B) → Option B
+o >>= f = option_and_then f o
+
+-- one more in front
+abbrev pub with_first : {A : Type 0} → A → List A × List Fact → List A × List Fact
+with_first x p = (x ∷ p.0, p.1)
+
+-- these items in front of those that are read
+abbrev pub with_all : {A : Type 0} → List A → Read (List A) → Read (List A)
+with_all xs o = option_map (λ p. (xs ++ p.0, p.1)) o
+
+-- so many items, the first of which has this number
+unfoldable pub read_each : {A : Type 0} → (ℕ → List Fact → Read A) → ℕ → ℕ → List Fact → Read (List A)
+read_each item i zero s = Some ([], s)
+read_each item i (suc n) s = item i s >>= λ p. option_map (with_first p.0) (read_each item (suc i) n p.1)
+
+-- the item of the fact in front
+abbrev pub item_of : {A : Type 0} → List Fact → Option A → Read A
+item_of s None = None
+item_of s (Some x) = Some (x, s)
+
+abbrev pub read_next : {A : Type 0} → (ℕ → Fact → Taken A) → ℕ → List Fact → Read A
+read_next taken i [] = None
+read_next taken i (f ∷ s) = taken i f >>= item_of s
+
+-- the items of the facts in front, as long as they are of the kind
+abbrev pub go_on : {A : Type 0} → Read (List A) → Fact → List Fact → Option A → Read (List A)
+go_on more f s None = Some ([], f ∷ s)
+go_on more f s (Some x) = option_map (with_first x) more
+
+unfoldable pub read_many : {A : Type 0} → (ℕ → Fact → Taken A) → ℕ → List Fact → Read (List A)
+read_many taken i [] = Some ([], [])
+read_many taken i (f ∷ s) = taken i f >>= go_on (read_many taken (suc i) s) f s
+
+-- an item, where its shape is right
+abbrev pub kept : {A : Type 0} → Bool → A → Taken A
+kept right x = if right then Some (Some x) else None
+
+-- what is taken of a fact at its place
+abbrev pub at_place : {A : Type 0} → Bool → Taken A → Taken A
+at_place here taken = if here then taken else Some None
+
+abbrev pub same_pred : PredText → PredText → Bool
+same_pred q r = pointwise nat_eq q.name r.name && (q.arity == r.arity)
+
+abbrev pub is_amount : ℤ → Bool
+is_amount (pos n) = nat_le n most_127
+is_amount (negsuc n) = false
+
+abbrev pub is_entry : ℤ → Bool
+is_entry (pos n) = nat_le n most_127
+is_entry (negsuc n) = nat_lt n most_127
+
+abbrev pub are_amounts : List ℤ → Bool
+are_amounts zs = list_all is_amount zs
+
+abbrev pub are_entries : List ℤ → Bool
+are_entries zs = list_all is_entry zs
+
+-- each number is above the one before it, and at most the arity
+abbrev pub is_mode : ℕ → ℕ → List ℕ → Bool
+is_mode arity last [] = true
+is_mode arity last (a ∷ more) = (nat_lt last a && nat_le a arity) && is_mode arity a more
+
+abbrev pub cell_read : CertCell → Cell
+cell_read cell.Zero = side.Zero
+cell_read cell.One = side.One
+cell_read cell.Any = side.Any
+
+unfoldable pub take_modes : PredText → ℕ → Fact → Taken (List (List ℕ))
+take_modes pred i (fact.Terminates q modes) = at_place (same_pred q pred) (kept (list_all (is_mode pred.arity 0) modes) modes)
+take_modes pred i _ = Some None
+
+abbrev pub row_read : ℕ → List ℤ → Taken Row
+row_read arity [] = None
+row_read arity (b ∷ bs) = kept ((length bs == arity) && (is_entry b && are_entries bs)) (record { constant = b; coeffs = bs })
+
+unfoldable pub take_row : PredText → ℕ → Fact → Taken Row
+take_row pred i (fact.Size q index row) = at_place (same_pred q pred && (index == suc i)) (row_read pred.arity row)
+take_row pred i _ = Some None
+
+abbrev pub multipliers_read : ℕ → ℤ → List ℤ → Taken Multipliers
+multipliers_read rows scale list = kept ((length list == rows) && (is_amount scale && are_amounts list)) (record { scale = scale; list = list })
+
+unfoldable pub take_proof : ℕ → ℕ → ℕ → Fact → Taken Multipliers
+take_proof k rows i (fact.By clause index scale list) = at_place ((clause == suc k) && (index == suc i)) (multipliers_read rows scale list)
+take_proof k rows i _ = Some None
+
+abbrev pub cube_read : ℕ → List CertCell → Taken (List Cell)
+cube_read arity cells = kept (length cells == arity) (map cell_read cells)
+
+unfoldable pub take_ground : PredText → ℕ → Fact → Taken (List Cell)
+take_ground pred i (fact.Grounds q index cells) = at_place (same_pred q pred && (index == suc i)) (cube_read pred.arity cells)
+take_ground pred i _ = Some None
+
+abbrev pub level_read : ℕ → List ℤ → ℤ → Taken LevelPart
+level_read arity coeffs offset = kept ((length coeffs == arity) && (are_amounts coeffs && is_amount offset)) (record { coeffs = coeffs; offset = offset })
+
+unfoldable pub take_level : PredText → ℕ → Fact → Taken LevelPart
+take_level pred i (fact.Measure q mapping coeffs offset) = at_place (same_pred q pred && (mapping == suc i)) (level_read pred.arity coeffs offset)
+take_level pred i _ = Some None
+
+unfoldable pub take_fall : ℕ → ℕ → ℕ → ℕ → Fact → Taken Multipliers
+take_fall k j rows m (fact.Falls clause call mapping scale list) =
+    at_place ((clause == suc k) && ((call == suc j) && (mapping == suc m))) (multipliers_read rows scale list)
+take_fall k j rows m _ = Some None
+
+unfoldable pub take_pre : PredText → ℕ → ℕ → Fact → Taken (List Cell)
+take_pre pred m i (fact.Pre q mapping index cells) = at_place (same_pred q pred && ((mapping == suc m) && (index == suc i))) (cube_read pred.arity cells)
+take_pre pred m i _ = Some None
+
+-- the number of points that a refutation of the predicate has
+unfoldable pub take_refuted : PredText → ℕ → Fact → Taken ℕ
+take_refuted pred i (fact.Refuted q points) = at_place (same_pred q pred) (kept (nat_le 1 points) points)
+take_refuted pred i _ = Some None
+
+abbrev pub point_read : ℕ → ℤ → List ℤ → Taken Point
+point_read vars t w = kept ((length w == vars) && (is_amount t && are_amounts w)) (record { t = t; w = w })
+
+-- whether the second pair comes after the first
+abbrev pub is_before : ℕ × ℕ → ℕ × ℕ → Bool
+is_before q r = nat_lt q.0 r.0 || ((q.0 == r.0) && nat_lt q.1 r.1)
+
+-- a pair with its first point
+abbrev pub paired : ℕ → ℕ → Taken Point → Taken FirstPoint
+paired clause call o = option_map (option_map (λ x. record { pair = record { clause = clause; call = call }; point = x })) o
+
+unfoldable pub take_point : Listing → Partition → ℕ → ℕ × ℕ → ℕ → Fact → Taken FirstPoint
+take_point p comps a last i (fact.Point clause call t w) =
+    at_place (is_pair p comps a clause call && is_before last (clause, call)) (paired clause call (point_read (vars_of (numbered p.clauses clause)) t w))
+take_point p comps a last i _ = Some None
+
+unfoldable pub take_second : ℕ × ℕ → ℕ → ℕ → Fact → Taken Point
+take_second pair vars i (fact.At clause call t w) =
+    at_place ((clause == pair.0) && (call == pair.1)) (if int_eq t (pos 0) then None else point_read vars t w)
+take_second pair vars i _ = Some None
+
+abbrev pub pair_point : FirstPoint → Option Point → PairPoint
+pair_point x at = record { clause = x.pair.clause; call = x.pair.call; point = x.point; at = at }
+
+-- a point and, where its t is 0, the second one
+unfoldable pub read_second : Listing → FirstPoint → List Fact → Read PairPoint
+read_second p x s =
+    if int_eq x.point.t (pos 0)
+    then option_map (λ y. (pair_point x (Some y.0), y.1)) (read_next (take_second (pair_end x.pair) (vars_of (numbered p.clauses x.pair.clause))) 0 s)
+    else Some (pair_point x None, s)
+
+unfoldable pub read_point : Listing → Partition → ℕ → ℕ × ℕ → List Fact → Read PairPoint
+read_point p comps a last s = read_next (take_point p comps a last) 0 s >>= λ x. read_second p x.0 x.1
+
+unfoldable pub read_points : Listing → Partition → ℕ → ℕ × ℕ → ℕ → List Fact → Read (List PairPoint)
+read_points p comps a last zero s = Some ([], s)
+read_points p comps a last (suc n) s =
+    read_point p comps a last s >>= λ x. option_map (with_first x.0) (read_points p comps a (x.0.clause, x.0.call) n x.1)
+
+-- the refutation that a fact begins
+abbrev pub refutation_read : (ℕ → Read (List PairPoint)) → Fact → List Fact → Option ℕ → Read (Option Refutation)
+refutation_read points f s None = Some (None, f ∷ s)
+refutation_read points f s (Some n) = option_map (λ x. (Some (record { points = x.0 }), x.1)) (points n)
+
+unfoldable pub read_group : Listing → List (List ℕ) → Partition → ℕ → List Fact → Read (Option Refutation)
+read_group p names comps a [] = Some (None, [])
+read_group p names comps a (f ∷ s) = take_refuted (pred_text p names a) 0 f >>= refutation_read (λ n. read_points p comps a (0, 0) n s) f s
+
+-- whether the predicate is the first one of a recursive component without mappings
+abbrev pub is_open : Partition → List (List LevelPart) → ℕ → Bool
+is_open comps levels a = is_recursive comps a && ((first_of comps a == a) && (length (items_of levels a) == 0))
+
+unfoldable pub read_refutation : Listing → List (List ℕ) → Partition → List (List LevelPart) → ℕ → List Fact → Read (Option Refutation)
+read_refutation p names comps levels a s = if is_open comps levels a then read_group p names comps a s else Some (None, s)
+
+unfoldable pub read_modes : Listing → List (List ℕ) → ℕ → List Fact → Read (List (List ℕ))
+read_modes p names a s = read_next (take_modes (pred_text p names a)) 0 s
+
+unfoldable pub read_rows : Listing → List (List ℕ) → ℕ → List Fact → Read Rows
+read_rows p names a s =
+    option_map (λ x. (record { width = arity_of p a; list = x.0 }, x.1)) (read_many (take_row (pred_text p names a)) 0 s)
+
+unfoldable pub read_proofs : Listing → List Rows → ℕ → List Fact → Read (List Multipliers)
+read_proofs p rows k s = read_each (read_next (take_proof k (rows_of_atoms rows (body_of p k)))) 0 (rows_of rows (head_of p k)) s
+
+unfoldable pub read_grounds : Listing → List (List ℕ) → ℕ → List Fact → Read (List (List Cell))
+read_grounds p names a s = read_many (take_ground (pred_text p names a)) 0 s
+
+-- the levels of a predicate, given those of the predicates before it
+unfoldable pub read_level : Listing → List (List ℕ) → Partition → List (List LevelPart) → ℕ → List Fact → Read (List LevelPart)
+read_level p names comps earlier a s =
+    if is_recursive comps a
+    then if first_of comps a == a
+    then read_many (take_level (pred_text p names a)) 0 s
+    else read_each (read_next (take_level (pred_text p names a))) 0 (length (items_of earlier (first_of comps a))) s
+    else read_each (read_next (take_level (pred_text p names a))) 0 1 s
+
+unfoldable pub read_levels : Listing → List (List ℕ) → Partition → List (List LevelPart) → ℕ → ℕ → List Fact → Read (List (List LevelPart))
+read_levels p names comps earlier a zero s = Some (earlier, s)
+read_levels p names comps earlier a (suc n) s =
+    read_level p names comps earlier a s >>= λ x. read_levels p names comps (earlier ++ x.0 ∷ []) (suc a) n x.1
+
+-- the proofs for a call, where the atoms before it have so many rows
+unfoldable pub read_call : Partition → List (List LevelPart) → ℕ → ℕ → ℕ → ℕ → Option Atom → List Fact → Read (List Multipliers)
+read_call comps levels head k j rows call s = read_each (read_next (take_fall k j rows)) 0 (proofs_of_call comps levels head call) s
+
+unfoldable pub read_calls : Partition → List Rows → List (List LevelPart) → ℕ → ℕ → ℕ → ℕ → List Atom → List Fact → Read (List (List Multipliers))
+read_calls comps rows levels head k j before [] s = Some ([], s)
+read_calls comps rows levels head k j before (b ∷ bs) s =
+    read_call comps levels head k j before (Some b) s
+    >>= λ x. option_map (with_first x.0) (read_calls comps rows levels head k (suc j) (before + rows_of rows b.pred.0) bs x.1)
+
+unfoldable pub read_falls : Listing → Partition → List Rows → List (List LevelPart) → ℕ → List Fact → Read (List (List Multipliers))
+read_falls p comps rows levels k s = read_calls comps rows levels (head_of p k) k 0 0 (body_of p k) s
+
+unfoldable pub read_cubes : Listing → List (List ℕ) → ℕ → ℕ → List Fact → Read (List (List Cell))
+read_cubes p names a m s = read_many (take_pre (pred_text p names a) m) 0 s
+
+unfoldable pub read_pre : Listing → List (List ℕ) → List (List LevelPart) → ℕ → List Fact → Read (List (List (List Cell)))
+read_pre p names levels a s = read_each (read_cubes p names a) 0 (length (items_of levels a)) s
+
+-- the facts after that of version 1
+unfoldable pub read_version : List Fact → Option (List Fact)
+read_version [] = None
+read_version (fact.Cti version ∷ s) = if int_eq version (pos 1) then Some s else None
+read_version (_ ∷ s) = None
+
+-- all parts, and the notes after them
+unfoldable pub read_parts : Listing → List (List ℕ) → Partition → List Fact → Read Parts
+read_parts p names comps s = do
+  start ← read_version s
+  modes ← read_each (read_modes p names) 0 (length p.preds) start
+  rows ← read_each (read_rows p names) 0 (length p.preds) modes.1
+  proofs ← read_each (read_proofs p rows.0) 0 (length p.clauses) rows.1
+  grounds ← read_each (read_grounds p names) 0 (length p.preds) proofs.1
+  levels ← read_levels p names comps [] 0 (length p.preds) grounds.1
+  falls ← read_each (read_falls p comps rows.0 levels.0) 0 (length p.clauses) levels.1
+  cubes ← read_each (read_pre p names levels.0) 0 (length p.preds) falls.1
+  refutations ← read_each (read_refutation p names comps levels.0) 0 (length p.preds) cubes.1
+  Some (record { modes = modes.0; rows = rows.0; row_proofs = proofs.0; grounds = grounds.0; levels = levels.0; falls = falls.0; preconditions = cubes.0; refutations = refutations.0 }, refutations.1)

@@ -1,0 +1,35 @@
+//! The parts of a certificate: what it claims of each predicate and clause of a program, and with which proofs.
+//!
+//! A certificate is a list of facts. `parts_of` sorts them by predicates and clauses, and finds the first that may not stand at its
+//! place. What parts a certificate has is `IsStructured` of `specs/Structure.antt`. Whether what it claims is true is not asked here.
+//!
+//! Stands on `certificate`, `cti_terms`, `call_components`, `termination_model`, `linear_rows` and `bool_diagrams`.
+#![tactic(auto)]
+
+mod calls;
+mod clauses;
+mod cubes;
+mod falls;
+mod fault;
+mod grounds;
+mod kind;
+mod levels;
+mod modes;
+mod named;
+mod numbers;
+mod pair;
+mod parts;
+mod preconditions;
+mod reader;
+mod reading;
+mod refutations;
+mod sizes;
+mod stop;
+mod writer;
+mod writing;
+
+pub use fault::{PartsFault, StructureReason};
+pub use number_tests::{LevelPart, PairPoint, Refutation};
+pub use parts::Parts;
+pub use reading::{one_structure, parts_of};
+pub use writing::facts_of;

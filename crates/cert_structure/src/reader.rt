@@ -1,0 +1,47 @@
+//! Readers of a numbered item at the front of the facts.
+
+ghost use Rattle.std.specs.Prelude.{◌≡◌, ℕ, List, Option};
+ghost use Rattle.certificate.specs.declared.fact.Fact.{Fact as TheFact};
+ghost use Rattle.cert_structure.specs.Walk.{Agrees, read_each};
+
+use crate::stop::Stop;
+use certificate::Fact;
+use sequences::Sequence;
+use std::alloc::Global;
+
+/// A reader of items that are numbered from 0.
+pub(crate) trait Reader {
+    /// What is read.
+    type Item: Drop;
+
+    /// The item of a number at the front of the facts, and the facts after it.
+    ghost reads: { Self → ℕ → List TheFact → Option (Self.Item × List TheFact) };
+
+    /// The item of a number at the front of the facts, and the facts after it.
+    fn read<'f>(
+        &self,
+        alloc: Global,
+        number: u64,
+        facts: &'f [Fact],
+    ) -> Result<(Self::Item, &'f [Fact]), Stop>
+        ensures { Agrees result (reads self.now number facts.now) };
+}
+
+/// So many items, from number 0 on.
+pub(crate) fn each<'f, R: Reader>(
+    alloc: Global,
+    reader: &R,
+    count: u64,
+    facts: &'f [Fact],
+) -> Result<(Sequence<R::Item>, &'f [Fact]), Stop>
+    ensures { Agrees result (read_each (R.reads reader.now) 0 count facts.now) }
+{
+    let mut items = Sequence::new(alloc);
+    let mut rest = facts;
+    for number in 0..count {
+        let (item, after) = reader.read(alloc, number, rest)?;
+        items.push(item)?;
+        rest = after;
+    }
+    Ok((items, rest))
+}

@@ -1,0 +1,194 @@
+//! Reading the parts of a certificate.
+
+ghost use Rattle.std.specs.Prelude.{◌≡◌, ◌≢◌, ◌<◌, length, ℕ, List, IfOk, MatchResult, Some};
+ghost use Rattle.std.specs.List.{prefix_len};
+ghost use Rattle.call_components.specs.Partition.{Partition, AreComponents};
+ghost use Rattle.certificate.specs.declared.fact.Fact.{Fact as TheFact};
+ghost use Rattle.cti_terms.specs.Listing.{Listing};
+ghost use Rattle.cert_structure.specs.declared.fault.PartsFault.TheVariants.{Memory};
+ghost use Rattle.cert_structure.specs.declared.stop.Stop.TheVariants.{Memory as NoMemory};
+ghost use Rattle.cert_structure.specs.declared.parts.Parts.{Parts as TheParts};
+ghost use Rattle.cert_structure.specs.Order.{is_note, pred_text};
+ghost use Rattle.cert_structure.specs.Structure.{IsStructured, AreNamed, AreNotes};
+ghost use Rattle.cert_structure.specs.Walk.{Agrees, AgreesRest, read_version, read_parts};
+
+use crate::calls::Calls;
+use crate::falls::Falls;
+use crate::fault::{PartsFault, StructureReason};
+use crate::grounds::Grounds;
+use crate::levels::levels;
+use crate::modes::Modes;
+use crate::parts::Parts;
+use crate::preconditions::Preconditions;
+use crate::reader::each;
+use crate::refutations::Refutations;
+use crate::sizes::{PredRows, Proofs};
+use crate::stop::{Stop, wrong};
+use call_components::Components;
+use certificate::{Certificate, Fact};
+use cti_terms::{Names, Program};
+use std::alloc::Global;
+use termination_model::SizeRows;
+
+/// The facts after that of the version, which comes first.
+#[tactic(auto, unfolding(crate::specs::Walk::read_version))]
+fn version(facts: &[Fact]) -> Result<&[Fact], Stop>
+    ensures { AgreesRest result (read_version facts.now) }
+{
+    match facts.split_first() {
+        None => Err(wrong(facts, StructureReason::Missing)),
+        Some((Fact::Cti { version }, rest)) => {
+            if *version == 1 {
+                Ok(rest)
+            } else {
+                Err(wrong(facts, StructureReason::Version))
+            }
+        }
+        Some(_) => Err(wrong(facts, StructureReason::Extra)),
+    }
+}
+
+/// The parts, and the notes after them.
+#[tactic(auto, unfolding(crate::specs::Walk::read_parts))]
+fn parts<'f>(
+    alloc: Global,
+    calls: &Calls,
+    names: &Names,
+    facts: &'f [Fact],
+) -> Result<(Parts, &'f [Fact]), Stop>
+    ensures { Agrees result (read_parts calls.now.p.now names.now calls.now.comps.now facts.now) }
+{
+    let p = calls.p;
+    let (preds, clauses) = (u64::from(p.preds()), u64::from(p.clauses()));
+    let facts = version(facts)?;
+    let (modes, facts) = each(alloc, &Modes { p, names }, preds, facts)?;
+    let (rows, facts) = each(alloc, &PredRows { p, names }, preds, facts)?;
+    let rows = SizeRows::from_vec(rows.into_vec());
+    let (row_proofs, facts) = each(alloc, &Proofs { p, rows: &rows }, clauses, facts)?;
+    let (grounds, facts) = each(alloc, &Grounds { p, names }, preds, facts)?;
+    let (levels, facts) = levels(alloc, calls, names, facts)?;
+    let falls = Falls {
+        calls: *calls,
+        rows: &rows,
+        levels: levels.as_slice(),
+    };
+    let (falls, facts) = each(alloc, &falls, clauses, facts)?;
+    let cubes = Preconditions {
+        p,
+        names,
+        levels: levels.as_slice(),
+    };
+    let (preconditions, facts) = each(alloc, &cubes, preds, facts)?;
+    let refutations = Refutations {
+        calls: *calls,
+        names,
+        levels: levels.as_slice(),
+    };
+    let (refutations, facts) = each(alloc, &refutations, preds, facts)?;
+    Ok((
+        Parts {
+            modes,
+            rows,
+            row_proofs,
+            grounds,
+            levels,
+            falls,
+            preconditions,
+            refutations,
+        },
+        facts,
+    ))
+}
+
+/// Whether a fact is a note.
+fn is_note(fact: &Fact) -> bool
+    ensures { result ≡ is_note fact.now }
+{
+    matches!(
+        fact,
+        Fact::Image { .. }
+            | Fact::Step { .. }
+            | Fact::WeakImage { .. }
+            | Fact::WeakStep { .. }
+            | Fact::Blown { .. }
+            | Fact::Large { .. }
+    )
+}
+
+/// How many of the facts are notes, before the first that is none.
+fn notes(facts: &[Fact]) -> usize
+    ensures { result ≡ prefix_len is_note facts.now }
+{
+    let mut count = 0;
+    for fact in facts {
+        if !is_note(fact) {
+            return count;
+        }
+        count += 1;
+    }
+    count
+}
+
+/// The parts, where all facts after them are notes.
+fn whole(alloc: Global, calls: &Calls, names: &Names, facts: &[Fact]) -> Result<Parts, Stop>
+    ensures found { IfOk result (λ parts. (notes : List TheFact) × (read_parts calls.now.p.now names.now calls.now.comps.now facts.now ≡ Some (parts, notes)) × AreNotes notes) }
+    ensures only { (parts : TheParts) (notes : List TheFact) → read_parts calls.now.p.now names.now calls.now.comps.now facts.now ≡ Some (parts, notes) → AreNotes notes → MatchResult result (λ own. own ≡ parts) (λ stop. stop ≡ NoMemory) }
+{
+    let (parts, rest) = parts(alloc, calls, names, facts)?;
+    let count = notes(rest);
+    if count < rest.len() {
+        return Err(Stop::Wrong {
+            left: rest.len() - count,
+            reason: StructureReason::Extra,
+        });
+    }
+    Ok(parts)
+}
+
+/// The predicates of a program are told apart by their texts.
+fn told_apart(p: &Program, names: &Names)
+    requires { AreNamed names.now p.now.preds }
+    ensures { (a b : ℕ) → a < b → b < length p.now.preds → pred_text p.now names.now b ≢ pred_text p.now names.now a }
+{
+    let _preds = p.preds();
+    let _names = names.count();
+}
+
+/// The parts of a certificate: what it claims of each predicate and clause of a program, and with which proofs.
+///
+/// It takes time linear in the sizes of the certificate and of the program. Fails with `Wrong`, and the line of the first wrong
+/// fact, where the certificate has no parts.
+pub fn parts_of(
+    alloc: Global,
+    p: &Program,
+    names: &Names,
+    comps: &Components,
+    c: &Certificate,
+) -> Result<Parts, PartsFault>
+    requires named { AreNamed names.now p.now.preds }
+    requires components { AreComponents p.now comps.now }
+
+    // The certificate has the parts that are found.
+    ensures found { IfOk result (λ parts. IsStructured p.now names.now comps.now parts c.now.facts) }
+
+    // The parts of a certificate are found, unless memory runs out; so it has no others, and none where a line is wrong.
+    ensures only { (parts : TheParts) → IsStructured p.now names.now comps.now parts c.now.facts → MatchResult result (λ found. found ≡ parts) (λ fault. fault ≡ Memory) }
+{
+    told_apart(p, names);
+    let facts = c.facts.as_slice();
+    let calls = Calls { p, comps };
+    match whole(alloc, &calls, names, facts) {
+        Ok(parts) => Ok(parts),
+        Err(Stop::Wrong { left, reason }) => Err(PartsFault::Wrong {
+            line: (facts.len() - left.min(facts.len())) as u64 + 1,
+            reason,
+        }),
+        Err(Stop::Memory) => Err(PartsFault::Memory),
+    }
+}
+
+/// What parts a certificate has does not depend on how the components are numbered.
+pub fn one_structure()
+    ensures { (p : Listing) (names : List (List ℕ)) (one other : Partition) (parts : TheParts) (facts : List TheFact) → AreComponents p one → AreComponents p other
+        → IsStructured p names one parts facts → IsStructured p names other parts facts }
+{}

@@ -1,6 +1,0 @@
-use Rattle.std.proofs.Common.{◌≡◌, take}
-use Rattle.certificate_parts.proofs.modes.copied.Given as goal
-
--- the modes so far are copied
-abbrev pub invariant-loop-mode : goal.invariant-loop-mode
-invariant-loop-mode l = l.copy ≡ take l.mode-index l.modes

@@ -1,5 +1,0 @@
-pub mod Numbered
-pub mod Order
-pub mod Shape
-pub mod Structure
-pub mod Walk

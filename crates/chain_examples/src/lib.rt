@@ -1,0 +1,5 @@
+//! Worked chains of size rows, as tables.
+#![tactic(auto)]
+
+#[cfg(test)]
+mod chains;

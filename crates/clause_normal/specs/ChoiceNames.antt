@@ -1,0 +1,30 @@
+-- The names that the normal form adds: those of the disjunctions' predicates, in the order in which they are called.
+--
+-- To believe: all of this file, and in prolog_reader `with_names`.
+use Rattle.std.specs.Prelude.{ℕ, List, [], ◌∷◌, ◌++◌, Result, Ok, Err}
+use Rattle.prolog_reader.specs.Clauses.{Clause}
+use Rattle.prolog_reader.specs.Naming.{with_names}
+use Rattle.clause_normal.specs.NormalForm.{Fault, normal_rules}
+use Rattle.clause_normal.specs.Numbering.{choice_text}
+use Rattle.clause_normal.specs.Rules.{Functor, named, chosen, Call, Rule}
+
+-- what is called has a name, or gets this one
+abbrev pub functor_texts : Functor → List (List ℕ)
+functor_texts (named f) = []
+functor_texts (chosen m) = choice_text m ∷ []
+
+abbrev pub call_texts : List Call → List (List ℕ)
+call_texts [] = []
+call_texts (c ∷ cs) = functor_texts c.functor ++ call_texts cs
+
+abbrev pub rule_texts : List Rule → List (List ℕ)
+rule_texts [] = []
+rule_texts (r ∷ rs) = call_texts (r.head ∷ r.body) ++ rule_texts rs
+
+abbrev pub made_texts : Result (List Rule) Fault → List (List ℕ)
+made_texts (Ok rs) = rule_texts rs
+made_texts (Err f) = []
+
+-- the names of the program of a text's clauses, behind those by which the text was read
+abbrev pub program_names : List (List ℕ) → List Clause → List (List ℕ)
+program_names names clauses = with_names names (made_texts (normal_rules names [] 1 clauses))

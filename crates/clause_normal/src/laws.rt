@@ -1,0 +1,15 @@
+//! Where faults stand. It is a function that does nothing, and whose clauses are proved.
+
+ghost use Rattle.std.specs.Prelude.{◌≡◌, ◌≤◌, ℕ, List, Err};
+ghost use Rattle.cti_terms.specs.Listing.{Listing};
+ghost use Rattle.prolog_grammar.specs.Places.{IsPlaced};
+ghost use Rattle.prolog_reader.specs.Clauses.{Clause};
+ghost use Rattle.prolog_reader.specs.Places.{ArePlacedClauses};
+ghost use Rattle.clause_normal.specs.NormalForm.{Fault, normal_form};
+ghost use Rattle.clause_normal.specs.Query.{query_form};
+
+/// A fault of the normal form stands within the text, where its clauses do.
+pub fn faults_stand_in_their_texts()
+    ensures text { (size : ℕ) (names : List (List ℕ)) (clauses : List Clause) (f : Fault) → ArePlacedClauses size clauses → normal_form names clauses ≡ Err f → f.1 ≤ size }
+    ensures query { (size : ℕ) (names : List (List ℕ)) (p : Listing) (clause : Clause) (f : Fault) → IsPlaced size clause.term → query_form names p clause ≡ Err f → f.1 ≤ size }
+{}

@@ -1,0 +1,9 @@
+//! Worked examples of the calls of the libraries, as tables.
+#![tactic(auto)]
+
+#[cfg(test)]
+mod checks;
+#[cfg(test)]
+mod commands;
+#[cfg(test)]
+mod texts;

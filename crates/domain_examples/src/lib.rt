@@ -1,0 +1,5 @@
+//! Worked domains of size rows, as tables.
+#![tactic(auto)]
+
+#[cfg(test)]
+mod domains;

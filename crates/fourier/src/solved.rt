@@ -1,0 +1,11 @@
+// What solving finds.
+use linear_rows::{Multipliers, Point};
+
+/// What solving finds of rows.
+#[derive(Drop)]
+pub enum Solved {
+    /// A point at which all rows hold.
+    Point(Point),
+    /// Multipliers with scale 0, which show that the rows hold nowhere.
+    Refuted(Multipliers),
+}

@@ -1,0 +1,76 @@
+use Rattle.std.proofs.Common.{◌≡◌, ◌+◌, ◌-◌, ◌<◌, inl, inr, ℕ, Bool, false, List, Contains, length, slice_get, Some, ap, sym, subst, ◌∙◌, arith}
+use Rattle.std.proofs.lemmas.Bool.{cases_eq}
+use Rattle.std.proofs.lemmas.List.{length-set}
+use Rattle.cti_terms.specs.declared.clauses.Clause.{Clause}
+use Rattle.truth_rows.specs.Sets.{family_of}
+use Rattle.truth_rows.proofs.ListLaws.{place_below, set_elsewhere}
+use Rattle.groundness.specs.Marks.{HasUser, IsApart, IsMarked, marks_left}
+use Rattle.groundness.specs.Missing.{all_missing}
+use Rattle.groundness.proofs.MarkLaws.{left_taken, less_marks, less_work}
+use Rattle.groundness.proofs.RoundLaws.{closed_later, missing_same, still_closed}
+use Rattle.groundness.proofs.solving.add_next.Goals as goal
+
+pub returns-then-not-grew-clause-closed : goal.returns-then-not-grew-clause-closed
+returns-then-not-grew-clause-closed g c =
+    let p = c.args.p.now in
+    let k = c.in-Some.k in
+    let marks = c.args.marks.now in
+    let truth = g.N.Norm.truth c.args.norm.now in
+    let a = c.in_ok-grew.ensures in
+    let none = c.if-not-grew.true in
+    λ j x at off. elim (cases_eq j k) [
+      | inl same ↦ a.closed x (ap (slice_get p.clauses) (omega arith) ∙ at) (λ grew. absurd (cc))
+      | inr other ↦
+          closed_later p.preds c.args.table.now c.add_rows.new.table c.add_rows.ensures.keeps c.args.sets.now c.requires.sets.known truth c.add_rows.new.sets (a.same none) x
+          (c.requires.closed j x at (λ m. off (subst (λ (ms : List Bool). IsMarked ms j) (sym c.in-Some.ensures.taken.0) (set_elsewhere marks k j false other ∙ m))))
+    ]
+
+pub returns-then-not-grew-clause-less : goal.returns-then-not-grew-clause-less
+returns-then-not-grew-clause-less g c = λ _.
+    let p = c.args.p.now in
+    let k = c.in-Some.k in
+    let marks = c.args.marks.now in
+    let t = c.in-Some.ensures.taken in
+    less_marks (all_missing p.preds c.add_rows.new.table c.add_rows.new.sets) (all_missing p.preds c.args.table.now c.args.sets.now) c.take.new.self marks
+    (missing_same p.preds c.args.table.now c.add_rows.new.table c.add_rows.ensures.keeps c.args.sets.now c.requires.sets.known c.add_rows.new.sets (c.in_ok-grew.ensures.same c.if-not-grew.true))
+    (ap length t.0 ∙ length-set marks k false)
+    (subst (λ (ms : List Bool). marks_left ms < marks_left marks) (sym t.0) (left_taken marks k t.1))
+
+pub clause-requires-clause-last : goal.clause-requires-clause-last
+clause-requires-clause-last g c = omega (arith, place_below c.args.marks.now c.in-Some.k _ c.in-Some.ensures.taken.1, c.requires.each)
+
+pub mark_all-requires : goal.mark_all-requires
+mark_all-requires g c = λ j h.
+    let q = c.clause.result.now.head.pred.0 in
+    let long = ap length c.in-Some.ensures.taken.0 ∙ length-set c.args.marks.now c.in-Some.k false in
+    omega (arith, c.requires.users.within q j (subst (λ (xs : List ℕ). Contains xs j) c.of.ensures h), c.requires.each, long)
+
+pub returns-clause-closed : goal.returns-clause-closed
+returns-clause-closed g c =
+    let p = c.args.p.now in
+    let k = c.in-Some.k in
+    let marks = c.args.marks.now in
+    let truth = g.N.Norm.truth c.args.norm.now in
+    let a = c.in_ok-grew.ensures in
+    let clause = c.clause.result.now in
+    let there = c.clause.ensures.there in
+    λ j x at off.
+    let apart : IsApart x clause.head.pred.0 = λ i b e same.
+    off (c.in_ok-mark_all.ensures.marked j (subst (λ (xs : List ℕ). Contains xs j) (sym c.of.ensures) (subst (λ q. HasUser c.args.users.now q j) same (c.requires.users.all j x i b at e)))) in
+    elim (cases_eq j k) [
+      | inl same ↦
+          let at' : slice_get p.clauses (k + 1 - 1) ≡ Some x = ap (slice_get p.clauses) (omega arith) ∙ at in
+          let is : clause ≡ x = cc in
+          a.closed x at' (λ grew. subst (λ (y : Clause). IsApart x y.head.pred.0) is apart)
+      | inr other ↦
+          still_closed truth (family_of p.preds c.args.table.now c.args.sets.now) (family_of p.preds c.add_rows.new.table c.add_rows.new.sets) clause.head.pred.0 a.inside (a.others clause there) x apart
+          (c.requires.closed j x at (λ m. off (c.mark_all.ensures.more j (subst (λ (ms : List Bool). IsMarked ms j) (sym c.in-Some.ensures.taken.0) (set_elsewhere marks k j false other ∙ m)))))
+    ]
+
+pub returns-clause-less : goal.returns-clause-less
+returns-clause-less g c = λ _.
+    let p = c.args.p.now in
+    let marks = c.args.marks.now in
+    less_work (all_missing p.preds c.add_rows.new.table c.add_rows.new.sets) (all_missing p.preds c.args.table.now c.args.sets.now) c.mark_all.new.self marks
+    (c.in_ok-grew.ensures.less c.if-not-grew.false)
+    (c.mark_all.ensures.each ∙ ap length c.in-Some.ensures.taken.0 ∙ length-set marks c.in-Some.k false)

@@ -1,0 +1,6 @@
+use Rattle.std.proofs.Common.{◌≡◌, drop}
+use Rattle.level_dual.specs.Mappings.{level_in}
+use Rattle.level_dual.proofs.falling.find_part.Given as goal
+
+abbrev pub invariant-loop-measure : goal.invariant-loop-measure
+invariant-loop-measure l = level_in (drop l.measure-index l.measures) l.pred.0 ≡ level_in l.measures l.pred.0

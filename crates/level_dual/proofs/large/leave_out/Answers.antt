@@ -1,0 +1,40 @@
+use Rattle.std.proofs.Common.{◌≡◌, ◌+◌, ◌≤◌, ◌++◌, ◌∷◌, [], ℕ, List, length, slice_get, get_or, Some, ap, sym, subst, ◌∙◌, arith}
+use Rattle.termination_model.specs.Minimal.{IsExcluded}
+use Rattle.termination_model.specs.ComponentViews.{Has}
+use Rattle.termination_model.proofs.Lists.{there}
+use Rattle.level_dual.specs.Found.{without}
+use Rattle.level_dual.specs.Large.{AreTried}
+use Rattle.level_dual.specs.Searched.{IsAnswer}
+use Rattle.level_dual.proofs.LargeLaws.{all_tried, excluded_too, given_up_too}
+use Rattle.level_dual.proofs.large.leave_out.Goals.{in-Mapping+in_ok-smaller-in-Mapping+else-len-support+in_ok-push-in-Mapping, in-Refuted, in-Blown+in_ok-push-in-Blown}
+use Rattle.level_dual.proofs.large.leave_out.Goals as goal
+
+pub loop-number-preserved : goal.loop-number-preserved
+loop-number-preserved c = λ size truth expression comps rows r h once.
+    let p = c.args.p.now in
+    let s = c.args.support.now in
+    let k = c.loop-number.number-index in
+    let i = get_or s k 0 in
+    let at : slice_get s k ≡ Some i = there s k 0 c.loop-number-test.true in
+    let before = c.loop-number.invariant size truth expression comps rows r h once in
+    let set : c.in_ok-set.set ≡ without i s = c.in_ok-set.ensures in
+    let slice : c.as_slice.result.now ≡ without i s = c.as_slice.ensures ∙ set in
+    elim c.match-branch-3.branch [
+      | in-Mapping+in_ok-smaller-in-Mapping+else-len-support+in_ok-push-in-Mapping w ↦
+          subst (AreTried expression p comps rows r s (k + 1)) (sym (w.blown-is ∙ w.in_ok-push-in-Mapping.ensures.ok ∙ ap (λ t. c.loop-number.blown ++ t ∷ []) set))
+          (given_up_too expression p comps rows r s k i at c.loop-number.blown before once)
+      | in-Refuted w ↦
+          subst (AreTried expression p comps rows r s (k + 1)) (sym w.blown-is)
+          (excluded_too expression p comps rows r s k i at c.loop-number.blown before
+          (subst (IsExcluded (Has expression p comps rows r)) slice (subst (IsAnswer expression p comps rows r c.as_slice.result.now) w.in-Refuted.is (c.in_ok-mapping.ensures size truth expression comps rows r h))))
+      | in-Blown+in_ok-push-in-Blown w ↦
+          subst (AreTried expression p comps rows r s (k + 1)) (sym (w.blown-is ∙ w.in_ok-push-in-Blown.ensures.ok ∙ ap (λ t. c.loop-number.blown ++ t ∷ []) set))
+          (given_up_too expression p comps rows r s k i at c.loop-number.blown before once)
+    ]
+
+pub returns-clause-left_out : goal.returns-clause-left_out
+returns-clause-left_out c = λ size truth expression comps rows r h once.
+    let k = c.loop-number.number-index in
+    let s = c.args.support.now in
+    let done : length s ≤ k = omega (arith, c.loop-number-test.false) in
+    all_tried expression c.args.p.now comps rows r s k c.loop-number.blown done (c.loop-number.invariant size truth expression comps rows r h once)

@@ -1,0 +1,6 @@
+use Rattle.std.proofs.Common.{◌≡◌, take, true}
+use Rattle.termination_model.specs.Modes.{is_part}
+use Rattle.level_dual.proofs.walking.is_part.Given as goal
+
+abbrev pub invariant-loop-x : goal.invariant-loop-x
+invariant-loop-x l = is_part (take l.x-index l.xs) l.ys ≡ true

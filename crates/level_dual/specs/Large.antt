@@ -1,0 +1,41 @@
+-- Components of many positions, as the code looks at them. Nothing here has to be believed.
+use Rattle.std.specs.Prelude.{◌≡◌, ◌<◌, ◌⊎◌, nat_lt, ℕ, ℤ, Bool, List, length, map, take}
+use Rattle.cti_terms.specs.Listing.{Listing}
+use Rattle.cti_terms.specs.Tree.{Tree}
+use Rattle.call_components.specs.Partition.{Partition}
+use Rattle.linear_rows.specs.Members.{In}
+use Rattle.termination_model.specs.Best.{coefficient}
+use Rattle.termination_model.specs.ComponentViews.{Has, positions_in}
+use Rattle.termination_model.specs.Minimal.{IsExcluded}
+use Rattle.termination_model.specs.OwnCalls.{Position}
+use Rattle.level_dual.specs.Found.{without}
+use Rattle.level_dual.specs.Mappings.{mapping_of, support_of}
+use Rattle.level_dual.specs.Searched.{IsDecreasing}
+use Rattle.level_dual.specs.Subsequences.{AreOnce}
+use Rattle.level_dual.specs.declared.large.LeftOut.{LeftOut}
+use Rattle.level_dual.specs.declared.large.LeftOut.TheVariants.{Smaller, None as NoneLeft}
+use Rattle.level_dual.specs.declared.mapping.Mapping.{Mapping}
+use Rattle.level_dual.specs.declared.measure.Measure.{Measure}
+
+abbrev pub has_coefficient : List Measure → Position → Bool
+has_coefficient ms x = nat_lt 0 (coefficient ((mapping_of ms).coefficients x.0) x.1)
+
+-- a smaller mapping has a shorter support
+abbrev pub IsShorterThan : List Position → ℕ → LeftOut → Type 0
+IsShorterThan positions n (Smaller m) = length (support_of positions m) < n
+IsShorterThan positions n (NoneLeft blown) = Unit {0}
+
+module _ (expression : ℕ → Tree → List ℤ) (p : Listing) (comps : Partition) (rows : ℕ → List (List ℤ)) (c : ℕ) where
+  -- a mapping of the component that decreases
+  abbrev pub IsHadMapping : Mapping → Type 0
+  IsHadMapping m = IsDecreasing expression p comps rows c m × Has expression p comps rows c (support_of (positions_in p comps c) m)
+
+  abbrev pub IsLeftOut : List ℕ → LeftOut → Type 0
+  IsLeftOut s (Smaller m) = IsHadMapping m
+  IsLeftOut s (NoneLeft blown) = ((i : ℕ) → In i s → In (without i s) blown ⊎ IsExcluded (Has expression p comps rows c) (without i s)) × AreOnce blown
+
+  -- each of the first k numbers of a set was left out
+  pub record AreTried (s : List ℕ) (k : ℕ) (blown : List (List ℕ)) : Type 0 where
+    pub tried : (i : ℕ) → In i (take k s) → In (without i s) blown ⊎ IsExcluded (Has expression p comps rows c) (without i s)
+    pub tested : (t : List ℕ) → In t blown → (i : ℕ) × In i (take k s) × (t ≡ without i s)
+    pub once : AreOnce blown

@@ -1,0 +1,34 @@
+//! What is found of a component's mappings.
+
+use crate::mapping::Mapping;
+use number_tests::Refutation;
+use sequences::Sequence;
+
+/// The mappings of a component, or why there are none.
+///
+/// The positions of a component are numbered from 1, by predicate and argument. A support is the ascending list of the
+/// numbers of its positions.
+pub struct Found {
+    /// Decreasing mappings, by their supports: the shorter ones first.
+    pub mappings: Sequence<Mapping>,
+
+    /// Why no mapping decreases.
+    pub refutation: Option<Refutation>,
+
+    /// The supports that were given up, since their systems are blown.
+    pub blown: Sequence<Sequence<u32>>,
+
+    /// Whether there are more than 12 positions, so that not all supports are looked at.
+    pub large: bool,
+}
+
+impl Drop for Found {
+    fn drop(self) {
+        let Found {
+            mappings: _,
+            refutation: _,
+            blown: _,
+            large: _,
+        } = self;
+    }
+}

@@ -1,0 +1,136 @@
+//! Components of many positions: one mapping, none of whose positions can be left out.
+
+ghost use Rattle.std.specs.Prelude.{◌≡◌, ◌↔◌, ◌<◌, ◌^◌, ℕ, ℤ, Bool, List, IfOk, IsTrue, length, map, nat_lt, true};
+ghost use Rattle.call_components.specs.Partition.{Partition};
+ghost use Rattle.cti_terms.specs.Tree.{Tree};
+ghost use Rattle.level_dual.specs.Found.{IsFound, count, without};
+ghost use Rattle.level_dual.specs.Held.{spelled};
+ghost use Rattle.level_dual.specs.Large.{IsHadMapping, IsLeftOut, IsShorterThan, has_coefficient};
+ghost use Rattle.level_dual.specs.Mappings.{support_of};
+ghost use Rattle.level_dual.specs.Searched.{IsComponent, IsSound};
+ghost use Rattle.level_dual.specs.Subsequences.{AreOnce};
+
+use crate::answer::Answer;
+use crate::component::Component;
+use crate::falling::find_part;
+use crate::found::Found;
+use crate::mapping::Mapping;
+use crate::measure::Measure;
+use crate::position::Position;
+use crate::searching::search;
+use cti_terms::Program;
+use sequences::Sequence;
+use std::alloc::{AllocError, Global};
+
+// Whether a mapping has a positive coefficient at a position.
+fn has_coefficient(measures: &[Measure], position: Position) -> bool
+    ensures { result ≡ has_coefficient measures.now (spelled position) }
+{
+    let Some(part) = find_part(measures, position.pred) else {
+        return false;
+    };
+    part.coeffs.entry(position.argument as usize).unsigned_abs() > 0
+}
+
+// The numbers of the positions at which a mapping has a positive coefficient.
+fn support_of(
+    alloc: Global,
+    positions: &[Position],
+    mapping: &Mapping,
+) -> Result<Vec<u32>, AllocError>
+    requires { length positions.now < 2 ^ 32 }
+    ensures { IfOk result (λ support. support.items ≡ support_of (map spelled positions.now) mapping.now) }
+{
+    let mut support = Vec::new(alloc);
+    for i in 0..positions.len() {
+        if has_coefficient(mapping.measures.as_slice(), positions[i]) {
+            support.push(i as u32 + 1)?;
+        }
+    }
+    Ok(support)
+}
+
+// The set without a number.
+fn without(alloc: Global, set: &[u32], number: u32) -> Result<Sequence<u32>, AllocError>
+    ensures { IfOk result (λ rest. rest ≡ without number set.now) }
+{
+    let mut rest = Vec::new(alloc);
+    for other in set {
+        if number != *other {
+            rest.push(*other)?;
+        }
+    }
+    Ok(Sequence::from_vec(rest))
+}
+
+/// What is found of the supports without one position.
+#[derive(Drop)]
+pub(crate) enum LeftOut {
+    /// A mapping of smaller support.
+    Smaller(Mapping),
+    /// No mapping, unless at one of these sets, which were given up.
+    None(Sequence<Sequence<u32>>),
+}
+
+// Searches at the support of a mapping without one position after another, up to a mapping of smaller support.
+fn leave_out(
+    alloc: Global,
+    p: &Program,
+    component: &Component,
+    support: &[u32],
+) -> Result<LeftOut, AllocError>
+    requires sound { IsSound p.now component.now }
+    requires small { length component.now.positions.items < 2 ^ 32 }
+    ensures shorter { IfOk result (IsShorterThan (map spelled component.now.positions.items) (length support.now)) }
+    ensures left_out { IfOk result (λ out. (size : (ℕ → ℕ) → Tree → ℕ) (truth : (ℕ → Bool) → Tree → Bool) (expression : ℕ → Tree → List ℤ) (comps : Partition) (rows : ℕ → List (List ℤ)) (c : ℕ)
+        → IsComponent size truth expression p.now comps rows c component.now → AreOnce support.now → IsLeftOut expression p.now comps rows c support.now out) }
+{
+    let mut blown = Sequence::new(alloc);
+    for number in support {
+        let set = without(alloc, support, *number)?;
+        match search(alloc, p, component, set.as_slice())? {
+            Answer::Mapping(mapping) => {
+                let smaller = support_of(alloc, component.positions.as_slice(), &mapping)?;
+                if smaller.len() < support.len() {
+                    return Ok(LeftOut::Smaller(mapping));
+                }
+                blown.push(set)?;
+            }
+            Answer::Refuted => {}
+            Answer::Blown => blown.push(set)?,
+        }
+    }
+    Ok(LeftOut::None(blown))
+}
+
+/// A mapping none of whose positions can be left out, from one whose positions perhaps can.
+pub(crate) fn find_large(
+    alloc: Global,
+    p: &Program,
+    component: &Component,
+    mapping: Mapping,
+) -> Result<Found, AllocError>
+    requires sound { IsSound p.now component.now }
+    requires small { length component.now.positions.items < 2 ^ 32 }
+    ensures { IfOk result (λ f. (size : (ℕ → ℕ) → Tree → ℕ) (truth : (ℕ → Bool) → Tree → Bool) (expression : ℕ → Tree → List ℤ) (comps : Partition) (rows : ℕ → List (List ℤ)) (c : ℕ)
+        → IsComponent size truth expression p.now comps rows c component.now → IsTrue true ↔ (12 < count expression p.now comps rows c)
+        → IsHadMapping expression p.now comps rows c mapping → IsFound expression p.now comps rows c f) }
+{
+    let mut mapping = mapping;
+    loop {
+        let support = support_of(alloc, component.positions.as_slice(), &mapping)?;
+        match leave_out(alloc, p, component, support.as_slice())? {
+            LeftOut::Smaller(smaller) => mapping = smaller,
+            LeftOut::None(blown) => {
+                let mut mappings = Sequence::new(alloc);
+                mappings.push(mapping)?;
+                return Ok(Found {
+                    mappings,
+                    refutation: None,
+                    blown,
+                    large: true,
+                });
+            }
+        }
+    }
+}

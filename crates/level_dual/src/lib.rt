@@ -1,0 +1,41 @@
+//! Level mappings of a component, by duality.
+//!
+//! A mapping gives each atom of a member a natural number: an offset and multiples of the sizes of its arguments. It
+//! decreases where the number of a clause's head is above that of each call of a member, for all sizes that obey the
+//! size rows of the atoms before the call. `mappings` finds the minimal supports of such mappings, or a refutation, which
+//! shows that there is none. At a set of positions, a point of one linear system is a mapping with multipliers that show
+//! its falls; multipliers that refute the system are points of the calls' variables, which rule mappings out. The falls
+//! and the refutation are tested as the check of a certificate tests them. What is found is said in `specs/Found.antt`.
+#![tactic(auto)]
+
+mod answer;
+mod collect;
+mod collecting;
+mod component;
+mod fall;
+mod falling;
+mod finding;
+mod found;
+mod large;
+mod mapping;
+mod measure;
+mod members;
+mod own_call;
+mod picking;
+mod position;
+mod reaching;
+mod refuting;
+mod searching;
+mod small;
+mod solving;
+mod support_rows;
+mod values;
+mod walked;
+mod walking;
+
+pub use fall::Fall;
+pub use finding::mappings;
+pub use found::Found;
+pub use mapping::Mapping;
+pub use measure::Measure;
+pub use number_tests::{LevelPart, PairPoint, Refutation};

@@ -1,0 +1,279 @@
+//! Refutations of a component, tested as a certificate's check tests them.
+
+ghost use Rattle.std.specs.Prelude.{◌≡◌, ◌↔◌, ◌<◌, ◌⊎◌, ◌≤ℤ◌, ℕ, ℤ, All, List, IfOk, IfSome, IsTrue, length, map, pos, true};
+ghost use Rattle.std.specs.List.{AllByRecursion};
+ghost use Rattle.call_components.specs.Numbers.{number_of};
+ghost use Rattle.call_components.specs.Partition.{IsIn, Partition};
+ghost use Rattle.level_dual.specs.Found.{IsNaturalPoint, IsRefutationOf, PairsAscend};
+ghost use Rattle.level_dual.specs.Held.{IsHeld};
+ghost use Rattle.level_dual.specs.Refuted.{HasPoints, HasWidths, IsOfCalls, IsPointAt};
+ghost use Rattle.level_dual.specs.Searched.{IsSound};
+ghost use Rattle.linear_rows.specs.Members.{In};
+ghost use Rattle.linear_rows.specs.Plain.{HaveWidth};
+ghost use Rattle.level_dual.specs.declared.own_call.OwnCall.{OwnCall};
+ghost use Rattle.termination_model.specs.Sizes.{AreSizes, rows_of};
+ghost use Rattle.termination_model.specs.ComponentViews.{members_in};
+
+use crate::component::Component;
+use crate::own_call::OwnCall;
+use crate::reaching::point_of;
+use crate::solving::solve_by;
+use crate::support_rows::support_system;
+use cti_terms::Program;
+use fourier::Solved;
+use linear_rows::{Numbers, Point};
+use number_tests::{PairPoint, Refutation, points_flaw, sums_flaw};
+use sequences::Sequence;
+use std::alloc::{AllocError, Global};
+use term_size::Norm;
+use termination_model::Sizes;
+
+// Whether all numbers are 0.
+fn are_zero(numbers: &[i128]) -> bool {
+    for number in numbers {
+        if *number != 0 {
+            return false;
+        }
+    }
+    true
+}
+
+// The point of a call that multipliers spell: its t first. Where that is 0, a second point is given.
+fn pair_point(
+    alloc: Global,
+    own: &OwnCall,
+    t: i128,
+    values: &[i128],
+) -> Result<Option<PairPoint>, AllocError>
+    requires widths { HaveWidth own.now.rows.width own.now.rows.list }
+    requires values { length values.now ≡ own.now.rows.width }
+    ensures { IfOk result (λ o. IfSome o (IsPointAt own.now)) }
+{
+    let at = if t == 0 {
+        let Some(second) = point_of(alloc, &own.rows)? else {
+            return Ok(None);
+        };
+        Some(second)
+    } else {
+        None
+    };
+    let w = Numbers::from_vec(Vec::from_slice(alloc, values)?);
+    Ok(Some(PairPoint {
+        clause: own.clause,
+        call: own.call,
+        point: Point { t, w },
+        at,
+    }))
+}
+
+// Adds the point of a call, unless all its numbers are 0, and says whether that was possible.
+fn add_point(
+    alloc: Global,
+    own: &OwnCall,
+    numbers: &[i128],
+    points: &mut Sequence<PairPoint>,
+) -> Result<bool, AllocError>
+    requires widths { HaveWidth own.now.rows.width own.now.rows.list }
+    ensures { IfOk result (λ done. (owns : List OwnCall) → In own.now owns → AllByRecursion (IsOfCalls owns) points.old → AllByRecursion (IsOfCalls owns) points.new) }
+{
+    if are_zero(numbers) {
+        return Ok(true);
+    }
+    let Some((t, values)) = numbers.split_first() else {
+        return Ok(false);
+    };
+    if values.len() != own.rows.width as usize {
+        return Ok(false);
+    }
+    let Some(point) = pair_point(alloc, own, *t, values)? else {
+        return Ok(false);
+    };
+    points.push(point)?;
+    Ok(true)
+}
+
+// The points of calls that multipliers of a system's rows spell, in their order.
+fn points_of(
+    alloc: Global,
+    calls: &[OwnCall],
+    numbers: &[i128],
+) -> Result<Option<Sequence<PairPoint>>, AllocError>
+    requires { AllByRecursion HasWidths calls.now }
+    ensures { IfOk result (λ o. IfSome o (AllByRecursion (IsOfCalls calls.now))) }
+{
+    let mut points = Sequence::new(alloc);
+    let mut numbers = numbers;
+    for own in calls {
+        if own.empty.is_some() {
+            continue;
+        }
+        let many = own.rows.width as usize + 1;
+        if numbers.len() < many {
+            return Ok(None);
+        }
+        if !add_point(alloc, own, &numbers[..many], &mut points)? {
+            return Ok(None);
+        }
+        numbers = &numbers[many..];
+    }
+    Ok(Some(points))
+}
+
+// The points of the multipliers that refute the system of all positions, if they do.
+fn refuting_points(
+    alloc: Global,
+    p: &Program,
+    component: &Component,
+    by_pivots: bool,
+) -> Result<Option<Sequence<PairPoint>>, AllocError>
+    requires { IsSound p.now component.now }
+    ensures { IfOk result (λ o. IfSome o (AllByRecursion (IsOfCalls component.now.calls.items))) }
+{
+    let calls = component.calls.as_slice();
+    let system = support_system(
+        alloc,
+        calls,
+        component.order.as_slice(),
+        component.by_clauses.as_slice(),
+    )?;
+    match solve_by(alloc, &system, by_pivots) {
+        Ok(Solved::Refuted(by)) => points_of(alloc, calls, by.list.as_slice()),
+        _ => Ok(None),
+    }
+}
+
+// Whether a number is 0.
+fn is_nought(x: i128) -> bool
+    ensures { IsTrue result ↔ (x ≡ pos 0) }
+{
+    x == 0
+}
+
+// Whether all numbers are at least 0.
+fn are_natural(numbers: &[i128]) -> bool
+    ensures { result ≡ true → All (λ x. pos 0 ≤ℤ x) numbers.now }
+{
+    for number in numbers {
+        if *number < 0 {
+            return false;
+        }
+    }
+    true
+}
+
+// Whether all numbers of a point are at least 0.
+fn is_natural(point: &Point) -> bool
+    ensures { result ≡ true → IsNaturalPoint point.now }
+{
+    if point.t < 0 {
+        return false;
+    }
+    are_natural(point.w.as_slice())
+}
+
+// Whether a pair's points are natural, and there is a second one exactly where the first stands for a direction.
+fn has_points(x: &PairPoint) -> bool
+    ensures { result ≡ true → HasPoints x.now }
+{
+    if !is_natural(&x.point) {
+        return false;
+    }
+    let Some(second) = &x.at else {
+        return !is_nought(x.point.t);
+    };
+    if !is_nought(x.point.t) {
+        return false;
+    }
+    if !is_natural(second) {
+        return false;
+    }
+    !is_nought(second.t)
+}
+
+// Whether a pair is after the one of a clause and a call.
+fn is_after(clause: u32, call: u32, x: &PairPoint) -> bool
+    ensures { result ≡ true → ((clause < x.now.clause) ⊎ ((clause ≡ x.now.clause) × (call < x.now.call))) }
+{
+    if clause < x.clause {
+        return true;
+    }
+    if clause != x.clause {
+        return false;
+    }
+    call < x.call
+}
+
+// Whether pairs ascend, each with the points that it needs.
+fn are_formed(points: &[PairPoint]) -> bool
+    ensures ascend { result ≡ true → PairsAscend (0, 0) points.now }
+    ensures points { result ≡ true → AllByRecursion HasPoints points.now }
+{
+    let mut clause = 0;
+    let mut call = 0;
+    for x in points {
+        if !is_after(clause, call, x) {
+            return false;
+        }
+        if !has_points(x) {
+            return false;
+        }
+        clause = x.clause;
+        call = x.call;
+    }
+    true
+}
+
+// The refutation of a component by one way of solving.
+fn refutation_by<N: Norm>(
+    alloc: Global,
+    p: &Program,
+    norm: &N,
+    sizes: &Sizes,
+    component: &Component,
+    by_pivots: bool,
+) -> Result<Option<Refutation>, AllocError>
+    requires sound { IsSound p.now component.now }
+    requires sizes { AreSizes p.now.preds sizes.now.rows }
+    requires held { AllByRecursion (IsHeld (N.expression norm.now) p.now (rows_of sizes.now.rows)) component.now.calls.items }
+    ensures { IfOk result (λ o. (comps : Partition) (c : ℕ) → map number_of component.now.members.items ≡ members_in comps c
+        → AllByRecursion (λ (own : OwnCall). IsIn comps c own.caller.0) component.now.calls.items → AllByRecursion (λ (own : OwnCall). IsIn comps c own.callee.0) component.now.calls.items
+        → IfSome o (IsRefutationOf (N.expression norm.now) p.now comps (rows_of sizes.now.rows) c)) }
+{
+    let Some(points) = refuting_points(alloc, p, component, by_pivots)? else {
+        return Ok(None);
+    };
+    if !are_formed(points.as_slice()) {
+        return Ok(None);
+    }
+    let members = component.members.as_slice();
+    let sums = sums_flaw(alloc, p, norm, &sizes.rows, members, points.as_slice())?;
+    let flaw = points_flaw(alloc, p, norm, &sizes.rows, points.as_slice())?;
+    if sums.is_some() || flaw.is_some() {
+        return Ok(None);
+    }
+    Ok(Some(Refutation { points }))
+}
+
+/// The refutation of a component, where the system of all positions is refuted in numbers that the check of a
+/// certificate accepts.
+///
+/// The system is solved by pivots first. Where the check does not accept their numbers, elimination solves it again.
+pub(crate) fn refutation<N: Norm>(
+    alloc: Global,
+    p: &Program,
+    norm: &N,
+    sizes: &Sizes,
+    component: &Component,
+) -> Result<Option<Refutation>, AllocError>
+    requires sound { IsSound p.now component.now }
+    requires sizes { AreSizes p.now.preds sizes.now.rows }
+    requires held { AllByRecursion (IsHeld (N.expression norm.now) p.now (rows_of sizes.now.rows)) component.now.calls.items }
+    ensures { IfOk result (λ o. (comps : Partition) (c : ℕ) → map number_of component.now.members.items ≡ members_in comps c
+        → AllByRecursion (λ (own : OwnCall). IsIn comps c own.caller.0) component.now.calls.items → AllByRecursion (λ (own : OwnCall). IsIn comps c own.callee.0) component.now.calls.items
+        → IfSome o (IsRefutationOf (N.expression norm.now) p.now comps (rows_of sizes.now.rows) c)) }
+{
+    if let Some(refutation) = refutation_by(alloc, p, norm, sizes, component, true)? {
+        return Ok(Some(refutation));
+    }
+    refutation_by(alloc, p, norm, sizes, component, false)
+}

@@ -1,0 +1,145 @@
+//! The search for a mapping at a set of positions.
+
+ghost use Rattle.std.specs.Prelude.{◌≡◌, ◌≤◌, ◌≤ℤ◌, ◌+◌, ℕ, ℤ, Bool, List, All, IfOk, IfSome, length, map, pos};
+ghost use Rattle.call_components.specs.Partition.{Partition};
+ghost use Rattle.cti_terms.specs.Tree.{Tree};
+ghost use Rattle.level_dual.specs.Searched.{AreMeasuresAt, IsAnswer, IsComponent, IsMappingIf, IsSound};
+ghost use Rattle.level_dual.specs.Held.{spelled};
+ghost use Rattle.level_dual.specs.Recalled.{count_of};
+ghost use Rattle.termination_model.specs.Supports.{AreDistinct};
+
+use crate::answer::Answer;
+use crate::component::Component;
+use crate::falling::falls_of;
+use crate::mapping::Mapping;
+use crate::measure::Measure;
+use crate::picking::{in_order, picked};
+use crate::position::Position;
+use crate::solving::solve_by;
+use crate::support_rows::support_system;
+use crate::values::level_part;
+use cti_terms::Program;
+use fourier::{ElimFault, Solved};
+use linear_rows::Numbers;
+use sequences::Sequence;
+use std::alloc::{AllocError, Global};
+
+// The parts of the members in the mapping that values give.
+fn measures_at(
+    alloc: Global,
+    p: &Program,
+    component: &Component,
+    at: &[Position],
+    values: &Numbers,
+) -> Result<Sequence<Measure>, AllocError>
+    requires sound { IsSound p.now component.now }
+    requires distinct { AreDistinct (map spelled at.now) }
+    requires naturals { All (λ x. pos 0 ≤ℤ x) values.now }
+    requires room { length at.now + length component.now.by_clauses.items ≤ length values.now }
+    ensures { IfOk result (AreMeasuresAt p.now component.now at.now values.now) }
+{
+    let mut measures = Sequence::new(alloc);
+    for member in &component.members {
+        let part = level_part(
+            alloc,
+            p,
+            at,
+            component.by_clauses.as_slice(),
+            values,
+            *member,
+        )?;
+        measures.push(Measure {
+            pred: *member,
+            part,
+        })?;
+    }
+    Ok(measures)
+}
+
+// The mapping that a point of a support's system gives, where its falls are shown in numbers that fit.
+fn mapping_at(
+    alloc: Global,
+    p: &Program,
+    component: &Component,
+    at: &[Position],
+    values: &Numbers,
+) -> Result<Option<Mapping>, AllocError>
+    requires sound { IsSound p.now component.now }
+    requires distinct { AreDistinct (map spelled at.now) }
+    requires naturals { All (λ x. pos 0 ≤ℤ x) values.now }
+    requires long { length values.now ≡ length at.now + (length component.now.by_clauses.items + count_of component.now.calls.items) }
+    ensures { IfOk result (IsMappingIf p.now component.now at.now values.now) }
+{
+    let measures = measures_at(alloc, p, component, at, values)?;
+    let values = &values.as_slice()[at.len()..][component.by_clauses.len()..];
+    let falls = falls_of(
+        alloc,
+        component.calls.as_slice(),
+        measures.as_slice(),
+        values,
+    )?;
+    match falls {
+        Some(falls) => Ok(Some(Mapping { measures, falls })),
+        None => Ok(None),
+    }
+}
+
+// Searches for a mapping at a set of positions by one way of solving. Nothing is found where the mapping that a point
+// gives has falls that are not shown in numbers that fit.
+fn search_by(
+    alloc: Global,
+    p: &Program,
+    component: &Component,
+    set: &[u32],
+    by_pivots: bool,
+) -> Result<Option<Answer>, AllocError>
+    requires sound { IsSound p.now component.now }
+    ensures { IfOk result (λ o. IfSome o (λ answer. (size : (ℕ → ℕ) → Tree → ℕ) (truth : (ℕ → Bool) → Tree → Bool) (expression : ℕ → Tree → List ℤ) (comps : Partition) (rows : ℕ → List (List ℤ)) (c : ℕ)
+        → IsComponent size truth expression p.now comps rows c component.now → IsAnswer expression p.now comps rows c set.now answer)) }
+{
+    let at = picked(alloc, component.positions.as_slice(), set)?;
+    let at = in_order(alloc, component.order.as_slice(), at.as_slice())?;
+    let system = support_system(
+        alloc,
+        component.calls.as_slice(),
+        at.as_slice(),
+        component.by_clauses.as_slice(),
+    )?;
+    match solve_by(alloc, &system, by_pivots) {
+        Ok(Solved::Point(point)) => match mapping_at(
+            alloc,
+            p,
+            component,
+            at.as_slice(),
+            &point.w,
+        )? {
+            Some(mapping) => Ok(Some(Answer::Mapping(mapping))),
+            None => Ok(None),
+        },
+        Ok(Solved::Refuted(_)) => Ok(Some(Answer::Refuted)),
+        Err(ElimFault::Blown { .. }) => Ok(Some(Answer::Blown)),
+        Err(ElimFault::Memory) => Err(AllocError),
+    }
+}
+
+/// Searches for a mapping at a set of positions, whose numbers count from 1.
+///
+/// The system is solved by pivots first. Where the numbers of what these find do not fit, elimination solves it again.
+pub(crate) fn search(
+    alloc: Global,
+    p: &Program,
+    component: &Component,
+    set: &[u32],
+) -> Result<Answer, AllocError>
+    requires sound { IsSound p.now component.now }
+    ensures { IfOk result (λ answer. (size : (ℕ → ℕ) → Tree → ℕ) (truth : (ℕ → Bool) → Tree → Bool) (expression : ℕ → Tree → List ℤ) (comps : Partition) (rows : ℕ → List (List ℤ)) (c : ℕ)
+        → IsComponent size truth expression p.now comps rows c component.now → IsAnswer expression p.now comps rows c set.now answer) }
+{
+    if let Some(answer) = search_by(alloc, p, component, set, true)? {
+        return Ok(answer);
+    }
+    match search_by(alloc, p, component, set, false)? {
+        Some(answer) => Ok(answer),
+        None => Ok(Answer::Blown),
+    }
+}

@@ -1,0 +1,20 @@
+//! Solving by pivots first, or by elimination alone.
+
+ghost use Rattle.std.specs.Prelude.{IfOk};
+ghost use Rattle.fourier.specs.Solves.{Decides};
+ghost use Rattle.linear_rows.specs.Plain.{HaveWidth, plain_rows};
+
+use fourier::{ElimFault, Solved};
+use linear_rows::Rows;
+use std::alloc::Global;
+
+/// Solves by pivots, and by elimination where these find nothing, or by elimination alone.
+pub(crate) fn solve_by(alloc: Global, rows: &Rows, by_pivots: bool) -> Result<Solved, ElimFault>
+    requires { HaveWidth rows.now.width rows.now.list }
+    ensures decides { IfOk result (Decides rows.now.width (plain_rows rows.now.list)) }
+{
+    if by_pivots {
+        return simplex::solve(alloc, rows);
+    }
+    fourier::solve(alloc, rows)
+}

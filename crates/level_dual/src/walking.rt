@@ -1,0 +1,110 @@
+//! The walk over the sets of positions, the smaller ones first.
+
+ghost use Rattle.std.specs.Prelude.{◌≡◌, ◌||◌, ◌<◌, ◌^◌, ◌+◌, ℕ, ℤ, Bool, List, Some, suc, IfOk, length, slice_get};
+ghost use Rattle.std.specs.List.{list_any};
+ghost use Rattle.call_components.specs.Partition.{Partition};
+ghost use Rattle.cti_terms.specs.Tree.{Tree};
+ghost use Rattle.level_dual.specs.Searched.{IsComponent, IsSound};
+ghost use Rattle.level_dual.specs.Walked.{IsAllWalked, IsWalkedTo};
+ghost use Rattle.termination_model.specs.Modes.{chosen_up_to, is_part};
+
+use crate::answer::Answer;
+use crate::component::Component;
+use crate::searching::search;
+use crate::walked::Walked;
+use cti_terms::Program;
+use sequences::Sequence;
+use std::alloc::{AllocError, Global};
+use termination_model::number_sets;
+
+/// Whether each number of the first list is in the second.
+pub(crate) fn is_part(xs: &[u32], ys: &[u32]) -> bool
+    ensures { result ≡ is_part xs.now ys.now }
+{
+    for x in xs {
+        if !ys.contains(x) {
+            return false;
+        }
+    }
+    true
+}
+
+// Whether some set of a list is part of a set.
+fn is_above(sets: &[Sequence<u32>], set: &[u32]) -> bool
+    ensures { result ≡ list_any (λ t. is_part t set.now) sets.now }
+{
+    for other in sets {
+        if is_part(other.as_slice(), set) {
+            return true;
+        }
+    }
+    false
+}
+
+// Whether a set is above one that was found, or above one that was given up.
+fn is_passed(walked: &Walked, set: &[u32]) -> bool
+    ensures { result ≡ (list_any (λ t. is_part t set.now) walked.now.found || list_any (λ t. is_part t set.now) walked.now.blown) }
+{
+    is_above(walked.found.as_slice(), set) || is_above(walked.blown.as_slice(), set)
+}
+
+/// The same numbers once more.
+pub(crate) fn copied(alloc: Global, set: &[u32]) -> Result<Sequence<u32>, AllocError>
+    ensures { IfOk result (λ copy. copy ≡ set.now) }
+{
+    Ok(Sequence::from_vec(Vec::from_slice(alloc, set)?))
+}
+
+// Searches at one more set, unless it is above one that was found or given up.
+fn visit(
+    alloc: Global,
+    p: &Program,
+    component: &Component,
+    set: &[u32],
+    walked: &mut Walked,
+) -> Result<(), AllocError>
+    requires sound { IsSound p.now component.now }
+    ensures { IfOk result (λ done. (size : (ℕ → ℕ) → Tree → ℕ) (truth : (ℕ → Bool) → Tree → Bool) (expression : ℕ → Tree → List ℤ) (comps : Partition) (rows : ℕ → List (List ℤ)) (c : ℕ)
+        → IsComponent size truth expression p.now comps rows c component.now
+        → (i : ℕ) → slice_get (chosen_up_to (length component.now.positions.items) (length component.now.positions.items)) i ≡ Some set.now
+        → IsWalkedTo expression p.now comps rows c (length component.now.positions.items) i walked.old
+        → IsWalkedTo expression p.now comps rows c (length component.now.positions.items) (suc i) walked.new) }
+{
+    if is_passed(walked, set) {
+        return Ok(());
+    }
+    match search(alloc, p, component, set)? {
+        Answer::Mapping(mapping) => {
+            walked.found.push(copied(alloc, set)?)?;
+            walked.mappings.push(mapping)?;
+        }
+        Answer::Refuted => {}
+        Answer::Blown => walked.blown.push(copied(alloc, set)?)?,
+    }
+    Ok(())
+}
+
+/// Searches at all sets of positions but for those above one that was found or given up.
+pub(crate) fn walk(
+    alloc: Global,
+    p: &Program,
+    component: &Component,
+    last: u32,
+) -> Result<Walked, AllocError>
+    requires sound { IsSound p.now component.now }
+    requires last { last ≡ length component.now.positions.items }
+    requires small { last + 1 < 2 ^ 32 }
+    ensures { IfOk result (λ walked. (size : (ℕ → ℕ) → Tree → ℕ) (truth : (ℕ → Bool) → Tree → Bool) (expression : ℕ → Tree → List ℤ) (comps : Partition) (rows : ℕ → List (List ℤ)) (c : ℕ)
+        → IsComponent size truth expression p.now comps rows c component.now → IsAllWalked expression p.now comps rows c walked) }
+{
+    let mut walked = Walked {
+        found: Sequence::new(alloc),
+        mappings: Sequence::new(alloc),
+        blown: Sequence::new(alloc),
+    };
+    let sets = number_sets(alloc, last)?;
+    for set in sets.as_slice() {
+        visit(alloc, p, component, set.as_slice(), &mut walked)?;
+    }
+    Ok(walked)
+}

@@ -1,8 +1,0 @@
-use Rattle.std.proofs.Common.{◌≡◌, ◌<◌, ℕ, true, Option, slice_get, Some}
-use Rattle.mode_checker.specs.Marks.{is_unmarked}
-use Rattle.mode_checker.specs.declared.fault.ModeReason.{ModeReason}
-use Rattle.mode_checker.proofs.marks.Marks.first.Given as goal
-
--- no mark so far
-abbrev pub invariant-loop-pred : goal.invariant-loop-pred
-invariant-loop-pred l = (i : ℕ) (m : Option ModeReason) → i < l.pred → slice_get l.self i ≡ Some m → is_unmarked m ≡ true

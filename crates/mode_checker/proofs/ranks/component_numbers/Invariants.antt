@@ -1,6 +1,0 @@
-use Rattle.std.proofs.Common.{◌≡◌, take}
-use Rattle.mode_checker.proofs.ranks.component_numbers.Given as goal
-
--- the numbers so far
-abbrev pub invariant-loop-q : goal.invariant-loop-q
-invariant-loop-q l = l.numbers.items ≡ take l.q l.comps.of

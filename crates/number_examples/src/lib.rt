@@ -1,0 +1,19 @@
+//! Worked examples of the calls of the libraries, as tables.
+#![tactic(auto)]
+
+#[cfg(test)]
+mod diagrams;
+#[cfg(test)]
+mod elimination;
+#[cfg(test)]
+mod fractions;
+#[cfg(test)]
+mod numbers;
+#[cfg(test)]
+mod pivots;
+#[cfg(test)]
+mod rows;
+#[cfg(test)]
+mod sizes;
+#[cfg(test)]
+mod systems;

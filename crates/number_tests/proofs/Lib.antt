@@ -1,0 +1,9 @@
+pub mod CallFacts
+pub mod ColumnLengths
+pub mod FallTargets
+pub mod PointSteps
+pub mod RowSteps
+pub mod Sized
+pub mod SumLists
+pub mod SumSteps
+pub mod TargetLists

@@ -1,0 +1,7 @@
+use Rattle.std.proofs.Common.{◌≡◌, ◌↔◌, ◌<◌, ℕ, ℤ, List, None, slice_get, Some}
+use Rattle.linear_rows.specs.Plain.{plain_rows}
+use Rattle.number_tests.specs.SystemPoints.{ValueHolds}
+use Rattle.number_tests.proofs.point_flaws.rows_flaw.Given as goal
+
+abbrev pub invariant-loop-row : goal.invariant-loop-row
+invariant-loop-row l = (l.below ≡ None) ↔ ((i : ℕ) → i < l.row-index → (row : List ℤ) → slice_get (plain_rows l.system.rows.list) i ≡ Some row → ValueHolds l.point row)

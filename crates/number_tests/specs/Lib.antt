@@ -1,0 +1,10 @@
+pub mod Levels
+pub mod PairSums
+pub mod Proved
+pub mod Refuting
+pub mod Shape
+pub mod Shown
+pub mod Sums
+pub mod SystemPoints
+pub mod Systems
+pub mod Targets

@@ -1,0 +1,190 @@
+-- Components, one more at the end, and what the state after all of them proves.
+use Rattle.std.proofs.Common.{◌≡◌, ℕ, zero, suc, ◌+◌, ◌-◌, ◌<◌, ◌==◌, ℤ, Bool, true, false, inl, inr, List, [], ◌∷◌, ◌++◌, append_assoc, map, length, slice_get, Option, None, Some, refl, ap, sym, subst, ◌∙◌, arith, eqb-true}
+use Rattle.std.specs.Prelude.{All}
+use Rattle.std.specs.List.{flat_map}
+use Rattle.std.proofs.lemmas.Bool.Decides.{nat_tests}
+use Rattle.std.proofs.lemmas.List.Elements.{All-nil}
+use Rattle.call_components.specs.Partition.{Partition, AreComponents}
+use Rattle.cti_terms.specs.Tree.{Tree}
+use Rattle.cti_terms.specs.Listing.{Listing, IsProgram, IsClause}
+use Rattle.cti_terms.specs.declared.atom_list.Atom.{Atom}
+use Rattle.cti_terms.specs.declared.clauses.Clause.{Clause}
+use Rattle.linear_rows.specs.Members.{In}
+use Rattle.linear_rows.specs.Replacing.{row_fits}
+use Rattle.linear_rows.specs.Step.{columns}
+use Rattle.linear_rows.specs.declared.multipliers.Multipliers.{Multipliers}
+use Rattle.linear_rows.specs.declared.row.Rows.{Rows}
+use Rattle.linear_rows.proofs.Members.{in-filter, to_All}
+use Rattle.termination_model.specs.Chain.{after_passes, after_runs, clauses_of, component_of, counted, is_number, start_rows, ArePasses, AreRuns}
+use Rattle.termination_model.specs.ChainRows.{AreSpoken}
+use Rattle.termination_model.specs.ChainSteps.{Step as PlainStep}
+use Rattle.termination_model.specs.Sizes.{plain_or_none}
+use Rattle.termination_model.specs.Systems.{row_over, short_row, system}
+use Rattle.termination_model.proofs.ChainLeaves.{body_before, head_before, number_is, of_own, not_head, passes_leave, placed, same_system, IsBefore}
+use Rattle.termination_model.proofs.ChainSieves.{of_all}
+use Rattle.termination_model.proofs.Lists.{map_push, place_below}
+use Rattle.numeric_model.specs.declared.state.State.{State}
+use Rattle.numeric_model.specs.declared.step.Step.{Step}
+use Rattle.numeric_model.specs.Proved.{AreProved, AreShownOver, IsProved}
+use Rattle.numeric_model.specs.Running.{HaveProofs, IsChained, IsRun, rows_in}
+use Rattle.numeric_model.specs.States.{IsState, plain_step}
+use Rattle.numeric_model.proofs.OwnClauses.{some_at}
+
+abbrev Numbered : Type 0
+Numbered = ℕ × Clause
+
+abbrev Rowed : Type 0
+Rowed = ℕ → List (List ℤ)
+
+columns_more : (a n : ℕ) → columns a (suc n) ≡ columns a n ++ (a + n) ∷ []
+columns_more a zero = let e : a ≡ a + 0 = omega arith in λ i. e i ∷ []
+columns_more a (suc n) =
+    let e : suc a + n ≡ a + suc n = omega arith in
+    ap (λ xs. a ∷ xs) (columns_more (suc a) n ∙ (λ i. columns (suc a) n ++ (e i) ∷ []))
+
+map_append : (xs ys : List Step) → map plain_step (xs ++ ys) ≡ map plain_step xs ++ map plain_step ys
+map_append [] ys = refl
+map_append (x ∷ xs) ys = ap (λ zs. plain_step x ∷ zs) (map_append xs ys)
+
+flat_more : {X Y : Type 0} (f : X → List Y) (xs : List X) (x : X) → flat_map f (xs ++ x ∷ []) ≡ flat_map f xs ++ f x
+flat_more f [] x = right (f x)
+  where
+    right : {Y : Type 0} (ys : List Y) → ys ++ [] ≡ ys
+    right [] = refl
+    right (y ∷ ys) = ap (λ zs. y ∷ zs) (right ys)
+flat_more f (y ∷ xs) x = ap (λ zs. f y ++ zs) (flat_more f xs x) ∙ sym (append_assoc (f y) (flat_map f xs) (f x))
+
+-- ---- numbers of clauses
+counted_at : (n : ℕ) (ks : List Clause) (k : Numbered) → In k (counted n ks) → (i : ℕ) × (k.0 ≡ n + i) × (slice_get ks i ≡ Some k.1)
+counted_at n [] k i = absurd i
+counted_at n (x ∷ ks) k (inl is) = (0, (let e : k.0 ≡ n = ap (λ (y : Numbered). y.0) (sym is) in omega arith), ap (λ (y : Numbered). Some y.1) is)
+counted_at n (x ∷ ks) k (inr i) = let h = counted_at (suc n) ks k i in (suc h.0, (let e = h.1 in omega arith), h.2)
+
+at_number : (ks : List Clause) (k : Numbered) → In k (counted 1 ks) → slice_get ks (k.0 - 1) ≡ Some k.1
+at_number ks k i = let h = counted_at 1 ks k i in let e : k.0 - 1 ≡ h.0 = (let l = h.1 in omega arith) in ap (slice_get ks) e ∙ h.2
+
+in_counted_at : (n : ℕ) (ks : List Clause) (j : ℕ) (k : Clause) → slice_get ks j ≡ Some k → In (n + j, k) (counted n ks)
+in_counted_at n [] j k e = cc
+in_counted_at n (x ∷ ks) zero k e = let z : n ≡ n + 0 = omega arith in let same : x ≡ k = cc in inl (λ i. (z i, same i))
+in_counted_at n (x ∷ ks) (suc j) k e =
+    let z : suc n + j ≡ n + suc j = omega arith in
+    inr (subst (λ (m : ℕ). In (m, k) (counted (suc n) ks)) z (in_counted_at (suc n) ks j k e))
+
+-- ---- proofs where rows agree
+proved_same : (expression : ℕ → Tree → List ℤ) (rows new : Rowed) (k : Clause) (by : List Multipliers) → new k.head.pred.0 ≡ rows k.head.pred.0 → ((b : Atom) → In b k.body → new b.pred.0 ≡ rows b.pred.0)
+    → IsProved expression rows k by → IsProved expression new k by
+proved_same expression rows new k by head body h =
+    let same = same_system expression rows new k.vars k.body body in
+    subst (λ (s : List (List ℤ)). AreShownOver (map short_row s) (row_over expression k.vars k.head.args) (new k.head.pred.0) by) (sym same)
+    (subst (λ (o : List (List ℤ)). AreShownOver (map short_row (system expression rows k.vars k.body)) (row_over expression k.vars k.head.args) o by) (sym head) h)
+
+proved_all : (expression : ℕ → Tree → List ℤ) (rows : Rowed) (ks : List Clause) (ms : List (List Multipliers)) → length ms ≡ length ks
+    → ((j : ℕ) (k : Clause) (m : List Multipliers) → slice_get ks j ≡ Some k → slice_get ms j ≡ Some m → IsProved expression rows k m) → AreProved expression rows ks ms
+proved_all expression rows [] [] l h = tt
+proved_all expression rows [] (m ∷ ms) l h = absurd (omega arith)
+proved_all expression rows (k ∷ ks) [] l h = absurd (omega arith)
+proved_all expression rows (k ∷ ks) (m ∷ ms) l h = (h zero k m refl refl, proved_all expression rows ks ms (omega arith) (λ j x y e f. h (suc j) x y e f))
+
+module _ (speaks : List ℤ → Bool) (expression : ℕ → Tree → List ℤ) where
+  runs_more : (rows : Rowed) (kss : List (List Numbered)) (rs : List (List (List PlainStep))) (ks : List Numbered) (r : List (List PlainStep)) → AreRuns speaks expression rows kss rs
+      → ArePasses speaks expression 1 (after_runs rows kss rs) ks r → AreRuns speaks expression rows (kss ++ ks ∷ []) (rs ++ r ∷ [])
+  runs_more rows [] [] ks r a p = (p, tt)
+  runs_more rows [] (x ∷ rs) ks r a p = absurd a
+  runs_more rows (y ∷ kss) [] ks r a p = absurd a
+  runs_more rows (y ∷ kss) (x ∷ rs) ks r a p = (a.0, runs_more (after_passes rows y x) kss rs ks r a.1 p)
+
+  after_runs_more : (rows : Rowed) (kss : List (List Numbered)) (rs : List (List (List PlainStep))) (ks : List Numbered) (r : List (List PlainStep)) → AreRuns speaks expression rows kss rs
+      → after_runs rows (kss ++ ks ∷ []) (rs ++ r ∷ []) ≡ after_passes (after_runs rows kss rs) ks r
+  after_runs_more rows [] [] ks r a = refl
+  after_runs_more rows [] (x ∷ rs) ks r a = absurd a
+  after_runs_more rows (y ∷ kss) [] ks r a = absurd a
+  after_runs_more rows (y ∷ kss) (x ∷ rs) ks r a = after_runs_more (after_passes rows y x) kss rs ks r a.1
+
+module _ {D : Type 0} (width : D → ℕ) (listed : D → List (List ℤ)) (speaks : List ℤ → Bool) (expression : ℕ → Tree → List ℤ) (p : Listing) (comps : Partition) where
+  pub chained_none : (s : State D) → rows_in s ≡ start_rows p → s.steps ≡ [] → IsChained width listed speaks expression p comps 0 s
+  chained_none s rows none = record { runs = []; legal = tt; steps_are = ap (map plain_step) none; rows = rows; proved = λ d l. absurd (omega arith) }
+
+  module _ (prog : IsProgram p) (are : AreComponents p comps) where
+    abbrev own : ℕ → List Numbered
+    own = clauses_of p comps
+
+    -- clauses of two components have different numbers
+    numbers_apart : (c d : ℕ) → (d ≡ c → ⊥) → (k x : Numbered) → In k (own d) → In x (own c) → x.0 - 1 ≡ k.0 - 1 → ⊥
+    numbers_apart c d apart k x i j e =
+        let mine = of_own p comps prog are d k i in
+        let other = of_own p comps prog are c x j in
+        let one = at_number p.clauses k mine.0 in
+        let two = at_number p.clauses x other.0 in
+        let here : slice_get p.clauses (k.0 - 1) ≡ Some x.1 = ap (slice_get p.clauses) (sym e) ∙ two in
+        let same : x.1 ≡ k.1 = cc in
+        let both : component_of comps k.1.head.pred.0 ≡ Some c = ap (λ (y : Clause). component_of comps y.head.pred.0) (sym same) ∙ other.1 in
+        let there = mine.1 in
+        let is : d ≡ c = cc in
+        apart is
+
+    module _ (c : ℕ) (old new : State D) (m : IsChained width listed speaks expression p comps c old) (r : IsRun width listed speaks expression (own c) old new) where
+      kept : (d : ℕ) → d < c → HaveProofs width listed speaks expression (own d) new
+      kept d l k i by at =
+          let apart : d ≡ c → ⊥ = λ e. absurd (omega arith) in
+          let before : slice_get old.proofs.items (k.0 - 1) ≡ Some by = sym (r.others (k.0 - 1) (λ x j e. numbers_apart c d apart k x i j e)) ∙ at in
+          let leave : (q : ℕ) → IsBefore p comps prog are (suc d) q → rows_in new q ≡ rows_in old q =
+          λ q b. ap (λ (f : Rowed). f q) r.rows ∙ passes_leave q (rows_in old) (own c) r.passes (not_head p comps prog are (suc d) c q b (omega arith)) in
+          proved_same expression (rows_in old) (rows_in new) k.1 by (leave k.1.head.pred.0 (head_before p comps prog are d k i)) (λ b j. leave b.pred.0 (body_before p comps prog are d k i b j)) (m.proved d l k i by before)
+
+      all_proved : (d : ℕ) → d < suc c → HaveProofs width listed speaks expression (own d) new
+      all_proved d l = go (d == c) refl
+        where
+          go : (b : Bool) → (d == c) ≡ b → HaveProofs width listed speaks expression (own d) new
+          go true e = subst (λ (x : ℕ). HaveProofs width listed speaks expression (own x) new) (sym (eqb-true d c e)) r.proved
+          go false e = kept d (grind (arith, nat_tests))
+
+      columns_now : map own (columns 0 (suc c)) ≡ map own (columns 0 c) ++ own c ∷ []
+      columns_now = ap (map own) (columns_more 0 c) ∙ map_push own (columns 0 c) (0 + c) ∙ (let e : 0 + c ≡ c = omega arith in λ i. map own (columns 0 c) ++ own (e i) ∷ [])
+
+      next : IsChained width listed speaks expression p comps (suc c) new
+      next = record {
+        runs = m.runs ++ r.passes ∷ [];
+        legal = subst (λ (kss : List (List Numbered)). AreRuns speaks expression (start_rows p) kss (m.runs ++ r.passes ∷ [])) (sym columns_now)
+            (runs_more speaks expression (start_rows p) (map own (columns 0 c)) m.runs (own c) r.passes m.legal (subst (λ (f : Rowed). ArePasses speaks expression 1 f (own c) r.passes) m.rows r.legal));
+        steps_are = ap (map plain_step) r.steps_are ∙ map_append old.steps r.steps ∙ (λ i. m.steps_are i ++ r.by_pass i) ∙ sym (flat_more (flat_map (λ ss. ss)) m.runs r.passes);
+        rows = r.rows ∙ ap (λ (f : Rowed). after_passes f (own c) r.passes) m.rows
+            ∙ sym (after_runs_more speaks expression (start_rows p) (map own (columns 0 c)) m.runs (own c) r.passes m.legal)
+            ∙ ap (λ (kss : List (List Numbered)). after_runs (start_rows p) kss (m.runs ++ r.passes ∷ [])) (sym columns_now);
+        proved = all_proved;
+      }
+
+      pub chained_more : IsChained width listed speaks expression p comps (c + 1) new
+      chained_more = let e : suc c ≡ c + 1 = omega arith in subst (λ (x : ℕ). IsChained width listed speaks expression p comps x new) e next
+
+    pub last_proved : (s : State D) → IsState width listed p s → IsChained width listed speaks expression p comps (length comps.members) s → AreProved expression (rows_in s) p.clauses s.proofs.items
+    last_proved s state m = proved_all expression (rows_in s) p.clauses s.proofs.items state.proofs (λ j k by at proof. one j k by at proof)
+      where
+        one : (j : ℕ) (k : Clause) (by : List Multipliers) → slice_get p.clauses j ≡ Some k → slice_get s.proofs.items j ≡ Some by → IsProved expression (rows_in s) k by
+        one j k by at proof =
+            let clause = of_all (IsClause p.preds) p.clauses k prog.clauses (in_at p.clauses j at) in
+            let found = placed p comps prog are k.vars k.head clause.head in
+            let c = found.0 in
+            let kn : Numbered = (1 + j, k) in
+            let here : In kn (own c) = in-filter (λ (x : Numbered). is_number c (component_of comps x.1.head.pred.0)) (counted 1 p.clauses) kn (number_is c (component_of comps k.head.pred.0) found.1) (in_counted_at 1 p.clauses j k at) in
+            let e : (1 + j) - 1 ≡ j = omega arith in
+            m.proved c (are.within c k.head.pred.0 found.1) kn here by (ap (slice_get s.proofs.items) e ∙ proof)
+          where
+            in_at : (ks : List Clause) (i : ℕ) → slice_get ks i ≡ Some k → In k ks
+            in_at [] i e = cc
+            in_at (x ∷ ks) zero e = inl cc
+            in_at (x ∷ ks) (suc i) e = inr (in_at ks i e)
+
+  pub rows_fit : ((d : D) → AreSpoken speaks (width d) (listed d)) → ((r : List ℤ) → speaks r ≡ true → row_fits r ≡ true) → (s : State D) → IsState width listed p s → (q : ℕ) → All (λ r. row_fits r ≡ true) (rows_in s q)
+  rows_fit spoken fit s state q = go (slice_get s.sizes.rows q) refl
+    where
+      fits : (xs : List (List ℤ)) (n : ℕ) → AreSpoken speaks n xs → All (λ r. row_fits r ≡ true) xs
+      fits xs n a = to_All (λ r. row_fits r ≡ true) xs (λ r i. fit r (of_all (λ (x : List ℤ). (length x ≡ suc n) × (speaks x ≡ true)) xs r a i).1)
+
+      go : (o : Option Rows) → slice_get s.sizes.rows q ≡ o → All (λ r. row_fits r ≡ true) (rows_in s q)
+      go None e = subst (All (λ (r : List ℤ). row_fits r ≡ true)) (sym (ap plain_or_none e)) (All-nil (λ (r : List ℤ). row_fits r ≡ true))
+      go (Some rows) e =
+          let lt = place_below s.sizes.rows q rows e in
+          let each = state.sizes.each in
+          let values = state.each in
+          let v = some_at s.values.items q (omega arith) in
+          subst (All (λ (r : List ℤ). row_fits r ≡ true)) (state.values q v.0 v.1).rows_are (fits (listed v.0.of) (width v.0.of) (spoken v.0.of))

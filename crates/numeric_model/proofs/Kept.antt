@@ -1,0 +1,99 @@
+-- What keeping rows gives: facts of sublists, and what multipliers show.
+use Rattle.std.proofs.Common.{◌≡◌, ◌≢◌, ℕ, zero, suc, ◌<◌, ℤ, pos, negsuc, Bool, true, false, ◌⊎◌, inl, List, [], ◌∷◌, length, refl, ap, sym, subst, arith}
+use Rattle.std.specs.Prelude.{All, ◌≤ℤ◌}
+use Rattle.std.specs.List.{AllByRecursion}
+use Rattle.std.proofs.lemmas.Int.{ints}
+use Rattle.termination_model.proofs.ChainHeads.{bottom_fails_over}
+use Rattle.linear_rows.specs.Rows.{Holds, HoldsOn, AreEmpty}
+use Rattle.linear_rows.specs.Plain.{plain_rows}
+use Rattle.linear_rows.specs.Members.{In}
+use Rattle.linear_rows.specs.Solving.{zeros}
+use Rattle.linear_rows.specs.Proves.{Proves}
+use Rattle.linear_rows.specs.declared.multipliers.Multipliers.{Multipliers}
+use Rattle.linear_rows.specs.declared.system.System.{System}
+use Rattle.linear_rows.proofs.Soundness.{law_holds, law_empty}
+use Rattle.linear_rows.proofs.Members.{from_All, to_All}
+use Rattle.termination_model.proofs.Proved.{length-substituted}
+use Rattle.termination_model.specs.ChainRows.{bottom_row, HasPoint, Sieved}
+use Rattle.termination_model.proofs.ChainSieves.{all_of, resieved}
+use Rattle.termination_model.proofs.ChainHeads.{bottom_fails}
+use Rattle.linear_rows.specs.Showing.{Shows}
+use Rattle.polyhedra.specs.Telling.{IsSystem, at_head, IsBlownOn}
+use Rattle.polyhedra.specs.Making.{arity_of, HoldsFor, Fails, AreShown, IsLost, SaysKept}
+use Rattle.numeric_model.specs.declared.filled.Filled.{Filled}
+use Rattle.numeric_model.specs.declared.filled.Filled.TheVariants.{Bottom, Unknown, Inhabited}
+use Rattle.numeric_model.specs.Filling.{IsFilled, weight}
+
+-- ---- points
+pub point_part : (n : ℕ) (xs ys : List (List ℤ)) → ((x : List ℤ) → In x ys → In x xs) → HasPoint n xs → HasPoint n ys
+point_part n xs ys h p = record {
+  t = p.t;
+  w = p.w;
+  some = p.some;
+  long = p.long;
+  hold = to_All (λ (row : List ℤ). Holds row p.t p.w) ys (λ x i. from_All (λ (row : List ℤ). Holds row p.t p.w) xs x p.hold (h x i));
+}
+
+pub no_bottom : (n : ℕ) (rows : List (List ℤ)) → HasPoint n rows → In (bottom_row n) rows → ⊥
+no_bottom n rows p i = bottom_fails n p.t p.w p.some (from_All (λ (row : List ℤ). Holds row p.t p.w) rows (bottom_row n) p.hold i)
+
+-- ---- what is known of rows
+pub not_bottom : (n : ℕ) (filled : Filled) (old : List (List ℤ)) → IsFilled n filled old → filled ≢ Bottom → old ≡ bottom_row n ∷ [] → ⊥
+not_bottom n Bottom old h b e = b refl
+not_bottom n Unknown old h b e = h (subst (In (bottom_row n)) (sym e) (inl refl))
+not_bottom n Inhabited old h b e = no_bottom n old h (subst (In (bottom_row n)) (sym e) (inl refl))
+
+pub filled_part : (n : ℕ) (filled : Filled) (old rows : List (List ℤ)) → IsFilled n filled old → filled ≢ Bottom → ((x : List ℤ) → In x rows → In x old) → IsFilled n filled rows
+filled_part n Bottom old rows h b part = absurd (b refl)
+filled_part n Unknown old rows h b part = λ i. h (part (bottom_row n) i)
+filled_part n Inhabited old rows h b part = point_part n old rows part h
+
+pub lighter : (filled : Filled) (old rows : List (List ℤ)) → filled ≢ Bottom → length rows < length old → weight filled rows < weight filled old
+lighter Bottom old rows b l = absurd (b refl)
+lighter Unknown old rows b l = omega arith
+lighter Inhabited old rows b l = l
+
+-- ---- what multipliers show
+by_recursion : {X : Type 0} (P : X → Type 0) (xs : List X) → All P xs → AllByRecursion P xs
+by_recursion P xs a = all_of P xs (λ x i. from_All P xs x a i)
+
+scaled_holds : (rows : List (List ℤ)) (ms target : List ℤ) (d : ℤ) → pos 0 ≤ℤ d → All (λ m. pos 0 ≤ℤ m) ms → Proves rows ms target d → HoldsOn (length target) rows target
+scaled_holds rows ms target (pos zero) nd nm p = λ t w some long all. absurd (law_empty rows ms target nm p t w some long all)
+scaled_holds rows ms target (pos (suc d)) nd nm p = law_holds rows ms target d nm p
+scaled_holds rows ms target (negsuc d) nd nm p = absurd (omega (arith, ints))
+
+length-zeros : (m : ℕ) → length (zeros m) ≡ m
+length-zeros zero = refl
+length-zeros (suc m) = ap suc (length-zeros m)
+
+pub shows_empty : (n : ℕ) (rows : List (List ℤ)) (by : Multipliers) → Shows rows (bottom_row n) by → AreEmpty (suc n) rows
+shows_empty n rows by h t w some long all =
+    let on = scaled_holds rows by.list (bottom_row n) by.scale h.multipliers.scale h.multipliers.naturals h.shown.proves in
+    bottom_fails n t w some (on t w some (omega (arith, length-zeros n)) all)
+
+module _ (s : System) (sys : IsSystem s) where
+  long : (row : List ℤ) → length (at_head s row) ≡ suc s.variables
+  long row = length-substituted s.variables (plain_rows s.head.list) row (by_recursion (λ (r : List ℤ). length r ≡ suc s.variables) (plain_rows s.head.list) sys.head)
+
+  pub shows_hold : (row : List ℤ) (by : Multipliers) → Shows (plain_rows s.rows.list) (at_head s row) by → HoldsFor s row
+  shows_hold row by h =
+      subst (λ (n : ℕ). HoldsOn n (plain_rows s.rows.list) (at_head s row)) (long row) (scaled_holds (plain_rows s.rows.list) by.list (at_head s row) by.scale h.multipliers.scale h.multipliers.naturals h.shown.proves)
+
+  pub shown_hold : (rows : List (List ℤ)) (by : List Multipliers) → AreShown s rows by → AllByRecursion (HoldsFor s) rows
+  shown_hold [] by h = tt
+  shown_hold (r ∷ rs) [] h = absurd h
+  shown_hold (r ∷ rs) (m ∷ ms) h = (shows_hold r m h.0, shown_hold rs ms h.1)
+
+  pub kept_hold : (old rows : List (List ℤ)) (weak : Bool) (by : List Multipliers) → SaysKept s old rows weak by → Sieved (HoldsFor s) (IsLost s weak) old rows
+  kept_hold old rows weak by k = resieved (HoldsFor s) (IsLost s weak) (λ _. Unit {0}) old rows k.kept (shown_hold rows by k.shown)
+
+  pub lost_cases : (weak : Bool) (row : List ℤ) → IsLost s weak row → Fails s row ⊎ IsBlownOn s row
+  lost_cases false row h = inl h
+  lost_cases true row h = h
+
+  -- multipliers that show the row of constant -1 leave no point
+  pub nothing_fails : (by : Multipliers) → Shows (plain_rows s.rows.list) (at_head s (bottom_row (arity_of s))) by → (row : List ℤ) → Fails s row → ⊥
+  nothing_fails by h row (p, f) =
+      let at = f.point in
+      bottom_fails_over s.variables (plain_rows s.head.list) (arity_of s) at.t at.w at.some
+      (shows_hold (bottom_row (arity_of s)) by h at.t at.w at.some (omega (arith, at.long)) at.hold)

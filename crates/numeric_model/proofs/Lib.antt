@@ -1,0 +1,16 @@
+pub mod Bottoms
+pub mod Branches
+pub mod Chaining
+pub mod ClauseSystems
+pub mod Images
+pub mod Kept
+pub mod Naturals
+pub mod Notes
+pub mod OwnClauses
+pub mod Passes
+pub mod Passing
+pub mod Results
+pub mod Shown
+pub mod Starts
+pub mod Taking
+pub mod Translate

@@ -1,0 +1,49 @@
+-- Size expressions have natural numbers.
+use Rattle.std.proofs.Common.{◌≡◌, ℕ, zero, suc, ℤ, pos, negsuc, ◌+ℤ◌, ◌*ℤ◌, Bool, List, [], ◌∷◌, map, length, IsTrue, refl, ap, arith}
+use Rattle.std.specs.Prelude.{All, ◌≤ℤ◌}
+use Rattle.std.specs.List.{AllByRecursion}
+use Rattle.std.proofs.lemmas.Int.{ints}
+use Rattle.exact128.specs.Sums.{dot}
+use Rattle.cti_terms.specs.Tree.{Tree, is_below}
+use Rattle.term_size.specs.Norm.{IsNorm}
+use Rattle.termination_model.proofs.ChainHeads.{natural}
+
+never_below : (a b : ℤ) → ((k : ℕ) → pos 0 ≤ℤ (a +ℤ pos k *ℤ b)) → pos 0 ≤ℤ b
+never_below a (pos n) h = omega (arith, ints)
+never_below (pos a) (negsuc n) h = absurd (let l = h (suc a) in omega (arith, ints))
+never_below (negsuc a) (negsuc n) h = absurd (let l = h 0 in omega (arith, ints))
+
+nulls : ℕ → List ℕ
+nulls zero = []
+nulls (suc n) = 0 ∷ nulls n
+
+length-nulls : (n : ℕ) → length (nulls n) ≡ n
+unfolding nulls
+length-nulls zero = refl
+length-nulls (suc n) = ap suc (length-nulls n)
+
+dot_nulls : (cs : List ℤ) (n : ℕ) → dot cs (map pos (nulls n)) ≡ pos 0
+unfolding dot nulls
+dot_nulls [] n = refl
+dot_nulls (a ∷ cs) zero = refl
+dot_nulls (a ∷ cs) (suc n) = let r = dot_nulls cs n in omega (arith, ints, r)
+
+-- where a line of numbers is never below 0, each of its numbers is natural
+each_natural : (b : ℤ) (cs : List ℤ) → ((w : List ℕ) → length w ≡ length cs → pos 0 ≤ℤ (b +ℤ dot cs (map pos w))) → All (λ x. pos 0 ≤ℤ x) cs
+unfolding dot nulls
+each_natural b [] h k d l = absurd (omega arith)
+each_natural b (a ∷ cs) h zero d l =
+    never_below b a (λ k. let e = h (k ∷ nulls (length cs)) (ap suc (length-nulls (length cs))) in let z = dot_nulls cs (length cs) in omega (arith, ints, e, z))
+each_natural b (a ∷ cs) h (suc k) d l = each_natural b cs (λ w e. let m = h (0 ∷ w) (ap suc e) in omega (arith, ints, m)) k d (omega arith)
+
+whole_natural : (e : List ℤ) (n : ℕ) → length e ≡ suc n → ((w : List ℕ) → length w ≡ n → pos 0 ≤ℤ dot e (pos 1 ∷ map pos w)) → All (λ x. pos 0 ≤ℤ x) e
+unfolding dot nulls
+whole_natural [] n l h k d m = absurd (omega arith)
+whole_natural (b ∷ cs) n l h zero d m = let e = h (nulls n) (length-nulls n) in let z = dot_nulls cs n in omega (arith, ints, e, z)
+whole_natural (b ∷ cs) n l h (suc k) d m = each_natural b cs (λ w e. let i = h w (omega arith) in omega (arith, ints, i)) k d (omega arith)
+
+module _ (size : (ℕ → ℕ) → Tree → ℕ) (truth : (ℕ → Bool) → Tree → Bool) (expression : ℕ → Tree → List ℤ) (norm : IsNorm size truth expression) (n : ℕ) where
+  pub expressions_natural : (ts : List Tree) → AllByRecursion (λ (x : Tree). IsTrue (is_below n x)) ts → All (λ (r : List ℤ). All (λ x. pos 0 ≤ℤ x) r) (map (expression n) ts)
+  expressions_natural [] below k d l = absurd (omega arith)
+  expressions_natural (t ∷ ts) below zero d l = whole_natural (expression n t) n (norm.width n t) (λ w e. natural size truth expression norm n t below.0 1 w e)
+  expressions_natural (t ∷ ts) below (suc k) d l = expressions_natural ts below.1 k d (omega arith)

@@ -1,0 +1,300 @@
+-- A step on a clause's system is a step of the clause.
+use Rattle.std.proofs.Common.{◌≡◌, ℕ, zero, suc, ◌+◌, ℤ, pos, negsuc, Bool, true, false, ◌&&◌, if◌then◌else◌, ◌⊎◌, inl, inr, List, [], ◌∷◌, ◌++◌, map, length, not, None, Some, refl, ap, sym, subst, ◌∙◌, arith}
+use Rattle.std.specs.Prelude.{◌↔◌, ◌||◌}
+use Rattle.std.specs.List.{AllByRecursion}
+use Rattle.std.proofs.lemmas.Int.{ints}
+use Rattle.exact128.specs.Fits.{fits}
+use Rattle.exact128.specs.Sums.{dot, entry}
+use Rattle.cti_terms.specs.Tree.{Tree}
+use Rattle.cti_terms.specs.declared.clauses.Clause.{Clause}
+use Rattle.linear_rows.specs.Rows.{Holds, AllHold, HoldsOn}
+use Rattle.linear_rows.specs.Plain.{plain_rows}
+use Rattle.linear_rows.specs.Members.{In}
+use Rattle.linear_rows.specs.Blown.{all_of, numbers_fit, blown_from, blown_step}
+use Rattle.linear_rows.specs.Solving.{zeros, units, coefficients, carried, floors, start_rows, solution, solved_by}
+use Rattle.linear_rows.specs.Solving.Solution.{Blown}
+use Rattle.linear_rows.specs.Systems.{at_last, test_rows, opposite, over_variables, image_rows, image_blown, image_left, naturals, equalities}
+use Rattle.linear_rows.specs.Irredundant.{Fails, TestIsBlown, EndsBlown}
+use Rattle.linear_rows.specs.Step.{columns}
+use Rattle.linear_rows.specs.declared.system.System.{System}
+use Rattle.termination_model.proofs.ChainSieves.{some_map}
+use Rattle.termination_model.specs.Claims.{SomeOf}
+use Rattle.linear_rows.specs.Replacing.{substituted}
+use Rattle.termination_model.specs.Sizes.{wide_rows, wide_system}
+use Rattle.termination_model.specs.Systems.{system, row_fits, short_row, short_system}
+use Rattle.termination_model.specs.ChainRows.{Sieved, IsBlown, bottom_row, HasPart, AreSpoken}
+use Rattle.termination_model.specs.ChainSteps.{HoldsHere, FailsHere, IsBlownHere, IsLegalImage, HasLegalRows, IsLicensed, IsLegalStep}
+use Rattle.termination_model.specs.declared.how.How.{How}
+use Rattle.termination_model.specs.declared.how.How.TheVariants.{None as Nothing, First, Same, Join, Keep}
+use Rattle.linear_rows.specs.Irredundant.{IsIrredundant}
+use Rattle.std.proofs.lemmas.List.{length-map}
+use Rattle.polyhedra.specs.Telling.{IsBlownOn}
+use Rattle.polyhedra.specs.Making.{arity_of, HoldsFor, SaysImage}
+use Rattle.polyhedra.specs.Making.{Fails as FailsFor}
+
+-- ---- rules for other facts of rows
+sieve_map : (P Q R S : List ℤ → Type 0) → ((x : List ℤ) → P x → R x) → ((x : List ℤ) → Q x → S x) → (xs ys : List (List ℤ)) → Sieved P Q xs ys → Sieved R S xs ys
+sieve_map P Q R S f g [] ys s = s
+sieve_map P Q R S f g (x ∷ xs) ys (inl (p, zs, e, s)) = inl (f x p, zs, e, sieve_map P Q R S f g xs zs s)
+sieve_map P Q R S f g (x ∷ xs) ys (inr (q, s)) = inr (g x q, sieve_map P Q R S f g xs ys s)
+
+all_map : (P Q : List ℤ → Type 0) → ((x : List ℤ) → P x → Q x) → (xs : List (List ℤ)) → AllByRecursion P xs → AllByRecursion Q xs
+all_map P Q f [] h = tt
+all_map P Q f (x ∷ xs) h = (f x h.0, all_map P Q f xs h.1)
+
+module _ (speaks : List ℤ → Bool) (n : ℕ) (H F B H' F' B' : List ℤ → Type 0) (h : (r : List ℤ) → H r → H' r) (f : (r : List ℤ) → F r → F' r) (b : (r : List ℤ) → B r → B' r) (pass : ℕ) (old image : List (List ℤ)) where
+  licence_map : IsLicensed speaks n H F B pass old image → IsLicensed speaks n H' F' B' pass old image
+  licence_map (inl l) = inl l
+  licence_map (inr (inl l)) = inr (inl (some_map B B' b old l))
+  licence_map (inr (inr (inl l))) = inr (inr (inl (b (bottom_row n) l)))
+  licence_map (inr (inr (inr l))) = inr (inr (inr l))
+
+  lost_map : (r : List ℤ) → F r ⊎ B r → F' r ⊎ B' r
+  lost_map r (inl x) = inl (f r x)
+  lost_map r (inr x) = inr (b r x)
+
+  pub legal_map : (weak : Bool) (how : How) (new : List (List ℤ)) → HasLegalRows speaks n H F B pass old image weak how new → HasLegalRows speaks n H' F' B' pass old image weak how new
+  legal_map false Nothing new l = l
+  legal_map false First new l = l
+  legal_map false Same new (points, all, e) = (points, all_map H H' h old all, e)
+  legal_map false Join new (early, points, some, join) = (early, points, some_map F F' f old some, join)
+  legal_map false Keep new (late, points, some, sieve) = (late, points, some_map F F' f old some, sieve_map H F H' F' h f old new sieve)
+  legal_map true First new (licence, bottom, sieve) = (licence_map licence, bottom, sieve_map H (λ r. F r ⊎ B r) H' (λ r. F' r ⊎ B' r) h lost_map image new sieve)
+  legal_map true Keep new (licence, begun, sieve) = (licence_map licence, begun, sieve_map H (λ r. F r ⊎ B r) H' (λ r. F' r ⊎ B' r) h lost_map old new sieve)
+  legal_map true Nothing new l = l
+  legal_map true Same new l = l
+  legal_map true Join new l = l
+
+-- ---- short rows
+dot_none : (r : List ℤ) (ps : List ℤ) → dot (map (λ _. pos 0) r) ps ≡ pos 0
+unfolding dot
+dot_none [] ps = refl
+dot_none (x ∷ r) [] = refl
+dot_none (x ∷ r) (p ∷ ps) = rw (dot_none r ps) (omega (arith, ints))
+
+short_holds : (t : ℕ) (w : List ℕ) (r : List ℤ) → Holds r t w → Holds (short_row r) t w
+short_holds t w r h = go (row_fits r)
+  where
+    go : (b : Bool) → Holds (if b then r else map (λ _. pos 0) r) t w
+    go true = h
+    go false = rw (dot_none r (pos t ∷ map pos w)) (omega (arith, ints))
+
+short_all : (t : ℕ) (w : List ℕ) (rows : List (List ℤ)) → AllHold rows t w → AllHold (map short_row rows) t w
+short_all t w [] h k d l = absurd (omega arith)
+short_all t w (r ∷ rows) h zero d l = short_holds t w r (h 0 r (omega arith))
+short_all t w (r ∷ rows) h (suc k) d l = short_all t w rows (λ j e m. h (suc j) e (omega arith)) k d (omega arith)
+
+-- where each row fits, the short rows are the rows
+narrow_same : (rows : List (List ℤ)) → wide_rows rows ≡ false → map short_row rows ≡ rows
+narrow_same [] e = refl
+narrow_same (r ∷ rows) e = go (row_fits r) refl (narrow_same rows)
+  where
+    go : (b : Bool) → row_fits r ≡ b → (wide_rows rows ≡ false → map short_row rows ≡ rows) → map short_row (r ∷ rows) ≡ r ∷ rows
+    go true is more =
+        let rest : wide_rows rows ≡ false = (λ i. not (sym is i) || wide_rows rows) ∙ e in
+        let here : short_row r ≡ r = ap (λ (b : Bool). if b then r else map (λ _. pos 0) r) is in
+        λ i. here i ∷ more rest i
+    go false is more = let never : true ≡ false = (λ i. not (sym is i) || wide_rows rows) ∙ e in cc
+
+-- ---- numbers that do not fit
+-- a row that does not fit
+WideIn : List (List ℤ) → Type 0
+WideIn rows = SomeOf (λ (r : List ℤ). row_fits r ≡ false) rows
+
+and_false : (a b : Bool) → b ≡ false → (a && b) ≡ false
+and_false true b e = e
+and_false false b e = refl
+
+-- a list with a number that does not fit
+all_append : (xs ys : List ℤ) → all_of fits ys ≡ false → all_of fits (xs ++ ys) ≡ false
+all_append [] ys e = e
+all_append (x ∷ xs) ys e = and_false (fits x) (all_of fits (xs ++ ys)) (all_append xs ys e)
+
+all_left : (xs ys : List ℤ) → all_of fits xs ≡ false → all_of fits (xs ++ ys) ≡ false
+all_left [] ys e = cc
+all_left (x ∷ xs) ys e = go (fits x) e (all_left xs ys)
+  where
+    go : (b : Bool) → (b && all_of fits xs) ≡ false → (all_of fits xs ≡ false → all_of fits (xs ++ ys) ≡ false) → (b && all_of fits (xs ++ ys)) ≡ false
+    go true e more = more e
+    go false e more = refl
+
+wide_all : (r : List ℤ) → row_fits r ≡ false → all_of fits r ≡ false
+wide_all [] e = cc
+wide_all (x ∷ r) e = go (fits x) e (wide_all r)
+  where
+    go : (b : Bool) → (b && row_fits r) ≡ false → (row_fits r ≡ false → all_of fits r ≡ false) → (b && all_of fits r) ≡ false
+    go true e more = more e
+    go false e more = refl
+
+-- a row keeps its numbers where its constant comes after its coefficients
+moved : (lead more : List ℤ) (r : List ℤ) → row_fits r ≡ false → all_of fits (lead ++ (coefficients r ++ entry r 0 ∷ more)) ≡ false
+moved lead more [] e = cc
+moved lead more (b ∷ cs) e = all_append lead (cs ++ b ∷ more) (go (fits b) refl e)
+  where
+    go : (x : Bool) → fits b ≡ x → (fits b && row_fits cs) ≡ false → all_of fits (cs ++ b ∷ more) ≡ false
+    go true is e = all_left cs (b ∷ more) (wide_all cs (sym (ap (λ (y : Bool). y && row_fits cs) is) ∙ e))
+    go false is e = all_append cs (b ∷ more) (ap (λ (y : Bool). y && all_of fits more) is)
+
+-- rows of which one has a number that does not fit
+not_all : (rows : List (List ℤ)) (r : List ℤ) → In r rows → all_of fits r ≡ false → numbers_fit rows ≡ false
+not_all [] r i e = absurd i
+not_all (x ∷ rows) r (inl is) e = ap (λ (b : Bool). b && numbers_fit rows) (ap (all_of fits) is ∙ e)
+not_all (x ∷ rows) r (inr i) e = and_false (all_of fits x) (numbers_fit rows) (not_all rows r i e)
+
+wide_in : (rows : List (List ℤ)) → wide_rows rows ≡ true → (r : List ℤ) × In r rows × (row_fits r ≡ false)
+wide_in [] e = cc
+wide_in (x ∷ rows) e = go (row_fits x) refl (wide_in rows)
+  where
+    go : (b : Bool) → row_fits x ≡ b → (wide_rows rows ≡ true → (r : List ℤ) × In r rows × (row_fits r ≡ false)) → (r : List ℤ) × In r (x ∷ rows) × (row_fits r ≡ false)
+    go true is more =
+        let rest : wide_rows rows ≡ true = (λ i. not (sym is i) || wide_rows rows) ∙ e in
+        let m = more rest in
+        (m.0, inr m.1, m.2)
+    go false is more = (x, inl refl, is)
+
+in_carried : (long i : ℕ) (given : List (List ℤ)) (r : List ℤ) → In r given → (j : ℕ) × In (pos 0 ∷ (coefficients r ++ entry r 0 ∷ units long j)) (carried long i given)
+in_carried long i [] r h = absurd h
+in_carried long i (x ∷ xs) r (inl is) = (i, inl (ap (λ (y : List ℤ). pos 0 ∷ (coefficients y ++ entry y 0 ∷ units long i)) is))
+in_carried long i (x ∷ xs) r (inr h) = let m = in_carried long (suc i) xs r h in (m.0, inr m.1)
+
+in_left : {X : Type 0} (xs ys : List X) (x : X) → In x xs → In x (xs ++ ys)
+in_left [] ys x i = absurd i
+in_left (y ∷ xs) ys x (inl is) = inl is
+in_left (y ∷ xs) ys x (inr i) = inr (in_left xs ys x i)
+
+in_right : {X : Type 0} (xs ys : List X) (x : X) → In x ys → In x (xs ++ ys)
+in_right [] ys x i = i
+in_right (y ∷ xs) ys x i = inr (in_right xs ys x i)
+
+in_map : {X Y : Type 0} (f : X → Y) (xs : List X) (x : X) → In x xs → In (f x) (map f xs)
+in_map f [] x i = absurd i
+in_map f (y ∷ xs) x (inl is) = inl (ap f is)
+in_map f (y ∷ xs) x (inr i) = inr (in_map f xs x i)
+
+wide_blown : (m : ℕ) (ks : List ℕ) (rows : List (List ℤ)) → numbers_fit rows ≡ false → blown_step m ks rows ≡ Some (0, true)
+unfolding blown_step
+wide_blown m ks rows e = ap (λ (b : Bool). if b then blown_from m 1 ks rows else (Some (0, true))) e
+
+-- the test of any row on rows with such a row is blown
+start_wide : (n : ℕ) (given : List (List ℤ)) (q : List ℤ) → In q given → row_fits q ≡ false → numbers_fit (start_rows n given) ≡ false
+unfolding start_rows
+start_wide n given q i e =
+    let c = in_carried (length given) 0 given q i in
+    let bad : all_of fits (pos 0 ∷ (coefficients q ++ entry q 0 ∷ units (length given) c.0)) ≡ false = and_false (fits (pos 0)) (all_of fits (coefficients q ++ entry q 0 ∷ units (length given) c.0)) (moved [] (units (length given) c.0) q e) in
+    let long = n + 1 + length given in
+    not_all (floors n 0 long ++ (negsuc 0 ∷ units long n) ∷ carried (length given) 0 given) (pos 0 ∷ (coefficients q ++ entry q 0 ∷ units (length given) c.0)) (in_right (floors n 0 long) ((negsuc 0 ∷ units long n) ∷ carried (length given) 0 given) _ (inr c.1)) bad
+
+wide_solution : (n : ℕ) (given : List (List ℤ)) (q : List ℤ) → In q given → row_fits q ≡ false → solution n given ≡ Blown 0 true
+unfolding solution
+wide_solution n given q i e = ap (solved_by n given) (wide_blown (n + 1) (columns 1 (n + 1)) (start_rows n given) (start_wide n given q i e))
+
+-- the row moved behind its coefficients does not fit either
+last_wide : (r : List ℤ) → row_fits r ≡ false → row_fits (at_last r (pos 0)) ≡ false
+last_wide r e = of_all (at_last r (pos 0)) (and_false (fits (pos 0)) (all_of fits (coefficients r ++ entry r 0 ∷ [])) (moved [] [] r e))
+  where
+    of_all : (xs : List ℤ) → all_of fits xs ≡ false → row_fits xs ≡ false
+    of_all xs h = same xs ∙ h
+      where
+        same : (xs : List ℤ) → row_fits xs ≡ all_of fits xs
+        same [] = refl
+        same (x ∷ xs) = ap (λ (b : Bool). fits x && b) (same xs)
+
+wide_test : (n : ℕ) (rows : List (List ℤ)) (target : List ℤ) → wide_rows rows ≡ true → TestIsBlown n rows target
+wide_test n rows target e =
+    let w = wide_in rows e in
+    let q : List ℤ = at_last w.0 (pos 0) in
+    let there : In q (test_rows n rows target) = in_left (map (λ (x : List ℤ). at_last x (pos 0)) rows) ((negsuc 0 ∷ (zeros n ++ pos 1 ∷ [])) ∷ at_last (opposite target) (negsuc 0) ∷ []) q (in_map (λ (x : List ℤ). at_last x (pos 0)) rows w.0 w.1) in
+    subst (EndsBlown rows target) (sym (wide_solution (n + 1) (test_rows n rows target) q there (last_wide w.0 w.2))) tt
+
+-- and so is the image's system
+wide_image : (v : ℕ) (head body : List (List ℤ)) → wide_rows body ≡ true → IsBlown (image_blown v head body)
+wide_image v head body e =
+    let w = wide_in body e in
+    let q : List ℤ = over_variables (length head) w.0 in
+    let there : In q (image_rows v head body) = in_right (naturals v (length head) (length head + v) ++ equalities (length head) 0 head) (map (over_variables (length head)) body) q (in_map (over_variables (length head)) body w.0 w.1) in
+    ((0, true), wide_blown (length head + v) (columns (suc (length head)) v) (image_rows v head body) (not_all (image_rows v head body) q there (over_wide (length head) w.0 w.2)))
+  where
+    over_wide : (a : ℕ) (r : List ℤ) → row_fits r ≡ false → all_of fits (over_variables a r) ≡ false
+    over_wide a [] h = cc
+    over_wide a (b ∷ cs) h = go (fits b) refl h
+      where
+        go : (x : Bool) → fits b ≡ x → (fits b && row_fits cs) ≡ false → (fits b && all_of fits (zeros a ++ cs)) ≡ false
+        go true is h = and_false (fits b) (all_of fits (zeros a ++ cs)) (all_append (zeros a) cs (wide_all cs (sym (ap (λ (y : Bool). y && row_fits cs) is) ∙ h)))
+        go false is h = ap (λ (y : Bool). y && all_of fits (zeros a ++ cs)) is
+
+-- ---- a clause and its system
+-- s is the system of the clause's whole body
+pub record IsOf (expression : ℕ → Tree → List ℤ) (rows : ℕ → List (List ℤ)) (k : Clause) (s : System) : Type 0 where
+  pub variables : s.variables ≡ k.vars
+  pub body : plain_rows s.rows.list ≡ short_system expression rows k.vars k.body
+  pub wide : s.wide ≡ wide_system expression rows k.vars k.body
+  pub head : plain_rows s.head.list ≡ map (expression k.vars) k.head.args
+
+module _ (speaks : List ℤ → Bool) (expression : ℕ → Tree → List ℤ) (rows : ℕ → List (List ℤ)) (k : Clause) (s : System) (is : IsOf expression rows k s) where
+  abbrev whole : List (List ℤ)
+  whole = system expression rows k.vars k.body
+
+  abbrev heads : List (List ℤ)
+  heads = map (expression k.vars) k.head.args
+
+  -- a row on some system, by its parts
+  abbrev On : ℕ → List (List ℤ) → List (List ℤ) → List ℤ → Type 0
+  On v body head r = HoldsOn (suc v) body (substituted v head r)
+
+  parts : (P : ℕ → List (List ℤ) → List (List ℤ) → Type 0) → P s.variables (plain_rows s.rows.list) (plain_rows s.head.list) → P k.vars (map short_row whole) heads
+  parts P h = subst (λ (x : List (List ℤ)). P k.vars (map short_row whole) x) is.head (subst (λ (x : List (List ℤ)). P k.vars x (plain_rows s.head.list)) is.body (subst (λ (x : ℕ). P x (plain_rows s.rows.list) (plain_rows s.head.list)) is.variables h))
+
+  holds : (r : List ℤ) → HoldsFor s r → HoldsHere speaks expression rows k r
+  holds r h t w some long all = parts (λ v body head. On v body head r) h t w some long (short_all t w whole all)
+
+  narrow : s.wide ≡ false → map short_row whole ≡ whole
+  narrow e = narrow_same whole (sym is.wide ∙ e)
+
+  fails : (r : List ℤ) → FailsFor s r → FailsHere speaks expression rows k r
+  fails r (p, f) =
+      subst (λ (x : List (List ℤ)). Fails k.vars x (substituted k.vars heads r)) (narrow f.narrow)
+      (parts (λ v body head. Fails v body (substituted v head r)) (record { t = f.point.t; w = f.point.w; some = f.point.some; long = f.point.long; hold = f.point.hold; fails = f.point.fails }))
+
+  blown : (r : List ℤ) → IsBlownOn s r → IsBlownHere speaks expression rows k r
+  blown r (inl w) = wide_test k.vars whole (substituted k.vars heads r) (sym is.wide ∙ w)
+  blown r (inr t) = go s.wide refl
+    where
+      go : (b : Bool) → s.wide ≡ b → IsBlownHere speaks expression rows k r
+      go true w = wide_test k.vars whole (substituted k.vars heads r) (sym is.wide ∙ w)
+      go false w = subst (λ (x : List (List ℤ)). TestIsBlown k.vars x (substituted k.vars heads r)) (narrow w) (parts (λ v body head. TestIsBlown v body (substituted v head r)) t)
+
+  arity_is : arity_of s ≡ length k.head.args
+  arity_is = ap length is.head ∙ length-map k.head.args (expression k.vars)
+
+  whole_parts : (P : ℕ → List (List ℤ) → List (List ℤ) → Type 0) → s.wide ≡ false → P s.variables (plain_rows s.rows.list) (plain_rows s.head.list) → P k.vars whole heads
+  whole_parts P e h = subst (λ (x : List (List ℤ)). P k.vars x heads) (narrow e) (parts P h)
+
+  image_is : (image : List (List ℤ)) (weak : Bool) → SaysImage speaks s image weak → IsLegalImage speaks expression rows k weak image
+  image_is image true (inl w, e) = (wide_image k.vars heads whole (sym is.wide ∙ w), e)
+  image_is image true (inr b, e) = (go s.wide refl, e)
+    where
+      go : (w : Bool) → s.wide ≡ w → IsBlown (image_blown k.vars heads whole)
+      go true w = wide_image k.vars heads whole (sym is.wide ∙ w)
+      go false w = whole_parts (λ v body head. IsBlown (image_blown v head body)) w b
+  image_is image false i = record {
+    decided = whole_parts (λ v body head. image_blown v head body ≡ None) i.narrow i.decided;
+    part = whole_parts (λ v body head. HasPart (image_left v head body) image) i.narrow i.part;
+    irredundant = subst (λ (n : ℕ). IsIrredundant n image) arity_is i.irredundant;
+    spoken = subst (λ (n : ℕ). AreSpoken speaks n image) arity_is i.spoken;
+    same = λ r long spoken.
+        let both : HoldsOn (suc (arity_of s)) image r ↔ HoldsHere speaks expression rows k r =
+        whole_parts (λ v body head. HoldsOn (suc (arity_of s)) image r ↔ On v body head r) i.narrow (i.same r (long ∙ ap suc (sym arity_is)) spoken) in
+        subst (λ (n : ℕ). HoldsOn (suc n) image r ↔ HoldsHere speaks expression rows k r) arity_is both;
+  }
+
+  -- the step is legal for the clause
+  pub step_is : (pass : ℕ) (image : List (List ℤ)) (image_weak : Bool) → SaysImage speaks s image image_weak → (old new : List (List ℤ)) (weak : Bool) (how : How)
+      → HasLegalRows speaks (arity_of s) (HoldsFor s) (FailsFor s) (IsBlownOn s) pass old image weak how new → old ≡ rows k.head.pred.0
+      → (number : ℕ) → IsLegalStep speaks expression pass rows k (record { clause = number; image = image; image_weak = image_weak; how = how; rows = new; weak = weak })
+  step_is pass image image_weak says old new weak how legal old_is number = record {
+    image = image_is image image_weak says;
+    legal =
+        let mapped = legal_map speaks (arity_of s) (HoldsFor s) (FailsFor s) (IsBlownOn s) (HoldsHere speaks expression rows k) (FailsHere speaks expression rows k) (IsBlownHere speaks expression rows k) holds fails blown pass old image weak how new legal in
+        let Rules : ℕ → List (List ℤ) → Type 0 = λ n o. HasLegalRows speaks n (HoldsHere speaks expression rows k) (FailsHere speaks expression rows k) (IsBlownHere speaks expression rows k) pass o image weak how new in
+        subst (λ (o : List (List ℤ)). Rules (length k.head.args) o) old_is (subst (λ (n : ℕ). Rules n old) arity_is mapped);
+  }

@@ -1,0 +1,6 @@
+pub mod Filling
+pub mod Noting
+pub mod Proved
+pub mod Running
+pub mod States
+pub mod Stepping

@@ -1,0 +1,98 @@
+-- The state of a chain, and what a step does to it.
+use Rattle.std.specs.Prelude.{◌≡◌, ℕ, ◌+◌, ◌-◌, ◌^◌, ◌<◌, ◌≤◌, ℤ, Bool, true, false, List, [], ◌∷◌, ◌++◌, length, slice_get, slice_set, Option, None, Some}
+use Rattle.cti_terms.specs.Listing.{Listing}
+use Rattle.cti_terms.specs.declared.predicates.Pred.{Pred}
+use Rattle.linear_rows.specs.Plain.{plain_rows, HaveWidth}
+use Rattle.linear_rows.specs.declared.row.Rows.{Rows}
+use Rattle.termination_model.specs.ChainSteps.{Step as PlainStep}
+use Rattle.termination_model.specs.Grounds.{HasArity}
+use Rattle.termination_model.specs.Sizes.{AreSizes, rows_of}
+use Rattle.numeric_model.specs.declared.filled.Filled.{Filled}
+use Rattle.numeric_model.specs.declared.filled.Filled.TheVariants.{Bottom}
+use Rattle.numeric_model.specs.declared.noting.Noted.{Noted}
+use Rattle.numeric_model.specs.declared.state.State.{State}
+use Rattle.numeric_model.specs.declared.step.Step.{Step}
+use Rattle.numeric_model.specs.declared.value.Value.{Value}
+use Rattle.numeric_model.specs.Filling.{IsFilled, weight}
+
+-- a step, over plain lists
+abbrev pub plain_step : Step → PlainStep
+plain_step s = record { clause = s.clause; image = plain_rows s.image.list; image_weak = s.image_weak; how = s.how; rows = plain_rows s.rows.list; weak = s.step_weak }
+
+module _ {D : Type 0} (width : D → ℕ) (listed : D → List (List ℤ)) where
+  abbrev pub value_weight : Value D → ℕ
+  value_weight v = weight v.filled (listed v.of)
+
+  -- how far passes can still go: the weights of all values together
+  abbrev pub weights : List (Value D) → ℕ
+  weights [] = 0
+  weights (v ∷ vs) = value_weight v + weights vs
+
+  -- the value of a predicate lists the predicate's rows
+  pub record IsValueOf (preds : List Pred) (rows : ℕ → List (List ℤ)) (q : ℕ) (v : Value D) : Type 0 where
+    pub rows_are : listed v.of ≡ rows q
+    pub arity : HasArity preds q (width v.of)
+    pub known : IsFilled (width v.of) v.filled (listed v.of)
+    pub light : value_weight v ≤ 2 ^ 65
+
+  pub record IsState (p : Listing) (s : State D) : Type 0 where
+    pub sizes : AreSizes p.preds s.sizes.rows
+    pub each : length s.values.items ≡ length p.preds
+    pub values : (q : ℕ) (v : Value D) → slice_get s.values.items q ≡ Some v → IsValueOf p.preds (rows_of s.sizes.rows) q v
+    pub proofs : length s.proofs.items ≡ length p.clauses
+
+  -- the rows and the value of a predicate at the start
+  pub record IsStart (n : ℕ) (rows : Rows) (v : Value D) : Type 0 where
+    pub width_is : rows.width ≡ n
+    pub long : HaveWidth n rows.list
+    pub rows_are : listed v.of ≡ plain_rows rows.list
+    pub value_width : width v.of ≡ n
+    pub bottom : IsFilled n Bottom (listed v.of)
+    pub filled : v.filled ≡ Bottom
+
+  -- rows and values of these predicates at the start
+  abbrev pub AreStarts : List Pred → List Rows → List (Value D) → Type 0
+  AreStarts [] [] [] = Unit {0}
+  AreStarts [] [] (v ∷ vs) = ⊥
+  AreStarts [] (r ∷ rs) vs = ⊥
+  AreStarts (p ∷ ps) [] vs = ⊥
+  AreStarts (p ∷ ps) (r ∷ rs) [] = ⊥
+  AreStarts (p ∷ ps) (r ∷ rs) (v ∷ vs) = IsStart p.arity r v × AreStarts ps rs vs
+
+  abbrev pub IsFresh : List Pred → State D → Type 0
+  IsFresh preds s = AreStarts preds s.sizes.rows s.values.items
+
+  -- one more predicate, at the start
+  pub record IsAdded (n : ℕ) (old new : State D) : Type 0 where
+    pub rows : Rows
+    pub value : Value D
+    pub start : IsStart n rows value
+    pub sizes : new.sizes.rows ≡ old.sizes.rows ++ rows ∷ []
+    pub values : new.values.items ≡ old.values.items ++ value ∷ []
+
+  -- a value and its rows in the place of a predicate's
+  pub record IsReplaced (q : ℕ) (d : D) (filled : Filled) (old new : State D) : Type 0 where
+    pub rows : Rows
+    pub width_is : rows.width ≡ width d
+    pub long : HaveWidth (width d) rows.list
+    pub rows_are : plain_rows rows.list ≡ listed d
+    pub few : length (listed d) < 2 ^ 64
+    pub sizes : new.sizes.rows ≡ slice_set old.sizes.rows q rows
+    pub values : new.values.items ≡ slice_set old.values.items q (record { of = d; filled = filled })
+
+  abbrev pub IfReplaced : ℕ → Option D → Filled → State D → State D → Bool → Type 0
+  IfReplaced q None filled old new changed = (changed ≡ false) × (new.sizes.rows ≡ old.sizes.rows) × (new.values.items ≡ old.values.items)
+  IfReplaced q (Some d) filled old new changed = (changed ≡ true) × IsReplaced q d filled old new
+
+  -- a step on the clause k of the predicate q is among the steps, with what it did to the rows
+  pub record IsAccepted (q k : ℕ) (noted : Noted D) (old new : State D) (changed : Bool) : Type 0 where
+    pub step : Step
+    pub replaced : IfReplaced q noted.stepped.next noted.stepped.filled old new changed
+    pub steps : new.steps ≡ old.steps ++ step ∷ []
+    pub clause : step.clause ≡ k
+    pub image : step.image.list ≡ noted.image.list
+    pub image_weak : step.image_weak ≡ noted.image_weak
+    pub how : step.how ≡ noted.stepped.how
+    pub rows : plain_rows step.rows.list ≡ rows_of new.sizes.rows q
+    pub weak : step.step_weak ≡ noted.stepped.weak
+    pub proofs : new.proofs.items ≡ slice_set old.proofs.items (k - 1) noted.stepped.by

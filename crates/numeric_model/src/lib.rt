@@ -1,0 +1,24 @@
+//! How the size rows of a program's predicates come about.
+//!
+//! `solve` goes through the components of a program, callees first, and takes steps on their clauses until a pass over a
+//! component changes no rows. Over any domain of size rows the steps are a legal chain, as `termination_model` defines
+//! it, and each row of the chain's last rows has its proof for each clause.
+//!
+//! Stands on `polyhedra`, whose trait of domains says all that is used of a domain, and on `termination_model`.
+#![tactic(auto)]
+
+mod chain;
+mod filled;
+mod noting;
+mod running;
+mod solving;
+mod state;
+mod step;
+mod stepped;
+mod stepping;
+mod value;
+
+pub use chain::Chain;
+pub use solving::solve;
+pub use step::Step;
+pub use termination_model::How;

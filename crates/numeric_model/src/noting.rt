@@ -1,0 +1,78 @@
+// A step of the chain, on the clause of a number.
+ghost use Rattle.std.specs.Prelude.{◌≡◌, ◌≤◌, ◌-◌, IfOk, length, map, slice_get, Some, take};
+ghost use Rattle.cti_terms.specs.declared.clauses.Clause.{Clause};
+ghost use Rattle.linear_rows.specs.Plain.{plain_rows};
+ghost use Rattle.polyhedra.specs.Making.{SaysImage, arity_of};
+ghost use Rattle.polyhedra.specs.Telling.{HasNaturalHead, IsSystem};
+ghost use Rattle.termination_model.specs.Sizes.{AreSizes, rows_of};
+ghost use Rattle.numeric_model.specs.Filling.{IsFilled};
+ghost use Rattle.numeric_model.specs.Noting.{IsNoted, HasRowsOf};
+ghost use Rattle.numeric_model.specs.Stepping.{IsStep};
+
+use crate::filled::Filled;
+use crate::stepped::Stepped;
+use crate::stepping::step_on;
+use cti_terms::Program;
+use linear_rows::{Rows, System};
+use polyhedra::Domain;
+use std::alloc::{AllocError, Global};
+use term_size::Norm;
+use termination_model::{Sizes, system};
+
+/// What a step does to its head's value, and the image that it notes.
+#[derive(Drop)]
+pub(crate) struct Noted<D> {
+    pub(crate) image: Rows,
+    pub(crate) image_weak: bool,
+    pub(crate) stepped: Stepped<D>,
+}
+
+// A step on the system of a clause's body.
+fn note_on<D: Domain>(
+    alloc: Global,
+    system: &System,
+    old: &D,
+    filled: Filled,
+    pass: u32,
+) -> Result<Noted<D>, AllocError>
+    requires system { IsSystem system.now }
+    requires head { HasNaturalHead system.now }
+    requires old_width { D.width old.now ≡ arity_of system.now }
+    requires filled { IsFilled (arity_of system.now) filled (D.listed old.now) }
+    ensures image { IfOk result (λ noted. SaysImage D.speaks system.now (plain_rows noted.image.list) noted.image_weak) }
+    ensures step { IfOk result (λ noted. IsStep D.width D.listed D.speaks system.now pass (D.listed old.now)
+        (plain_rows noted.image.list) filled noted.stepped) }
+{
+    let made = D::image(alloc, system)?;
+    let image = made.value.rows().copy(alloc)?;
+    let image_weak = made.weak;
+    let stepped = step_on(alloc, system, old, filled, made, pass)?;
+    Ok(Noted {
+        image,
+        image_weak,
+        stepped,
+    })
+}
+
+/// One step of the chain: the image of clause `k`, and what becomes of the rows of its head's predicate.
+pub(crate) fn note_step<D: Domain, N: Norm>(
+    alloc: Global,
+    p: &Program,
+    norm: &N,
+    sizes: &Sizes,
+    old: &D,
+    filled: Filled,
+    k: u32,
+    pass: u32,
+) -> Result<Noted<D>, AllocError>
+    requires first { 1 ≤ k }
+    requires last { k ≤ length p.now.clauses }
+    requires sizes { AreSizes p.now.preds sizes.now.rows }
+    requires old { (c : Clause) → slice_get p.now.clauses (k - 1) ≡ Some c → HasRowsOf (rows_of sizes.now.rows) c filled (D.width old.now) (D.listed old.now) }
+    ensures { IfOk result (λ noted. (c : Clause) → slice_get p.now.clauses (k - 1) ≡ Some c
+        → IsNoted D.width D.listed D.speaks (N.expression norm.now) pass (rows_of sizes.now.rows) c k filled noted) }
+{
+    let clause = p.clause(k);
+    let system = system(alloc, p, norm, sizes, k, clause.body.len() as u32)?;
+    note_on(alloc, &system, old, filled, pass)
+}

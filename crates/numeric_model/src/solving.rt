@@ -1,0 +1,65 @@
+// The chain of a program.
+ghost use Rattle.std.specs.Prelude.{◌≡◌, ℕ, true, IfOk, All, length, map};
+ghost use Rattle.call_components.specs.Partition.{AreComponents};
+ghost use Rattle.linear_rows.specs.Replacing.{row_fits};
+ghost use Rattle.termination_model.specs.Chain.{IsLegalChain};
+ghost use Rattle.termination_model.specs.Sizes.{AreSizes, rows_of};
+ghost use Rattle.numeric_model.specs.Proved.{AreProved};
+ghost use Rattle.numeric_model.specs.Running.{IsChained};
+ghost use Rattle.numeric_model.specs.States.{IsState, plain_step};
+
+use crate::chain::Chain;
+use crate::running::run_component;
+use crate::state::State;
+use call_components::Components;
+use cti_terms::Program;
+use polyhedra::Domain;
+use std::alloc::{AllocError, Global};
+use term_size::Norm;
+
+/// Finds size rows of a program's predicates by a legal chain of steps, and proves them.
+///
+/// Steps go component by component, callees first, and within a component pass by pass, until a pass changes no rows.
+/// Passes end, since each change after the third one leaves less to do. That the rows are the least ones is not said.
+///
+/// Source: size relations by a fixpoint with widening, as in Mesnard and Neumerkel 2001.
+pub fn solve<D: Domain, N: Norm>(
+    alloc: Global,
+    p: &Program,
+    comps: &Components,
+    norm: &N,
+) -> Result<Chain, AllocError>
+    requires { AreComponents p.now comps.now }
+
+    // The steps are legal, and end with these rows.
+    ensures chain { IfOk result (λ chain. IsLegalChain D.speaks (N.expression norm.now) p.now comps.now
+        (map plain_step chain.steps) (rows_of chain.sizes.rows)) }
+    ensures sizes { IfOk result (λ chain. AreSizes p.now.preds chain.sizes.rows) }
+
+    // Each row of each clause's head has its proof, over the last rows, and each row fits.
+    ensures proofs { IfOk result (λ chain. AreProved (N.expression norm.now) (rows_of chain.sizes.rows) p.now.clauses chain.sizes.proofs) }
+    ensures fits { IfOk result (λ chain. (q : ℕ) → All (λ r. row_fits r ≡ true) (rows_of chain.sizes.rows q)) }
+{
+    let _program = p.clauses();
+    let state = run_all::<D, N>(alloc, p, comps, norm)?;
+    Ok(state.into_chain())
+}
+
+// The state after all components.
+fn run_all<D: Domain, N: Norm>(
+    alloc: Global,
+    p: &Program,
+    comps: &Components,
+    norm: &N,
+) -> Result<State<D>, AllocError>
+    requires { AreComponents p.now comps.now }
+    ensures state { IfOk result (IsState D.width D.listed p.now) }
+    ensures chained { IfOk result (IsChained D.width D.listed D.speaks (N.expression norm.now) p.now comps.now (length comps.now.members)) }
+{
+    let _program = p.clauses();
+    let mut state = State::<D>::start(alloc, p)?;
+    for c in 0..comps.count() {
+        run_component(alloc, p, comps, c, norm, &mut state)?;
+    }
+    Ok(state)
+}

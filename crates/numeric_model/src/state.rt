@@ -1,0 +1,190 @@
+// The state of a chain: the rows of each predicate, and the steps so far.
+ghost use Rattle.std.specs.Prelude.{◌≡◌, ◌≤◌, ◌<◌, ◌-◌, IfOk, OnOk, length, [], ◌∷◌, slice_get, Some};
+ghost use Rattle.cti_terms.specs.Listing.{Listing};
+ghost use Rattle.linear_rows.specs.declared.row.Rows.{Rows};
+ghost use Rattle.termination_model.specs.Chain.{start_rows};
+ghost use Rattle.termination_model.specs.Sizes.{rows_of};
+ghost use Rattle.numeric_model.specs.States.{IfReplaced, IsAccepted, IsAdded, IsFresh, IsState};
+
+use crate::chain::Chain;
+use crate::filled::Filled;
+use crate::noting::Noted;
+use crate::step::Step;
+use crate::stepped::Stepped;
+use crate::value::Value;
+use cti_terms::{PredId, Program};
+use linear_rows::Multipliers;
+use polyhedra::Domain;
+use sequences::Sequence;
+use std::alloc::{AllocError, Global};
+use termination_model::{SizeRows, Sizes};
+
+/// The rows of each predicate while a chain goes on.
+pub(crate) struct State<D> {
+    /// The rows, as the systems of clauses read them. There are no proofs here.
+    pub(crate) sizes: Sizes,
+    /// For each predicate the value that lists its rows.
+    pub(crate) values: Vec<Value<D>>,
+    /// For each clause the proofs that its last step gave.
+    pub(crate) proofs: Vec<Sequence<Multipliers>>,
+    /// The steps so far.
+    pub(crate) steps: Sequence<Step>,
+}
+
+impl<D: Drop> Drop for State<D> {
+    fn drop(self) {
+        let State {
+            sizes: _,
+            values: _,
+            proofs: _,
+            steps: _,
+        } = self;
+    }
+}
+
+impl<D: Domain> State<D> {
+    /// All predicates are empty, and there are no steps.
+    pub(crate) fn start(alloc: Global, p: &Program) -> Result<State<D>, AllocError>
+        ensures state { IfOk result (IsState D.width D.listed p.now) }
+        ensures rows { IfOk result (λ s. rows_of s.sizes.rows ≡ start_rows p.now) }
+        ensures steps { IfOk result (λ s. s.steps ≡ []) }
+    {
+        let mut state = State {
+            sizes: Sizes {
+                rows: SizeRows::new(alloc),
+                proofs: Sequence::new(alloc),
+            },
+            values: Vec::new(alloc),
+            proofs: Vec::new(alloc),
+            steps: Sequence::new(alloc),
+        };
+        state.add_values(alloc, p)?;
+        state.add_proofs(alloc, p)?;
+        Ok(state)
+    }
+
+    // Adds a value for each predicate, which is empty.
+    fn add_values(&mut self, alloc: Global, p: &Program) -> Result<(), AllocError>
+        requires rows { self.old.sizes.rows ≡ [] }
+        requires values { self.old.values.items ≡ [] }
+        ensures fresh { OnOk result (IsFresh D.width D.listed p.now.preds self.new) }
+        ensures proofs { OnOk result (self.new.proofs ≡ self.old.proofs) }
+        ensures steps { OnOk result (self.new.steps ≡ self.old.steps) }
+    {
+        for q in 0..p.preds() {
+            self.add_value(alloc, p.pred(PredId(q)).arity)?;
+        }
+        Ok(())
+    }
+
+    // Adds a value for one more predicate, which is empty.
+    fn add_value(&mut self, alloc: Global, arity: u32) -> Result<(), AllocError>
+        ensures added { OnOk result (IsAdded D.width D.listed arity self.old self.new) }
+        ensures proofs { OnOk result (self.new.proofs ≡ self.old.proofs) }
+        ensures steps { OnOk result (self.new.steps ≡ self.old.steps) }
+    {
+        let of = D::bottom(alloc, arity)?;
+        let rows = of.rows().copy(alloc)?;
+        self.sizes.rows.push(rows)?;
+        self.values.push(Value {
+            of,
+            filled: Filled::Bottom,
+        })?;
+        Ok(())
+    }
+
+    // Adds no proofs for each clause.
+    fn add_proofs(&mut self, alloc: Global, p: &Program) -> Result<(), AllocError>
+        requires { self.old.proofs.items ≡ [] }
+        ensures proofs { OnOk result (length self.new.proofs.items ≡ length p.now.clauses) }
+        ensures sizes { OnOk result (self.new.sizes ≡ self.old.sizes) }
+        ensures values { OnOk result (self.new.values ≡ self.old.values) }
+        ensures steps { OnOk result (self.new.steps ≡ self.old.steps) }
+    {
+        for _k in 0..p.clauses() {
+            self.proofs.push(Sequence::new(alloc))?;
+        }
+        Ok(())
+    }
+
+    /// Takes a step on clause `k`, which is one of `pred`, and says whether rows changed.
+    pub(crate) fn accept(
+        &mut self,
+        alloc: Global,
+        k: u32,
+        pred: PredId,
+        noted: Noted<D>,
+    ) -> Result<bool, AllocError>
+        requires first { 1 ≤ k }
+        requires last { k ≤ length self.old.proofs.items }
+        requires rows { pred.0 < length self.old.sizes.rows }
+        requires values { pred.0 < length self.old.values.items }
+        ensures { IfOk result (IsAccepted D.width D.listed pred.0 k noted self.old self.new) }
+    {
+        let Noted {
+            image,
+            image_weak,
+            stepped,
+        } = noted;
+        let Stepped {
+            how,
+            weak,
+            next,
+            filled,
+            by,
+        } = stepped;
+        let changed = self.replace(alloc, pred, next, filled)?;
+        let rows = self.sizes.rows.get(pred.0 as usize).copy(alloc)?;
+        self.steps.push(Step {
+            clause: k,
+            image,
+            image_weak,
+            how,
+            rows,
+            step_weak: weak,
+        })?;
+        self.proofs[k as usize - 1] = by;
+        Ok(changed)
+    }
+
+    // Puts a new value in the place of a predicate's, if there is one, and says whether there is.
+    fn replace(
+        &mut self,
+        alloc: Global,
+        pred: PredId,
+        next: Option<D>,
+        filled: Filled,
+    ) -> Result<bool, AllocError>
+        requires rows { pred.0 < length self.old.sizes.rows }
+        requires values { pred.0 < length self.old.values.items }
+        ensures replaced { IfOk result (IfReplaced D.width D.listed pred.0 next filled self.old self.new) }
+        ensures proofs { OnOk result (self.new.proofs ≡ self.old.proofs) }
+        ensures steps { OnOk result (self.new.steps ≡ self.old.steps) }
+    {
+        match next {
+            None => Ok(false),
+            Some(value) => {
+                let rows = value.rows().copy(alloc)?;
+                self.sizes.rows.set(pred.0 as usize, rows);
+                self.values[pred.0 as usize] = Value { of: value, filled };
+                Ok(true)
+            }
+        }
+    }
+
+    /// The steps, and the rows with the last proofs.
+    pub(crate) fn into_chain(self) -> Chain
+        ensures rows { result.sizes.rows ≡ self.sizes.rows }
+        ensures proofs { result.sizes.proofs ≡ self.proofs.items }
+        ensures steps { result.steps ≡ self.steps }
+    {
+        let State {
+            mut sizes,
+            values: _,
+            proofs,
+            steps,
+        } = self;
+        sizes.proofs = Sequence::from_vec(proofs);
+        Chain { steps, sizes }
+    }
+}

@@ -1,0 +1,34 @@
+// Whether rows hold at some point.
+ghost use Rattle.std.specs.Prelude.{IfOk};
+ghost use Rattle.linear_rows.specs.Plain.{plain_rows, HaveWidth};
+ghost use Rattle.polyhedra.specs.Filling.{IsEmptiness};
+
+use crate::at_once::tested;
+use crate::bottom::bottom_row;
+use linear_rows::Rows;
+use simplex::Held;
+use std::alloc::{AllocError, Global};
+
+/// Whether rows hold at some point.
+#[derive(Clone, Copy, PartialEq, Eq, Debug)]
+pub(crate) enum Emptiness {
+    /// They hold nowhere.
+    Empty,
+    /// They hold at some point.
+    Inhabited,
+    /// The test is blown.
+    Unknown,
+}
+
+/// Tests whether rows hold at some point.
+pub(crate) fn emptiness_of(alloc: Global, rows: &Rows) -> Result<Emptiness, AllocError>
+    requires { HaveWidth rows.now.width rows.now.list }
+    ensures { IfOk result (λ e. IsEmptiness rows.now.width (plain_rows rows.now.list) e) }
+{
+    let nowhere = bottom_row(alloc, rows.width as usize)?;
+    match tested(alloc, rows, &nowhere)? {
+        Held::Yes(_) => Ok(Emptiness::Empty),
+        Held::No(_) => Ok(Emptiness::Inhabited),
+        Held::Blown => Ok(Emptiness::Unknown),
+    }
+}

@@ -1,0 +1,5 @@
+pub mod Allowed
+pub mod Breaking
+pub mod Greatest
+pub mod Removing
+pub mod Solving

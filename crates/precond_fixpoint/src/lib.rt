@@ -1,0 +1,31 @@
+//! The greatest preconditions of a program's predicates, and the modes that they allow.
+//!
+//! A component has a level mapping for each of its preconditions. From all rows that are true at a mapping's positive
+//! coefficients, those are removed from which a clause reaches a call outside its set, until the rule holds; what is left is
+//! the greatest precondition. Its rows that stay in it where further arguments become rigid are allowed for callers.
+//!
+//! Stands on `truth_rows` and `groundness`, whose sets these are, and on `termination_model`, which says what ends.
+#![tactic(auto)]
+
+mod breaking;
+mod columns;
+mod covering;
+mod families;
+mod greatest;
+mod head_rows;
+mod laws;
+mod mode;
+mod modes;
+mod preconditions;
+mod ranks;
+mod removing;
+mod signs;
+mod solving;
+
+pub use laws::{
+    greatest_depends_below, greatest_depends_on_members, searches_find_the_greatest,
+    smaller_supports_admit_more,
+};
+pub use mode::Mode;
+pub use preconditions::Preconditions;
+pub use solving::solve_levels;

@@ -1,0 +1,162 @@
+//! The preconditions of a program, component by component.
+
+ghost use Rattle.std.specs.Prelude.{◌≡◌, ◌<◌, ◌+◌, ℕ, [], IfOk, OnOk, length, map, replicate, slice_get};
+ghost use Rattle.bool_diagrams.specs.Rows.{Keeps};
+ghost use Rattle.call_components.specs.Partition.{AreComponents, IsIn};
+ghost use Rattle.cti_terms.specs.Listing.{IsProgram};
+ghost use Rattle.number_tests.specs.Levels.{items_of};
+ghost use Rattle.precond_fixpoint.specs.Solving.{AreLevels, AreMappingSets, AreModes, AreUnions, IsSolved, allowed_family};
+ghost use Rattle.truth_rows.specs.Sets.{AreSets, family_of};
+
+use crate::columns::put_members;
+use crate::families::component_families;
+use crate::modes::all_modes;
+use crate::preconditions::Preconditions;
+use crate::ranks::component_ranks;
+use bool_diagrams::{Diagram, Table};
+use call_components::Components;
+use cti_terms::Program;
+use number_tests::LevelPart;
+use sequences::Sequence;
+use std::alloc::{AllocError, Global};
+use term_size::Norm;
+
+/// The greatest preconditions for the mappings of each component, and the minimal modes that they allow.
+///
+/// `levels` has for each predicate its part in each mapping of its component, and `grounds` the ground rows. Components go
+/// callees first. For each mapping the preconditions of a component are the greatest that keep the rule: each of their rows
+/// is true at positive coefficients, and from a row of a clause's head each call that is reached has a row in turn, in the
+/// same precondition within the component and an allowed one below it. What is allowed of a predicate are the rows that some
+/// mapping's precondition has with all upper rows; its minimal ones are the modes.
+/// After want of memory the table keeps its earlier diagrams.
+pub fn solve_levels<N: Norm>(
+    alloc: Global,
+    p: &Program,
+    comps: &Components,
+    norm: &N,
+    table: &mut Table,
+    grounds: &[Diagram],
+    levels: &[Sequence<LevelPart>],
+) -> Result<Preconditions, AllocError>
+    requires components { AreComponents p.now comps.now }
+    requires grounds { AreSets p.now.preds table.old grounds.now }
+    requires levels { AreLevels p.now comps.now levels.now }
+    ensures keeps { Keeps table.old table.new }
+    ensures sets { IfOk result (λ pre. AreMappingSets p.now.preds table.new pre.sets) }
+    ensures greatest { IfOk result (λ pre. (c : ℕ) → c < length comps.now.members
+        → IsSolved (N.truth norm.now) p.now comps.now (family_of p.now.preds table.old grounds.now) levels.now table.new pre.sets c) }
+    ensures modes { IfOk result (λ pre. AreModes p.now.preds (allowed_family p.now.preds table.new pre.sets) pre.modes) }
+{
+    let _program = p.preds();
+    let mut sets = no_sets(alloc, p.preds())?;
+    let mut allowed = vec![in alloc; table.truth(false); p.preds() as usize]?;
+    solve_components(
+        alloc,
+        p,
+        comps,
+        norm,
+        table,
+        grounds,
+        levels,
+        &mut sets,
+        &mut allowed,
+    )?;
+    let modes = all_modes(alloc, table, p, &allowed)?;
+    Ok(Preconditions {
+        sets: Sequence::from_vec(sets),
+        modes,
+    })
+}
+
+// No sets for each of so many predicates.
+fn no_sets(alloc: Global, count: u32) -> Result<Vec<Sequence<Diagram>>, AllocError>
+    ensures { IfOk result (λ sets. sets.items ≡ replicate count []) }
+{
+    let mut sets = Vec::new(alloc);
+    for _q in 0..count {
+        sets.push(Sequence::new(alloc))?;
+    }
+    Ok(sets)
+}
+
+// Solves the components in turn, callees first.
+fn solve_components<N: Norm>(
+    alloc: Global,
+    p: &Program,
+    comps: &Components,
+    norm: &N,
+    table: &mut Table,
+    grounds: &[Diagram],
+    levels: &[Sequence<LevelPart>],
+    sets: &mut [Sequence<Diagram>],
+    allowed: &mut [Diagram],
+) -> Result<(), AllocError>
+    requires program { IsProgram p.now }
+    requires components { AreComponents p.now comps.now }
+    requires grounds { AreSets p.now.preds table.old grounds.now }
+    requires levels { AreLevels p.now comps.now levels.now }
+    requires sets { AreMappingSets p.now.preds table.old sets.old }
+    requires allowed { AreUnions p.now.preds table.old sets.old allowed.old }
+    ensures keeps { Keeps table.old table.new }
+    ensures sets { OnOk result (AreMappingSets p.now.preds table.new sets.new) }
+    ensures allowed { OnOk result (AreUnions p.now.preds table.new sets.new allowed.new) }
+    ensures solved { OnOk result ((c : ℕ) → c < length comps.now.members
+        → IsSolved (N.truth norm.now) p.now comps.now (family_of p.now.preds table.old grounds.now) levels.now table.new sets.new c) }
+{
+    let ranks = component_ranks(alloc, p, comps)?;
+    for c in 0..comps.count() {
+        solve_component(
+            alloc, p, comps, norm, table, &ranks, c, grounds, levels, sets, allowed,
+        )?;
+    }
+    Ok(())
+}
+
+/// Puts into the places of a component's members the greatest sets for each of its mappings, and what these allow.
+///
+/// `sets` and `allowed` are those of the components that it calls; the places of other predicates stay.
+pub(crate) fn solve_component<N: Norm>(
+    alloc: Global,
+    p: &Program,
+    comps: &Components,
+    norm: &N,
+    table: &mut Table,
+    ranks: &[u32],
+    c: u32,
+    grounds: &[Diagram],
+    levels: &[Sequence<LevelPart>],
+    sets: &mut [Sequence<Diagram>],
+    allowed: &mut [Diagram],
+) -> Result<(), AllocError>
+    requires program { IsProgram p.now }
+    requires components { AreComponents p.now comps.now }
+    requires ranks { ranks.now ≡ map (λ d. d + 1) comps.now.of }
+    requires component { c < length comps.now.members }
+    requires grounds { AreSets p.now.preds table.old grounds.now }
+    requires levels { AreLevels p.now comps.now levels.now }
+    requires sets { AreMappingSets p.now.preds table.old sets.old }
+    requires allowed { AreUnions p.now.preds table.old sets.old allowed.old }
+    ensures keeps { Keeps table.old table.new }
+    ensures sets { OnOk result (AreMappingSets p.now.preds table.new sets.new) }
+    ensures allowed { OnOk result (AreUnions p.now.preds table.new sets.new allowed.new) }
+    ensures solved { OnOk result (IsSolved (N.truth norm.now) p.now comps.now (family_of p.now.preds table.old grounds.now) levels.now table.new sets.new c) }
+    ensures others { OnOk result ((q : ℕ) → (IsIn comps.now c q → ⊥) → slice_get sets.new q ≡ slice_get sets.old q) }
+{
+    let _count = comps.count();
+    let members = comps.members(c);
+    let count = levels[members[0].0 as usize].len();
+    let families = component_families(
+        alloc,
+        p,
+        norm,
+        table,
+        ranks,
+        c + 1,
+        grounds,
+        allowed,
+        levels,
+        count,
+    )?;
+    put_members(alloc, p, table, members, &families, sets, allowed)?;
+    Ok(())
+}

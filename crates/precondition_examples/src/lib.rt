@@ -1,0 +1,5 @@
+//! Worked preconditions and modes, as tables.
+#![tactic(auto)]
+
+#[cfg(test)]
+mod solved;

@@ -1,0 +1,35 @@
+-- An assembled certificate is valid and exact.
+use Rattle.std.proofs.Common.{◌≡◌, ℕ, List, Ok, Err, subst, sym}
+use Rattle.std.specs.Prelude.{IfOk, Result}
+use Rattle.call_components.specs.Partition.{AreComponents, Partition}
+use Rattle.certificate.specs.declared.fact.Fact.{Fact}
+use Rattle.cert_checker.specs.Valid.{IsValid}
+use Rattle.cert_structure.specs.Order.{listed}
+use Rattle.cti_terms.specs.Listing.{IsProgram, Listing}
+use Rattle.report.proofs.ValidParts.{parts_are_valid, parts_have_shape}
+use Rattle.report.specs.Assembly.{IsAssembled}
+use Rattle.report.specs.Exact.{IsExact}
+use Rattle.report.specs.declared.assembling.Assembled.{Assembled}
+
+pub if_ok : {A E : Type 0} (r : Result A E) (P Q : A → Type 0) → ((x : A) → P x → Q x) → IfOk r P → IfOk r Q
+if_ok (Ok x) P Q f h = f x h
+if_ok (Err e) P Q f h = tt
+
+module _ (p : Listing) (names : List (List ℕ)) (comps : Partition) (program : IsProgram p) (components : AreComponents p comps) (a : Assembled) (is : IsAssembled p names comps a) (facts : List Fact)
+    (same : facts ≡ listed p names a.parts a.notes) where
+  pub valid_facts : IsValid p names facts
+  valid_facts = subst (IsValid p names) (sym same) (parts_are_valid p names comps a.parts a.notes program components is.are_notes is.counted is.numbers is.exact.modes)
+
+  pub exact_facts : IsExact p names facts
+  exact_facts = record {
+    comps = comps;
+    components = components;
+    parts = a.parts;
+    structured = record {
+      notes = a.notes;
+      are_notes = is.are_notes;
+      shape = parts_have_shape p comps a.parts program components is.counted is.numbers is.exact.modes;
+      is = same;
+    };
+    exact = is.exact;
+  }

@@ -1,0 +1,16 @@
+pub mod AssembledParts
+pub mod BestLaws
+pub mod ChainParts
+pub mod Decreasing
+pub mod ExactParts
+pub mod Inferred
+pub mod MappingParts
+pub mod MemberLaws
+pub mod ModeLaws
+pub mod NoteLaws
+pub mod PartLaws
+pub mod PlaceLaws
+pub mod RefutationLaws
+pub mod RefutedParts
+pub mod SetParts
+pub mod ValidParts

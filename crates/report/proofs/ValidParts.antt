@@ -1,0 +1,47 @@
+-- Parts whose numbers hold and whose modes are exact are a valid certificate.
+use Rattle.std.proofs.Common.{refl}
+use Rattle.call_components.specs.Partition.{AreComponents, Partition}
+use Rattle.cert_structure.specs.Shape.{HaveShape}
+use Rattle.cert_structure.specs.declared.parts.Parts.{Parts}
+use Rattle.cti_terms.specs.Listing.{IsProgram, Listing}
+use Rattle.cti_terms.specs.Tree.{truth}
+use Rattle.term_size.specs.Occurrences.{size_row}
+use Rattle.report.proofs.ModeLaws.{exact_modes_hold}
+use Rattle.report.specs.Assembled.{NumbersHold, PartsAreValid}
+use Rattle.report.specs.ExactModes.{AreCounted, ModesAreExact}
+
+pub parts_have_shape : (p : Listing) (comps : Partition) (parts : Parts) → IsProgram p → AreComponents p comps → AreCounted p comps parts → NumbersHold size_row p comps parts → ModesAreExact truth p comps parts → HaveShape p comps parts
+parts_have_shape p comps parts program components counted numbers exact =
+    let h = exact_modes_hold truth p comps parts program components counted exact in
+    record {
+      modes = h.modes;
+      rows = numbers.sizes.shape;
+      row_proofs = numbers.sizes.proofs_shape;
+      grounds = h.grounds;
+      levels = numbers.mappings.levels;
+      falls = numbers.mappings.falls;
+      preconditions = h.preconditions;
+      refutations = numbers.mappings.refutations;
+    }
+
+pub parts_are_valid : PartsAreValid
+parts_are_valid p names comps parts notes program components are counted numbers exact =
+    let h = exact_modes_hold truth p comps parts program components counted exact in
+    record {
+      comps = comps;
+      components = components;
+      parts = parts;
+      structured = record {
+        notes = notes;
+        are_notes = are;
+        shape = parts_have_shape p comps parts program components counted numbers exact;
+        is = refl;
+      };
+      hold = record {
+        modes = h.hold;
+        rows = numbers.sizes.hold;
+        measures = numbers.mappings.measures_hold;
+        falls = numbers.mappings.falls_hold;
+        refutations = numbers.mappings.refutations_hold;
+      };
+    }

@@ -1,0 +1,21 @@
+use Rattle.std.proofs.Common.{◌++◌, List, map, subst, ◌∙◌}
+use Rattle.level_dual.specs.declared.found.Found.{Found}
+use Rattle.numeric_model.specs.States.{plain_step}
+use Rattle.report.proofs.AssembledParts.{assembled}
+use Rattle.report.specs.Assembly.{ArePartsOf}
+use Rattle.report.specs.ChainNotes.{chain_notes}
+use Rattle.report.specs.Levels.{given_up}
+use Rattle.report.specs.SupportNotes.{support_notes}
+use Rattle.report.proofs.assembling.assemble.Goals as goal
+
+pub returns : goal.returns
+returns c =
+    let p = c.args.p.now in
+    let names = c.args.names.now in
+    let comps = c.args.comps.now in
+    let chain = c.in_ok-chain.chain in
+    let parts = subst (λ (found : List Found). ArePartsOf p comps chain.sizes found c.in_ok-parts.parts) c.as_slice.ensures c.in_ok-parts.ensures in
+    let notes = c.in_ok-notes.ensures ∙ (λ i. chain_notes p names (map plain_step (c.as_slice-2.ensures i)) ++ support_notes p names comps (given_up (c.as_slice-3.ensures i))) in
+    assembled p names comps chain.sizes c.in_ok-found.found c.in_ok-parts.parts c.in_ok-notes.notes chain.steps
+    c.preds-program.ensures.sound c.requires.components c.in_ok-chain.ensures.chain c.in_ok-chain.ensures.sizes c.in_ok-chain.ensures.proofs c.in_ok-chain.ensures.fits
+    c.in_ok-found.ensures parts c.are_bounded.ensures notes

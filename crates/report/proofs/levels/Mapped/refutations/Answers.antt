@@ -1,0 +1,14 @@
+use Rattle.std.proofs.Common.{◌+◌, ◌-◌, ◌++◌, ◌∷◌, [], ℕ, arith, ap, ◌∙◌, length, map}
+use Rattle.linear_rows.specs.Step.{columns}
+use Rattle.report.specs.Levels.{refutation_of}
+use Rattle.report.specs.SupportNotes.{led_by}
+use Rattle.report.proofs.NoteLaws.{added}
+use Rattle.report.proofs.PartLaws.{mapped_step}
+use Rattle.report.proofs.levels.Mapped.refutations.Goals as goal
+
+pub loop-q-preserved : goal.loop-q-preserved
+loop-q-preserved c =
+    let f = λ (q : ℕ). refutation_of c.args.self.now.found.now (led_by c.args.self.now.comps.now q) in
+    let n = length c.args.self.now.p.now.preds in
+    let q = c.loop-q.q in
+    added _ _ (f q ∷ []) (map f (columns (q + 1) (n - (q + 1)))) (map f (columns q (n - q))) _ (c.in_ok-push.ensures.ok ∙ ap (λ x. c.loop-q.refutations ++ x ∷ []) c.in_ok-refutation_at.ensures) (mapped_step f q n (omega arith)) c.loop-q.invariant

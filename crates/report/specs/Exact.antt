@@ -1,0 +1,76 @@
+-- When a certificate of a program is exact: it says the most that may be said by its method.
+--
+-- Its size rows come from a legal chain, whose steps it notes; its ground rows, preconditions and modes are exact; each
+-- component has all mappings with minimal supports, or a refutation; and what was given up is noted.
+--
+-- To believe: all of this file, over ChainNotes.antt, SupportNotes.antt, ExactModes.antt and ExactMappings.antt.
+-- That a support is given up only where the solving for it forms a number that does not fit is not said here.
+use Rattle.std.specs.Prelude.{◌≡◌, ◌≤◌, ◌<◌, ℕ, ℤ, IsTrue, List, ◌++◌, length, slice_get, Some, ◌⊎◌, ◌↔◌}
+use Rattle.call_components.specs.Partition.{Partition, AreComponents, IsIn}
+use Rattle.certificate.specs.declared.fact.Fact.{Fact}
+use Rattle.cert_structure.specs.Shape.{first_of, is_recursive, items_of}
+use Rattle.cert_structure.specs.Structure.{IsStructured}
+use Rattle.cert_structure.specs.declared.parts.Parts.{Parts}
+use Rattle.cti_terms.specs.Listing.{Listing}
+use Rattle.cti_terms.specs.Tree.{Tree, truth}
+use Rattle.exact128.specs.Fits.{fits}
+use Rattle.level_dual.specs.Found.{without}
+use Rattle.level_dual.specs.Subsequences.{AreOnce}
+use Rattle.linear_rows.specs.Members.{In}
+use Rattle.linear_rows.specs.Step.{columns}
+use Rattle.number_tests.specs.declared.refutation.Refutation.{Refutation}
+use Rattle.linear_rows.specs.Blown.{all_of}
+use Rattle.term_size.specs.Occurrences.{size_row}
+use Rattle.termination_model.specs.ComponentViews.{no_truth, positions_in}
+use Rattle.termination_model.specs.Excluding.{IsAt}
+use Rattle.termination_model.specs.Minimal.{IsExcluded}
+use Rattle.termination_model.specs.Refutation.{Decreases}
+use Rattle.report.specs.ChainNotes.{IsChain}
+use Rattle.report.specs.ExactMappings.{HasMapping, MappingsAreExact, mapping_in, printed_support, view}
+use Rattle.report.specs.ExactModes.{ModesAreExact}
+use Rattle.report.specs.SupportNotes.{support_notes}
+
+-- a predicate has a refutation
+abbrev pub IsRefuted : Parts → ℕ → Type 0
+IsRefuted parts q = (r : Refutation) × (slice_get parts.refutations q ≡ Some (Some r))
+
+module _ (expression : ℕ → Tree → List ℤ) (p : Listing) (comps : Partition) (parts : Parts) where
+  -- all positions of a component
+  abbrev pub full : ℕ → List ℕ
+  full c = columns 1 (length (positions_in p comps c))
+
+  -- a component of more than 12 positions: one mapping at most, none of whose positions can be left out, or a refutation
+  pub record LargeIsExact (c q : ℕ) (blown : List (List ℕ)) : Type 0 where
+    pub few : length (items_of parts.levels q) ≤ 1
+    pub at : (m : ℕ) → m < length (items_of parts.levels q) → IsAt (positions_in p comps c) (mapping_in expression p comps parts c m)
+    pub decreases : (m : ℕ) → m < length (items_of parts.levels q) → Decreases no_truth expression (view expression p comps parts c) (mapping_in expression p comps parts c m)
+    pub decided : (1 ≤ length (items_of parts.levels q)) ⊎ IsRefuted parts q ⊎ In (full c) blown
+    pub needed : (m i : ℕ) → m < length (items_of parts.levels q) → In i (printed_support expression p comps parts c m)
+        → In (without i (printed_support expression p comps parts c m)) blown
+        ⊎ IsExcluded (HasMapping expression p comps parts c) (without i (printed_support expression p comps parts c m))
+
+  -- a recursive component whose first member is q
+  pub record ComponentIsExact (c q : ℕ) (blown : List (List ℕ)) : Type 0 where
+    pub small : length (positions_in p comps c) ≤ 12 → MappingsAreExact expression p comps parts c q blown
+    pub large : 12 < length (positions_in p comps c) → LargeIsExact c q blown
+    -- a refutation stands exactly where no mapping decreases and the full support was not given up
+    pub refuted : IsRefuted parts q ↔ (((s : List ℕ) → HasMapping expression p comps parts c s → ⊥) × (In (full c) blown → ⊥))
+    -- each support that was given up stands once
+    pub once : AreOnce blown
+
+-- the parts and the notes are exact
+pub record IsExactOf (p : Listing) (names : List (List ℕ)) (comps : Partition) (parts : Parts) (notes : List Fact) : Type 0 where
+  pub modes : ModesAreExact truth p comps parts
+  pub blown : ℕ → List (List ℕ)
+  pub components : (c q : ℕ) → IsIn comps c q → IsTrue (is_recursive comps q) → first_of comps q ≡ q → ComponentIsExact size_row p comps parts c q (blown c)
+  pub steps : List Fact
+  pub chain : IsChain (all_of fits) size_row p comps names parts.rows steps
+  pub are : notes ≡ steps ++ support_notes p names comps blown
+
+-- the facts are those of parts that are exact
+pub record IsExact (p : Listing) (names : List (List ℕ)) (facts : List Fact) : Type 0 where
+  pub comps : Partition
+  pub components : AreComponents p comps
+  pub parts : Parts
+  pub structured : IsStructured p names comps parts facts
+  pub exact : IsExactOf p names comps parts structured.notes

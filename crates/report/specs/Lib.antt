@@ -1,0 +1,12 @@
+pub mod Assembled
+pub mod Assembly
+pub mod ChainNotes
+pub mod Exact
+pub mod ExactMappings
+pub mod ExactModes
+pub mod Levels
+pub mod Ranges
+pub mod Refuted
+pub mod Shaped
+pub mod Spelled
+pub mod SupportNotes

@@ -1,0 +1,21 @@
+//! Inference: the certificate of a program, with all the modes that its size models, ground rows and mappings give.
+//!
+//! What makes a certificate exact is `IsExact` of `specs/Exact.antt`. Laws say what follows from that.
+//!
+//! Stands on the engines, which give the parts of a certificate, and on `cert_structure`, which writes its facts.
+#![tactic(auto)]
+
+mod assembling;
+mod chain_notes;
+mod copies;
+mod inferring;
+pub mod laws;
+mod leading;
+mod levels;
+mod named;
+mod ranges;
+mod sets;
+mod shaped;
+mod support_notes;
+
+pub use inferring::infer;

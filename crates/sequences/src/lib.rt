@@ -1,0 +1,6 @@
+//! Lists that contracts see as lists of values.
+#![tactic(auto)]
+
+mod sequence;
+
+pub use sequence::Sequence;

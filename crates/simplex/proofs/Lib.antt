@@ -1,0 +1,5 @@
+pub mod Points
+pub mod Refutations
+pub mod RowLists
+pub mod TestLaws
+pub mod WideTests

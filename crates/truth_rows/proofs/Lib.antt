@@ -1,0 +1,14 @@
+pub mod ArgumentLaws
+pub mod AtomLaws
+pub mod CallerLemmas
+pub mod CellLaws
+pub mod ClaimLaws
+pub mod CoverLaws
+pub mod EndLaws
+pub mod Examples
+pub mod ListLaws
+pub mod ModeLaws
+pub mod NormLaws
+pub mod RowLaws
+pub mod SetLaws
+pub mod UpperLaws

@@ -1,0 +1,4 @@
+pub mod Ends
+pub mod Sets
+pub mod Rules
+pub mod Ready

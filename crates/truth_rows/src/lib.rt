@@ -1,0 +1,32 @@
+//! Sets of truth rows as decision diagrams, and what is tested of them.
+//!
+//! A truth row says which arguments of an atom are rigid. A set of truth rows is a diagram whose variable i is argument
+//! i. In the diagrams of a clause, variable i is the clause's variable i, and twelve further variables stand for the
+//! arguments of one atom at a time. So each test over all values of a clause's variables is exact.
+//!
+//! Stands on `bool_diagrams`, and on `termination_model`, which says what is tested.
+#![tactic(auto)]
+
+mod atoms;
+mod bodies;
+mod closedness;
+mod covering;
+mod ends;
+mod inside;
+mod of_cubes;
+mod of_modes;
+mod rigidity;
+mod rules;
+mod upper;
+
+pub use atoms::{ARGUMENTS, PLACES, argument_rows, atom_rows};
+pub use bodies::head_reaching_rows;
+pub use closedness::is_closed_under;
+pub use covering::is_covered;
+pub use ends::{put_all_off, put_off, without_ended};
+pub use inside::is_inside;
+pub use of_cubes::cube_rows;
+pub use of_modes::admits;
+pub use rigidity::bound_rows;
+pub use rules::keeps_rule;
+pub use upper::{upper_rows, upward_union};

@@ -1,0 +1,140 @@
+//! Whether calls stay in sets: the rule of preconditions.
+
+ghost use Rattle.std.specs.Prelude.{◌≡◌, ◌↔◌, ◌≤◌, ◌<◌, ◌-◌, ℕ, Bool, IsTrue, IfOk, if◌then◌else◌, length, slice_get, Some};
+ghost use Rattle.truth_rows.specs.Ready.{HasAtom, HasAtoms, IsReady, IsReadyClause};
+ghost use Rattle.truth_rows.specs.Rules.{KeepsSets, same_rank};
+ghost use Rattle.truth_rows.specs.Sets.{AreSets, family_of};
+ghost use Rattle.bool_diagrams.specs.Rows.{IsDiagram, Keeps, holds};
+ghost use Rattle.cti_terms.specs.declared.atom_list.Atom.{Atom};
+ghost use Rattle.cti_terms.specs.declared.clauses.Clause.{Clause};
+
+use crate::atoms::atom_rows;
+use crate::ends::{put_body_off, without_ended};
+use crate::inside::is_inside;
+use bool_diagrams::{Diagram, Table};
+use cti_terms::{Atom, Clause, MOST_VARIABLES, Program};
+use std::alloc::AllocError;
+use term_size::Norm;
+
+/// Tells whether a clause keeps the rule of preconditions: from each truth row of the head in `pre`, each call that is
+/// reached has a truth row in turn, in `pre` where its predicate has the rank of the head's, else in `allowed`.
+///
+/// A call is reached where the truth rows of all atoms before it are in `grounds`. Each of the three has a set for each
+/// predicate, and `ranks` a number for each predicate: predicates of one component have one number. Clauses count from 1.
+pub fn keeps_rule<N: Norm>(
+    norm: &N,
+    table: &mut Table,
+    p: &Program,
+    ranks: &[u32],
+    grounds: &[Diagram],
+    pre: &[Diagram],
+    allowed: &[Diagram],
+    k: u32,
+) -> Result<bool, AllocError>
+    requires ranks { length ranks.now ≡ length p.now.preds }
+    requires grounds { AreSets p.now.preds table.old grounds.now }
+    requires pre { AreSets p.now.preds table.old pre.now }
+    requires allowed { AreSets p.now.preds table.old allowed.now }
+    requires first { 1 ≤ k }
+    requires last { k ≤ length p.now.clauses }
+    ensures keeps { Keeps table.old table.new }
+    ensures rule { IfOk result (λ kept. (c : Clause) → slice_get p.now.clauses (k - 1) ≡ Some c
+        → IsTrue kept ↔ KeepsSets (N.truth norm.now)
+        (family_of p.now.preds table.old pre.now)
+        (family_of p.now.preds table.old allowed.now)
+        (family_of p.now.preds table.old grounds.now)
+        (λ q. same_rank ranks.now q c.head.pred.0) c) }
+{
+    // What every program keeps is told by `clauses`: the sets of its atoms are there.
+    let _count = p.clauses();
+    calls_stay(norm, table, ranks, grounds, pre, allowed, p.clause(k))
+}
+
+// Whether each call that is reached from the head's set is in its own.
+fn calls_stay<N: Norm>(
+    norm: &N,
+    table: &mut Table,
+    ranks: &[u32],
+    grounds: &[Diagram],
+    pre: &[Diagram],
+    allowed: &[Diagram],
+    clause: &Clause,
+) -> Result<bool, AllocError>
+    requires head { clause.now.head.pred.0 < length ranks.now }
+    requires body { (j : ℕ) (b : Atom) → slice_get clause.now.body j ≡ Some b → b.pred.0 < length ranks.now }
+    requires grounds { IsReadyClause table.old grounds.now clause.now }
+    requires pre { IsReadyClause table.old pre.now clause.now }
+    requires allowed { IsReadyClause table.old allowed.now clause.now }
+    ensures keeps { Keeps table.old table.new }
+    ensures stay { IfOk result (λ kept. IsTrue kept
+        ↔ ((v : ℕ → Bool) → HasAtom (N.truth norm.now) table.old pre.now v clause.now.head
+        → (j : ℕ) (b : Atom) → slice_get clause.now.body j ≡ Some b
+        → HasAtoms (N.truth norm.now) table.old grounds.now v clause.now.body j
+        → HasAtom (N.truth norm.now) table.old
+        (if same_rank ranks.now b.pred.0 clause.now.head.pred.0 then pre.now else allowed.now) v b)) }
+{
+    let mut ends = [0; MOST_VARIABLES as usize];
+    put_body_off(norm, &mut ends, &clause.body, clause.vars);
+    let rank = ranks[clause.head.pred.0 as usize];
+    let mut reached = atom_rows(norm, table, pre, &clause.head, clause.vars)?;
+    for (place, atom) in clause.body.as_slice().iter().enumerate() {
+        reached = without_ended(table, reached, &ends, place, clause.vars)?;
+        let own = ranks[atom.pred.0 as usize] == rank;
+        let stays = call_stays(norm, table, reached, own, pre, allowed, atom, clause.vars)?;
+        if !stays {
+            return Ok(false);
+        }
+        let holding = atom_rows(norm, table, grounds, atom, clause.vars)?;
+        reached = table.and(reached, holding)?;
+    }
+    Ok(true)
+}
+
+// Whether an atom is in its set on each of the rows.
+fn call_stays<N: Norm>(
+    norm: &N,
+    table: &mut Table,
+    reached: Diagram,
+    own: bool,
+    pre: &[Diagram],
+    allowed: &[Diagram],
+    atom: &Atom,
+    vars: u32,
+) -> Result<bool, AllocError>
+    requires few { vars ≤ MOST_VARIABLES }
+    requires known { IsDiagram table.old reached }
+    requires pre { IsReady table.old pre.now vars atom.now }
+    requires allowed { IsReady table.old allowed.now vars atom.now }
+    ensures keeps { Keeps table.old table.new }
+    ensures stays { IfOk result (λ stays. IsTrue stays
+        ↔ ((v : ℕ → Bool) → IsTrue (holds table.old reached v)
+        → HasAtom (N.truth norm.now) table.old (if own then pre.now else allowed.now) v atom.now)) }
+{
+    let wanted = chosen_rows(norm, table, own, pre, allowed, atom, vars)?;
+    is_inside(table, reached, wanted)
+}
+
+// The rows on which an atom is in one of two sets.
+fn chosen_rows<N: Norm>(
+    norm: &N,
+    table: &mut Table,
+    own: bool,
+    pre: &[Diagram],
+    allowed: &[Diagram],
+    atom: &Atom,
+    vars: u32,
+) -> Result<Diagram, AllocError>
+    requires few { vars ≤ MOST_VARIABLES }
+    requires pre { IsReady table.old pre.now vars atom.now }
+    requires allowed { IsReady table.old allowed.now vars atom.now }
+    ensures keeps { Keeps table.old table.new }
+    ensures known { IfOk result (IsDiagram table.new) }
+    ensures rows { IfOk result (λ d. (row : ℕ → Bool)
+        → IsTrue (holds table.new d row)
+        ↔ HasAtom (N.truth norm.now) table.old (if own then pre.now else allowed.now) row atom.now) }
+{
+    if own {
+        return atom_rows(norm, table, pre, atom, vars);
+    }
+    atom_rows(norm, table, allowed, atom, vars)
+}
