@@ -27,6 +27,11 @@ pub record IsTextOfRun (names : List (List ℕ)) (p : Listing) (g : Goal) (n : �
   pub ends : Ends p g n status ending
   pub printed : text ≡ run_lines names p (map told (answers p g n)) (length (first_nodes p g n)) (longest (first_nodes p g n)) ending
 
+-- a goal has no more than n nodes, and what is printed for it and n nodes goes with the status Done
+pub record IsFinished (p : Listing) (g : Goal) (n : ℕ) : Type 0 where
+  pub enough : ¬ HasMoreNodes p g n
+  pub done : (names : List (List ℕ)) (status : Status) (text : List ℕ) → IsTextOfRun names p g n status text → status ≡ Done
+
 -- the bytes are the text of this program
 abbrev pub IsKnown : List ℕ → Known → Type 0
 IsKnown bytes known = IsProgramOf bytes known.names known.program known.table

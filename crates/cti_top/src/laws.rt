@@ -8,31 +8,30 @@ ghost use Rattle.cert_structure.specs.Structure.{AreNamed};
 ghost use Rattle.cert_checker.specs.Valid.{IsValid};
 ghost use Rattle.cti_terms.specs.Derive.{query};
 ghost use Rattle.cti_terms.specs.Listing.{IsProgram, Listing};
-ghost use Rattle.cti_terms.specs.Nodes.{nodes, HasMoreNodes};
 ghost use Rattle.cti_terms.specs.declared.atom_list.Atom.{Atom};
 ghost use Rattle.cti_terms.specs.declared.derivation.Goal.{Goal};
+ghost use Rattle.ld_resolver.specs.Count.{HasNodes};
 ghost use Rattle.cti_top.specs.Meets.{MeetsMode};
 ghost use Rattle.cti_top.specs.Programs.{IsRefused};
 ghost use Rattle.cti_top.specs.Queries.{Known, IsQueryOf, IsQueryRefused};
-ghost use Rattle.cti_top.specs.Runs.{IsKnown};
+ghost use Rattle.cti_top.specs.Runs.{IsFinished, IsKnown};
 ghost use Rattle.cti_top.specs.Words.{asks, infer, check, run};
 
 use cert_checker::valid_certificates_bound_their_modes;
-use ld_resolver::bounded_goals_have_finitely_many_nodes;
+use ld_resolver::{a_budget_of_all_nodes_finishes, bounded_goals_have_finitely_many_nodes};
 
-/// Where a certificate of a program is valid, each query that meets one of its modes has finitely many nodes, and with a budget of at
-/// least their number there are no more, so that its run finishes.
+/// Where a certificate of a program is valid, each query that meets one of its modes has some number of nodes, and its run with a budget of
+/// at least that number is finished: there are no more nodes, and the status is Done.
 ///
 /// The names are those of the program's predicates, and no two are alike.
 pub fn valid_certificates_bound_their_nodes()
-    ensures finite { (p : Listing) (names : List (List ℕ)) (facts : List Fact) → IsProgram p → AreNamed names p.preds → AllPairs (λ a b. a ≢ b) names
-        → IsValid p names facts → (a : Atom) (counter : ℕ) → MeetsMode p names facts a → (n : ℕ) × ((d : ℕ) → length (nodes p d (query a counter)) ≤ n) }
     ensures finished { (p : Listing) (names : List (List ℕ)) (facts : List Fact) → IsProgram p → AreNamed names p.preds → AllPairs (λ a b. a ≢ b) names
         → IsValid p names facts → (a : Atom) (counter : ℕ) → MeetsMode p names facts a
-        → (n : ℕ) × ((budget : ℕ) → n ≤ budget → ¬ HasMoreNodes p (query a counter) budget) }
+        → (n : ℕ) × HasNodes p (query a counter) n × ((budget : ℕ) → n ≤ budget → IsFinished p (query a counter) budget) }
 {
     valid_certificates_bound_their_modes();
     bounded_goals_have_finitely_many_nodes();
+    a_budget_of_all_nodes_finishes();
 }
 
 /// What words ask for where files and the query are not empty and do not begin with a dash.

@@ -64,7 +64,7 @@ taken_map f y (suc n) (x ∷ xs) (inr h) = let r = taken_map f y n xs h in (r.0,
 
 module _ (p : Listing) where
   -- each of the first n nodes has at most n clauses
-  shallow : (d n : ℕ) (g : Goal) (ks : List ℕ) → IsIn ks (take n (nodes p d g)) → length ks ≤ n
+  pub shallow : (d n : ℕ) (g : Goal) (ks : List ℕ) → IsIn ks (take n (nodes p d g)) → length ks ≤ n
   shallow zero n g ks h = absurd (from_taken ks n [] h)
   shallow (suc d) n g ks h = gathered n (range_with_len 1 (length p.clauses)) h (shallow d)
     where
@@ -118,7 +118,7 @@ all_later : (js ks : List ℕ) (ns : List (List ℕ)) → Before js ks → AllBy
 all_later js ks [] b h = tt
 all_later js ks (ls ∷ ns) b h = (before_later ls js ks h.0 b, all_later js ks ns b h.1)
 
-short_or_long : (a b : ℕ) → (a ≤ b) ⊎ (b < a)
+pub short_or_long : (a b : ℕ) → (a ≤ b) ⊎ (b < a)
 short_or_long zero b = inl (omega arith)
 short_or_long (suc a) zero = inr (omega arith)
 short_or_long (suc a) (suc b) = elim (short_or_long a b) [ inl l ↦ inl (omega (arith, l)) | inr r ↦ inr (omega (arith, r)) ]

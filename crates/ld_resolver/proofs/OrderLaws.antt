@@ -207,7 +207,7 @@ module _ (p : Listing) where
   deeper zero g = omega arith
   deeper (suc d) g = gathered_more g d (suc d) (range_with_len 1 (length p.clauses)) (deeper d)
 
-  much_deeper : (m e : ℕ) (g : Goal) → length (nodes p m g) ≤ length (nodes p (m + e) g)
+  pub much_deeper : (m e : ℕ) (g : Goal) → length (nodes p m g) ≤ length (nodes p (m + e) g)
   much_deeper m zero g = let s : m + 0 ≡ m = omega arith in subst (λ (n : ℕ). length (nodes p m g) ≤ length (nodes p n g)) (sym s) (omega arith)
   much_deeper m (suc e) g =
       let s : suc (m + e) ≡ m + suc e = omega arith in
@@ -229,7 +229,7 @@ module _ (p : Listing) where
   settled zero g short = absurd (let h = short [] tt in omega (arith, h))
   settled (suc d) g short = same_gathered d g (range_with_len 1 (length p.clauses)) (λ ks h. let k = short ks h in omega (arith, k)) (λ h s. settled d h s)
 
-  settled_from : (d e : ℕ) (g : Goal) → ((ks : List ℕ) → IsDerivation p g ks → suc (length ks) ≤ d) → nodes p (d + e) g ≡ nodes p d g
+  pub settled_from : (d e : ℕ) (g : Goal) → ((ks : List ℕ) → IsDerivation p g ks → suc (length ks) ≤ d) → nodes p (d + e) g ≡ nodes p d g
   settled_from d zero g short = ap (λ n. nodes p n g) (let s : d + 0 ≡ d = omega arith in s)
   settled_from d (suc e) g short =
       ap (λ n. nodes p n g) (let s : d + suc e ≡ suc (d + e) = omega arith in s)

@@ -14,4 +14,5 @@ pub mod AnswerCode
 pub mod Progress
 pub mod Runs
 pub mod Order
+pub mod Count
 pub mod Visits

@@ -7,6 +7,7 @@ ghost use Rattle.cti_terms.specs.Listing.{Listing};
 ghost use Rattle.cti_terms.specs.Derive.{IsDerivation, Bounded};
 ghost use Rattle.cti_terms.specs.Nodes.{nodes, first_nodes, HasMoreNodes};
 ghost use Rattle.ld_resolver.specs.Order.{Before, IsIn, AreAscending};
+ghost use Rattle.ld_resolver.specs.Count.{HasNodes};
 
 /// The nodes of at most d steps are the derivations of at most d steps but the empty one, in lexicographic order.
 pub fn nodes_are_derivations()
@@ -15,10 +16,17 @@ pub fn nodes_are_derivations()
     ensures order { (p : Listing) (g : Goal) (d : ℕ) → AreAscending (nodes p d g) }
 {}
 
-/// A bounded goal has finitely many nodes, and with a budget of at least their number there are no more.
+/// A bounded goal has finitely many nodes.
 pub fn bounded_goals_have_finitely_many_nodes()
-    ensures finite { (p : Listing) (g : Goal) → Bounded p g → (n : ℕ) × ((d : ℕ) → length (nodes p d g) ≤ n) }
-    ensures finished { (p : Listing) (g : Goal) → Bounded p g → (n : ℕ) × ((budget : ℕ) → n ≤ budget → ¬ HasMoreNodes p g budget) }
+    ensures finite { (p : Listing) (g : Goal) → Bounded p g → (n : ℕ) × HasNodes p g n }
+{}
+
+/// A run is finished exactly where its budget is at least the number of the goal's nodes, and then it has looked at all of them.
+pub fn a_budget_of_all_nodes_finishes()
+    ensures finished { (p : Listing) (g : Goal) (n : ℕ) → HasNodes p g n → (budget : ℕ) → n ≤ budget → ¬ HasMoreNodes p g budget }
+    ensures all { (p : Listing) (g : Goal) (n : ℕ) → HasNodes p g n → (budget : ℕ) → n ≤ budget → length (first_nodes p g budget) ≡ n }
+    ensures stopped { (p : Listing) (g : Goal) (n : ℕ) → HasNodes p g n → (budget : ℕ) → budget < n → HasMoreNodes p g budget }
+    ensures counted { (p : Listing) (g : Goal) (budget : ℕ) → ¬ HasMoreNodes p g budget → HasNodes p g (length (first_nodes p g budget)) }
 {}
 
 /// The first n nodes are derivations but the empty one, in lexicographic order, and every other such derivation comes after all of them,

@@ -26,6 +26,7 @@ mod visited;
 pub use answer::Answer;
 pub use answer_list::Answers;
 pub use laws::{
-    bounded_goals_have_finitely_many_nodes, first_nodes_come_first, nodes_are_derivations,
+    a_budget_of_all_nodes_finishes, bounded_goals_have_finitely_many_nodes, first_nodes_come_first,
+    nodes_are_derivations,
 };
 pub use running::{Ending, Ran, run};
