@@ -1,5 +1,6 @@
 pub mod WordLemmas
 pub mod Taking
+pub mod KeepLemmas
 pub mod ModeLemmas
 pub mod PlaceLemmas
 pub mod SourceLemmas

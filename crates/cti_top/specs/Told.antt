@@ -1,5 +1,5 @@
 -- What a store of files and a sink tell of their contents.
-use Rattle.std.specs.Prelude.{ℕ, ◌≡◌, ◌<◌, List, ◌++◌, length, take, Option, Some, None}
+use Rattle.std.specs.Prelude.{ℕ, ◌≡◌, ◌<◌, ◌≤◌, List, ◌++◌, length, take, Option, Some, None}
 
 -- the bytes at each name, where the store tells them
 abbrev pub Map : Type 0
@@ -24,3 +24,8 @@ Takes (Some before) added after = after ≡ Some (before ++ added)
 abbrev pub TakesPart : Option (List ℕ) → List ℕ → Option (List ℕ) → Type 0
 TakesPart None text after = after ≡ None
 TakesPart (Some before) text after = (n : ℕ) × (n < length text) × (after ≡ Some (before ++ take n text))
+
+-- a store tells the same map after a call as before it, and no name's count of faults has fallen
+pub record Keeps (told after : Map) (faults later : List ℕ → ℕ) : Type 0 where
+  pub map : after ≡ told
+  pub counts : (name : List ℕ) → faults name ≤ later name

@@ -11,6 +11,7 @@ ghost use Rattle.cti_top.specs.Inferred.{IsInferred};
 ghost use Rattle.cti_top.specs.Known.{known_of};
 ghost use Rattle.cti_top.specs.Runs.{IsKnown};
 ghost use Rattle.cti_top.specs.Outcome.{FileRose, IsAnswer};
+ghost use Rattle.cti_top.specs.Told.{Keeps};
 ghost use Rattle.cti_top.specs.Answers.{ask_of, AnswersAsk, AnswersProgram, AnswersRequest};
 
 use crate::answer::{Answer, refused, too_long};
@@ -50,6 +51,7 @@ fn answer_of<F: Files>(
     ensures answered { IfOk result (λ a. (bytes : List ℕ) → IsKnown bytes (known_of source) → AnswersAsk (F.told files.old) bytes (ask_of request.entry) a.status a.text.items) }
     ensures file_fault { IsErrOf result Status.FileFault → FileRose (ask_of request.entry) (F.faults files.old) (F.faults files.new) }
     ensures others { IfErr result (λ e. (e ≡ Status.FileFault) ⊎ (e ≡ Status.Memory)) }
+    ensures kept { Keeps (F.told files.old) (F.told files.new) (F.faults files.old) (F.faults files.new) }
 {
     match request {
         Request::Infer(_) => Ok(inferred(alloc, &source)?),
@@ -69,6 +71,7 @@ fn answer_to<F: Files>(
     ensures answered { IfOk result (λ a. AnswersProgram (F.told files.old) bytes.now (ask_of request.entry) a.status a.text.items) }
     ensures file_fault { IsErrOf result Status.FileFault → FileRose (ask_of request.entry) (F.faults files.old) (F.faults files.new) }
     ensures others { IfErr result (λ e. (e ≡ Status.FileFault) ⊎ (e ≡ Status.Memory)) }
+    ensures kept { Keeps (F.told files.old) (F.told files.new) (F.faults files.old) (F.faults files.new) }
 {
     match program_in(alloc, bytes) {
         Ok(source) => answer_of(alloc, source, request, files),
@@ -84,6 +87,7 @@ fn answer_in<F: Files>(alloc: Global, request: Request, files: &mut F) -> Result
     ensures answered { IfOk result (λ a. AnswersRequest (F.told files.old) (ask_of request.entry) a.status a.text.items) }
     ensures file_fault { IsErrOf result Status.FileFault → FileRose (ask_of request.entry) (F.faults files.old) (F.faults files.new) }
     ensures others { IfErr result (λ e. (e ≡ Status.FileFault) ⊎ (e ≡ Status.Memory)) }
+    ensures kept { Keeps (F.told files.old) (F.told files.new) (F.faults files.old) (F.faults files.new) }
 {
     match files.load(alloc, request.file(), MOST_BYTES as u64) {
         Ok(program) => answer_to(alloc, &program, request, files),
@@ -109,6 +113,7 @@ pub fn answer_for<F: Files>(alloc: Global, words: &[&str], files: &mut F) -> Res
     ensures file_fault { IsErrOf result Status.FileFault
         → (ask : Ask) × (asks (map (λ w. w.now) words.entry.now) ≡ Some ask) × FileRose ask (F.faults files.old) (F.faults files.new) }
     ensures others { IfErr result (λ e. (e ≡ Status.FileFault) ⊎ (e ≡ Status.Memory)) }
+    ensures kept { Keeps (F.told files.old) (F.told files.new) (F.faults files.old) (F.faults files.new) }
 {
     match request_in(alloc, words) {
         Ok(request) => answer_in(alloc, request, files),

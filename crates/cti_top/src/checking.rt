@@ -9,6 +9,7 @@ ghost use Rattle.cti_top.specs.Causes.{Rose};
 ghost use Rattle.cti_top.specs.Checks.{IsVerdictOn};
 ghost use Rattle.cti_top.specs.Known.{known_of};
 ghost use Rattle.cti_top.specs.Refusal.{refusal_line};
+ghost use Rattle.cti_top.specs.Told.{Keeps};
 
 use crate::answer::{Answer, too_long};
 use crate::files::{Files, LoadFault};
@@ -80,6 +81,7 @@ pub fn check_of<F: Files>(
     ensures answered { IfOk result (λ a. AnswersCertificate (F.told files.old) (known_of source.now) name.now a.status a.text.items) }
     ensures file_fault { IsErrOf result Status.FileFault → Rose (F.faults files.old name.now) (F.faults files.new name.now) }
     ensures others { IfErr result (λ e. (e ≡ Status.FileFault) ⊎ (e ≡ Status.Memory)) }
+    ensures kept { Keeps (F.told files.old) (F.told files.new) (F.faults files.old) (F.faults files.new) }
 {
     match files.load(alloc, name, MOST_BYTES as u64) {
         Ok(text) => Ok(answer_to(alloc, source, &text)?),

@@ -37,7 +37,7 @@ pub use real_sink::RealSink;
 pub use refusal::{Subject, refusal_text};
 pub use sink::{Sink, SinkFault};
 pub use status::Status;
-pub use sure::{SureFiles, SureSink};
+pub use sure::{SureFiles, SureSink, sure_command};
 pub use term_text::run_text;
 pub use top_call::command;
 pub use verdicts::verdict_text;

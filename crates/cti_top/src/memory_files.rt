@@ -8,13 +8,18 @@ use crate::files::{Files, LoadFault};
 use std::alloc::Global;
 use std::collections::BTreeMap;
 
-/// Files in memory, whose calls fail where a list says so. It tells its map.
+/// Files in memory, whose loads fail where a list says so. It tells its map.
+///
+/// Each load adds one to `calls`. It fails where the new number stands in `fails`, whatever is asked for, or where `files` has no such
+/// name; else it gives the bytes. So `calls` is 0 in a new store, and then `fails` numbers the loads from 1. A store with a greater
+/// `calls` is one that has had so many loads already.
 #[derive(Drop)]
 pub struct MemFiles {
+    /// The bytes at each name.
     pub files: BTreeMap<String, Vec<u8>>,
-    /// The numbers of the calls that fail, from 1.
+    /// The numbers of the loads that fail, in any order.
     pub fails: Vec<u64>,
-    /// How many calls there were; it stays at 2^64 - 1.
+    /// How many loads there were, failed ones too; it stays at 2^64 - 1.
     pub calls: u64,
     /// How many of them failed, as the count of every name; it stays at 2^64 - 1.
     pub faults: u64,

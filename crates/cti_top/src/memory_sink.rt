@@ -4,17 +4,20 @@ ghost use Rattle.std.specs.Prelude.{Some};
 
 use crate::sink::{Sink, SinkFault};
 
-/// A sink in memory, whose calls fail where a list says so. It tells the bytes that it took.
+/// A sink in memory, whose writes fail where a list says so. It tells the bytes that it took.
 ///
-/// It takes at most `chunk` bytes in a call. A write of a piece that is not empty fails where `chunk` is 0, or where `taken`
-/// finds no memory to grow.
+/// Each write adds one to `calls`. It fails, and takes nothing, where the new number stands in `fails`; where a piece that is not
+/// empty meets a `chunk` of 0; or where `taken` finds no memory to grow. Else it takes the first `chunk` bytes of the piece, or all of
+/// it where it has fewer. So `calls` is 0 in a new sink, and then `fails` numbers the writes from 1.
 #[derive(Drop)]
 pub struct MemSink {
+    /// The bytes taken, from those that were there at the start on.
     pub taken: Vec<u8>,
+    /// The most bytes that one write takes.
     pub chunk: usize,
-    /// The numbers of the calls that fail, from 1.
+    /// The numbers of the writes that fail, in any order.
     pub fails: Vec<u64>,
-    /// How many calls there were; it stays at 2^64 - 1.
+    /// How many writes there were, failed ones too; it stays at 2^64 - 1.
     pub calls: u64,
     /// How many of them failed; it stays at 2^64 - 1.
     pub faults: u64,

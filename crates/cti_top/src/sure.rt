@@ -1,10 +1,12 @@
 //! A store and a sink that never fail.
 
-ghost use Rattle.std.specs.Prelude.{Some, None};
+ghost use Rattle.std.specs.Prelude.{◌≢◌, Some, None};
 ghost use Rattle.cti_top.specs.Held.{held_or_empty};
 
 use crate::files::{Files, LoadFault};
 use crate::sink::{Sink, SinkFault};
+use crate::status::Status;
+use crate::top_call::command;
 use std::alloc::Global;
 use std::collections::BTreeMap;
 
@@ -45,4 +47,17 @@ impl Sink for SureSink {
     fn write(&mut self, piece: &[u8]) -> Result<usize, SinkFault> {
         Ok(piece.len())
     }
+}
+
+/// Carries out a command over files and a sink that never fail: neither is said to have failed.
+pub fn sure_command(
+    alloc: Global,
+    words: &[&str],
+    files: &mut SureFiles,
+    out: &mut SureSink,
+) -> Status
+    ensures file_fault { result ≢ Status.FileFault }
+    ensures out_fault { result ≢ Status.OutFault }
+{
+    command(alloc, words, files, out)
 }

@@ -1,6 +1,6 @@
 //! The top call.
 
-ghost use Rattle.std.specs.Prelude.{◌≡◌, List, ℕ, map, Some};
+ghost use Rattle.std.specs.Prelude.{◌≡◌, ◌≤◌, List, ℕ, map, Some};
 ghost use Rattle.certificate.specs.Reading.{IsTextOf};
 ghost use Rattle.certificate.specs.declared.certificate.Certificate.{Certificate as TheCertificate};
 ghost use Rattle.cti_top.specs.Causes.{Rose};
@@ -9,6 +9,7 @@ ghost use Rattle.cti_top.specs.Programs.{IsRefused};
 ghost use Rattle.cti_top.specs.Outcome.{FileRose, HasFile, IsCheckedOrMemory, IsDoneOrMemory, IsRanOrMemory, IsRefusedOrMemory, Outcome, program_file};
 ghost use Rattle.cti_top.specs.Queries.{IsQueryOf, Known};
 ghost use Rattle.cti_top.specs.Runs.{IsKnown, IsRefusedQuery};
+ghost use Rattle.cti_top.specs.Told.{Keeps};
 ghost use Rattle.cti_terms.specs.Listing.{Listing};
 ghost use Rattle.cti_terms.specs.declared.derivation.Goal.{Goal};
 
@@ -38,6 +39,10 @@ pub fn command<F: Files, S: Sink>(
     ensures file_fault { result ≡ Status.FileFault
         → (ask : Ask) × (asks (map (λ w. w.now) words.entry.now) ≡ Some ask) × FileRose ask (F.faults files.old) (F.faults files.new) }
     ensures out_fault { result ≡ Status.OutFault → Rose (S.faults out.old) (S.faults out.new) }
+
+    // The store keeps its map, and no count of faults falls.
+    ensures kept { Keeps (F.told files.old) (F.told files.new) (F.faults files.old) (F.faults files.new) }
+    ensures later { S.faults out.old ≤ S.faults out.new }
 
     // A file that is told and is a program is answered, unless memory runs out or a count of faults rises.
     ensures complete { (name bytes : List ℕ) (known : Known) → asks (map (λ w. w.now) words.entry.now) ≡ Some (infer name) → HasFile (F.told files.old) name bytes → IsKnown bytes known
