@@ -21,4 +21,9 @@ pub mod TextNames
 pub mod SomeAnswer
 pub mod PlaceLemmas
 pub mod DistinctLemmas
+pub mod StateLemmas
+pub mod Marks
+pub mod CutLemmas
+pub mod CutStream
+pub mod CompletionLemmas
 mod Examples

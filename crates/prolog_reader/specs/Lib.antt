@@ -19,3 +19,4 @@ pub mod Words
 pub mod Answers
 pub mod Measures
 pub mod FoundFit
+pub mod Completion
