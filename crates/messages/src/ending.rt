@@ -1,0 +1,49 @@
+//! How a call of the command ended.
+
+use crate::trouble::Trouble;
+use crate::words::Words;
+
+/// The exit statuses that a message goes with, but for that of a file.
+const NO: u8 = 1;
+
+const USAGE: u8 = 2;
+
+const REFUSED: u8 = 3;
+
+const OUT_FAULT: u8 = 5;
+
+const MEMORY: u8 = 6;
+
+/// How a call of the command ended.
+#[derive(Clone, Copy)]
+pub struct Ending<'a> {
+    /// The exit status.
+    pub status: u8,
+    /// The words after the program's name.
+    pub words: &'a [&'a str],
+    /// The beginning of what was written on standard output.
+    pub output: &'a [u8],
+    /// How many bytes were written there.
+    pub written: u64,
+}
+
+impl<'a> Ending<'a> {
+    /// The words, told apart.
+    pub fn told_words(self) -> Words<'a> {
+        Words::of(self.words)
+    }
+
+    /// What the call has to say, as far as no file has to be looked at for it.
+    pub fn trouble(self) -> Option<Trouble<'a>> {
+        let words = self.told_words();
+        let output = std::str::from_utf8(self.output).unwrap_or("");
+        match self.status {
+            NO => Trouble::not_valid(words, output),
+            USAGE => Some(Trouble::Words(words.fault())),
+            REFUSED => Trouble::refused(words, output),
+            OUT_FAULT => Some(Trouble::Output(self.written)),
+            MEMORY => Some(Trouble::Memory),
+            _ => None,
+        }
+    }
+}

@@ -1,0 +1,35 @@
+//! What `cti` says on standard error: a sentence for each kind of refusal, each reason of a No and each fault of words, with the
+//! place, the line of the text, and what to do.
+//!
+//! The answer on standard output is made elsewhere, and its beginning is read here as any reader would read it: `Head` keeps it,
+//! `Ending` says how the call ended, and `explain` makes the message. Stands on `thiserror`.
+#![tactic(auto)]
+
+mod command;
+mod ending;
+mod excerpt;
+mod explaining;
+mod file_cause;
+mod head;
+mod no_reason;
+mod place;
+mod refusal_kind;
+mod telling;
+mod told;
+mod trouble;
+mod word_fault;
+mod words;
+
+pub use command::Command;
+pub use ending::Ending;
+pub use explaining::explain;
+pub use file_cause::FileCause;
+pub use head::Head;
+pub use no_reason::NoReason;
+pub use place::Place;
+pub use refusal_kind::RefusalKind;
+pub use telling::message;
+pub use told::{Subject, ToldNo, ToldRefusal};
+pub use trouble::Trouble;
+pub use word_fault::WordFault;
+pub use words::Words;

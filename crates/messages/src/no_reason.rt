@@ -1,0 +1,79 @@
+//! The reasons why a certificate is not valid.
+
+use thiserror::Error;
+
+/// What of a fact does not hold, in the order of the reasons' numbers.
+#[derive(Clone, Copy, Debug, PartialEq, Eq, Error)]
+pub enum NoReason {
+    #[error("the version is not 1")]
+    Version,
+    #[error("a fact is missing here")]
+    Missing,
+    #[error("this fact may not stand here")]
+    Extra,
+    #[error("this fact has a list of a wrong length or a number out of range")]
+    Shape,
+    #[error("the multipliers do not show this size row")]
+    SizeRow,
+    #[error("the measure does not fall as this line says")]
+    Measure,
+    #[error("the grounds of this predicate lack a row that one of its clauses gives")]
+    Ground,
+    #[error("the pre rows of this predicate break their rule")]
+    Precondition,
+    #[error("a mode on this line is not admitted by the pre rows")]
+    Mode,
+    #[error("this line refutes nothing")]
+    Refutation,
+    #[error("this line needs a number above 2^127 - 1")]
+    Wide,
+}
+
+impl NoReason {
+    /// The reason of a number, which count from 1.
+    pub fn of(number: u64) -> Option<NoReason> {
+        Some(match number {
+            1 => NoReason::Version,
+            2 => NoReason::Missing,
+            3 => NoReason::Extra,
+            4 => NoReason::Shape,
+            5 => NoReason::SizeRow,
+            6 => NoReason::Measure,
+            7 => NoReason::Ground,
+            8 => NoReason::Precondition,
+            9 => NoReason::Mode,
+            10 => NoReason::Refutation,
+            11 => NoReason::Wide,
+            _ => return None,
+        })
+    }
+
+    /// What to do about it.
+    pub fn advice(self) -> &'static str {
+        match self {
+            NoReason::Version => "this program checks certificates of version 1",
+            NoReason::Missing =>
+                "the facts end too early, or the certificate is of another program",
+            NoReason::Extra => {
+                "the facts have to stand in their order, or the certificate is of another program"
+            }
+            NoReason::Shape => {
+                "compare it with the predicate and the clause that it names, or the certificate is of another program"
+            }
+            NoReason::SizeRow =>
+                "find other multipliers, or leave out the size row and its by lines",
+            NoReason::Measure => {
+                "find other multipliers or another measure; one of a component without recursion is 0"
+            }
+            NoReason::Ground => "add the row to the grounds, for each clause of the predicate",
+            NoReason::Precondition => {
+                "a pre row has 1 where the measure counts, and each call has to stay within the pre rows"
+            }
+            NoReason::Mode => "drop the mode, or add the mapping and the pre rows that admit it",
+            NoReason::Refutation => {
+                "each row has to be at least 0 at each point, and the measure may fall at none of them"
+            }
+            NoReason::Wide => "use smaller numbers",
+        }
+    }
+}

@@ -1,0 +1,47 @@
+//! Faults of the words of a command line.
+
+use crate::command::Command;
+use thiserror::Error;
+
+/// Why the words are no command.
+#[derive(Clone, Copy, Debug, PartialEq, Eq, Error)]
+pub enum WordFault<'a> {
+    #[error("a command is missing")]
+    NoCommand,
+    #[error("`{0}` is not a command")]
+    UnknownCommand(&'a str),
+    #[error("`{0}` is not an option of this command")]
+    UnknownOption(&'a str),
+    #[error("`cti {0}` needs the word {1}")]
+    Missing(Command, &'static str),
+    #[error("`{0}` is one word too many")]
+    Extra(&'a str),
+    #[error("--steps needs a number")]
+    NoSteps,
+    #[error("`{0}` is not a number of steps")]
+    BadSteps(&'a str),
+    #[error("--steps stands twice")]
+    TwoSteps,
+    #[error("these words are not a command")]
+    Other,
+}
+
+impl WordFault<'_> {
+    /// What to do about it.
+    pub fn advice(self) -> &'static str {
+        match self {
+            WordFault::NoCommand | WordFault::UnknownCommand(_) => {
+                "the commands are infer, check and run"
+            }
+            WordFault::UnknownOption(_) => {
+                "only run has an option, --steps; write -- before a word that begins with -"
+            }
+            WordFault::Extra(_) => "put a query or a name with spaces in quotes",
+            WordFault::NoSteps | WordFault::BadSteps(_) => {
+                "write --steps and a number from 1 to 1000000"
+            }
+            WordFault::TwoSteps => "leave one of them out",
+            WordFault::Missing(..) | WordFault::Other => { "the usage has a line for each command" }
+        }
+    }
+}

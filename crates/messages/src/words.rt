@@ -1,0 +1,153 @@
+//! The words of a command line, told apart.
+
+use crate::command::Command;
+use crate::word_fault::WordFault;
+
+/// What the next word is.
+#[derive(Clone, Copy, PartialEq, Eq)]
+enum Next {
+    /// A plain word or an option.
+    Any,
+    /// The number of `--steps`.
+    Steps,
+    /// A plain word, however it begins.
+    Plain,
+}
+
+/// The words after the program's name, told apart.
+#[derive(Clone, Copy)]
+pub struct Words<'a> {
+    command: Option<Command>,
+    file: Option<&'a str>,
+    second: Option<&'a str>,
+    steps: Option<&'a str>,
+    next: Next,
+    /// The first fault that was seen.
+    fault: Option<WordFault<'a>>,
+}
+
+/// The fault of a first word.
+fn command_fault<'a>(word: Option<&'a str>) -> Option<WordFault<'a>> {
+    let Some(word) = word else {
+        return Some(WordFault::NoCommand);
+    };
+    match Command::of(word) {
+        Some(_) => None,
+        None => Some(WordFault::UnknownCommand(word)),
+    }
+}
+
+impl<'a> Words<'a> {
+    /// Tells the words after the program's name apart.
+    pub fn of(words: &[&'a str]) -> Words<'a> {
+        let first = words.first().copied();
+        let mut told = Words {
+            command: first.and_then(Command::of),
+            file: None,
+            second: None,
+            steps: None,
+            next: Next::Any,
+            fault: command_fault(first),
+        };
+        for word in words.get(1..).unwrap_or(&[]) {
+            told.take(word);
+        }
+        told
+    }
+
+    /// The file that has the program.
+    pub fn file(self) -> &'a str {
+        self.file.unwrap_or("")
+    }
+
+    /// The file that has the certificate, or the query.
+    pub fn second(self) -> &'a str {
+        self.second.unwrap_or("")
+    }
+
+    /// Whether the second word is a file's name.
+    pub fn has_certificate(self) -> bool {
+        self.command == Some(Command::Check)
+    }
+
+    /// What is wrong with the words, which are no command.
+    pub fn fault(self) -> WordFault<'a> {
+        if let Some(fault) = self.fault {
+            return fault;
+        }
+        if self.next == Next::Steps {
+            return WordFault::NoSteps;
+        }
+        let Some(command) = self.command else {
+            return WordFault::NoCommand;
+        };
+        if self.file.is_none() {
+            return WordFault::Missing(command, "FILE");
+        }
+        match command.second() {
+            Some(name) if self.second.is_none() => WordFault::Missing(command, name),
+            _ => WordFault::Other,
+        }
+    }
+
+    /// Takes the next word.
+    fn take(&mut self, word: &'a str) {
+        match self.next {
+            Next::Steps => self.take_steps(word),
+            Next::Any if word == "--" => self.next = Next::Plain,
+            Next::Any if word.len() > 1 && word.starts_with('-') => self.take_option(word),
+            _ => self.take_plain(word),
+        }
+    }
+
+    /// Takes a word that begins with `-`.
+    fn take_option(&mut self, word: &'a str) {
+        if self.command != Some(Command::Run) {
+            self.blame(WordFault::UnknownOption(word));
+        } else if word == "--steps" {
+            self.next = Next::Steps;
+        } else if let Some(number) = word.strip_prefix("--steps=") {
+            self.take_steps(number);
+        } else {
+            self.blame(WordFault::UnknownOption(word));
+        }
+    }
+
+    /// Takes the number of `--steps`.
+    fn take_steps(&mut self, word: &'a str) {
+        self.next = Next::Any;
+        if self.steps.is_some() {
+            self.blame(WordFault::TwoSteps);
+        } else if word.is_empty() || word.starts_with('-') {
+            self.blame(WordFault::NoSteps);
+        } else if !is_number_of_steps(word) {
+            self.blame(WordFault::BadSteps(word));
+        }
+        self.steps = Some(word);
+    }
+
+    /// Takes a word that is no option.
+    fn take_plain(&mut self, word: &'a str) {
+        let has_second = self.command.and_then(Command::second).is_some();
+        if self.file.is_none() {
+            self.file = Some(word);
+        } else if has_second && self.second.is_none() {
+            self.second = Some(word);
+        } else {
+            self.blame(WordFault::Extra(word));
+        }
+    }
+
+    /// Keeps a fault, if it is the first.
+    fn blame(&mut self, fault: WordFault<'a>) {
+        if self.fault.is_none() {
+            self.fault = Some(fault);
+        }
+    }
+}
+
+/// Whether a word is a number from 1 to 1,000,000 of at most seven digits.
+fn is_number_of_steps(word: &str) -> bool {
+    let is_short = word.len() <= 7 && word.bytes().all(|byte| byte.is_ascii_digit());
+    is_short && matches!(word.parse::<u32>(), Ok(1..=1_000_000))
+}
