@@ -1,8 +1,11 @@
-//! `cti`: reads the words, makes the real files and the real output, and ends with the status's number.
+//! `cti`: reads the words, makes the real files and the real output, says on standard error what went wrong, and ends with the
+//! status's number.
 #![tactic(auto)]
 
 use cti_top::{RealFiles, RealSink, Status, command};
+use messages::{Ending, Head, explain};
 use std::alloc::{AllocError, Global};
+use std::io::Write;
 use std::process::ExitCode;
 use std::{env, io};
 
@@ -21,7 +24,14 @@ fn words(rt: &HostRuntime, alloc: Global) -> Result<Vec<String>, AllocError> {
     }
 }
 
-/// Runs the command that the words ask for.
+/// Writes the message about a call on standard error. Where this fails, nobody is there to be told.
+fn say(rt: &HostRuntime, ending: Ending<'_>) {
+    if let Ok(message) = explain(rt, ending) {
+        let _ = rt.stderr().write_all(&message);
+    }
+}
+
+/// Runs the command that the words ask for, and says what went wrong.
 fn run(rt: &HostRuntime, alloc: Global) -> Result<Status, AllocError> {
     let words = words(rt, alloc)?;
     let mut texts = Vec::new(alloc);
@@ -33,10 +43,18 @@ fn run(rt: &HostRuntime, alloc: Global) -> Result<Status, AllocError> {
         faults: 0,
     };
     let mut out = RealSink {
-        inner: rt.stdout(),
+        inner: Head::new(rt.stdout()),
         faults: 0,
     };
-    Ok(command(alloc, &texts, &mut files, &mut out))
+    let status = command(alloc, &texts, &mut files, &mut out);
+    let ending = Ending {
+        status: status.number(),
+        words: &texts,
+        output: out.inner.kept(),
+        written: out.inner.taken(),
+    };
+    say(rt, ending);
+    Ok(status)
 }
 
 fn main(rt: HostRuntime) -> ExitCode {

@@ -8,12 +8,14 @@
 mod command;
 mod ending;
 mod excerpt;
+mod expected;
 mod explaining;
 mod file_cause;
 mod head;
 mod no_reason;
 mod place;
 mod refusal_kind;
+mod scan;
 mod telling;
 mod told;
 mod trouble;
@@ -22,6 +24,7 @@ mod words;
 
 pub use command::Command;
 pub use ending::Ending;
+pub use expected::{Expected, expected_at};
 pub use explaining::explain;
 pub use file_cause::FileCause;
 pub use head::Head;

@@ -1,0 +1,11 @@
+//! Worked examples of what is said on standard error, as tables.
+#![tactic(auto)]
+
+#[cfg(test)]
+mod expectations;
+#[cfg(test)]
+mod sentences;
+#[cfg(test)]
+mod whole;
+#[cfg(test)]
+mod word_faults;

@@ -1,0 +1,71 @@
+//! Words that are no command, and the sentence for each.
+
+use messages::Words;
+use std::alloc::{AllocError, Global};
+use std::test::Fail;
+
+/// Whether words have this fault, and some advice.
+fn is_fault(alloc: Global, words: &[&str], sentence: &str) -> Result<bool, AllocError> {
+    let fault = Words::of(words).fault();
+    let text = format!(in alloc; "{fault}")?;
+    Ok(text.as_str() == sentence && !fault.advice().is_empty())
+}
+
+#[test]
+fn faults_of_words(rt: HostRuntime) -> Result<(), Fail> {
+    let alloc = rt.alloc();
+    for (words, sentence) in [
+        ([].as_slice(), "a command is missing"),
+        (&["infr", "a.pl"], "`infr` is not a command"),
+        (&["--help"], "`--help` is not a command"),
+        (&["infer"], "`cti infer` needs the word FILE"),
+        (&["check", "a.pl"], "`cti check` needs the word CERT"),
+        (&["run", "a.pl"], "`cti run` needs the word QUERY"),
+        (&["infer", "a.pl", "b.pl"], "`b.pl` is one word too many"),
+        (&["run", "a.pl", "p", "q"], "`q` is one word too many"),
+        (
+            &["infer", "-v", "a.pl"],
+            "`-v` is not an option of this command",
+        ),
+        (
+            &["check", "a.pl", "a.cert", "--steps", "5"],
+            "`--steps` is not an option of this command",
+        ),
+        (&["run", "a.pl", "p", "--steps"], "--steps needs a number"),
+        (
+            &["run", "--steps", "--", "a.pl", "p"],
+            "--steps needs a number",
+        ),
+        (
+            &["run", "a.pl", "p", "--steps", "0"],
+            "`0` is not a number of steps",
+        ),
+        (
+            &["run", "a.pl", "p", "--steps=1000001"],
+            "`1000001` is not a number of steps",
+        ),
+        (
+            &["run", "a.pl", "p", "--steps", "1", "--steps", "2"],
+            "--steps stands twice",
+        ),
+    ] {
+        assert!(rt; is_fault(alloc, words, sentence)?, "{sentence}");
+    }
+    Ok(())
+}
+
+#[test]
+fn words_are_told_apart(rt: HostRuntime) {
+    for (words, file, second) in [
+        (["infer", "a.pl"].as_slice(), "a.pl", ""),
+        (&["infer", "--", "-a.pl"], "-a.pl", ""),
+        (&["check", "a.pl", "a.cert"], "a.pl", "a.cert"),
+        (&["run", "--steps", "5", "a.pl", "p"], "a.pl", "p"),
+        (&["run", "a.pl", "--steps=5", "p"], "a.pl", "p"),
+        (&["run", "a.pl", "--", "-p"], "a.pl", "-p"),
+    ] {
+        let words = Words::of(words);
+        assert_eq!(rt; words.file(), file);
+        assert_eq!(rt; words.second(), second);
+    }
+}

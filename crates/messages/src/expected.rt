@@ -1,0 +1,120 @@
+//! What a clause could have gone on with, as far as the text before the fault tells.
+
+use crate::scan::{Last, Scan, is_symbol};
+use crate::told::Subject;
+use std::alloc::{AllocError, Global};
+use thiserror::Error;
+
+/// What was expected where a clause cannot go on.
+#[derive(Clone, Copy, Debug, PartialEq, Eq, Error)]
+pub enum Expected {
+    #[error("a term was expected here")]
+    Term,
+    #[error("an operator or the end dot was expected here")]
+    EndDot,
+    #[error("an operator or the end of the query was expected here")]
+    QueryEnd,
+    #[error("an operator, `,` or `)` was expected here")]
+    Parenthesis,
+    #[error("an operator, `,`, `|` or `]` was expected here")]
+    Bracket,
+    #[error("an operator or `}}` was expected here")]
+    Brace,
+    #[error("this operator cannot follow here: put one side of it in parentheses")]
+    Operator,
+    #[error("the clause before this line has no end dot")]
+    NoDot,
+    #[error("the text ends within a clause: look for a missing end dot or bracket")]
+    TextEnd,
+    #[error("the query ends too early: look for a missing term or bracket")]
+    EarlyEnd,
+}
+
+/// The alphabetic operators that a term follows.
+const WORDS: [&[u8]; 3] = [b" is", b" mod", b" rem"];
+
+/// The place of a line and a column in a text, or its end.
+fn offset_of(text: &[u8], line: u64, column: u64) -> usize {
+    let mut at_line = 1u64;
+    let mut at_column = 1u64;
+    for (at, byte) in text.iter().enumerate() {
+        if at_line == line && at_column == column {
+            return at;
+        }
+        if *byte == b'\n' {
+            at_line = at_line.saturating_add(1);
+            at_column = 1;
+        } else {
+            at_column = at_column.saturating_add(1);
+        }
+    }
+    text.len()
+}
+
+/// Whether a text ends in an operator that is a word.
+fn ends_in_word(text: &[u8]) -> bool {
+    let text = text.trim_ascii_end();
+    WORDS.iter().any(|word| text.ends_with(word))
+}
+
+/// Whether only layout stands before the end of a text in its last line, and another line before it.
+fn begins_line(text: &[u8]) -> bool {
+    let line = text.rsplit(|byte| *byte == b'\n').next().unwrap_or(text);
+    line.len() < text.len() && line.trim_ascii().is_empty()
+}
+
+/// What was expected after a text without an open bracket, which ends in a whole term.
+fn expected_outside(subject: Subject, before: &[u8]) -> Expected {
+    if subject == Subject::Query {
+        Expected::QueryEnd
+    } else if begins_line(before) {
+        Expected::NoDot
+    } else {
+        Expected::EndDot
+    }
+}
+
+/// What is wrong at the end of a text.
+fn end_fault(subject: Subject) -> Expected {
+    match subject {
+        Subject::Query => Expected::EarlyEnd,
+        _ => Expected::TextEnd,
+    }
+}
+
+/// What was expected between two parts of a text.
+fn expected_between(scan: &Scan, subject: Subject, before: &[u8], after: &[u8]) -> Expected {
+    let Some(next) = after.first() else {
+        return end_fault(subject);
+    };
+    if scan.last != Last::Operand || ends_in_word(before) {
+        return Expected::Term;
+    }
+    if is_symbol(*next) && *next != b'.' {
+        return Expected::Operator;
+    }
+    match scan.open.last() {
+        Some(b'(') => Expected::Parenthesis,
+        Some(b'[') => Expected::Bracket,
+        Some(_) => Expected::Brace,
+        None => expected_outside(subject, before),
+    }
+}
+
+/// What was expected at a line and a column of a text, where a clause cannot go on.
+pub fn expected_at(
+    alloc: Global,
+    subject: Subject,
+    text: &[u8],
+    line: u64,
+    column: u64,
+) -> Result<Expected, AllocError> {
+    let at = offset_of(text, line, column);
+    let before = text.get(..at).unwrap_or(text);
+    let after = text.get(at..).unwrap_or(&[]);
+    let mut scan = Scan::new(alloc);
+    for byte in before {
+        scan.take(*byte)?;
+    }
+    Ok(expected_between(&scan, subject, before, after))
+}

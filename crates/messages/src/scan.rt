@@ -1,0 +1,126 @@
+//! A quick look over a text: which brackets are open, and whether a term or an operator stands last.
+
+use std::alloc::{AllocError, Global};
+
+/// What a byte belongs to.
+#[derive(Clone, Copy, PartialEq, Eq)]
+enum Mode {
+    Code,
+    LineComment,
+    BlockComment,
+    /// An item in quotes of this kind.
+    Quoted(u8),
+    /// The character of `0'`.
+    Character,
+}
+
+/// What stands last.
+#[derive(Clone, Copy, PartialEq, Eq)]
+pub enum Last {
+    /// Nothing, or what a term follows: a comma, a bar, an opening bracket or an operator.
+    Opening,
+    /// The end of a term.
+    Operand,
+}
+
+/// What was seen of a text.
+#[derive(Drop)]
+pub struct Scan {
+    /// The brackets that are open.
+    pub open: Vec<u8>,
+    pub last: Last,
+    /// What stood last before the run of symbols that stands last.
+    earlier: Last,
+    mode: Mode,
+    /// The byte before.
+    before: u8,
+    /// Whether the byte before is a dot that stands alone.
+    is_dot: bool,
+}
+
+/// Whether a byte is one of the symbols that operators consist of.
+pub fn is_symbol(byte: u8) -> bool {
+    b"#$&*+-./:<=>?@^~\\".contains(&byte)
+}
+
+impl Scan {
+    /// Before a first byte.
+    pub fn new(alloc: Global) -> Scan {
+        Scan {
+            open: Vec::new(alloc),
+            last: Last::Opening,
+            earlier: Last::Opening,
+            mode: Mode::Code,
+            before: b' ',
+            is_dot: false,
+        }
+    }
+
+    /// Takes the next byte.
+    pub fn take(&mut self, byte: u8) -> Result<(), AllocError> {
+        let before = self.before;
+        self.before = byte;
+        match self.mode {
+            Mode::Code => return self.take_code(byte, before),
+            Mode::LineComment if byte == b'\n' => self.mode = Mode::Code,
+            Mode::BlockComment if byte == b'/' && before == b'*' => self.mode = Mode::Code,
+            // The byte after a backslash is a part of the escape.
+            Mode::Quoted(_) if before == b'\\' => self.before = b' ',
+            Mode::Quoted(quote) if byte == quote => self.mode = Mode::Code,
+            Mode::Character => self.mode = Mode::Code,
+            _ => {}
+        }
+        Ok(())
+    }
+
+    /// Takes the next byte outside comments and quotes.
+    fn take_code(&mut self, byte: u8, before: u8) -> Result<(), AllocError> {
+        if self.is_dot && (byte == b'%' || byte.is_ascii_whitespace()) {
+            self.open.clear();
+            self.last = Last::Opening;
+        }
+        self.is_dot = byte == b'.' && !is_symbol(before);
+        match byte {
+            b'(' | b'[' | b'{' => {
+                self.open.push(byte)?;
+                self.last = Last::Opening;
+            }
+            b')' | b']' | b'}' => {
+                self.open.pop();
+                self.last = Last::Operand;
+            }
+            b',' | b'|' | b';' => self.last = Last::Opening,
+            b'%' => self.mode = Mode::LineComment,
+            b'\'' | b'"' => self.take_quote(byte, before),
+            b'*' if before == b'/' => self.take_comment(),
+            _ if is_symbol(byte) => self.take_symbol(before),
+            _ if byte.is_ascii_whitespace() => {}
+            _ => self.last = Last::Operand,
+        }
+        Ok(())
+    }
+
+    /// Takes a quote.
+    fn take_quote(&mut self, byte: u8, before: u8) {
+        self.last = Last::Operand;
+        self.mode = if byte == b'\'' && before == b'0' {
+            Mode::Character
+        } else {
+            Mode::Quoted(byte)
+        };
+    }
+
+    /// Takes the second byte of a comment, so that its first is no operator.
+    fn take_comment(&mut self) {
+        self.mode = Mode::BlockComment;
+        self.last = self.earlier;
+    }
+
+    /// Takes a symbol.
+    fn take_symbol(&mut self, before: u8) {
+        if !is_symbol(before) {
+            self.earlier = self.last;
+        }
+        self.last = Last::Opening;
+    }
+}
