@@ -34,7 +34,7 @@ impl FileCause {
                 "look at the name's spelling and at the directory that you are in",
             FileCause::Denied => "ask for the right to read it",
             FileCause::Directory => "name a file in it",
-            FileCause::Failed => "copy it to another disk, and try again",
+            FileCause::Failed => "try again, and look whether the disk works",
         }
     }
 }

@@ -1,0 +1,11 @@
+% Reverses a list by appending. Only the first argument helps: where it is not known, rev calls
+% itself with a free list for ever.
+%
+% Modes:
+% rev/2  [[1]]
+% app/3  [[1],[3]]
+
+rev([],[]).
+rev([H|T],R) :- rev(T,S), app(S,[H],R).
+app([],L,L).
+app([H|T],L,[H|R]) :- app(T,L,R).
