@@ -1,0 +1,21 @@
+# Completion of cti for bash.
+_cti() {
+    local word=${COMP_WORDS[COMP_CWORD]} command=${COMP_WORDS[1]}
+    COMPREPLY=()
+    if [ "$COMP_CWORD" -eq 1 ]; then
+        mapfile -t COMPREPLY < <(compgen -W "infer check run" -- "$word")
+        return
+    fi
+    case $command in
+    infer) [ "$COMP_CWORD" -eq 2 ] && mapfile -t COMPREPLY < <(compgen -f -- "$word") ;;
+    check) [ "$COMP_CWORD" -le 3 ] && mapfile -t COMPREPLY < <(compgen -f -- "$word") ;;
+    run)
+        if [ "$COMP_CWORD" -eq 2 ]; then
+            mapfile -t COMPREPLY < <(compgen -f -- "$word")
+        else
+            mapfile -t COMPREPLY < <(compgen -W "--steps" -- "$word")
+        fi
+        ;;
+    esac
+}
+complete -o filenames -F _cti cti

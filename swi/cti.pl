@@ -1,0 +1,84 @@
+:- module(cti, [cti_modes/2, cti_check/2, cti_certificate/2]).
+
+/** <module> The modes of pure programs, by the program cti
+
+The program is looked for in the environment variable CTI and else on the
+path. Where cti gives no answer, each predicate throws
+
+    error(cti_error(Status, Message), _)
+
+with its exit status and what it says on standard error.
+*/
+
+:- use_module(library(process)).
+
+%!  cti_modes(+File, -Modes) is det.
+%
+%   Modes is a list of Name/Arity-Sets, one for each predicate of the
+%   program in File. Sets is a list of lists of argument numbers: every
+%   query in which the arguments of one of the lists are ground ends.
+
+cti_modes(File, Modes) :-
+    cti_certificate(File, Facts),
+    findall(Predicate-Sets, member(terminates(Predicate, Sets), Facts), Modes).
+
+%!  cti_certificate(+File, -Facts) is det.
+%
+%   Facts is the certificate that cti infers, as a list of terms.
+
+cti_certificate(File, Facts) :-
+    absolute_path(File, Path),
+    run_cti([infer, file(Path)], Status, Facts, Message),
+    (   Status == 0
+    ->  true
+    ;   throw(error(cti_error(Status, Message), _))
+    ).
+
+%!  cti_check(+File, +Certificate) is semidet.
+%
+%   True where the file Certificate has a valid certificate of the
+%   program in File.
+
+cti_check(File, Certificate) :-
+    absolute_path(File, Path),
+    absolute_path(Certificate, CertificatePath),
+    run_cti([check, file(Path), file(CertificatePath)], Status, Facts, Message),
+    (   Status == 0
+    ->  Facts = [yes]
+    ;   Status == 1
+    ->  fail
+    ;   throw(error(cti_error(Status, Message), _))
+    ).
+
+absolute_path(File, Path) :-
+    absolute_file_name(File, Path, []).
+
+program(Program) :-
+    getenv('CTI', Path),
+    !,
+    absolute_path(Path, Program).
+program(path(cti)).
+
+%   The program writes its whole answer before the message, which is short,
+%   so reading one after the other never blocks it.
+
+run_cti(Words, Status, Facts, Message) :-
+    program(Program),
+    process_create(Program, Words,
+                   [stdout(pipe(Out)), stderr(pipe(Err)), process(Process)]),
+    call_cleanup(read_facts(Out, Facts), close(Out)),
+    call_cleanup(read_string(Err, _, Message), close(Err)),
+    process_wait(Process, exit(Status)).
+
+%   Lines that are no terms, as the usage, are left out.
+
+read_facts(Stream, Facts) :-
+    catch(read_term(Stream, Fact, [module(cti)]), error(syntax_error(_), _), Fact = '$none'),
+    read_facts(Fact, Stream, Facts).
+
+read_facts(end_of_file, _, []) :- !.
+read_facts('$none', Stream, Facts) :-
+    !,
+    read_facts(Stream, Facts).
+read_facts(Fact, Stream, [Fact|Facts]) :-
+    read_facts(Stream, Facts).

@@ -1,0 +1,31 @@
+% Tests of the module cti. Run them at the top of the repository, once bin/cti is built:
+%
+%     CTI=bin/cti swipl -g run_tests -t halt swi/test_cti.pl
+
+:- use_module(cti).
+:- use_module(library(plunit)).
+
+:- begin_tests(cti).
+
+test(modes, Modes == [app/3-[[1],[3]]]) :-
+    cti_modes('examples/append.pl', Modes).
+
+test(no_mode, Modes == [tc/2-[], edge/2-[[]]]) :-
+    cti_modes('examples/closure.pl', Modes).
+
+test(facts, Fact == cti(1)) :-
+    cti_certificate('examples/append.pl', [Fact|_]).
+
+test(valid) :-
+    cti_check('examples/append.pl', 'examples/append.cert').
+
+test(not_valid, fail) :-
+    cti_check('examples/reverse.pl', 'examples/append.cert').
+
+test(refused_certificate, error(cti_error(3, _))) :-
+    cti_check('examples/append.pl', 'examples/append.pl').
+
+test(missing_file, error(cti_error(4, _))) :-
+    cti_modes('examples/missing.pl', _).
+
+:- end_tests(cti).
