@@ -4,6 +4,5 @@ pub mod MarkLaws
 pub mod MissingLaws
 pub mod RoundLaws
 pub mod SetLaws
-pub mod Somewhere
 pub mod StartLaws
 pub mod UserLaws

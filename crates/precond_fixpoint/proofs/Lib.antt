@@ -4,12 +4,10 @@ pub mod ComponentLaws
 pub mod CoveringLaws
 pub mod Depending
 pub mod FamilyLaws
-pub mod HeadLaws
 pub mod MemberLaws
 pub mod ModeLaws
 pub mod PlaceLaws
 pub mod RemoveLaws
 pub mod RoundLaws
 pub mod Searching
-pub mod Somewhere
 pub mod StartLaws

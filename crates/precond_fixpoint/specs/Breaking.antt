@@ -1,5 +1,5 @@
 -- Values of a clause's variables that break the rule, as sets have it. Nothing here has to be believed.
-use Rattle.std.specs.Prelude.{◌≡◌, ◌<◌, ℕ, Bool, IsTrue, if◌then◌else◌, List, slice_get, Some}
+use Rattle.std.specs.Prelude.{◌≡◌, ◌<◌, ℕ, Bool, if◌then◌else◌, List, slice_get, Some}
 use Rattle.truth_rows.specs.Ready.{HasAtom, HasAtoms}
 use Rattle.truth_rows.specs.Rules.{same_rank}
 use Rattle.bool_diagrams.specs.declared.diagram.Diagram.{Diagram}
@@ -22,7 +22,3 @@ module _ (truth : (ℕ → Bool) → Tree → Bool) (trees : List Rows) (ranks :
 
   abbrev pub Breaks : (ℕ → Bool) → Type 0
   Breaks v = HasAtom truth trees pre v k.head × ((j : ℕ) × BreaksAt v j)
-
--- a set of values depends on the variables below n alone
-abbrev pub DependsBelow : ℕ → ((ℕ → Bool) → Bool) → Type 0
-DependsBelow n set = (v w : ℕ → Bool) → ((x : ℕ) → x < n → w x ≡ v x) → IsTrue (set v) → IsTrue (set w)

@@ -1,43 +1,18 @@
 //! The values of a clause's variables that break the rule of preconditions.
 
-ghost use Rattle.std.specs.Prelude.{◌≡◌, ◌↔◌, ◌<◌, ◌≤◌, ◌⊎◌, ℕ, Bool, IsTrue, IfOk, if◌then◌else◌, length, slice_get, Some};
+ghost use Rattle.std.specs.Prelude.{◌≡◌, ◌↔◌, ◌<◌, ◌≤◌, ℕ, Bool, IsTrue, IfOk, if◌then◌else◌, length, slice_get, Some};
 ghost use Rattle.truth_rows.specs.Ready.{HasAtom, HasTruths, IsReady, IsReadyClause};
 ghost use Rattle.truth_rows.specs.Rules.{same_rank};
 ghost use Rattle.bool_diagrams.specs.Rows.{IsDiagram, Keeps, holds};
 ghost use Rattle.cti_terms.specs.declared.atom_list.Atom.{Atom};
-ghost use Rattle.precond_fixpoint.specs.Breaking.{Breaks, BreaksBelow};
+ghost use Rattle.precond_fixpoint.specs.Breaking.{Breaks};
+ghost use Rattle.termination_model.specs.Grounds.{truth_row};
 
-use crate::head_rows::rows_of_head;
 use bool_diagrams::{Diagram, Table};
 use cti_terms::{Atom, Clause, MOST_VARIABLES};
 use std::alloc::AllocError;
 use term_size::Norm;
-use truth_rows::atom_rows;
-
-// The rows on which an atom is in one of two sets.
-fn chosen_rows<N: Norm>(
-    norm: &N,
-    table: &mut Table,
-    own: bool,
-    pre: &[Diagram],
-    allowed: &[Diagram],
-    atom: &Atom,
-    vars: u32,
-) -> Result<Diagram, AllocError>
-    requires few { vars ≤ MOST_VARIABLES }
-    requires pre { IsReady table.old pre.now vars atom.now }
-    requires allowed { IsReady table.old allowed.now vars atom.now }
-    ensures keeps { Keeps table.old table.new }
-    ensures known { IfOk result (IsDiagram table.new) }
-    ensures rows { IfOk result (λ d. (row : ℕ → Bool)
-        → IsTrue (holds table.new d row)
-        ↔ HasAtom (N.truth norm.now) table.old (if own then pre.now else allowed.now) row atom.now) }
-{
-    if own {
-        return atom_rows(norm, table, pre, atom, vars);
-    }
-    atom_rows(norm, table, allowed, atom, vars)
-}
+use truth_rows::{atom_rows, chosen_rows, put_all_off, put_body_off, rows_of_head, without_ended};
 
 // The rows of a set on which an atom is not in one of two sets.
 fn leaving_rows<N: Norm>(
@@ -66,8 +41,11 @@ fn leaving_rows<N: Norm>(
     Ok(rows)
 }
 
-/// The values of a clause's variables that give its head a row of its set and reach a call that is not in its own.
-pub fn breaking_values<N: Norm>(
+// Values of a clause's variables that give its head just the truth rows that it has where its own row is in its set and a
+// call is reached that is not in its own, all values of the latter kind among them.
+//
+// A variable is left out once neither the head nor a call to come asks for it.
+fn breaking_values<N: Norm>(
     norm: &N,
     table: &mut Table,
     ranks: &[u32],
@@ -83,13 +61,22 @@ pub fn breaking_values<N: Norm>(
     requires allowed { IsReadyClause table.old allowed.now clause.now }
     ensures keeps { Keeps table.old table.new }
     ensures known { IfOk result (IsDiagram table.new) }
-    ensures rows { IfOk result (λ d. (v : ℕ → Bool) → IsTrue (holds table.new d v)
-        ↔ Breaks (N.truth norm.now) table.old ranks.now grounds.now pre.now allowed.now clause.now v) }
+    ensures all { IfOk result (λ d. (v : ℕ → Bool)
+        → Breaks (N.truth norm.now) table.old ranks.now grounds.now pre.now allowed.now clause.now v
+        → IsTrue (holds table.new d v)) }
+    ensures some { IfOk result (λ d. (row : ℕ → Bool) → IsTrue (holds table.new d row)
+        → (v : ℕ → Bool) × (truth_row (N.truth norm.now) v clause.now.head ≡ truth_row (N.truth norm.now) row clause.now.head)
+        × Breaks (N.truth norm.now) table.old ranks.now grounds.now pre.now allowed.now clause.now v) }
 {
+    let mut ends = [0; MOST_VARIABLES as usize];
+    put_body_off(norm, &mut ends, &clause.body, clause.vars);
+    put_all_off(norm, &mut ends, usize::MAX, &clause.head.args, clause.vars);
     let rank = ranks[clause.head.pred.0 as usize];
     let mut broken = table.truth(false);
     let mut reached = atom_rows(norm, table, pre, &clause.head, clause.vars)?;
-    for atom in clause.body.as_slice() {
+    for (place, atom) in clause.body.as_slice().iter().enumerate() {
+        reached = without_ended(table, reached, &ends, place, clause.vars)?;
+        broken = without_ended(table, broken, &ends, place, clause.vars)?;
         let own = ranks[atom.pred.0 as usize] == rank;
         let leaving = leaving_rows(norm, table, reached, own, pre, allowed, atom, clause.vars)?;
         broken = table.or(broken, leaving)?;
@@ -100,7 +87,7 @@ pub fn breaking_values<N: Norm>(
 }
 
 /// The truth rows of a clause's head from which the rule is broken.
-pub fn broken_rows<N: Norm>(
+pub(crate) fn broken_rows<N: Norm>(
     norm: &N,
     table: &mut Table,
     ranks: &[u32],

@@ -12,7 +12,6 @@ mod columns;
 mod covering;
 mod families;
 mod greatest;
-mod head_rows;
 mod laws;
 mod mode;
 mod modes;

@@ -1,5 +1,5 @@
 -- Laws of ends: what is told by what is still asked for, and sets that say enough of that.
-use Rattle.std.proofs.Common.{◌≡◌, ◌↔◌, inl, inr, ℕ, ◌<◌, ◌≤◌, Bool, true, false, ◌&&◌, ◌||◌, IsTrue, List, [], ◌∷◌, length, map, slice_get, slice_set, Some, All, Contains, refl, ap, sym, subst, ◌∙◌, arith}
+use Rattle.std.proofs.Common.{◌≡◌, ◌↔◌, ◌⊎◌, inl, inr, ℕ, ◌<◌, ◌≤◌, Bool, true, false, ◌&&◌, ◌||◌, IsTrue, List, [], ◌∷◌, length, map, slice_get, slice_set, Some, All, Contains, refl, ap, sym, subst, ◌∙◌, arith}
 use Rattle.std.specs.List.{AllByRecursion}
 use Rattle.std.proofs.lemmas.Bool.{and_parts, cases_eq}
 use Rattle.std.proofs.lemmas.List.Elements.{All-contains_itself}
@@ -98,6 +98,31 @@ says_both ends n P Q set here now says same told is = record {
       let a = and_parts (set row) (here row) (sym (is row) ∙ t) in
       let s = says.some row a.0 in
       (s.0, s.1, (s.2, told row s.0 (λ x asked. sym (s.1 x asked)) ((same row).0 a.1)));
+}
+
+-- the same where being in the further set is said by a property
+pub says_where : (ends : List ℕ) (n : ℕ) (P Q : (ℕ → Bool) → Type 0) (set now : (ℕ → Bool) → Bool) → SaysAsked ends n P set → ((v : ℕ → Bool) → IsTrue (now v) ↔ (IsTrue (set v) × Q v)) → ((v w : ℕ → Bool) → Agree ends n v w → Q v → Q w)
+    → SaysAsked ends n (λ v. P v × Q v) now
+says_where ends n P Q set now says is told = record {
+  all = λ v h. (is v).1 (says.all v h.0, h.1);
+  some = λ row t.
+      let a = (is row).0 t in
+      let s = says.some row a.0 in
+      (s.0, s.1, (s.2, told row s.0 (λ x asked. sym (s.1 x asked)) a.1));
+}
+
+-- the rows of either of two sets
+pub says_either : (ends : List ℕ) (n : ℕ) (P Q : (ℕ → Bool) → Type 0) (set other now : (ℕ → Bool) → Bool) → SaysAsked ends n P set → SaysAsked ends n Q other → ((v : ℕ → Bool) → now v ≡ (set v || other v))
+    → SaysAsked ends n (λ v. P v ⊎ Q v) now
+says_either ends n P Q set other now first second is = record {
+  all = λ v h. elim h [
+    | inl p ↦ is v ∙ or_left (set v) (other v) (first.all v p)
+    | inr q ↦ is v ∙ or_right (set v) (other v) (second.all v q)
+  ];
+  some = λ row t. elim (or_cases (set row) (other row) (sym (is row) ∙ t)) [
+    | inl l ↦ let s = first.some row l in (s.0, s.1, inl s.2)
+    | inr r ↦ let s = second.some row r in (s.0, s.1, inr s.2)
+  ];
 }
 
 -- the rows with any value of a variable that nothing asks for

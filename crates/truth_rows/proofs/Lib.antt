@@ -6,9 +6,11 @@ pub mod ClaimLaws
 pub mod CoverLaws
 pub mod EndLaws
 pub mod Examples
+pub mod HeadLaws
 pub mod ListLaws
 pub mod ModeLaws
 pub mod NormLaws
 pub mod RowLaws
 pub mod SetLaws
+pub mod Somewhere
 pub mod UpperLaws

@@ -15,6 +15,10 @@ Agree ends n v w = (x : ℕ) → IsAsked ends n x → v x ≡ w x
 abbrev pub IsTold : ((ℕ → Bool) → Tree → Bool) → List ℕ → ℕ → Tree → Type 0
 IsTold truth ends n t = (v w : ℕ → Bool) → Agree ends n v w → truth v t ≡ truth w t
 
+-- the set has each row that agrees with v on the first n variables
+abbrev pub HasAllLike : ℕ → (ℕ → Bool) → ((ℕ → Bool) → Bool) → Type 0
+HasAllLike n v set = (w : ℕ → Bool) → ((x : ℕ) → x < n → w x ≡ v x) → IsTrue (set w)
+
 -- the set has the rows of P, and each of its rows agrees with one of these on what is asked for after n places
 pub record SaysAsked (ends : List ℕ) (n : ℕ) (P : (ℕ → Bool) → Type 0) (set : (ℕ → Bool) → Bool) : Type 0 where
   pub all : (v : ℕ → Bool) → P v → IsTrue (set v)

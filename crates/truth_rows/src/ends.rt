@@ -52,7 +52,7 @@ pub fn put_all_off<N: Norm>(norm: &N, ends: &mut [usize], end: usize, terms: &Te
 }
 
 /// Puts off the ends of the variables of a body: each is behind the last atom that asks for it.
-pub(crate) fn put_body_off<N: Norm>(norm: &N, ends: &mut [usize], body: &Atoms, vars: u32)
+pub fn put_body_off<N: Norm>(norm: &N, ends: &mut [usize], body: &Atoms, vars: u32)
     requires few { vars ≤ MOST_VARIABLES }
     requires below { (j : ℕ) (b : Atom) → slice_get body.now j ≡ Some b → AllByRecursion (λ t. IsTrue (is_below vars t)) b.args }
     requires small { (j : ℕ) (b : Atom) → slice_get body.now j ≡ Some b → atom_nodes b ≤ MOST_NODES }

@@ -114,8 +114,8 @@ fn call_stays<N: Norm>(
     is_inside(table, reached, wanted)
 }
 
-// The rows on which an atom is in one of two sets.
-fn chosen_rows<N: Norm>(
+/// The rows on which an atom is in one of two sets.
+pub fn chosen_rows<N: Norm>(
     norm: &N,
     table: &mut Table,
     own: bool,

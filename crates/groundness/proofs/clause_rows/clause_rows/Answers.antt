@@ -1,13 +1,17 @@
-use Rattle.std.proofs.Common.{sym, ◌∙◌, arith}
-use Rattle.bool_diagrams.specs.Rows.{holds}
-use Rattle.truth_rows.proofs.ArgumentLaws.{to_zero}
-use Rattle.groundness.proofs.ClauseLaws.{clause_gives}
+use Rattle.truth_rows.proofs.HeadLaws.{places_same}
+use Rattle.groundness.proofs.ClauseLaws.{atoms_agree}
 use Rattle.groundness.proofs.clause_rows.clause_rows.Goals as goal
 
 pub returns-clause-rows : goal.returns-clause-rows
 returns-clause-rows g c = λ row.
-    let e = c.in_ok-rows.ensures.rows row in
-    let s = clause_gives (g.N.Norm.size c.args.norm.now) (g.N.Norm.truth c.args.norm.now) (g.N.Norm.expression c.args.norm.now) (g.met.N.Norm.laws c.args.norm.now) c.args.table.now c.args.sets.now c.args.clause.now c.requires
-    (holds c.head_reaching_rows.new.table c.in_ok-body.body) (holds c.head_rows.new.table c.in_ok-bound.bound) (holds c.somewhere.new.table c.in_ok-given.given)
-    c.in_ok-body.ensures.all c.in_ok-body.ensures.some c.in_ok-bound.ensures.all c.in_ok-bound.ensures.some c.in_ok-given.ensures.rows _ (λ j lt. to_zero c.len-count.result j (omega (arith, c.len-count.ensures)) (omega (arith, c.len-count.ensures, c.requires.head.narrow))) row in
-    (λ t. s.0 (sym e ∙ t), λ x. e ∙ s.1 x)
+    let truth = g.N.Norm.truth c.args.norm.now in
+    let k = c.args.clause.now in (
+      λ t.
+          let s = c.in_ok-rows.ensures.some row t in
+          let b = c.in_ok-body.ensures.some s.0 s.1 in
+          (b.0, b.2, places_same truth s.0 b.0 row k.head.args b.1 s.2),
+      λ s. c.in_ok-rows.ensures.all s.0 row
+          (λ w agree. c.in_ok-body.ensures.all w
+          (atoms_agree (g.N.Norm.size c.args.norm.now) truth (g.N.Norm.expression c.args.norm.now) (g.met.N.Norm.laws c.args.norm.now) c.args.table.now c.args.sets.now k c.requires s.0 w agree s.1))
+          s.2,
+    )

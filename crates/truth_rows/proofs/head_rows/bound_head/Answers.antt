@@ -9,7 +9,7 @@ use Rattle.truth_rows.proofs.ArgumentLaws.{number_at}
 use Rattle.truth_rows.proofs.EndLaws.{asked_past, says_both, says_itself, says_later, says_same}
 use Rattle.truth_rows.proofs.ListLaws.{at_place, by_places, mapped_place, place_below, sum_part, up_to_more}
 use Rattle.truth_rows.proofs.RowLaws.{iff_same, iff_true}
-use Rattle.groundness.proofs.clause_rows.head_rows.Goals as goal
+use Rattle.truth_rows.proofs.head_rows.bound_head.Goals as goal
 
 pub loop-place-init : goal.loop-place-init
 loop-place-init g c = record {

@@ -1,8 +1,8 @@
 use Rattle.std.proofs.Common.{sym, ◌∙◌}
 use Rattle.bool_diagrams.specs.Rows.{holds}
 use Rattle.bool_diagrams.proofs.CallerLemmas.{keeps_twice}
-use Rattle.groundness.proofs.Somewhere.{somewhere_more}
-use Rattle.groundness.proofs.clause_rows.somewhere.Goals as goal
+use Rattle.truth_rows.proofs.Somewhere.{somewhere_more}
+use Rattle.truth_rows.proofs.head_rows.somewhere.Goals as goal
 
 pub loop-variable-preserved : goal.loop-variable-preserved
 loop-variable-preserved c =

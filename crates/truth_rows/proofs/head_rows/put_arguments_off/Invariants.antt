@@ -1,7 +1,7 @@
 use Rattle.std.proofs.Common.{◌≡◌, ◌<◌, ℕ, length, slice_get, Some}
 use Rattle.cti_terms.specs.Tree.{Tree}
 use Rattle.truth_rows.specs.Ends.{IsTold}
-use Rattle.groundness.proofs.clause_rows.put_arguments_off.Given as goal
+use Rattle.truth_rows.proofs.head_rows.put_arguments_off.Given as goal
 
 abbrev pub invariant-loop-place : goal.invariant-loop-place
 invariant-loop-place g l =

@@ -2,7 +2,7 @@ use Rattle.std.proofs.Common.{◌+◌, ℕ, Bool, IsTrue}
 use Rattle.bool_diagrams.specs.Rows.{IsDiagram, Keeps, holds}
 use Rattle.truth_rows.specs.Ends.{SaysAsked}
 use Rattle.truth_rows.specs.Ready.{HasTruths}
-use Rattle.groundness.proofs.clause_rows.head_rows.Given as goal
+use Rattle.truth_rows.proofs.head_rows.bound_head.Given as goal
 
 abbrev pub invariant-loop-place : goal.invariant-loop-place
 invariant-loop-place g l =
