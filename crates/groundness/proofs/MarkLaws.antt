@@ -101,6 +101,15 @@ waiting_backwards n numbers long at =
           (n - 1 - j, f ∙ ap Some (omega arith));
     }
 
+not_marked : (n j : ℕ) → IsMarked (replicate n false) j → ⊥
+not_marked zero j m = cc
+not_marked (suc n) zero m = cc
+not_marked (suc n) (suc j) m = not_marked n j m
+
+-- or none has a mark, and none waits
+pub waiting_none : (n : ℕ) → AreWaiting (replicate n false) []
+waiting_none n = record { within = λ i j e. cc; all = λ j m. absurd (not_marked n j m) }
+
 pub marked_at : (n j : ℕ) → j < n → IsMarked (replicate n true) j
 marked_at zero j lt = absurd (omega arith)
 marked_at (suc n) zero lt = refl

@@ -43,6 +43,11 @@ pub record AreUsers (p : Listing) (users : List (List ℕ)) : Type 0 where
   pub within : (q j : ℕ) → HasUser users q j → j < length p.clauses
   pub all : (j : ℕ) (c : Clause) (i : ℕ) (b : Atom) → slice_get p.clauses j ≡ Some c → slice_get c.body i ≡ Some b → HasUser users b.pred.0 j
 
+-- the clauses of each predicate: those that have it in their heads
+pub record AreHeads (p : Listing) (heads : List (List ℕ)) : Type 0 where
+  pub within : (q j : ℕ) → HasUser heads q j → j < length p.clauses
+  pub all : (j : ℕ) (c : Clause) → slice_get p.clauses j ≡ Some c → HasUser heads c.head.pred.0 j
+
 -- no atom of the clause's body has the predicate
 abbrev pub IsApart : Clause → ℕ → Type 0
 IsApart c q = (i : ℕ) (b : Atom) → slice_get c.body i ≡ Some b → (b.pred.0 ≡ q) → ⊥

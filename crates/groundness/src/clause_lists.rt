@@ -2,7 +2,7 @@
 
 ghost use Rattle.std.specs.Prelude.{◌≡◌, ◌<◌, ◌⊎◌, ℕ, IfOk, OnOk, length, replicate, slice_get, slice_index_or, slice_set, Some, [], ◌∷◌, ◌++◌};
 ghost use Rattle.cti_terms.specs.declared.atom_list.Atom.{Atom};
-ghost use Rattle.groundness.specs.Marks.{AreUsers, HasUser};
+ghost use Rattle.groundness.specs.Marks.{AreHeads, AreUsers, HasUser};
 
 use cti_terms::{Atoms, PredId, Program};
 use std::alloc::{AllocError, Global};
@@ -24,7 +24,7 @@ impl Model for Clauses {
 
 /// A list of clauses for each predicate. Contracts see the list of the lists.
 #[derive(Drop)]
-pub(crate) struct ClauseLists {
+pub struct ClauseLists {
     rows: Vec<Clauses>,
 }
 
@@ -51,7 +51,7 @@ impl ClauseLists {
     }
 
     /// The clauses of a predicate, none for a number that is no predicate's.
-    pub(crate) fn of(&self, pred: PredId) -> &[u32]
+    pub fn of(&self, pred: PredId) -> &[u32]
         ensures { result.now ≡ slice_index_or self.now pred.0 [] }
     {
         let place = pred.0 as usize;
@@ -73,7 +73,7 @@ impl ClauseLists {
 }
 
 /// For each predicate the clauses that have it in their bodies.
-pub(crate) fn users(alloc: Global, p: &Program) -> Result<ClauseLists, AllocError>
+pub fn users(alloc: Global, p: &Program) -> Result<ClauseLists, AllocError>
     ensures { IfOk result (AreUsers p.now) }
 {
     let mut lists = ClauseLists::new(alloc, p.preds())?;
@@ -85,8 +85,8 @@ pub(crate) fn users(alloc: Global, p: &Program) -> Result<ClauseLists, AllocErro
 }
 
 /// For each predicate the clauses that have it in their heads, the last one first.
-pub(crate) fn heads(alloc: Global, p: &Program) -> Result<ClauseLists, AllocError>
-    ensures { IfOk result (λ heads. (q j : ℕ) → HasUser heads q j → j < length p.now.clauses) }
+pub fn heads(alloc: Global, p: &Program) -> Result<ClauseLists, AllocError>
+    ensures { IfOk result (AreHeads p.now) }
 {
     let mut lists = ClauseLists::new(alloc, p.preds())?;
     let count = p.clauses();

@@ -3,6 +3,9 @@
 //! Where a norm says which terms are rigid, a row in the set of a predicate is a way in which the arguments of an atom
 //! can be rigid, or not, once the atom has succeeded.
 //!
+//! The sets are found by marks: each clause that may still give a row has one. Whoever looks for sets by clauses in
+//! another way takes the marks and the lists of clauses from here.
+//!
 //! Stands on `termination_model`, which says what the least family is, and on `truth_rows`, whose sets these are.
 #![tactic(auto)]
 
@@ -12,5 +15,7 @@ mod grounds;
 mod marks;
 mod solving;
 
+pub use clause_lists::{ClauseLists, heads, users};
 pub use grounds::Grounds;
+pub use marks::Marks;
 pub use solving::solve;

@@ -9,7 +9,7 @@ use std::marker::Model;
 /// A mark for each clause, and the clauses with a mark in the order in which they are to be looked at, the next one
 /// last. Clauses count from 0. Contracts see the list of the marks.
 #[derive(Drop)]
-pub(crate) struct Marks {
+pub struct Marks {
     marked: Vec<bool>,
     /// A clause may stand here more than once, or without a mark.
     waiting: Vec<u32>,
@@ -33,6 +33,15 @@ impl Marks {
     {
         let marked = vec![in alloc; true; count as usize]?;
         let waiting = backwards(alloc, count)?;
+        Ok(Marks { marked, waiting })
+    }
+
+    /// So many clauses, none with a mark.
+    pub fn none(alloc: Global, count: u32) -> Result<Marks, AllocError>
+        ensures { IfOk result (λ marks. marks ≡ replicate count false) }
+    {
+        let marked = vec![in alloc; false; count as usize]?;
+        let waiting = Vec::new(alloc);
         Ok(Marks { marked, waiting })
     }
 
@@ -72,7 +81,7 @@ impl Marks {
     }
 
     /// Marks these clauses.
-    pub(crate) fn mark_all(&mut self, clauses: &[u32]) -> Result<(), AllocError>
+    pub fn mark_all(&mut self, clauses: &[u32]) -> Result<(), AllocError>
         requires { (j : ℕ) → Contains clauses.now j → j < length self.old }
         ensures each { length self.new ≡ length self.old }
         ensures marked { OnOk result ((j : ℕ) → Contains clauses.now j → IsMarked self.new j) }
@@ -85,7 +94,7 @@ impl Marks {
     }
 
     /// Takes the mark of the next clause, if any has one.
-    pub(crate) fn take(&mut self) -> Option<u32>
+    pub fn take(&mut self) -> Option<u32>
         ensures taken { MatchOption result
             ((self.new ≡ self.old) × ((j : ℕ) → IsMarked self.old j → ⊥))
             (λ clause. (self.new ≡ slice_set self.old clause false) × IsMarked self.old clause) }

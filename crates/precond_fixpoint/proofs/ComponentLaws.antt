@@ -18,11 +18,11 @@ use Rattle.groundness.proofs.StartLaws.{start_none, start_sets}
 use Rattle.number_tests.specs.Levels.{coefficients_of, items_of}
 use Rattle.number_tests.specs.declared.level_part.LevelPart.{LevelPart}
 use Rattle.precond_fixpoint.specs.Greatest.{IsGreatestIn}
-use Rattle.precond_fixpoint.specs.Removing.{is_ranked}
+use Rattle.precond_fixpoint.specs.Removing.{AreRanked, is_ranked}
 use Rattle.precond_fixpoint.specs.Solving.{AreLevels, AreMappingSets, AreUnions, IsColumn, IsSolution, IsSolved, allowed_family, is_member, pre_family}
 use Rattle.precond_fixpoint.proofs.AllowedLaws.{greatest_depends_below, greatest_depends_on_members}
 use Rattle.precond_fixpoint.proofs.FamilyLaws.{allowed_after, column_row, pre_after}
-use Rattle.precond_fixpoint.proofs.PlaceLaws.{any_at, at_is, items_at, items_same, member_place, not_at, place_member, ranked_is, some_at}
+use Rattle.precond_fixpoint.proofs.PlaceLaws.{any_at, at_is, is_at_of, items_at, items_same, member_place, not_at, place_member, ranked_is, some_at}
 use Rattle.termination_model.specs.Grounds.{Family}
 use Rattle.termination_model.specs.View.{all_upper}
 use Rattle.truth_rows.specs.Sets.{AreSets, family_of, has_row}
@@ -147,3 +147,11 @@ module _ (p : Listing) (comps : Partition) (are : AreComponents p comps) (c : �
 
   pub no_place : (q : ℕ) → (IsIn comps c q → ⊥) → (j : ℕ) (a : PredId) → slice_get members j ≡ Some a → q ≡ a.0 → ⊥
   no_place q not_in j a e same = not_in (subst (IsIn comps c) (sym same) (member_in j a e))
+
+  -- they are the predicates of one rank
+  pub members_ranked : (ranks : List ℕ) → ranks ≡ map (λ d. d + 1) comps.of → AreRanked p.preds ranks (c + 1) members
+  members_ranked ranks is = record {
+    within = λ j a e. in_program a.0 (member_in j a e);
+    ranked = λ j a e. (λ i. ranked_is ranks comps c is i a.0) ∙ is_at_of (slice_get comps.of a.0) c (member_in j a e);
+    all = λ q ranked. member_place members q ((are.members c (map number_of members) at q).1 (at_is (slice_get comps.of q) c (sym (λ i. ranked_is ranks comps c is i q) ∙ ranked)));
+  }

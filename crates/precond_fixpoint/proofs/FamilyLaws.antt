@@ -1,5 +1,5 @@
 -- The families of mappings and what they allow, while the table and the sets grow.
-use Rattle.std.proofs.Common.{◌≡◌, inl, inr, ℕ, suc, ◌<◌, ◌==◌, Bool, true, false, ◌&&◌, ◌||◌, List, [], ◌∷◌, length, slice_get, slice_set, Option, None, Some, IsSomeAnd, ◌+◌, refl, ap, sym, subst, ◌∙◌, arith, eqb-true}
+use Rattle.std.proofs.Common.{◌≡◌, inl, inr, ℕ, zero, suc, ◌<◌, ◌==◌, Bool, true, false, ◌&&◌, ◌||◌, List, [], ◌∷◌, ◌++◌, length, replicate, slice_get, slice_set, Option, None, Some, IsSomeAnd, ◌+◌, refl, ap, sym, subst, ◌∙◌, arith, eqb-true}
 use Rattle.std.specs.List.{list_any}
 use Rattle.std.proofs.lemmas.Bool.{cases_eq}
 use Rattle.std.proofs.lemmas.List.{length-set}
@@ -11,7 +11,7 @@ use Rattle.bool_diagrams.specs.declared.diagram.Diagram.{Diagram}
 use Rattle.cti_terms.specs.declared.predicates.Pred.{Pred}
 use Rattle.cti_terms.specs.declared.predicates.PredId.{PredId}
 use Rattle.number_tests.specs.Levels.{items_of}
-use Rattle.precond_fixpoint.specs.Solving.{AreMappingSets, AreUnions, IsColumn, allowed_family, pre_family}
+use Rattle.precond_fixpoint.specs.Solving.{AreColumns, AreMappingSets, AreUnions, FitPredicate, IsColumn, allowed_family, pre_family}
 use Rattle.termination_model.specs.Grounds.{HasArity}
 use Rattle.termination_model.specs.View.{all_upper}
 use Rattle.truth_rows.specs.Sets.{AreSets, family_of, has_row}
@@ -20,6 +20,7 @@ use Rattle.truth_rows.proofs.ClaimLaws.{all_upper_same}
 use Rattle.truth_rows.proofs.ListLaws.{one_element, place_below, set_elsewhere, set_there}
 use Rattle.truth_rows.proofs.SetLaws.{some_is}
 use Rattle.precond_fixpoint.proofs.PlaceLaws.{items_at, items_same, some_at}
+use Rattle.precond_fixpoint.proofs.StartLaws.{pushed_length}
 
 any_none : {X : Type 0} → (f : X → Bool) (xs : List X) → ((x : X) → f x ≡ false) → list_any f xs ≡ false
 any_none f [] h = refl
@@ -37,11 +38,28 @@ any_same f g (x ∷ xs) h =
     let rest = any_same f g xs (λ i y e. h (suc i) y e) in
     λ i. first i || rest i
 
+-- a place before the last, where another predicate stands
+pub earlier : (members : List PredId) (n : ℕ) (a : PredId) → slice_get members n ≡ Some a → (j : ℕ) (q : PredId) → j < n + 1 → slice_get members j ≡ Some q → ((q.0 ≡ a.0) → ⊥) → j < n
+earlier members n a at j q lt e ne = elim (cases_eq j n) [
+  | inl last ↦
+      let f : slice_get members n ≡ Some q = ap (slice_get members) (sym last) ∙ e in
+      let is : q ≡ a = one_element members n q a f at in
+      absurd (ne (ap (λ (x : PredId). x.0) is))
+  | inr before ↦ omega arith
+]
+
 module _ (T T2 : List Rows) (K : Keeps T T2) where
   pub row_later : (o : Option Pred) (b : Option Diagram) → ((d : Diagram) → b ≡ Some d → IsDiagram T d) → (row : List Bool) → has_row o T2 b row ≡ has_row o T b row
   row_later None b known row = refl
   row_later (Some x) None known row = refl
   row_later (Some x) (Some d) known row = ap (λ t. (x.arity == length row) && t) (holds_later T T2 d K (known d refl) (values_of row))
+
+  -- the sets of a family, one of which is put anew, for other predicates
+  pub family_elsewhere : (preds : List Pred) (sets : List Diagram) → ((r : ℕ) (d : Diagram) → slice_get sets r ≡ Some d → IsDiagram T d) → (q : ℕ) (d : Diagram) (r : ℕ) → ((r ≡ q) → ⊥)
+      → family_of preds T2 (slice_set sets q d) r ≡ family_of preds T sets r
+  family_elsewhere preds sets known q d r ne = λ i row.
+      (ap (λ (o : Option Diagram). has_row (slice_get preds r) T2 o row) (set_elsewhere sets q r d ne)
+      ∙ row_later (slice_get preds r) (slice_get sets r) (λ x e. known r x e) row) i
 
   pub upper_later : (o : Option Pred) (ds : List Diagram) → ((m : ℕ) (d : Diagram) → slice_get ds m ≡ Some d → IsDiagram T d) → (row : List Bool)
       → list_any (λ (d : Diagram). all_upper (has_row o T2 (Some d)) row) ds ≡ list_any (λ (d : Diagram). all_upper (has_row o T (Some d)) row) ds
@@ -169,13 +187,8 @@ pub columns_more : (families : List (List Diagram)) (members : List PredId) (n :
     → (j : ℕ) (q : PredId) → j < n + 1 → slice_get members j ≡ Some q → IsColumn families q.0 (items_of new q.0)
 columns_more families members n a at old new other here before j q lt e = elim (cases_eq q.0 a.0) [
   | inl same ↦ subst (λ (k : ℕ). IsColumn families k (items_of new k)) (sym same) here
-  | inr ne ↦ elim (cases_eq j n) [
-    | inl last ↦
-        let f : slice_get members n ≡ Some q = ap (slice_get members) (sym last) ∙ e in
-        let is : q ≡ a = one_element members n q a f at in
-        absurd (ne (ap (λ (x : PredId). x.0) is))
-    | inr earlier ↦ subst (λ (ds : List Diagram). IsColumn families q.0 ds) (sym (items_same new old q.0 (other q.0 ne))) (before j q (omega arith) e)
-  ]
+  | inr ne ↦
+      subst (λ (ds : List Diagram). IsColumn families q.0 ds) (sym (items_same new old q.0 (other q.0 ne))) (before j q (earlier members n a at j q lt e ne) e)
 ]
 
 -- unions of sets stay unions
@@ -203,3 +216,36 @@ module _ (preds : List Pred) (T : List Rows) (families : List (List Diagram)) (a
 
   pub column_reads : (x : Pred) → slice_get preds q ≡ Some x → (m : ℕ) (d : Diagram) → slice_get own m ≡ Some d → ReadsBelow T d x.arity
   column_reads x at m d e = let f = in_family m d e in (are m f.0 f.1).reads q x.arity d f.2 (has_arity preds q x at)
+
+-- a set more at the end of a column
+module _ (q : ℕ) (set : List Diagram) (d : Diagram) (there : slice_get set q ≡ Some d) where
+  longer : (families : List (List Diagram)) (own : List Diagram) → length own ≡ length families → ((m : ℕ) (family : List Diagram) → slice_get families m ≡ Some family → slice_get own m ≡ slice_get family q)
+      → (m : ℕ) (family : List Diagram) → slice_get (families ++ set ∷ []) m ≡ Some family → slice_get (own ++ d ∷ []) m ≡ slice_get family q
+  longer [] [] each at zero family e = let is : set ≡ family = cc in sym there ∙ ap (λ (ds : List Diagram). slice_get ds q) is
+  longer [] [] each at (suc m) family e = cc
+  longer [] (x ∷ own) each at m family e = absurd (omega arith)
+  longer (f ∷ families) [] each at m family e = absurd (omega arith)
+  longer (f ∷ families) (x ∷ own) each at zero family e = at 0 family e
+  longer (f ∷ families) (x ∷ own) each at (suc m) family e = longer families own (omega arith) (λ k g h. at (suc k) g h) m family e
+
+  pub column_longer : (families : List (List Diagram)) (own : List Diagram) → IsColumn families q own → IsColumn (families ++ set ∷ []) q (own ++ d ∷ [])
+  column_longer families own column = record {
+    each = pushed_length own d ∙ ap (λ n. n + 1) column.each ∙ sym (pushed_length families set);
+    at = longer families own column.each column.at;
+  }
+
+-- columns of no families
+pub empty_columns : (members : List PredId) (n : ℕ) → AreColumns [] members (replicate n [])
+empty_columns members n j a own at e = let is = empty n j own e in subst (IsColumn [] a.0) is (record { each = refl; at = λ m family f. cc })
+  where
+    empty : (n j : ℕ) (own : List Diagram) → slice_get (replicate n []) j ≡ Some own → [] ≡ own
+    empty zero j own e = cc
+    empty (suc n) zero own e = cc
+    empty (suc n) (suc j) own e = empty n j own e
+
+-- what fits a predicate in later tables
+pub fit_later : (preds : List Pred) (T T2 : List Rows) → Keeps T T2 → (q : ℕ) (own : List Diagram) → FitPredicate preds T q own → FitPredicate preds T2 q own
+fit_later preds T T2 K q own fit = record {
+  known = λ m d e. known_later T T2 d K (fit.known m d e);
+  reads = λ m d x e at. reads_later T T2 K d (fit.known m d e) x.arity (fit.reads m d x e at);
+}

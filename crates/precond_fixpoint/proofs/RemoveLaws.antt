@@ -1,6 +1,7 @@
 -- What removing the broken rows of a clause does to the families.
-use Rattle.std.proofs.Common.{◌≡◌, ◌↔◌, inl, inr, ◌⊎◌, ℕ, zero, suc, ◌<◌, [], ◌∷◌, Bool, true, false, ◌&&◌, not, if◌then◌else◌, IsTrue, List, length, slice_get, slice_set, slice_index_or, Some, refl, ap, sym, subst, ◌∙◌, arith}
+use Rattle.std.proofs.Common.{◌≡◌, ◌↔◌, inl, inr, ◌⊎◌, ℕ, zero, suc, ◌<◌, [], ◌∷◌, Bool, true, false, ◌&&◌, not, if◌then◌else◌, IsTrue, List, length, take, slice_get, slice_set, slice_index_or, Some, refl, ap, sym, subst, ◌∙◌, arith}
 use Rattle.std.proofs.lemmas.Bool.{cases_eq}
+use Rattle.std.specs.List.{AllByRecursion}
 use Rattle.bool_diagrams.specs.declared.diagram.Diagram.{Diagram}
 use Rattle.bool_diagrams.specs.Cubes.{truth_rows, values_of}
 use Rattle.bool_diagrams.specs.Rows.{IsDiagram, Keeps, HaveSameRows, ReadsBelow, holds}
@@ -16,14 +17,16 @@ use Rattle.termination_model.specs.Grounds.{Family, HasArity, IsGround, IsInside
 use Rattle.truth_rows.specs.Ready.{HasAtom, HasAtoms, HasTruths}
 use Rattle.truth_rows.specs.Rules.{KeepsSets, same_rank}
 use Rattle.truth_rows.specs.Sets.{AreSets, family_of}
-use Rattle.truth_rows.proofs.AtomLaws.{are_first, ground_is, rule_is}
+use Rattle.truth_rows.proofs.AtomLaws.{are_first, first_are, ground_is, rule_is}
 use Rattle.truth_rows.proofs.CallerLemmas.{family_later, sets_later, sets_with}
 use Rattle.truth_rows.proofs.SetLaws.{none, some_is, family_in, family_put, row_is, truths_of, atom_there}
 use Rattle.truth_rows.proofs.ListLaws.{by_places, there}
 use Rattle.truth_rows.proofs.RowLaws.{both, same_bool, first_row, first_values, length-first}
+use Rattle.precond_fixpoint.proofs.FamilyLaws.{family_elsewhere}
 use Rattle.precond_fixpoint.specs.Breaking.{Breaks}
 use Rattle.precond_fixpoint.specs.Greatest.{IsBroken}
 use Rattle.precond_fixpoint.specs.Removing.{RemovesBroken, all_present}
+use Rattle.groundness.specs.Marks.{IsApart}
 use Rattle.groundness.specs.Missing.{missing}
 use Rattle.groundness.proofs.MissingLaws.{missing_less}
 
@@ -195,6 +198,58 @@ module _ (p : Listing) (program : IsProgram p) (trees : List Rows) (sets grounds
               let row = values_of (truth_row truth v k.head) in
               let b = (G row).1 (v, breaks, truths_of truth v k.head.args) in
               and_left_only (holds trees (slice_index_or sets k.head.pred.0 none) row) (B row) (head (slice_index_or sets k.head.pred.0 none) at_q) (sym (J row) ∙ same row) b
+
+  pub removed_others : (r : ℕ) → ((r ≡ k.head.pred.0) → ⊥) → family_of p.preds T2 (slice_set sets k.head.pred.0 kept) r ≡ family_of p.preds trees sets r
+  removed_others = family_elsewhere trees T2 K p.preds sets S.known k.head.pred.0 kept
+
+  -- from a row that stays no values break the rule
+  no_break : (v : ℕ → Bool) → IsGround truth (family_of p.preds T2 (slice_set sets k.head.pred.0 kept)) v k.head → Breaks truth trees ranks grounds sets allowed k v → ⊥
+  no_break v head breaks =
+      let row = truth_row truth v k.head in
+      let f = family_in p.preds T2 (slice_set sets k.head.pred.0 kept) k.head.pred.0 row head in
+      let own = slice_get-set_same sets k.head.pred.0 kept (atom_there p program trees sets S k.vars k.head c.head) in
+      let found = f.3 in
+      let is : f.1 ≡ kept = cc in
+      let t : holds T2 kept (values_of row) ≡ true = subst (λ (y : Diagram). IsTrue (holds T2 y (values_of row))) is f.5 in
+      right_off (holds trees (slice_index_or sets k.head.pred.0 none) (values_of row)) (B (values_of row)) (sym (J (values_of row)) ∙ t) ((G (values_of row)).1 (v, breaks, truths_of truth v k.head.args))
+    where
+      right_off : (a b : Bool) → (a && not b) ≡ true → b ≡ true → ⊥
+      right_off true true h t = cc
+      right_off true false h t = cc
+      right_off false b h t = cc
+
+  -- so each call is in its set as it was
+  stays : (v : ℕ → Bool) → IsGround truth (family_of p.preds T2 (slice_set sets k.head.pred.0 kept)) v k.head → (j : ℕ) (b : Atom) → slice_get k.body j ≡ Some b
+      → AllByRecursion (IsGround truth (family_of p.preds trees grounds) v) (take j k.body)
+      → (t : Bool) → same_rank ranks b.pred.0 k.head.pred.0 ≡ t → IsGround truth (if t then pre_family else family_of p.preds trees allowed) v b
+  stays v head j b at before t e = elim (value ((if t then pre_family else family_of p.preds trees allowed) b.pred.0 (truth_row truth v b))) [
+    | inl on ↦ on
+    | inr off ↦
+        absurd (no_break v head (
+          (ground_is truth p trees sets S program k.vars v k.head c.head).1 (removed_inside k.head.pred.0 (truth_row truth v k.head) head),
+          (
+            j,
+            record {
+              call = b;
+              there = at;
+              reached = first_are truth p trees grounds GS program k.vars v k.body c.body j before;
+              outside = λ has.
+                  let g : IsGround truth (if t then pre_family else family_of p.preds trees allowed) v b =
+                  (chosen_atom t v b (by_places (IsAtom p.preds k.vars) k.body c.body j b at)).0 (subst (λ (x : Bool). HasAtom truth trees (if x then sets else allowed) v b) e has) in
+                  let x : true ≡ false = sym g ∙ off in
+                  cc;
+            },
+          ),
+        ))
+  ]
+
+  -- the rule is kept then, if no call of the clause has the head's predicate
+  pub removed_keeps : IsApart k k.head.pred.0 → KeepsSets truth (family_of p.preds T2 (slice_set sets k.head.pred.0 kept)) (family_of p.preds trees allowed) (family_of p.preds trees grounds) (λ q. same_rank ranks q k.head.pred.0) k
+  removed_keeps apart v head j b at before = moved (same_rank ranks b.pred.0 k.head.pred.0) (stays v head j b at before (same_rank ranks b.pred.0 k.head.pred.0) refl)
+    where
+      moved : (t : Bool) → IsGround truth (if t then pre_family else family_of p.preds trees allowed) v b → IsGround truth (if t then family_of p.preds T2 (slice_set sets k.head.pred.0 kept) else family_of p.preds trees allowed) v b
+      moved true h = ap (λ (f : List Bool → Bool). f (truth_row truth v b)) (removed_others b.pred.0 (apart j b at)) ∙ h
+      moved false h = h
 
   -- where something is removed there are fewer rows
   pub removed_less : (HaveSameRows T2 (slice_index_or sets k.head.pred.0 none) kept → ⊥) → all_present p.preds T2 (slice_set sets k.head.pred.0 kept) < all_present p.preds trees sets

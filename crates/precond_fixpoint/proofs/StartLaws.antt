@@ -1,18 +1,22 @@
--- The sets that the search begins with.
-use Rattle.std.proofs.Common.{◌≡◌, ℕ, zero, suc, ◌+◌, ◌<◌, ◌≤◌, Bool, List, [], ◌∷◌, ◌++◌, length, slice_get, Some, refl, sym, subst, ◌∙◌, arith}
+-- Lists with an element more, and the sets that the search begins with.
+use Rattle.std.proofs.Common.{◌≡◌, ◌↔◌, ℕ, zero, suc, ◌+◌, ◌<◌, Bool, IsTrue, List, [], ◌∷◌, ◌++◌, length, map, nat_lt, slice_get, slice_set, Some, ap, sym, subst, ◌∙◌, arith}
+use Rattle.std.proofs.lemmas.List.{length-map}
 use Rattle.bool_diagrams.specs.declared.diagram.Diagram.{Diagram}
-use Rattle.bool_diagrams.specs.Cubes.{values_of}
-use Rattle.bool_diagrams.specs.Rows.{Keeps, ReadsBelow}
+use Rattle.bool_diagrams.specs.Cubes.{truth_rows}
+use Rattle.bool_diagrams.specs.Rows.{IsDiagram, Keeps, ReadsBelow}
 use Rattle.bool_diagrams.specs.Tree.{Tree as Rows}
-use Rattle.bool_diagrams.proofs.CallerLemmas.{holds_later, known_later}
-use Rattle.cti_terms.specs.Listing.{Listing, IsProgram}
-use Rattle.cti_terms.specs.declared.limits.TheConstants.{MOST_ARGUMENTS}
 use Rattle.cti_terms.specs.declared.predicates.Pred.{Pred}
+use Rattle.number_tests.specs.Levels.{coefficients_of, is_positive, items_of}
+use Rattle.number_tests.specs.declared.level_part.LevelPart.{LevelPart}
+use Rattle.precond_fixpoint.specs.Removing.{IsCovering}
+use Rattle.precond_fixpoint.specs.Solving.{HaveParts}
+use Rattle.precond_fixpoint.proofs.PlaceLaws.{coefficient_signs, items_at, some_at}
+use Rattle.termination_model.specs.Grounds.{Family, HasArity}
+use Rattle.termination_model.specs.Rows.{Covers}
 use Rattle.truth_rows.specs.Sets.{AreSets, family_of}
-use Rattle.truth_rows.proofs.CallerLemmas.{family_at, reads_later}
-use Rattle.truth_rows.proofs.ListLaws.{by_places, place_below}
+use Rattle.truth_rows.proofs.CallerLemmas.{family_at, sets_later, sets_with}
+use Rattle.truth_rows.proofs.ListLaws.{one_element, place_below, set_there}
 use Rattle.truth_rows.proofs.SetLaws.{some_is}
-use Rattle.precond_fixpoint.specs.Removing.{AreCovering, AreSigns, HaveSigns, IsStart}
 
 -- an element more at the end
 pub pushed : {X : Type 0} → (P : ℕ → X → Type 0) (xs : List X) (x : X) → ((i : ℕ) (y : X) → slice_get xs i ≡ Some y → P i y) → P (length xs) x
@@ -26,59 +30,46 @@ pub pushed_length : {X : Type 0} → (xs : List X) (x : X) → length (xs ++ x �
 pushed_length [] x = omega arith
 pushed_length (y ∷ xs) x = omega (arith, pushed_length xs x)
 
-pub start_later : (T T2 : List Rows) → Keeps T T2 → (signs : List Bool) (d : Diagram) → IsStart T signs d → IsStart T2 signs d
-start_later T T2 K signs d s = record {
-  known = known_later T T2 d K s.known;
-  reads = reads_later T T2 K d s.known (length signs) s.reads;
-  covering = λ coefficients is row long.
-      let e = holds_later T T2 d K s.known (values_of row) in
-      (λ t. (s.covering coefficients is row long).0 (sym e ∙ t), λ c. e ∙ (s.covering coefficients is row long).1 c);
-}
+-- the signs of the part that stands at a place
+pub signs_is : (levels : List (List LevelPart)) (m q : ℕ) (own : List LevelPart) → slice_get levels q ≡ Some own → (parts : List LevelPart) → parts ≡ own → (part : LevelPart) → slice_get parts m ≡ Some part
+    → (signs : List Bool) → signs ≡ map is_positive part.coeffs → (other : LevelPart) → slice_get (items_of levels q) m ≡ Some other → signs ≡ map is_positive other.coeffs
+signs_is levels m q own at parts same part there signs is other e =
+    let f : slice_get parts m ≡ Some other = ap (λ (xs : List LevelPart). slice_get xs m) (same ∙ sym (items_at levels q own at)) ∙ e in
+    is ∙ ap (λ (y : LevelPart). map is_positive y.coeffs) (one_element parts m part other there f)
 
-pub arity_few : (p : Listing) → IsProgram p → (signs : List (List Bool)) → HaveSigns p.preds signs → (q : ℕ) (s : List Bool) → slice_get signs q ≡ Some s → length s ≤ MOST_ARGUMENTS
-arity_few p program signs have q s e = go (at_of p.preds q (let lt = place_below signs q s e in omega (arith, have.each, lt)))
-  where
-    at_of : (xs : List Pred) (i : ℕ) → i < length xs → (x : Pred) × (slice_get xs i ≡ Some x)
-    at_of [] i lt = absurd (omega arith)
-    at_of (x ∷ xs) zero lt = (x, refl)
-    at_of (x ∷ xs) (suc i) lt = at_of xs i (omega arith)
+-- the signs of a predicate's coefficients, one for each argument
+pub signs_wide : (preds : List Pred) (levels : List (List LevelPart)) → HaveParts preds levels → (m q : ℕ) (x : Pred) → slice_get preds q ≡ Some x → m < length (items_of levels q) → (signs : List Bool)
+    → ((part : LevelPart) → slice_get (items_of levels q) m ≡ Some part → signs ≡ map is_positive part.coeffs) → length signs ≡ x.arity
+signs_wide preds levels L m q x at lt signs is =
+    let part = some_at (items_of levels q) m lt in
+    let own = is part.0 part.1 in
+    subst (λ (xs : List Bool). length xs ≡ x.arity) (sym own) (length-map part.0.coeffs is_positive ∙ L.wide q m x part.0 at part.1)
 
-    go : (x : Pred) × (slice_get p.preds q ≡ Some x) → length s ≤ MOST_ARGUMENTS
-    go x = let few : x.0.arity ≤ MOST_ARGUMENTS = by_places (λ (y : Pred). y.arity ≤ MOST_ARGUMENTS) p.preds program.arities q x.0 x.1 in
-        subst (λ (n : ℕ). n ≤ MOST_ARGUMENTS) (sym (have.wide q x.0 s x.1 e)) few
+-- a set that has the rows which the coefficients of its predicate cover
+module _ (preds : List Pred) (T T2 : List Rows) (K : Keeps T T2) (sets : List Diagram) (S : AreSets preds T sets) (levels : List (List LevelPart)) (m q : ℕ) (x : Pred) (at : slice_get preds q ≡ Some x)
+    (lt : m < length (items_of levels q)) (signs : List Bool) (is : (part : LevelPart) → slice_get (items_of levels q) m ≡ Some part → signs ≡ map is_positive part.coeffs) (wide : length signs ≡ x.arity)
+    (set : Diagram) (known : IsDiagram T2 set) (reads : ReadsBelow T2 set (length signs)) where
+  below : q < length sets
+  below = let l = place_below preds q x at in omega (arith, S.each)
 
-module _ (preds : List Pred) (signs : List (List Bool)) (have : HaveSigns preds signs) (trees : List Rows) (sets : List Diagram) (each : length sets ≡ length preds)
-    (start : (q : ℕ) (d : Diagram) → slice_get sets q ≡ Some d → (s : List Bool) → slice_get signs q ≡ Some s → IsStart trees s d) where
-  sign_at : (q : ℕ) (d : Diagram) → slice_get sets q ≡ Some d → (s : List Bool) × (slice_get signs q ≡ Some s)
-  sign_at q d e = at_of signs q (let lt = place_below sets q d e in omega (arith, have.each, each, lt))
-    where
-      at_of : (xs : List (List Bool)) (i : ℕ) → i < length xs → (s : List Bool) × (slice_get xs i ≡ Some s)
-      at_of [] i lt = absurd (omega arith)
-      at_of (x ∷ xs) zero lt = (x, refl)
-      at_of (x ∷ xs) (suc i) lt = at_of xs i (omega arith)
+  pub cover_sets : AreSets preds T2 (slice_set sets q set)
+  cover_sets = sets_with preds T2 sets (sets_later preds T T2 K sets S) q set below known
+      (λ n a.
+      let w = some_is (λ (y : Pred). y.arity ≡ n) (slice_get preds q) a in
+      let same : x ≡ w.0 = cc in
+      subst (ReadsBelow T2 set) (wide ∙ subst (λ (y : Pred). y.arity ≡ n) (sym same) w.2) reads)
 
-  pub starting_are : AreSets preds trees sets
-  starting_are = record {
-    each = each;
-    known = λ q d e. let s = sign_at q d e in (start q d e s.0 s.1).known;
-    reads = λ q n d e a.
-        let s = sign_at q d e in
-        let x = some_is (λ (x : Pred). x.arity ≡ n) (slice_get preds q) a in
-        subst (ReadsBelow trees d) (have.wide q x.0 s.0 x.1 s.1 ∙ x.2) (start q d e s.0 s.1).reads;
-  }
-
-  pub starting_cover : (is_member : ℕ → Bool) (coefficients : ℕ → List ℕ) → AreSigns signs is_member coefficients → AreCovering preds is_member coefficients (family_of preds trees sets)
-  starting_cover is_member coefficients are q row member arity =
-      let x = some_is (λ (x : Pred). x.arity ≡ length row) (slice_get preds q) arity in
-      let d = set_at sets q (let lt = place_below preds q x.0 x.1 in omega (arith, each, lt)) in
-      let s = sign_at q d.0 d.1 in
-      let st = start q d.0 d.1 s.0 s.1 in
-      let long : length row ≡ length s.0 = sym x.2 ∙ sym (have.wide q x.0 s.0 x.1 s.1) in
-      let e = family_at preds trees sets q x.0 d.0 row x.1 d.1 x.2 in
-      let c = st.covering (coefficients q) (are q s.0 member s.1) row long in
+  pub cover_own : ((coefficients : List ℕ) → map (nat_lt 0) coefficients ≡ signs → (row : List Bool) → length row ≡ length signs → IsTrue (truth_rows T2 set row) ↔ Covers coefficients row)
+      → IsCovering preds (coefficients_of levels m) (family_of preds T2 (slice_set sets q set)) q
+  cover_own covering row arity =
+      let w = some_is (λ (y : Pred). y.arity ≡ length row) (slice_get preds q) arity in
+      let same : w.0 ≡ x = cc in
+      let long : x.arity ≡ length row = subst (λ (y : Pred). y.arity ≡ length row) same w.2 in
+      let e = family_at preds T2 (slice_set sets q set) q x set row at (set_there sets q set below) long in
+      let c = covering (coefficients_of levels m q) (coefficient_signs levels m q signs lt is) row (sym long ∙ sym wide) in
       (λ t. c.0 (sym e ∙ t), λ h. e ∙ c.1 h)
-    where
-      set_at : (xs : List Diagram) (i : ℕ) → i < length xs → (d : Diagram) × (slice_get xs i ≡ Some d)
-      set_at [] i lt = absurd (omega arith)
-      set_at (x ∷ xs) zero lt = (x, refl)
-      set_at (x ∷ xs) (suc i) lt = set_at xs i (omega arith)
+
+-- a family that has the rows of another one at a predicate covers there what the other does
+pub covering_same : (preds : List Pred) (coefficients : ℕ → List ℕ) (old new : Family) (q : ℕ) → new q ≡ old q → IsCovering preds coefficients old q → IsCovering preds coefficients new q
+covering_same preds coefficients old new q same h =
+    subst (λ (s : List Bool → Bool). (row : List Bool) → HasArity preds q (length row) → IsTrue (s row) ↔ Covers (coefficients q) row) (sym same) h

@@ -1,10 +1,11 @@
 -- What removing broken rows does to sets. Nothing here has to be believed.
-use Rattle.std.specs.Prelude.{◌≡◌, ◌==◌, ◌+◌, ◌⊎◌, ◌↔◌, ℕ, Bool, true, not, IsTrue, List, [], ◌∷◌, length, map, nat_lt, slice_get, Some, slice_index_or}
-use Rattle.truth_rows.specs.Rules.{same_rank}
+use Rattle.std.specs.Prelude.{◌≡◌, ◌==◌, ◌+◌, ◌*◌, ◌<◌, ◌⊎◌, ◌↔◌, ℕ, suc, Bool, true, not, IsTrue, List, [], ◌∷◌, length, slice_get, Some, slice_index_or}
+use Rattle.cti_terms.specs.declared.predicates.PredId.{PredId}
+use Rattle.groundness.specs.Marks.{IsMarked, marks_left}
+use Rattle.truth_rows.specs.Rules.{KeepsSets, same_rank}
 use Rattle.truth_rows.specs.Sets.{family_of}
 use Rattle.bool_diagrams.specs.declared.diagram.Diagram.{Diagram}
 use Rattle.bool_diagrams.specs.Cubes.{truth_rows}
-use Rattle.bool_diagrams.specs.Rows.{IsDiagram, ReadsBelow}
 use Rattle.bool_diagrams.specs.Tree.{Tree as Rows}
 use Rattle.cti_terms.specs.Listing.{Listing}
 use Rattle.cti_terms.specs.Tree.{Tree}
@@ -38,21 +39,25 @@ Needed truth p before after ranks rank grounds allowed old new =
     (coefficients : ℕ → List ℕ) → RemovesOnlyBroken truth p (is_ranked ranks rank) (family_of p.preds before allowed) (family_of p.preds before grounds) coefficients
     (family_of p.preds before old) (family_of p.preds after new)
 
--- the rows of members are those that the coefficients cover
+-- the members are the predicates of this rank
+pub record AreRanked (preds : List Pred) (ranks : List ℕ) (rank : ℕ) (members : List PredId) : Type 0 where
+  pub within : (j : ℕ) (a : PredId) → slice_get members j ≡ Some a → a.0 < length preds
+  pub ranked : (j : ℕ) (a : PredId) → slice_get members j ≡ Some a → is_ranked ranks rank a.0 ≡ true
+  pub all : (q : ℕ) → is_ranked ranks rank q ≡ true → (j : ℕ) × (a : PredId) × (slice_get members j ≡ Some a) × (q ≡ a.0)
+
+-- the rule is kept in each clause of this rank that has no mark
+abbrev pub UnmarkedKeep : ((ℕ → Bool) → Tree → Bool) → Listing → List ℕ → ℕ → List Bool → (pre allowed grounds : Family) → Type 0
+UnmarkedKeep truth p ranks rank marks pre allowed grounds =
+    (j : ℕ) (k : Clause) → slice_get p.clauses j ≡ Some k → (IsMarked marks j → ⊥) → is_ranked ranks rank k.head.pred.0 ≡ true → KeepsSets truth pre allowed grounds (is_ranked ranks rank) k
+
+-- what is left to do: each row counts for more than all marks
+abbrev pub work : List Pred → List Rows → List Diagram → List Bool → ℕ
+work preds trees sets marks = all_present preds trees sets * suc (length marks) + marks_left marks
+
+-- the rows of a predicate are those that its coefficients cover
+abbrev pub IsCovering : List Pred → (ℕ → List ℕ) → Family → ℕ → Type 0
+IsCovering preds coefficients f q = (row : List Bool) → HasArity preds q (length row) → IsTrue (f q row) ↔ Covers (coefficients q) row
+
+-- so for each member
 abbrev pub AreCovering : List Pred → (ℕ → Bool) → (ℕ → List ℕ) → Family → Type 0
-AreCovering preds is_member coefficients f = (q : ℕ) (row : List Bool) → is_member q ≡ true → HasArity preds q (length row) → IsTrue (f q row) ↔ Covers (coefficients q) row
-
--- the signs of coefficients for each predicate's arguments
-pub record HaveSigns (preds : List Pred) (signs : List (List Bool)) : Type 0 where
-  pub each : length signs ≡ length preds
-  pub wide : (q : ℕ) (x : Pred) (s : List Bool) → slice_get preds q ≡ Some x → slice_get signs q ≡ Some s → length s ≡ x.arity
-
--- a member's coefficients have these signs
-abbrev pub AreSigns : List (List Bool) → (ℕ → Bool) → (ℕ → List ℕ) → Type 0
-AreSigns signs is_member coefficients = (q : ℕ) (s : List Bool) → is_member q ≡ true → slice_get signs q ≡ Some s → map (nat_lt 0) (coefficients q) ≡ s
-
--- a diagram has the rows that are covered by coefficients with these signs
-pub record IsStart (trees : List Rows) (signs : List Bool) (d : Diagram) : Type 0 where
-  pub known : IsDiagram trees d
-  pub reads : ReadsBelow trees d (length signs)
-  pub covering : (coefficients : List ℕ) → map (nat_lt 0) coefficients ≡ signs → (row : List Bool) → length row ≡ length signs → IsTrue (truth_rows trees d row) ↔ Covers coefficients row
+AreCovering preds is_member coefficients f = (q : ℕ) → is_member q ≡ true → IsCovering preds coefficients f q

@@ -14,7 +14,8 @@ use Rattle.call_components.specs.Partition.{IsIn, Partition}
 use Rattle.cti_terms.specs.Listing.{Listing}
 use Rattle.cti_terms.specs.Tree.{Tree}
 use Rattle.cti_terms.specs.declared.predicates.Pred.{Pred}
-use Rattle.number_tests.specs.Levels.{coefficients_of, is_positive, items_of}
+use Rattle.cti_terms.specs.declared.predicates.PredId.{PredId}
+use Rattle.number_tests.specs.Levels.{coefficients_of, items_of}
 use Rattle.number_tests.specs.declared.level_part.LevelPart.{LevelPart}
 use Rattle.precond_fixpoint.specs.Greatest.{IsGreatestIn}
 use Rattle.precond_fixpoint.specs.Removing.{is_ranked}
@@ -74,14 +75,26 @@ module _ (truth : (ℕ → Bool) → Tree → Bool) (p : Listing) where
     pub sets : AreSets p.preds trees family
     pub greatest : IsGreatestIn truth p (is_ranked ranks rank) allowed grounds (coefficients_of levels m) (family_of p.preds trees family)
 
--- the signs of the coefficients in the mapping of this number
-abbrev pub AreSignsOf : List (List LevelPart) → ℕ → List (List Bool) → Type 0
-AreSignsOf levels m signs = (q : ℕ) (s : List Bool) (part : LevelPart) → slice_get signs q ≡ Some s → slice_get (items_of levels q) m ≡ Some part → s ≡ map is_positive part.coeffs
-
 -- the diagrams of one predicate, in each of the families
 pub record IsColumn (families : List (List Diagram)) (q : ℕ) (own : List Diagram) : Type 0 where
   pub each : length own ≡ length families
   pub at : (m : ℕ) (family : List Diagram) → slice_get families m ≡ Some family → slice_get own m ≡ slice_get family q
+
+-- for each member its diagrams in each of the families
+abbrev pub AreColumns : List (List Diagram) → List PredId → List (List Diagram) → Type 0
+AreColumns families members columns = (j : ℕ) (a : PredId) (own : List Diagram) → slice_get members j ≡ Some a → slice_get columns j ≡ Some own → IsColumn families a.0 own
+
+-- diagrams of the table, over the predicate's arguments alone
+pub record FitPredicate (preds : List Pred) (trees : List Rows) (q : ℕ) (own : List Diagram) : Type 0 where
+  pub known : (m : ℕ) (d : Diagram) → slice_get own m ≡ Some d → IsDiagram trees d
+  pub reads : (m : ℕ) (d : Diagram) (x : Pred) → slice_get own m ≡ Some d → slice_get preds q ≡ Some x → ReadsBelow trees d x.arity
+
+-- the columns of members come from solutions for so many mappings
+pub record AreSolutions (truth : (ℕ → Bool) → Tree → Bool) (p : Listing) (ranks : List ℕ) (rank : ℕ) (allowed grounds : Family) (levels : List (List LevelPart)) (trees : List Rows) (count : ℕ) (members : List PredId) (columns : List (List Diagram)) : Type 0 where
+  pub families : List (List Diagram)
+  pub each : length families ≡ count
+  pub solutions : (m : ℕ) (family : List Diagram) → slice_get families m ≡ Some family → IsSolution truth p ranks rank allowed grounds levels trees m family
+  pub own : AreColumns families members columns
 
 -- the arguments of a mode
 abbrev pub arguments_of : Mode → List ℕ

@@ -1,44 +1,79 @@
 //! The rows that a mapping covers: where the search begins.
 
-ghost use Rattle.std.specs.Prelude.{◌≡◌, ◌↔◌, ◌≤◌, ℕ, Bool, IsTrue, IfOk, List, length, map, nat_lt};
+ghost use Rattle.std.specs.Prelude.{◌≡◌, ◌↔◌, ◌≤◌, ◌<◌, ℕ, Bool, IsTrue, IfOk, List, OnOk, length, map, nat_lt, slice_get, Some};
 ghost use Rattle.bool_diagrams.specs.Cubes.{truth_rows};
 ghost use Rattle.bool_diagrams.specs.Rows.{IsDiagram, Keeps, ReadsBelow};
+ghost use Rattle.cti_terms.specs.Listing.{IsProgram};
+ghost use Rattle.cti_terms.specs.declared.predicates.PredId.{PredId as ThePred};
+ghost use Rattle.number_tests.specs.Levels.{coefficients_of, items_of};
+ghost use Rattle.precond_fixpoint.specs.Removing.{IsCovering};
+ghost use Rattle.precond_fixpoint.specs.Solving.{HaveParts};
 ghost use Rattle.termination_model.specs.Rows.{Covers};
 ghost use Rattle.truth_rows.specs.Sets.{AreSets, family_of};
-ghost use Rattle.cti_terms.specs.Listing.{IsProgram};
-ghost use Rattle.precond_fixpoint.specs.Removing.{AreCovering, AreSigns, HaveSigns, IsStart};
 
 use bool_diagrams::{Diagram, Table};
-use cti_terms::{MOST_ARGUMENTS, Program};
+use cti_terms::{MOST_ARGUMENTS, PredId, Program};
+use number_tests::LevelPart;
 use sequences::Sequence;
 use std::alloc::{AllocError, Global};
 
-/// Gives for each predicate the rows that its coefficients cover, where these are the signs of the coefficients.
-pub fn starting_sets(
+/// Puts into the places of these predicates the rows that their coefficients cover in the mapping of this number.
+pub(crate) fn put_covering(
     alloc: Global,
     p: &Program,
     table: &mut Table,
-    signs: &[Sequence<bool>],
-) -> Result<Vec<Diagram>, AllocError>
+    members: &[PredId],
+    levels: &[Sequence<LevelPart>],
+    m: usize,
+    sets: &mut [Diagram],
+) -> Result<(), AllocError>
     requires program { IsProgram p.now }
-    requires signs { HaveSigns p.now.preds signs.now }
+    requires there { (j : ℕ) (a : ThePred) → slice_get members.now j ≡ Some a → a.0 < length p.now.preds }
+    requires levels { HaveParts p.now.preds levels.now }
+    requires mapping { (j : ℕ) (a : ThePred) → slice_get members.now j ≡ Some a → m < length (items_of levels.now a.0) }
+    requires sets { AreSets p.now.preds table.old sets.old }
     ensures keeps { Keeps table.old table.new }
-    ensures sets { IfOk result (λ v. AreSets p.now.preds table.new v.items) }
-    ensures covering { IfOk result (λ v. (is_member : ℕ → Bool) (coefficients : ℕ → List ℕ) → AreSigns signs.now is_member coefficients
-        → AreCovering p.now.preds is_member coefficients (family_of p.now.preds table.new v.items)) }
+    ensures sets { OnOk result (AreSets p.now.preds table.new sets.new) }
+    ensures covering { OnOk result ((j : ℕ) (a : ThePred) → slice_get members.now j ≡ Some a
+        → IsCovering p.now.preds (coefficients_of levels.now m) (family_of p.now.preds table.new sets.new) a.0) }
 {
-    let mut sets = Vec::new(alloc);
-    for q in 0..p.preds() {
-        let set = covering_rows(table, signs[q as usize].as_slice())?;
-        sets.push(set)?;
+    for member in members {
+        cover_member(alloc, p, table, *member, levels, m, sets)?;
     }
-    Ok(sets)
+    Ok(())
 }
 
-/// Gives the rows that are true wherever a coefficient is positive.
-///
-/// `positive` says of each argument whether its coefficient is: the clause holds for all coefficients with these signs.
-pub fn covering_rows(table: &mut Table, positive: &[bool]) -> Result<Diagram, AllocError>
+// The same for one predicate.
+fn cover_member(
+    alloc: Global,
+    p: &Program,
+    table: &mut Table,
+    member: PredId,
+    levels: &[Sequence<LevelPart>],
+    m: usize,
+    sets: &mut [Diagram],
+) -> Result<(), AllocError>
+    requires program { IsProgram p.now }
+    requires there { member.0 < length p.now.preds }
+    requires levels { HaveParts p.now.preds levels.now }
+    requires mapping { m < length (items_of levels.now member.0) }
+    requires sets { AreSets p.now.preds table.old sets.old }
+    ensures keeps { Keeps table.old table.new }
+    ensures sets { OnOk result (AreSets p.now.preds table.new sets.new) }
+    ensures own { OnOk result (IsCovering p.now.preds (coefficients_of levels.now m) (family_of p.now.preds table.new sets.new) member.0) }
+    ensures others { OnOk result ((r : ℕ) → ((r ≡ member.0) → ⊥) → family_of p.now.preds table.new sets.new r ≡ family_of p.now.preds table.old sets.old r) }
+{
+    let place = member.0 as usize;
+    let signs = levels[place].as_slice()[m].signs(alloc)?;
+    let set = covering_rows(table, &signs)?;
+    sets[place] = set;
+    Ok(())
+}
+
+// Gives the rows that are true wherever a coefficient is positive.
+//
+// `positive` says of each argument whether its coefficient is: the clause holds for all coefficients with these signs.
+fn covering_rows(table: &mut Table, positive: &[bool]) -> Result<Diagram, AllocError>
     requires narrow { length positive.now ≤ MOST_ARGUMENTS }
     ensures keeps { Keeps table.old table.new }
     ensures known { IfOk result (λ d. IsDiagram table.new d) }

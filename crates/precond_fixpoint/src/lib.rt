@@ -18,7 +18,6 @@ mod modes;
 mod preconditions;
 mod ranks;
 mod removing;
-mod signs;
 mod solving;
 
 pub use laws::{

@@ -1,21 +1,22 @@
 //! The preconditions of a program, component by component.
 
-ghost use Rattle.std.specs.Prelude.{◌≡◌, ◌<◌, ◌+◌, ℕ, [], IfOk, OnOk, length, map, replicate, slice_get};
+ghost use Rattle.std.specs.Prelude.{◌≡◌, ◌<◌, ◌+◌, ℕ, IfOk, OnOk, length, map, slice_get};
 ghost use Rattle.bool_diagrams.specs.Rows.{Keeps};
 ghost use Rattle.call_components.specs.Partition.{AreComponents, IsIn};
 ghost use Rattle.cti_terms.specs.Listing.{IsProgram};
-ghost use Rattle.number_tests.specs.Levels.{items_of};
+ghost use Rattle.groundness.specs.Marks.{AreHeads, AreUsers};
 ghost use Rattle.precond_fixpoint.specs.Solving.{AreLevels, AreMappingSets, AreModes, AreUnions, IsSolved, allowed_family};
 ghost use Rattle.truth_rows.specs.Sets.{AreSets, family_of};
 
-use crate::columns::put_members;
-use crate::families::component_families;
+use crate::columns::{no_sets, put_members};
+use crate::families::member_sets;
 use crate::modes::all_modes;
 use crate::preconditions::Preconditions;
 use crate::ranks::component_ranks;
 use bool_diagrams::{Diagram, Table};
 use call_components::Components;
 use cti_terms::Program;
+use groundness::{ClauseLists, Marks, heads, users};
 use number_tests::LevelPart;
 use sequences::Sequence;
 use std::alloc::{AllocError, Global};
@@ -48,7 +49,7 @@ pub fn solve_levels<N: Norm>(
     ensures modes { IfOk result (λ pre. AreModes p.now.preds (allowed_family p.now.preds table.new pre.sets) pre.modes) }
 {
     let _program = p.preds();
-    let mut sets = no_sets(alloc, p.preds())?;
+    let mut sets = no_sets(alloc, p.preds() as usize)?;
     let mut allowed = vec![in alloc; table.truth(false); p.preds() as usize]?;
     solve_components(
         alloc,
@@ -66,17 +67,6 @@ pub fn solve_levels<N: Norm>(
         sets: Sequence::from_vec(sets),
         modes,
     })
-}
-
-// No sets for each of so many predicates.
-fn no_sets(alloc: Global, count: u32) -> Result<Vec<Sequence<Diagram>>, AllocError>
-    ensures { IfOk result (λ sets. sets.items ≡ replicate count []) }
-{
-    let mut sets = Vec::new(alloc);
-    for _q in 0..count {
-        sets.push(Sequence::new(alloc))?;
-    }
-    Ok(sets)
 }
 
 // Solves the components in turn, callees first.
@@ -104,25 +94,23 @@ fn solve_components<N: Norm>(
         → IsSolved (N.truth norm.now) p.now comps.now (family_of p.now.preds table.old grounds.now) levels.now table.new sets.new c) }
 {
     let ranks = component_ranks(alloc, p, comps)?;
-    for c in 0..comps.count() {
-        solve_component(
-            alloc, p, comps, norm, table, &ranks, c, grounds, levels, sets, allowed,
-        )?;
-    }
-    Ok(())
+    let heads = heads(alloc, p)?;
+    let users = users(alloc, p)?;
+    solve_in_turn(
+        alloc, p, comps, norm, table, &ranks, &heads, &users, grounds, levels, sets, allowed,
+    )
 }
 
-/// Puts into the places of a component's members the greatest sets for each of its mappings, and what these allow.
-///
-/// `sets` and `allowed` are those of the components that it calls; the places of other predicates stay.
-pub(crate) fn solve_component<N: Norm>(
+// The same, by the ranks of predicates and their clauses.
+fn solve_in_turn<N: Norm>(
     alloc: Global,
     p: &Program,
     comps: &Components,
     norm: &N,
     table: &mut Table,
     ranks: &[u32],
-    c: u32,
+    heads: &ClauseLists,
+    users: &ClauseLists,
     grounds: &[Diagram],
     levels: &[Sequence<LevelPart>],
     sets: &mut [Sequence<Diagram>],
@@ -131,12 +119,66 @@ pub(crate) fn solve_component<N: Norm>(
     requires program { IsProgram p.now }
     requires components { AreComponents p.now comps.now }
     requires ranks { ranks.now ≡ map (λ d. d + 1) comps.now.of }
-    requires component { c < length comps.now.members }
+    requires heads { AreHeads p.now heads.now }
+    requires users { AreUsers p.now users.now }
     requires grounds { AreSets p.now.preds table.old grounds.now }
     requires levels { AreLevels p.now comps.now levels.now }
     requires sets { AreMappingSets p.now.preds table.old sets.old }
     requires allowed { AreUnions p.now.preds table.old sets.old allowed.old }
     ensures keeps { Keeps table.old table.new }
+    ensures sets { OnOk result (AreMappingSets p.now.preds table.new sets.new) }
+    ensures allowed { OnOk result (AreUnions p.now.preds table.new sets.new allowed.new) }
+    ensures solved { OnOk result ((c : ℕ) → c < length comps.now.members
+        → IsSolved (N.truth norm.now) p.now comps.now (family_of p.now.preds table.old grounds.now) levels.now table.new sets.new c) }
+{
+    let mut marks = Marks::none(alloc, p.clauses())?;
+    // What is put for one mapping after the other. What it has before does not matter.
+    let mut pre = Vec::from_slice(alloc, allowed)?;
+    for c in 0..comps.count() {
+        solve_component(
+            alloc, p, comps, norm, table, ranks, heads, users, &mut marks, c, grounds, levels,
+            &mut pre, sets, allowed,
+        )?;
+    }
+    Ok(())
+}
+
+/// Puts into the places of a component's members the greatest sets for each of its mappings, and what these allow.
+///
+/// `sets` and `allowed` are those of the components that it calls; the places of other predicates stay. `pre` has a set for
+/// each predicate, and is used for the members' sets of one mapping at a time.
+pub(crate) fn solve_component<N: Norm>(
+    alloc: Global,
+    p: &Program,
+    comps: &Components,
+    norm: &N,
+    table: &mut Table,
+    ranks: &[u32],
+    heads: &ClauseLists,
+    users: &ClauseLists,
+    marks: &mut Marks,
+    c: u32,
+    grounds: &[Diagram],
+    levels: &[Sequence<LevelPart>],
+    pre: &mut [Diagram],
+    sets: &mut [Sequence<Diagram>],
+    allowed: &mut [Diagram],
+) -> Result<(), AllocError>
+    requires program { IsProgram p.now }
+    requires components { AreComponents p.now comps.now }
+    requires ranks { ranks.now ≡ map (λ d. d + 1) comps.now.of }
+    requires heads { AreHeads p.now heads.now }
+    requires users { AreUsers p.now users.now }
+    requires marks { length marks.old ≡ length p.now.clauses }
+    requires component { c < length comps.now.members }
+    requires grounds { AreSets p.now.preds table.old grounds.now }
+    requires levels { AreLevels p.now comps.now levels.now }
+    requires pre { AreSets p.now.preds table.old pre.old }
+    requires sets { AreMappingSets p.now.preds table.old sets.old }
+    requires allowed { AreUnions p.now.preds table.old sets.old allowed.old }
+    ensures keeps { Keeps table.old table.new }
+    ensures marks { OnOk result (length marks.new ≡ length p.now.clauses) }
+    ensures pre { OnOk result (AreSets p.now.preds table.new pre.new) }
     ensures sets { OnOk result (AreMappingSets p.now.preds table.new sets.new) }
     ensures allowed { OnOk result (AreUnions p.now.preds table.new sets.new allowed.new) }
     ensures solved { OnOk result (IsSolved (N.truth norm.now) p.now comps.now (family_of p.now.preds table.old grounds.now) levels.now table.new sets.new c) }
@@ -145,18 +187,23 @@ pub(crate) fn solve_component<N: Norm>(
     let _count = comps.count();
     let members = comps.members(c);
     let count = levels[members[0].0 as usize].len();
-    let families = component_families(
+    let columns = member_sets(
         alloc,
         p,
         norm,
         table,
         ranks,
         c + 1,
+        members,
+        heads,
+        users,
+        marks,
         grounds,
         allowed,
         levels,
         count,
+        pre,
     )?;
-    put_members(alloc, p, table, members, &families, sets, allowed)?;
+    put_members(alloc, p, table, members, &columns, sets, allowed)?;
     Ok(())
 }

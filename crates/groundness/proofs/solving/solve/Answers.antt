@@ -11,7 +11,7 @@ use Rattle.termination_model.specs.Grounds.{IsClosedUnder}
 use Rattle.groundness.proofs.solving.solve.Goals as goal
 
 pub prefer_callees-requires : goal.prefer_callees-requires
-prefer_callees-requires g c = λ q j h. omega (arith, c.in_ok-heads.ensures q j h, ap length c.in_ok-marks.ensures, length-replicate c.clauses.result true, c.clauses.ensures.count)
+prefer_callees-requires g c = λ q j h. omega (arith, c.in_ok-heads.ensures.within q j h, ap length c.in_ok-marks.ensures, length-replicate c.clauses.result true, c.clauses.ensures.count)
 
 pub loop-sets-init : goal.loop-sets-init
 loop-sets-init g c =

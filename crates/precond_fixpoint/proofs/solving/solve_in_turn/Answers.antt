@@ -1,12 +1,23 @@
-use Rattle.std.proofs.Common.{ℕ, inl, inr, sym, subst, arith}
+use Rattle.std.proofs.Common.{◌≡◌, ℕ, false, inl, inr, drop, length, ap, sym, subst, ◌∙◌, arith}
 use Rattle.std.proofs.lemmas.Bool.{cases_eq}
-use Rattle.bool_diagrams.proofs.CallerLemmas.{keeps_twice}
+use Rattle.std.proofs.lemmas.List.{length-replicate, take_at}
+use Rattle.bool_diagrams.proofs.CallerLemmas.{keeps_same, keeps_twice}
 use Rattle.precond_fixpoint.specs.Solving.{IsSolved}
 use Rattle.precond_fixpoint.proofs.ComponentLaws.{solved_after}
 use Rattle.termination_model.specs.Grounds.{Family}
 use Rattle.truth_rows.proofs.CallerLemmas.{family_later}
-use Rattle.truth_rows.specs.Sets.{family_of}
-use Rattle.precond_fixpoint.proofs.solving.solve_components.Goals as goal
+use Rattle.truth_rows.specs.Sets.{AreSets, family_of}
+use Rattle.precond_fixpoint.proofs.solving.solve_in_turn.Goals as goal
+
+pub loop-c-init : goal.loop-c-init
+loop-c-init g c = record {
+  keeps = keeps_same _;
+  marks = ap length c.in_ok-marks.ensures ∙ length-replicate c.clauses.result false ∙ c.clauses.ensures.count;
+  pre = subst (AreSets c.args.p.now.preds c.args.table.now) (sym c.in_ok-pre.ensures.items) c.requires.allowed.sets;
+  sets = c.requires.sets;
+  allowed = c.requires.allowed;
+  solved = λ d lt. absurd (omega arith);
+}
 
 pub loop-c-preserved : goal.loop-c-preserved
 loop-c-preserved g c =
@@ -22,8 +33,13 @@ loop-c-preserved g c =
     let new = c.solve_component.new.sets in
     let one = c.in_ok-solve_component.ensures in
     let here = subst (λ (f : Family). IsSolved truth p comps f levels T2 new c.loop-c.c) (family_later p.preds T T1 i.keeps grounds c.requires.grounds.known) one.solved in
-    record {
+    let pre = c.solve_component.new.pre in
+    let same : length pre ≡ c.loop-c.pre.len = omega (arith, one.pre.each, i.pre.each, c.loop-c.pre.ok.0) in
+    rw (take_at pre (drop (length pre) c.loop-c.pre.items) c.loop-c.pre.len same)
+    (record {
       keeps = keeps_twice _ _ _ i.keeps c.solve_component.ensures.keeps;
+      marks = one.marks;
+      pre = one.pre;
       sets = one.sets;
       allowed = one.allowed;
       solved = λ d lt. elim (cases_eq d c.loop-c.c) [
@@ -31,4 +47,4 @@ loop-c-preserved g c =
         | inr other ↦ solved_after truth p comps (family_of p.preds T grounds) levels T1 T2 c.solve_component.ensures.keeps c.loop-c.sets new i.sets c.loop-c.c one.others
             c.requires.program c.requires.components d (omega arith) (i.solved d (omega arith))
       ];
-    }
+    })

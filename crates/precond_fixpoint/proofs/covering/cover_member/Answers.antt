@@ -1,0 +1,57 @@
+use Rattle.std.proofs.Common.{◌≤◌, ◌<◌, length, ap, sym, ◌∙◌, arith}
+use Rattle.cti_terms.specs.declared.predicates.Pred.{Pred}
+use Rattle.precond_fixpoint.proofs.FamilyLaws.{family_elsewhere}
+use Rattle.precond_fixpoint.proofs.PlaceLaws.{items_at, some_at}
+use Rattle.precond_fixpoint.proofs.StartLaws.{cover_own, cover_sets, signs_is, signs_wide}
+use Rattle.truth_rows.proofs.ListLaws.{at_place, by_places}
+use Rattle.precond_fixpoint.proofs.covering.cover_member.Goals as goal
+
+pub covering_rows-requires : goal.covering_rows-requires
+covering_rows-requires c =
+    let preds = c.args.p.now.preds in
+    let levels = c.args.levels.now in
+    let q = c.args.member.0 in
+    let m = c.args.m in
+    let own = at_place levels q c.index-levels-place.result (omega (arith, c.requires.levels.each, c.requires.there)) c.index-levels-place.is in
+    let parts = c.as_slice.result.now in
+    let lt : m < length parts = omega (arith, ap length (c.as_slice.ensures ∙ sym (items_at levels q c.index-levels-place.result own)), c.requires.mapping) in
+    let signs = c.deref.result.now in
+    let is = signs_is levels m q c.index-levels-place.result own parts c.as_slice.ensures c.index-as_slice-m.result (at_place parts m c.index-as_slice-m.result lt c.index-as_slice-m.is) signs (c.deref.ensures.value ∙ c.in_ok-signs.ensures) in
+    let x = some_at preds q c.requires.there in
+    let wide = signs_wide preds levels c.requires.levels m q x.0 x.1 c.requires.mapping signs is in
+    let few : x.0.arity ≤ 12 = by_places (λ (y : Pred). y.arity ≤ 12) preds c.requires.program.arities q x.0 x.1 in
+    record { narrow = omega (arith, wide, few) }
+
+pub returns-clause-sets : goal.returns-clause-sets
+returns-clause-sets c =
+    let preds = c.args.p.now.preds in
+    let levels = c.args.levels.now in
+    let q = c.args.member.0 in
+    let m = c.args.m in
+    let own = at_place levels q c.index-levels-place.result (omega (arith, c.requires.levels.each, c.requires.there)) c.index-levels-place.is in
+    let parts = c.as_slice.result.now in
+    let lt : m < length parts = omega (arith, ap length (c.as_slice.ensures ∙ sym (items_at levels q c.index-levels-place.result own)), c.requires.mapping) in
+    let signs = c.deref.result.now in
+    let is = signs_is levels m q c.index-levels-place.result own parts c.as_slice.ensures c.index-as_slice-m.result (at_place parts m c.index-as_slice-m.result lt c.index-as_slice-m.is) signs (c.deref.ensures.value ∙ c.in_ok-signs.ensures) in
+    let x = some_at preds q c.requires.there in
+    let wide = signs_wide preds levels c.requires.levels m q x.0 x.1 c.requires.mapping signs is in
+    cover_sets preds c.args.table.now c.covering_rows.new.table c.covering_rows.ensures.keeps c.args.sets.now c.requires.sets levels m q x.0 x.1 c.requires.mapping signs is wide c.in_ok-set.set c.in_ok-set.ensures.known c.in_ok-set.ensures.reads
+
+pub returns-clause-own : goal.returns-clause-own
+returns-clause-own c =
+    let preds = c.args.p.now.preds in
+    let levels = c.args.levels.now in
+    let q = c.args.member.0 in
+    let m = c.args.m in
+    let own = at_place levels q c.index-levels-place.result (omega (arith, c.requires.levels.each, c.requires.there)) c.index-levels-place.is in
+    let parts = c.as_slice.result.now in
+    let lt : m < length parts = omega (arith, ap length (c.as_slice.ensures ∙ sym (items_at levels q c.index-levels-place.result own)), c.requires.mapping) in
+    let signs = c.deref.result.now in
+    let is = signs_is levels m q c.index-levels-place.result own parts c.as_slice.ensures c.index-as_slice-m.result (at_place parts m c.index-as_slice-m.result lt c.index-as_slice-m.is) signs (c.deref.ensures.value ∙ c.in_ok-signs.ensures) in
+    let x = some_at preds q c.requires.there in
+    let wide = signs_wide preds levels c.requires.levels m q x.0 x.1 c.requires.mapping signs is in
+    cover_own preds c.args.table.now c.covering_rows.new.table c.covering_rows.ensures.keeps c.args.sets.now c.requires.sets levels m q x.0 x.1 c.requires.mapping signs is wide c.in_ok-set.set c.in_ok-set.ensures.known c.in_ok-set.ensures.reads
+    c.in_ok-set.ensures.covering
+
+pub returns-clause-others : goal.returns-clause-others
+returns-clause-others c = family_elsewhere c.args.table.now c.covering_rows.new.table c.covering_rows.ensures.keeps c.args.p.now.preds c.args.sets.now c.requires.sets.known c.args.member.0 c.in_ok-set.set
