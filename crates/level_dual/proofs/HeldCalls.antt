@@ -41,7 +41,7 @@ length_zeros zero = refl
 length_zeros (suc n) = ap suc (length_zeros n)
 
 -- shown rows are empty
-shown_empty : (n : ℕ) (rows : List (List ℤ)) (by : Multipliers) → Shows rows (bottom_row n) by → by.scale ≡ pos 0 → AreEmpty (suc n) rows
+pub shown_empty : (n : ℕ) (rows : List (List ℤ)) (by : Multipliers) → Shows rows (bottom_row n) by → by.scale ≡ pos 0 → AreEmpty (suc n) rows
 shown_empty n rows by h e =
     let long : length (bottom_row n) ≡ suc n = ap suc (length_zeros n) in
     let m = h.multipliers in

@@ -8,6 +8,7 @@ pub mod FoundLaws
 pub mod HeldCalls
 pub mod Holding
 pub mod LargeLaws
+pub mod LiveCalls
 pub mod MemberLaws
 pub mod MemberLists
 pub mod OwnCallLaws

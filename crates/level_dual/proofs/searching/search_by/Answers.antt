@@ -23,6 +23,7 @@ use Rattle.level_dual.specs.declared.position.Position.{Position}
 use Rattle.level_dual.proofs.Excluded.{set_excluded}
 use Rattle.level_dual.proofs.FoundLaws.{found_at}
 use Rattle.level_dual.proofs.HeldCalls.{all_recall, re}
+use Rattle.level_dual.proofs.LiveCalls.{blown_by_lives}
 use Rattle.level_dual.proofs.PartLaws.{all_natural}
 use Rattle.level_dual.proofs.SoundLaws.{filter_distinct}
 use Rattle.level_dual.proofs.searching.search_by.Goals as goal
