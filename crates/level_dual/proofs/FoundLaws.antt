@@ -31,7 +31,7 @@ use Rattle.level_dual.proofs.Falls.{falls_are, pairs_are}
 use Rattle.level_dual.proofs.SearchLaws.{drop_mapped, length_drop, length_take, lives, mine, point_found, split_values, take_mapped}
 use Rattle.level_dual.proofs.SoundLaws.{some_arity}
 
-part_of : (P : ℕ → LevelPart → Type 0) (ms : List Measure) (q : ℕ) (l : LevelPart) → AllByRecursion (λ (m : Measure). P m.pred.0 m.part) ms → level_in ms q ≡ Some l → P q l
+pub part_of : (P : ℕ → LevelPart → Type 0) (ms : List Measure) (q : ℕ) (l : LevelPart) → AllByRecursion (λ (m : Measure). P m.pred.0 m.part) ms → level_in ms q ≡ Some l → P q l
 part_of P [] q l all e = cc
 part_of P (m ∷ ms) q l all e = go (m.pred.0 == q) refl e (part_of P ms q l all.1)
   where
@@ -42,7 +42,7 @@ part_of P (m ∷ ms) q l all e = go (m.pred.0 == q) refl e (part_of P ms q l all
 module _ (size : (ℕ → ℕ) → Tree → ℕ) (truth : (ℕ → Bool) → Tree → Bool) (expression : ℕ → Tree → List ℤ) (p : Listing) (comps : Partition) (rows : ℕ → List (List ℤ)) (c : ℕ) (x : Component)
     (h : IsComponent size truth expression p comps rows c x) where
   -- parts have a coefficient for each argument of a head
-  wide_heads : (ms : List Measure) → HasMeasures p (map number_of x.members.items) ms → (owns : List OwnCall) → AllByRecursion (IsHeld expression p rows) owns
+  pub wide_heads : (ms : List Measure) → HasMeasures p (map number_of x.members.items) ms → (owns : List OwnCall) → AllByRecursion (IsHeld expression p rows) owns
       → AllByRecursion (λ (own : OwnCall). (head : LevelPart) → level_in ms (clause_at p own.clause).head.pred.0 ≡ Some head → length head.coeffs ≡ length (clause_at p own.clause).head.args) owns
   wide_heads ms m [] held = tt
   wide_heads ms m (own ∷ owns) held =

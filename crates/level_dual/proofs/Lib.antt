@@ -1,8 +1,10 @@
+pub mod BlownSets
 pub mod Bottoms
 pub mod CoefficientLaws
 pub mod Excluded
 pub mod FallSteps
 pub mod Falls
+pub mod FallsShown
 pub mod FoundCases
 pub mod FoundLaws
 pub mod HeldCalls

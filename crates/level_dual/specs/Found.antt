@@ -12,6 +12,7 @@ use Rattle.call_components.specs.Partition.{IsIn}
 use Rattle.linear_rows.specs.declared.point.Point.{Point}
 use Rattle.number_tests.specs.Refuting.{PointHolds, SumsRefute, call_of, clause_of}
 use Rattle.number_tests.specs.declared.pair_point.PairPoint.{PairPoint}
+use Rattle.termination_model.specs.BlownSupports.{IsBlownAt}
 use Rattle.termination_model.specs.Excluding.{IsAt}
 use Rattle.termination_model.specs.Refutation.{Decreases}
 use Rattle.level_dual.specs.declared.mapping.Mapping.{Mapping}
@@ -21,6 +22,8 @@ use Rattle.number_tests.specs.declared.refutation.Refutation.{Refutation}
 use Rattle.termination_model.specs.ComponentViews.{Has, component_view, members_in, no_truth, positions_in}
 use Rattle.termination_model.specs.Minimal.{IsAbove, IsExcluded, IsMinimal}
 use Rattle.termination_model.specs.Modes.{chosen_up_to}
+use Rattle.termination_model.specs.Ready.{arity_in}
+use Rattle.termination_model.specs.Supports.{picked_from}
 use Rattle.level_dual.specs.Mappings.{IsMappingOf, mapping_of, support_of}
 use Rattle.level_dual.specs.Subsequences.{AreOnce, IsSubsequence}
 use Rattle.level_dual.specs.declared.found.Found.{Found}
@@ -50,6 +53,10 @@ module _ (expression : ℕ → Tree → List ℤ) (p : Listing) (comps : Partiti
 
   abbrev pub supports : Found → List (List ℕ)
   supports f = map (support_of (positions_in p comps c)) f.mappings
+
+  -- the system of a set of positions is blown
+  abbrev pub IsBlownSet : List ℕ → Type 0
+  IsBlownSet s = IsBlownAt no_truth expression (component_view expression p comps rows c) (arity_in p) (picked_from 1 (positions_in p comps c) s)
 
   -- a pair of the component with natural points, and a second one exactly where the first stands for a direction
   pub record IsOwnPair (x : PairPoint) : Type 0 where
@@ -91,5 +98,6 @@ module _ (expression : ℕ → Tree → List ℤ) (p : Listing) (comps : Partiti
     -- a refutation exactly where no mapping decreases and the set of all positions was not given up
     pub refuted : (f.refutation ≢ None) ↔ (((s : List ℕ) → had s → ⊥) × (In full f.blown → ⊥))
     pub shown : (r : Refutation) → f.refutation ≡ Some r → IsRefutationOf r
-    -- each set that was given up stands once
+    -- a set that was given up is blown, and each stands once
+    pub given_up : (s : List ℕ) → In s f.blown → IsBlownSet s
     pub once : AreOnce f.blown

@@ -8,7 +8,7 @@ use Rattle.termination_model.specs.Best.{coefficient}
 use Rattle.termination_model.specs.ComponentViews.{Has, positions_in}
 use Rattle.termination_model.specs.Minimal.{IsExcluded}
 use Rattle.termination_model.specs.OwnCalls.{Position}
-use Rattle.level_dual.specs.Found.{without}
+use Rattle.level_dual.specs.Found.{IsBlownSet, without}
 use Rattle.level_dual.specs.Mappings.{mapping_of, support_of}
 use Rattle.level_dual.specs.Searched.{IsDecreasing}
 use Rattle.level_dual.specs.Subsequences.{AreOnce}
@@ -32,10 +32,12 @@ module _ (expression : ℕ → Tree → List ℤ) (p : Listing) (comps : Partiti
 
   abbrev pub IsLeftOut : List ℕ → LeftOut → Type 0
   IsLeftOut s (Smaller m) = IsHadMapping m
-  IsLeftOut s (NoneLeft blown) = ((i : ℕ) → In i s → In (without i s) blown ⊎ IsExcluded (Has expression p comps rows c) (without i s)) × AreOnce blown
+  IsLeftOut s (NoneLeft blown) =
+      ((i : ℕ) → In i s → In (without i s) blown ⊎ IsExcluded (Has expression p comps rows c) (without i s)) × ((t : List ℕ) → In t blown → IsBlownSet expression p comps rows c t) × AreOnce blown
 
   -- each of the first k numbers of a set was left out
   pub record AreTried (s : List ℕ) (k : ℕ) (blown : List (List ℕ)) : Type 0 where
     pub tried : (i : ℕ) → In i (take k s) → In (without i s) blown ⊎ IsExcluded (Has expression p comps rows c) (without i s)
     pub tested : (t : List ℕ) → In t blown → (i : ℕ) × In i (take k s) × (t ≡ without i s)
+    pub given_up : (t : List ℕ) → In t blown → IsBlownSet expression p comps rows c t
     pub once : AreOnce blown

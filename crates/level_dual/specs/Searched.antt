@@ -17,6 +17,7 @@ use Rattle.termination_model.specs.Refutation.{Decreases}
 use Rattle.termination_model.specs.SupportSystem.{mapping_at}
 use Rattle.termination_model.specs.Supports.{AreDistinct}
 use Rattle.level_dual.specs.Falling.{AreFallsOf, IsReady, ShowFalls}
+use Rattle.level_dual.specs.Found.{IsBlownSet}
 use Rattle.level_dual.specs.Held.{IsHeld, pair_of, spelled}
 use Rattle.level_dual.specs.Mappings.{HasMeasures, IsMappingOf, mapping_of, support_of}
 use Rattle.level_dual.specs.Pairs.{pairs_of}
@@ -94,4 +95,4 @@ module _ (expression : ℕ → Tree → List ℤ) (p : Listing) (comps : Partiti
   abbrev pub IsAnswer : List ℕ → Answer → Type 0
   IsAnswer s (Mapping m) = IsFoundIn s m
   IsAnswer s Refuted = IsExcluded (Has expression p comps rows c) s
-  IsAnswer s Blown = Unit {0}
+  IsAnswer s Blown = IsBlownSet expression p comps rows c s

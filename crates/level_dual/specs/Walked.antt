@@ -7,6 +7,7 @@ use Rattle.call_components.specs.Partition.{Partition}
 use Rattle.termination_model.specs.ComponentViews.{Has, positions_in}
 use Rattle.linear_rows.specs.Members.{In}
 use Rattle.termination_model.specs.Modes.{chosen_up_to, is_part}
+use Rattle.level_dual.specs.Found.{IsBlownSet}
 use Rattle.level_dual.specs.Mappings.{support_of}
 use Rattle.level_dual.specs.Searched.{IsDecreasing}
 use Rattle.level_dual.specs.Subsequences.{AreOnce, IsSubsequence}
@@ -21,6 +22,7 @@ module _ (expression : ℕ → Tree → List ℤ) (p : Listing) (comps : Partiti
     pub mappings : AllByRecursion (IsDecreasing expression p comps rows c) w.mappings
     pub found_order : IsSubsequence w.found (take i (chosen_up_to n n))
     pub blown_order : IsSubsequence w.blown (take i (chosen_up_to n n))
+    pub given_up : (s : List ℕ) → In s w.blown → IsBlownSet expression p comps rows c s
     pub once : AreOnce w.blown
 
   -- after all sets
@@ -30,12 +32,13 @@ module _ (expression : ℕ → Tree → List ℤ) (p : Listing) (comps : Partiti
     pub mappings : AllByRecursion (IsDecreasing expression p comps rows c) w.mappings
     pub found_order : IsSubsequence w.found (chosen_up_to (length (positions_in p comps c)) (length (positions_in p comps c)))
     pub blown_order : IsSubsequence w.blown (chosen_up_to (length (positions_in p comps c)) (length (positions_in p comps c)))
+    pub given_up : (s : List ℕ) → In s w.blown → IsBlownSet expression p comps rows c s
     pub once : AreOnce w.blown
 
 -- the sets that were given up, and perhaps the full one, where it was given up and nothing was found
 pub record IsCompleted (given_up none : Bool) (full : List ℕ) (blown sets : List (List ℕ)) : Type 0 where
   pub more : List (List ℕ)
   pub is : sets ≡ blown ++ more
-  pub full_only : (t : List ℕ) → In t more → full ≡ t
+  pub full_only : (t : List ℕ) → In t more → (given_up ≡ true) × (full ≡ t)
   pub once : AreOnce blown → AreOnce sets
   pub there : given_up ≡ true → none ≡ true → (t : List ℕ) × In t sets × (is_part full t ≡ true)

@@ -1,12 +1,19 @@
 //! The search for a mapping at a set of positions.
 
-ghost use Rattle.std.specs.Prelude.{◌≡◌, ◌≤◌, ◌≤ℤ◌, ◌+◌, ℕ, ℤ, Bool, List, All, IfOk, IfSome, length, map, pos};
+ghost use Rattle.std.specs.Prelude.{◌≡◌, ◌≤◌, ◌≤ℤ◌, ◌+◌, ℕ, ℤ, Bool, List, All, IfOk, IfSome, None, false, filter, length, map, pos};
+ghost use Rattle.std.specs.List.{list_any};
+ghost use Rattle.call_components.specs.Numbers.{number_of};
 ghost use Rattle.call_components.specs.Partition.{Partition};
 ghost use Rattle.cti_terms.specs.Tree.{Tree};
-ghost use Rattle.level_dual.specs.Searched.{AreMeasuresAt, IsAnswer, IsComponent, IsMappingIf, IsSound};
-ghost use Rattle.level_dual.specs.Held.{spelled};
+ghost use Rattle.level_dual.specs.Found.{IsBlownSet};
+ghost use Rattle.level_dual.specs.Held.{live_of, pair_of, recalled_at, spelled};
 ghost use Rattle.level_dual.specs.Recalled.{count_of};
-ghost use Rattle.termination_model.specs.Supports.{AreDistinct};
+ghost use Rattle.level_dual.specs.Searched.{AreMeasuresAt, IsAnswer, IsComponent, IsMappingIf, IsSound};
+ghost use Rattle.level_dual.specs.declared.own_call.OwnCall.{OwnCall};
+ghost use Rattle.linear_rows.specs.Plain.{HaveWidth, plain_rows};
+ghost use Rattle.termination_model.specs.BlownSupports.{same_position};
+ghost use Rattle.termination_model.specs.Supports.{AreDistinct, picked_from};
+ghost use Rattle.termination_model.specs.SupportSystem.{support_rows};
 
 use crate::answer::Answer;
 use crate::component::Component;
@@ -20,7 +27,7 @@ use crate::support_rows::support_system;
 use crate::values::level_part;
 use cti_terms::Program;
 use fourier::{ElimFault, Solved};
-use linear_rows::Numbers;
+use linear_rows::{Numbers, Rows};
 use sequences::Sequence;
 use std::alloc::{AllocError, Global};
 
@@ -84,6 +91,42 @@ fn mapping_at(
     }
 }
 
+// The positions of a set, in the order of the clauses.
+fn positions_at(
+    alloc: Global,
+    component: &Component,
+    set: &[u32],
+) -> Result<Vec<Position>, AllocError>
+    ensures { IfOk result (λ at. map spelled at.items ≡ filter (λ r. list_any (same_position r) (picked_from 1 (map spelled component.now.positions.items) set.now)) (map spelled component.now.order.items)) }
+{
+    let at = picked(alloc, component.positions.as_slice(), set)?;
+    in_order(alloc, component.order.as_slice(), at.as_slice())
+}
+
+// The system of a component at these positions.
+fn system_at(
+    alloc: Global,
+    p: &Program,
+    component: &Component,
+    at: &[Position],
+) -> Result<Rows, AllocError>
+    requires sound { IsSound p.now component.now }
+    ensures width { IfOk result (λ system. system.width ≡ length at.now + (length component.now.by_clauses.items + count_of component.now.calls.items)) }
+    ensures widths { IfOk result (λ system. HaveWidth system.width system.list) }
+    ensures rows { IfOk result (λ system. (size : (ℕ → ℕ) → Tree → ℕ) (truth : (ℕ → Bool) → Tree → Bool) (expression : ℕ → Tree → List ℤ) (comps : Partition) (rows : ℕ → List (List ℤ)) (c : ℕ)
+        → IsComponent size truth expression p.now comps rows c component.now → plain_rows system.list
+        ≡ support_rows expression (map spelled at.now) (map number_of component.now.by_clauses.items) (map (λ (own : OwnCall). recalled_at expression p.now rows comps c (pair_of own)) (live_of component.now.calls.items))) }
+{
+    // What every program keeps.
+    p.preds();
+    support_system(
+        alloc,
+        component.calls.as_slice(),
+        at,
+        component.by_clauses.as_slice(),
+    )
+}
+
 // Searches for a mapping at a set of positions by one way of solving. Nothing is found where the mapping that a point
 // gives has falls that are not shown in numbers that fit.
 fn search_by(
@@ -94,17 +137,13 @@ fn search_by(
     by_pivots: bool,
 ) -> Result<Option<Answer>, AllocError>
     requires sound { IsSound p.now component.now }
-    ensures { IfOk result (λ o. IfSome o (λ answer. (size : (ℕ → ℕ) → Tree → ℕ) (truth : (ℕ → Bool) → Tree → Bool) (expression : ℕ → Tree → List ℤ) (comps : Partition) (rows : ℕ → List (List ℤ)) (c : ℕ)
+    ensures some { IfOk result (λ o. IfSome o (λ answer. (size : (ℕ → ℕ) → Tree → ℕ) (truth : (ℕ → Bool) → Tree → Bool) (expression : ℕ → Tree → List ℤ) (comps : Partition) (rows : ℕ → List (List ℤ)) (c : ℕ)
         → IsComponent size truth expression p.now comps rows c component.now → IsAnswer expression p.now comps rows c set.now answer)) }
+    ensures none { IfOk result (λ o. o ≡ None → by_pivots ≡ false → (size : (ℕ → ℕ) → Tree → ℕ) (truth : (ℕ → Bool) → Tree → Bool) (expression : ℕ → Tree → List ℤ) (comps : Partition) (rows : ℕ → List (List ℤ)) (c : ℕ)
+        → IsComponent size truth expression p.now comps rows c component.now → IsBlownSet expression p.now comps rows c set.now) }
 {
-    let at = picked(alloc, component.positions.as_slice(), set)?;
-    let at = in_order(alloc, component.order.as_slice(), at.as_slice())?;
-    let system = support_system(
-        alloc,
-        component.calls.as_slice(),
-        at.as_slice(),
-        component.by_clauses.as_slice(),
-    )?;
+    let at = positions_at(alloc, component, set)?;
+    let system = system_at(alloc, p, component, at.as_slice())?;
     match solve_by(alloc, &system, by_pivots) {
         Ok(Solved::Point(point)) => match mapping_at(
             alloc,
