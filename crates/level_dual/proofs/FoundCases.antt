@@ -16,7 +16,7 @@ use Rattle.termination_model.specs.Minimal.{IsAbove, IsExcluded, IsMinimal, IsSe
 use Rattle.termination_model.specs.Modes.{chosen_up_to, is_part}
 use Rattle.termination_model.proofs.Sets.{of_part, part_same, part_self, set_short, to_part, up_to_set}
 use Rattle.level_dual.specs.Cases.{undecided}
-use Rattle.level_dual.specs.Found.{IsFound, IsLarge, IsRefutationOf, IsSmall, count, full, had, supports}
+use Rattle.level_dual.specs.Found.{IsBlownSet, IsFound, IsLarge, IsRefutationOf, IsSmall, count, full, had, supports}
 use Rattle.level_dual.specs.Mappings.{IsMappingOf, mapping_of, support_of}
 use Rattle.level_dual.specs.Searched.{IsDecreasing}
 use Rattle.level_dual.specs.Subsequences.{AreOnce, IsSubsequence}
@@ -73,6 +73,9 @@ module _ (expression : ℕ → Tree → List ℤ) (p : Listing) (comps : Partiti
   abbrev many : ℕ
   many = count expression p comps rows c
 
+  abbrev blown_set : List ℕ → Type 0
+  blown_set = IsBlownSet expression p comps rows c
+
   abbrev has : List ℕ → Type 0
   has = had expression p comps rows c
 
@@ -89,8 +92,8 @@ module _ (expression : ℕ → Tree → List ℤ) (p : Listing) (comps : Partiti
   once_undecided (x ∷ s) = ((λ i. elim i [ inl e ↦ cc | inr j ↦ j ]), ((λ i. i), tt))
 
   -- nothing is decided
-  pub undecided_found : (b : Bool) → IsTrue b ↔ (12 < many) → IsFound expression p comps rows c (record { mappings = []; refutation = None; blown = undecided all; large = b })
-  undecided_found b large = record {
+  pub undecided_found : (b : Bool) → IsTrue b ↔ (12 < many) → ((s : List ℕ) → blown_set s) → IsFound expression p comps rows c (record { mappings = []; refutation = None; blown = undecided all; large = b })
+  undecided_found b large blown = record {
     large = large;
     mappings = tt;
     at = tt;
@@ -99,12 +102,13 @@ module _ (expression : ℕ → Tree → List ℤ) (p : Listing) (comps : Partiti
     more = λ _. record { few = omega arith; decreases = λ s i. absurd i; needed = λ s i. absurd i; decided = inr (inr (full_undecided all)) };
     refuted = ((λ h. absurd (h refl)), λ k. absurd (k.1 (full_undecided all)));
     shown = λ r e. cc;
+    given_up = λ s i. blown s;
     once = once_undecided all;
   }
 
   -- no mapping decreases, but the refutation has a number that does not fit
-  pub wide_found : (b : Bool) → IsTrue b ↔ (12 < many) → ((s : List ℕ) → has s → ⊥) → IsFound expression p comps rows c (record { mappings = []; refutation = None; blown = all ∷ []; large = b })
-  wide_found b large none = record {
+  pub wide_found : (b : Bool) → IsTrue b ↔ (12 < many) → ((s : List ℕ) → has s → ⊥) → blown_set all → IsFound expression p comps rows c (record { mappings = []; refutation = None; blown = all ∷ []; large = b })
+  wide_found b large none blown = record {
     large = large;
     mappings = tt;
     at = tt;
@@ -113,6 +117,7 @@ module _ (expression : ℕ → Tree → List ℤ) (p : Listing) (comps : Partiti
     more = λ _. record { few = omega arith; decreases = λ s i. absurd i; needed = λ s i. absurd i; decided = inr (inr (inl refl)) };
     refuted = ((λ h. absurd (h refl)), λ k. absurd (k.1 (inl refl)));
     shown = λ r e. cc;
+    given_up = λ s i. elim i [ inl e ↦ subst blown_set e blown | inr nothing ↦ absurd nothing ];
     once = ((λ i. i), tt);
   }
 
@@ -127,12 +132,13 @@ module _ (expression : ℕ → Tree → List ℤ) (p : Listing) (comps : Partiti
     more = λ _. record { few = omega arith; decreases = λ s i. absurd i; needed = λ s i. absurd i; decided = inr (inl (λ e. cc)) };
     refuted = ((λ h. (none, λ i. i)), λ k e. cc);
     shown = λ q e. let same : r ≡ q = cc in subst (IsRefutationOf expression p comps rows c) same is;
+    given_up = λ s i. absurd i;
     once = tt;
   }
 
   -- all positions are given up in a large component
-  pub given_up_found : IsTrue true ↔ (12 < many) → IsFound expression p comps rows c (record { mappings = []; refutation = None; blown = all ∷ []; large = true })
-  given_up_found large = record {
+  pub given_up_found : IsTrue true ↔ (12 < many) → blown_set all → IsFound expression p comps rows c (record { mappings = []; refutation = None; blown = all ∷ []; large = true })
+  given_up_found large blown = record {
     large = large;
     mappings = tt;
     at = tt;
@@ -141,33 +147,34 @@ module _ (expression : ℕ → Tree → List ℤ) (p : Listing) (comps : Partiti
     more = λ _. record { few = omega arith; decreases = λ s i. absurd i; needed = λ s i. absurd i; decided = inr (inr (inl refl)) };
     refuted = ((λ h. absurd (h refl)), λ k. absurd (k.1 (inl refl)));
     shown = λ r e. cc;
+    given_up = λ s i. elim i [ inl e ↦ subst blown_set e blown | inr nothing ↦ absurd nothing ];
     once = ((λ i. i), tt);
   }
 
   -- the same of what the code makes
-  pub undecided_is : (b : Bool) → IsTrue b ↔ (12 < many) → (s : List ℕ) → s ≡ all → (f : Found) → f ≡ record { mappings = []; refutation = None; blown = undecided s; large = b } → IsFound expression p comps rows c f
-  undecided_is b large s e f is =
+  pub undecided_is : (b : Bool) → IsTrue b ↔ (12 < many) → ((t : List ℕ) → blown_set t) → (s : List ℕ) → s ≡ all → (f : Found) → f ≡ record { mappings = []; refutation = None; blown = undecided s; large = b } → IsFound expression p comps rows c f
+  undecided_is b large blown s e f is =
       subst (IsFound expression p comps rows c) (sym is)
-      (subst (λ (t : List ℕ). IsFound expression p comps rows c (record { mappings = []; refutation = None; blown = undecided t; large = b })) (sym e) (undecided_found b large))
+      (subst (λ (t : List ℕ). IsFound expression p comps rows c (record { mappings = []; refutation = None; blown = undecided t; large = b })) (sym e) (undecided_found b large blown))
 
-  pub wide_is : (b : Bool) → IsTrue b ↔ (12 < many) → ((s : List ℕ) → has s → ⊥) → (s : List ℕ) → s ≡ all → (f : Found) → f ≡ record { mappings = []; refutation = None; blown = s ∷ []; large = b } → IsFound expression p comps rows c f
-  wide_is b large none s e f is =
+  pub wide_is : (b : Bool) → IsTrue b ↔ (12 < many) → ((s : List ℕ) → has s → ⊥) → (s : List ℕ) → blown_set s → s ≡ all → (f : Found) → f ≡ record { mappings = []; refutation = None; blown = s ∷ []; large = b } → IsFound expression p comps rows c f
+  wide_is b large none s blown e f is =
       subst (IsFound expression p comps rows c) (sym is)
-      (subst (λ (t : List ℕ). IsFound expression p comps rows c (record { mappings = []; refutation = None; blown = t ∷ []; large = b })) (sym e) (wide_found b large none))
+      (subst (λ (t : List ℕ). IsFound expression p comps rows c (record { mappings = []; refutation = None; blown = t ∷ []; large = b })) (sym e) (wide_found b large none (subst blown_set e blown)))
 
-  pub given_up_is : IsTrue true ↔ (12 < many) → (s : List ℕ) → s ≡ all → (f : Found) → f ≡ record { mappings = []; refutation = None; blown = s ∷ []; large = true } → IsFound expression p comps rows c f
-  given_up_is large s e f is =
+  pub given_up_is : IsTrue true ↔ (12 < many) → (s : List ℕ) → blown_set s → s ≡ all → (f : Found) → f ≡ record { mappings = []; refutation = None; blown = s ∷ []; large = true } → IsFound expression p comps rows c f
+  given_up_is large s blown e f is =
       subst (IsFound expression p comps rows c) (sym is)
-      (subst (λ (t : List ℕ). IsFound expression p comps rows c (record { mappings = []; refutation = None; blown = t ∷ []; large = true })) (sym e) (given_up_found large))
+      (subst (λ (t : List ℕ). IsFound expression p comps rows c (record { mappings = []; refutation = None; blown = t ∷ []; large = true })) (sym e) (given_up_found large (subst blown_set e blown)))
 
   above_more : (sets more : List (List ℕ)) (s : List ℕ) → IsAbove sets s → IsAbove (sets ++ more) s
   above_more sets more s (t, i, e) = (t, in-left sets more t i, e)
 
   -- the walk's sets, and perhaps one that was given up before
-  pub walked_found : ((s : List ℕ) → has s → IsSet 1 (suc many) s) → IsTrue false ↔ (12 < many) → (w : Walked) → IsAllWalked expression p comps rows c w → (more : List (List ℕ)) → AreOnce (w.blown ++ more)
+  pub walked_found : ((s : List ℕ) → has s → IsSet 1 (suc many) s) → IsTrue false ↔ (12 < many) → (w : Walked) → IsAllWalked expression p comps rows c w → (more : List (List ℕ)) → ((t : List ℕ) → In t more → blown_set t) → AreOnce (w.blown ++ more)
       → ((((s : List ℕ) → has s → ⊥) × (In all (w.blown ++ more) → ⊥)) → ⊥)
       → IsFound expression p comps rows c (record { mappings = w.mappings; refutation = None; blown = w.blown ++ more; large = false })
-  walked_found sets large w h more once why = record {
+  walked_found sets large w h more blown once why = record {
     large = large;
     mappings = all_map (IsDecreasing expression p comps rows c) (IsMappingOf expression p rows comps c) (λ m d. d.mapping) w.mappings h.mappings;
     at = all_map (IsDecreasing expression p comps rows c) (λ (m : Mapping). IsAt (positions_in p comps c) (mapping_of m.measures)) (λ m d. d.at) w.mappings h.mappings;
@@ -183,6 +190,7 @@ module _ (expression : ℕ → Tree → List ℤ) (p : Listing) (comps : Partiti
     more = λ e. cc;
     refuted = ((λ k. absurd (k refl)), λ k. absurd (why k));
     shown = λ r e. cc;
+    given_up = λ s i. elim (of-append w.blown more s i) [ inl old ↦ h.given_up s old | inr new ↦ blown s new ];
     once = once;
   }
 
@@ -195,10 +203,10 @@ module _ (expression : ℕ → Tree → List ℤ) (p : Listing) (comps : Partiti
 
   -- the walk's sets, with all positions among them where these were given up and nothing was found
   pub completed_found : ((s : List ℕ) → has s → IsSet 1 (suc many) s) → IsTrue false ↔ (12 < many) → (w : Walked) → IsAllWalked expression p comps rows c w
-      → (given_up none : Bool) → (given_up ≡ false → ((s : List ℕ) → has s → ⊥) → ⊥) → IsTrue none ↔ (w.mappings ≡ [])
+      → (given_up none : Bool) → (given_up ≡ true → blown_set all) → (given_up ≡ false → ((s : List ℕ) → has s → ⊥) → ⊥) → IsTrue none ↔ (w.mappings ≡ [])
       → (blown : List (List ℕ)) → IsCompleted given_up none all w.blown blown → IsFound expression p comps rows c (record { mappings = w.mappings; refutation = None; blown = blown; large = false })
-  completed_found sets large w h given_up none undone empty blown done =
-      let found = walked_found sets large w h done.more (subst AreOnce done.is (done.once h.once)) (λ k. why k.0 (λ i. k.1 (subst (In all) done.is i))) in
+  completed_found sets large w h given_up none given undone empty blown done =
+      let found = walked_found sets large w h done.more (λ t i. let f = done.full_only t i in subst blown_set f.1 (given f.0)) (subst AreOnce done.is (done.once h.once)) (λ k. why k.0 (λ i. k.1 (subst (In all) done.is i))) in
       subst (λ (b : List (List ℕ)). IsFound expression p comps rows c (record { mappings = w.mappings; refutation = None; blown = b; large = false })) (sym done.is) found
     where
       true_of : (b : Bool) → IsTrue b → b ≡ true
@@ -208,7 +216,7 @@ module _ (expression : ℕ → Tree → List ℤ) (p : Listing) (comps : Partiti
       is_full : (t : List ℕ) → In t blown → is_part all t ≡ true → all ≡ t
       is_full t i e = elim (of-append w.blown done.more t (subst (In t) done.is i)) [
         | inl old ↦ all_full many t (up_to_set many many t (in_whole w.blown (chosen_up_to many many) t h.blown_order old)) e
-        | inr new ↦ done.full_only t new
+        | inr new ↦ (done.full_only t new).1
       ]
 
       there : given_up ≡ true → none ≡ true → In all blown
@@ -252,11 +260,11 @@ not_below all (t ∷ ts) e i = go (is_part all t) refl e i (not_below all ts)
     go false q k (inl s) rec = let self : is_part all t ≡ true = subst (λ u. is_part all u ≡ true) (sym s) (part_self all) in cc
     go false q k (inr j) rec = rec k j
 
-pub pushed_full : (given_up none : Bool) (all : List ℕ) (blown : List (List ℕ)) → list_any (λ t. is_part all t) blown ≡ false → IsCompleted given_up none all blown (blown ++ all ∷ [])
-pushed_full given_up none all blown e = record {
+pub pushed_full : (given_up none : Bool) (all : List ℕ) (blown : List (List ℕ)) → given_up ≡ true → list_any (λ t. is_part all t) blown ≡ false → IsCompleted given_up none all blown (blown ++ all ∷ [])
+pushed_full given_up none all blown given e = record {
   more = all ∷ [];
   is = refl;
-  full_only = λ t i. elim i [ inl same ↦ same | inr nothing ↦ absurd nothing ];
+  full_only = λ t i. elim i [ inl same ↦ (given, same) | inr nothing ↦ absurd nothing ];
   once = λ o. once_push blown all o (not_below all blown e);
   there = λ g n. (all, in-right blown (all ∷ []) all (inl refl), part_self all);
 }

@@ -9,8 +9,10 @@ use Rattle.linear_rows.specs.Members.{In}
 use Rattle.linear_rows.proofs.Members.{in-left, in-right, of-append}
 use Rattle.termination_model.specs.ComponentViews.{Has, positions_in}
 use Rattle.termination_model.specs.Minimal.{IsExcluded, IsSet}
+use Rattle.termination_model.specs.Modes.{is_part}
 use Rattle.termination_model.proofs.Lists.{taken_more}
-use Rattle.level_dual.specs.Found.{IsFound, count, without}
+use Rattle.termination_model.proofs.Sets.{to_part}
+use Rattle.level_dual.specs.Found.{IsBlownSet, IsFound, count, without}
 use Rattle.level_dual.specs.Large.{AreTried, IsHadMapping, IsLeftOut}
 use Rattle.level_dual.specs.Mappings.{IsMappingOf, support_of}
 use Rattle.level_dual.specs.Subsequences.{AreOnce}
@@ -38,7 +40,39 @@ without_in i (y ∷ s) x h n = go (nat_eq i y) refl h (λ k. without_in i s x k 
     go false e (inl q) rec = inl q
     go false e (inr k) rec = inr (rec k)
 
-place_in : {X : Type 0} (xs : List X) (k : ℕ) (x : X) → slice_get xs k ≡ Some x → In x xs
+-- ---- a list that has each element once is no longer than one that has them all
+without_short : (i : ℕ) (s : List ℕ) → length (without i s) ≤ length s
+without_short i [] = omega arith
+without_short i (y ∷ s) = go (nat_eq i y) (without_short i s)
+  where
+    go : (b : Bool) → length (without i s) ≤ length s → length (if not b then y ∷ without i s else without i s) ≤ suc (length s)
+    go true l = omega (arith, l)
+    go false l = omega (arith, l)
+
+without_shorter : (i : ℕ) (s : List ℕ) → In i s → length (without i s) < length s
+without_shorter i [] h = absurd h
+without_shorter i (y ∷ s) h = go (nat_eq i y) refl h (without_short i s) (without_shorter i s)
+  where
+    go : (b : Bool) → nat_eq i y ≡ b → (y ≡ i) ⊎ In i s → length (without i s) ≤ length s → (In i s → length (without i s) < length s) → length (if not b then y ∷ without i s else without i s) < suc (length s)
+    go true e k l rec = omega (arith, l)
+    go false e (inl q) l rec = let yes : nat_eq i y ≡ true = eq-eqb i y (sym q) in cc
+    go false e (inr k) l rec = let r = rec k in omega (arith, r)
+
+once_short : (xs ys : List ℕ) → AreOnce xs → ((z : ℕ) → In z xs → In z ys) → length xs ≤ length ys
+once_short [] ys once sub = omega arith
+once_short (x ∷ xs) ys once sub =
+    let rest = once_short xs (without x ys) once.1 (λ z i. without_in x ys z (sub z (inr i)) (λ e. once.0 (subst (λ k. In k xs) (sym e) i))) in
+    let less = without_shorter x ys (sub x (inl refl)) in
+    omega (arith, rest, less)
+
+-- what is part of a set without one number is shorter
+pub part_without : (i : ℕ) (s u : List ℕ) → In i s → AreOnce u → is_part u (without i s) ≡ true → length u < length s
+part_without i s u there once part =
+    let short = once_short u (without i s) once (to_part u (without i s) part) in
+    let less = without_shorter i s there in
+    omega (arith, short, less)
+
+pub place_in : {X : Type 0} (xs : List X) (k : ℕ) (x : X) → slice_get xs k ≡ Some x → In x xs
 place_in [] k x e = cc
 place_in (y ∷ xs) zero x e = inl cc
 place_in (y ∷ xs) (suc k) x e = inr (place_in xs k x e)
@@ -75,7 +109,7 @@ module _ (expression : ℕ → Tree → List ℤ) (p : Listing) (comps : Partiti
   has = Has expression p comps rows c
 
   pub none_tried : (s : List ℕ) → AreTried expression p comps rows c s 0 []
-  none_tried s = record { tried = λ i k. absurd k; tested = λ t k. absurd k; once = tt }
+  none_tried s = record { tried = λ i k. absurd k; tested = λ t k. absurd k; given_up = λ t k. absurd k; once = tt }
 
   module _ (s : List ℕ) (k i : ℕ) (at : slice_get s k ≡ Some i) (blown : List (List ℕ)) (h : AreTried expression p comps rows c s k blown) where
     one_more : (j : ℕ) → In j (take (k + 1) s) → In j (take k s) ⊎ (i ≡ j)
@@ -97,6 +131,7 @@ module _ (expression : ℕ → Tree → List ℤ) (p : Listing) (comps : Partiti
         | inr same ↦ inr (subst (λ n. IsExcluded has (without n s)) same e)
       ];
       tested = λ t m. let w = h.tested t m in (w.0, old_more w.0 w.1, w.2);
+      given_up = h.given_up;
       once = h.once;
     }
 
@@ -106,8 +141,8 @@ module _ (expression : ℕ → Tree → List ℤ) (p : Listing) (comps : Partiti
         let differ : w.0 ≡ i → ⊥ = λ e. not_before s k i once at (subst (λ n. In n (take k s)) e w.1) in
         without_not i s (subst (In i) (sym w.2) (without_in w.0 s i (place_in s k i at) differ))
 
-    pub given_up_too : AreOnce s → AreTried expression p comps rows c s (k + 1) (blown ++ without i s ∷ [])
-    given_up_too once = record {
+    pub given_up_too : AreOnce s → IsBlownSet expression p comps rows c (without i s) → AreTried expression p comps rows c s (k + 1) (blown ++ without i s ∷ [])
+    given_up_too once here = record {
       tried = λ j m. elim (one_more j m) [
         | inl old ↦ elim (h.tried j old) [ inl b ↦ inl (in-left blown (without i s ∷ []) (without j s) b) | inr e ↦ inr e ]
         | inr same ↦ inl (in-right blown (without i s ∷ []) (without j s) (inl (ap (λ n. without n s) same)))
@@ -116,11 +151,16 @@ module _ (expression : ℕ → Tree → List ℤ) (p : Listing) (comps : Partiti
         | inl old ↦ let w = h.tested t old in (w.0, old_more w.0 w.1, w.2)
         | inr new ↦ elim new [ inl e ↦ (i, new_more, sym e) | inr none ↦ absurd none ]
       ];
+      given_up = λ t m. elim (of-append blown (without i s ∷ []) t m) [
+        | inl old ↦ h.given_up t old
+        | inr (inl e) ↦ subst (IsBlownSet expression p comps rows c) e here
+        | inr (inr none) ↦ absurd none
+      ];
       once = once_push blown (without i s) h.once (not_yet once);
     }
 
   pub all_tried : (s : List ℕ) (k : ℕ) (blown : List (List ℕ)) → length s ≤ k → AreTried expression p comps rows c s k blown → IsLeftOut expression p comps rows c s (NoneLeft blown)
-  all_tried s k blown l h = ((λ i m. h.tried i (subst (In i) (sym (take_whole s k l)) m)), h.once)
+  all_tried s k blown l h = ((λ i m. h.tried i (subst (In i) (sym (take_whole s k l)) m)), h.given_up, h.once)
 
   -- what is found where no position can be left out
   pub large_found : IsTrue true ↔ (12 < count expression p comps rows c) → (m : Mapping) → IsHadMapping expression p comps rows c m → (blown : List (List ℕ))
@@ -143,5 +183,6 @@ module _ (expression : ℕ → Tree → List ℤ) (p : Listing) (comps : Partiti
     };
     refuted = ((λ k. absurd (k refl)), λ k. absurd (k.0 (support_of (positions_in p comps c) m) had.1));
     shown = λ r e. cc;
-    once = left.1;
+    given_up = left.1;
+    once = left.2;
   }

@@ -6,12 +6,15 @@ use Rattle.cti_terms.specs.Listing.{Listing}
 use Rattle.cti_terms.specs.Tree.{Tree}
 use Rattle.call_components.specs.Partition.{Partition}
 use Rattle.call_components.proofs.Lists.{all_append}
+use Rattle.linear_rows.specs.Members.{In}
 use Rattle.linear_rows.specs.Step.{columns}
+use Rattle.linear_rows.proofs.Members.{of-append}
 use Rattle.termination_model.specs.ComponentViews.{Has, positions_in}
 use Rattle.termination_model.specs.Minimal.{IsExcluded, IsSet}
 use Rattle.termination_model.specs.Modes.{chosen_up_to, is_part}
 use Rattle.termination_model.proofs.Lists.{map_push}
 use Rattle.termination_model.proofs.Sets.{part_self}
+use Rattle.level_dual.specs.Found.{IsBlownSet}
 use Rattle.level_dual.specs.Held.{spelled}
 use Rattle.level_dual.specs.Mappings.{support_of}
 use Rattle.level_dual.specs.Searched.{IsComponent, IsDecreasing, IsFoundIn}
@@ -57,6 +60,7 @@ module _ (size : (ℕ → ℕ) → Tree → ℕ) (truth : (ℕ → Bool) → Tre
       mappings = before.mappings;
       found_order = kept_order (chosen_up_to n n) w.found i s at before.found_order;
       blown_order = kept_order (chosen_up_to n n) w.blown i s at before.blown_order;
+      given_up = before.given_up;
       once = before.once;
     }
 
@@ -67,16 +71,22 @@ module _ (size : (ℕ → ℕ) → Tree → ℕ) (truth : (ℕ → Bool) → Tre
       mappings = before.mappings;
       found_order = kept_order (chosen_up_to n n) w.found i s at before.found_order;
       blown_order = kept_order (chosen_up_to n n) w.blown i s at before.blown_order;
+      given_up = before.given_up;
       once = before.once;
     }
 
-    pub given_up_on : passed ≡ false → (blown : List (List ℕ)) → blown ≡ w.blown ++ s ∷ [] → IsWalkedTo expression p comps rows c n (suc i) (record { found = w.found; mappings = w.mappings; blown = blown })
-    given_up_on fresh blown e = subst (λ (b : List (List ℕ)). IsWalkedTo expression p comps rows c n (suc i) (record { found = w.found; mappings = w.mappings; blown = b })) (sym e) (record {
+    pub given_up_on : passed ≡ false → IsBlownSet expression p comps rows c s → (blown : List (List ℕ)) → blown ≡ w.blown ++ s ∷ [] → IsWalkedTo expression p comps rows c n (suc i) (record { found = w.found; mappings = w.mappings; blown = blown })
+    given_up_on fresh here blown e = subst (λ (b : List (List ℕ)). IsWalkedTo expression p comps rows c n (suc i) (record { found = w.found; mappings = w.mappings; blown = b })) (sym e) (record {
       walked = give_up_set n had sets i s w.found w.blown at before.walked;
       supports = before.supports;
       mappings = before.mappings;
       found_order = kept_order (chosen_up_to n n) w.found i s at before.found_order;
       blown_order = pushed_order (chosen_up_to n n) w.blown i s at before.blown_order;
+      given_up = λ t j. elim (of-append w.blown (s ∷ []) t j) [
+        | inl old ↦ before.given_up t old
+        | inr (inl e) ↦ subst (IsBlownSet expression p comps rows c) e here
+        | inr (inr none) ↦ absurd none
+      ];
       once = once_push w.blown s before.once (λ j. not_above_of s w.blown (none_right (list_any (λ t. is_part t s) w.found) (list_any (λ t. is_part t s) w.blown) fresh) (s, j, part_self s));
     })
 
@@ -94,11 +104,12 @@ module _ (size : (ℕ → ℕ) → Tree → ℕ) (truth : (ℕ → Bool) → Tre
           mappings = all_append (IsDecreasing expression p comps rows c) w.mappings (m ∷ []) before.mappings (is.mapping, tt);
           found_order = pushed_order (chosen_up_to n n) w.found i s at before.found_order;
           blown_order = kept_order (chosen_up_to n n) w.blown i s at before.blown_order;
+          given_up = before.given_up;
           once = before.once;
         }))
 
   pub none_walked : IsWalkedTo expression p comps rows c n 0 (record { found = []; mappings = []; blown = [] })
-  none_walked = record { walked = record { settled = λ s k. absurd k; minimal = λ s k. absurd k }; supports = refl; mappings = tt; found_order = tt; blown_order = tt; once = tt }
+  none_walked = record { walked = record { settled = λ s k. absurd k; minimal = λ s k. absurd k }; supports = refl; mappings = tt; found_order = tt; blown_order = tt; given_up = λ s k. absurd k; once = tt }
 
   take_all : {X : Type 0} (xs : List X) (k : ℕ) → length xs ≤ k → take k xs ≡ xs
   take_all [] zero l = refl
@@ -116,5 +127,6 @@ module _ (size : (ℕ → ℕ) → Tree → ℕ) (truth : (ℕ → Bool) → Tre
         mappings = at.mappings;
         found_order = subst (IsSubsequence w.found) whole at.found_order;
         blown_order = subst (IsSubsequence w.blown) whole at.blown_order;
+        given_up = at.given_up;
         once = at.once;
       }

@@ -2,7 +2,7 @@ use Rattle.std.proofs.Common.{◌≡◌, ◌+◌, ◌≤◌, ◌++◌, ◌∷◌
 use Rattle.termination_model.specs.Minimal.{IsExcluded}
 use Rattle.termination_model.specs.ComponentViews.{Has}
 use Rattle.termination_model.proofs.Lists.{there}
-use Rattle.level_dual.specs.Found.{without}
+use Rattle.level_dual.specs.Found.{IsBlownSet, without}
 use Rattle.level_dual.specs.Large.{AreTried}
 use Rattle.level_dual.specs.Searched.{IsAnswer}
 use Rattle.level_dual.proofs.LargeLaws.{all_tried, excluded_too, given_up_too}
@@ -22,14 +22,15 @@ loop-number-preserved c = λ size truth expression comps rows r h once.
     elim c.match-branch-3.branch [
       | in-Mapping+in_ok-smaller-in-Mapping+else-len-support+in_ok-push-in-Mapping w ↦
           subst (AreTried expression p comps rows r s (k + 1)) (sym (w.blown-is ∙ w.in_ok-push-in-Mapping.ensures.ok ∙ ap (λ t. c.loop-number.blown ++ t ∷ []) set))
-          (given_up_too expression p comps rows r s k i at c.loop-number.blown before once)
+          (given_up_too expression p comps rows r s k i at c.loop-number.blown before once ?)
       | in-Refuted w ↦
           subst (AreTried expression p comps rows r s (k + 1)) (sym w.blown-is)
           (excluded_too expression p comps rows r s k i at c.loop-number.blown before
           (subst (IsExcluded (Has expression p comps rows r)) slice (subst (IsAnswer expression p comps rows r c.as_slice.result.now) w.in-Refuted.is (c.in_ok-mapping.ensures size truth expression comps rows r h))))
       | in-Blown+in_ok-push-in-Blown w ↦
           subst (AreTried expression p comps rows r s (k + 1)) (sym (w.blown-is ∙ w.in_ok-push-in-Blown.ensures.ok ∙ ap (λ t. c.loop-number.blown ++ t ∷ []) set))
-          (given_up_too expression p comps rows r s k i at c.loop-number.blown before once)
+          (given_up_too expression p comps rows r s k i at c.loop-number.blown before once
+          (subst (IsBlownSet expression p comps rows r) slice (subst (IsAnswer expression p comps rows r c.as_slice.result.now) w.in-Blown.is (c.in_ok-mapping.ensures size truth expression comps rows r h))))
     ]
 
 pub returns-clause-left_out : goal.returns-clause-left_out

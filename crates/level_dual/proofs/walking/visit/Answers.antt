@@ -20,5 +20,6 @@ returns-in-Refuted c = λ size truth expression comps rows r h i at w.
 
 pub returns-in_ok-push-in-Blown : goal.returns-in_ok-push-in-Blown
 returns-in_ok-push-in-Blown c = λ size truth expression comps rows r h i at w.
-    given_up_on size truth expression c.args.p.now comps rows r c.args.component.now h i c.args.set.now c.args.walked.now at w (sym c.is_passed.ensures ∙ c.if-is_passed.false) c.push-in-Blown.new.self
+    given_up_on size truth expression c.args.p.now comps rows r c.args.component.now h i c.args.set.now c.args.walked.now at w (sym c.is_passed.ensures ∙ c.if-is_passed.false)
+    (subst (IsAnswer expression c.args.p.now comps rows r c.args.set.now) c.in-Blown.is (c.in_ok-mapping.ensures size truth expression comps rows r h)) c.push-in-Blown.new.self
     (c.in_ok-push-in-Blown.ensures.ok ∙ (λ j. c.args.walked.now.blown ++ c.in_ok-copied-in-Blown.ensures j ∷ []))
