@@ -1,11 +1,17 @@
-use Rattle.std.proofs.Common.{◌≡◌, ◌+◌, ◌≤◌, ◌++◌, ◌∷◌, [], ℕ, List, length, slice_get, get_or, Some, ap, sym, subst, ◌∙◌, arith}
+use Rattle.std.proofs.Common.{◌≡◌, ◌+◌, ◌≤◌, ◌++◌, ◌∷◌, [], ℕ, suc, true, List, length, map, slice_get, get_or, Some, ap, sym, subst, ◌∙◌, arith}
 use Rattle.termination_model.specs.Minimal.{IsExcluded}
-use Rattle.termination_model.specs.ComponentViews.{Has}
+use Rattle.termination_model.specs.Modes.{is_part}
+use Rattle.termination_model.specs.ComponentViews.{Has, positions_in}
 use Rattle.termination_model.proofs.Lists.{there}
 use Rattle.level_dual.specs.Found.{IsBlownSet, without}
+use Rattle.level_dual.specs.Held.{spelled}
 use Rattle.level_dual.specs.Large.{AreTried}
+use Rattle.level_dual.specs.Mappings.{support_of}
 use Rattle.level_dual.specs.Searched.{IsAnswer}
-use Rattle.level_dual.proofs.LargeLaws.{all_tried, excluded_too, given_up_too}
+use Rattle.level_dual.specs.declared.mapping.Mapping.{Mapping}
+use Rattle.level_dual.specs.declared.position.Position.{Position}
+use Rattle.level_dual.proofs.LargeLaws.{all_tried, excluded_too, given_up_too, part_without, place_in, set_once}
+use Rattle.level_dual.proofs.WalkLaws.{sets_in}
 use Rattle.level_dual.proofs.large.leave_out.Goals.{in-Mapping+in_ok-smaller-in-Mapping+else-len-support+in_ok-push-in-Mapping, in-Refuted, in-Blown+in_ok-push-in-Blown}
 use Rattle.level_dual.proofs.large.leave_out.Goals as goal
 
@@ -22,7 +28,16 @@ loop-number-preserved c = λ size truth expression comps rows r h once.
     elim c.match-branch-3.branch [
       | in-Mapping+in_ok-smaller-in-Mapping+else-len-support+in_ok-push-in-Mapping w ↦
           subst (AreTried expression p comps rows r s (k + 1)) (sym (w.blown-is ∙ w.in_ok-push-in-Mapping.ensures.ok ∙ ap (λ t. c.loop-number.blown ++ t ∷ []) set))
-          (given_up_too expression p comps rows r s k i at c.loop-number.blown before once ?)
+          (given_up_too expression p comps rows r s k i at c.loop-number.blown before once (absurd (
+          let x = c.args.component.now in
+          let m : Mapping = w.in-Mapping.mapping in
+          let u = support_of (positions_in p comps r) m in
+          let found = subst (IsAnswer expression p comps rows r c.as_slice.result.now) w.in-Mapping.is (c.in_ok-mapping.ensures size truth expression comps rows r h) in
+          let same : w.in_ok-smaller-in-Mapping.smaller.items ≡ u =
+          w.in_ok-smaller-in-Mapping.ensures ∙ ap (λ (ps : List Position). support_of (map spelled ps) m) w.as_slice-in-Mapping.ensures.value ∙ ap (λ ps. support_of ps m) h.positions in
+          let less = part_without i s u (place_in s k i at) (set_once 1 (suc (length (positions_in p comps r))) u (sets_in size truth expression p comps rows r x h u found.has))
+          (subst (λ t. is_part u t ≡ true) slice found.part) in
+          omega (arith, less, w.if-len-support.false, w.len.ensures, ap length same))))
       | in-Refuted w ↦
           subst (AreTried expression p comps rows r s (k + 1)) (sym w.blown-is)
           (excluded_too expression p comps rows r s k i at c.loop-number.blown before
