@@ -90,6 +90,7 @@ fn leave_out(
         let set = without(alloc, support, *number)?;
         match search(alloc, p, component, set.as_slice())? {
             Answer::Mapping(mapping) => {
+                // The support of a mapping at this set is smaller. It is tested, since the caller's loop ends by that.
                 let smaller = support_of(alloc, component.positions.as_slice(), &mapping)?;
                 if smaller.len() < support.len() {
                     return Ok(LeftOut::Smaller(mapping));

@@ -1,18 +1,22 @@
 //! Refutations of a component, tested as a certificate's check tests them.
 
-ghost use Rattle.std.specs.Prelude.{◌≡◌, ◌↔◌, ◌<◌, ◌⊎◌, ◌≤ℤ◌, ℕ, ℤ, All, List, IfOk, IfSome, IsTrue, length, map, pos, true};
+ghost use Rattle.std.specs.Prelude.{◌≡◌, ◌↔◌, ◌<◌, ◌⊎◌, ◌≤ℤ◌, ℕ, ℤ, All, List, IfOk, IfSome, IsTrue, None, length, map, pos, true};
 ghost use Rattle.std.specs.List.{AllByRecursion};
 ghost use Rattle.call_components.specs.Numbers.{number_of};
 ghost use Rattle.call_components.specs.Partition.{IsIn, Partition};
 ghost use Rattle.level_dual.specs.Found.{IsNaturalPoint, IsRefutationOf, PairsAscend};
 ghost use Rattle.level_dual.specs.Held.{IsHeld};
 ghost use Rattle.level_dual.specs.Refuted.{HasPoints, HasWidths, IsOfCalls, IsPointAt};
-ghost use Rattle.level_dual.specs.Searched.{IsSound};
+ghost use Rattle.level_dual.specs.Searched.{IsComponent, IsSound};
 ghost use Rattle.linear_rows.specs.Members.{In};
 ghost use Rattle.linear_rows.specs.Plain.{HaveWidth};
 ghost use Rattle.level_dual.specs.declared.own_call.OwnCall.{OwnCall};
 ghost use Rattle.termination_model.specs.Sizes.{AreSizes, rows_of};
-ghost use Rattle.termination_model.specs.ComponentViews.{members_in};
+ghost use Rattle.termination_model.specs.BlownSupports.{IsBlownAt};
+ghost use Rattle.termination_model.specs.ComponentViews.{Has, component_view, members_in, no_truth, positions_in};
+ghost use Rattle.termination_model.specs.Ready.{arity_in};
+ghost use Rattle.termination_model.specs.Supports.{picked_from};
+ghost use Rattle.linear_rows.specs.Step.{columns};
 
 use crate::component::Component;
 use crate::own_call::OwnCall;
@@ -268,9 +272,14 @@ pub(crate) fn refutation<N: Norm>(
     requires sound { IsSound p.now component.now }
     requires sizes { AreSizes p.now.preds sizes.now.rows }
     requires held { AllByRecursion (IsHeld (N.expression norm.now) p.now (rows_of sizes.now.rows)) component.now.calls.items }
-    ensures { IfOk result (λ o. (comps : Partition) (c : ℕ) → map number_of component.now.members.items ≡ members_in comps c
+    ensures refutes { IfOk result (λ o. (comps : Partition) (c : ℕ) → map number_of component.now.members.items ≡ members_in comps c
         → AllByRecursion (λ (own : OwnCall). IsIn comps c own.caller.0) component.now.calls.items → AllByRecursion (λ (own : OwnCall). IsIn comps c own.callee.0) component.now.calls.items
         → IfSome o (IsRefutationOf (N.expression norm.now) p.now comps (rows_of sizes.now.rows) c)) }
+    // from h2
+    ensures given_up { IfOk result (λ o. o ≡ None → (comps : Partition) (c : ℕ) → IsComponent (N.size norm.now) (N.truth norm.now) (N.expression norm.now) p.now comps (rows_of sizes.now.rows) c component.now
+        → ((s : List ℕ) → Has (N.expression norm.now) p.now comps (rows_of sizes.now.rows) c s → ⊥)
+        → IsBlownAt no_truth (N.expression norm.now) (component_view (N.expression norm.now) p.now comps (rows_of sizes.now.rows) c) (arity_in p.now)
+        (picked_from 1 (positions_in p.now comps c) (columns 1 (length component.now.positions.items)))) }
 {
     if let Some(refutation) = refutation_by(alloc, p, norm, sizes, component, true)? {
         return Ok(Some(refutation));

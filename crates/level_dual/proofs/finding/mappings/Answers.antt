@@ -7,6 +7,7 @@ use Rattle.level_dual.specs.Found.{count}
 use Rattle.level_dual.specs.Held.{spelled}
 use Rattle.level_dual.specs.Searched.{IsComponent}
 use Rattle.level_dual.specs.declared.position.Position.{Position}
+use Rattle.level_dual.proofs.BlownSets.{all_blown}
 use Rattle.level_dual.proofs.FoundCases.{undecided_is}
 use Rattle.level_dual.proofs.Results.{if_ok}
 use Rattle.level_dual.proofs.finding.mappings.Goals as goal
@@ -21,7 +22,7 @@ returns-in_default g c =
     let long : length items ≡ count e p comps rows c.args.c = sym (length-map items spelled) ∙ ap length c.in_ok-positions.ensures in
     let large = subst (λ (n : ℕ). IsTrue c.is_large-large.result ↔ (12 < n)) (ap length c.as_slice.ensures.value ∙ long) c.is_large-large.ensures in
     let full : c.in_ok-full.full ≡ columns 1 (count e p comps rows c.args.c) = c.in_ok-full.ensures.numbers ∙ ap (columns 1) (c.count_of.ensures ∙ ap length c.as_slice-2.ensures.value ∙ long) in
-    if_ok c.nothing_decided.result (λ f is. undecided_is e p comps rows c.args.c c.is_large-large.result large c.in_ok-full.full full f is) c.nothing_decided.ensures
+    if_ok c.nothing_decided.result (λ f is. undecided_is e p comps rows c.args.c c.is_large-large.result large (all_blown e p comps rows c.args.c (c.in_ok-component.ensures.given_up c.in_default.is)) c.in_ok-full.full full f is) c.nothing_decided.ensures
 
 pub find-requires-clause-full : goal.find-requires-clause-full
 find-requires-clause-full g c =

@@ -1,7 +1,7 @@
 use Rattle.std.proofs.Common.{◌≡◌, ◌∷◌, [], ℕ, List, None, Some, IfSome, IfOk, ap, sym, subst, ◌∙◌, true, false}
 use Rattle.linear_rows.specs.Step.{columns}
 use Rattle.termination_model.specs.Sizes.{rows_of}
-use Rattle.level_dual.specs.Found.{IsFound, IsRefutationOf}
+use Rattle.level_dual.specs.Found.{IsBlownSet, IsFound, IsRefutationOf}
 use Rattle.level_dual.specs.declared.found.Found.{Found}
 use Rattle.level_dual.proofs.FoundCases.{refuted_found, wide_is}
 use Rattle.level_dual.proofs.Results.{if_ok}
@@ -12,7 +12,7 @@ pub returns-in-Some : goal.returns-in-Some
 returns-in-Some g c = λ comps r h large none.
     let e = g.N.Norm.expression c.args.norm.now in
     let rows = rows_of c.args.sizes.now.rows in
-    let is = subst (λ o. IfSome o (IsRefutationOf e c.args.p.now comps rows r)) c.in-Some.is (c.in_ok-refutation.ensures comps r h.members h.callers h.inside) in
+    let is = subst (λ o. IfSome o (IsRefutationOf e c.args.p.now comps rows r)) c.in-Some.is (c.in_ok-refutation.ensures.refutes comps r h.members h.callers h.inside) in
     let found = refuted_found e c.args.p.now comps rows r c.args.large large none c.in-Some.refutation is in
     subst (λ ms. IsFound e c.args.p.now comps rows r (record { mappings = ms; refutation = Some c.in-Some.refutation; blown = c.new-in-Some.result; large = c.args.large })) (sym c.new.ensures)
     (subst (λ bs. IsFound e c.args.p.now comps rows r (record { mappings = []; refutation = Some c.in-Some.refutation; blown = bs; large = c.args.large })) (sym c.new-in-Some.ensures) found)
@@ -24,4 +24,5 @@ returns-in-None g c =
     let truth = g.N.Norm.truth c.args.norm.now in
     let p = c.args.p.now in
     let rows = rows_of c.args.sizes.now.rows in
-    if_ok c.all_given_up.result (λ f is. λ comps r h large none. wide_is e p comps rows r c.args.large large none c.args.full (c.requires.full ∙ full_in size truth e p comps rows r c.args.component.now h) f is) c.all_given_up.ensures
+    if_ok c.all_given_up.result (λ f is. λ comps r h large none.
+    wide_is e p comps rows r c.args.large large none c.args.full (subst (IsBlownSet e p comps rows r) (sym c.requires.full) (c.in_ok-refutation.ensures.given_up c.in-None.is comps r h none)) (c.requires.full ∙ full_in size truth e p comps rows r c.args.component.now h) f is) c.all_given_up.ensures
