@@ -1,5 +1,5 @@
 -- A set that the search gives up is blown.
-use Rattle.std.proofs.Common.{◌≡◌, ℕ, ◌+◌, ◌-◌, ℤ, pos, Bool, true, List, ◌++◌, map, filter, take, drop, length, ◌⊎◌, inl, inr, ap, sym, subst, ◌∙◌, arith}
+use Rattle.std.proofs.Common.{◌≡◌, ℕ, ◌+◌, ◌-◌, ℤ, pos, Bool, true, List, ◌++◌, map, filter, take, drop, length, inl, inr, ap, sym, subst, ◌∙◌, arith}
 use Rattle.std.specs.List.{AllByRecursion, list_any}
 use Rattle.std.proofs.lemmas.List.{length-map}
 use Rattle.cti_terms.specs.Listing.{Listing}

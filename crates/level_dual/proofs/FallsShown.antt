@@ -1,5 +1,5 @@
 -- Where all numbers of a mapping's check fit, its falls are shown.
-use Rattle.std.proofs.Common.{◌≡◌, ℕ, zero, suc, ◌+◌, ◌<◌, ◌-ℤ◌, ◌≤ℤ◌, ℤ, pos, negsuc, Bool, true, List, [], ◌∷◌, map, take, drop, length, Option, None, Some, refl, ap, sym, subst, ◌∙◌, arith}
+use Rattle.std.proofs.Common.{◌≡◌, ℕ, zero, suc, ◌-ℤ◌, ◌≤ℤ◌, ℤ, pos, negsuc, Bool, true, List, [], ◌∷◌, map, take, drop, length, Option, None, Some, refl, ap, sym, subst, ◌∙◌, arith}
 use Rattle.std.specs.List.{AllByRecursion}
 use Rattle.std.proofs.lemmas.List.{length-map}
 use Rattle.exact128.specs.Fits.{Fits}
@@ -14,7 +14,6 @@ use Rattle.linear_rows.specs.Rows.{column}
 use Rattle.linear_rows.specs.Showing.{IsShown, Shows, bottom_row}
 use Rattle.linear_rows.specs.Solving.{zeros}
 use Rattle.linear_rows.specs.declared.multipliers.Multipliers.{Multipliers}
-use Rattle.number_tests.specs.Proved.{fall_of}
 use Rattle.number_tests.specs.Targets.{fall_weights}
 use Rattle.number_tests.specs.declared.level_part.LevelPart.{LevelPart}
 use Rattle.number_tests.proofs.FallTargets.{fall_target}

@@ -1,6 +1,6 @@
 -- What is found, case by case.
-use Rattle.std.proofs.Common.{◌≡◌, ◌↔◌, ◌⊎◌, inl, inr, ℕ, zero, suc, ◌+◌, ◌<◌, ◌≤◌, ◌||◌, ℤ, Bool, true, false, IsTrue, List, [], ◌∷◌, ◌++◌, map, length, Option, None, Some, refl, ap, sym, subst, ◌∙◌, arith}
-use Rattle.std.specs.List.{AllByRecursion, list_any}
+use Rattle.std.proofs.Common.{◌≡◌, ◌↔◌, ◌⊎◌, inl, inr, ℕ, zero, suc, ◌+◌, ◌<◌, ◌≤◌, ◌||◌, ℤ, Bool, true, false, IsTrue, List, [], ◌∷◌, ◌++◌, map, length, None, Some, refl, ap, sym, subst, arith}
+use Rattle.std.specs.List.{list_any}
 use Rattle.cti_terms.specs.Listing.{Listing}
 use Rattle.cti_terms.specs.Tree.{Tree}
 use Rattle.call_components.specs.Partition.{Partition}
@@ -12,15 +12,14 @@ use Rattle.call_components.proofs.Lists.{all_map}
 use Rattle.termination_model.specs.ComponentViews.{component_view, no_truth, positions_in}
 use Rattle.termination_model.specs.Excluding.{IsAt}
 use Rattle.termination_model.specs.Refutation.{Decreases}
-use Rattle.termination_model.specs.Minimal.{IsAbove, IsExcluded, IsMinimal, IsSet}
+use Rattle.termination_model.specs.Minimal.{IsAbove, IsSet}
 use Rattle.termination_model.specs.Modes.{chosen_up_to, is_part}
 use Rattle.termination_model.proofs.Sets.{of_part, part_same, part_self, set_short, to_part, up_to_set}
 use Rattle.level_dual.specs.Cases.{undecided}
-use Rattle.level_dual.specs.Found.{IsBlownSet, IsFound, IsLarge, IsRefutationOf, IsSmall, count, full, had, supports}
+use Rattle.level_dual.specs.Found.{IsBlownSet, IsFound, IsRefutationOf, count, full, had}
 use Rattle.level_dual.specs.Mappings.{IsMappingOf, mapping_of, support_of}
 use Rattle.level_dual.specs.Searched.{IsDecreasing}
 use Rattle.level_dual.specs.Subsequences.{AreOnce, IsSubsequence}
-use Rattle.level_dual.specs.Walk.{IsWalked}
 use Rattle.level_dual.specs.Walked.{IsAllWalked, IsCompleted}
 use Rattle.level_dual.specs.declared.found.Found.{Found}
 use Rattle.level_dual.specs.declared.mapping.Mapping.{Mapping}

@@ -1,7 +1,6 @@
 -- Supports of a large component without one position after another.
-use Rattle.std.proofs.Common.{◌≡◌, ◌↔◌, ◌⊎◌, inl, inr, ℕ, zero, suc, ◌+◌, ◌<◌, ◌≤◌, ◌==◌, ◌||◌, ℤ, Bool, true, false, not, if◌then◌else◌, IsTrue, List, [], ◌∷◌, ◌++◌, map, take, slice_get, length, None, Some, refl, ap, sym, subst, ◌∙◌, arith, eq-eqb, eqb-true}
+use Rattle.std.proofs.Common.{◌≡◌, ◌↔◌, ◌⊎◌, inl, inr, ℕ, zero, suc, ◌+◌, ◌<◌, ◌≤◌, ℤ, Bool, true, false, not, if◌then◌else◌, IsTrue, List, [], ◌∷◌, ◌++◌, take, slice_get, length, None, Some, refl, ap, sym, subst, ◌∙◌, arith, eq-eqb, eqb-true}
 use Rattle.std.specs.Prelude.{nat_eq}
-use Rattle.std.specs.List.{list_any}
 use Rattle.cti_terms.specs.Listing.{Listing}
 use Rattle.cti_terms.specs.Tree.{Tree}
 use Rattle.call_components.specs.Partition.{Partition}
@@ -14,9 +13,8 @@ use Rattle.termination_model.proofs.Lists.{taken_more}
 use Rattle.termination_model.proofs.Sets.{to_part}
 use Rattle.level_dual.specs.Found.{IsBlownSet, IsFound, count, without}
 use Rattle.level_dual.specs.Large.{AreTried, IsHadMapping, IsLeftOut}
-use Rattle.level_dual.specs.Mappings.{IsMappingOf, support_of}
+use Rattle.level_dual.specs.Mappings.{support_of}
 use Rattle.level_dual.specs.Subsequences.{AreOnce}
-use Rattle.level_dual.specs.declared.found.Found.{Found}
 use Rattle.level_dual.specs.declared.large.LeftOut.TheVariants.{None as NoneLeft}
 use Rattle.level_dual.specs.declared.mapping.Mapping.{Mapping}
 use Rattle.level_dual.proofs.Subsequences.{once_push}

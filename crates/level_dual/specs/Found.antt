@@ -1,7 +1,7 @@
 -- What is found of a component's mappings: all minimal supports, or a refutation, or what was given up.
 --
 -- To believe: all of this file.
-use Rattle.std.specs.Prelude.{◌≡◌, ◌≢◌, ◌↔◌, ◌<◌, ◌≤◌, ◌⊎◌, not, nat_eq, ℕ, ℤ, true, false, IsTrue, List, [], ◌∷◌, map, filter, length, Option, None, Some, ◌≤ℤ◌, pos, All}
+use Rattle.std.specs.Prelude.{◌≡◌, ◌≢◌, ◌↔◌, ◌<◌, ◌≤◌, ◌⊎◌, not, nat_eq, ℕ, ℤ, true, false, IsTrue, List, map, filter, length, Option, None, Some, ◌≤ℤ◌, pos, All}
 use Rattle.std.specs.List.{AllByRecursion}
 use Rattle.cti_terms.specs.Listing.{Listing}
 use Rattle.cti_terms.specs.Tree.{Tree}

@@ -1,5 +1,5 @@
 -- What the search for a mapping at a set of positions is given, and what it answers. Nothing here has to be believed.
-use Rattle.std.specs.Prelude.{◌≡◌, ◌+◌, ◌<◌, ℕ, suc, ℤ, pos, Bool, true, List, [], ◌∷◌, map, take, drop, length, slice_get, Option, None, Some}
+use Rattle.std.specs.Prelude.{◌≡◌, ◌<◌, ℕ, ℤ, pos, Bool, true, List, map, take, drop, length, slice_get, Option, None, Some}
 use Rattle.std.specs.List.{AllByRecursion}
 use Rattle.call_components.specs.Numbers.{number_of}
 use Rattle.call_components.specs.Partition.{AreComponents, IsIn, Partition}

@@ -1,4 +1,4 @@
-use Rattle.std.proofs.Common.{◌≡◌, ◌<◌, ◌↔◌, ◌∷◌, [], ℕ, Bool, List, None, IsTrue, length, true, ap, sym, subst, ◌∙◌}
+use Rattle.std.proofs.Common.{◌≡◌, ◌<◌, ◌↔◌, ◌∷◌, [], ℕ, Bool, List, None, IsTrue, length, true, sym, subst, ◌∙◌}
 use Rattle.termination_model.specs.ComponentViews.{positions_in}
 use Rattle.termination_model.specs.Modes.{is_part}
 use Rattle.termination_model.specs.Sizes.{rows_of}

@@ -1,4 +1,4 @@
-use Rattle.std.proofs.Common.{◌≡◌, List, ℕ, ◌∙◌, subst}
+use Rattle.std.proofs.Common.{List, ℕ, ◌∙◌, subst}
 use Rattle.level_dual.specs.Found.{IsBlownSet}
 use Rattle.level_dual.specs.Walked.{IsCompleted}
 use Rattle.level_dual.specs.declared.walked.Walked.{Walked}
