@@ -16,6 +16,7 @@ pub mod MemberLists
 pub mod OwnCallLaws
 pub mod PairLists
 pub mod PartLaws
+pub mod PointLists
 pub mod RefuteLaws
 pub mod Results
 pub mod RowLengths

@@ -1,22 +1,26 @@
 //! Refutations of a component, tested as a certificate's check tests them.
 
-ghost use Rattle.std.specs.Prelude.{◌≡◌, ◌↔◌, ◌<◌, ◌⊎◌, ◌≤ℤ◌, ℕ, ℤ, All, List, IfOk, IfSome, IsTrue, None, length, map, pos, true};
+ghost use Rattle.std.specs.Prelude.{◌≡◌, ◌↔◌, ◌+◌, ◌∷◌, ◌≤ℤ◌, ℕ, ℤ, All, List, IfOk, IfSome, IsTrue, None, false, length, map, pos, true};
 ghost use Rattle.std.specs.List.{AllByRecursion};
 ghost use Rattle.call_components.specs.Numbers.{number_of};
 ghost use Rattle.call_components.specs.Partition.{IsIn, Partition};
+ghost use Rattle.cti_terms.specs.Tree.{Tree};
 ghost use Rattle.level_dual.specs.Found.{IsNaturalPoint, IsRefutationOf, PairsAscend};
-ghost use Rattle.level_dual.specs.Held.{IsHeld};
-ghost use Rattle.level_dual.specs.Refuted.{HasPoints, HasWidths, IsOfCalls, IsPointAt};
+ghost use Rattle.level_dual.specs.Held.{IsHeld, live_of};
+ghost use Rattle.level_dual.specs.Recalled.{Recalls};
+ghost use Rattle.level_dual.specs.Refuted.{ArePointsIf, HasPoints, HasWidths, IsAdded, IsInFit, IsNought, IsOfCalls, IsPointAt, IsSpelledIf, RefuteIf, solution_of};
 ghost use Rattle.level_dual.specs.Searched.{IsComponent, IsSound};
 ghost use Rattle.linear_rows.specs.Members.{In};
 ghost use Rattle.linear_rows.specs.Plain.{HaveWidth};
-ghost use Rattle.level_dual.specs.declared.own_call.OwnCall.{OwnCall};
-ghost use Rattle.termination_model.specs.Sizes.{AreSizes, rows_of};
-ghost use Rattle.termination_model.specs.BlownSupports.{IsBlownAt};
-ghost use Rattle.termination_model.specs.ComponentViews.{Has, component_view, members_in, no_truth, positions_in};
-ghost use Rattle.termination_model.specs.Ready.{arity_in};
-ghost use Rattle.termination_model.specs.Supports.{picked_from};
 ghost use Rattle.linear_rows.specs.Step.{columns};
+ghost use Rattle.level_dual.specs.declared.own_call.OwnCall.{OwnCall};
+ghost use Rattle.number_tests.specs.Shape.{IsBefore, pair_of};
+ghost use Rattle.termination_model.specs.BlownSupports.{IsBlownAt};
+ghost use Rattle.termination_model.specs.OwnCalls.{OwnCall as Recalled};
+ghost use Rattle.termination_model.specs.Ready.{arity_in};
+ghost use Rattle.termination_model.specs.Sizes.{AreSizes, rows_of};
+ghost use Rattle.termination_model.specs.Supports.{picked_from};
+ghost use Rattle.termination_model.specs.ComponentViews.{Has, component_view, members_in, no_truth, positions_in};
 
 use crate::component::Component;
 use crate::own_call::OwnCall;
@@ -24,7 +28,7 @@ use crate::reaching::point_of;
 use crate::solving::solve_by;
 use crate::support_rows::support_system;
 use cti_terms::Program;
-use fourier::Solved;
+use fourier::{ElimFault, Solved};
 use linear_rows::{Numbers, Point};
 use number_tests::{PairPoint, Refutation, points_flaw, sums_flaw};
 use sequences::Sequence;
@@ -33,7 +37,9 @@ use term_size::Norm;
 use termination_model::Sizes;
 
 // Whether all numbers are 0.
-fn are_zero(numbers: &[i128]) -> bool {
+fn are_zero(numbers: &[i128]) -> bool
+    ensures { result ≡ true → IsNought numbers.now }
+{
     for number in numbers {
         if *number != 0 {
             return false;
@@ -42,19 +48,28 @@ fn are_zero(numbers: &[i128]) -> bool {
     true
 }
 
+// Whether a number is 0.
+fn is_nought(x: i128) -> bool
+    ensures { IsTrue result ↔ (x ≡ pos 0) }
+{
+    x == 0
+}
+
 // The point of a call that multipliers spell: its t first. Where that is 0, a second point is given.
 fn pair_point(
     alloc: Global,
     own: &OwnCall,
     t: i128,
     values: &[i128],
+    by_pivots: bool,
 ) -> Result<Option<PairPoint>, AllocError>
     requires widths { HaveWidth own.now.rows.width own.now.rows.list }
     requires values { length values.now ≡ own.now.rows.width }
-    ensures { IfOk result (λ o. IfSome o (IsPointAt own.now)) }
+    ensures at { IfOk result (λ o. IfSome o (IsPointAt own.now)) }
+    ensures exact { by_pivots ≡ false → IfOk result (IsSpelledIf own.now (t ∷ values.now)) }
 {
-    let at = if t == 0 {
-        let Some(second) = point_of(alloc, &own.rows)? else {
+    let at = if is_nought(t) {
+        let Some(second) = point_of(alloc, &own.rows, by_pivots)? else {
             return Ok(None);
         };
         Some(second)
@@ -75,21 +90,18 @@ fn add_point(
     alloc: Global,
     own: &OwnCall,
     numbers: &[i128],
+    by_pivots: bool,
     points: &mut Sequence<PairPoint>,
 ) -> Result<bool, AllocError>
     requires widths { HaveWidth own.now.rows.width own.now.rows.list }
-    ensures { IfOk result (λ done. (owns : List OwnCall) → In own.now owns → AllByRecursion (IsOfCalls owns) points.old → AllByRecursion (IsOfCalls owns) points.new) }
+    requires numbers { length numbers.now ≡ own.now.rows.width + 1 }
+    ensures mine { IfOk result (λ done. (owns : List OwnCall) → In own.now owns → AllByRecursion (IsOfCalls owns) points.old → AllByRecursion (IsOfCalls owns) points.new) }
+    ensures exact { by_pivots ≡ false → IfOk result (IsAdded own.now numbers.now points.old points.new) }
 {
     if are_zero(numbers) {
         return Ok(true);
     }
-    let Some((t, values)) = numbers.split_first() else {
-        return Ok(false);
-    };
-    if values.len() != own.rows.width as usize {
-        return Ok(false);
-    }
-    let Some(point) = pair_point(alloc, own, *t, values)? else {
+    let Some(point) = pair_point(alloc, own, numbers[0], &numbers[1..], by_pivots)? else {
         return Ok(false);
     };
     points.push(point)?;
@@ -101,9 +113,11 @@ fn points_of(
     alloc: Global,
     calls: &[OwnCall],
     numbers: &[i128],
+    by_pivots: bool,
 ) -> Result<Option<Sequence<PairPoint>>, AllocError>
     requires { AllByRecursion HasWidths calls.now }
-    ensures { IfOk result (λ o. IfSome o (AllByRecursion (IsOfCalls calls.now))) }
+    ensures mine { IfOk result (λ o. IfSome o (AllByRecursion (IsOfCalls calls.now))) }
+    ensures exact { by_pivots ≡ false → IfOk result (ArePointsIf (live_of calls.now) numbers.now) }
 {
     let mut points = Sequence::new(alloc);
     let mut numbers = numbers;
@@ -115,7 +129,7 @@ fn points_of(
         if numbers.len() < many {
             return Ok(None);
         }
-        if !add_point(alloc, own, &numbers[..many], &mut points)? {
+        if !add_point(alloc, own, &numbers[..many], by_pivots, &mut points)? {
             return Ok(None);
         }
         numbers = &numbers[many..];
@@ -131,7 +145,9 @@ fn refuting_points(
     by_pivots: bool,
 ) -> Result<Option<Sequence<PairPoint>>, AllocError>
     requires { IsSound p.now component.now }
-    ensures { IfOk result (λ o. IfSome o (AllByRecursion (IsOfCalls component.now.calls.items))) }
+    ensures mine { IfOk result (λ o. IfSome o (AllByRecursion (IsOfCalls component.now.calls.items))) }
+    ensures exact { by_pivots ≡ false → IfOk result (λ o. (expression : ℕ → Tree → List ℤ) (re : OwnCall → Recalled) → AllByRecursion (λ own. Recalls expression (re own) own) component.now.calls.items
+        → RefuteIf (live_of component.now.calls.items) (solution_of expression component.now (map re (live_of component.now.calls.items))) o) }
 {
     let calls = component.calls.as_slice();
     let system = support_system(
@@ -141,21 +157,16 @@ fn refuting_points(
         component.by_clauses.as_slice(),
     )?;
     match solve_by(alloc, &system, by_pivots) {
-        Ok(Solved::Refuted(by)) => points_of(alloc, calls, by.list.as_slice()),
-        _ => Ok(None),
+        Ok(Solved::Refuted(by)) => points_of(alloc, calls, by.list.as_slice(), by_pivots),
+        Ok(Solved::Point(_)) => Ok(None),
+        Err(ElimFault::Blown { .. }) => Ok(None),
+        Err(ElimFault::Memory) => Err(AllocError),
     }
-}
-
-// Whether a number is 0.
-fn is_nought(x: i128) -> bool
-    ensures { IsTrue result ↔ (x ≡ pos 0) }
-{
-    x == 0
 }
 
 // Whether all numbers are at least 0.
 fn are_natural(numbers: &[i128]) -> bool
-    ensures { result ≡ true → All (λ x. pos 0 ≤ℤ x) numbers.now }
+    ensures { IsTrue result ↔ All (λ x. pos 0 ≤ℤ x) numbers.now }
 {
     for number in numbers {
         if *number < 0 {
@@ -167,7 +178,7 @@ fn are_natural(numbers: &[i128]) -> bool
 
 // Whether all numbers of a point are at least 0.
 fn is_natural(point: &Point) -> bool
-    ensures { result ≡ true → IsNaturalPoint point.now }
+    ensures { IsTrue result ↔ IsNaturalPoint point.now }
 {
     if point.t < 0 {
         return false;
@@ -177,7 +188,7 @@ fn is_natural(point: &Point) -> bool
 
 // Whether a pair's points are natural, and there is a second one exactly where the first stands for a direction.
 fn has_points(x: &PairPoint) -> bool
-    ensures { result ≡ true → HasPoints x.now }
+    ensures { IsTrue result ↔ HasPoints x.now }
 {
     if !is_natural(&x.point) {
         return false;
@@ -196,7 +207,7 @@ fn has_points(x: &PairPoint) -> bool
 
 // Whether a pair is after the one of a clause and a call.
 fn is_after(clause: u32, call: u32, x: &PairPoint) -> bool
-    ensures { result ≡ true → ((clause < x.now.clause) ⊎ ((clause ≡ x.now.clause) × (call < x.now.call))) }
+    ensures { IsTrue result ↔ IsBefore (clause, call) (pair_of x.now) }
 {
     if clause < x.clause {
         return true;
@@ -209,8 +220,7 @@ fn is_after(clause: u32, call: u32, x: &PairPoint) -> bool
 
 // Whether pairs ascend, each with the points that it needs.
 fn are_formed(points: &[PairPoint]) -> bool
-    ensures ascend { result ≡ true → PairsAscend (0, 0) points.now }
-    ensures points { result ≡ true → AllByRecursion HasPoints points.now }
+    ensures { IsTrue result ↔ (PairsAscend (0, 0) points.now × AllByRecursion HasPoints points.now) }
 {
     let mut clause = 0;
     let mut call = 0;
@@ -239,9 +249,11 @@ fn refutation_by<N: Norm>(
     requires sound { IsSound p.now component.now }
     requires sizes { AreSizes p.now.preds sizes.now.rows }
     requires held { AllByRecursion (IsHeld (N.expression norm.now) p.now (rows_of sizes.now.rows)) component.now.calls.items }
-    ensures { IfOk result (λ o. (comps : Partition) (c : ℕ) → map number_of component.now.members.items ≡ members_in comps c
+    ensures refutes { IfOk result (λ o. (comps : Partition) (c : ℕ) → map number_of component.now.members.items ≡ members_in comps c
         → AllByRecursion (λ (own : OwnCall). IsIn comps c own.caller.0) component.now.calls.items → AllByRecursion (λ (own : OwnCall). IsIn comps c own.callee.0) component.now.calls.items
         → IfSome o (IsRefutationOf (N.expression norm.now) p.now comps (rows_of sizes.now.rows) c)) }
+    ensures given_up { by_pivots ≡ false → IfOk result (λ o. o ≡ None → (comps : Partition) (c : ℕ) → IsComponent (N.size norm.now) (N.truth norm.now) (N.expression norm.now) p.now comps (rows_of sizes.now.rows) c component.now
+        → IsInFit (N.expression norm.now) p.now comps (rows_of sizes.now.rows) c component.now → ⊥) }
 {
     let Some(points) = refuting_points(alloc, p, component, by_pivots)? else {
         return Ok(None);
@@ -275,11 +287,10 @@ pub(crate) fn refutation<N: Norm>(
     ensures refutes { IfOk result (λ o. (comps : Partition) (c : ℕ) → map number_of component.now.members.items ≡ members_in comps c
         → AllByRecursion (λ (own : OwnCall). IsIn comps c own.caller.0) component.now.calls.items → AllByRecursion (λ (own : OwnCall). IsIn comps c own.callee.0) component.now.calls.items
         → IfSome o (IsRefutationOf (N.expression norm.now) p.now comps (rows_of sizes.now.rows) c)) }
-    // from h2
     ensures given_up { IfOk result (λ o. o ≡ None → (comps : Partition) (c : ℕ) → IsComponent (N.size norm.now) (N.truth norm.now) (N.expression norm.now) p.now comps (rows_of sizes.now.rows) c component.now
         → ((s : List ℕ) → Has (N.expression norm.now) p.now comps (rows_of sizes.now.rows) c s → ⊥)
         → IsBlownAt no_truth (N.expression norm.now) (component_view (N.expression norm.now) p.now comps (rows_of sizes.now.rows) c) (arity_in p.now)
-        (picked_from 1 (positions_in p.now comps c) (columns 1 (length component.now.positions.items)))) }
+            (picked_from 1 (positions_in p.now comps c) (columns 1 (length component.now.positions.items)))) }
 {
     if let Some(refutation) = refutation_by(alloc, p, norm, sizes, component, true)? {
         return Ok(Some(refutation));

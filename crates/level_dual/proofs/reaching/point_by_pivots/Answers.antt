@@ -4,7 +4,7 @@ use Rattle.linear_rows.specs.Plain.{plain_row, plain_rows}
 use Rattle.linear_rows.specs.Showing.{bottom_row}
 use Rattle.simplex.specs.Telling.{Tells}
 use Rattle.level_dual.proofs.Bottoms.{length_bottom}
-use Rattle.level_dual.proofs.reaching.point_of.Goals as goal
+use Rattle.level_dual.proofs.reaching.point_by_pivots.Goals as goal
 
 pub holds-requires-clause-row : goal.holds-requires-clause-row
 holds-requires-clause-row c = length_bottom c.args.rows.now.width c.in_ok-row.row.coeffs (ap length c.in_ok-row.ensures)
