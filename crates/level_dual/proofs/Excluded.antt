@@ -40,14 +40,14 @@ length_columns k zero = refl
 length_columns k (suc n) = ap suc (length_columns (suc k) n)
 
 -- one row for each call and column
-rows_number : (expression : ℕ → Tree → List ℤ) (ps : List Position) (ms : List ℕ) (before : ℕ) (os : List Recalled) → length (rows_from expression ps ms before os) ≡ number_count os
+pub rows_number : (expression : ℕ → Tree → List ℤ) (ps : List Position) (ms : List ℕ) (before : ℕ) (os : List Recalled) → length (rows_from expression ps ms before os) ≡ number_count os
 rows_number expression ps ms before [] = refl
 rows_number expression ps ms before (o ∷ os) =
     let first = length-map (columns 0 (suc o.rule.vars)) (call_row expression ps ms before (row_count expression ps ms os) o) in
     let rest = rows_number expression ps ms (before + length (rows_before expression o)) os in
     omega (arith, first, length_columns 0 (suc o.rule.vars), rest, length-append (call_rows expression ps ms before (row_count expression ps ms os) o) (rows_from expression ps ms (before + length (rows_before expression o)) os))
 
-of_members : (ms : List ℕ) (os : List Recalled) (vs : List ℕ) → ((o : Recalled) → In o os → In o.rule.member ms × In o.member ms) → AllByRecursion (IsOfMembers ms) (pairs_at os vs)
+pub of_members : (ms : List ℕ) (os : List Recalled) (vs : List ℕ) → ((o : Recalled) → In o os → In o.rule.member ms × In o.member ms) → AllByRecursion (IsOfMembers ms) (pairs_at os vs)
 of_members ms [] vs h = tt
 of_members ms (o ∷ os) [] h = tt
 of_members ms (o ∷ os) (t ∷ vs) h = (h o (inl refl), of_members ms os (drop o.rule.vars vs) (λ x i. h x (inr i)))
@@ -65,10 +65,10 @@ module _ (size : (ℕ → ℕ) → Tree → ℕ) (truth : (ℕ → Bool) → Tre
       go None e = absurd (no_place comps.members c e h.inner)
       go (Some ms) e = (h.components.members c ms e q).0 (in_contains ms q (subst (In q) (indexed comps.members c ms [] e) i))
 
-  callers : (o : Recalled) → In o (own_calls (component_view expression p comps rows c)) → In o.rule.member (map number_of x.by_clauses.items)
+  pub callers : (o : Recalled) → In o (own_calls (component_view expression p comps rows c)) → In o.rule.member (map number_of x.by_clauses.items)
   callers o i = subst (In o.rule.member) (sym h.by_clauses) ((views_are_ready (component_view expression p comps rows c)).callers o i)
 
-  callees : (owns : List OwnCall) → AllByRecursion (λ (own : OwnCall). IsIn comps c own.callee.0) owns → AllByRecursion (IsHeld expression p rows) owns → (o : Recalled) → In o (map (re expression p comps rows c) owns)
+  pub callees : (owns : List OwnCall) → AllByRecursion (λ (own : OwnCall). IsIn comps c own.callee.0) owns → AllByRecursion (IsHeld expression p rows) owns → (o : Recalled) → In o (map (re expression p comps rows c) owns)
       → In o.member (map number_of x.by_clauses.items)
   callees [] inside held o i = absurd i
   callees (own ∷ owns) inside held o (inl e) =

@@ -1,3 +1,4 @@
+pub mod AcceptedPoints
 pub mod Ascending
 pub mod Bottoms
 pub mod CoefficientLaws

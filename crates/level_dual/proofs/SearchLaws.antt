@@ -184,14 +184,14 @@ module _ (size : (ℕ → ℕ) → Tree → ℕ) (truth : (ℕ → Bool) → Tre
 
   -- a point of the system of a set of positions gives a mapping
   module _ (s : List ℕ) (at : List Position) (is : at ≡ filter (λ r. list_any (same_position r) (picked_from 1 (positions_in p comps c) s)) (positions_by (arity_in p) mine)) where
-    point_decreases : (scale : ℕ) (cs os ms : List ℕ) → 1 ≤ scale → length cs ≡ length at → length os ≡ length mine → length ms ≡ count_of x.calls.items
+    pub point_decreases : (scale : ℕ) (cs os ms : List ℕ) → 1 ≤ scale → length cs ≡ length at → length os ≡ length mine → length ms ≡ count_of x.calls.items
         → AllHold (support_rows expression at mine lives) scale (cs ++ (os ++ ms)) → Decreases no_truth expression (component_view expression p comps rows c) (mapping_at (arity_in p) at mine cs os)
     point_decreases scale cs os ms some lc lo lm hold =
         laws.falls (mapping_at (arity_in p) at mine cs os) ms
         (points_fall no_truth expression at mine (arity_in p) lives scale cs os ms (λ n t. h.norm.width n t) (lives_few expression p comps rows c x.calls.items h.pairs h.held h.program) some lc lo
         (lm ∙ sym (counts expression p comps rows c at mine x.calls.items h.held)) hold)
 
-    at_picked : (cs os : List ℕ) → IsAt (picked_from 1 (positions_in p comps c) s) (mapping_at (arity_in p) at mine cs os)
+    pub at_picked : (cs os : List ℕ) → IsAt (picked_from 1 (positions_in p comps c) s) (mapping_at (arity_in p) at mine cs os)
     at_picked cs os q a k =
         of_ordered (positions_by (arity_in p) mine) (picked_from 1 (positions_in p comps c) s) (q, a) (subst (In {X = Position} (q, a)) is (laws.at at cs os q a k))
 

@@ -1,19 +1,27 @@
-use Rattle.std.proofs.Common.{◌≡◌, ℕ, ℤ, List, map, Option, None, Some, IfSome, ap, sym, subst, ◌∙◌, true, false}
+use Rattle.std.proofs.Common.{◌≡◌, ℕ, ℤ, List, map, pos, Option, None, Some, IfSome, ap, sym, subst, ◌∙◌, true, false, Bool}
+use Rattle.std.specs.Prelude.{is_some}
 use Rattle.std.specs.List.{AllByRecursion}
 use Rattle.call_components.specs.Numbers.{number_of}
 use Rattle.cti_terms.specs.declared.predicates.PredId.{PredId}
 use Rattle.number_tests.specs.Refuting.{PointHolds, SumsRefute}
 use Rattle.number_tests.specs.Shape.{IsPairOf}
 use Rattle.number_tests.specs.declared.pair_point.PairPoint.{PairPoint}
+use Rattle.termination_model.specs.ComponentViews.{members_in}
 use Rattle.termination_model.specs.Sizes.{rows_of}
 use Rattle.level_dual.specs.Found.{PairsAscend}
-use Rattle.level_dual.specs.Refuted.{HasPoints, IsOfCalls}
+use Rattle.level_dual.specs.Held.{live_of}
+use Rattle.level_dual.specs.Refuted.{HasPoints, IsOfCalls, RefuteIf, lives_of, solution_of}
+use Rattle.level_dual.proofs.AcceptedPoints.{formed_accepted, points_accepted, spelled_accepted, sums_accepted}
+use Rattle.level_dual.proofs.HeldCalls.{all_recall, re}
 use Rattle.level_dual.proofs.RefuteLaws.{are_own, are_pairs, none_of}
-use Rattle.level_dual.proofs.Ascending.{pairs_ascend}
-use Rattle.level_dual.proofs.Loads.{sums_fit}
-use Rattle.level_dual.proofs.SystemWidths.{support_wide}
-use Rattle.level_dual.proofs.SpelledPoints.{stand_positive}
 use Rattle.level_dual.proofs.refuting.refutation_by.Goals as goal
+use Rattle.level_dual.proofs.refuting.refutation_by.Goals.{then-is_some-via-then-is_some, then-is_some-via-else-is_some+then-is_some-2}
+
+both_ways : (b : Bool) → b ≡ true → b ≡ false → ⊥
+both_ways b e f = cc
+
+none_some : {X : Type 0} (o : Option X) → o ≡ None → true ≡ is_some o → ⊥
+none_some o e f = let no : is_some o ≡ false = ap (λ (a : Option _). is_some a) e in cc
 
 pub sums_flaw-requires-clause-pairs : goal.sums_flaw-requires-clause-pairs
 sums_flaw-requires-clause-pairs g c =
@@ -48,3 +56,45 @@ returns-clause-refutes g c = λ comps r members callers callees.
           (subst (SumsRefute e p (map number_of c.as_slice-members.result.now)) c.as_slice-2.ensures (c.in_ok-sums.ensures.0 sums_none));
       points = subst (AllByRecursion (PointHolds e p rows)) c.as_slice-3.ensures (c.in_ok-flaw.ensures.0 flaw_none);
     }
+
+pub returns-in_default-clause-given_up : goal.returns-in_default-clause-given_up
+returns-in_default-clause-given_up g c = λ alone none comps r h fit.
+    let p = c.args.p.now in
+    let size = g.N.Norm.size c.args.norm.now in
+    let truth = g.N.Norm.truth c.args.norm.now in
+    let e = g.N.Norm.expression c.args.norm.now in
+    let rows = rows_of c.args.sizes.now.rows in
+    let x = c.args.component.now in
+    let refute = subst (RefuteIf (live_of x.calls.items) (solution_of e x (lives_of e p comps rows r x))) c.in_default.is (c.in_ok-points.ensures.exact alone e (re e p comps rows r) (all_recall e p comps rows r x.calls.items h.held)) in
+    refute (map pos fit.numbers) fit.refuted (spelled_accepted size truth e p comps rows r x h fit)
+
+pub returns-then-not-are_formed-clause-given_up : goal.returns-then-not-are_formed-clause-given_up
+returns-then-not-are_formed-clause-given_up g c = λ alone none comps r h fit.
+    let p = c.args.p.now in
+    let size = g.N.Norm.size c.args.norm.now in
+    let truth = g.N.Norm.truth c.args.norm.now in
+    let e = g.N.Norm.expression c.args.norm.now in
+    let rows = rows_of c.args.sizes.now.rows in
+    let x = c.args.component.now in
+    let given = subst (RefuteIf (live_of x.calls.items) (solution_of e x (lives_of e p comps rows r x))) c.in-Some.is (c.in_ok-points.ensures.exact alone e (re e p comps rows r) (all_recall e p comps rows r x.calls.items h.held)) in
+    let formed = subst (λ (xs : List PairPoint). PairsAscend (0, 0) xs × AllByRecursion HasPoints xs) (sym c.as_slice.ensures) (formed_accepted size truth e p comps rows r x h fit c.in-Some.points given) in
+    both_ways c.are_formed.result (c.are_formed.ensures.1 formed) c.if-not-are_formed.true
+
+pub returns-then-is_some-clause-given_up : goal.returns-then-is_some-clause-given_up
+returns-then-is_some-clause-given_up g c = λ alone none comps r h fit.
+    let p = c.args.p.now in
+    let size = g.N.Norm.size c.args.norm.now in
+    let truth = g.N.Norm.truth c.args.norm.now in
+    let e = g.N.Norm.expression c.args.norm.now in
+    let rows = rows_of c.args.sizes.now.rows in
+    let x = c.args.component.now in
+    let xs = c.in-Some.points in
+    let given = subst (RefuteIf (live_of x.calls.items) (solution_of e x (lives_of e p comps rows r x))) c.in-Some.is (c.in_ok-points.ensures.exact alone e (re e p comps rows r) (all_recall e p comps rows r x.calls.items h.held)) in
+    let listed : map number_of c.as_slice-members.result.now ≡ members_in comps r = ap (map number_of) c.as_slice-members.ensures.value ∙ h.members in
+    let sums = subst (SumsRefute e p (map number_of c.as_slice-members.result.now)) (sym c.as_slice-2.ensures)
+    (subst (λ (ms : List ℕ). SumsRefute e p ms xs) (sym listed) (sums_accepted size truth e p comps rows r x h fit xs given)) in
+    let points = subst (AllByRecursion (PointHolds e p rows)) (sym c.as_slice-3.ensures) (points_accepted size truth e p comps rows r x h fit xs given) in
+    elim c.then-is_some.branch [
+      | then-is_some-via-then-is_some w ↦ none_some c.in_ok-sums.sums (c.in_ok-sums.ensures.1 sums) w.if-is_some.ensures
+      | then-is_some-via-else-is_some+then-is_some-2 w ↦ none_some c.in_ok-flaw.flaw (c.in_ok-flaw.ensures.1 points) w.if-is_some-2.ensures
+    ]
