@@ -1,10 +1,12 @@
 pub mod AcceptedPoints
 pub mod Ascending
+pub mod BlownSets
 pub mod Bottoms
 pub mod CoefficientLaws
 pub mod Excluded
 pub mod FallSteps
 pub mod Falls
+pub mod FallsShown
 pub mod FoundCases
 pub mod FoundLaws
 pub mod HeldCalls
@@ -22,8 +24,8 @@ pub mod RefuteLaws
 pub mod Results
 pub mod RowLengths
 pub mod SearchLaws
-pub mod SoundLaws
 pub mod SolvedSystems
+pub mod SoundLaws
 pub mod SpelledPoints
 pub mod Subsequences
 pub mod SupportLaws

@@ -268,6 +268,7 @@ module _ (expression : ℕ → Tree → List ℤ) (p : Listing) (comps : Partiti
     large = large_is;
     refuted = (λ r. is.refuted.0 (refuted_to r), λ h. refuted_from (is.refuted.1 h));
     once = is.once;
+    given_up = is.given_up;
   }
 
 -- each recursive component is exact

@@ -4,7 +4,6 @@
 -- component has all mappings with minimal supports, or a refutation; and what was given up is noted.
 --
 -- To believe: all of this file, over ChainNotes.antt, SupportNotes.antt, ExactModes.antt and ExactMappings.antt.
--- That a support is given up only where the solving for it forms a number that does not fit is not said here.
 use Rattle.std.specs.Prelude.{◌≡◌, ◌≤◌, ◌<◌, ℕ, ℤ, IsTrue, List, ◌++◌, length, slice_get, Some, ◌⊎◌, ◌↔◌}
 use Rattle.call_components.specs.Partition.{Partition, AreComponents, IsIn}
 use Rattle.certificate.specs.declared.fact.Fact.{Fact}
@@ -21,10 +20,13 @@ use Rattle.linear_rows.specs.Step.{columns}
 use Rattle.number_tests.specs.declared.refutation.Refutation.{Refutation}
 use Rattle.linear_rows.specs.Blown.{all_of}
 use Rattle.term_size.specs.Occurrences.{size_row}
+use Rattle.termination_model.specs.BlownSupports.{IsBlownAt}
 use Rattle.termination_model.specs.ComponentViews.{no_truth, positions_in}
 use Rattle.termination_model.specs.Excluding.{IsAt}
 use Rattle.termination_model.specs.Minimal.{IsExcluded}
+use Rattle.termination_model.specs.Ready.{arity_in}
 use Rattle.termination_model.specs.Refutation.{Decreases}
+use Rattle.termination_model.specs.Supports.{picked_from}
 use Rattle.report.specs.ChainNotes.{IsChain}
 use Rattle.report.specs.ExactMappings.{HasMapping, MappingsAreExact, mapping_in, printed_support, view}
 use Rattle.report.specs.ExactModes.{ModesAreExact}
@@ -55,8 +57,9 @@ module _ (expression : ℕ → Tree → List ℤ) (p : Listing) (comps : Partiti
     pub large : 12 < length (positions_in p comps c) → LargeIsExact c q blown
     -- a refutation stands exactly where no mapping decreases and the full support was not given up
     pub refuted : IsRefuted parts q ↔ (((s : List ℕ) → HasMapping expression p comps parts c s → ⊥) × (In (full c) blown → ⊥))
-    -- each support that was given up stands once
+    -- each support that was given up stands once, and is blown: elimination is, or a number does not fit in the check of what it finds
     pub once : AreOnce blown
+    pub given_up : (s : List ℕ) → In s blown → IsBlownAt no_truth expression (view expression p comps parts c) (arity_in p) (picked_from 1 (positions_in p comps c) s)
 
 -- the parts and the notes are exact
 pub record IsExactOf (p : Listing) (names : List (List ℕ)) (comps : Partition) (parts : Parts) (notes : List Fact) : Type 0 where
