@@ -1,10 +1,9 @@
 -- The check of a certificate accepts the points that elimination's multipliers spell, where its numbers fit.
-use Rattle.std.proofs.Common.{◌≡◌, ◌⊎◌, ℕ, zero, suc, ◌+◌, ◌-◌, ◌<◌, ◌≤◌, ℤ, pos, ◌≤ℤ◌, Bool, true, List, [], ◌∷◌, ◌++◌, map, take, drop, length, Option, None, Some, inl, inr, refl, ap, sym, subst, ◌∙◌, arith}
-use Rattle.std.specs.Prelude.{All, Contains, IfSome}
+use Rattle.std.proofs.Common.{◌≡◌, ℕ, ◌-◌, ℤ, pos, ◌≤ℤ◌, Bool, true, List, [], ◌∷◌, ◌++◌, map, take, drop, length, Option, None, Some, inl, inr, refl, ap, sym, subst, ◌∙◌, arith}
+use Rattle.std.specs.Prelude.{IfSome}
 use Rattle.std.specs.List.{AllByRecursion}
 use Rattle.std.proofs.lemmas.List.{length-map}
 use Rattle.call_components.proofs.Lists.{all_map}
-use Rattle.call_components.specs.Numbers.{number_of}
 use Rattle.call_components.specs.Partition.{Partition}
 use Rattle.cti_terms.specs.Listing.{Listing}
 use Rattle.cti_terms.specs.Tree.{Tree}
@@ -27,11 +26,11 @@ use Rattle.termination_model.proofs.Excludes.{all_refute}
 use Rattle.termination_model.proofs.Readiness.{views_have_few}
 use Rattle.termination_model.proofs.Refuting.{multipliers_refute}
 use Rattle.termination_model.specs.AllPositions.{IsCoveredBy}
-use Rattle.termination_model.specs.BlownSupports.{CheckFits, emptiness, is_found, last_first}
+use Rattle.termination_model.specs.BlownSupports.{emptiness, is_found}
 use Rattle.termination_model.specs.ComponentViews.{component_view, members_in, no_truth, size_claims}
 use Rattle.termination_model.specs.Excluding.{IsRefutationAt, number_count, pairs_at}
 use Rattle.termination_model.specs.OwnCalls.{OwnCall as Recalled, Position, own_calls, rows_before}
-use Rattle.termination_model.specs.Ready.{arity_in, positions_by}
+use Rattle.termination_model.specs.Ready.{arity_in}
 use Rattle.termination_model.specs.Refutation.{IsPair, IsRefutation, Load, Pair, call_load, gather, head_load}
 use Rattle.termination_model.specs.SupportSystem.{support_rows, unknowns}
 use Rattle.termination_model.specs.Systems.{system}
@@ -137,15 +136,14 @@ module _ (expression : ℕ → Tree → List ℤ) (p : Listing) (comps : Partiti
         let calls = map (expression n) (call_of p x).args in
         let lines = rows_before expression (own_of own) in
         let long : n ≡ length (map pos w) = sym (length-map w (λ (m : ℕ). pos m) ∙ pair.width) in
-        let sizes = all_right (ValueFits x.point) lines (heads ++ calls) values in
-        (
+        let sizes = all_right (ValueFits x.point) lines (heads ++ calls) values in (
           (
             subst (λ (m : ℕ). AllByRecursion (ValueFits x.point) (map (expression m) k.head.args)) long (all_left (ValueFits x.point) heads calls sizes),
             subst (λ (m : ℕ). AllByRecursion (ValueFits x.point) (map (expression m) (call_of p x).args)) long (all_right (ValueFits x.point) heads calls sizes),
           ),
           (
             subst (AllByRecursion (RowHolds x.point)) (sym lines_same)
-            (rows_hold lines x.point line_fits (all_left (ValueFits x.point) lines (heads ++ calls) values) (λ r i. from_All (λ s. Holds s t w) lines r pair.holds i)),
+                (rows_hold lines x.point line_fits (all_left (ValueFits x.point) lines (heads ++ calls) values) (λ r i. from_All (λ s. Holds s t w) lines r pair.holds i)),
             at_holds seconds at h,
           ),
         )

@@ -9,6 +9,7 @@ pub mod Falls
 pub mod FallsShown
 pub mod FoundCases
 pub mod FoundLaws
+pub mod FullSet
 pub mod HeldCalls
 pub mod Holding
 pub mod LargeLaws

@@ -1,11 +1,11 @@
 -- The points of calls, one call after another.
-use Rattle.std.proofs.Common.{◌≡◌, ℕ, zero, suc, ◌+◌, ◌-◌, ◌<◌, ◌≤◌, ℤ, true, false, List, [], ◌∷◌, ◌++◌, drop, take, length, slice_get, get_or, pos, Option, None, Some, ◌⊎◌, inl, inr, refl, ap, sym, subst, ◌∙◌, arith}
+use Rattle.std.proofs.Common.{◌≡◌, ℕ, zero, suc, ◌+◌, ◌-◌, ◌≤◌, ℤ, true, List, [], ◌∷◌, ◌++◌, drop, take, length, slice_get, get_or, pos, Option, None, Some, inl, inr, refl, ap, sym, subst, ◌∙◌, arith}
 use Rattle.std.specs.Prelude.{is_some}
 use Rattle.linear_rows.specs.declared.multipliers.Multipliers.{Multipliers}
 use Rattle.number_tests.specs.declared.pair_point.PairPoint.{PairPoint}
 use Rattle.termination_model.proofs.Lists.{append_assoc}
 use Rattle.level_dual.specs.Held.{live_of, with_live}
-use Rattle.level_dual.specs.Refuted.{ArePoints, AreSpelled, IsAdded, IsNought, IsReached, IsSpelled}
+use Rattle.level_dual.specs.Refuted.{ArePoints, AreSpelled, IsAdded}
 use Rattle.level_dual.specs.declared.own_call.OwnCall.{OwnCall}
 use Rattle.level_dual.proofs.PairLists.{drop_all, drop_at}
 

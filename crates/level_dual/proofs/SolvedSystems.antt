@@ -1,12 +1,12 @@
 -- The solved system of all positions.
-use Rattle.std.proofs.Common.{◌≡◌, ◌+◌, ℕ, ℤ, List, length, map, refl, ap, sym, subst, ◌∙◌}
+use Rattle.std.proofs.Common.{◌≡◌, ◌+◌, ℕ, ℤ, List, length, map, sym, subst, ◌∙◌}
 use Rattle.std.specs.List.{AllByRecursion}
 use Rattle.std.proofs.lemmas.List.{length-map}
 use Rattle.call_components.specs.Numbers.{number_of}
 use Rattle.cti_terms.specs.Tree.{Tree}
 use Rattle.cti_terms.specs.declared.predicates.PredId.{PredId}
 use Rattle.linear_rows.specs.Solving.{Solution, solution}
-use Rattle.linear_rows.specs.Solving.Solution.{Blown, Found, Refuted}
+use Rattle.linear_rows.specs.Solving.Solution.{Found, Refuted}
 use Rattle.termination_model.specs.OwnCalls.{OwnCall as Recalled}
 use Rattle.termination_model.specs.SupportSystem.{support_rows, unknowns}
 use Rattle.level_dual.specs.Held.{live_of, spelled}

@@ -1,5 +1,5 @@
 -- The points that natural multipliers spell, beside the pairs of these multipliers.
-use Rattle.std.proofs.Common.{◌≡◌, ◌⊎◌, ℕ, zero, suc, ◌+◌, ◌-◌, ◌<◌, ◌≤◌, ℤ, pos, ◌≤ℤ◌, Bool, List, [], ◌∷◌, ◌++◌, map, take, drop, length, get_or, Option, None, Some, inl, inr, refl, ap, sym, subst, ◌∙◌, arith}
+use Rattle.std.proofs.Common.{◌≡◌, ◌⊎◌, ℕ, zero, suc, ◌+◌, ◌≤◌, ℤ, pos, ◌≤ℤ◌, List, [], ◌∷◌, map, take, drop, length, get_or, Option, None, Some, inl, inr, ap, sym, subst, ◌∙◌, arith}
 use Rattle.std.specs.Prelude.{All}
 use Rattle.std.specs.List.{AllByRecursion}
 use Rattle.std.proofs.lemmas.Int.{ints}
@@ -7,7 +7,7 @@ use Rattle.std.proofs.lemmas.List.{length-map}
 use Rattle.call_components.specs.Partition.{Partition}
 use Rattle.cti_terms.specs.Listing.{Listing}
 use Rattle.cti_terms.specs.Tree.{Tree}
-use Rattle.exact128.specs.Sums.{dot, entry}
+use Rattle.exact128.specs.Sums.{entry}
 use Rattle.linear_rows.proofs.Founds.{found_holds}
 use Rattle.linear_rows.specs.Plain.{plain_rows}
 use Rattle.linear_rows.specs.Showing.{bottom_row}
@@ -15,7 +15,7 @@ use Rattle.linear_rows.specs.Solving.{Solution, solution}
 use Rattle.linear_rows.specs.Solving.Solution.{Found}
 use Rattle.linear_rows.specs.Systems.{test_rows}
 use Rattle.linear_rows.specs.declared.point.Point.{Point}
-use Rattle.number_tests.specs.Refuting.{call_loads, call_of, clause_of, head_loads, values_of}
+use Rattle.number_tests.specs.Refuting.{call_loads, call_of, head_loads, values_of}
 use Rattle.number_tests.specs.Shape.{PairsAscend}
 use Rattle.number_tests.specs.declared.pair_point.PairPoint.{PairPoint}
 use Rattle.simplex.proofs.RowLists.{length-zeros}
@@ -25,15 +25,15 @@ use Rattle.termination_model.specs.ComponentViews.{no_truth}
 use Rattle.termination_model.specs.Excluding.{number_count, pairs_at}
 use Rattle.termination_model.specs.OwnCalls.{OwnCall as Recalled, rows_before}
 use Rattle.termination_model.specs.Refutation.{Pair, call_load, head_load, values_at}
-use Rattle.level_dual.specs.Found.{HasSecondPoint, IsNaturalPoint}
+use Rattle.level_dual.specs.Found.{HasSecondPoint}
 use Rattle.level_dual.specs.Held.{IsHeld, pair_of}
 use Rattle.level_dual.specs.Pairs.{clause_at}
-use Rattle.level_dual.specs.Refuted.{ArePoints, AreSpelled, HasFoundPoint, HasPoints, IsNought, IsReached, IsSpelled, IsTestPoint}
+use Rattle.level_dual.specs.Refuted.{ArePoints, AreSpelled, HasFoundPoint, HasPoints, IsNought}
 use Rattle.level_dual.specs.declared.own_call.OwnCall.{OwnCall}
 use Rattle.level_dual.proofs.Ascending.{AscendFrom, ascend_lower}
 use Rattle.level_dual.proofs.HeldCalls.{re, rows_are}
 use Rattle.level_dual.proofs.LiveCalls.{test_wide, wide_rows}
-use Rattle.level_dual.proofs.Loads.{AreLeft, dot_nought, nought_head, nought_tail}
+use Rattle.level_dual.proofs.Loads.{AreLeft, dot_nought, nought_head}
 use Rattle.level_dual.proofs.PartLaws.{all_natural}
 use Rattle.level_dual.proofs.SearchLaws.{drop_mapped, length_drop, length_take, take_mapped}
 
@@ -190,7 +190,7 @@ module _ (expression : ℕ → Tree → List ℤ) (p : Listing) (comps : Partiti
       inr (
         head_loads expression p h.1,
         ap (head_loads expression p) h.2
-        ∙ ap (λ (k : ℕ). ((clause_at p own.clause).head.pred.0, values_of (map (expression k) (clause_at p own.clause).head.args) (point_at own t (take n vs) h.0).point) ∷ head_loads expression p h.1) long,
+            ∙ ap (λ (k : ℕ). ((clause_at p own.clause).head.pred.0, values_of (map (expression k) (clause_at p own.clause).head.args) (point_at own t (take n vs) h.0).point) ∷ head_loads expression p h.1) long,
         stand_heads owns (drop n vs) rest h.1 h.4,
       )
 
@@ -209,7 +209,7 @@ module _ (expression : ℕ → Tree → List ℤ) (p : Listing) (comps : Partiti
       inr (
         call_loads expression p h.1,
         ap (call_loads expression p) h.2
-        ∙ ap (λ (k : ℕ). ((call_of p x).pred.0, values_of (map (expression k) (call_of p x).args) x.point) ∷ call_loads expression p h.1) long,
+            ∙ ap (λ (k : ℕ). ((call_of p x).pred.0, values_of (map (expression k) (call_of p x).args) x.point) ∷ call_loads expression p h.1) long,
         stand_calls owns (drop n vs) rest h.1 h.4,
       )
 

@@ -1,5 +1,5 @@
 -- How long the rows of a support's system are.
-use Rattle.std.proofs.Common.{◌≡◌, ◌⊎◌, ℕ, zero, suc, ◌+◌, ℤ, pos, List, [], ◌∷◌, ◌++◌, map, length, inl, inr, refl, sym, subst, arith}
+use Rattle.std.proofs.Common.{◌≡◌, ℕ, suc, ◌+◌, ℤ, List, [], ◌∷◌, ◌++◌, length, inl, inr, subst, arith}
 use Rattle.std.specs.Prelude.{◌-ℤ◌, All, neg_ℤ}
 use Rattle.std.proofs.lemmas.List.{length-append, length-map}
 use Rattle.exact128.specs.Sums.{entry}

@@ -290,7 +290,7 @@ pub(crate) fn refutation<N: Norm>(
     ensures given_up { IfOk result (λ o. o ≡ None → (comps : Partition) (c : ℕ) → IsComponent (N.size norm.now) (N.truth norm.now) (N.expression norm.now) p.now comps (rows_of sizes.now.rows) c component.now
         → ((s : List ℕ) → Has (N.expression norm.now) p.now comps (rows_of sizes.now.rows) c s → ⊥)
         → IsBlownAt no_truth (N.expression norm.now) (component_view (N.expression norm.now) p.now comps (rows_of sizes.now.rows) c) (arity_in p.now)
-            (picked_from 1 (positions_in p.now comps c) (columns 1 (length component.now.positions.items)))) }
+        (picked_from 1 (positions_in p.now comps c) (columns 1 (length component.now.positions.items)))) }
 {
     if let Some(refutation) = refutation_by(alloc, p, norm, sizes, component, true)? {
         return Ok(Some(refutation));

@@ -1,4 +1,4 @@
-use Rattle.std.proofs.Common.{◌≡◌, ◌∷◌, ◌++◌, [], suc, pos, ap, ◌∙◌, length, arith}
+use Rattle.std.proofs.Common.{◌≡◌, ◌∷◌, ◌++◌, [], pos, ap, ◌∙◌, length, arith}
 use Rattle.simplex.proofs.RowLists.{length_push, length-zeros}
 use Rattle.level_dual.proofs.reaching.add_last.Goals as goal
 

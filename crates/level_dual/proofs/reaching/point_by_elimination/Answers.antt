@@ -1,13 +1,12 @@
-use Rattle.std.proofs.Common.{◌≡◌, ◌+◌, ◌∷◌, ℕ, suc, ℤ, pos, List, Some, None, IfSome, Ok, length, take, ap, sym, subst, ◌∙◌}
+use Rattle.std.proofs.Common.{◌≡◌, ◌+◌, ℕ, suc, ℤ, pos, List, IfSome, Ok, length, ap, sym, subst, ◌∙◌}
 use Rattle.std.proofs.lemmas.List.{length-map}
 use Rattle.fourier.specs.Solves.{Decides, Spells, SpellsOrBlown}
 use Rattle.fourier.specs.declared.solved.Solved.{Solved}
-use Rattle.linear_rows.specs.Plain.{plain_row, plain_rows}
+use Rattle.linear_rows.specs.Plain.{plain_rows}
 use Rattle.linear_rows.specs.Rows.{IsPoint}
 use Rattle.linear_rows.specs.Showing.{bottom_row}
 use Rattle.linear_rows.specs.Solving.{solution}
 use Rattle.linear_rows.specs.Solving.Solution.{Found}
-use Rattle.linear_rows.specs.Systems.{test_rows}
 use Rattle.simplex.proofs.RowLists.{long_rows}
 use Rattle.simplex.proofs.TestLaws.{point_fails}
 use Rattle.simplex.proofs.RowLists.{length-zeros}

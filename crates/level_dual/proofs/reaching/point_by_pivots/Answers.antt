@@ -1,6 +1,6 @@
-use Rattle.std.proofs.Common.{◌≡◌, ℤ, pos, List, length, ap, sym, subst, ◌∙◌}
+use Rattle.std.proofs.Common.{ℤ, pos, List, length, ap, subst, ◌∙◌}
 use Rattle.std.proofs.lemmas.List.{length-map}
-use Rattle.linear_rows.specs.Plain.{plain_row, plain_rows}
+use Rattle.linear_rows.specs.Plain.{plain_rows}
 use Rattle.linear_rows.specs.Showing.{bottom_row}
 use Rattle.simplex.specs.Telling.{Tells}
 use Rattle.level_dual.proofs.Bottoms.{length_bottom}

@@ -1,9 +1,9 @@
-use Rattle.std.proofs.Common.{◌≡◌, ◌∷◌, ◌++◌, [], List, ℕ, zero, suc, ℤ, pos, negsuc, map, ap, sym, subst, ◌∙◌, refl}
+use Rattle.std.proofs.Common.{◌≡◌, ◌∷◌, ◌++◌, [], List, ℕ, zero, suc, ℤ, pos, negsuc, map, ap, sym, ◌∙◌, refl}
 use Rattle.std.specs.Prelude.{neg_ℤ}
-use Rattle.linear_rows.specs.Plain.{plain_row, plain_rows}
+use Rattle.linear_rows.specs.Plain.{plain_rows}
 use Rattle.linear_rows.specs.Showing.{bottom_row}
 use Rattle.linear_rows.specs.Solving.{zeros}
-use Rattle.linear_rows.specs.Systems.{at_last, opposite, test_rows}
+use Rattle.linear_rows.specs.Systems.{at_last, opposite}
 use Rattle.simplex.proofs.RowLists.{append_assoc}
 use Rattle.level_dual.proofs.reaching.test_of.Goals as goal
 

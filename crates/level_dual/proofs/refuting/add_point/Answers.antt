@@ -1,4 +1,4 @@
-use Rattle.std.proofs.Common.{rules, ◌≡◌, ◌-◌, take, length, of_z, to_z, ◌++◌, ◌∷◌, [], ℤ, pos, drop, get_or, List, IfSome, Option, Some, inr, ap, sym, subst, ◌∙◌}
+use Rattle.std.proofs.Common.{rules, ◌≡◌, ◌-◌, take, length, of_z, to_z, ◌∷◌, [], ℤ, pos, drop, get_or, List, IfSome, Option, inr, ap, sym, subst, ◌∙◌}
 use Rattle.std.specs.Int.{w128}
 use Rattle.std.specs.Prelude.{FitsSigned}
 use Rattle.std.specs.List.{AllByRecursion}

@@ -1,4 +1,4 @@
-use Rattle.std.proofs.Common.{ℕ, drop}
+use Rattle.std.proofs.Common.{drop}
 use Rattle.std.specs.List.{AllByRecursion}
 use Rattle.level_dual.specs.Found.{PairsAscend}
 use Rattle.level_dual.specs.Refuted.{HasPoints}

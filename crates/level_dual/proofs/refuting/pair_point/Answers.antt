@@ -1,6 +1,6 @@
-use Rattle.std.proofs.Common.{rules, ◌≡◌, ◌∷◌, ℤ, List, Option, None, Some, false, ap, sym, subst, refl, ◌∙◌, of_z, to_z}
+use Rattle.std.proofs.Common.{rules, ◌≡◌, ◌∷◌, ℤ, Option, sym, subst, refl, ◌∙◌, of_z, to_z}
 use Rattle.std.specs.Int.{w128}
-use Rattle.std.specs.Prelude.{FitsSigned, pos}
+use Rattle.std.specs.Prelude.{FitsSigned}
 use Rattle.std.proofs.lemmas.Int.{to_z-of_z}
 use Rattle.linear_rows.specs.Plain.{plain_rows}
 use Rattle.linear_rows.specs.declared.point.Point.{Point}

@@ -1,5 +1,4 @@
-use Rattle.std.proofs.Common.{rules, ◌≡◌, ◌+◌, ◌-◌, ◌++◌, ℕ, suc, ℤ, List, drop, take, length, slice_get, None, Some, true, sym, subst, arith}
-use Rattle.number_tests.specs.declared.pair_point.PairPoint.{PairPoint}
+use Rattle.std.proofs.Common.{rules, ◌≡◌, ◌+◌, suc, ℤ, List, drop, take, slice_get, None, Some, true, sym, subst, arith}
 use Rattle.termination_model.proofs.Lists.{at_place, by_places}
 use Rattle.termination_model.proofs.Readiness.{at_of}
 use Rattle.level_dual.specs.Held.{live_of}

@@ -1,4 +1,4 @@
-use Rattle.std.proofs.Common.{◌≡◌, ◌++◌, Bool, false, List, drop}
+use Rattle.std.proofs.Common.{◌≡◌, ◌++◌, false, List, drop}
 use Rattle.std.specs.List.{AllByRecursion}
 use Rattle.number_tests.specs.declared.pair_point.PairPoint.{PairPoint}
 use Rattle.level_dual.specs.Held.{live_of}

@@ -1,8 +1,7 @@
-use Rattle.std.proofs.Common.{◌≡◌, ℕ, ℤ, List, map, pos, Option, None, Some, IfSome, ap, sym, subst, ◌∙◌, true, false, Bool}
+use Rattle.std.proofs.Common.{◌≡◌, ℕ, List, map, pos, Option, None, IfSome, ap, sym, subst, ◌∙◌, true, false, Bool}
 use Rattle.std.specs.Prelude.{is_some}
 use Rattle.std.specs.List.{AllByRecursion}
 use Rattle.call_components.specs.Numbers.{number_of}
-use Rattle.cti_terms.specs.declared.predicates.PredId.{PredId}
 use Rattle.number_tests.specs.Refuting.{PointHolds, SumsRefute}
 use Rattle.number_tests.specs.Shape.{IsPairOf}
 use Rattle.number_tests.specs.declared.pair_point.PairPoint.{PairPoint}

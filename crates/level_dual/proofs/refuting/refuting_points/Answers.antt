@@ -1,6 +1,4 @@
-use Rattle.std.proofs.Common.{◌≡◌, ◌+◌, ℕ, ℤ, Bool, List, Option, None, Some, IfOk, Ok, Err, length, map, ap, sym, subst, ◌∙◌}
-use Rattle.std.specs.List.{AllByRecursion}
-use Rattle.cti_terms.specs.Tree.{Tree}
+use Rattle.std.proofs.Common.{◌≡◌, ℤ, List, Option, None, Some, Ok, Err, map, sym, subst, ◌∙◌}
 use Rattle.fourier.specs.Solves.{Spells}
 use Rattle.fourier.specs.declared.fault.ElimFault.{ElimFault}
 use Rattle.fourier.specs.declared.solved.Solved.{Solved}
@@ -8,10 +6,8 @@ use Rattle.linear_rows.specs.Plain.{plain_rows}
 use Rattle.linear_rows.specs.Solving.{Solution, solution}
 use Rattle.linear_rows.specs.Solving.Solution.{Blown, Found, Refuted}
 use Rattle.number_tests.specs.declared.pair_point.PairPoint.{PairPoint}
-use Rattle.termination_model.specs.OwnCalls.{OwnCall as Recalled}
 use Rattle.level_dual.specs.Held.{live_of}
-use Rattle.level_dual.specs.Recalled.{Recalls}
-use Rattle.level_dual.specs.Refuted.{ArePoints, ArePointsIf, AreSpelled, RefuteIf, solution_of}
+use Rattle.level_dual.specs.Refuted.{ArePointsIf, AreSpelled, RefuteIf, solution_of}
 use Rattle.level_dual.specs.declared.own_call.OwnCall.{OwnCall}
 use Rattle.level_dual.proofs.Results.{if_ok}
 use Rattle.level_dual.proofs.SolvedSystems.{no_point, one_refutation, solution_same}
