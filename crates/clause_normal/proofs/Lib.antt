@@ -14,3 +14,4 @@ pub mod FormLemmas
 pub mod OutcomeLemmas
 pub mod QueryLemmas
 pub mod PlaceLemmas
+pub mod SizeLemmas

@@ -1,9 +1,10 @@
 //! Where faults stand. It is a function that does nothing, and whose clauses are proved.
 
-ghost use Rattle.std.specs.Prelude.{◌≡◌, ◌≤◌, ℕ, List, Err};
+ghost use Rattle.std.specs.Prelude.{◌≡◌, ◌≤◌, ◌+◌, ℕ, List, Ok, Err, length, sum_by};
 ghost use Rattle.cti_terms.specs.Listing.{Listing};
 ghost use Rattle.prolog_grammar.specs.Places.{IsPlaced};
-ghost use Rattle.prolog_reader.specs.Clauses.{Clause};
+ghost use Rattle.prolog_reader.specs.Clauses.{Clause, nodes};
+ghost use Rattle.clause_normal.specs.ChoiceNames.{program_names};
 ghost use Rattle.prolog_reader.specs.Places.{ArePlacedClauses};
 ghost use Rattle.clause_normal.specs.NormalForm.{Fault, normal_form};
 ghost use Rattle.clause_normal.specs.Query.{query_form};
@@ -12,4 +13,14 @@ ghost use Rattle.clause_normal.specs.Query.{query_form};
 pub fn faults_stand_in_their_texts()
     ensures text { (size : ℕ) (names : List (List ℕ)) (clauses : List Clause) (f : Fault) → ArePlacedClauses size clauses → normal_form names clauses ≡ Err f → f.1 ≤ size }
     ensures query { (size : ℕ) (names : List (List ℕ)) (p : Listing) (clause : Clause) (f : Fault) → IsPlaced size clause.term → query_form names p clause ≡ Err f → f.1 ≤ size }
+{}
+
+/// The clauses of a text add few names and few predicates, so that there is a number for each of them.
+///
+/// The reader's clauses have at most 2,097,152 nodes together.
+pub fn few_names_and_predicates()
+    ensures names { (names : List (List ℕ)) (clauses : List Clause) → sum_by (λ (c : Clause). nodes c.term) clauses ≤ 2097152
+        → length (program_names names clauses) ≤ length names + 4194304 }
+    ensures preds { (names : List (List ℕ)) (clauses : List Clause) (p : Listing) → sum_by (λ (c : Clause). nodes c.term) clauses ≤ 2097152 → normal_form names clauses ≡ Ok p
+        → length p.preds ≤ 4194304 }
 {}
