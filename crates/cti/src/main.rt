@@ -8,6 +8,7 @@ use std::alloc::{AllocError, Global};
 use std::io::Write;
 use std::process::ExitCode;
 use std::{env, io};
+use warnings::warn;
 
 /// The words after the program's name. Where the system does not give them as text, there are none.
 fn words(rt: &HostRuntime, alloc: Global) -> Result<Vec<String>, AllocError> {
@@ -24,11 +25,13 @@ fn words(rt: &HostRuntime, alloc: Global) -> Result<Vec<String>, AllocError> {
     }
 }
 
-/// Writes the message about a call on standard error. Where this fails, nobody is there to be told.
-fn say(rt: &HostRuntime, ending: Ending<'_>) {
-    if let Ok(message) = explain(rt, ending) {
-        let _ = rt.stderr().write_all(&message);
-    }
+/// Writes the message about a call and the warnings about its texts on standard error. Where this fails, nobody is there to be told.
+fn tell(rt: &HostRuntime, ending: Ending<'_>) -> Result<(), AllocError> {
+    let message = explain(rt, ending)?;
+    let _ = rt.stderr().write_all(&message);
+    let warnings = warn(rt, ending)?;
+    let _ = rt.stderr().write_all(&warnings);
+    Ok(())
 }
 
 /// Runs the command that the words ask for, and says what went wrong.
@@ -53,7 +56,8 @@ fn run(rt: &HostRuntime, alloc: Global) -> Result<Status, AllocError> {
         output: out.inner.kept(),
         written: out.inner.taken(),
     };
-    say(rt, ending);
+    // The answer is written, and stands, if there is no memory for the message.
+    let _ = tell(rt, ending);
     Ok(status)
 }
 

@@ -6,6 +6,8 @@ mod expectations;
 #[cfg(test)]
 mod sentences;
 #[cfg(test)]
+mod warned;
+#[cfg(test)]
 mod whole;
 #[cfg(test)]
 mod word_faults;

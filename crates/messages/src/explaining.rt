@@ -25,7 +25,7 @@ fn is_lasting<R: Files>(rt: &R, name: &str) -> bool {
 }
 
 /// The bytes of a file, or none where it cannot be read again.
-fn text_of<R: Files + AllocGlobal>(rt: &R, name: &str) -> Vec<u8> {
+pub fn text_again<R: Files + AllocGlobal>(rt: &R, name: &str) -> Vec<u8> {
     if !is_lasting(rt, name) {
         return Vec::new(rt.alloc());
     }
@@ -74,7 +74,7 @@ pub fn explain<R: Files + AllocGlobal>(rt: &R, ending: Ending<'_>) -> Result<Vec
         return message(rt.alloc(), trouble, words.second().as_bytes());
     }
     match trouble.place() {
-        Some(place) => message(rt.alloc(), trouble, &text_of(rt, place.name)),
+        Some(place) => message(rt.alloc(), trouble, &text_again(rt, place.name)),
         None => message(rt.alloc(), trouble, b""),
     }
 }

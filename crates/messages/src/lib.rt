@@ -24,8 +24,9 @@ mod words;
 
 pub use command::Command;
 pub use ending::Ending;
+pub use excerpt::{push_excerpt, push_shown};
 pub use expected::{Expected, expected_at};
-pub use explaining::explain;
+pub use explaining::{explain, text_again};
 pub use file_cause::FileCause;
 pub use head::Head;
 pub use no_reason::NoReason;

@@ -10,3 +10,24 @@ pub struct Place<'a> {
     pub line: u64,
     pub column: u64,
 }
+
+impl<'a> Place<'a> {
+    /// The place of a byte of a named text, or of its end.
+    pub fn of(name: &'a str, text: &[u8], at: u32) -> Place<'a> {
+        let before = text.get(..at as usize).unwrap_or(text);
+        let mut place = Place {
+            name,
+            line: 1,
+            column: 1,
+        };
+        for byte in before {
+            if *byte == b'\n' {
+                place.line = place.line.saturating_add(1);
+                place.column = 1;
+            } else {
+                place.column = place.column.saturating_add(1);
+            }
+        }
+        place
+    }
+}

@@ -70,6 +70,11 @@ impl<'a> Words<'a> {
         self.command == Some(Command::Check)
     }
 
+    /// Whether the second word is a query.
+    pub fn has_query(self) -> bool {
+        self.command == Some(Command::Run)
+    }
+
     /// What is wrong with the words, which are no command.
     pub fn fault(self) -> WordFault<'a> {
         if let Some(fault) = self.fault {

@@ -1,0 +1,44 @@
+//! The calls of a body.
+
+use crate::parts::{pred_of, text_of};
+use cti_terms::{Names, Pred};
+use prolog_reader::{ReadShape, ReadTerm};
+use std::alloc::AllocError;
+
+/// A call, and the place of its first byte.
+#[derive(Clone, Copy)]
+pub(crate) struct Call {
+    pub(crate) at: u32,
+    pub(crate) pred: Pred,
+}
+
+/// Whether a name with so many arguments joins two bodies.
+fn is_connective(text: &[u8], arity: usize) -> bool {
+    arity == 2 && matches!(text, b"," | b";")
+}
+
+/// Whether a name with so many arguments is always known, and needs no clause.
+fn is_known(text: &[u8], arity: usize) -> bool {
+    matches!((text, arity), (b"true" | b"fail", 0) | (b"=", 2))
+}
+
+/// Adds the calls of a body, in the order of the text.
+pub(crate) fn push_calls(
+    body: &ReadTerm,
+    names: &Names,
+    calls: &mut Vec<Call>,
+) -> Result<(), AllocError> {
+    match &body.shape {
+        ReadShape::Fun(name, args) if is_connective(text_of(names, *name), args.len()) => {
+            for part in args {
+                push_calls(part, names, calls)?;
+            }
+        }
+        ReadShape::Fun(name, args) if !is_known(text_of(names, *name), args.len()) => {
+            let pred = pred_of(*name, args);
+            calls.push(Call { at: body.at, pred })?;
+        }
+        _ => {}
+    }
+    Ok(())
+}

@@ -1,0 +1,107 @@
+//! The warnings about the clauses of a text.
+
+use crate::calls::{Call, push_calls};
+use crate::parts::{body_of, head_of, pred_in};
+use crate::singletons::push_singletons;
+use crate::warning::Warning;
+use cti_terms::{Names, Pred};
+use indexmap::IndexSet;
+use prolog_reader::ReadClause;
+use std::alloc::{AllocError, Global};
+
+/// The predicates that have a clause.
+pub(crate) fn defined_in(
+    alloc: Global,
+    names: &Names,
+    clauses: &[ReadClause],
+) -> Result<IndexSet<Pred>, AllocError> {
+    let mut defined = IndexSet::new(alloc);
+    for clause in clauses {
+        if let Some(pred) = head_of(names, &clause.term).and_then(pred_in) {
+            defined.insert(pred)?;
+        }
+    }
+    Ok(defined)
+}
+
+/// The calls of the bodies of clauses, in the order of the text.
+fn calls_in(alloc: Global, names: &Names, clauses: &[ReadClause]) -> Result<Vec<Call>, AllocError> {
+    let mut calls = Vec::new(alloc);
+    for clause in clauses {
+        if let Some(body) = body_of(names, &clause.term) {
+            push_calls(body, names, &mut calls)?;
+        }
+    }
+    Ok(calls)
+}
+
+/// The warning about a call of a predicate that has no clause.
+fn warning_of(call: Call, defined: &IndexSet<Pred>) -> Warning {
+    let Call { at, pred } = call;
+    match defined.iter().find(|other| other.name == pred.name) {
+        Some(other) => Warning::OtherArity {
+            at,
+            pred,
+            arity: other.arity,
+        },
+        None => Warning::NoClause { at, pred },
+    }
+}
+
+/// Adds a warning for the first call of each predicate that has no clause.
+pub(crate) fn push_undefined(
+    alloc: Global,
+    calls: &[Call],
+    defined: &IndexSet<Pred>,
+    warnings: &mut Vec<Warning>,
+) -> Result<(), AllocError> {
+    let mut told = IndexSet::new(alloc);
+    for call in calls {
+        if !defined.contains(&call.pred) && told.insert(call.pred)? {
+            warnings.push(warning_of(*call, defined))?;
+        }
+    }
+    Ok(())
+}
+
+/// A warning for the first call of each predicate that has no clause, in the clauses of a text.
+fn undefined_in(
+    alloc: Global,
+    names: &Names,
+    clauses: &[ReadClause],
+) -> Result<Vec<Warning>, AllocError> {
+    let defined = defined_in(alloc, names, clauses)?;
+    let calls = calls_in(alloc, names, clauses)?;
+    let mut warnings = Vec::new(alloc);
+    push_undefined(alloc, &calls, &defined, &mut warnings)?;
+    Ok(warnings)
+}
+
+/// The warnings about the clauses of a text, in the order of their places.
+pub(crate) fn warnings_in(
+    alloc: Global,
+    text: &[u8],
+    names: &Names,
+    clauses: &[ReadClause],
+) -> Result<Vec<Warning>, AllocError> {
+    let mut warnings = undefined_in(alloc, names, clauses)?;
+    for clause in clauses {
+        push_singletons(alloc, text, clause, &mut warnings)?;
+    }
+    warnings.sort_by_key(|warning| warning.at())?;
+    Ok(warnings)
+}
+
+/// The warnings about a query of a program whose clauses define these predicates.
+pub(crate) fn query_warnings_in(
+    alloc: Global,
+    names: &Names,
+    query: &ReadClause,
+    defined: &IndexSet<Pred>,
+) -> Result<Vec<Warning>, AllocError> {
+    let mut calls = Vec::new(alloc);
+    push_calls(&query.term, names, &mut calls)?;
+    let mut warnings = Vec::new(alloc);
+    push_undefined(alloc, &calls, defined, &mut warnings)?;
+    Ok(warnings)
+}
