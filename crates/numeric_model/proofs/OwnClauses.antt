@@ -1,7 +1,10 @@
 -- Clauses by their numbers, and those of a component.
-use Rattle.std.proofs.Common.{◌≡◌, ℕ, zero, suc, ◌+◌, ◌-◌, ◌<◌, ◌≤◌, Bool, true, false, if◌then◌else◌, List, [], ◌∷◌, ◌++◌, length, take, slice_get, slice_index_or, Option, None, Some, inl, inr, refl, ap, sym, subst, ◌∙◌, arith}
+use Rattle.std.proofs.Common.{◌≡◌, ℕ, zero, suc, ◌+◌, ◌-◌, ◌<◌, ◌≤◌, ◌==◌, ◌⊎◌, Bool, true, false, if◌then◌else◌, List, [], ◌∷◌, ◌++◌, length, replicate, take, slice_get, slice_index_or, slice_set, Option, None, Some, inl, inr, refl, ap, sym, subst, ◌∙◌, arith, eq-eqb, eqb-true}
 use Rattle.std.specs.List.{filter, AllByRecursion}
+use Rattle.std.proofs.lemmas.Bool.{cases_eq}
+use Rattle.std.proofs.lemmas.List.{length-replicate, length-set}
 use Rattle.std.proofs.lemmas.List.Elements.{filter-append}
+use Rattle.call_components.proofs.Lists.{slice_get-set_same, slice_get-set_other}
 use Rattle.call_components.specs.Partition.{Partition}
 use Rattle.cti_terms.specs.Listing.{Listing}
 use Rattle.cti_terms.specs.declared.clauses.Clause.{Clause}
@@ -9,7 +12,7 @@ use Rattle.linear_rows.specs.Members.{In}
 use Rattle.linear_rows.proofs.Members.{of-flat_map}
 use Rattle.termination_model.specs.Chain.{clauses_of, component_of, counted, is_number}
 use Rattle.termination_model.proofs.Lists.{append_assoc, by_places, place_below, taken_more, there}
-use Rattle.numeric_model.specs.Running.{paired, with_clause, with_clauses}
+use Rattle.numeric_model.specs.Running.{AreOwnClauses, paired, with_clause, with_clauses}
 use Rattle.numeric_model.proofs.Passes.{AreNumbered}
 
 pub with_more : (clauses : List Clause) (own : List ℕ) (k : ℕ) → with_clauses clauses (own ++ k ∷ []) ≡ with_clauses clauses own ++ with_clause clauses k
@@ -92,19 +95,82 @@ some_at [] i l = absurd (omega arith)
 some_at (x ∷ xs) zero l = (x, refl)
 some_at (x ∷ xs) (suc i) l = some_at xs i (omega arith)
 
-module _ (p : Listing) (comps : Partition) (c i : ℕ) (lt : i < length p.clauses) (own : List ℕ) (so_far : with_clauses p.clauses own ≡ own_first p comps c i) (result : Bool)
-    (tests : (x : Clause) → slice_get p.clauses ((i + 1) - 1) ≡ Some x → result ≡ is_number c (component_of comps x.head.pred.0)) where
-  abbrev here : (x : Clause) × (slice_get p.clauses i ≡ Some x)
-  here = some_at p.clauses i lt
+-- ---- the lists of all components
+-- for each component the numbers of its clauses among the first n
+pub record AreOwnUpTo (p : Listing) (comps : Partition) (n : ℕ) (lists : List (List ℕ)) : Type 0 where
+  pub each : length lists ≡ length comps.members
+  pub within : (c : ℕ) (own : List ℕ) → slice_get lists c ≡ Some own → AllByRecursion (λ k. (1 ≤ k) × (k ≤ length p.clauses)) own
+  pub clauses : (c : ℕ) (own : List ℕ) → slice_get lists c ≡ Some own → with_clauses p.clauses own ≡ own_first p comps c n
 
-  test_is : result ≡ is_own p comps c (i + 1, here.0)
-  test_is = tests here.0 (let e : (i + 1) - 1 ≡ i = omega arith in ap (slice_get p.clauses) e ∙ here.1)
+none_at : (m c : ℕ) (own : List ℕ) → slice_get (replicate m []) c ≡ Some own → [] ≡ own
+none_at zero c own e = cc
+none_at (suc m) zero own e = cc
+none_at (suc m) (suc c) own e = none_at m c own e
 
-  pub step_own : result ≡ true → with_clauses p.clauses (own ++ (i + 1) ∷ []) ≡ own_first p comps c (i + 1)
-  step_own e = own_more p comps c i own here.0 here.1 so_far (sym test_is ∙ e)
+pub none_own : (p : Listing) (comps : Partition) (m : ℕ) (lists : List (List ℕ)) → m ≡ length comps.members → lists ≡ replicate m [] → AreOwnUpTo p comps 0 lists
+none_own p comps m lists count is =
+    let empty : (c : ℕ) (own : List ℕ) → slice_get lists c ≡ Some own → [] ≡ own = (λ c own e. none_at m c own (sym (ap (λ (xs : List (List ℕ)). slice_get xs c) is) ∙ e)) in
+    record {
+      each = ap length is ∙ length-replicate m [] ∙ count;
+      within = λ c own e. subst (AllByRecursion (λ k. (1 ≤ k) × (k ≤ length p.clauses))) (empty c own e) tt;
+      clauses = λ c own e. subst (λ (xs : List ℕ). with_clauses p.clauses xs ≡ own_first p comps c 0) (empty c own e) refl;
+    }
 
-  pub step_other : result ≡ false → with_clauses p.clauses own ≡ own_first p comps c (i + 1)
-  step_other e = own_same p comps c i own here.0 here.1 so_far (sym test_is ∙ e)
+module _ (p : Listing) (comps : Partition) (n : ℕ) (lists : List (List ℕ)) (is : AreOwnUpTo p comps n lists) (k : Clause) (at : slice_get p.clauses n ≡ Some k)
+    (c : ℕ) (of : slice_get comps.of k.head.pred.0 ≡ Some c) (lt : c < length lists) where
+  abbrev so_far : List ℕ
+  so_far = slice_index_or lists c []
+
+  abbrev pushed : List (List ℕ)
+  pushed = slice_set lists c (so_far ++ (n + 1) ∷ [])
+
+  was : slice_get lists c ≡ Some so_far
+  was = there lists c [] lt
+
+  last : (d : ℕ) (own : List ℕ) → slice_get pushed d ≡ Some own → d ≡ c → so_far ++ (n + 1) ∷ [] ≡ own
+  last d own e s =
+      let here : slice_get pushed d ≡ Some (so_far ++ (n + 1) ∷ []) = ap (slice_get pushed) s ∙ slice_get-set_same lists c (so_far ++ (n + 1) ∷ []) lt in
+      cc
+
+  before : (d : ℕ) (own : List ℕ) → slice_get pushed d ≡ Some own → (d ≡ c → ⊥) → slice_get lists d ≡ Some own
+  before d own e apart = sym (slice_get-set_other lists c d (so_far ++ (n + 1) ∷ []) apart) ∙ e
+
+  within_pushed : (d : ℕ) (own : List ℕ) → slice_get pushed d ≡ Some own → (d ≡ c) ⊎ (d ≡ c → ⊥) → AllByRecursion (λ k. (1 ≤ k) × (k ≤ length p.clauses)) own
+  within_pushed d own e (inl s) =
+      let below = place_below p.clauses n k at in
+      subst (AllByRecursion (λ k. (1 ≤ k) × (k ≤ length p.clauses))) (last d own e s) (within_more (length p.clauses) so_far (n + 1) (is.within c so_far was) (omega arith) (omega arith))
+  within_pushed d own e (inr apart) = is.within d own (before d own e apart)
+
+  -- the clause is of its own component, and of no other
+  here : is_own p comps c (n + 1, k) ≡ true
+  here = ap (is_number c) of ∙ eq-eqb c c refl
+
+  elsewhere : (d : ℕ) → (d ≡ c → ⊥) → is_own p comps d (n + 1, k) ≡ false
+  elsewhere d apart = ap (is_number d) of ∙ go (c == d) refl
+    where
+      go : (b : Bool) → (c == d) ≡ b → b ≡ false
+      go true e = absurd (apart (sym (eqb-true c d e)))
+      go false e = refl
+
+  clauses_pushed : (d : ℕ) (own : List ℕ) → slice_get pushed d ≡ Some own → (d ≡ c) ⊎ (d ≡ c → ⊥) → with_clauses p.clauses own ≡ own_first p comps d (n + 1)
+  clauses_pushed d own e (inl s) =
+      subst (λ (xs : List ℕ). with_clauses p.clauses xs ≡ own_first p comps d (n + 1)) (last d own e s)
+      (subst (λ x. with_clauses p.clauses (so_far ++ (n + 1) ∷ []) ≡ own_first p comps x (n + 1)) (sym s) (own_more p comps c n so_far k at (is.clauses c so_far was) here))
+  clauses_pushed d own e (inr apart) = own_same p comps d n own k at (is.clauses d own (before d own e apart)) (elsewhere d apart)
+
+  pub own_pushed : AreOwnUpTo p comps (n + 1) pushed
+  own_pushed = record {
+    each = length-set lists c (so_far ++ (n + 1) ∷ []) ∙ is.each;
+    within = λ d own e. within_pushed d own e (cases_eq d c);
+    clauses = λ d own e. clauses_pushed d own e (cases_eq d c);
+  }
+
+pub own_whole : (p : Listing) (comps : Partition) (lists : List (List ℕ)) → AreOwnUpTo p comps (length p.clauses) lists → AreOwnClauses p comps lists
+own_whole p comps lists is = record {
+  each = is.each;
+  within = is.within;
+  clauses = λ c own e. is.clauses c own e ∙ own_all p comps c;
+}
 
 -- the clause at a place of a list of numbers
 pub record IsNext (clauses : List Clause) (own : List ℕ) (j : ℕ) : Type 0 where

@@ -10,6 +10,7 @@
 mod chain;
 mod filled;
 mod noting;
+mod own_clauses;
 mod running;
 mod solving;
 mod state;

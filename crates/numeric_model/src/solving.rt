@@ -9,6 +9,7 @@ ghost use Rattle.numeric_model.specs.Running.{IsChained};
 ghost use Rattle.numeric_model.specs.States.{IsState, plain_step};
 
 use crate::chain::Chain;
+use crate::own_clauses::own_clauses;
 use crate::running::run_component;
 use crate::state::State;
 use call_components::Components;
@@ -57,9 +58,10 @@ fn run_all<D: Domain, N: Norm>(
     ensures chained { IfOk result (IsChained D.width D.listed D.speaks (N.expression norm.now) p.now comps.now (length comps.now.members)) }
 {
     let _program = p.clauses();
+    let own = own_clauses(alloc, p, comps)?;
     let mut state = State::<D>::start(alloc, p)?;
     for c in 0..comps.count() {
-        run_component(alloc, p, comps, c, norm, &mut state)?;
+        run_component(alloc, p, norm, own[c as usize].as_slice(), &mut state)?;
     }
     Ok(state)
 }

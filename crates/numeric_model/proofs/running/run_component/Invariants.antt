@@ -1,14 +1,14 @@
 use Rattle.std.proofs.Common.{◌+◌, ◌-◌, ◌*◌, ◌^◌, suc, length}
-use Rattle.termination_model.specs.Chain.{clauses_of}
 use Rattle.numeric_model.specs.States.{IsState, weights}
+use Rattle.numeric_model.specs.Running.{with_clauses}
 use Rattle.numeric_model.proofs.Passes.{IsRunning}
 use Rattle.numeric_model.proofs.running.run_component.Given as goal
 
-abbrev pub invariant-loop-own : goal.invariant-loop-own
-invariant-loop-own g l = record {
+abbrev pub invariant-loop-changed : goal.invariant-loop-changed
+invariant-loop-changed g l = record {
   state : IsState g.D.Domain.width g.D.Domain.listed l.p l.state;
-  running : IsRunning g.D.Domain.width g.D.Domain.listed g.D.Domain.speaks (g.N.Norm.expression l.norm) (clauses_of l.p l.comps l.c) l.number l.fn.state l.state;
+  running : IsRunning g.D.Domain.width g.D.Domain.listed g.D.Domain.speaks (g.N.Norm.expression l.norm) (with_clauses l.p.clauses l.own) l.number l.fn.state l.state;
 }
 
-abbrev pub decreases-loop-own : goal.decreases-loop-own
-decreases-loop-own g l = (4 - l.number) * suc (length l.p.preds * 2 ^ 65) + weights g.D.Domain.width g.D.Domain.listed l.state.values.items
+abbrev pub decreases-loop-changed : goal.decreases-loop-changed
+decreases-loop-changed g l = (4 - l.number) * suc (length l.p.preds * 2 ^ 65) + weights g.D.Domain.width g.D.Domain.listed l.state.values.items
