@@ -15,3 +15,4 @@ pub mod OutcomeLemmas
 pub mod QueryLemmas
 pub mod PlaceLemmas
 pub mod SizeLemmas
+pub mod LimitLemmas

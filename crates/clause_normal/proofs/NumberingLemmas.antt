@@ -1,20 +1,20 @@
 -- Lemmas on predicates and variables that get their numbers.
-use Rattle.std.proofs.Common.{◌≡◌, ℕ, ◌+◌, ◌<◌, ◌≤◌, Bool, true, false, IsTrue, nat_eq, nat_lt, zero, suc, List, [], ◌∷◌, ◌++◌, length, map, slice_get, IsSomeAnd, Some, None, refl, ap, sym, ◌∙◌, subst, arith, append-nil, append_assoc, length-append, inl, inr, eq-eqb, true≢false, Option, ◌⊎◌, position, get_or, eqb-true, ◌==◌, lit≤}
+use Rattle.std.proofs.Common.{◌≡◌, ℕ, ◌<◌, ◌≤◌, Bool, true, false, IsTrue, nat_eq, nat_lt, zero, suc, List, [], ◌∷◌, ◌++◌, length, map, slice_get, IsSomeAnd, Some, None, refl, ap, sym, ◌∙◌, subst, arith, length-append, inl, inr, eq-eqb, true≢false, Option, position, get_or, eqb-true, ◌==◌, lit≤}
 use Rattle.std.specs.Prelude.{codes}
 use Rattle.std.proofs.lemmas.List.Quantifiers.{position-Some}
 use Rattle.std.proofs.lemmas.Option.{slice_get-get_or}
 use Rattle.clause_normal.specs.Words.{is_name}
 use Rattle.std.specs.List.{AllByRecursion, list_any, position_or_len}
 use Rattle.std.proofs.lemmas.Bool.{and_parts, lt-ltb}
-use Rattle.cti_terms.specs.Tree.{Tree as Term, Trees as Terms, Variable, Integer, Compound, End, More, instance, all_instances, is_below, truth, all_truths, trees}
+use Rattle.cti_terms.specs.Tree.{Tree as Term, Trees as Terms, Variable, Integer, Compound, End, More, all_instances, is_below, all_truths}
 use Rattle.cti_terms.specs.Listing.{Listing, is_pred, with_pred, IsAtom, IsClause}
 use Rattle.cti_terms.specs.declared.atom_list.Atom.{Atom}
 use Rattle.cti_terms.specs.declared.predicates.Pred.{Pred}
 use Rattle.prolog_reader.specs.Names.{Extends}
 use Rattle.prolog_reader.proofs.NameLemmas.{Placed, placed}
-use Rattle.clause_normal.specs.Terms.{variables, all_variables, list_variables, is_among, with_number, with_numbers, firsts, renumbered}
-use Rattle.clause_normal.specs.Rules.{Call, Rule}
-use Rattle.clause_normal.specs.Numbering.{call_variables, order_of, atoms_after, pred_of, is_equality, equality_clause, with_equality_clause, with_equality, HasArity}
+use Rattle.clause_normal.specs.Terms.{variables, all_variables, list_variables, is_among, with_number, with_numbers, renumbered}
+use Rattle.clause_normal.specs.Rules.{Call}
+use Rattle.clause_normal.specs.Numbering.{call_variables, atoms_after, pred_of, is_equality, equality_clause, with_equality_clause, with_equality, HasArity}
 use Rattle.clause_normal.proofs.ListLemmas.{all_append, all_front, all_back}
 
 pub all_weaker : {X : Type 0} (P Q : X → Type 0) → ((x : X) → P x → Q x) → (xs : List X) → AllByRecursion P xs → AllByRecursion Q xs

@@ -1,6 +1,6 @@
 -- Lemmas on numbers in the order of their first occurrence.
-use Rattle.std.proofs.Common.{◌≡◌, ℕ, ◌+◌, ◌<◌, ◌≤◌, Bool, true, false, cond, not, nat_eq, ◌||◌, List, [], ◌∷◌, ◌++◌, length, get_or, drop, refl, ap, sym, ◌∙◌, arith, length-append, inl, inr, ◌⊎◌, eq-eqb, subst}
-use Rattle.std.specs.List.{list_any, position_or_len, count_by, filter, AllByRecursion}
+use Rattle.std.proofs.Common.{◌≡◌, ℕ, ◌+◌, ◌<◌, ◌≤◌, Bool, true, false, cond, nat_eq, List, [], ◌∷◌, ◌++◌, length, get_or, drop, refl, ap, sym, arith, length-append, eq-eqb, subst}
+use Rattle.std.specs.List.{count_by, filter, AllByRecursion}
 use Rattle.clause_normal.proofs.ListLemmas.{all_push}
 use Rattle.std.proofs.lemmas.List.Sums.{sum_by-cons}
 use Rattle.std.proofs.lemmas.List.{at_drop_more}

@@ -1,6 +1,6 @@
 -- How many calls the clauses have that are made of a text's clauses.
-use Rattle.std.proofs.Common.{◌≡◌, ℕ, suc, ◌+◌, ◌*◌, ◌≤◌, ◌||◌, Bool, true, false, nat_lt, if◌then◌else◌, List, [], ◌∷◌, ◌++◌, length, Option, Some, None, Result, Ok, Err, refl, sym, ◌∙◌, ap, subst, append_assoc, length-append, arith, sum_by}
-use Rattle.std.specs.List.{AllByRecursion, list_any}
+use Rattle.std.proofs.Common.{◌≡◌, ℕ, suc, ◌+◌, ◌*◌, ◌≤◌, ◌||◌, Bool, true, false, nat_lt, if◌then◌else◌, List, [], ◌∷◌, ◌++◌, length, Option, Some, None, Result, Ok, Err, ap, length-append, arith, sum_by}
+use Rattle.std.specs.List.{list_any}
 use Rattle.std.proofs.lemmas.List.Sums.{sum_by-append}
 use Rattle.cti_terms.specs.Tree.{Tree as Term}
 use Rattle.cti_terms.specs.Numbers.{with_text}
@@ -21,7 +21,7 @@ use Rattle.clause_normal.specs.declared.words.Neck.{Neck}
 use Rattle.clause_normal.specs.declared.words.Neck.TheVariants as neck
 use Rattle.clause_normal.specs.Words.{is_impure, is_choice_name, connective_of, neck_of}
 use Rattle.clause_normal.specs.Terms.{plain_list, occurrences}
-use Rattle.clause_normal.specs.Bodies.{Goal, Goals, Branches, call, choice, bad, no_goals, more_goals, no_branches, more_branches, one_goal, one_branch, joined, joined_branches, arguments, Body, of_goals, named_goal, atom_goal, choice_goal, disjunction, named_body, body_of, shape_body, argument_bodies}
+use Rattle.clause_normal.specs.Bodies.{Goal, Goals, Branches, call, choice, bad, no_goals, more_goals, no_branches, more_branches, one_goal, joined, joined_branches, arguments, Body, of_goals, named_goal, atom_goal, choice_goal, disjunction, named_body, body_of, shape_body, argument_bodies}
 use Rattle.clause_normal.specs.Rules.{Functor, named, chosen, Call, Rule, choice_call, choices_at, choices, inner, inner_at, call_at, calls, below, below_at, branch_rules, rules, after}
 use Rattle.clause_normal.specs.Numbering.{pred_of, with_calls, with_rule, with_rules}
 use Rattle.clause_normal.specs.NormalForm.{Fault, head_call, Form, skipped, refused, clause, is_silent_goal, named_form, form_of, clause_fault, Made, made_or_fault, with_form, with_clause, and_next, normal_rules, program_of, normal_form}
@@ -143,9 +143,9 @@ disjunction_few size k l t at b c le h i =
     let branches : List ℕ → Branches = λ args. joined_branches (b.branches args) (c.branches args) in
     let both : (args : List ℕ) (head : Call) (n : ℕ) → rule_calls (branch_rules head n (branches args)) ≤ 2 * k + 2 * l =
     λ args head n.
-        let j = branches_few (b.branches args) (c.branches args) (2 * l) (i.branches args) head n in
-        let f = h.branches args head n in
-        omega (arith, j, f) in
+    let j = branches_few (b.branches args) (c.branches args) (2 * l) (i.branches args) head n in
+    let f = h.branches args head n in
+    omega (arith, j, f) in
     record {
       level = λ all m.
           let g = choice_goal at (arguments all (occurrences t)) branches in
@@ -168,10 +168,10 @@ named_body_few names size t at connective.And (b ∷ d ∷ []) (k, r, le, h, (k'
     of_goals_few (suc size) t (λ xs. joined (b.goals xs) (d.goals xs))
     (λ xs m. let j = level_joined (b.goals xs) (d.goals xs) k' (h'.level xs) m in let f = h.level xs m in omega (arith, j, f, le, le'))
     (λ xs m n.
-      let most : (m n : ℕ) → total m n (d.goals xs) ≤ 2 * k' = λ m n. let f = h'.goals xs m n in omega (arith, f) in
-      let j = joined_few (b.goals xs) (d.goals xs) (2 * k') most m n in
-      let f = h.goals xs m n in
-      omega (arith, j, f, le, le'))
+    let most : (m n : ℕ) → total m n (d.goals xs) ≤ 2 * k' = λ m n. let f = h'.goals xs m n in omega (arith, f) in
+    let j = joined_few (b.goals xs) (d.goals xs) (2 * k') most m n in
+    let f = h.goals xs m n in
+    omega (arith, j, f, le, le'))
 named_body_few names size t at connective.Or (b ∷ d ∷ []) (k, r, le, h, (k', r', le', h', tt)) = disjunction_few (suc size) k k' t at b d (omega (arith, le, le')) h h'
 named_body_few names size t at connective.Truth bs h = of_goals_few (suc size) t (λ xs. no_goals) (λ xs m. omega arith) (λ xs m n. omega arith)
 named_body_few names size t at c bs h = atom_body_few names (suc size) t (omega arith)

@@ -5,7 +5,7 @@
 -- that occur elsewhere in the clause that is made. The clause of a branch has that predicate as its head.
 --
 -- To believe: all of this file.
-use Rattle.std.specs.Prelude.{ℕ, ◌+◌, Bool, ◌&&◌, ◌||◌, nat_eq, nat_lt, List, [], ◌∷◌, ◌++◌, count_by, filter, length, if◌then◌else◌}
+use Rattle.std.specs.Prelude.{ℕ, ◌||◌, nat_eq, nat_lt, List, [], ◌∷◌, ◌++◌, count_by, filter, length, if◌then◌else◌}
 use Rattle.cti_terms.specs.Tree.{Tree as Term}
 use Rattle.prolog_grammar.specs.Placed.{Tree, tree, Shape, Var, Int, Fun, Trees, no_trees, more_trees}
 use Rattle.prolog_reader.specs.Names.{name_text}

@@ -15,3 +15,4 @@ pub mod Levels
 pub mod FormViews
 pub mod Faults
 pub mod Query
+pub mod Small

@@ -5,10 +5,9 @@
 --
 -- To believe: all of this file.
 use Rattle.std.specs.Prelude.{ℕ, Bool, nat_lt, List, [], ◌∷◌, ◌++◌, Option, Some, None, Result, Ok, Err, length, false, if◌then◌else◌}
-use Rattle.cti_terms.specs.Tree.{Tree as Term}
 use Rattle.cti_terms.specs.Listing.{Listing}
 use Rattle.cti_terms.specs.declared.limits.TheConstants.{MOST_ARGUMENTS, MOST_VARIABLES}
-use Rattle.prolog_grammar.specs.Placed.{Tree, tree, Shape, Var, Int, Fun, Trees, no_trees, more_trees}
+use Rattle.prolog_grammar.specs.Placed.{Tree, tree, Var, Int, Fun}
 use Rattle.prolog_reader.specs.Names.{name_text}
 use Rattle.prolog_reader.specs.Clauses.{Clause, arity, place, list_of}
 use Rattle.clause_normal.specs.declared.limits.TheConstants.{MOST_TEXT_CLAUSES}

@@ -1,9 +1,9 @@
 -- Clauses as a program: predicates and variables are numbered by first occurrence.
 --
 -- To believe: all of this file, and in cti_terms `Listing`, `with_pred` and `number_of`.
-use Rattle.std.specs.Prelude.{◌≡◌, ℕ, Bool, ◌&&◌, ◌==◌, nat_eq, List, [], ◌∷◌, ◌++◌, Option, Some, None, codes, decimal, length, map, position, slice_get, IsSomeAnd}
+use Rattle.std.specs.Prelude.{◌≡◌, ℕ, Bool, ◌&&◌, ◌==◌, List, [], ◌∷◌, ◌++◌, Option, Some, None, codes, decimal, length, map, position, slice_get, IsSomeAnd}
 use Rattle.std.specs.List.{position_or_len}
-use Rattle.cti_terms.specs.Tree.{Tree as Term, Variable}
+use Rattle.cti_terms.specs.Tree.{Variable}
 use Rattle.cti_terms.specs.Numbers.{number_of}
 use Rattle.cti_terms.specs.Listing.{Listing, is_pred, with_pred}
 use Rattle.cti_terms.specs.declared.atom_list.Atom.{Atom}

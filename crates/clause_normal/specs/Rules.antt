@@ -4,7 +4,7 @@
 -- A clause is followed by the clauses of its disjunctions' branches, in order, each followed in the same way by those of its own.
 --
 -- To believe: all of this file.
-use Rattle.std.specs.Prelude.{ℕ, suc, ◌+◌, List, [], ◌∷◌, ◌++◌, map}
+use Rattle.std.specs.Prelude.{ℕ, ◌+◌, List, [], ◌∷◌, ◌++◌, map}
 use Rattle.cti_terms.specs.Tree.{Tree as Term, Variable}
 use Rattle.clause_normal.specs.Bodies.{Goal, Goals, Branches, call, choice, bad, no_goals, more_goals, no_branches, more_branches}
 

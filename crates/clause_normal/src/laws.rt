@@ -1,12 +1,15 @@
 //! Where faults stand. It is a function that does nothing, and whose clauses are proved.
 
-ghost use Rattle.std.specs.Prelude.{◌≡◌, ◌≤◌, ◌+◌, ℕ, List, Ok, Err, length, sum_by};
+ghost use Rattle.std.specs.Prelude.{◌≡◌, ◌≤◌, ◌+◌, ℕ, List, [], Ok, Err, length, sum_by};
+ghost use Rattle.std.specs.List.{AllByRecursion};
 ghost use Rattle.cti_terms.specs.Listing.{Listing};
 ghost use Rattle.prolog_grammar.specs.Places.{IsPlaced};
 ghost use Rattle.prolog_reader.specs.Clauses.{Clause, nodes};
 ghost use Rattle.clause_normal.specs.ChoiceNames.{program_names};
 ghost use Rattle.prolog_reader.specs.Places.{ArePlacedClauses};
-ghost use Rattle.clause_normal.specs.NormalForm.{Fault, normal_form};
+ghost use Rattle.clause_normal.specs.NormalForm.{Fault, normal_form, normal_rules};
+ghost use Rattle.clause_normal.specs.Rules.{Rule};
+ghost use Rattle.clause_normal.specs.Small.{IsSmall};
 ghost use Rattle.clause_normal.specs.Query.{query_form};
 
 /// A fault of the normal form stands within the text, where its clauses do.
@@ -23,4 +26,12 @@ pub fn few_names_and_predicates()
         → length (program_names names clauses) ≤ length names + 4194304 }
     ensures preds { (names : List (List ℕ)) (clauses : List Clause) (p : Listing) → sum_by (λ (c : Clause). nodes c.term) clauses ≤ 2097152 → normal_form names clauses ≡ Ok p
         → length p.preds ≤ 4194304 }
+{}
+
+/// Each clause that is made of a text's clauses is within the limits, so that a program's clauses hold it.
+///
+/// The reader's clauses have at most 2,097,152 nodes together.
+pub fn made_clauses_are_small()
+    ensures { (names : List (List ℕ)) (clauses : List Clause) (made : List Rule) → sum_by (λ (c : Clause). nodes c.term) clauses ≤ 2097152 → normal_rules names [] 1 clauses ≡ Ok made
+        → AllByRecursion IsSmall made }
 {}
