@@ -16,3 +16,4 @@ pub mod QueryLemmas
 pub mod PlaceLemmas
 pub mod SizeLemmas
 pub mod LimitLemmas
+pub mod QueryLimits

@@ -34,15 +34,15 @@ In x (y ∷ ys) = (y ≡ x) ⊎ In x ys
 abbrev pub AllIn : List ℕ → List ℕ → Type 0
 AllIn ys xs = AllByRecursion (λ (x : ℕ). In x ys) xs
 
-all_append : {X : Type 0} (P : X → Type 0) (xs ys : List X) → AllByRecursion P xs → AllByRecursion P ys → AllByRecursion P (xs ++ ys)
+pub all_append : {X : Type 0} (P : X → Type 0) (xs ys : List X) → AllByRecursion P xs → AllByRecursion P ys → AllByRecursion P (xs ++ ys)
 all_append P [] ys h k = k
 all_append P (x ∷ xs) ys h k = (h.0, all_append P xs ys h.1 k)
 
-all_left : {X : Type 0} (P : X → Type 0) (xs ys : List X) → AllByRecursion P (xs ++ ys) → AllByRecursion P xs
+pub all_left : {X : Type 0} (P : X → Type 0) (xs ys : List X) → AllByRecursion P (xs ++ ys) → AllByRecursion P xs
 all_left P [] ys h = tt
 all_left P (x ∷ xs) ys h = (h.0, all_left P xs ys h.1)
 
-all_right : {X : Type 0} (P : X → Type 0) (xs ys : List X) → AllByRecursion P (xs ++ ys) → AllByRecursion P ys
+pub all_right : {X : Type 0} (P : X → Type 0) (xs ys : List X) → AllByRecursion P (xs ++ ys) → AllByRecursion P ys
 all_right P [] ys h = h
 all_right P (x ∷ xs) ys h = all_right P xs ys h.1
 
@@ -59,7 +59,7 @@ all_mapped : {X : Type 0} (P Q : X → Type 0) (xs : List X) → ((x : X) → P 
 all_mapped P Q [] f h = tt
 all_mapped P Q (x ∷ xs) f h = (f x h.0, all_mapped P Q xs f h.1)
 
-all_self : (xs : List ℕ) → AllIn xs xs
+pub all_self : (xs : List ℕ) → AllIn xs xs
 all_self [] = tt
 all_self (x ∷ xs) = (inl refl, all_mapped (λ (y : ℕ). In y xs) (λ (y : ℕ). In y (x ∷ xs)) xs (λ y h. inr h) (all_self xs))
 
@@ -222,7 +222,7 @@ mutual
   few_all (more_trees t ts) = let l = few_occurrences t in let k = few_all ts in omega (arith, l, k, length-append (occurrences t) (all_variables (plain_terms ts)))
 
 -- the nodes of arguments
-args_nodes : List Term → ℕ
+pub args_nodes : List Term → ℕ
 args_nodes [] = 0
 args_nodes (t ∷ ts) = nodes_of t + args_nodes ts
 
@@ -242,32 +242,32 @@ list_occurrences (more_trees t ts) = ap (λ (xs : List ℕ). occurrences t ++ xs
 
 -- ---- goals
 
-abbrev count_goals : Goals → ℕ
+abbrev pub count_goals : Goals → ℕ
 count_goals no_goals = 0
 count_goals (more_goals g gs) = suc (count_goals gs)
 
-goal_weight : Goal → ℕ
+unfoldable pub goal_weight : Goal → ℕ
 goal_weight (call f ts) = args_nodes ts
 goal_weight (choice args bs) = length args
 goal_weight (bad k at) = 0
 
-weight : Goals → ℕ
+pub weight : Goals → ℕ
 weight no_goals = 0
 weight (more_goals g gs) = goal_weight g + weight gs
 
 -- limits: the variables are among some, and bodies have at most so many goals and nodes, with those of their heads
 module _ (most : ℕ) (ys : List ℕ) where
   abbrev mutual
-    GoalsFit : Goals → Type 0
+    pub GoalsFit : Goals → Type 0
     GoalsFit no_goals = Unit {0}
     GoalsFit (more_goals g gs) = GoalFit g × GoalsFit gs
 
-    GoalFit : Goal → Type 0
+    pub GoalFit : Goal → Type 0
     GoalFit (call f ts) = AllIn ys (list_variables ts)
     GoalFit (choice args bs) = AllIn ys args × BranchesFit (length args) bs
     GoalFit (bad k at) = Unit {0}
 
-    BranchesFit : ℕ → Branches → Type 0
+    pub BranchesFit : ℕ → Branches → Type 0
     BranchesFit h no_branches = Unit {0}
     BranchesFit h (more_branches b bs) = (count_goals b ≤ most) × (h + weight b ≤ most) × GoalsFit b × BranchesFit h bs
 
@@ -292,14 +292,14 @@ module _ (most : ℕ) (ys : List ℕ) where
   }
 
   -- a goal that is no disjunction, of a term
-  abbrev PlainFit : Tree → Goal → Type 0
+  abbrev pub PlainFit : Tree → Goal → Type 0
   PlainFit t g = (goal_weight g ≤ nodes t) × (AllIn ys (occurrences t) → GoalFit g)
 
   if_fit : (t : Tree) (b : Bool) (g h : Goal) → PlainFit t g → PlainFit t h → PlainFit t (if b then g else h)
   if_fit t true g h k l = k
   if_fit t false g h k l = l
 
-  atom_fit : (names : List (List ℕ)) (t : Tree) → PlainFit t (atom_goal names t)
+  pub atom_fit : (names : List (List ℕ)) (t : Tree) → PlainFit t (atom_goal names t)
   unfolding goal_weight
   atom_fit names (tree at (Var x)) = (omega arith, λ i. tt)
   atom_fit names (tree at (Int n)) = (omega arith, λ i. tt)
@@ -310,7 +310,7 @@ module _ (most : ℕ) (ys : List ℕ) where
       if_fit t (is_impure (name_text names f) (length args) || is_choice_name (name_text names f)) (bad kind.NotPure at) (if nat_lt MOST_ARGUMENTS (length args) then bad kind.Arity at else call f args) (omega arith, λ i. tt)
       (if_fit t (nat_lt MOST_ARGUMENTS (length args)) (bad kind.Arity at) (call f args) (omega arith, λ i. tt) called)
 
-  some_nodes : (t : Tree) → 1 ≤ nodes t
+  pub some_nodes : (t : Tree) → 1 ≤ nodes t
   some_nodes (tree at (Var x)) = omega arith
   some_nodes (tree at (Int n)) = omega arith
   some_nodes (tree at (Fun f ts)) = omega arith
@@ -488,7 +488,7 @@ module _ (most : ℕ) (ys : List ℕ) where
 
   -- ---- made clauses
 
-  calls_nodes : List Call → ℕ
+  unfoldable pub calls_nodes : List Call → ℕ
   calls_nodes [] = 0
   calls_nodes (c ∷ cs) = args_nodes c.args + calls_nodes cs
 
@@ -497,12 +497,12 @@ module _ (most : ℕ) (ys : List ℕ) where
     nodes : calls_nodes (r.head ∷ r.body) ≤ most
     among : AllIn ys (call_variables (r.head ∷ r.body))
 
-  nodes_append : (cs ds : List Call) → calls_nodes (cs ++ ds) ≡ calls_nodes cs + calls_nodes ds
+  pub nodes_append : (cs ds : List Call) → calls_nodes (cs ++ ds) ≡ calls_nodes cs + calls_nodes ds
   unfolding calls_nodes
   nodes_append [] ds = omega arith
   nodes_append (c ∷ cs) ds = let e = nodes_append cs ds in omega (arith, e)
 
-  variables_append : (cs ds : List Call) → call_variables (cs ++ ds) ≡ call_variables cs ++ call_variables ds
+  pub variables_append : (cs ds : List Call) → call_variables (cs ++ ds) ≡ call_variables cs ++ call_variables ds
   variables_append [] ds = refl
   variables_append (c ∷ cs) ds = ap (λ (xs : List ℕ). list_variables c.args ++ xs) (variables_append cs ds) ∙ sym (append_assoc (list_variables c.args) (call_variables cs) (call_variables ds))
 
@@ -572,7 +572,7 @@ unfolding args_nodes
 args_sum [] = refl
 args_sum (t ∷ ts) = let e = args_sum ts in omega (arith, e, sum_by-cons nodes_of t ts)
 
-calls_sum : (most : ℕ) (ys : List ℕ) (cs : List Call) → calls_nodes most ys cs ≡ sum_by call_nodes cs
+pub calls_sum : (most : ℕ) (ys : List ℕ) (cs : List Call) → calls_nodes most ys cs ≡ sum_by call_nodes cs
 unfolding calls_nodes
 calls_sum most ys [] = refl
 calls_sum most ys (c ∷ cs) = let e = calls_sum most ys cs in omega (arith, e, args_sum c.args, sum_by-cons call_nodes c cs)
@@ -584,11 +584,11 @@ small_of ys r le h = record {
   nodes = let e = calls_sum 2097152 ys (r.head ∷ r.body) in let l = h.nodes in omega (arith, e, l);
 }
 
-none_first : (f g : Option Fault) → first_of f g ≡ None → g ≡ None
+pub none_first : (f g : Option Fault) → first_of f g ≡ None → g ≡ None
 none_first None g e = e
 none_first (Some f) g e = cc
 
-few_variables : (at : ℕ) (xs : List ℕ) → variables_fault at xs ≡ None → length (firsts xs) ≤ MOST_VARIABLES
+pub few_variables : (at : ℕ) (xs : List ℕ) → variables_fault at xs ≡ None → length (firsts xs) ≤ MOST_VARIABLES
 few_variables at xs e = by_test (nat_lt MOST_VARIABLES (length (firsts xs))) refl e
   where
     by_test : (b : Bool) → nat_lt MOST_VARIABLES (length (firsts xs)) ≡ b → ◌≡◌ {A = Option Fault} (if b then Some (kind.ManyVariables, at) else None) None → length (firsts xs) ≤ MOST_VARIABLES

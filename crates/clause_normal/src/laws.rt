@@ -3,14 +3,17 @@
 ghost use Rattle.std.specs.Prelude.{◌≡◌, ◌≤◌, ◌+◌, ℕ, List, [], Ok, Err, length, sum_by};
 ghost use Rattle.std.specs.List.{AllByRecursion};
 ghost use Rattle.cti_terms.specs.Listing.{Listing};
+ghost use Rattle.cti_terms.specs.declared.derivation.Goal.{Goal as Query};
 ghost use Rattle.prolog_grammar.specs.Places.{IsPlaced};
 ghost use Rattle.prolog_reader.specs.Clauses.{Clause, nodes};
 ghost use Rattle.clause_normal.specs.ChoiceNames.{program_names};
 ghost use Rattle.prolog_reader.specs.Places.{ArePlacedClauses};
 ghost use Rattle.clause_normal.specs.NormalForm.{Fault, normal_form, normal_rules};
 ghost use Rattle.clause_normal.specs.Rules.{Rule};
-ghost use Rattle.clause_normal.specs.Small.{IsSmall};
-ghost use Rattle.clause_normal.specs.Query.{query_form};
+ghost use Rattle.clause_normal.specs.Small.{IsSmall, call_nodes};
+ghost use Rattle.clause_normal.specs.Query.{query_form, query_calls, query_goals};
+
+use cti_terms::{MOST_NODES, MOST_VARIABLES};
 
 /// A fault of the normal form stands within the text, where its clauses do.
 pub fn faults_stand_in_their_texts()
@@ -34,4 +37,12 @@ pub fn few_names_and_predicates()
 pub fn made_clauses_are_small()
     ensures { (names : List (List ℕ)) (clauses : List Clause) (made : List Rule) → sum_by (λ (c : Clause). nodes c.term) clauses ≤ 2097152 → normal_rules names [] 1 clauses ≡ Ok made
         → AllByRecursion IsSmall made }
+{}
+
+/// The goal of a query is within the same limits, and adds few predicates.
+pub fn goals_of_queries_are_small()
+    ensures variables { (names : List (List ℕ)) (p q : Listing) (clause : Clause) (g : Query) → query_form names p clause ≡ Ok (q, g) → g.fresh ≤ MOST_VARIABLES }
+    ensures nodes { (names : List (List ℕ)) (clause : Clause) → nodes clause.term ≤ 2097152 → sum_by call_nodes (query_calls (query_goals names clause.term)) ≤ MOST_NODES }
+    ensures preds { (names : List (List ℕ)) (p q : Listing) (clause : Clause) (g : Query) → nodes clause.term ≤ 2097152 → query_form names p clause ≡ Ok (q, g)
+        → length q.preds ≤ length p.preds + 2097152 }
 {}
