@@ -3,7 +3,7 @@
 #![tactic(auto)]
 
 use cti_top::{RealFiles, RealSink, Status, command};
-use messages::{Ending, Head, explain};
+use messages::{Ending, HeadWriter, explain};
 use std::alloc::{AllocError, Global};
 use std::io::Write;
 use std::process::ExitCode;
@@ -46,7 +46,7 @@ fn run(rt: &HostRuntime, alloc: Global) -> Result<Status, AllocError> {
         faults: 0,
     };
     let mut out = RealSink {
-        inner: Head::new(rt.stdout()),
+        inner: HeadWriter::new(rt.stdout()),
         faults: 0,
     };
     let status = command(alloc, &texts, &mut files, &mut out);

@@ -1,6 +1,6 @@
 //! What is said where a clause cannot go on, and lines that are shown in part.
 
-use messages::{Ending, FileCause, Head, Subject, Trouble, expected_at, message};
+use messages::{Ending, FileCause, HeadWriter, Subject, Trouble, expected_at, message};
 use std::alloc::{AllocError, Global};
 use std::io::Write;
 use std::test::Fail;
@@ -123,7 +123,7 @@ fn long_lines_are_cut(rt: HostRuntime) -> Result<(), Fail> {
 #[test]
 fn the_beginning_is_kept(rt: HostRuntime) -> Result<(), Fail> {
     let alloc = rt.alloc();
-    let mut head = Head::new(Vec::new(alloc));
+    let mut head = HeadWriter::new(Vec::new(alloc));
     head.write_all(b"cti(1).\n")?;
     assert_eq!(rt; head.kept(), b"cti(1).\n".as_slice());
     head.write_all(&[b'x'; 100])?;

@@ -1,15 +1,12 @@
 //! The commands.
 
-use thiserror::Error;
+use std::fmt;
 
 /// A command, shown by its name.
-#[derive(Clone, Copy, Debug, PartialEq, Eq, Error)]
+#[derive(Clone, Copy, Debug, PartialEq, Eq)]
 pub enum Command {
-    #[error("infer")]
     Infer,
-    #[error("check")]
     Check,
-    #[error("run")]
     Run,
 }
 
@@ -24,6 +21,15 @@ impl Command {
         }
     }
 
+    /// Its name.
+    pub fn name(self) -> &'static str {
+        match self {
+            Command::Infer => "infer",
+            Command::Check => "check",
+            Command::Run => "run",
+        }
+    }
+
     /// What its second word is, in the usage.
     pub fn second(self) -> Option<&'static str> {
         match self {
@@ -31,5 +37,11 @@ impl Command {
             Command::Check => Some("CERT"),
             Command::Run => Some("QUERY"),
         }
+    }
+}
+
+impl fmt::Display for Command {
+    fn fmt<W: fmt::Write>(&self, f: &mut fmt::Formatter<W>) -> fmt::Result {
+        f.write_str(self.name())
     }
 }

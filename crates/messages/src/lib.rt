@@ -1,7 +1,7 @@
 //! What `cti` says on standard error: a sentence for each kind of refusal, each reason of a No and each fault of words, with the
 //! place, the line of the text, and what to do.
 //!
-//! The answer on standard output is made elsewhere, and its beginning is read here as any reader would read it: `Head` keeps it,
+//! The answer on standard output is made elsewhere, and its beginning is read here as any reader would read it: `HeadWriter` keeps it,
 //! `Ending` says how the call ended, and `explain` makes the message. Stands on `thiserror`.
 #![tactic(auto)]
 
@@ -11,7 +11,7 @@ mod excerpt;
 mod expected;
 mod explaining;
 mod file_cause;
-mod head;
+mod head_writer;
 mod no_reason;
 mod place;
 mod refusal_kind;
@@ -28,7 +28,7 @@ pub use excerpt::{push_excerpt, push_shown};
 pub use expected::{Expected, expected_at};
 pub use explaining::{explain, text_again};
 pub use file_cause::FileCause;
-pub use head::Head;
+pub use head_writer::HeadWriter;
 pub use no_reason::NoReason;
 pub use place::Place;
 pub use refusal_kind::RefusalKind;

@@ -1,10 +1,9 @@
 //! Places in named texts.
 
-use thiserror::Error;
+use std::fmt;
 
 /// A line and a column of a named text, shown as `NAME:LINE:COLUMN`. Both count from 1, and columns count bytes.
-#[derive(Clone, Copy, Debug, PartialEq, Eq, Error)]
-#[error("{name}:{line}:{column}")]
+#[derive(Clone, Copy, Debug, PartialEq, Eq)]
 pub struct Place<'a> {
     pub name: &'a str,
     pub line: u64,
@@ -29,5 +28,12 @@ impl<'a> Place<'a> {
             }
         }
         place
+    }
+}
+
+impl fmt::Display for Place<'_> {
+    fn fmt<W: fmt::Write>(&self, f: &mut fmt::Formatter<W>) -> fmt::Result {
+        let Place { name, line, column } = *self;
+        write!(f, "{name}:{line}:{column}")
     }
 }

@@ -8,17 +8,17 @@ const MOST_KEPT: usize = 64;
 
 /// A writer that keeps the first bytes that another one takes from it, and counts them all.
 #[derive(Drop)]
-pub struct Head<W: Write + Drop> {
+pub struct HeadWriter<W: Write + Drop> {
     inner: W,
     kept: [u8; MOST_KEPT],
     /// How many bytes were taken; it stays at 2^64 - 1.
     taken: u64,
 }
 
-impl<W: Write + Drop> Head<W> {
+impl<W: Write + Drop> HeadWriter<W> {
     /// A writer before a first byte.
-    pub fn new(inner: W) -> Head<W> {
-        Head {
+    pub fn new(inner: W) -> HeadWriter<W> {
+        HeadWriter {
             inner,
             kept: [0; MOST_KEPT],
             taken: 0,
@@ -47,7 +47,7 @@ impl<W: Write + Drop> Head<W> {
     }
 }
 
-impl<W: Write + Drop> Write for Head<W> {
+impl<W: Write + Drop> Write for HeadWriter<W> {
     fn write(&mut self, bytes: &[u8]) -> io::Result<usize> {
         let count = self.inner.write(bytes)?;
         self.note(&bytes[..count]);
