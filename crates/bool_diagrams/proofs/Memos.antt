@@ -1,7 +1,10 @@
--- How a memo stays right.
-use Rattle.std.proofs.Common.{◌==◌, ◌&&◌, IfSome, OnOk, OnErr, Result, Ok, Err, ◌≡◌, ℕ, Bool, true, false, cond, List, Option, Some, None, refl, sym, ◌∙◌, ap}
+-- What a memo has after a look-up and after a put, and how it stays right.
+use Rattle.std.proofs.Common.{◌==◌, ◌&&◌, ◌⊎◌, inl, inr, IfSome, OnOk, OnErr, Result, Ok, Err, ◌≡◌, ℕ, Bool, true, List, [], Contains, Option, Some, None, refl, sym, ◌∙◌, ap}
 use Rattle.std.proofs.lemmas.Bool.{eqb-true, and_parts}
-use Rattle.std.specs.HashMap.{HashMap, get, Updates, IsUnchanged, IsEmpty}
+use Rattle.std.specs.HashMap.{HashMap}
+use Rattle.std.specs.Map.{lookup}
+use Rattle.lru.specs.LruCache.{LruCache, lru_cache, promoted, put_entries}
+use Rattle.lru.proofs.CallerLemmas.{Contains-lookup, Contains-promoted, Contains-put_entries, IsPut}
 use Rattle.bool_diagrams.specs.declared.node.Node.{Node}
 use Rattle.bool_diagrams.specs.declared.connective.Connective.TheVariants.{And, Or, Iff}
 use Rattle.bool_diagrams.specs.declared.memo.Key.{Key}
@@ -25,34 +28,50 @@ same_key (Quantify Or a b) (Quantify Or c d) h = both (Quantify Or) a b c d h
 same_key (Quantify Iff a b) (Quantify Iff c d) h = both (Quantify Iff) a b c d h
 same_key j k h = cc
 
-module _ {S T : Type 0} (nodes : List Node) (unique : HashMap Node ℕ S) (memo : HashMap Key ℕ T) where
-  pub right_found : (key : Key) (r : Option ℕ) → IsTable eq-value.it nodes unique memo → r ≡ get eq-value.it memo key → IfSome r (IsRight (trees nodes) key)
-  right_found key None t e = tt
-  right_found key (Some i) t e = t.right key i (sym e)
+-- what is found was kept under the key itself
+pub found_entry : (es : List (Key × ℕ)) (key : Key) (r : Option ℕ) → r ≡ lookup (eq-value.it key) es → IfSome r (λ number. Contains es (key, number))
+found_entry es key None e = tt
+found_entry es key (Some i) e =
+    let there = Contains-lookup (eq-value.it key) es i (sym e) in
+    rw (same_key key there.0 there.2) there.1
 
-  put_at : (key q : Key) (i j : ℕ) (b : Bool) → IsTable eq-value.it nodes unique memo → IsRight (trees nodes) key i → eq-value.it key q ≡ b
-      → cond b (Some i) (get eq-value.it memo q) ≡ Some j → IsRight (trees nodes) q j
-  put_at key q i j true t r is e =
-      let number : i ≡ j = cc in
-      rw (← number, ← same_key key q is) r
-  put_at key q i j false t r is e = t.right q j e
+-- a look-up adds no entry
+pub entry_found : (memo memo' : LruCache Key ℕ) (key : Key) → memo' ≡ lru_cache (promoted (eq-value.it key) memo.entries) memo.cap → (entry : Key × ℕ) → Contains memo'.entries entry → Contains memo.entries entry
+entry_found memo memo' key e entry there = Contains-promoted (eq-value.it key) memo.entries entry (rw e at there)
 
-  pub table_put : {X E : Type 0} (memo' : HashMap Key ℕ T) (key : Key) (i : ℕ) (r : Result X E) → IsTable eq-value.it nodes unique memo → IsRight (trees nodes) key i
-      → OnOk r (Updates eq-value.it memo memo' key (Some i)) → OnErr r (IsUnchanged memo memo') → IsTable eq-value.it nodes unique memo'
-  table_put memo' key i (Ok x) t right up same = record {
+-- a put adds the one entry
+put_entry : (memo : LruCache Key ℕ) (key : Key) (i : ℕ) (entry : Key × ℕ) → Contains memo.entries entry ⊎ IsPut eq-value.it memo key i entry
+    → Contains memo.entries entry ⊎ (entry ≡ (key, i))
+put_entry memo key i entry (inl there) = inl there
+put_entry memo key i (k, j) (inr (is, inl same)) = inr (rw (is, same) refl)
+put_entry memo key i (k, j) (inr (is, inr old)) = inr (rw (is, same_key key k old.2) refl)
+
+pub entry_put : {X E : Type 0} (memo memo' : LruCache Key ℕ) (key : Key) (i : ℕ) (r : Result X E) → OnOk r (memo' ≡ lru_cache (put_entries eq-value.it memo key i) memo.cap) → OnErr r (memo' ≡ memo)
+    → (entry : Key × ℕ) → Contains memo'.entries entry → Contains memo.entries entry ⊎ (entry ≡ (key, i))
+entry_put memo memo' key i (Ok x) ok err entry there =
+    let entries : memo'.entries ≡ put_entries eq-value.it memo key i = rw ok refl in
+    put_entry memo key i entry (Contains-put_entries eq-value.it memo key i entry (rw entries at there))
+entry_put memo memo' key i (Err e) ok err entry there = inl (rw err at there)
+
+module _ {S : Type 0} (nodes : List Node) (unique : HashMap Node ℕ S) (memo memo' : List (Key × ℕ)) (key : Key) where
+  pub right_found : (r : Option ℕ) → IsTable nodes unique memo → IfSome r (λ number. Contains memo (key, number)) → IfSome r (IsRight (trees nodes) key)
+  right_found None t kept = tt
+  right_found (Some i) t kept = t.right (key, i) kept
+
+  pub table_within : IsTable nodes unique memo → ((entry : Key × ℕ) → Contains memo' entry → Contains memo entry) → IsTable nodes unique memo'
+  table_within t within = record {
     sound = t.sound;
     found = t.found;
-    right = λ q j h. put_at key q i j (eq-value.it key q) t right refl (sym (up.0 q) ∙ h);
+    right = λ entry there. t.right entry (within entry there);
   }
-  table_put memo' key i (Err e) t right up same = record {
-    sound = t.sound;
-    found = t.found;
-    right = λ q j h. t.right q j (rw same at h);
-  }
 
-  pub table_emptied : (memo' : HashMap Key ℕ T) → IsTable eq-value.it nodes unique memo → IsEmpty memo' → IsTable eq-value.it nodes unique memo'
-  table_emptied memo' t empty = record {
+  right_put : (i : ℕ) (entry : Key × ℕ) → IsTable nodes unique memo → IsRight (trees nodes) key i → Contains memo entry ⊎ (entry ≡ (key, i)) → IsRight (trees nodes) entry.0 entry.1
+  right_put i entry t right (inl there) = t.right entry there
+  right_put i entry t right (inr same) = rw same right
+
+  pub table_put : (i : ℕ) → IsTable nodes unique memo → IsRight (trees nodes) key i → ((entry : Key × ℕ) → Contains memo' entry → Contains memo entry ⊎ (entry ≡ (key, i))) → IsTable nodes unique memo'
+  table_put i t right put = record {
     sound = t.sound;
     found = t.found;
-    right = λ q j h. let none : None ≡ Some j = rw empty at h in cc;
+    right = λ entry there. right_put i entry t right (put entry there);
   }

@@ -42,9 +42,9 @@ right_keeps old new (Quantify c a v) i k r =
       },
     )
 
-module _ {S T : Type 0} (eq : Key → Key → Bool) (nodes : List Node) (unique : HashMap Node ℕ S) (memo : HashMap Key ℕ T) where
+module _ {S : Type 0} (nodes : List Node) (unique : HashMap Node ℕ S) (memo : List (Key × ℕ)) where
   -- a node that is found is the one that was wanted
-  pub chooses_found : (n : Node) (i : ℕ) → IsTable eq nodes unique memo → get same_node unique n ≡ Some i → Chooses (trees nodes) (trees nodes) n.variable n.low n.high i
+  pub chooses_found : (n : Node) (i : ℕ) → IsTable nodes unique memo → get same_node unique n ≡ Some i → Chooses (trees nodes) (trees nodes) n.variable n.low n.high i
   chooses_found n i t h =
       let s = stands_at_place nodes n i t.sound (sym (t.found n) ∙ h) in
       record {
@@ -54,7 +54,7 @@ module _ {S T : Type 0} (eq : Key → Key → Bool) (nodes : List Node) (unique 
       }
 
   -- a table in which a look-up finds the same is a table
-  table_unchanged : (unique' : HashMap Node ℕ S) → IsTable eq nodes unique memo → IsUnchanged unique unique' → IsTable eq nodes unique' memo
+  table_unchanged : (unique' : HashMap Node ℕ S) → IsTable nodes unique memo → IsUnchanged unique unique' → IsTable nodes unique' memo
   table_unchanged unique' t same = record {
     sound = t.sound;
     found = λ n. rw same (t.found n);
@@ -62,12 +62,12 @@ module _ {S T : Type 0} (eq : Key → Key → Bool) (nodes : List Node) (unique 
   }
 
   -- a table with a new node is a table
-  table_new : (n : Node) (unique' : HashMap Node ℕ S) → IsTable eq nodes unique memo → get same_node unique n ≡ None → IsNodeOver (trees nodes) n
-      → Updates same_node unique unique' n (Some (length nodes + 2)) → IsTable eq (n ∷ nodes) unique' memo
+  table_new : (n : Node) (unique' : HashMap Node ℕ S) → IsTable nodes unique memo → get same_node unique n ≡ None → IsNodeOver (trees nodes) n
+      → Updates same_node unique unique' n (Some (length nodes + 2)) → IsTable (n ∷ nodes) unique' memo
   table_new n unique' t none over up = record {
     sound = (over, sym (t.found n) ∙ none, t.sound);
     found = λ q. up.0 q ∙ rw (t.found q) refl;
-    right = λ key i h. right_keeps (trees nodes) (trees (n ∷ nodes)) key i (keeps_new n nodes) (t.right key i h);
+    right = λ entry there. right_keeps (trees nodes) (trees (n ∷ nodes)) entry.0 entry.1 (keeps_new n nodes) (t.right entry there);
   }
 
 -- a new node is the one that was wanted
@@ -82,37 +82,37 @@ chooses_new nodes n =
     }
 
 -- what `add` gives of a node that the table lacks
-abbrev pub Added : {S T E : Type 0} → (Key → Key → Bool) → List Tree → List Node → HashMap Node ℕ S → HashMap Key ℕ T → Node → Result ℕ E → Type 0
-Added eq now nodes' unique' memo n r =
-    IsTable eq nodes' unique' memo × Keeps now (trees nodes') × IfOk r (λ i. Chooses now (trees nodes') n.variable n.low n.high i)
+abbrev pub Added : {S E : Type 0} → List Tree → List Node → HashMap Node ℕ S → List (Key × ℕ) → Node → Result ℕ E → Type 0
+Added now nodes' unique' memo n r =
+    IsTable nodes' unique' memo × Keeps now (trees nodes') × IfOk r (λ i. Chooses now (trees nodes') n.variable n.low n.high i)
 
-added : {S T E : Type 0} (eq : Key → Key → Bool) (items items' : List Node) (unique unique' : HashMap Node ℕ S) (memo : HashMap Key ℕ T) (n : Node) (r : Result ℕ E)
-    → IsTable eq (reverse items) unique memo → get same_node unique n ≡ None → IsNodeOver (trees (reverse items)) n
+added : {S E : Type 0} (items items' : List Node) (unique unique' : HashMap Node ℕ S) (memo : List (Key × ℕ)) (n : Node) (r : Result ℕ E)
+    → IsTable (reverse items) unique memo → get same_node unique n ≡ None → IsNodeOver (trees (reverse items)) n
     → IfOk r (λ i. i ≡ length items + 2)
     → items' ≡ (if is_ok r then items ++ n ∷ [] else items)
     → IfOk r (λ i. Updates same_node unique unique' n (Some i)) → OnErr r (IsUnchanged unique unique')
-    → Added eq (trees (reverse items)) (reverse items') unique' memo n r
-added eq items items' unique unique' memo n (Ok i) t none over number nodes up same =
+    → Added (trees (reverse items)) (reverse items') unique' memo n r
+added items items' unique unique' memo n (Ok i) t none over number nodes up same =
     let longer : reverse items' ≡ n ∷ reverse items = ap reverse nodes ∙ reverse-append items (n ∷ []) in
     let at : i ≡ length (reverse items) + 2 = rw length-reverse number in
     let updates : Updates same_node unique unique' n (Some (length (reverse items) + 2)) = rw (← at) up in
     rw (longer, at) (
-      table_new eq (reverse items) unique memo n unique' t none over updates,
+      table_new (reverse items) unique memo n unique' t none over updates,
       keeps_new n (reverse items),
       chooses_new (reverse items) n,
     )
-added eq items items' unique unique' memo n (Err e) t none over number nodes up same =
-    rw nodes (table_unchanged eq (reverse items) unique memo unique' t same, keeps_same (trees (reverse items)), tt)
+added items items' unique unique' memo n (Err e) t none over number nodes up same =
+    rw nodes (table_unchanged (reverse items) unique memo unique' t same, keeps_same (trees (reverse items)), tt)
 
 -- the same, where the table was seen as `now`
-pub added_to : {S T E : Type 0} (eq : Key → Key → Bool) (now : List Tree) (items items' : List Node) (unique unique' : HashMap Node ℕ S) (memo : HashMap Key ℕ T) (n : Node) (r : Result ℕ E)
-    → trees (reverse items) ≡ now → IsTable eq (reverse items) unique memo → get same_node unique n ≡ None → IsNodeOver now n
+pub added_to : {S E : Type 0} (now : List Tree) (items items' : List Node) (unique unique' : HashMap Node ℕ S) (memo : List (Key × ℕ)) (n : Node) (r : Result ℕ E)
+    → trees (reverse items) ≡ now → IsTable (reverse items) unique memo → get same_node unique n ≡ None → IsNodeOver now n
     → IfOk r (λ i. i ≡ length items + 2)
     → items' ≡ (if is_ok r then items ++ n ∷ [] else items)
     → IfOk r (λ i. Updates same_node unique unique' n (Some i)) → OnErr r (IsUnchanged unique unique')
-    → Added eq now (reverse items') unique' memo n r
-added_to eq now items items' unique unique' memo n r e t none over number nodes up same =
-    rw (← e) (added eq items items' unique unique' memo n r t none (rw e over) number nodes up same)
+    → Added now (reverse items') unique' memo n r
+added_to now items items' unique unique' memo n r e t none over number nodes up same =
+    rw (← e) (added items items' unique unique' memo n r t none (rw e over) number nodes up same)
 
 -- equal numbers exactly where the rows are equal
 pub same_exactly : (nodes : List Node) (a b : ℕ) → IsSound nodes → IsOf (trees nodes) a → IsOf (trees nodes) b → IsTrue (nat_eq a b) ↔ SameRows (tree (trees nodes) a) (tree (trees nodes) b)

@@ -1,5 +1,5 @@
 -- The nodes of a table, the newest first, and the table's invariant: for private clauses.
-use Rattle.std.specs.Prelude.{ℕ, ◌≡◌, ◌≢◌, ◌+◌, ◌<◌, ◌==◌, ◌&&◌, Bool, if◌then◌else◌, List, [], ◌∷◌, ◌++◌, length, Option, Some, None}
+use Rattle.std.specs.Prelude.{ℕ, ◌≡◌, ◌≢◌, ◌+◌, ◌<◌, ◌==◌, ◌&&◌, Bool, if◌then◌else◌, List, [], ◌∷◌, ◌++◌, length, Option, Some, None, Contains}
 use Rattle.std.specs.HashMap.{HashMap, get}
 use Rattle.bool_diagrams.specs.declared.node.Node.{Node}
 use Rattle.bool_diagrams.specs.declared.memo.Key.{Key}
@@ -43,7 +43,7 @@ IsSound [] = Unit {0}
 IsSound (n ∷ older) = IsNodeOver (trees older) n × (place older n ≡ None) × IsSound older
 
 -- the table's invariant: its nodes are sound, the map finds each of them, and each memo entry is right
-pub record IsTable {S T : Type 0} (eq : Key → Key → Bool) (nodes : List Node) (unique : HashMap Node ℕ S) (memo : HashMap Key ℕ T) : Type 0 where
+pub record IsTable {S : Type 0} (nodes : List Node) (unique : HashMap Node ℕ S) (memo : List (Key × ℕ)) : Type 0 where
   pub sound : IsSound nodes
   pub found : (n : Node) → get same_node unique n ≡ place nodes n
-  pub right : (key : Key) (i : ℕ) → get eq memo key ≡ Some i → IsRight (trees nodes) key i
+  pub right : (entry : Key × ℕ) → Contains memo entry → IsRight (trees nodes) entry.0 entry.1

@@ -60,7 +60,7 @@ impl Table {
         self.joined(Connective::Iff, a, nothing)
     }
 
-    // A whole operation: the memo is empty at its end.
+    // A whole operation.
     fn joined(
         &mut self,
         connective: Connective,
@@ -72,9 +72,7 @@ impl Table {
         ensures keeps { Keeps self.old self.new }
         ensures joins { IfOk result (λ d. Joins self.new connective a.0 b.0 d.0) }
     {
-        let answer = self.join(connective, a.0, b.0);
-        self.forget();
-        Ok(Diagram(answer?))
+        Ok(Diagram(self.join(connective, a.0, b.0)?))
     }
 
     // The diagram that joins two, by their first variable. It goes one variable deeper at each call.
@@ -97,7 +95,7 @@ impl Table {
         let low = self.join(connective, a_low, b_low)?;
         let high = self.join(connective, a_high, b_high)?;
         let number = self.node(variable, low, high)?;
-        self.remember(key, number)?;
+        self.remember(key, number);
         Ok(number)
     }
 }

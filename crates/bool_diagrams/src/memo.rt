@@ -1,11 +1,10 @@
-// The answers that an operation has found so far, by operation and operands.
-ghost use Rattle.std.specs.Prelude.{◌≡◌, Some, OnOk, OnErr};
-ghost use Rattle.std.specs.HashMap.{get, IsEmpty, IsUnchanged, Updates};
+// The answers that a table's operations have found so far, by operation and operands.
+ghost use Rattle.std.specs.Prelude.{◌≡◌, ◌⊎◌, ℕ, Contains, IfOk, IfSome, []};
 
 use crate::connective::Connective;
+use lru::LruCache;
 use std::alloc::{AllocError, Global};
-use std::collections::HashMap;
-use std::hash::Hash;
+use std::num::NonZeroUsize;
 
 /// An operation with its operands: diagrams by their numbers.
 #[derive(Clone, Copy, PartialEq, Eq, Hash)]
@@ -16,52 +15,41 @@ pub(crate) enum Key {
     Quantify(Connective, u64, u32),
 }
 
-// How much room for each answer a map keeps when its answers are forgotten.
-const ROOM: usize = 16;
+// How many answers a memo keeps at most.
+const ANSWERS: usize = 65_536;
 
-/// Maps each key to the number of the diagram that answers it.
+/// Maps each key to the number of the diagram that answers it. Where there are too many answers, it forgets those that
+/// were not asked for longest: an answer that is forgotten is found anew.
 #[derive(Drop)]
-pub(crate) struct Memo<K: Eq + Hash> {
-    answers: HashMap<K, u64>,
+pub(crate) struct Memo {
+    answers: LruCache<Key, u64>,
 }
 
-impl<K: Eq + Hash + Copy> Memo<K> {
-    pub(crate) fn new(alloc: Global) -> Memo<K>
-        ensures { IsEmpty result.answers }
+impl Memo {
+    pub(crate) fn new(alloc: Global) -> Result<Memo, AllocError>
+        ensures { IfOk result (λ memo. memo.answers.entries ≡ []) }
     {
-        Memo {
-            answers: HashMap::new(alloc),
-        }
+        let Some(most) = NonZeroUsize::new(ANSWERS) else {
+            return Err(AllocError);
+        };
+        Ok(Memo {
+            answers: LruCache::sparse(alloc, most)?,
+        })
     }
 
-    /// The answer that was kept for a key.
-    pub(crate) fn answer(&self, key: K) -> Option<u64>
-        ensures { result ≡ get K.eq self.now.answers key }
+    /// The answer that was kept for a key, where it is not forgotten.
+    pub(crate) fn answer(&mut self, key: Key) -> Option<u64>
+        ensures kept { IfSome result (λ number. Contains self.old.answers.entries (key, number)) }
+        ensures within { (entry : Key × ℕ) → Contains self.new.answers.entries entry → Contains self.old.answers.entries entry }
     {
         self.answers.get(&key).copied()
     }
 
     /// Keeps an answer. Without memory for it, the memo stays as it was.
-    pub(crate) fn keep(&mut self, key: K, number: u64) -> Result<(), AllocError>
-        ensures ok { OnOk result (Updates K.eq self.old.answers self.new.answers key (Some number)) }
-        ensures err { OnErr result (IsUnchanged self.old.answers self.new.answers) }
+    pub(crate) fn keep(&mut self, key: Key, number: u64)
+        ensures { (entry : Key × ℕ) → Contains self.new.answers.entries entry
+            → Contains self.old.answers.entries entry ⊎ (entry ≡ (key, number)) }
     {
-        self.answers.insert(key, number)?;
-        Ok(())
-    }
-
-    /// Forgets every answer, in the time of keeping these: a map with far more room than answers is dropped, since to
-    /// clear it would write all of its room.
-    pub(crate) fn clear(&mut self, alloc: Global)
-        ensures { IsEmpty self.new.answers }
-    {
-        if self.answers.is_empty() {
-            return;
-        }
-        if self.answers.capacity() / ROOM > self.answers.len() {
-            self.answers = HashMap::new(alloc);
-            return;
-        }
-        self.answers.clear();
+        let _ = self.answers.put(key, number);
     }
 }

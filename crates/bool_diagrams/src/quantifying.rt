@@ -39,7 +39,7 @@ impl Table {
         self.quantified(Connective::And, a, v)
     }
 
-    // A whole operation: the memo is empty at its end.
+    // A whole operation.
     fn quantified(
         &mut self,
         connective: Connective,
@@ -51,9 +51,7 @@ impl Table {
         ensures keeps { Keeps self.old self.new }
         ensures quantifies { IfOk result (λ d. Quantifies self.new connective a.0 variable d.0) }
     {
-        let answer = self.quantify(connective, a.0, variable);
-        self.forget();
-        Ok(Diagram(answer?))
+        Ok(Diagram(self.quantify(connective, a.0, variable)?))
     }
 
     // Joins what the diagram is where the variable is false and where it is true. It goes one variable deeper at each call.
@@ -73,13 +71,13 @@ impl Table {
         let node = self.node_of(a);
         if node.variable == variable {
             let number = self.join(connective, node.low, node.high)?;
-            self.remember(key, number)?;
+            self.remember(key, number);
             return Ok(number);
         }
         let low = self.quantify(connective, node.low, variable)?;
         let high = self.quantify(connective, node.high, variable)?;
         let number = self.node(node.variable, low, high)?;
-        self.remember(key, number)?;
+        self.remember(key, number);
         Ok(number)
     }
 }

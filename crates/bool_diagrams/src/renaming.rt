@@ -9,9 +9,9 @@ ghost use Rattle.bool_diagrams.specs.Tree.{value};
 
 use crate::connective::Connective;
 use crate::diagram::Diagram;
-use crate::memo::Memo;
 use crate::table::{Table, VARIABLES};
-use std::alloc::{AllocError, Global};
+use std::alloc::AllocError;
+use std::collections::HashMap;
 
 impl Table {
     /// Gives each variable of `from` the name at its place in `to`, all at once. Other variables keep theirs.
@@ -26,16 +26,15 @@ impl Table {
         ensures rows { IfOk result (λ d. (row : ℕ → Bool)
             → holds self.new d row ≡ holds self.old a (λ v. row (renamed from.now to.now v))) }
     {
-        let mut memo = Memo::new(self.alloc());
-        let answer = self.rename_in(&mut memo, a.0, from, to);
-        self.forget();
-        Ok(Diagram(answer?))
+        let mut made = HashMap::new(self.alloc());
+        Ok(Diagram(self.rename_in(&mut made, a.0, from, to)?))
     }
 
-    // Renames each node once. It goes one variable deeper at each call.
+    // Renames each node once: what was made of a node speaks of these names, and so is kept for this renaming alone. It
+    // goes one variable deeper at each call.
     fn rename_in(
         &mut self,
-        memo: &mut Memo<u64>,
+        made: &mut HashMap<u64, u64>,
         a: u64,
         from: &[u32],
         to: &[u32],
@@ -43,23 +42,23 @@ impl Table {
         requires known { IsOf self.old a }
         requires lengths { length from.now ≡ length to.now }
         requires variables { All (λ v. v < VARIABLES) to.now }
-        requires right { IsRenamed self.old (renamed from.now to.now) memo.old.answers }
+        requires right { IsRenamed self.old (renamed from.now to.now) made.old }
         ensures keeps { Keeps self.old self.new }
-        ensures right { OnOk result (IsRenamed self.new (renamed from.now to.now) memo.new.answers) }
+        ensures right { OnOk result (IsRenamed self.new (renamed from.now to.now) made.new) }
         ensures renames { IfOk result (Renames self.new (renamed from.now to.now) a) }
     {
         if a < 2 {
             return Ok(a);
         }
-        if let Some(number) = memo.answer(a) {
+        if let Some(number) = made_of(made, a) {
             return Ok(number);
         }
         let node = self.node_of(a);
-        let low = self.rename_in(memo, node.low, from, to)?;
-        let high = self.rename_in(memo, node.high, from, to)?;
+        let low = self.rename_in(made, node.low, from, to)?;
+        let high = self.rename_in(made, node.high, from, to)?;
         let variable = new_name(node.variable, from, to);
         let number = self.choose(variable, low, high)?;
-        memo.keep(a, number)?;
+        made.insert(a, number)?;
         Ok(number)
     }
 
@@ -84,6 +83,13 @@ impl Table {
         let number = self.join(Connective::Or, from_low, from_high)?;
         Ok(number)
     }
+}
+
+// What a renaming has made of a diagram.
+fn made_of(made: &HashMap<u64, u64>, a: u64) -> Option<u64>
+    ensures { result ≡ get nat_eq made.now a }
+{
+    made.get(&a).copied()
 }
 
 // The new name of a variable.

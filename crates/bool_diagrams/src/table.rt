@@ -20,7 +20,7 @@ pub const VARIABLES: u32 = 64;
 pub struct Table {
     nodes: Vec<Node>,
     unique: HashMap<Node, u64>,
-    memo: Memo<Key>,
+    memo: Memo,
 }
 
 impl Drop for Table {
@@ -46,7 +46,7 @@ impl Model for Table {
 
     ghost view = { λ t. trees (reverse t.nodes.items) };
 
-    ghost invariant = { λ t. IsTable ⟦<Key as PartialEq>⟧.eq (reverse t.nodes.items) t.unique t.memo.answers };
+    ghost invariant = { λ t. IsTable (reverse t.nodes.items) t.unique t.memo.answers.entries };
 }
 
 impl Table {
@@ -54,10 +54,11 @@ impl Table {
     pub fn new(alloc: Global) -> Result<Table, AllocError>
         ensures { IfOk result (λ t. t ≡ []) }
     {
+        let memo = Memo::new(alloc)?;
         Ok(Table {
             nodes: Vec::new(alloc),
             unique: HashMap::new(alloc),
-            memo: Memo::new(alloc),
+            memo,
         })
     }
 
@@ -164,31 +165,24 @@ impl Table {
     }
 
     // What the memo has.
-    pub(crate) fn recall(&self, key: Key) -> Option<u64>
-        ensures { IfSome result (IsRight self.now key) }
+    pub(crate) fn recall(&mut self, key: Key) -> Option<u64>
+        ensures same { self.new ≡ self.old }
+        ensures right { IfSome result (IsRight self.old key) }
     {
         self.memo.answer(key)
     }
 
-    // Keeps an answer in the memo.
-    pub(crate) fn remember(&mut self, key: Key, number: u64) -> Result<(), AllocError>
+    // Keeps an answer in the memo, where there is memory for it.
+    pub(crate) fn remember(&mut self, key: Key, number: u64)
         requires { IsRight self.old key number }
         ensures { self.new ≡ self.old }
     {
-        self.memo.keep(key, number)
+        self.memo.keep(key, number);
     }
 
     // Where the table takes its memory.
     pub(crate) fn alloc(&self) -> Global {
         *self.nodes.allocator()
-    }
-
-    // Empties the memo, at the end of an operation.
-    pub(crate) fn forget(&mut self)
-        ensures { self.new ≡ self.old }
-    {
-        let alloc = self.alloc();
-        self.memo.clear(alloc);
     }
 }
 

@@ -12,18 +12,18 @@ returns-then-variable-first_of-clause-quantifies t c =
 
 asked_here : (t : ℕ) (c : goal.After-remember-arg-1 t) → Quantifies c.join.new.self c.args.connective c.args.a c.args.variable c.in_ok-number.number
 asked_here t c =
+    let reduced = rw c.recall.ensures.same at c.node_of-node.ensures.reduced in
+    let stands = rw c.recall.ensures.same at c.node_of-node.ensures.stands in
+    let keeps = rw c.recall.ensures.same at c.in_ok-number.ensures.keeps in
     rw (← c.if-node-variable.true)
-    (asked c.args.connective c.args.self.now c.join.new.self c.args.a c.in_ok-number.number c.node_of-node.result c.requires.known c.node_of-node.ensures.reduced c.node_of-node.ensures.stands
-    c.in_ok-number.ensures.keeps (low_known _ _ _ c.node_of-node.ensures.stands) (high_known _ _ _ c.node_of-node.ensures.stands) c.in_ok-number.ensures.joins)
+    (asked c.args.connective c.args.self.now c.join.new.self c.args.a c.in_ok-number.number c.node_of-node.result c.requires.known reduced stands keeps (low_known _ _ _ stands) (high_known _ _ _ stands)
+    c.in_ok-number.ensures.joins)
 
 pub remember-requires : goal.remember-requires
-remember-requires t c = (let m = c.in_ok-number.ensures.keeps.more in let k = c.requires.known in omega arith, asked_here t c)
+remember-requires t c = (let m = c.in_ok-number.ensures.keeps.more in let same = c.recall.ensures.same in let k = c.requires.known in omega arith, asked_here t c)
 
 pub returns-then-node-variable-clause-quantifies : goal.returns-then-node-variable-clause-quantifies
-returns-then-node-variable-clause-quantifies t c =
-    rw (c.in_ok-remember.ensures, ← c.if-node-variable.true)
-    (asked c.args.connective c.args.self.now c.join.new.self c.args.a c.in_ok-number.number c.node_of-node.result c.requires.known c.node_of-node.ensures.reduced c.node_of-node.ensures.stands
-    c.in_ok-number.ensures.keeps (low_known _ _ _ c.node_of-node.ensures.stands) (high_known _ _ _ c.node_of-node.ensures.stands) c.in_ok-number.ensures.joins)
+returns-then-node-variable-clause-quantifies t c = rw c.remember.ensures (asked_here t c.before)
 
 pub node-requires-clause-low_from : goal.node-requires-clause-low_from
 node-requires-clause-low_from t c =

@@ -4,4 +4,4 @@ use Rattle.bool_diagrams.proofs.table.Table.new.Goals as goal
 
 pub returns : goal.returns
 unfolding trees
-returns c = rw c.new.ensures.items refl
+returns c = rw c.new-2.ensures.items refl

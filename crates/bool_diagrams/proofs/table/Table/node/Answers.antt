@@ -2,18 +2,17 @@ use Rattle.std.proofs.Common.{sym, ◌∙◌, reverse}
 use Rattle.bool_diagrams.specs.declared.node.Node.{Node}
 use Rattle.bool_diagrams.proofs.Tables.{Added, chooses_found, added_to}
 use Rattle.bool_diagrams.proofs.table.Table.node.Goals as goal
-use Rattle.bool_diagrams.specs.contracts.memo.KeyPartialEq.TheImpl.{eq-value}
 
 pub returns-in-Some-clause-made : goal.returns-in-Some-clause-made
 returns-in-Some-clause-made c =
     let n : Node = record { variable = c.args.variable; low = c.args.low; high = c.args.high } in
-    rw (← c.self.view_is) (chooses_found eq-value.it _ c.self.inside.unique c.self.inside.memo.answers n c.in-Some.number c.self.invariant (sym c.in-Some.ensures))
+    rw (← c.self.view_is) (chooses_found _ c.self.inside.unique c.self.inside.memo.answers.entries n c.in-Some.number c.self.invariant (sym c.in-Some.ensures))
 
 added_here : (c : goal.After-add)
-    → Added eq-value.it c.args.self.now (reverse c.add.new.nodes.items) c.add.new.unique c.self.inside.memo.answers (record { variable = c.args.variable; low = c.args.low; high = c.args.high }) c.add.result
+    → Added c.args.self.now (reverse c.add.new.nodes.items) c.add.new.unique c.self.inside.memo.answers.entries (record { variable = c.args.variable; low = c.args.low; high = c.args.high }) c.add.result
 added_here c =
     let n : Node = record { variable = c.args.variable; low = c.args.low; high = c.args.high } in
-    added_to eq-value.it c.args.self.now c.self.inside.nodes.items c.add.new.nodes.items c.self.inside.unique c.add.new.unique c.self.inside.memo.answers n c.add.result
+    added_to c.args.self.now c.self.inside.nodes.items c.add.new.nodes.items c.self.inside.unique c.add.new.unique c.self.inside.memo.answers.entries n c.add.result
     c.self.view_is c.self.invariant (sym c.look_up.ensures ∙ c.in_default.is)
     (record { in_range = c.requires.in_range; low_of = c.requires.low_of; high_of = c.requires.high_of; apart = c.if-low-high.false; low_from = c.requires.low_from; high_from = c.requires.high_from })
     c.add.ensures.number c.add.ensures.nodes c.add.ensures.updates c.add.ensures.unchanged
