@@ -1,6 +1,7 @@
 pub mod Canonical
 pub mod Nodes
 pub mod Tables
+pub mod Keys
 pub mod Memos
 pub mod Decided
 pub mod Halves

@@ -1,32 +1,15 @@
 -- What a memo has after a look-up and after a put, and how it stays right.
-use Rattle.std.proofs.Common.{◌==◌, ◌&&◌, ◌⊎◌, inl, inr, IfSome, OnOk, OnErr, Result, Ok, Err, ◌≡◌, ℕ, Bool, true, List, [], Contains, Option, Some, None, refl, sym, ◌∙◌, ap}
-use Rattle.std.proofs.lemmas.Bool.{eqb-true, and_parts}
+use Rattle.std.proofs.Common.{◌⊎◌, inl, inr, IfSome, OnOk, OnErr, Result, Ok, Err, ◌≡◌, ℕ, List, Contains, Option, Some, None, refl, sym}
 use Rattle.std.specs.HashMap.{HashMap}
 use Rattle.std.specs.Map.{lookup}
 use Rattle.lru.specs.LruCache.{LruCache, lru_cache, promoted, put_entries}
 use Rattle.lru.proofs.CallerLemmas.{Contains-lookup, Contains-promoted, Contains-put_entries, IsPut}
 use Rattle.bool_diagrams.specs.declared.node.Node.{Node}
-use Rattle.bool_diagrams.specs.declared.connective.Connective.TheVariants.{And, Or, Iff}
 use Rattle.bool_diagrams.specs.declared.memo.Key.{Key}
-use Rattle.bool_diagrams.specs.declared.memo.Key.TheVariants.{Join, Quantify}
 use Rattle.bool_diagrams.specs.contracts.memo.KeyPartialEq.TheImpl.{eq-value}
 use Rattle.bool_diagrams.specs.Joins.{IsRight}
 use Rattle.bool_diagrams.specs.Nodes.{trees, IsTable}
-
-both : (make : ℕ → ℕ → Key) (a b c d : ℕ) → ((a == c) && (b == d)) ≡ true → make a b ≡ make c d
-both make a b c d h =
-    let parts = and_parts (a == c) (b == d) h in
-    ap (λ (n : ℕ). make n b) (eqb-true a c parts.0) ∙ ap (make c) (eqb-true b d parts.1)
-
--- the derived comparison finds the same key
-same_key : (j k : Key) → eq-value.it j k ≡ true → j ≡ k
-same_key (Join And a b) (Join And c d) h = both (Join And) a b c d h
-same_key (Join Or a b) (Join Or c d) h = both (Join Or) a b c d h
-same_key (Join Iff a b) (Join Iff c d) h = both (Join Iff) a b c d h
-same_key (Quantify And a b) (Quantify And c d) h = both (Quantify And) a b c d h
-same_key (Quantify Or a b) (Quantify Or c d) h = both (Quantify Or) a b c d h
-same_key (Quantify Iff a b) (Quantify Iff c d) h = both (Quantify Iff) a b c d h
-same_key j k h = cc
+use Rattle.bool_diagrams.proofs.Keys.{same_key}
 
 -- what is found was kept under the key itself
 pub found_entry : (es : List (Key × ℕ)) (key : Key) (r : Option ℕ) → r ≡ lookup (eq-value.it key) es → IfSome r (λ number. Contains es (key, number))

@@ -1,5 +1,5 @@
 -- What a diagram is that was joined of others: for private clauses.
-use Rattle.std.specs.Prelude.{ℕ, ◌≡◌, ◌+◌, ◌≤◌, ◌<◌, false, true, Bool, List, ◌&&◌, ◌||◌, if◌then◌else◌, Option, Some, None, nat_eq}
+use Rattle.std.specs.Prelude.{ℕ, ◌≡◌, ◌+◌, ◌*◌, ◌^◌, ◌≤◌, ◌<◌, false, true, Bool, List, ◌&&◌, ◌||◌, if◌then◌else◌, Option, Some, None, nat_eq}
 use Rattle.std.specs.HashMap.{HashMap, get}
 use Rattle.bool_diagrams.specs.declared.connective.Connective.{Connective}
 use Rattle.bool_diagrams.specs.declared.connective.Connective.TheVariants.{And, Or, Iff}
@@ -85,6 +85,11 @@ pub record Quantifies (trees : List Tree) (connective : Connective) (a variable 
   pub rows : (row : ℕ → Bool)
       → value (tree trees i) row ≡ joined connective (value (tree trees a) (with_value row variable false)) (value (tree trees a) (with_value row variable true))
   pub from : (v : ℕ) → IsFrom v (tree trees a) → IsFrom v (tree trees i)
+
+-- the operands of an operation as one number
+abbrev pub operands : Key → ℕ
+operands (Join connective a b) = a * 2 ^ 64 + b
+operands (Quantify connective a variable) = a * 2 ^ 64 + variable
 
 -- a memo entry is right: the number is the answer of the operation at its operands
 abbrev pub IsRight : List Tree → Key → ℕ → Type 0

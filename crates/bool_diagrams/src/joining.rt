@@ -1,6 +1,6 @@
 // Joining two diagrams row by row.
-ghost use Rattle.std.specs.Prelude.{◌≡◌, ◌&&◌, ◌||◌, Bool, IfOk, not, ℕ};
-ghost use Rattle.bool_diagrams.specs.Joins.{Joins};
+ghost use Rattle.std.specs.Prelude.{◌≡◌, ◌&&◌, ◌||◌, Bool, IfOk, IfSome, not, ℕ};
+ghost use Rattle.bool_diagrams.specs.Joins.{IsRight, Joins};
 ghost use Rattle.bool_diagrams.specs.Rows.{IsDiagram, IsOf, Keeps, holds, iff};
 
 use crate::connective::Connective;
@@ -75,8 +75,27 @@ impl Table {
         Ok(Diagram(self.join(connective, a.0, b.0)?))
     }
 
-    // The diagram that joins two, by their first variable. It goes one variable deeper at each call.
+    // The diagram that joins two.
     pub(crate) fn join(&mut self, connective: Connective, a: u64, b: u64) -> Result<u64, AllocError>
+        requires left { IsOf self.old a }
+        requires right { IsOf self.old b }
+        ensures keeps { Keeps self.old self.new }
+        ensures joins { IfOk result (Joins self.new connective a b) }
+    {
+        self.join_down(connective, a, b, true)
+    }
+
+    // The diagram that joins two, by their first variable. It goes one variable deeper at each call.
+    //
+    // The memo serves every second step: one between is taken anew in less time than an answer takes to be kept, and
+    // leads to two steps that the memo serves.
+    fn join_down(
+        &mut self,
+        connective: Connective,
+        a: u64,
+        b: u64,
+        served: bool,
+    ) -> Result<u64, AllocError>
         requires left { IsOf self.old a }
         requires right { IsOf self.old b }
         ensures keeps { Keeps self.old self.new }
@@ -86,16 +105,34 @@ impl Table {
             return Ok(number);
         }
         let key = Key::Join(connective, a, b);
-        if let Some(number) = self.recall(key) {
+        if let Some(number) = self.recall_where(served, key) {
             return Ok(number);
         }
         let variable = self.first(a, b);
         let (a_low, a_high) = self.split(a, variable);
         let (b_low, b_high) = self.split(b, variable);
-        let low = self.join(connective, a_low, b_low)?;
-        let high = self.join(connective, a_high, b_high)?;
+        let low = self.join_down(connective, a_low, b_low, !served)?;
+        let high = self.join_down(connective, a_high, b_high, !served)?;
         let number = self.node(variable, low, high)?;
-        self.remember(key, number);
+        self.remember_where(served, key, number);
         Ok(number)
+    }
+
+    // What the memo has, at a step that it serves.
+    fn recall_where(&mut self, served: bool, key: Key) -> Option<u64>
+        ensures same { self.new ≡ self.old }
+        ensures right { IfSome result (IsRight self.old key) }
+    {
+        if served { self.recall(key) } else { None }
+    }
+
+    // Keeps an answer in the memo, at a step that it serves.
+    fn remember_where(&mut self, served: bool, key: Key, number: u64)
+        requires { IsRight self.old key number }
+        ensures { self.new ≡ self.old }
+    {
+        if served {
+            self.remember(key, number);
+        }
     }
 }

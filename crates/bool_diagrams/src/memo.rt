@@ -1,18 +1,47 @@
 // The answers that a table's operations have found so far, by operation and operands.
 ghost use Rattle.std.specs.Prelude.{◌≡◌, ◌⊎◌, ℕ, Contains, IfOk, IfSome, []};
+ghost use Rattle.std.specs.Hash as fed;
+ghost use Rattle.bool_diagrams.specs.Joins.{operands};
+ghost use Rattle.std.specs.Cmp.Rules.{hashing};
+ghost use Rattle.std.proofs.Common.{rules};
 
 use crate::connective::Connective;
 use lru::LruCache;
 use std::alloc::{AllocError, Global};
+use std::hash::{Hash, Hasher};
 use std::num::NonZeroUsize;
 
 /// An operation with its operands: diagrams by their numbers.
-#[derive(Clone, Copy, PartialEq, Eq, Hash)]
+#[derive(Clone, Copy, PartialEq, Eq)]
 pub(crate) enum Key {
     /// Two diagrams, joined row by row.
     Join(Connective, u64, u64),
     /// A diagram whose halves, the variable false and true, are joined.
     Quantify(Connective, u64, u32),
+}
+
+impl Key {
+    // The operands as one number.
+    fn operands(self) -> u128
+        ensures { result ≡ operands self }
+    {
+        let (a, b) = match self {
+            Key::Join(_, a, b) => (a, b),
+            Key::Quantify(_, a, variable) => (a, variable as u64),
+        };
+        (a as u128) * (1 << 64) + b as u128
+    }
+}
+
+// A key is looked for at each step, so it is hashed in one piece: few operations have the same operands.
+impl Hash for Key {
+    ghost hash_input = { λ key. fed.u128 (operands key) };
+
+    ghost respects_eq = { Prim.search (hashing, rules) };
+
+    fn hash<H: Hasher>(&self, state: &mut H) {
+        state.write_u128(self.operands());
+    }
 }
 
 // How many answers a memo keeps at most.

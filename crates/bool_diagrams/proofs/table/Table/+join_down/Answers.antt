@@ -1,6 +1,6 @@
 use Rattle.bool_diagrams.proofs.Nodes.{keeps_same, keeps_twice}
 use Rattle.bool_diagrams.proofs.Halves.{half_from}
-use Rattle.bool_diagrams.proofs.table.Table.+join.Goals as goal
+use Rattle.bool_diagrams.proofs.table.Table.+join_down.Goals as goal
 
 pub node-requires-clause-low_from : goal.node-requires-clause-low_from
 node-requires-clause-low_from t c =
