@@ -1,5 +1,5 @@
 -- The nodes of a table, the newest first, and the table's invariant: for private clauses.
-use Rattle.std.specs.Prelude.{ℕ, ◌≡◌, ◌≢◌, ◌+◌, ◌<◌, ◌==◌, ◌&&◌, Bool, if◌then◌else◌, List, [], ◌∷◌, ◌++◌, length, Option, Some, None, Contains}
+use Rattle.std.specs.Prelude.{ℕ, ◌≡◌, ◌≢◌, ◌+◌, ◌*◌, ◌%◌, ◌^◌, ◌<◌, ◌==◌, ◌&&◌, Bool, if◌then◌else◌, List, [], ◌∷◌, ◌++◌, length, Option, Some, None, Contains}
 use Rattle.std.specs.HashMap.{HashMap, get}
 use Rattle.bool_diagrams.specs.declared.node.Node.{Node}
 use Rattle.bool_diagrams.specs.declared.memo.Key.{Key}
@@ -14,6 +14,10 @@ trees (n ∷ older) = trees older ++ branch n.variable (tree (trees older) n.low
 
 abbrev pub same_node : Node → Node → Bool
 same_node m n = m.variable == n.variable && (m.low == n.low && m.high == n.high)
+
+-- a node as one number, which few others have, to be hashed
+abbrev pub mixed : Node → ℕ
+mixed n = (n.low * 2 ^ 64 + n.high + n.variable * 2 ^ 88) % 2 ^ 128
 
 -- the number of a node that the table has
 abbrev pub place : List Node → Node → Option ℕ
