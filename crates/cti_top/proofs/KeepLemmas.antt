@@ -9,6 +9,10 @@ use Rattle.cti_top.specs.Words.{Ask, infer, check, run}
 pub untouched : (told : Map) (faults : List ℕ → ℕ) → Keeps told told faults faults
 untouched told faults = record { map = refl; counts = λ name. omega arith }
 
+-- a store behind a load
+pub loaded : (told after : Map) (faults later : List ℕ → ℕ) → after ≡ told → ((name : List ℕ) → faults name ≤ later name) → Keeps told after faults later
+loaded told after faults later map counts = record { map = map; counts = counts }
+
 -- one call after another
 pub keeps_then : (a b c : Map) (f g h : List ℕ → ℕ) → Keeps a b f g → Keeps b c g h → Keeps a c f h
 keeps_then a b c f g h first second = record {

@@ -40,6 +40,7 @@ fn inferred(alloc: Global, source: &Source) -> Result<Answer, AllocError>
 }
 
 /// The answer to what is asked of a program that was read, or the status of a call that writes nothing.
+#[tactic(auto, using(crate::proofs::KeepLemmas::untouched, crate::proofs::KeepLemmas::loaded))]
 fn answer_of<F: Files>(
     alloc: Global,
     source: Source,
@@ -61,6 +62,7 @@ fn answer_of<F: Files>(
 }
 
 /// The answer to what is asked of the bytes of a program, or the status of a call that writes nothing.
+#[tactic(auto, using(crate::proofs::KeepLemmas::untouched, crate::proofs::KeepLemmas::loaded))]
 fn answer_to<F: Files>(
     alloc: Global,
     bytes: &[u8],
@@ -83,6 +85,7 @@ fn answer_to<F: Files>(
 }
 
 /// The answer to what is asked, or the status of a call that writes nothing.
+#[tactic(auto, using(crate::proofs::KeepLemmas::untouched, crate::proofs::KeepLemmas::loaded))]
 fn answer_in<F: Files>(alloc: Global, request: Request, files: &mut F) -> Result<Answer, Status>
     ensures answered { IfOk result (λ a. AnswersRequest (F.told files.old) (ask_of request.entry) a.status a.text.items) }
     ensures file_fault { IsErrOf result Status.FileFault → FileRose (ask_of request.entry) (F.faults files.old) (F.faults files.new) }
@@ -108,6 +111,7 @@ fn usage(alloc: Global) -> Result<Answer, AllocError>
 }
 
 /// The answer to the words, or the status of a call that writes nothing.
+#[tactic(auto, using(crate::proofs::KeepLemmas::untouched, crate::proofs::KeepLemmas::loaded))]
 pub fn answer_for<F: Files>(alloc: Global, words: &[&str], files: &mut F) -> Result<Answer, Status>
     ensures answered { IfOk result (λ a. IsAnswer (F.told files.old) (map (λ w. w.now) words.entry.now) a.status a.text.items) }
     ensures file_fault { IsErrOf result Status.FileFault

@@ -71,6 +71,7 @@ fn answer_to(alloc: Global, source: &Source, text: &[u8]) -> Result<Answer, Allo
 }
 
 /// The answer to the certificate of a program in the file of this name, or the status of a call that writes nothing.
+#[tactic(auto, using(crate::proofs::KeepLemmas::untouched, crate::proofs::KeepLemmas::loaded))]
 pub fn check_of<F: Files>(
     alloc: Global,
     source: &Source,

@@ -27,6 +27,7 @@ use std::alloc::Global;
 /// --steps N` reads a query of the program too, and writes its answers among the empty derivation and the first N others, then how
 /// many there were, the length of the longest, and whether there are more. N is from 1 to 1,000,000, and else 100,000. The answer is
 /// complete, and all memory is taken, before the first byte is written.
+#[tactic(auto, using(crate::proofs::KeepLemmas::untouched, crate::proofs::KeepLemmas::loaded))]
 pub fn command<F: Files, S: Sink>(
     alloc: Global,
     words: &[&str],
