@@ -66,6 +66,11 @@ fn what_was_expected(rt: HostRuntime) -> Result<(), Fail> {
             "an operator or the end dot was expected here",
         ),
         (
+            ":- dynamic p/1.\n",
+            (1, 12),
+            "this directive is not read: leave it out",
+        ),
+        (
             "p(a)\n",
             (2, 1),
             "the text ends within a clause: look for a missing end dot or bracket",

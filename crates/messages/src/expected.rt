@@ -24,6 +24,8 @@ pub enum Expected {
     Operator,
     #[error("the clause before this line has no end dot")]
     NoDot,
+    #[error("this directive is not read: leave it out")]
+    Directive,
     #[error("the text ends within a clause: look for a missing end dot or bracket")]
     TextEnd,
     #[error("the query ends too early: look for a missing term or bracket")]
@@ -57,16 +59,37 @@ fn ends_in_word(text: &[u8]) -> bool {
     WORDS.iter().any(|word| text.ends_with(word))
 }
 
+/// The last line of a text, without the layout around it.
+fn last_line(text: &[u8]) -> &[u8] {
+    let line = text.rsplit(|byte| *byte == b'\n').next().unwrap_or(text);
+    line.trim_ascii()
+}
+
 /// Whether only layout stands before the end of a text in its last line, and another line before it.
 fn begins_line(text: &[u8]) -> bool {
-    let line = text.rsplit(|byte| *byte == b'\n').next().unwrap_or(text);
-    line.len() < text.len() && line.trim_ascii().is_empty()
+    text.contains(&b'\n') && last_line(text).is_empty()
+}
+
+/// Whether the last line of a text is a directive's word, as `:- dynamic`, which is no operator here.
+fn ends_in_directive(text: &[u8]) -> bool {
+    match last_line(text).strip_prefix(b":-".as_slice()) {
+        Some(word) => {
+            let word = word.trim_ascii();
+            !word.is_empty()
+                && word
+                    .iter()
+                    .all(|byte| byte.is_ascii_lowercase() || *byte == b'_')
+        }
+        None => false,
+    }
 }
 
 /// What was expected after a text without an open bracket, which ends in a whole term.
 fn expected_outside(subject: Subject, before: &[u8]) -> Expected {
     if subject == Subject::Query {
         Expected::QueryEnd
+    } else if ends_in_directive(before) {
+        Expected::Directive
     } else if begins_line(before) {
         Expected::NoDot
     } else {
