@@ -3,6 +3,7 @@ pub mod BestLaws
 pub mod ChainParts
 pub mod Decreasing
 pub mod ExactParts
+pub mod GeneratedLaws
 pub mod Inferred
 pub mod MappingParts
 pub mod MemberLaws

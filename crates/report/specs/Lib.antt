@@ -4,6 +4,7 @@ pub mod ChainNotes
 pub mod Exact
 pub mod ExactMappings
 pub mod ExactModes
+pub mod Generated
 pub mod Levels
 pub mod Ranges
 pub mod Refuted

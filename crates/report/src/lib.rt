@@ -8,6 +8,7 @@
 mod assembling;
 mod chain_notes;
 mod copies;
+mod generating;
 mod inferring;
 pub mod laws;
 mod leading;
@@ -18,4 +19,5 @@ mod sets;
 mod shaped;
 mod support_notes;
 
+pub use generating::gen_source;
 pub use inferring::infer;
