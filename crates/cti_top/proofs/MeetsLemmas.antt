@@ -9,11 +9,10 @@ use Rattle.cti_terms.specs.declared.atom_list.Atom.{Atom}
 use Rattle.cti_terms.specs.Nodes.{HasMoreNodes}
 use Rattle.cti_terms.specs.declared.derivation.Goal.{Goal}
 use Rattle.ld_resolver.specs.declared.running.Ending.{Ending}
-use Rattle.ld_resolver.specs.declared.running.Ending.TheVariants as ending
 use Rattle.cti_top.specs.Meets.{MeetsMode}
-use Rattle.cti_top.specs.Runs.{Ends, more, no_more, IsFinished, IsTextOfRun}
+use Rattle.cti_top.specs.Runs.{Ends, more, no_more, IsFinished}
 use Rattle.cti_top.specs.declared.status.Status.{Status}
-use Rattle.cti_top.specs.declared.status.Status.TheVariants.{Done, Stopped}
+use Rattle.cti_top.specs.declared.status.Status.TheVariants.{Done}
 use Rattle.cti_top.proofs.ModeLemmas.{known_at}
 
 pub is_bounded : (p : Listing) (names : List (List ℕ)) (facts : List Fact) (a : Atom) (counter : ℕ) → ModesAreBounded p names facts → MeetsMode p names facts a → Bounded p (query a counter)
@@ -26,6 +25,8 @@ is_bounded p names facts a counter all m =
 pub finishes : (p : Listing) (g : Goal) (n : ℕ) → (HasMoreNodes p g n → ⊥) → IsFinished p g n
 finishes p g n none = record { enough = none; done = λ names status text ran. ended status ran.ending ran.ends }
   where
-    ended : (status : Status) (ending : Ending) → Ends p g n status ending → status ≡ Done
-    ended Stopped ending.Stopped (more m) = absurd (none m)
-    ended Done ending.Finished (no_more m) = refl
+    ended : (status : Status) (e : Ending) → Ends p g n status e → status ≡ Done
+    ended status e h = elim h as (λ s e _. s ≡ Done) [
+      | more m ↦ absurd (none m)
+      | no_more m ↦ refl
+    ]
