@@ -1,9 +1,9 @@
 -- A store that keeps its map and lets no count fall.
-use Rattle.std.proofs.Common.{◌≡◌, ℕ, ◌+◌, ◌-◌, ◌^◌, ◌≤◌, min, List, inl, inr, refl, ◌∙◌, arith}
+use Rattle.std.proofs.Common.{◌≡◌, ℕ, ◌≤◌, List, inl, inr, refl, ◌∙◌, arith}
 use Rattle.cti_top.specs.Told.{Map, Keeps}
 use Rattle.cti_top.specs.Causes.{Rose}
 use Rattle.cti_top.specs.Outcome.{FileRose}
-use Rattle.cti_top.specs.Words.{Ask, infer, check, run}
+use Rattle.cti_top.specs.Words.{Ask, infer, check, run, gen}
 
 -- a store that no call has touched
 pub untouched : (told : Map) (faults : List ℕ → ℕ) → Keeps told told faults faults
@@ -30,3 +30,4 @@ no_file_rises (infer file) rose = never_rises rose
 no_file_rises (check file certificate) (inl rose) = never_rises rose
 no_file_rises (check file certificate) (inr rose) = never_rises rose
 no_file_rises (run file query steps) rose = never_rises rose
+no_file_rises (gen n) rose = rose

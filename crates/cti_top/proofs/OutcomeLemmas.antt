@@ -1,13 +1,15 @@
 -- What the status of the top call says.
-use Rattle.std.proofs.Common.{◌≡◌, ℕ, ◌≤◌, ◌<◌, List, length, Option, Some, None, ◌⊎◌, refl, ap, sym, ◌∙◌, inl, inr, arith}
+use Rattle.std.proofs.Common.{◌≡◌, ℕ, ◌≤◌, ◌<◌, List, [], length, subst, Option, Some, None, ◌⊎◌, refl, ap, sym, ◌∙◌, inl, inr, arith}
 use Rattle.std.proofs.lemmas.Option.{none-some, same_Some}
 use Rattle.cti_top.specs.Told.{Map, TellsAt, TellsMore, Takes}
-use Rattle.cti_top.specs.Words.{Ask, infer, check, run, asks}
+use Rattle.cti_top.specs.Words.{Ask, infer, check, run, gen, Origin, file, generated, origin, asks}
 use Rattle.cti_top.specs.Programs.{IsRefused}
+use Rattle.report.specs.Generated.{generated as generated_text}
 use Rattle.certificate.specs.Reading.{IsTextOf}
 use Rattle.certificate.specs.Reading.{most_bytes as most_certificate_bytes}
 use Rattle.certificate.specs.declared.certificate.Certificate.{Certificate}
 use Rattle.cti_top.specs.Checks.{IsVerdictOn}
+use Rattle.cti_top.specs.Summary.{IsSummary}
 use Rattle.cti_top.specs.Checks as checks
 use Rattle.cti_top.specs.Queries.{Known}
 use Rattle.certificate.specs.declared.fact.Fact.{Fact}
@@ -18,7 +20,7 @@ use Rattle.cti_terms.specs.declared.derivation.Goal.{Goal}
 use Rattle.ld_resolver.specs.declared.running.Ending.{Ending}
 use Rattle.cti_top.specs.Answers.{AnswersCertificate, AnswersProgram, AnswersRequest}
 use Rattle.cti_top.specs.Answers as answers
-use Rattle.cti_top.specs.Outcome.{most_bytes, program_file, IsAnswer, usage, inferred, ran, checked, program_too_long, program_refused, query_refused, certificate_too_long, certificate_refused, Outcome, HasFile, IsDoneOrMemory, IsRanOrMemory, IsCheckedOrMemory}
+use Rattle.cti_top.specs.Outcome.{most_bytes, TellsText, TellsLong, IsAnswer, usage, inferred, summed, ran, checked, program_too_long, program_refused, query_refused, certificate_too_long, certificate_refused, Outcome, HasFile, HasText, IsDoneOrMemory, IsRanOrMemory, IsCheckedOrMemory}
 use Rattle.cti_top.specs.declared.status.Status.{Status}
 use Rattle.cti_top.specs.declared.status.Status.TheVariants.{Done, No, Usage, Refused, FileFault, OutFault, Memory, Stopped}
 
@@ -42,6 +44,7 @@ memory_unlike (inr e) = cc
 pub not_file : (told : Map) (words : List (List ℕ)) (text : List ℕ) → IsAnswer told words FileFault text → ⊥
 not_file told words text (usage n s e) = cc
 not_file told words text (inferred f b a t m s) = cc
+not_file told words text (summed n a m s) = cc
 not_file told words text (ran f q n b a t r) = elim r.ran.ends [ ]
 not_file told words text (program_too_long k a m s e) = cc
 not_file told words text (program_refused k b kind at a t r s e) = cc
@@ -53,6 +56,7 @@ not_file told words text (certificate_refused f c b d k l a t i u r s e) = cc
 not_out : (told : Map) (words : List (List ℕ)) (text : List ℕ) → IsAnswer told words OutFault text → ⊥
 not_out told words text (usage n s e) = cc
 not_out told words text (inferred f b a t m s) = cc
+not_out told words text (summed n a m s) = cc
 not_out told words text (ran f q n b a t r) = elim r.ran.ends [ ]
 not_out told words text (program_too_long k a m s e) = cc
 not_out told words text (program_refused k b kind at a t r s e) = cc
@@ -64,6 +68,7 @@ not_out told words text (certificate_refused f c b d k l a t i u r s e) = cc
 not_memory : (told : Map) (words : List (List ℕ)) (text : List ℕ) → IsAnswer told words Memory text → ⊥
 not_memory told words text (usage n s e) = cc
 not_memory told words text (inferred f b a t m s) = cc
+not_memory told words text (summed n a m s) = cc
 not_memory told words text (ran f q n b a t r) = elim r.ran.ends [ ]
 not_memory told words text (program_too_long k a m s e) = cc
 not_memory told words text (program_refused k b kind at a t r s e) = cc
@@ -85,16 +90,28 @@ outcome_of told words before after OutFault text a t = absurd (not_out told word
 outcome_of told words before after Memory text a t = absurd (not_memory told words text a)
 
 -- a file is too long or short enough
-long_or_short : (told : Map) (most : ℕ) (file name bytes : List ℕ) → file ≡ name → HasFile told name bytes → length bytes ≤ most → TellsMore told file most → ⊥
-long_or_short None most file name bytes e h short more = h
-long_or_short (Some files) most file name bytes e h short more =
+long_or_short : (told : Map) (most : ℕ) (f name bytes : List ℕ) → f ≡ name → HasFile told name bytes → length bytes ≤ most → TellsMore told f most → ⊥
+long_or_short None most f name bytes e h short more = h
+long_or_short (Some files) most f name bytes e h short more =
     let same = same_Some _ _ (sym more.1 ∙ ap files e ∙ h) in
     let long : most < length bytes = rw same at more.2 in
     omega (arith, short, long)
 
-pub same_bytes : (told : Map) (file name b bytes : List ℕ) → file ≡ name → HasFile told name bytes → TellsAt told file b → b ≡ bytes
-same_bytes None file name b bytes e h t = absurd h
-same_bytes (Some files) file name b bytes e h t = same_Some _ _ (sym t ∙ ap files e ∙ h)
+pub same_bytes : (told : Map) (f name b bytes : List ℕ) → f ≡ name → HasFile told name bytes → TellsAt told f b → b ≡ bytes
+same_bytes None f name b bytes e h t = absurd h
+same_bytes (Some files) f name b bytes e h t = same_Some _ _ (sym t ∙ ap files e ∙ h)
+
+-- the same of the texts of one origin
+pub same_text : (told : Map) (o k : Origin) (b bytes : List ℕ) → o ≡ k → HasText told k bytes → TellsText told o b → b ≡ bytes
+same_text told (file f) (file name) b bytes e h t = let same : f ≡ name = cc in same_bytes told f name b bytes same h t
+same_text told (file f) (generated n) b bytes e h t = cc
+same_text told (generated m) (file name) b bytes e h t = cc
+same_text told (generated m) (generated n) b bytes e h t = let same : m ≡ n = cc in t ∙ ap generated_text same ∙ sym h
+
+long_text : (told : Map) (o k : Origin) (bytes : List ℕ) → o ≡ k → HasText told k bytes → length bytes ≤ most_bytes → TellsLong told o → ⊥
+long_text told (file f) (file name) bytes e h short m = let same : f ≡ name = cc in long_or_short told most_bytes f name bytes same h short m
+long_text told (file f) (generated n) bytes e h short m = cc
+long_text told (generated n) k bytes e h short m = m
 
 pub infer_or_run : (name f q : List ℕ) (n : ℕ) → infer name ≡ run f q n → ⊥
 infer_or_run name f q n e = cc
@@ -102,22 +119,31 @@ infer_or_run name f q n e = cc
 infer_or_check : (name f c : List ℕ) → infer name ≡ check f c → ⊥
 infer_or_check name f c e = cc
 
-pub check_or_run : (file c f q : List ℕ) (n : ℕ) → check file c ≡ run f q n → ⊥
-check_or_run file c f q n e = cc
+pub check_or_run : (name c f q : List ℕ) (n : ℕ) → check name c ≡ run f q n → ⊥
+check_or_run name c f q n e = cc
+
+pub gen_or_infer : (n : ℕ) (f : List ℕ) → gen n ≡ infer f → ⊥
+gen_or_infer n f e = cc
+
+pub gen_or_check : (n : ℕ) (f c : List ℕ) → gen n ≡ check f c → ⊥
+gen_or_check n f c e = cc
+
+pub gen_or_run : (m : ℕ) (f q : List ℕ) (n : ℕ) → gen m ≡ run f q n → ⊥
+gen_or_run m f q n e = cc
 
 -- what is asked for is asked for once
 pub one_ask : (words : List (List ℕ)) (x y : Ask) → asks words ≡ Some x → asks words ≡ Some y → x ≡ y
 one_ask words x y a b = same_Some _ _ (sym a ∙ b)
 
--- the program's file has no fault
-module _ (told : Map) (words : List (List ℕ)) (ask : Ask) (bytes : List ℕ) (asked : asks words ≡ Some ask) (has : HasFile told (program_file ask) bytes) where
-  no_long : (k : Ask) → asks words ≡ Some k → TellsMore told (program_file k) most_bytes → length bytes ≤ most_bytes → ⊥
-  no_long k a m short = long_or_short told most_bytes (program_file k) (program_file ask) bytes (ap program_file (one_ask words k ask a asked)) has short m
+-- the program's text has no fault
+module _ (told : Map) (words : List (List ℕ)) (ask : Ask) (bytes : List ℕ) (asked : asks words ≡ Some ask) (has : HasText told (origin ask) bytes) where
+  no_long : (k : Ask) → asks words ≡ Some k → TellsLong told (origin k) → length bytes ≤ most_bytes → ⊥
+  no_long k a m short = long_text told (origin k) (origin ask) bytes (ap origin (one_ask words k ask a asked)) has short m
 
-  no_refusal : (k : Ask) (b : List ℕ) (kind at : ℕ) → asks words ≡ Some k → TellsAt told (program_file k) b → IsRefused b kind at
+  no_refusal : (k : Ask) (b : List ℕ) (kind at : ℕ) → asks words ≡ Some k → TellsText told (origin k) b → IsRefused b kind at
       → ((kind at : ℕ) → IsRefused bytes kind at → ⊥) → ⊥
   no_refusal k b kind at a t r none =
-      let same = same_bytes told (program_file k) (program_file ask) b bytes (ap program_file (one_ask words k ask a asked)) has t in
+      let same = same_text told (origin k) (origin ask) b bytes (ap origin (one_ask words k ask a asked)) has t in
       none kind at (rw same at r)
 
 -- a file without a fault is answered
@@ -125,6 +151,7 @@ pub done_or_memory : (told : Map) (words : List (List ℕ)) (status : Status) (t
     → HasFile told name bytes → length bytes ≤ most_bytes → ((kind at : ℕ) → IsRefused bytes kind at → ⊥) → IsDoneOrMemory status
 done_or_memory told words status text name bytes (usage n s e) asked has short none = absurd (none-some _ (sym n ∙ asked))
 done_or_memory told words status text name bytes (inferred f b a t m s) asked has short none = inl s
+done_or_memory told words status text name bytes (summed n a m s) asked has short none = inl s
 done_or_memory told words status text name bytes (ran f q n b a t r) asked has short none = absurd (infer_or_run name f q n (one_ask words _ _ asked a))
 done_or_memory told words status text name bytes (checked f c b d k a t i u h) asked has short none = absurd (infer_or_check name f c (one_ask words _ _ asked a))
 done_or_memory told words status text name bytes (program_too_long k a m s e) asked has short none = absurd (no_long told words (infer name) bytes asked has k a m short)
@@ -134,6 +161,21 @@ done_or_memory told words status text name bytes (query_refused f q n b kind at 
 done_or_memory told words status text name bytes (certificate_too_long f c b k a t i m s e) asked has short none = absurd (infer_or_check name f c (one_ask words _ _ asked a))
 done_or_memory told words status text name bytes (certificate_refused f c b d k l a t i u r s e) asked has short none =
     absurd (infer_or_check name f c (one_ask words _ _ asked a))
+
+-- a generated program without a fault is answered
+pub summed_or_memory : (told : Map) (words : List (List ℕ)) (status : Status) (text : List ℕ) (n : ℕ) → IsAnswer told words status text → asks words ≡ Some (gen n)
+    → length (generated_text n) ≤ most_bytes → ((kind at : ℕ) → IsRefused (generated_text n) kind at → ⊥) → IsDoneOrMemory status
+summed_or_memory told words status text n (usage none s e) asked short no_fault = absurd (none-some _ (sym none ∙ asked))
+summed_or_memory told words status text n (inferred f b a t m s) asked short no_fault = inl s
+summed_or_memory told words status text n (summed m a h s) asked short no_fault = inl s
+summed_or_memory told words status text n (ran f q k b a t r) asked short no_fault = absurd (gen_or_run n f q k (one_ask words _ _ asked a))
+summed_or_memory told words status text n (checked f c b d k a t i u h) asked short no_fault = absurd (gen_or_check n f c (one_ask words _ _ asked a))
+summed_or_memory told words status text n (program_too_long k a m s e) asked short no_fault = absurd (no_long told words (gen n) (generated_text n) asked refl k a m short)
+summed_or_memory told words status text n (program_refused k b kind at a t r s e) asked short no_fault =
+    absurd (no_refusal told words (gen n) (generated_text n) asked refl k b kind at a t r no_fault)
+summed_or_memory told words status text n (query_refused f q k b kind at a t r s e) asked short no_fault = absurd (gen_or_run n f q k (one_ask words _ _ asked a))
+summed_or_memory told words status text n (certificate_too_long f c b k a t i m s e) asked short no_fault = absurd (gen_or_check n f c (one_ask words _ _ asked a))
+summed_or_memory told words status text n (certificate_refused f c b d k l a t i u r s e) asked short no_fault = absurd (gen_or_check n f c (one_ask words _ _ asked a))
 
 -- a run ends as it was asked, or is stopped
 done_or_stopped : {p : Listing} {g : Goal} {n : ℕ} {e : Ending} (status : Status) → Ends p g n status e → (status ≡ Done) ⊎ (status ≡ Stopped)
@@ -146,8 +188,16 @@ ended : (status : Status) → (status ≡ Done) ⊎ (status ≡ Stopped) → IsR
 ended status (inl h) = inl h
 ended status (inr h) = inr (inl h)
 
+-- the name of the program's file
+abbrev pub name_of : Ask → List ℕ
+name_of (infer f) = f
+name_of (check f c) = f
+name_of (run f q n) = f
+name_of (gen n) = []
+
 -- the query that was asked, or the name of the certificate
 abbrev pub query_of : Ask → List ℕ
+query_of (gen n) = []
 query_of (infer f) = f
 query_of (check f c) = c
 query_of (run f q n) = q
@@ -158,6 +208,7 @@ pub ran_or_memory : (told : Map) (words : List (List ℕ)) (status : Status) (te
     → ((kind at : ℕ) → IsRefusedQuery bytes query kind at → ⊥) → IsRanOrMemory status
 ran_or_memory told words status text name query bytes steps (usage n s e) asked has short none no_fault = absurd (none-some _ (sym n ∙ asked))
 ran_or_memory told words status text name query bytes steps (inferred f b a t m s) asked has short none no_fault = inl s
+ran_or_memory told words status text name query bytes steps (summed n a m s) asked has short none no_fault = inl s
 ran_or_memory told words status text name query bytes steps (ran f q n b a t r) asked has short none no_fault = ended status (done_or_stopped status r.ran.ends)
 ran_or_memory told words status text name query bytes steps (checked f c b d k a t i u h) asked has short none no_fault = absurd (check_or_run f c name query steps (one_ask words _ _ a asked))
 ran_or_memory told words status text name query bytes steps (program_too_long k a m s e) asked has short none no_fault =
@@ -166,7 +217,7 @@ ran_or_memory told words status text name query bytes steps (program_refused k b
     absurd (no_refusal told words (run name query steps) bytes asked has k b kind at a t r none)
 ran_or_memory told words status text name query bytes steps (query_refused f q n b kind at a t r s e) asked has short none no_fault =
     let one = one_ask words _ _ a asked in
-    let same = same_bytes told f name b bytes (ap program_file one) has t in
+    let same = same_bytes told f name b bytes (ap name_of one) has t in
     let same_query : q ≡ query = ap query_of one in
     absurd (no_fault kind at (rw (same, same_query) at r))
 ran_or_memory told words status text name query bytes steps (certificate_too_long f c b k a t i m s e) asked has short none no_fault =
@@ -184,6 +235,7 @@ pub checked_or_memory : (told : Map) (words : List (List ℕ)) (status : Status)
     → HasFile told certificate certified → IsTextOf c certified → IsCheckedOrMemory status
 checked_or_memory told words status text name certificate bytes certified c (usage n s e) asked has short none held is = absurd (none-some _ (sym n ∙ asked))
 checked_or_memory told words status text name certificate bytes certified c (inferred f b a t m s) asked has short none held is = inl s
+checked_or_memory told words status text name certificate bytes certified c (summed n a m s) asked has short none held is = inl s
 checked_or_memory told words status text name certificate bytes certified c (ran f q n b a t r) asked has short none held is =
     absurd (check_or_run name certificate f q n (one_ask words _ _ asked a))
 checked_or_memory told words status text name certificate bytes certified c (checked f d b e k a t i u h) asked has short none held is = yes_or_no status (done_or_no h.verdict)
@@ -200,20 +252,21 @@ checked_or_memory told words status text name certificate bytes certified c (cer
     absurd (r.none c (rw same is))
 
 -- the answer to a certificate, whose program was read
-certified : (told : Map) (words : List (List ℕ)) (file name bytes : List ℕ) (known : Known) (status : Status) (text : List ℕ) → asks words ≡ Some (check file name)
-    → TellsAt told file bytes → IsKnown bytes known → AnswersCertificate told known name status text → IsAnswer told words status text
-certified told words file name bytes known status text a t i (answers.read d u (inl h)) = checked file name bytes d known a t i u h
-certified told words file name bytes known status text a t i (answers.read d u (inr (line, r, h))) =
-    certificate_refused file name bytes d known line a t i u r h.status h.printed
-certified told words file name bytes known status text a t i (answers.long m h) = certificate_too_long file name bytes known a t i m h.status h.printed
+certified : (told : Map) (words : List (List ℕ)) (f name bytes : List ℕ) (known : Known) (status : Status) (text : List ℕ) → asks words ≡ Some (check f name)
+    → TellsAt told f bytes → IsKnown bytes known → AnswersCertificate told known name status text → IsAnswer told words status text
+certified told words f name bytes known status text a t i (answers.read d u (inl h)) = checked f name bytes d known a t i u h
+certified told words f name bytes known status text a t i (answers.read d u (inr (line, r, h))) =
+    certificate_refused f name bytes d known line a t i u r h.status h.printed
+certified told words f name bytes known status text a t i (answers.long m h) = certificate_too_long f name bytes known a t i m h.status h.printed
 
--- the answer to the bytes of the file
-answered : (told : Map) (words : List (List ℕ)) (ask : Ask) (bytes : List ℕ) (status : Status) (text : List ℕ) → asks words ≡ Some ask → TellsAt told (program_file ask) bytes
+-- the answer to the bytes of the program
+answered : (told : Map) (words : List (List ℕ)) (ask : Ask) (bytes : List ℕ) (status : Status) (text : List ℕ) → asks words ≡ Some ask → TellsText told (origin ask) bytes
     → AnswersProgram told bytes ask status text → IsAnswer told words status text
-answered told words (infer file) bytes status text a t (inl (s, m)) = inferred file bytes a t m s
-answered told words (check file name) bytes status text a t (inl (known, i, h)) = certified told words file name bytes known status text a t i h
-answered told words (run file query n) bytes status text a t (inl (inl r)) = ran file query n bytes a t r
-answered told words (run file query n) bytes status text a t (inl (inr (kind, at, r, h))) = query_refused file query n bytes kind at a t r h.status h.line
+answered told words (infer f) bytes status text a t (inl (s, m)) = inferred f bytes a t m s
+answered told words (check f name) bytes status text a t (inl (known, i, h)) = certified told words f name bytes known status text a t i h
+answered told words (run f query n) bytes status text a t (inl (inl r)) = ran f query n bytes a t r
+answered told words (run f query n) bytes status text a t (inl (inr (kind, at, r, h))) = query_refused f query n bytes kind at a t r h.status h.line
+answered told words (gen n) bytes status text a t (inl (s, m)) = summed n a (subst (λ (b : List ℕ). IsSummary b n text) t m) s
 answered told words ask bytes status text a t (inr (kind, at, r, h)) = program_refused ask bytes kind at a t r h.status h.line
 
 -- the answer to what is asked

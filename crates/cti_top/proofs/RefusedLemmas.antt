@@ -1,30 +1,34 @@
 -- A text that is refused is answered by its refusal, and so is a query.
-use Rattle.std.proofs.Common.{◌≡◌, ℕ, List, Some, ap, sym, ◌∙◌, subst}
+use Rattle.std.proofs.Common.{◌≡◌, ℕ, List, Some, refl, ap, sym, ◌∙◌, subst}
 use Rattle.std.proofs.lemmas.Option.{none-some}
-use Rattle.cti_top.specs.Told.{Map, TellsAt}
-use Rattle.cti_top.specs.Words.{Ask, infer, check, run, asks}
+use Rattle.cti_top.specs.Told.{Map}
+use Rattle.cti_top.specs.Words.{Ask, infer, check, run, gen, origin, asks}
 use Rattle.cti_top.specs.Programs.{IsRefused}
+use Rattle.report.specs.Generated.{generated}
 use Rattle.cti_top.specs.Queries.{Known}
 use Rattle.cti_top.specs.Runs.{IsKnown, IsRefusedQuery}
-use Rattle.cti_top.specs.Outcome.{program_file, HasFile, IsAnswer, usage, inferred, ran, checked, program_too_long, program_refused, query_refused, certificate_too_long, certificate_refused}
+use Rattle.cti_top.specs.Outcome.{TellsText, HasFile, HasText, IsAnswer, usage, inferred, summed, ran, checked, program_too_long, program_refused, query_refused, certificate_too_long, certificate_refused}
 use Rattle.cti_top.specs.declared.status.Status.{Status}
 use Rattle.cti_top.specs.declared.status.Status.TheVariants.{Refused}
 use Rattle.cti_top.proofs.OneAnswer.{none_refused, no_query_refused}
-use Rattle.cti_top.proofs.OutcomeLemmas.{same_bytes, one_ask, query_of, infer_or_run, check_or_run}
+use Rattle.cti_top.proofs.OutcomeLemmas.{same_bytes, same_text, one_ask, name_of, query_of, infer_or_run, check_or_run, gen_or_run}
 
 module _ (told : Map) (words : List (List ℕ)) (status : Status) (text : List ℕ) where
   -- no program stands in a file that is refused
-  none_known : (ask k : Ask) (bytes b : List ℕ) (kind at : ℕ) (known : Known) → asks words ≡ Some ask → asks words ≡ Some k → HasFile told (program_file ask) bytes
-      → TellsAt told (program_file k) b → IsRefused bytes kind at → IsKnown b known → ⊥
+  none_known : (ask k : Ask) (bytes b : List ℕ) (kind at : ℕ) (known : Known) → asks words ≡ Some ask → asks words ≡ Some k → HasText told (origin ask) bytes
+      → TellsText told (origin k) b → IsRefused bytes kind at → IsKnown b known → ⊥
   none_known ask k bytes b kind at known asked a has t r is =
-      let same = same_bytes told (program_file k) (program_file ask) b bytes (ap program_file (one_ask words k ask a asked)) has t in
+      let same = same_text told (origin k) (origin ask) b bytes (ap origin (one_ask words k ask a asked)) has t in
       none_refused bytes known (subst (λ (x : List ℕ). IsKnown x known) same is) kind at r
 
-  pub refused_answer : (ask : Ask) (bytes : List ℕ) (kind at : ℕ) → IsAnswer told words status text → asks words ≡ Some ask → HasFile told (program_file ask) bytes → IsRefused bytes kind at
+  pub refused_answer : (ask : Ask) (bytes : List ℕ) (kind at : ℕ) → IsAnswer told words status text → asks words ≡ Some ask → HasText told (origin ask) bytes → IsRefused bytes kind at
       → status ≡ Refused
   refused_answer ask bytes kind at (usage n s e) asked has r = absurd (none-some _ (sym n ∙ asked))
   refused_answer ask bytes kind at (inferred f b a t m s) asked has r =
       absurd (none_known ask (infer f) bytes b kind at (record { names = m.names; program = m.program; table = m.table }) asked a has t r m.is)
+  refused_answer ask bytes kind at (summed n a m s) asked has r =
+      let i = m.inferred in
+      absurd (none_known ask (gen n) bytes (generated n) kind at (record { names = i.names; program = i.program; table = i.table }) asked a has refl r i.is)
   refused_answer ask bytes kind at (ran f q n b a t m) asked has r = absurd (none_known ask (run f q n) bytes b kind at m.known asked a has t r m.is)
   refused_answer ask bytes kind at (checked f c b d k a t i u h) asked has r = absurd (none_known ask (check f c) bytes b kind at k asked a has t r i)
   refused_answer ask bytes kind at (program_too_long k a m s e) asked has r = s
@@ -37,9 +41,10 @@ module _ (told : Map) (words : List (List ℕ)) (status : Status) (text : List �
       → IsRefusedQuery bytes query kind at → status ≡ Refused
   query_refused_answer name query bytes steps kind at (usage n s e) asked has r = absurd (none-some _ (sym n ∙ asked))
   query_refused_answer name query bytes steps kind at (inferred f b a t m s) asked has r = absurd (infer_or_run f name query steps (one_ask words _ _ a asked))
+  query_refused_answer name query bytes steps kind at (summed n a m s) asked has r = absurd (gen_or_run n name query steps (one_ask words _ _ a asked))
   query_refused_answer name query bytes steps kind at (ran f q n b a t m) asked has r =
       let one = one_ask words _ _ a asked in
-      let same = same_bytes told f name b bytes (ap program_file one) has t in
+      let same = same_bytes told f name b bytes (ap name_of one) has t in
       let same_query : q ≡ query = ap query_of one in
       absurd (no_query_refused b q m.known m.names m.program m.goal m.is m.asked kind at (rw (same, same_query) r))
   query_refused_answer name query bytes steps kind at (checked f c b d k a t i u h) asked has r = absurd (check_or_run f c name query steps (one_ask words _ _ a asked))

@@ -6,7 +6,7 @@ use Rattle.clap.specs.Faults.{defaults_fault, level_fault, settle_fault, walk_fa
 use Rattle.clap.specs.Simple.{Shape, built}
 use Rattle.clap.specs.Walk.{Held, Names, settled, walk, walk_from}
 use Rattle.clap.proofs.OnLiterals.{clap_on_literals}
-use Rattle.cti_top.specs.Words.{line, asks, infer, check, run}
+use Rattle.cti_top.specs.Words.{line, asks, infer, check, run, gen, predicates_in}
 
 or_else_nil : (a b : Kinds) → or_else a b ≡ [] → (a ≡ []) × (b ≡ [])
 or_else_nil [] b h = (refl, h)
@@ -63,3 +63,8 @@ check_asks c d cs ds h k = simp (h, k)
 pub run_asks : (c d : ℕ) (cs ds : List ℕ) → nat_eq c 45 ≡ false → nat_eq d 45 ≡ false → asks (codes "run" ∷ (c ∷ cs) ∷ (d ∷ ds) ∷ []) ≡ Some (run (c ∷ cs) (d ∷ ds) 100000)
 unfolding clap_on_literals
 run_asks c d cs ds h k = simp (h, k)
+
+-- a word after gen that does not begin with a dash
+pub gen_asks : (c : ℕ) (cs : List ℕ) → nat_eq c 45 ≡ false → asks (codes "gen" ∷ (c ∷ cs) ∷ []) ≡ option_map gen (predicates_in (c ∷ cs))
+unfolding clap_on_literals
+gen_asks c cs h = simp h

@@ -1,20 +1,25 @@
 -- What the answer to a program's bytes is, step by step. Nothing here has to be believed.
-use Rattle.std.specs.Prelude.{ℕ, ◌≡◌, ◌⊎◌, List}
+use Rattle.std.specs.Prelude.{ℕ, ◌≡◌, ◌≤◌, ◌⊎◌, List}
 use Rattle.cert_checker.specs.declared.verdict.Verdict.{Verdict}
 use Rattle.cert_checker.specs.declared.verdict.Verdict.TheVariants as verdict
 use Rattle.certificate.specs.Reading.{most_bytes}
-use Rattle.cti_top.specs.Words.{Ask, infer, check, run}
+use Rattle.cti_top.specs.Words.{Ask, infer, check, run, gen, Origin, origin}
+use Rattle.cti_top.specs.Words as words
 use Rattle.cti_top.specs.Told.{Map, TellsAt, TellsMore}
 use Rattle.cti_top.specs.Checks.{IsCheckOf, IsRefusedCertificate}
 use Rattle.cti_top.specs.Queries.{Known}
-use Rattle.cti_top.specs.Outcome.{most_bytes as most_program_bytes, program_file}
+use Rattle.cti_top.specs.Outcome.{TellsText, TellsLong}
+use Rattle.cti_top.specs.Causes.{Rose}
 use Rattle.cti_top.specs.Places.{line_of, column_of}
 use Rattle.cti_top.specs.Refusal.{refusal_line}
 use Rattle.cti_top.specs.Programs.{IsRefused}
 use Rattle.cti_top.specs.Inferred.{IsInferred}
+use Rattle.cti_top.specs.Summary.{IsSummary}
 use Rattle.cti_top.specs.Runs.{IsKnown, IsRunOf, IsRefusedQuery}
 use Rattle.cti_top.specs.declared.request.Request.{Request}
 use Rattle.cti_top.specs.declared.request.Request.TheVariants as request
+use Rattle.cti_top.specs.declared.request.Origin.{Origin as ItsOrigin}
+use Rattle.cti_top.specs.declared.request.Origin.TheVariants as its
 use Rattle.cti_top.specs.declared.refusal.Subject.{Subject}
 use Rattle.cti_top.specs.declared.refusal.Subject.TheVariants.{Program, Certificate, Query}
 use Rattle.cti_top.specs.declared.status.Status.{Status}
@@ -37,6 +42,22 @@ abbrev pub ask_of : Request → Ask
 ask_of (request.Infer file) = infer file.now
 ask_of (request.Check file certificate) = check file.now certificate.now
 ask_of (request.Run file query steps) = run file.now query.now steps
+ask_of (request.Generate count) = gen count
+
+-- an origin, by its text
+abbrev pub origin_of : ItsOrigin → Origin
+origin_of (its.File name) = words.file name.now
+origin_of (its.Generated count) = words.generated count
+
+-- so many predicates can be generated
+abbrev pub IsInRange : Origin → Type 0
+IsInRange (words.file name) = Unit {0}
+IsInRange (words.generated n) = (1 ≤ n) × (n ≤ 300)
+
+-- the count of the program's file rose
+abbrev pub OriginRose : Origin → (List ℕ → ℕ) → (List ℕ → ℕ) → Type 0
+OriginRose (words.file name) before after = Rose (before name) (after name)
+OriginRose (words.generated n) before after = ⊥
 
 -- the answer that refuses a text for a fault of this kind at this byte
 pub record RefusesAt (subject : Subject) (text : List ℕ) (kind at : ℕ) (s : Status) (written : List ℕ) : Type 0 where
@@ -67,13 +88,14 @@ abbrev pub AnswersAsk : Map → List ℕ → Ask → Status → List ℕ → Typ
 AnswersAsk told bytes (infer file) status text = (status ≡ Done) × IsInferred bytes text
 AnswersAsk told bytes (check file certificate) status text = (known : Known) × IsKnown bytes known × AnswersCertificate told known certificate status text
 AnswersAsk told bytes (run file query steps) status text = AnswersQuery bytes query steps status text
+AnswersAsk told bytes (gen n) status text = (status ≡ Done) × IsSummary bytes n text
 
 -- the same, or why the program is refused
 abbrev pub AnswersProgram : Map → List ℕ → Ask → Status → List ℕ → Type 0
 AnswersProgram told bytes ask status text =
     AnswersAsk told bytes ask status text ⊎ ((kind : ℕ) × (at : ℕ) × IsRefused bytes kind at × RefusesAt Program bytes kind at status text)
 
--- the same of the program in a file
+-- the same of a program of its origin
 pub data AnswersRequest (told : Map) (ask : Ask) (status : Status) (text : List ℕ) : Type 0 where
-  read : (bytes : List ℕ) → TellsAt told (program_file ask) bytes → AnswersProgram told bytes ask status text → AnswersRequest told ask status text
-  long : TellsMore told (program_file ask) most_program_bytes → Refuses Program 1 1 8 status text → AnswersRequest told ask status text
+  read : (bytes : List ℕ) → TellsText told (origin ask) bytes → AnswersProgram told bytes ask status text → AnswersRequest told ask status text
+  long : TellsLong told (origin ask) → Refuses Program 1 1 8 status text → AnswersRequest told ask status text

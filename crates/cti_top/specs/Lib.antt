@@ -8,6 +8,7 @@ pub mod Places
 pub mod Refusal
 pub mod Programs
 pub mod Inferred
+pub mod Summary
 pub mod Queries
 pub mod Runs
 pub mod Verdicts

@@ -3,11 +3,13 @@
 -- To believe: all of this file.
 use Rattle.std.specs.Prelude.{ℕ, ◌≡◌, ◌⊎◌, List, Option, Some, None}
 use Rattle.cti_top.specs.Told.{Map, TellsAt, TellsMore, Takes, TakesPart}
-use Rattle.cti_top.specs.Words.{Ask, infer, check, run, asks, usage_lines}
+use Rattle.cti_top.specs.Words.{Ask, infer, check, run, gen, Origin, file, generated, origin, asks, usage_lines}
 use Rattle.cti_top.specs.Places.{line_of, column_of}
 use Rattle.cti_top.specs.Refusal.{refusal_line}
 use Rattle.cti_top.specs.Programs.{IsRefused}
 use Rattle.cti_top.specs.Inferred.{IsInferred}
+use Rattle.cti_top.specs.Summary.{IsSummary}
+use Rattle.report.specs.Generated.{generated as generated_text}
 use Rattle.cti_top.specs.Checks.{IsCheckOf, IsRefusedCertificate}
 use Rattle.cti_top.specs.Queries.{Known}
 use Rattle.cti_top.specs.Runs.{IsKnown, IsRunOf, IsRefusedQuery}
@@ -21,32 +23,37 @@ use Rattle.cti_top.specs.declared.status.Status.TheVariants.{Done, No, Usage, Re
 abbrev pub most_bytes : ℕ
 most_bytes = 1048576
 
--- the words ask for something that is done with the program in this file
-abbrev pub program_file : Ask → List ℕ
-program_file (infer file) = file
-program_file (check file certificate) = file
-program_file (run file query steps) = file
+-- the bytes are the text of a program of this origin, as far as the store tells
+abbrev pub TellsText : Map → Origin → List ℕ → Type 0
+TellsText told (file name) bytes = TellsAt told name bytes
+TellsText told (generated n) bytes = bytes ≡ generated_text n
+
+-- the text is that of a file, and is too long
+abbrev pub TellsLong : Map → Origin → Type 0
+TellsLong told (file name) = TellsMore told name most_bytes
+TellsLong told (generated n) = ⊥
 
 -- The answer to the words: the usage exactly where they ask for nothing; the modes of the program that they name; the check of their
--- certificate; the run of their query; or why the program's text, the certificate's or the query is refused. Where the store tells its
--- map, the bytes are those at the file's name.
+-- certificate; the run of their query; how many modes their generated program has; or why the program's text, the certificate's or the
+-- query is refused. Where the store tells its map, the bytes are those at the file's name.
 pub data IsAnswer (told : Map) (words : List (List ℕ)) (status : Status) (text : List ℕ) : Type 0 where
   usage : asks words ≡ None → status ≡ Usage → text ≡ usage_lines → IsAnswer told words status text
-  inferred : (file bytes : List ℕ) → asks words ≡ Some (infer file) → TellsAt told file bytes → IsInferred bytes text → status ≡ Done → IsAnswer told words status text
-  ran : (file query : List ℕ) (steps : ℕ) (bytes : List ℕ) → asks words ≡ Some (run file query steps) → TellsAt told file bytes → IsRunOf bytes query steps status text
+  inferred : (name bytes : List ℕ) → asks words ≡ Some (infer name) → TellsAt told name bytes → IsInferred bytes text → status ≡ Done → IsAnswer told words status text
+  summed : (n : ℕ) → asks words ≡ Some (gen n) → IsSummary (generated_text n) n text → status ≡ Done → IsAnswer told words status text
+  ran : (name query : List ℕ) (steps : ℕ) (bytes : List ℕ) → asks words ≡ Some (run name query steps) → TellsAt told name bytes → IsRunOf bytes query steps status text
       → IsAnswer told words status text
-  checked : (file certificate bytes certified : List ℕ) (known : Known) → asks words ≡ Some (check file certificate) → TellsAt told file bytes → IsKnown bytes known
+  checked : (name certificate bytes certified : List ℕ) (known : Known) → asks words ≡ Some (check name certificate) → TellsAt told name bytes → IsKnown bytes known
       → TellsAt told certificate certified → IsCheckOf known certified status text → IsAnswer told words status text
-  program_too_long : (ask : Ask) → asks words ≡ Some ask → TellsMore told (program_file ask) most_bytes → status ≡ Refused
+  program_too_long : (ask : Ask) → asks words ≡ Some ask → TellsLong told (origin ask) → status ≡ Refused
       → text ≡ refusal_line Program 1 1 8 → IsAnswer told words status text
-  program_refused : (ask : Ask) (bytes : List ℕ) (kind at : ℕ) → asks words ≡ Some ask → TellsAt told (program_file ask) bytes → IsRefused bytes kind at → status ≡ Refused
+  program_refused : (ask : Ask) (bytes : List ℕ) (kind at : ℕ) → asks words ≡ Some ask → TellsText told (origin ask) bytes → IsRefused bytes kind at → status ≡ Refused
       → text ≡ refusal_line Program (line_of bytes at) (column_of bytes at) kind → IsAnswer told words status text
-  query_refused : (file query : List ℕ) (steps : ℕ) (bytes : List ℕ) (kind at : ℕ) → asks words ≡ Some (run file query steps) → TellsAt told file bytes
+  query_refused : (name query : List ℕ) (steps : ℕ) (bytes : List ℕ) (kind at : ℕ) → asks words ≡ Some (run name query steps) → TellsAt told name bytes
       → IsRefusedQuery bytes query kind at → status ≡ Refused → text ≡ refusal_line Query (line_of query at) (column_of query at) kind
       → IsAnswer told words status text
-  certificate_too_long : (file certificate bytes : List ℕ) (known : Known) → asks words ≡ Some (check file certificate) → TellsAt told file bytes → IsKnown bytes known
+  certificate_too_long : (name certificate bytes : List ℕ) (known : Known) → asks words ≡ Some (check name certificate) → TellsAt told name bytes → IsKnown bytes known
       → TellsMore told certificate most_certificate_bytes → status ≡ Refused → text ≡ refusal_line Certificate 1 1 8 → IsAnswer told words status text
-  certificate_refused : (file certificate bytes certified : List ℕ) (known : Known) (line : ℕ) → asks words ≡ Some (check file certificate) → TellsAt told file bytes
+  certificate_refused : (name certificate bytes certified : List ℕ) (known : Known) (line : ℕ) → asks words ≡ Some (check name certificate) → TellsAt told name bytes
       → IsKnown bytes known → TellsAt told certificate certified → IsRefusedCertificate certified line → status ≡ Refused
       → text ≡ refusal_line Certificate line 1 16 → IsAnswer told words status text
 
@@ -61,6 +68,11 @@ Outcome told words before after status = (text : List ℕ) × IsAnswer told word
 abbrev pub HasFile : Map → List ℕ → List ℕ → Type 0
 HasFile None name bytes = ⊥
 HasFile (Some files) name bytes = files name ≡ Some bytes
+
+-- the same of the text of a program
+abbrev pub HasText : Map → Origin → List ℕ → Type 0
+HasText told (file name) bytes = HasFile told name bytes
+HasText told (generated n) bytes = bytes ≡ generated_text n
 
 -- the answer was written, or there was no memory for it
 abbrev pub IsDoneOrMemory : Status → Type 0
@@ -80,6 +92,7 @@ IsRefusedOrMemory status = (status ≡ Refused) ⊎ (status ≡ Memory)
 
 -- the count of the program's file rose, or that of the certificate's
 abbrev pub FileRose : Ask → (List ℕ → ℕ) → (List ℕ → ℕ) → Type 0
-FileRose (infer file) before after = Rose (before file) (after file)
-FileRose (check file certificate) before after = Rose (before file) (after file) ⊎ Rose (before certificate) (after certificate)
-FileRose (run file query steps) before after = Rose (before file) (after file)
+FileRose (infer name) before after = Rose (before name) (after name)
+FileRose (check name certificate) before after = Rose (before name) (after name) ⊎ Rose (before certificate) (after certificate)
+FileRose (run name query steps) before after = Rose (before name) (after name)
+FileRose (gen n) before after = ⊥

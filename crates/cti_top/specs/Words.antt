@@ -32,6 +32,10 @@ option id = record (new_rule id) { long = Some id }
 abbrev pub run_line : App
 run_line = with_rule (with_rule (with_rule (new_app (codes "run")) (required_word (codes "file"))) (required_word (codes "query"))) (option (codes "steps"))
 
+-- gen COUNT
+abbrev pub gen_line : App
+gen_line = with_rule (new_app (codes "gen")) (required_word (codes "count"))
+
 -- no words of help, no program's name, and a subcommand has to be given
 abbrev pub settings : Shape → Shape
 settings s = record s {
@@ -46,25 +50,44 @@ top_line = on_top settings (new_app (codes "cti"))
 
 -- the command line
 abbrev pub line : App
-line = with_subcommand (with_subcommand (with_subcommand top_line infer_line.top) check_line.top) run_line.top
+line = with_subcommand (with_subcommand (with_subcommand (with_subcommand top_line infer_line.top) check_line.top) run_line.top) gen_line.top
 
--- what is asked for, by its texts: the modes of a file's program, the check of a file's certificate of it, or a query of it with a number of nodes
+-- what is asked for, by its texts: the modes of a file's program, the check of a file's certificate of it, a query of it with a number of nodes, or
+-- how many modes a generated program of so many predicates has
 pub data Ask : Type 0 where
   infer : Text → Ask
   check : Text → Text → Ask
   run : Text → Text → ℕ → Ask
+  gen : ℕ → Ask
 
--- one to seven decimal digits
-abbrev pub is_short_number : Text → Bool
-is_short_number text = nat_lt 0 (length text) && (nat_le (length text) 7 && list_all (λ b. is_digit b 10) text)
+-- where the text of a program comes from: it is that of a file, or it is generated
+pub data Origin : Type 0 where
+  file : Text → Origin
+  generated : ℕ → Origin
 
--- from 1 to 1,000,000
-abbrev pub is_step_number : ℕ → Bool
-is_step_number n = nat_lt 0 n && nat_le n 1000000
+-- where the text of the program comes from that is asked about
+abbrev pub origin : Ask → Origin
+origin (infer name) = file name
+origin (check name certificate) = file name
+origin (run name query steps) = file name
+origin (gen n) = generated n
 
--- the number of nodes that a text asks for
+-- so many decimal digits at most, and one at least
+abbrev pub is_short_number : ℕ → Text → Bool
+is_short_number digits text = nat_lt 0 (length text) && (nat_le (length text) digits && list_all (λ b. is_digit b 10) text)
+
+-- the number that a text spells with so many digits at most, where it is from 1 to the greatest
+abbrev pub number_in : ℕ → ℕ → Text → Option ℕ
+number_in digits greatest text =
+    if is_short_number digits text && (nat_lt 0 (digits_value 10 text) && nat_le (digits_value 10 text) greatest) then Some (digits_value 10 text) else None
+
+-- the number of nodes that a text asks for: one to seven digits, from 1 to 1,000,000
 abbrev pub steps_in : Text → Option ℕ
-steps_in text = if is_short_number text && is_step_number (digits_value 10 text) then Some (digits_value 10 text) else None
+steps_in text = number_in 7 1000000 text
+
+-- the number of predicates that a text asks for: one to three digits, from 1 to 300
+abbrev pub predicates_in : Text → Option ℕ
+predicates_in text = number_in 3 300 text
 
 -- the same of an option's value, which is 100,000 where it is absent
 abbrev pub steps_of : Option Text → Option ℕ
@@ -75,10 +98,11 @@ steps_of (Some text) = steps_in text
 abbrev pub given : Text → List Row → Text
 given id rows = unwrap_or (first_of id rows) []
 
--- what a command asks for: `run` is the one beside `infer` and `check`
+-- what a command asks for: `run` is the one beside the others
 abbrev pub ask_by : Text → List Row → Option Ask
 ask_by name rows =
-    if bytes_eq name (codes "infer") then Some (infer (given (codes "file") rows))
+    if bytes_eq name (codes "gen") then option_map gen (predicates_in (given (codes "count") rows))
+    else if bytes_eq name (codes "infer") then Some (infer (given (codes "file") rows))
     else if bytes_eq name (codes "check") then Some (check (given (codes "file") rows) (given (codes "certificate") rows))
     else option_map (run (given (codes "file") rows) (given (codes "query") rows)) (steps_of (first_of (codes "steps") rows))
 
@@ -93,4 +117,4 @@ asks words = ask_if (fault_of line words) (subcommand_of line words)
 
 -- one line for each command
 abbrev pub usage_lines : List ℕ
-usage_lines = codes "usage: cti infer FILE\n" ++ codes "usage: cti check FILE CERT\n" ++ codes "usage: cti run FILE QUERY --steps N\n"
+usage_lines = codes "usage: cti infer FILE\n" ++ codes "usage: cti check FILE CERT\n" ++ codes "usage: cti run FILE QUERY --steps N\n" ++ codes "usage: cti gen N\n"

@@ -5,25 +5,27 @@ ghost use Rattle.std.specs.List.{AllByRecursion};
 ghost use Rattle.cti_terms.specs.declared.predicates.Pred.{Pred as ThePred};
 ghost use Rattle.prolog_reader.specs.Meanings.{table_of};
 ghost use Rattle.clause_normal.specs.Numbering.{is_equality};
-ghost use Rattle.cti_top.specs.Words.{Ask, asks, usage_lines};
+ghost use Rattle.cti_top.specs.Words.{Ask, asks, origin, usage_lines};
+ghost use Rattle.report.specs.Generated.{generated};
 ghost use Rattle.cti_top.specs.Programs.{IsProgramOf};
 ghost use Rattle.cti_top.specs.Inferred.{IsInferred};
 ghost use Rattle.cti_top.specs.Known.{known_of};
 ghost use Rattle.cti_top.specs.Runs.{IsKnown};
-ghost use Rattle.cti_top.specs.Outcome.{FileRose, IsAnswer};
+ghost use Rattle.cti_top.specs.Outcome.{FileRose, IsAnswer, TellsLong, TellsText};
 ghost use Rattle.cti_top.specs.Told.{Keeps};
-ghost use Rattle.cti_top.specs.Answers.{ask_of, AnswersAsk, AnswersProgram, AnswersRequest};
+ghost use Rattle.cti_top.specs.Answers.{ask_of, origin_of, AnswersAsk, AnswersProgram, AnswersRequest, IsInRange, OriginRose};
 
 use crate::answer::{Answer, refused, too_long};
 use crate::checking::check_of;
 use crate::files::{Files, LoadFault};
 use crate::refusal::Subject;
-use crate::request::{Refusal, Request, request_in, usage_text};
+use crate::request::{Origin, Refusal, Request, request_in, usage_text};
 use crate::running::run_of;
 use crate::source::{Source, SourceFault, program_in};
 use crate::status::Status;
+use crate::summing::summed;
 use prolog_reader::MOST_BYTES;
-use report::infer;
+use report::{gen_source, infer};
 use std::alloc::{AllocError, Global};
 
 /// The answer to a program that was read: the certificate of its modes.
@@ -58,6 +60,7 @@ fn answer_of<F: Files>(
         Request::Infer(_) => Ok(inferred(alloc, &source)?),
         Request::Check(_, certificate) => check_of(alloc, &source, certificate, files),
         Request::Run(_, query, steps) => Ok(run_of(alloc, source, query.as_bytes(), steps)?),
+        Request::Generate(predicates) => Ok(summed(alloc, &source, predicates)?),
     }
 }
 
@@ -84,15 +87,47 @@ fn answer_to<F: Files>(
     }
 }
 
+/// The text of generated predicates.
+fn generated(alloc: Global, predicates: u32) -> Result<Vec<u8>, LoadFault>
+    requires some { 1 ≤ predicates }
+    requires few { predicates ≤ 300 }
+    ensures text { IfOk result (λ text. text.items ≡ generated predicates) }
+    ensures short { IfOk result (λ text. length text.items ≤ 1048576) }
+    ensures memory { IfErr result (λ fault. fault ≡ LoadFault.Memory) }
+{
+    match gen_source(alloc, predicates) {
+        Ok(text) => Ok(text),
+        Err(_) => Err(LoadFault::Memory),
+    }
+}
+
+/// The text of a program of this origin.
+fn text_of<F: Files>(alloc: Global, origin: Origin, files: &mut F) -> Result<Vec<u8>, LoadFault>
+    requires { IsInRange (origin_of origin) }
+    ensures text { IfOk result (λ text. TellsText (F.told files.old) (origin_of origin.entry) text.items) }
+    ensures short { IfOk result (λ text. length text.items ≤ 1048576) }
+    ensures long { IsErrOf result LoadFault.TooLong → TellsLong (F.told files.old) (origin_of origin.entry) }
+    ensures cause { IsErrOf result LoadFault.Failed → OriginRose (origin_of origin.entry) (F.faults files.old) (F.faults files.new) }
+    ensures calm { (IsErrOf result LoadFault.Failed → ⊥) → (name : List ℕ) → F.faults files.new name ≡ F.faults files.old name }
+    ensures later { (name : List ℕ) → F.faults files.old name ≤ F.faults files.new name }
+    ensures stays { F.told files.new ≡ F.told files.old }
+{
+    match origin {
+        Origin::File(name) => files.load(alloc, name, MOST_BYTES as u64),
+        Origin::Generated(predicates) => generated(alloc, predicates),
+    }
+}
+
 /// The answer to what is asked, or the status of a call that writes nothing.
 #[tactic(auto, using(crate::proofs::KeepLemmas::untouched, crate::proofs::KeepLemmas::loaded))]
 fn answer_in<F: Files>(alloc: Global, request: Request, files: &mut F) -> Result<Answer, Status>
+    requires { IsInRange (origin (ask_of request)) }
     ensures answered { IfOk result (λ a. AnswersRequest (F.told files.old) (ask_of request.entry) a.status a.text.items) }
     ensures file_fault { IsErrOf result Status.FileFault → FileRose (ask_of request.entry) (F.faults files.old) (F.faults files.new) }
     ensures others { IfErr result (λ e. (e ≡ Status.FileFault) ⊎ (e ≡ Status.Memory)) }
     ensures kept { Keeps (F.told files.old) (F.told files.new) (F.faults files.old) (F.faults files.new) }
 {
-    match files.load(alloc, request.file(), MOST_BYTES as u64) {
+    match text_of(alloc, request.origin(), files) {
         Ok(program) => answer_to(alloc, &program, request, files),
         Err(LoadFault::TooLong) => Ok(too_long(alloc, Subject::Program)?),
         Err(LoadFault::Failed) => Err(Status::FileFault),

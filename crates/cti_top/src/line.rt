@@ -1,7 +1,7 @@
 //! The command line, part by part, as `clap` reads it.
 
 ghost use Rattle.std.specs.Prelude.{◌≡◌, IfOk, false, codes};
-ghost use Rattle.cti_top.specs.Words.{line, top_line, infer_line, check_line, run_line, required_word, option};
+ghost use Rattle.cti_top.specs.Words.{line, top_line, infer_line, check_line, run_line, gen_line, required_word, option};
 ghost use Rattle.cti_top.specs.Line.{IsLine};
 ghost use Rattle.clap.specs.declared.Command.TheViews.{out-Command};
 ghost use Rattle.clap.specs.Words.{app_of, rule_of, with_rule, with_subcommand};
@@ -78,11 +78,25 @@ fn run<'a>(alloc: Global) -> Result<Command<'a>, AllocError>
     with_argument(run, option(alloc, "steps"))
 }
 
+/// `gen COUNT`
+fn generate<'a>(alloc: Global) -> Result<Command<'a>, AllocError>
+    ensures { IfOk result (IsLine gen_line) }
+{
+    with_argument(Command::new(alloc, "gen"), word(alloc, "count"))
+}
+
+/// The command line of `infer` and `check`.
+fn first_commands<'a>(alloc: Global) -> Result<Command<'a>, AllocError>
+    ensures { IfOk result (IsLine (with_subcommand (with_subcommand top_line infer_line.top) check_line.top)) }
+{
+    let command = with_command(top(alloc), infer(alloc)?)?;
+    with_command(command, check(alloc)?)
+}
+
 /// The command line, with no words read.
 pub fn command_line<'a>(alloc: Global) -> Result<Command<'a>, AllocError>
     ensures { IfOk result (IsLine line) }
 {
-    let command = with_command(top(alloc), infer(alloc)?)?;
-    let command = with_command(command, check(alloc)?)?;
-    with_command(command, run(alloc)?)
+    let command = with_command(first_commands(alloc)?, run(alloc)?)?;
+    with_command(command, generate(alloc)?)
 }

@@ -1,13 +1,12 @@
 //! What the words of the command line ask for.
 
-ghost use Rattle.std.specs.Prelude.{◌≡◌, ◌≢◌, map, [], Some, None, option_map, IfOk, IfErr, IfSome, IfNone, IsErrOf};
+ghost use Rattle.std.specs.Prelude.{◌≡◌, ◌≢◌, codes, map, [], Some, None, option_map, IfOk, IfErr, IfSome, IfNone, IsErrOf};
 ghost use Rattle.clap.specs.Words.{fault_of, first_of, found_of, rows_of, subcommand_of, subcommand_rows_of};
-ghost use Rattle.cti_top.specs.Words.{asks, ask_by, given, line, usage_lines};
-ghost use Rattle.cti_top.specs.Outcome.{program_file};
-ghost use Rattle.cti_top.specs.Answers.{ask_of};
+ghost use Rattle.cti_top.specs.Words.{asks, ask_by, gen as asked_gen, given, line, origin, predicates_in, usage_lines};
+ghost use Rattle.cti_top.specs.Answers.{ask_of, origin_of, IsInRange};
 
 use crate::line::command_line;
-use crate::steps::steps_of;
+use crate::steps::{predicates_in, steps_of};
 use clap::ArgMatches;
 use clap::error::ErrorKind;
 use std::alloc::{AllocError, Global};
@@ -30,17 +29,29 @@ pub enum Request<'a> {
     Check(&'a str, &'a str),
     /// A run of a query of the program in a file, and how many nodes are looked at.
     Run(&'a str, &'a str, u64),
+    /// How many modes a generated program of so many predicates has.
+    Generate(u32),
+}
+
+/// Where the text of a program comes from.
+#[derive(Clone, Copy)]
+pub enum Origin<'a> {
+    /// It is that of a file of this name.
+    File(&'a str),
+    /// It is generated, with so many predicates.
+    Generated(u32),
 }
 
 impl<'a> Request<'a> {
-    /// The file that has the program.
-    pub fn file(self) -> &'a str
-        ensures { result.now ≡ program_file (ask_of self.entry) }
+    /// Where the text of its program comes from.
+    pub fn origin(self) -> Origin<'a>
+        ensures { origin_of result ≡ origin (ask_of self.entry) }
     {
         match self {
-            Request::Infer(file) => file,
-            Request::Check(file, _) => file,
-            Request::Run(file, _, _) => file,
+            Request::Infer(file) => Origin::File(file),
+            Request::Check(file, _) => Origin::File(file),
+            Request::Run(file, _, _) => Origin::File(file),
+            Request::Generate(count) => Origin::Generated(count),
         }
     }
 }
@@ -88,11 +99,27 @@ fn word<'a>(matches: &ArgMatches<'a>, id: &str) -> &'a str
     }
 }
 
+/// What `gen` asks for by its word, or why it asks for nothing.
+fn generation<'a>(matches: &ArgMatches<'a>) -> Result<Request<'a>, Refusal>
+    ensures asked { IfOk result (λ r. option_map asked_gen (predicates_in (given (codes "count") (rows_of (found_of matches.now)))) ≡ Some (ask_of r)) }
+    ensures usage { IfErr result (λ e. (e ≡ Refusal.Usage) × (option_map asked_gen (predicates_in (given (codes "count") (rows_of (found_of matches.now)))) ≡ None)) }
+    ensures range { IfOk result (λ r. IsInRange (origin (ask_of r))) }
+{
+    match predicates_in(word(matches, "count")) {
+        Some(count) => Ok(Request::Generate(count)),
+        None => Err(Refusal::Usage),
+    }
+}
+
 /// What a command asks for by its arguments, or why it asks for nothing.
 fn request_by<'a>(name: &str, given: &ArgMatches<'a>) -> Result<Request<'a>, Refusal>
     ensures asked { IfOk result (λ r. ask_by name.now (rows_of (found_of given.now)) ≡ Some (ask_of r)) }
     ensures usage { IfErr result (λ e. (e ≡ Refusal.Usage) × (ask_by name.now (rows_of (found_of given.now)) ≡ None)) }
+    ensures range { IfOk result (λ r. IsInRange (origin (ask_of r))) }
 {
+    if name == "gen" {
+        return generation(given);
+    }
     let file = word(given, "file");
     if name == "infer" {
         return Ok(Request::Infer(file));
@@ -111,6 +138,7 @@ fn request_by<'a>(name: &str, given: &ArgMatches<'a>) -> Result<Request<'a>, Ref
 pub fn request_in<'a>(alloc: Global, words: &'a [&'a str]) -> Result<Request<'a>, Refusal>
     ensures asked { IfOk result (λ r. asks (map (λ w. w.now) words.entry.now) ≡ Some (ask_of r)) }
     ensures usage { IsErrOf result Refusal.Usage → asks (map (λ w. w.now) words.entry.now) ≡ None }
+    ensures range { IfOk result (λ r. IsInRange (origin (ask_of r))) }
 {
     let matches = matches_of(alloc, words)?;
     match entered(&matches) {
@@ -126,5 +154,6 @@ pub fn usage_text(alloc: Global) -> Result<Vec<u8>, AllocError>
     let mut text = Vec::from_slice(alloc, b"usage: cti infer FILE\n")?;
     text.extend_from_slice(b"usage: cti check FILE CERT\n")?;
     text.extend_from_slice(b"usage: cti run FILE QUERY --steps N\n")?;
+    text.extend_from_slice(b"usage: cti gen N\n")?;
     Ok(text)
 }

@@ -1,7 +1,7 @@
-//! How many nodes of a query are looked at.
+//! Numbers in words: how many nodes of a query are looked at, and how many predicates are generated.
 
-ghost use Rattle.std.specs.Prelude.{◌≡◌, Option, option_map};
-ghost use Rattle.cti_top.specs.Words.{steps_in, steps_of};
+ghost use Rattle.std.specs.Prelude.{◌≡◌, ◌≤◌, Option, option_map, IfSome};
+ghost use Rattle.cti_top.specs.Words.{number_in, predicates_in, steps_of};
 
 /// How many nodes are looked at where the words do not say.
 const USUAL_STEPS: u64 = 100_000;
@@ -10,13 +10,21 @@ const USUAL_STEPS: u64 = 100_000;
 const MOST_STEPS: u64 = 1_000_000;
 
 /// The most digits that say so.
-const MOST_DIGITS: usize = 7;
+const STEPS_DIGITS: usize = 7;
 
-/// The number of nodes that a text asks for: one to seven decimal digits, from 1 to 1,000,000.
-fn steps_in(text: &[u8]) -> Option<u64>
-    ensures { result ≡ steps_in text.now }
+/// The most predicates that the words may ask for.
+const MOST_PREDICATES: u64 = 300;
+
+/// The most digits that say so.
+const PREDICATES_DIGITS: usize = 3;
+
+/// The number that a text spells with so many decimal digits at most, where it is from 1 to the greatest.
+fn number_in(text: &[u8], digits: usize, greatest: u64) -> Option<u64>
+    requires { greatest ≤ 1000000 }
+    ensures number { result ≡ number_in digits greatest text.now }
+    ensures range { IfSome result (λ n. (1 ≤ n) × (n ≤ greatest)) }
 {
-    if text.is_empty() || text.len() > MOST_DIGITS {
+    if text.is_empty() || text.len() > digits {
         return None;
     }
     let mut value = 0;
@@ -25,7 +33,7 @@ fn steps_in(text: &[u8]) -> Option<u64>
             return None;
         };
         value = value * 10 + u64::from(digit);
-        if value > MOST_STEPS {
+        if value > greatest {
             return None;
         }
     }
@@ -35,12 +43,23 @@ fn steps_in(text: &[u8]) -> Option<u64>
     Some(value)
 }
 
-/// The same of an option's value, which is 100,000 where it is absent.
+/// The number of nodes that an option's value asks for, which is 100,000 where it is absent: one to seven digits, from 1 to 1,000,000.
 pub fn steps_of(text: Option<&str>) -> Option<u64>
     ensures { result ≡ steps_of (option_map (λ s. s.now) text.entry) }
 {
     match text {
-        Some(text) => steps_in(text.as_bytes()),
+        Some(text) => number_in(text.as_bytes(), STEPS_DIGITS, MOST_STEPS),
         None => Some(USUAL_STEPS),
+    }
+}
+
+/// The number of predicates that a text asks for: one to three digits, from 1 to 300.
+pub fn predicates_in(text: &str) -> Option<u32>
+    ensures number { result ≡ predicates_in text.now }
+    ensures range { IfSome result (λ n. (1 ≤ n) × (n ≤ 300)) }
+{
+    match number_in(text.as_bytes(), PREDICATES_DIGITS, MOST_PREDICATES) {
+        Some(count) => Some(count as u32),
+        None => None,
     }
 }

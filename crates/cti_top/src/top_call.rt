@@ -4,12 +4,13 @@ ghost use Rattle.std.specs.Prelude.{◌≡◌, ◌≤◌, List, ℕ, map, Some};
 ghost use Rattle.certificate.specs.Reading.{IsTextOf};
 ghost use Rattle.certificate.specs.declared.certificate.Certificate.{Certificate as TheCertificate};
 ghost use Rattle.cti_top.specs.Causes.{Rose};
-ghost use Rattle.cti_top.specs.Words.{Ask, asks, check, infer, run};
+ghost use Rattle.cti_top.specs.Words.{Ask, asks, check, gen, infer, origin, run};
 ghost use Rattle.cti_top.specs.Programs.{IsRefused};
-ghost use Rattle.cti_top.specs.Outcome.{FileRose, HasFile, IsCheckedOrMemory, IsDoneOrMemory, IsRanOrMemory, IsRefusedOrMemory, Outcome, program_file};
+ghost use Rattle.cti_top.specs.Outcome.{FileRose, HasFile, HasText, IsCheckedOrMemory, IsDoneOrMemory, IsRanOrMemory, IsRefusedOrMemory, Outcome};
 ghost use Rattle.cti_top.specs.Queries.{IsQueryOf, Known};
 ghost use Rattle.cti_top.specs.Runs.{IsKnown, IsRefusedQuery};
 ghost use Rattle.cti_top.specs.Told.{Keeps};
+ghost use Rattle.report.specs.Generated.{generated};
 ghost use Rattle.cti_terms.specs.Listing.{Listing};
 ghost use Rattle.cti_terms.specs.declared.derivation.Goal.{Goal};
 
@@ -25,8 +26,9 @@ use std::alloc::Global;
 /// `infer FILE` reads the program of a file and writes, for each predicate, its modes as far as they are known. `check FILE CERT`
 /// reads a certificate of it too, and writes `yes.` where it is valid, and `no(Line,Reason).` where it is not. `run FILE QUERY
 /// --steps N` reads a query of the program too, and writes its answers among the empty derivation and the first N others, then how
-/// many there were, the length of the longest, and whether there are more. N is from 1 to 1,000,000, and else 100,000. The answer is
-/// complete, and all memory is taken, before the first byte is written.
+/// many there were, the length of the longest, and whether there are more. N is from 1 to 1,000,000, and else 100,000. `gen N` makes a
+/// program of N predicates, from 1 to 300, and writes how many clauses it has, and how many modes `infer` would print for it. The
+/// answer is complete, and all memory is taken, before the first byte is written.
 #[tactic(auto, using(crate::proofs::KeepLemmas::untouched, crate::proofs::KeepLemmas::loaded))]
 pub fn command<F: Files, S: Sink>(
     alloc: Global,
@@ -60,8 +62,12 @@ pub fn command<F: Files, S: Sink>(
         → asks (map (λ w. w.now) words.entry.now) ≡ Some (run name query steps) → HasFile (F.told files.old) name bytes → IsKnown bytes known → IsQueryOf known query names program goal
         → (Rose (F.faults files.old name) (F.faults files.new name) → ⊥) → (Rose (S.faults out.old) (S.faults out.new) → ⊥) → IsRanOrMemory result }
 
-    // A file that is refused is answered by its refusal, in the same way, and so is a query.
-    ensures complete_refused { (ask : Ask) (bytes : List ℕ) (kind at : ℕ) → asks (map (λ w. w.now) words.entry.now) ≡ Some ask → HasFile (F.told files.old) (program_file ask) bytes
+    // The same of a generated text that is a program, for which no file is loaded.
+    ensures complete_gen { (n : ℕ) (known : Known) → asks (map (λ w. w.now) words.entry.now) ≡ Some (gen n) → IsKnown (generated n) known
+        → (Rose (S.faults out.old) (S.faults out.new) → ⊥) → IsDoneOrMemory result }
+
+    // A text that is refused is answered by its refusal, in the same way, and so is a query.
+    ensures complete_refused { (ask : Ask) (bytes : List ℕ) (kind at : ℕ) → asks (map (λ w. w.now) words.entry.now) ≡ Some ask → HasText (F.told files.old) (origin ask) bytes
         → IsRefused bytes kind at → (FileRose ask (F.faults files.old) (F.faults files.new) → ⊥) → (Rose (S.faults out.old) (S.faults out.new) → ⊥) → IsRefusedOrMemory result }
     ensures complete_query_refused { (name query bytes : List ℕ) (steps kind at : ℕ) → asks (map (λ w. w.now) words.entry.now) ≡ Some (run name query steps)
         → HasFile (F.told files.old) name bytes → IsRefusedQuery bytes query kind at

@@ -1,9 +1,10 @@
 use Rattle.std.proofs.Common.{map, subst, inl}
+use Rattle.report.specs.Generated.{generated}
 use Rattle.cti_top.specs.Outcome.{IsAnswer}
 use Rattle.cti_top.specs.declared.status.Status.{Status}
 use Rattle.cti_top.proofs.OneAnswer.{is_short, none_refused, no_query_refused}
 use Rattle.cti_top.proofs.RefusedLemmas.{refused_answer, query_refused_answer}
-use Rattle.cti_top.proofs.OutcomeLemmas.{not_file, outcome_of, done_or_memory, ran_or_memory, checked_or_memory}
+use Rattle.cti_top.proofs.OutcomeLemmas.{not_file, outcome_of, done_or_memory, summed_or_memory, ran_or_memory, checked_or_memory}
 use Rattle.cti_top.proofs.top_call.command.Goals as goal
 
 pub returns-in-Ok-write_text-clause-outcome : goal.returns-in-Ok-write_text-clause-outcome
@@ -29,6 +30,10 @@ pub returns-in-Ok-write_text-clause-complete_run : goal.returns-in-Ok-write_text
 returns-in-Ok-write_text-clause-complete_run g c name query bytes steps known names program goal asked has is as_goal calm still =
     ran_or_memory (g.F.Files.told c.args.files.now) (map (λ w. w.now) c.args.words.now) c.in-Ok.answer.status c.in-Ok.answer.text.items name query bytes steps c.in-Ok.ensures.answered asked has (is_short bytes known is) (none_refused bytes known is)
     (no_query_refused bytes query known names program goal is as_goal)
+
+pub returns-in-Ok-write_text-clause-complete_gen : goal.returns-in-Ok-write_text-clause-complete_gen
+returns-in-Ok-write_text-clause-complete_gen g c n known asked is still =
+    summed_or_memory (g.F.Files.told c.args.files.now) (map (λ w. w.now) c.args.words.now) c.in-Ok.answer.status c.in-Ok.answer.text.items n c.in-Ok.ensures.answered asked (is_short (generated n) known is) (none_refused (generated n) known is)
 
 pub returns-in-Ok-clause-outcome : goal.returns-in-Ok-clause-outcome
 returns-in-Ok-clause-outcome g c = (c.in-Ok.answer.status, c.in-Ok.answer.text.items, c.in-Ok.ensures.answered, rw c.deref.ensures.value at c.in-Err-write_text.ensures.part)
