@@ -3,7 +3,7 @@ _cti() {
     local word=${COMP_WORDS[COMP_CWORD]} command=${COMP_WORDS[1]}
     COMPREPLY=()
     if [ "$COMP_CWORD" -eq 1 ]; then
-        mapfile -t COMPREPLY < <(compgen -W "infer check run" -- "$word")
+        mapfile -t COMPREPLY < <(compgen -W "infer check run gen" -- "$word")
         return
     fi
     case $command in

@@ -23,6 +23,10 @@ fn faults_of_words(rt: HostRuntime) -> Result<(), Fail> {
         (&["run", "a.pl"], "`cti run` needs the word QUERY"),
         (&["infer", "a.pl", "b.pl"], "`b.pl` is one word too many"),
         (&["run", "a.pl", "p", "q"], "`q` is one word too many"),
+        (&["gen"], "`cti gen` needs the word N"),
+        (&["gen", "301"], "`301` is not a number of predicates"),
+        (&["gen", "0001"], "`0001` is not a number of predicates"),
+        (&["gen", "5", "6"], "`6` is one word too many"),
         (
             &["infer", "-v", "a.pl"],
             "`-v` is not an option of this command",

@@ -8,6 +8,7 @@ pub enum Command {
     Infer,
     Check,
     Run,
+    Gen,
 }
 
 impl Command {
@@ -17,6 +18,7 @@ impl Command {
             "infer" => Some(Command::Infer),
             "check" => Some(Command::Check),
             "run" => Some(Command::Run),
+            "gen" => Some(Command::Gen),
             _ => None,
         }
     }
@@ -27,13 +29,22 @@ impl Command {
             Command::Infer => "infer",
             Command::Check => "check",
             Command::Run => "run",
+            Command::Gen => "gen",
+        }
+    }
+
+    /// What its first word is, in the usage.
+    pub fn first(self) -> &'static str {
+        match self {
+            Command::Gen => "N",
+            _ => "FILE",
         }
     }
 
     /// What its second word is, in the usage.
     pub fn second(self) -> Option<&'static str> {
         match self {
-            Command::Infer => None,
+            Command::Infer | Command::Gen => None,
             Command::Check => Some("CERT"),
             Command::Run => Some("QUERY"),
         }

@@ -20,6 +20,8 @@ pub enum WordFault<'a> {
     NoSteps,
     #[error("`{0}` is not a number of steps")]
     BadSteps(&'a str),
+    #[error("`{0}` is not a number of predicates")]
+    BadCount(&'a str),
     #[error("--steps stands twice")]
     TwoSteps,
     #[error("these words are not a command")]
@@ -31,7 +33,7 @@ impl WordFault<'_> {
     pub fn advice(self) -> &'static str {
         match self {
             WordFault::NoCommand | WordFault::UnknownCommand(_) => {
-                "the commands are infer, check and run"
+                "the commands are infer, check, run and gen"
             }
             WordFault::UnknownOption(_) => {
                 "only run has an option, --steps; write -- before a word that begins with -"
@@ -40,6 +42,7 @@ impl WordFault<'_> {
             WordFault::NoSteps | WordFault::BadSteps(_) => {
                 "write --steps and a number from 1 to 1000000"
             }
+            WordFault::BadCount(_) => "write a number from 1 to 300, of at most three digits",
             WordFault::TwoSteps => "leave one of them out",
             WordFault::Missing(..) | WordFault::Other => { "the usage has a line for each command" }
         }

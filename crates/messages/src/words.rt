@@ -87,7 +87,7 @@ impl<'a> Words<'a> {
             return WordFault::NoCommand;
         };
         if self.file.is_none() {
-            return WordFault::Missing(command, "FILE");
+            return WordFault::Missing(command, command.first());
         }
         match command.second() {
             Some(name) if self.second.is_none() => WordFault::Missing(command, name),
@@ -125,7 +125,7 @@ impl<'a> Words<'a> {
             self.blame(WordFault::TwoSteps);
         } else if word.is_empty() || word.starts_with('-') {
             self.blame(WordFault::NoSteps);
-        } else if !is_number_of_steps(word) {
+        } else if !is_number_up_to(word, 7, 1_000_000) {
             self.blame(WordFault::BadSteps(word));
         }
         self.steps = Some(word);
@@ -135,12 +135,20 @@ impl<'a> Words<'a> {
     fn take_plain(&mut self, word: &'a str) {
         let has_second = self.command.and_then(Command::second).is_some();
         if self.file.is_none() {
-            self.file = Some(word);
+            self.take_first(word);
         } else if has_second && self.second.is_none() {
             self.second = Some(word);
         } else {
             self.blame(WordFault::Extra(word));
         }
+    }
+
+    /// Takes the first word after the command.
+    fn take_first(&mut self, word: &'a str) {
+        if self.command == Some(Command::Gen) && !is_number_up_to(word, 3, 300) {
+            self.blame(WordFault::BadCount(word));
+        }
+        self.file = Some(word);
     }
 
     /// Keeps a fault, if it is the first.
@@ -151,8 +159,11 @@ impl<'a> Words<'a> {
     }
 }
 
-/// Whether a word is a number from 1 to 1,000,000 of at most seven digits.
-fn is_number_of_steps(word: &str) -> bool {
-    let is_short = word.len() <= 7 && word.bytes().all(|byte| byte.is_ascii_digit());
-    is_short && matches!(word.parse::<u32>(), Ok(1..=1_000_000))
+/// Whether a word is a number from 1 to the greatest, of at most so many digits.
+fn is_number_up_to(word: &str, digits: usize, greatest: u32) -> bool {
+    let is_short = word.len() <= digits && word.bytes().all(|byte| byte.is_ascii_digit());
+    match word.parse::<u32>() {
+        Ok(number) => is_short && number >= 1 && number <= greatest,
+        Err(_) => false,
+    }
 }
