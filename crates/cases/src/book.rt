@@ -1,5 +1,6 @@
 //! The cases that are read so far.
 
+use crate::change::Change;
 use crate::line::Line;
 use cti_top::{MemFiles, MemSink, Status, command};
 use std::alloc::{AllocError, Global};
@@ -125,21 +126,21 @@ impl Book {
 
     /// Keeps a file with the text in the place of one of its lines.
     fn keep_change(&mut self, alloc: Global) -> Result<(), AllocError> {
-        let mut names = self.head.split(' ');
-        let name = String::from_str(alloc, names.next().unwrap_or(""))?;
-        let base = names.next().unwrap_or("");
-        let number = names
-            .next()
-            .unwrap_or("")
-            .parse::<usize>()
-            .unwrap_or(usize::MAX);
-        let Some(base) = self.store.files.get(base) else {
-            return Ok(());
-        };
-        let mut whole = Vec::new(alloc);
-        add_changed(&mut whole, base, number, &self.text)?;
-        self.store.files.insert(name, whole)?;
+        let change = Change::of(alloc, &self.head)?;
+        let whole = self.changed(alloc, change.base.as_str(), change.number)?;
+        self.store
+            .files
+            .insert(String::from_str(alloc, &change.name)?, whole)?;
         Ok(())
+    }
+
+    /// A file with the text in the place of the line of a number; nothing, where there is no such file.
+    fn changed(&self, alloc: Global, base: &str, number: usize) -> Result<Vec<u8>, AllocError> {
+        let mut whole = Vec::new(alloc);
+        if let Some(base) = self.store.files.get(base) {
+            add_changed(&mut whole, base, number, &self.text)?;
+        }
+        Ok(whole)
     }
 
     /// Runs the command, and notes a difference.

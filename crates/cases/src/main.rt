@@ -13,6 +13,7 @@
 #![tactic(auto)]
 
 mod book;
+mod change;
 mod line;
 
 use book::Book;
