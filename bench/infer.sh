@@ -1,6 +1,6 @@
 #!/usr/bin/env bash
 # Times `cti infer`, outside the gate: 1 MB of facts (long ones, and of different names) and half as much, quicksort, generated programs
-# of 150 and 300 predicates, a chain and a ring of 3,000 predicates in a shuffled order, and a clause of 48 variables; and `cti check` on
+# of 150 and 300 predicates, a chain of 3,000 predicates and a ring of 80 in a shuffled order, and a clause of 48 variables; and `cti check` on
 # the certificates of the generated ones.
 # Usage: bench/infer.sh [PROGRAM]     (PROGRAM is bin/cti where none is named)
 set -eu
@@ -62,7 +62,7 @@ write(
 for count in (150, 300):
     write(f"generated_{count}", generated(count))
 write("chain", shuffled([f"p{n}(X,Y,Z) :- p{n + 1}(X,Y,Z)." for n in range(2999)] + ["p2999(a,b,c)."]))
-write("ring", shuffled([f"p{n}(X) :- p{n + 1}(X)." for n in range(2999)] + ["p2999(s(X)) :- p0(X)."]))
+write("ring", shuffled([f"p{n}(X) :- p{n + 1}(X)." for n in range(79)] + ["p79(s(X)) :- p0(X)."]))
 groups = [",".join(f"X{12 * g + k}" for k in range(1, 13)) for g in range(4)]
 write(
     "wide",
