@@ -4,5 +4,5 @@ complete -c cti -n __fish_use_subcommand -f -a check -d 'Check a certificate of 
 complete -c cti -n __fish_use_subcommand -f -a run -d 'Run a query of a program'
 complete -c cti -n __fish_use_subcommand -f -a gen -d 'Infer a generated program'
 complete -c cti -n '__fish_seen_subcommand_from gen' -f
-complete -c cti -n '__fish_seen_subcommand_from infer check' -F
-complete -c cti -n '__fish_seen_subcommand_from run' -F -l steps -x -d 'Look at so many derivations'
+complete -c cti -n '__fish_seen_subcommand_from infer check run' -F
+complete -c cti -n '__fish_seen_subcommand_from run' -l steps -x -d 'Look at so many derivations'
