@@ -6,8 +6,7 @@
 set -eu
 . "$(dirname "$0")/workspace.sh"
 work=$1
-workspace "$work" cti_terms prolog_tokens prolog_grammar prolog_reader clause_normal call_components exact128 linear_rows term_size \
-    bool_diagrams termination_model truth_rows certificate cert_structure cert_modes cert_checker
+workspace "$work" cert_checker clause_normal
 program "$work" driver cert_checker certificate clause_normal cti_terms prolog_reader
 hex_lines "$work" driver 1048577 16777217
 cat >"$work/crates/driver/src/show.rt" <<'RUST'

@@ -6,7 +6,7 @@
 set -eu
 . "$(dirname "$0")/workspace.sh"
 work=$1
-workspace "$work" exact128 rational128 linear_rows fourier simplex
+workspace "$work" simplex
 program "$work" driver linear_rows fourier simplex
 mkdir -p "$work/crates/driver/proofs/row" "$work/crates/driver/proofs/rows"
 cat >"$work/crates/driver/src/main.rt" <<'RUST'

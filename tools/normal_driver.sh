@@ -5,7 +5,7 @@
 set -eu
 . "$(dirname "$0")/workspace.sh"
 work=$1
-workspace "$work" cti_terms prolog_tokens prolog_grammar prolog_reader clause_normal
+workspace "$work" clause_normal
 program "$work" driver clause_normal cti_terms prolog_reader
 hex_lines "$work" driver 1048577 0
 cat >"$work/crates/driver/src/show.rt" <<'RUST'

@@ -6,7 +6,7 @@
 set -eu
 . "$(dirname "$0")/workspace.sh"
 work=$1
-workspace "$work" cti_terms prolog_tokens prolog_grammar prolog_reader
+workspace "$work" prolog_reader
 program "$work" driver cti_terms prolog_reader
 hex_lines "$work" driver 1048577 1048577
 cat >"$work/crates/driver/src/show.rt" <<'RUST'

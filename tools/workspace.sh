@@ -2,12 +2,31 @@
 
 top=$(cd "$(dirname "${BASH_SOURCE[0]}")/.." && pwd)
 
-# workspace FOLDER CRATE..: a repository with copies of the crates
+# below CRATE..: these crates of the repository and all that they depend on, in the order of crates.txt
+below() {
+    python3 - "$top/crates.txt" "$@" <<'PYTHON'
+import sys
+from pathlib import Path
+
+lines = [line.split(":") for line in Path(sys.argv[1]).read_text().splitlines() if ":" in line and not line.startswith("#")]
+uses = {name: rest.split() for name, rest in lines}
+wanted = set()
+left = list(sys.argv[2:])
+while left:
+    name = left.pop()
+    if name in uses and name not in wanted:
+        wanted.add(name)
+        left += uses[name]
+print(*[name for name in uses if name in wanted], sep="\n")
+PYTHON
+}
+
+# workspace FOLDER CRATE..: a repository with copies of the crates and of all that they depend on
 workspace() {
     local work=$1 name part
     shift
     mkdir -p "$work/crates"
-    for name in "$@"; do
+    for name in $(below "$@"); do
         mkdir -p "$work/crates/$name"
         for part in src specs proofs; do
             rm -rf "$work/crates/$name/$part"
@@ -19,7 +38,7 @@ workspace() {
     [ -d "$work/.git" ] || git init -q "$work"
 }
 
-# program FOLDER NAME CRATE..: an empty program that stands on the crates
+# program FOLDER NAME CRATE..: an empty program that depends on the crates
 program() {
     local work=$1 name=$2
     shift 2
