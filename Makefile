@@ -10,8 +10,8 @@ ZSH_COMPLETION = $(SHARE)/zsh/site-functions/_cti
 FISH_COMPLETION = $(SHARE)/fish/vendor_completions.d/cti.fish
 
 bin/cti: $(shell find crates -name '*.rt' -o -name '*.antt' | grep -v /out/) crates.txt
-	@echo "Every function is proved before the program is built: about half an hour on four processors the first time, and a few"
-	@echo "seconds for what was proved before. Each line says which crate is proved."
+	@echo "Every function is proved before the program is built: about half an hour on four processors the first time, and only"
+	@echo "what changed after that. Each line says which crate is proved."
 	rt all check --jobs $(JOBS)
 	cd crates/cti && rt run -- infer ../../examples/facts.pl
 	mkdir -p bin
