@@ -49,7 +49,7 @@ abbrev pub origin_of : ItsOrigin → Origin
 origin_of (its.File name) = words.file name.now
 origin_of (its.Generated count) = words.generated count
 
--- so many predicates can be generated
+-- a program of this many predicates can be generated
 abbrev pub IsInRange : Origin → Type 0
 IsInRange (words.file name) = Unit {0}
 IsInRange (words.generated n) = (1 ≤ n) × (n ≤ 300)

@@ -31,7 +31,7 @@ pub record IsCheckOf (known : Known) (certified : List ℕ) (status : Status) (t
   pub is : IsTextOf certificate certified
   pub verdict : IsVerdictOn known.program known.names certificate.facts status text
 
--- the text is that of no certificate, and this is its first line that is no fact's
+-- the text is not that of a certificate, and this is its first line that is not a fact
 pub record IsRefusedCertificate (certified : List ℕ) (line : ℕ) : Type 0 where
   pub first : IsFirstWrong certified line
   pub none : (c : Certificate) → IsTextOf c certified → ⊥

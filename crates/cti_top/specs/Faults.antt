@@ -10,7 +10,7 @@ use Rattle.cti_top.specs.Refusal.{read_number, normal_number}
 use Rattle.cti_top.specs.Programs.{IsRefused}
 use Rattle.cti_top.specs.Queries.{Known, IsQueryRefused}
 
--- the bytes of a program are refused so; want of memory says nothing
+-- the bytes of a program are refused so; out of memory says nothing
 abbrev pub IsProgramFault : List ℕ → SourceFault → Type 0
 IsProgramFault bytes (source.Refused kind at) = IsRefused bytes kind at
 IsProgramFault bytes source.Memory = Unit {0}

@@ -10,7 +10,7 @@ abbrev pub TellsAt : Map → List ℕ → List ℕ → Type 0
 TellsAt None name bytes = Unit {0}
 TellsAt (Some files) name bytes = files name ≡ Some bytes
 
--- where the map is told, it has more than so many bytes at the name
+-- where the map is told, it has more bytes than that at the name
 abbrev pub TellsMore : Map → List ℕ → ℕ → Type 0
 TellsMore None name most = Unit {0}
 TellsMore (Some files) name most = (bytes : List ℕ) × (files name ≡ Some bytes) × (most < length bytes)

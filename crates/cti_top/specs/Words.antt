@@ -53,7 +53,7 @@ abbrev pub line : App
 line = with_subcommand (with_subcommand (with_subcommand (with_subcommand top_line infer_line.top) check_line.top) run_line.top) gen_line.top
 
 -- what is asked for, by its texts: the modes of a file's program, the check of a file's certificate of it, a query of it with a number of nodes, or
--- how many modes a generated program of so many predicates has
+-- how many modes the generated program of this many predicates has
 pub data Ask : Type 0 where
   infer : Text → Ask
   check : Text → Text → Ask

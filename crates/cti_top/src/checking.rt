@@ -21,7 +21,7 @@ use cert_checker::{Verdict, check};
 use certificate::{CertFault, Certificate, MOST_BYTES};
 use std::alloc::{AllocError, Global};
 
-/// The number of the refusal of a line that is no fact's.
+/// The number of the refusal of a line that is not a fact.
 const NOT_A_FACT: u32 = 16;
 
 /// The status that goes with a verdict.
@@ -46,7 +46,7 @@ fn checked(alloc: Global, source: &Source, certificate: &Certificate) -> Result<
     })
 }
 
-/// The answer that refuses a certificate's text for a line that is no fact's.
+/// The answer that refuses a certificate's text for a line that is not a fact.
 fn not_a_fact(alloc: Global, line: u32) -> Result<Answer, AllocError>
     ensures { IfOk result (λ a. (a.status ≡ Status.Refused) × (a.text.items ≡ refusal_line Subject.Certificate line 1 16)) }
 {

@@ -29,7 +29,7 @@ pub enum Request<'a> {
     Check(&'a str, &'a str),
     /// A run of a query of the program in a file, and how many nodes are looked at.
     Run(&'a str, &'a str, u64),
-    /// How many modes a generated program of so many predicates has.
+    /// How many modes the generated program of this many predicates has.
     Generate(u32),
 }
 
@@ -38,7 +38,7 @@ pub enum Request<'a> {
 pub enum Origin<'a> {
     /// It is that of a file of this name.
     File(&'a str),
-    /// It is generated, with so many predicates.
+    /// It is generated, with this many predicates.
     Generated(u32),
 }
 

@@ -62,7 +62,7 @@ fn summary_text(
     Ok(text)
 }
 
-/// The answer to a generated program of so many predicates that was read.
+/// The answer to the generated program of this many predicates, which was read.
 pub fn summed(alloc: Global, source: &Source, predicates: u32) -> Result<Answer, AllocError>
     requires known { AllByRecursion (λ (q : ThePred). q.name.0 < length source.now.names) source.now.program.preds }
     ensures { IfOk result (λ a. (a.status ≡ Status.Done)

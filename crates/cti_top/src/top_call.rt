@@ -23,8 +23,9 @@ use std::alloc::Global;
 
 /// Carries out the command that the words after the program's name ask for.
 ///
-/// `infer FILE` reads the program of a file and writes, for each predicate, its modes as far as they are known. `check FILE CERT`
-/// reads a certificate of it too, and writes `yes.` where it is valid, and `no(Line,Reason).` where it is not. `run FILE QUERY
+/// `infer FILE` reads the program of a file and writes the certificate of its modes: exactly the minimal ones for the size rows, ground
+/// rows and mappings that it shows, and each query that meets one of them ends. `check FILE CERT` reads a certificate of the program
+/// too, and writes `yes.` where it is valid, and `no(Line,Reason).` where it is not. `run FILE QUERY
 /// --steps N` reads a query of the program too, and writes its answers among the empty derivation and the first N others, then how
 /// many there were, the length of the longest, and whether there are more. N is from 1 to 1,000,000, and else 100,000. `gen N` makes a
 /// program of N predicates, from 1 to 300, and writes how many clauses it has, and how many modes `infer` would print for it. The
