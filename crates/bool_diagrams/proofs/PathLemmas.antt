@@ -9,7 +9,7 @@ use Rattle.bool_diagrams.specs.Paths.{rows_from}
 use Rattle.bool_diagrams.proofs.Canonical.{same_tree}
 use Rattle.bool_diagrams.proofs.CubeLemmas.{IsBelow, SameSet, value_agrees, same_rows_same, same_rows_is, same_rows_agree, cubes_agree}
 
--- a cube behind variables that are not asked and one that is
+-- a cube after variables that are not asked and one that is
 abbrev pub behind : ℕ → Cell → List Cell → List Cell
 behind m cell cube = replicate m Any ++ (cell ∷ cube)
 

@@ -22,7 +22,7 @@ length-filled p q m le is =
     let more = length-replicate (m - length p) Any in
     ap length is ∙ (omega arith)
 
--- the list with the cubes of a tree, each behind the prefix
+-- the list with the cubes of a tree, each after the prefix
 abbrev pub Walked : List Cell → ℕ → Tree → List (List Cell) → List (List Cell) → Type 0
 Walked p width t f f' = f' ≡ f ++ map (λ cube. p ++ cube) (cubes (width - length p) (rows_from (length p) t))
 

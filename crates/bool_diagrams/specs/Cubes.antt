@@ -22,7 +22,7 @@ same_rows zero s t = iff (s []) (t [])
 same_rows (suc n) s t = same_rows n (rests false s) (rests false t) && same_rows n (rests true s) (rests true t)
 
 -- the cubes of a set of rows of length n: of no length, the empty cube where there is the empty row. Else, where the
--- rests behind false and behind true are the same, any before each cube of them; and where they differ, false before
+-- rests after false and after true are the same, any before each cube of them; and where they differ, false before
 -- each cube of the ones, then true before each cube of the others
 unfoldable pub cubes : (n : ℕ) → (List Bool → Bool) → List (List Cell)
 cubes zero set = if set [] then [] ∷ [] else []

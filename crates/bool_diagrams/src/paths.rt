@@ -29,7 +29,7 @@ impl Table {
         Ok(found)
     }
 
-    // Adds the paths from a number on, each behind the prefix. It goes one variable deeper at each call.
+    // Adds the paths from a number on, each after the prefix. It goes one variable deeper at each call.
     fn walk(
         &self,
         number: u64,

@@ -83,7 +83,7 @@ impl Table {
         // The same, of the rows that `eval` can be asked.
         ensures numbers { IsTrue result ↔ HaveSameNumbers self.now a b }
     {
-        // No two nodes are equal: the clauses stand on the invariant of the nodes.
+        // No two nodes are equal: the clauses depend on the invariant of the nodes.
         let _nodes = &self.nodes;
         a.0 == b.0
     }
@@ -137,7 +137,7 @@ impl Table {
         self.node_of(number).variable
     }
 
-    // The first variable of two diagrams, of which one at least is no constant.
+    // The first variable of two diagrams, of which one at least is not a constant.
     pub(crate) fn first(&self, a: u64, b: u64) -> u32
         requires left { IsOf self.now a }
         requires right { IsOf self.now b }

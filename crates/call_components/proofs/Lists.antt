@@ -11,7 +11,7 @@ slice_get-append [] ys i h = absurd (omega (arith, h))
 slice_get-append (x ∷ xs) ys zero h = refl
 slice_get-append (x ∷ xs) ys (suc i) h = slice_get-append xs ys i (omega (arith, h))
 
--- behind the first list come the elements of the second
+-- after the first list come the elements of the second
 pub slice_get-append_right : {X : Type 0} (xs ys : List X) (n i : ℕ) → n ≡ length xs + i → slice_get (xs ++ ys) n ≡ slice_get ys i
 slice_get-append_right [] ys n i e = let same : n ≡ i = omega (arith, e) in ap (slice_get ys) same
 slice_get-append_right (x ∷ xs) ys zero i e = absurd (omega (arith, e))

@@ -150,7 +150,7 @@ module _ (calls : ℕ → ℕ → Type 0) where
               | inr (inl k) ↦ inr (inl k)
             ]
 
-    -- the segments that are left when those behind a place are joined
+    -- the segments that are left when those after a place are joined
     pub segments_joined : (w : List ℕ) (b j : ℕ) → mark b ≡ Open j → (u v : ℕ) (ss : List Segment) → j < u
         → ((a i : ℕ) → mark a ≡ Open i → Reaches calls a b) → AreSegments calls mark w u v ss
         → AreSegments calls mark w u v (joined j ss) × AllByRecursion (λ (s : Segment). s.first ≤ j) (joined j ss)

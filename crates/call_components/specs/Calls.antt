@@ -1,6 +1,6 @@
 -- Who calls whom in a program, and who reaches whom by calls.
 --
--- Predicates are told by their numbers. To believe: `Calls`, `Reaches`.
+-- Predicates are identified by their numbers. To believe: `Calls`, `Reaches`.
 use Rattle.std.specs.Prelude.{◌≡◌, ℕ, Any}
 use Rattle.cti_terms.specs.declared.atom_list.Atom.{Atom}
 use Rattle.cti_terms.specs.declared.clauses.Clause.{Clause}

@@ -52,7 +52,7 @@ module _ (calls : ℕ → ℕ → Type 0) (mark : ℕ → Mark) where
     pub followed : AllByRecursion (IsFollowed todo waiting) segments
     pub closed : AreClosed count
 
--- the segments, the last one first, without those that begin behind this place
+-- the segments, the last one first, without those that begin after this place
 abbrev pub joined : ℕ → List Segment → List Segment
 joined place [] = []
 joined place (s ∷ ss) = if nat_lt place s.first then joined place ss else s ∷ ss

@@ -35,7 +35,7 @@ impl Model for Marks {
 }
 
 impl Marks {
-    /// So many predicates, none of which was met.
+    /// The given number of predicates, none of which was met.
     pub(crate) fn new(alloc: Global, preds: u32) -> Result<Marks, AllocError>
         ensures { IfOk result (λ marks. marks ≡ replicate preds Mark.Unseen) }
     {

@@ -1,4 +1,4 @@
-//! Predicates in a row.
+//! A list of predicates.
 
 ghost use Rattle.std.specs.Prelude.{◌≡◌, ◌≤◌, OnOk, OnErr, MatchOption, length, map, take, drop, [], ◌∷◌, ◌++◌};
 ghost use Rattle.call_components.specs.Numbers.{number_of, called_by_atom};
@@ -7,7 +7,7 @@ use cti_terms::{Atoms, PredId};
 use std::alloc::{AllocError, Global};
 use std::marker::Model;
 
-/// Predicates in a row. Contracts see the list of their numbers.
+/// A list of predicates. Contracts see the list of their numbers.
 #[derive(Drop)]
 pub(crate) struct Preds {
     items: Vec<PredId>,

@@ -25,7 +25,7 @@ impl Model for PredLists {
 }
 
 impl PredLists {
-    /// So many empty rows.
+    /// The given number of empty rows.
     pub(crate) fn new(alloc: Global, count: u32) -> Result<PredLists, AllocError>
         ensures { IfOk result (λ lists. lists ≡ replicate count []) }
     {

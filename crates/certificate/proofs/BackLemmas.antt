@@ -16,11 +16,11 @@ use Rattle.certificate.specs.declared.cell.CertCell.{CertCell}
 use Rattle.certificate.specs.declared.cell.CertCell.TheVariants as cell
 use Rattle.certificate.specs.declared.how.CertHow.TheVariants as how
 
--- a comma or a closing parenthesis or bracket: what stands behind a part of a fact
+-- a comma or a closing parenthesis or bracket: what stands after a part of a fact
 abbrev pub IsMark : ℕ → Type 0
 IsMark b = (b ≡ 44) ⊎ (b ≡ 41) ⊎ (b ≡ 93)
 
--- what is printed of values in range is read back, whatever stands behind a mark
+-- what is printed of values in range is read back, whatever stands after a mark
 abbrev pub IsReadBack : {A : Type 0} → (A → List ℕ) → (List ℕ → Read A) → (A → Type 0) → Type 0
 IsReadBack {A} shown reads fits = (x : A) (b : ℕ) (s : List ℕ) → fits x → IsMark b → reads (shown x ++ b ∷ s) ≡ Some (x, b ∷ s)
 
@@ -93,7 +93,7 @@ pub list_not_closed : {A : Type 0} (shown : A → List ℕ) (xs : List A) (s : L
 list_not_closed shown [] s = refl
 list_not_closed shown (x ∷ xs) s = refl
 
--- behind an item stands a mark again
+-- after an item stands a mark again
 mark_after : {A : Type 0} (shown : A → List ℕ) (xs : List A) (s : List ℕ) → (b : ℕ) × (t : List ℕ) × IsMark b × (flat_map (λ y. codes "," ++ shown y) xs ++ 93 ∷ s ≡ b ∷ t)
 mark_after shown [] s = (93, s, inr (inr refl), refl)
 mark_after shown (x ∷ xs) s = (44, shown x ++ flat_map (λ y. codes "," ++ shown y) xs ++ 93 ∷ s, inl refl, simp append_assoc)

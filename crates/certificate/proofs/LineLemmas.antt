@@ -46,7 +46,7 @@ read_same f g s t text h e read =
 pub read_some : (f : Fact) (s text : List ℕ) → InRange f → text ≡ fact_text f ++ s → read_fact text ≢ None
 read_some f s text h e none = none-some _ (sym none ∙ (rw (← e) at (fact_back f s h)))
 
--- only want of memory stops a reading that should give something
+-- only a lack of memory stops a reading that should give something
 pub fault_only : {A B : Type 0} (R : A × Bor (List ℕ) → Type 0) (r : Result (A × Bor (List ℕ)) LineFault) (e : LineFault) (o : Read B)
     → IsErr r × IsErrAnd r (λ d. d ≡ e) → Agrees {A = B} (Err e) o → o ≢ None → MatchResult r R (λ d. d ≡ fault.Memory)
 fault_only R (Ok p) e o f h k = absurd (false≢true f.0)

@@ -41,7 +41,7 @@ module _ {A : Type 0} (stop : ℕ) (item : List ℕ → Read A) (h : Shortens it
 pub no_comma : {A : Type 0} (item : List ℕ → Read A) (s : List ℕ) → after (codes ",") s ≡ None → next_item item s ≡ None
 no_comma item s none = rw none refl
 
--- the item behind a comma
+-- the item after a comma
 pub behind_comma : {A : Type 0} (item : List ℕ → Read A) (s u : List ℕ) (o : Read A) → after (codes ",") s ≡ Some u → item u ≡ o → next_item item s ≡ o
 behind_comma item s u o some read = rw some read
 

@@ -16,7 +16,7 @@ use Rattle.certificate.specs.Range.{IsPred}
 use Rattle.certificate.specs.Text.{indicator}
 use Rattle.certificate.proofs.BackLemmas.{IsReadBack, natural_back}
 
--- a letter, a digit or an underscore is no slash and no quote
+-- a letter, a digit or an underscore is neither a slash nor a quote
 word_byte : (b : ℕ) → is_word b ≡ true → (b == 47) ≡ false
 word_byte b h = grind (arith, nat_tests)
 
@@ -56,7 +56,7 @@ brackets_back (b ∷ c ∷ []) s h =
     rw (eqb-true b 91 first, eqb-true c 93 second) refl
 brackets_back (b ∷ c ∷ d ∷ bs) s h = absurd (false≢true h)
 
--- a hexadecimal digit is read, and is no backslash
+-- a hexadecimal digit is read, and is not a backslash
 digit_back : (d : ℕ) (t : List ℕ) → d < 16 → read_hexadecimal (digit_char d ∷ t) ≡ Some (d, t)
 digit_back d t small = rw (digit_value-digit_char d (omega (arith, small)), lt-ltb d 16 small) refl
 

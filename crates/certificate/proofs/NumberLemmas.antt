@@ -16,7 +16,7 @@ more s i j value byte digit same within all is read h =
     let at : byte ≡ get_or s i 0 = rw same read in
     (digits_more 10 s i inside all (rw (← at) h.0), rw (digits_value_more 10 s i inside, ← at, ← is, h.1))
 
--- the loop ends at the end of the text or at a byte that is no digit
+-- the loop ends at the end of the text or at a byte that is not a digit
 pub past : (s : List ℕ) (i j : ℕ) → i ≡ j → length s ≤ j → 10 ≤ digit_value (get_or s i 0)
 past s i j same end = rw (same, get_or_past s j 0 end) (lit≤ tt)
 
@@ -27,11 +27,11 @@ other s i j byte same read h = rw (same, ← read) (let d = digit_value byte in 
 pub to_end : (n : ℕ) (s : List ℕ) → take (length s - n) (drop n s) ≡ drop n s
 to_end n s = rw (← length-drop n s) (take-length (drop n s))
 
--- digits whose value is too large are no number
+-- digits whose value is too large are not a number
 pub too_large : (most : ℕ) (s : List ℕ) (i : ℕ) → AllDigits 10 (take i s) → most < digits_value 10 (take i s) → read_natural most s ≡ None
 too_large most s i all large = ap (λ o. option_map (λ n. (n.0, drop n.1 s)) o) (read_number_large_at 10 most s i (omega arith) all large)
 
--- no digit is no number
+-- where there is no digit there is no number
 pub no_digit : (most : ℕ) (s : List ℕ) → 10 ≤ digit_value (get_or s 0 0) → read_natural most s ≡ None
 no_digit most s stop = ap (λ o. option_map (λ n. (n.0, drop n.1 s)) o) (read_number_empty 10 most s stop)
 

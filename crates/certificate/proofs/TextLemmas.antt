@@ -13,7 +13,7 @@ use Rattle.certificate.specs.Parse.{read_fact}
 use Rattle.certificate.proofs.FactBackLemmas.{fact_back}
 use Rattle.certificate.proofs.OneLine.{one_line}
 
--- no fact's line stands at the front
+-- where the line at the front is not a fact
 abbrev pub Stops : List ℕ → Type 0
 Stops rest = (f : Fact) (s : List ℕ) → InRange f → rest ≢ fact_text f ++ s
 

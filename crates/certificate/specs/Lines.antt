@@ -1,4 +1,4 @@
--- The lines of a text, and the first of them that is no fact's.
+-- The lines of a text, and the first of them that is not a fact.
 --
 -- To believe: all of this file.
 use Rattle.std.specs.Prelude.{◌≡◌, ℕ, suc, ◌==◌, List, [], ◌∷◌, ◌++◌, length, if◌then◌else◌}
@@ -21,7 +21,7 @@ lines (b ∷ bs) = if b == 10 then (b ∷ []) ∷ lines bs else in_front b (line
 abbrev pub IsFactLine : List ℕ → Type 0
 IsFactLine line = (f : Fact) × InRange f × (line ≡ fact_text f)
 
--- the line of this number, counted from 1, is the first that is no fact's
+-- the line of this number, counted from 1, is the first that is not a fact
 pub record IsFirstWrong (text : List ℕ) (number : ℕ) : Type 0 where
   pub before : List (List ℕ)
   pub line : List ℕ

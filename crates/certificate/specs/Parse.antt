@@ -23,7 +23,7 @@ use Rattle.certificate.specs.Range.{most_32, most_64, most_127, IsPlace, IsIndex
 abbrev pub Read : Type 0 → Type 0
 Read A = Option (A × List ℕ)
 
--- the code read what it should; want of memory is free
+-- the code read what it should; running out of memory is free
 abbrev pub Agrees : {A : Type 0} → Result (A × Bor (List ℕ)) LineFault → Read A → Type 0
 Agrees (Ok p) o = o ≡ Some (p.0, p.1.now)
 Agrees (Err fault.NotAFact) o = o ≡ None
@@ -86,7 +86,7 @@ is_amount _ = false
 abbrev pub with_first : {A : Type 0} → A → List A × List ℕ → List A × List ℕ
 with_first x p = (x ∷ p.0, p.1)
 
--- items up to a byte that stops them, with at most so many bytes
+-- items up to a byte that stops them, with at most the given number of bytes
 unfoldable pub repeated : {A : Type 0} → ℕ → ℕ → (List ℕ → Read A) → List ℕ → Read (List A)
 repeated zero stop item s = None
 repeated (suc n) stop item [] = None
@@ -100,7 +100,7 @@ read_until stop item s = repeated (length s) stop item s
 abbrev pub with_all : {A : Type 0} → List A → Read (List A) → Read (List A)
 with_all xs o = option_map (λ p. (xs ++ p.0, p.1)) o
 
--- the code read the items that follow, and put them behind those that it had
+-- the code read the items that follow, and put them after those that it had
 abbrev pub AgreesMore : {A : Type 0} → List A → Result (Bor (List ℕ)) LineFault → Read (List A) → Type 0
 AgreesMore items (Ok s) o = o ≡ Some (items, s.now)
 AgreesMore items (Err fault.NotAFact) o = o ≡ None
@@ -175,7 +175,7 @@ read_how s =
     or_else option_map (λ t. (how.Keep, t)) (after (codes "keep") s)
     or_else option_map (λ t. (how.Same, t)) (after (codes "same") s)
 
--- a part and the comma behind it
+-- a part and the comma after it
 abbrev pub read_next : {A : Type 0} → (List ℕ → Read A) → List ℕ → Read A
 read_next part s = part s >>= λ p. option_map (λ t. (p.0, t)) (after (codes ",") p.1)
 
@@ -183,7 +183,7 @@ read_next part s = part s >>= λ p. option_map (λ t. (p.0, t)) (after (codes ",
 abbrev pub read_last : {A : Type 0} → (List ℕ → Read A) → List ℕ → Read A
 read_last part s = part s >>= λ p. option_map (λ t. (p.0, t)) (after (codes ").\n") p.1)
 
--- the facts, each behind its word
+-- the facts, each after its word
 unfoldable pub read_cti_fact : List ℕ → Read Fact
 read_cti_fact s = do
   version ← read_last read_integer s

@@ -46,7 +46,7 @@ impl Certificate {
     /// The certificate whose text this is.
     ///
     /// A text is that of one certificate at most. Fails with `Long` past [`MOST_BYTES`], and else with `NotAFact` and the number
-    /// of the first line, counted from 1, that is no fact's text; a last line without a newline is none.
+    /// of the first line, counted from 1, that is not a fact's text; a last line without a newline is none.
     pub fn read(alloc: Global, text: &[u8]) -> Result<Certificate, CertFault>
         // What is read is a certificate in range, and this is its text.
         ensures value { IfOk result (λ c. IsTextOf c text.now) }
@@ -57,7 +57,7 @@ impl Certificate {
         // A text is too long exactly where it has more bytes than the limit.
         ensures long { (result ≡ Err TooLong) ↔ (most_bytes < length text.now) }
 
-        // Within the limit, the fault names the first line that is no fact's, and comes where there is one.
+        // Within the limit, the fault names the first line that is not a fact, and comes where there is one.
         ensures line { (n : ℕ) → result ≡ Err (WrongLine n) → (length text.now ≤ most_bytes) × IsFirstWrong text.now n }
         ensures wrong { (n : ℕ) → length text.now ≤ most_bytes → IsFirstWrong text.now n → MatchResult result (λ c. ⊥) (λ fault. (fault ≡ WrongLine n) ⊎ (fault ≡ Memory)) }
     {
@@ -75,7 +75,7 @@ impl Certificate {
     }
 }
 
-/// The facts up to the first line that is no fact's, and the text from that line on.
+/// The facts up to the first line that is not a fact, and the text from that line on.
 fn read_facts(alloc: Global, text: &[u8]) -> Result<(Sequence<Fact>, &[u8]), AllocError>
     ensures whole { IfOk result (λ p. text.now ≡ text_of p.0 ++ p.1.now) }
     ensures in_range { IfOk result (λ p. AreInRange p.0) }

@@ -59,7 +59,7 @@ pub enum Fact {
         index: u64,
         cube: Sequence<CertCell>,
     },
-    /// A refutation with so many points follows, for the component whose first predicate this is. It is written `none`.
+    /// A refutation with the given number of points follows, for the component whose first predicate this is. It is written `none`.
     Refuted {
         pred: PredText,
         points: u64,
@@ -105,7 +105,7 @@ pub enum Fact {
         pred: PredText,
         support: Sequence<Sequence<u32>>,
     },
-    /// A note: the component has so many argument positions, which is more than 12.
+    /// A note: the number of argument positions of the component, which is more than 12.
     Large {
         pred: PredText,
         positions: u64,

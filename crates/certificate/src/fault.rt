@@ -1,4 +1,4 @@
-//! Why a text is no certificate.
+//! Why a text is not a certificate.
 
 use std::alloc::AllocError;
 use thiserror::Error;
@@ -9,7 +9,7 @@ pub enum CertFault {
     /// The text has more than 16,777,216 bytes.
     #[error("the certificate is too long")]
     Long,
-    /// This line, counted from 1, is the first that is no fact's text.
+    /// This line, counted from 1, is the first that is not a fact's text.
     #[error("line {line} of the certificate is no fact")]
     NotAFact { line: u32 },
     /// Memory ran out.

@@ -57,7 +57,7 @@ fn print_others<T: Field>(items: &[T], out: &mut Vec<u8>) -> Result<(), AllocErr
     Ok(())
 }
 
-/// The other items of a list up to its bracket, put behind the first.
+/// The other items of a list up to its bracket, put after the first.
 fn read_more<'a, T: Field>(
     alloc: Global,
     text: &'a [u8],

@@ -77,7 +77,7 @@ fn print_other(fact: &Fact, out: &mut Vec<u8>) -> Result<(), AllocError>
     }
 }
 
-/// Appends a text and a part behind it.
+/// Appends a text and a part after it.
 fn field<T: Field>(out: &mut Vec<u8>, before: &[u8], part: &T) -> Result<(), AllocError>
     ensures { OnOk result (out.new.items ≡ out.old.items ++ before.now ++ T.shown part.now) }
 {

@@ -12,7 +12,7 @@ use crate::numbers::after;
 use sequences::Sequence;
 use std::alloc::Global;
 
-/// A part of a fact and the comma behind it.
+/// A part of a fact and the comma after it.
 fn next<T: Field>(alloc: Global, text: &[u8]) -> Result<(T, &[u8]), LineFault>
     ensures value { Agrees result (read_next T.reads text.now) }
     ensures fits { IfOk result (λ p. T.fits p.0) }

@@ -25,7 +25,7 @@ fn words(rt: &HostRuntime, alloc: Global) -> Result<Vec<String>, AllocError> {
     }
 }
 
-/// Writes the message about a call and the warnings about its texts on standard error. Where this fails, nobody is there to be told.
+/// Writes the message about a call and the warnings about its texts on standard error. Where this fails, nobody reads it.
 fn tell(rt: &HostRuntime, ending: Ending<'_>) -> Result<(), AllocError> {
     let message = explain(rt, ending)?;
     let _ = rt.stderr().write_all(&message);

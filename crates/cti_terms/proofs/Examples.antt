@@ -202,7 +202,7 @@ no_nodes = refl
 empty_answer : answers append (record { atoms = []; fresh = 0 }) 3 ≡ [] ∷ []
 empty_answer = refl
 
--- app([a],Y,Z) has an answer with the variable 7 in two places, which is told with the variable 0
+-- app([a],Y,Z) has an answer with the variable 7 in two places, which is reported with the variable 0
 open_answer : answer_of append (query (app (cons a nil) Y Z) 3) (2 ∷ 1 ∷ []) ≡ Some (app (cons a nil) (Variable 7) (cons a (Variable 7)) ∷ [])
 open_answer = refl
 

@@ -32,7 +32,7 @@ answer_of p g ks = option_and_then (λ r. answer_by g.atoms r.0 r.1.atoms) (reac
 abbrev pub answers : Listing → Goal → ℕ → List (List Atom)
 answers p g n = filter_map (answer_of p g) ([] ∷ first_nodes p g n)
 
--- ---- how an answer is told
+-- ---- how an answer is reported
 
 -- an atom as the term that it is written as
 abbrev pub written : Atom → Tree

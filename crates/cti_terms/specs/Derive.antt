@@ -1,6 +1,6 @@
 -- Derivations, and goals whose derivations are bounded.
 --
--- A derivation is told by the numbers of its clauses, since each of them leaves one goal at most.
+-- A derivation is given by the numbers of its clauses, since each of them leaves one goal at most.
 --
 -- To believe: `IsDerivation`, `Bounded`. All that is promised of a query is that it is `Bounded`.
 -- Source: LD-derivations, which select the leftmost atom.

@@ -1,4 +1,4 @@
--- How a proof tells programs apart, so that a contract may see a program as its two lists. Nothing here has to be believed.
+-- How a proof distinguishes programs, so that a contract may see a program as its two lists. Nothing here has to be believed.
 use Rattle.std.specs.Prelude.{ℕ, List, refl}
 use Rattle.std.specs.Coded.{Coded, code_by, coded×, coded_ℕ, coded_list}
 use Rattle.cti_terms.specs.Codes.{coded_atom}

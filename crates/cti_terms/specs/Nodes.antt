@@ -1,6 +1,6 @@
 -- The nodes of a goal: its derivations but the empty one, in the order in which a search meets them.
 --
--- A derivation is told by the numbers of its clauses. Lists of numbers stand in lexicographic order, a beginning
+-- A derivation is given by the numbers of its clauses. Lists of numbers stand in lexicographic order, a beginning
 -- before what it begins. A goal may have nodes without end, so they are listed to a depth. Each node stands after
 -- all of its beginnings, so the first n nodes have at most n clauses each, and one more has at most n + 1.
 --

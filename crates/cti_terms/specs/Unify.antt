@@ -4,7 +4,7 @@
 -- Where both sides are variables, the left one is bound. Equations without such a way have no unifier.
 --
 -- To believe: `first_step`, a table of nine rows; `Unifies`, its repetition; `applied`, what bindings do to a term.
--- Laws of them stand on `unification_is_a_function` of `src/laws.rt`.
+-- Laws of them depend on `unification_is_a_function` of `src/laws.rt`.
 -- Source: Herbrand's unification algorithm, as in ISO/IEC 13211-1:1995, with one order of its steps.
 use Rattle.std.specs.Prelude.{◌≡◌, ℕ, Bool, false, ◌&&◌, ◌||◌, ◌==◌, if◌then◌else◌, List, [], ◌∷◌, ◌++◌, map}
 use Rattle.std.specs.Ordering.{int_eq}

@@ -1,4 +1,4 @@
-//! Atoms, and atoms in a row, as the body of a clause.
+//! Atoms, and lists of atoms, as the body of a clause.
 
 ghost use Rattle.std.specs.Prelude.{◌≡◌, ◌↔◌, IsTrue, OnOk, OnErr, length, [], ◌∷◌, ◌++◌};
 
@@ -19,7 +19,7 @@ impl Drop for Atom {
     }
 }
 
-/// Atoms in a row. Contracts see the list.
+/// A list of atoms. Contracts see the list.
 #[derive(Drop)]
 pub struct Atoms {
     items: Vec<Atom>,

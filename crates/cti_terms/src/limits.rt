@@ -15,8 +15,8 @@ pub const MOST_NODES: u32 = 2_097_152;
 /// The most atoms that the body of a clause has: two for each byte of the longest text.
 pub const MOST_ATOMS: u32 = 2_097_152;
 
-/// The most nodes that the atoms of an answer have together, for it to be told.
+/// The most nodes that the atoms of an answer have together, for it to be reported.
 pub const MOST_ANSWER_NODES: u32 = 100_000;
 
-/// The greatest depth of the atoms of an answer, for it to be told.
+/// The greatest depth of the atoms of an answer, for it to be reported.
 pub const MOST_ANSWER_DEPTH: u32 = 4_000;

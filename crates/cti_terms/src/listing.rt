@@ -111,7 +111,7 @@ impl Program {
         ensures preds { OnOk result (self.new.preds ≡ with_pred self.old.preds (record { name = name; arity = arity })) }
         ensures found { IfOk result (λ p. slice_get self.new.preds p.0 ≡ Some (record { name = name; arity = arity })) }
 
-        // Earlier predicates keep their numbers, and after want of memory nothing is changed.
+        // Earlier predicates keep their numbers, and out of memory, nothing is changed.
         ensures kept { (i : ℕ) → i < length self.old.preds → slice_get self.new.preds i ≡ slice_get self.old.preds i }
         ensures clauses { self.new.clauses ≡ self.old.clauses }
         ensures err { OnErr result (self.new ≡ self.old) }
@@ -127,7 +127,7 @@ impl Program {
         ensures number { IfOk result (λ k. k ≡ length self.old.clauses + 1) }
         ensures clauses { OnOk result (self.new.clauses ≡ self.old.clauses ++ clause ∷ []) }
 
-        // After want of memory nothing is changed.
+        // Out of memory, nothing is changed.
         ensures preds { self.new.preds ≡ self.old.preds }
         ensures err { OnErr result (self.new ≡ self.old) }
     {

@@ -69,7 +69,7 @@ impl Names {
         ensures added { OnOk result (self.new ≡ with_text self.old text.now) }
         ensures spelled { IfOk result (λ n. slice_get self.new n.0 ≡ Some text.now) }
 
-        // Earlier names keep their numbers, and after want of memory nothing is changed.
+        // Earlier names keep their numbers, and out of memory, nothing is changed.
         ensures kept { (i : ℕ) → i < length self.old → slice_get self.new i ≡ slice_get self.old i }
         ensures err { OnErr result (self.new ≡ self.old) }
     {

@@ -1,4 +1,4 @@
-//! Terms in a row, as the arguments of an atom.
+//! A list of terms, as the arguments of an atom.
 
 ghost use Rattle.std.specs.Prelude.{◌≡◌, ◌↔◌, IsTrue, OnOk, OnErr, length, map, [], ◌∷◌, ◌++◌};
 ghost use Rattle.cti_terms.specs.Spell.{tree_of};
@@ -7,7 +7,7 @@ use crate::syntax::Term;
 use std::alloc::{AllocError, Global};
 use std::marker::Model;
 
-/// Terms in a row. Contracts see the list of the plain trees that they spell.
+/// A list of terms. Contracts see the list of the plain trees that they spell.
 #[derive(Drop)]
 pub struct Terms {
     items: Vec<Term>,

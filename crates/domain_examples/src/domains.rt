@@ -169,7 +169,7 @@ fn segment(alloc: Global, rows: &[&[i128]]) -> Result<Poly, Fail> {
     image_of(alloc, &clause)
 }
 
-// What a test tells: that a row holds, or that it fails.
+// What a test shows: that a row holds, or that it fails.
 fn tells(alloc: Global, value: &Poly, width: u32, numbers: &[i128]) -> Result<Option<bool>, Fail> {
     let row = row(alloc, width, numbers)?;
     if value.rows().width != width {
@@ -197,7 +197,7 @@ fn holds_on(alloc: Global, clause: &System, numbers: &[i128]) -> Result<bool, Fa
     }
 }
 
-// How many rows of a value stay on a clause, each with so many multipliers.
+// How many rows of a value stay on a clause, each with the given number of multipliers.
 fn kept(alloc: Global, value: &Poly, clause: &System, many: usize) -> Result<usize, Fail>
     requires system { IsSystem clause.now }
 {

@@ -3,7 +3,7 @@
 -- Source: Euclid's algorithm. That it is the greatest common divisor is a clause of the function `gcd`.
 use Rattle.std.specs.Prelude.{ℕ, zero, suc, ◌%◌}
 
--- what so many steps of Euclid's algorithm leave of a and b
+-- what the given number of steps of Euclid's algorithm leave of a and b
 unfoldable pub gcd_within : ℕ → ℕ → ℕ → ℕ
 gcd_within zero a b = a
 gcd_within (suc n) a zero = a

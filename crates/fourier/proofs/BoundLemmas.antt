@@ -38,7 +38,7 @@ not_above l r h = either_bool (int_lt r l) (λ e. look (int_lt l r) refl e h)
     look true ea eb h = let p = lt-true l r ea in let q = lt-true r l eb in absurd (omega (arith, ints, p, q))
     look false ea eb h = h (rw (ea, eb) refl)
 
--- what the comparison of two fractions tells
+-- what the comparison of two fractions shows
 compared : (x y : Fraction) → pos 1 ≤ℤ x.den → pos 1 ≤ℤ y.den → int_cmp (scaled_of x.num y.den (shared_of x.den y.den)) (scaled_of y.num x.den (shared_of x.den y.den)) ≡ int_cmp (x.num *ℤ y.den) (y.num *ℤ x.den)
 compared x y px py = same_order x.num x.den y.num y.den _ _ (shared_of x.den y.den) px py refl refl refl
 

@@ -114,7 +114,7 @@ all_of_true rows ms target k (suc n) e t j l h =
     look (inl is) later here = subst (ColumnFits rows ms target (pos 0)) is (column_of rows ms target k e here)
     look (inr more) later here = later more
 
--- ---- what the test tells
+-- ---- what the test shows
 pub holds_tells : (n : ℕ) (rows : List (List ℤ)) (ms target : List ℤ) → length target ≡ n + 1 → length ms ≡ length rows → Says rows ms target (pos 0) Holds → refutes_in rows ms 0 (n + 1) ≡ true
 holds_tells n rows ms target et e s = all_true rows ms target 0 (n + 1) e (λ j l h. (s j (omega arith)).0)
 

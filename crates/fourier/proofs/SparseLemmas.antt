@@ -1,4 +1,4 @@
--- Lists of numbers behind zeros, a part at a time.
+-- Lists of numbers after zeros, a part at a time.
 use Rattle.std.proofs.Common.{◌≡◌, ℕ, zero, suc, ℤ, pos, List, [], ◌∷◌, ◌++◌, ◌+◌, ◌-◌, ◌<◌, ◌≤◌, ◌+ℤ◌, ◌*ℤ◌, Bool, true, false, map, drop, length, get_or, refl, sym, ap, ◌∙◌, arith, append_assoc, length-append}
 use Rattle.std.specs.Prelude.{◌&&◌, unsigned_abs}
 use Rattle.std.proofs.Math.Seq.{drop-cons}

@@ -7,7 +7,7 @@ use Rattle.linear_rows.specs.Solving.{zeros, units, floors, coefficients, carrie
 use Rattle.linear_rows.specs.declared.row.Row.{Row}
 use Rattle.fourier.proofs.SparseLemmas.{length-zeros, zeros-append}
 
--- one more element behind what a loop has appended
+-- one more element after what a loop has appended
 pub one_more : {A : Type 0} (old before after cur next : List A) (x : A) → cur ≡ old ++ before → next ≡ cur ++ x ∷ [] → after ≡ before ++ x ∷ [] → next ≡ old ++ after
 one_more old before after cur next x ec en ea = en ∙ ap (λ l. l ++ x ∷ []) ec ∙ append_assoc old before (x ∷ []) ∙ ap (λ l. old ++ l) (sym ea)
 
@@ -62,7 +62,7 @@ given_on many i rows r line h e el =
     let z : 0 + i ≡ i = omega arith in
     carried-more many 0 i (plain_rows rows) (plain_row r) lt at ∙ rw (z, el) refl
 
--- a unit row and numbers 0 behind it
+-- a unit row and numbers 0 after it
 pub units-append : (a b p : ℕ) → p < a → units (a + b) p ≡ units a p ++ zeros b
 units-append zero b p h = absurd (omega arith)
 units-append (suc a) b zero h =

@@ -11,7 +11,7 @@ use Rattle.linear_rows.specs.Blown.{solved_fits}
 abbrev pub AllFit : List (List ℤ) → Type 0
 AllFit rows = All (λ r. All Fits r) rows
 
--- each row has so many numbers
+-- each row has the given number of numbers
 abbrev pub AllLong : ℕ → List (List ℤ) → Type 0
 AllLong n rows = All (λ r. length r ≡ n) rows
 

@@ -14,7 +14,7 @@ abbrev pub history_of : ℕ → List ℕ → List (List ℤ) → List (List (Lis
 history_of m [] rows = []
 history_of m (k ∷ ks) rows = rows ∷ history_of m ks (eliminated m k rows)
 
--- each row has more than so many numbers
+-- each row has more than the given number of numbers
 abbrev pub AllLongerThan : ℕ → List (List ℤ) → Type 0
 AllLongerThan n rows = All (λ row. n < length row) rows
 

@@ -13,7 +13,7 @@ use Rattle.fourier.specs.declared.fault.ElimFault.TheVariants.{Blown as BlownFau
 use Rattle.fourier.specs.declared.solved.Solved.{Solved}
 use Rattle.fourier.specs.declared.solved.Solved.TheVariants.{Point as PointFound, Refuted as RefutedBy}
 
--- an answer spells a solution; want of memory is free
+-- an answer spells a solution; running out of memory is free
 abbrev pub Spells : Solution → Result Solved ElimFault → Type 0
 Spells s (Ok (PointFound p)) = s ≡ Found p.t p.w
 Spells s (Ok (RefutedBy m)) = (m.scale ≡ pos 0) × (s ≡ Refuted m.list)

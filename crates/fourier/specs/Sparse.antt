@@ -4,7 +4,7 @@ use Rattle.linear_rows.specs.Solving.{zeros}
 use Rattle.fourier.specs.declared.part.Part.{Part}
 use Rattle.fourier.specs.declared.part.Place.{Place}
 
--- the list: each part is a number behind so many zeros, and so many zeros come last
+-- the list: each part is a number after the given number of zeros, and the given number of zeros come last
 abbrev pub spread : List Part → ℕ → List ℤ
 spread [] tail = zeros tail
 spread (x ∷ xs) tail = zeros x.zeros ++ x.number ∷ spread xs tail

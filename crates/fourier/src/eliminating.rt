@@ -14,7 +14,7 @@ use std::alloc::Global;
 
 /// Eliminates a variable: the rows left have the width of `rows`, and 0 in the column of `var`.
 ///
-/// Variables count from 0, and the constant is no variable. Blown says which step, of which 0 is the rows' own numbers
+/// Variables count from 0, and the constant is not a variable. Blown says which step, of which 0 is the rows' own numbers
 /// and 1 the elimination, and `wide` whether a number does not fit there; else more than 4,096 rows are left.
 ///
 /// Source: Fourier-Motzkin elimination, as in Schrijver 1986. Which rows are combined, divided and dropped, and in
@@ -23,7 +23,7 @@ pub fn eliminate(alloc: Global, rows: &Rows, var: u32) -> Result<Rows, ElimFault
     requires column { var < rows.now.width }
     requires width { HaveWidth rows.now.width rows.now.list }
 
-    // The very rows of that definition, or its very fault, unless memory runs out.
+    // Exactly the rows of that definition, or exactly its fault, unless memory runs out.
     ensures exact { Eliminates rows.now.width (var + 1) (plain_rows rows.now.list) result }
     ensures width { IfOk result (λ left. left.width ≡ rows.now.width) }
     ensures long { IfOk result (λ left. HaveWidth left.width left.list) }

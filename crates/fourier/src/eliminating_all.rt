@@ -11,7 +11,7 @@ use crate::stepping::step;
 use linear_rows::Rows;
 use std::alloc::Global;
 
-/// Eliminates so many variables from this one on, in order: the rows left have the width of `rows`.
+/// Eliminates the given number of variables from this one on, in order: the rows left have the width of `rows`.
 ///
 /// Blown says which step, of which 0 is the rows' own numbers, and `wide` whether a number does not fit there; else more
 /// than 4,096 rows are left.

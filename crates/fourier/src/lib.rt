@@ -1,7 +1,7 @@
 //! Elimination of a variable from linear rows, and solving of rows over naturals.
 //!
 //! Both calls compute what linear_rows defines, in numbers of at most 127 bits, or say at which step a number was too
-//! large or rows were too many. The crate stands on `exact128`, `rational128` and `linear_rows`.
+//! large or rows were too many. The crate depends on `exact128`, `rational128` and `linear_rows`.
 //!
 //! Source: Fourier-Motzkin elimination, as in Schrijver 1986.
 #![tactic(auto)]

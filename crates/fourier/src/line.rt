@@ -81,7 +81,7 @@ impl Line {
         Ok(())
     }
 
-    /// Appends so many numbers 0.
+    /// Appends the given number of numbers 0.
     pub fn push_zeros(&mut self, count: usize) -> Result<(), AllocError>
         ensures { OnOk result (self.new ≡ self.old ++ zeros count) }
     {

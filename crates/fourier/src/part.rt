@@ -1,16 +1,16 @@
-// Numbers behind zeros, and walks over them.
+// Numbers after zeros, and walks over them.
 ghost use Rattle.std.specs.Prelude.{◌≡◌, ◌<◌, ◌≤◌, ◌+◌, ◌∷◌, ◌++◌, length, drop};
 ghost use Rattle.fourier.specs.Sparse.{first_zeros, rest_at};
 ghost use Rattle.linear_rows.specs.Solving.{zeros};
 
-/// A number behind so many zeros.
+/// A number after the given number of zeros.
 #[derive(Clone, Copy, PartialEq, Eq)]
 pub struct Part {
     pub zeros: usize,
     pub number: i128,
 }
 
-/// Where a walk over parts stands: so many zeros before the part at a place.
+/// Where a walk over parts stands: the given number of zeros before the part at a place.
 #[derive(Clone, Copy, PartialEq, Eq)]
 pub struct Place {
     pub index: usize,
@@ -30,7 +30,7 @@ pub fn place_at(parts: &[Part], tail: usize, index: usize) -> Place
     Place { index, before }
 }
 
-/// A walk over so many zeros and the number behind them, which is 0 where still more zeros stand there.
+/// A walk over the given number of zeros and the number after them, which is 0 where still more zeros stand there.
 pub fn walk(parts: &[Part], tail: usize, place: Place, over: usize) -> (i128, Place)
     requires zeros { over ≤ place.before }
     requires more { over < length (rest_at parts.now tail place) }

@@ -67,7 +67,7 @@ fn solved(alloc: Global, rows: &Rows, brief: bool) -> Result<Solved, ElimFault>
     requires { HaveWidth rows.now.width rows.now.list }
     ensures { SpellsUnless brief (solution rows.now.width (plain_rows rows.now.list)) result }
 {
-    // So many variables begin as 2^64 numbers, for which there is no memory.
+    // A given number of variables begins as 2^64 numbers, for which there is no memory.
     let Some(last) = rows.width.checked_add(1) else {
         return Err(ElimFault::Memory);
     };

@@ -50,7 +50,7 @@ fn push_given(alloc: Global, lines: &mut Lines, rows: &Rows) -> Result<(), Alloc
     Ok(())
 }
 
-// A row of a constant, of 1 at one of so many places, and of so many multipliers 0.
+// A row of a constant, of 1 at one of the given number of places, and of the given number of multipliers 0.
 fn unit_line(
     alloc: Global,
     constant: i128,
@@ -68,7 +68,7 @@ fn unit_line(
     Ok(line)
 }
 
-// A given row, at a place of so many.
+// A given row, at a place of the given number.
 fn given_line(alloc: Global, row: &Row, many: usize, place: usize) -> Result<Line, AllocError>
     requires { place < many }
     ensures { IfOk result (λ line. line ≡ pos 0 ∷ (row.now.coeffs ++ row.now.constant ∷ units many place)) }
@@ -83,7 +83,7 @@ fn given_line(alloc: Global, row: &Row, many: usize, place: usize) -> Result<Lin
     Ok(line)
 }
 
-// Appends so many numbers, 1 at a place and else 0.
+// Appends the given number of numbers, 1 at a place and else 0.
 fn push_units(line: &mut Line, long: usize, place: usize) -> Result<(), AllocError>
     requires { place < long }
     ensures { OnOk result (line.new ≡ line.old ++ units long place) }

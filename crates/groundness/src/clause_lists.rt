@@ -8,7 +8,7 @@ use cti_terms::{Atoms, PredId, Program};
 use std::alloc::{AllocError, Global};
 use std::marker::Model;
 
-/// Clauses in a row, which count from 0. Contracts see the list.
+/// A list of clauses, which count from 0. Contracts see the list.
 #[derive(Drop)]
 struct Clauses {
     items: Vec<u32>,
@@ -37,7 +37,7 @@ impl Model for ClauseLists {
 }
 
 impl ClauseLists {
-    /// An empty list for each of so many predicates.
+    /// An empty list for each of the given number of predicates.
     pub(crate) fn new(alloc: Global, count: u32) -> Result<ClauseLists, AllocError>
         ensures { IfOk result (λ lists. lists ≡ replicate count []) }
     {
@@ -50,7 +50,7 @@ impl ClauseLists {
         Ok(ClauseLists { rows })
     }
 
-    /// The clauses of a predicate, none for a number that is no predicate's.
+    /// The clauses of a predicate, none for a number that is not a predicate's.
     pub fn of(&self, pred: PredId) -> &[u32]
         ensures { result.now ≡ slice_index_or self.now pred.0 [] }
     {

@@ -27,7 +27,7 @@ impl Model for Marks {
 }
 
 impl Marks {
-    /// So many clauses, all with marks. They wait in their order.
+    /// The given number of clauses, all with marks. They wait in their order.
     pub(crate) fn new(alloc: Global, count: u32) -> Result<Marks, AllocError>
         ensures { IfOk result (λ marks. marks ≡ replicate count true) }
     {
@@ -36,7 +36,7 @@ impl Marks {
         Ok(Marks { marked, waiting })
     }
 
-    /// So many clauses, none with a mark.
+    /// The given number of clauses, none with a mark.
     pub fn none(alloc: Global, count: u32) -> Result<Marks, AllocError>
         ensures { IfOk result (λ marks. marks ≡ replicate count false) }
     {
@@ -103,7 +103,7 @@ impl Marks {
     }
 }
 
-// So many numbers, the greatest first.
+// The given number of numbers, the greatest first.
 fn backwards(alloc: Global, count: u32) -> Result<Vec<u32>, AllocError>
     ensures { IfOk result (λ numbers. AreWaiting (replicate count true) numbers.items) }
 {

@@ -26,7 +26,7 @@ use term_size::Norm;
 /// It begins with no rows and a mark for each clause. It takes a mark away and adds what the clause gives; where that is
 /// a new row, the clauses that have the head's predicate in their bodies get marks. It ends without marks. The clauses
 /// of a component come before those of later ones, so that one without recursion is looked at once.
-/// After want of memory the table keeps its earlier diagrams.
+/// Out of memory, the table keeps its earlier diagrams.
 pub fn solve<N: Norm>(
     alloc: Global,
     p: &Program,

@@ -1,4 +1,4 @@
--- Steps in a row: a bound from below stays while other variables go, and a variable that is gone stays gone.
+-- Steps one after another: a bound from below stays while other variables go, and a variable that is gone stays gone.
 use Rattle.std.proofs.Common.{◌≡◌, ◌≢◌, ℕ, zero, suc, ℤ, pos, negsuc, List, [], ◌∷◌, ◌++◌, ◌+◌, ◌/◌, ◌<◌, ◌≤◌, ◌+ℤ◌, ◌*ℤ◌, ◌-ℤ◌, Bool, true, false, cond, not, map, refl, sym, subst, ap, ◌∙◌, arith, inl, inr}
 use Rattle.std.specs.Prelude.{◌≤ℤ◌, ◌<ℤ◌, filter, fold, int_le, int_div, unsigned_abs}
 use Rattle.std.specs.Int.{◌∣◌}
@@ -150,7 +150,7 @@ floor_stays m k x rows k1 km x1 xm ne f =
     let c = cleaned_covers m (step (m + 1) k rows) f.row (in_step (m + 1) k rows f.row f.here (f.floors.others k k1 km ne)) (floors_matter m x (reduced f.row) x1 xm fr (is_trivial m (reduced f.row)) refl) in
     record { row = c.row; here = c.here; floors = floors_under m x c.row (reduced f.row) x1 xm c.under fr }
 
--- ---- steps in a row
+-- ---- steps one after another
 -- a row without the variables holds on the rows that are left where it holds on the rows
 pub all_kept_on : (m : ℕ) (ks : List ℕ) (rows : List (List ℤ)) (q : List ℤ) → Distinct ks → Within m ks → ((k : ℕ) → In k ks → HasFloor m k rows) → ((k : ℕ) → In k ks → entry q k ≡ pos 0) →
     HoldsOn (m + 1) rows q → HoldsOn (m + 1) (all_eliminated m ks rows) q

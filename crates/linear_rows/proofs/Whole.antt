@@ -1,4 +1,4 @@
--- A step says what the rows say of the other variables, and so do steps in a row.
+-- A step says what the rows say of the other variables, and so do steps one after another.
 use Rattle.std.proofs.Common.{◌≡◌, ℕ, ℤ, pos, List, [], ◌∷◌, ◌++◌, ◌+◌, ◌<◌, ◌≤◌, Bool, true, false, cond, not, ◌||◌, Option, Some, None, map, length, get_or, refl, subst, arith, inl, inr, ◌⊎◌}
 use Rattle.std.specs.Prelude.{◌≤ℤ◌, ◌<ℤ◌, filter, fold, int_le}
 use Rattle.std.proofs.lemmas.Int.{ints}

@@ -30,11 +30,11 @@ abbrev pub unit_at : ℕ → ℤ
 unit_at zero = pos 1
 unit_at (suc x) = pos 0
 
--- a column of expressions, behind what a row's own constant counts there
+-- a column of expressions, after what a row's own constant counts there
 abbrev pub column_over : List (List ℤ) → ℕ → List ℤ
 column_over es x = unit_at x ∷ map (λ e. entry e x) es
 
--- the columns of expressions over so many variables
+-- the columns of expressions over the given number of variables
 pub record AreColumns (es : List (List ℤ)) (vars : ℕ) (columns : List (List ℤ)) : Type 0 where
   pub count : length columns ≡ suc vars
   pub each : (x : ℕ) → x < suc vars → slice_index_or columns x [] ≡ column_over es x

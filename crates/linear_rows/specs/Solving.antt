@@ -34,7 +34,7 @@ units zero i = []
 units (suc n) zero = pos 1 ∷ zeros n
 units (suc n) (suc i) = pos 0 ∷ units n i
 
--- so many variables, from place i on, are at least 0
+-- the given number of variables, from place i on, are at least 0
 abbrev pub floors : ℕ → ℕ → ℕ → List (List ℤ)
 floors zero i long = []
 floors (suc n) i long = (pos 0 ∷ units long i) ∷ floors n (suc i) long
@@ -44,7 +44,7 @@ abbrev pub coefficients : List ℤ → List ℤ
 coefficients [] = []
 coefficients (b ∷ cs) = cs
 
--- the given rows, from place i of so many on, each with its constant as the coefficient of t
+-- the given rows, from place i of the given number on, each with its constant as the coefficient of t
 abbrev pub carried : ℕ → ℕ → List (List ℤ) → List (List ℤ)
 carried long i [] = []
 carried long i (r ∷ rs) = (pos 0 ∷ (coefficients r ++ entry r 0 ∷ units long i)) ∷ carried long (suc i) rs
@@ -110,7 +110,7 @@ sums_fit s (x ∷ xs) (y ∷ ys) = (fits (x *ℤ y) && fits (s +ℤ x *ℤ y)) &
 unfoldable pub point_fits : List (List ℤ) → ℤ → List ℤ → Bool
 point_fits rows t w = all_of (λ r. sums_fit (pos 0) r (t ∷ w)) rows
 
--- the test of multipliers with scale 0 is done in numbers that fit, in so many columns from k on
+-- the test of multipliers with scale 0 is done in numbers that fit, in the given number of columns from k on
 abbrev pub refutes_in : List (List ℤ) → List ℤ → ℕ → ℕ → Bool
 refutes_in rows ms k zero = true
 refutes_in rows ms k (suc n) =

@@ -34,7 +34,7 @@ pub record HasFloor (m k : ℕ) (rows : List (List ℤ)) : Type 0 where
 abbrev pub Within : ℕ → List ℕ → Type 0
 Within m ks = (k : ℕ) → In k ks → (1 ≤ k) × (k ≤ m)
 
--- so many columns, from k on
+-- the given number of columns, from k on
 abbrev pub columns : ℕ → ℕ → List ℕ
 columns k zero = []
 columns k (suc n) = k ∷ columns (suc k) n

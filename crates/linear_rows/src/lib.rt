@@ -3,7 +3,7 @@
 //! A row says that its constant and the products of its coefficients with natural numbers sum to at least 0. No call
 //! here searches: `combine` and `proves` compute with given multipliers. What it means for rows to hold, to prove, to
 //! be eliminated and to be solved is defined in `specs/`, over plain lists of whole numbers without bound, and the laws
-//! of these words are functions without a body. The crate stands on `exact128`.
+//! of these words are functions without a body. The crate depends on `exact128`.
 #![tactic(auto)]
 
 mod columns;

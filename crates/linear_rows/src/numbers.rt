@@ -31,7 +31,7 @@ impl Numbers {
         }
     }
 
-    /// Makes a list of so many numbers 0.
+    /// Makes a list of the given number of numbers 0.
     pub fn zeros(alloc: Global, count: usize) -> Result<Self, AllocError>
         ensures { IfOk result (λ n. n ≡ zeros count) }
     {

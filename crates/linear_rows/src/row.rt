@@ -16,7 +16,7 @@ impl Row {
     ghost use Rattle.linear_rows.specs.Plain.{plain_row};
     ghost use Rattle.linear_rows.specs.Showing.{bottom_row};
 
-    /// Makes the row of so many coefficients that holds nowhere: its constant is -1, and its coefficients are 0.
+    /// Makes the row of the given number of coefficients that holds nowhere: its constant is -1, and its coefficients are 0.
     pub fn bottom(alloc: Global, width: u32) -> Result<Row, AllocError>
         ensures { IfOk result (λ r. plain_row r ≡ bottom_row width) }
     {

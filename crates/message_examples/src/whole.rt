@@ -4,7 +4,7 @@ use messages::{Ending, message};
 use std::alloc::{AllocError, Global};
 use std::test::Fail;
 
-/// Whether a call of `check` on `a.pl` and `a.cert` that ended so, over a text, is told by this message.
+/// Whether a call of `check` on `a.pl` and `a.cert` that ended so, over a text, is reported by this message.
 fn is_said(
     alloc: Global,
     (status, output): (u8, &str),

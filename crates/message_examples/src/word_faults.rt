@@ -1,4 +1,4 @@
-//! Words that are no command, and the sentence for each.
+//! Words that are not a command, and the sentence for each.
 
 use messages::Words;
 use std::alloc::{AllocError, Global};

@@ -28,7 +28,7 @@ pub struct Ending<'a> {
 }
 
 impl<'a> Ending<'a> {
-    /// The words, told apart.
+    /// The words, sorted by what they are.
     pub fn told_words(self) -> Words<'a> {
         Words::of(self.words)
     }

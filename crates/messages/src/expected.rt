@@ -1,4 +1,4 @@
-//! What a clause could have gone on with, as far as the text before the fault tells.
+//! What a clause could have gone on with, as far as the text before the fault shows.
 
 use crate::scan::{Last, Scan, is_symbol};
 use crate::told::Subject;
@@ -70,7 +70,7 @@ fn begins_line(text: &[u8]) -> bool {
     text.contains(&b'\n') && last_line(text).is_empty()
 }
 
-/// Whether the last line of a text is a directive's word, as `:- dynamic`, which is no operator here.
+/// Whether the last line of a text is a directive's word, as `:- dynamic`, which is not an operator here.
 fn ends_in_directive(text: &[u8]) -> bool {
     match last_line(text).strip_prefix(b":-".as_slice()) {
         Some(word) => {

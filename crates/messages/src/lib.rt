@@ -2,7 +2,7 @@
 //! place, the line of the text, and what to do.
 //!
 //! The answer on standard output is made elsewhere, and its beginning is read here as any reader would read it: `HeadWriter` keeps it,
-//! `Ending` says how the call ended, and `explain` makes the message. Stands on `thiserror`.
+//! `Ending` says how the call ended, and `explain` makes the message. It depends on `thiserror`.
 #![tactic(auto)]
 
 mod command;

@@ -110,7 +110,7 @@ impl Scan {
         };
     }
 
-    /// Takes the second byte of a comment, so that its first is no operator.
+    /// Takes the second byte of a comment, so that its first is not an operator.
     fn take_comment(&mut self) {
         self.mode = Mode::BlockComment;
         self.last = self.earlier;

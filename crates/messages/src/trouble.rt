@@ -27,7 +27,7 @@ pub enum Trouble<'a> {
 }
 
 impl<'a> Trouble<'a> {
-    /// The refusal that the beginning of the output tells.
+    /// The refusal at the beginning of the output.
     pub fn refused(words: Words<'a>, output: &str) -> Option<Trouble<'a>> {
         let told = ToldRefusal::read(output)?;
         let name = match told.subject {
@@ -44,7 +44,7 @@ impl<'a> Trouble<'a> {
         Some(Trouble::Refused(told.subject, place, kind))
     }
 
-    /// The No that the beginning of the output tells.
+    /// The No at the beginning of the output.
     pub fn not_valid(words: Words<'a>, output: &str) -> Option<Trouble<'a>> {
         let told = ToldNo::read(output)?;
         let place = Place {

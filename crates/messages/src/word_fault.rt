@@ -3,7 +3,7 @@
 use crate::command::Command;
 use thiserror::Error;
 
-/// Why the words are no command.
+/// Why the words are not a command.
 #[derive(Clone, Copy, Debug, PartialEq, Eq, Error)]
 pub enum WordFault<'a> {
     #[error("a command is missing")]

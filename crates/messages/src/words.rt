@@ -1,4 +1,4 @@
-//! The words of a command line, told apart.
+//! The words of a command line, sorted by what they are.
 
 use crate::command::Command;
 use crate::word_fault::WordFault;
@@ -14,7 +14,7 @@ enum Next {
     Plain,
 }
 
-/// The words after the program's name, told apart.
+/// The words after the program's name, sorted by what they are.
 #[derive(Clone, Copy)]
 pub struct Words<'a> {
     command: Option<Command>,
@@ -75,7 +75,7 @@ impl<'a> Words<'a> {
         self.command == Some(Command::Run)
     }
 
-    /// What is wrong with the words, which are no command.
+    /// What is wrong with the words, which are not a command.
     pub fn fault(self) -> WordFault<'a> {
         if let Some(fault) = self.fault {
             return fault;
@@ -131,7 +131,7 @@ impl<'a> Words<'a> {
         self.steps = Some(word);
     }
 
-    /// Takes a word that is no option.
+    /// Takes a word that is not an option.
     fn take_plain(&mut self, word: &'a str) {
         let has_second = self.command.and_then(Command::second).is_some();
         if self.file.is_none() {
@@ -159,7 +159,7 @@ impl<'a> Words<'a> {
     }
 }
 
-/// Whether a word is a number from 1 to the greatest, of at most so many digits.
+/// Whether a word is a number from 1 to the greatest, of at most the given number of digits.
 fn is_number_up_to(word: &str, digits: usize, greatest: u32) -> bool {
     let is_short = word.len() <= digits && word.bytes().all(|byte| byte.is_ascii_digit());
     match word.parse::<u32>() {

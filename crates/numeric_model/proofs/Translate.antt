@@ -188,7 +188,7 @@ wide_solution : (n : ℕ) (given : List (List ℤ)) (q : List ℤ) → In q give
 unfolding solution
 wide_solution n given q i e = ap (solved_by n given) (wide_blown (n + 1) (columns 1 (n + 1)) (start_rows n given) (start_wide n given q i e))
 
--- the row moved behind its coefficients does not fit either
+-- the row moved after its coefficients does not fit either
 last_wide : (r : List ℤ) → row_fits r ≡ false → row_fits (at_last r (pos 0)) ≡ false
 last_wide r e = of_all (at_last r (pos 0)) (and_false (fits (pos 0)) (all_of fits (coefficients r ++ entry r 0 ∷ [])) (moved [] [] r e))
   where

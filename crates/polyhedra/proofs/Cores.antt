@@ -25,7 +25,7 @@ use Rattle.polyhedra.proofs.Sweeps.{part_in, less_trans}
 use Rattle.termination_model.proofs.ImageLaw.{image_same}
 use Rattle.termination_model.proofs.JoinLaw.{join_same}
 
--- the very rows hold on a core that hold on all
+-- the same rows hold on a core as on all
 pub core_same : (n : ℕ) (all rows : List (List ℤ)) (r : List ℤ) → IsCore n all rows → HoldsOn (suc n) rows r ↔ HoldsOn (suc n) all r
 core_same n all rows r core = (
   λ h t w some long hold. h t w some long (to_All (λ (y : List ℤ). Holds y t w) rows (λ y i. from_All (λ (y : List ℤ). Holds y t w) all y hold (part_in all rows core.part y i))),

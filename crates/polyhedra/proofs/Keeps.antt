@@ -54,7 +54,7 @@ module _ (s : System) where
   cause_more false xs x h = tt
   cause_more true xs x h = some_left (IsBlownOn s) xs (x ∷ []) h
 
-  -- one more row of which a test has told
+  -- one more row that a test has decided
   pub kept_more : (row : List ℤ) (held : Held) → TellsHead s row held → (old rows new : List (List ℤ)) (by newly : List Multipliers) (weak now : Bool) → SaysKept s old rows weak by → IsOneMore row held rows by weak new newly now
       → SaysKept s (old ++ row ∷ []) new now newly
   kept_more row (Yes m) told old rows new by newly weak now says (e, f, g) =

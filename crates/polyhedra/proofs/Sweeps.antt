@@ -107,7 +107,7 @@ put_back i [] r e = cc
 put_back zero (x ∷ rows) r e = let same : x ≡ r = cc in λ j. sym same j ∷ rows
 put_back (suc i) (x ∷ rows) r e = ap (λ l. x ∷ l) (put_back i rows r e)
 
--- ---- what a test tells
+-- ---- what a test shows
 scaled_holds : (rows : List (List ℤ)) (ms target : List ℤ) (d : ℤ) → pos 0 ≤ℤ d → All (λ m. pos 0 ≤ℤ m) ms → Proves rows ms target d → HoldsOn (length target) rows target
 scaled_holds rows ms target (pos zero) nd nm p = λ t w some long all. absurd (law_empty rows ms target nm p t w some long all)
 scaled_holds rows ms target (pos (suc d)) nd nm p = law_holds rows ms target d nm p

@@ -23,7 +23,7 @@ arity_of s = length (plain_rows s.head.list)
 abbrev pub HoldsFor : System → List ℤ → Type 0
 HoldsFor s row = HoldsOn (suc s.variables) (plain_rows s.rows.list) (at_head s row)
 
--- an irredundant sublist of the rows that elimination leaves, on which the very rows hold that hold on the system
+-- an irredundant sublist of the rows that elimination leaves, on which the same rows hold as on the system
 pub record IsImageOf (speaks : List ℤ → Bool) (s : System) (rows : List (List ℤ)) : Type 0 where
   pub narrow : s.wide ≡ false
   pub decided : image_blown s.variables (plain_rows s.head.list) (plain_rows s.rows.list) ≡ None
@@ -41,7 +41,7 @@ abbrev pub SaysImage : (List ℤ → Bool) → System → List (List ℤ) → Bo
 SaysImage speaks s rows false = IsImageOf speaks s rows
 SaysImage speaks s rows true = ImageIsBlown s × (rows ≡ [])
 
--- the very rows hold on a join that hold on both, and where neither is empty it is an irredundant sublist of those left
+-- the same rows hold on a join as on both, and where neither is empty it is an irredundant sublist of those left
 pub record IsJoinOf (speaks : List ℤ → Bool) (n : ℕ) (first second rows : List (List ℤ)) : Type 0 where
   pub same : (r : List ℤ) → length r ≡ suc n → speaks r ≡ true → HoldsOn (suc n) rows r ↔ (HoldsOn (suc n) first r × HoldsOn (suc n) second r)
   pub spoken : AreSpoken speaks n rows

@@ -7,7 +7,7 @@ ghost use Rattle.polyhedra.specs.Negating.{IsNegatable};
 use linear_rows::Numbers;
 use std::alloc::AllocError;
 
-/// Appends so many numbers 0.
+/// Appends the given number of numbers 0.
 pub(crate) fn push_zeros(numbers: &mut Numbers, count: usize) -> Result<(), AllocError>
     ensures { OnOk result (numbers.new ≡ numbers.old ++ zeros count) }
 {
@@ -17,7 +17,7 @@ pub(crate) fn push_zeros(numbers: &mut Numbers, count: usize) -> Result<(), Allo
     Ok(())
 }
 
-/// Appends a number between so many numbers 0 before it and after it.
+/// Appends a number between the given number of numbers 0 before it and after it.
 pub(crate) fn push_alone(
     numbers: &mut Numbers,
     before: usize,

@@ -16,7 +16,7 @@ use std::alloc::{AllocError, Global};
 /// Sets of sizes of a predicate's arguments, each given by the rows that it lists.
 ///
 /// A call answers weakly, or that a test is blown, only where a system or test that it names is blown, as linear_rows
-/// defines that. The only error is want of memory.
+/// defines that. The only error is running out of memory.
 pub trait Domain: Drop + Sized {
     /// How many arguments the rows speak of.
     ghost width: { Self → ℕ };
@@ -56,7 +56,7 @@ pub trait Domain: Drop + Sized {
 
     /// The sizes that the head's arguments have over a clause's system.
     ///
-    /// The very rows hold on it that hold on the system. It is weak, and lists no rows, exactly where its own system is
+    /// The same rows hold on it as on the system. It is weak, and lists no rows, exactly where its own system is
     /// blown.
     fn image(alloc: Global, system: &System) -> Result<Made<Self>, AllocError>
         requires system { IsSystem system.now }
@@ -66,7 +66,7 @@ pub trait Domain: Drop + Sized {
 
     /// The least value over both.
     ///
-    /// The very rows hold on it that hold on both. It is weak, and lists no rows, only where its system is blown, or the
+    /// The same rows hold on it as on both. It is weak, and lists no rows, only where its system is blown, or the
     /// test whether one of the two is empty.
     fn join(&self, alloc: Global, other: &Self) -> Result<Made<Self>, AllocError>
         requires { width other.now ≡ width self.now }

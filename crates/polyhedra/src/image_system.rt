@@ -34,7 +34,7 @@ pub(crate) fn image_system(
     Ok(rows)
 }
 
-/// Appends rows that say that so many columns, from one on, are at least 0.
+/// Appends rows that say that the given number of columns, from one on, are at least 0.
 pub(crate) fn push_naturals(
     alloc: Global,
     rows: &mut Rows,
@@ -54,7 +54,7 @@ pub(crate) fn push_naturals(
     Ok(())
 }
 
-// The row that says that one of so many columns is at least 0.
+// The row that says that one of the given number of columns is at least 0.
 fn natural_row(alloc: Global, place: usize, width: usize) -> Result<Row, AllocError>
     requires { place < width }
     ensures row { IfOk result (λ r. plain_row r ≡ pos 0 ∷ units width place) }

@@ -20,7 +20,7 @@ pub(crate) fn imaged(alloc: Global, system: &System) -> Result<Made<Poly>, Alloc
     ensures arity { IfOk result (λ made. made.value.rows.width ≡ arity_of system.now) }
     ensures rows { IfOk result (λ made. SaysImage (all_of fits) system.now (plain_rows made.value.rows.list) made.weak) }
 {
-    // There is no memory for so many arguments and variables.
+    // There is no memory for that many arguments and variables.
     let Ok(arity) = u32::try_from(system.head.list.len()) else {
         return Err(AllocError);
     };

@@ -47,7 +47,7 @@ fn nothing_inserted(alloc: Global, rows: &Rows) -> Result<Insertion, AllocError>
     })
 }
 
-// Inserts the waiting rows of at most so many coefficients other than 0.
+// Inserts the waiting rows of at most the given number of coefficients other than 0.
 fn insert_sparse(
     alloc: Global,
     rows: &Rows,
@@ -66,7 +66,7 @@ fn insert_sparse(
     Ok(insertion)
 }
 
-// Inserts a row, if it waits and has at most so many coefficients other than 0.
+// Inserts a row, if it waits and has at most the given number of coefficients other than 0.
 fn insert_due(
     alloc: Global,
     rows: &Rows,
@@ -86,7 +86,7 @@ fn insert_due(
     Ok(insertion)
 }
 
-// Whether a row waits and has at most so many coefficients other than 0.
+// Whether a row waits and has at most the given number of coefficients other than 0.
 fn is_due(mark: Mark, row: &Row, most: usize) -> bool
     ensures waiting { result ≡ true → mark ≡ Mark.Waiting }
     ensures due { most ≡ length row.now.coeffs → result ≡ false → mark ≢ Mark.Waiting }
@@ -139,7 +139,7 @@ fn insert(
     Ok(Insertion { marks, kept })
 }
 
-// Whether a test tells that a row holds.
+// Whether a test shows that a row holds.
 fn is_implied(alloc: Global, rows: &Rows, row: &Row) -> Result<bool, AllocError>
     requires width { HaveWidth rows.now.width rows.now.list }
     requires row { length row.now.coeffs ≡ rows.now.width }

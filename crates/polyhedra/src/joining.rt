@@ -44,7 +44,7 @@ fn hull(alloc: Global, first: &Poly, second: &Poly) -> Result<Made<Poly>, AllocE
     ensures arity { IfOk result (λ made. made.value.rows.width ≡ first.now.rows.width) }
     ensures rows { IfOk result (λ made. SaysJoin (all_of fits) first.now.rows.width (plain_rows first.now.rows.list) (plain_rows second.now.rows.list) (plain_rows made.value.rows.list) made.weak) }
 {
-    // There is no memory for so many columns.
+    // There is no memory for that many columns.
     let arity = first.rows.width;
     let Some(count) = arity.checked_add(1) else {
         return Err(AllocError);

@@ -54,7 +54,7 @@ fn none_kept(alloc: Global, width: u32) -> Kept
     }
 }
 
-// One more row, of which a test has told.
+// One more row, that a test has decided.
 fn keep(alloc: Global, kept: &mut Kept, row: &Row, held: Held) -> Result<(), AllocError>
     requires width { length row.now.coeffs ≡ kept.old.rows.width }
     requires widths { HaveWidth kept.old.rows.width kept.old.rows.list }

@@ -90,7 +90,7 @@ impl Quotient {
     }
 }
 
-// Whether a row is at least so many times another one, in each column, by numbers that fit.
+// Whether a row is at least a given multiple of another one, in each column, by numbers that fit.
 fn is_at_least(row: &Row, other: &Row, ratio: Ratio) -> bool
     ensures { result ≡ true → IsMultiple (plain_row row.now) (plain_row other.now) ratio.num ratio.den }
 {
@@ -105,7 +105,7 @@ fn is_at_least(row: &Row, other: &Row, ratio: Ratio) -> bool
     true
 }
 
-// Whether a number is at least so many times another one, by numbers that fit.
+// Whether a number is at least a given multiple of another one, by numbers that fit.
 fn number_is_at_least(number: i128, other: i128, ratio: Ratio) -> bool
     ensures { result ≡ true → (ratio.num *ℤ other) ≤ℤ (ratio.den *ℤ number) }
 {

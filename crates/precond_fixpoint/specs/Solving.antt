@@ -89,7 +89,7 @@ pub record FitPredicate (preds : List Pred) (trees : List Rows) (q : ℕ) (own :
   pub known : (m : ℕ) (d : Diagram) → slice_get own m ≡ Some d → IsDiagram trees d
   pub reads : (m : ℕ) (d : Diagram) (x : Pred) → slice_get own m ≡ Some d → slice_get preds q ≡ Some x → ReadsBelow trees d x.arity
 
--- the columns of members come from solutions for so many mappings
+-- the columns of members come from solutions for the given number of mappings
 pub record AreSolutions (truth : (ℕ → Bool) → Tree → Bool) (p : Listing) (ranks : List ℕ) (rank : ℕ) (allowed grounds : Family) (levels : List (List LevelPart)) (trees : List Rows) (count : ℕ) (members : List PredId) (columns : List (List Diagram)) : Type 0 where
   pub families : List (List Diagram)
   pub each : length families ≡ count

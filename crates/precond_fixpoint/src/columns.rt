@@ -14,7 +14,7 @@ use sequences::Sequence;
 use std::alloc::{AllocError, Global};
 use truth_rows::upward_union;
 
-/// So many empty columns.
+/// The given number of empty columns.
 pub(crate) fn no_sets(alloc: Global, count: usize) -> Result<Vec<Sequence<Diagram>>, AllocError>
     ensures { IfOk result (λ sets. sets.items ≡ replicate count []) }
 {

@@ -21,7 +21,7 @@ use sequences::Sequence;
 use std::alloc::{AllocError, Global};
 use term_size::Norm;
 
-/// Gives for each member of a component its greatest sets for each of so many mappings.
+/// Gives for each member of a component its greatest sets for each of the given number of mappings.
 ///
 /// `sets` has a set for each predicate; those of the members are made anew for each mapping.
 pub(crate) fn member_sets<N: Norm>(

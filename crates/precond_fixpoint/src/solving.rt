@@ -29,7 +29,7 @@ use term_size::Norm;
 /// is true at positive coefficients, and from a row of a clause's head each call that is reached has a row in turn, in the
 /// same precondition within the component and an allowed one below it. What is allowed of a predicate are the rows that some
 /// mapping's precondition has with all upper rows; its minimal ones are the modes.
-/// After want of memory the table keeps its earlier diagrams.
+/// Out of memory, the table keeps its earlier diagrams.
 pub fn solve_levels<N: Norm>(
     alloc: Global,
     p: &Program,

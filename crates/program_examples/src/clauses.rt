@@ -19,7 +19,7 @@ fn fault(alloc: Global, text: &str) -> Option<(NormKind, u32)> {
     }
 }
 
-/// A text with so many of one part between two others.
+/// A text with a number of copies of one part between two others.
 fn repeated(
     alloc: Global,
     before: &str,

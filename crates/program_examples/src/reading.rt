@@ -26,7 +26,7 @@ fn fault(kind: ReadKind, at: u32) -> Option<ReadFault> {
     Some(ReadFault::Fault { kind, at })
 }
 
-/// A text with so many of one part between two others.
+/// A text with a number of copies of one part between two others.
 fn repeated(
     alloc: Global,
     before: &str,

@@ -41,7 +41,7 @@ one_none None h = refl
 one_none (Some i) h = cc
 
 module _ {T : Type 0} (limit : ℕ) (rules : Rules T) where
-  -- a machine that ends well with some tokens, the first too deep of which is behind those before
+  -- a machine that ends well with some tokens, the first too deep of which is after those before
   finds : (before : List Token) (s : State T) (token : Token) (vs after : List Token) (x : T × List Token) → FollowsAlike token vs after
       → go rules s (before ++ token ∷ vs) ≡ Ok x
       → first_deep limit (trace rules s (before ++ token ∷ vs)) ≡ Some (length before)

@@ -234,7 +234,7 @@ module _ {T : Type 0} (limit : ℕ) (rules : Rules T) where
       ready_then (step_have rules k bound (rules.atom (plain at' n)) 0 (Name at'' l)) at m f (name_cases rules k bound (rules.atom (plain at' n)) 0 at'' l)
   ready_step (infix_only r k) at m f over = ready_named rules k r at m f
 
--- tokens that the machine ends well with behind the token, which follow it as what is there
+-- tokens that the machine ends well with after the token, which follow it as what is there
 record Completes {T : Type 0} (rules : Rules T) (s : State T) (token : Token) (after : List Token) : Type 0 where
   vs : List Token
   t : T
@@ -263,7 +263,7 @@ module _ (infixes : ℕ → Option Infix) (prefixes : ℕ → Option Prefix) (co
   abbrev rules : Rules Syntax
   rules = syntax_rules infixes prefixes comma
 
-  -- where a step is no fault, its load is met first
+  -- where a step is not a fault, its load is met first
   deep_first : (s : State Syntax) (token : Token) (us : List Token) (f : Bool) → touches us ≡ f → (step rules s token ≡ fault → ⊥)
       → too_deep limit (load rules s token f) ≡ true → first_deep limit (trace rules s (token ∷ us)) ≡ Some 0
   unfolding trace

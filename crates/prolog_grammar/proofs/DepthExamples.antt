@@ -49,7 +49,7 @@ open_role_with_a_parenthesis : Verdicts (Paren 0 ∷ Touching 1 ∷ Name 2 minus
 unfolding walk
 open_role_with_a_parenthesis = refl
 
--- with something else behind it, it can be an operator, at 1200
+-- with something else after it, it can be an operator, at 1200
 open_role_without_one : Verdicts (Paren 0 ∷ Touching 1 ∷ Name 2 minus ∷ Name 4 arrow ∷ Name 8 a ∷ []) (Err (deep (Name 8 a ∷ [])))
 unfolding walk
 open_role_without_one = refl
@@ -72,7 +72,7 @@ deep_left_side_and_an_unexpected_token : Verdicts (Paren 0 ∷ Name 2 minus ∷ 
 unfolding walk
 deep_left_side_and_an_unexpected_token = refl
 
--- with anything else behind it, it is too deep
+-- with anything else after it, it is too deep
 deep_left_side_of_an_open_role : Verdicts (Paren 0 ∷ Name 2 minus ∷ Name 4 query ∷ Name 7 semicolon ∷ Paren 9 ∷ [])
     (Err (deep (Name 7 semicolon ∷ Paren 9 ∷ [])))
 unfolding walk
@@ -108,12 +108,12 @@ abbrev closing : ℕ → List Token → List Token
 closing zero us = us
 closing (suc n) us = ParenEnd ∷ closing n us
 
--- an element, and so many more behind commas, before these tokens
+-- an element, and a given number more after commas, before these tokens
 abbrev elements : ℕ → List Token → List Token
 elements zero us = Name 0 a ∷ us
 elements (suc n) us = Name 0 a ∷ Comma ∷ elements n us
 
--- so many subtractions before these tokens
+-- the given number of subtractions before these tokens
 abbrev subtractions : ℕ → List Token → List Token
 subtractions zero us = us
 subtractions (suc n) us = Name 0 minus ∷ Name 0 a ∷ subtractions n us

@@ -171,7 +171,7 @@ finishes {T = T} rules (unsure bound at n op at' m k) =
     have_closes rules (open_frame op.right (arguments_open (plain at' m) []) ∷ prefix_frame bound at n op.priority ∷ k) 999 (rules.leaf 0 (variable 0)) 0
 finishes rules (infix_only r k) = have_closes rules k r _ 0
 
--- the machine gives up with any tokens behind the one that it has no move for
+-- the machine gives up with any tokens after the one that it has no move for
 pub go-stuck : {T : Type 0} (rules : Rules T) (s : State T) (token : Token) (more : List Token) → step rules s token ≡ fault
     → go rules s (token ∷ more) ≡ Err (token ∷ more)
 unfolding go

@@ -29,7 +29,7 @@ pub not_fault : {T : Type 0} (rules : Rules T) (s : State T) (token : Token) (us
 unfolding go
 not_fault rules s token us x e h = let f = rw e at h in cc
 
--- the end of the text is no end
+-- the end of the text is not an end
 pub no_end : {T : Type 0} (rules : Rules T) (s : State T) (r : T × List Token) → go rules s [] ≡ Ok r → ⊥
 unfolding go
 no_end rules s r h = cc
@@ -70,7 +70,7 @@ name_cases rules (prefix_frame b at' n q ∷ k) bound t p at m =
 name_cases rules (open_frame b o ∷ k) bound t p at m =
     take_cases (taken rules bound p (Name at m)) bound t _ _ (inl (rw (ends-name rules o t at m) refl))
 
--- where nothing clings to a name that is no prefix operator, it is an atom
+-- where nothing clings to a name that is not a prefix operator, it is an atom
 pub go-named : {T : Type 0} (rules : Rules T) (k : List (Frame T)) (bound at n : ℕ) (us : List Token) → rules.prefixes n ≡ None → clings us ≡ false
     → go rules (named bound at n k) us ≡ go rules (have bound (rules.atom (plain at n)) 0 k) us
 unfolding go

@@ -13,7 +13,7 @@ use Rattle.prolog_grammar.specs.Token.{Value, variable, integer, text}
 use Rattle.prolog_grammar.specs.Rules.{Head, plain, brackets, braces}
 use Rattle.prolog_grammar.specs.Syntax.{Syntax, Syntaxes, leaf, negative, atom, call, prefixed, infixed, listed, listed_to, curled, grouped, nothing, more, depth}
 
--- what a token does: nothing that counts, or it begins an operand under so many openers, or is an infix operator after a term of that depth
+-- what a token does: nothing that counts, or it begins an operand under the given number of openers, or is an infix operator after a term of that depth
 pub data Load : Type 0 where
   quiet : Load
   operand : ℕ → Load

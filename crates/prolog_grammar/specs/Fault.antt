@@ -1,4 +1,4 @@
--- Where a clause's tokens are no clause: the first unexpected token, and the first token that is too deep.
+-- Where a clause's tokens are not a clause: the first unexpected token, and the first token that is too deep.
 --
 -- "Some further tokens" are any tokens. Those with which the proofs complete a clause touch one another only as tokens of a text do.
 --
@@ -58,6 +58,6 @@ pub data ReadFault : Type 0 where
   unexpected : List Token → ReadFault
   deep : List Token → ReadFault
 
--- what is read and the tokens behind its End, or the fault
+-- what is read and the tokens after its End, or the fault
 abbrev pub Verdict : Type 0 → Type 0
 Verdict T = Result (T × List Token) ReadFault

@@ -5,7 +5,7 @@
 --
 -- The depth is counted up to the limit only, so that it fits into a number of the code.
 --
--- To believe: `Tree`, `part_of` and what it stands on. `placed_rules` is what the code builds while it reads.
+-- To believe: `Tree`, `part_of` and what it depends on. `placed_rules` is what the code builds while it reads.
 use Rattle.std.specs.Prelude.{ℕ, suc, ℤ, pos, neg_ℤ, nat_le, if◌then◌else◌, List, [], ◌∷◌, map, Option, Some, None}
 use Rattle.prolog_grammar.specs.Token.{Value, variable, integer, text}
 use Rattle.prolog_grammar.specs.Rules.{Infix, Prefix, Head, plain, brackets, braces, Rules}

@@ -1,4 +1,4 @@
--- Terms whose places stand within a text of so many bytes.
+-- Terms whose places stand within a text of the given number of bytes.
 --
 -- To believe: all of this file.
 use Rattle.std.specs.Prelude.{ℕ, ◌≤◌}

@@ -1,6 +1,6 @@
 -- What the tokens at hand read as: the first clause as a term with places, or the first fault.
 --
--- The tokens of a query are read with an End behind them, where they have none, and nothing may stand behind it.
+-- The tokens of a query are read with an End after them, where they have none, and nothing may stand after it.
 --
 -- To believe: all of this file. It says once more, for the terms of the code, what `Grammar`, `Depth`, `Fault` and `Placed` say.
 use Rattle.std.specs.Prelude.{◌≡◌, ℕ, List, ◌∷◌, Option, None, Ok, Err}
@@ -14,7 +14,7 @@ use Rattle.prolog_grammar.specs.Placed.{Part, Known, part_of}
 
 module _ (limit : ℕ) (infixes : ℕ → Option Infix) (prefixes : ℕ → Option Prefix) (names : Known) where
   -- The first clause of these tokens reads as that term: the grammar has a reading of it in which no token is too deep. The rest stands
-  -- behind its End.
+  -- after its End.
   pub record ReadsAs (us rest : List Token) (part : Part) : Type 0 where
     pub syntax : Syntax
     pub priority : ℕ

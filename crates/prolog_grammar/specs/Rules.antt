@@ -67,11 +67,11 @@ abbrev pub taken_first : {T : Type 0} → Rules T → ℕ → ℕ → List Token
 taken_first rules bound so_far [] = None
 taken_first rules bound so_far (token ∷ rest) = taken rules bound so_far token
 
--- the name is an infix operator that is no prefix operator
+-- the name is an infix operator that is not a prefix operator
 abbrev pub is_infix_alone : {T : Type 0} → Rules T → ℕ → Bool
 is_infix_alone rules n = is_some (rules.infixes n) && is_none (rules.prefixes n)
 
--- a prefix operator before these tokens is an atom: they end what it stands in, or an infix operator follows it that is no prefix
+-- a prefix operator before these tokens is an atom: they end what it stands in, or an infix operator follows it that is not a prefix
 -- operator and no name with a parenthesis directly after it
 abbrev pub ends_atom : {T : Type 0} → Rules T → List Token → Bool
 ends_atom rules [] = true

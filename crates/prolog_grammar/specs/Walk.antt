@@ -14,7 +14,7 @@ use Rattle.prolog_grammar.specs.Run.{height, want_load, load}
 -- where a token leads
 pub data Next (T : Type 0) : Type 0 where
   go_on : State T → Next T
-  -- the token is expected, and no token behind it is
+  -- the token is expected, and no token after it is
   stuck : Next T
   finished : T → Next T
   unexpected_here : Next T

@@ -3,7 +3,7 @@ use Rattle.std.proofs.Common.{◌≡◌, ℕ, List, [], ◌++◌, length, take, 
 use Rattle.std.proofs.lemmas.List.{take_at}
 use Rattle.prolog_tokens.specs.Decoding.{AppendsPrefix}
 
--- some part of all stands behind the old bytes, and the rest is to come
+-- some part of all stands after the old bytes, and the rest is to come
 abbrev pub Appended : List ℕ → List ℕ → List ℕ → List ℕ → Type 0
 Appended old new rest all = (done : List ℕ) × (new ≡ old ++ done) × (done ++ rest ≡ all)
 

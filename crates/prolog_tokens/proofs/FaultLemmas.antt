@@ -42,11 +42,11 @@ item_fault_found bytes quote body after k o fails =
     let token = item_token quote (body ++ after) o.is_quote in
     ap token_at o.whole ∙ token.1 ∙ ap (item_of token.0) (item_failed quote k after o.is_quote o.is_body fails)
 
--- a code behind `0'`
+-- a code after `0'`
 code_found : (bytes after : List ℕ) → bytes ≡ 48 ∷ 39 ∷ after → token_at bytes ≡ code_of (piece_at 39 after)
 code_found bytes after whole = ap token_at whole ∙ token_at_digit 48 (39 ∷ after) refl ∙ integer_at_code after
 
--- decimal digits and a dot are no integer of another base
+-- decimal digits and a dot are not an integer of another base
 integer_at_dot : (b : ℕ) (bs : List ℕ) → integer_at (b ∷ 46 ∷ bs) ≡ decimal_at (b ∷ 46 ∷ bs)
 unfolding integer_at
 integer_at_dot b bs = rw (and_false (b == 48)) refl

@@ -25,7 +25,7 @@ use Rattle.prolog_tokens.proofs.ClassLemmas.{variable_not_small, digit_not_small
 use Rattle.prolog_tokens.proofs.SpelledLemmas.{spelled_piece}
 use Rattle.prolog_tokens.proofs.BodyLemmas.{item_closed}
 
--- the answer is at least so long, and of that kind where it is just so long; or it is a fault that is no bad first byte
+-- the answer is at least so long, and of that kind where it is just so long; or it is a fault that is not a bad first byte
 abbrev pub IsAtLeast : TokenKind → ℕ → Answer → Type 0
 IsAtLeast of n (Ok t) = (n ≤ t.1) × (n ≡ t.1 → t.0 ≡ of)
 IsAtLeast of n (Err fault) = fault ≢ fault_at BadByte 0

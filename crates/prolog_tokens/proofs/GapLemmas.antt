@@ -19,7 +19,7 @@ past_space n [] is some fits = absurd (omega arith)
 past_space zero (b ∷ bs) is some fits = absurd (omega arith)
 past_space (suc n) (b ∷ bs) is some fits = ap (λ (r : Result ℕ LexFault). gap_past r (λ m. gap_len m bs)) (sym is) ∙ ap (further 1) (gap_len_behind n bs (omega arith)) ∙ further-further 1 n _ ∙ ap (λ m. further m (gap_len 0 (drop n bs))) (omega arith)
 
--- what is left of a gap, behind n more bytes
+-- what is left of a gap, after n more bytes
 pub gap_goes_on : (at n : ℕ) (bs : List ℕ) (all : Result ℕ LexFault) → gap_len 0 (drop at bs) ≡ further n (gap_len 0 (drop n (drop at bs)))
     → further at (gap_len 0 (drop at bs)) ≡ all → further (at + n) (gap_len 0 (drop (at + n) bs)) ≡ all
 gap_goes_on at n bs all step before =

@@ -44,13 +44,13 @@ unfolding item_len piece_at
 at_fault quote kind [] is = cc
 at_fault quote kind (b ∷ bs) is = rw (← is) refl
 
--- what is left of an item, behind n more bytes
+-- what is left of an item, after n more bytes
 pub item_goes_on : (quote at n : ℕ) (bs : List ℕ) (all : Result ℕ LexFault) → item_len quote 0 (drop at bs) ≡ further n (item_len quote 0 (drop n (drop at bs)))
     → further at (item_len quote 0 (drop at bs)) ≡ all → further (at + n) (item_len quote 0 (drop (at + n) bs)) ≡ all
 item_goes_on quote at n bs all step before =
     ap (λ (xs : List ℕ). further (at + n) (item_len quote 0 xs)) (sym (drop-drop n at bs)) ∙ sym (further-further at n _) ∙ ap (further at) (sym step) ∙ before
 
--- the characters behind the other bytes of a piece
+-- the characters after the other bytes of a piece
 pub item_characters_behind : (quote n : ℕ) (bs : List ℕ) → n ≤ length bs → item_characters quote n bs ≡ item_characters quote 0 (drop n bs)
 unfolding item_characters
 item_characters_behind quote zero [] h = refl

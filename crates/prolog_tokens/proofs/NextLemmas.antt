@@ -83,7 +83,7 @@ form_some kind.Bar text after h = one_some 124 text h
 form_some kind.End text after h = one_some 46 text h.0
 
 module _ (c : Cursor) (within : c.at ≤ length c.text) where
-  -- behind a gap
+  -- after a gap
   rest_is : (gap after : List ℕ) → drop c.at c.text ≡ gap ++ after → drop (c.at + length gap) c.text ≡ after
   rest_is gap after whole = sym (drop-drop (length gap) c.at c.text) ∙ ap (drop (length gap)) whole ∙ drop_at gap after (length gap) refl
 
@@ -142,7 +142,7 @@ module _ (c : Cursor) (within : c.at ≤ length c.text) where
       let end : nat_lt (c.at + length (drop c.at c.text)) (length c.text) ≡ false = le-ltb _ _ (omega (arith, length-drop c.at c.text)) in
       next_behind all [] (sym (append-nil all)) len ∙ rw end refl
 
-  -- a fault of the table is told
+  -- a fault of the table is reported
   pub next_fault : (fault : LexFault) → HasFault c fault → next_of c ≡ Err fault
   next_fault fault (in_gap f h is) = rw (gap_fault_found (drop c.at c.text) f h) (ap (λ (g : LexFault). Err g) (sym is))
   next_fault fault (in_token gap after f whole is_gap apart h is) =

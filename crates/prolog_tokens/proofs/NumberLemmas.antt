@@ -26,12 +26,12 @@ pub next_digit : (base : ℕ) (ds : List ℕ) (i n : ℕ) → i < length ds → 
     → number_from base (base * n + digit_value (get_or ds i 0)) (drop (i + 1) ds) ≡ number_of base ds
 next_digit base ds i n below spelled = rw add-one (rw (drop-cons ds i 0) at spelled)
 
--- digits behind digits
+-- digits after digits
 number_from-append : (base n : ℕ) (ds es : List ℕ) → number_from base n (ds ++ es) ≡ number_from base (number_from base n ds) es
 number_from-append base n [] es = refl
 number_from-append base n (d ∷ ds) es = number_from-append base (base * n + digit_value d) ds es
 
--- digits behind digits make no smaller number
+-- digits after digits make no smaller number
 pub number_of-le-append : (base : ℕ) (ds es : List ℕ) → 0 < base → number_of base ds ≤ number_of base (ds ++ es)
 number_of-le-append base ds es some = omega (arith, number_from-append base 0 ds es, le-number_from base es (number_of base ds) some)
 

@@ -18,7 +18,7 @@ use Rattle.prolog_tokens.specs.declared.fault.LexKind.TheVariants.{BadByte, Uncl
 use Rattle.prolog_tokens.proofs.CharacterLemmas.{either, and_true, character_at_found}
 use Rattle.prolog_tokens.proofs.RunLemmas.{IsRun-prefix}
 
--- a text at the front spells the character in so many bytes
+-- a text at the front spells the character in the given number of bytes
 pub record Spelled (quote : ℕ) (bs : List ℕ) (c n : ℕ) : Type 0 where
   pub text : List ℕ
   pub rest : List ℕ

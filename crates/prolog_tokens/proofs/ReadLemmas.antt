@@ -112,7 +112,7 @@ based_is base letter rest is = ⊎_elim alone some (either (digits_len base rest
         (ap (λ (xs : List ℕ). 48 ∷ letter ∷ xs) (digits_split base rest)) (omega (arith, length-digits base rest))
         (based base letter (digits_of base rest) is (IsRun-prefix (λ b. is_digit_in b base) rest (omega arith)) refl refl))
 
--- a character behind `0'`
+-- a character after `0'`
 code_is : (rest : List ℕ) (p : Piece) → piece_at 39 rest ≡ p → IsPiece 39 rest p → IsRead (48 ∷ 39 ∷ rest) (code_of p)
 code_is rest (Character c n) e k = record {
   text = 48 ∷ 39 ∷ k.text;

@@ -39,7 +39,7 @@ module _ (p : ℕ → Bool) where
   prefix_len-Each [] (b ∷ bs) h stops = rw stops refl
   prefix_len-Each (b ∷ bs) after h stops = rw h.0 (omega (arith, prefix_len-Each bs after h.1 stops))
 
-  -- a byte fails behind it
+  -- a byte fails after it
   pub begins-prefix : (bs : List ℕ) → begins p (drop (prefix_len p bs) bs) ≡ false
   begins-prefix [] = refl
   begins-prefix (b ∷ bs) = by_test (p b) refl (begins-prefix bs)

@@ -70,7 +70,7 @@ first_line bs = record { no_newline = Each-prefix (λ b. not (b == 10)) bs; ende
 line_len-IsLine : (body after : List ℕ) → IsLine body after → line_len (body ++ after) ≡ length body
 line_len-IsLine body after h = prefix_len-Each (λ b. not (b == 10)) body after h.no_newline (line_end_to after h.ended)
 
--- the first `*/` stands behind no more bytes than any
+-- the first `*/` stands after no more bytes than any
 body_len-le-before : (before after : List ℕ) → body_len (before ++ 42 ∷ 47 ∷ after) ≤ length before
 body_len-le-before [] after = omega arith
 body_len-le-before (b ∷ bs) after = by_test ((b == 42) && begins_with 47 (bs ++ 42 ∷ 47 ∷ after)) (body_len-le-before bs after)
@@ -173,7 +173,7 @@ IsSpaceAnswer bs (Ok zero) = begins_space bs ≡ false
 IsSpaceAnswer bs (Ok (suc n)) = Space bs (suc n)
 IsSpaceAnswer bs (Err fault) = IsCommentFault bs fault
 
--- the answer of so many bytes
+-- the answer of the given number of bytes
 space_of : (bs : List ℕ) (n : ℕ) → 0 < n → Space bs n → IsSpaceAnswer bs (Ok n)
 space_of bs zero some h = absurd (omega arith)
 space_of bs (suc n) some h = h

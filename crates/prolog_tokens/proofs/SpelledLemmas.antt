@@ -20,14 +20,14 @@ use Rattle.prolog_tokens.proofs.PieceLemmas.{IsPiece, piece_is}
 pub quote_small : (quote : ℕ) → IsQuote quote → quote < 128
 quote_small quote q = ⊎_elim (λ e. omega (arith, e)) (λ e. omega (arith, e)) q
 
--- a backslash is no quote, and neither is a newline
+-- a backslash is not a quote, and neither is a newline
 backslash_apart : (quote : ℕ) → IsQuote quote → (92 == quote) ≡ false
 backslash_apart quote q = ⊎_elim (λ e. rw e refl) (λ e. rw e refl) q
 
 newline_apart : (quote : ℕ) → IsQuote quote → (10 == quote) ≡ false
 newline_apart quote q = ⊎_elim (λ e. rw e refl) (λ e. rw e refl) q
 
--- behind a backslash
+-- after a backslash
 piece_at_backslash : (quote : ℕ) (bs : List ℕ) → IsQuote quote → piece_at quote (92 ∷ bs) ≡ escape_at bs
 unfolding piece_at
 piece_at_backslash quote bs q = rw (backslash_apart quote q) refl
@@ -44,7 +44,7 @@ number_escape_found base before c digits rest stops are scalar is =
     let some = lt-ltb 0 (length digits) (length-run p p digits are) in
     rw whole (rw len (rw (front, back) (rw (some, ← is, scalar) refl)))
 
--- the byte behind the backslash of a short escape
+-- the byte after the backslash of a short escape
 short_not_ten : (b c : ℕ) → escape_of b ≡ Some c → (b == 10) ≡ false
 unfolding escape_of
 short_not_ten b c is = ne_eqb b 10 (λ e. let h = rw e at is in cc)
@@ -115,11 +115,11 @@ spelled_piece quote c text rest q (octal (d ∷ ds) are scalar number whole) =
     ∙ number_escape_found 8 1 c (d ∷ ds) rest refl are scalar number
     ∙ ap (λ n. Character c n) (omega (arith, length-append ds (92 ∷ []))))
 
--- where the piece is no character, none is spelled
+-- where the piece is not a character, none is spelled
 pub spells_none : (quote : ℕ) (bs : List ℕ) (p : Piece) → IsQuote quote → piece_at quote bs ≡ p → ((c n : ℕ) → p ≡ Character c n → ⊥) → SpellsNone quote bs
 spells_none quote bs p q is other c text after whole spells = other c (length text) (sym is ∙ ap (piece_at quote) whole ∙ spelled_piece quote c text after q spells)
 
--- a bad byte is no character
+-- a bad byte is not a character
 pub bad_byte : (quote : ℕ) (bs : List ℕ) → IsQuote quote → piece_at quote bs ≡ Fault BadByte → IsNoCharacter quote bs
 bad_byte quote bs q is = by_bytes bs (spells_none quote bs (Fault BadByte) q is (λ c n e. cc)) (subst (IsPiece quote bs) is (piece_is quote bs (quote_small quote q)))
   where
@@ -129,7 +129,7 @@ bad_byte quote bs q is = by_bytes bs (spells_none quote bs (Fault BadByte) q is 
         let same : x ≡ h.0 = cc (h.2) in
         ((λ e. h.3 (sym same ∙ e)), (λ e. h.4 (sym same ∙ e)), (λ e. h.5 (sym same ∙ e)), none)
 
--- a byte that is no character is a bad byte
+-- a byte that is not a character is a bad byte
 pub no_character_piece : (quote : ℕ) (bs : List ℕ) → IsQuote quote → IsNoCharacter quote bs → piece_at quote bs ≡ Fault BadByte
 no_character_piece quote [] q h = absurd h
 no_character_piece quote (b ∷ bs) q h = by_piece (piece_at quote (b ∷ bs)) refl (piece_is quote (b ∷ bs) (quote_small quote q))
@@ -169,7 +169,7 @@ pub closing_piece : (quote : ℕ) (bs : List ℕ) → begins_with quote bs ≡ f
 unfolding piece_at
 closing_piece quote bs apart = rw (eq-eqb quote quote refl, apart) refl
 
--- a newline behind a backslash
+-- a newline after a backslash
 pub dropped_piece : (quote : ℕ) (bs : List ℕ) → IsQuote quote → piece_at quote (92 ∷ 10 ∷ bs) ≡ Dropped
 unfolding escape_at
 dropped_piece quote bs q = piece_at_backslash quote (10 ∷ bs) q

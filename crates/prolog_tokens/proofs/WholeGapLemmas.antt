@@ -9,7 +9,7 @@ use Rattle.prolog_tokens.proofs.PlaceLemmas.{further-further, further-zero}
 use Rattle.prolog_tokens.proofs.GapLemmas.{past_space}
 use Rattle.prolog_tokens.proofs.SpaceLemmas.{IsSpaceAnswer, space_is, space_found, comment_fault_found}
 
--- The answer is the length of all layout and comments at the front, behind which none begins; or it is the first fault.
+-- The answer is the length of all layout and comments at the front, after which none begins; or it is the first fault.
 abbrev pub IsWholeGap : List ℕ → Result ℕ LexFault → Type 0
 IsWholeGap bytes answer =
     ((gap : List ℕ) × (after : List ℕ) × (bytes ≡ gap ++ after) × IsGap gap after × (begins_space after ≡ false) × (answer ≡ Ok (length gap)))
@@ -24,7 +24,7 @@ gap_fails : (bs : List ℕ) (fault : LexFault) → space_at bs ≡ Err fault →
 gap_fails [] fault is = cc
 gap_fails (b ∷ bs) fault is = ap (λ (r : Result ℕ LexFault). gap_past r (λ n. gap_len n bs)) is
 
--- behind a byte of layout or a comment
+-- after a byte of layout or a comment
 gap_past_text : (bs text rest : List ℕ) (n : ℕ) → bs ≡ text ++ rest → length text ≡ n → 0 < n → space_at bs ≡ Ok n → gap_len 0 bs ≡ further n (gap_len 0 rest)
 gap_past_text bs text rest n whole count some is =
     past_space n bs (sym is) some (omega (arith, ap length whole, length-append text rest, count))

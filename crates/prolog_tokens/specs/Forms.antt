@@ -55,7 +55,7 @@ pub record IsItem (quote : ℕ) (text after : List ℕ) : Type 0 where
   pub whole : text ≡ quote ∷ (body ++ quote ∷ [])
   pub apart : begins_with quote after ≡ false
 
--- the letter of a base behind `0`
+-- the letter of a base after `0`
 pub data IsBase : ℕ → ℕ → Type 0 where
   hexadecimal_base : IsBase 16 120
   octal_base : IsBase 8 111
@@ -72,7 +72,7 @@ abbrev pub begins_graphic : List ℕ → Bool
 begins_graphic [] = false
 begins_graphic (b ∷ bs) = is_graphic b
 
--- a whole run of graphic characters that begins no comment and is no end of a clause
+-- a whole run of graphic characters that begins no comment and is not an end of a clause
 pub record IsGraphicName (text after : List ℕ) : Type 0 where
   pub run : IsRun is_graphic is_graphic text
   pub ended : begins_graphic after ≡ false
@@ -115,7 +115,7 @@ abbrev pub IsLineEnd : List ℕ → Type 0
 IsLineEnd [] = Unit {0}
 IsLineEnd (b ∷ bs) = b ≡ 10
 
--- a byte that is no character between quotes of this kind: no quote, no backslash, no newline, and nothing is spelled there
+-- a byte that is not a character between quotes of this kind: no quote, no backslash, no newline, and nothing is spelled there
 abbrev pub IsNoCharacter : ℕ → List ℕ → Type 0
 IsNoCharacter quote [] = ⊥
 IsNoCharacter quote (b ∷ bs) = (b ≢ quote) × (b ≢ 92) × (b ≢ 10) × SpellsNone quote (b ∷ bs)
@@ -129,7 +129,7 @@ pub record IsOpen (bytes : List ℕ) (quote : ℕ) (body after : List ℕ) : Typ
 
 -- The faults of a token, with their places counted from the front of the bytes.
 pub data IsFault (bytes : List ℕ) (fault : LexFault) : Type 0 where
-  -- a byte begins no token, or a byte in an item or after `0'` is no character
+  -- a byte begins no token, or a byte in an item or after `0'` is not a character
   no_token : 0 < length bytes → FitsNone bytes → begins_with 39 bytes ≡ false → begins_with 34 bytes ≡ false → fault ≡ fault_at BadByte 0 → IsFault bytes fault
   byte_in_item : (quote : ℕ) (body after : List ℕ) → IsOpen bytes quote body after → IsNoCharacter quote after → fault ≡ fault_at BadByte (1 + length body) → IsFault bytes fault
   byte_after_zero : (after : List ℕ) → bytes ≡ 48 ∷ 39 ∷ after → IsNoCharacter 39 after → fault ≡ fault_at BadByte 2 → IsFault bytes fault

@@ -20,7 +20,7 @@ pub record IsLine (line after : List ℕ) : Type 0 where
 abbrev pub HasNoEnd : List ℕ → Type 0
 HasNoEnd bytes = (before after : List ℕ) → bytes ≡ before ++ 42 ∷ 47 ∷ after → ⊥
 
--- the first `*/` stands right behind the body
+-- the first `*/` stands right after the body
 abbrev pub EndsFirst : List ℕ → Type 0
 EndsFirst body = (before after : List ℕ) → body ++ 42 ∷ 47 ∷ [] ≡ before ++ 42 ∷ 47 ∷ after → length body ≤ length before
 
@@ -40,7 +40,7 @@ abbrev pub begins_space : List ℕ → Bool
 begins_space [] = false
 begins_space (b ∷ bs) = is_layout b || (b == 37) || begins_comment (b ∷ bs)
 
--- the first byte of the body that is not valid UTF-8, which stands behind so many bytes
+-- the first byte of the body that is not valid UTF-8, which stands after the given number of bytes
 pub record IsBroken (body : List ℕ) (before : ℕ) (fault : LexFault) : Type 0 where
   pub broken : IsUtf8 body → ⊥
   pub is : fault ≡ fault_at BadByte (before + utf8_valid_len body)
@@ -52,7 +52,7 @@ pub data IsCommentFault (bytes : List ℕ) (fault : LexFault) : Type 0 where
   broken_open : (body : List ℕ) → HasNoEnd body → bytes ≡ 47 ∷ 42 ∷ body → IsBroken body 2 fault → IsCommentFault bytes fault
   unclosed : (body : List ℕ) → HasNoEnd body → IsUtf8 body → bytes ≡ 47 ∷ 42 ∷ body → fault ≡ fault_at Unclosed 0 → IsCommentFault bytes fault
 
--- the fault of the first comment that has one, behind layout and comments without
+-- the fault of the first comment that has one, after layout and comments without
 pub record IsGapFault (bytes : List ℕ) (fault : LexFault) : Type 0 where
   pub gap : List ℕ
   pub after : List ℕ

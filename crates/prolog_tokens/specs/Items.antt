@@ -9,14 +9,14 @@ use Rattle.prolog_tokens.specs.declared.piece.Piece.TheVariants.{Character, Drop
 use Rattle.prolog_tokens.specs.declared.fault.LexKind.TheVariants.{Unclosed}
 use Rattle.prolog_tokens.specs.declared.fault.LexFault.{LexFault}
 
--- how long an item is from a piece on, or where its first fault has its cause: what follows goes on behind the piece's other bytes
+-- how long an item is from a piece on, or where its first fault has its cause: what follows goes on after the piece's other bytes
 abbrev pub len_past : Piece → (ℕ → Result ℕ LexFault) → Result ℕ LexFault
 len_past (Character c n) rest = further 1 (rest (n - 1))
 len_past Dropped rest = further 1 (rest 1)
 len_past Closing rest = Ok 1
 len_past (Fault kind) rest = Err (fault_at kind 0)
 
--- the same for the bytes behind so many that belong to an earlier piece
+-- the same for the bytes after those that belong to an earlier piece
 unfoldable pub item_len : ℕ → ℕ → List ℕ → Result ℕ LexFault
 item_len quote n [] = Err (fault_at Unclosed 0)
 item_len quote (suc n) (b ∷ bs) = further 1 (item_len quote n bs)
@@ -29,7 +29,7 @@ characters_past Dropped rest = rest 1
 characters_past Closing rest = []
 characters_past (Fault kind) rest = []
 
--- the same for the bytes behind so many that belong to an earlier piece
+-- the same for the bytes after those that belong to an earlier piece
 unfoldable pub item_characters : ℕ → ℕ → List ℕ → List ℕ
 item_characters quote n [] = []
 item_characters quote (suc n) (b ∷ bs) = item_characters quote n bs

@@ -10,7 +10,7 @@ use Rattle.prolog_tokens.specs.Cursor.{Cursor}
 use Rattle.prolog_tokens.specs.declared.token.Token.{Token}
 use Rattle.prolog_tokens.specs.declared.fault.LexFault.{LexFault}
 
--- Behind all layout and comments stands the longest text of a form, and that is the token.
+-- After all layout and comments stands the longest text of a form, and that is the token.
 pub record IsNextToken (c : Cursor) (t : Token) : Type 0 where
   pub gap : List ℕ
   pub text : List ℕ
@@ -22,7 +22,7 @@ pub record IsNextToken (c : Cursor) (t : Token) : Type 0 where
   pub start : t.start ≡ c.at + length gap
   pub end : t.end ≡ t.start + length text
 
--- A comment has a fault, or the token behind all layout and comments has one.
+-- A comment has a fault, or the token after all layout and comments has one.
 pub data HasFault (c : Cursor) (fault : LexFault) : Type 0 where
   in_gap : (f : LexFault) → IsGapFault (drop c.at c.text) f → fault ≡ moved c.at f → HasFault c fault
   in_token : (gap after : List ℕ) (f : LexFault) → drop c.at c.text ≡ gap ++ after → IsGap gap after → begins_space after ≡ false → IsFault after f

@@ -18,14 +18,14 @@ escape_of b =
     else if b == 114 then Some 13 else if b == 116 then Some 9 else if b == 118 then Some 11
     else if (b == 92) || (b == 39) || (b == 34) || (b == 96) then Some b else None
 
--- an escape by number, whose digits follow so many bytes: the digits, and a backslash that closes them
+-- an escape by number, whose digits follow the given number of bytes: the digits, and a backslash that closes them
 unfoldable pub number_escape : ℕ → ℕ → List ℕ → Piece
 number_escape base before bs =
     let len = digits_len base bs in
     let number = number_of base (take len bs) in
     if nat_lt 0 len && begins_with 92 (drop len bs) && all_scalars (number ∷ []) then Character number (before + len + 1) else Fault BadEscape
 
--- an escape of one byte behind its backslash
+-- an escape of one byte after its backslash
 abbrev pub short_escape : Option ℕ → Piece
 short_escape (Some c) = Character c 2
 short_escape None = Fault BadEscape
@@ -57,7 +57,7 @@ piece_at quote (b ∷ bs) =
     else if b == 92 then escape_at bs
     else plain_character (character_at (b ∷ bs))
 
--- the piece has at least one byte, and at most so many
+-- the piece has at least one byte, and at most the given number
 abbrev pub HasAtMost : ℕ → Piece → Type 0
 HasAtMost most (Character c n) = (0 < n) × (n ≤ most)
 HasAtMost most Dropped = 2 ≤ most

@@ -21,7 +21,7 @@ use Rattle.prolog_tokens.specs.declared.fault.LexFault.{LexFault}
 abbrev pub Answer : Type 0
 Answer = Result (TokenKind × ℕ) LexFault
 
--- the integer of so many bytes, if 127 bits hold it
+-- the integer of the given number of bytes, if 127 bits hold it
 abbrev pub integer : ℕ → ℕ → Answer
 integer number len = if nat_lt number (2 ^ 127) then Ok (Int (pos number), len) else Err (fault_at WideNumber 0)
 
@@ -34,18 +34,18 @@ abbrev pub is_fraction : List ℕ → Bool
 is_fraction [] = false
 is_fraction (b ∷ bs) = (b == 46) && nat_lt 0 (digits_len 10 bs)
 
--- an integer of decimal digits, whose fault counts before that of a fraction behind it
+-- an integer of decimal digits, whose fault counts before that of a fraction after it
 unfoldable pub decimal_at : List ℕ → Answer
 decimal_at bs =
     let len = digits_len 10 bs in
     let number = number_of 10 (take len bs) in
     if nat_lt number (2 ^ 127) && is_fraction (drop len bs) then Err (fault_at Float 0) else integer number len
 
--- an integer of a base, behind `0` and the letter of the base
+-- an integer of a base, after `0` and the letter of the base
 unfoldable pub based_at : ℕ → List ℕ → Answer
 based_at base bs = let len = digits_len base bs in if len == 0 then zero_alone else integer (number_of base (take len bs)) (2 + len)
 
--- the code of a character, behind `0'`
+-- the code of a character, after `0'`
 abbrev pub code_of : Piece → Answer
 code_of (Character c n) = Ok (Int (pos c), 2 + n)
 code_of Dropped = Err (fault_at BadEscape 0)
@@ -64,7 +64,7 @@ integer_at bs =
     else if begins_with 48 bs && begins_with 39 rest then code_of (piece_at 39 (drop 1 rest))
     else decimal_at bs
 
--- the fault of an item whose cause stands so many bytes behind its quote: a bad byte is named itself, else the quote
+-- the fault of an item whose cause stands at a distance from its quote: a bad byte is named itself, else the quote
 abbrev pub item_fault : LexKind → ℕ → LexFault
 item_fault BadByte at = fault_at BadByte (1 + at)
 item_fault kind at = fault_at kind 0

@@ -30,7 +30,7 @@ pub fn decode(text: &[u8], token: Token, out: &mut Vec<u8>) -> Result<(), AllocE
     }
 }
 
-/// Appends the characters of the item behind its opening quote.
+/// Appends the characters of the item after its opening quote.
 fn decode_item(bytes: &[u8], quote: u8, out: &mut Vec<u8>) -> Result<(), AllocError>
     ensures ok { OnOk result (out.new.items ≡ out.old.items ++ encode_utf8_all (item_characters quote 0 bytes.now)) }
     ensures err { OnErr result (AppendsPrefix out.old.items (encode_utf8_all (item_characters quote 0 bytes.now)) out.new.items) }

@@ -3,7 +3,7 @@
 /// Why no token could be read.
 #[derive(Clone, Copy, Debug, PartialEq, Eq)]
 pub enum LexKind {
-    /// A byte begins no token, or a byte in a quoted item or after `0'` is no character, or a byte in a comment is no UTF-8.
+    /// A byte begins no token, or a byte in a quoted item or after `0'` is not a character, or a byte in a comment is not UTF-8.
     /// The place is that byte.
     BadByte,
     /// A quoted item meets a newline or the end of the text before its end, or a `/*` comment has no end. The place is its

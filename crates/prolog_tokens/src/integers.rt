@@ -57,7 +57,7 @@ fn is_fraction(bytes: &[u8]) -> bool
     begins_with(bytes, b'.') && digits_len(&bytes[1..], 10) > 0
 }
 
-/// An integer of a base, behind `0` and the letter of the base.
+/// An integer of a base, after `0` and the letter of the base.
 #[tactic(auto, unfolding(crate::specs::Tokens::based_at))]
 fn based(bytes: &[u8], base: u32) -> Result<(TokenKind, usize), LexFault>
     requires base { 0 < base }
@@ -76,7 +76,7 @@ fn based(bytes: &[u8], base: u32) -> Result<(TokenKind, usize), LexFault>
     }
 }
 
-/// The code of a character, behind `0'`.
+/// The code of a character, after `0'`.
 fn code(bytes: &[u8]) -> Result<(TokenKind, usize), LexFault>
     requires { length bytes.now ≤ 16777216 }
     ensures value { result ≡ code_of (piece_at 39 bytes.now) }

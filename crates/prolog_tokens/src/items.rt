@@ -6,7 +6,7 @@ ghost use Rattle.prolog_tokens.specs.Items.{item_len};
 use crate::fault::LexFault;
 use crate::piece::{Piece, piece_at};
 
-/// How long an item is behind its opening quote, or the fault with the place of its cause.
+/// How long an item is after its opening quote, or the fault with the place of its cause.
 pub fn item_len(bytes: &[u8], quote: u8) -> Result<usize, LexFault>
     requires { length bytes.now ≤ 16777216 }
     ensures value { result ≡ item_len quote 0 bytes.now }

@@ -44,7 +44,7 @@ fn space_len(bytes: &[u8]) -> Result<usize, LexFault>
     }
 }
 
-/// A comment to the end of the line, behind its percent sign.
+/// A comment to the end of the line, after its percent sign.
 #[tactic(auto, unfolding(crate::specs::Layout::line_comment))]
 fn line_comment(bytes: &[u8]) -> Result<usize, LexFault>
     requires { length bytes.now < 16777216 }
@@ -61,7 +61,7 @@ fn line_comment(bytes: &[u8]) -> Result<usize, LexFault>
     }
 }
 
-/// A comment to the next `*/`, behind its `/*`.
+/// A comment to the next `*/`, after its `/*`.
 #[tactic(auto, unfolding(crate::specs::Layout::block_comment))]
 fn block_comment(bytes: &[u8]) -> Result<usize, LexFault>
     requires { length bytes.now + 2 ≤ 16777216 }

@@ -103,7 +103,7 @@ fn token(bytes: &[u8]) -> Result<(TokenKind, usize), LexFault>
     }
 }
 
-/// The quoted item of a kind, behind its opening quote.
+/// The quoted item of a kind, after its opening quote.
 fn item(bytes: &[u8], quote: u8, kind: TokenKind) -> Result<(TokenKind, usize), LexFault>
     requires { length bytes.now < 16777216 }
     ensures value { result ≡ item_of kind (item_len quote 0 bytes.now) }
@@ -140,7 +140,7 @@ fn mark(byte: u8) -> Result<(TokenKind, usize), LexFault>
 }
 
 /// What `Lexer::next` computes is what the forms of tokens, layout, comments and faults say: each fault exactly where its
-/// condition holds; nothing exactly where only layout and comments are left; and else the longest text of a form behind all
+/// condition holds; nothing exactly where only layout and comments are left; and else the longest text of a form after all
 /// layout and comments, which is one token.
 pub fn longest_match()
     ensures next { (c : Cursor) → c.at ≤ length c.text → IsNext c (next_of c) }

@@ -18,7 +18,7 @@ pub enum Piece {
     Dropped,
     /// The quote that ends the item.
     Closing,
-    /// A byte that is no character, the end of the line or of the text, or a backslash that begins no escape.
+    /// A byte that is not a character, the end of the line or of the text, or a backslash that begins no escape.
     Fault(LexKind),
 }
 
@@ -82,7 +82,7 @@ fn escape(after: &[u8]) -> Piece
     }
 }
 
-/// The escape by a number in a base, whose digits stand behind so many bytes.
+/// The escape by a number in a base, whose digits stand after the given number of bytes.
 #[tactic(auto, unfolding(crate::specs::Pieces::number_escape))]
 fn number_escape(bytes: &[u8], base: u32, before: usize) -> Piece
     requires base { 0 < base }
@@ -100,7 +100,7 @@ fn number_escape(bytes: &[u8], base: u32, before: usize) -> Piece
     }
 }
 
-/// The character that a letter or mark stands for behind a backslash.
+/// The character that a letter or mark stands for after a backslash.
 #[tactic(auto, unfolding(crate::specs::Pieces::escape_of))]
 fn escaped(byte: u8) -> Option<char>
     ensures { result ≡ escape_of byte }

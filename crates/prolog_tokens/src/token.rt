@@ -10,7 +10,7 @@ pub enum TokenKind {
     Quoted,
     /// A capital letter or an underscore, and the letters, digits and underscores after it.
     Var,
-    /// An integer from 0 to 2^127 - 1: decimal digits, digits behind `0x`, `0o` or `0b`, or a character behind `0'`.
+    /// An integer from 0 to 2^127 - 1: decimal digits, digits after `0x`, `0o` or `0b`, or a character after `0'`.
     Int(i128),
     /// An item in double quotes.
     Text,

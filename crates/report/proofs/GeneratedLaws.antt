@@ -75,6 +75,6 @@ columns_short k (suc n) few =
     let rest = columns_short (suc k) n (omega (arith, few)) in
     omega (arith, first, rest, length-append (predicate k) (flat_map predicate (columns (suc k) n)))
 
--- the text of so many predicates is not long
+-- the text of the given number of predicates is not long
 pub generated_short : (n : ℕ) → n ≤ 300 → length (generated n) ≤ 1048576
 generated_short n few = let all = columns_short 1 n (omega (arith, few)) in omega (arith, all, few)

@@ -1,4 +1,4 @@
-//! The text of a program of so many predicates, for trying the analysis at any size.
+//! The text of a program of the given number of predicates, for trying the analysis at any size.
 
 ghost use Rattle.std.specs.Prelude.{◌≡◌, ◌<◌, ◌≤◌, ◌++◌, IfOk, OnOk, length};
 ghost use Rattle.report.specs.Generated.{named, appends, reverses, reverses_more, repeats, predicate, generated};

@@ -17,7 +17,7 @@ use number_tests::{LevelPart, Refutation};
 use sequences::Sequence;
 use std::alloc::{AllocError, Global};
 
-/// A part with so many coefficients of 0, and an offset of 0.
+/// A part with the given number of coefficients of 0, and an offset of 0.
 fn zero_part(alloc: Global, width: u32) -> Result<LevelPart, AllocError>
     ensures { IfOk result (λ part. part ≡ zero_part width) }
 {

@@ -48,7 +48,7 @@ pub(crate) fn spelled_list(
     Ok(lists)
 }
 
-/// The cubes of sets of rows with so many values.
+/// The cubes of sets of rows with the given number of values.
 fn spelled_each(
     alloc: Global,
     table: &Table,

@@ -5,7 +5,7 @@ ghost use Rattle.std.specs.Prelude.{◌≡◌, ◌↔◌, IsTrue, OnOk, OnErr, l
 use std::alloc::{AllocError, Global};
 use std::marker::Model;
 
-/// Items in a row. Contracts see the list.
+/// A list of items. Contracts see the list.
 #[derive(Drop)]
 pub struct Sequence<T> {
     items: Vec<T>,

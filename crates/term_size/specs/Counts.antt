@@ -9,7 +9,7 @@ pub record HasRoom (n : ℕ) (counts : Counts) : Type 0 where
   pub names : counts.names + n < 2 ^ 32
   pub variables : (x : ℕ) → x < 48 → slice_index_or counts.variables x 0 + n < 2 ^ 32
 
--- so many names more, and so many more of each variable
+-- a given number of names more, and of each variable
 pub record Adds (more : ℕ) (occurring : ℕ → ℕ) (old new : Counts) : Type 0 where
   pub names : new.names ≡ old.names + more
   pub variables : (x : ℕ) → x < 48 → slice_index_or new.variables x 0 ≡ slice_index_or old.variables x 0 + occurring x

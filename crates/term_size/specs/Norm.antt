@@ -23,7 +23,7 @@ IsRigid truth t = IsTrue (truth (λ _. false) t)
 abbrev pub ListsRigid : ((ℕ → Bool) → Tree → Bool) → Tree → List ℕ → Type 0
 ListsRigid truth t variables = (v : ℕ → Bool) → IsTrue (truth v t) ↔ All (λ x. IsTrue (v x)) variables
 
--- the laws of size and truth, and of the size over so many variables as a row
+-- the laws of size and truth, and of the size over the given number of variables as a row
 pub record IsNorm (size : (ℕ → ℕ) → Tree → ℕ) (truth : (ℕ → Bool) → Tree → Bool) (expression : ℕ → Tree → List ℤ) : Type 0 where
   -- an instance has the size that the term has at the sizes of what stands for its variables
   pub size_of_instance : (s : ℕ → ℕ) (a : ℕ → Tree) (t : Tree) → size s (instance a t) ≡ size (λ x. size s (a x)) t

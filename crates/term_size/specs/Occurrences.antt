@@ -16,7 +16,7 @@ abbrev mutual
   all_occurrences x End = 0
   all_occurrences x (More t ts) = occurrences x t + all_occurrences x ts
 
--- how often each of so many variables occurs, from x on
+-- how often each of the given number of variables occurs, from x on
 abbrev pub occurrences_from : ℕ → ℕ → Tree → List ℤ
 occurrences_from x zero t = []
 occurrences_from x (suc n) t = pos (occurrences x t) ∷ occurrences_from (suc x) n t

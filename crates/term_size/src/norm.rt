@@ -21,7 +21,7 @@ pub trait Norm {
     /// Whether a term is rigid, where each variable stands for a rigid term or not.
     ghost truth: { Self → (ℕ → Bool) → Tree → Bool };
 
-    /// The size over so many variables as a row: the constant first, then a number for each variable.
+    /// The size over the given number of variables as a row: the constant first, then a number for each variable.
     ghost expression: { Self → ℕ → Tree → List ℤ };
 
     /// The size of a term as an expression over the first `vars` variables.

@@ -14,7 +14,7 @@ pub struct SizeExpr {
     pub coeffs: Coefficients,
 }
 
-/// Coefficients in a row. Contracts see the list.
+/// A list of coefficients. Contracts see the list.
 #[derive(Drop)]
 pub struct Coefficients {
     items: Vec<i128>,

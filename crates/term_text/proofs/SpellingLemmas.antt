@@ -5,7 +5,7 @@ use Rattle.cti_terms.specs.Spell.{tree_of, trees_of}
 use Rattle.prolog_tokens.specs.Spelling.{is_empty_list}
 use Rattle.term_text.specs.Spelling.{no_list, functional, is_dot, compound, spelled, all_spelled}
 
--- arguments that are no list's cell stand in parentheses
+-- arguments that are not a list's cell stand in parentheses
 pub arguments_in_parentheses : (names : List (List ℕ)) (name : List ℕ) (t : Term) (ts : List Term) → (length (t ∷ ts) == 2 && is_dot name) ≡ false
     → compound name (all_spelled names (trees_of (t ∷ ts))) ≡ functional name (spelled names (tree_of t)) (all_spelled names (trees_of ts))
 arguments_in_parentheses names name t [] e = refl

@@ -1,7 +1,7 @@
 -- The spelling of terms, without spaces.
 --
 -- A name is spelled as `spelling` of prolog_tokens says, an integer in decimal, and variable 0 is `_1`. A list stands in brackets: its cell
--- is the name `.` with two arguments, its end is the name `[]`, and another tail stands behind a bar. Any other term is its name with its
+-- is the name `.` with two arguments, its end is the name `[]`, and another tail stands after a bar. Any other term is its name with its
 -- arguments in parentheses, where it has any.
 --
 -- To believe: all of this file.
@@ -15,7 +15,7 @@ pub record Spelled : Type 0 where
   pub alone : List ℕ
   pub as_tail : List ℕ
 
--- what is no list
+-- what is not a list
 abbrev pub no_list : List ℕ → Spelled
 no_list text = record { alone = text; as_tail = codes "|" ++ text ++ codes "]" }
 
@@ -27,7 +27,7 @@ empty_list text = record { alone = text; as_tail = codes "]" }
 abbrev pub cell : Spelled → Spelled → Spelled
 cell head tail = record { alone = codes "[" ++ head.alone ++ tail.as_tail; as_tail = codes "," ++ head.alone ++ tail.as_tail }
 
--- the arguments behind the first, and the end of all
+-- the arguments after the first, and the end of all
 abbrev pub other_arguments : List Spelled → List ℕ
 other_arguments others = flat_map (λ a. codes "," ++ a.alone) others ++ codes ")"
 

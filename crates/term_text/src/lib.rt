@@ -1,6 +1,6 @@
 //! The text of what a run found: terms as they are spelled, a line for each answer, and how the search ended.
 //!
-//! A term may be deep, and a list long: what is left to be written stands on a stack. Stands on `cti_terms` for terms, on
+//! A term may be deep, and a list long: what is left to be written stands on a stack. It depends on `cti_terms` for terms, on
 //! `ld_resolver` for answers, on `prolog_tokens` for the spelling of names, and on `itoa`.
 #![tactic(auto)]
 

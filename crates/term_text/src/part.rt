@@ -11,7 +11,7 @@ pub enum Part<'t> {
     /// The tail of a list, and the bracket that ends the list.
     Tail(&'t Term),
 
-    /// Arguments, each behind a comma, and the parenthesis behind the last.
+    /// Arguments, each after a comma, and the parenthesis after the last.
     Arguments(&'t [Term]),
 
     /// The bracket that ends a list.

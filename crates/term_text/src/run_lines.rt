@@ -37,7 +37,7 @@ fn push_atom<'t>(
     write_parts(names, stack, out)
 }
 
-/// Appends atoms, each behind a comma.
+/// Appends atoms, each after a comma.
 fn push_other_atoms<'t>(
     names: &Names,
     program: &Program,

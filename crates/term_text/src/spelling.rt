@@ -164,7 +164,7 @@ fn begin_term<'t>(
     }
 }
 
-/// Begins the tail of a list that is no list.
+/// Begins the tail of a list that is not a list.
 fn begin_other_tail<'t>(
     tail: &'t Term,
     stack: &mut Vec<Part<'t>>,
@@ -222,7 +222,7 @@ fn begin_tail<'t>(
     }
 }
 
-/// Begins the arguments behind the first.
+/// Begins the arguments after the first.
 fn begin_arguments<'t>(
     args: &'t [Term],
     stack: &mut Vec<Part<'t>>,

@@ -30,7 +30,7 @@ chosen_added numbers before k i m h l =
     ∙ sym (map_append (λ args. numbers ++ args) (map (λ args. i ∷ args) (chosen (k - 1) (i + 1) (m - 1))) (chosen k (i + 1) (m - 1)))
     ∙ ap (map (λ args. numbers ++ args)) (sym (chosen_cases k i m h l)))
 
--- the lists of up to so many numbers, by loops from 0 on
+-- the lists of up to the given number of numbers, by loops from 0 on
 pub sets_below : ℕ → ℕ → List (List ℕ)
 sets_below n zero = []
 sets_below n (suc k) = sets_below n k ++ chosen k 1 n

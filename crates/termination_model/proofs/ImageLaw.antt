@@ -17,7 +17,7 @@ use Rattle.linear_rows.proofs.Starts.{dot-zeros, entry-zeros, entry-units, entry
 use Rattle.termination_model.specs.Rows.{substituted}
 use Rattle.termination_model.proofs.ChainHeads.{dot_substituted}
 
--- ---- sums over two lists in a row
+-- ---- sums over one list after another
 pub dot_append : (xs ys us vs : List ℤ) → length xs ≡ length us → dot (xs ++ ys) (us ++ vs) ≡ dot xs us +ℤ dot ys vs
 unfolding dot
 dot_append [] ys [] vs e = omega (arith, ints)

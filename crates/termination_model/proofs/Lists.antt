@@ -69,7 +69,7 @@ pub append_assoc : {X : Type 0} → (xs ys zs : List X) → (xs ++ ys) ++ zs ≡
 append_assoc [] ys zs = refl
 append_assoc (x ∷ xs) ys zs = ap (λ s. x ∷ s) (append_assoc xs ys zs)
 
--- one more element mapped, behind other ones
+-- one more element mapped, after other ones
 pub mapped_more : {X Y : Type 0} → (f : X → Y) (before : List Y) (xs : List X) (i : ℕ) (x : X) → slice_get xs i ≡ Some x
     → (before ++ map f (take i xs)) ++ f x ∷ [] ≡ before ++ map f (take (i + 1) xs)
 mapped_more f before xs i x e = append_assoc before (map f (take i xs)) (f x ∷ []) ∙ ap (λ s. before ++ s) (sym (map_push f (take i xs) x) ∙ ap (map f) (sym (taken_more xs i x e)))

@@ -95,7 +95,7 @@ all_hold n rows (x ∷ all) (ms ∷ mss) e r (inl is) =
 all_hold n rows (x ∷ all) (ms ∷ mss) e r (inr i) =
     all_hold n rows all mss (both (nat_eq (length x) n && (naturals_in ms && proves_in rows ms x 0 (length x))) (all_proved n rows all mss) e).1 r i
 
--- a part on which all rows hold has the very rows
+-- a part on which all rows hold has exactly these rows
 pub part_same : (n : ℕ) (all rows : List (List ℤ)) → HasPart all rows → ((r : List ℤ) → In r all → HoldsOn n rows r) → (r : List ℤ) → HoldsOn n rows r ↔ HoldsOn n all r
 part_same n all rows part covers r = (there, back)
   where

@@ -30,7 +30,7 @@ pub wide_append : (xs ys : List (List ℤ)) → wide_rows (xs ++ ys) ≡ (wide_r
 wide_append [] ys = refl
 wide_append (x ∷ xs) ys = ap (λ b. not (row_fits x) || b) (wide_append xs ys) ∙ sym (or_assoc (not (row_fits x)) (wide_rows xs) (wide_rows ys))
 
--- one more row, behind what was wide before
+-- one more row, after what was wide before
 pub wide_push : (before : Bool) (xs : List (List ℤ)) (x : List ℤ) → ((before || wide_rows xs) || not (row_fits x)) ≡ (before || wide_rows (xs ++ x ∷ []))
 wide_push before xs x =
     or_assoc before (wide_rows xs) (not (row_fits x))

@@ -47,7 +47,7 @@ alone = record { of = 0 ∷ []; members = (0 ∷ []) ∷ []; recursive = true �
 abbrev pub fit : List ℤ → Bool
 fit = all_of fits
 
--- the chain ends with x1 + x2 = x3 for append, and with no rows for what is no predicate
+-- the chain ends with x1 + x2 = x3 for append, and with no rows for what is not a predicate
 abbrev pub append_rows : ℕ → List (List ℤ)
 append_rows zero = sum_rows
 append_rows (suc q) = []

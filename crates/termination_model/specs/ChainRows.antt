@@ -35,7 +35,7 @@ IsBlown blown = (at : ℕ × Bool) × (blown ≡ Some at)
 abbrev pub AreSpoken : (List ℤ → Bool) → ℕ → List (List ℤ) → Type 0
 AreSpoken speaks n rows = AllByRecursion (λ r. (length r ≡ suc n) × (speaks r ≡ true)) rows
 
--- an irredundant sublist of the join's rows, on which the very rows hold that hold on both
+-- an irredundant sublist of the join's rows, on which the same rows hold as on both
 pub record IsJoin (speaks : List ℤ → Bool) (n : ℕ) (first second rows : List (List ℤ)) : Type 0 where
   pub decided : join_blown n first second ≡ None
   pub part : HasPart (join_left n first second) rows

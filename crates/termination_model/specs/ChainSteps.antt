@@ -96,7 +96,7 @@ module _ (speaks : List ℤ → Bool) (expression : ℕ → Tree → List ℤ) w
     abbrev pub IsBlownHere : List ℤ → Type 0
     IsBlownHere r = TestIsBlown k.vars body (at_head r)
 
-    -- an irredundant sublist of the rows that elimination leaves, on which the very rows hold that hold on the clause
+    -- an irredundant sublist of the rows that elimination leaves, on which the same rows hold as on the clause
     pub record IsImage (image : List (List ℤ)) : Type 0 where
       pub decided : image_blown k.vars heads body ≡ None
       pub part : HasPart (image_left k.vars heads body) image

@@ -21,7 +21,7 @@ Family = ℕ → List Bool → Bool
 abbrev pub IsInside : Family → Family → Type 0
 IsInside f g = (q : ℕ) (row : List Bool) → IsTrue (f q row) → IsTrue (g q row)
 
--- the predicate of this number has so many arguments
+-- the predicate of this number has the given arity
 abbrev pub HasArity : List Pred → ℕ → ℕ → Type 0
 HasArity preds q n = IsSomeAnd (slice_get preds q) (λ p. p.arity ≡ n)
 

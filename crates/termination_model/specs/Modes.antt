@@ -5,7 +5,7 @@ use Rattle.std.specs.Prelude.{ℕ, zero, suc, ◌&&◌, not, nat_lt, nat_eq, Boo
 use Rattle.std.specs.List.{list_all, list_any}
 use Rattle.termination_model.specs.Descent.{mode_row}
 
--- the ascending lists of so many of the m arguments from number i on, in lexicographic order
+-- the ascending lists of that many of the m arguments from number i on, in lexicographic order
 abbrev pub chosen : ℕ → ℕ → ℕ → List (List ℕ)
 chosen zero i m = [] ∷ []
 chosen (suc k) i zero = []

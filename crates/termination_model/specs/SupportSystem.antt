@@ -39,7 +39,7 @@ module _ (expression : ℕ → Tree → List ℤ) (positions : List Position) (m
   abbrev pub multiplier_entries : OwnCall → ℕ → List ℤ
   multiplier_entries o x = map (λ r. neg_ℤ (entry r x)) (rows_before expression o)
 
-  -- the row of a call and a column, with so many multipliers of other calls before and after its own
+  -- the row of a call and a column, with the given number of multipliers of other calls before and after its own
   abbrev pub call_row : ℕ → ℕ → OwnCall → ℕ → List ℤ
   call_row before after o x =
       less_one x ∷ (position_entries o x ++ (offset_entries o x ++ (zeros before ++ (multiplier_entries o x ++ zeros after))))
@@ -74,7 +74,7 @@ value_of_member [] ws q = 0
 value_of_member (m ∷ ms) [] q = 0
 value_of_member (m ∷ ms) (w ∷ ws) q = (if q == m then w else 0) + value_of_member ms ws q
 
--- the mapping with these values, where a predicate has so many arguments
+-- the mapping with these values, where a predicate has the given arity
 abbrev pub mapping_at : (ℕ → ℕ) → List Position → List ℕ → List ℕ → List ℕ → Mapping
 mapping_at arity positions members cs os = record {
   coefficients = λ q. map (value_of_position positions cs q) (columns 0 (arity q));

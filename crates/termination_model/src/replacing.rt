@@ -54,7 +54,7 @@ pub fn columns(alloc: Global, expressions: &Rows) -> Result<Vec<Numbers>, AllocE
     Ok(columns)
 }
 
-// One column, behind what a row's own constant counts there.
+// One column, after what a row's own constant counts there.
 fn column(alloc: Global, expressions: &Rows, x: usize) -> Result<Numbers, AllocError>
     ensures { IfOk result (λ numbers. numbers ≡ column_over (plain_rows expressions.now.list) x) }
 {

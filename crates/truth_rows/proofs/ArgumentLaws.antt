@@ -17,7 +17,7 @@ use Rattle.truth_rows.proofs.RowLaws.{decided, with_same, with_other}
 abbrev pub mixed : ((ℕ → Bool) → Tree → Bool) → List Tree → (ℕ → Bool) → ℕ → ℕ → Bool
 mixed truth ts row n j = if nat_lt j n then slice_index_or (map (truth row) ts) j false else row (48 + j)
 
--- so many numbers from a on
+-- the given number of numbers from a on
 abbrev pub numbers_from : ℕ → ℕ → List ℕ
 numbers_from a zero = []
 numbers_from a (suc n) = a ∷ numbers_from (suc a) n

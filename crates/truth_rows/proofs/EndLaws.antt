@@ -1,4 +1,4 @@
--- Laws of ends: what is told by what is still asked for, and sets that say enough of that.
+-- Laws of ends: what is determined by what is still asked for, and sets that say enough of that.
 use Rattle.std.proofs.Common.{◌≡◌, ◌↔◌, ◌⊎◌, inl, inr, ℕ, ◌<◌, ◌≤◌, Bool, true, false, ◌&&◌, ◌||◌, IsTrue, List, [], ◌∷◌, length, map, slice_get, slice_set, Some, All, Contains, refl, ap, sym, subst, ◌∙◌, arith}
 use Rattle.std.specs.List.{AllByRecursion}
 use Rattle.std.proofs.lemmas.Bool.{and_parts, cases_eq}
@@ -41,7 +41,7 @@ asked_there ends x end lt n less e f =
 pub asked_already : (ends : List ℕ) (x end old : ℕ) → slice_get ends x ≡ Some old → end ≤ old → (n : ℕ) → n < end → IsAsked ends n x
 asked_already ends x end old at le n less e f = let is : old ≡ e = cc in omega arith
 
--- what was told is told where more is asked for
+-- what was determined stays so where more is asked for
 pub told_more : (truth : (ℕ → Bool) → Tree → Bool) (old new : List ℕ) (n : ℕ) (t : Tree) → ((x : ℕ) → IsAsked old n x → IsAsked new n x) → IsTold truth old n t → IsTold truth new n t
 told_more truth old new n t more told v w agree = told v w (λ x asked. agree x (more x asked))
 
@@ -56,7 +56,7 @@ row_told truth ends n (t ∷ ts) told v w agree =
     let rest = row_told truth ends n ts told.1 v w agree in
     λ i. first i ∷ rest i
 
--- a term is told by the variables that its rigidity asks for
+-- a term is determined by the variables that its rigidity asks for
 pub listed_told : (truth : (ℕ → Bool) → Tree → Bool) (t : Tree) (variables : List ℕ) (ends : List ℕ) (n : ℕ) → ListsRigid truth t variables → ((x : ℕ) → Contains variables x → IsAsked ends n x) → IsTold truth ends n t
 listed_told truth t variables ends n lists asked v w agree =
     same_bool (truth v t) (truth w t) (λ h. (lists w).1 (over v w agree ((lists v).0 h))) (λ h. (lists v).1 (over w v (λ x a. sym (agree x a)) ((lists w).0 h)))
@@ -89,7 +89,7 @@ says_later ends n m P set now le says then = record {
       (b.0, λ x asked. b.1 x (asked_before ends n m x le asked) ∙ a.1 x asked, b.2);
 }
 
--- the rows that are in a further set too, which is told by what is asked for
+-- the rows that are in a further set too, which is determined by what is asked for
 pub says_both : (ends : List ℕ) (n : ℕ) (P Q : (ℕ → Bool) → Type 0) (set here now : (ℕ → Bool) → Bool) → SaysAsked ends n P set → ((v : ℕ → Bool) → IsTrue (here v) ↔ Q v) → ((v w : ℕ → Bool) → Agree ends n v w → Q v → Q w)
     → ((v : ℕ → Bool) → now v ≡ (set v && here v)) → SaysAsked ends n (λ v. P v × Q v) now
 says_both ends n P Q set here now says same told is = record {

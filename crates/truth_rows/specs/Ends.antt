@@ -11,7 +11,7 @@ IsAsked ends n x = (e : ℕ) → slice_get ends x ≡ Some e → n < e
 abbrev pub Agree : List ℕ → ℕ → (v w : ℕ → Bool) → Type 0
 Agree ends n v w = (x : ℕ) → IsAsked ends n x → v x ≡ w x
 
--- the truth of the term is told by what is asked for after n places
+-- the truth of the term is determined by what is asked for after n places
 abbrev pub IsTold : ((ℕ → Bool) → Tree → Bool) → List ℕ → ℕ → Tree → Type 0
 IsTold truth ends n t = (v w : ℕ → Bool) → Agree ends n v w → truth v t ≡ truth w t
 

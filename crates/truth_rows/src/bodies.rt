@@ -1,4 +1,4 @@
-//! The rows on which the atoms of a body are in the sets of their predicates, as far as the head tells.
+//! The rows on which the atoms of a body are in the sets of their predicates, as far as the head determines.
 
 ghost use Rattle.std.specs.Prelude.{◌≡◌, ℕ, Bool, IsTrue, IfOk, length};
 ghost use Rattle.truth_rows.specs.Ready.{HasAtoms, IsReadyClause};

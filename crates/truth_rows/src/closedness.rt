@@ -33,7 +33,7 @@ pub fn is_closed_under<N: Norm>(
     ensures closed { IfOk result (λ closed. (c : Clause) → slice_get p.now.clauses (k - 1) ≡ Some c
         → IsTrue closed ↔ IsClosedUnder (N.truth norm.now) (family_of p.now.preds table.old sets.now) c) }
 {
-    // What every program keeps is told by `clauses`: the sets of its atoms are there.
+    // What every program keeps is said by `clauses`: the sets of its atoms are there.
     let _count = p.clauses();
     head_follows(norm, table, sets, p.clause(k))
 }

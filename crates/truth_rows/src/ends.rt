@@ -51,7 +51,7 @@ pub fn put_all_off<N: Norm>(norm: &N, ends: &mut [usize], end: usize, terms: &Te
     }
 }
 
-/// Puts off the ends of the variables of a body: each is behind the last atom that asks for it.
+/// Puts off the ends of the variables of a body: each is after the last atom that asks for it.
 pub fn put_body_off<N: Norm>(norm: &N, ends: &mut [usize], body: &Atoms, vars: u32)
     requires few { vars ≤ MOST_VARIABLES }
     requires below { (j : ℕ) (b : Atom) → slice_get body.now j ≡ Some b → AllByRecursion (λ t. IsTrue (is_below vars t)) b.args }

@@ -15,7 +15,7 @@ use cti_terms::{MOST_ARGUMENTS, MOST_NODES, MOST_VARIABLES, Terms};
 use std::alloc::AllocError;
 use term_size::Norm;
 
-/// The truth rows of arguments over so many variables, where the values of the variables are in a set.
+/// The truth rows of arguments over the given number of variables, where the values of the variables are in a set.
 ///
 /// What the set says of further variables does not matter where it says the same of all their values.
 pub fn rows_of_head<N: Norm>(
@@ -80,7 +80,7 @@ fn bound_head<N: Norm>(
     Ok(rows)
 }
 
-// Puts off the ends of the variables of arguments: each is behind the last argument that asks for it.
+// Puts off the ends of the variables of arguments: each is after the last argument that asks for it.
 fn put_arguments_off<N: Norm>(norm: &N, ends: &mut [usize], arguments: &Terms, vars: u32)
     requires few { vars ≤ MOST_VARIABLES }
     requires below { AllByRecursion (λ t. IsTrue (is_below vars t)) arguments.now }

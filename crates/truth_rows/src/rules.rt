@@ -45,7 +45,7 @@ pub fn keeps_rule<N: Norm>(
         (family_of p.now.preds table.old grounds.now)
         (λ q. same_rank ranks.now q c.head.pred.0) c) }
 {
-    // What every program keeps is told by `clauses`: the sets of its atoms are there.
+    // What every program keeps is said by `clauses`: the sets of its atoms are there.
     let _count = p.clauses();
     calls_stay(norm, table, ranks, grounds, pre, allowed, p.clause(k))
 }

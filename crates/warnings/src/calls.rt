@@ -12,12 +12,12 @@ pub(crate) struct Call {
     pub(crate) pred: Pred,
 }
 
-/// Whether a name with so many arguments joins two bodies.
+/// Whether a name of the given arity joins two bodies.
 fn is_connective(text: &[u8], arity: usize) -> bool {
     arity == 2 && matches!(text, b"," | b";")
 }
 
-/// Whether a name with so many arguments is always known, and needs no clause.
+/// Whether a name of the given arity is always known, and needs no clause.
 fn is_known(text: &[u8], arity: usize) -> bool {
     matches!((text, arity), (b"true" | b"fail", 0) | (b"=", 2))
 }

@@ -52,7 +52,7 @@ const PREDICATES: [(&str, u32); 48] = [
     ("writeln", 1),
 ];
 
-/// Whether a name with so many arguments is one of them.
+/// Whether a name of the given arity is one of them.
 pub(crate) fn is_library(text: &str, arity: u32) -> bool {
     for (name, number) in &PREDICATES {
         if *name == text && *number == arity {

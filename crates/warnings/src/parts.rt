@@ -14,7 +14,7 @@ pub(crate) fn text_of(names: &Names, name: Name) -> &[u8] {
     }
 }
 
-/// Whether a term has a name with this text and so many arguments.
+/// Whether a term has a name with this text and the given arity.
 fn is_of(names: &Names, term: &ReadTerm, text: &[u8], arity: usize) -> bool {
     match &term.shape {
         ReadShape::Fun(name, args) => args.len() == arity && text_of(names, *name) == text,

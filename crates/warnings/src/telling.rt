@@ -102,7 +102,7 @@ fn push_more(alloc: Global, message: &mut Vec<u8>, count: usize) -> Result<(), A
     message.extend_from_slice(line.as_bytes())
 }
 
-/// The text of the warnings about a program, which is empty where there are none or the text is no program's.
+/// The text of the warnings about a program, which is empty where there are none or the text is not a program's.
 pub fn program_warnings(alloc: Global, name: &str, text: &[u8]) -> Result<Vec<u8>, AllocError> {
     let mut names = Names::new(alloc);
     let Ok(read) = read_text(alloc, text, &mut names) else {
