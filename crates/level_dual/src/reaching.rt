@@ -10,7 +10,7 @@ ghost use Rattle.linear_rows.specs.Solving.{zeros};
 ghost use Rattle.linear_rows.specs.Systems.{at_last, test_rows};
 
 use fourier::Solved;
-use linear_rows::{Multipliers, Numbers, Point, Row, Rows};
+use linear_rows::{Multipliers, Numbers, Point, Row, Rows, zeros};
 use simplex::{Held, holds};
 use std::alloc::{AllocError, Global};
 
@@ -100,7 +100,7 @@ fn add_last(alloc: Global, test: &mut Rows, width: u32) -> Result<(), AllocError
     ensures test { HaveWidth test.new.width test.new.list }
     ensures rows { OnOk result (plain_rows test.new.list ≡ plain_rows test.old.list ++ (negsuc 0 ∷ (zeros width ++ pos 1 ∷ [])) ∷ []) }
 {
-    let mut coeffs = Numbers::zeros(alloc, width as usize)?;
+    let mut coeffs = zeros(alloc, width as usize)?;
     coeffs.push(1)?;
     test.push(Row {
         constant: -1,

@@ -3,7 +3,8 @@
 //! A row says that its constant and the products of its coefficients with natural numbers sum to at least 0. No call
 //! here searches: `combine` and `proves` compute with given multipliers. What it means for rows to hold, to prove, to
 //! be eliminated and to be solved is defined in `specs/`, over plain lists of whole numbers without bound, and the laws
-//! of these words are functions without a body. The crate depends on `exact128`.
+//! of these words are functions without a body. The crate depends on `exact128` and
+//! `sequences`.
 #![tactic(auto)]
 
 mod columns;
@@ -19,7 +20,7 @@ mod system;
 pub use combining::{RowFault, combine};
 pub use laws::{elimination_projects, proofs_are_sound, solving_decides};
 pub use multipliers::{Multipliers, Proof};
-pub use numbers::Numbers;
+pub use numbers::{Numbers, zeros};
 pub use point::Point;
 pub use proving::proves;
 pub use row::{Row, RowList, Rows};

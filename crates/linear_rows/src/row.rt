@@ -1,9 +1,10 @@
-// Rows and lists of them.
-ghost use Rattle.std.specs.Prelude.{◌≡◌, length, ◌<◌, slice_index_or, [], ◌∷◌, ◌++◌, OnOk, IfOk, IsTrue, ◌↔◌, alloc_error};
+//! Rows and lists of them.
 
-use crate::numbers::Numbers;
+ghost use Rattle.std.specs.Prelude.{◌≡◌, length, [], ◌∷◌, ◌++◌, OnOk, OnErr, IfOk};
+
+use crate::numbers::{Numbers, zeros};
+use sequences::Sequence;
 use std::alloc::{AllocError, Global};
-use std::marker::Model;
 
 /// A linear row: the constant and the products of the coefficients with the variables sum to at least 0.
 #[derive(Drop)]
@@ -20,7 +21,7 @@ impl Row {
     pub fn bottom(alloc: Global, width: u32) -> Result<Row, AllocError>
         ensures { IfOk result (λ r. plain_row r ≡ bottom_row width) }
     {
-        let coeffs = Numbers::zeros(alloc, width as usize)?;
+        let coeffs = zeros(alloc, width as usize)?;
         Ok(Row {
             constant: -1,
             coeffs,
@@ -39,94 +40,18 @@ impl Row {
     }
 }
 
-/// A list of rows, which contracts see as a list.
-#[derive(Drop)]
-pub struct RowList {
-    items: Vec<Row>,
-}
+/// A list of rows.
+pub type RowList = Sequence<Row>;
 
-impl Model for RowList {
-    ghost use Rattle.std.specs.Prelude.{List};
-    ghost use Rattle.linear_rows.specs.declared.row.Row.{Row};
-
-    ghost Value = { List Row };
-
-    ghost view = { λ n. n.items.items };
-}
-
-impl RowList {
-    /// Makes the empty list.
-    pub fn new(alloc: Global) -> Self
-        ensures { result ≡ [] }
-    {
-        RowList {
-            items: Vec::new(alloc),
-        }
+// A copy of rows.
+fn copy_rows(alloc: Global, rows: &RowList) -> Result<RowList, AllocError>
+    ensures { IfOk result (λ copy. copy ≡ rows.now) }
+{
+    let mut copy = Sequence::new(alloc);
+    for row in rows.as_slice() {
+        copy.push(row.copy(alloc)?)?;
     }
-
-    /// Makes a list of the rows of a `Vec`, without taking memory.
-    pub fn from_vec(items: Vec<Row>) -> Self
-        ensures { result ≡ items.items }
-    {
-        RowList { items }
-    }
-
-    /// Gives the rows back as a `Vec`, without taking memory.
-    pub fn into_vec(self) -> Vec<Row>
-        ensures { result.items ≡ self }
-    {
-        let RowList { items } = self;
-        items
-    }
-
-    /// How many rows there are.
-    pub fn len(&self) -> usize
-        ensures { result ≡ length self.now }
-    {
-        self.items.len()
-    }
-
-    /// Whether there is no row.
-    pub fn is_empty(&self) -> bool
-        ensures { IsTrue result ↔ (self.now ≡ []) }
-    {
-        self.items.is_empty()
-    }
-
-    /// The row at a place.
-    pub fn get(&self, place: usize) -> &Row
-        requires { place < length self.now }
-        ensures { result.now ≡ slice_index_or self.now place result.now }
-    {
-        &self.items[place]
-    }
-
-    /// The rows as a slice.
-    pub fn as_slice(&self) -> &[Row]
-        ensures { result.now ≡ self.now }
-    {
-        self.items.as_slice()
-    }
-
-    /// Appends a row.
-    pub fn push(&mut self, row: Row) -> Result<(), AllocError>
-        ensures pushed { OnOk result (self.new ≡ self.old ++ row ∷ []) }
-        ensures kept { result ≡ Err alloc_error → self.new ≡ self.old }
-    {
-        self.items.push(row)?;
-        Ok(())
-    }
-
-    /// Makes a copy.
-    pub fn copy(&self, alloc: Global) -> Result<RowList, AllocError>
-        ensures { IfOk result (λ r. r ≡ self.now) }
-    {
-        let mut items = Vec::new(alloc);
-        for row in self.items.as_slice() {
-            items.push(row.copy(alloc)?)?;
-        }
-        Ok(RowList { items })
-    }
+    Ok(copy)
 }
 
 /// Rows of `width` coefficients each.
@@ -153,18 +78,19 @@ impl Rows {
     /// Appends a row of the width.
     pub fn push(&mut self, row: Row) -> Result<(), AllocError>
         requires { length row.coeffs ≡ self.old.width }
-        ensures pushed { OnOk result (self.new.list ≡ self.old.list ++ row ∷ []) }
-        ensures kept { result ≡ Err alloc_error → self.new.list ≡ self.old.list }
+        ensures ok { OnOk result (self.new.list ≡ self.old.list ++ row ∷ []) }
+        ensures err { OnErr result (self.new.list ≡ self.old.list) }
         ensures width { self.new.width ≡ self.old.width }
         ensures rows { HaveWidth self.old.width self.old.list → HaveWidth self.new.width self.new.list }
     {
         self.list.push(row)
     }
+
     /// Makes a copy.
     pub fn copy(&self, alloc: Global) -> Result<Rows, AllocError>
         ensures { IfOk result (λ r. r ≡ self.now) }
     {
-        let list = self.list.copy(alloc)?;
+        let list = copy_rows(alloc, &self.list)?;
         Ok(Rows {
             width: self.width,
             list,

@@ -12,7 +12,7 @@ use crate::leading::led_by;
 use call_components::Components;
 use cti_terms::{Atom, PredId, Program};
 use level_dual::{Found, Mapping};
-use linear_rows::{Multipliers, Numbers};
+use linear_rows::{Multipliers, Numbers, zeros};
 use number_tests::{LevelPart, Refutation};
 use sequences::Sequence;
 use std::alloc::{AllocError, Global};
@@ -22,7 +22,7 @@ fn zero_part(alloc: Global, width: u32) -> Result<LevelPart, AllocError>
     ensures { IfOk result (λ part. part ≡ zero_part width) }
 {
     Ok(LevelPart {
-        coeffs: Numbers::zeros(alloc, width as usize)?,
+        coeffs: zeros(alloc, width as usize)?,
         offset: 0,
     })
 }

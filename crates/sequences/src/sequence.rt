@@ -1,6 +1,6 @@
 //! Lists that contracts see as lists.
 
-ghost use Rattle.std.specs.Prelude.{◌≡◌, ◌↔◌, IsTrue, OnOk, OnErr, length, [], ◌∷◌, ◌++◌};
+ghost use Rattle.std.specs.Prelude.{◌≡◌, ◌↔◌, ◌<◌, IsTrue, IfOk, OnOk, OnErr, length, slice_get, slice_set, Some, [], ◌∷◌, ◌++◌};
 
 use std::alloc::{AllocError, Global};
 use std::marker::Model;
@@ -60,6 +60,14 @@ impl<T> Sequence<T> {
         self.items.is_empty()
     }
 
+    /// The item at a place. Places count from 0.
+    pub fn get(&self, place: usize) -> &T
+        requires { place < length self.now }
+        ensures { slice_get self.now place ≡ Some result.now }
+    {
+        &self.items[place]
+    }
+
     /// The items, in their order.
     pub fn as_slice(&self) -> &[T]
         ensures { result.now ≡ self.now }
@@ -69,6 +77,14 @@ impl<T> Sequence<T> {
 }
 
 impl<T: Drop> Sequence<T> {
+    /// Puts an item in the place of another one. It takes no memory.
+    pub fn set(&mut self, place: usize, item: T)
+        requires { place < length self.old }
+        ensures { self.new ≡ slice_set self.old place item }
+    {
+        self.items[place] = item;
+    }
+
     /// Puts an item last.
     pub fn push(&mut self, item: T) -> Result<(), AllocError>
         ensures ok { OnOk result (self.new ≡ self.old ++ item ∷ []) }
@@ -76,5 +92,15 @@ impl<T: Drop> Sequence<T> {
     {
         self.items.push(item)?;
         Ok(())
+    }
+}
+
+impl<T: Copy> Sequence<T> {
+    /// A copy, in memory of its own.
+    pub fn copy(&self, alloc: Global) -> Result<Sequence<T>, AllocError>
+        ensures { IfOk result (λ copy. copy ≡ self.now) }
+    {
+        let items = Vec::from_slice(alloc, self.items.as_slice())?;
+        Ok(Sequence { items })
     }
 }

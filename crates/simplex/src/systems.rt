@@ -7,7 +7,7 @@ ghost use Rattle.linear_rows.specs.Systems.{at_last};
 ghost use Rattle.linear_rows.specs.Solving.{zeros};
 ghost use Rattle.simplex.specs.Telling.{IsOppositeIfFits, IsTestIfFits};
 
-use linear_rows::{Numbers, Row, Rows};
+use linear_rows::{Numbers, Row, Rows, zeros};
 use std::alloc::{AllocError, Global};
 
 /// The rows that are solved to test a row, if its numbers fit.
@@ -67,7 +67,7 @@ fn add_ends(alloc: Global, system: &mut Rows, row: &Row) -> Result<(), AllocErro
 {
     let one = Row {
         constant: 1,
-        coeffs: Numbers::zeros(alloc, row.coeffs.len())?,
+        coeffs: zeros(alloc, row.coeffs.len())?,
     };
     system.push(at_last(alloc, &one, -1)?)?;
     system.push(at_last(alloc, row, -1)?)

@@ -1,4 +1,5 @@
 use Rattle.std.proofs.Common.{◌≡◌, ◌<◌, ◌≤◌, ◌∷◌, [], true, false, arith, ap, sym, ◌∙◌, length, get_or, pos, below_more}
+use Rattle.std.proofs.lemmas.Option.{get_or_from_slice_get}
 use Rattle.std.specs.Int.{w128}
 use Rattle.std.specs.Prelude.{FitsSigned}
 use Rattle.std.proofs.lemmas.Int.{to_z-of_z}
@@ -15,7 +16,7 @@ returns-then-not-value_fits c =
     let given = plain_rows c.args.rows.now.list in
     let lt : c.loop-i.i < length c.args.rows.now.list = omega arith in
     let lg : c.loop-i.i < length given = omega (arith, length-map c.args.rows.now.list plain_row) in
-    let at : get_or given c.loop-i.i [] ≡ plain_row c.get.result.now = get_or-map plain_row c.args.rows.now.list c.loop-i.i c.get.result.now [] lt ∙ ap plain_row (sym c.get.ensures) in
+    let at : get_or given c.loop-i.i [] ≡ plain_row c.get.result.now = get_or-map plain_row c.args.rows.now.list c.loop-i.i c.get.result.now [] lt ∙ ap plain_row (get_or_from_slice_get c.args.rows.now.list c.loop-i.i c.get.result.now c.get.result.now c.get.ensures) in
     let e = simp to_z-of_z at c.value_fits.ensures in
     let no_fit : sums_fit (pos 0) (get_or given c.loop-i.i []) (c.args.t ∷ c.args.w.now) ≡ false = ap (λ r. sums_fit (pos 0) r (c.args.t ∷ c.args.w.now)) at ∙ sym e ∙ c.if-not-value_fits.true in
     sym (all_not (λ r. sums_fit (pos 0) r (c.args.t ∷ c.args.w.now)) given [] c.loop-i.i lg no_fit)
@@ -25,7 +26,7 @@ loop-i-preserved c =
     let ft : FitsSigned w128 c.args.t = c.ranges.t in
     let given = plain_rows c.args.rows.now.list in
     let lt : c.loop-i.i < length c.args.rows.now.list = omega arith in
-    let at : get_or given c.loop-i.i [] ≡ plain_row c.get.result.now = get_or-map plain_row c.args.rows.now.list c.loop-i.i c.get.result.now [] lt ∙ ap plain_row (sym c.get.ensures) in
+    let at : get_or given c.loop-i.i [] ≡ plain_row c.get.result.now = get_or-map plain_row c.args.rows.now.list c.loop-i.i c.get.result.now [] lt ∙ ap plain_row (get_or_from_slice_get c.args.rows.now.list c.loop-i.i c.get.result.now c.get.result.now c.get.ensures) in
     let e = simp to_z-of_z at c.value_fits.ensures in
     let fit : sums_fit (pos 0) (get_or given c.loop-i.i []) (c.args.t ∷ c.args.w.now) ≡ true = ap (λ r. sums_fit (pos 0) r (c.args.t ∷ c.args.w.now)) at ∙ sym e ∙ c.if-not-value_fits.false in
     let before = simp to_z-of_z at c.loop-i.invariant in

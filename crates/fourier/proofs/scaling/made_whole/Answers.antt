@@ -30,7 +30,7 @@ loop-i-preserved c =
     let fn : FitsSigned w128 c.in-Some.number = search rules in
     let before = simp to_z-of_z at c.loop-i.invariant.numbers in
     let got = simp to_z-of_z at c.in-Some.ensures in
-    let pushed = simp to_z-of_z at c.in_ok-push.ensures.pushed in
+    let pushed = simp to_z-of_z at c.in_ok-push.ensures.ok in
     simp to_z-of_z (record {
       numbers = made_goes_on c.args.common vs c.loop-i.i (fraction_of c.index.result.now) c.in-Some.number c.loop-i.numbers c.push.new.self _ lv ev before got.0 got.1 pushed;
       long = omega (arith, c.loop-i.invariant.long, ap length pushed, length-append c.loop-i.numbers (c.in-Some.number ∷ []));

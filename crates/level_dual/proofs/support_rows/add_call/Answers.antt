@@ -36,7 +36,7 @@ loop-x-preserved c =
       rows = λ expression o r.
           let row : plain_row c.in_ok-call_row.field-0 ≡ call_row expression positions members c.args.before c.args.after o x =
           c.in_ok-call_row.ensures ∙ held_row expression o c.args.own.now r c.args.positions.now c.args.members.now c.args.before c.args.after x in
-          ap plain_rows c.in_ok-push.ensures.pushed
+          ap plain_rows c.in_ok-push.ensures.ok
           ∙ map_push plain_row c.loop-x.system.list c.in_ok-call_row.field-0
           ∙ (λ j. i.rows expression o r j ++ row j ∷ [])
           ∙ append_assoc (plain_rows c.args.system.now.list) (map (call_row expression positions members c.args.before c.args.after o) (columns 0 x)) (call_row expression positions members c.args.before c.args.after o x ∷ [])

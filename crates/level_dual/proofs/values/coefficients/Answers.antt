@@ -11,7 +11,7 @@ use Rattle.level_dual.proofs.values.coefficients.Goals as goal
 pub loop-argument-preserved : goal.loop-argument-preserved
 loop-argument-preserved c = λ cs l e.
     let f : FitsSigned w128 c.value_at.result = search rules in
-    let pushed : c.push.new.self ≡ c.loop-argument.numbers ++ c.value_at.result ∷ [] = simp to_z-of_z at c.in_ok-push.ensures.pushed in
+    let pushed : c.push.new.self ≡ c.loop-argument.numbers ++ c.value_at.result ∷ [] = simp to_z-of_z at c.in_ok-push.ensures.ok in
     let a = c.loop-argument.argument in
     let value = value_of_position (map spelled c.args.positions.now) cs c.args.pred.0 in
     let one = c.value_at.ensures cs l e in

@@ -11,7 +11,7 @@ pub loop-k-preserved : goal.loop-k-preserved
 loop-k-preserved c =
     let fs : FitsSigned w128 c.in-Some-column_sum.sum = search rules in
     let a = rw c.as_slice-in-loop-k.ensures at c.in-Some-column_sum.ensures in
-    let b = simp to_z-of_z at c.in_ok-push.ensures.pushed in
+    let b = simp to_z-of_z at c.in_ok-push.ensures.ok in
     rw b (partial_more _ _ _ _ _ _ c.loop-k.invariant (sym (length-map c.args.rows.now.list plain_row)) a.0 a.1)
 
 pub loop-k-init : goal.loop-k-init

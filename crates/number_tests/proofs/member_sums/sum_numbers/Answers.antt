@@ -31,7 +31,7 @@ loop-i-preserved c =
     let fy : FitsSigned w128 c.entry-in-loop-i.result = search rules in
     let fs : FitsSigned w128 c.in-Some.sum = search rules in
     let some = simp to_z-of_z at c.in-Some.ensures in
-    let pushed = simp to_z-of_z at c.in_ok-push.ensures.pushed in
+    let pushed = simp to_z-of_z at c.in_ok-push.ensures.ok in
     let is : entry (added xs ys) n ≡ c.entry.result +ℤ c.entry-in-loop-i.result = entry_sum xs ys n ∙ sym (λ i. c.entry.ensures i +ℤ c.entry-in-loop-i.ensures i) in
     record {
       long = ap length pushed ∙ omega (arith, length-append c.loop-i.sums (c.in-Some.sum ∷ []), i.long);

@@ -33,7 +33,7 @@ loop-size-preserved c =
     let f : List ℤ → ℤ = λ e. dot e (numbers_of point) in
     let fv : FitsSigned w128 c.in-Some.value = search rules in
     let value = c.in-Some.ensures in
-    let pushed = simp to_z-of_z at c.in_ok-push-2.ensures.pushed in
+    let pushed = simp to_z-of_z at c.in_ok-push-2.ensures.ok in
     record {
       values = pushed ∙ (λ i. c.loop-size.invariant.values i ++ value.1 i ∷ []) ∙ mapped_more f (point.t ∷ []) es n row there;
       fit = below_more (λ (i : ℕ). (e : List ℤ) → slice_get es i ≡ Some e → ValueFits point e) n c.loop-size.invariant.fit (λ e ee. subst (ValueFits point) (one_element es n row e there ee) value.0);

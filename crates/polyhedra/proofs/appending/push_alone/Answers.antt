@@ -12,7 +12,7 @@ on_ok P Q f (Err e) h = h
 pub returns : goal.returns
 returns c =
     let f : FitsSigned w128 c.args.number = search rules in
-    let pushed = simp to_z-of_z at c.in_ok-push.ensures.pushed in
+    let pushed = simp to_z-of_z at c.in_ok-push.ensures.ok in
     let old = c.args.numbers.now in
     let before = zeros c.args.before in
     let after = zeros c.args.after in

@@ -1,4 +1,5 @@
-use Rattle.std.proofs.Common.{◌≡◌, ◌<◌, ◌+◌, pos, ◌∙◌, ◌∷◌, drop, length, arith}
+use Rattle.std.proofs.Common.{◌≡◌, ◌<◌, ◌+◌, pos, ◌∙◌, ◌∷◌, drop, length, arith, sym}
+use Rattle.std.proofs.lemmas.Option.{get_or_from_slice_get}
 use Rattle.std.specs.Prelude.{All, ◌≤ℤ◌}
 use Rattle.linear_rows.specs.Plain.{plain_row, plain_rows}
 use Rattle.linear_rows.specs.Systems.{difference, opposite, equalities}
@@ -9,7 +10,7 @@ use Rattle.polyhedra.proofs.image_system.push_equalities.Goals as goal
 pub at_least-requires-clause-numbers : goal.at_least-requires-clause-numbers
 at_least-requires-clause-numbers c =
     let lt : c.loop-i.i < length c.args.head.now.list = omega (arith, c.len-i-end.ensures) in
-    natural_negatable (plain_row c.get-expression.result.now) (plain_has (λ r. All (λ x. pos 0 ≤ℤ x) r) c.args.head.now.list c.loop-i.i c.get-expression.result.now lt c.get-expression.ensures c.requires.natural)
+    natural_negatable (plain_row c.get-expression.result.now) (plain_has (λ r. All (λ x. pos 0 ≤ℤ x) r) c.args.head.now.list c.loop-i.i c.get-expression.result.now lt (sym (get_or_from_slice_get c.args.head.now.list c.loop-i.i c.get-expression.result.now c.get-expression.result.now c.get-expression.ensures)) c.requires.natural)
 
 pub loop-i-preserved : goal.loop-i-preserved
 loop-i-preserved c =
@@ -28,6 +29,6 @@ loop-i-preserved c =
     record {
       width = c.push-in-loop-i.ensures.width ∙ width;
       widths = still_wide middle last n width c.push-in-loop-i.ensures.width c.push-in-loop-i.ensures.rows (still_wide c.loop-i.rows middle n i.width c.push.ensures.width c.push.ensures.rows i.widths);
-      rows = row_moved middle.list last.list c.in_ok-at_most.field-0 (opposite d) (opposite d ∷ rest) rest _ c.in_ok-push-2.ensures.pushed c.in_ok-at_most.ensures.row (λ _. opposite d ∷ rest)
-          (row_moved c.loop-i.rows.list middle.list c.in_ok-at_least.field-0 d (equalities a k (plain_rows (drop k head))) (opposite d ∷ rest) _ c.in_ok-push.ensures.pushed c.in_ok-at_least.ensures.row (equalities_left a k head e lt c.get-expression.ensures) i.rows);
+      rows = row_moved middle.list last.list c.in_ok-at_most.field-0 (opposite d) (opposite d ∷ rest) rest _ c.in_ok-push-2.ensures.ok c.in_ok-at_most.ensures.row (λ _. opposite d ∷ rest)
+          (row_moved c.loop-i.rows.list middle.list c.in_ok-at_least.field-0 d (equalities a k (plain_rows (drop k head))) (opposite d ∷ rest) _ c.in_ok-push.ensures.ok c.in_ok-at_least.ensures.row (equalities_left a k head e lt (sym (get_or_from_slice_get c.args.head.now.list c.loop-i.i c.get-expression.result.now c.get-expression.result.now c.get-expression.ensures))) i.rows);
     }

@@ -15,5 +15,5 @@ loop-i-preserved c =
       widths = still_wide c.loop-i.rows c.push.new.self n i.width c.push.ensures.width c.push.ensures.rows i.widths;
       rows = row_moved c.loop-i.rows.list c.push.new.self.list c.in_ok-natural_row.field-0 (pos 0 ∷ units n (c.args.from + k))
           (naturals (c.args.count - k) (c.args.from + k) n) (naturals (c.args.count - (k + 1)) (c.args.from + (k + 1)) n) _
-          c.in_ok-push.ensures.pushed c.in_ok-natural_row.ensures.row (naturals_left c.args.count k c.args.from n (omega arith)) i.rows;
+          c.in_ok-push.ensures.ok c.in_ok-natural_row.ensures.row (naturals_left c.args.count k c.args.from n (omega arith)) i.rows;
     }

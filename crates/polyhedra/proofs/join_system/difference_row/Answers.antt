@@ -16,11 +16,11 @@ row_of a p none first second third l en ef es et =
 
 pub returns-clause-row : goal.returns-clause-row
 returns-clause-row c =
-    ap (λ (cs : List ℤ). pos 0 ∷ cs) (row_of c.args.arity c.args.place c.new-coeffs.result c.push_alone.new.numbers c.push_alone-2.new.numbers c.push.new.self c.requires c.new-coeffs.ensures c.in_ok-push_alone.ensures c.in_ok-push_alone-2.ensures c.in_ok-push.ensures.pushed)
+    ap (λ (cs : List ℤ). pos 0 ∷ cs) (row_of c.args.arity c.args.place c.new-coeffs.result c.push_alone.new.numbers c.push_alone-2.new.numbers c.push.new.self c.requires c.new-coeffs.ensures c.in_ok-push_alone.ensures c.in_ok-push_alone-2.ensures c.in_ok-push.ensures.ok)
 
 pub returns-clause-width : goal.returns-clause-width
 returns-clause-width c =
     let a = c.args.arity in
     let p = c.args.place in
-    let e : length c.push.new.self ≡ length (units a p ++ opposite (units a p) ++ pos 0 ∷ []) = ap length (row_of a p c.new-coeffs.result c.push_alone.new.numbers c.push_alone-2.new.numbers c.push.new.self c.requires c.new-coeffs.ensures c.in_ok-push_alone.ensures c.in_ok-push_alone-2.ensures c.in_ok-push.ensures.pushed) in
+    let e : length c.push.new.self ≡ length (units a p ++ opposite (units a p) ++ pos 0 ∷ []) = ap length (row_of a p c.new-coeffs.result c.push_alone.new.numbers c.push_alone-2.new.numbers c.push.new.self c.requires c.new-coeffs.ensures c.in_ok-push_alone.ensures c.in_ok-push_alone-2.ensures c.in_ok-push.ensures.ok) in
     omega (arith, e, length_push (units a p ++ opposite (units a p)) (pos 0), long_append (units a p) (opposite (units a p)), length-units a p, length-map (units a p) neg_ℤ)

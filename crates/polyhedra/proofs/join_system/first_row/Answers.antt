@@ -12,7 +12,7 @@ returns-clause-width c =
     let a = c.args.arity in
     let row = c.args.row.now in
     let g : FitsSigned w128 row.constant = search rules in
-    let pushed = simp to_z-of_z at c.in_ok-push.ensures.pushed in
+    let pushed = simp to_z-of_z at c.in_ok-push.ensures.ok in
     let coeffs : length c.push.new.self ≡ length (zeros a ++ row.coeffs ++ row.constant ∷ []) =
     ap length (pushed ∙ ap (λ (s : List ℤ). s ++ row.constant ∷ []) (c.in_ok-push_all.ensures ∙ ap (λ (s : List ℤ). s ++ row.coeffs) (c.in_ok-push_zeros.ensures ∙ ap (λ (s : List ℤ). s ++ zeros a) c.new-coeffs.ensures))) in
     omega (arith, coeffs, length_push (zeros a ++ row.coeffs) row.constant, long_append (zeros a) row.coeffs, length-zeros a)

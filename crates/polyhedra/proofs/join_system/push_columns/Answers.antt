@@ -16,5 +16,5 @@ loop-i-preserved c =
       widths = still_wide c.loop-i.rows c.push.new.self n i.width c.push.ensures.width c.push.ensures.rows i.widths;
       rows = row_moved c.loop-i.rows.list c.push.new.self.list c.in_ok-difference_row.field-0 (pos 0 ∷ (units a k ++ opposite (units a k) ++ pos 0 ∷ []))
           (differences a (a - k) k) (differences a (a - (k + 1)) (k + 1)) _
-          c.in_ok-push.ensures.pushed c.in_ok-difference_row.ensures.row (differences_left a k (omega arith)) i.rows;
+          c.in_ok-push.ensures.ok c.in_ok-difference_row.ensures.row (differences_left a k (omega arith)) i.rows;
     }

@@ -10,7 +10,7 @@ pub returns-clause-width : goal.returns-clause-width
 returns-clause-width c =
     let a = c.args.arity in
     let g : FitsSigned w128 c.args.number = search rules in
-    let pushed = simp to_z-of_z at c.in_ok-push.ensures.pushed in
+    let pushed = simp to_z-of_z at c.in_ok-push.ensures.ok in
     let coeffs : length c.push.new.self ≡ length (zeros (a + a) ++ c.args.number ∷ []) =
     ap length (pushed ∙ ap (λ (s : List ℤ). s ++ c.args.number ∷ []) (c.in_ok-push_zeros.ensures ∙ ap (λ (s : List ℤ). s ++ zeros (a + a)) c.new-coeffs.ensures)) in
     omega (arith, coeffs, length_push (zeros (a + a)) c.args.number, length-zeros (a + a))

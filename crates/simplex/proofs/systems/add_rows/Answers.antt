@@ -19,7 +19,7 @@ loop-row-preserved c =
       width = c.push.ensures.width ∙ i.width;
       widths = c.push.ensures.rows i.widths;
       rows =
-          ap plain_rows c.in_ok-push.ensures.pushed
+          ap plain_rows c.in_ok-push.ensures.ok
           ∙ map_push plain_row c.loop-row.system.list c.in_ok-at_last.field-0
           ∙ (λ j. i.rows j ++ made j ∷ [])
           ∙ rows_more last (plain_rows c.args.system.now.list) c.args.rows.now.list c.loop-row.row-index c.row-item.result at;

@@ -38,7 +38,7 @@ loop-argument-preserved g c =
     let coeffs : c.from_vec.result ≡ c.in_ok-size.size.coeffs = c.from_vec.ensures ∙ c.into_vec.ensures in
     let is : (c.in_ok-size.size.constant ∷ c.from_vec.result) ≡ expression (tree_of c.argument-item.result) = ap (λ (s : List ℤ). c.in_ok-size.size.constant ∷ s) coeffs ∙ c.in_ok-size.ensures in
     let fs : FitsSigned w128 c.in_ok-size.size.constant = search rules in
-    let pushed = simp to_z-of_z at c.in_ok-push.ensures.pushed in
+    let pushed = simp to_z-of_z at c.in_ok-push.ensures.ok in
     record {
       width = c.push.ensures.width ∙ i.width;
       wide = wide_again _ _ _ i.width c.push.ensures.rows c.push.ensures.width i.wide;

@@ -17,7 +17,7 @@ loop-expression-preserved c =
     ap (λ (rs : List Row). slice_get rs n) (sym c.as_slice-expression-items.ensures) ∙ at_place items n c.expression-item.result c.loop-expression-test.true c.expression-item.is in
     let there : slice_get (plain_rows c.args.expressions.now.list) n ≡ Some (plain_row c.expression-item.result) = mapped_place plain_row c.args.expressions.now.list n c.expression-item.result at in
     let fs : FitsSigned w128 c.number_at.result = search rules in
-    let pushed = simp to_z-of_z at c.in_ok-push-2.ensures.pushed in
+    let pushed = simp to_z-of_z at c.in_ok-push-2.ensures.ok in
     pushed
     ∙ ap (λ (s : List ℤ). s ++ c.number_at.result ∷ []) c.loop-expression.invariant
     ∙ ap (λ (z : ℤ). (unit_at c.args.x ∷ map (λ e. entry e c.args.x) (take n (plain_rows c.args.expressions.now.list))) ++ z ∷ []) c.number_at.ensures

@@ -28,7 +28,7 @@ loop-row-preserved c =
       width = c.push.ensures.width ∙ i.width;
       widths = subst (λ (k : ℕ). HaveWidth k c.push.new.self.list) (c.push.ensures.width ∙ i.width) (c.push.ensures.rows (subst (λ (k : ℕ). HaveWidth k c.loop-row.system.rows.list) (sym i.width) i.widths));
       rows =
-          ap plain_rows c.in_ok-push.ensures.pushed
+          ap plain_rows c.in_ok-push.ensures.ok
           ∙ map_push plain_row c.loop-row.system.rows.list c.in_ok-short.short.row
           ∙ ap (λ (s : List (List ℤ)). s ++ plain_row c.in_ok-short.short.row ∷ []) i.rows
           ∙ ap (λ (z : List ℤ). (before ++ map short_row (map over (take n own))) ++ z ∷ []) c.in_ok-short.ensures.row

@@ -1,6 +1,6 @@
 use Rattle.std.proofs.Common.{rules, ◌≡◌, ◌∷◌, ◌∙◌, replicate, ℕ, zero, suc, pos, refl, ap}
 use Rattle.linear_rows.specs.Solving.{zeros}
-use Rattle.linear_rows.proofs.numbers.Numbers.zeros.Goals as goal
+use Rattle.linear_rows.proofs.numbers.zeros.Goals as goal
 
 replicated : (n : ℕ) → replicate n (pos 0) ≡ zeros n
 replicated zero = refl
@@ -9,4 +9,4 @@ replicated (suc n) = ap (λ s. pos 0 ∷ s) (replicated n)
 pub returns : goal.returns
 returns c =
     let e : c.in_ok-items.items.items ≡ replicate c.args.count (pos 0) = search rules in
-    e ∙ replicated c.args.count
+    c.from_vec.ensures ∙ e ∙ replicated c.args.count
