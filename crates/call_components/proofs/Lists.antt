@@ -5,11 +5,7 @@ use Rattle.std.proofs.lemmas.Option.{slice_get_within, slice_get-map, slice_get-
 use Rattle.cti_terms.specs.declared.predicates.PredId.{PredId}
 use Rattle.call_components.specs.Numbers.{number_of}
 use Rattle.call_components.specs.Table.{Has}
-
-pub slice_get-append : {X : Type 0} (xs ys : List X) (i : ℕ) → i < length xs → slice_get (xs ++ ys) i ≡ slice_get xs i
-slice_get-append [] ys i h = absurd (omega (arith, h))
-slice_get-append (x ∷ xs) ys zero h = refl
-slice_get-append (x ∷ xs) ys (suc i) h = slice_get-append xs ys i (omega (arith, h))
+use Rattle.cti_terms.proofs.Places.{slice_get-append}
 
 -- after the first list come the elements of the second
 pub slice_get-append_right : {X : Type 0} (xs ys : List X) (n i : ℕ) → n ≡ length xs + i → slice_get (xs ++ ys) n ≡ slice_get ys i

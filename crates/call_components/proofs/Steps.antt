@@ -10,7 +10,8 @@ use Rattle.call_components.specs.Search.{HasCaller, IsSegment, AreSegments, IsFo
 use Rattle.call_components.specs.declared.marks.Mark.{Mark}
 use Rattle.call_components.specs.declared.marks.Mark.TheVariants.{Unseen, Open, Closed}
 use Rattle.call_components.specs.declared.search.Segment.{Segment}
-use Rattle.call_components.proofs.Lists.{slice_get-append, slice_get-append_right, all_map, all_both}
+use Rattle.call_components.proofs.Lists.{slice_get-append_right, all_map, all_both}
+use Rattle.cti_terms.proofs.Places.{slice_get-append}
 use Rattle.call_components.proofs.Paths.{along, one_call}
 
 -- one mark is no other

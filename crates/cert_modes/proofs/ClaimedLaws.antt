@@ -3,7 +3,7 @@ use Rattle.std.proofs.Common.{◌≡◌, inl, inr, ℕ, ◌<◌, ◌==◌, Bool,
 use Rattle.std.specs.List.{AllByRecursion}
 use Rattle.std.proofs.lemmas.Bool.{and_parts, cases_lt}
 use Rattle.truth_rows.proofs.ClaimLaws.{all_upper_same, rule_from_sets, union_is}
-use Rattle.truth_rows.proofs.ListLaws.{by_places, from_places, place_below, there}
+use Rattle.termination_model.proofs.Lists.{by_places, from_places, place_below, there}
 use Rattle.truth_rows.specs.Rules.{KeepsSets}
 use Rattle.bool_diagrams.specs.Cubes.{covered}
 use Rattle.call_components.specs.Partition.{AreComponents, Partition}

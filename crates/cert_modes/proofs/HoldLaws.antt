@@ -2,7 +2,7 @@
 use Rattle.std.proofs.Common.{◌≡◌, ◌↔◌, inl, inr, ℕ, zero, suc, ◌<◌, ◌==◌, Bool, true, ◌&&◌, IsTrue, List, [], length, pos, slice_get, slice_index_or, Option, None, Some, unwrap_or, refl, ap, sym, subst, ◌∙◌, arith, eqb-true}
 use Rattle.std.specs.List.{AllByRecursion, list_all}
 use Rattle.std.proofs.lemmas.Bool.{and_parts, cases_lt, eq-eqb}
-use Rattle.truth_rows.proofs.ListLaws.{by_places, from_places, place_below, there}
+use Rattle.termination_model.proofs.Lists.{by_places, from_places, place_below, there}
 use Rattle.truth_rows.proofs.RowLaws.{both}
 use Rattle.truth_rows.proofs.SetLaws.{none}
 use Rattle.truth_rows.specs.Rules.{KeepsSets, same_rank}

@@ -4,7 +4,7 @@ use Rattle.std.proofs.lemmas.Bool.{cases_eq}
 use Rattle.truth_rows.specs.Rules.{KeepsSets, same_rank}
 use Rattle.truth_rows.specs.Sets.{AreSets, family_of, has_row}
 use Rattle.truth_rows.proofs.CallerLemmas.{family_later}
-use Rattle.truth_rows.proofs.ListLaws.{indexed, place_below}
+use Rattle.termination_model.proofs.Lists.{indexed, place_below}
 use Rattle.truth_rows.proofs.SetLaws.{some_is}
 use Rattle.bool_diagrams.proofs.CallerLemmas.{holds_later}
 use Rattle.bool_diagrams.specs.Cubes.{values_of}

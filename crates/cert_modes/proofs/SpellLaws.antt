@@ -5,7 +5,7 @@ use Rattle.std.proofs.lemmas.Bool.{cases_lt}
 use Rattle.truth_rows.specs.Sets.{AreSets, family_of, has_row}
 use Rattle.truth_rows.proofs.CallerLemmas.{reads_later, sets_later}
 use Rattle.truth_rows.proofs.ClaimLaws.{all_upper_same}
-use Rattle.truth_rows.proofs.ListLaws.{by_places, place_below, there}
+use Rattle.termination_model.proofs.Lists.{by_places, place_below, there}
 use Rattle.truth_rows.proofs.SetLaws.{none, some_is}
 use Rattle.bool_diagrams.proofs.CallerLemmas.{holds_later, known_later}
 use Rattle.bool_diagrams.specs.Cubes.{covered, truth_rows, values_of}

@@ -1,6 +1,6 @@
 -- A loop of steps.
 use Rattle.std.proofs.Common.{◌≡◌, ℕ, zero, suc, ℤ, List, [], ◌∷◌, ◌++◌, append_assoc, append-nil, ◌+◌, ◌<◌, ◌≤◌, Bool, true, false, cond, Option, Some, None, Err, refl, sym, subst, ap, ◌∙◌, arith}
-use Rattle.linear_rows.specs.Blown.{numbers_fit, step_fits, step_fault, fault_of, blown_from, blown_step, or_else}
+use Rattle.linear_rows.specs.Blown.{numbers_fit, step_fault, blown_from, blown_step, or_else}
 use Rattle.linear_rows.specs.Step.{eliminated, all_eliminated, columns}
 use Rattle.fourier.specs.Adding.{AllFit, AllLong}
 use Rattle.fourier.specs.History.{history_of, IsBlownAt, StepsSay}
@@ -8,6 +8,7 @@ use Rattle.fourier.specs.declared.fault.StepFault.{StepFault}
 use Rattle.fourier.specs.declared.fault.StepFault.TheVariants.{Wide, Many, Memory}
 use Rattle.fourier.specs.Saying.{IsMany, StepSays, fault_at}
 use Rattle.fourier.proofs.Stays.{fit_stays, long_stays}
+use Rattle.fourier.proofs.Sequences.{none_fits}
 
 -- what is left to do says what the whole says
 pub record Going (many last count i : ℕ) (rows current : List (List ℤ)) (before : List (List (List ℤ))) : Type 0 where
@@ -22,14 +23,6 @@ pub record Going (many last count i : ℕ) (rows current : List (List ℤ)) (bef
 
 pub going_start : (many last count : ℕ) (rows : List (List ℤ)) → AllFit rows → AllLong many rows → numbers_fit rows ≡ true → Going many last count 0 rows rows []
 going_start many last count rows f l e = record { fit = f; long = l; start = e; rest = count; place = omega arith; history = refl; left = refl; blown = refl }
-
-fault_fits : (a b : Bool) → fault_of a b ≡ None → a ≡ true
-fault_fits true b e = refl
-fault_fits false b e = cc
-
-none_fits : (m k : ℕ) (rows : List (List ℤ)) → step_fault m k rows ≡ None → step_fits m k rows ≡ true
-unfolding step_fault
-none_fits m k rows e = fault_fits (step_fits m k rows) _ e
 
 pub going_on : (many last count i k : ℕ) (rows current next : List (List ℤ)) (before after : List (List (List ℤ))) → k ≡ i + 1 → k ≤ last → i < count → Going many last count i rows current before → after ≡ before ++ current ∷ [] → next ≡ eliminated last k current → step_fault last k current ≡ None → Going many last count (i + 1) rows next after
 going_on many last count i k rows current next before after ek kl h g ea n e = turn g.rest g.place g.history g.left g.blown

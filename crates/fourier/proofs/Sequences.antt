@@ -23,11 +23,11 @@ left_start many last from count rows f l e =
     let z : from + 0 ≡ from = omega arith in
     record { fit = f; long = l; start = e; rest = count; place = omega arith; left = ap (λ n. all_eliminated last (columns (suc n) count) rows) z; blown = ap (λ n. blown_from last 1 (columns (suc n) count) rows) z }
 
-fault_fits : (a b : Bool) → fault_of a b ≡ None → a ≡ true
+pub fault_fits : (a b : Bool) → fault_of a b ≡ None → a ≡ true
 fault_fits true b e = refl
 fault_fits false b e = cc
 
-none_fits : (m k : ℕ) (rows : List (List ℤ)) → step_fault m k rows ≡ None → step_fits m k rows ≡ true
+pub none_fits : (m k : ℕ) (rows : List (List ℤ)) → step_fault m k rows ≡ None → step_fits m k rows ≡ true
 unfolding step_fault
 none_fits m k rows e = fault_fits (step_fits m k rows) _ e
 

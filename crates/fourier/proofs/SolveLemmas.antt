@@ -9,7 +9,7 @@ use Rattle.linear_rows.specs.Proves.{Refutes}
 use Rattle.linear_rows.specs.Blown.{numbers_fit, step_fits, step_fault, fault_of, blown_from, blown_step, or_else}
 use Rattle.linear_rows.specs.Step.{eliminated, all_eliminated, columns}
 use Rattle.linear_rows.specs.Showing.{bottom_row}
-use Rattle.linear_rows.specs.Solving.{Solution, zeros, start_rows, values_of, whole_values, common_of, made_whole, point_fits, refutes_in, found_of, end_of, solved_by, solution}
+use Rattle.linear_rows.specs.Solving.{Solution, start_rows, values_of, whole_values, common_of, made_whole, point_fits, refutes_in, found_of, end_of, solved_by, solution}
 use Rattle.linear_rows.specs.Solving.Solution.{Blown, Found, Refuted}
 use Rattle.linear_rows.proofs.Members.{to_All}
 use Rattle.linear_rows.proofs.Founds.{found_holds}
@@ -25,6 +25,7 @@ use Rattle.fourier.proofs.Alls.{rows_fit}
 use Rattle.fourier.proofs.CheckLemmas.{all_columns}
 use Rattle.fourier.proofs.Stays.{fit_stays, long_stays}
 use Rattle.fourier.proofs.ValueLemmas.{length-history, values_same}
+use Rattle.linear_rows.proofs.Refutes.{length-zeros}
 
 -- ---- the rows that are solved
 pub start_long : (n : ℕ) (given : List (List ℤ)) → AllLong (n + 1) given → AllLong (n + 2 + length given) (start_rows n given)
@@ -166,10 +167,6 @@ solved_fits n given ms None e = end_fits n given (all_eliminated (n + 1) (column
 refuted_fits : (n : ℕ) (given : List (List ℤ)) (ms : List ℤ) → solution n given ≡ Refuted ms → refutes_in given ms 0 (n + 1) ≡ true
 unfolding solution
 refuted_fits n given ms e = solved_fits n given ms (blown_step (n + 1) (columns 1 (n + 1)) (start_rows n given)) e
-
-length-zeros : (n : ℕ) → length (zeros n) ≡ n
-length-zeros zero = refl
-length-zeros (suc n) = ap suc (length-zeros n)
 
 pub spells_proved : (n : ℕ) (given : List (List ℤ)) (r : Result Solved ElimFault) → AllLong (n + 1) given → Spells (solution n given) r → IfOk r (RefutesInFit n given)
 spells_proved n given (Ok (PointFound p)) wide s = tt

@@ -18,6 +18,7 @@ use Rattle.fourier.specs.Sparse.{spread, first_zeros, from_number, rest_at}
 use Rattle.fourier.specs.declared.part.Part.{Part}
 use Rattle.fourier.specs.declared.part.Place.{Place}
 use Rattle.fourier.proofs.BoundLemmas.{drop-all}
+use Rattle.linear_rows.proofs.Refutes.{length-zeros}
 
 -- ---- reading
 abbrev pub nothing : Part
@@ -25,11 +26,6 @@ nothing = record { zeros = 0; number = pos 0 }
 
 pub part_at : (parts : List Part) (i : ℕ) → i < length parts → get_or parts i nothing ≡ get_or parts i (get_or parts i nothing)
 part_at parts i h = get_or_default parts i nothing (get_or parts i nothing) h
-
--- ---- zeros
-pub length-zeros : (n : ℕ) → length (zeros n) ≡ n
-length-zeros zero = refl
-length-zeros (suc n) = ap suc (length-zeros n)
 
 pub zeros-append : (a b : ℕ) → zeros (a + b) ≡ zeros a ++ zeros b
 zeros-append zero b = let e : 0 + b ≡ b = omega arith in ap zeros e

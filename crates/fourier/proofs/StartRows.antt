@@ -5,19 +5,14 @@ use Rattle.exact128.specs.Sums.{entry}
 use Rattle.linear_rows.specs.Plain.{plain_row, plain_rows}
 use Rattle.linear_rows.specs.Solving.{zeros, units, floors, coefficients, carried, start_rows}
 use Rattle.linear_rows.specs.declared.row.Row.{Row}
-use Rattle.fourier.proofs.SparseLemmas.{length-zeros, zeros-append}
+use Rattle.fourier.proofs.SparseLemmas.{zeros-append}
 
 -- one more element after what a loop has appended
 pub one_more : {A : Type 0} (old before after cur next : List A) (x : A) → cur ≡ old ++ before → next ≡ cur ++ x ∷ [] → after ≡ before ++ x ∷ [] → next ≡ old ++ after
 one_more old before after cur next x ec en ea = en ∙ ap (λ l. l ++ x ∷ []) ec ∙ append_assoc old before (x ∷ []) ∙ ap (λ l. old ++ l) (sym ea)
 
-pub length-units : (n i : ℕ) → length (units n i) ≡ n
-length-units zero i = refl
-length-units (suc n) zero = ap suc (length-zeros n)
-length-units (suc n) (suc i) = ap suc (length-units n i)
-
 -- a unit row is zeros, 1, and zeros
-units_parts : (long place : ℕ) → place < long → units long place ≡ zeros place ++ pos 1 ∷ zeros (long - place - 1)
+pub units_parts : (long place : ℕ) → place < long → units long place ≡ zeros place ++ pos 1 ∷ zeros (long - place - 1)
 units_parts zero place h = absurd (omega arith)
 units_parts (suc n) zero h = let e : suc n - 0 - 1 ≡ n = omega arith in rw e refl
 units_parts (suc n) (suc p) h =

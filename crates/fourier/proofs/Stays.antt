@@ -8,7 +8,7 @@ use lib.IntN.{neg_ℤ}
 use Rattle.exact128.specs.Fits.{Fits}
 use Rattle.exact128.specs.Gcd.{gcd}
 use Rattle.exact128.specs.Sums.{entry}
-use Rattle.linear_rows.specs.Elimination.{scaled, added, crossed, crossings, rising, falling, without, is_positive, is_negative, is_zero}
+use Rattle.linear_rows.specs.Elimination.{scaled, crossed, crossings, rising, falling, without, is_positive, is_negative, is_zero}
 use Rattle.linear_rows.specs.Cleaning.{row_gcd}
 use Rattle.linear_rows.specs.Equation.{equation_from, other_places, solved_row, solved_rows, combinations_by, step}
 use Rattle.linear_rows.specs.Blown.{all_of, crossed_fits, solved_fits, crossings_fit, solved_rows_fit, combinations_fit, step_fits}
@@ -21,6 +21,7 @@ use Rattle.linear_rows.proofs.Places.{IsEquation, equation_is, in-at, of-others}
 use Rattle.linear_rows.proofs.Whole.{of-cleaned}
 use Rattle.linear_rows.proofs.Origins.{step_origin}
 use Rattle.fourier.proofs.Loops.{crossed_fit}
+use Rattle.linear_rows.proofs.Carries.{length-map-of, length-added}
 
 all_in : {X : Type 0} (p : X → Bool) (xs : List X) (x : X) → all_of p xs ≡ true → In x xs → p x ≡ true
 all_in p [] x e h = absurd h
@@ -40,17 +41,6 @@ div_fits (negsuc n) g h = let l = div-le_self (suc n) g in omega (arith, ints, a
 divided_fit : (g : ℕ) (row : List ℤ) → All Fits row → All Fits (map (λ x. int_div x (pos g)) row)
 divided_fit g [] h = All-nil Fits
 divided_fit g (x ∷ xs) h = All-cons Fits (int_div x (pos g)) (map (λ x. int_div x (pos g)) xs) (div_fits x g (All-head Fits x xs h)) (divided_fit g xs (All-tail Fits x xs h))
-
--- ---- combining
-length-map-of : (f : ℤ → ℤ) (xs : List ℤ) → length (map f xs) ≡ length xs
-length-map-of f [] = refl
-length-map-of f (x ∷ xs) = ap suc (length-map-of f xs)
-
-length-added : (xs ys : List ℤ) → length xs ≡ length ys → length (added xs ys) ≡ length xs
-length-added [] [] e = refl
-length-added [] (y ∷ ys) e = absurd (omega arith)
-length-added (x ∷ xs) [] e = absurd (omega arith)
-length-added (x ∷ xs) (y ∷ ys) e = ap suc (length-added xs ys (omega arith))
 
 length-crossed : (k : ℕ) (r s : List ℤ) → length r ≡ length s → length (crossed k r s) ≡ length r
 unfolding crossed

@@ -3,7 +3,8 @@ use Rattle.std.proofs.Common.{◌≡◌, ◌⊎◌, inl, inr, ℕ, zero, suc, �
 use Rattle.std.proofs.lemmas.Bool.{cases_eq}
 use Rattle.std.proofs.lemmas.List.{length-set, length-replicate}
 use Rattle.std.proofs.Math.Nat.{mul-le-mul_right, suc-mul}
-use Rattle.truth_rows.proofs.ListLaws.{place_below, set_elsewhere, set_there}
+use Rattle.truth_rows.proofs.ListLaws.{set_elsewhere, set_there}
+use Rattle.termination_model.proofs.Lists.{place_below}
 use Rattle.groundness.specs.Marks.{AreWaiting, IsMarked, marks_left}
 
 pub pushed_before : {X : Type 0} → (xs : List X) (x : X) (i : ℕ) (y : X) → slice_get xs i ≡ Some y → slice_get (xs ++ x ∷ []) i ≡ Some y

@@ -11,7 +11,7 @@ use Rattle.groundness.specs.Marks.{IsApart}
 use Rattle.groundness.specs.Missing.{all_missing}
 use Rattle.truth_rows.specs.Sets.{family_of}
 use Rattle.truth_rows.proofs.CallerLemmas.{family_later}
-use Rattle.truth_rows.proofs.ListLaws.{by_places, from_places}
+use Rattle.termination_model.proofs.Lists.{by_places, from_places}
 use Rattle.groundness.proofs.MissingLaws.{all_missing_kept}
 
 module _ (preds : List Pred) (T T2 : List Rows) (K : Keeps T T2) (sets : List Diagram) (known : (r : ℕ) (d : Diagram) → slice_get sets r ≡ Some d → IsDiagram T d) where

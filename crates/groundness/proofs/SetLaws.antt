@@ -21,7 +21,7 @@ use Rattle.groundness.specs.Missing.{all_missing}
 use Rattle.truth_rows.proofs.CallerLemmas.{family_later, sets_later, sets_with}
 use Rattle.truth_rows.proofs.SetLaws.{none, some_is, family_in, family_put, row_is, truths_of, atom_there}
 use Rattle.groundness.proofs.MissingLaws.{all_missing_set, missing_less}
-use Rattle.truth_rows.proofs.ListLaws.{by_places, from_places, place_below, there}
+use Rattle.termination_model.proofs.Lists.{by_places, from_places, place_below, there}
 use Rattle.truth_rows.proofs.RowLaws.{or_cases, or_left, or_right, same_bool, first_row, first_values, length-first}
 
 module _ (p : Listing) (program : IsProgram p) (trees : List Rows) (sets : List Diagram) (S : AreSets p.preds trees sets) where

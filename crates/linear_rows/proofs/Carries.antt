@@ -16,7 +16,8 @@ use Rattle.linear_rows.specs.Members.{In}
 use Rattle.linear_rows.proofs.Bounding.{value-added, value-scaled}
 use Rattle.linear_rows.proofs.Cleanings.{divides_all, exact_div, value_reduced, value_none, none}
 use Rattle.linear_rows.proofs.Whole.{of-cleaned}
-use Rattle.linear_rows.proofs.Sequence.{entry-scaled, entry-added, entry-reduced}
+use Rattle.linear_rows.proofs.Sequence.{entry-reduced}
+use Rattle.linear_rows.proofs.Soundness.{entry-scaled, entry-added}
 use Rattle.linear_rows.proofs.Origins.{step_origin}
 
 pub record Carries (n : ℕ) (given : List (List ℤ)) (q : List ℤ) : Type 0 where
@@ -41,13 +42,13 @@ drop-map f zero xs = refl
 drop-map f (suc k) [] = refl
 drop-map f (suc k) (x ∷ xs) = drop-map f k xs
 
-length-added : (xs ys : List ℤ) → length xs ≡ length ys → length (added xs ys) ≡ length xs
+pub length-added : (xs ys : List ℤ) → length xs ≡ length ys → length (added xs ys) ≡ length xs
 length-added [] [] e = refl
 length-added [] (y ∷ ys) e = absurd (omega arith)
 length-added (x ∷ xs) [] e = absurd (omega arith)
 length-added (x ∷ xs) (y ∷ ys) e = ap suc (length-added xs ys (omega arith))
 
-length-map-of : (f : ℤ → ℤ) (xs : List ℤ) → length (map f xs) ≡ length xs
+pub length-map-of : (f : ℤ → ℤ) (xs : List ℤ) → length (map f xs) ≡ length xs
 length-map-of f [] = refl
 length-map-of f (x ∷ xs) = ap suc (length-map-of f xs)
 

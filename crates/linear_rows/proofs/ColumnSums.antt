@@ -1,18 +1,11 @@
 use Rattle.std.proofs.Common.{◌≡◌, ℕ, ℤ, pos, List, [], ◌∷◌, ◌++◌, ◌+◌, ◌<◌, ◌+ℤ◌, ◌*ℤ◌, take, length, get_or, refl, sym, ap, ◌∙◌, arith, below_more}
-use Rattle.std.proofs.lemmas.Int.{ints}
 use Rattle.std.proofs.lemmas.List.{take_more, get_or-map, length-map, length-take-le}
 use Rattle.exact128.specs.Fits.{Fits}
 use Rattle.exact128.specs.Sums.{entry, dot, DotFits}
 use Rattle.linear_rows.specs.Rows.{column}
 use Rattle.linear_rows.specs.Plain.{plain_row, plain_rows}
 use Rattle.linear_rows.specs.declared.row.Row.{Row}
-
-dot-append : (xs ys : List ℤ) (x y : ℤ) → length xs ≡ length ys → dot (xs ++ x ∷ []) (ys ++ y ∷ []) ≡ dot xs ys +ℤ x *ℤ y
-unfolding dot
-dot-append [] [] x y e = omega (arith, ints)
-dot-append [] (b ∷ ys) x y e = absurd (omega arith)
-dot-append (a ∷ xs) [] x y e = absurd (omega arith)
-dot-append (a ∷ xs) (b ∷ ys) x y e = omega (arith, ints, dot-append xs ys x y (omega arith))
+use Rattle.exact128.proofs.Dots.{dot-append}
 
 pub dot_more : (xs ys : List ℤ) (n : ℕ) → n < length xs → n < length ys →
     dot (take (n + 1) xs) (take (n + 1) ys) ≡ dot (take n xs) (take n ys) +ℤ entry xs n *ℤ entry ys n

@@ -22,11 +22,11 @@ use Rattle.linear_rows.proofs.Starts.{entry-zeros, entry-units, entry-units-othe
 use Rattle.linear_rows.proofs.Carries.{Carries, AllCarry, all_carry}
 
 -- ---- the first rows
-length-zeros : (n : ℕ) → length (zeros n) ≡ n
+pub length-zeros : (n : ℕ) → length (zeros n) ≡ n
 length-zeros zero = refl
 length-zeros (suc n) = ap suc (length-zeros n)
 
-length-units : (n i : ℕ) → length (units n i) ≡ n
+pub length-units : (n i : ℕ) → length (units n i) ≡ n
 length-units zero i = refl
 length-units (suc n) zero = ap suc (length-zeros n)
 length-units (suc n) (suc i) = ap suc (length-units n i)

@@ -10,7 +10,7 @@ use Rattle.exact128.proofs.Gcds.{gcd_is, gcd-pos}
 use Rattle.exact128.proofs.Rings.{rings}
 use Rattle.exact128.specs.Sums.{entry}
 use Rattle.linear_rows.specs.Rows.{Holds, HoldsOn}
-use Rattle.linear_rows.specs.Elimination.{scaled, added, is_zero, without, crossed}
+use Rattle.linear_rows.specs.Elimination.{scaled, is_zero, without, crossed}
 use Rattle.linear_rows.specs.Cleaning.{row_gcd, reduced, agree, is_trivial, insert_row, cleaned}
 use Rattle.linear_rows.specs.Equation.{equation_from, combinations_by, step}
 use Rattle.linear_rows.specs.Step.{eliminated, all_eliminated, Floors, HasFloor, Within}
@@ -19,6 +19,7 @@ use Rattle.linear_rows.proofs.Members.{in-filter, in-left, in-right, in-map, fro
 use Rattle.exact128.proofs.FitsLemmas.{both}
 use Rattle.linear_rows.proofs.Cleanings.{agree_at, exact_div, divides_all, flipped}
 use Rattle.linear_rows.proofs.Whole.{kept_on, back_on}
+use Rattle.linear_rows.proofs.Soundness.{entry-scaled, entry-added}
 
 -- ---- what cleaning keeps
 -- the row x makes the row r needless
@@ -171,18 +172,6 @@ all_back_on m (k ∷ ks) rows q w on = back_on m k rows q (w k (inl refl)).1 (al
 -- each row that is left holds on the rows
 pub all_left_on : (m : ℕ) (ks : List ℕ) (rows : List (List ℤ)) (q : List ℤ) → Within m ks → In q (all_eliminated m ks rows) → HoldsOn (m + 1) rows q
 all_left_on m ks rows q w i = all_back_on m ks rows q w (λ t w t1 lw h. from_All (λ r. Holds r t w) (all_eliminated m ks rows) q h i)
-
--- ---- a variable that is gone
-pub entry-scaled : (m : ℤ) (xs : List ℤ) (k : ℕ) → entry (scaled m xs) k ≡ m *ℤ entry xs k
-entry-scaled m [] k = omega (arith, ints)
-entry-scaled m (x ∷ xs) zero = refl
-entry-scaled m (x ∷ xs) (suc k) = entry-scaled m xs k
-
-pub entry-added : (xs ys : List ℤ) (k : ℕ) → entry (added xs ys) k ≡ entry xs k +ℤ entry ys k
-entry-added [] ys k = omega (arith, ints)
-entry-added (x ∷ xs) [] k = omega (arith, ints)
-entry-added (x ∷ xs) (y ∷ ys) zero = refl
-entry-added (x ∷ xs) (y ∷ ys) (suc k) = entry-added xs ys k
 
 pub entry-crossed : (k j : ℕ) (r s : List ℤ) → entry (crossed k r s) j ≡
     pos (unsigned_abs (entry s k) / gcd (unsigned_abs (entry r k)) (unsigned_abs (entry s k))) *ℤ entry r j +ℤ pos (unsigned_abs (entry r k) / gcd (unsigned_abs (entry r k)) (unsigned_abs (entry s k))) *ℤ entry s j

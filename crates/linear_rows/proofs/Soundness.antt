@@ -35,12 +35,12 @@ dot-added (x ∷ xs) [] ps = omega (arith, ints)
 dot-added (x ∷ xs) (y ∷ ys) [] = refl
 dot-added (x ∷ xs) (y ∷ ys) (p ∷ ps) = rw (dot-added xs ys ps) (simp rings (omega (arith, ints)))
 
-entry-scaled : (m : ℤ) (xs : List ℤ) (k : ℕ) → entry (scaled m xs) k ≡ m *ℤ entry xs k
+pub entry-scaled : (m : ℤ) (xs : List ℤ) (k : ℕ) → entry (scaled m xs) k ≡ m *ℤ entry xs k
 entry-scaled m [] k = omega (arith, ints)
 entry-scaled m (x ∷ xs) zero = refl
 entry-scaled m (x ∷ xs) (suc k) = entry-scaled m xs k
 
-entry-added : (xs ys : List ℤ) (k : ℕ) → entry (added xs ys) k ≡ entry xs k +ℤ entry ys k
+pub entry-added : (xs ys : List ℤ) (k : ℕ) → entry (added xs ys) k ≡ entry xs k +ℤ entry ys k
 entry-added [] ys k = omega (arith, ints)
 entry-added (x ∷ xs) [] k = omega (arith, ints)
 entry-added (x ∷ xs) (y ∷ ys) zero = refl

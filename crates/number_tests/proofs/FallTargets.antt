@@ -10,7 +10,7 @@ use Rattle.cti_terms.specs.declared.clauses.Clause.{Clause}
 use Rattle.number_tests.specs.declared.level_part.LevelPart.{LevelPart}
 use Rattle.term_size.specs.Norm.{IsNorm}
 use Rattle.termination_model.specs.Replacing.{AreColumns, column_over, over_columns, unit_at}
-use Rattle.termination_model.specs.Rows.{scaled, added, combined, substituted}
+use Rattle.termination_model.specs.Rows.{scaled, added}
 use Rattle.termination_model.specs.Systems.{row_over}
 use Rattle.termination_model.proofs.Lists.{any_default}
 use Rattle.termination_model.proofs.Proved.{length-substituted}
@@ -18,38 +18,7 @@ use Rattle.termination_model.proofs.RowColumns.{over_list}
 use Rattle.termination_model.proofs.SystemLaws.{widths}
 use Rattle.number_tests.specs.Proved.{fall_of}
 use Rattle.number_tests.specs.Targets.{AreFallColumns, fall_weights, joined}
-
-entry_scaled : (m : ℤ) (xs : List ℤ) (k : ℕ) → entry (scaled m xs) k ≡ m *ℤ entry xs k
-entry_scaled m [] k = omega (arith, ints)
-entry_scaled m (x ∷ xs) zero = refl
-entry_scaled m (x ∷ xs) (suc k) = entry_scaled m xs k
-
-entry_added : (xs ys : List ℤ) (k : ℕ) → entry (added xs ys) k ≡ entry xs k +ℤ entry ys k
-entry_added [] ys k = omega (arith, ints)
-entry_added (x ∷ xs) [] k = omega (arith, ints)
-entry_added (x ∷ xs) (y ∷ ys) zero = refl
-entry_added (x ∷ xs) (y ∷ ys) (suc k) = entry_added xs ys k
-
-entry_combined : (ms : List ℤ) (rows : List (List ℤ)) (k : ℕ) → entry (combined ms rows) k ≡ dot ms (map (λ e. entry e k) rows)
-unfolding dot
-entry_combined [] rows k = refl
-entry_combined (m ∷ ms) [] k = refl
-entry_combined (m ∷ ms) (row ∷ rows) k = entry_added (scaled m row) (combined ms rows) k ∙ rw (entry_scaled m row k, entry_combined ms rows k) refl
-
-entry_zeros : (n k : ℕ) → entry (replicate n (pos 0)) k ≡ pos 0
-entry_zeros zero k = refl
-entry_zeros (suc n) zero = refl
-entry_zeros (suc n) (suc k) = entry_zeros n k
-
-entry_constant : (n : ℕ) (b : ℤ) (x : ℕ) → entry (b ∷ replicate n (pos 0)) x ≡ b *ℤ unit_at x
-entry_constant n b zero = omega (arith, ints)
-entry_constant n b (suc x) = entry_zeros n x ∙ omega (arith, ints)
-
-entry_substituted : (n : ℕ) (es : List (List ℤ)) (row : List ℤ) (x : ℕ) → entry (substituted n es row) x ≡ dot row (column_over es x)
-unfolding dot
-entry_substituted n es [] x = entry_zeros (suc n) x
-entry_substituted n es (b ∷ row) x =
-    entry_added (b ∷ replicate n (pos 0)) (combined row es) x ∙ rw (entry_constant n b x, entry_combined row es x) refl
+use Rattle.termination_model.proofs.RowColumns.{entry_scaled, entry_added, entry_substituted}
 
 -- the row of the number 1
 entry_one : (x : ℕ) → entry (pos 1 ∷ []) x ≡ unit_at x

@@ -6,6 +6,7 @@ use Rattle.linear_rows.specs.Plain.{plain_row}
 use Rattle.linear_rows.specs.Solving.{zeros}
 use Rattle.linear_rows.specs.declared.row.Row.{Row}
 use Rattle.termination_model.specs.ChainRows.{bottom_row}
+use Rattle.simplex.proofs.RowLists.{length-zeros}
 
 pub zeros_all : (xs : List ℤ) → ((j : ℕ) → j < length xs → entry xs j ≡ pos 0) → xs ≡ zeros (length xs)
 zeros_all [] h = refl
@@ -13,15 +14,6 @@ zeros_all (x ∷ xs) h =
     let here : x ≡ pos 0 = h 0 (omega arith) in
     let more = zeros_all xs (λ j l. h (suc j) (omega arith)) in
     λ i. here i ∷ more i
-
-pub entry_zeros : (n j : ℕ) → entry (zeros n) j ≡ pos 0
-entry_zeros zero j = refl
-entry_zeros (suc n) zero = refl
-entry_zeros (suc n) (suc j) = entry_zeros n j
-
-pub length-zeros : (m : ℕ) → length (zeros m) ≡ m
-length-zeros zero = refl
-length-zeros (suc m) = ap suc (length-zeros m)
 
 pub bottom_width : (r : Row) (n : ℕ) → plain_row r ≡ bottom_row n → length r.coeffs ≡ n
 bottom_width r n e = let l : suc (length r.coeffs) ≡ suc (length (zeros n)) = ap length e in omega (arith, length-zeros n)

@@ -1,10 +1,8 @@
 -- What an image says of its clause, and its points.
 use Rattle.std.proofs.Common.{◌≡◌, ℕ, suc, ℤ, pos, Bool, true, false, List, [], ◌∷◌, map, length, refl, ap, sym, subst, ◌∙◌, arith}
 use Rattle.std.specs.Prelude.{All, ◌≤ℤ◌, unsigned_abs}
-use Rattle.std.proofs.lemmas.Int.{ints}
 use Rattle.std.proofs.lemmas.List.{length-map}
 use Rattle.std.proofs.lemmas.List.Elements.{All-nil}
-use Rattle.exact128.proofs.Rings.{mul_nonneg}
 use Rattle.exact128.specs.Sums.{dot}
 use Rattle.linear_rows.specs.Rows.{Holds, AllHold, HoldsOn, AreEmpty}
 use Rattle.linear_rows.specs.Plain.{plain_rows}
@@ -13,22 +11,11 @@ use Rattle.linear_rows.proofs.Members.{from_All, to_All}
 use Rattle.linear_rows.specs.declared.point.Point.{Point}
 use Rattle.termination_model.specs.ChainRows.{bottom_row, HasPoint}
 use Rattle.termination_model.proofs.ChainHeads.{dot_substituted, bottom_fails}
-use Rattle.numeric_model.proofs.Bottoms.{length-zeros}
+use Rattle.simplex.proofs.RowLists.{length-zeros}
 use Rattle.termination_model.proofs.ChainSieves.{of_all}
 use Rattle.polyhedra.specs.Telling.{HasNaturalHead, FailsOn, at_head}
 use Rattle.polyhedra.specs.Making.{arity_of, HoldsFor, SaysImage}
-
-dot_natural : (xs : List ℤ) (ps : List ℕ) → All (λ x. pos 0 ≤ℤ x) xs → pos 0 ≤ℤ dot xs (map pos ps)
-unfolding dot
-dot_natural [] ps h = omega (arith, ints)
-dot_natural (x ∷ xs) [] h = omega (arith, ints)
-dot_natural (x ∷ xs) (p ∷ ps) h =
-    let here = mul_nonneg x (pos p) (h 0 x (omega arith)) (omega (arith, ints)) in
-    let more = dot_natural xs ps (λ k d l. h (suc k) d (omega arith)) in
-    omega (arith, ints)
-
-of_abs : (z : ℤ) → pos 0 ≤ℤ z → z ≡ pos (unsigned_abs z)
-of_abs z h = omega (arith, ints)
+use Rattle.termination_model.proofs.ImageLaw.{dot_natural, of_abs}
 
 abbrev sizes_at : List (List ℤ) → ℕ → List ℕ → List ℕ
 sizes_at es t w = map (λ e. unsigned_abs (dot e (pos t ∷ map pos w))) es

@@ -2,16 +2,12 @@
 use Rattle.std.proofs.Common.{◌≡◌, ◌≢◌, ℕ, zero, suc, ◌<◌, ℤ, pos, negsuc, Bool, true, false, ◌⊎◌, inl, List, [], ◌∷◌, length, refl, ap, sym, subst, arith}
 use Rattle.std.specs.Prelude.{All, ◌≤ℤ◌}
 use Rattle.std.specs.List.{AllByRecursion}
-use Rattle.std.proofs.lemmas.Int.{ints}
 use Rattle.termination_model.proofs.ChainHeads.{bottom_fails_over}
 use Rattle.linear_rows.specs.Rows.{Holds, HoldsOn, AreEmpty}
 use Rattle.linear_rows.specs.Plain.{plain_rows}
 use Rattle.linear_rows.specs.Members.{In}
-use Rattle.linear_rows.specs.Solving.{zeros}
-use Rattle.linear_rows.specs.Proves.{Proves}
 use Rattle.linear_rows.specs.declared.multipliers.Multipliers.{Multipliers}
 use Rattle.linear_rows.specs.declared.system.System.{System}
-use Rattle.linear_rows.proofs.Soundness.{law_holds, law_empty}
 use Rattle.linear_rows.proofs.Members.{from_All, to_All}
 use Rattle.termination_model.proofs.Proved.{length-substituted}
 use Rattle.termination_model.specs.ChainRows.{bottom_row, HasPoint, Sieved}
@@ -23,6 +19,8 @@ use Rattle.polyhedra.specs.Making.{arity_of, HoldsFor, Fails, AreShown, IsLost, 
 use Rattle.numeric_model.specs.declared.filled.Filled.{Filled}
 use Rattle.numeric_model.specs.declared.filled.Filled.TheVariants.{Bottom, Unknown, Inhabited}
 use Rattle.numeric_model.specs.Filling.{IsFilled, weight}
+use Rattle.polyhedra.proofs.Sweeps.{scaled_holds}
+use Rattle.simplex.proofs.RowLists.{length-zeros}
 
 -- ---- points
 pub point_part : (n : ℕ) (xs ys : List (List ℤ)) → ((x : List ℤ) → In x ys → In x xs) → HasPoint n xs → HasPoint n ys
@@ -56,15 +54,6 @@ lighter Inhabited old rows b l = l
 -- ---- what multipliers show
 by_recursion : {X : Type 0} (P : X → Type 0) (xs : List X) → All P xs → AllByRecursion P xs
 by_recursion P xs a = all_of P xs (λ x i. from_All P xs x a i)
-
-scaled_holds : (rows : List (List ℤ)) (ms target : List ℤ) (d : ℤ) → pos 0 ≤ℤ d → All (λ m. pos 0 ≤ℤ m) ms → Proves rows ms target d → HoldsOn (length target) rows target
-scaled_holds rows ms target (pos zero) nd nm p = λ t w some long all. absurd (law_empty rows ms target nm p t w some long all)
-scaled_holds rows ms target (pos (suc d)) nd nm p = law_holds rows ms target d nm p
-scaled_holds rows ms target (negsuc d) nd nm p = absurd (omega (arith, ints))
-
-length-zeros : (m : ℕ) → length (zeros m) ≡ m
-length-zeros zero = refl
-length-zeros (suc m) = ap suc (length-zeros m)
 
 pub shows_empty : (n : ℕ) (rows : List (List ℤ)) (by : Multipliers) → Shows rows (bottom_row n) by → AreEmpty (suc n) rows
 shows_empty n rows by h t w some long all =

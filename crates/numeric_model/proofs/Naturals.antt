@@ -7,11 +7,7 @@ use Rattle.exact128.specs.Sums.{dot}
 use Rattle.cti_terms.specs.Tree.{Tree, is_below}
 use Rattle.term_size.specs.Norm.{IsNorm}
 use Rattle.termination_model.proofs.ChainHeads.{natural}
-
-never_below : (a b : ℤ) → ((k : ℕ) → pos 0 ≤ℤ (a +ℤ pos k *ℤ b)) → pos 0 ≤ℤ b
-never_below a (pos n) h = omega (arith, ints)
-never_below (pos a) (negsuc n) h = absurd (let l = h (suc a) in omega (arith, ints))
-never_below (negsuc a) (negsuc n) h = absurd (let l = h 0 in omega (arith, ints))
+use Rattle.termination_model.proofs.Naturals.{never_below}
 
 nulls : ℕ → List ℕ
 nulls zero = []

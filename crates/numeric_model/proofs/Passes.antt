@@ -18,13 +18,7 @@ use Rattle.numeric_model.specs.Proved.{IsProved}
 use Rattle.numeric_model.specs.Running.{HaveProofs, IsPassed, IsRun, IsTaken, KeepsOthers, rows_in}
 use Rattle.numeric_model.specs.States.{plain_step, weights}
 use Rattle.numeric_model.proofs.Passing.{steps_more, after_more, late_steps, SoFar, so_far_start, so_far_on, so_far_end, after_passes_more}
-
-same_or_other : (a b : ℕ) → (a ≡ b) ⊎ (a ≡ b → ⊥)
-same_or_other a b = go (a == b) refl
-  where
-    go : (x : Bool) → (a == b) ≡ x → (a ≡ b) ⊎ (a ≡ b → ⊥)
-    go true e = inl (eqb-true a b e)
-    go false e = inr (λ s. let t : false ≡ true = grind (arith, nat_tests) in cc)
+use Rattle.numeric_model.proofs.Taking.{same_or_other}
 
 -- ---- a pass that changes nothing
 unchanged_more : (rows : ℕ → List (List ℤ)) (ks : List (ℕ × Clause)) (ss : List PlainStep) (k : ℕ × Clause) (s : PlainStep) → length ks ≡ length ss

@@ -23,7 +23,7 @@ use Rattle.numeric_model.specs.Running.{IsTaken, rows_in}
 use Rattle.numeric_model.specs.States.{plain_step, value_weight, weights, IsValueOf, IsState, IfReplaced, IsAccepted}
 use Rattle.numeric_model.specs.Stepping.{rows_after, IfNew, IfNone}
 
-same_or_other : (a b : ℕ) → (a ≡ b) ⊎ (a ≡ b → ⊥)
+pub same_or_other : (a b : ℕ) → (a ≡ b) ⊎ (a ≡ b → ⊥)
 same_or_other a b = go (a == b) refl
   where
     go : (x : Bool) → (a == b) ≡ x → (a ≡ b) ⊎ (a ≡ b → ⊥)

@@ -2,17 +2,15 @@
 use Rattle.std.proofs.Common.{◌≡◌, ℕ, zero, suc, ◌+◌, ℤ, pos, negsuc, Bool, true, false, ◌&&◌, if◌then◌else◌, ◌⊎◌, inl, inr, List, [], ◌∷◌, ◌++◌, map, length, not, None, Some, refl, ap, sym, subst, ◌∙◌, arith}
 use Rattle.std.specs.Prelude.{◌↔◌, ◌||◌}
 use Rattle.std.specs.List.{AllByRecursion}
-use Rattle.std.proofs.lemmas.Int.{ints}
 use Rattle.exact128.specs.Fits.{fits}
-use Rattle.exact128.specs.Sums.{dot, entry}
+use Rattle.exact128.specs.Sums.{entry}
 use Rattle.cti_terms.specs.Tree.{Tree}
 use Rattle.cti_terms.specs.declared.clauses.Clause.{Clause}
-use Rattle.linear_rows.specs.Rows.{Holds, AllHold, HoldsOn}
+use Rattle.linear_rows.specs.Rows.{HoldsOn}
 use Rattle.linear_rows.specs.Plain.{plain_rows}
 use Rattle.linear_rows.specs.Members.{In}
-use Rattle.linear_rows.specs.Blown.{all_of, numbers_fit, blown_from, blown_step}
-use Rattle.linear_rows.specs.Solving.{zeros, units, coefficients, carried, floors, start_rows, solution, solved_by}
-use Rattle.linear_rows.specs.Solving.Solution.{Blown}
+use Rattle.linear_rows.specs.Blown.{all_of}
+use Rattle.linear_rows.specs.Solving.{zeros, coefficients}
 use Rattle.linear_rows.specs.Systems.{at_last, test_rows, opposite, over_variables, image_rows, image_blown, image_left, naturals, equalities}
 use Rattle.linear_rows.specs.Irredundant.{Fails, TestIsBlown, EndsBlown}
 use Rattle.linear_rows.specs.Step.{columns}
@@ -31,6 +29,8 @@ use Rattle.std.proofs.lemmas.List.{length-map}
 use Rattle.polyhedra.specs.Telling.{IsBlownOn}
 use Rattle.polyhedra.specs.Making.{arity_of, HoldsFor, SaysImage}
 use Rattle.polyhedra.specs.Making.{Fails as FailsFor}
+use Rattle.simplex.proofs.WideTests.{and_false, all_append, wide_all, moved, not_all, in_left, in_right, in_map, wide_blown, wide_solution}
+use Rattle.termination_model.proofs.Proved.{short_all}
 
 -- ---- rules for other facts of rows
 sieve_map : (P Q R S : List ℤ → Type 0) → ((x : List ℤ) → P x → R x) → ((x : List ℤ) → Q x → S x) → (xs ys : List (List ℤ)) → Sieved P Q xs ys → Sieved R S xs ys
@@ -65,25 +65,6 @@ module _ (speaks : List ℤ → Bool) (n : ℕ) (H F B H' F' B' : List ℤ → T
   legal_map true Same new l = l
   legal_map true Join new l = l
 
--- ---- short rows
-dot_none : (r : List ℤ) (ps : List ℤ) → dot (map (λ _. pos 0) r) ps ≡ pos 0
-unfolding dot
-dot_none [] ps = refl
-dot_none (x ∷ r) [] = refl
-dot_none (x ∷ r) (p ∷ ps) = rw (dot_none r ps) (omega (arith, ints))
-
-short_holds : (t : ℕ) (w : List ℕ) (r : List ℤ) → Holds r t w → Holds (short_row r) t w
-short_holds t w r h = go (row_fits r)
-  where
-    go : (b : Bool) → Holds (if b then r else map (λ _. pos 0) r) t w
-    go true = h
-    go false = rw (dot_none r (pos t ∷ map pos w)) (omega (arith, ints))
-
-short_all : (t : ℕ) (w : List ℕ) (rows : List (List ℤ)) → AllHold rows t w → AllHold (map short_row rows) t w
-short_all t w [] h k d l = absurd (omega arith)
-short_all t w (r ∷ rows) h zero d l = short_holds t w r (h 0 r (omega arith))
-short_all t w (r ∷ rows) h (suc k) d l = short_all t w rows (λ j e m. h (suc j) e (omega arith)) k d (omega arith)
-
 -- where each row fits, the short rows are the rows
 narrow_same : (rows : List (List ℤ)) → wide_rows rows ≡ false → map short_row rows ≡ rows
 narrow_same [] e = refl
@@ -101,46 +82,6 @@ narrow_same (r ∷ rows) e = go (row_fits r) refl (narrow_same rows)
 WideIn : List (List ℤ) → Type 0
 WideIn rows = SomeOf (λ (r : List ℤ). row_fits r ≡ false) rows
 
-and_false : (a b : Bool) → b ≡ false → (a && b) ≡ false
-and_false true b e = e
-and_false false b e = refl
-
--- a list with a number that does not fit
-all_append : (xs ys : List ℤ) → all_of fits ys ≡ false → all_of fits (xs ++ ys) ≡ false
-all_append [] ys e = e
-all_append (x ∷ xs) ys e = and_false (fits x) (all_of fits (xs ++ ys)) (all_append xs ys e)
-
-all_left : (xs ys : List ℤ) → all_of fits xs ≡ false → all_of fits (xs ++ ys) ≡ false
-all_left [] ys e = cc
-all_left (x ∷ xs) ys e = go (fits x) e (all_left xs ys)
-  where
-    go : (b : Bool) → (b && all_of fits xs) ≡ false → (all_of fits xs ≡ false → all_of fits (xs ++ ys) ≡ false) → (b && all_of fits (xs ++ ys)) ≡ false
-    go true e more = more e
-    go false e more = refl
-
-wide_all : (r : List ℤ) → row_fits r ≡ false → all_of fits r ≡ false
-wide_all [] e = cc
-wide_all (x ∷ r) e = go (fits x) e (wide_all r)
-  where
-    go : (b : Bool) → (b && row_fits r) ≡ false → (row_fits r ≡ false → all_of fits r ≡ false) → (b && all_of fits r) ≡ false
-    go true e more = more e
-    go false e more = refl
-
--- a row keeps its numbers where its constant comes after its coefficients
-moved : (lead more : List ℤ) (r : List ℤ) → row_fits r ≡ false → all_of fits (lead ++ (coefficients r ++ entry r 0 ∷ more)) ≡ false
-moved lead more [] e = cc
-moved lead more (b ∷ cs) e = all_append lead (cs ++ b ∷ more) (go (fits b) refl e)
-  where
-    go : (x : Bool) → fits b ≡ x → (fits b && row_fits cs) ≡ false → all_of fits (cs ++ b ∷ more) ≡ false
-    go true is e = all_left cs (b ∷ more) (wide_all cs (sym (ap (λ (y : Bool). y && row_fits cs) is) ∙ e))
-    go false is e = all_append cs (b ∷ more) (ap (λ (y : Bool). y && all_of fits more) is)
-
--- rows of which one has a number that does not fit
-not_all : (rows : List (List ℤ)) (r : List ℤ) → In r rows → all_of fits r ≡ false → numbers_fit rows ≡ false
-not_all [] r i e = absurd i
-not_all (x ∷ rows) r (inl is) e = ap (λ (b : Bool). b && numbers_fit rows) (ap (all_of fits) is ∙ e)
-not_all (x ∷ rows) r (inr i) e = and_false (all_of fits x) (numbers_fit rows) (not_all rows r i e)
-
 wide_in : (rows : List (List ℤ)) → wide_rows rows ≡ true → (r : List ℤ) × In r rows × (row_fits r ≡ false)
 wide_in [] e = cc
 wide_in (x ∷ rows) e = go (row_fits x) refl (wide_in rows)
@@ -151,42 +92,6 @@ wide_in (x ∷ rows) e = go (row_fits x) refl (wide_in rows)
         let m = more rest in
         (m.0, inr m.1, m.2)
     go false is more = (x, inl refl, is)
-
-in_carried : (long i : ℕ) (given : List (List ℤ)) (r : List ℤ) → In r given → (j : ℕ) × In (pos 0 ∷ (coefficients r ++ entry r 0 ∷ units long j)) (carried long i given)
-in_carried long i [] r h = absurd h
-in_carried long i (x ∷ xs) r (inl is) = (i, inl (ap (λ (y : List ℤ). pos 0 ∷ (coefficients y ++ entry y 0 ∷ units long i)) is))
-in_carried long i (x ∷ xs) r (inr h) = let m = in_carried long (suc i) xs r h in (m.0, inr m.1)
-
-in_left : {X : Type 0} (xs ys : List X) (x : X) → In x xs → In x (xs ++ ys)
-in_left [] ys x i = absurd i
-in_left (y ∷ xs) ys x (inl is) = inl is
-in_left (y ∷ xs) ys x (inr i) = inr (in_left xs ys x i)
-
-in_right : {X : Type 0} (xs ys : List X) (x : X) → In x ys → In x (xs ++ ys)
-in_right [] ys x i = i
-in_right (y ∷ xs) ys x i = inr (in_right xs ys x i)
-
-in_map : {X Y : Type 0} (f : X → Y) (xs : List X) (x : X) → In x xs → In (f x) (map f xs)
-in_map f [] x i = absurd i
-in_map f (y ∷ xs) x (inl is) = inl (ap f is)
-in_map f (y ∷ xs) x (inr i) = inr (in_map f xs x i)
-
-wide_blown : (m : ℕ) (ks : List ℕ) (rows : List (List ℤ)) → numbers_fit rows ≡ false → blown_step m ks rows ≡ Some (0, true)
-unfolding blown_step
-wide_blown m ks rows e = ap (λ (b : Bool). if b then blown_from m 1 ks rows else (Some (0, true))) e
-
--- the test of any row on rows with such a row is blown
-start_wide : (n : ℕ) (given : List (List ℤ)) (q : List ℤ) → In q given → row_fits q ≡ false → numbers_fit (start_rows n given) ≡ false
-unfolding start_rows
-start_wide n given q i e =
-    let c = in_carried (length given) 0 given q i in
-    let bad : all_of fits (pos 0 ∷ (coefficients q ++ entry q 0 ∷ units (length given) c.0)) ≡ false = and_false (fits (pos 0)) (all_of fits (coefficients q ++ entry q 0 ∷ units (length given) c.0)) (moved [] (units (length given) c.0) q e) in
-    let long = n + 1 + length given in
-    not_all (floors n 0 long ++ (negsuc 0 ∷ units long n) ∷ carried (length given) 0 given) (pos 0 ∷ (coefficients q ++ entry q 0 ∷ units (length given) c.0)) (in_right (floors n 0 long) ((negsuc 0 ∷ units long n) ∷ carried (length given) 0 given) _ (inr c.1)) bad
-
-wide_solution : (n : ℕ) (given : List (List ℤ)) (q : List ℤ) → In q given → row_fits q ≡ false → solution n given ≡ Blown 0 true
-unfolding solution
-wide_solution n given q i e = ap (solved_by n given) (wide_blown (n + 1) (columns 1 (n + 1)) (start_rows n given) (start_wide n given q i e))
 
 -- the row moved after its coefficients does not fit either
 last_wide : (r : List ℤ) → row_fits r ≡ false → row_fits (at_last r (pos 0)) ≡ false

@@ -10,6 +10,7 @@ use Rattle.linear_rows.specs.Plain.{plain_row, plain_rows}
 use Rattle.linear_rows.specs.declared.row.Row.{Row}
 use Rattle.polyhedra.specs.Negating.{IsNegatable}
 use Rattle.simplex.proofs.RowLists.{length-zeros, map_push}
+use Rattle.fourier.proofs.StartRows.{units_parts}
 
 pub zeros-push : (k : ℕ) → zeros (k + 1) ≡ zeros k ++ pos 0 ∷ []
 zeros-push k = let e : k + 1 ≡ suc k = omega arith in ap zeros e ∙ more k
@@ -41,14 +42,6 @@ append_none (x ∷ xs) = ap (λ s. x ∷ s) (append_none xs)
 -- nothing is left
 pub all_moved : {X : Type 0} (now left all : List X) → left ≡ [] → now ++ left ≡ all → now ≡ all
 all_moved now left all el e = sym (append_none now) ∙ ap (λ l. now ++ l) (sym el) ∙ e
-
--- ---- unit rows
-pub units_parts : (long place : ℕ) → place < long → units long place ≡ zeros place ++ pos 1 ∷ zeros (long - place - 1)
-units_parts zero place h = absurd (omega arith)
-units_parts (suc n) zero h = let e : suc n - 0 - 1 ≡ n = omega arith in rw e refl
-units_parts (suc n) (suc p) h =
-    let e : suc n - suc p - 1 ≡ n - p - 1 = omega arith in
-    ap (λ l. pos 0 ∷ l) (units_parts n p (omega arith) ∙ ap (λ k. zeros p ++ pos 1 ∷ zeros k) (sym e))
 
 opposite-zeros : (n : ℕ) → opposite (zeros n) ≡ zeros n
 opposite-zeros zero = refl

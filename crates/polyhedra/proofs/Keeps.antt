@@ -11,6 +11,7 @@ use Rattle.linear_rows.specs.Showing.{Shows}
 use Rattle.polyhedra.specs.Telling.{TellsHead, IsBlownOn, at_head}
 use Rattle.polyhedra.specs.Making.{AreShown, Fails, IsLost, HasCause, SaysKept}
 use Rattle.polyhedra.specs.Keeping.{IsOneMore}
+use Rattle.termination_model.proofs.ChainSieves.{goes_map}
 
 sieved_append : (P Q : List ℤ → Type 0) (xs ys us vs : List (List ℤ)) → Sieved P Q xs ys → Sieved P Q us vs → Sieved P Q (xs ++ us) (ys ++ vs)
 sieved_append P Q [] ys us vs e s = subst (λ (l : List (List ℤ)). Sieved P Q us (l ++ vs)) (sym e) s
@@ -20,11 +21,6 @@ sieved_append P Q (x ∷ xs) ys us vs (inr (q, s)) t = inr (q, sieved_append P Q
 append_none : {X : Type 0} (xs : List X) → xs ++ [] ≡ xs
 append_none [] = refl
 append_none (x ∷ xs) = ap (λ s. x ∷ s) (append_none xs)
-
-goes_map : (P Q R : List ℤ → Type 0) → ((x : List ℤ) → Q x → R x) → (xs ys : List (List ℤ)) → Sieved P Q xs ys → Sieved P R xs ys
-goes_map P Q R f [] ys s = s
-goes_map P Q R f (x ∷ xs) ys (inl (p, zs, e, s)) = inl (p, zs, e, goes_map P Q R f xs zs s)
-goes_map P Q R f (x ∷ xs) ys (inr (q, s)) = inr (f x q, goes_map P Q R f xs ys s)
 
 some_left : (P : List ℤ → Type 0) (xs ys : List (List ℤ)) → SomeOf P xs → SomeOf P (xs ++ ys)
 some_left P [] ys s = absurd s

@@ -11,15 +11,7 @@ use Rattle.linear_rows.specs.Showing.{FailsAt}
 use Rattle.linear_rows.specs.Solving.{zeros}
 use Rattle.linear_rows.specs.declared.point.Point.{Point}
 use Rattle.linear_rows.specs.declared.row.Row.{Row}
-
--- n naturals, all 0
-abbrev naught : ℕ → List ℕ
-naught zero = []
-naught (suc n) = 0 ∷ naught n
-
-length-naught : (n : ℕ) → length (naught n) ≡ n
-length-naught zero = refl
-length-naught (suc n) = ap suc (length-naught n)
+use Rattle.termination_model.proofs.ImageLaw.{naught, length-naught}
 
 zeros_naught : (n : ℕ) → zeros n ≡ map pos (naught n)
 zeros_naught zero = refl

@@ -108,7 +108,7 @@ put_back zero (x ∷ rows) r e = let same : x ≡ r = cc in λ j. sym same j ∷
 put_back (suc i) (x ∷ rows) r e = ap (λ l. x ∷ l) (put_back i rows r e)
 
 -- ---- what a test shows
-scaled_holds : (rows : List (List ℤ)) (ms target : List ℤ) (d : ℤ) → pos 0 ≤ℤ d → All (λ m. pos 0 ≤ℤ m) ms → Proves rows ms target d → HoldsOn (length target) rows target
+pub scaled_holds : (rows : List (List ℤ)) (ms target : List ℤ) (d : ℤ) → pos 0 ≤ℤ d → All (λ m. pos 0 ≤ℤ m) ms → Proves rows ms target d → HoldsOn (length target) rows target
 scaled_holds rows ms target (pos zero) nd nm p = λ t w some long all. absurd (law_empty rows ms target nm p t w some long all)
 scaled_holds rows ms target (pos (suc d)) nd nm p = law_holds rows ms target d nm p
 scaled_holds rows ms target (negsuc d) nd nm p = absurd (omega (arith, ints))

@@ -6,7 +6,7 @@ use Rattle.cti_terms.specs.declared.atom_list.Atom.{Atom}
 use Rattle.cti_terms.specs.declared.clauses.Clause.{Clause}
 use Rattle.termination_model.specs.Grounds.{Family, IsGround, truth_row}
 use Rattle.truth_rows.specs.Rules.{KeepsSets}
-use Rattle.truth_rows.proofs.ListLaws.{by_places, from_places}
+use Rattle.termination_model.proofs.Lists.{by_places, from_places}
 use Rattle.precond_fixpoint.specs.Allowed.{AgreeBelow, AgreeOnMembers, GreatestDependsBelow, GreatestDependsOnMembers}
 use Rattle.precond_fixpoint.specs.Greatest.{KeepsIn, IsGreatestIn}
 

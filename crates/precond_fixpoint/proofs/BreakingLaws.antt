@@ -2,7 +2,7 @@
 use Rattle.std.proofs.Common.{◌≡◌, ◌↔◌, ℕ, ◌+◌, ◌<◌, ◌≤◌, Bool, true, false, not, IsTrue, if◌then◌else◌, List, slice_get, length, Some, ◌⊎◌, inl, inr, refl, subst, arith}
 use Rattle.truth_rows.specs.Ready.{HasAtom, HasAtoms}
 use Rattle.truth_rows.specs.Rules.{same_rank}
-use Rattle.truth_rows.proofs.ListLaws.{one_element, place_below}
+use Rattle.termination_model.proofs.Lists.{one_element, place_below}
 use Rattle.bool_diagrams.specs.declared.diagram.Diagram.{Diagram}
 use Rattle.bool_diagrams.specs.Tree.{Tree as Rows}
 use Rattle.cti_terms.specs.Tree.{Tree}

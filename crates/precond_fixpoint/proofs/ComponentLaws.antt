@@ -27,7 +27,7 @@ use Rattle.termination_model.specs.Grounds.{Family}
 use Rattle.termination_model.specs.View.{all_upper}
 use Rattle.truth_rows.specs.Sets.{AreSets, family_of, has_row}
 use Rattle.truth_rows.proofs.CallerLemmas.{family_later, sets_later}
-use Rattle.truth_rows.proofs.ListLaws.{by_places, one_element, place_below}
+use Rattle.termination_model.proofs.Lists.{by_places, one_element, place_below}
 use Rattle.truth_rows.proofs.SetLaws.{some_is}
 
 module _ (truth : (ℕ → Bool) → Tree → Bool) (p : Listing) (comps : Partition) (grounds : Family) (levels : List (List LevelPart))

@@ -17,7 +17,8 @@ use Rattle.termination_model.specs.View.{all_upper}
 use Rattle.truth_rows.specs.Sets.{AreSets, family_of, has_row}
 use Rattle.truth_rows.proofs.CallerLemmas.{family_later, reads_later, sets_later, sets_with}
 use Rattle.truth_rows.proofs.ClaimLaws.{all_upper_same}
-use Rattle.truth_rows.proofs.ListLaws.{one_element, place_below, set_elsewhere, set_there}
+use Rattle.truth_rows.proofs.ListLaws.{set_elsewhere, set_there}
+use Rattle.termination_model.proofs.Lists.{one_element, place_below}
 use Rattle.truth_rows.proofs.SetLaws.{some_is}
 use Rattle.precond_fixpoint.proofs.PlaceLaws.{items_at, items_same, some_at}
 use Rattle.precond_fixpoint.proofs.StartLaws.{pushed_length}

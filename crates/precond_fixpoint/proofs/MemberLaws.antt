@@ -8,7 +8,7 @@ use Rattle.cti_terms.specs.Tree.{Tree}
 use Rattle.termination_model.specs.Grounds.{Family}
 use Rattle.truth_rows.specs.Rules.{KeepsSets, same_rank}
 use Rattle.truth_rows.specs.Sets.{family_of}
-use Rattle.truth_rows.proofs.ListLaws.{by_places}
+use Rattle.termination_model.proofs.Lists.{by_places}
 use Rattle.precond_fixpoint.specs.Greatest.{IsBroken}
 use Rattle.precond_fixpoint.specs.Removing.{Needed, RemovesBroken, is_ranked}
 use Rattle.precond_fixpoint.proofs.Searching.{searches}

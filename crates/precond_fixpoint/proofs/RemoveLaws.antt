@@ -20,7 +20,7 @@ use Rattle.truth_rows.specs.Sets.{AreSets, family_of}
 use Rattle.truth_rows.proofs.AtomLaws.{are_first, first_are, ground_is, rule_is}
 use Rattle.truth_rows.proofs.CallerLemmas.{family_later, sets_later, sets_with}
 use Rattle.truth_rows.proofs.SetLaws.{none, some_is, family_in, family_put, row_is, truths_of, atom_there}
-use Rattle.truth_rows.proofs.ListLaws.{by_places, there}
+use Rattle.termination_model.proofs.Lists.{by_places, there}
 use Rattle.truth_rows.proofs.RowLaws.{both, same_bool, first_row, first_values, length-first}
 use Rattle.precond_fixpoint.proofs.FamilyLaws.{family_elsewhere}
 use Rattle.precond_fixpoint.specs.Breaking.{Breaks}

@@ -14,7 +14,7 @@ use Rattle.truth_rows.specs.Sets.{AreSets, family_of}
 use Rattle.truth_rows.proofs.CallerLemmas.{family_later}
 use Rattle.precond_fixpoint.specs.Greatest.{IsGreatestIn, RemovesOnlyBroken}
 use Rattle.precond_fixpoint.specs.Removing.{AreCovering, Needed, UnmarkedKeep, all_present, is_ranked}
-use Rattle.truth_rows.proofs.ListLaws.{from_places}
+use Rattle.termination_model.proofs.Lists.{from_places}
 use Rattle.truth_rows.proofs.SetLaws.{family_in}
 use Rattle.precond_fixpoint.proofs.Searching.{searches}
 use Rattle.precond_fixpoint.proofs.RemoveLaws.{all_present_kept}

@@ -6,13 +6,13 @@ use Rattle.cti_terms.specs.Tree.{Tree}
 use Rattle.cti_terms.specs.Listing.{Listing}
 use Rattle.cti_terms.specs.declared.atom_list.Atom.{Atom}
 use Rattle.cti_terms.specs.declared.clauses.Clause.{Clause}
-use Rattle.termination_model.specs.Best.{coefficient}
 use Rattle.termination_model.specs.Grounds.{Family, HasArity, truth_row, IsGround}
-use Rattle.termination_model.specs.Rows.{Covers, IsUpper}
+use Rattle.termination_model.specs.Rows.{IsUpper}
 use Rattle.truth_rows.specs.Rules.{KeepsSets}
 use Rattle.precond_fixpoint.specs.Greatest.{KeepsIn, IsInsideIn, IsGreatestIn, IsBroken, AreAdmittedIn, IsWithinIn, Search, Searches, Solved, families, SomeSolved, SmallerIsBetterIn, LargerInside}
+use Rattle.termination_model.proofs.Better.{covered_at, covered_by}
 
-by_place : {X : Type 0} (P : X → Type 0) (xs : List X) → AllByRecursion P xs → (i : ℕ) (x : X) → slice_get xs i ≡ Some x → P x
+pub by_place : {X : Type 0} (P : X → Type 0) (xs : List X) → AllByRecursion P xs → (i : ℕ) (x : X) → slice_get xs i ≡ Some x → P x
 by_place P [] all i x e = cc
 by_place P (y ∷ ys) all zero x e = let same : y ≡ x = cc in subst P same all.0
 by_place P (y ∷ ys) all (suc i) x e = by_place P ys all.1 i x e
@@ -51,26 +51,7 @@ module _ (truth : (ℕ → Bool) → Tree → Bool) (p : Listing) (is_member : �
 pub searches : Searches
 searches truth p is_member allowed grounds coefficients = search truth p is_member allowed grounds coefficients
 
--- ---- smaller supports
-value_at : List Bool → ℕ → Bool
-value_at [] i = true
-value_at (b ∷ bs) zero = b
-value_at (b ∷ bs) (suc i) = value_at bs i
-
-covered_at : (cs : List ℕ) (bs : List Bool) → Covers cs bs → (i : ℕ) → 0 < coefficient cs i → value_at bs i ≡ true
-unfolding value_at
-covered_at [] bs h i l = absurd (omega arith)
-covered_at (a ∷ cs) [] h i l = refl
-covered_at (a ∷ cs) (b ∷ bs) h zero l = h.0 l
-covered_at (a ∷ cs) (b ∷ bs) h (suc i) l = covered_at cs bs h.1 i l
-
-covered_by : (cs : List ℕ) (bs : List Bool) → ((i : ℕ) → 0 < coefficient cs i → value_at bs i ≡ true) → Covers cs bs
-unfolding value_at
-covered_by [] bs h = tt
-covered_by (a ∷ cs) [] h = tt
-covered_by (a ∷ cs) (b ∷ bs) h = (h 0, covered_by cs bs (λ i. h (suc i)))
-
-upper_length : (us bs : List Bool) → IsUpper us bs → length us ≡ length bs
+pub upper_length : (us bs : List Bool) → IsUpper us bs → length us ≡ length bs
 upper_length [] [] h = refl
 upper_length [] (b ∷ bs) h = absurd h
 upper_length (u ∷ us) [] h = absurd h

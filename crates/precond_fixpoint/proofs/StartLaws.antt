@@ -15,7 +15,8 @@ use Rattle.termination_model.specs.Grounds.{Family, HasArity}
 use Rattle.termination_model.specs.Rows.{Covers}
 use Rattle.truth_rows.specs.Sets.{AreSets, family_of}
 use Rattle.truth_rows.proofs.CallerLemmas.{family_at, sets_later, sets_with}
-use Rattle.truth_rows.proofs.ListLaws.{one_element, place_below, set_there}
+use Rattle.truth_rows.proofs.ListLaws.{set_there}
+use Rattle.termination_model.proofs.Lists.{one_element, place_below}
 use Rattle.truth_rows.proofs.SetLaws.{some_is}
 
 -- an element more at the end

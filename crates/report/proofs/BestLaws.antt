@@ -19,7 +19,8 @@ use Rattle.termination_model.specs.Grounds.{Family, HasArity}
 use Rattle.termination_model.specs.Modes.{chosen_up_to, is_part, modes}
 use Rattle.termination_model.specs.Rows.{IsUpper}
 use Rattle.termination_model.specs.View.{all_upper}
-use Rattle.truth_rows.proofs.UpperLaws.{all_from_upper, upper_all}
+use Rattle.truth_rows.proofs.UpperLaws.{all_from_upper}
+use Rattle.termination_model.proofs.ViewLaws.{upper_all}
 use Rattle.termination_model.specs.OwnCalls.{Position}
 use Rattle.termination_model.specs.Supports.{support_from}
 use Rattle.termination_model.specs.Minimal.{IsSet}
@@ -31,6 +32,7 @@ use Rattle.report.specs.ExactModes.{is_member, PreIsGreatest, ModesAreExact, Are
 use Rattle.termination_model.specs.ComponentViews.{positions_in}
 use Rattle.report.specs.ExactMappings.{mapping_in, printed_support, HasMapping, MappingsAreExact, BestOverMappings, admitted_by, IsSolvedMapping, HaveEachSupport, BestModes}
 use Rattle.report.proofs.ModeLaws.{item_is, place_below, there, pre, pre_row, member_is}
+use Rattle.precond_fixpoint.proofs.Searching.{upper_length}
 
 -- a number of a set that has one more number before it
 not_first : (b : Bool) (i x : ℕ) (rest : List ℕ) → suc i ≤ x → In x (if b then i ∷ rest else rest) → In x rest
@@ -88,12 +90,6 @@ any_place f (y ∷ ys) (suc i) x e h = or_right (f y) (list_any f ys) (any_place
     or_right : (a b : Bool) → b ≡ true → (a || b) ≡ true
     or_right true b h = refl
     or_right false b h = h
-
-upper_length : (us bs : List Bool) → IsUpper us bs → length us ≡ length bs
-upper_length [] [] h = refl
-upper_length [] (b ∷ bs) h = absurd h
-upper_length (u ∷ us) [] h = absurd h
-upper_length (u ∷ us) (b ∷ bs) h = ap suc (upper_length us bs h.1)
 
 in_case : (b : Bool) (xs : List ℕ) (i : ℕ) → b ≡ true → 0 < coefficient xs i → 0 < coefficient (if b then xs else []) i
 in_case true xs i e h = h

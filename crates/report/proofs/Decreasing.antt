@@ -2,7 +2,6 @@
 use Rattle.std.proofs.Common.{◌≡◌, ℕ, zero, suc, ◌+◌, ◌<◌, ◌≤◌, ◌≤ℤ◌, ◌==◌, ◌*ℤ◌, ℤ, pos, negsuc, Bool, true, false, cond, if◌then◌else◌, List, [], ◌∷◌, ◌++◌, length, map, take, slice_get, unsigned_abs, Some, None, Option, refl, ap, sym, subst, ◌∙◌, arith, eqb-true, inl, inr}
 use Rattle.std.specs.Prelude.{All, filter}
 use Rattle.std.specs.List.{AllByRecursion}
-use Rattle.std.proofs.lemmas.Int.{ints}
 use Rattle.std.proofs.lemmas.List.{length-map}
 use Rattle.call_components.specs.Partition.{AreComponents, IsIn, Partition}
 use Rattle.cert_checker.proofs.Claims.{natural_is, naturals_are}
@@ -20,9 +19,8 @@ use Rattle.level_dual.proofs.ViewCalls.{system_same}
 use Rattle.linear_rows.proofs.Soundness.{law_empty, law_holds}
 use Rattle.linear_rows.specs.Members.{In}
 use Rattle.linear_rows.specs.Proves.{Proves}
-use Rattle.linear_rows.specs.Rows.{AllHold, Holds, HoldsOn}
+use Rattle.linear_rows.specs.Rows.{HoldsOn}
 use Rattle.linear_rows.specs.declared.row.Rows.{Rows}
-use Rattle.exact128.specs.Sums.{dot}
 use Rattle.number_tests.specs.Proved.{fall_of, level_of}
 use Rattle.number_tests.specs.Shape.{IsLevelPart}
 use Rattle.number_tests.specs.declared.level_part.LevelPart.{LevelPart}
@@ -36,42 +34,19 @@ use Rattle.termination_model.specs.Refutation.{Decreases}
 use Rattle.termination_model.specs.Rows.{added, scaled}
 use Rattle.termination_model.specs.Sizes.{rows_of}
 use Rattle.termination_model.specs.SupportLaws.{HasWidths}
-use Rattle.termination_model.specs.Systems.{row_fits, row_over, short_row, short_system, system}
-use Rattle.termination_model.specs.View.{Call, Lower, Member, Place, Rule, fall_over, rule_of, system_of, upward_union, view_of}
+use Rattle.termination_model.specs.Systems.{row_over, short_row, short_system, system}
+use Rattle.termination_model.specs.View.{Call, Lower, Member, Rule, fall_over, rule_of, system_of, upward_union}
 use Rattle.termination_model.specs.View as view
 use Rattle.report.proofs.MappingParts.{level_there, measured, own_fall, unmapped}
 use Rattle.report.specs.Assembly.{AreFound}
-
-dot_none : (r : List ℤ) (ps : List ℤ) → dot (map (λ _. pos 0) r) ps ≡ pos 0
-unfolding dot
-dot_none [] ps = refl
-dot_none (x ∷ r) [] = refl
-dot_none (x ∷ r) (p ∷ ps) = rw (dot_none r ps) (omega (arith, ints))
-
-short_holds : (t : ℕ) (w : List ℕ) (r : List ℤ) → Holds r t w → Holds (short_row r) t w
-short_holds t w r h = go (row_fits r)
-  where
-    go : (b : Bool) → Holds (if b then r else map (λ _. pos 0) r) t w
-    go true = h
-    go false = rw (dot_none r (pos t ∷ map pos w)) (omega (arith, ints))
-
-short_all : (t : ℕ) (w : List ℕ) (rows : List (List ℤ)) → AllHold rows t w → AllHold (map short_row rows) t w
-short_all t w [] h k d l = absurd (omega arith)
-short_all t w (r ∷ rows) h zero d l = short_holds t w r (h 0 r (omega arith))
-short_all t w (r ∷ rows) h (suc k) d l = short_all t w rows (λ j e m. h (suc j) e (omega arith)) k d (omega arith)
+use Rattle.termination_model.proofs.Proved.{short_all, length-added}
+use Rattle.report.proofs.MappingParts.{in_left, in_right}
 
 shown_holds : (n : ℕ) (rows : List (List ℤ)) (target ms : List ℤ) (scale : ℕ) → length target ≡ n → All (λ m. pos 0 ≤ℤ m) ms → Proves (map short_row rows) ms target (pos scale) → HoldsOn n rows target
 shown_holds n rows target ms zero len nonneg h t w ht hw hr =
     absurd (law_empty (map short_row rows) ms target nonneg h t w ht (hw ∙ sym len) (short_all t w rows hr))
 shown_holds n rows target ms (suc d) len nonneg h t w ht hw hr =
     law_holds (map short_row rows) ms target d nonneg h t w ht (hw ∙ sym len) (short_all t w rows hr)
-
-length-added : (n : ℕ) (xs ys : List ℤ) → length xs ≡ n → length ys ≤ n → length (added xs ys) ≡ n
-length-added n [] [] h k = h
-length-added n [] (y ∷ ys) h k = absurd (omega arith)
-length-added n (x ∷ xs) [] h k = h
-length-added zero (x ∷ xs) (y ∷ ys) h k = absurd (omega arith)
-length-added (suc n) (x ∷ xs) (y ∷ ys) h k = ap suc (length-added n xs ys (omega arith) (omega arith))
 
 module _ (expression : ℕ → Tree → List ℤ) (widths : HasWidths expression) where
   all_wide : (n : ℕ) (ts : List Tree) → AllByRecursion (λ (r : List ℤ). length r ≡ suc n) (map (expression n) ts)
@@ -115,15 +90,6 @@ in_mapped_columns : (q k n a : ℕ) → a < n → In {X = ℕ × ℕ} (q, k + a)
 in_mapped_columns q k zero a less = absurd (omega arith)
 in_mapped_columns q k (suc n) zero less = let same : k ≡ k + 0 = omega arith in inl (λ i. (q, same i))
 in_mapped_columns q k (suc n) (suc a) less = let next : suc k + a ≡ k + suc a = omega arith in inr (subst (λ b. In {X = ℕ × ℕ} (q, b) (map (λ c. (q, c)) (columns (suc k) n))) next (in_mapped_columns q (suc k) n a (omega arith)))
-
-in_left : {X : Type 0} (x : X) (xs ys : List X) → In x xs → In x (xs ++ ys)
-in_left x [] ys h = absurd h
-in_left x (y ∷ xs) ys (inl e) = inl e
-in_left x (y ∷ xs) ys (inr h) = inr (in_left x xs ys h)
-
-in_right : {X : Type 0} (x : X) (xs ys : List X) → In x ys → In x (xs ++ ys)
-in_right x [] ys h = h
-in_right x (y ∷ xs) ys h = inr (in_right x xs ys h)
 
 in_positions : (arity : ℕ → ℕ) (qs : List ℕ) (q a : ℕ) → In q qs → a < arity q → In {X = ℕ × ℕ} (q, a) (positions_by arity qs)
 in_positions arity [] q a h less = absurd h

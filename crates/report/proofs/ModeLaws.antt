@@ -28,12 +28,7 @@ use Rattle.termination_model.specs.Rows.{Covers}
 use Rattle.termination_model.proofs.Sets.{up_to_set}
 use Rattle.termination_model.specs.Minimal.{IsSet}
 use Rattle.report.specs.ExactModes.{is_member, PreIsGreatest, ModesAreExact, AreCounted, HoldWithShape, ExactModesHold}
-
--- ---- lists by places
-by_place : {X : Type 0} (P : X → Type 0) (xs : List X) → AllByRecursion P xs → (i : ℕ) (x : X) → slice_get xs i ≡ Some x → P x
-by_place P [] all i x e = cc
-by_place P (y ∷ ys) all zero x e = let same : y ≡ x = cc in subst P same all.0
-by_place P (y ∷ ys) all (suc i) x e = by_place P ys all.1 i x e
+use Rattle.precond_fixpoint.proofs.Searching.{by_place}
 
 from_places : {X : Type 0} (P : X → Type 0) (xs : List X) → ((i : ℕ) (x : X) → slice_get xs i ≡ Some x → P x) → AllByRecursion P xs
 from_places P [] h = tt

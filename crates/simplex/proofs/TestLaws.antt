@@ -12,6 +12,7 @@ use Rattle.linear_rows.specs.Solving.{zeros}
 use Rattle.linear_rows.specs.Systems.{opposite, at_last, test_rows}
 use Rattle.linear_rows.proofs.Members.{from_All, to_All, in-left, in-right, in-map}
 use Rattle.linear_rows.proofs.Starts.{dot-zeros, entry-zeros}
+use Rattle.simplex.proofs.RowLists.{length-zeros}
 
 -- ---- values
 dot-last : (cs : List ℤ) (b : ℤ) (w : List ℤ) (t : ℤ) → length cs ≡ length w → dot (cs ++ b ∷ []) (w ++ t ∷ []) ≡ dot cs w +ℤ b *ℤ t
@@ -41,10 +42,6 @@ dot_opposite (x ∷ xs) (p ∷ ps) = rw (dot_opposite xs ps) (simp rings (omega 
 
 length_opposite : (r : List ℤ) → length (opposite r) ≡ length r
 length_opposite r = length-map r neg_ℤ
-
-length-zeros : (m : ℕ) → length (zeros m) ≡ m
-length-zeros zero = refl
-length-zeros (suc m) = ap suc (length-zeros m)
 
 dot_one : (m : ℕ) (t : ℤ) (xs : List ℤ) → dot (pos 1 ∷ zeros m) (t ∷ xs) ≡ t
 unfolding dot

@@ -11,16 +11,16 @@ use Rattle.linear_rows.specs.Irredundant.{TestIsBlown, EndsBlown}
 use Rattle.linear_rows.specs.Step.{columns}
 use Rattle.linear_rows.specs.Replacing.{row_fits}
 
-and_false : (a b : Bool) → b ≡ false → (a && b) ≡ false
+pub and_false : (a b : Bool) → b ≡ false → (a && b) ≡ false
 and_false true b e = e
 and_false false b e = refl
 
 -- a list with a number that does not fit
-all_append : (xs ys : List ℤ) → all_of fits ys ≡ false → all_of fits (xs ++ ys) ≡ false
+pub all_append : (xs ys : List ℤ) → all_of fits ys ≡ false → all_of fits (xs ++ ys) ≡ false
 all_append [] ys e = e
 all_append (x ∷ xs) ys e = and_false (fits x) (all_of fits (xs ++ ys)) (all_append xs ys e)
 
-all_left : (xs ys : List ℤ) → all_of fits xs ≡ false → all_of fits (xs ++ ys) ≡ false
+pub all_left : (xs ys : List ℤ) → all_of fits xs ≡ false → all_of fits (xs ++ ys) ≡ false
 all_left [] ys e = cc
 all_left (x ∷ xs) ys e = go (fits x) e (all_left xs ys)
   where
@@ -28,7 +28,7 @@ all_left (x ∷ xs) ys e = go (fits x) e (all_left xs ys)
     go true e more = more e
     go false e more = refl
 
-wide_all : (r : List ℤ) → row_fits r ≡ false → all_of fits r ≡ false
+pub wide_all : (r : List ℤ) → row_fits r ≡ false → all_of fits r ≡ false
 wide_all [] e = cc
 wide_all (x ∷ r) e = go (fits x) e (wide_all r)
   where
@@ -37,7 +37,7 @@ wide_all (x ∷ r) e = go (fits x) e (wide_all r)
     go false e more = refl
 
 -- a row keeps its numbers where its constant comes after its coefficients
-moved : (lead more : List ℤ) (r : List ℤ) → row_fits r ≡ false → all_of fits (lead ++ (coefficients r ++ entry r 0 ∷ more)) ≡ false
+pub moved : (lead more : List ℤ) (r : List ℤ) → row_fits r ≡ false → all_of fits (lead ++ (coefficients r ++ entry r 0 ∷ more)) ≡ false
 moved lead more [] e = cc
 moved lead more (b ∷ cs) e = all_append lead (cs ++ b ∷ more) (go (fits b) refl e)
   where
@@ -46,36 +46,36 @@ moved lead more (b ∷ cs) e = all_append lead (cs ++ b ∷ more) (go (fits b) r
     go false is e = all_append cs (b ∷ more) (ap (λ (y : Bool). y && all_of fits more) is)
 
 -- rows of which one has a number that does not fit
-not_all : (rows : List (List ℤ)) (r : List ℤ) → In r rows → all_of fits r ≡ false → numbers_fit rows ≡ false
+pub not_all : (rows : List (List ℤ)) (r : List ℤ) → In r rows → all_of fits r ≡ false → numbers_fit rows ≡ false
 not_all [] r i e = absurd i
 not_all (x ∷ rows) r (inl is) e = ap (λ (b : Bool). b && numbers_fit rows) (ap (all_of fits) is ∙ e)
 not_all (x ∷ rows) r (inr i) e = and_false (all_of fits x) (numbers_fit rows) (not_all rows r i e)
 
-in_carried : (long i : ℕ) (given : List (List ℤ)) (r : List ℤ) → In r given → (j : ℕ) × In (pos 0 ∷ (coefficients r ++ entry r 0 ∷ units long j)) (carried long i given)
+pub in_carried : (long i : ℕ) (given : List (List ℤ)) (r : List ℤ) → In r given → (j : ℕ) × In (pos 0 ∷ (coefficients r ++ entry r 0 ∷ units long j)) (carried long i given)
 in_carried long i [] r h = absurd h
 in_carried long i (x ∷ xs) r (inl is) = (i, inl (ap (λ (y : List ℤ). pos 0 ∷ (coefficients y ++ entry y 0 ∷ units long i)) is))
 in_carried long i (x ∷ xs) r (inr h) = let m = in_carried long (suc i) xs r h in (m.0, inr m.1)
 
-in_left : {X : Type 0} (xs ys : List X) (x : X) → In x xs → In x (xs ++ ys)
+pub in_left : {X : Type 0} (xs ys : List X) (x : X) → In x xs → In x (xs ++ ys)
 in_left [] ys x i = absurd i
 in_left (y ∷ xs) ys x (inl is) = inl is
 in_left (y ∷ xs) ys x (inr i) = inr (in_left xs ys x i)
 
-in_right : {X : Type 0} (xs ys : List X) (x : X) → In x ys → In x (xs ++ ys)
+pub in_right : {X : Type 0} (xs ys : List X) (x : X) → In x ys → In x (xs ++ ys)
 in_right [] ys x i = i
 in_right (y ∷ xs) ys x i = inr (in_right xs ys x i)
 
-in_map : {X Y : Type 0} (f : X → Y) (xs : List X) (x : X) → In x xs → In (f x) (map f xs)
+pub in_map : {X Y : Type 0} (f : X → Y) (xs : List X) (x : X) → In x xs → In (f x) (map f xs)
 in_map f [] x i = absurd i
 in_map f (y ∷ xs) x (inl is) = inl (ap f is)
 in_map f (y ∷ xs) x (inr i) = inr (in_map f xs x i)
 
-wide_blown : (m : ℕ) (ks : List ℕ) (rows : List (List ℤ)) → numbers_fit rows ≡ false → blown_step m ks rows ≡ Some (0, true)
+pub wide_blown : (m : ℕ) (ks : List ℕ) (rows : List (List ℤ)) → numbers_fit rows ≡ false → blown_step m ks rows ≡ Some (0, true)
 unfolding blown_step
 wide_blown m ks rows e = ap (λ (b : Bool). if b then blown_from m 1 ks rows else (Some (0, true))) e
 
 -- the test of any row on rows with such a row is blown
-start_wide : (n : ℕ) (given : List (List ℤ)) (q : List ℤ) → In q given → row_fits q ≡ false → numbers_fit (start_rows n given) ≡ false
+pub start_wide : (n : ℕ) (given : List (List ℤ)) (q : List ℤ) → In q given → row_fits q ≡ false → numbers_fit (start_rows n given) ≡ false
 unfolding start_rows
 start_wide n given q i e =
     let c = in_carried (length given) 0 given q i in
@@ -83,7 +83,7 @@ start_wide n given q i e =
     let long = n + 1 + length given in
     not_all (floors n 0 long ++ (negsuc 0 ∷ units long n) ∷ carried (length given) 0 given) (pos 0 ∷ (coefficients q ++ entry q 0 ∷ units (length given) c.0)) (in_right (floors n 0 long) ((negsuc 0 ∷ units long n) ∷ carried (length given) 0 given) _ (inr c.1)) bad
 
-wide_solution : (n : ℕ) (given : List (List ℤ)) (q : List ℤ) → In q given → row_fits q ≡ false → solution n given ≡ Blown 0 true
+pub wide_solution : (n : ℕ) (given : List (List ℤ)) (q : List ℤ) → In q given → row_fits q ≡ false → solution n given ≡ Blown 0 true
 unfolding solution
 wide_solution n given q i e = ap (solved_by n given) (wide_blown (n + 1) (columns 1 (n + 1)) (start_rows n given) (start_wide n given q i e))
 

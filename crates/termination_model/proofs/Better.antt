@@ -8,19 +8,19 @@ use Rattle.termination_model.specs.Grounds.{Family}
 use Rattle.termination_model.specs.View.{Rule}
 use Rattle.termination_model.specs.Best.{AreCovered, coefficient, IsSupported, IsWithin, Keeps, IsGreatest, AreAdmitted, SmallerIsBetter}
 
-value_at : List Bool → ℕ → Bool
+pub value_at : List Bool → ℕ → Bool
 value_at [] i = true
 value_at (b ∷ bs) zero = b
 value_at (b ∷ bs) (suc i) = value_at bs i
 
-covered_at : (cs : List ℕ) (bs : List Bool) → Covers cs bs → (i : ℕ) → 0 < coefficient cs i → value_at bs i ≡ true
+pub covered_at : (cs : List ℕ) (bs : List Bool) → Covers cs bs → (i : ℕ) → 0 < coefficient cs i → value_at bs i ≡ true
 unfolding value_at
 covered_at [] bs h i l = absurd (omega arith)
 covered_at (a ∷ cs) [] h i l = refl
 covered_at (a ∷ cs) (b ∷ bs) h zero l = h.0 l
 covered_at (a ∷ cs) (b ∷ bs) h (suc i) l = covered_at cs bs h.1 i l
 
-covered_by : (cs : List ℕ) (bs : List Bool) → ((i : ℕ) → 0 < coefficient cs i → value_at bs i ≡ true) → Covers cs bs
+pub covered_by : (cs : List ℕ) (bs : List Bool) → ((i : ℕ) → 0 < coefficient cs i → value_at bs i ≡ true) → Covers cs bs
 unfolding value_at
 covered_by [] bs h = tt
 covered_by (a ∷ cs) [] h = tt

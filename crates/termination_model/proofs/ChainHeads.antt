@@ -14,6 +14,7 @@ use Rattle.termination_model.specs.Systems.{row_over}
 use Rattle.termination_model.proofs.Values.{values_from, expression_value}
 use Rattle.termination_model.proofs.SystemPoints.{dot_added, dot_zeros, dot_combined}
 use Rattle.termination_model.specs.ChainRows.{bottom_row}
+use Rattle.termination_model.proofs.Naturals.{never_below}
 
 -- the value of a row with expressions in its arguments' places is its value at those of the expressions
 pub dot_substituted : (n : ℕ) (es : List (List ℤ)) (row vs : List ℤ) (t : ℤ) → dot (substituted n es row) (t ∷ vs) ≡ dot row (t ∷ map (λ e. dot e (t ∷ vs)) es)
@@ -39,11 +40,6 @@ values_listed (suc n) (v ∷ w) e s k h =
     let here : s k ≡ v = ap s (omega arith) ∙ h 0 in
     let more = values_listed n w (omega arith) s (suc k) (λ x. let at : suc k + x ≡ k + suc x = omega arith in ap s at ∙ h (suc x)) in
     λ i. here i ∷ more i
-
-never_below : (a b : ℤ) → ((k : ℕ) → pos 0 ≤ℤ (a +ℤ pos k *ℤ b)) → pos 0 ≤ℤ b
-never_below a (pos n) h = omega (arith, ints)
-never_below (pos a) (negsuc n) h = absurd (let l = h (suc a) in omega (arith, ints))
-never_below (negsuc a) (negsuc n) h = absurd (let l = h 0 in omega (arith, ints))
 
 abbrev times : ℕ → List ℕ → List ℕ
 times k [] = []

@@ -237,10 +237,10 @@ pub length_append : {X : Type 0} (xs ys : List X) → length (xs ++ ys) ≡ leng
 length_append [] ys = omega arith
 length_append (x ∷ xs) ys = let r = length_append xs ys in omega (arith, r)
 
-of_abs : (z : ℤ) → pos 0 ≤ℤ z → z ≡ pos (unsigned_abs z)
+pub of_abs : (z : ℤ) → pos 0 ≤ℤ z → z ≡ pos (unsigned_abs z)
 of_abs z h = omega (arith, ints)
 
-dot_natural : (xs : List ℤ) (ps : List ℕ) → All (λ x. pos 0 ≤ℤ x) xs → pos 0 ≤ℤ dot xs (map pos ps)
+pub dot_natural : (xs : List ℤ) (ps : List ℕ) → All (λ x. pos 0 ≤ℤ x) xs → pos 0 ≤ℤ dot xs (map pos ps)
 unfolding dot
 dot_natural [] ps h = omega (arith, ints)
 dot_natural (x ∷ xs) [] h = omega (arith, ints)

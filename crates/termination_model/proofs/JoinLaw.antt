@@ -15,6 +15,7 @@ use Rattle.linear_rows.proofs.Starts.{dot-zeros}
 use Rattle.termination_model.specs.ChainRows.{HasPoint}
 use Rattle.termination_model.proofs.CutLaw.{q_value, cut_same}
 use Rattle.termination_model.proofs.ImageLaw.{dot_append, map-append, length-zeros, length-units, dot_opposite, dot_units, natural_rows, in_columns, floor_row, in_naturals, split_at, naught, length-naught, length_append}
+use Rattle.termination_model.proofs.Naturals.{never_below}
 
 -- ---- a row that holds on rows, at a point whose t may be 0
 -- k times the second list on top of the first
@@ -43,11 +44,6 @@ row_along : (row : List ℤ) (t k : ℕ) (us vs : List ℕ) → length us ≡ le
 unfolding dot
 row_along [] t k us vs e = omega (arith, ints)
 row_along (b ∷ cs) t k us vs e = rw (dot-plus_times cs us k vs e) (simp rings (omega (arith, ints)))
-
-never_below : (a b : ℤ) → ((k : ℕ) → pos 0 ≤ℤ (a +ℤ pos k *ℤ b)) → pos 0 ≤ℤ b
-never_below a (pos n) h = omega (arith, ints)
-never_below (pos a) (negsuc n) h = absurd (let l = h (suc a) in omega (arith, ints))
-never_below (negsuc a) (negsuc n) h = absurd (let l = h 0 in omega (arith, ints))
 
 sum_natural : (x y : ℤ) (k : ℕ) → pos 0 ≤ℤ x → pos 0 ≤ℤ y → pos 0 ≤ℤ (x +ℤ pos k *ℤ y)
 sum_natural x y k hx hy = let p = mul_nonneg (pos k) y (omega (arith, ints)) hy in omega (arith, ints)

@@ -32,11 +32,11 @@ from_places P [] h = tt
 from_places P (y ∷ ys) h = (h 0 y refl, from_places P ys (λ i x e. h (suc i) x e))
 
 -- an element's number is part of the sum
-folded-le : {X : Type 0} → (f : X → ℕ) (xs : List X) (n : ℕ) → n ≤ fold (λ a x. a + f x) n xs
+pub folded-le : {X : Type 0} → (f : X → ℕ) (xs : List X) (n : ℕ) → n ≤ fold (λ a x. a + f x) n xs
 folded-le f [] n = omega arith
 folded-le f (x ∷ xs) n = omega (arith, folded-le f xs (n + f x))
 
-folded_part : {X : Type 0} → (f : X → ℕ) (xs : List X) (i : ℕ) (x : X) (n : ℕ) → slice_get xs i ≡ Some x → f x ≤ fold (λ a x. a + f x) n xs
+pub folded_part : {X : Type 0} → (f : X → ℕ) (xs : List X) (i : ℕ) (x : X) (n : ℕ) → slice_get xs i ≡ Some x → f x ≤ fold (λ a x. a + f x) n xs
 folded_part f [] i x n e = cc
 folded_part f (y ∷ ys) zero x n e = let same : y ≡ x = cc in let v = ap f same in omega (arith, folded-le f ys (n + f y), v)
 folded_part f (y ∷ ys) (suc i) x n e = folded_part f ys i x (n + f y) e

@@ -4,8 +4,7 @@ use Rattle.std.proofs.lemmas.Int.{ints}
 use Rattle.std.proofs.lemmas.Bool.Decides.{nat_tests}
 use lib.IntN.{*ℤ_comm}
 use Rattle.exact128.specs.Sums.{entry}
-use Rattle.cti_terms.specs.Tree.{Tree, is_below}
-use Rattle.term_size.specs.Norm.{IsNorm, value_of, weighted}
+use Rattle.term_size.specs.Norm.{value_of, weighted}
 use Rattle.termination_model.specs.Ready.{SizesAreNatural}
 
 abbrev only : ℕ → ℕ → ℕ → ℕ
@@ -34,7 +33,7 @@ weighted_only n i k (suc j) (c ∷ cs) e =
     let rest = weighted_only n i (suc k) j cs (omega arith) in
     rw apart (omega (arith, ints, rest))
 
-never_below : (a b : ℤ) → ((k : ℕ) → pos 0 ≤ℤ (a +ℤ pos k *ℤ b)) → pos 0 ≤ℤ b
+pub never_below : (a b : ℤ) → ((k : ℕ) → pos 0 ≤ℤ (a +ℤ pos k *ℤ b)) → pos 0 ≤ℤ b
 never_below a (pos n) h = omega (arith, ints)
 never_below (pos a) (negsuc n) h = absurd (let l = h (suc a) in omega (arith, ints))
 never_below (negsuc a) (negsuc n) h = absurd (let l = h 0 in omega (arith, ints))

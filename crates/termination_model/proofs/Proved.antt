@@ -18,20 +18,20 @@ use Rattle.termination_model.specs.Systems.{row_over, system, row_fits, short_ro
 use Rattle.termination_model.specs.Short.{Provable, SizesProved, FallsProved, DescendsProved, ServesProved, ProofsShow}
 use Rattle.termination_model.proofs.SystemPoints.{Below, to_all, row_value, point_length, system_holds}
 
-dot_none : (r : List ℤ) (ps : List ℤ) → dot (map (λ _. pos 0) r) ps ≡ pos 0
+pub dot_none : (r : List ℤ) (ps : List ℤ) → dot (map (λ _. pos 0) r) ps ≡ pos 0
 unfolding dot
 dot_none [] ps = refl
 dot_none (x ∷ r) [] = refl
 dot_none (x ∷ r) (p ∷ ps) = rw (dot_none r ps) (omega (arith, ints))
 
-short_holds : (t : ℕ) (w : List ℕ) (r : List ℤ) → Holds r t w → Holds (short_row r) t w
+pub short_holds : (t : ℕ) (w : List ℕ) (r : List ℤ) → Holds r t w → Holds (short_row r) t w
 short_holds t w r h = go (row_fits r)
   where
     go : (b : Bool) → Holds (if b then r else map (λ _. pos 0) r) t w
     go true = h
     go false = rw (dot_none r (pos t ∷ map pos w)) (omega (arith, ints))
 
-short_all : (t : ℕ) (w : List ℕ) (rows : List (List ℤ)) → AllHold rows t w → AllHold (map short_row rows) t w
+pub short_all : (t : ℕ) (w : List ℕ) (rows : List (List ℤ)) → AllHold rows t w → AllHold (map short_row rows) t w
 short_all t w [] h k d l = absurd (omega arith)
 short_all t w (r ∷ rows) h zero d l = short_holds t w r (h 0 r (omega arith))
 short_all t w (r ∷ rows) h (suc k) d l = short_all t w rows (λ j e m. h (suc j) e (omega arith)) k d (omega arith)
@@ -47,7 +47,7 @@ length-replicate' : (n : ℕ) → length (replicate n (pos 0)) ≡ n
 length-replicate' zero = refl
 length-replicate' (suc n) = ap suc (length-replicate' n)
 
-length-added : (n : ℕ) (xs ys : List ℤ) → length xs ≡ n → length ys ≤ n → length (added xs ys) ≡ n
+pub length-added : (n : ℕ) (xs ys : List ℤ) → length xs ≡ n → length ys ≤ n → length (added xs ys) ≡ n
 length-added n [] [] h k = h
 length-added n [] (y ∷ ys) h k = absurd (omega arith)
 length-added n (x ∷ xs) [] h k = h

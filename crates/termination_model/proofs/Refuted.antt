@@ -14,6 +14,8 @@ use Rattle.termination_model.specs.Claims.{Mapping, SomeOf}
 use Rattle.termination_model.specs.View.{Member, Call, Rule, system_of, level_over, fall_over}
 use Rattle.termination_model.specs.Refutation.{Pair, Load, gather, Decreases, head_load, call_load, IsPair, NoneDecreases}
 use Rattle.termination_model.proofs.SystemPoints.{dot_scaled, dot_added, dot_zeros, dot_combined}
+use Rattle.termination_model.proofs.Naturals.{never_below}
+use Rattle.termination_model.proofs.Entries.{dot_nil}
 
 -- the second list of a product of lists
 dot_sum : (cs xs ys : List ℤ) → dot cs (added xs ys) ≡ dot cs xs +ℤ dot cs ys
@@ -22,11 +24,6 @@ dot_sum [] xs ys = omega (arith, ints)
 dot_sum (a ∷ cs) [] ys = omega (arith, ints)
 dot_sum (a ∷ cs) (x ∷ xs) [] = omega (arith, ints)
 dot_sum (a ∷ cs) (x ∷ xs) (y ∷ ys) = rw (dot_sum cs xs ys) (simp rings (omega (arith, ints)))
-
-dot_nil : (cs : List ℤ) → dot cs [] ≡ pos 0
-unfolding dot
-dot_nil [] = refl
-dot_nil (a ∷ cs) = refl
 
 -- a natural multiple keeps the order, and one by 0 asks for none
 scaled_order : (a : ℕ) (x y : ℤ) → (0 < a → x ≤ℤ y) → (pos a *ℤ x) ≤ℤ (pos a *ℤ y)
@@ -112,12 +109,6 @@ lighter f hs gs h =
     let l = all_members f hs n (all_below hs n (omega arith)) in
     let r = all_members f gs n (all_below gs n (omega arith)) in
     subst (λ (z : ℤ). z ≤ℤ summed f gs) l (subst (λ (z : ℤ). by_member f hs n ≤ℤ z) r o)
-
--- a line that never falls below 0 does not fall
-never_below : (a b : ℤ) → ((k : ℕ) → pos 0 ≤ℤ (a +ℤ pos k *ℤ b)) → pos 0 ≤ℤ b
-never_below a (pos n) h = omega (arith, ints)
-never_below (pos a) (negsuc n) h = absurd (let l = h (suc a) in omega (arith, ints))
-never_below (negsuc a) (negsuc n) h = absurd (let l = h 0 in omega (arith, ints))
 
 -- k times vs, and us
 abbrev along : List ℕ → ℕ → List ℕ → List ℕ

@@ -24,6 +24,7 @@ use Rattle.termination_model.specs.SupportLaws.{HasWidths}
 use Rattle.termination_model.specs.Excluding.{IsOwnCall, IsLive, IsRefutationAt, pairs_at, number_count, MultipliersRefute}
 use Rattle.termination_model.proofs.Entries.{dot_nil, dot_parts, dot_zeros, entry_zeros, entry_added, dot_difference, dot_negated}
 use Rattle.termination_model.proofs.Totals.{dot_comm, dot_entries, entry_left, entry_right, entry_map, there, taken, dropped, total, blocks, column_total}
+use Rattle.termination_model.proofs.Totals.{shifted}
 
 at_place : {X : Type 0} (xs : List X) (x : X) → In x xs → (i : ℕ) × (slice_get xs i ≡ Some x)
 at_place [] x h = absurd h
@@ -33,10 +34,6 @@ at_place (y ∷ ys) x (inr h) = let r = at_place ys x h in (suc r.0, r.1)
 length_zeros : (n : ℕ) → length (zeros n) ≡ n
 length_zeros zero = refl
 length_zeros (suc n) = ap suc (length_zeros n)
-
-length_columns : (k n : ℕ) → length (columns k n) ≡ n
-length_columns k zero = refl
-length_columns k (suc n) = ap suc (length_columns (suc k) n)
 
 length_replicated : (n : ℕ) → length (replicate n (pos 0)) ≡ n
 length_replicated zero = refl
@@ -84,10 +81,6 @@ unfolding dot
 dot_none_over [] ks = refl
 dot_none_over (x ∷ v) [] = refl
 dot_none_over (x ∷ v) (k ∷ ks) = let rest = dot_none_over v ks in omega (arith, ints, rest)
-
-shifted : {X : Type 0} (f : ℕ → X) (k n : ℕ) → map f (columns (suc k) n) ≡ map (λ x. f (suc x)) (columns k n)
-shifted f k zero = refl
-shifted f k (suc n) = ap (λ s. f (suc k) ∷ s) (shifted f (suc k) n)
 
 -- the products with the shares of a position, and of an offset
 share_total : (q a n t : ℕ) (w : List ℕ) (sizes : List (List ℤ)) (p : Position) → length w ≡ n

@@ -11,35 +11,31 @@ use Rattle.termination_model.specs.Replacing.{unit_at, column_over, AreColumns, 
 use Rattle.termination_model.specs.Rows.{scaled, added, combined, substituted}
 use Rattle.termination_model.specs.Systems.{row_fits}
 use Rattle.termination_model.proofs.Proved.{length-substituted}
+use Rattle.termination_model.proofs.Entries.{entry_scaled}
 
-entry_scaled : (m : ℤ) (xs : List ℤ) (k : ℕ) → entry (scaled m xs) k ≡ m *ℤ entry xs k
-entry_scaled m [] k = omega (arith, ints)
-entry_scaled m (x ∷ xs) zero = refl
-entry_scaled m (x ∷ xs) (suc k) = entry_scaled m xs k
-
-entry_added : (xs ys : List ℤ) (k : ℕ) → entry (added xs ys) k ≡ entry xs k +ℤ entry ys k
+pub entry_added : (xs ys : List ℤ) (k : ℕ) → entry (added xs ys) k ≡ entry xs k +ℤ entry ys k
 entry_added [] ys k = omega (arith, ints)
 entry_added (x ∷ xs) [] k = omega (arith, ints)
 entry_added (x ∷ xs) (y ∷ ys) zero = refl
 entry_added (x ∷ xs) (y ∷ ys) (suc k) = entry_added xs ys k
 
-entry_combined : (ms : List ℤ) (rows : List (List ℤ)) (k : ℕ) → entry (combined ms rows) k ≡ dot ms (map (λ e. entry e k) rows)
+pub entry_combined : (ms : List ℤ) (rows : List (List ℤ)) (k : ℕ) → entry (combined ms rows) k ≡ dot ms (map (λ e. entry e k) rows)
 unfolding dot
 entry_combined [] rows k = refl
 entry_combined (m ∷ ms) [] k = refl
 entry_combined (m ∷ ms) (row ∷ rows) k = entry_added (scaled m row) (combined ms rows) k ∙ rw (entry_scaled m row k, entry_combined ms rows k) refl
 
-entry_zeros : (n k : ℕ) → entry (replicate n (pos 0)) k ≡ pos 0
+pub entry_zeros : (n k : ℕ) → entry (replicate n (pos 0)) k ≡ pos 0
 entry_zeros zero k = refl
 entry_zeros (suc n) zero = refl
 entry_zeros (suc n) (suc k) = entry_zeros n k
 
-entry_constant : (n : ℕ) (b : ℤ) (x : ℕ) → entry (b ∷ replicate n (pos 0)) x ≡ b *ℤ unit_at x
+pub entry_constant : (n : ℕ) (b : ℤ) (x : ℕ) → entry (b ∷ replicate n (pos 0)) x ≡ b *ℤ unit_at x
 entry_constant n b zero = omega (arith, ints)
 entry_constant n b (suc x) = entry_zeros n x ∙ omega (arith, ints)
 
 -- a number of a replaced row
-entry_substituted : (n : ℕ) (es : List (List ℤ)) (row : List ℤ) (x : ℕ) → entry (substituted n es row) x ≡ dot row (column_over es x)
+pub entry_substituted : (n : ℕ) (es : List (List ℤ)) (row : List ℤ) (x : ℕ) → entry (substituted n es row) x ≡ dot row (column_over es x)
 unfolding dot
 entry_substituted n es [] x = entry_zeros (suc n) x
 entry_substituted n es (b ∷ row) x =

@@ -19,7 +19,7 @@ use Rattle.termination_model.specs.SupportSystem.{share, offset_share, less_one,
 use Rattle.termination_model.specs.Excluding.{number_count}
 use Rattle.termination_model.proofs.Entries.{dot_nil, dot_parts, dot_zeros, entry_zeros}
 
-shifted : {X : Type 0} (f : ℕ → X) (k n : ℕ) → map f (columns (suc k) n) ≡ map (λ x. f (suc x)) (columns k n)
+pub shifted : {X : Type 0} (f : ℕ → X) (k n : ℕ) → map f (columns (suc k) n) ≡ map (λ x. f (suc x)) (columns k n)
 shifted f k zero = refl
 shifted f k (suc n) = ap (λ s. f (suc k) ∷ s) (shifted f (suc k) n)
 
@@ -98,7 +98,7 @@ column_parts : (xs ys : List (List ℤ)) (k : ℕ) → column (xs ++ ys) k ≡ c
 column_parts [] ys k = refl
 column_parts (x ∷ xs) ys k = ap (λ s. entry x k ∷ s) (column_parts xs ys k)
 
-length_columns : (k n : ℕ) → length (columns k n) ≡ n
+pub length_columns : (k n : ℕ) → length (columns k n) ≡ n
 length_columns k zero = refl
 length_columns k (suc n) = ap suc (length_columns (suc k) n)
 

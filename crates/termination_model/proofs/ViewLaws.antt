@@ -13,7 +13,7 @@ use Rattle.termination_model.specs.Systems.{system}
 use Rattle.termination_model.specs.View.{Place, Member, Lower, Call, system_of, FallsOver, DescendsIn, IsAllowed, KeepsRuleIn, all_upper, upward_union, place_of, call_of, rule_of, spread_mapping, spread, ViewsServe}
 use Rattle.termination_model.proofs.Walk.{some_each}
 
-upper_all : (f : List Bool → Bool) (bs us : List Bool) → all_upper f bs ≡ true → IsUpper us bs → f us ≡ true
+pub upper_all : (f : List Bool → Bool) (bs us : List Bool) → all_upper f bs ≡ true → IsUpper us bs → f us ≡ true
 upper_all f [] [] h u = h
 upper_all f [] (x ∷ us) h u = absurd u
 upper_all f (b ∷ bs) [] h u = absurd u

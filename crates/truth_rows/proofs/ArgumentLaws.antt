@@ -10,7 +10,7 @@ use Rattle.bool_diagrams.specs.Renaming.{renamed}
 use Rattle.cti_terms.specs.Tree.{Tree, is_below}
 use Rattle.term_size.specs.Norm.{IsNorm}
 use Rattle.truth_rows.proofs.NormLaws.{truth_agrees}
-use Rattle.truth_rows.proofs.ListLaws.{by_places, indexed, mapped_place}
+use Rattle.termination_model.proofs.Lists.{by_places, indexed, mapped_place}
 use Rattle.truth_rows.proofs.RowLaws.{decided, with_same, with_other}
 
 -- the truth of the first n arguments, and beyond them the variables that stand for arguments

@@ -16,7 +16,8 @@ use Rattle.termination_model.specs.Grounds.{IsClosedUnder, IsGround, truth_row}
 use Rattle.truth_rows.specs.Ready.{HasAtom, HasAtoms, IsReady}
 use Rattle.truth_rows.specs.Rules.{KeepsSets}
 use Rattle.truth_rows.specs.Sets.{AreSets, family_of}
-use Rattle.truth_rows.proofs.ListLaws.{by_places, from_places, place_below, there, up_to_more}
+use Rattle.truth_rows.proofs.ListLaws.{up_to_more}
+use Rattle.termination_model.proofs.Lists.{by_places, from_places, place_below, there}
 use Rattle.truth_rows.proofs.SetLaws.{none, some_is, family_in, family_put, atom_there}
 
 module _ (T T2 : List Rows) (K : Keeps T T2) (sets : List Diagram) (vars : ℕ) (b : Atom) (ready : IsReady T sets vars b) where

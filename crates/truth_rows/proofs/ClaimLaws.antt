@@ -12,9 +12,10 @@ use Rattle.termination_model.specs.Grounds.{Family, IsGround, truth_row}
 use Rattle.termination_model.specs.Rows.{IsUpper}
 use Rattle.termination_model.specs.View.{all_upper, upward_union}
 use Rattle.truth_rows.specs.Rules.{KeepsSets}
-use Rattle.truth_rows.proofs.ListLaws.{by_places}
+use Rattle.termination_model.proofs.Lists.{by_places}
 use Rattle.truth_rows.proofs.RowLaws.{or_cases, or_left, or_right}
-use Rattle.truth_rows.proofs.UpperLaws.{all_from_upper, upper_all}
+use Rattle.truth_rows.proofs.UpperLaws.{all_from_upper}
+use Rattle.termination_model.proofs.ViewLaws.{upper_all}
 
 -- where two sets have the same rows of a length, so they do of all upper rows
 pub all_upper_same : (f g : List Bool → Bool) (row : List Bool) → ((us : List Bool) → length us ≡ length row → f us ≡ g us) → all_upper f row ≡ all_upper g row

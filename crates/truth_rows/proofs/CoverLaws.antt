@@ -5,15 +5,15 @@ use Rattle.bool_diagrams.specs.Cubes.{values_of}
 use Rattle.termination_model.specs.Rows.{Covers}
 use Rattle.truth_rows.proofs.RowLaws.{first_row, first_values, length-first}
 
-positive_is : (a : ℕ) → 0 < a → nat_lt 0 a ≡ true
+pub positive_is : (a : ℕ) → 0 < a → nat_lt 0 a ≡ true
 positive_is a lt = grind (arith, nat_tests)
 
-covers_row : (coefficients : List ℕ) (row : List Bool) → ((j : ℕ) → j < length row → slice_get (map (nat_lt 0) coefficients) j ≡ Some true → IsTrue (values_of row j)) → Covers coefficients row
+pub covers_row : (coefficients : List ℕ) (row : List Bool) → ((j : ℕ) → j < length row → slice_get (map (nat_lt 0) coefficients) j ≡ Some true → IsTrue (values_of row j)) → Covers coefficients row
 covers_row [] row h = tt
 covers_row (a ∷ cs) [] h = tt
 covers_row (a ∷ cs) (b ∷ row) h = (λ lt. h 0 (omega arith) (ap Some (positive_is a lt)), covers_row cs row (λ j lt e. h (suc j) (omega arith) e))
 
-covered_at : (coefficients : List ℕ) (row : List Bool) → Covers coefficients row → (j : ℕ) → j < length row → slice_get (map (nat_lt 0) coefficients) j ≡ Some true → IsTrue (values_of row j)
+pub covered_at : (coefficients : List ℕ) (row : List Bool) → Covers coefficients row → (j : ℕ) → j < length row → slice_get (map (nat_lt 0) coefficients) j ≡ Some true → IsTrue (values_of row j)
 covered_at [] row c j lt e = cc
 covered_at (a ∷ cs) [] c j lt e = absurd (omega arith)
 covered_at (a ∷ cs) (b ∷ row) c zero lt e = let t : nat_lt 0 a ≡ true = cc in c.0 (ltb-true 0 a t)

@@ -7,7 +7,8 @@ use Rattle.bool_diagrams.specs.Tree.{with_value}
 use Rattle.cti_terms.specs.Tree.{Tree}
 use Rattle.term_size.specs.Norm.{ListsRigid}
 use Rattle.truth_rows.specs.Ends.{Agree, IsAsked, IsTold, SaysAsked}
-use Rattle.truth_rows.proofs.ListLaws.{place_below, set_elsewhere, set_there}
+use Rattle.truth_rows.proofs.ListLaws.{set_elsewhere, set_there}
+use Rattle.termination_model.proofs.Lists.{place_below}
 use Rattle.truth_rows.proofs.RowLaws.{both, or_cases, or_left, or_right, same_bool, with_other, with_same}
 
 -- what is asked for later is asked for now

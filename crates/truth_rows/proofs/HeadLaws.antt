@@ -7,7 +7,7 @@ use Rattle.term_size.specs.Norm.{IsNorm}
 use Rattle.truth_rows.specs.Ends.{HasAllLike}
 use Rattle.truth_rows.specs.Ready.{HasTruths}
 use Rattle.truth_rows.proofs.NormLaws.{truth_agrees}
-use Rattle.truth_rows.proofs.ListLaws.{by_places, indexed, mapped_place}
+use Rattle.termination_model.proofs.Lists.{by_places, indexed, mapped_place}
 use Rattle.truth_rows.proofs.Somewhere.{IsSomewhere}
 
 -- v below n, and from there on the row

@@ -11,7 +11,7 @@ use Rattle.cti_terms.specs.Listing.{Listing, IsAtom, IsClause, IsProgram, atom_n
 use Rattle.cti_terms.specs.Tree.{Tree}
 use Rattle.truth_rows.specs.Ready.{HasTruths, IsReady, IsReadyClause}
 use Rattle.truth_rows.specs.Sets.{AreSets, family_of, has_row}
-use Rattle.truth_rows.proofs.ListLaws.{by_places, indexed, mapped_place, place_below, sum_part}
+use Rattle.termination_model.proofs.Lists.{by_places, indexed, mapped_place, place_below, sum_part}
 use Rattle.truth_rows.proofs.RowLaws.{both}
 
 abbrev pub none : Diagram

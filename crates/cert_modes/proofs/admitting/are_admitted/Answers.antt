@@ -1,5 +1,5 @@
 use Rattle.std.proofs.Common.{sym, arith, ℕ, List}
-use Rattle.truth_rows.proofs.ListLaws.{place_below}
+use Rattle.termination_model.proofs.Lists.{place_below}
 use Rattle.bool_diagrams.specs.Cubes.{truth_rows}
 use Rattle.termination_model.specs.Descent.{mode_row}
 use Rattle.cert_modes.proofs.PlaceLaws.{all_true}

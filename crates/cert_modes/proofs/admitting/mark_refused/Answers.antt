@@ -1,6 +1,6 @@
 use Rattle.std.proofs.Common.{◌≡◌, ◌∙◌, ◌<◌, ℕ, IsTrue, IsSomeAnd, List, length, slice_get, slice_index_or, Option, Some, refl, sym, subst, arith}
 use Rattle.std.specs.List.{list_all}
-use Rattle.truth_rows.proofs.ListLaws.{at_place, place_below, there}
+use Rattle.termination_model.proofs.Lists.{at_place, place_below, there}
 use Rattle.truth_rows.proofs.SetLaws.{none}
 use Rattle.bool_diagrams.specs.Cubes.{truth_rows}
 use Rattle.bool_diagrams.specs.declared.diagram.Diagram.{Diagram}

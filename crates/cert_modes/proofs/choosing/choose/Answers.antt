@@ -1,6 +1,7 @@
 use Rattle.std.proofs.Common.{◌≡◌, ◌∙◌, ◌<◌, sym, ap, arith, ℕ, List, length, slice_get, slice_set, Some}
 use Rattle.std.proofs.lemmas.List.{length-set}
-use Rattle.truth_rows.proofs.ListLaws.{at_place, place_below, up_to_more}
+use Rattle.truth_rows.proofs.ListLaws.{up_to_more}
+use Rattle.termination_model.proofs.Lists.{at_place, place_below}
 use Rattle.call_components.proofs.Lists.{slice_get-set_same}
 use Rattle.cti_terms.specs.declared.atom_list.Atom.{Atom}
 use Rattle.cert_modes.specs.Sets.{set_at}

@@ -1,6 +1,6 @@
 use Rattle.std.proofs.Common.{◌≡◌, ◌↔◌, ◌∙◌, ◌+◌, ◌-◌, ℕ, IsTrue, slice_get, Some, subst, arith}
 use Rattle.truth_rows.proofs.CallerLemmas.{family_later}
-use Rattle.truth_rows.proofs.ListLaws.{by_places, from_places, place_below}
+use Rattle.termination_model.proofs.Lists.{by_places, from_places, place_below}
 use Rattle.truth_rows.specs.Sets.{family_of}
 use Rattle.bool_diagrams.proofs.CallerLemmas.{keeps_twice}
 use Rattle.cti_terms.specs.declared.clauses.Clause.{Clause}

@@ -1,5 +1,5 @@
 use Rattle.std.proofs.Common.{◌≡◌, ◌∙◌, ℕ, Bool, IsTrue, List, length, map, slice_get, slice_index_or, Some, refl, ap, sym, subst, arith}
-use Rattle.truth_rows.proofs.ListLaws.{at_place, place_below, there}
+use Rattle.termination_model.proofs.Lists.{at_place, place_below, there}
 use Rattle.truth_rows.proofs.SetLaws.{none}
 use Rattle.bool_diagrams.proofs.CallerLemmas.{keeps_twice}
 use Rattle.bool_diagrams.specs.Cubes.{truth_rows}

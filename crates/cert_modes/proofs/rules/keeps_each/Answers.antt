@@ -1,7 +1,7 @@
 use Rattle.std.proofs.Common.{◌≡◌, ◌↔◌, ◌∙◌, inl, inr, ℕ, IsTrue, true, false, List, length, slice_get, Some, refl, ap, sym, subst, arith}
 use Rattle.std.proofs.lemmas.Bool.{cases_lt}
 use Rattle.truth_rows.proofs.CallerLemmas.{sets_later}
-use Rattle.truth_rows.proofs.ListLaws.{at_place}
+use Rattle.termination_model.proofs.Lists.{at_place}
 use Rattle.truth_rows.specs.Rules.{KeepsSets, same_rank}
 use Rattle.truth_rows.specs.Sets.{family_of}
 use Rattle.bool_diagrams.proofs.CallerLemmas.{keeps_twice}

@@ -1,5 +1,5 @@
 use Rattle.std.proofs.Common.{◌≡◌, ◌∙◌, ◌<◌, ℕ, List, length, slice_get, Some, ap, sym, subst, arith}
-use Rattle.truth_rows.proofs.ListLaws.{at_place}
+use Rattle.termination_model.proofs.Lists.{at_place}
 use Rattle.bool_diagrams.proofs.CallerLemmas.{keeps_twice}
 use Rattle.bool_diagrams.specs.declared.cube.Cell.{Cell}
 use Rattle.bool_diagrams.specs.declared.diagram.Diagram.{Diagram}

@@ -6,7 +6,8 @@ use Rattle.linear_rows.specs.Blown.{blend_fits}
 use Rattle.linear_rows.specs.Solving.{zeros}
 use Rattle.fourier.specs.Blending.{blended}
 use Rattle.fourier.specs.Sparse.{spread, rest_at}
-use Rattle.fourier.proofs.SparseLemmas.{length-zeros, more_left, nothing_left, blend_goes_on, blend_here, not_all, all_three, same_length, blend_ends, fits_end}
+use Rattle.fourier.proofs.SparseLemmas.{more_left, nothing_left, blend_goes_on, blend_here, not_all, all_three, same_length, blend_ends, fits_end}
+use Rattle.linear_rows.proofs.Refutes.{length-zeros}
 use Rattle.fourier.proofs.line.merge.Goals as goal
 use Rattle.fourier.proofs.line.merge.Goals.{then-p-r, else-p-r+then-q-s}
 

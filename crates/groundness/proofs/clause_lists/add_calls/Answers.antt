@@ -1,7 +1,8 @@
 use Rattle.std.proofs.Common.{◌≡◌, ◌<◌, inl, inr, ℕ, List, length, slice_get, Some, sym, subst, ap, ◌∙◌, arith}
 use Rattle.std.proofs.lemmas.List.{length-set}
 use Rattle.cti_terms.specs.declared.atom_list.Atom.{Atom}
-use Rattle.truth_rows.proofs.ListLaws.{at_place, place_below, up_to_more}
+use Rattle.truth_rows.proofs.ListLaws.{up_to_more}
+use Rattle.termination_model.proofs.Lists.{at_place, place_below}
 use Rattle.groundness.specs.Marks.{HasUser}
 use Rattle.groundness.proofs.UserLaws.{user_added, user_more, user_only}
 use Rattle.groundness.proofs.clause_lists.add_calls.Goals as goal

@@ -3,7 +3,7 @@ use Rattle.std.proofs.lemmas.Bool.{cases_eq}
 use Rattle.std.proofs.lemmas.List.{length-replicate, length-set}
 use Rattle.cti_terms.specs.declared.clauses.Clause.{Clause}
 use Rattle.cti_terms.specs.declared.predicates.Pred.{Pred}
-use Rattle.truth_rows.proofs.ListLaws.{place_below}
+use Rattle.termination_model.proofs.Lists.{place_below}
 use Rattle.truth_rows.proofs.SetLaws.{some_is}
 use Rattle.groundness.specs.Marks.{HasUser}
 use Rattle.groundness.proofs.UserLaws.{no_users, user_added, user_more, user_only}

@@ -4,7 +4,7 @@ use Rattle.std.proofs.lemmas.List.{length-replicate}
 use Rattle.cti_terms.specs.declared.clauses.Clause.{Clause}
 use Rattle.cti_terms.specs.declared.predicates.Pred.{Pred}
 use Rattle.cti_terms.specs.Listing.{IsAtom}
-use Rattle.truth_rows.proofs.ListLaws.{by_places, place_below}
+use Rattle.termination_model.proofs.Lists.{by_places, place_below}
 use Rattle.truth_rows.proofs.SetLaws.{some_is}
 use Rattle.groundness.specs.Marks.{HasUser}
 use Rattle.groundness.proofs.UserLaws.{no_users}

@@ -4,7 +4,7 @@ use Rattle.cti_terms.specs.declared.clauses.Clause.{Clause}
 use Rattle.termination_model.specs.Grounds.{Family, IsClosedUnder}
 use Rattle.truth_rows.specs.Sets.{family_of}
 use Rattle.truth_rows.proofs.CallerLemmas.{family_later}
-use Rattle.truth_rows.proofs.ListLaws.{there}
+use Rattle.termination_model.proofs.Lists.{there}
 use Rattle.truth_rows.proofs.SetLaws.{none, ready, atom_there}
 use Rattle.groundness.specs.Marks.{IsApart}
 use Rattle.groundness.proofs.SetLaws.{added_apart, added_closed, added_inside, added_less, added_needed, added_others, added_sets}

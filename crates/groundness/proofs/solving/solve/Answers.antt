@@ -3,7 +3,7 @@ use Rattle.std.proofs.lemmas.List.{length-replicate, take_at}
 use Rattle.bool_diagrams.specs.declared.diagram.Diagram.{Diagram}
 use Rattle.bool_diagrams.proofs.CallerLemmas.{keeps_same, keeps_twice}
 use Rattle.truth_rows.specs.Sets.{AreSets, family_of}
-use Rattle.truth_rows.proofs.ListLaws.{from_places, place_below}
+use Rattle.termination_model.proofs.Lists.{from_places, place_below}
 use Rattle.groundness.specs.Marks.{IsMarked}
 use Rattle.groundness.proofs.MarkLaws.{marked_at}
 use Rattle.groundness.proofs.StartLaws.{start_none, start_sets}

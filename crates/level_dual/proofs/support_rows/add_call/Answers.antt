@@ -1,14 +1,11 @@
 use Rattle.std.proofs.Common.{◌≡◌, ◌<◌, ◌≤ℤ◌, ◌+◌, ◌++◌, ℕ, suc, ℤ, pos, List, [], ◌∷◌, map, length, ap, sym, subst, ◌∙◌, arith}
 use Rattle.call_components.specs.Numbers.{number_of}
-use Rattle.cti_terms.specs.Tree.{Tree}
 use Rattle.linear_rows.specs.Plain.{plain_row, plain_rows}
 use Rattle.linear_rows.specs.Step.{columns}
-use Rattle.linear_rows.specs.declared.row.Row.{Row}
 use Rattle.termination_model.specs.OwnCalls.{OwnCall as Recalled}
-use Rattle.termination_model.specs.SupportSystem.{call_row, call_rows}
+use Rattle.termination_model.specs.SupportSystem.{call_row}
 use Rattle.termination_model.proofs.Lists.{append_assoc, map_push}
 use Rattle.level_dual.specs.Held.{held_numbers, spelled}
-use Rattle.level_dual.specs.Recalled.{Recalls}
 use Rattle.level_dual.proofs.Holding.{held_row}
 use Rattle.level_dual.proofs.RowLengths.{columns_more, held_length}
 use Rattle.level_dual.proofs.support_rows.add_call.Goals as goal

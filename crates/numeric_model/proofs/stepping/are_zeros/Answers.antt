@@ -3,7 +3,8 @@ use Rattle.std.specs.Int.{w128}
 use Rattle.std.proofs.lemmas.Int.{to_z-of_z}
 use Rattle.exact128.specs.Sums.{entry}
 use Rattle.linear_rows.specs.Solving.{zeros}
-use Rattle.numeric_model.proofs.Bottoms.{zeros_all, entry_zeros}
+use Rattle.numeric_model.proofs.Bottoms.{zeros_all}
+use Rattle.termination_model.proofs.Entries.{entry_zeros}
 use Rattle.numeric_model.proofs.stepping.are_zeros.Goals as goal
 
 pub returns : goal.returns

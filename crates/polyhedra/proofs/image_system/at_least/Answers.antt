@@ -4,7 +4,8 @@ use Rattle.std.specs.Prelude.{FitsSigned}
 use Rattle.std.proofs.lemmas.Int.{to_z-of_z}
 use Rattle.linear_rows.specs.Solving.{zeros, units}
 use Rattle.linear_rows.specs.Systems.{opposite}
-use Rattle.polyhedra.proofs.Appends.{units_parts, long_append}
+use Rattle.polyhedra.proofs.Appends.{long_append}
+use Rattle.fourier.proofs.StartRows.{units_parts}
 use Rattle.termination_model.proofs.ImageLaw.{length-units}
 use Rattle.std.proofs.lemmas.List.{length-map}
 use Rattle.polyhedra.proofs.image_system.at_least.Goals as goal

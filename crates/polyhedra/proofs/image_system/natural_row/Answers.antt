@@ -1,6 +1,6 @@
 use Rattle.std.proofs.Common.{◌-◌, pos, List, ℤ, ap, sym, ◌∙◌, ◌++◌, ◌∷◌, length}
 use Rattle.linear_rows.specs.Solving.{zeros}
-use Rattle.polyhedra.proofs.Appends.{units_parts}
+use Rattle.fourier.proofs.StartRows.{units_parts}
 use Rattle.termination_model.proofs.ImageLaw.{length-units}
 use Rattle.polyhedra.proofs.image_system.natural_row.Goals as goal
 

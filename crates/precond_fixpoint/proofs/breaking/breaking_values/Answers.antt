@@ -8,7 +8,7 @@ use Rattle.truth_rows.specs.Ready.{HasAtom, HasAtoms}
 use Rattle.truth_rows.specs.Rules.{same_rank}
 use Rattle.truth_rows.proofs.AtomLaws.{atom_later, atom_same, atoms_more, chosen_ready, ready_later}
 use Rattle.truth_rows.proofs.EndLaws.{all_told_more, row_told, says_both, says_either, says_itself, says_later, says_onward, says_same, says_where}
-use Rattle.truth_rows.proofs.ListLaws.{at_place}
+use Rattle.termination_model.proofs.Lists.{at_place}
 use Rattle.precond_fixpoint.specs.Breaking.{BreaksBelow}
 use Rattle.precond_fixpoint.proofs.BreakingLaws.{all_breaks, breaks_all, breaks_more}
 use Rattle.precond_fixpoint.proofs.breaking.breaking_values.Goals as goal

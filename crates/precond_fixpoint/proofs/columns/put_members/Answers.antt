@@ -3,7 +3,7 @@ use Rattle.bool_diagrams.proofs.CallerLemmas.{keeps_twice}
 use Rattle.cti_terms.specs.declared.predicates.PredId.{PredId}
 use Rattle.precond_fixpoint.specs.Solving.{FitPredicate, IsColumn}
 use Rattle.precond_fixpoint.proofs.FamilyLaws.{columns_more, fit_later}
-use Rattle.truth_rows.proofs.ListLaws.{at_place, place_below, there}
+use Rattle.termination_model.proofs.Lists.{at_place, place_below, there}
 use Rattle.precond_fixpoint.proofs.columns.put_members.Goals as goal
 
 pub put_member-requires-clause-there : goal.put_member-requires-clause-there

@@ -3,7 +3,7 @@ use Rattle.cti_terms.specs.declared.predicates.Pred.{Pred}
 use Rattle.precond_fixpoint.proofs.FamilyLaws.{family_elsewhere}
 use Rattle.precond_fixpoint.proofs.PlaceLaws.{items_at, some_at}
 use Rattle.precond_fixpoint.proofs.StartLaws.{cover_own, cover_sets, signs_is, signs_wide}
-use Rattle.truth_rows.proofs.ListLaws.{at_place, by_places}
+use Rattle.termination_model.proofs.Lists.{at_place, by_places}
 use Rattle.precond_fixpoint.proofs.covering.cover_member.Goals as goal
 
 pub covering_rows-requires : goal.covering_rows-requires

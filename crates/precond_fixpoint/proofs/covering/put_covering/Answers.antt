@@ -6,7 +6,7 @@ use Rattle.number_tests.specs.Levels.{coefficients_of}
 use Rattle.precond_fixpoint.specs.Removing.{IsCovering}
 use Rattle.precond_fixpoint.proofs.FamilyLaws.{earlier}
 use Rattle.precond_fixpoint.proofs.StartLaws.{covering_same}
-use Rattle.truth_rows.proofs.ListLaws.{place_below, there}
+use Rattle.termination_model.proofs.Lists.{place_below, there}
 use Rattle.truth_rows.specs.Sets.{family_of}
 use Rattle.precond_fixpoint.proofs.covering.put_covering.Goals as goal
 

@@ -4,7 +4,8 @@ use Rattle.bool_diagrams.specs.declared.diagram.Diagram.{Diagram}
 use Rattle.cti_terms.specs.declared.predicates.PredId.{PredId}
 use Rattle.precond_fixpoint.specs.Solving.{IsColumn}
 use Rattle.precond_fixpoint.proofs.FamilyLaws.{column_longer}
-use Rattle.truth_rows.proofs.ListLaws.{one_element, place_below, set_elsewhere, set_there, there}
+use Rattle.truth_rows.proofs.ListLaws.{set_elsewhere, set_there}
+use Rattle.termination_model.proofs.Lists.{one_element, place_below, there}
 use Rattle.truth_rows.proofs.SetLaws.{none}
 use Rattle.precond_fixpoint.proofs.families.push_sets.Goals as goal
 

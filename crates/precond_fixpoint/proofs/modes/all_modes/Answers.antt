@@ -9,7 +9,7 @@ use Rattle.precond_fixpoint.proofs.PlaceLaws.{items_at, some_at}
 use Rattle.precond_fixpoint.proofs.StartLaws.{pushed, pushed_length}
 use Rattle.termination_model.specs.Modes.{modes}
 use Rattle.truth_rows.proofs.CallerLemmas.{family_at}
-use Rattle.truth_rows.proofs.ListLaws.{by_places, one_element, place_below, there}
+use Rattle.termination_model.proofs.Lists.{by_places, one_element, place_below, there}
 use Rattle.truth_rows.proofs.SetLaws.{none}
 use Rattle.truth_rows.specs.Sets.{family_of}
 use Rattle.precond_fixpoint.proofs.modes.all_modes.Goals as goal

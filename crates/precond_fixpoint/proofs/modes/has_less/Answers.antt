@@ -1,7 +1,7 @@
 use Rattle.std.proofs.Common.{◌&&◌, ℕ, nat_lt, List, length, sym, arith}
 use Rattle.precond_fixpoint.proofs.ModeLaws.{any_false}
 use Rattle.termination_model.specs.Modes.{is_part}
-use Rattle.truth_rows.proofs.ListLaws.{place_below}
+use Rattle.termination_model.proofs.Lists.{place_below}
 use Rattle.precond_fixpoint.proofs.modes.has_less.Goals as goal
 
 pub returns : goal.returns

@@ -1,7 +1,7 @@
 use Rattle.std.proofs.Common.{ℕ, nat_eq, sym, arith}
 use Rattle.std.specs.List.{list_any}
 use Rattle.precond_fixpoint.proofs.ModeLaws.{all_true}
-use Rattle.truth_rows.proofs.ListLaws.{place_below}
+use Rattle.termination_model.proofs.Lists.{place_below}
 use Rattle.precond_fixpoint.proofs.modes.is_part.Goals as goal
 
 pub returns : goal.returns

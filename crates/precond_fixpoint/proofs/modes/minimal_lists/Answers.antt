@@ -2,7 +2,7 @@ use Rattle.std.proofs.Common.{◌≡◌, ◌&&◌, ◌++◌, ◌∷◌, [], ℕ,
 use Rattle.std.specs.List.{list_any}
 use Rattle.precond_fixpoint.proofs.ModeLaws.{filter_kept_at, filter_left_at}
 use Rattle.termination_model.specs.Modes.{is_part}
-use Rattle.truth_rows.proofs.ListLaws.{at_place}
+use Rattle.termination_model.proofs.Lists.{at_place}
 use Rattle.precond_fixpoint.proofs.modes.minimal_lists.Goals as goal
 
 pub loop-args-preserved-then-has_less : goal.loop-args-preserved-then-has_less

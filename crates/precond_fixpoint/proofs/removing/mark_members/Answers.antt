@@ -1,7 +1,8 @@
 use Rattle.std.proofs.Common.{ℕ, List, Contains, get_or, sym, subst, ◌∙◌, arith}
 use Rattle.cti_terms.specs.declared.predicates.PredId.{PredId}
 use Rattle.groundness.specs.Marks.{HasUser, IsMarked}
-use Rattle.truth_rows.proofs.ListLaws.{place_below, there, up_to_more}
+use Rattle.truth_rows.proofs.ListLaws.{up_to_more}
+use Rattle.termination_model.proofs.Lists.{place_below, there}
 use Rattle.precond_fixpoint.proofs.removing.mark_members.Goals as goal
 
 pub mark_all-requires : goal.mark_all-requires

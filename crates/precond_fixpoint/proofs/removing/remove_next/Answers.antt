@@ -3,7 +3,8 @@ use Rattle.std.proofs.lemmas.Bool.{cases_eq}
 use Rattle.std.proofs.lemmas.List.{length-set}
 use Rattle.cti_terms.specs.declared.clauses.Clause.{Clause}
 use Rattle.truth_rows.specs.Sets.{family_of}
-use Rattle.truth_rows.proofs.ListLaws.{place_below, set_elsewhere}
+use Rattle.truth_rows.proofs.ListLaws.{set_elsewhere}
+use Rattle.termination_model.proofs.Lists.{place_below}
 use Rattle.groundness.specs.Marks.{HasUser, IsApart, IsMarked, marks_left}
 use Rattle.groundness.proofs.MarkLaws.{left_taken, less_marks, less_work}
 use Rattle.precond_fixpoint.specs.Removing.{all_present, is_ranked}

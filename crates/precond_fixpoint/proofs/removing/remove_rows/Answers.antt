@@ -7,7 +7,7 @@ use Rattle.termination_model.specs.Grounds.{Family}
 use Rattle.truth_rows.proofs.CallerLemmas.{family_later}
 use Rattle.truth_rows.specs.Rules.{KeepsSets, same_rank}
 use Rattle.truth_rows.specs.Sets.{family_of}
-use Rattle.truth_rows.proofs.ListLaws.{there}
+use Rattle.termination_model.proofs.Lists.{there}
 use Rattle.truth_rows.proofs.SetLaws.{none, ready, atom_there}
 use Rattle.precond_fixpoint.specs.Removing.{RemovesBroken}
 use Rattle.precond_fixpoint.proofs.RemoveLaws.{removed_inside, removed_keeps, removed_less, removed_only, removed_others, removed_sets, same_inside, same_keeps}

@@ -5,7 +5,7 @@ use Rattle.cti_terms.specs.declared.predicates.PredId.{PredId}
 use Rattle.precond_fixpoint.specs.Solving.{AreColumns}
 use Rattle.precond_fixpoint.proofs.ComponentLaws.{component_solved, counted, in_program, member_columns, member_in, members_ranked, no_place, some_members}
 use Rattle.precond_fixpoint.proofs.FamilyLaws.{column_known, column_reads, unions_later}
-use Rattle.truth_rows.proofs.ListLaws.{at_place, there}
+use Rattle.termination_model.proofs.Lists.{at_place, there}
 use Rattle.truth_rows.specs.Sets.{family_of}
 use Rattle.precond_fixpoint.proofs.solving.solve_component.Goals as goal
 

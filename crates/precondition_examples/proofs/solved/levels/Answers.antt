@@ -4,7 +4,7 @@ use Rattle.cti_terms.specs.declared.predicates.Pred.{Pred}
 use Rattle.number_tests.specs.declared.level_part.LevelPart.{LevelPart}
 use Rattle.precond_fixpoint.proofs.PlaceLaws.{items_at, items_there, some_at}
 use Rattle.precond_fixpoint.proofs.StartLaws.{pushed, pushed_length}
-use Rattle.truth_rows.proofs.ListLaws.{one_element, place_below}
+use Rattle.termination_model.proofs.Lists.{one_element, place_below}
 use Rattle.precondition_examples.proofs.solved.levels.Goals as goal
 
 pub loop-q-preserved : goal.loop-q-preserved

@@ -5,7 +5,7 @@ use Rattle.std.proofs.lemmas.List.{length-map}
 use Rattle.bool_diagrams.proofs.CallerLemmas.{keeps_twice}
 use Rattle.cti_terms.specs.Spell.{tree_of}
 use Rattle.cti_terms.specs.Tree.{Tree, is_below, nodes_of}
-use Rattle.truth_rows.proofs.ListLaws.{at_place, by_places, mapped_place, place_below, sum_part}
+use Rattle.termination_model.proofs.Lists.{at_place, by_places, mapped_place, place_below, sum_part}
 use Rattle.truth_rows.proofs.ArgumentLaws.{mixed, argument_step, mixed_start, mixed_end, from_zero, number_at}
 use Rattle.truth_rows.proofs.atoms.argument_rows.Goals as goal
 

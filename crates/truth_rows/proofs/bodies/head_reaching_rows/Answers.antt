@@ -5,7 +5,7 @@ use Rattle.cti_terms.specs.declared.atom_list.Atom.{Atom}
 use Rattle.truth_rows.specs.Ready.{HasAtom, HasAtoms}
 use Rattle.truth_rows.proofs.AtomLaws.{atom_later, atom_same, atoms_more, ready_later}
 use Rattle.truth_rows.proofs.EndLaws.{all_told_more, row_told, says_both, says_itself, says_later, says_same}
-use Rattle.truth_rows.proofs.ListLaws.{at_place}
+use Rattle.termination_model.proofs.Lists.{at_place}
 use Rattle.truth_rows.proofs.bodies.head_reaching_rows.Goals as goal
 
 pub put_body_off-requires-clause-small : goal.put_body_off-requires-clause-small

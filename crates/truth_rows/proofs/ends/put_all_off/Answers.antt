@@ -4,7 +4,8 @@ use Rattle.cti_terms.specs.Spell.{tree_of}
 use Rattle.cti_terms.specs.Tree.{Tree, is_below, nodes_of}
 use Rattle.truth_rows.specs.Ends.{IsTold}
 use Rattle.truth_rows.proofs.EndLaws.{told_more}
-use Rattle.truth_rows.proofs.ListLaws.{at_place, by_places, from_places, mapped_place, place_below, sum_part, up_to_more}
+use Rattle.truth_rows.proofs.ListLaws.{up_to_more}
+use Rattle.termination_model.proofs.Lists.{at_place, by_places, from_places, mapped_place, place_below, sum_part}
 use Rattle.truth_rows.proofs.ends.put_all_off.Goals as goal
 
 pub put_off-requires-clause-below : goal.put_off-requires-clause-below

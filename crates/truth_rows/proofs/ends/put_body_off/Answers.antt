@@ -3,7 +3,8 @@ use Rattle.std.specs.List.{AllByRecursion}
 use Rattle.cti_terms.specs.declared.atom_list.Atom.{Atom}
 use Rattle.truth_rows.specs.Ends.{IsTold}
 use Rattle.truth_rows.proofs.EndLaws.{all_told_more}
-use Rattle.truth_rows.proofs.ListLaws.{at_place, place_below, up_to_more}
+use Rattle.truth_rows.proofs.ListLaws.{up_to_more}
+use Rattle.termination_model.proofs.Lists.{at_place, place_below}
 use Rattle.truth_rows.proofs.ends.put_body_off.Goals as goal
 
 pub loop-place-preserved : goal.loop-place-preserved

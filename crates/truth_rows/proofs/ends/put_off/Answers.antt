@@ -6,7 +6,7 @@ use Rattle.cti_terms.specs.Spell.{tree_of}
 use Rattle.term_size.specs.Members.{members}
 use Rattle.truth_rows.specs.Ends.{IsAsked}
 use Rattle.truth_rows.proofs.EndLaws.{asked_set, asked_there, listed_told}
-use Rattle.truth_rows.proofs.ListLaws.{there}
+use Rattle.termination_model.proofs.Lists.{there}
 use Rattle.truth_rows.proofs.ends.put_off.Goals as goal
 
 pub loop-x-preserved-then-not-contains : goal.loop-x-preserved-then-not-contains

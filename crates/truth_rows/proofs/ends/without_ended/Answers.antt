@@ -2,7 +2,7 @@ use Rattle.std.proofs.Common.{ℕ, Bool, IsTrue, arith}
 use Rattle.bool_diagrams.specs.Rows.{holds}
 use Rattle.bool_diagrams.proofs.CallerLemmas.{keeps_twice}
 use Rattle.truth_rows.proofs.EndLaws.{says_without}
-use Rattle.truth_rows.proofs.ListLaws.{there}
+use Rattle.termination_model.proofs.Lists.{there}
 use Rattle.truth_rows.proofs.ends.without_ended.Goals as goal
 
 pub loop-x-preserved : goal.loop-x-preserved

@@ -7,7 +7,8 @@ use Rattle.cti_terms.specs.Tree.{Tree, is_below, nodes_of}
 use Rattle.truth_rows.specs.Ready.{HasTruths}
 use Rattle.truth_rows.proofs.ArgumentLaws.{number_at}
 use Rattle.truth_rows.proofs.EndLaws.{asked_past, says_both, says_itself, says_later, says_same}
-use Rattle.truth_rows.proofs.ListLaws.{at_place, by_places, mapped_place, place_below, sum_part, up_to_more}
+use Rattle.truth_rows.proofs.ListLaws.{up_to_more}
+use Rattle.termination_model.proofs.Lists.{at_place, by_places, mapped_place, place_below, sum_part}
 use Rattle.truth_rows.proofs.RowLaws.{iff_same, iff_true}
 use Rattle.truth_rows.proofs.head_rows.bound_head.Goals as goal
 

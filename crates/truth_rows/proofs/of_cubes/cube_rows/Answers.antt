@@ -4,7 +4,7 @@ use Rattle.bool_diagrams.specs.Cubes.{covers, values_of}
 use Rattle.bool_diagrams.specs.Rows.{holds}
 use Rattle.bool_diagrams.proofs.CallerLemmas.{holds_later, keeps_twice}
 use Rattle.truth_rows.proofs.CellLaws.{any_next, any_skipped, cells_read, covers_is, covers_none}
-use Rattle.truth_rows.proofs.ListLaws.{at_place}
+use Rattle.termination_model.proofs.Lists.{at_place}
 use Rattle.truth_rows.proofs.of_cubes.cube_rows.Goals as goal
 
 pub loop-cube-preserved-then-cells-width : goal.loop-cube-preserved-then-cells-width

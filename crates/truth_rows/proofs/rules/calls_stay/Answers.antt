@@ -6,7 +6,8 @@ use Rattle.truth_rows.specs.Ready.{HasAtom, HasAtoms}
 use Rattle.truth_rows.specs.Rules.{same_rank}
 use Rattle.truth_rows.proofs.AtomLaws.{atom_later, atom_same, atoms_more, chosen_ready, ready_later}
 use Rattle.truth_rows.proofs.EndLaws.{row_told, says_both, says_itself, says_later, says_onward, says_same}
-use Rattle.truth_rows.proofs.ListLaws.{at_place, place_below, up_to_more}
+use Rattle.truth_rows.proofs.ListLaws.{up_to_more}
+use Rattle.termination_model.proofs.Lists.{at_place, place_below}
 use Rattle.truth_rows.proofs.rules.calls_stay.Goals as goal
 
 pub put_body_off-requires-clause-small : goal.put_body_off-requires-clause-small

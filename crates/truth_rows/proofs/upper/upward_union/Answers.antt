@@ -4,7 +4,7 @@ use Rattle.bool_diagrams.specs.Cubes.{truth_rows, values_of}
 use Rattle.bool_diagrams.proofs.CallerLemmas.{holds_later, keeps_twice}
 use Rattle.termination_model.specs.View.{all_upper}
 use Rattle.truth_rows.proofs.CellLaws.{any_next}
-use Rattle.truth_rows.proofs.ListLaws.{there}
+use Rattle.termination_model.proofs.Lists.{there}
 use Rattle.truth_rows.proofs.SetLaws.{none}
 use Rattle.truth_rows.proofs.upper.upward_union.Goals as goal
 

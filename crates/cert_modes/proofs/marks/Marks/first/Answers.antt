@@ -1,5 +1,5 @@
 use Rattle.std.proofs.Common.{◌≡◌, true, refl, ap, arith, length}
-use Rattle.truth_rows.proofs.ListLaws.{place_below}
+use Rattle.termination_model.proofs.Lists.{place_below}
 use Rattle.cert_modes.specs.Marks.{is_clear, is_unmarked}
 use Rattle.cert_modes.proofs.PlaceLaws.{all_true}
 use Rattle.cert_modes.proofs.marks.Marks.first.Goals as goal

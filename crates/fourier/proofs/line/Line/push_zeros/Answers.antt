@@ -1,7 +1,8 @@
 use Rattle.std.proofs.Common.{◌++◌, length, arith, ap, ◌∙◌, length-append}
 use Rattle.linear_rows.specs.Solving.{zeros}
 use Rattle.fourier.specs.Sparse.{spread}
-use Rattle.fourier.proofs.SparseLemmas.{length-zeros, spread-zeros, tail_within}
+use Rattle.fourier.proofs.SparseLemmas.{spread-zeros, tail_within}
+use Rattle.linear_rows.proofs.Refutes.{length-zeros}
 use Rattle.fourier.proofs.line.Line.push_zeros.Goals as goal
 
 pub overflow_add-self : goal.overflow_add-self

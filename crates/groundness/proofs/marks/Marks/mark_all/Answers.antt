@@ -1,5 +1,6 @@
 use Rattle.std.proofs.Common.{ℕ, slice_index_or, arith, ◌∙◌}
-use Rattle.truth_rows.proofs.ListLaws.{from_index, there, up_to_more}
+use Rattle.truth_rows.proofs.ListLaws.{from_index, up_to_more}
+use Rattle.termination_model.proofs.Lists.{there}
 use Rattle.groundness.specs.Marks.{IsMarked}
 use Rattle.groundness.proofs.marks.Marks.mark_all.Goals as goal
 use Rattle.std.proofs.lemmas.List.Elements.{Contains-get_or}
