@@ -1,3 +1,4 @@
+-- To believe, for the modes.
 -- The cubes of a set of truth rows: the one way in which a set is spelled.
 --
 -- A truth row is a list of values, of variable 0 first. A set of them is the test of its members. A cube has a cell

@@ -1,3 +1,4 @@
+-- Private.
 -- What a diagram is that was joined of others: for private clauses.
 use Rattle.std.specs.Prelude.{ℕ, ◌≡◌, ◌+◌, ◌*◌, ◌^◌, ◌≤◌, ◌<◌, false, true, Bool, List, ◌&&◌, ◌||◌, if◌then◌else◌, Option, Some, None, nat_eq}
 use Rattle.std.specs.HashMap.{HashMap, get}

@@ -1,3 +1,4 @@
+-- Private.
 -- The nodes of a table, the newest first, and the table's invariant: for private clauses.
 use Rattle.std.specs.Prelude.{ℕ, ◌≡◌, ◌≢◌, ◌+◌, ◌*◌, ◌%◌, ◌^◌, ◌<◌, ◌==◌, ◌&&◌, Bool, if◌then◌else◌, List, [], ◌∷◌, ◌++◌, length, Option, Some, None, Contains}
 use Rattle.std.specs.HashMap.{HashMap, get}

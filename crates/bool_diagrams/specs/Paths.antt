@@ -1,3 +1,4 @@
+-- Private.
 -- What the walk over the paths of a diagram does below its root: for private clauses.
 use Rattle.std.specs.Prelude.{ℕ, ◌≡◌, ◌-◌, ◌<◌, Bool, false, List, slice_index_or}
 use Rattle.bool_diagrams.specs.Tree.{Tree, value}

@@ -1,3 +1,4 @@
+-- Private.
 -- Renaming variables, all at once.
 --
 -- To believe: `renamed`, by which `rename` speaks of rows.

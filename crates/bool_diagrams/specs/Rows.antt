@@ -1,3 +1,4 @@
+-- To believe, for the modes.
 -- What a table of diagrams means. A table is seen as the list of its diagrams, oldest first, each as the decision
 -- tree of its set of rows, without the two constants; a diagram is the set of the rows on which its tree is true.
 --

@@ -1,3 +1,4 @@
+-- Private.
 -- Boolean functions of the variables 0, 1, 2, .. as decision trees, and the rows on which they are true.
 --
 -- A row gives each variable its value. A tree is a leaf, or asks one variable and goes on in the low tree

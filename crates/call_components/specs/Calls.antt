@@ -1,3 +1,4 @@
+-- To believe, for the modes.
 -- Who calls whom in a program, and who reaches whom by calls.
 --
 -- Predicates are identified by their numbers. To believe: `Calls`, `Reaches`.

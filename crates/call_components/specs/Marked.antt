@@ -1,3 +1,4 @@
+-- Private.
 -- Marks of predicates in the search for components. Nothing here has to be believed.
 use Rattle.std.specs.Prelude.{ℕ, ◌+◌, ◌≤◌, List, [], ◌∷◌, if◌then◌else◌, nat_le, slice_set, slice_index_or}
 use Rattle.call_components.specs.declared.marks.Mark.{Mark}

@@ -1,3 +1,4 @@
+-- Private.
 -- Predicates sorted by a number of each. Nothing here has to be believed.
 use Rattle.std.specs.Prelude.{◌≡◌, ℕ, ◌+◌, ◌<◌, List, [], ◌∷◌, length, ◌==◌, if◌then◌else◌, slice_get, slice_index_or, Some}
 use Rattle.call_components.specs.Table.{HasCall}

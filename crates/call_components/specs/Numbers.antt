@@ -1,3 +1,4 @@
+-- Private.
 -- Predicates by their numbers.
 use Rattle.std.specs.Prelude.{ℕ}
 use Rattle.cti_terms.specs.declared.atom_list.Atom.{Atom}

@@ -1,3 +1,4 @@
+-- To believe, for the modes.
 -- The components of a program: its predicates, together where each reaches the other, callees first.
 --
 -- Components are numbered from 0. To believe: `Partition`, `AreComponents`, over the words of `Calls.antt`.

@@ -1,3 +1,4 @@
+-- Private.
 -- The state of the search for components. Nothing here has to be believed.
 --
 -- The open predicates stand in a row that is cut into segments. From each of them there is a way to each later one,

@@ -1,3 +1,4 @@
+-- Private.
 -- The calls of a program as a table: for each predicate those that its clauses call, in order. Nothing here has to be believed.
 use Rattle.std.specs.Prelude.{◌≡◌, ℕ, ◌<◌, ◌↔◌, ◌==◌, if◌then◌else◌, List, [], ◌∷◌, ◌++◌, map, length, slice_get, slice_index_or, Some}
 use Rattle.std.specs.List.{AllByRecursion}

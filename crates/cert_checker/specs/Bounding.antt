@@ -1,3 +1,4 @@
+-- To believe, for a Yes.
 -- What a Yes says of a program's queries: each that meets a printed mode has bounded derivations.
 --
 -- To believe, where a Yes is to mean that queries end: this file, over the terms, programs, unification and derivations

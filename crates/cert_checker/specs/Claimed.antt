@@ -1,3 +1,4 @@
+-- To believe, for the modes.
 -- The claims of a certificate: what its parts say of the program's predicates, as functions on their numbers.
 --
 -- A predicate's rank is the number of its component. The component r has one measure for each mapping of its members,

@@ -1,3 +1,4 @@
+-- Private.
 -- What a certificate's refutations show of its claims: that no mapping of the component decreases.
 --
 -- To believe: nothing. `IsRefutation` is the definition of `termination_model`.

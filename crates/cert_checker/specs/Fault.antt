@@ -1,3 +1,4 @@
+-- Private.
 -- What is wrong with a certificate of right structure: the first fact that fails, and the smallest reason why (the first fault of a certificate, a draft).
 --
 -- To believe: all of this file.

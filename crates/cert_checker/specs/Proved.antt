@@ -1,3 +1,4 @@
+-- To believe, for the command.
 -- What a certificate's multipliers have to show: that clauses keep the size rows, and that the mappings fall.
 --
 -- A clause keeps a size row of its head where multipliers show the row over the rows of its body. A mapping falls at a

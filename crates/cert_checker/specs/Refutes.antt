@@ -1,3 +1,4 @@
+-- Private.
 -- What a certificate's refutations mean: no mapping of the component falls at each of its calls, for the printed size rows.
 --
 -- To believe: all of this file.

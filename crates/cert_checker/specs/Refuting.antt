@@ -1,3 +1,4 @@
+-- To believe, for the command.
 -- What a certificate's refutations have to show: that no mapping of a component falls at each of its calls.
 --
 -- To believe: all of this file.

@@ -1,3 +1,4 @@
+-- To believe, for the command.
 -- What the lists of a certificate's parts have: an element for each clause, predicate, call or row that they speak of.
 --
 -- This is what the structure of a certificate gives, before any number of it is tested. Nothing here has to be believed.

@@ -1,3 +1,4 @@
+-- Private.
 -- What the tests of a certificate's numbers show of its claims.
 --
 -- To believe: nothing. These are the premises, on sizes and falls, under which claims show queries to end.

@@ -1,3 +1,4 @@
+-- To believe, for the command.
 -- When a certificate of a program is valid.
 --
 -- Its facts are those of some parts, and what the parts claim holds: their modes, and the numbers that prove their size

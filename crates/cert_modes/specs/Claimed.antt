@@ -1,3 +1,4 @@
+-- Private.
 -- What holding modes give to claims that say what the parts of a certificate say.
 --
 -- To believe: nothing, where only `Bounded` is wanted.

@@ -1,3 +1,4 @@
+-- Private.
 -- Marks of predicates. Nothing here has to be believed.
 use Rattle.std.specs.Prelude.{Bool, true, false, List, Option, None, Some}
 use Rattle.std.specs.List.{list_all}

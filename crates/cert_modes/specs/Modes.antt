@@ -1,3 +1,4 @@
+-- To believe, for the modes.
 -- When the modes of a certificate hold: its ground rows are closed, its preconditions keep their rule, and each mode is admitted.
 --
 -- To believe: all of this file. Predicates and mappings are numbered from 0 here.

@@ -1,3 +1,4 @@
+-- Private.
 -- The sets that the parts of a certificate spell, as diagrams. Nothing here has to be believed.
 use Rattle.std.specs.Prelude.{◌≡◌, ◌≤◌, ℕ, ℤ, nat_lt, Bool, false, IsTrue, List, length, slice_get, slice_index_or, Some}
 use Rattle.std.specs.List.{list_any}

@@ -1,3 +1,4 @@
+-- To believe, for the modes.
 -- Items in order, numbered from 0: their facts, and what each has by its number.
 --
 -- To believe: all of this file.

@@ -1,3 +1,4 @@
+-- To believe, for the modes.
 -- The facts of parts, in the order of the format.
 --
 -- To believe: all of this file.

@@ -1,3 +1,4 @@
+-- To believe, for the modes.
 -- The shape of parts: how many there are, how wide they are, and in which ranges their numbers are.
 --
 -- To believe: all of this file. Predicates, clauses, calls, rows and mappings are numbered from 0 here.

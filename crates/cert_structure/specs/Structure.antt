@@ -1,3 +1,4 @@
+-- To believe, for the modes.
 -- What the facts of a certificate say of a program, and with which parts.
 --
 -- To believe: `IsStructured`, and below it Numbered.antt, Order.antt and Shape.antt.

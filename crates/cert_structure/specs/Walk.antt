@@ -1,3 +1,4 @@
+-- Private.
 -- How the parts are read: fact by fact, from the front. Nothing here has to be believed.
 use Rattle.std.specs.Prelude.{◌≡◌, ℕ, zero, suc, ◌+◌, ℤ, pos, negsuc, Bool, true, false, ◌&&◌, ◌||◌, ◌==◌, nat_eq, nat_lt, nat_le, if◌then◌else◌, List, [], ◌∷◌, ◌++◌, map, length, Option, None, Some, option_map, option_and_then, Result, Ok, Err}
 use Rattle.std.specs.Ordering.{int_eq}

@@ -1,3 +1,4 @@
+-- Private.
 -- Private: the facts of parts in two halves, as they are written. Nothing here has to be believed.
 use Rattle.std.specs.Prelude.{List, ◌++◌}
 use Rattle.certificate.specs.declared.fact.Fact.{Fact}

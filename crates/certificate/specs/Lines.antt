@@ -1,3 +1,4 @@
+-- To believe, for the command.
 -- The lines of a text, and the first of them that is not a fact.
 --
 -- To believe: all of this file.

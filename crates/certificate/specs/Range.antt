@@ -1,3 +1,4 @@
+-- To believe, for the modes.
 -- The facts that a certificate may hold.
 --
 -- To believe: all of this file.

@@ -1,3 +1,4 @@
+-- To believe, for the command.
 -- What the text of a certificate reads as.
 --
 -- To believe: `IsTextOf`, and below it Text.antt and Range.antt.

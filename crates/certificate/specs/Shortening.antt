@@ -1,3 +1,4 @@
+-- Private.
 -- What is read takes some bytes. Nothing here has to be believed.
 use Rattle.std.proofs.Common.{◌≡◌, ℕ, zero, suc, ◌<◌, ◌≤◌, ◌==◌, if◌then◌else◌, Bool, true, false, List, [], ◌∷◌, length, take, drop, Option, Some, None, option_map, option_and_then, refl, ap, arith, lit≤}
 use Rattle.std.proofs.lemmas.Option.{none-some, same_Some}

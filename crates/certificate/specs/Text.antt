@@ -1,3 +1,4 @@
+-- To believe, for the modes.
 -- The text of a certificate: a line for each fact.
 --
 -- To believe: all of this file, and the spelling of names, `spelling` of prolog_tokens.

@@ -1,3 +1,4 @@
+-- To believe, for reading.
 -- The goals of a clause's body.
 --
 -- A body is a conjunction: its goals stand in a row, and `true` is no goal. A disjunction is a goal with its branches in a row, each of

@@ -1,3 +1,4 @@
+-- To believe, for reading.
 -- The names that the normal form adds: those of the disjunctions' predicates, in the order in which they are called.
 --
 -- To believe: all of this file, and in prolog_reader `with_names`.

@@ -1,3 +1,4 @@
+-- Private.
 -- How often variables occur. Nothing here has to be believed.
 use Rattle.std.specs.Prelude.{◌≡◌, ℕ, List, length, slice_index}
 use Rattle.clause_normal.specs.Bodies.{count}

@@ -1,3 +1,4 @@
+-- Private.
 -- What the code's answers say of faults. Nothing here has to be believed.
 use Rattle.std.specs.Prelude.{◌≡◌, ℕ, List, length, Option, Some, None, Result, Ok, Err}
 use Rattle.prolog_grammar.specs.Placed.{Tree}

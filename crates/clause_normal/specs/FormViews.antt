@@ -1,3 +1,4 @@
+-- Private.
 -- What the term of a clause is, in the code. Nothing here has to be believed.
 use Rattle.std.specs.Prelude.{◌≡◌, ◌<◌, ◌≤◌, ◌+◌, ℕ, List, ◌++◌, Some, None, Result, Ok, Err, length}
 use Rattle.prolog_reader.specs.declared.term.ReadTerm.{ReadTerm}

@@ -1,3 +1,4 @@
+-- Private.
 -- What a body gives. Nothing here has to be believed.
 use Rattle.std.specs.Prelude.{ℕ}
 use Rattle.std.specs.List.{AllByRecursion}

@@ -1,3 +1,4 @@
+-- To believe, for reading.
 -- The program of a text's clauses, or the first fault.
 --
 -- Clauses are taken in order. For each of them a fault of its kind comes first, then the head's, then those of the body's goals from left

@@ -1,3 +1,4 @@
+-- To believe, for reading.
 -- Clauses as a program: predicates and variables are numbered by first occurrence.
 --
 -- To believe: all of this file, and in cti_terms `Listing`, `with_pred` and `number_of`.

@@ -1,3 +1,4 @@
+-- To believe, for reading.
 -- The goal of a query, and the program with what it needs; or the first fault.
 --
 -- A query is a conjunction of atoms. A disjunction in it is impure. Variables are numbered by first occurrence, and the goal's counter is

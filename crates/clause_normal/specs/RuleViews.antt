@@ -1,3 +1,4 @@
+-- Private.
 -- Clauses of the code as those of the definitions, and clauses to be made. Nothing here has to be believed.
 use Rattle.std.specs.Prelude.{◌≡◌, ◌<◌, ◌≤◌, ◌+◌, ℕ, List, [], ◌∷◌, ◌++◌, map, length}
 use Rattle.std.specs.List.{AllByRecursion}

@@ -1,3 +1,4 @@
+-- To believe, for reading.
 -- The clauses that a clause with disjunctions becomes, before predicates and variables are numbered.
 --
 -- The predicates of disjunctions are numbered over the program: those of one clause from left to right before those inside their branches.

@@ -1,3 +1,4 @@
+-- Private.
 -- Clauses that are made within the limits.
 --
 -- To believe: `IsSmall`.

@@ -1,3 +1,4 @@
+-- Private.
 -- What stands on a stack, whose last element is on top. Nothing here has to be believed.
 use Rattle.std.specs.Prelude.{ℕ, ◌+◌, ◌*◌, List, [], ◌∷◌, ◌++◌, map}
 use Rattle.std.specs.Borrow.{Bor}

@@ -1,3 +1,4 @@
+-- Private.
 -- Tables of how often variables occur. Nothing here has to be believed.
 use Rattle.std.specs.Prelude.{ℕ, []}
 use Rattle.clause_normal.specs.declared.body.Tallies.{Tallies}

@@ -1,3 +1,4 @@
+-- Private.
 -- What is left to be looked at in a clause, on a stack whose last element is on top. Nothing here has to be believed.
 use Rattle.std.specs.Prelude.{ℕ, ◌+◌, ◌<◌, List, [], ◌∷◌, ◌++◌, Option, None}
 use Rattle.std.specs.List.{AllByRecursion}

@@ -1,3 +1,4 @@
+-- To believe, for reading.
 -- Terms without their places, and their variables.
 --
 -- To believe: all of this file.

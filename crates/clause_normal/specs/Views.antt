@@ -1,3 +1,4 @@
+-- Private.
 -- What the parts of the code stand for. Nothing here has to be believed.
 use Rattle.std.specs.Prelude.{◌≡◌, ◌<◌, ◌≤◌, ◌+◌, ◌*◌, ℕ, IsTrue, List, [], ◌∷◌, ◌++◌, map, length}
 use Rattle.std.specs.Borrow.{Bor}

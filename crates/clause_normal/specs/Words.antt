@@ -1,3 +1,4 @@
+-- To believe, for reading.
 -- The names that mean something in a clause, by text and arity.
 --
 -- To believe: all of this file, and the table of impure names in `src/words.rt`.

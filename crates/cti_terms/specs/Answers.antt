@@ -1,3 +1,4 @@
+-- To believe, for the command.
 -- The answers of a goal: what its atoms have become at the end of each derivation that leaves nothing to resolve.
 --
 -- An answer is printed with its variables numbered by first occurrence, and not at all where it is too large.

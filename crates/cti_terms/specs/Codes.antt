@@ -1,3 +1,4 @@
+-- Private.
 -- How a proof distinguishes atoms, so that a contract may see a struct as a list of them. Nothing here has to be believed.
 use Rattle.std.specs.Prelude.{ℕ, List, refl}
 use Rattle.std.specs.Coded.{Coded, code_by, coded×, coded_ℕ, coded_list}

@@ -1,3 +1,4 @@
+-- Private.
 -- A plain tree as a list of marks that gives it back, so that a contract may see a struct as a list of trees.
 -- Nothing here has to be believed: `read_back` is proved.
 use Rattle.std.specs.Prelude.{◌≡◌, ℕ, ℤ, List, [], ◌∷◌, ◌++◌, take, drop, ◌⊎◌, refl}

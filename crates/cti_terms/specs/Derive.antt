@@ -1,3 +1,4 @@
+-- To believe, for a Yes.
 -- Derivations, and goals whose derivations are bounded.
 --
 -- A derivation is given by the numbers of its clauses, since each of them leaves one goal at most.

@@ -1,3 +1,4 @@
+-- To believe, for a Yes.
 -- A program: its predicates, numbered from 0, and its clauses, numbered from 1, in order.
 --
 -- To believe: `Listing`, `is_pred`, `with_pred`, and what every program keeps, `IsProgram`.

@@ -1,3 +1,4 @@
+-- To believe, for the command.
 -- The nodes of a goal: its derivations but the empty one, in the order in which a search meets them.
 --
 -- A derivation is given by the numbers of its clauses. Lists of numbers stand in lexicographic order, a beginning

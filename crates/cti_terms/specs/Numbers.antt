@@ -1,3 +1,4 @@
+-- To believe, for reading.
 -- Names by number: the texts of names, in the order of their first use.
 --
 -- To believe: `number_of`, `with_text`. Texts are the same where their bytes are.

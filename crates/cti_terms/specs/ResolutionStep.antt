@@ -1,3 +1,4 @@
+-- Private.
 -- A step of left-to-right resolution as a relation, in which no function unifies.
 --
 -- `resolution_is_a_function` of `src/laws.rt` says that this and `resolve` are one.

@@ -1,3 +1,4 @@
+-- To believe, for a Yes.
 -- A step of left-to-right resolution.
 --
 -- A clause resolves a goal where its head has the predicate of the goal's first atom and unifies with it, once

@@ -1,3 +1,4 @@
+-- Private.
 -- The plain tree that a term of the code spells.
 --
 -- To believe: `tree_of`, which goes by the three kinds of terms.

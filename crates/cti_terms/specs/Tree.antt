@@ -1,3 +1,4 @@
+-- To believe, for a Yes.
 -- Terms as plain trees: what definitions speak of where the code holds terms in memory.
 --
 -- A term is a variable, an integer without bound, or a name with arguments in order. Variables and names are

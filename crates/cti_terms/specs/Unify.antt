@@ -1,3 +1,4 @@
+-- To believe, for a Yes.
 -- Unification with the occurs check: what one step does, and when bindings unify equations.
 --
 -- Equations are solved in order, the first one first. A binding replaces its variable in all other equations.

@@ -1,3 +1,4 @@
+-- To believe, for a Yes.
 -- Unification as a function that computes, and ends on all equations.
 --
 -- A binding takes a variable out of the equations, and every other step takes nodes out. So the function counts

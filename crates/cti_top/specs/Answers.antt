@@ -1,3 +1,4 @@
+-- Private.
 -- What the answer to a program's bytes is, step by step. Nothing here has to be believed.
 use Rattle.std.specs.Prelude.{ℕ, ◌≡◌, ◌≤◌, ◌⊎◌, List}
 use Rattle.cert_checker.specs.declared.verdict.Verdict.{Verdict}

@@ -1,3 +1,4 @@
+-- To believe, for the command.
 -- When a count of faults rises in a call.
 use Rattle.std.specs.Prelude.{ℕ, ◌+◌, ◌-◌, ◌^◌, ◌≤◌, min}
 

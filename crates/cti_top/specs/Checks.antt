@@ -1,3 +1,4 @@
+-- To believe, for the command.
 -- What is answered to a certificate of a program.
 --
 -- A Yes comes exactly where the certificate is valid, and then the queries that meet its modes are bounded. Where it is not, which line

@@ -1,3 +1,4 @@
+-- Private.
 -- What a fault of a text is. Nothing here has to be believed.
 use Rattle.std.specs.Prelude.{ℕ, ◌≤◌, List, length, min}
 use Rattle.cti_top.specs.declared.source.SourceFault.{SourceFault}

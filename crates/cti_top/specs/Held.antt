@@ -1,3 +1,4 @@
+-- Private.
 -- What a store in memory holds.
 use Rattle.std.specs.Prelude.{ℕ, List, [], Option, Some, option_map, unwrap_or, Vec, String}
 use Rattle.std.specs.BTreeMap.{BTreeMap, get_by_text}

@@ -1,3 +1,4 @@
+-- To believe, for the command.
 -- What is printed for a program: the certificate of its modes.
 --
 -- The bytes are read as a program; the text is that of facts; these are a valid certificate of the program, and an exact one: its modes

@@ -1,3 +1,4 @@
+-- Private.
 -- What the code holds of a program that was read. Nothing here has to be believed.
 use Rattle.prolog_reader.specs.Meanings.{table_of}
 use Rattle.cti_top.specs.Queries.{Known}

@@ -1,3 +1,4 @@
+-- Private.
 -- What the code holds of the command line. Nothing here has to be believed.
 use Rattle.std.specs.Prelude.{◌≡◌, false}
 use Rattle.clap.specs.Words.{App, app_of}

@@ -1,3 +1,4 @@
+-- Private.
 -- Which queries meet a mode that a certificate prints.
 --
 -- To believe: all of this file, over `IsOf` and `NamedAreRigid` of cert_checker.

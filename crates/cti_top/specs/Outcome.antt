@@ -1,3 +1,4 @@
+-- To believe, for the command.
 -- What each status of the top call says.
 --
 -- To believe: all of this file.

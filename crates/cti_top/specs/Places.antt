@@ -1,3 +1,4 @@
+-- To believe, for reading.
 -- Places in a text, as they are printed: lines and columns count from 1, and columns count bytes. A newline ends a line.
 --
 -- To believe: all of this file.

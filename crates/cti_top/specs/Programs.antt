@@ -1,3 +1,4 @@
+-- To believe, for reading.
 -- The program that a text is, or its refusal.
 --
 -- A text is first read whole and then normalised: the first fault in reading precedes all of the normal form. Names are their numbers in

@@ -1,3 +1,4 @@
+-- To believe, for reading.
 -- The goal that a query is of a program, or its refusal.
 --
 -- A query is read with the operators that the program's text leaves, and by the program's names with those that the query adds. The

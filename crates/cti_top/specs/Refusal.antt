@@ -1,3 +1,4 @@
+-- To believe, for reading.
 -- The line that says why a text was refused.
 --
 -- To believe: all of this file.

@@ -1,3 +1,4 @@
+-- Private.
 -- The numbers of the statuses.
 use Rattle.std.specs.Prelude.{ℕ}
 use Rattle.cti_top.specs.declared.status.Status.{Status}

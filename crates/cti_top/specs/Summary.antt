@@ -1,3 +1,4 @@
+-- To believe, for the command.
 -- What is printed for a generated program: how many predicates, clauses and modes there are.
 --
 -- To believe: all of this file, over what is printed for a program's bytes.

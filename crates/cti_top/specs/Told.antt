@@ -1,3 +1,4 @@
+-- To believe, for the command.
 -- What a store of files and a sink tell of their contents.
 use Rattle.std.specs.Prelude.{ℕ, ◌≡◌, ◌<◌, ◌≤◌, List, ◌++◌, length, take, Option, Some, None}
 

@@ -1,3 +1,4 @@
+-- To believe, for the command.
 -- The line that says whether a certificate is valid.
 --
 -- To believe: all of this file.

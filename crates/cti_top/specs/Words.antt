@@ -1,3 +1,4 @@
+-- To believe, for the command.
 -- The words of a command line, those after the program's name, and what they ask for.
 --
 -- The command line is described to `clap`, and `fault_of` and `subcommand_of` say what that crate makes of words. A word of help is a

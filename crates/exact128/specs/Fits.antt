@@ -1,3 +1,4 @@
+-- To believe, for the modes.
 -- The whole numbers that the code's numbers reach: those of absolute value at most 2^127 - 1.
 --
 -- To believe: `Fits`. Every refusal of a number, in this crate and above it, is said by this word.

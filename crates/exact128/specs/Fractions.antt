@@ -1,3 +1,4 @@
+-- A procedure, to believe for who is blown.
 -- Fractions of whole numbers, and their operations with each number that an operation forms.
 --
 -- An operation has a value exactly where each number that it forms fits. These formulas name those numbers,

@@ -1,3 +1,4 @@
+-- A procedure, to believe for who is blown.
 -- The greatest common divisor of two natural numbers.
 --
 -- Source: Euclid's algorithm. That it is the greatest common divisor is a clause of the function `gcd`.

@@ -1,3 +1,4 @@
+-- To believe, for the modes.
 -- Sums of products of two lists of whole numbers without bound.
 --
 -- To believe: `entry` and `dot`. The value of a linear row at a point is one such sum.

@@ -1,3 +1,4 @@
+-- Private.
 -- A step's rows, cleaned one after the other, so that never more than 4,097 rows are kept.
 use Rattle.std.specs.Prelude.{◌≡◌, ℕ, ℤ, List, Bool, true, nat_lt, length, fold, All, ◌||◌, if◌then◌else◌}
 use Rattle.exact128.specs.Fits.{Fits}

@@ -1,3 +1,4 @@
+-- Private.
 -- The sum of two multiplied rows.
 use Rattle.std.specs.Prelude.{ℤ, List}
 use Rattle.linear_rows.specs.Elimination.{scaled, added}

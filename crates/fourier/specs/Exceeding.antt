@@ -1,3 +1,4 @@
+-- Private.
 -- What a comparison of fractions shows.
 use Rattle.std.specs.Prelude.{◌≡◌, Bool, Option, Some, None, Result, Ok, Err}
 use Rattle.rational128.specs.declared.ratio.Wide.{Wide}

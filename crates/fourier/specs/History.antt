@@ -1,3 +1,4 @@
+-- Private.
 -- The lists of rows before each step, and the values that are chosen from them in the reverse order.
 use Rattle.std.specs.Prelude.{◌≡◌, ℕ, ℤ, pos, Bool, true, false, List, [], ◌∷◌, Option, Some, None, Result, Ok, Err, All, ◌<◌, length}
 use Rattle.exact128.specs.Fractions.{Fraction, whole, then_do}

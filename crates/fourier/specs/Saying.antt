@@ -1,3 +1,4 @@
+-- Private.
 -- What the calls answer, in the words of elimination and solving.
 use Rattle.std.specs.Prelude.{◌≡◌, ◌≤◌, ℕ, ℤ, Bool, List, [], ◌∷◌, length, true, false, Option, Some, None, Result, Ok, Err}
 use Rattle.linear_rows.specs.Step.{eliminated, all_eliminated}

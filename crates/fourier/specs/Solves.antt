@@ -1,3 +1,4 @@
+-- Private.
 -- What solving answers, in the words of linear_rows.
 use Rattle.std.specs.Prelude.{◌≡◌, ℕ, ℤ, pos, Bool, true, false, List, Option, None, Some, Result, Ok, Err, length}
 use Rattle.exact128.specs.Fractions.{then_do}

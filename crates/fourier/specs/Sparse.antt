@@ -1,3 +1,4 @@
+-- Private.
 -- Lists of numbers, most of them 0, as the numbers that are not 0 with the zeros before each.
 use Rattle.std.specs.Prelude.{ℕ, ℤ, List, [], ◌∷◌, ◌++◌, drop}
 use Rattle.linear_rows.specs.Solving.{zeros}

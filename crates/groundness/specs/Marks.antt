@@ -1,3 +1,4 @@
+-- Private.
 -- Marks of clauses that may still give a row, and who uses a predicate. Nothing here has to be believed.
 use Rattle.std.specs.Prelude.{ℕ, suc, ◌≡◌, ◌+◌, ◌*◌, ◌<◌, Bool, true, false, List, [], ◌∷◌, length, Contains, slice_get, slice_index_or, Some}
 use Rattle.bool_diagrams.specs.declared.diagram.Diagram.{Diagram}

@@ -1,3 +1,4 @@
+-- Private.
 -- How many truth rows sets lack: what is left to add. Nothing here has to be believed.
 use Rattle.std.specs.Prelude.{ℕ, zero, suc, ◌+◌, Bool, true, false, List, [], ◌∷◌, if◌then◌else◌}
 use Rattle.bool_diagrams.specs.declared.diagram.Diagram.{Diagram}

@@ -1,3 +1,4 @@
+-- Private.
 -- What is added to families while the least one is sought. Nothing here has to be believed.
 use Rattle.std.specs.Prelude.{ℕ, Bool, List, length}
 use Rattle.bool_diagrams.specs.declared.diagram.Diagram.{Diagram}

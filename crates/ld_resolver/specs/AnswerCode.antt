@@ -1,3 +1,4 @@
+-- Private.
 -- How a proof tells answers apart, so that a contract may see a list of them. Nothing here has to be believed.
 use Rattle.std.specs.Prelude.{ℕ, List, ◌⊎◌, refl}
 use Rattle.std.proofs.Common.{inl, inr, ◌≡◌}

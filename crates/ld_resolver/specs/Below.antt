@@ -1,3 +1,4 @@
+-- Private.
 -- Variables below a counter. Nothing here has to be believed.
 use Rattle.std.specs.Prelude.{◌≡◌, ℕ, ◌<◌, ◌≤◌, true, List, None}
 use Rattle.std.specs.List.{AllByRecursion}

@@ -1,3 +1,4 @@
+-- Private.
 -- The clauses of each predicate, one after the other. Nothing here has to be believed.
 use Rattle.std.specs.Prelude.{◌≡◌, ◌≢◌, ℕ, suc, ◌≤◌, ◌<◌, List, length, get_or, Some}
 use Rattle.std.specs.List.{AllByRecursion}

@@ -1,3 +1,4 @@
+-- Private.
 -- The choices of a search, and what is left to be met from them. Nothing here has to be believed.
 use Rattle.std.specs.Prelude.{◌≡◌, ℕ, suc, ◌-◌, ◌≤◌, List, [], ◌∷◌, ◌++◌, map, length, drop, Option, None, Some}
 use Rattle.std.specs.List.{AllByRecursion, range_with_len}

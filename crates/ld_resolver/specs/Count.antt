@@ -1,3 +1,4 @@
+-- Private.
 -- How many nodes a goal has.
 --
 -- To believe: `HasNodes`.

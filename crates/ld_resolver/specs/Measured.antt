@@ -1,3 +1,4 @@
+-- Private.
 -- Nodes and depth of a query's terms under the bindings. Nothing here has to be believed.
 use Rattle.std.specs.Prelude.{ℕ, nat_eq, List, map, flat_map}
 use Rattle.std.specs.List.{position_or_len}

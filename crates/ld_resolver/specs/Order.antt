@@ -1,3 +1,4 @@
+-- Private.
 -- The lexicographic order of derivations.
 --
 -- To believe: `Before`, `AreAscending`, `IsIn`.

@@ -1,3 +1,4 @@
+-- Private.
 -- How far a run has come. Nothing here has to be believed.
 use Rattle.std.specs.Prelude.{◌≡◌, ℕ, zero, suc, ◌+◌, ◌-◌, ◌≤◌, List, [], ◌++◌, map, length}
 use Rattle.std.specs.List.{cons_option}

@@ -1,3 +1,4 @@
+-- Private.
 -- Terms of the program with their variables raised: how the resolver keeps every term, so that none is copied.
 use Rattle.std.specs.Prelude.{ℕ, ◌+◌}
 use Rattle.cti_terms.specs.Tree.{Tree, Variable, instance}

@@ -1,3 +1,4 @@
+-- Private.
 -- What a run is asked.
 --
 -- To believe: `IsGoalOf`. What a run answers is said in the words of `Nodes.antt` and `Answers.antt` of cti_terms.

@@ -1,3 +1,4 @@
+-- Private.
 -- The state of a search, and what its steps do to what is left to be met. Nothing here has to be believed.
 use Rattle.std.specs.Prelude.{◌≡◌, ℕ, suc, ◌+◌, ◌-◌, ◌≤◌, ◌<◌, ◌⊎◌, Bool, true, false, List, [], ◌∷◌, ◌++◌, map, reverse, length, slice_get, None, Some}
 use Rattle.std.specs.List.{AllByRecursion}

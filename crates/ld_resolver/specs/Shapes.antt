@@ -1,3 +1,4 @@
+-- Private.
 -- What the kinds of raised terms spell. Nothing here has to be believed.
 use Rattle.std.specs.Prelude.{◌≡◌, ℕ, ◌<◌, ◌^◌, List, None}
 use Rattle.cti_terms.specs.Tree.{Tree, all_instances}

@@ -1,3 +1,4 @@
+-- Private.
 -- Bindings as the resolver stores them, and the bindings of the definition that they stand for.
 --
 -- A binding is stored with the term as it was met. The definition's binding has the earlier bindings applied to it.

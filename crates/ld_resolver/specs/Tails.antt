@@ -1,3 +1,4 @@
+-- Private.
 -- Rests of goals that are shared: each is some atoms of a clause, raised, and then an earlier rest.
 -- Nothing here has to be believed.
 use Rattle.std.specs.Prelude.{◌≡◌, ℕ, zero, suc, ◌≤◌, ◌<◌, List, [], ◌∷◌, ◌++◌, map, length, get_or, slice_get, Some}

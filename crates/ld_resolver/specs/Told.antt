@@ -1,3 +1,4 @@
+-- To believe, for the command.
 -- What an answer is told as.
 --
 -- To believe: `told`.

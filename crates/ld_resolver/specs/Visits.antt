@@ -1,3 +1,4 @@
+-- Private.
 -- Variables that a check has visited, and what is still to come of their terms. Nothing here has to be believed.
 use Rattle.std.specs.Prelude.{◌≡◌, ℕ, suc, ◌+◌, ◌*◌, ◌<◌, ◌≤◌, Bool, true, false, ◌||◌, ◌==◌, ◌⊎◌, List, [], ◌∷◌, ◌++◌, length, get_or}
 use Rattle.cti_terms.specs.Tree.{Tree, Variable, nodes_of}

@@ -1,3 +1,4 @@
+-- Private.
 -- A walk along the nodes of a goal that carries what a search has at hand: the bindings and the steps so far.
 -- Nothing here has to be believed.
 use Rattle.std.specs.Prelude.{ℕ, zero, suc, max, ◌+◌, List, [], ◌∷◌, ◌++◌, flat_map, filter_map, length, Option, None, Some, option_and_then}

@@ -1,3 +1,4 @@
+-- Private.
 -- What is found, case by case. Nothing here has to be believed.
 use Rattle.std.specs.Prelude.{ℕ, List, [], ◌∷◌}
 

@@ -1,3 +1,4 @@
+-- Private.
 -- What is collected of a component. Nothing here has to be believed.
 use Rattle.std.specs.Prelude.{◌≡◌, ℕ, ℤ, List, pos}
 use Rattle.cti_terms.specs.Listing.{Listing}

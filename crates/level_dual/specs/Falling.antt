@@ -1,3 +1,4 @@
+-- Private.
 -- Falls as the code finds them. Nothing here has to be believed.
 use Rattle.std.specs.Prelude.{◌≡◌, ◌+◌, ℕ, suc, ℤ, pos, List, [], ◌∷◌, take, drop, length, All, IfSome, Option, None, Some}
 use Rattle.linear_rows.specs.Plain.{HaveWidth, plain_rows}

@@ -1,3 +1,4 @@
+-- To believe, for the modes.
 -- What is found of a component's mappings: all minimal supports, or a refutation, or what was given up.
 --
 -- To believe: all of this file.

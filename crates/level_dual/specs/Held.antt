@@ -1,3 +1,4 @@
+-- Private.
 -- What the code holds of a component's calls. Nothing here has to be believed.
 use Rattle.std.specs.Prelude.{◌≡◌, ◌<◌, ◌≤◌, ◌≤ℤ◌, ◌-ℤ◌, ◌-◌, ◌++◌, ◌⊎◌, ℕ, suc, ℤ, pos, neg_ℤ, true, false, List, [], ◌∷◌, map, take, length, slice_get, All, Option, None, Some}
 use Rattle.std.specs.List.{AllByRecursion}

@@ -1,3 +1,4 @@
+-- Private.
 -- Components of many positions, as the code looks at them. Nothing here has to be believed.
 use Rattle.std.specs.Prelude.{◌≡◌, ◌<◌, ◌⊎◌, nat_lt, ℕ, ℤ, Bool, List, length, take}
 use Rattle.cti_terms.specs.Listing.{Listing}

@@ -1,3 +1,4 @@
+-- Private.
 -- Mappings as they are given: a part for each member, and multipliers for each call.
 --
 -- To believe: all of this file.

@@ -1,3 +1,4 @@
+-- Private.
 -- Members and positions in order, as the code lists them. Nothing here has to be believed.
 use Rattle.std.specs.Prelude.{ℕ, zero, suc, ◌==◌, ◌||◌, not, if◌then◌else◌, List, [], ◌∷◌, ◌++◌}
 use Rattle.std.specs.List.{list_any}

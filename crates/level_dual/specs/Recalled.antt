@@ -1,3 +1,4 @@
+-- Private.
 -- Held calls as calls of a view. Nothing here has to be believed.
 use Rattle.std.specs.Prelude.{◌≡◌, ◌<◌, ◌+◌, ℕ, suc, ℤ, true, List, [], ◌∷◌, length, All, Option, None, Some}
 use Rattle.exact128.specs.Fits.{fits}

@@ -1,3 +1,4 @@
+-- Private.
 -- Points of a component's calls. Nothing here has to be believed.
 use Rattle.std.specs.Prelude.{◌≡◌, ◌≢◌, ◌+◌, ◌≤◌, ◌⊎◌, ℕ, suc, ℤ, pos, All, Bool, true, false, List, [], ◌∷◌, ◌++◌, drop, take, length, map, IfSome, Option, None, Some}
 use Rattle.exact128.specs.Sums.{entry}

@@ -1,3 +1,4 @@
+-- Private.
 -- What the search for a mapping at a set of positions is given, and what it answers. Nothing here has to be believed.
 use Rattle.std.specs.Prelude.{◌≡◌, ◌<◌, ℕ, ℤ, pos, Bool, true, List, map, take, drop, length, slice_get, Option, None, Some}
 use Rattle.std.specs.List.{AllByRecursion}

@@ -1,3 +1,4 @@
+-- To believe, for the modes.
 -- Lists that are parts of others, in their order.
 use Rattle.std.specs.Prelude.{◌≡◌, ◌⊎◌, List, [], ◌∷◌}
 use Rattle.linear_rows.specs.Members.{In}

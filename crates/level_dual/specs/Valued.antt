@@ -1,3 +1,4 @@
+-- Private.
 -- Parts of mappings that values give. Nothing here has to be believed.
 use Rattle.std.specs.Prelude.{◌≡◌, ℕ, pos, map}
 use Rattle.number_tests.specs.declared.level_part.LevelPart.{LevelPart}

@@ -1,3 +1,4 @@
+-- Private.
 -- The walk over the sets of places, the smaller ones first, and what it leaves: each minimal set that is had, but for
 -- those above a set that was given up.
 --

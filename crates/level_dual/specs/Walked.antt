@@ -1,3 +1,4 @@
+-- Private.
 -- What a walk over sets of positions keeps, and what it leaves. Nothing here has to be believed.
 use Rattle.std.specs.Prelude.{◌≡◌, ◌++◌, ℕ, ℤ, Bool, true, List, length, map, take}
 use Rattle.std.specs.List.{AllByRecursion}

@@ -1,3 +1,4 @@
+-- A procedure, to believe for who is blown.
 -- When steps of elimination are blown.
 --
 -- A step is blown where a number that it forms does not fit, or where it leaves more than 4,096 rows. The rows' own

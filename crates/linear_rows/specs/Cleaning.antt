@@ -1,3 +1,4 @@
+-- A procedure, to believe for who is blown.
 -- Rows divided by what their numbers share, without those that say nothing and without those that others imply.
 use Rattle.std.specs.Prelude.{ℕ, zero, suc, ℤ, pos, negsuc, List, [], ◌∷◌, ◌++◌, Bool, true, false, not, ◌&&◌, nat_eq, map, filter, fold, unsigned_abs, int_le, int_div, if◌then◌else◌}
 use Rattle.exact128.specs.Gcd.{gcd}

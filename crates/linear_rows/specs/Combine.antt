@@ -1,3 +1,4 @@
+-- Private.
 -- Sums of multiplied rows.
 use Rattle.std.specs.Prelude.{◌≡◌, ℕ, ℤ, List, ◌<◌, length}
 use Rattle.exact128.specs.Sums.{entry, dot, DotFits}

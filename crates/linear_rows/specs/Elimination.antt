@@ -1,3 +1,4 @@
+-- A procedure, to believe for who is blown.
 -- Combinations of rows in which a variable vanishes.
 --
 -- A row that rises in a column bounds its variable from below, one that falls there from above. Each pair of the two

@@ -1,3 +1,4 @@
+-- A procedure, to believe for who is blown.
 -- Elimination by an equation: a row that stands among the rows with its negation.
 --
 -- The first n numbers of rows are compared. Rows are distinguished by their places, since rows that are the same in these

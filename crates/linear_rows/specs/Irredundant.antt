@@ -1,3 +1,4 @@
+-- A procedure, to believe for who is blown.
 -- When the test of a row is blown, and lists of rows that no test makes shorter.
 --
 -- This retells a procedure, and no promise on sizes or levels rests on it.

@@ -1,3 +1,4 @@
+-- To believe, for the modes.
 -- Membership in lists.
 use Rattle.std.specs.Prelude.{◌≡◌, ◌≢◌, ℕ, List, [], ◌∷◌, ◌⊎◌}
 

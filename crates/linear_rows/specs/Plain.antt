@@ -1,3 +1,4 @@
+-- To believe, for the modes.
 -- The plain lists of numbers that rows spell.
 use Rattle.std.specs.Prelude.{ℕ, ℤ, List, ◌∷◌, map, length, ◌≡◌}
 use Rattle.std.specs.List.{All}

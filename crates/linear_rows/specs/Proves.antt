@@ -1,3 +1,4 @@
+-- To believe, for the command.
 -- Proof by multipliers.
 --
 -- Rows prove a target where natural multiples of them sum to a row that is at most the target, times a scale, in each

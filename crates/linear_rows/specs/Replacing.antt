@@ -1,3 +1,4 @@
+-- To believe, for the command.
 -- Rows over arguments, with a row over variables in the place of each argument.
 --
 -- To believe: `substituted`, `row_fits`.

@@ -1,3 +1,4 @@
+-- To believe, for the modes.
 -- Linear rows over naturals, and the points at which they hold.
 --
 -- A row is one list of whole numbers: its constant b and then its coefficients a1 .. an. A point is a natural t of

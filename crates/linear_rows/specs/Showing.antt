@@ -1,3 +1,4 @@
+-- To believe, for the modes.
 -- What shows that a row holds on rows, and what shows that it does not.
 --
 -- To believe: `Shows`, `FailsAt`. That a shown row holds is the law `proofs_are_sound` of this crate.

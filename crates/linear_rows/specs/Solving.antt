@@ -1,3 +1,4 @@
+-- A procedure, to believe for who is blown.
 -- Solving of rows over naturals: a point at which all hold, or multipliers that refute them.
 --
 -- All variables are eliminated in ascending order, t last. Where a row with no coefficient and a negative constant is

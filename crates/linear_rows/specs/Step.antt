@@ -1,3 +1,4 @@
+-- A procedure, to believe for who is blown.
 -- The rows that steps of elimination leave.
 --
 -- This retells a procedure. No promise on sizes or levels rests on it: it says which rows are left, and so when a

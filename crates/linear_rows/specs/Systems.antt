@@ -1,3 +1,4 @@
+-- A procedure, to believe for who is blown.
 -- The systems of a test, of an image and of a join: which rows they have, in which columns.
 --
 -- The rows are lists with the constant first. Each system is of rows and expressions over given columns, and of

@@ -1,3 +1,4 @@
+-- To believe, for the modes.
 -- Parts of level mappings, by predicate and by mapping, and their coefficients.
 --
 -- To believe: all of this file. Predicates and mappings are numbered from 0 here.

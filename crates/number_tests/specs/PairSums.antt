@@ -1,3 +1,4 @@
+-- Private.
 -- The sums of a refutation's values, a pair at a time. Nothing here has to be believed.
 use Rattle.std.specs.Prelude.{ℤ, ℕ, Bool, true, false, List, ◌⊎◌}
 use Rattle.std.specs.List.{AllByRecursion}

@@ -1,3 +1,4 @@
+-- To believe, for the command.
 -- What a refutation has to show: that no mapping of a component falls at each of its calls.
 --
 -- A refutation has points of pairs of a clause and a call of its body. At each the size rows of the atoms before the

@@ -1,3 +1,4 @@
+-- To believe, for the modes.
 -- The shapes of what multipliers and points are tested on: how many numbers there are, and that they are natural.
 --
 -- Nothing here has to be believed.

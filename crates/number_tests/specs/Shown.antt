@@ -1,3 +1,4 @@
+-- Private.
 -- What a test of multipliers says. Nothing here has to be believed.
 use Rattle.std.specs.Prelude.{◌≡◌, ◌↔◌, ℤ, List, Option, None}
 use Rattle.linear_rows.specs.Showing.{IsShown}

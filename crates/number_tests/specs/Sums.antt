@@ -1,3 +1,4 @@
+-- Private.
 -- Sums of values for each predicate, as the code keeps them. Nothing here has to be believed.
 use Rattle.std.specs.Prelude.{◌≡◌, ◌==◌, ℕ, ℤ, Bool, true, false, if◌then◌else◌, List, [], Option, None, Some}
 use Rattle.std.specs.BTreeMap.{BTreeMap, get}

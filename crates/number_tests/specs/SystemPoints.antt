@@ -1,3 +1,4 @@
+-- Private.
 -- Systems at points, as the code tests them. Nothing here has to be believed.
 use Rattle.std.specs.Prelude.{◌≡◌, ◌≤ℤ◌, ℤ, pos, false, List}
 use Rattle.std.specs.List.{AllByRecursion}

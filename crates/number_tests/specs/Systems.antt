@@ -1,3 +1,4 @@
+-- Private.
 -- Clauses whose atoms have size rows, and their systems, an atom at a time. Nothing here has to be believed.
 use Rattle.std.specs.Prelude.{◌≡◌, ℕ, ◌-◌, ◌<◌, ◌≤◌, ℤ, List, IsTrue, map, length, take, slice_get, Some}
 use Rattle.std.specs.List.{AllByRecursion}

@@ -1,3 +1,4 @@
+-- Private.
 -- The numbers of a fall, as the code sums them. Nothing here has to be believed.
 use Rattle.std.specs.Prelude.{◌≡◌, ◌<◌, ◌≤ℤ◌, ℕ, suc, ℤ, pos, neg_ℤ, ◌-ℤ◌, List, [], ◌∷◌, ◌++◌, All, length, map, slice_index_or}
 use Rattle.termination_model.specs.Replacing.{column_over}

@@ -1,3 +1,4 @@
+-- Private.
 -- What is known of a predicate's rows, and how far their passes can still go.
 --
 -- Rows other than the one row of constant -1 never contain that row, so a predicate leaves each state for good. After the

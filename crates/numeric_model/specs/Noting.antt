@@ -1,3 +1,4 @@
+-- Private.
 -- What a noted step says of its clause.
 use Rattle.std.specs.Prelude.{◌≡◌, ◌≢◌, ℕ, ◌<◌, ℤ, Bool, List, length}
 use Rattle.cti_terms.specs.Tree.{Tree}

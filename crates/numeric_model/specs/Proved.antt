@@ -1,3 +1,4 @@
+-- Private.
 -- What multipliers prove of clauses: the size rows of a clause's head, over the short system of its body.
 --
 -- To believe: `IsProved`, `AreProved`.

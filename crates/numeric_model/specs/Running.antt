@@ -1,3 +1,4 @@
+-- Private.
 -- What a step, a pass, and the passes of a component do to the state of a chain.
 use Rattle.std.specs.Prelude.{◌≡◌, ◌≢◌, ℕ, ◌-◌, ◌<◌, ◌≤◌, ℤ, Bool, true, false, List, [], ◌∷◌, ◌++◌, length, map, slice_get, slice_set, Option, None, Some}
 use Rattle.std.specs.List.{AllByRecursion, flat_map}

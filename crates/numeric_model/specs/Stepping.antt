@@ -1,3 +1,4 @@
+-- Private.
 -- What a step answers.
 use Rattle.std.specs.Prelude.{◌≡◌, ◌≢◌, ℕ, suc, ◌<◌, ℤ, Bool, true, List, length, slice_get, Option, None, Some}
 use Rattle.linear_rows.specs.declared.system.System.{System}

@@ -1,3 +1,4 @@
+-- Private.
 -- Parts of rows on which all of them hold.
 use Rattle.std.specs.Prelude.{ℕ, suc, ℤ, List}
 use Rattle.linear_rows.specs.Members.{In}

@@ -1,3 +1,4 @@
+-- Private.
 -- Whether rows hold at some point.
 use Rattle.std.specs.Prelude.{ℕ, suc, ℤ, List}
 use Rattle.linear_rows.specs.Rows.{AreEmpty}

@@ -1,3 +1,4 @@
+-- Private.
 -- Rows that are inserted one after the other. Nothing here has to be believed.
 use Rattle.std.specs.Prelude.{◌≡◌, ◌≢◌, ℕ, suc, ◌<◌, ℤ, List, [], ◌∷◌, length, slice_get, Some}
 use Rattle.linear_rows.specs.Members.{In}

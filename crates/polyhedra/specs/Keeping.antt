@@ -1,3 +1,4 @@
+-- Private.
 -- One more row that is kept or left out. Nothing here has to be believed.
 use Rattle.std.specs.Prelude.{◌≡◌, ℤ, Bool, true, List, [], ◌∷◌, ◌++◌}
 use Rattle.linear_rows.specs.declared.multipliers.Multipliers.{Multipliers}

@@ -1,3 +1,4 @@
+-- Private.
 -- What images, joins and kept rows are, in terms of the rows that a value lists.
 --
 -- The rows that a domain speaks of are given by a test, `speaks`.

@@ -1,3 +1,4 @@
+-- Private.
 -- Rows that are at least a multiple of another row. Nothing here has to be believed.
 use Rattle.std.specs.Prelude.{ℕ, ◌<◌, ℤ, pos, ◌≤ℤ◌, ◌*ℤ◌, List, length}
 use Rattle.exact128.specs.Sums.{entry}

@@ -1,3 +1,4 @@
+-- Private.
 -- Numbers that have an opposite among the code's numbers.
 use Rattle.std.specs.Prelude.{◌≢◌, ◌-◌, ◌^◌, ℤ, negsuc}
 

@@ -1,3 +1,4 @@
+-- Private.
 -- Rows that an elimination leaves, cut to its first columns.
 use Rattle.std.specs.Prelude.{◌≡◌, ℕ, suc, ◌+◌, ℤ, List, map, take, Option, None, Some}
 use Rattle.exact128.specs.Fits.{fits}

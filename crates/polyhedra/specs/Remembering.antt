@@ -1,3 +1,4 @@
+-- Private.
 -- A point of a clause's system that is remembered. Nothing here has to be believed.
 use Rattle.std.specs.Prelude.{◌≡◌, ◌∷◌, ℤ, pos, ◌≤ℤ◌, List, Option, None, Some}
 use Rattle.exact128.specs.Sums.{dot}

@@ -1,3 +1,4 @@
+-- Private.
 -- A sweep over rows. Nothing here has to be believed.
 use Rattle.std.specs.Prelude.{ℕ, suc, ◌<◌, ◌⊎◌, ℤ, List, [], length, slice_index_or}
 use Rattle.linear_rows.specs.Irredundant.{Fails, TestIsBlown, without_place}

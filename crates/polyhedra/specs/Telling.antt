@@ -1,3 +1,4 @@
+-- Private.
 -- What tests of rows over a head's arguments tell on a clause's system.
 --
 -- To believe: `TellsHead`.

@@ -1,3 +1,4 @@
+-- Private.
 -- The greatest rows of a component depend only on what is allowed of the lower predicates that its clauses call.
 use Rattle.std.specs.Prelude.{◌≡◌, ℕ, Bool, true, false, List, slice_get, Some}
 use Rattle.cti_terms.specs.Tree.{Tree}

@@ -1,3 +1,4 @@
+-- Private.
 -- Values of a clause's variables that break the rule, as sets have it. Nothing here has to be believed.
 use Rattle.std.specs.Prelude.{◌≡◌, ◌<◌, ℕ, Bool, if◌then◌else◌, List, slice_get, Some}
 use Rattle.truth_rows.specs.Ready.{HasAtom, HasAtoms}

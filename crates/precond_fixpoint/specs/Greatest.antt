@@ -1,3 +1,4 @@
+-- To believe, for the modes.
 -- The greatest preconditions of a component for a mapping, and why smaller supports are better.
 --
 -- A component is given by the test of its members, a mapping by its coefficients. What is allowed of lower predicates

@@ -1,3 +1,4 @@
+-- Private.
 -- What removing broken rows does to sets. Nothing here has to be believed.
 use Rattle.std.specs.Prelude.{◌≡◌, ◌==◌, ◌+◌, ◌*◌, ◌<◌, ◌⊎◌, ◌↔◌, ℕ, suc, Bool, true, not, IsTrue, List, [], ◌∷◌, length, slice_get, Some, slice_index_or}
 use Rattle.cti_terms.specs.declared.predicates.PredId.{PredId}

@@ -1,3 +1,4 @@
+-- Private.
 -- The greatest preconditions of all components, and the modes that they give.
 --
 -- Predicates, mappings and components are numbered from 0 here. A predicate has a diagram for each mapping of its

@@ -1,3 +1,4 @@
+-- To believe, for reading.
 -- The depth rule: what a reading asks of each of its tokens, and the first token that breaks the rule.
 --
 -- Openers are: a parenthesis, a bracket and a brace, up to what closes it; in a list each comma and the bar, for all that follows

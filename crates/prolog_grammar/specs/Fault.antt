@@ -1,3 +1,4 @@
+-- To believe, for reading.
 -- Where a clause's tokens are not a clause: the first unexpected token, and the first token that is too deep.
 --
 -- "Some further tokens" are any tokens. Those with which the proofs complete a clause touch one another only as tokens of a text do.

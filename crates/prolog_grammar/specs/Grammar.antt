@@ -1,3 +1,4 @@
+-- To believe, for reading.
 -- The grammar of terms, by cases. Each relation has the tokens before and after what is read: from us it is read, and vs is left.
 --
 -- A term at a bound is an operand, and then infix operators with their right sides for as long as the next token is one that is

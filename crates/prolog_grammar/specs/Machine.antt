@@ -1,3 +1,4 @@
+-- Private.
 -- The reader as a machine with a stack of what is open, which takes a token at a time. The laws are proved on it.
 --
 -- Letters: us and rest are tokens, t is a term, p its priority, k the stack, r and b are bounds, n and m names, `at` a place.

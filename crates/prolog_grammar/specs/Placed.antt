@@ -1,3 +1,4 @@
+-- To believe, for reading.
 -- Terms as they stand in a text: each with the place of the first byte of its first token, counted from 0.
 --
 -- A parenthesis round a term is a token of that term. A list is built of cells '.' with two arguments and [], a text is the list of its

@@ -1,3 +1,4 @@
+-- Private.
 -- Terms whose places stand within a text of the given number of bytes.
 --
 -- To believe: all of this file.

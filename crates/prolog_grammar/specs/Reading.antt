@@ -1,3 +1,4 @@
+-- To believe, for reading.
 -- What the tokens at hand read as: the first clause as a term with places, or the first fault.
 --
 -- The tokens of a query are read with an End after them, where they have none, and nothing may stand after it.

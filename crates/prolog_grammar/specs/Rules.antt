@@ -1,3 +1,4 @@
+-- To believe, for reading.
 -- What the grammar is given: the operators, and what is built of what is read.
 --
 -- The grammar is the same for every table of operators, and never looks at what is built. So one grammar serves for trees with all

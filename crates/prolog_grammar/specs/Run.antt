@@ -1,3 +1,4 @@
+-- Private.
 -- The machine of the laws with the depth rule: what each token does in each state, by the openers that are open there.
 --
 -- Letters: as in `Machine`; h is a number of openers, d a depth.

@@ -1,3 +1,4 @@
+-- To believe, for reading.
 -- What is read, as a tree that keeps every token. The depth rule is defined on it, and every other tree is made of it.
 --
 -- To believe: all of this file.

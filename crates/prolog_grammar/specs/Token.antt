@@ -1,3 +1,4 @@
+-- To believe, for reading.
 -- The tokens of a clause, as the grammar sees them.
 --
 -- The first number of a token is its place: the byte at which it begins, counted from 0. A name is a number, and so is a variable,

@@ -1,3 +1,4 @@
+-- Private.
 -- The machine as the code has it: it knows whether a parenthesis touches the token at hand, and tests the depth rule in the same step.
 --
 -- Letters: as in `Machine`.

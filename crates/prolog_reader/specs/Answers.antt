@@ -1,3 +1,4 @@
+-- Private.
 -- What the calls of the reader answer.
 --
 -- To believe: all of this file.

@@ -1,3 +1,4 @@
+-- To believe, for reading.
 -- Clauses of plain terms, and what is said of the terms. Terms with places are those of prolog_grammar.
 --
 -- To believe: all of this file.

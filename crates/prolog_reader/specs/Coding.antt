@@ -1,3 +1,4 @@
+-- Private.
 -- How a proof tells clauses apart: a term as a list of codes that gives it back. Nothing here has to be believed.
 use Rattle.std.specs.Prelude.{◌≡◌, ℕ, ℤ, List, [], ◌∷◌, ◌++◌, take, drop, ◌⊎◌, refl}
 use Rattle.std.proofs.Common.{inl, inr, ap, ◌∙◌}

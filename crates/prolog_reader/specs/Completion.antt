@@ -1,3 +1,4 @@
+-- Private.
 -- Bytes that complete a clause.
 --
 -- To believe: all of this file.

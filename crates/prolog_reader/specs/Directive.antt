@@ -1,3 +1,4 @@
+-- To believe, for reading.
 -- What a clause `:- op(P,T,N)` does to the operators.
 --
 -- P is an integer from 0 to 1200, T one of the atoms xfx, xfy, yfx, fx and fy, and N an atom or a list of atoms, none of them a comma, a

@@ -1,3 +1,4 @@
+-- Private.
 -- What callers need of the clauses that are read: all numbers are in range.
 use Rattle.std.specs.Prelude.{◌≤◌, ℕ, IsTrue, List, sum_by}
 use Rattle.std.specs.List.{AllByRecursion}

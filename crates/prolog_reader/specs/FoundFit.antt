@@ -1,3 +1,4 @@
+-- Private.
 -- Clauses that are found are in range. Nothing here has to be believed.
 use Rattle.std.specs.Prelude.{◌+◌, ◌≤◌, ◌<◌, ℕ}
 use Rattle.prolog_grammar.specs.Placed.{Known}

@@ -1,3 +1,4 @@
+-- Private.
 -- The numbers of the names that the syntax makes terms of. Nothing here has to be believed.
 use Rattle.std.specs.Prelude.{◌≡◌, ℕ, List, Bool, true, false}
 use Rattle.prolog_reader.specs.Table.{Table}

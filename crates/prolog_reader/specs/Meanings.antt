@@ -1,3 +1,4 @@
+-- Private.
 -- The operators of the code as those of the grammar.
 use Rattle.std.specs.Prelude.{option_map}
 use Rattle.std.specs.Ordering.{nat_cmp}

@@ -1,3 +1,4 @@
+-- To believe, for reading.
 -- The names that a text gives: each text that names something, in the order in which they first occur.
 --
 -- First come the texts that the reader itself names, then those of the names in the text, up to its end or its first lexical fault.

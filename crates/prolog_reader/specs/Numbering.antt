@@ -1,3 +1,4 @@
+-- Private.
 -- The variables of the code as those of the definition. Nothing here has to be believed.
 use Rattle.std.specs.Prelude.{◌≡◌, ◌≤◌, ◌<◌, ℕ, length, get_or}
 use Rattle.prolog_reader.specs.declared.variables.Variables.{Variables}

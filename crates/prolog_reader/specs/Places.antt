@@ -1,3 +1,4 @@
+-- Private.
 -- Where what is read stands: a place counts the bytes before it, and is at most the text's length.
 --
 -- To believe: all of this file, and in prolog_grammar `IsPlaced`.

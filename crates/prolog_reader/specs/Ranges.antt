@@ -1,3 +1,4 @@
+-- Private.
 -- Tokens within a text. Nothing here has to be believed.
 use Rattle.std.specs.Prelude.{◌≤◌, ℕ, List, length}
 use Rattle.prolog_tokens.specs.declared.token.Token.{Token}

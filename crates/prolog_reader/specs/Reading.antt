@@ -1,3 +1,4 @@
+-- To believe, for reading.
 -- What a text reads as, or its first fault; and the same of a query.
 --
 -- Names are their numbers in a list of names. The list has to have the names of the text and of the operators: the calls put them there.

@@ -1,3 +1,4 @@
+-- To believe, for reading.
 -- The tokens of a text as the grammar sees them: names and variables by number, with what touches what.
 --
 -- A name's number is that of its text in a list of names. The variables of a clause are numbered from 0 in the order of their first

@@ -1,3 +1,4 @@
+-- To believe, for reading.
 -- Operators by the numbers of their names, and how one is set.
 --
 -- To believe: all of this file.

@@ -1,3 +1,4 @@
+-- Private.
 -- The plain terms and clauses that values of the code stand for.
 --
 -- To believe: all of this file.

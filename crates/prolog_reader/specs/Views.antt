@@ -1,3 +1,4 @@
+-- Private.
 -- The values of the code as those of the machine. Nothing here has to be believed.
 use Rattle.std.specs.Prelude.{◌≡◌, ◌≤◌, ℕ, List, [], ◌∷◌, map, Option, option_map}
 use Rattle.prolog_reader.specs.declared.part.Part.{Part as CodePart}

@@ -1,3 +1,4 @@
+-- To believe, for reading.
 -- The numbers of the names that mean something to the reader.
 --
 -- To believe: all of this file.

@@ -1,3 +1,4 @@
+-- To believe, for the modes.
 -- Classes of bytes.
 --
 -- Source: ISO/IEC 13211-1:1995, 6.5, in this project's profile: outside quotes and comments a text is ASCII.

@@ -1,3 +1,4 @@
+-- To believe, for reading.
 -- The character whose UTF-8 stands at the front of some bytes.
 use Rattle.std.specs.Prelude.{ℕ, ◌+◌, Bool, ◌||◌, ◌&&◌, ◌==◌, nat_le, List, [], ◌∷◌, take, Option, None, slice_get, if◌then◌else◌}
 use Rattle.std.specs.Str.{is_utf8, chars, continuation_len}

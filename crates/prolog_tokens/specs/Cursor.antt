@@ -1,3 +1,4 @@
+-- To believe, for reading.
 -- A text and a place in it, and the token from there on.
 use Rattle.std.specs.Prelude.{ℕ, ◌+◌, nat_lt, List, length, drop, Option, Some, None, Result, Ok, Err, if◌then◌else◌}
 use Rattle.prolog_tokens.specs.Places.{moved, further}

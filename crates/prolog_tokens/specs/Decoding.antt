@@ -1,3 +1,4 @@
+-- To believe, for reading.
 -- The characters that a token of a text stands for.
 use Rattle.std.specs.Prelude.{◌≡◌, ℕ, ◌-◌, ◌++◌, List, [], take, drop, Some, Ok}
 use Rattle.std.specs.Str.{encode_utf8_all}

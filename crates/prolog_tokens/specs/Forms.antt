@@ -1,3 +1,4 @@
+-- Private.
 -- What a token is, the longest text of one of the token forms at its place, and what its faults are.
 --
 -- To believe: `SpellsCharacter`, `IsBody`, `SpellsInteger`, `IsOfForm`, `IsLongest`, `IsFault`.

@@ -1,3 +1,4 @@
+-- Private.
 -- What may stand between tokens, and the faults of comments.
 --
 -- To believe: `IsSpace`, `IsGap`, `IsCommentFault`.

@@ -1,3 +1,4 @@
+-- To believe, for reading.
 -- A quoted item, computed: how long it is or its fault, and its characters.
 --
 -- By the forms it is `IsItem` of Forms.antt, as the laws `longest_match` and `items_are_decoded` say.

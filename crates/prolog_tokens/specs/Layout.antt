@@ -1,3 +1,4 @@
+-- To believe, for reading.
 -- What stands between tokens, computed: layout and comments.
 --
 -- By the forms it is `IsGap` of Gaps.antt, as the law `longest_match` says.

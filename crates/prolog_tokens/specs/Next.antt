@@ -1,3 +1,4 @@
+-- Private.
 -- The next token of a text from a place on, where none is left, and where there is a fault.
 --
 -- To believe: `IsNextToken`, `HasFault`, over the words of Forms.antt and Gaps.antt. That the computed `next_of` says the same

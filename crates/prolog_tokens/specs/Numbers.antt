@@ -1,3 +1,4 @@
+-- To believe, for reading.
 -- The number that digits spell in a base from 2 to 16, with both cases of letters.
 use Rattle.std.specs.Prelude.{ℕ, ◌+◌, ◌*◌, List, [], ◌∷◌}
 use Rattle.std.specs.Char.{digit_value, is_digit}

@@ -1,3 +1,4 @@
+-- To believe, for reading.
 -- What stands at one place of a quoted item, computed. By the forms a character is `SpellsCharacter` of Forms.antt.
 --
 -- Source: ISO/IEC 13211-1:1995, 6.4.2.1, in this project's profile.

@@ -1,3 +1,4 @@
+-- To believe, for reading.
 -- Lengths and places of faults, counted from the front of some bytes.
 use Rattle.std.specs.Prelude.{ℕ, ◌+◌, Result, Ok, Err}
 use Rattle.prolog_tokens.specs.declared.fault.LexKind.{LexKind}

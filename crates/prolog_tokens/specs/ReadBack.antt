@@ -1,3 +1,4 @@
+-- Private.
 -- A spelled name is read back.
 --
 -- To believe: `IsReadBack`, and in Spelling.antt `spelling`.

@@ -1,3 +1,4 @@
+-- To believe, for reading.
 -- All tokens of a text, and the fault that ends them, if one does.
 use Rattle.std.specs.Prelude.{◌≡◌, List, [], ◌∷◌, Option, Some, None, Ok, Err}
 use Rattle.prolog_tokens.specs.Cursor.{Cursor, next_of}

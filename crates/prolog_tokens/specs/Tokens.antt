@@ -1,3 +1,4 @@
+-- To believe, for reading.
 -- The token at the front of some bytes, computed.
 --
 -- The code is proved against these functions. That they give the longest text of a form, and the faults, is the law

@@ -1,3 +1,4 @@
+-- Private.
 -- What an operation of `Ratio` gives, said by the formulas of exact128's fractions.
 use Rattle.std.specs.Prelude.{◌≡◌, Option, Some, None, Result, Ok, Err}
 use Rattle.exact128.specs.Fractions.{Fraction}

@@ -1,3 +1,4 @@
+-- Private.
 -- How a valid certificate is put together: the parts that the engines give have their shape, their numbers hold, and
 -- their modes are exact.
 use Rattle.std.specs.Prelude.{◌≡◌, ℕ, ℤ, List, length, take, slice_get, Some}

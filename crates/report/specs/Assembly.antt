@@ -1,3 +1,4 @@
+-- Private.
 -- How the parts of a certificate come from what the engines give.
 --
 -- Nothing here has to be believed.

@@ -1,3 +1,4 @@
+-- To believe, for the modes.
 -- The notes of a chain: for each step its image and the rows after it, and whether one of them is weak.
 --
 -- To believe: all of this file.

@@ -1,3 +1,4 @@
+-- To believe, for the modes.
 -- When a certificate of a program is exact: it says the most that may be said by its method.
 --
 -- Its size rows come from a legal chain, whose steps it notes; its ground rows, preconditions and modes are exact; each

@@ -1,3 +1,4 @@
+-- To believe, for the modes.
 -- What is exact of the mappings of a component: each has a minimal support, and each decreasing mapping has one of them
 -- within its own support, but for supports above one that was given up.
 --

@@ -1,3 +1,4 @@
+-- To believe, for the modes.
 -- What is exact of the modes of a certificate: its ground rows are the least ones, its preconditions the greatest ones,
 -- each spelled in the one way, and its modes are all the minimal ones.
 --

@@ -1,3 +1,4 @@
+-- Private.
 -- The parts of a certificate that the mappings of components give.
 --
 -- Nothing here has to be believed.

@@ -1,3 +1,4 @@
+-- Private.
 -- Numbers below 2^127, as the type of 128 bits has them.
 --
 -- Nothing here has to be believed.

@@ -1,3 +1,4 @@
+-- Private.
 -- What a refutation in the words of the model is in the words of a certificate.
 --
 -- To believe: nothing. The law says that a refutation that a search has found can fail the check only by a number that

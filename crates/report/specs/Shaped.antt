@@ -1,3 +1,4 @@
+-- Private.
 -- Refutations in the shape of a certificate.
 --
 -- To believe: all of this file, as part of what a refutation is.

@@ -1,3 +1,4 @@
+-- Private.
 -- The parts of a certificate that sets of truth rows give: their cubes, and the modes.
 --
 -- Nothing here has to be believed.

@@ -1,3 +1,4 @@
+-- To believe, for the modes.
 -- The notes of components: the supports that were given up, and which components have many argument positions.
 --
 -- To believe: all of this file.

@@ -1,3 +1,4 @@
+-- Private.
 -- What solving answers.
 use Rattle.std.specs.Prelude.{◌≡◌, ℕ, ℤ, List, Result, Ok, Err}
 use Rattle.linear_rows.specs.Solving.{Solution}

@@ -1,3 +1,4 @@
+-- Private.
 -- What the test of a row tells.
 --
 -- To believe: `Tells`, over the words of linear_rows.

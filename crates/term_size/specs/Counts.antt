@@ -1,3 +1,4 @@
+-- Private.
 -- What counting leaves, for private clauses. Nothing here has to be believed.
 use Rattle.std.specs.Prelude.{◌≡◌, ℕ, ◌+◌, ◌<◌, ◌^◌, slice_index_or, IsTrue, nat_lt}
 use Rattle.cti_terms.specs.Tree.{Tree, Trees, size, all_sizes, all_truths}

@@ -1,3 +1,4 @@
+-- Private.
 -- The members of a set of variables.
 --
 -- To believe: `members`.

@@ -1,3 +1,4 @@
+-- Private.
 -- What a norm is: a size for each term, and which terms are rigid, with the laws that code and proofs rest on.
 --
 -- To believe: all of this file, over the trees, instances and variables of `cti_terms`.

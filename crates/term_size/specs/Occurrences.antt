@@ -1,3 +1,4 @@
+-- To believe, for the modes.
 -- The row of term size: how many names have arguments, and how often each variable occurs.
 --
 -- To believe: `size_row`, over `size` of `cti_terms`. That its value is the size is the law `value` of norms.

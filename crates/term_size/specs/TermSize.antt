@@ -1,3 +1,4 @@
+-- Private.
 -- Term size is a norm. Nothing here has to be believed.
 use Rattle.cti_terms.specs.Tree.{size, truth}
 use Rattle.term_size.specs.Norm.{IsNorm}

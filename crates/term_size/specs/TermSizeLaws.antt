@@ -1,3 +1,4 @@
+-- Private.
 -- Term size obeys the laws of norms: the proof. Nothing here has to be believed.
 use Rattle.std.proofs.Common.{◌≡◌, ℕ, zero, suc, ◌+◌, ◌*◌, ◌<◌, ◌≤◌, Bool, true, false, ◌==◌, ◌&&◌, if◌then◌else◌, pos, length, refl, ap, arith, eqb-true, ltb-true, nat_lt}
 use Rattle.std.proofs.lemmas.Bool.Decides.{nat_tests}

@@ -1,3 +1,4 @@
+-- Private.
 -- What is left to be written. Nothing here has to be believed.
 use Rattle.std.specs.Prelude.{ℕ, ◌+◌, ◌*◌, ◌-◌, List, [], ◌∷◌, ◌++◌, codes}
 use Rattle.cti_terms.specs.Tree.{nodes_of, all_nodes}

@@ -1,3 +1,4 @@
+-- To believe, for the command.
 -- What a run prints: a line for each answer, then how far the search went and how it ended.
 --
 -- To believe: all of this file.

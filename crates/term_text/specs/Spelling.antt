@@ -1,3 +1,4 @@
+-- To believe, for the command.
 -- The spelling of terms, without spaces.
 --
 -- A name is spelled as `spelling` of prolog_tokens says, an integer in decimal, and variable 0 is `_1`. A list stands in brackets: its cell

@@ -1,3 +1,4 @@
+-- Private.
 -- The full set of positions: its system is that of all positions, and they cover the pairs of its calls.
 use Rattle.std.specs.Prelude.{◌≡◌, ℕ, ◌<◌, List, length}
 use Rattle.std.specs.List.{AllByRecursion}

@@ -1,3 +1,4 @@
+-- Private.
 -- An example: append's queries with a rigid first list end.
 --
 -- The premises of the descent are met by the clauses of append, with no size rows, all truth rows, and the size of the

@@ -1,3 +1,4 @@
+-- Private.
 -- An example: the chain of append.
 --
 -- Its four steps begin with the image of the first clause, join that of the second, and change nothing in a second pass.

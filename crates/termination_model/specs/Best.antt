@@ -1,3 +1,4 @@
+-- To believe, for the modes.
 -- The greatest rows of a measure, and why smaller supports are better.
 --
 -- To believe: `IsSupported`, `IsGreatest`, which are the support of mappings and the greatest preconditions.

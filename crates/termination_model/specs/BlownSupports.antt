@@ -1,3 +1,4 @@
+-- A procedure, to believe for who is blown.
 -- When a support is blown: some solving for it is, or a number does not fit in the check of what is found.
 --
 -- A row before a call that does not fit, and a blown test whether such rows are empty, blow every support. So does the

@@ -1,3 +1,4 @@
+-- To believe, for the modes.
 -- How the size rows of a program's predicates come about: legal chains of steps.
 --
 -- All predicates start empty: with the one row of constant -1 and zeros, which no size obeys. Components go callees

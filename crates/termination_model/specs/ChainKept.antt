@@ -1,3 +1,4 @@
+-- Private.
 -- What a legal chain is for: clauses keep its last rows.
 --
 -- To believe: `KeepsRows`, that each size row of a clause's head holds where the size rows of its body do.

@@ -1,3 +1,4 @@
+-- A procedure, to believe for who is blown.
 -- Lists of size rows in a chain: the row that holds nowhere, sublists, and joins.
 --
 -- The rows that a domain speaks of are given by a test, `speaks`: for polyhedra it is true of rows whose numbers fit.

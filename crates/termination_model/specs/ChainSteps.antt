@@ -1,3 +1,4 @@
+-- A procedure, to believe for who is blown.
 -- A step of a chain: what it notes of its clause, and what it may do to the rows of its head's predicate.
 --
 -- A step takes the image of its clause: rows of the sizes that the head's arguments have where the body's size rows

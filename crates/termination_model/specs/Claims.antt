@@ -1,3 +1,4 @@
+-- To believe, for the modes.
 -- What is claimed of a program's predicates, and what makes the claims show that queries end.
 --
 -- Claims are functions on predicate numbers: size rows, ground rows, and for each component its measures. A measure is

@@ -1,3 +1,4 @@
+-- To believe, for the modes.
 -- The view of a component that its program, the components and size rows alone give.
 --
 -- Ground rows and preconditions count nothing for mappings, so here they are not there: a law says that the decreasing

@@ -1,3 +1,4 @@
+-- To believe, for the modes.
 -- The theorem: a query whose rigid arguments make an admitted row has short derivations alone.
 --
 -- To believe: `mode_row`, `Meets`. Queries are atoms with any terms and any counter.

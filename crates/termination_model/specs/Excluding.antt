@@ -1,3 +1,4 @@
+-- To believe, for the modes.
 -- What a refutation of a support's system excludes.
 --
 -- To believe: `IsRefutationAt`, over the words of termination_model's Refutation.antt, of which it is the same for some

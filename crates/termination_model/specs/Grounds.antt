@@ -1,3 +1,4 @@
+-- To believe, for the modes.
 -- Groundness: families of sets of truth rows, one set for each predicate, that are closed under clauses.
 --
 -- A truth row has a truth value for each argument of an atom. A set of them is the test of its members. Truth of a

@@ -1,3 +1,4 @@
+-- Private.
 -- An example: the query of p, where p calls itself, is not bounded.
 use Rattle.std.specs.Prelude.{ℕ, [], ◌∷◌}
 use Rattle.cti_terms.specs.declared.atom_list.Atom.{Atom}

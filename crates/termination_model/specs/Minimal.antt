@@ -1,3 +1,4 @@
+-- To believe, for the modes.
 -- Minimal sets of numbers: ascending lists from 1 on, as modes are.
 --
 -- `Has s` says that something is had with exactly this set.

@@ -1,3 +1,4 @@
+-- To believe, for the modes.
 -- The modes of a set of truth rows: its minimal rows, each as the ascending list of the arguments that are true.
 --
 -- To believe: `modes`.

@@ -1,3 +1,4 @@
+-- To believe, for the modes.
 -- A component's calls of itself, its members and its argument positions, in the order of its clauses.
 --
 -- To believe: all of this file, where the system of a support is spoken of.

@@ -1,3 +1,4 @@
+-- To believe, for the modes.
 -- What the calls and positions of a view have, so that the laws of its systems apply.
 use Rattle.std.specs.Prelude.{◌≡◌, ℕ, ◌<◌, ◌≤◌, ◌≤ℤ◌, ℤ, pos, Bool, IsTrue, List, [], ◌∷◌, ◌++◌, map, length, unwrap_or, option_map, slice_get, Some}
 use Rattle.std.specs.List.{AllByRecursion}

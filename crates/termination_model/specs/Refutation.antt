@@ -1,3 +1,4 @@
+-- To believe, for the modes.
 -- Why no mapping of a component decreases.
 --
 -- A refutation gives points of calls: at each, the size rows of the atoms before the call hold. Some t is positive, and

@@ -1,3 +1,4 @@
+-- To believe, for the modes.
 -- Sums and multiples of rows, rows over expressions, and rows of truth values.
 --
 -- To believe: `substituted`, `IsUpper`, `Covers`.

@@ -1,3 +1,4 @@
+-- Private.
 -- What is shown by multipliers, over short systems.
 --
 -- `proofs_show` of `src/laws.rt` says that claims so shown are claims that show queries to end.

@@ -1,3 +1,4 @@
+-- To believe, for the modes.
 -- The size rows of each predicate as the code keeps them.
 --
 -- To believe: `rows_of`, `AreSizes`, `wide_system`.

@@ -1,3 +1,4 @@
+-- Private.
 -- What the system of a support is for.
 --
 -- To believe: nothing that is not in termination_model: `Proves` is the test of a certificate's fall, over `fall_over`.

@@ -1,3 +1,4 @@
+-- A procedure, to believe for who is blown.
 -- The system of a support: what coefficients at these positions, offsets and multipliers have to obey so that the
 -- mapping falls at each of these calls.
 --

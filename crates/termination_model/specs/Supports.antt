@@ -1,3 +1,4 @@
+-- To believe, for the modes.
 -- Supports of decreasing mappings of a component, and which of them are minimal.
 --
 -- Positions are numbered from 1 in a list; a set of positions is the ascending list of their numbers.

@@ -1,3 +1,4 @@
+-- A procedure, to believe for who is blown.
 -- The system of a clause up to an atom: the size rows of the atoms before it, over the clause's variables.
 --
 -- A size row of a predicate speaks of the sizes of its arguments. In a clause each argument has a size expression over

@@ -1,3 +1,4 @@
+-- To believe, for the modes.
 -- A component as its measures see it: its clauses in order, with the predicates as members or as lower ones.
 --
 -- A view holds all that mappings and preconditions of a component depend on, so that two components with equal views

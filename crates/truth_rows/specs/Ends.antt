@@ -1,3 +1,4 @@
+-- Private.
 -- The variables that a list of atoms or terms still asks for from some place on, and sets of rows that say enough of
 -- those alone. Nothing here has to be believed.
 use Rattle.std.specs.Prelude.{ℕ, ◌≡◌, ◌<◌, Bool, IsTrue, List, slice_get, Some}

@@ -1,3 +1,4 @@
+-- Private.
 -- What the rows of atoms and clauses are read from, and the rows on which their sets have them.
 -- Nothing here has to be believed.
 use Rattle.std.specs.Prelude.{ℕ, ◌≡◌, ◌<◌, ◌≤◌, Bool, IsTrue, List, length, slice_get, Some}

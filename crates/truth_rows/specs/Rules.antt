@@ -1,3 +1,4 @@
+-- To believe, for the modes.
 -- When calls stay in sets of truth rows, and rows that are true where marks say so.
 --
 -- To believe: all of this file.

@@ -1,3 +1,4 @@
+-- Private.
 -- Families of truth rows as diagrams: variable i of a set is argument i.
 --
 -- To believe: all of this file.

@@ -1,0 +1,141 @@
+#!/usr/bin/env python3
+"""Which definitions a reader of the headline has to believe: all that the words of some clauses use, and what these use in turn.
+
+usage: tools/believe.py            a count of lines for each rank, and the files of each rank
+       tools/believe.py --names    each definition by itself
+       tools/believe.py --mark     writes each file's rank into its first line
+
+The ranks, each without those before: *for a Yes* (queries that meet a printed mode end), *for the modes* (the printed modes are exactly
+the minimal ones), *for reading* (which program or query a text is, or where its fault is), *for the command* (all else that `command`
+promises: statuses, words, valid certificates, runs), *procedures* (definitions that follow an algorithm, since they decide whose numbers do
+not fit). All else in specs/ is private: a contract between functions, which the check has read.
+"""
+import re
+import sys
+from pathlib import Path
+
+top = Path(__file__).resolve().parent.parent
+
+# Where each rank begins: a crate, a file of its specs/ and names in it.
+YES = [("cert_checker", "Bounding", ["ModesAreBounded"])]
+READING = [("cti_top", "Programs", ["IsProgramOf", "IsProgramRefusal"]), ("cti_top", "Queries", None), ("cti_top", "Places", None)]
+MODES = [("report", "Exact", ["IsExact"]), ("certificate", "Text", ["text_of"])]
+COMMAND = [("cti_top", "Outcome", None)]
+PROCEDURES = {
+    "linear_rows": {"Elimination", "Equation", "Cleaning", "Step", "Blown", "Solving", "Systems", "Irredundant"},
+    "termination_model": {"BlownSupports", "SupportSystem", "ChainSteps", "Replacing", "Systems"},
+    "fourier": None,
+}
+
+HEAD = re.compile(r"^(?:(?:abbrev|unfoldable) )?(?:pub )?(?:(?:(?:abbrev|unfoldable) )?(record|data) ([^\s:(){}]+)|([^\s:(){}]+) :)(?=\s|$)")
+
+
+def definitions(text):
+    """The definitions of a file, each with its text and the comment before it."""
+    found, name, comment, inside = {}, None, [], None
+    for line in text.split("\n"):
+        said = line.lstrip()
+        indent = len(line) - len(said)
+        if not said or said.startswith(("use ", "pub use ", "pub mod ", "module ", "mutual", "abbrev mutual")):
+            continue
+        if said.startswith("--"):
+            comment.append(line)
+            continue
+        if inside is not None and indent <= inside:
+            inside = None
+        match = HEAD.match(said) if inside is None and indent <= 4 else None
+        if match:
+            name = match.group(2) or match.group(3)
+            inside = indent if match.group(1) else None
+            found.setdefault(name, [])
+        if name:
+            found[name] += comment + [line]
+        comment = []
+    return found
+
+
+class Specs:
+    def __init__(self):
+        self.files, self.uses = {}, {}
+        for path in top.glob("crates/*/specs/*.antt"):
+            if path.stem == "Lib":
+                continue
+            key = (path.parts[-3], path.stem)
+            text = path.read_text()
+            self.files[key] = definitions(text)
+            self.uses[key] = {}
+            for crate, module, names in re.findall(r"^(?:pub )?use Rattle\.(\w+)\.specs\.([\w.]+)\.\{([^}]*)\}", text, re.M):
+                for name in names.split(","):
+                    plain, _, other = name.strip().partition(" as ")
+                    self.uses[key][other or plain] = (crate, module, plain)
+
+    def closure(self, starts, stop=lambda key: False):
+        waiting = [(crate, module, name) for crate, module, names in starts for name in (names or self.files[crate, module])]
+        seen = set()
+        while waiting:
+            crate, module, name = waiting.pop()
+            key = (crate, module)
+            if key in self.files and name not in self.files[key] and name in self.uses[key]:
+                waiting.append(self.uses[key][name])
+            if key not in self.files or name not in self.files[key] or (key, name) in seen or stop(key):
+                continue
+            seen.add((key, name))
+            for word in set(re.findall(r"[\w'-]+", "\n".join(line for line in self.files[key][name] if not line.lstrip().startswith("--")))):
+                if word in self.files[key] and word != name:
+                    waiting.append((crate, module, word))
+                elif word in self.uses[key]:
+                    waiting.append(self.uses[key][word])
+        return seen
+
+
+MARKS = {
+    "for a Yes": "-- To believe, for a Yes.",
+    "for the modes": "-- To believe, for the modes.",
+    "for reading": "-- To believe, for reading.",
+    "for the command": "-- To believe, for the command.",
+    "procedures": "-- A procedure, to believe for who is blown.",
+    "private": "-- Private.",
+}
+
+
+def mark(specs, ranks):
+    """Writes the first rank that has a definition of a file into the file's first line."""
+    for crate, module in specs.files:
+        path = top / "crates" / crate / "specs" / f"{module}.antt"
+        rank = next((title for title, found in ranks if any(key == (crate, module) for key, _ in found)), "private")
+        lines = path.read_text().split("\n")
+        if lines[0] in MARKS.values():
+            del lines[0]
+        path.write_text("\n".join([MARKS[rank]] + lines))
+
+
+def main():
+    specs = Specs()
+
+    def follows_an_algorithm(key):
+        modules = PROCEDURES.get(key[0], set())
+        return modules is None or key[1] in modules
+
+    yes = specs.closure(YES, follows_an_algorithm)
+    modes = specs.closure(MODES, follows_an_algorithm) - yes
+    reading = specs.closure(READING, follows_an_algorithm) - yes - modes
+    command = specs.closure(COMMAND, follows_an_algorithm) - yes - modes - reading
+    procedures = specs.closure(COMMAND) - yes - modes - reading - command
+    ranks = [("for a Yes", yes), ("for the modes", modes), ("for reading", reading), ("for the command", command), ("procedures", procedures)]
+    everything = {(key, name) for key, names in specs.files.items() for name in names}
+    ranks.append(("private", everything - yes - modes - reading - command - procedures))
+    if "--mark" in sys.argv:
+        mark(specs, ranks)
+        return
+    for title, found in ranks:
+        lines = sum(len(specs.files[key][name]) for key, name in found)
+        print(f"{title}: {lines} lines, {len(found)} definitions, {len({key for key, _ in found})} files")
+        if title == "private" and "--names" not in sys.argv:
+            continue
+        for key in sorted({key for key, _ in found}):
+            names = sorted(name for at, name in found if at == key)
+            count = sum(len(specs.files[key][name]) for name in names)
+            print(f"  {key[0]}/specs/{key[1]}.antt {count}" + (": " + ", ".join(names) if "--names" in sys.argv else ""))
+
+
+main()
