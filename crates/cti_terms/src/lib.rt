@@ -10,7 +10,7 @@
 mod atom_list;
 mod clauses;
 mod derivation;
-mod laws;
+pub mod laws;
 mod limits;
 mod listing;
 mod naming;
@@ -21,10 +21,6 @@ mod term_list;
 pub use atom_list::{Atom, Atoms};
 pub use clauses::Clause;
 pub use derivation::Goal;
-pub use laws::{
-    facts_are_bounded, finished_goals_are_bounded, resolution_is_a_function,
-    unification_is_a_function,
-};
 pub use limits::{
     MOST_ANSWER_DEPTH, MOST_ANSWER_NODES, MOST_ARGUMENTS, MOST_ATOMS, MOST_CLAUSES, MOST_NODES,
     MOST_VARIABLES,

@@ -9,7 +9,7 @@
 
 mod columns;
 mod combining;
-mod laws;
+pub mod laws;
 mod multipliers;
 mod numbers;
 mod point;
@@ -18,7 +18,6 @@ mod row;
 mod system;
 
 pub use combining::{RowFault, combine};
-pub use laws::{elimination_projects, proofs_are_sound, solving_decides};
 pub use multipliers::{Multipliers, Proof};
 pub use numbers::{Numbers, zeros};
 pub use point::Point;

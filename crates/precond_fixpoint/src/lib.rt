@@ -12,7 +12,7 @@ mod columns;
 mod covering;
 mod families;
 mod greatest;
-mod laws;
+pub mod laws;
 mod mode;
 mod modes;
 mod preconditions;
@@ -20,10 +20,6 @@ mod ranks;
 mod removing;
 mod solving;
 
-pub use laws::{
-    greatest_depends_below, greatest_depends_on_members, searches_find_the_greatest,
-    smaller_supports_admit_more,
-};
 pub use mode::Mode;
 pub use preconditions::Preconditions;
 pub use solving::solve_levels;

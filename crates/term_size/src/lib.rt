@@ -7,13 +7,12 @@
 #![tactic(auto)]
 
 mod counting;
-mod laws;
+pub mod laws;
 mod norm;
 mod size_expr;
 mod term_size;
 mod var_set;
 
-pub use laws::{laws_of_rigid_terms, laws_of_sizes};
 pub use norm::Norm;
 pub use size_expr::{Coefficients, SizeExpr};
 pub use term_size::TermSize;

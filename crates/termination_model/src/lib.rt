@@ -13,7 +13,7 @@
 mod choosing;
 mod descent;
 mod how;
-mod laws;
+pub mod laws;
 mod replacing;
 mod sizes;
 mod supports;
@@ -22,10 +22,6 @@ mod systems;
 pub use choosing::number_sets;
 pub use descent::{a_query_is_bounded, proofs_show, views_serve};
 pub use how::How;
-pub use laws::{
-    a_loop_goes_on, a_refutation_excludes_mappings, append_has_this_chain, append_is_bounded,
-    closed_families, last_rows_are_kept, smaller_supports_are_better,
-};
 pub use replacing::{add_expressions, columns, replaced};
 pub use sizes::{SizeRows, Sizes};
 pub use supports::{
