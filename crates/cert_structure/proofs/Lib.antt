@@ -9,4 +9,3 @@ pub mod StructureLemmas
 pub mod ComponentLemmas
 pub mod WholeLemmas
 pub mod Examples
-pub mod WritingLemmas

@@ -3,4 +3,3 @@ pub mod Order
 pub mod Shape
 pub mod Structure
 pub mod Walk
-pub mod Written

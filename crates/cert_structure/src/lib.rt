@@ -3,7 +3,7 @@
 //! A certificate is a list of facts. `parts_of` sorts them by predicates and clauses, and finds the first that may not stand at its
 //! place. What parts a certificate has is `IsStructured` of `specs/Structure.antt`. Whether what it claims is true is not asked here.
 //!
-//! Stands on `certificate`, `cti_terms`, `call_components`, `termination_model`, `linear_rows` and `bool_diagrams`.
+//! It depends on `certificate`, `cti_terms`, `call_components`, `termination_model`, `linear_rows` and `bool_diagrams`.
 #![tactic(auto)]
 
 mod calls;
@@ -25,11 +25,10 @@ mod reading;
 mod refutations;
 mod sizes;
 mod stop;
-mod writer;
-mod writing;
 
 pub use fault::{PartsFault, StructureReason};
+pub use modes::copied_modes;
+pub use named::Named;
 pub use number_tests::{LevelPart, PairPoint, Refutation};
 pub use parts::Parts;
 pub use reading::{one_structure, parts_of};
-pub use writing::facts_of;

@@ -35,7 +35,7 @@ fn are_modes(arity: u32, modes: &[Sequence<u32>]) -> bool
 }
 
 /// A copy of modes.
-pub(crate) fn copied(
+pub fn copied_modes(
     alloc: Global,
     modes: &[Sequence<u32>],
 ) -> Result<Sequence<Sequence<u32>>, AllocError>
@@ -76,7 +76,7 @@ impl Kind for ModesFact<'_> {
         if !are_modes(self.pred.arity, modes.as_slice()) {
             return Err(FactFault::Shape);
         }
-        Ok(Some(copied(alloc, modes.as_slice())?))
+        Ok(Some(copied_modes(alloc, modes.as_slice())?))
     }
 }
 

@@ -11,14 +11,14 @@ use std::alloc::{AllocError, Global};
 
 /// A predicate of a program: the text of its name, and how many arguments it has.
 #[derive(Clone, Copy)]
-pub(crate) struct Named<'a> {
-    pub(crate) name: &'a [u8],
-    pub(crate) arity: u32,
+pub struct Named<'a> {
+    pub name: &'a [u8],
+    pub arity: u32,
 }
 
 impl<'a> Named<'a> {
     /// The predicate of this number; with an empty name and no arguments, where there is none.
-    pub(crate) fn new(p: &'a Program, names: &'a Names, number: u64) -> Named<'a>
+    pub fn new(p: &'a Program, names: &'a Names, number: u64) -> Named<'a>
         ensures { named result ≡ pred_text p.now names.now number }
     {
         if number >= u64::from(p.preds()) {
@@ -39,7 +39,7 @@ impl<'a> Named<'a> {
     }
 
     /// The predicate, for a fact.
-    pub(crate) fn text(&self, alloc: Global) -> Result<PredText, AllocError>
+    pub fn text(&self, alloc: Global) -> Result<PredText, AllocError>
         ensures { IfOk result (λ text. text ≡ named self.now) }
     {
         Ok(PredText {

@@ -1,6 +1,6 @@
 use Rattle.std.proofs.Common.{◌≡◌, ◌++◌, take}
 use Rattle.cert_structure.specs.Numbered.{facts_from}
-use Rattle.cert_structure.proofs.writer.write_each.Given as goal
+use Rattle.cert_writing.proofs.writer.write_each.Given as goal
 
 -- the facts of the items so far are there
 abbrev pub invariant-loop-number : goal.invariant-loop-number

@@ -1,6 +1,6 @@
 use Rattle.std.proofs.Common.{◌≡◌, take, map}
 use Rattle.cert_structure.specs.Order.{cell_of}
-use Rattle.cert_structure.proofs.writing.cells.Given as goal
+use Rattle.cert_writing.proofs.fields.cells.Given as goal
 
 -- the cells so far are copied
 abbrev pub invariant-loop-place : goal.invariant-loop-place

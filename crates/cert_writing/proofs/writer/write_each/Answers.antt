@@ -1,8 +1,8 @@
 use Rattle.std.proofs.Common.{◌≡◌, ◌++◌, take, ap, ◌∙◌}
 use Rattle.std.proofs.lemmas.List.{append_assoc}
 use Rattle.cert_structure.specs.Numbered.{facts_from}
-use Rattle.cert_structure.proofs.WritingLemmas.{facts_next}
-use Rattle.cert_structure.proofs.writer.write_each.Goals as goal
+use Rattle.cert_writing.proofs.WritingLemmas.{facts_next}
+use Rattle.cert_writing.proofs.writer.write_each.Goals as goal
 
 pub loop-number-preserved : goal.loop-number-preserved
 loop-number-preserved g c =

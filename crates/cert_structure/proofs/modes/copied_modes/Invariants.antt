@@ -1,5 +1,5 @@
 use Rattle.std.proofs.Common.{◌≡◌, take}
-use Rattle.cert_structure.proofs.modes.copied.Given as goal
+use Rattle.cert_structure.proofs.modes.copied_modes.Given as goal
 
 -- the modes so far are copied
 abbrev pub invariant-loop-mode : goal.invariant-loop-mode

@@ -1,5 +1,5 @@
 use Rattle.std.proofs.Common.{◌≡◌, ◌++◌}
-use Rattle.cert_structure.proofs.writing.append.Given as goal
+use Rattle.cert_writing.proofs.writing.append.Given as goal
 
 -- what is yielded stands after the facts that were there
 abbrev pub invariant-loop-fact : goal.invariant-loop-fact

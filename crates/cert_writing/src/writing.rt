@@ -1,0 +1,92 @@
+//! The facts of all parts.
+
+ghost use Rattle.std.specs.Prelude.{◌≡◌, ◌++◌, IfOk, OnOk};
+ghost use Rattle.cert_structure.specs.Order.{listed};
+ghost use Rattle.cert_writing.specs.Written.{set_facts, mapping_facts};
+
+use crate::ground_rows::Grounds;
+use crate::mappings::{Falls, Levels};
+use crate::modes::Modes;
+use crate::preconditions::Pres;
+use crate::refutations::Refutations;
+use crate::size_rows::{Proofs, Sizes};
+use crate::writer::write_each;
+use cert_structure::Parts;
+use certificate::{Certificate, Fact};
+use cti_terms::{Names, Program};
+use sequences::Sequence;
+use std::alloc::{AllocError, Global};
+
+/// The version of the certificates that are written.
+const VERSION: i128 = 1;
+
+/// Puts the facts of modes, size rows and their proofs, and ground rows after others.
+fn write_sets(
+    alloc: Global,
+    p: &Program,
+    names: &Names,
+    parts: &Parts,
+    out: &mut Sequence<Fact>,
+) -> Result<(), AllocError>
+    ensures { OnOk result (out.new ≡ out.old ++ set_facts p.now names.now parts.now) }
+{
+    write_each(alloc, &Modes { p, names }, parts.modes.as_slice(), out)?;
+    write_each(alloc, &Sizes { p, names }, parts.rows.as_slice(), out)?;
+    write_each(alloc, &Proofs {}, parts.row_proofs.as_slice(), out)?;
+    write_each(alloc, &Grounds { p, names }, parts.grounds.as_slice(), out)
+}
+
+/// Puts the facts of mappings, their falls and preconditions, and refutations after others.
+fn write_mappings(
+    alloc: Global,
+    p: &Program,
+    names: &Names,
+    parts: &Parts,
+    out: &mut Sequence<Fact>,
+) -> Result<(), AllocError>
+    ensures { OnOk result (out.new ≡ out.old ++ mapping_facts p.now names.now parts.now) }
+{
+    write_each(alloc, &Levels { p, names }, parts.levels.as_slice(), out)?;
+    write_each(alloc, &Falls {}, parts.falls.as_slice(), out)?;
+    write_each(
+        alloc,
+        &Pres { p, names },
+        parts.preconditions.as_slice(),
+        out,
+    )?;
+    write_each(
+        alloc,
+        &Refutations { p, names },
+        parts.refutations.as_slice(),
+        out,
+    )
+}
+
+/// Puts facts after others.
+fn append(facts: Vec<Fact>, out: &mut Sequence<Fact>) -> Result<(), AllocError>
+    ensures { OnOk result (out.new ≡ out.old ++ facts.items) }
+{
+    for fact in facts {
+        out.push(fact)?;
+    }
+    Ok(())
+}
+
+/// The certificate of parts, with notes after their facts: `parts_of` finds these parts in it, where they have the shape
+/// of the program.
+pub fn facts_of(
+    alloc: Global,
+    p: &Program,
+    names: &Names,
+    parts: &Parts,
+    notes: Vec<Fact>,
+) -> Result<Certificate, AllocError>
+    ensures { IfOk result (λ c. c.facts ≡ listed p.now names.now parts.now notes.items) }
+{
+    let mut facts = Sequence::new(alloc);
+    facts.push(Fact::Cti { version: VERSION })?;
+    write_sets(alloc, p, names, parts, &mut facts)?;
+    write_mappings(alloc, p, names, parts, &mut facts)?;
+    append(notes, &mut facts)?;
+    Ok(Certificate { facts })
+}
