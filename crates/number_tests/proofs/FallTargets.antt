@@ -14,11 +14,11 @@ use Rattle.termination_model.specs.Rows.{scaled, added}
 use Rattle.termination_model.specs.Systems.{row_over}
 use Rattle.termination_model.proofs.Lists.{any_default}
 use Rattle.termination_model.proofs.Proved.{length-substituted}
-use Rattle.termination_model.proofs.RowColumns.{over_list}
+use Rattle.termination_model.proofs.Entries.{entry_scaled}
+use Rattle.termination_model.proofs.RowColumns.{entry_added, entry_substituted, over_list}
 use Rattle.termination_model.proofs.SystemLaws.{widths}
 use Rattle.number_tests.specs.Proved.{fall_of}
 use Rattle.number_tests.specs.Targets.{AreFallColumns, fall_weights, joined}
-use Rattle.termination_model.proofs.RowColumns.{entry_scaled, entry_added, entry_substituted}
 
 -- the row of the number 1
 entry_one : (x : ℕ) → entry (pos 1 ∷ []) x ≡ unit_at x
