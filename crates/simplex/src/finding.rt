@@ -22,14 +22,14 @@ pub fn found(alloc: Global, rows: &Rows) -> Result<Option<Solved>, AllocError>
         return Ok(None);
     };
     let mut tableau = Tableau::new(alloc, rows)?;
-    match tableau.run(most) {
+    match tableau.run(alloc, most)? {
         End::Holding => Ok(point_of(rows, tableau.values(alloc, width)?)),
         End::Failing(row) => refuting(alloc, rows, tableau.multipliers(alloc, width, many, row)?),
         End::Open => Ok(None),
     }
 }
 
-// The most pivots for so many rows and columns.
+// The most pivots for rows of this number and width.
 fn most_pivots(width: usize, many: usize) -> Option<usize>
     ensures { IfSome result (λ _. width + many < 2 ^ 64) }
 {

@@ -5,6 +5,7 @@
 //! blown, is defined in linear_rows. The crate stands on `exact128`, `rational128`, `linear_rows` and `fourier`.
 #![tactic(auto)]
 
+mod divisors;
 mod finding;
 mod held;
 mod solving;

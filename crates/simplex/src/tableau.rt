@@ -1,31 +1,34 @@
 // A tableau of rows, and its pivots.
 //
-// Each row of the rows that are solved has a slack variable, which is its value: at least 0 where it holds. A tableau
-// says of some variables, which are basic, what they are by the others, which are free: the denominator times a basic
-// variable is the sum of its row's numbers, each times the free variable of its column. Column 0 has the constants. At
-// first the slack variables are basic and the denominator is 1. A pivot exchanges the basic variable of a row and the
-// free variable of a column.
+// Each of the rows that are solved has a slack variable, which is its value: at least 0 where it holds. A tableau says
+// what some variables, the basic ones, are by the others, which are free. In each of its rows the denominator times the
+// basic variable is the sum of the row's numbers, each times the free variable of its column. Column 0 has the constants.
+// At first the slack variables are basic and the denominators are 1. A pivot exchanges the basic variable of a row and
+// the free variable of a column.
 //
-// All numbers are whole, and the common denominator is the number at which the last pivot stood, so that each division
-// leaves no rest. The entries are then determinants of the rows' numbers.
+// All numbers are whole. Each row has a denominator of its own, which is above 0, so that a pivot changes only the rows
+// that have its column, and most systems stay sparse. The numbers of a row have no divisor in common with its
+// denominator, which keeps them as small as determinants of the rows' numbers.
 //
 // Source: integer pivoting as in Edmonds 1967, and the choice of the smallest index as in Bland 1977.
 ghost use Rattle.std.specs.Prelude.{◌+◌, ◌<◌, ◌^◌, length};
 
-use exact128::{gcd, minus, times};
+use crate::divisors::{divide, divided, shared_by};
+use exact128::{minus, times};
 use linear_rows::{Numbers, Rows};
 use std::alloc::{AllocError, Global};
 
 /// A tableau. The rows' variables are numbered first, and then their slack variables.
 pub struct Tableau {
-    // The numbers, row by row, of which each has as many as there are columns.
+    // The numbers, row by row, each of which has one for each column.
     numbers: Vec<i128>,
     columns: usize,
     // The variable of each row.
     basic: Vec<usize>,
     // The variable of each column but that of the constants.
     free: Vec<usize>,
-    denominator: i128,
+    // The denominator of each row.
+    denominators: Vec<i128>,
 }
 
 impl Drop for Tableau {
@@ -35,7 +38,7 @@ impl Drop for Tableau {
             columns: _,
             basic: _,
             free: _,
-            denominator: _,
+            denominators: _,
         } = self;
     }
 }
@@ -57,48 +60,64 @@ impl Tableau {
         requires { rows.now.width + length rows.now.list < 2 ^ 64 }
     {
         let width = rows.width as usize;
+        let many = rows.list.len();
         let numbers = numbers_of(alloc, rows)?;
-        let basic = counted(alloc, width, rows.list.len())?;
+        let basic = counted(alloc, width, many)?;
         let free = counted(alloc, 0, width)?;
+        let denominators = vec![in alloc; 1; many]?;
         Ok(Tableau {
             numbers,
             columns: width + 1,
             basic,
             free,
-            denominator: 1,
+            denominators,
         })
     }
 
-    /// Makes pivots until the rows hold or fail, but at most so many.
-    pub fn run(&mut self, most: usize) -> End {
+    /// Makes pivots until the rows hold or fail, but at most `most`.
+    pub fn run(&mut self, alloc: Global, most: usize) -> Result<End, AllocError> {
         for _ in 0..most {
             let row = self.leaving();
             if row == self.basic.len() {
-                return End::Holding;
+                return Ok(End::Holding);
             }
             let column = self.entering(row);
             if column == self.columns {
-                return End::Failing(row);
+                return Ok(End::Failing(row));
             }
-            if !self.pivot(row, column) {
-                return End::Open;
+            if !self.pivot(alloc, row, column)? {
+                return Ok(End::Open);
             }
         }
-        End::Open
+        Ok(End::Open)
     }
 
-    /// The values of the first `width` variables where the free ones are 0, over the last number.
+    /// The values of the first `width` variables where the free ones are 0, over the last number, which is 0 where the
+    /// values do not fit.
     pub fn values(&self, alloc: Global, width: usize) -> Result<Numbers, AllocError> {
         let mut values = vec![in alloc; 0; width]?;
+        let shared = self.shared_denominator(width);
         for row in 0..self.basic.len() {
-            put(&mut values, self.basic[row], self.number(row, 0));
+            let value = times(self.number(row, 0), divided(shared, self.denominator(row)));
+            put(&mut values, self.basic[row], value.unwrap_or(-1));
         }
-        values.push(self.denominator)?;
+        values.push(shared)?;
         divide(&mut values);
         Ok(Numbers::from_vec(values))
     }
 
-    /// The multipliers of the rows, so many, by which they sum to what a failing row says, over `width` variables.
+    // A multiple of the denominators of the first `width` variables, or 0 where it does not fit.
+    fn shared_denominator(&self, width: usize) -> i128 {
+        let mut shared = 1;
+        for row in 0..self.basic.len() {
+            if self.basic[row] < width {
+                shared = multiple(shared, self.denominator(row));
+            }
+        }
+        shared
+    }
+
+    /// The multipliers of the `many` rows by which they sum to what a failing row says, over `width` variables.
     pub fn multipliers(
         &self,
         alloc: Global,
@@ -108,7 +127,12 @@ impl Tableau {
     ) -> Result<Numbers, AllocError> {
         let mut multipliers = vec![in alloc; 0; many]?;
         if row < self.basic.len() {
-            put_slack(&mut multipliers, width, self.basic[row], self.denominator);
+            put_slack(
+                &mut multipliers,
+                width,
+                self.basic[row],
+                self.denominator(row),
+            );
         }
         for j in 0..self.free.len() {
             let number = minus(0, self.number(row, j + 1)).unwrap_or(0);
@@ -131,14 +155,21 @@ impl Tableau {
     // Puts a number into a row and a column.
     fn set(&mut self, row: usize, column: usize, number: i128) {
         let place = self.place(row, column);
-        if place < self.numbers.len() {
-            self.numbers[place] = number;
-        }
+        put(&mut self.numbers, place, number);
     }
 
     // Where the number of a row and a column stands.
     fn place(&self, row: usize, column: usize) -> usize {
         row.saturating_mul(self.columns).saturating_add(column)
+    }
+
+    // The denominator of a row, or 1 where there is no such row.
+    fn denominator(&self, row: usize) -> i128 {
+        if row < self.denominators.len() {
+            self.denominators[row]
+        } else {
+            1
+        }
     }
 
     // The row of the first variable whose constant is below 0, or the number of rows.
@@ -168,48 +199,115 @@ impl Tableau {
     }
 
     // Exchanges the variables of a row and a column. It answers whether each number fits.
-    fn pivot(&mut self, row: usize, column: usize) -> bool {
-        let pivot = self.number(row, column);
+    fn pivot(&mut self, alloc: Global, row: usize, column: usize) -> Result<bool, AllocError> {
+        let places = self.places(alloc, row)?;
         for other in 0..self.basic.len() {
-            if other != row && !self.replace(other, row, column, pivot) {
-                return false;
+            if other != row && !self.replace(other, row, column, places.as_slice()) {
+                return Ok(false);
             }
         }
-        if !self.turn(row, column) {
+        Ok(self.turn(row, column, places.as_slice()))
+    }
+
+    // The columns in which a row has a number other than 0.
+    fn places(&self, alloc: Global, row: usize) -> Result<Vec<usize>, AllocError> {
+        let mut places = Vec::new(alloc);
+        for column in 0..self.columns {
+            if self.number(row, column) != 0 {
+                places.push(column)?;
+            }
+        }
+        Ok(places)
+    }
+
+    // Puts what a row says of a column's variable into another row. The row has numbers at these places.
+    fn replace(&mut self, other: usize, row: usize, column: usize, places: &[usize]) -> bool {
+        let factor = self.number(other, column);
+        if factor == 0 {
+            return true;
+        }
+        let pivot = self.number(row, column);
+        let shared = shared_by(factor, pivot);
+        let scale = divided(pivot, shared);
+        let factor = divided(factor, shared);
+        if scale != 1 && !self.scale(other, scale) {
             return false;
         }
-        self.exchange(row, column);
-        self.denominator = pivot;
+        if !self.subtract(other, row, factor, places) {
+            return false;
+        }
+        match times(factor, self.denominator(row)) {
+            Some(number) => self.set(other, column, number),
+            None => return false,
+        }
+        if scale != 1 {
+            self.reduce(other);
+        }
         true
     }
 
-    // Puts what a row says of a column's variable into another row.
-    fn replace(&mut self, other: usize, row: usize, column: usize, pivot: i128) -> bool {
-        let factor = self.number(other, column);
-        if factor == 0 && pivot == self.denominator {
-            return true;
-        }
+    // Multiplies a row by a number.
+    fn scale(&mut self, row: usize, scale: i128) -> bool {
         for j in 0..self.columns {
-            let x = self.number(other, j);
-            let y = self.number(row, j);
-            match crossed(pivot, x, factor, y, self.denominator) {
-                Some(number) => self.set(other, j, number),
+            let x = self.number(row, j);
+            if x != 0 {
+                match times(scale, x) {
+                    Some(number) => self.set(row, j, number),
+                    None => return false,
+                }
+            }
+        }
+        match times(scale, self.denominator(row)) {
+            Some(number) => put(&mut self.denominators, row, number),
+            None => return false,
+        }
+        true
+    }
+
+    // Subtracts from a row so many times another one, which has numbers at these places.
+    fn subtract(&mut self, other: usize, row: usize, factor: i128, places: &[usize]) -> bool {
+        for place in places {
+            let x = self.number(other, *place);
+            let y = self.number(row, *place);
+            match less(x, factor, y) {
+                Some(number) => self.set(other, *place, number),
                 None => return false,
             }
         }
-        self.set(other, column, factor);
         true
+    }
+
+    // Divides a row by what its numbers and its denominator share.
+    fn reduce(&mut self, row: usize) {
+        let mut shared = self.denominator(row);
+        for j in 0..self.columns {
+            if shared != 1 {
+                shared = shared_by(self.number(row, j), shared);
+            }
+        }
+        if shared > 1 {
+            for j in 0..self.columns {
+                let number = divided(self.number(row, j), shared);
+                self.set(row, j, number);
+            }
+            let number = divided(self.denominator(row), shared);
+            put(&mut self.denominators, row, number);
+        }
     }
 
     // Solves a row for a column's variable.
-    fn turn(&mut self, row: usize, column: usize) -> bool {
-        for j in 0..self.columns {
-            match minus(0, self.number(row, j)) {
-                Some(number) => self.set(row, j, number),
+    fn turn(&mut self, row: usize, column: usize, places: &[usize]) -> bool {
+        let pivot = self.number(row, column);
+        for place in places {
+            match minus(0, self.number(row, *place)) {
+                Some(number) => self.set(row, *place, number),
                 None => return false,
             }
         }
-        self.set(row, column, self.denominator);
+        let denominator = self.denominator(row);
+        self.set(row, column, denominator);
+        put(&mut self.denominators, row, pivot);
+        self.exchange(row, column);
         true
     }
 
@@ -233,7 +331,7 @@ fn numbers_of(alloc: Global, rows: &Rows) -> Result<Vec<i128>, AllocError> {
     Ok(numbers)
 }
 
-// So many numbers, from one on.
+// `many` numbers, from one on.
 fn counted(alloc: Global, from: usize, many: usize) -> Result<Vec<usize>, AllocError>
     requires { from + many < 2 ^ 64 }
 {
@@ -244,16 +342,14 @@ fn counted(alloc: Global, from: usize, many: usize) -> Result<Vec<usize>, AllocE
     Ok(numbers)
 }
 
-// The difference of two products, divided by a number that goes into it, where all of these fit.
-fn crossed(a: i128, x: i128, b: i128, y: i128, part: i128) -> Option<i128> {
-    if x == 0 && y == 0 {
-        return Some(0);
-    }
-    let difference = minus(times(a, x)?, times(b, y)?)?;
-    if part == 1 {
-        return Some(difference);
-    }
-    difference.checked_div(part)
+// A number less the product of two others, where all of these fit.
+fn less(x: i128, factor: i128, y: i128) -> Option<i128> {
+    minus(x, times(factor, y)?)
+}
+
+// The least common multiple of two numbers above 0, or 0 where it does not fit.
+fn multiple(a: i128, b: i128) -> i128 {
+    times(a, divided(b, shared_by(a, b))).unwrap_or(0)
 }
 
 // Puts a number at a place, if there is one.
@@ -268,26 +364,4 @@ fn put_slack(numbers: &mut Vec<i128>, width: usize, variable: usize, number: i12
     if width <= variable {
         put(numbers, variable - width, number);
     }
-}
-
-// Divides numbers by what they share.
-fn divide(numbers: &mut Vec<i128>) {
-    let shared = shared_of(numbers.as_slice());
-    if shared > 1 {
-        for i in 0..numbers.len() {
-            let divided = numbers[i].checked_div(shared);
-            numbers[i] = divided.unwrap_or(0);
-        }
-    }
-}
-
-// The greatest common divisor of numbers, or 0 where it does not fit.
-fn shared_of(numbers: &[i128]) -> i128 {
-    let mut shared = 0;
-    for number in numbers {
-        if shared != 1 {
-            shared = gcd(number.unsigned_abs(), shared);
-        }
-    }
-    i128::try_from(shared).unwrap_or(0)
 }
