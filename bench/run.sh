@@ -1,7 +1,9 @@
 #!/usr/bin/env bash
 # Times `cti run` beside SWI-Prolog with its occurs check on, outside the gate: naive reverse of 900 elements, all permutations of 8,
-# and all splits of a list of 600. Both go through all answers of the same query, once without writing any and once writing all. Times
-# are the least of seven runs, in seconds of the processor; those of `cti` are of the whole process.
+# six queens, and all splits of a list of 600. Both go through all answers of the same query, once without writing any and once writing
+# all. Then it times `cti run` alone on what once took it long: a counter beside a result that stays a variable, and two terms of 200
+# levels that share their parts. Times are the least of seven runs, in seconds of the processor; those of `cti` are of the whole
+# process, and so is its memory, from which that of a run of one step is taken.
 # Usage: bench/run.sh [PROGRAM]     (PROGRAM is bin/cti where none is named)
 set -eu
 cd "$(dirname "$0")/.."
@@ -10,7 +12,7 @@ folder=$(mktemp -d)
 trap 'rm -rf "$folder"' EXIT
 
 python3 - "$program" "$folder" <<'PYTHON'
-import resource
+import os
 import shutil
 import subprocess
 import sys
@@ -20,6 +22,13 @@ program, folder = sys.argv[1], Path(sys.argv[2])
 APP = "app([],L,L).\napp([H|T],L,[H|R]) :- app(T,L,R).\n"
 REV = APP + "rev([],[]).\nrev([H|T],R) :- rev(T,S), app(S,[H],R).\n"
 PERM = "sel(X,[X|T],T).\nsel(X,[H|T],[H|R]) :- sel(X,T,R).\nperm([],[]).\nperm(L,[X|P]) :- sel(X,L,R), perm(R,P).\n"
+QUEENS = PERM + (
+    "queens(L,Q) :- perm(L,Q), safe(Q).\nsafe([]).\nsafe([Q|Qs]) :- noatt(Q,s(0),Qs), safe(Qs).\nnoatt(_,_,[]).\n"
+    "noatt(Q,D,[P|Ps]) :- plus(P,D,S), diff(Q,S), plus(Q,D,T), diff(P,T), noatt(Q,s(D),Ps).\n"
+    "diff(0,s(_)).\ndiff(s(_),0).\ndiff(s(X),s(Y)) :- diff(X,Y).\nplus(0,Y,Y).\nplus(s(X),Y,s(Z)) :- plus(X,Y,Z).\n"
+)
+COUNTER = "c(R,N) :- c(R,s(N)).\n"
+SHARED = "pair(0,X,X).\npair(s(N),X,T) :- pair(N,f(X,X),T).\nboth(N) :- pair(N,X,S), pair(N,Y,T), S = T.\n"
 RUNS = 7
 
 
@@ -27,22 +36,37 @@ def elements(n):
     return "[" + ",".join(f"e{k}" for k in range(n)) + "]"
 
 
+def number(n):
+    return "s(" * n + "0" + ")" * n
+
+
 CASES = [
     ("reverse of 900", REV, f"rev({elements(900)},R)"),
     ("permutations of 8", PERM, f"perm({elements(8)},P)"),
+    ("six queens", QUEENS, f"queens([{','.join(number(n) for n in range(1, 7))}],Q)"),
     ("splits of 600", APP, f"app(X,Y,{elements(600)})"),
+]
+ALONE = [
+    ("counter beside a result", COUNTER, "c(R,0)", 100_000),
+    ("shared terms of 200 levels", SHARED, f"both({number(200)})", 1_000_000),
 ]
 
 
-def ours(file, query):
-    """The number of steps and the least time."""
-    times = []
-    for _ in range(RUNS):
-        before = resource.getrusage(resource.RUSAGE_CHILDREN)
-        done = subprocess.run([program, "run", str(file), query, "--steps", "1000000"], stdout=subprocess.PIPE)
-        after = resource.getrusage(resource.RUSAGE_CHILDREN)
-        times.append(after.ru_utime + after.ru_stime - before.ru_utime - before.ru_stime)
-    return int(done.stdout.splitlines()[-1].split(b"(")[1].split(b",")[0]), min(times)
+def once(file, query, steps):
+    """The last line of a run, its time and its greatest memory in bytes."""
+    child = subprocess.Popen([program, "run", str(file), query, "--steps", str(steps)], stdout=subprocess.PIPE)
+    last = child.stdout.read().splitlines()[-1]
+    used = os.wait4(child.pid, 0)[2]
+    child.returncode = 0
+    return last, used.ru_utime + used.ru_stime, used.ru_maxrss * 1024
+
+
+def ours(file, query, limit=1_000_000):
+    """The number of steps, the least time, and the bytes of memory for each step."""
+    runs = [once(file, query, limit) for _ in range(RUNS)]
+    steps = int(runs[0][0].split(b"(")[1].split(b",")[0])
+    small = once(file, query, 1)[2]
+    return steps, min(run[1] for run in runs), (min(run[2] for run in runs) - small) / steps
 
 
 def theirs(swi, file, work):
@@ -56,17 +80,21 @@ def theirs(swi, file, work):
 
 
 swi = shutil.which("swipl")
+file = folder / "program.pl"
 for name, text, query in CASES:
-    file = folder / "program.pl"
     file.write_text(text)
     for kind, asked, work in [
         ("searched", f"{query}, fail", f"\\+ ({query}, fail)"),
         ("written", query, f"Q = {query}, forall(Q, (writeq(Q), nl))"),
     ]:
-        steps, spent = ours(file, asked)
-        line = f"{name}, {kind}: {steps} steps, {spent:.3f} s"
+        steps, spent, bytes_each = ours(file, asked)
+        line = f"{name}, {kind}: {steps} steps, {spent:.3f} s, {bytes_each:.0f} bytes a step"
         if swi:
             other = theirs(swi, file, work)
             line += f", SWI-Prolog {other:.3f} s, {other / spent:.2f} of its steps a second"
         print(line)
+for name, text, query, limit in ALONE:
+    file.write_text(text)
+    steps, spent, bytes_each = ours(file, query, limit)
+    print(f"{name}: {steps} steps, {spent:.3f} s, {bytes_each:.0f} bytes a step")
 PYTHON

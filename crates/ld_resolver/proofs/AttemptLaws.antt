@@ -16,11 +16,14 @@ use Rattle.ld_resolver.specs.Below.{AtomsBelow, FreeFrom}
 use Rattle.ld_resolver.specs.Walk.{Visit, walk}
 use Rattle.ld_resolver.specs.Choices.{kept, goal_of, left, AreChoices}
 use Rattle.ld_resolver.specs.Searches.{AreWithin, attempts_at, goal_with, IsTakenAt}
-use Rattle.ld_resolver.proofs.SearchLaws.{left_gone, later_choices, no_node, node, fewer_attempts, resolve_at, same_pred, left_goal, node_free, head_below, goal_below}
+use Rattle.ld_resolver.proofs.SearchLaws.{Agree, left_gone, later_choices, no_node, node, fewer_attempts, resolve_at, same_pred, left_goal, node_free, head_below, goal_below}
 
-module _ (p : Listing) (s now : List Binding) (rests : List (List Atom)) (old new : List Choice) (c : Choice) (k : Clause) (all : AreChoices p s rests old) (t : IsTakenAt p old c k new) (e : Extends now (kept s c.mark)) where
+module _ (p : Listing) (s now : List Binding) (rests rests_now : List (List Atom)) (old new : List Choice) (c : Choice) (k : Clause) (all : AreChoices p s rests old) (t : IsTakenAt p old c k new) (e : Extends now (kept s c.mark)) (agree : Agree c.rests rests rests_now) (enough : c.rests ≤ length rests → c.rests ≤ length rests_now) where
   here : AreChoices p s rests (c ∷ t.below)
   here = subst (AreChoices p s rests) t.was all
+
+  long : c.rests ≤ length rests_now
+  long = enough here.0.counted
 
   first : Atom
   first = over (full (kept s c.mark)) (raised c.base c.atom.now)
@@ -29,33 +32,33 @@ module _ (p : Listing) (s now : List Binding) (rests : List (List Atom)) (old ne
   rest = map (over (full (kept s c.mark))) (tail_at rests c.rest)
 
   -- the choices stay choices
-  pub taken_choices : AreChoices p now rests new
+  pub taken_choices : AreChoices p now rests_now new
   taken_choices = go t.is
     where
-      later : AreChoices p now rests (record c { next = t.m } ∷ t.below)
-      later = later_choices p s now rests c t.below here t.within t.m t.next e
+      later : AreChoices p now rests_now (record c { next = t.m } ∷ t.below)
+      later = later_choices p s now rests rests_now c t.below here t.within t.m t.next e agree long
 
-      go : (new ≡ record c { next = t.m } ∷ t.below) ⊎ ((new ≡ t.below) × (length p.clauses < t.m)) → AreChoices p now rests new
-      go (inl same) = subst (AreChoices p now rests) (sym same) later
-      go (inr gone) = subst (AreChoices p now rests) (sym gone.0) later.2
+      go : (new ≡ record c { next = t.m } ∷ t.below) ⊎ ((new ≡ t.below) × (length p.clauses < t.m)) → AreChoices p now rests_now new
+      go (inl same) = subst (AreChoices p now rests_now) (sym same) later
+      go (inr gone) = subst (AreChoices p now rests_now) (sym gone.0) later.2
 
   pub taken_fewer : attempts_at p new < attempts_at p old
   taken_fewer = go t.is
     where
       less : attempts_at p (record c { next = t.m } ∷ t.below) < attempts_at p (c ∷ t.below)
-      less = fewer_attempts p s now rests c t.below here t.within t.m t.next e
+      less = fewer_attempts p s now rests rests_now c t.below here t.within t.m t.next e agree long
 
       go : (new ≡ record c { next = t.m } ∷ t.below) ⊎ ((new ≡ t.below) × (length p.clauses < t.m)) → attempts_at p new < attempts_at p old
       go (inl same) = omega (arith, less, ap (attempts_at p) t.was, ap (attempts_at p) same)
       go (inr gone) = omega (arith, less, ap (attempts_at p) t.was, ap (attempts_at p) gone.0)
 
   -- a choice that is gone has nothing left
-  same_left : (q : List Atom) (n : ℕ) → left p q n now rests (record c { next = t.m } ∷ t.below) ≡ left p q n now rests new
+  same_left : (q : List Atom) (n : ℕ) → left p q n now rests_now (record c { next = t.m } ∷ t.below) ≡ left p q n now rests_now new
   same_left q n = go t.is
     where
-      go : (new ≡ record c { next = t.m } ∷ t.below) ⊎ ((new ≡ t.below) × (length p.clauses < t.m)) → left p q n now rests (record c { next = t.m } ∷ t.below) ≡ left p q n now rests new
-      go (inl same) = ap (left p q n now rests) (sym same)
-      go (inr gone) = left_gone p q n now rests (record c { next = t.m }) t.below gone.1 ∙ ap (left p q n now rests) (sym gone.0)
+      go : (new ≡ record c { next = t.m } ∷ t.below) ⊎ ((new ≡ t.below) × (length p.clauses < t.m)) → left p q n now rests_now (record c { next = t.m } ∷ t.below) ≡ left p q n now rests_now new
+      go (inl same) = ap (left p q n now rests_now) (sym same)
+      go (inr gone) = left_gone p q n now rests_now (record c { next = t.m }) t.below gone.1 ∙ ap (left p q n now rests_now) (sym gone.0)
 
   -- no more steps lead to the choices
   pub taken_within : (d : ℕ) → AreWithin d old → AreWithin d new
@@ -72,8 +75,8 @@ module _ (p : Listing) (s now : List Binding) (rests : List (List Atom)) (old ne
   taken_depth d within = (subst (AreWithin d) t.was within).0
 
   -- no goal is left
-  pub taken_failed : resolve p (goal_of s rests c) c.next ≡ None → (q : List Atom) (n : ℕ) → left p q n s rests old ≡ left p q n now rests new
-  taken_failed r q n = ap (left p q n s rests) t.was ∙ no_node p s now rests c t.below here t.within t.m t.next e q n r ∙ same_left q n
+  pub taken_failed : resolve p (goal_of s rests c) c.next ≡ None → (q : List Atom) (n : ℕ) → left p q n s rests old ≡ left p q n now rests_now new
+  taken_failed r q n = ap (left p q n s rests) t.was ∙ no_node p s now rests rests_now c t.below here t.within t.m t.next e agree long q n r ∙ same_left q n
 
   resolves : (o : Option (List Binding)) → c.atom.now.pred.0 ≡ k.head.pred.0 → unify (head_equations (over (full (kept s c.mark)) (raised c.base c.atom.now)) c.fresh k) ≡ o → resolve p (goal_of s rests c) c.next ≡ option_map (answered (map (over (full (kept s c.mark))) (tail_at rests c.rest)) c.fresh k) o
   resolves o h u =
@@ -87,21 +90,24 @@ module _ (p : Listing) (s now : List Binding) (rests : List (List Atom)) (old ne
   -- a goal is left
   module _ (h : c.atom.now.pred.0 ≡ k.head.pred.0) (u : IsUnified (made (kept s c.mark)) (head_equations (over (full (kept s c.mark)) (raised c.base c.atom.now)) c.fresh k) (made now) true) where
     abbrev pub left_by_node : Goal
-    left_by_node = goal_with now (map (raised c.fresh) k.body) (tail_at rests c.rest) (c.fresh + k.vars)
+    left_by_node = goal_with now (map (raised c.fresh) k.body) (tail_at rests_now c.rest) (c.fresh + k.vars)
+
+    same_goal : goal_with now (map (raised c.fresh) k.body) (tail_at rests c.rest) (c.fresh + k.vars) ≡ left_by_node
+    same_goal = ap (λ (xs : List Atom). goal_with now (map (raised c.fresh) k.body) xs (c.fresh + k.vars)) (sym (agree c.rest here.0.rest))
 
     found : resolve p (goal_of s rests c) c.next ≡ Some (u.0, left_by_node)
     found =
         resolves (Some u.0) h u.1
-        ∙ ap (λ (g : Goal). Some (u.0, g)) (left_goal (kept s c.mark) now u.0 (tail_at rests c.rest) c.fresh k u.2 here.0.free)
+        ∙ ap (λ (g : Goal). Some (u.0, g)) (left_goal (kept s c.mark) now u.0 (tail_at rests c.rest) c.fresh k u.2 here.0.free ∙ same_goal)
 
-    pub taken_met : (q : List Atom) (n : ℕ) → left p q n s rests old ≡ (record { steps = c.depth + 1; answer = answer_by q (made now) left_by_node.atoms } ∷ walk p q (n - c.depth) (made now) (c.depth + 1) left_by_node) ++ left p q n now rests new
+    pub taken_met : (q : List Atom) (n : ℕ) → left p q n s rests old ≡ (record { steps = c.depth + 1; answer = answer_by q (made now) left_by_node.atoms } ∷ walk p q (n - c.depth) (made now) (c.depth + 1) left_by_node) ++ left p q n now rests_now new
     taken_met q n =
         ap (left p q n s rests) t.was
-        ∙ node p s now rests c t.below here t.within t.m t.next e q n u.0 left_by_node found u.2
+        ∙ node p s now rests rests_now c t.below here t.within t.m t.next e agree long q n u.0 left_by_node found u.2
         ∙ ap (λ (vs : List Visit). (record { steps = c.depth + 1; answer = answer_by q (made now) left_by_node.atoms } ∷ walk p q (n - c.depth) (made now) (c.depth + 1) left_by_node) ++ vs) (same_left q n)
 
-    pub taken_rest : c.rest ≤ length rests
-    taken_rest = here.0.rest
+    pub taken_rest : c.rest ≤ length rests_now
+    taken_rest = let r = here.0.rest in omega (arith, r, long)
 
     pub taken_free : KeepsFree (head_equations (over (full (kept s c.mark)) (raised c.base c.atom.now)) c.fresh k) (kept s c.mark) now → FreeFrom (c.fresh + k.vars) now
     taken_free keeps =
@@ -109,4 +115,6 @@ module _ (p : Listing) (s now : List Binding) (rests : List (List Atom)) (old ne
         (head_below (over (full (kept s c.mark)) (raised c.base c.atom.now)) c.fresh k here.0.below.0 t.clause.head.below) keeps
 
     pub taken_below : AtomsBelow (c.fresh + k.vars) left_by_node.atoms
-    taken_below = goal_below p.preds (kept s c.mark) now u.0 (raised c.base c.atom.now) (tail_at rests c.rest) c.fresh k u.2 here.0.free u.1 here.0.below t.clause
+    taken_below =
+        subst (λ (g : Goal). AtomsBelow (c.fresh + k.vars) g.atoms) same_goal
+        (goal_below p.preds (kept s c.mark) now u.0 (raised c.base c.atom.now) (tail_at rests c.rest) c.fresh k u.2 here.0.free u.1 here.0.below t.clause)

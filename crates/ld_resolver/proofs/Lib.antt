@@ -9,6 +9,7 @@ pub mod FirstLaws
 pub mod CountLaws
 pub mod PendingLaws
 pub mod ProgressLaws
+pub mod RememberedLaws
 pub mod SearchLaws
 pub mod StoreLaws
 pub mod TailLaws

@@ -1,6 +1,6 @@
 -- Laws of terms and equations that wait.
 use Rattle.std.proofs.Common.{◌≡◌, ℕ, zero, suc, min, ◌+◌, ◌<◌, Bool, true, false, ◌||◌, ◌&&◌, ◌==◌, if◌then◌else◌, ℤ, List, [], ◌∷◌, ◌++◌, map, reverse, length, drop, get_or, refl, ap, sym, ◌∙◌, subst, arith, eqb-true}
-use Rattle.std.proofs.lemmas.List.{map-append, reverse-append}
+use Rattle.std.proofs.lemmas.List.{map-append, reverse-append, length-reverse, length-map}
 use Rattle.std.proofs.lemmas.Bool.Decides.{nat_tests, Decides-int_eq}
 use Rattle.std.specs.Ordering.{int_eq}
 use Rattle.cti_terms.specs.Tree.{Tree, Trees, arity, Variable, Integer, Compound, End, More, trees, instance, all_instances, nodes_of, all_nodes}
@@ -116,6 +116,13 @@ pub equations_more : (ps : List (RaisedTerm × RaisedTerm)) (p : RaisedTerm × R
 equations_more ps p =
     ap reverse (map-append equation_of ps (p ∷ []))
     ∙ reverse-append (map equation_of ps) (equation_of p ∷ [])
+
+-- as many equations wait as are on the stack
+pub length-waiting : (s : List Binding) (ps : List (RaisedTerm × RaisedTerm)) → length (waiting s ps) ≡ length ps
+length-waiting s ps =
+    length-map (raw_equations ps) (λ (e : Equation). (full s e.0, full s e.1))
+    ∙ length-reverse (map equation_of ps)
+    ∙ length-map ps equation_of
 
 -- pairs of which one side has ended
 pub pairs_ended : (i n m : ℕ) (ts us : List Term) (es : List Equation) → i ≡ min (length ts) (length us) → es ≡ pairs (all_instances (raise n) (trees_of (drop i ts))) (all_instances (raise m) (trees_of (drop i us))) ++ es

@@ -21,7 +21,7 @@ use Rattle.ld_resolver.specs.Tails.{tail_at}
 use Rattle.ld_resolver.specs.Below.{ArgumentsBelow, AtomsBelow, FreeFrom}
 use Rattle.ld_resolver.specs.Walk.{Visit, entered, walk_by, walk}
 use Rattle.ld_resolver.specs.Chain.{IsNext}
-use Rattle.ld_resolver.specs.Choices.{kept, goal_from, goal_of, clauses_left, left, IsChoice, AreChoices, GrowsTo}
+use Rattle.ld_resolver.specs.Choices.{kept, goal_from, goal_of, clauses_left, left, IsChoice, Within, AreChoices, GrowsTo}
 use Rattle.ld_resolver.specs.Searches.{attempts_at, AreNumbered, goal_with}
 use Rattle.ld_resolver.proofs.StoreLaws.{applied-append, eqb_same}
 use Rattle.ld_resolver.proofs.BelowLaws.{full_raised, applied_below, wider, all_wider, pairs_below, arguments_raised, atoms_over, below_append, not_below}
@@ -71,18 +71,22 @@ left_stays p q n s now rests rests_now (c ∷ below) h =
     λ i. walk_by p q (walk p q (n - c.depth)) (made (h.0.0 i)) c.depth (goal_from (h.0.0 i) c.fresh (raised c.base c.atom.now) (h.0.1 i)) (clauses_left p c)
     ++ left_stays p q n s now rests rests_now below h.1 i
 
--- each choice has at most m bindings
-abbrev pub Within : ℕ → List Choice → Type 0
-Within m = AllByRecursion (λ (c : Choice). c.mark ≤ m)
+-- the first rests are the same
+abbrev pub Agree : ℕ → List (List Atom) → List (List Atom) → Type 0
+Agree r rests now = (n : ℕ) → n ≤ r → tail_at now n ≡ tail_at rests n
 
-pub stay_through : (s now : List Binding) (rests : List (List Atom)) (m : ℕ) (cs : List Choice) → Within m cs → m ≤ length s → Extends now (kept s m) → Stay s now rests rests cs
-stay_through s now rests m [] w h e = tt
-stay_through s now rests m (c ∷ below) w h e = ((kept_through s now m c.mark w.0 h e, refl), stay_through s now rests m below w.1 h e)
+pub stay_through : (p : Listing) (s now : List Binding) (rests rests_now : List (List Atom)) (m r : ℕ) (cs : List Choice) → Within m r cs → m ≤ length s → Extends now (kept s m) → Agree r rests rests_now → AreChoices p s rests cs → Stay s now rests rests_now cs
+stay_through p s now rests rests_now m r [] w h e agree all = tt
+stay_through p s now rests rests_now m r (c ∷ below) w h e agree all = (
+  (kept_through s now m c.mark w.0.0 h e, agree c.rest (let k = all.0.rest in let l = w.0.1 in omega (arith, k, l))),
+  stay_through p s now rests rests_now m r below w.1 h e agree all.2,
+)
 
-stay_choice : (p : Listing) (s now : List Binding) (rests rests_now : List (List Atom)) (c : Choice) → kept now c.mark ≡ kept s c.mark → tail_at rests_now c.rest ≡ tail_at rests c.rest → c.mark ≤ length now → c.rest ≤ length rests_now → IsChoice p s rests c → IsChoice p now rests_now c
+stay_choice : (p : Listing) (s now : List Binding) (rests rests_now : List (List Atom)) (c : Choice) → kept now c.mark ≡ kept s c.mark → tail_at rests_now c.rest ≡ tail_at rests c.rest → c.mark ≤ length now → c.rests ≤ length rests_now → IsChoice p s rests c → IsChoice p now rests_now c
 stay_choice p s now rests rests_now c e f m r is = record {
   mark = m;
-  rest = r;
+  rest = is.rest;
+  counted = r;
   from_one = is.from_one;
   to_end = is.to_end;
   pred = is.pred;
@@ -90,32 +94,42 @@ stay_choice p s now rests rests_now c e f m r is = record {
   below = subst (λ (g : Goal). AtomsBelow c.fresh g.atoms) (λ i. goal_from (sym e i) c.fresh (raised c.base c.atom.now) (sym f i)) is.below;
 }
 
-pub choices_through : (p : Listing) (s now : List Binding) (rests : List (List Atom)) (m : ℕ) (cs : List Choice) → Within m cs → m ≤ length s → Extends now (kept s m) → AreChoices p s rests cs → AreChoices p now rests cs
-choices_through p s now rests m [] w h e all = tt
-choices_through p s now rests m (c ∷ below) w h e all =
+pub choices_through : (p : Listing) (s now : List Binding) (rests rests_now : List (List Atom)) (m r : ℕ) (cs : List Choice) → Within m r cs → m ≤ length s → Extends now (kept s m) → Agree r rests rests_now → r ≤ length rests_now → AreChoices p s rests cs → AreChoices p now rests_now cs
+choices_through p s now rests rests_now m r [] w h e agree long all = tt
+choices_through p s now rests rests_now m r (c ∷ below) w h e agree long all =
     let l = length-extends s now m h e in
-    (stay_choice p s now rests rests c (kept_through s now m c.mark w.0 h e) refl (let k = w.0 in omega (arith, k, l)) all.0.rest all.0, all.1, choices_through p s now rests m below w.1 h e all.2)
+    let mark = w.0.0 in
+    let count = w.0.1 in
+    let rest = all.0.rest in (
+      stay_choice p s now rests rests_now c (kept_through s now m c.mark mark h e) (agree c.rest (omega (arith, rest, count))) (omega (arith, mark, l)) (omega (arith, count, long)) all.0,
+      all.1,
+      choices_through p s now rests rests_now m r below w.1 h e agree long all.2,
+    )
 
 -- more rests
 pub stay_grown : (p : Listing) (s : List Binding) (rests now : List (List Atom)) (cs : List Choice) → GrowsTo rests now → AreChoices p s rests cs → Stay s s rests now cs
 stay_grown p s rests now [] g all = tt
 stay_grown p s rests now (c ∷ below) g all =
-    ((refl, ap (λ r. tail_at r c.rest) g.1 ∙ tail_kept rests g.0 c.rest all.0.rest), stay_grown p s rests now below g all.2)
+    ((refl, ap (λ r. tail_at r c.rest) g.1 ∙ tail_kept rests g.0 c.rest (let r = all.0.rest in let l = all.0.counted in omega (arith, r, l))), stay_grown p s rests now below g all.2)
 
 pub choices_grown : (p : Listing) (s : List Binding) (rests now : List (List Atom)) (cs : List Choice) → GrowsTo rests now → AreChoices p s rests cs → AreChoices p s now cs
 choices_grown p s rests now [] g all = tt
 choices_grown p s rests now (c ∷ below) g all =
     let r = all.0.rest in
+    let l = all.0.counted in
     let longer = ap length g.1 ∙ length-append rests g.0 in
-    (stay_choice p s s rests now c refl (ap (λ r. tail_at r c.rest) g.1 ∙ tail_kept rests g.0 c.rest r) all.0.mark (omega (arith, r, longer)) all.0, all.1, choices_grown p s rests now below g all.2)
+    (stay_choice p s s rests now c refl (ap (λ r. tail_at r c.rest) g.1 ∙ tail_kept rests g.0 c.rest (omega (arith, r, l))) all.0.mark (omega (arith, l, longer)) all.0, all.1, choices_grown p s rests now below g all.2)
 
 pub are_numbered : (p : Listing) (s : List Binding) (rests : List (List Atom)) (cs : List Choice) → AreChoices p s rests cs → AreNumbered p cs
 are_numbered p s rests [] all = tt
 are_numbered p s rests (c ∷ below) all = ((all.0.from_one, all.0.to_end, all.0.pred), are_numbered p s rests below all.2)
 
-pub within_all : (p : Listing) (s : List Binding) (rests : List (List Atom)) (cs : List Choice) → AreChoices p s rests cs → Within (length s) cs
-within_all p s rests [] all = tt
-within_all p s rests (c ∷ below) all = (all.0.mark, within_all p s rests below all.2)
+pub within_all : (p : Listing) (s : List Binding) (rests : List (List Atom)) (m r : ℕ) (cs : List Choice) → length s ≤ m → length rests ≤ r → AreChoices p s rests cs → Within m r cs
+within_all p s rests m r [] h k all = tt
+within_all p s rests m r (c ∷ below) h k all =
+    let mark = all.0.mark in
+    let count = all.0.counted in
+    ((omega (arith, mark, h), omega (arith, count, k)), within_all p s rests m r below h k all.2)
 
 -- ---- clauses that are left
 
@@ -216,17 +230,18 @@ extends_self s m = (take (length s - m) s, sym (take-append-drop (length s - m) 
 pub left_gone : (p : Listing) (q : List Atom) (n : ℕ) (s : List Binding) (rests : List (List Atom)) (c : Choice) (below : List Choice) → length p.clauses < c.next → left p q n s rests (c ∷ below) ≡ left p q n s rests below
 left_gone p q n s rests c below h = ap (λ (ks : List ℕ). walk_by p q (walk p q (n - c.depth)) (made (kept s c.mark)) c.depth (goal_of s rests c) ks ++ left p q n s rests below) (no_clause_left p c h)
 
-module _ (p : Listing) (s now : List Binding) (rests : List (List Atom)) (c : Choice) (below : List Choice) (all : AreChoices p s rests (c ∷ below)) (inside : c.next ≤ length p.clauses) (m : ℕ) (after : IsNext p c.atom.now.pred.0 (suc c.next) m) (e : Extends now (kept s c.mark)) where
+module _ (p : Listing) (s now : List Binding) (rests rests_now : List (List Atom)) (c : Choice) (below : List Choice) (all : AreChoices p s rests (c ∷ below)) (inside : c.next ≤ length p.clauses) (m : ℕ) (after : IsNext p c.atom.now.pred.0 (suc c.next) m) (e : Extends now (kept s c.mark)) (agree : Agree c.rests rests rests_now) (long : c.rests ≤ length rests_now) where
   abbrev pub after_c : Choice
   after_c = record c { next = m }
 
-  stays : Within c.mark (after_c ∷ below)
-  stays = ((let h : c.mark ≤ c.mark = omega arith in h), all.1)
+  stays : Within c.mark c.rests (after_c ∷ below)
+  stays = (((let h : c.mark ≤ c.mark = omega arith in h), (let k : c.rests ≤ c.rests = omega arith in k)), all.1)
 
   same_mark : IsChoice p s rests after_c
   same_mark = record {
     mark = all.0.mark;
     rest = all.0.rest;
+    counted = all.0.counted;
     from_one = omega (arith, after.from);
     to_end = after.to_end;
     pred = after.found;
@@ -234,16 +249,16 @@ module _ (p : Listing) (s now : List Binding) (rests : List (List Atom)) (c : Ch
     below = all.0.below;
   }
 
-  pub later_choices : AreChoices p now rests (after_c ∷ below)
-  later_choices = choices_through p s now rests c.mark (after_c ∷ below) stays all.0.mark e (same_mark, all.1, all.2)
+  pub later_choices : AreChoices p now rests_now (after_c ∷ below)
+  later_choices = choices_through p s now rests rests_now c.mark c.rests (after_c ∷ below) stays all.0.mark e agree long (same_mark, all.1, all.2)
 
-  pub left_by_clause : (q : List Atom) (n : ℕ) (o : Option (List Binding × Goal)) → resolve p (goal_of s rests c) c.next ≡ o → left p q n s rests (c ∷ below) ≡ entered q (walk p q (n - c.depth)) (made (kept s c.mark)) c.depth o ++ left p q n now rests (after_c ∷ below)
+  pub left_by_clause : (q : List Atom) (n : ℕ) (o : Option (List Binding × Goal)) → resolve p (goal_of s rests c) c.next ≡ o → left p q n s rests (c ∷ below) ≡ entered q (walk p q (n - c.depth)) (made (kept s c.mark)) c.depth o ++ left p q n now rests_now (after_c ∷ below)
   left_by_clause q n o r =
       ap (λ (ks : List ℕ). walk_by p q (walk p q (n - c.depth)) (made (kept s c.mark)) c.depth (goal_of s rests c) ks ++ left p q n s rests below) (clause_left p c inside)
       ∙ ap (λ (vs : List Visit). (entered q (walk p q (n - c.depth)) (made (kept s c.mark)) c.depth (resolve p (goal_of s rests c) c.next) ++ vs) ++ left p q n s rests below)
       (met_by_others p q (walk p q (n - c.depth)) (made (kept s c.mark)) c.depth (over (full (kept s c.mark)) (raised c.base c.atom.now)) (map (over (full (kept s c.mark))) (tail_at rests c.rest)) c.fresh (c.next + 1) m (subst (λ k. IsNext p c.atom.now.pred.0 k m) next_is after))
       ∙ append_assoc (entered q (walk p q (n - c.depth)) (made (kept s c.mark)) c.depth (resolve p (goal_of s rests c) c.next)) (walk_by p q (walk p q (n - c.depth)) (made (kept s c.mark)) c.depth (goal_of s rests c) (clauses_left p after_c)) (left p q n s rests below)
-      ∙ (λ i. entered q (walk p q (n - c.depth)) (made (kept s c.mark)) c.depth (r i) ++ sym (left_stays p q n s now rests rests (after_c ∷ below) (stay_through s now rests c.mark (after_c ∷ below) stays all.0.mark e)) i)
+      ∙ (λ i. entered q (walk p q (n - c.depth)) (made (kept s c.mark)) c.depth (r i) ++ sym (left_stays p q n s now rests rests_now (after_c ∷ below) (stay_through p s now rests rests_now c.mark c.rests (after_c ∷ below) stays all.0.mark e agree (same_mark, all.1, all.2))) i)
     where
       next_is : suc c.next ≡ c.next + 1
       next_is = omega arith
@@ -252,21 +267,21 @@ module _ (p : Listing) (s now : List Binding) (rests : List (List Atom)) (c : Ch
   fewer_attempts = omega (arith, inside, after.from)
 
   -- the clause leaves no goal
-  pub no_node : (q : List Atom) (n : ℕ) → resolve p (goal_of s rests c) c.next ≡ None → left p q n s rests (c ∷ below) ≡ left p q n now rests (after_c ∷ below)
+  pub no_node : (q : List Atom) (n : ℕ) → resolve p (goal_of s rests c) c.next ≡ None → left p q n s rests (c ∷ below) ≡ left p q n now rests_now (after_c ∷ below)
   no_node q n r = left_by_clause q n None r
 
   -- it leaves one
-  pub node : (q : List Atom) (n : ℕ) (bs : List Binding) (h : Goal) → resolve p (goal_of s rests c) c.next ≡ Some (bs, h) → made now ≡ made (kept s c.mark) ++ bs → left p q n s rests (c ∷ below) ≡ (record { steps = c.depth + 1; answer = answer_by q (made now) h.atoms } ∷ walk p q (n - c.depth) (made now) (c.depth + 1) h) ++ left p q n now rests (after_c ∷ below)
+  pub node : (q : List Atom) (n : ℕ) (bs : List Binding) (h : Goal) → resolve p (goal_of s rests c) c.next ≡ Some (bs, h) → made now ≡ made (kept s c.mark) ++ bs → left p q n s rests (c ∷ below) ≡ (record { steps = c.depth + 1; answer = answer_by q (made now) h.atoms } ∷ walk p q (n - c.depth) (made now) (c.depth + 1) h) ++ left p q n now rests_now (after_c ∷ below)
   node q n bs h r m =
       left_by_clause q n (Some (bs, h)) r
-      ∙ (λ i. (record { steps = c.depth + 1; answer = answer_by q (sym m i) h.atoms } ∷ walk p q (n - c.depth) (sym m i) (c.depth + 1) h) ++ left p q n now rests (after_c ∷ below))
+      ∙ (λ i. (record { steps = c.depth + 1; answer = answer_by q (sym m i) h.atoms } ∷ walk p q (n - c.depth) (sym m i) (c.depth + 1) h) ++ left p q n now rests_now (after_c ∷ below))
 
 -- ---- a goal that is entered
 
 start_goal : (s : List Binding) (atoms : List Atom) (a : Atom) (rest : List Atom) (n : ℕ) → atoms ≡ a ∷ rest → goal_with s atoms [] n ≡ goal_from s n a rest
 start_goal s atoms a rest n e = λ i. record { atoms = map (over (full s)) ((append-nil atoms ∙ e) i); fresh = n }
 
-module _ (p : Listing) (s : List Binding) (rests now : List (List Atom)) (cs : List Choice) (all : AreChoices p s rests cs) (g : GrowsTo rests now) (c : Choice) (atoms rest : List Atom) (e : atoms ++ rest ≡ raised c.base c.atom.now ∷ tail_at now c.rest) (within : c.rest ≤ length now) (first : IsNext p c.atom.now.pred.0 1 c.next) (mark : c.mark ≡ length s) (free : FreeFrom c.fresh s) (below : AtomsBelow c.fresh (goal_with s atoms rest c.fresh).atoms) where
+module _ (p : Listing) (s : List Binding) (rests now : List (List Atom)) (cs : List Choice) (all : AreChoices p s rests cs) (g : GrowsTo rests now) (c : Choice) (atoms rest : List Atom) (e : atoms ++ rest ≡ raised c.base c.atom.now ∷ tail_at now c.rest) (within : c.rest ≤ length now) (newest : c.rests ≡ length now) (first : IsNext p c.atom.now.pred.0 1 c.next) (mark : c.mark ≡ length s) (free : FreeFrom c.fresh s) (below : AtomsBelow c.fresh (goal_with s atoms rest c.fresh).atoms) where
   all_kept : kept s c.mark ≡ s
   all_kept = ap (kept s) mark ∙ kept_all s
 
@@ -277,14 +292,15 @@ module _ (p : Listing) (s : List Binding) (rests now : List (List Atom)) (cs : L
   choice_entered = (
     record {
       mark = omega (arith, mark);
-      rest = within;
+      rest = omega (arith, within, newest);
+      counted = omega (arith, newest);
       from_one = first.from;
       to_end = first.to_end;
       pred = first.found;
       free = subst (FreeFrom c.fresh) (sym all_kept) free;
       below = subst (λ (h : Goal). AtomsBelow c.fresh h.atoms) (sym same_goal) below;
     },
-    subst (λ (m : ℕ). Within m cs) (sym mark) (within_all p s rests cs all),
+    within_all p s rests c.mark c.rests cs (omega (arith, mark)) (omega (arith, newest, ap length g.1, length-append rests g.0)) all,
     choices_grown p s rests now cs g all,
   )
 

@@ -1,5 +1,5 @@
 -- Laws of shared rests of goals.
-use Rattle.std.proofs.Common.{◌≡◌, ℕ, zero, suc, ◌+◌, ◌<◌, ◌≤◌, List, [], ◌∷◌, ◌++◌, map, length, slice_get, Some, ◌⊎◌, inl, inr, length-append, refl, ap, sym, ◌∙◌, subst, arith}
+use Rattle.std.proofs.Common.{◌≡◌, ℕ, zero, suc, ◌+◌, ◌<◌, ◌≤◌, List, [], ◌∷◌, ◌++◌, map, length, take, slice_get, Some, ◌⊎◌, inl, inr, length-append, refl, ap, sym, ◌∙◌, subst, arith}
 use Rattle.std.proofs.lemmas.List.{get_or_append_left}
 use Rattle.std.proofs.Math.Seq.{get_or-append_seam}
 use Rattle.cti_terms.specs.declared.atom_list.Atom.{Atom}
@@ -48,6 +48,25 @@ rest_there rests (u ∷ ts) (suc i) t h l =
     let at : length next + i ≡ length rests + suc i = omega (arith, count) in
     ap (λ n. tail_at (rests_from rests (u ∷ ts)) (suc n)) (sym at)
     ∙ rest_there next ts i t h (omega (arith, l, at))
+
+-- the first rests stay where the later ones are given back
+pub rests_kept : (rests : List (List Atom)) (ts : List Tail) (count n : ℕ) → n ≤ length rests + count → tail_at (rests_from rests (take count ts)) n ≡ tail_at (rests_from rests ts) n
+rests_kept rests [] zero n h = refl
+rests_kept rests [] (suc count) n h = refl
+rests_kept rests (t ∷ ts) zero n h = sym (rest_stays rests (t ∷ ts) n (omega (arith, h)))
+rests_kept rests (t ∷ ts) (suc count) n h =
+    rests_kept (rests ++ atoms_of rests t ∷ []) ts count n (omega (arith, h, longer rests (atoms_of rests t)))
+
+taken_there : (ts : List Tail) (count i : ℕ) (t : Tail) → slice_get (take count ts) i ≡ Some t → slice_get ts i ≡ Some t
+taken_there [] zero i t h = h
+taken_there [] (suc count) i t h = h
+taken_there (u ∷ ts) zero i t h = cc
+taken_there (u ∷ ts) (suc count) zero t h = h
+taken_there (u ∷ ts) (suc count) (suc i) t h = taken_there ts count i t h
+
+-- fewer
+pub tails_fewer : (ts : List Tail) (count : ℕ) → AreTails ts → AreTails (take count ts)
+tails_fewer ts count all i t h = all i t (taken_there ts count i t h)
 
 -- what a rest is
 pub rest_is : (ts : List Tail) (i : ℕ) (t : Tail) → slice_get ts i ≡ Some t → AreTails ts → tail_at (rests_of ts) (suc i) ≡ map (raised t.base) t.atoms.now ++ tail_at (rests_of ts) t.next

@@ -126,6 +126,11 @@ module _ (before now : List Equation) (t u : Tree) (es : List Equation) (same : 
   pub after_binding : (x : ℕ) (v : Tree) → first_step t u ≡ Bound x v → GoesOn before x v (replaced x v es)
   after_binding x v h = goes_on_from before ((t, u) ∷ es) x v (replaced x v es) here occur_here (goes_on t u x v es h)
 
+-- before any binding
+pub option_map_same : (o : Option (List Binding)) → o ≡ option_map (λ cs. [] ++ cs) o
+option_map_same None = refl
+option_map_same (Some cs) = refl
+
 -- what was unified before a binding, and with it
 pub option_map_twice : (bs : List Binding) (b : Binding) (o : Option (List Binding)) → option_map (λ cs. bs ++ cs) (option_map (λ cs. b ∷ cs) o) ≡ option_map (λ cs. (bs ++ b ∷ []) ++ cs) o
 option_map_twice bs b None = refl

@@ -41,17 +41,22 @@ left p q n s rests (c ∷ below) =
 -- a choice of a search with these bindings and these rests
 pub record IsChoice (p : Listing) (s : List Binding) (rests : List (List Atom)) (c : Choice) : Type 0 where
   pub mark : c.mark ≤ length s
-  pub rest : c.rest ≤ length rests
+  pub rest : c.rest ≤ c.rests
+  pub counted : c.rests ≤ length rests
   pub from_one : 1 ≤ c.next
   pub to_end : c.next ≤ suc (length p.clauses)
   pub pred : (k : Clause) → numbered p.clauses c.next ≡ Some k → c.atom.now.pred.0 ≡ k.head.pred.0
   pub free : FreeFrom c.fresh (kept s c.mark)
   pub below : AtomsBelow c.fresh (goal_of s rests c).atoms
 
--- choices, the last one first, each with the bindings of the ones before it and maybe more
+-- each choice has at most m bindings and at most r rests
+abbrev pub Within : ℕ → ℕ → List Choice → Type 0
+Within m r = AllByRecursion (λ (c : Choice). (c.mark ≤ m) × (c.rests ≤ r))
+
+-- choices, the last one first, each with the bindings and the rests of the ones before it and maybe more
 abbrev pub AreChoices : Listing → List Binding → List (List Atom) → List Choice → Type 0
 AreChoices p s rests [] = Unit {0}
-AreChoices p s rests (c ∷ below) = IsChoice p s rests c × AllByRecursion (λ (d : Choice). d.mark ≤ c.mark) below × AreChoices p s rests below
+AreChoices p s rests (c ∷ below) = IsChoice p s rests c × Within c.mark c.rests below × AreChoices p s rests below
 
 -- rests with more rests behind them
 abbrev pub GrowsTo : List (List Atom) → List (List Atom) → Type 0

@@ -16,3 +16,4 @@ pub mod Runs
 pub mod Order
 pub mod Count
 pub mod Visits
+pub mod Remembered

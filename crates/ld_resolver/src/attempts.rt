@@ -11,6 +11,7 @@ ghost use Rattle.ld_resolver.specs.Choices.{kept};
 
 use crate::bindings::Bindings;
 use crate::choices::Choice;
+use crate::equal_pairs::EqualPairs;
 use crate::raised_term::RaisedTerm;
 use crate::unification::{push_equations, solve};
 use crate::visited::Visited;
@@ -18,11 +19,22 @@ use cti_terms::Clause;
 use std::alloc::{AllocError, Global};
 
 /// Stacks that are used again from one attempt to the next.
-#[derive(Drop)]
 pub struct Stacks<'p> {
     equations: Vec<(RaisedTerm<'p>, RaisedTerm<'p>)>,
+    pairs: EqualPairs<'p>,
     pub terms: Vec<RaisedTerm<'p>>,
     visited: Visited,
+}
+
+impl Drop for Stacks<'_> {
+    fn drop(self) {
+        let Stacks {
+            equations: _,
+            pairs: _,
+            terms: _,
+            visited: _,
+        } = self;
+    }
 }
 
 impl<'p> Stacks<'p> {
@@ -30,6 +42,7 @@ impl<'p> Stacks<'p> {
     pub fn new(alloc: Global) -> Stacks<'p> {
         Stacks {
             equations: Vec::new(alloc),
+            pairs: EqualPairs::new(alloc),
             terms: Vec::new(alloc),
             visited: Visited::new(alloc),
         }
@@ -64,6 +77,7 @@ pub fn unify_head<'p>(
     solve(
         bindings,
         &mut stacks.equations,
+        &mut stacks.pairs,
         choice.fresh,
         &mut stacks.terms,
         &mut stacks.visited,

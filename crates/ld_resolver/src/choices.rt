@@ -21,6 +21,8 @@ pub struct Choice<'p> {
     pub next: u32,
     /// How many bindings the goal has.
     pub mark: usize,
+    /// How many rests there are with the goal's.
+    pub rests: usize,
     /// How many steps lead to the goal.
     pub depth: u64,
 }

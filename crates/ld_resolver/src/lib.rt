@@ -14,6 +14,7 @@ mod attempts;
 mod bindings;
 mod choices;
 mod clause_chain;
+mod equal_pairs;
 mod laws;
 mod occurs_check;
 mod raised_term;

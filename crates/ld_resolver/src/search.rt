@@ -108,13 +108,12 @@ impl<'p> Search<'p> {
         }
     }
 
-    /// Tries the next clause at the last choice.
+    /// Tries the next clause at the last choice. Rests of goals that were added after the choice are given back.
     pub fn attempt(&mut self, chain: &ClauseChain) -> Result<Attempt<'p>, AllocError>
         requires search { IsSearch self.old }
         requires chain { IsChain self.old.program.now chain.now }
         ensures search { OnOk result (IsSearch self.new) }
         ensures program { self.new.program.now ≡ self.old.program.now }
-        ensures tails { self.new.tails ≡ self.old.tails }
         ensures attempt { IfOk result (λ a. IsAttempt self.old a self.new) }
         ensures depths { OnOk result ((d : ℕ) → AreWithin d (choices_of self.old) → AreWithin d (choices_of self.new)) }
     {
@@ -122,6 +121,7 @@ impl<'p> Search<'p> {
             Taken::Nothing => Ok(Attempt::Ended),
             Taken::Exhausted => Ok(Attempt::Failed),
             Taken::Clause(choice, clause) => {
+                self.tails.keep(choice.rests);
                 if unify_head(&mut self.bindings, &mut self.stacks, choice, clause)? {
                     Ok(Attempt::Resolved(choice, clause))
                 } else {
@@ -162,6 +162,7 @@ impl<'p> Search<'p> {
                     fresh,
                     next: chain.first(start.atom.pred),
                     mark: self.bindings.len(),
+                    rests: self.tails.len(),
                     depth,
                 })?;
                 Ok(true)

@@ -1,6 +1,6 @@
 //! Rests of goals that are shared.
 
-ghost use Rattle.std.specs.Prelude.{◌≡◌, ◌≤◌, ◌<◌, ◌+◌, ◌++◌, [], ◌∷◌, IfOk, OnOk, length, map};
+ghost use Rattle.std.specs.Prelude.{◌≡◌, ℕ, ◌≤◌, ◌<◌, ◌+◌, ◌++◌, [], ◌∷◌, IfOk, OnOk, length, map};
 ghost use Rattle.cti_terms.specs.Resolve.{raised};
 ghost use Rattle.ld_resolver.specs.Tails.{tail_at};
 
@@ -46,6 +46,21 @@ impl<'p> Tails<'p> {
         Tails {
             items: Vec::new(alloc),
         }
+    }
+
+    /// How many rests there are.
+    pub fn len(&self) -> usize
+        ensures { result ≡ length self.now }
+    {
+        self.items.len()
+    }
+
+    /// Gives back all rests but the first ones, of this number.
+    pub fn keep(&mut self, count: usize)
+        ensures kept { (n : ℕ) → n ≤ count → tail_at self.new n ≡ tail_at self.old n }
+        ensures enough { count ≤ length self.old → count ≤ length self.new }
+    {
+        self.items.truncate(count);
     }
 
     /// Adds a rest, and gives its number.

@@ -10,8 +10,10 @@ ghost use Rattle.ld_resolver.specs.Shapes.{IsMet};
 ghost use Rattle.ld_resolver.specs.Store.{stored, full, made, IsOpen};
 ghost use Rattle.ld_resolver.specs.Below.{TermBelow, LeftBelow};
 ghost use Rattle.ld_resolver.specs.Pending.{args_full, raw_equations, waiting, step_of, IsFit, IsNext, IsUnified, Extends, KeepsFree};
+ghost use Rattle.ld_resolver.specs.Remembered.{AreRemembered, AreRememberedAfter};
 
 use crate::bindings::Bindings;
+use crate::equal_pairs::EqualPairs;
 use crate::occurs_check::{Occurrence, occurs_in};
 use crate::raised_term::{Met, RaisedTerm, Shape};
 use crate::visited::Visited;
@@ -171,26 +173,34 @@ fn step<'p>(
     }
 }
 
-/// Goes on to the next binding.
+/// Goes on to the next binding. An equation of two terms that are known to be equal is passed over.
 fn next_binding<'p>(
     bindings: &Bindings<'p>,
     equations: &mut Vec<(RaisedTerm<'p>, RaisedTerm<'p>)>,
+    pairs: &mut EqualPairs<'p>,
     limit: usize,
     stack: &mut Vec<RaisedTerm<'p>>,
     visited: &mut Visited,
 ) -> Result<Next<'p>, AllocError>
-    requires { LeftBelow limit (waiting bindings.now equations.old.items) }
+    requires left { LeftBelow limit (waiting bindings.now equations.old.items) }
+    requires pairs { AreRemembered bindings.now (waiting bindings.now equations.old.items) pairs.old }
     ensures left { OnOk result (LeftBelow limit (waiting bindings.now equations.new.items)) }
     ensures next { IfOk result (λ n. IsNext bindings.now (waiting bindings.now equations.old.items) n (waiting bindings.now equations.new.items)) }
+    ensures pairs { IfOk result (λ n. AreRememberedAfter bindings.now n equations.new.items pairs.new) }
 {
     while let Some((l, r)) = equations.pop() {
+        let below = equations.len();
+        if pairs.know(l, r, below)? {
+            continue;
+        }
         let left = bindings.met(l);
         let right = bindings.met(r);
         match step(bindings, left, right, limit, stack, visited)? {
             Found::Nothing => {}
             Found::Binds(x, term, above) => return Ok(Next::Bound(x, term, above)),
             Found::Arguments(ts, us) => {
-                push_equations(equations, ts, left.term.base, us, right.term.base)?
+                push_equations(equations, ts, left.term.base, us, right.term.base)?;
+                pairs.open(l, r, below)?;
             }
             Found::Clash => return Ok(Next::Failed),
         }
@@ -202,6 +212,7 @@ fn next_binding<'p>(
 pub fn solve<'p>(
     bindings: &mut Bindings<'p>,
     equations: &mut Vec<(RaisedTerm<'p>, RaisedTerm<'p>)>,
+    pairs: &mut EqualPairs<'p>,
     from: u32,
     stack: &mut Vec<RaisedTerm<'p>>,
     visited: &mut Visited,
@@ -211,9 +222,10 @@ pub fn solve<'p>(
     ensures extended { OnOk result (Extends bindings.new bindings.old) }
     ensures free { OnOk result (KeepsFree (waiting bindings.old equations.old.items) bindings.old bindings.new) }
 {
+    pairs.clear();
     let mut limit = from as usize;
     loop {
-        match next_binding(bindings, equations, limit, stack, visited)? {
+        match next_binding(bindings, equations, pairs, limit, stack, visited)? {
             Next::Solved => return Ok(true),
             Next::Failed => return Ok(false),
             Next::Bound(x, term, above) => {

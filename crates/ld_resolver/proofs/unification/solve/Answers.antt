@@ -1,4 +1,4 @@
-use Rattle.std.proofs.Common.{◌≡◌, ◌<◌, true, List, [], ◌∷◌, ◌++◌, append_assoc, option_map, None, arith, ap, sym, ◌∙◌, subst}
+use Rattle.std.proofs.Common.{◌≡◌, ◌<◌, true, List, [], ◌∷◌, ◌++◌, append_assoc, append-nil, option_map, None, arith, refl, ap, sym, ◌∙◌, subst}
 use Rattle.cti_terms.specs.Unify.{Equation, Binding, replaced}
 use Rattle.cti_terms.specs.UnifyFunction.{unify, occurring, above_equations, occurs_in}
 use Rattle.cti_terms.proofs.UnifyLaws.{below_equations}
@@ -6,11 +6,25 @@ use Rattle.ld_resolver.specs.declared.unification.Next.{Next}
 use Rattle.ld_resolver.specs.Raised.{raised_tree}
 use Rattle.ld_resolver.specs.Store.{stored, full, made}
 use Rattle.ld_resolver.specs.Pending.{raw_equations, waiting, IsNext}
+use Rattle.ld_resolver.specs.Remembered.{AreRemembered, AreRememberedAfter}
 use Rattle.ld_resolver.specs.Below.{LeftBelow}
 use Rattle.ld_resolver.proofs.BelowLaws.{left_bound, left_wider}
 use Rattle.ld_resolver.proofs.PendingLaws.{under_more}
-use Rattle.ld_resolver.proofs.UnifySteps.{fewer_occur, option_map_twice, stays_free}
+use Rattle.ld_resolver.proofs.UnifySteps.{fewer_occur, option_map_same, option_map_twice, stays_free}
 use Rattle.ld_resolver.proofs.unification.solve.Goals as goal
+
+pub loop-x-init : goal.loop-x-init
+loop-x-init c =
+    let s = c.args.bindings.now in
+    let first = waiting s c.args.equations.now.items in
+    record {
+      so_far = ([], sym (append-nil (made s)), option_map_same (unify first));
+      left = c.requires;
+      pairs = c.clear.ensures s first;
+      inside = λ y h. h;
+      free = λ y gone free. free;
+      extended = ([], refl);
+    }
 
 pub loop-x-smaller : goal.loop-x-smaller
 loop-x-smaller c =
@@ -52,6 +66,9 @@ loop-x-preserved c =
           let now = c.max-limit.result in
           subst (LeftBelow now) (sym same)
           (left_bound now x (full s t) (waiting s left) (λ y o. let k = n.2 y o in omega (arith, k, c.max-limit.ensures)) (left_wider limit now (waiting s left) (omega (arith, c.max-limit.ensures)) c.in_ok-next_binding.ensures.left));
+      pairs =
+          subst (λ (b : List Binding). AreRemembered b (waiting b left) c.next_binding.new.pairs) (sym c.in_ok-bind-in-Bound.ensures)
+          (subst (λ (n : Next). AreRememberedAfter s n left c.next_binding.new.pairs) c.in-Bound.is c.in_ok-next_binding.ensures.pairs);
       inside = λ y h. c.loop-x.invariant.inside y (n.3.inside y (subst (λ (es : List Equation). occurs_in y es ≡ true) same h));
       free = λ y gone free. subst (λ (b : List Binding). stored b y ≡ None) (sym c.in_ok-bind-in-Bound.ensures) (stays_free x y t s first gone (c.loop-x.invariant.inside x n.3.there) (c.loop-x.invariant.free y gone free));
       extended = ((x, t) ∷ c.loop-x.invariant.extended.0, c.in_ok-bind-in-Bound.ensures ∙ ap (λ l. (x, t) ∷ l) c.loop-x.invariant.extended.1);

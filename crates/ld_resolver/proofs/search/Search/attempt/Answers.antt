@@ -18,7 +18,7 @@ returns-then-branch-clause-search c =
     let old = reverse x.choices.items in
     let new = reverse c.take_clause.new.choices.items in
     let t = subst (λ (t : Taken). IsTaken x.program.now old t new) c.in-Clause.is c.in_ok-take_clause.ensures in
-    taken_choices x.program.now x.bindings c.unify_head.new.bindings x.tails old new c.in-Clause.choice c.in-Clause.clause.now c.requires.search t c.in_ok-unify_head-in-Clause.ensures.extended
+    taken_choices x.program.now x.bindings c.unify_head.new.bindings x.tails c.keep.new.self old new c.in-Clause.choice c.in-Clause.clause.now c.requires.search t c.in_ok-unify_head-in-Clause.ensures.extended c.keep.ensures.kept c.keep.ensures.enough
 
 pub returns-then-branch-clause-attempt : goal.returns-then-branch-clause-attempt
 returns-then-branch-clause-attempt c =
@@ -34,12 +34,12 @@ returns-then-branch-clause-attempt c =
     let h = t.pred in
     let u = subst (IsUnified (made (kept x.bindings choice.mark)) (head_equations (over (full (kept x.bindings choice.mark)) (raised choice.base choice.atom.now)) choice.fresh k) (made now)) c.if-branch.true c.in_ok-unify_head-in-Clause.ensures.unifier in
     record {
-      met = taken_met p x.bindings now x.tails old new choice k c.requires.search t e h u;
-      fewer = taken_fewer p x.bindings now x.tails old new choice k c.requires.search t e;
-      within = taken_depth p x.bindings now x.tails old new choice k c.requires.search t e;
-      rest = taken_rest p x.bindings now x.tails old new choice k c.requires.search t e h u;
-      free = taken_free p x.bindings now x.tails old new choice k c.requires.search t e h u c.in_ok-unify_head-in-Clause.ensures.free;
-      below = taken_below p x.bindings now x.tails old new choice k c.requires.search t e h u;
+      met = taken_met p x.bindings now x.tails c.keep.new.self old new choice k c.requires.search t e c.keep.ensures.kept c.keep.ensures.enough h u;
+      fewer = taken_fewer p x.bindings now x.tails c.keep.new.self old new choice k c.requires.search t e c.keep.ensures.kept c.keep.ensures.enough;
+      within = taken_depth p x.bindings now x.tails c.keep.new.self old new choice k c.requires.search t e c.keep.ensures.kept c.keep.ensures.enough;
+      rest = taken_rest p x.bindings now x.tails c.keep.new.self old new choice k c.requires.search t e c.keep.ensures.kept c.keep.ensures.enough h u;
+      free = taken_free p x.bindings now x.tails c.keep.new.self old new choice k c.requires.search t e c.keep.ensures.kept c.keep.ensures.enough h u c.in_ok-unify_head-in-Clause.ensures.free;
+      below = taken_below p x.bindings now x.tails c.keep.new.self old new choice k c.requires.search t e c.keep.ensures.kept c.keep.ensures.enough h u;
     }
 
 pub returns-else-branch-clause-search : goal.returns-else-branch-clause-search
@@ -48,7 +48,7 @@ returns-else-branch-clause-search c =
     let old = reverse x.choices.items in
     let new = reverse c.take_clause.new.choices.items in
     let t = subst (λ (t : Taken). IsTaken x.program.now old t new) c.in-Clause.is c.in_ok-take_clause.ensures in
-    taken_choices x.program.now x.bindings c.unify_head.new.bindings x.tails old new c.in-Clause.choice c.in-Clause.clause.now c.requires.search t c.in_ok-unify_head-in-Clause.ensures.extended
+    taken_choices x.program.now x.bindings c.unify_head.new.bindings x.tails c.keep.new.self old new c.in-Clause.choice c.in-Clause.clause.now c.requires.search t c.in_ok-unify_head-in-Clause.ensures.extended c.keep.ensures.kept c.keep.ensures.enough
 
 pub returns-else-branch-clause-attempt : goal.returns-else-branch-clause-attempt
 returns-else-branch-clause-attempt c =
@@ -63,8 +63,8 @@ returns-else-branch-clause-attempt c =
     let e = c.in_ok-unify_head-in-Clause.ensures.extended in
     let h = t.pred in
     let u = subst (IsUnified (made (kept x.bindings choice.mark)) (head_equations (over (full (kept x.bindings choice.mark)) (raised choice.base choice.atom.now)) choice.fresh k) (made now)) c.if-branch.false c.in_ok-unify_head-in-Clause.ensures.unifier in (
-      taken_failed p x.bindings now x.tails old new choice k c.requires.search t e (fails_by_unifier p x.bindings now x.tails old new choice k c.requires.search t e h u),
-      taken_fewer p x.bindings now x.tails old new choice k c.requires.search t e,
+      taken_failed p x.bindings now x.tails c.keep.new.self old new choice k c.requires.search t e c.keep.ensures.kept c.keep.ensures.enough (fails_by_unifier p x.bindings now x.tails c.keep.new.self old new choice k c.requires.search t e c.keep.ensures.kept c.keep.ensures.enough h u),
+      taken_fewer p x.bindings now x.tails c.keep.new.self old new choice k c.requires.search t e c.keep.ensures.kept c.keep.ensures.enough,
     )
 
 pub returns-then-branch-clause-depths : goal.returns-then-branch-clause-depths
@@ -73,7 +73,7 @@ returns-then-branch-clause-depths c =
     let old = reverse x.choices.items in
     let new = reverse c.take_clause.new.choices.items in
     let t = subst (λ (t : Taken). IsTaken x.program.now old t new) c.in-Clause.is c.in_ok-take_clause.ensures in
-    taken_within x.program.now x.bindings c.unify_head.new.bindings x.tails old new c.in-Clause.choice c.in-Clause.clause.now c.requires.search t c.in_ok-unify_head-in-Clause.ensures.extended
+    taken_within x.program.now x.bindings c.unify_head.new.bindings x.tails c.keep.new.self old new c.in-Clause.choice c.in-Clause.clause.now c.requires.search t c.in_ok-unify_head-in-Clause.ensures.extended c.keep.ensures.kept c.keep.ensures.enough
 
 pub returns-else-branch-clause-depths : goal.returns-else-branch-clause-depths
 returns-else-branch-clause-depths c =
@@ -81,4 +81,4 @@ returns-else-branch-clause-depths c =
     let old = reverse x.choices.items in
     let new = reverse c.take_clause.new.choices.items in
     let t = subst (λ (t : Taken). IsTaken x.program.now old t new) c.in-Clause.is c.in_ok-take_clause.ensures in
-    taken_within x.program.now x.bindings c.unify_head.new.bindings x.tails old new c.in-Clause.choice c.in-Clause.clause.now c.requires.search t c.in_ok-unify_head-in-Clause.ensures.extended
+    taken_within x.program.now x.bindings c.unify_head.new.bindings x.tails c.keep.new.self old new c.in-Clause.choice c.in-Clause.clause.now c.requires.search t c.in_ok-unify_head-in-Clause.ensures.extended c.keep.ensures.kept c.keep.ensures.enough
