@@ -136,7 +136,7 @@ pub pairs_pushed : (n m i : ℕ) (ts us : List Term) (t u : Term) (es : List Equ
 pairs_pushed n m i ts us t u es h k e d =
     λ j. pairs (all_instances (raise n) (trees_of_left ts i t h e j)) (all_instances (raise m) (trees_of_left us i u k d j)) ++ es
 
--- a step is told by what its two terms are under the bindings
+-- a step depends on what its two terms are under the bindings
 pub step_variables : (x y : ℕ) → x ≡ y → Step.Dropped ≡ first_step (Variable x) (Variable y)
 step_variables x y e = ap (λ b. if b then Step.Dropped else Step.Bound x (Variable y)) (sym (ap (λ z. x == z) (sym e) ∙ eqb_same x))
 

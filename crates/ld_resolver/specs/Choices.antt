@@ -58,7 +58,7 @@ abbrev pub AreChoices : Listing → List Binding → List (List Atom) → List C
 AreChoices p s rests [] = Unit {0}
 AreChoices p s rests (c ∷ below) = IsChoice p s rests c × Within c.mark c.rests below × AreChoices p s rests below
 
--- rests with more rests behind them
+-- rests with more rests after them
 abbrev pub GrowsTo : List (List Atom) → List (List Atom) → Type 0
 GrowsTo before now = (more : List (List Atom)) × (now ≡ before ++ more)
 

@@ -43,6 +43,6 @@ AreRememberedAfter s Solved ps x = Unit {0}
 AreRememberedAfter s Failed ps x = Unit {0}
 AreRememberedAfter s (Bound y t n) ps x = AreRemembered ((y, raised_tree t) ∷ s) (waiting ((y, raised_tree t) ∷ s) ps) x
 
--- two terms are the same wherever the remembered pairs say the truth
+-- two terms are the same wherever the remembered pairs are right
 abbrev pub IsKnown : EqualPairs → RaisedTerm → RaisedTerm → Type 0
 IsKnown x l r = (s : List Binding) (es : List Equation) → AreRemembered s es x → AreEqual s l r

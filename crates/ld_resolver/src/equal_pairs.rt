@@ -13,7 +13,7 @@ use std::alloc::{AllocError, Global};
 /// How many pairs of compound terms are unified before any is remembered: most unifications end sooner.
 const UNREMEMBERED: usize = 1_000;
 
-/// Two terms, and how many equations were on the stack below the equations of their arguments.
+/// Two terms whose arguments are being unified, and how many equations are on the stack below theirs.
 #[derive(Clone, Copy, Drop)]
 pub struct OpenPair<'p> {
     pub left: RaisedTerm<'p>,
@@ -23,15 +23,15 @@ pub struct OpenPair<'p> {
 
 /// Pairs of terms that were unified, or that are being unified.
 ///
-/// A term of exponential size is written with shared variables alone, so pairs of variables are remembered.
+/// Only variables that are shared make a term much larger than its spelling, so pairs of variables are what is remembered.
 pub struct EqualPairs<'p> {
     /// How many pairs of compound terms were met.
     pub met: usize,
-    /// Pairs the equations of whose arguments are on the stack, the last ones on top.
+    /// Pairs whose arguments are being unified, the last one on top.
     pub under_way: Vec<OpenPair<'p>>,
     /// Pairs that are equal under the bindings.
     pub equal: Vec<(RaisedTerm<'p>, RaisedTerm<'p>)>,
-    /// Where each pair of variables stands among the equal ones.
+    /// The index of each pair of variables among the equal ones.
     pub places: IndexMap<(usize, usize), usize>,
 }
 
@@ -88,7 +88,7 @@ impl<'p> EqualPairs<'p> {
         }
     }
 
-    /// Whether a pair stands at a place among the equal ones.
+    /// Whether the equal pair of an index is this one.
     fn stands_at(&self, place: usize, left: RaisedTerm<'p>, right: RaisedTerm<'p>) -> bool
         ensures { result ≡ true → IsKnown self.now left.entry right.entry }
     {
@@ -114,7 +114,7 @@ impl<'p> EqualPairs<'p> {
         }
     }
 
-    /// Takes a pair among the equal ones.
+    /// Adds a pair to the equal ones.
     fn add(&mut self, pair: OpenPair<'p>) -> Result<(), AllocError>
         ensures under_way { self.new.under_way.items ≡ self.old.under_way.items }
         ensures equal { OnOk result (self.new.equal.items ≡ self.old.equal.items ++ (pair.entry.left, pair.entry.right) ∷ []) }
@@ -126,7 +126,7 @@ impl<'p> EqualPairs<'p> {
         Ok(())
     }
 
-    /// Takes the pairs among the equal ones the equations of whose arguments are solved: there are no more than this number and one.
+    /// Moves the pairs whose arguments are unified to the equal ones. At most `left` equations are left, and one more.
     fn settle(&mut self, left: usize) -> Result<(), AllocError>
         ensures { OnOk result ((s : List Binding) (es : List Equation) → length es ≤ left + 1 → AreRemembered s es self.old → AreRemembered s es self.new) }
     {
@@ -140,7 +140,7 @@ impl<'p> EqualPairs<'p> {
         Ok(())
     }
 
-    /// Whether two terms are known to be equal, where no more equations are left than this number and one.
+    /// Whether two terms are known to be equal. At most `others` equations are left, and one more.
     pub fn know(
         &mut self,
         left: RaisedTerm<'p>,
@@ -154,7 +154,7 @@ impl<'p> EqualPairs<'p> {
         Ok(self.has(left, right))
     }
 
-    /// Notes that the equations of two terms' arguments were put above this many on the stack.
+    /// Notes that the equations of two terms' arguments were put on the stack above `below` others.
     pub fn open(
         &mut self,
         left: RaisedTerm<'p>,

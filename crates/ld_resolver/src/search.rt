@@ -18,7 +18,7 @@ use crate::tails::Tails;
 use cti_terms::{Atom, Clause, Program};
 use std::alloc::{AllocError, Global};
 
-/// The clause that was taken at the last choice: there is no choice, or it had no more clauses and is gone.
+/// What was taken at the last choice: nothing, as there is no choice; no clause, as it had none left and is gone; or a clause.
 #[derive(Clone, Copy, Drop)]
 pub enum Taken<'p> {
     Nothing,
@@ -131,7 +131,7 @@ impl<'p> Search<'p> {
         }
     }
 
-    /// Adds the choice of a goal that so many steps lead to: atoms that are raised, and then a rest. It answers whether the goal has atoms.
+    /// Adds the choice of a goal of this depth: raised atoms, and then a rest. Whether the goal has atoms.
     pub fn enter(
         &mut self,
         chain: &ClauseChain,
