@@ -208,7 +208,7 @@ module _ (p : Listing) (one other : Partition) (h : AreComponents p one) (k : Ar
     all_weaker (IsPairPoint p one a) (IsPairPoint p other a) (pair_point a) r.points is.3,
   )
 
-  shape : (parts : Parts) → HaveShape p one parts → HaveShape p other parts
+  pub shape : (parts : Parts) → HaveShape p one parts → HaveShape p other parts
   shape parts is = record {
     modes = is.modes;
     rows = is.rows;

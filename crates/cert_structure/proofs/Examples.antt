@@ -6,6 +6,7 @@ use Rattle.bool_diagrams.specs.declared.cube.Cell.TheVariants as side
 use Rattle.call_components.specs.Partition.{Partition}
 use Rattle.certificate.specs.declared.cell.CertCell.TheVariants as cell
 use Rattle.certificate.specs.declared.pred_text.PredText.{PredText}
+use Rattle.certificate.specs.declared.fact.Fact.{Fact}
 use Rattle.certificate.specs.declared.fact.Fact.TheVariants as fact
 use Rattle.cti_terms.specs.Listing.{Listing, numbered}
 use Rattle.linear_rows.specs.declared.multipliers.Multipliers.{Multipliers}
@@ -13,10 +14,12 @@ use Rattle.linear_rows.specs.declared.row.Row.{Row}
 use Rattle.termination_model.specs.Append.{append, append_cons}
 use Rattle.number_tests.specs.declared.level_part.LevelPart.{LevelPart}
 use Rattle.number_tests.specs.declared.pair_point.PairPoint.{PairPoint}
+use Rattle.cert_structure.specs.declared.fault.StructureReason.TheVariants as reason
 use Rattle.cert_structure.specs.declared.parts.Parts.{Parts}
 use Rattle.cert_structure.specs.Order.{listed, refutation_facts, is_note}
 use Rattle.cert_structure.specs.Shape.{rows_of_atoms, mappings_of, proofs_of_call, is_pair, HaveShape}
 use Rattle.cert_structure.specs.Structure.{IsStructured}
+use Rattle.cert_structure.specs.StructureFault.{IsBeginning, whole, short, IsStructureFault, missing, content, version}
 
 -- one predicate, which calls itself
 abbrev one_component : Partition
@@ -142,3 +145,17 @@ structure_of_p = record {
 -- without its mapping there is no such shape
 no_mapping : HaveShape alone calls_nothing (record parts_of_p { levels = [] ∷ [] }) → ⊥
 no_mapping h = let one : 0 ≡ 1 = h.levels.each.0.0 in absurd (omega (arith, one))
+
+-- where there is no fact, one is missing in line 1
+nothing : IsStructureFault alone (codes "p" ∷ []) calls_nothing [] 1 reason.Missing
+nothing = missing (whole parts_of_p [] (listed alone (codes "p" ∷ []) parts_of_p []) structure_of_p.shape tt refl) (λ parts is. let none = is.is in cc none)
+
+version_one : (v : ℤ) (facts : List Fact) → IsBeginning alone (codes "p" ∷ []) calls_nothing (fact.Cti v ∷ facts) → v ≡ pos 1
+version_one v facts (whole parts notes rest right are is) = cc is
+version_one v facts (short parts before later r count rest right same enough is) = cc is
+
+-- another version is at fault there, since version 1 may stand there
+second_version : IsStructureFault alone (codes "p" ∷ []) calls_nothing (fact.Cti (pos 2) ∷ []) 1 reason.Version
+second_version =
+    content [] [] (fact.Cti (pos 2)) (fact.Cti (pos 1)) refl (λ begun. let one = version_one (pos 2) [] begun in omega (arith, ints, one)) version
+    (whole parts_of_p [] (fact.Terminates p ([] ∷ []) ∷ fact.Measure p 1 [] (pos 0) ∷ fact.Pre p 1 1 [] ∷ []) structure_of_p.shape tt refl)

@@ -1,5 +1,5 @@
 -- Reading the levels and the proofs for calls: what is read is listed so, and what is listed so is read.
-use Rattle.std.proofs.Common.{◌≡◌, ◌≢◌, ℕ, zero, suc, ◌+◌, ◌<◌, ◌≤◌, ◌⊎◌, inl, inr, Bool, true, false, ◌==◌, if◌then◌else◌, List, [], ◌∷◌, ◌++◌, length, take, slice_get, Option, Some, None, option_map, unwrap_or, refl, ap, sym, ◌∙◌, subst, arith, eqb-true, eq-eqb, append_assoc, append-nil}
+use Rattle.std.proofs.Common.{◌≡◌, ◌≢◌, ℕ, zero, suc, ◌+◌, ◌<◌, ◌≤◌, ◌⊎◌, inl, inr, Bool, true, false, ◌==◌, if◌then◌else◌, List, [], ◌∷◌, ◌++◌, length, take, slice_get, Option, Some, None, option_map, unwrap_or, Ok, refl, ap, sym, ◌∙◌, subst, arith, eqb-true, eq-eqb, append_assoc, append-nil}
 use Rattle.std.proofs.lemmas.Bool.{false≢true}
 use Rattle.std.proofs.lemmas.List.Sums.{sum_by_push}
 use Rattle.std.specs.List.{AllByRecursion}
@@ -15,8 +15,8 @@ use Rattle.number_tests.specs.declared.level_part.LevelPart.{LevelPart}
 use Rattle.cert_structure.specs.Numbered.{facts_from, lines_from, EachFrom, AreEach}
 use Rattle.cert_structure.specs.Order.{text_or_none, pred_text, measure_line, falls_line}
 use Rattle.cert_structure.specs.Shape.{arity_of, rows_of, rows_of_atoms, items_of, is_recursive, first_of, mappings_of, proofs_of_call, AreMultipliers, IsLevel}
-use Rattle.cert_structure.specs.Walk.{same_pred, with_first, take_level, take_fall, read_each, read_next, read_many, read_level, read_levels, read_call, read_calls}
-use Rattle.cert_structure.proofs.SectionLemmas.{same_some, bound, mapped, all_both, all_from, others_from, each_all, all_each, counted_sound, counted_back, many_sound, many_back}
+use Rattle.cert_structure.specs.Walk.{same_pred, result_map, with_first, take_level, take_fall, read_each, read_next, read_many, read_level, read_levels, read_call, read_calls}
+use Rattle.cert_structure.proofs.SectionLemmas.{same_ok, bound, mapped, all_both, all_from, others_from, each_all, all_each, counted_sound, counted_back, many_sound, many_back}
 use Rattle.cert_structure.proofs.TakeLemmas.{same_is, level_taken, level_given, fall_taken, fall_given}
 
 -- the arity of a predicate's text is the predicate's
@@ -63,13 +63,13 @@ levels_apart pred q other ls = all_from (NoLevel pred) (λ m l. measure_line q m
 
 module _ (p : Listing) (names : List (List ℕ)) (comps : Partition) where
   -- how many levels a predicate has, given those before it
-  abbrev IsCounted : List (List LevelPart) → ℕ → List LevelPart → Type 0
+  abbrev pub IsCounted : List (List LevelPart) → ℕ → List LevelPart → Type 0
   IsCounted earlier a x =
       ((is_recursive comps a ≡ false) × (length x ≡ 1))
       ⊎ (((is_recursive comps a ≡ true) × (first_of comps a ≡ a))
       ⊎ ((is_recursive comps a ≡ true) × (first_of comps a ≢ a) × (length x ≡ length (items_of earlier (first_of comps a)))))
 
-  level_sound : (earlier : List (List LevelPart)) (a : ℕ) (s t : List Fact) (x : List LevelPart) → read_level p names comps earlier a s ≡ Some (x, t)
+  pub level_sound : (earlier : List (List LevelPart)) (a : ℕ) (s t : List Fact) (x : List LevelPart) → read_level p names comps earlier a s ≡ Ok (x, t)
       → (s ≡ lines_from 0 (measure_line (pred_text p names a)) x ++ t) × AllByRecursion (IsLevel (arity_of p a)) x × IsCounted earlier a x
   unfolding read_level
   level_sound earlier a s t x e = go (is_recursive comps a) (first_of comps a == a) refl refl e
@@ -82,7 +82,7 @@ module _ (p : Listing) (names : List (List ℕ)) (comps : Partition) where
           then if c
           then read_many (take_level (pred_text p names a)) 0 s
           else read_each (read_next (take_level (pred_text p names a))) 0 (length (items_of earlier (first_of comps a))) s
-          else read_each (read_next (take_level (pred_text p names a))) 0 1 s) ≡ Some (x, t)
+          else read_each (read_next (take_level (pred_text p names a))) 0 1 s) ≡ Ok (x, t)
           → (s ≡ lines_from 0 (measure_line (pred_text p names a)) x ++ t) × AllByRecursion (IsLevel (arity_of p a)) x × IsCounted earlier a x
       go true true recursive first read =
           let (whole, all) = many_sound (take_level (pred_text p names a)) (measure_line (pred_text p names a)) _ (level_taken (pred_text p names a)) 0 s t x read in
@@ -99,7 +99,7 @@ module _ (p : Listing) (names : List (List ℕ)) (comps : Partition) where
     first_earlier : (a : ℕ) (earlier : List (List LevelPart)) → a < length p.preds → a ≡ length earlier → first_of comps a ≢ a → first_of comps a < length earlier
     first_earlier a earlier within here other = let le = first_le a within in omega (arith, le, here, other)
 
-    count_is : (earlier : List (List LevelPart)) (a : ℕ) (x : List LevelPart) (later : List (List LevelPart)) → a < length p.preds → a ≡ length earlier
+    pub count_is : (earlier : List (List LevelPart)) (a : ℕ) (x : List LevelPart) (later : List (List LevelPart)) → a < length p.preds → a ≡ length earlier
         → IsCounted earlier a x → length x ≡ mappings_of comps (earlier ++ x ∷ later) a
     count_is earlier a x later within here (inl h) = rw h.0 h.1
     count_is earlier a x later within here (inr (inl h)) = rw (h.0, h.1, here, place_behind earlier x later) refl
@@ -113,12 +113,12 @@ module _ (p : Listing) (names : List (List ℕ)) (comps : Partition) where
     lines_of a ls = lines_from 0 (measure_line (pred_text p names a)) ls
 
     pub levels_sound : (n : ℕ) (earlier : List (List LevelPart)) (a : ℕ) (s t : List Fact) (levels : List (List LevelPart)) → a ≡ length earlier → a + n ≤ length p.preds
-        → read_levels p names comps earlier a n s ≡ Some (levels, t)
+        → read_levels p names comps earlier a n s ≡ Ok (levels, t)
         → (xs : List (List LevelPart)) × (levels ≡ earlier ++ xs) × (length xs ≡ n) × (s ≡ facts_from a (λ a ls. lines_from 0 (measure_line (pred_text p names a)) ls) xs ++ t)
         × EachFrom a (IsLevels levels) xs
     unfolding read_levels
     levels_sound zero earlier a s t levels here fits e =
-        let both : (earlier, s) ≡ (levels, t) = same_some _ _ e in
+        let both : (earlier, s) ≡ (levels, t) = same_ok _ _ e in
         let first : earlier ≡ levels = ap (λ q. q.0) both in
         let rest : s ≡ t = ap (λ q. q.1) both in
         ([], sym first ∙ sym (append-nil earlier), refl, rest, tt)
@@ -138,7 +138,7 @@ module _ (p : Listing) (names : List (List ℕ)) (comps : Partition) where
 
     level_back : (earlier : List (List LevelPart)) (a : ℕ) (x : List LevelPart) (later : List (List LevelPart)) (t : List Fact) → a < length p.preds → a ≡ length earlier
         → IsLevels (earlier ++ x ∷ later) a x → AllByRecursion (NoLevel (pred_text p names a)) t
-        → read_level p names comps earlier a (lines_of a x ++ t) ≡ Some (x, t)
+        → read_level p names comps earlier a (lines_of a x ++ t) ≡ Ok (x, t)
     unfolding read_level
     level_back earlier a x later t within here h others = go (is_recursive comps a) (first_of comps a == a) refl refl h.0
       where
@@ -151,7 +151,7 @@ module _ (p : Listing) (names : List (List ℕ)) (comps : Partition) where
             then if c
             then read_many (take_level (pred_text p names a)) 0 (lines_of a x ++ t)
             else read_each (read_next (take_level (pred_text p names a))) 0 (length (items_of earlier (first_of comps a))) (lines_of a x ++ t)
-            else read_each (read_next (take_level (pred_text p names a))) 0 1 (lines_of a x ++ t)) ≡ Some (x, t)
+            else read_each (read_next (take_level (pred_text p names a))) 0 1 (lines_of a x ++ t)) ≡ Ok (x, t)
         go true true recursive first count =
             many_back (take_level (pred_text p names a)) (measure_line (pred_text p names a)) _ (level_given (pred_text p names a)) 0 x t all others
         go true false recursive first count =
@@ -166,7 +166,7 @@ module _ (p : Listing) (names : List (List ℕ)) (comps : Partition) where
       pub levels_back : (n : ℕ) (earlier : List (List LevelPart)) (a : ℕ) (xs : List (List LevelPart)) (t : List Fact) (levels : List (List LevelPart)) → a ≡ length earlier
           → a + n ≤ length p.preds → length xs ≡ n → levels ≡ earlier ++ xs → EachFrom a (IsLevels levels) xs
           → ((b : ℕ) → AllByRecursion (NoLevel (pred_text p names b)) t)
-          → read_levels p names comps earlier a n (facts_from a (λ a ls. lines_from 0 (measure_line (pred_text p names a)) ls) xs ++ t) ≡ Some (levels, t)
+          → read_levels p names comps earlier a n (facts_from a (λ a ls. lines_from 0 (measure_line (pred_text p names a)) ls) xs ++ t) ≡ Ok (levels, t)
       unfolding read_levels
       levels_back zero earlier a [] t levels here fits count whole each others = rw (whole, append-nil earlier) refl
       levels_back zero earlier a (x ∷ xs) t levels here fits count whole each others = absurd (omega (arith, count))
@@ -184,7 +184,7 @@ module _ (p : Listing) (names : List (List ℕ)) (comps : Partition) where
           (levels_back n (earlier ++ x ∷ []) (suc a) xs t levels next (omega (arith, fits)) fewer (whole ∙ sym (append_assoc earlier (x ∷ []) xs)) each.1 others)
 
 -- the rows of one atom more
-rows_more : (rows : List Rows) (bs : List Atom) (b : Atom) → rows_of_atoms rows (bs ++ b ∷ []) ≡ rows_of_atoms rows bs + rows_of rows b.pred.0
+pub rows_more : (rows : List Rows) (bs : List Atom) (b : Atom) → rows_of_atoms rows (bs ++ b ∷ []) ≡ rows_of_atoms rows bs + rows_of rows b.pred.0
 rows_more rows bs b = sum_by_push (λ (c : Atom). rows_of rows c.pred.0) bs b
 
 module _ (comps : Partition) (rows : List Rows) (levels : List (List LevelPart)) (head k : ℕ) where
@@ -196,16 +196,16 @@ module _ (comps : Partition) (rows : List Rows) (levels : List (List LevelPart))
   call_lines j ms = lines_from 0 (falls_line k j) ms
 
   pub calls_sound : (bs done : List Atom) (body : List Atom) (j before : ℕ) (s t : List Fact) (calls : List (List Multipliers)) → body ≡ done ++ bs → j ≡ length done
-      → before ≡ rows_of_atoms rows done → read_calls comps rows levels head k j before bs s ≡ Some (calls, t)
+      → before ≡ rows_of_atoms rows done → read_calls comps rows levels head k j before bs s ≡ Ok (calls, t)
       → (s ≡ facts_from j (λ j ms. lines_from 0 (falls_line k j) ms) calls ++ t) × (length calls ≡ length bs) × EachFrom j (IsCall body) calls
   unfolding read_calls read_call
   calls_sound [] done body j before s t calls whole here sum e =
-      let both : ([], s) ≡ (calls, t) = same_some _ _ e in
+      let both : ([], s) ≡ (calls, t) = same_ok _ _ e in
       let first : [] ≡ calls = ap (λ q. q.0) both in
       let rest : s ≡ t = ap (λ q. q.1) both in
       rw (← first, ← rest) (refl, refl, tt)
   calls_sound (b ∷ bs) done body j before s t calls whole here sum e =
-      bound (λ x. option_map (with_first x.0) (read_calls comps rows levels head k (suc j) (before + rows_of rows b.pred.0) bs x.1))
+      bound (λ x. result_map (with_first x.0) (read_calls comps rows levels head k (suc j) (before + rows_of rows b.pred.0) bs x.1))
       (read_call comps levels head k j before (Some b) s) (calls, t) e λ q read more.
       mapped (with_first q.0) (read_calls comps rows levels head k (suc j) (before + rows_of rows b.pred.0) bs q.1) (calls, t) more λ r rest both.
       let (one, count, all) = counted_sound (take_fall k j before) (falls_line k j) _ (fall_taken k j before) 0 (proofs_of_call comps levels head (Some b)) s q.1 q.0 read in
@@ -221,7 +221,7 @@ module _ (comps : Partition) (rows : List Rows) (levels : List (List LevelPart))
 
   pub calls_back : (bs done : List Atom) (body : List Atom) (j before : ℕ) (t : List Fact) (calls : List (List Multipliers)) → body ≡ done ++ bs → j ≡ length done
       → before ≡ rows_of_atoms rows done → length calls ≡ length bs → EachFrom j (IsCall body) calls
-      → read_calls comps rows levels head k j before bs (facts_from j (λ j ms. lines_from 0 (falls_line k j) ms) calls ++ t) ≡ Some (calls, t)
+      → read_calls comps rows levels head k j before bs (facts_from j (λ j ms. lines_from 0 (falls_line k j) ms) calls ++ t) ≡ Ok (calls, t)
   unfolding read_calls read_call
   calls_back [] done body j before t [] whole here sum count each = refl
   calls_back [] done body j before t (ms ∷ calls) whole here sum count each = absurd (omega (arith, count))

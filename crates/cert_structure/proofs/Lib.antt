@@ -9,3 +9,7 @@ pub mod StructureLemmas
 pub mod ComponentLemmas
 pub mod WholeLemmas
 pub mod Examples
+pub mod LocalLemmas
+pub mod EndLemmas
+pub mod PointEnds
+pub mod FaultLemmas

@@ -1,5 +1,5 @@
 -- Lemmas on the loops that read items.
-use Rattle.std.proofs.Common.{◌≡◌, ℕ, zero, suc, ◌+◌, ◌<◌, ◌≤◌, ◌⊎◌, inl, inr, Bool, true, false, ◌&&◌, if◌then◌else◌, nat_lt, nat_le, List, [], ◌∷◌, ◌++◌, length, drop, Some, None, option_map, Result, Ok, Err, refl, ap, sym, ◌∙◌, arith, append-nil, append_assoc, slice_index_or, IsErr, IsErrAnd, le-ltb, lt-ltb, le-leb, leb-true}
+use Rattle.std.proofs.Common.{◌≡◌, ℕ, zero, suc, ◌+◌, ◌<◌, ◌≤◌, ◌⊎◌, inl, inr, Bool, true, false, ◌&&◌, if◌then◌else◌, nat_lt, nat_le, List, [], ◌∷◌, ◌++◌, length, drop, Some, None, Result, Ok, Err, refl, ap, sym, ◌∙◌, arith, append-nil, append_assoc, slice_index_or, IsErr, IsErrAnd, le-ltb, lt-ltb, le-leb, leb-true}
 use Rattle.std.proofs.lemmas.Bool.{false≢true}
 use Rattle.std.specs.Borrow.{Bor}
 use Rattle.std.specs.List.{prefix_len}
@@ -12,18 +12,19 @@ use Rattle.linear_rows.specs.declared.multipliers.Multipliers.{Multipliers}
 use Rattle.linear_rows.specs.declared.row.Rows.{Rows}
 use Rattle.number_tests.specs.declared.level_part.LevelPart.{LevelPart}
 use Rattle.number_tests.specs.declared.pair_point.PairPoint.{PairPoint}
+use Rattle.cert_structure.specs.declared.fault.StructureReason.TheVariants as reason
 use Rattle.cert_structure.specs.declared.stop.Stop.{Stop}
 use Rattle.cert_structure.specs.declared.stop.Stop.TheVariants as stop
 use Rattle.cert_structure.specs.Order.{is_note}
 use Rattle.cert_structure.specs.Shape.{rows_of}
 use Rattle.cert_structure.specs.Structure.{AreNotes}
-use Rattle.cert_structure.specs.Walk.{Read, Taken, Agrees, with_all, with_first, read_each, read_many, read_level, read_levels, read_point, read_points, read_call, read_calls, is_mode}
+use Rattle.cert_structure.specs.Walk.{Wrong, Read, Taken, Agrees, result_map, wrong_at, with_all, with_first, read_each, read_many, read_level, read_levels, read_point, read_points, read_call, read_calls, is_mode}
 
 -- the fault of a part is that of the whole
 pub part_err : {A B : Type 0} (r : Result (B × Bor (List Fact)) Stop) (e : Stop) (p : Read A) (o : Read B)
-    → IsErr r × IsErrAnd r (λ d. d ≡ e) → Agrees {A = A} (Err e) p → (p ≡ None → o ≡ None) → Agrees r o
+    → IsErr r × IsErrAnd r (λ d. d ≡ e) → Agrees {A = A} (Err e) p → ((w : Wrong) → p ≡ Err w → o ≡ Err w) → Agrees r o
 part_err (Ok s) e p o f h k = absurd (false≢true f.0)
-part_err (Err (stop.Wrong left reason)) e p o f h k = k (rw (← f.1) at h)
+part_err (Err (stop.Wrong left why)) e p o f h k = k (left, why) (rw (← f.1) at h)
 part_err (Err stop.Memory) e p o f h k = tt
 
 pub length_more : {A : Type 0} (xs : List A) (x : A) → length (xs ++ x ∷ []) ≡ suc (length xs)
@@ -31,38 +32,38 @@ length_more [] x = refl
 length_more (y ∷ ys) x = ap suc (length_more ys x)
 
 -- these items and one more in front of those that are read
-pub one_more : {A : Type 0} (xs : List A) (x : A) (o : Read (List A)) → with_all (xs ++ x ∷ []) o ≡ with_all xs (option_map (with_first x) o)
-one_more xs x None = refl
-one_more xs x (Some p) = ap (λ ys. Some (ys, p.1)) (append_assoc xs (x ∷ []) p.0)
+pub one_more : {A : Type 0} (xs : List A) (x : A) (o : Read (List A)) → with_all (xs ++ x ∷ []) o ≡ with_all xs (result_map (with_first x) o)
+one_more xs x (Err w) = refl
+one_more xs x (Ok p) = ap (λ ys. Ok (ys, p.1)) (append_assoc xs (x ∷ []) p.0)
 
 module _ {A : Type 0} (item : ℕ → List Fact → Read A) (xs : List A) (i m : ℕ) (s : List Fact) where
-  pub each_end : m ≡ 0 → with_all xs (read_each item i m s) ≡ Some (xs, s)
+  pub each_end : m ≡ 0 → with_all xs (read_each item i m s) ≡ Ok (xs, s)
   unfolding read_each
   each_end e = rw (e, append-nil xs) refl
 
-  pub each_none : (n : ℕ) → m ≡ suc n → item i s ≡ None → with_all xs (read_each item i m s) ≡ None
+  pub each_err : (n : ℕ) (w : Wrong) → m ≡ suc n → item i s ≡ Err w → with_all xs (read_each item i m s) ≡ Err w
   unfolding read_each
-  each_none n e none = rw (e, none) refl
+  each_err n w e bad = rw (e, bad) refl
 
-  pub each_more : (n j : ℕ) (x : A) (t : List Fact) → m ≡ suc n → j ≡ suc i → item i s ≡ Some (x, t)
+  pub each_more : (n j : ℕ) (x : A) (t : List Fact) → m ≡ suc n → j ≡ suc i → item i s ≡ Ok (x, t)
       → with_all (xs ++ x ∷ []) (read_each item j n t) ≡ with_all xs (read_each item i m s)
   unfolding read_each
   each_more n j x t e next read = rw (e, next, read) (one_more xs x (read_each item (suc i) n t))
 
 module _ {A : Type 0} (taken : ℕ → Fact → Taken A) (xs : List A) (i : ℕ) (s : List Fact) where
-  pub many_end : length s ≡ 0 → with_all xs (read_many taken i s) ≡ Some (xs, s)
+  pub many_end : length s ≡ 0 → with_all xs (read_many taken i s) ≡ Ok (xs, s)
   unfolding read_many
   many_end e = go s e
     where
-      go : (u : List Fact) → length u ≡ 0 → with_all xs (read_many taken i u) ≡ Some (xs, u)
+      go : (u : List Fact) → length u ≡ 0 → with_all xs (read_many taken i u) ≡ Ok (xs, u)
       go [] e = rw (append-nil xs) refl
       go (g ∷ u) e = absurd (omega (arith, e))
 
-  pub many_bad : (t : List Fact) (f : Fact) → s ≡ f ∷ t → taken i f ≡ None → with_all xs (read_many taken i s) ≡ None
+  pub many_bad : (t : List Fact) (f : Fact) → s ≡ f ∷ t → taken i f ≡ None → with_all xs (read_many taken i s) ≡ wrong_at s reason.Shape
   unfolding read_many
   many_bad t f e bad = rw (e, bad) refl
 
-  pub many_other : (t : List Fact) (f : Fact) → s ≡ f ∷ t → taken i f ≡ Some None → with_all xs (read_many taken i s) ≡ Some (xs, s)
+  pub many_other : (t : List Fact) (f : Fact) → s ≡ f ∷ t → taken i f ≡ Some None → with_all xs (read_many taken i s) ≡ Ok (xs, s)
   unfolding read_many
   many_other t f e other = rw (e, other, append-nil xs) refl
 
@@ -79,29 +80,29 @@ lt-leb a b h = go (nat_le a b) refl
     go false e = refl
 
 module _ (p : Listing) (names : List (List ℕ)) (comps : Partition) (earlier : List (List LevelPart)) (a m : ℕ) (s : List Fact) where
-  pub levels_end : m ≡ 0 → read_levels p names comps earlier a m s ≡ Some (earlier, s)
+  pub levels_end : m ≡ 0 → read_levels p names comps earlier a m s ≡ Ok (earlier, s)
   unfolding read_levels
   levels_end e = rw e refl
 
-  pub levels_none : (n : ℕ) → m ≡ suc n → read_level p names comps earlier a s ≡ None → read_levels p names comps earlier a m s ≡ None
+  pub levels_err : (n : ℕ) (w : Wrong) → m ≡ suc n → read_level p names comps earlier a s ≡ Err w → read_levels p names comps earlier a m s ≡ Err w
   unfolding read_levels
-  levels_none n e none = rw (e, none) refl
+  levels_err n w e bad = rw (e, bad) refl
 
-  pub levels_more : (n b : ℕ) (x : List LevelPart) (t : List Fact) → m ≡ suc n → b ≡ suc a → read_level p names comps earlier a s ≡ Some (x, t)
+  pub levels_more : (n b : ℕ) (x : List LevelPart) (t : List Fact) → m ≡ suc n → b ≡ suc a → read_level p names comps earlier a s ≡ Ok (x, t)
       → read_levels p names comps (earlier ++ x ∷ []) b n t ≡ read_levels p names comps earlier a m s
   unfolding read_levels
   levels_more n b x t e next read = rw (e, next, read) refl
 
 module _ (p : Listing) (comps : Partition) (a : ℕ) (xs : List PairPoint) (last : ℕ × ℕ) (m : ℕ) (s : List Fact) where
-  pub points_end : m ≡ 0 → with_all xs (read_points p comps a last m s) ≡ Some (xs, s)
+  pub points_end : m ≡ 0 → with_all xs (read_points p comps a last m s) ≡ Ok (xs, s)
   unfolding read_points
   points_end e = rw (e, append-nil xs) refl
 
-  pub points_none : (n : ℕ) → m ≡ suc n → read_point p comps a last s ≡ None → with_all xs (read_points p comps a last m s) ≡ None
+  pub points_err : (n : ℕ) (w : Wrong) → m ≡ suc n → read_point p comps a last s ≡ Err w → with_all xs (read_points p comps a last m s) ≡ Err w
   unfolding read_points
-  points_none n e none = rw (e, none) refl
+  points_err n w e bad = rw (e, bad) refl
 
-  pub points_more : (n : ℕ) (x : PairPoint) (t : List Fact) → m ≡ suc n → read_point p comps a last s ≡ Some (x, t)
+  pub points_more : (n : ℕ) (x : PairPoint) (t : List Fact) → m ≡ suc n → read_point p comps a last s ≡ Ok (x, t)
       → with_all (xs ++ x ∷ []) (read_points p comps a (x.clause, x.call) n t) ≡ with_all xs (read_points p comps a last m s)
   unfolding read_points
   points_more n x t e read = rw (e, read) (one_more xs x (read_points p comps a (x.clause, x.call) n t))
@@ -113,7 +114,7 @@ atom_at zero (c ∷ body) b h e = rw e refl
 atom_at (suc i) (c ∷ body) b h e = atom_at i body b (omega (arith, h)) e
 
 module _ (comps : Partition) (rows : List Rows) (levels : List (List LevelPart)) (head k : ℕ) (xs : List (List Multipliers)) (j before : ℕ) (body : List Atom) (s : List Fact) where
-  pub calls_end : length body ≤ j → with_all xs (read_calls comps rows levels head k j before (drop j body) s) ≡ Some (xs, s)
+  pub calls_end : length body ≤ j → with_all xs (read_calls comps rows levels head k j before (drop j body) s) ≡ Ok (xs, s)
   unfolding read_calls
   calls_end h = rw (none j body h, append-nil xs) refl
     where
@@ -124,12 +125,12 @@ module _ (comps : Partition) (rows : List Rows) (levels : List (List LevelPart))
       none (suc i) (c ∷ bs) h = none i bs (omega (arith, h))
 
   module _ (b : Atom) (h : j < length body) (here : b ≡ slice_index_or body j b) where
-    pub calls_none : read_call comps levels head k j before (Some b) s ≡ None → with_all xs (read_calls comps rows levels head k j before (drop j body) s) ≡ None
+    pub calls_err : (w : Wrong) → read_call comps levels head k j before (Some b) s ≡ Err w → with_all xs (read_calls comps rows levels head k j before (drop j body) s) ≡ Err w
     unfolding read_calls
-    calls_none none = rw (atom_at j body b h here, none) refl
+    calls_err w bad = rw (atom_at j body b h here, bad) refl
 
     pub calls_more : (i more : ℕ) (x : List Multipliers) (t : List Fact) → i ≡ suc j → more ≡ before + rows_of rows b.pred.0
-        → read_call comps levels head k j before (Some b) s ≡ Some (x, t)
+        → read_call comps levels head k j before (Some b) s ≡ Ok (x, t)
         → with_all (xs ++ x ∷ []) (read_calls comps rows levels head k i more (drop i body) t) ≡ with_all xs (read_calls comps rows levels head k j before (drop j body) s)
     unfolding read_calls
     calls_more i more x t next sum read =

@@ -1,5 +1,5 @@
 -- Reading a refutation: what is read is listed so, and what is listed so is read.
-use Rattle.std.proofs.Common.{◌≡◌, ◌≢◌, ℕ, zero, suc, ◌≤◌, ◌⊎◌, inl, inr, Bool, true, false, ◌&&◌, ◌||◌, ◌==◌, if◌then◌else◌, nat_lt, List, [], ◌∷◌, ◌++◌, length, Option, Some, None, option_map, refl, ap, sym, ◌∙◌, subst, arith, eqb-true, eq-eqb, lt-ltb, ltb-true, append_assoc}
+use Rattle.std.proofs.Common.{◌≡◌, ◌≢◌, ℕ, zero, suc, ◌≤◌, ◌⊎◌, inl, inr, Bool, true, false, ◌&&◌, ◌||◌, ◌==◌, if◌then◌else◌, nat_lt, List, [], ◌∷◌, ◌++◌, length, Option, Some, None, Ok, refl, ap, sym, ◌∙◌, subst, arith, eqb-true, eq-eqb, lt-ltb, ltb-true, append_assoc}
 use Rattle.std.proofs.lemmas.Bool.{false≢true, and_parts}
 use Rattle.std.proofs.lemmas.Bool.Decides.{Decides-int_eq}
 use Rattle.std.proofs.lemmas.Option.{none-some}
@@ -18,13 +18,13 @@ use Rattle.cert_structure.specs.declared.refutations.FirstPoint.{FirstPoint}
 use Rattle.cert_structure.specs.Numbered.{facts_from}
 use Rattle.cert_structure.specs.Order.{pred_text, at_facts, point_facts, refutation_facts}
 use Rattle.cert_structure.specs.Shape.{vars_of, items_of, first_of, is_recursive, is_pair, IsBefore, pair_of, PairsAscend, IsPoint, HasSecond, IsPairPoint, IsOpen, IsRefutation}
-use Rattle.cert_structure.specs.Walk.{Taken, is_amount, are_amounts, is_before, pair_end, paired, point_read, pair_point, with_first, read_next, take_point, take_second, take_refuted, read_second, read_point, read_points, read_group, refutation_read, is_open, read_refutation}
+use Rattle.cert_structure.specs.Walk.{Taken, is_amount, are_amounts, is_before, pair_end, paired, point_read, pair_point, result_map, with_first, read_next, take_point, take_second, take_refuted, read_second, read_point, read_points, read_group, refutation_read, is_open, read_refutation}
 use Rattle.cert_structure.proofs.KindLemmas.{split_point, split_second, IsPoint as IsPointFact, IsAt}
-use Rattle.cert_structure.proofs.SectionLemmas.{same_some, bound, mapped, IsTaken, IsBack, next_sound, next_back}
+use Rattle.cert_structure.proofs.SectionLemmas.{same_some, same_ok, err_ok, bound, mapped, IsTaken, IsBack, next_sound, next_back}
 use Rattle.cert_structure.proofs.TakeLemmas.{other_taken, placed, kept_is, amount_is, amount_back, amounts_are, amounts_back, refuted_taken, refuted_given}
 
 -- pairs in order
-before_is : (q r : ℕ × ℕ) → is_before q r ≡ true → IsBefore q r
+pub before_is : (q r : ℕ × ℕ) → is_before q r ≡ true → IsBefore q r
 before_is q r e = go (nat_lt q.0 r.0) refl e
   where
     go : (b : Bool) → nat_lt q.0 r.0 ≡ b → (b || ((q.0 == r.0) && nat_lt q.1 r.1)) ≡ true → IsBefore q r
@@ -60,12 +60,12 @@ paired_is clause call (Some (Some x)) y e = (x, refl, same_some _ _ (same_some _
 
 module _ (p : Listing) (comps : Partition) (a : ℕ) where
   -- what is asked of a pair and its first point
-  record IsFirst (last : ℕ × ℕ) (y : FirstPoint) : Type 0 where
-    pair : IsTrue (is_pair p comps a y.pair.clause y.pair.call)
-    before : IsBefore last (pair_end y.pair)
-    point : IsPoint (vars_of (numbered p.clauses y.pair.clause)) y.point
+  pub record IsFirst (last : ℕ × ℕ) (y : FirstPoint) : Type 0 where
+    pub pair : IsTrue (is_pair p comps a y.pair.clause y.pair.call)
+    pub before : IsBefore last (pair_end y.pair)
+    pub point : IsPoint (vars_of (numbered p.clauses y.pair.clause)) y.point
 
-  first_taken : (last : ℕ × ℕ) → IsTaken (take_point p comps a last) (λ _ y. fact.Point y.pair.clause y.pair.call y.point.t y.point.w) (IsFirst last)
+  pub first_taken : (last : ℕ × ℕ) → IsTaken (take_point p comps a last) (λ _ y. fact.Point y.pair.clause y.pair.call y.point.t y.point.w) (IsFirst last)
   unfolding take_point
   first_taken last i f y e = go (split_point f)
     where
@@ -85,7 +85,7 @@ module _ (p : Listing) (comps : Partition) (a : ℕ) where
   first_given last i y h =
       rw (h.pair, before_back last (pair_end y.pair) h.before, point_back (vars_of (numbered p.clauses y.pair.clause)) y.point h.point) refl
 
-second_taken : (pair : ℕ × ℕ) (vars : ℕ) → IsTaken (take_second pair vars) (λ _ y. fact.At pair.0 pair.1 y.t y.w) (λ y. IsPoint vars y × (y.t ≢ pos 0))
+pub second_taken : (pair : ℕ × ℕ) (vars : ℕ) → IsTaken (take_second pair vars) (λ _ y. fact.At pair.0 pair.1 y.t y.w) (λ y. IsPoint vars y × (y.t ≢ pos 0))
 unfolding take_second
 second_taken pair vars i f y e = go (split_second f)
   where
@@ -123,15 +123,15 @@ vars_at p x = vars_of (numbered p.clauses x.pair.clause)
 abbrev with_second : FirstPoint → Point × List Fact → PairPoint × List Fact
 with_second x y = (pair_point x (Some y.0), y.1)
 
-second_sound : (p : Listing) (x : FirstPoint) (s t : List Fact) (y : PairPoint) → read_second p x s ≡ Some (y, t)
+second_sound : (p : Listing) (x : FirstPoint) (s t : List Fact) (y : PairPoint) → read_second p x s ≡ Ok (y, t)
     → (s ≡ at_facts x.pair.clause x.pair.call y.at ++ t) × HasSecond (vars_at p x) x.point.t y.at × (pair_point x y.at ≡ y)
 unfolding read_second
 second_sound p x s t y e = go (int_eq x.point.t (pos 0)) refl e
   where
     go : (b : Bool) → int_eq x.point.t (pos 0) ≡ b
         → (if b
-        then option_map (with_second x) (read_next (take_second (pair_end x.pair) (vars_at p x)) 0 s)
-        else Some (pair_point x None, s)) ≡ Some (y, t)
+        then result_map (with_second x) (read_next (take_second (pair_end x.pair) (vars_at p x)) 0 s)
+        else Ok (pair_point x None, s)) ≡ Ok (y, t)
         → (s ≡ at_facts x.pair.clause x.pair.call y.at ++ t) × HasSecond (vars_at p x) x.point.t y.at × (pair_point x y.at ≡ y)
     go true test read =
         mapped (with_second x) (read_next (take_second (pair_end x.pair) (vars_at p x)) 0 s) (y, t) read λ q here both.
@@ -140,13 +140,13 @@ second_sound p x s t y e = go (int_eq x.point.t (pos 0)) refl e
         let rest : q.1 ≡ t = ap (λ r. r.1) both in
         rw (← first, ← rest) (one, ((Decides-int_eq x.point.t (pos 0)).0 test, right.0, right.1), refl)
     go false test read =
-        let both : (pair_point x None, s) ≡ (y, t) = same_some _ _ read in
+        let both : (pair_point x None, s) ≡ (y, t) = same_ok _ _ read in
         let first : pair_point x None ≡ y = ap (λ r. r.0) both in
         let rest : s ≡ t = ap (λ r. r.1) both in
         rw (← first, ← rest) (refl, (λ null. false≢true (sym test ∙ (Decides-int_eq x.point.t (pos 0)).1 null)), refl)
 
 second_back : (p : Listing) (x : FirstPoint) (at : Option Point) (t : List Fact) → HasSecond (vars_at p x) x.point.t at
-    → read_second p x (at_facts x.pair.clause x.pair.call at ++ t) ≡ Some (pair_point x at, t)
+    → read_second p x (at_facts x.pair.clause x.pair.call at ++ t) ≡ Ok (pair_point x at, t)
 unfolding read_second
 second_back p x None t h = rw (not_null x.point.t h) refl
 second_back p x (Some y) t h =
@@ -156,7 +156,7 @@ second_back p x (Some y) t h =
     ) refl
 
 module _ (p : Listing) (comps : Partition) (a : ℕ) where
-  point_sound : (last : ℕ × ℕ) (s t : List Fact) (y : PairPoint) → read_point p comps a last s ≡ Some (y, t)
+  pub point_sound : (last : ℕ × ℕ) (s t : List Fact) (y : PairPoint) → read_point p comps a last s ≡ Ok (y, t)
       → (s ≡ point_facts y ++ t) × IsBefore last (pair_of y) × IsPairPoint p comps a y
   unfolding read_point
   point_sound last s t y e =
@@ -167,8 +167,8 @@ module _ (p : Listing) (comps : Partition) (a : ℕ) where
       subst (λ z. (s ≡ point_facts z ++ t) × IsBefore last (pair_of z) × IsPairPoint p comps a z) back
       (rw (one, others) refl, right.before, record { pair = right.pair; point = right.point; second = second })
 
-  point_given : (last : ℕ × ℕ) (y : PairPoint) (t : List Fact) → IsBefore last (pair_of y) → IsPairPoint p comps a y
-      → read_point p comps a last (point_facts y ++ t) ≡ Some (y, t)
+  pub point_given : (last : ℕ × ℕ) (y : PairPoint) (t : List Fact) → IsBefore last (pair_of y) → IsPairPoint p comps a y
+      → read_point p comps a last (point_facts y ++ t) ≡ Ok (y, t)
   unfolding read_point
   point_given last y t before h =
       let x : FirstPoint = first_point y.clause y.call y.point in
@@ -178,16 +178,16 @@ module _ (p : Listing) (comps : Partition) (a : ℕ) where
         second_back p (first_point y.clause y.call y.point) y.at t h.second,
       ) refl
 
-  points_sound : (n : ℕ) (last : ℕ × ℕ) (i : ℕ) (s t : List Fact) (xs : List PairPoint) → read_points p comps a last n s ≡ Some (xs, t)
+  points_sound : (n : ℕ) (last : ℕ × ℕ) (i : ℕ) (s t : List Fact) (xs : List PairPoint) → read_points p comps a last n s ≡ Ok (xs, t)
       → (s ≡ facts_from i (λ _ x. point_facts x) xs ++ t) × (length xs ≡ n) × PairsAscend last xs × AllByRecursion (IsPairPoint p comps a) xs
   unfolding read_points
   points_sound zero last i s t xs e =
-      let both : ([], s) ≡ (xs, t) = same_some _ _ e in
+      let both : ([], s) ≡ (xs, t) = same_ok _ _ e in
       let first : [] ≡ xs = ap (λ q. q.0) both in
       let rest : s ≡ t = ap (λ q. q.1) both in
       rw (← first, ← rest) (refl, refl, tt, tt)
   points_sound (suc n) last i s t xs e =
-      bound (λ x. option_map (with_first x.0) (read_points p comps a (x.0.clause, x.0.call) n x.1)) (read_point p comps a last s) (xs, t) e λ q read more.
+      bound (λ x. result_map (with_first x.0) (read_points p comps a (x.0.clause, x.0.call) n x.1)) (read_point p comps a last s) (xs, t) e λ q read more.
       mapped (with_first q.0) (read_points p comps a (q.0.clause, q.0.call) n q.1) (xs, t) more λ r here both.
       let (one, before, right) = point_sound last s q.1 q.0 read in
       let (others, count, ascend, all) = points_sound n (q.0.clause, q.0.call) (suc i) q.1 r.1 r.0 here in
@@ -197,7 +197,7 @@ module _ (p : Listing) (comps : Partition) (a : ℕ) where
       (one ∙ ap (λ u. point_facts q.0 ++ u) others ∙ sym (append_assoc (point_facts q.0) (facts_from (suc i) (λ _ x. point_facts x) r.0) r.1), ap suc count, (before, ascend), (right, all))
 
   points_given : (n : ℕ) (last : ℕ × ℕ) (i : ℕ) (xs : List PairPoint) (t : List Fact) → length xs ≡ n → PairsAscend last xs → AllByRecursion (IsPairPoint p comps a) xs
-      → read_points p comps a last n (facts_from i (λ _ x. point_facts x) xs ++ t) ≡ Some (xs, t)
+      → read_points p comps a last n (facts_from i (λ _ x. point_facts x) xs ++ t) ≡ Ok (xs, t)
   unfolding read_points
   points_given zero last i [] t count ascend all = refl
   points_given zero last i (x ∷ xs) t count ascend all = absurd (omega (arith, count))
@@ -218,25 +218,25 @@ IsGroup p comps a None = Unit {0}
 IsGroup p comps a (Some r) = (1 ≤ length r.points) × PairsAscend (0, 0) r.points × AllByRecursion (IsPairPoint p comps a) r.points
 
 module _ (p : Listing) (names : List (List ℕ)) (comps : Partition) (a : ℕ) where
-  group_sound : (s t : List Fact) (o : Option Refutation) → read_group p names comps a s ≡ Some (o, t)
+  group_sound : (s t : List Fact) (o : Option Refutation) → read_group p names comps a s ≡ Ok (o, t)
       → (s ≡ refutation_facts (pred_text p names a) o ++ t) × IsGroup p comps a o
   unfolding read_group
   group_sound [] t o e =
-      let both : (None, []) ≡ (o, t) = same_some _ _ e in
+      let both : (None, []) ≡ (o, t) = same_ok _ _ e in
       let first : None ≡ o = ap (λ q. q.0) both in
       let rest : [] ≡ t = ap (λ q. q.1) both in
       rw (← first, ← rest) (refl, tt)
-  group_sound (f ∷ s) t o e =
-      bound (refutation_read (λ n. read_points p comps a (0, 0) n s) f s) (take_refuted (pred_text p names a) 0 f) (o, t) e go
+  group_sound (f ∷ s) t o e = go (take_refuted (pred_text p names a) 0 f) refl e
     where
-      go : (c : Option ℕ) → take_refuted (pred_text p names a) 0 f ≡ Some c → refutation_read (λ n. read_points p comps a (0, 0) n s) f s c ≡ Some (o, t)
+      go : (c : Taken ℕ) → take_refuted (pred_text p names a) 0 f ≡ c → refutation_read (λ n. read_points p comps a (0, 0) n s) f s c ≡ Ok (o, t)
           → (f ∷ s ≡ refutation_facts (pred_text p names a) o ++ t) × IsGroup p comps a o
-      go None taken read =
-          let both : (None, f ∷ s) ≡ (o, t) = same_some _ _ read in
+      go None taken read = err_ok _ (o, t) read
+      go (Some None) taken read =
+          let both : (None, f ∷ s) ≡ (o, t) = same_ok _ _ read in
           let first : None ≡ o = ap (λ q. q.0) both in
           let rest : f ∷ s ≡ t = ap (λ q. q.1) both in
           rw (← first, ← rest) (refl, tt)
-      go (Some n) taken read =
+      go (Some (Some n)) taken read =
           mapped as_refutation (read_points p comps a (0, 0) n s) (o, t) read λ q here both.
           let (begins, some) = refuted_taken (pred_text p names a) 0 f n taken in
           let (others, count, ascend, all) = points_sound p comps a n (0, 0) 0 s q.1 q.0 here in
@@ -245,24 +245,24 @@ module _ (p : Listing) (names : List (List ℕ)) (comps : Partition) (a : ℕ) w
           rw (← first, ← rest) (rw (begins, others, ← count) refl, (rw (← count) at some, ascend, all))
 
   group_given : (t : List Fact) (o : Option Refutation) → IsGroup p comps a o → AllByRecursion (λ f. take_refuted (pred_text p names a) 0 f ≡ Some None) t
-      → read_group p names comps a (refutation_facts (pred_text p names a) o ++ t) ≡ Some (o, t)
+      → read_group p names comps a (refutation_facts (pred_text p names a) o ++ t) ≡ Ok (o, t)
   unfolding read_group
   group_given [] None h others = refl
   group_given (f ∷ t) None h others = rw others.0 refl
   group_given t (Some r) h others =
       rw (refuted_given (pred_text p names a) 0 (length r.points) h.0, points_given p comps a (length r.points) (0, 0) 0 r.points t refl h.1 h.2) refl
 
-open_is : (comps : Partition) (levels : List (List LevelPart)) (a : ℕ) → is_open comps levels a ≡ true → IsOpen comps levels a
+pub open_is : (comps : Partition) (levels : List (List LevelPart)) (a : ℕ) → is_open comps levels a ≡ true → IsOpen comps levels a
 open_is comps levels a e =
     let (one, more) = and_parts (is_recursive comps a) ((first_of comps a == a) && (length (items_of levels a) == 0)) e in
     let (two, three) = and_parts (first_of comps a == a) (length (items_of levels a) == 0) more in
     record { recursive = one; first = eqb-true (first_of comps a) a two; none = eqb-true (length (items_of levels a)) 0 three }
 
-open_back : (comps : Partition) (levels : List (List LevelPart)) (a : ℕ) → IsOpen comps levels a → is_open comps levels a ≡ true
+pub open_back : (comps : Partition) (levels : List (List LevelPart)) (a : ℕ) → IsOpen comps levels a → is_open comps levels a ≡ true
 open_back comps levels a h = rw (h.recursive, eq-eqb (first_of comps a) a h.first, eq-eqb (length (items_of levels a)) 0 h.none) refl
 
 module _ (p : Listing) (names : List (List ℕ)) (comps : Partition) (levels : List (List LevelPart)) (a : ℕ) where
-  pub refutation_sound : (s t : List Fact) (o : Option Refutation) → read_refutation p names comps levels a s ≡ Some (o, t)
+  pub refutation_sound : (s t : List Fact) (o : Option Refutation) → read_refutation p names comps levels a s ≡ Ok (o, t)
       → (s ≡ refutation_facts (pred_text p names a) o ++ t) × IsRefutation p comps levels a o
   unfolding read_refutation
   refutation_sound s t o e = go (is_open comps levels a) refl e
@@ -271,22 +271,22 @@ module _ (p : Listing) (names : List (List ℕ)) (comps : Partition) (levels : L
       shaped None opened h = tt
       shaped (Some r) opened h = (open_is comps levels a opened, h.0, h.1, h.2)
 
-      go : (b : Bool) → is_open comps levels a ≡ b → (if b then read_group p names comps a s else Some (None, s)) ≡ Some (o, t)
+      go : (b : Bool) → is_open comps levels a ≡ b → (if b then read_group p names comps a s else Ok (None, s)) ≡ Ok (o, t)
           → (s ≡ refutation_facts (pred_text p names a) o ++ t) × IsRefutation p comps levels a o
       go true opened read = let (whole, right) = group_sound p names comps a s t o read in (whole, shaped o opened right)
       go false opened read =
-          let both : (None, s) ≡ (o, t) = same_some _ _ read in
+          let both : (None, s) ≡ (o, t) = same_ok _ _ read in
           let first : None ≡ o = ap (λ q. q.0) both in
           let rest : s ≡ t = ap (λ q. q.1) both in
           rw (← first, ← rest) (refl, tt)
 
   pub refutation_given : (t : List Fact) (o : Option Refutation) → IsRefutation p comps levels a o
       → AllByRecursion (λ f. take_refuted (pred_text p names a) 0 f ≡ Some None) t
-      → read_refutation p names comps levels a (refutation_facts (pred_text p names a) o ++ t) ≡ Some (o, t)
+      → read_refutation p names comps levels a (refutation_facts (pred_text p names a) o ++ t) ≡ Ok (o, t)
   unfolding read_refutation
   refutation_given t None h others = go (is_open comps levels a)
     where
-      go : (b : Bool) → (if b then read_group p names comps a t else Some (None, t)) ≡ Some (None, t)
+      go : (b : Bool) → (if b then read_group p names comps a t else Ok (None, t)) ≡ Ok (None, t)
       go true = group_given p names comps a t None tt others
       go false = refl
   refutation_given t (Some r) h others = rw (open_back comps levels a h.0, group_given p names comps a t (Some r) (h.1, h.2, h.3) others) refl

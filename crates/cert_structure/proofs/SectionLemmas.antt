@@ -1,22 +1,28 @@
 -- Lemmas on reading items in a row: what is read is listed so, and what is listed so is read.
-use Rattle.std.proofs.Common.{◌≡◌, ℕ, zero, suc, ◌+◌, ◌<◌, ◌≤◌, List, [], ◌∷◌, ◌++◌, length, Option, Some, None, option_map, option_and_then, refl, ap, sym, ◌∙◌, arith, append_assoc}
+use Rattle.std.proofs.Common.{◌≡◌, ℕ, zero, suc, ◌+◌, ◌<◌, ◌≤◌, List, [], ◌∷◌, ◌++◌, length, Option, Some, None, Result, Ok, Err, refl, ap, sym, ◌∙◌, arith, append_assoc}
 use Rattle.std.proofs.lemmas.Option.{none-some}
 use Rattle.std.specs.List.{AllByRecursion}
 use Rattle.certificate.specs.declared.fact.Fact.{Fact}
 use Rattle.cert_structure.specs.Numbered.{facts_from, lines_from, EachFrom}
-use Rattle.cert_structure.specs.Walk.{Read, Taken, item_of, go_on, with_first, read_each, read_next, read_many}
+use Rattle.cert_structure.specs.Walk.{◌>>=◌, Wrong, Read, Taken, item_of, go_on, result_map, with_first, read_each, read_next, read_many}
 
 pub same_some : {A : Type 0} (x y : A) → Some x ≡ Some y → x ≡ y
 same_some x y e = cc
 
--- both steps gave something
-pub bound : {A B : Type 0} {C : Type 0} (f : A → Option B) (o : Option A) (y : B) → option_and_then f o ≡ Some y → ((x : A) → o ≡ Some x → f x ≡ Some y → C) → C
-bound f None y e k = absurd (none-some _ e)
-bound f (Some x) y e k = k x refl e
+pub same_ok : {A : Type 0} (x y : A) → ◌≡◌ {A = Result A Wrong} (Ok x) (Ok y) → x ≡ y
+same_ok x y e = cc
 
-pub mapped : {A B : Type 0} {C : Type 0} (f : A → B) (o : Option A) (y : B) → option_map f o ≡ Some y → ((x : A) → o ≡ Some x → f x ≡ y → C) → C
-mapped f None y e k = absurd (none-some _ e)
-mapped f (Some x) y e k = k x refl (same_some (f x) y e)
+pub err_ok : {A : Type 0} {C : Type 0} (w : Wrong) (y : A) → ◌≡◌ {A = Result A Wrong} (Err w) (Ok y) → C
+err_ok w y e = absurd (cc e)
+
+-- both steps gave something
+pub bound : {A B : Type 0} {C : Type 0} (f : A → Result B Wrong) (o : Result A Wrong) (y : B) → (o >>= f) ≡ Ok y → ((x : A) → o ≡ Ok x → f x ≡ Ok y → C) → C
+bound f (Err w) y e k = err_ok w y e
+bound f (Ok x) y e k = k x refl e
+
+pub mapped : {A B : Type 0} {C : Type 0} (f : A → B) (o : Result A Wrong) (y : B) → result_map f o ≡ Ok y → ((x : A) → o ≡ Ok x → f x ≡ y → C) → C
+mapped f (Err w) y e k = err_ok w y e
+mapped f (Ok x) y e k = k x refl (same_ok (f x) y e)
 
 -- facts of lists
 pub all_both : (P : Fact → Type 0) (xs ys : List Fact) → AllByRecursion P xs → AllByRecursion P ys → AllByRecursion P (xs ++ ys)
@@ -60,39 +66,41 @@ module _ {A : Type 0} (taken : ℕ → Fact → Taken A) (line : ℕ → A → F
   abbrev pub IsBack : Type 0
   IsBack = (i : ℕ) (x : A) → good x → taken i (line i x) ≡ Some (Some x)
 
-  pub next_sound : IsTaken → (i : ℕ) (s t : List Fact) (x : A) → read_next taken i s ≡ Some (x, t) → (s ≡ line i x ∷ t) × good x
-  next_sound h i [] t x e = absurd (none-some _ e)
-  next_sound h i (f ∷ s) t x e = bound (item_of s) (taken i f) (x, t) e (go)
+  pub next_sound : IsTaken → (i : ℕ) (s t : List Fact) (x : A) → read_next taken i s ≡ Ok (x, t) → (s ≡ line i x ∷ t) × good x
+  next_sound h i [] t x e = err_ok _ (x, t) e
+  next_sound h i (f ∷ s) t x e = go (taken i f) refl e
     where
-      go : (o : Option A) → taken i f ≡ Some o → item_of s o ≡ Some (x, t) → (f ∷ s ≡ line i x ∷ t) × good x
-      go None read same = absurd (none-some _ same)
-      go (Some y) read same =
-          let both : (y, s) ≡ (x, t) = same_some _ _ same in
+      go : (o : Taken A) → taken i f ≡ o → item_of f s o ≡ Ok (x, t) → (f ∷ s ≡ line i x ∷ t) × good x
+      go None read same = err_ok _ (x, t) same
+      go (Some None) read same = err_ok _ (x, t) same
+      go (Some (Some y)) read same =
+          let both : (y, s) ≡ (x, t) = same_ok _ _ same in
           let (one, right) = h i f y read in
           let first : y ≡ x = ap (λ q. q.0) both in
           let rest : s ≡ t = ap (λ q. q.1) both in
           (rw (← first, ← rest, one) refl, rw first at right)
 
-  pub next_back : IsBack → (i : ℕ) (x : A) (t : List Fact) → good x → read_next taken i (line i x ∷ t) ≡ Some (x, t)
+  pub next_back : IsBack → (i : ℕ) (x : A) (t : List Fact) → good x → read_next taken i (line i x ∷ t) ≡ Ok (x, t)
   next_back h i x t right = rw (h i x right) refl
 
-  pub many_sound : IsTaken → (i : ℕ) (s t : List Fact) (xs : List A) → read_many taken i s ≡ Some (xs, t) → (s ≡ lines_from i line xs ++ t) × AllByRecursion good xs
+  pub many_sound : IsTaken → (i : ℕ) (s t : List Fact) (xs : List A) → read_many taken i s ≡ Ok (xs, t) → (s ≡ lines_from i line xs ++ t) × AllByRecursion good xs
   unfolding read_many
   many_sound h i [] t xs e =
-      let both : ([], []) ≡ (xs, t) = same_some _ _ e in
+      let both : ([], []) ≡ (xs, t) = same_ok _ _ e in
       let first : [] ≡ xs = ap (λ q. q.0) both in
       let rest : [] ≡ t = ap (λ q. q.1) both in
       rw (← first, ← rest) (refl, tt)
-  many_sound h i (f ∷ s) t xs e = bound (go_on (read_many taken (suc i) s) f s) (taken i f) (xs, t) e (go (many_sound h (suc i) s))
+  many_sound h i (f ∷ s) t xs e = go (many_sound h (suc i) s) (taken i f) refl e
     where
-      go : ((u : List Fact) (ys : List A) → read_many taken (suc i) s ≡ Some (ys, u) → (s ≡ lines_from (suc i) line ys ++ u) × AllByRecursion good ys)
-          → (o : Option A) → taken i f ≡ Some o → go_on (read_many taken (suc i) s) f s o ≡ Some (xs, t) → (f ∷ s ≡ lines_from i line xs ++ t) × AllByRecursion good xs
-      go more None read same =
-          let both : ([], f ∷ s) ≡ (xs, t) = same_some _ _ same in
+      go : ((u : List Fact) (ys : List A) → read_many taken (suc i) s ≡ Ok (ys, u) → (s ≡ lines_from (suc i) line ys ++ u) × AllByRecursion good ys)
+          → (o : Taken A) → taken i f ≡ o → go_on (read_many taken (suc i) s) f s o ≡ Ok (xs, t) → (f ∷ s ≡ lines_from i line xs ++ t) × AllByRecursion good xs
+      go more None read same = err_ok _ (xs, t) same
+      go more (Some None) read same =
+          let both : ([], f ∷ s) ≡ (xs, t) = same_ok _ _ same in
           let first : [] ≡ xs = ap (λ q. q.0) both in
           let rest : f ∷ s ≡ t = ap (λ q. q.1) both in
           rw (← first, ← rest) (refl, tt)
-      go more (Some y) read same =
+      go more (Some (Some y)) read same =
           mapped (with_first y) (read_many taken (suc i) s) (xs, t) same λ q here both.
           let (one, right) = h i f y read in
           let (others, all) = more q.1 q.0 here in
@@ -100,16 +108,16 @@ module _ {A : Type 0} (taken : ℕ → Fact → Taken A) (line : ℕ → A → F
           let rest : q.1 ≡ t = ap (λ r. r.1) both in
           rw (← first, ← rest) (rw (one, others) refl, (right, all))
 
-  pub counted_sound : IsTaken → (i n : ℕ) (s t : List Fact) (xs : List A) → read_each (read_next taken) i n s ≡ Some (xs, t)
+  pub counted_sound : IsTaken → (i n : ℕ) (s t : List Fact) (xs : List A) → read_each (read_next taken) i n s ≡ Ok (xs, t)
       → (s ≡ lines_from i line xs ++ t) × (length xs ≡ n) × EachFrom i (λ _. good) xs
   unfolding read_each
   counted_sound h i zero s t xs e =
-      let both : ([], s) ≡ (xs, t) = same_some _ _ e in
+      let both : ([], s) ≡ (xs, t) = same_ok _ _ e in
       let first : [] ≡ xs = ap (λ q. q.0) both in
       let rest : s ≡ t = ap (λ q. q.1) both in
       rw (← first, ← rest) (refl, refl, tt)
   counted_sound h i (suc n) s t xs e =
-      bound (λ p. option_map (with_first p.0) (read_each (read_next taken) (suc i) n p.1)) (read_next taken i s) (xs, t) e λ p read more.
+      bound (λ p. result_map (with_first p.0) (read_each (read_next taken) (suc i) n p.1)) (read_next taken i s) (xs, t) e λ p read more.
       mapped (with_first p.0) (read_each (read_next taken) (suc i) n p.1) (xs, t) more λ q here both.
       let (one, right) = next_sound h i s p.1 p.0 read in
       let (others, count, all) = counted_sound h (suc i) n p.1 q.1 q.0 here in
@@ -118,7 +126,7 @@ module _ {A : Type 0} (taken : ℕ → Fact → Taken A) (line : ℕ → A → F
       rw (← first, ← rest) (one ∙ ap (λ u. line i p.0 ∷ u) others, ap suc count, (right, all))
 
   pub counted_back : IsBack → (i n : ℕ) (xs : List A) (t : List Fact) → length xs ≡ n → EachFrom i (λ _. good) xs
-      → read_each (read_next taken) i n (lines_from i line xs ++ t) ≡ Some (xs, t)
+      → read_each (read_next taken) i n (lines_from i line xs ++ t) ≡ Ok (xs, t)
   unfolding read_each
   counted_back h i zero [] t count all = refl
   counted_back h i zero (x ∷ xs) t count all = absurd (omega (arith, count))
@@ -129,28 +137,28 @@ module _ {A : Type 0} (taken : ℕ → Fact → Taken A) (line : ℕ → A → F
   abbrev pub AreOthers : List Fact → Type 0
   AreOthers t = AllByRecursion (λ f. (i : ℕ) → taken i f ≡ Some None) t
 
-  stopped : (i : ℕ) (t : List Fact) → AreOthers t → read_many taken i t ≡ Some ([], t)
+  stopped : (i : ℕ) (t : List Fact) → AreOthers t → read_many taken i t ≡ Ok ([], t)
   unfolding read_many
   stopped i [] h = refl
   stopped i (f ∷ t) h = rw (h.0 i) refl
 
-  pub many_back : IsBack → (i : ℕ) (xs : List A) (t : List Fact) → AllByRecursion good xs → AreOthers t → read_many taken i (lines_from i line xs ++ t) ≡ Some (xs, t)
+  pub many_back : IsBack → (i : ℕ) (xs : List A) (t : List Fact) → AllByRecursion good xs → AreOthers t → read_many taken i (lines_from i line xs ++ t) ≡ Ok (xs, t)
   unfolding read_many
   many_back h i [] t right others = stopped i t others
   many_back h i (x ∷ xs) t right others = rw (h i x right.0, many_back h (suc i) xs t right.1 others) refl
 
 -- Readers of numbered items.
 module _ {A : Type 0} (item : ℕ → List Fact → Read A) (facts : ℕ → A → List Fact) (good : ℕ → A → Type 0) where
-  pub each_sound : ((i : ℕ) (s t : List Fact) (x : A) → item i s ≡ Some (x, t) → (s ≡ facts i x ++ t) × good i x)
-      → (i n : ℕ) (s t : List Fact) (xs : List A) → read_each item i n s ≡ Some (xs, t) → (s ≡ facts_from i facts xs ++ t) × (length xs ≡ n) × EachFrom i good xs
+  pub each_sound : ((i : ℕ) (s t : List Fact) (x : A) → item i s ≡ Ok (x, t) → (s ≡ facts i x ++ t) × good i x)
+      → (i n : ℕ) (s t : List Fact) (xs : List A) → read_each item i n s ≡ Ok (xs, t) → (s ≡ facts_from i facts xs ++ t) × (length xs ≡ n) × EachFrom i good xs
   unfolding read_each
   each_sound h i zero s t xs e =
-      let both : ([], s) ≡ (xs, t) = same_some _ _ e in
+      let both : ([], s) ≡ (xs, t) = same_ok _ _ e in
       let first : [] ≡ xs = ap (λ q. q.0) both in
       let rest : s ≡ t = ap (λ q. q.1) both in
       rw (← first, ← rest) (refl, refl, tt)
   each_sound h i (suc n) s t xs e =
-      bound (λ p. option_map (with_first p.0) (read_each item (suc i) n p.1)) (item i s) (xs, t) e λ p read more.
+      bound (λ p. result_map (with_first p.0) (read_each item (suc i) n p.1)) (item i s) (xs, t) e λ p read more.
       mapped (with_first p.0) (read_each item (suc i) n p.1) (xs, t) more λ q here both.
       let (one, right) = h i s p.1 p.0 read in
       let (others, count, all) = each_sound h (suc i) n p.1 q.1 q.0 here in
@@ -160,10 +168,10 @@ module _ {A : Type 0} (item : ℕ → List Fact → Read A) (facts : ℕ → A �
 
   -- Facts that are not those of a number may follow its item.
   module _ (other : ℕ → Fact → Type 0) (m : ℕ)
-      (back : (i : ℕ) (x : A) (t : List Fact) → i < m → good i x → AllByRecursion (other i) t → item i (facts i x ++ t) ≡ Some (x, t))
+      (back : (i : ℕ) (x : A) (t : List Fact) → i < m → good i x → AllByRecursion (other i) t → item i (facts i x ++ t) ≡ Ok (x, t))
       (apart : (i j : ℕ) (x : A) → i < j → j < m → AllByRecursion (other i) (facts j x)) where
     pub each_back : (i n : ℕ) (xs : List A) (t : List Fact) → length xs ≡ n → i + n ≤ m → EachFrom i good xs → ((j : ℕ) → j < m → AllByRecursion (other j) t)
-        → read_each item i n (facts_from i facts xs ++ t) ≡ Some (xs, t)
+        → read_each item i n (facts_from i facts xs ++ t) ≡ Ok (xs, t)
     unfolding read_each
     each_back i zero [] t count fits h rest = refl
     each_back i zero (x ∷ xs) t count fits h rest = absurd (omega (arith, count))

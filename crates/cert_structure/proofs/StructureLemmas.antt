@@ -1,5 +1,5 @@
 -- Reading the sections of a certificate: what is read is listed so, and what is listed so is read.
-use Rattle.std.proofs.Common.{◌≡◌, ◌≢◌, ℕ, suc, ◌<◌, ◌⊎◌, inl, inr, List, [], ◌∷◌, ◌++◌, length, Option, Some, None, refl, ap, sym, subst, arith, ne_eqb}
+use Rattle.std.proofs.Common.{◌≡◌, ◌≢◌, ℕ, suc, ◌<◌, ◌⊎◌, inl, inr, List, [], ◌∷◌, ◌++◌, length, Option, Some, None, Ok, refl, ap, sym, subst, arith, ne_eqb}
 use Rattle.std.proofs.lemmas.Bool.{false≢true}
 use Rattle.std.specs.Prelude.{IsTrue}
 use Rattle.std.specs.List.{AllByRecursion}
@@ -135,7 +135,7 @@ module _ (p : Listing) (names : List (List ℕ)) where
   from_arity : (P : ℕ → Type 0) (a : ℕ) → P (arity_of p a) → P (pred_text p names a).arity
   from_arity P a h = subst P (sym (arity_text p names a)) h
 
-  pub modes_section : (s t : List Fact) (xs : List (List (List ℕ))) → read_each (read_modes p names) 0 (length p.preds) s ≡ Some (xs, t)
+  pub modes_section : (s t : List Fact) (xs : List (List (List ℕ))) → read_each (read_modes p names) 0 (length p.preds) s ≡ Ok (xs, t)
       → (s ≡ mode_facts p names xs ++ t) × AreEach (length p.preds) (λ a. AllByRecursion (IsMode (arity_of p a))) xs
   unfolding read_modes
   modes_section s t xs e =
@@ -147,7 +147,7 @@ module _ (p : Listing) (names : List (List ℕ)) where
       (whole, record { count = count; each = each })
 
   pub modes_listed : (xs : List (List (List ℕ))) (t : List Fact) → AreEach (length p.preds) (λ a. AllByRecursion (IsMode (arity_of p a))) xs
-      → read_each (read_modes p names) 0 (length p.preds) (mode_facts p names xs ++ t) ≡ Some (xs, t)
+      → read_each (read_modes p names) 0 (length p.preds) (mode_facts p names xs ++ t) ≡ Ok (xs, t)
   unfolding read_modes
   modes_listed xs t h =
       each_back (read_modes p names) (λ a ms. fact.Terminates (pred_text p names a) ms ∷ []) (λ a ms. AllByRecursion (IsMode (arity_of p a)) ms)
@@ -163,7 +163,7 @@ module _ (p : Listing) (names : List (List ℕ)) where
   abbrev HasRows : ℕ → Rows → Type 0
   HasRows a r = (r.width ≡ arity_of p a) × AllByRecursion (IsSizeRow (arity_of p a)) r.list
 
-  pub rows_section : (s t : List Fact) (xs : List Rows) → read_each (read_rows p names) 0 (length p.preds) s ≡ Some (xs, t)
+  pub rows_section : (s t : List Fact) (xs : List Rows) → read_each (read_rows p names) 0 (length p.preds) s ≡ Ok (xs, t)
       → (s ≡ size_facts p names xs ++ t) × AreEach (length p.preds) (λ a r. (r.width ≡ arity_of p a) × AllByRecursion (IsSizeRow (arity_of p a)) r.list) xs
   unfolding read_rows
   rows_section s t xs e =
@@ -183,7 +183,7 @@ module _ (p : Listing) (names : List (List ℕ)) where
   module _ (apart : (a b : ℕ) → a < b → b < length p.preds → pred_text p names b ≢ pred_text p names a) where
     pub rows_listed : (xs : List Rows) (t : List Fact)
         → AreEach (length p.preds) (λ a r. (r.width ≡ arity_of p a) × AllByRecursion (IsSizeRow (arity_of p a)) r.list) xs → AreLater 2 t
-        → read_each (read_rows p names) 0 (length p.preds) (size_facts p names xs ++ t) ≡ Some (xs, t)
+        → read_each (read_rows p names) 0 (length p.preds) (size_facts p names xs ++ t) ≡ Ok (xs, t)
     unfolding read_rows take_row
     rows_listed xs t h later =
         each_back (read_rows p names) (λ a r. lines_from 0 (size_line (pred_text p names a)) r.list) HasRows
@@ -196,7 +196,7 @@ module _ (p : Listing) (names : List (List ℕ)) where
         (λ j below. all_weaker (λ f. 2 < kind f) (λ f. (i : ℕ) → take_row (text j) i f ≡ Some None) (λ f late. no_row (text j) f late) t later)
 
     pub grounds_listed : (xs : List (List (List Cell))) (t : List Fact) → AreEach (length p.preds) (λ a. AllByRecursion (HasWidth (arity_of p a))) xs → AreLater 4 t
-        → read_each (read_grounds p names) 0 (length p.preds) (ground_facts p names xs ++ t) ≡ Some (xs, t)
+        → read_each (read_grounds p names) 0 (length p.preds) (ground_facts p names xs ++ t) ≡ Ok (xs, t)
     unfolding read_grounds take_ground
     grounds_listed xs t h later =
         each_back (read_grounds p names) (λ a cs. lines_from 0 (grounds_line (pred_text p names a)) cs) (λ a cs. AllByRecursion (HasWidth (arity_of p a)) cs)
@@ -208,7 +208,7 @@ module _ (p : Listing) (names : List (List ℕ)) where
         0 (length p.preds) xs t h.count (omega arith) h.each
         (λ j below. all_weaker (λ f. 4 < kind f) (λ f. (i : ℕ) → take_ground (text j) i f ≡ Some None) (λ f late. no_ground (text j) f late) t later)
 
-  pub grounds_section : (s t : List Fact) (xs : List (List (List Cell))) → read_each (read_grounds p names) 0 (length p.preds) s ≡ Some (xs, t)
+  pub grounds_section : (s t : List Fact) (xs : List (List (List Cell))) → read_each (read_grounds p names) 0 (length p.preds) s ≡ Ok (xs, t)
       → (s ≡ ground_facts p names xs ++ t) × AreEach (length p.preds) (λ a. AllByRecursion (HasWidth (arity_of p a))) xs
   unfolding read_grounds
   grounds_section s t xs e =
@@ -221,7 +221,7 @@ module _ (p : Listing) (names : List (List ℕ)) where
 
   -- the cubes of one predicate
   module _ (levels : List (List LevelPart)) (a : ℕ) where
-    pub cubes_section : (s t : List Fact) (xs : List (List (List Cell))) → read_pre p names levels a s ≡ Some (xs, t)
+    pub cubes_section : (s t : List Fact) (xs : List (List (List Cell))) → read_pre p names levels a s ≡ Ok (xs, t)
         → (s ≡ facts_from 0 (λ m cs. lines_from 0 (pre_line (pred_text p names a) m) cs) xs ++ t) × AreEach (length (items_of levels a)) (λ _. AllByRecursion (HasWidth (arity_of p a))) xs
     unfolding read_pre read_cubes
     cubes_section s t xs e =
@@ -234,7 +234,7 @@ module _ (p : Listing) (names : List (List ℕ)) where
 
     pub cubes_listed : (xs : List (List (List Cell))) (t : List Fact) → AreEach (length (items_of levels a)) (λ _. AllByRecursion (HasWidth (arity_of p a))) xs
         → AllByRecursion (λ f. (m i : ℕ) → take_pre (pred_text p names a) m i f ≡ Some None) t
-        → read_pre p names levels a (facts_from 0 (λ m cs. lines_from 0 (pre_line (pred_text p names a) m) cs) xs ++ t) ≡ Some (xs, t)
+        → read_pre p names levels a (facts_from 0 (λ m cs. lines_from 0 (pre_line (pred_text p names a) m) cs) xs ++ t) ≡ Ok (xs, t)
     unfolding read_pre read_cubes take_pre
     cubes_listed xs t h others =
         each_back (read_cubes p names a) (λ m cs. lines_from 0 (pre_line (pred_text p names a) m) cs) (λ m cs. AllByRecursion (HasWidth (arity_of p a)) cs)
@@ -247,7 +247,7 @@ module _ (p : Listing) (names : List (List ℕ)) where
         (λ m below. all_weaker (λ f. (m i : ℕ) → take_pre (text a) m i f ≡ Some None) (λ f. (i : ℕ) → take_pre (text a) m i f ≡ Some None) (λ f none. none m) t others)
 
   module _ (levels : List (List LevelPart)) where
-    pub pre_section : (s t : List Fact) (xs : List (List (List (List Cell)))) → read_each (read_pre p names levels) 0 (length p.preds) s ≡ Some (xs, t)
+    pub pre_section : (s t : List Fact) (xs : List (List (List (List Cell)))) → read_each (read_pre p names levels) 0 (length p.preds) s ≡ Ok (xs, t)
         → (s ≡ pre_facts p names xs ++ t) × AreEach (length p.preds) (λ a. AreEach (length (items_of levels a)) (λ _. AllByRecursion (HasWidth (arity_of p a)))) xs
     pre_section s t xs e =
         let (whole, count, each) = each_sound (read_pre p names levels) (λ a ms. facts_from 0 (λ m cs. lines_from 0 (pre_line (pred_text p names a) m) cs) ms)
@@ -258,7 +258,7 @@ module _ (p : Listing) (names : List (List ℕ)) where
 
     pub pre_listed : ((a b : ℕ) → a < b → b < length p.preds → pred_text p names b ≢ pred_text p names a) → (xs : List (List (List (List Cell)))) (t : List Fact)
         → AreEach (length p.preds) (λ a. AreEach (length (items_of levels a)) (λ _. AllByRecursion (HasWidth (arity_of p a)))) xs → AreLater 7 t
-        → read_each (read_pre p names levels) 0 (length p.preds) (pre_facts p names xs ++ t) ≡ Some (xs, t)
+        → read_each (read_pre p names levels) 0 (length p.preds) (pre_facts p names xs ++ t) ≡ Ok (xs, t)
     unfolding take_pre
     pre_listed apart xs t h later =
         each_back (read_pre p names levels) (λ a ms. facts_from 0 (λ m cs. lines_from 0 (pre_line (pred_text p names a) m) cs) ms)
@@ -272,7 +272,7 @@ module _ (p : Listing) (names : List (List ℕ)) where
         (λ j below. all_weaker (λ f. 7 < kind f) (λ f. (m i : ℕ) → take_pre (text j) m i f ≡ Some None) (λ f late. no_pre (text j) f late) t later)
 
     module _ (comps : Partition) where
-      pub refuted_section : (s t : List Fact) (xs : List (Option Refutation)) → read_each (read_refutation p names comps levels) 0 (length p.preds) s ≡ Some (xs, t)
+      pub refuted_section : (s t : List Fact) (xs : List (Option Refutation)) → read_each (read_refutation p names comps levels) 0 (length p.preds) s ≡ Ok (xs, t)
           → (s ≡ refuted_facts p names xs ++ t) × AreEach (length p.preds) (IsRefutation p comps levels) xs
       refuted_section s t xs e =
           let (whole, count, each) = each_sound (read_refutation p names comps levels) (λ a r. refutation_facts (pred_text p names a) r) (IsRefutation p comps levels)
@@ -282,7 +282,7 @@ module _ (p : Listing) (names : List (List ℕ)) where
 
       pub refuted_listed : ((a b : ℕ) → a < b → b < length p.preds → pred_text p names b ≢ pred_text p names a) → (xs : List (Option Refutation)) (t : List Fact)
           → AreEach (length p.preds) (IsRefutation p comps levels) xs → AreLater 8 t
-          → read_each (read_refutation p names comps levels) 0 (length p.preds) (refuted_facts p names xs ++ t) ≡ Some (xs, t)
+          → read_each (read_refutation p names comps levels) 0 (length p.preds) (refuted_facts p names xs ++ t) ≡ Ok (xs, t)
       unfolding take_refuted
       refuted_listed apart xs t h later =
           each_back (read_refutation p names comps levels) (λ a r. refutation_facts (pred_text p names a) r) (IsRefutation p comps levels)
@@ -304,7 +304,7 @@ module _ (p : Listing) (names : List (List ℕ)) where
           )
 
 module _ (p : Listing) (rows : List Rows) where
-  pub proofs_section : (s t : List Fact) (xs : List (List Multipliers)) → read_each (read_proofs p rows) 0 (length p.clauses) s ≡ Some (xs, t)
+  pub proofs_section : (s t : List Fact) (xs : List (List Multipliers)) → read_each (read_proofs p rows) 0 (length p.clauses) s ≡ Ok (xs, t)
       → (s ≡ proof_facts xs ++ t) × AreEach (length p.clauses) (λ k. AreEach (rows_of rows (head_of p k)) (λ _. AreMultipliers (rows_of_atoms rows (body_of p k)))) xs
   unfolding read_proofs
   proofs_section s t xs e =
@@ -322,7 +322,7 @@ module _ (p : Listing) (rows : List Rows) where
 
   pub proofs_listed : (xs : List (List Multipliers)) (t : List Fact)
       → AreEach (length p.clauses) (λ k. AreEach (rows_of rows (head_of p k)) (λ _. AreMultipliers (rows_of_atoms rows (body_of p k)))) xs
-      → read_each (read_proofs p rows) 0 (length p.clauses) (proof_facts xs ++ t) ≡ Some (xs, t)
+      → read_each (read_proofs p rows) 0 (length p.clauses) (proof_facts xs ++ t) ≡ Ok (xs, t)
   unfolding read_proofs
   proofs_listed xs t h =
       each_back (read_proofs p rows) (λ k ms. lines_from 0 (by_line k) ms)
@@ -337,7 +337,7 @@ module _ (p : Listing) (rows : List Rows) where
     abbrev IsFalls : ℕ → List (List Multipliers) → Type 0
     IsFalls k calls = AreEach (length (body_of p k)) (IsCall comps rows levels (head_of p k) k (body_of p k)) calls
 
-    pub falls_section : (s t : List Fact) (xs : List (List (List Multipliers))) → read_each (read_falls p comps rows levels) 0 (length p.clauses) s ≡ Some (xs, t)
+    pub falls_section : (s t : List Fact) (xs : List (List (List Multipliers))) → read_each (read_falls p comps rows levels) 0 (length p.clauses) s ≡ Ok (xs, t)
         → (s ≡ fall_facts xs ++ t) × AreEach (length p.clauses) IsFalls xs
     unfolding read_falls
     falls_section s t xs e =
@@ -349,7 +349,7 @@ module _ (p : Listing) (rows : List Rows) where
         (whole, record { count = count; each = each })
 
     pub falls_listed : (xs : List (List (List Multipliers))) (t : List Fact) → AreEach (length p.clauses) IsFalls xs
-        → read_each (read_falls p comps rows levels) 0 (length p.clauses) (fall_facts xs ++ t) ≡ Some (xs, t)
+        → read_each (read_falls p comps rows levels) 0 (length p.clauses) (fall_facts xs ++ t) ≡ Ok (xs, t)
     unfolding read_falls
     falls_listed xs t h =
         each_back (read_falls p comps rows levels) (λ k calls. facts_from 0 (λ j ms. lines_from 0 (falls_line k j) ms) calls) IsFalls

@@ -81,7 +81,7 @@ pub amounts_back : (zs : List ℤ) → AreAmounts zs → are_amounts zs ≡ true
 amounts_back [] h = refl
 amounts_back (z ∷ zs) h = rw (amount_back z h.0, amounts_back zs h.1) refl
 
-entries_are : (zs : List ℤ) → are_entries zs ≡ true → AreEntries zs
+pub entries_are : (zs : List ℤ) → are_entries zs ≡ true → AreEntries zs
 entries_are [] e = tt
 entries_are (z ∷ zs) e = let (one, more) = and_parts (is_entry z) (are_entries zs) e in (entry_is z one, entries_are zs more)
 

@@ -1,58 +1,64 @@
 -- Reading a whole certificate: what is read is its parts, and its parts are read.
-use Rattle.std.proofs.Common.{◌≡◌, ◌≢◌, ℕ, ◌<◌, Bool, true, false, if◌then◌else◌, List, [], ◌∷◌, ◌++◌, length, Some, None, refl, ap, ◌∙◌, subst, arith}
+use Rattle.std.proofs.Common.{◌≡◌, ◌≢◌, ℕ, ◌<◌, Bool, true, false, if◌then◌else◌, List, [], ◌∷◌, ◌++◌, length, Result, Ok, Err, ◌-◌, nat_lt, refl, ap, ◌∙◌, subst, arith, le-ltb, ltb-false}
 use Rattle.std.proofs.lemmas.Bool.Decides.{Decides-int_eq}
-use Rattle.std.proofs.lemmas.Option.{none-some}
 use Rattle.std.specs.Prelude.{pos}
 use Rattle.std.specs.Ordering.{int_eq}
+use Rattle.std.specs.List.{prefix_len}
 use Rattle.call_components.specs.Partition.{Partition, AreComponents}
 use Rattle.certificate.specs.declared.fact.Fact.{Fact}
 use Rattle.certificate.specs.declared.fact.Fact.TheVariants as fact
 use Rattle.cti_terms.specs.Listing.{Listing}
+use Rattle.cert_structure.specs.declared.fault.StructureReason.TheVariants as reason
 use Rattle.cert_structure.specs.declared.parts.Parts.{Parts}
-use Rattle.cert_structure.specs.Order.{pred_text, mode_facts, size_facts, proof_facts, ground_facts, level_facts, fall_facts, pre_facts, refuted_facts, listed}
+use Rattle.cert_structure.specs.Order.{pred_text, mode_facts, size_facts, proof_facts, ground_facts, level_facts, fall_facts, pre_facts, refuted_facts, listed, is_note}
 use Rattle.cert_structure.specs.Shape.{HaveShape}
-use Rattle.cert_structure.specs.Structure.{AreNotes}
-use Rattle.cert_structure.specs.Walk.{read_version, read_modes, read_rows, read_proofs, read_grounds, read_levels, read_falls, read_pre, read_refutation, read_each, read_parts}
+use Rattle.cert_structure.specs.Structure.{IsStructured, AreNotes}
+use Rattle.cert_structure.specs.Walk.{◌>>=◌, Wrong, wrong_at, with_notes, read_whole, read_version, read_modes, read_rows, read_proofs, read_grounds, read_levels, read_falls, read_pre, read_refutation, read_each, read_parts}
+use Rattle.cert_structure.proofs.LoopLemmas.{are_notes, all_notes}
 use Rattle.cert_structure.proofs.KindLemmas.{kind}
-use Rattle.cert_structure.proofs.SectionLemmas.{same_some, bound, all_both, all_weaker}
+use Rattle.cert_structure.proofs.SectionLemmas.{same_ok, err_ok, bound, all_both, all_weaker}
 use Rattle.cert_structure.proofs.LevelLemmas.{NoLevel, levels_sound, levels_back}
 use Rattle.cert_structure.proofs.StructureLemmas.{AreLater, proofs_later, grounds_later, levels_later, falls_later, pre_later, refuted_later, notes_later, no_level, modes_section, modes_listed, rows_section, rows_listed, proofs_section, proofs_listed, grounds_section, grounds_listed, falls_section, falls_listed, pre_section, pre_listed, refuted_section, refuted_listed}
 use Rattle.cert_structure.proofs.ComponentLemmas.{first_le}
 use Rattle.cert_structure.proofs.PartsLemmas.{all_read}
 
-version_sound : (s t : List Fact) → read_version s ≡ Some t → s ≡ fact.Cti (pos 1) ∷ t
+pub version_sound : (s t : List Fact) → read_version s ≡ Ok t → s ≡ fact.Cti (pos 1) ∷ t
 unfolding read_version
-version_sound [] t e = absurd (none-some _ e)
+version_sound [] t e = err_ok _ t e
 version_sound (fact.Cti version ∷ s) t e = go (int_eq version (pos 1)) refl e
   where
-    go : (b : Bool) → int_eq version (pos 1) ≡ b → (if b then Some s else None) ≡ Some t → fact.Cti version ∷ s ≡ fact.Cti (pos 1) ∷ t
+    go : (b : Bool) → int_eq version (pos 1) ≡ b → (if b then Ok s else wrong_at (fact.Cti version ∷ s) reason.Version) ≡ Ok t → fact.Cti version ∷ s ≡ fact.Cti (pos 1) ∷ t
     go true one same =
         let number : version ≡ pos 1 = (Decides-int_eq version (pos 1)).0 one in
-        let rest : s ≡ t = same_some s t same in
+        let rest : s ≡ t = same_ok s t same in
         rw (number, rest) refl
-    go false one same = absurd (none-some _ same)
-version_sound (fact.Terminates q modes ∷ s) t e = absurd (none-some _ e)
-version_sound (fact.Size q index row ∷ s) t e = absurd (none-some _ e)
-version_sound (fact.By clause index scale list ∷ s) t e = absurd (none-some _ e)
-version_sound (fact.Grounds q index cells ∷ s) t e = absurd (none-some _ e)
-version_sound (fact.Measure q mapping coeffs offset ∷ s) t e = absurd (none-some _ e)
-version_sound (fact.Falls clause call mapping scale list ∷ s) t e = absurd (none-some _ e)
-version_sound (fact.Pre q mapping index cells ∷ s) t e = absurd (none-some _ e)
-version_sound (fact.Refuted q points ∷ s) t e = absurd (none-some _ e)
-version_sound (fact.Point clause call v w ∷ s) t e = absurd (none-some _ e)
-version_sound (fact.At clause call v w ∷ s) t e = absurd (none-some _ e)
-version_sound (fact.Image step clause q rows ∷ s) t e = absurd (none-some _ e)
-version_sound (fact.Step step q how rows ∷ s) t e = absurd (none-some _ e)
-version_sound (fact.WeakImage step ∷ s) t e = absurd (none-some _ e)
-version_sound (fact.WeakStep step ∷ s) t e = absurd (none-some _ e)
-version_sound (fact.Blown q support ∷ s) t e = absurd (none-some _ e)
-version_sound (fact.Large q positions ∷ s) t e = absurd (none-some _ e)
+    go false one same = err_ok _ t same
+version_sound (fact.Terminates q modes ∷ s) t e = err_ok _ t e
+version_sound (fact.Size q index row ∷ s) t e = err_ok _ t e
+version_sound (fact.By clause index scale list ∷ s) t e = err_ok _ t e
+version_sound (fact.Grounds q index cells ∷ s) t e = err_ok _ t e
+version_sound (fact.Measure q mapping coeffs offset ∷ s) t e = err_ok _ t e
+version_sound (fact.Falls clause call mapping scale list ∷ s) t e = err_ok _ t e
+version_sound (fact.Pre q mapping index cells ∷ s) t e = err_ok _ t e
+version_sound (fact.Refuted q points ∷ s) t e = err_ok _ t e
+version_sound (fact.Point clause call v w ∷ s) t e = err_ok _ t e
+version_sound (fact.At clause call v w ∷ s) t e = err_ok _ t e
+version_sound (fact.Image step clause q rows ∷ s) t e = err_ok _ t e
+version_sound (fact.Step step q how rows ∷ s) t e = err_ok _ t e
+version_sound (fact.WeakImage step ∷ s) t e = err_ok _ t e
+version_sound (fact.WeakStep step ∷ s) t e = err_ok _ t e
+version_sound (fact.Blown q support ∷ s) t e = err_ok _ t e
+version_sound (fact.Large q positions ∷ s) t e = err_ok _ t e
+
+-- the parts, where the facts after them are notes, as a test says
+abbrev pub noted : Bool → Parts × List Fact → Result Parts Wrong
+noted b q = if◌then◌else◌ {A = Result Parts Wrong} b (Err (length q.1 - prefix_len is_note q.1, reason.Extra)) (Ok q.0)
 
 module _ (p : Listing) (names : List (List ℕ)) (comps : Partition) (h : AreComponents p comps) where
   abbrev IsRead : List Fact → Parts → List Fact → Type 0
   IsRead s parts t = (s ≡ listed p names parts t) × HaveShape p comps parts
 
-  pub parts_sound : (s t : List Fact) (parts : Parts) → read_parts p names comps s ≡ Some (parts, t) → (s ≡ listed p names parts t) × HaveShape p comps parts
+  pub parts_sound : (s t : List Fact) (parts : Parts) → read_parts p names comps s ≡ Ok (parts, t) → (s ≡ listed p names parts t) × HaveShape p comps parts
   unfolding read_parts
   parts_sound s t parts e =
       bound _ (read_version s) _ e λ s0 e0 more0.
@@ -74,7 +80,7 @@ module _ (p : Listing) (names : List (List ℕ)) (comps : Partition) (h : AreCom
       let (whole7, right7) = pre_section p names levels.0 falls.1 cubes.1 cubes.0 e7 in
       let (whole8, right8) = refuted_section p names levels.0 comps cubes.1 refutations.1 refutations.0 e8 in
       let own5 : grounds.1 ≡ level_facts p names levels.0 ++ levels.1 = rw all whole5 in
-      let last : (record { modes = modes.0; rows = rows.0; row_proofs = proofs.0; grounds = grounds.0; levels = levels.0; falls = falls.0; preconditions = cubes.0; refutations = refutations.0 }, refutations.1) ≡ (parts, t) = same_some _ _ more8 in
+      let last : (record { modes = modes.0; rows = rows.0; row_proofs = proofs.0; grounds = grounds.0; levels = levels.0; falls = falls.0; preconditions = cubes.0; refutations = refutations.0 }, refutations.1) ≡ (parts, t) = same_ok _ _ more8 in
       let first : record { modes = modes.0; rows = rows.0; row_proofs = proofs.0; grounds = grounds.0; levels = levels.0; falls = falls.0; preconditions = cubes.0; refutations = refutations.0 } ≡ parts = ap (λ q. q.0) last in
       let rest : refutations.1 ≡ t = ap (λ q. q.1) last in
       subst (λ u. IsRead s parts u) rest
@@ -105,7 +111,7 @@ module _ (p : Listing) (names : List (List ℕ)) (comps : Partition) (h : AreCom
       ))
 
   pub parts_back : ((a b : ℕ) → a < b → b < length p.preds → pred_text p names b ≢ pred_text p names a) → (parts : Parts) (notes : List Fact) → HaveShape p comps parts → AreNotes notes
-      → read_parts p names comps (listed p names parts notes) ≡ Some (parts, notes)
+      → read_parts p names comps (listed p names parts notes) ≡ Ok (parts, notes)
   unfolding read_version
   parts_back apart parts notes shape are =
       let s7 = refuted_facts p names parts.refutations ++ notes in
@@ -134,3 +140,23 @@ module _ (p : Listing) (names : List (List ℕ)) (comps : Partition) (h : AreCom
       parts.falls s6 (falls_listed p parts.rows comps parts.levels parts.falls s6 shape.falls)
       parts.preconditions s7 (pre_listed p names parts.levels apart parts.preconditions s7 shape.preconditions (late7 7 (omega arith)))
       parts.refutations notes (refuted_listed p names parts.levels comps apart parts.refutations notes shape.refutations (notes_later 8 (omega arith) notes are))
+
+  -- all of it is read as what it is a certificate of
+  pub whole_sound : (s : List Fact) (parts : Parts) → read_whole p names comps s ≡ Ok parts → IsStructured p names comps parts s
+  unfolding read_whole
+  whole_sound s parts e = bound with_notes (read_parts p names comps s) parts e λ q first more. go q first (nat_lt (prefix_len is_note q.1) (length q.1)) refl more
+    where
+      go : (q : Parts × List Fact) → read_parts p names comps s ≡ Ok q → (b : Bool) → nat_lt (prefix_len is_note q.1) (length q.1) ≡ b
+          → noted b q ≡ Ok parts → IsStructured p names comps parts s
+      go q first true test same = err_ok _ parts same
+      go q first false test same =
+          let own : q.0 ≡ parts = same_ok _ _ same in
+          let (whole, shape) = parts_sound s q.1 q.0 first in
+          subst (λ z. IsStructured p names comps z s) own (record { notes = q.1; are_notes = are_notes q.1 (ltb-false _ _ test); shape = shape; is = whole })
+
+  pub whole_back : ((a b : ℕ) → a < b → b < length p.preds → pred_text p names b ≢ pred_text p names a) → (parts : Parts) (notes : List Fact) → HaveShape p comps parts → AreNotes notes
+      → read_whole p names comps (listed p names parts notes) ≡ Ok parts
+  unfolding read_whole
+  whole_back apart parts notes shape are =
+      ap (λ z. z >>= with_notes) (parts_back apart parts notes shape are)
+      ∙ rw (all_notes notes are, le-ltb (length notes) (length notes) (omega arith)) refl

@@ -2,4 +2,5 @@ pub mod Numbered
 pub mod Order
 pub mod Shape
 pub mod Structure
+pub mod StructureFault
 pub mod Walk

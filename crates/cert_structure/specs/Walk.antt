@@ -1,9 +1,9 @@
 -- Private.
--- How the parts are read: fact by fact, from the front. Nothing here has to be believed.
-use Rattle.std.specs.Prelude.{◌≡◌, ℕ, zero, suc, ◌+◌, ℤ, pos, negsuc, Bool, true, false, ◌&&◌, ◌||◌, ◌==◌, nat_eq, nat_lt, nat_le, if◌then◌else◌, List, [], ◌∷◌, ◌++◌, map, length, Option, None, Some, option_map, option_and_then, Result, Ok, Err}
+-- How the parts are read: fact by fact, from the front, up to the first wrong one. Nothing here has to be believed.
+use Rattle.std.specs.Prelude.{◌≡◌, ℕ, zero, suc, ◌+◌, ℤ, pos, negsuc, Bool, true, false, ◌&&◌, ◌||◌, ◌==◌, ◌-◌, nat_eq, nat_lt, nat_le, if◌then◌else◌, List, [], ◌∷◌, ◌++◌, map, length, Option, None, Some, option_map, Result, Ok, Err}
 use Rattle.std.specs.Ordering.{int_eq}
 use Rattle.std.specs.Borrow.{Bor}
-use Rattle.std.specs.List.{list_all}
+use Rattle.std.specs.List.{list_all, prefix_len}
 use Rattle.std.specs.Cmp.Lexicographic.{pointwise}
 use Rattle.bool_diagrams.specs.declared.cube.Cell.{Cell}
 use Rattle.bool_diagrams.specs.declared.cube.Cell.TheVariants as side
@@ -24,6 +24,8 @@ use Rattle.linear_rows.specs.declared.point.Point.{Point}
 use Rattle.number_tests.specs.declared.pair_point.PairPoint.{PairPoint}
 use Rattle.number_tests.specs.declared.refutation.Refutation.{Refutation}
 use Rattle.cert_structure.specs.declared.parts.Parts.{Parts}
+use Rattle.cert_structure.specs.declared.fault.StructureReason.{StructureReason}
+use Rattle.cert_structure.specs.declared.fault.StructureReason.TheVariants as reason
 use Rattle.cert_structure.specs.declared.named.Named.{Named}
 use Rattle.cert_structure.specs.declared.pair.Pair.{Pair}
 use Rattle.cert_structure.specs.declared.refutations.FirstPoint.{FirstPoint}
@@ -31,21 +33,25 @@ use Rattle.cert_structure.specs.declared.stop.FactFault.{FactFault}
 use Rattle.cert_structure.specs.declared.stop.FactFault.TheVariants as fault
 use Rattle.cert_structure.specs.declared.stop.Stop.{Stop}
 use Rattle.cert_structure.specs.declared.stop.Stop.TheVariants as stop
-use Rattle.cert_structure.specs.Order.{pred_text}
+use Rattle.cert_structure.specs.Order.{pred_text, is_note}
 use Rattle.cert_structure.specs.Shape.{arity_of, head_of, body_of, vars_of, rows_of, rows_of_atoms, items_of, is_recursive, first_of, proofs_of_call, is_pair}
 
--- a value and the facts after it, if there is one
-abbrev pub Read : Type 0 → Type 0
-Read A = Option (A × List Fact)
+-- how many facts are left from the first wrong one on, and what is wrong with it
+abbrev pub Wrong : Type 0
+Wrong = ℕ × StructureReason
 
--- what a fact is to a reader: an item, no fact of the reader's kind (`Some None`), or one of wrong shape (`None`)
+-- a value and the facts after it, or the first wrong fact
+abbrev pub Read : Type 0 → Type 0
+Read A = Result (A × List Fact) Wrong
+
+-- what a fact is to a reader: an item, a fact that is not the one that the reader looks for (`Some None`), or that fact with a wrong length or number (`None`)
 abbrev pub Taken : Type 0 → Type 0
 Taken A = Option (Option A)
 
--- the code read what it should; want of memory is free
+-- the code read what it should, or found the first wrong fact; running out of memory is free
 abbrev pub Agrees : {A : Type 0} → Result (A × Bor (List Fact)) Stop → Read A → Type 0
-Agrees (Ok p) o = o ≡ Some (p.0, p.1.now)
-Agrees (Err (stop.Wrong left reason)) o = o ≡ None
+Agrees (Ok p) o = o ≡ Ok (p.0, p.1.now)
+Agrees (Err (stop.Wrong left why)) o = o ≡ Err (left, why)
 Agrees (Err stop.Memory) o = Unit {0}
 
 -- the same of one fact
@@ -61,10 +67,16 @@ AgreesKept (Err fault.Shape) o = o ≡ None
 AgreesKept (Err fault.Memory) o = Unit {0}
 
 -- the code read the facts that are left
-abbrev pub AgreesRest : Result (Bor (List Fact)) Stop → Option (List Fact) → Type 0
-AgreesRest (Ok s) o = o ≡ Some s.now
-AgreesRest (Err (stop.Wrong left reason)) o = o ≡ None
+abbrev pub AgreesRest : Result (Bor (List Fact)) Stop → Result (List Fact) Wrong → Type 0
+AgreesRest (Ok s) o = o ≡ Ok s.now
+AgreesRest (Err (stop.Wrong left why)) o = o ≡ Err (left, why)
 AgreesRest (Err stop.Memory) o = Unit {0}
+
+-- the code read the parts, and notes after them
+abbrev pub AgreesWhole : Result Parts Stop → Result Parts Wrong → Type 0
+AgreesWhole (Ok parts) o = o ≡ Ok parts
+AgreesWhole (Err (stop.Wrong left why)) o = o ≡ Err (left, why)
+AgreesWhole (Err stop.Memory) o = Unit {0}
 
 -- a predicate of the code, as a fact has it
 abbrev pub named : Named → PredText
@@ -75,8 +87,17 @@ abbrev pub pair_end : Pair → ℕ × ℕ
 pair_end q = (q.clause, q.call)
 
 infixl 10 ◌>>=◌
-abbrev ◌>>=◌ : {A B : Type 0} → Option A → (A → Option B) → Option B
-o >>= f = option_and_then f o
+abbrev pub ◌>>=◌ : {A B : Type 0} → Result A Wrong → (A → Result B Wrong) → Result B Wrong
+(Ok x) >>= f = f x
+(Err w) >>= f = Err w
+
+abbrev pub result_map : {A B : Type 0} → (A → B) → Result A Wrong → Result B Wrong
+result_map f (Ok x) = Ok (f x)
+result_map f (Err w) = Err w
+
+-- the first of these facts is wrong
+abbrev pub wrong_at : {A : Type 0} → List Fact → StructureReason → Result A Wrong
+wrong_at s why = Err (length s, why)
 
 -- one more in front
 abbrev pub with_first : {A : Type 0} → A → List A × List Fact → List A × List Fact
@@ -84,30 +105,32 @@ with_first x p = (x ∷ p.0, p.1)
 
 -- these items in front of those that are read
 abbrev pub with_all : {A : Type 0} → List A → Read (List A) → Read (List A)
-with_all xs o = option_map (λ p. (xs ++ p.0, p.1)) o
+with_all xs o = result_map (λ p. (xs ++ p.0, p.1)) o
 
 -- so many items, the first of which has this number
 unfoldable pub read_each : {A : Type 0} → (ℕ → List Fact → Read A) → ℕ → ℕ → List Fact → Read (List A)
-read_each item i zero s = Some ([], s)
-read_each item i (suc n) s = item i s >>= λ p. option_map (with_first p.0) (read_each item (suc i) n p.1)
+read_each item i zero s = Ok ([], s)
+read_each item i (suc n) s = item i s >>= λ p. result_map (with_first p.0) (read_each item (suc i) n p.1)
 
--- the item of the fact in front
-abbrev pub item_of : {A : Type 0} → List Fact → Option A → Read A
-item_of s None = None
-item_of s (Some x) = Some (x, s)
+-- the item of the fact in front, which must be there
+abbrev pub item_of : {A : Type 0} → Fact → List Fact → Taken A → Read A
+item_of f s None = wrong_at (f ∷ s) reason.Shape
+item_of f s (Some None) = wrong_at (f ∷ s) reason.Extra
+item_of f s (Some (Some x)) = Ok (x, s)
 
 abbrev pub read_next : {A : Type 0} → (ℕ → Fact → Taken A) → ℕ → List Fact → Read A
-read_next taken i [] = None
-read_next taken i (f ∷ s) = taken i f >>= item_of s
+read_next taken i [] = wrong_at [] reason.Missing
+read_next taken i (f ∷ s) = item_of f s (taken i f)
 
 -- the items of the facts in front, as long as they are of the kind
-abbrev pub go_on : {A : Type 0} → Read (List A) → Fact → List Fact → Option A → Read (List A)
-go_on more f s None = Some ([], f ∷ s)
-go_on more f s (Some x) = option_map (with_first x) more
+abbrev pub go_on : {A : Type 0} → Read (List A) → Fact → List Fact → Taken A → Read (List A)
+go_on more f s None = wrong_at (f ∷ s) reason.Shape
+go_on more f s (Some None) = Ok ([], f ∷ s)
+go_on more f s (Some (Some x)) = result_map (with_first x) more
 
 unfoldable pub read_many : {A : Type 0} → (ℕ → Fact → Taken A) → ℕ → List Fact → Read (List A)
-read_many taken i [] = Some ([], [])
-read_many taken i (f ∷ s) = taken i f >>= go_on (read_many taken (suc i) s) f s
+read_many taken i [] = Ok ([], [])
+read_many taken i (f ∷ s) = go_on (read_many taken (suc i) s) f s (taken i f)
 
 -- an item, where its shape is right
 abbrev pub kept : {A : Type 0} → Bool → A → Taken A
@@ -219,39 +242,40 @@ pair_point x at = record { clause = x.pair.clause; call = x.pair.call; point = x
 unfoldable pub read_second : Listing → FirstPoint → List Fact → Read PairPoint
 read_second p x s =
     if int_eq x.point.t (pos 0)
-    then option_map (λ y. (pair_point x (Some y.0), y.1)) (read_next (take_second (pair_end x.pair) (vars_of (numbered p.clauses x.pair.clause))) 0 s)
-    else Some (pair_point x None, s)
+    then result_map (λ y. (pair_point x (Some y.0), y.1)) (read_next (take_second (pair_end x.pair) (vars_of (numbered p.clauses x.pair.clause))) 0 s)
+    else Ok (pair_point x None, s)
 
 unfoldable pub read_point : Listing → Partition → ℕ → ℕ × ℕ → List Fact → Read PairPoint
 read_point p comps a last s = read_next (take_point p comps a last) 0 s >>= λ x. read_second p x.0 x.1
 
 unfoldable pub read_points : Listing → Partition → ℕ → ℕ × ℕ → ℕ → List Fact → Read (List PairPoint)
-read_points p comps a last zero s = Some ([], s)
+read_points p comps a last zero s = Ok ([], s)
 read_points p comps a last (suc n) s =
-    read_point p comps a last s >>= λ x. option_map (with_first x.0) (read_points p comps a (x.0.clause, x.0.call) n x.1)
+    read_point p comps a last s >>= λ x. result_map (with_first x.0) (read_points p comps a (x.0.clause, x.0.call) n x.1)
 
 -- the refutation that a fact begins
-abbrev pub refutation_read : (ℕ → Read (List PairPoint)) → Fact → List Fact → Option ℕ → Read (Option Refutation)
-refutation_read points f s None = Some (None, f ∷ s)
-refutation_read points f s (Some n) = option_map (λ x. (Some (record { points = x.0 }), x.1)) (points n)
+abbrev pub refutation_read : (ℕ → Read (List PairPoint)) → Fact → List Fact → Taken ℕ → Read (Option Refutation)
+refutation_read points f s None = wrong_at (f ∷ s) reason.Shape
+refutation_read points f s (Some None) = Ok (None, f ∷ s)
+refutation_read points f s (Some (Some n)) = result_map (λ x. (Some (record { points = x.0 }), x.1)) (points n)
 
 unfoldable pub read_group : Listing → List (List ℕ) → Partition → ℕ → List Fact → Read (Option Refutation)
-read_group p names comps a [] = Some (None, [])
-read_group p names comps a (f ∷ s) = take_refuted (pred_text p names a) 0 f >>= refutation_read (λ n. read_points p comps a (0, 0) n s) f s
+read_group p names comps a [] = Ok (None, [])
+read_group p names comps a (f ∷ s) = refutation_read (λ n. read_points p comps a (0, 0) n s) f s (take_refuted (pred_text p names a) 0 f)
 
 -- whether the predicate is the first one of a recursive component without mappings
 abbrev pub is_open : Partition → List (List LevelPart) → ℕ → Bool
 is_open comps levels a = is_recursive comps a && ((first_of comps a == a) && (length (items_of levels a) == 0))
 
 unfoldable pub read_refutation : Listing → List (List ℕ) → Partition → List (List LevelPart) → ℕ → List Fact → Read (Option Refutation)
-read_refutation p names comps levels a s = if is_open comps levels a then read_group p names comps a s else Some (None, s)
+read_refutation p names comps levels a s = if is_open comps levels a then read_group p names comps a s else Ok (None, s)
 
 unfoldable pub read_modes : Listing → List (List ℕ) → ℕ → List Fact → Read (List (List ℕ))
 read_modes p names a s = read_next (take_modes (pred_text p names a)) 0 s
 
 unfoldable pub read_rows : Listing → List (List ℕ) → ℕ → List Fact → Read Rows
 read_rows p names a s =
-    option_map (λ x. (record { width = arity_of p a; list = x.0 }, x.1)) (read_many (take_row (pred_text p names a)) 0 s)
+    result_map (λ x. (record { width = arity_of p a; list = x.0 }, x.1)) (read_many (take_row (pred_text p names a)) 0 s)
 
 unfoldable pub read_proofs : Listing → List Rows → ℕ → List Fact → Read (List Multipliers)
 read_proofs p rows k s = read_each (read_next (take_proof k (rows_of_atoms rows (body_of p k)))) 0 (rows_of rows (head_of p k)) s
@@ -269,7 +293,7 @@ read_level p names comps earlier a s =
     else read_each (read_next (take_level (pred_text p names a))) 0 1 s
 
 unfoldable pub read_levels : Listing → List (List ℕ) → Partition → List (List LevelPart) → ℕ → ℕ → List Fact → Read (List (List LevelPart))
-read_levels p names comps earlier a zero s = Some (earlier, s)
+read_levels p names comps earlier a zero s = Ok (earlier, s)
 read_levels p names comps earlier a (suc n) s =
     read_level p names comps earlier a s >>= λ x. read_levels p names comps (earlier ++ x.0 ∷ []) (suc a) n x.1
 
@@ -278,10 +302,10 @@ unfoldable pub read_call : Partition → List (List LevelPart) → ℕ → ℕ �
 read_call comps levels head k j rows call s = read_each (read_next (take_fall k j rows)) 0 (proofs_of_call comps levels head call) s
 
 unfoldable pub read_calls : Partition → List Rows → List (List LevelPart) → ℕ → ℕ → ℕ → ℕ → List Atom → List Fact → Read (List (List Multipliers))
-read_calls comps rows levels head k j before [] s = Some ([], s)
+read_calls comps rows levels head k j before [] s = Ok ([], s)
 read_calls comps rows levels head k j before (b ∷ bs) s =
     read_call comps levels head k j before (Some b) s
-    >>= λ x. option_map (with_first x.0) (read_calls comps rows levels head k (suc j) (before + rows_of rows b.pred.0) bs x.1)
+    >>= λ x. result_map (with_first x.0) (read_calls comps rows levels head k (suc j) (before + rows_of rows b.pred.0) bs x.1)
 
 unfoldable pub read_falls : Listing → Partition → List Rows → List (List LevelPart) → ℕ → List Fact → Read (List (List Multipliers))
 read_falls p comps rows levels k s = read_calls comps rows levels (head_of p k) k 0 0 (body_of p k) s
@@ -293,10 +317,10 @@ unfoldable pub read_pre : Listing → List (List ℕ) → List (List LevelPart) 
 read_pre p names levels a s = read_each (read_cubes p names a) 0 (length (items_of levels a)) s
 
 -- the facts after that of version 1
-unfoldable pub read_version : List Fact → Option (List Fact)
-read_version [] = None
-read_version (fact.Cti version ∷ s) = if int_eq version (pos 1) then Some s else None
-read_version (_ ∷ s) = None
+unfoldable pub read_version : List Fact → Result (List Fact) Wrong
+read_version [] = wrong_at [] reason.Missing
+read_version (fact.Cti version ∷ s) = if int_eq version (pos 1) then Ok s else wrong_at (fact.Cti version ∷ s) reason.Version
+read_version (f ∷ s) = wrong_at (f ∷ s) reason.Extra
 
 -- all parts, and the notes after them
 unfoldable pub read_parts : Listing → List (List ℕ) → Partition → List Fact → Read Parts
@@ -310,4 +334,11 @@ read_parts p names comps s = do
   falls ← read_each (read_falls p comps rows.0 levels.0) 0 (length p.clauses) levels.1
   cubes ← read_each (read_pre p names levels.0) 0 (length p.preds) falls.1
   refutations ← read_each (read_refutation p names comps levels.0) 0 (length p.preds) cubes.1
-  Some (record { modes = modes.0; rows = rows.0; row_proofs = proofs.0; grounds = grounds.0; levels = levels.0; falls = falls.0; preconditions = cubes.0; refutations = refutations.0 }, refutations.1)
+  Ok (record { modes = modes.0; rows = rows.0; row_proofs = proofs.0; grounds = grounds.0; levels = levels.0; falls = falls.0; preconditions = cubes.0; refutations = refutations.0 }, refutations.1)
+
+-- the parts, where all of the facts after them are notes
+abbrev pub with_notes : Parts × List Fact → Result Parts Wrong
+with_notes x = if nat_lt (prefix_len is_note x.1) (length x.1) then Err (length x.1 - prefix_len is_note x.1, reason.Extra) else Ok x.0
+
+unfoldable pub read_whole : Listing → List (List ℕ) → Partition → List Fact → Result Parts Wrong
+read_whole p names comps s = read_parts p names comps s >>= with_notes

@@ -23,7 +23,7 @@ pub enum StructureReason {
 /// Why a certificate has no parts.
 #[derive(Clone, Copy, Debug, PartialEq, Eq, Error)]
 pub enum PartsFault {
-    /// The fact of this line, counted from 1, is the first wrong one. Where a fact is missing, the line is that after the last.
+    /// The fact of this line, counted from 1, is the first that is wrong. Where a fact is missing, the line is that after the last.
     #[error("line {line} of the certificate: {reason}")]
     Wrong { line: u64, reason: StructureReason },
     /// Memory ran out.

@@ -1,7 +1,8 @@
 //! The parts of a certificate: what it claims of each predicate and clause of a program, and with which proofs.
 //!
-//! A certificate is a list of facts. `parts_of` sorts them by predicates and clauses, and finds the first that may not stand at its
-//! place. What parts a certificate has is `IsStructured` of `specs/Structure.antt`. Whether what it claims is true is not asked here.
+//! A certificate is a list of facts. `parts_of` sorts them by predicates and clauses, or names the first that is wrong, out of place
+//! or missing. What parts a certificate has is `IsStructured` of `specs/Structure.antt`, and which fault `IsStructureFault` of
+//! `specs/StructureFault.antt`. Whether what it claims is true is not asked here.
 //!
 //! It depends on `certificate`, `cti_terms`, `call_components`, `termination_model`, `linear_rows` and `bool_diagrams`.
 #![tactic(auto)]
@@ -31,4 +32,4 @@ pub use modes::copied_modes;
 pub use named::Named;
 pub use number_tests::{LevelPart, PairPoint, Refutation};
 pub use parts::Parts;
-pub use reading::{one_structure, parts_of};
+pub use reading::{one_structure, one_structure_fault, parts_of};

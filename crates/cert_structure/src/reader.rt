@@ -1,8 +1,8 @@
 //! Readers of a numbered item at the front of the facts.
 
-ghost use Rattle.std.specs.Prelude.{◌≡◌, ℕ, List, Option};
+ghost use Rattle.std.specs.Prelude.{◌≡◌, ℕ, List};
 ghost use Rattle.certificate.specs.declared.fact.Fact.{Fact as TheFact};
-ghost use Rattle.cert_structure.specs.Walk.{Agrees, read_each};
+ghost use Rattle.cert_structure.specs.Walk.{Agrees, Read, read_each};
 
 use crate::stop::Stop;
 use certificate::Fact;
@@ -14,8 +14,8 @@ pub(crate) trait Reader {
     /// What is read.
     type Item: Drop;
 
-    /// The item of a number at the front of the facts, and the facts after it.
-    ghost reads: { Self → ℕ → List TheFact → Option (Self.Item × List TheFact) };
+    /// The item of a number at the front of the facts, and the facts after it; or the first wrong fact.
+    ghost reads: { Self → ℕ → List TheFact → Read Self.Item };
 
     /// The item of a number at the front of the facts, and the facts after it.
     fn read<'f>(
@@ -27,7 +27,7 @@ pub(crate) trait Reader {
         ensures { Agrees result (reads self.now number facts.now) };
 }
 
-/// So many items, from number 0 on.
+/// The items of the numbers below `count`, in order.
 pub(crate) fn each<'f, R: Reader>(
     alloc: Global,
     reader: &R,

@@ -1,16 +1,17 @@
 //! Reading the parts of a certificate.
 
-ghost use Rattle.std.specs.Prelude.{◌≡◌, ◌≢◌, ◌<◌, length, ℕ, List, IfOk, MatchResult, Some};
+ghost use Rattle.std.specs.Prelude.{◌≡◌, ◌≢◌, ◌<◌, ◌⊎◌, length, ℕ, List, IfErr, IfOk, MatchResult};
 ghost use Rattle.std.specs.List.{prefix_len};
 ghost use Rattle.call_components.specs.Partition.{Partition, AreComponents};
 ghost use Rattle.certificate.specs.declared.fact.Fact.{Fact as TheFact};
 ghost use Rattle.cti_terms.specs.Listing.{Listing};
-ghost use Rattle.cert_structure.specs.declared.fault.PartsFault.TheVariants.{Memory};
-ghost use Rattle.cert_structure.specs.declared.stop.Stop.TheVariants.{Memory as NoMemory};
+ghost use Rattle.cert_structure.specs.declared.fault.PartsFault.TheVariants.{Memory, Wrong as IsWrong};
+ghost use Rattle.cert_structure.specs.declared.fault.StructureReason.{StructureReason as TheReason};
 ghost use Rattle.cert_structure.specs.declared.parts.Parts.{Parts as TheParts};
 ghost use Rattle.cert_structure.specs.Order.{is_note, pred_text};
-ghost use Rattle.cert_structure.specs.Structure.{IsStructured, AreNamed, AreNotes};
-ghost use Rattle.cert_structure.specs.Walk.{Agrees, AgreesRest, read_version, read_parts};
+ghost use Rattle.cert_structure.specs.Structure.{IsStructured, AreNamed};
+ghost use Rattle.cert_structure.specs.StructureFault.{IsFirstWrong, IsStructureFault};
+ghost use Rattle.cert_structure.specs.Walk.{Agrees, AgreesRest, AgreesWhole, read_version, read_parts, read_whole};
 
 use crate::calls::Calls;
 use crate::falls::Falls;
@@ -115,7 +116,7 @@ fn is_note(fact: &Fact) -> bool
     )
 }
 
-/// How many of the facts are notes, before the first that is none.
+/// How many notes there are before the first fact that is not one.
 fn notes(facts: &[Fact]) -> usize
     ensures { result ≡ prefix_len is_note facts.now }
 {
@@ -130,9 +131,9 @@ fn notes(facts: &[Fact]) -> usize
 }
 
 /// The parts, where all facts after them are notes.
+#[tactic(auto, unfolding(crate::specs::Walk::read_whole))]
 fn whole(alloc: Global, calls: &Calls, names: &Names, facts: &[Fact]) -> Result<Parts, Stop>
-    ensures found { IfOk result (λ parts. (notes : List TheFact) × (read_parts calls.now.p.now names.now calls.now.comps.now facts.now ≡ Some (parts, notes)) × AreNotes notes) }
-    ensures only { (parts : TheParts) (notes : List TheFact) → read_parts calls.now.p.now names.now calls.now.comps.now facts.now ≡ Some (parts, notes) → AreNotes notes → MatchResult result (λ own. own ≡ parts) (λ stop. stop ≡ NoMemory) }
+    ensures { AgreesWhole result (read_whole calls.now.p.now names.now calls.now.comps.now facts.now) }
 {
     let (parts, rest) = parts(alloc, calls, names, facts)?;
     let count = notes(rest);
@@ -156,8 +157,8 @@ fn told_apart(p: &Program, names: &Names)
 
 /// The parts of a certificate: what it claims of each predicate and clause of a program, and with which proofs.
 ///
-/// It takes time linear in the sizes of the certificate and of the program. Fails with `Wrong`, and the line of the first wrong
-/// fact, where the certificate has no parts.
+/// It takes time linear in the sizes of the certificate and of the program. Fails with `Wrong`, and the line of the first fault,
+/// where the certificate has no parts.
 pub fn parts_of(
     alloc: Global,
     p: &Program,
@@ -173,6 +174,13 @@ pub fn parts_of(
 
     // The parts of a certificate are found, unless memory runs out; so it has no others, and none where a line is wrong.
     ensures only { (parts : TheParts) → IsStructured p.now names.now comps.now parts c.now.facts → MatchResult result (λ found. found ≡ parts) (λ fault. fault ≡ Memory) }
+
+    // A line that is named is that of the first fault, and the reason is what is wrong there.
+    ensures wrong { IfErr result (IsFirstWrong p.now names.now comps.now c.now.facts) }
+
+    // No other line or reason is, and none where there are parts.
+    ensures fault { (line : ℕ) (why : TheReason) → IsStructureFault p.now names.now comps.now c.now.facts line why
+        → MatchResult result (λ _. ⊥) (λ fault. (fault ≡ Memory) ⊎ (fault ≡ IsWrong line why)) }
 {
     told_apart(p, names);
     let facts = c.facts.as_slice();
@@ -180,7 +188,7 @@ pub fn parts_of(
     match whole(alloc, &calls, names, facts) {
         Ok(parts) => Ok(parts),
         Err(Stop::Wrong { left, reason }) => Err(PartsFault::Wrong {
-            line: (facts.len() - left.min(facts.len())) as u64 + 1,
+            line: facts.len().saturating_sub(left) as u64 + 1,
             reason,
         }),
         Err(Stop::Memory) => Err(PartsFault::Memory),
@@ -191,4 +199,10 @@ pub fn parts_of(
 pub fn one_structure()
     ensures { (p : Listing) (names : List (List ℕ)) (one other : Partition) (parts : TheParts) (facts : List TheFact) → AreComponents p one → AreComponents p other
         → IsStructured p names one parts facts → IsStructured p names other parts facts }
+{}
+
+/// Which fault a certificate has does not depend on how the components are numbered.
+pub fn one_structure_fault()
+    ensures { (p : Listing) (names : List (List ℕ)) (one other : Partition) (facts : List TheFact) (line : ℕ) (why : TheReason) → AreComponents p one → AreComponents p other
+        → IsStructureFault p names one facts line why → IsStructureFault p names other facts line why }
 {}

@@ -10,7 +10,7 @@ use std::alloc::AllocError;
 /// Why reading stops.
 #[derive(Clone, Copy)]
 pub(crate) enum Stop {
-    /// A fact is wrong, from which on so many facts are left; none, where one is missing.
+    /// A fact is wrong. Counted from it, `left` facts are left; none, where one is missing.
     Wrong {
         left: usize,
         reason: StructureReason,

@@ -1,11 +1,11 @@
 use Rattle.std.proofs.Common.{◌∙◌, sym, arith, ◌+◌, ◌-◌, length}
-use Rattle.cert_structure.proofs.LoopLemmas.{part_err, levels_end, levels_none, levels_more}
+use Rattle.cert_structure.proofs.LoopLemmas.{part_err, levels_end, levels_err, levels_more}
 use Rattle.cert_structure.proofs.levels.levels.Goals as goal
 
 pub returns-in_err-items : goal.returns-in_err-items
 returns-in_err-items c =
-    part_err c.from_residual.result _ _ _ c.from_residual.ensures (rw c.as_slice.ensures at c.in_err-items.ensures) λ none.
-    sym c.loop-pred.invariant ∙ levels_none _ _ _ _ _ _ _ (length c.args.calls.now.p.now.preds - (c.loop-pred.pred + 1)) (omega (arith, c.preds.ensures.count)) none
+    part_err c.from_residual.result _ _ _ c.from_residual.ensures (rw c.as_slice.ensures at c.in_err-items.ensures) λ w bad.
+    sym c.loop-pred.invariant ∙ levels_err _ _ _ _ _ _ _ (length c.args.calls.now.p.now.preds - (c.loop-pred.pred + 1)) w (omega (arith, c.preds.ensures.count)) bad
 
 pub loop-pred-preserved : goal.loop-pred-preserved
 loop-pred-preserved c =

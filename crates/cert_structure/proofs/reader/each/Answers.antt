@@ -1,11 +1,11 @@
 use Rattle.std.proofs.Common.{◌∙◌, sym, arith, ◌+◌, ◌-◌}
-use Rattle.cert_structure.proofs.LoopLemmas.{part_err, each_end, each_none, each_more}
+use Rattle.cert_structure.proofs.LoopLemmas.{part_err, each_end, each_err, each_more}
 use Rattle.cert_structure.proofs.reader.each.Goals as goal
 
 pub returns-in_err-item : goal.returns-in_err-item
 returns-in_err-item g c =
-    part_err c.from_residual.result _ _ _ c.from_residual.ensures c.in_err-item.ensures λ none.
-    sym c.loop-number.invariant ∙ each_none _ c.loop-number.items _ _ _ (c.args.count - (c.loop-number.number + 1)) (omega arith) none
+    part_err c.from_residual.result _ _ _ c.from_residual.ensures c.in_err-item.ensures λ w bad.
+    sym c.loop-number.invariant ∙ each_err _ c.loop-number.items _ _ _ (c.args.count - (c.loop-number.number + 1)) w (omega arith) bad
 
 pub loop-number-preserved : goal.loop-number-preserved
 loop-number-preserved g c =

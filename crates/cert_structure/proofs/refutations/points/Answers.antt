@@ -1,11 +1,11 @@
 use Rattle.std.proofs.Common.{◌∙◌, sym, arith, ◌+◌, ◌-◌}
-use Rattle.cert_structure.proofs.LoopLemmas.{part_err, points_end, points_none, points_more}
+use Rattle.cert_structure.proofs.LoopLemmas.{part_err, points_end, points_err, points_more}
 use Rattle.cert_structure.proofs.refutations.points.Goals as goal
 
 pub returns-in_err-point : goal.returns-in_err-point
 returns-in_err-point c =
-    part_err c.from_residual.result _ _ _ c.from_residual.ensures c.in_err-point.ensures λ none.
-    sym c.loop.invariant ∙ points_none _ _ _ c.loop.points _ _ _ (c.args.count - (c.loop.counter + 1)) (omega arith) none
+    part_err c.from_residual.result _ _ _ c.from_residual.ensures c.in_err-point.ensures λ w bad.
+    sym c.loop.invariant ∙ points_err _ _ _ c.loop.points _ _ _ (c.args.count - (c.loop.counter + 1)) w (omega arith) bad
 
 pub loop-preserved : goal.loop-preserved
 loop-preserved c =

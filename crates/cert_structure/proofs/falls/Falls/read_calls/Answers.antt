@@ -1,14 +1,14 @@
 use Rattle.std.proofs.Common.{◌∙◌, sym, ap, arith, add-one, ◌+◌}
 use Rattle.cert_structure.specs.Walk.{read_call}
-use Rattle.cert_structure.proofs.LoopLemmas.{length_more, part_err, calls_end, calls_none, calls_more}
+use Rattle.cert_structure.proofs.LoopLemmas.{length_more, part_err, calls_end, calls_err, calls_more}
 use Rattle.cert_structure.proofs.falls.Falls.read_calls.Goals as goal
 
 pub returns-in_err-items : goal.returns-in_err-items
 unfolding read_call
 returns-in_err-items c =
     let read = rw (c.proofs_of_call-count.ensures, c.len.ensures, c.loop-call.invariant.counted) at c.in_err-items.ensures in
-    part_err c.from_residual.result _ _ _ c.from_residual.ensures read λ none.
-    sym c.loop-call.invariant.value ∙ calls_none _ _ _ _ _ c.loop-call.proofs _ _ _ _ _ c.loop-call-test.true c.call-item.is none
+    part_err c.from_residual.result _ _ _ c.from_residual.ensures read λ w bad.
+    sym c.loop-call.invariant.value ∙ calls_err _ _ _ _ _ c.loop-call.proofs _ _ _ _ _ c.loop-call-test.true c.call-item.is w bad
 
 pub loop-call-preserved : goal.loop-call-preserved
 unfolding read_call
