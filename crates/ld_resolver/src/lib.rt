@@ -3,9 +3,10 @@
 //! A run looks at the derivations from a goal in the order of Prolog's search, with the occurs check, and gives the
 //! answers, how many derivations it looked at, and whether there are more. What it answers is proved to be what the
 //! definitions of `cti_terms` say, which substitute in whole goals. The code binds variables in a store instead,
-//! takes bindings back where it chooses another clause, and shares the rests of goals.
+//! takes bindings back where it chooses another clause, shares the rests of goals, and unifies no pair of variables over and over.
 //!
-//! Stands on `cti_terms`, and on `indexmap`, which numbers the variables of an answer in the order of first occurrence.
+//! Depends on `cti_terms`, and on `indexmap`, which numbers the variables of an answer in the order of first occurrence and
+//! finds the pairs of variables that were unified.
 #![tactic(auto)]
 
 mod answer;
