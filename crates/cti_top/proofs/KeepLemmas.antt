@@ -1,7 +1,7 @@
 -- A store that keeps its map and lets no count fall.
 use Rattle.std.proofs.Common.{◌≡◌, ℕ, ◌≤◌, List, inl, inr, refl, ◌∙◌, arith}
-use Rattle.cti_top.specs.Told.{Map, Keeps}
-use Rattle.cti_top.specs.Causes.{Rose}
+use Rattle.outside.specs.Told.{Map, Keeps}
+use Rattle.outside.specs.Causes.{Rose}
 use Rattle.cti_top.specs.Outcome.{FileRose}
 use Rattle.cti_top.specs.Words.{Ask, infer, check, run, gen}
 

@@ -1,5 +1,4 @@
 pub mod WordLemmas
-pub mod Taking
 pub mod KeepLemmas
 pub mod ModeLemmas
 pub mod PlaceLemmas

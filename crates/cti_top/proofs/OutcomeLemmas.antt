@@ -1,7 +1,7 @@
 -- What the status of the top call says.
 use Rattle.std.proofs.Common.{◌≡◌, ℕ, ◌≤◌, ◌<◌, List, [], length, subst, Option, Some, None, ◌⊎◌, refl, ap, sym, ◌∙◌, inl, inr, arith}
 use Rattle.std.proofs.lemmas.Option.{none-some, same_Some}
-use Rattle.cti_top.specs.Told.{Map, TellsAt, TellsMore, Takes}
+use Rattle.outside.specs.Told.{Map, TellsAt, TellsMore, Takes}
 use Rattle.cti_top.specs.Words.{Ask, infer, check, run, gen, Origin, file, generated, origin, asks}
 use Rattle.cti_top.specs.Programs.{IsRefused}
 use Rattle.report.specs.Generated.{generated as generated_text}

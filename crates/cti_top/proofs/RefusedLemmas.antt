@@ -1,7 +1,7 @@
 -- A text that is refused is answered by its refusal, and so is a query.
 use Rattle.std.proofs.Common.{◌≡◌, ℕ, List, Some, refl, ap, sym, ◌∙◌, subst}
 use Rattle.std.proofs.lemmas.Option.{none-some}
-use Rattle.cti_top.specs.Told.{Map}
+use Rattle.outside.specs.Told.{Map}
 use Rattle.cti_top.specs.Words.{Ask, infer, check, run, gen, origin, asks}
 use Rattle.cti_top.specs.Programs.{IsRefused}
 use Rattle.report.specs.Generated.{generated}

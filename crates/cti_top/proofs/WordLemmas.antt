@@ -6,7 +6,7 @@ use Rattle.clap.specs.Faults.{defaults_fault, level_fault, settle_fault, walk_fa
 use Rattle.clap.specs.Simple.{Shape, built}
 use Rattle.clap.specs.Walk.{Held, Names, settled, walk, walk_from}
 use Rattle.clap.proofs.OnLiterals.{clap_on_literals}
-use Rattle.cti_top.specs.Words.{line, asks, infer, check, run, gen, predicates_in}
+use Rattle.cti_top.specs.Words.{command_line, asks, infer, check, run, gen, predicates_in}
 
 or_else_nil : (a b : Kinds) → or_else a b ≡ [] → (a ≡ []) × (b ≡ [])
 or_else_nil [] b h = (refl, h)
@@ -29,25 +29,25 @@ level_needs s names h words false below needs none =
     absurd (search (wants_one, last))
 
 -- words that are taken enter a subcommand
-pub is_entered : (words : List Text) → fault_of line words ≡ [] → is_some (subcommand_of line words) ≡ true
+pub is_entered : (words : List Text) → fault_of command_line words ≡ [] → is_some (subcommand_of command_line words) ≡ true
 is_entered words h = level_needs (built line).top _ _ _ _ _ refl h
 
 -- a file's name that does not begin with a dash is taken
-pub infer_taken : (c : ℕ) (cs : List ℕ) → nat_eq c 45 ≡ false → fault_of line (codes "infer" ∷ (c ∷ cs) ∷ []) ≡ []
+pub infer_taken : (c : ℕ) (cs : List ℕ) → nat_eq c 45 ≡ false → fault_of command_line (codes "infer" ∷ (c ∷ cs) ∷ []) ≡ []
 unfolding clap_on_literals
 infer_taken c cs h = simp h
 
-pub infer_rows : (c : ℕ) (cs : List ℕ) → nat_eq c 45 ≡ false → option_map {U = Text × Option Text} (λ p. (p.0, first_of (codes "file") p.1)) (subcommand_of line (codes "infer" ∷ (c ∷ cs) ∷ [])) ≡ Some (codes "infer", Some (c ∷ cs))
+pub infer_rows : (c : ℕ) (cs : List ℕ) → nat_eq c 45 ≡ false → option_map {U = Text × Option Text} (λ p. (p.0, first_of (codes "file") p.1)) (subcommand_of command_line (codes "infer" ∷ (c ∷ cs) ∷ [])) ≡ Some (codes "infer", Some (c ∷ cs))
 unfolding clap_on_literals
 infer_rows c cs h = simp h
 
 -- two files' names that do not begin with a dash are taken
-pub check_taken : (c d : ℕ) (cs ds : List ℕ) → nat_eq c 45 ≡ false → nat_eq d 45 ≡ false → fault_of line (codes "check" ∷ (c ∷ cs) ∷ (d ∷ ds) ∷ []) ≡ []
+pub check_taken : (c d : ℕ) (cs ds : List ℕ) → nat_eq c 45 ≡ false → nat_eq d 45 ≡ false → fault_of command_line (codes "check" ∷ (c ∷ cs) ∷ (d ∷ ds) ∷ []) ≡ []
 unfolding clap_on_literals
 check_taken c d cs ds h k = simp (h, k)
 
 -- a file and a query that do not begin with a dash are taken
-pub run_taken : (c d : ℕ) (cs ds : List ℕ) → nat_eq c 45 ≡ false → nat_eq d 45 ≡ false → fault_of line (codes "run" ∷ (c ∷ cs) ∷ (d ∷ ds) ∷ []) ≡ []
+pub run_taken : (c d : ℕ) (cs ds : List ℕ) → nat_eq c 45 ≡ false → nat_eq d 45 ≡ false → fault_of command_line (codes "run" ∷ (c ∷ cs) ∷ (d ∷ ds) ∷ []) ≡ []
 unfolding clap_on_literals
 run_taken c d cs ds h k = simp (h, k)
 

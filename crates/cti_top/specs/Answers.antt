@@ -6,11 +6,11 @@ use Rattle.cert_checker.specs.declared.verdict.Verdict.TheVariants as verdict
 use Rattle.certificate.specs.Reading.{most_bytes}
 use Rattle.cti_top.specs.Words.{Ask, infer, check, run, gen, Origin, origin}
 use Rattle.cti_top.specs.Words as words
-use Rattle.cti_top.specs.Told.{Map, TellsAt, TellsMore}
+use Rattle.outside.specs.Told.{Map, TellsAt, TellsMore}
 use Rattle.cti_top.specs.Checks.{IsCheckOf, IsRefusedCertificate}
 use Rattle.cti_top.specs.Queries.{Known}
 use Rattle.cti_top.specs.Outcome.{TellsText, TellsLong}
-use Rattle.cti_top.specs.Causes.{Rose}
+use Rattle.outside.specs.Causes.{Rose}
 use Rattle.cti_top.specs.Places.{line_of, column_of}
 use Rattle.cti_top.specs.Refusal.{refusal_line}
 use Rattle.cti_top.specs.Programs.{IsRefused}

@@ -1,9 +1,6 @@
-pub mod Causes
-pub mod Told
-pub mod Held
 pub mod Status
 pub mod Words
-pub mod Line
+pub mod CommandLine
 pub mod Places
 pub mod Refusal
 pub mod Programs

@@ -3,7 +3,7 @@
 --
 -- To believe: all of this file.
 use Rattle.std.specs.Prelude.{ℕ, ◌≡◌, ◌⊎◌, List, Option, Some, None}
-use Rattle.cti_top.specs.Told.{Map, TellsAt, TellsMore, Takes, TakesPart}
+use Rattle.outside.specs.Told.{Map, TellsAt, TellsMore, Takes, TakesPart}
 use Rattle.cti_top.specs.Words.{Ask, infer, check, run, gen, Origin, file, generated, origin, asks, usage_lines}
 use Rattle.cti_top.specs.Places.{line_of, column_of}
 use Rattle.cti_top.specs.Refusal.{refusal_line}
@@ -15,7 +15,7 @@ use Rattle.cti_top.specs.Checks.{IsCheckOf, IsRefusedCertificate}
 use Rattle.cti_top.specs.Queries.{Known}
 use Rattle.cti_top.specs.Runs.{IsKnown, IsRunOf, IsRefusedQuery}
 use Rattle.certificate.specs.Reading.{most_bytes as most_certificate_bytes}
-use Rattle.cti_top.specs.Causes.{Rose}
+use Rattle.outside.specs.Causes.{Rose}
 use Rattle.cti_top.specs.declared.refusal.Subject.TheVariants.{Program, Certificate, Query}
 use Rattle.cti_top.specs.declared.status.Status.{Status}
 use Rattle.cti_top.specs.declared.status.Status.TheVariants.{Done, No, Usage, Refused, FileFault, OutFault, Memory, Stopped}

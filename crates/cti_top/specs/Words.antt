@@ -18,24 +18,24 @@ abbrev pub required_word : Text → Rule
 required_word id = record (new_rule id) { required = true }
 
 -- infer FILE
-abbrev pub infer_line : App
-infer_line = with_rule (new_app (codes "infer")) (required_word (codes "file"))
+abbrev pub infer_command : App
+infer_command = with_rule (new_app (codes "infer")) (required_word (codes "file"))
 
 -- check FILE CERT
-abbrev pub check_line : App
-check_line = with_rule (with_rule (new_app (codes "check")) (required_word (codes "file"))) (required_word (codes "certificate"))
+abbrev pub check_command : App
+check_command = with_rule (with_rule (new_app (codes "check")) (required_word (codes "file"))) (required_word (codes "certificate"))
 
 -- an option with one value
 abbrev pub option : Text → Rule
 option id = record (new_rule id) { long = Some id }
 
 -- run FILE QUERY --steps N
-abbrev pub run_line : App
-run_line = with_rule (with_rule (with_rule (new_app (codes "run")) (required_word (codes "file"))) (required_word (codes "query"))) (option (codes "steps"))
+abbrev pub run_command : App
+run_command = with_rule (with_rule (with_rule (new_app (codes "run")) (required_word (codes "file"))) (required_word (codes "query"))) (option (codes "steps"))
 
 -- gen COUNT
-abbrev pub gen_line : App
-gen_line = with_rule (new_app (codes "gen")) (required_word (codes "count"))
+abbrev pub gen_command : App
+gen_command = with_rule (new_app (codes "gen")) (required_word (codes "count"))
 
 -- no words of help, no program's name, and a subcommand has to be given
 abbrev pub settings : Shape → Shape
@@ -46,12 +46,12 @@ settings s = record s {
   subcommand_required = true;
 }
 
-abbrev pub top_line : App
-top_line = on_top settings (new_app (codes "cti"))
+abbrev pub top_command : App
+top_command = on_top settings (new_app (codes "cti"))
 
 -- the command line
-abbrev pub line : App
-line = with_subcommand (with_subcommand (with_subcommand (with_subcommand top_line infer_line.top) check_line.top) run_line.top) gen_line.top
+abbrev pub command_line : App
+command_line = with_subcommand (with_subcommand (with_subcommand (with_subcommand top_command infer_command.top) check_command.top) run_command.top) gen_command.top
 
 -- what is asked for, by its texts: the modes of a file's program, the check of a file's certificate of it, a query of it with a number of nodes, or
 -- how many modes the generated program of this many predicates has
@@ -114,7 +114,7 @@ ask_if (k ∷ ks) subcommand = None
 
 -- what the words ask for; the usage is written where it is nothing
 abbrev pub asks : List Text → Option Ask
-asks words = ask_if (fault_of line words) (subcommand_of line words)
+asks words = ask_if (fault_of command_line words) (subcommand_of command_line words)
 
 -- one line for each command
 abbrev pub usage_lines : List ℕ

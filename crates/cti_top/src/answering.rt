@@ -3,47 +3,32 @@
 ghost use Rattle.std.specs.Prelude.{◌≡◌, ◌<◌, ◌≤◌, ◌⊎◌, List, ℕ, length, map, position, Some, None, IfOk, IfErr, IsErrOf};
 ghost use Rattle.std.specs.List.{AllByRecursion};
 ghost use Rattle.cti_terms.specs.declared.predicates.Pred.{Pred as ThePred};
-ghost use Rattle.prolog_reader.specs.Meanings.{table_of};
 ghost use Rattle.clause_normal.specs.Numbering.{is_equality};
 ghost use Rattle.cti_top.specs.Words.{Ask, asks, origin, usage_lines};
 ghost use Rattle.report.specs.Generated.{generated};
-ghost use Rattle.cti_top.specs.Programs.{IsProgramOf};
-ghost use Rattle.cti_top.specs.Inferred.{IsInferred};
 ghost use Rattle.cti_top.specs.Known.{known_of};
 ghost use Rattle.cti_top.specs.Runs.{IsKnown};
 ghost use Rattle.cti_top.specs.Outcome.{FileRose, IsAnswer, TellsLong, TellsText};
-ghost use Rattle.cti_top.specs.Told.{Keeps};
+ghost use Rattle.outside.specs.Told.{Keeps};
 ghost use Rattle.cti_top.specs.Answers.{ask_of, origin_of, AnswersAsk, AnswersProgram, AnswersRequest, IsInRange, OriginRose};
 
 use crate::answer::{Answer, refused, too_long};
 use crate::checking::check_of;
-use crate::files::{Files, LoadFault};
+use crate::generating::gen_of;
+use crate::inferring::infer_of;
 use crate::refusal::Subject;
 use crate::request::{Origin, Refusal, Request, request_in, usage_text};
 use crate::running::run_of;
 use crate::source::{Source, SourceFault, program_in};
 use crate::status::Status;
-use crate::summing::summed;
+use outside::{Files, LoadFault};
 use prolog_reader::MOST_BYTES;
-use report::{gen_source, infer};
+use report::gen_source;
 use std::alloc::{AllocError, Global};
-
-/// The answer to a program that was read: the certificate of its modes.
-fn inferred(alloc: Global, source: &Source) -> Result<Answer, AllocError>
-    requires known { AllByRecursion (λ (q : ThePred). q.name.0 < length source.now.names) source.now.program.preds }
-    ensures { IfOk result (λ a. (a.status ≡ Status.Done)
-        × ((bytes : List ℕ) → IsProgramOf bytes source.now.names source.now.program (table_of source.now.ops) → IsInferred bytes a.text.items)) }
-{
-    let certificate = infer(alloc, &source.program, &source.names)?;
-    Ok(Answer {
-        status: Status::Done,
-        text: certificate.print(alloc)?,
-    })
-}
 
 /// The answer to what is asked of a program that was read, or the status of a call that writes nothing.
 #[tactic(auto, using(crate::proofs::KeepLemmas::untouched, crate::proofs::KeepLemmas::loaded))]
-fn answer_of<F: Files>(
+fn answer_program<F: Files>(
     alloc: Global,
     source: Source,
     request: Request,
@@ -57,16 +42,16 @@ fn answer_of<F: Files>(
     ensures kept { Keeps (F.told files.old) (F.told files.new) (F.faults files.old) (F.faults files.new) }
 {
     match request {
-        Request::Infer(_) => Ok(inferred(alloc, &source)?),
+        Request::Infer(_) => Ok(infer_of(alloc, &source)?),
         Request::Check(_, certificate) => check_of(alloc, &source, certificate, files),
         Request::Run(_, query, steps) => Ok(run_of(alloc, source, query.as_bytes(), steps)?),
-        Request::Generate(predicates) => Ok(summed(alloc, &source, predicates)?),
+        Request::Generate(predicates) => Ok(gen_of(alloc, &source, predicates)?),
     }
 }
 
 /// The answer to what is asked of the bytes of a program, or the status of a call that writes nothing.
 #[tactic(auto, using(crate::proofs::KeepLemmas::untouched, crate::proofs::KeepLemmas::loaded))]
-fn answer_to<F: Files>(
+fn answer_text<F: Files>(
     alloc: Global,
     bytes: &[u8],
     request: Request,
@@ -79,7 +64,7 @@ fn answer_to<F: Files>(
     ensures kept { Keeps (F.told files.old) (F.told files.new) (F.faults files.old) (F.faults files.new) }
 {
     match program_in(alloc, bytes) {
-        Ok(source) => answer_of(alloc, source, request, files),
+        Ok(source) => answer_program(alloc, source, request, files),
         Err(SourceFault::Refused { kind, at }) => {
             Ok(refused(alloc, Subject::Program, bytes, kind, at)?)
         }
@@ -120,7 +105,11 @@ fn text_of<F: Files>(alloc: Global, origin: Origin, files: &mut F) -> Result<Vec
 
 /// The answer to what is asked, or the status of a call that writes nothing.
 #[tactic(auto, using(crate::proofs::KeepLemmas::untouched, crate::proofs::KeepLemmas::loaded))]
-fn answer_in<F: Files>(alloc: Global, request: Request, files: &mut F) -> Result<Answer, Status>
+fn answer_request<F: Files>(
+    alloc: Global,
+    request: Request,
+    files: &mut F,
+) -> Result<Answer, Status>
     requires { IsInRange (origin (ask_of request)) }
     ensures answered { IfOk result (λ a. AnswersRequest (F.told files.old) (ask_of request.entry) a.status a.text.items) }
     ensures file_fault { IsErrOf result Status.FileFault → FileRose (ask_of request.entry) (F.faults files.old) (F.faults files.new) }
@@ -128,14 +117,14 @@ fn answer_in<F: Files>(alloc: Global, request: Request, files: &mut F) -> Result
     ensures kept { Keeps (F.told files.old) (F.told files.new) (F.faults files.old) (F.faults files.new) }
 {
     match text_of(alloc, request.origin(), files) {
-        Ok(program) => answer_to(alloc, &program, request, files),
+        Ok(program) => answer_text(alloc, &program, request, files),
         Err(LoadFault::TooLong) => Ok(too_long(alloc, Subject::Program)?),
         Err(LoadFault::Failed) => Err(Status::FileFault),
         Err(LoadFault::Memory) => Err(Status::Memory),
     }
 }
 
-/// The answer to words that ask for nothing.
+/// The answer to words that are not a command.
 fn usage(alloc: Global) -> Result<Answer, AllocError>
     ensures { IfOk result (λ a. (a.status ≡ Status.Usage) × (a.text.items ≡ usage_lines)) }
 {
@@ -147,7 +136,11 @@ fn usage(alloc: Global) -> Result<Answer, AllocError>
 
 /// The answer to the words, or the status of a call that writes nothing.
 #[tactic(auto, using(crate::proofs::KeepLemmas::untouched, crate::proofs::KeepLemmas::loaded))]
-pub fn answer_for<F: Files>(alloc: Global, words: &[&str], files: &mut F) -> Result<Answer, Status>
+pub fn answer_words<F: Files>(
+    alloc: Global,
+    words: &[&str],
+    files: &mut F,
+) -> Result<Answer, Status>
     ensures answered { IfOk result (λ a. IsAnswer (F.told files.old) (map (λ w. w.now) words.entry.now) a.status a.text.items) }
     ensures file_fault { IsErrOf result Status.FileFault
         → (ask : Ask) × (asks (map (λ w. w.now) words.entry.now) ≡ Some ask) × FileRose ask (F.faults files.old) (F.faults files.new) }
@@ -155,7 +148,7 @@ pub fn answer_for<F: Files>(alloc: Global, words: &[&str], files: &mut F) -> Res
     ensures kept { Keeps (F.told files.old) (F.told files.new) (F.faults files.old) (F.faults files.new) }
 {
     match request_in(alloc, words) {
-        Ok(request) => answer_in(alloc, request, files),
+        Ok(request) => answer_request(alloc, request, files),
         Err(Refusal::Usage) => Ok(usage(alloc)?),
         Err(Refusal::Memory) => Err(Status::Memory),
     }

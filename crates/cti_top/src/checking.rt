@@ -5,20 +5,20 @@ ghost use Rattle.std.specs.List.{AllByRecursion};
 ghost use Rattle.certificate.specs.Reading.{IsTextOf, most_bytes};
 ghost use Rattle.cti_terms.specs.declared.predicates.Pred.{Pred as ThePred};
 ghost use Rattle.cti_top.specs.Answers.{AnswersCertificate, AnswersText, verdict_status};
-ghost use Rattle.cti_top.specs.Causes.{Rose};
+ghost use Rattle.outside.specs.Causes.{Rose};
 ghost use Rattle.cti_top.specs.Checks.{IsVerdictOn};
 ghost use Rattle.cti_top.specs.Known.{known_of};
 ghost use Rattle.cti_top.specs.Refusal.{refusal_line};
-ghost use Rattle.cti_top.specs.Told.{Keeps};
+ghost use Rattle.outside.specs.Told.{Keeps};
 
 use crate::answer::{Answer, too_long};
-use crate::files::{Files, LoadFault};
 use crate::refusal::{Subject, refusal_text};
 use crate::source::Source;
 use crate::status::Status;
 use crate::verdicts::verdict_text;
 use cert_checker::{Verdict, check};
 use certificate::{CertFault, Certificate, MOST_BYTES};
+use outside::{Files, LoadFault};
 use std::alloc::{AllocError, Global};
 
 /// The number of the refusal of a line that is not a fact.

@@ -2,19 +2,19 @@
 
 ghost use Rattle.std.specs.Prelude.{◌≡◌, ◌≢◌, codes, map, [], Some, None, option_map, IfOk, IfErr, IfSome, IfNone, IsErrOf};
 ghost use Rattle.clap.specs.Words.{fault_of, first_of, found_of, rows_of, subcommand_of, subcommand_rows_of};
-ghost use Rattle.cti_top.specs.Words.{asks, ask_by, gen as asked_gen, given, line, origin, predicates_in, usage_lines};
+ghost use Rattle.cti_top.specs.Words.{asks, ask_by, command_line, gen as asked_gen, given, origin, predicates_in, usage_lines};
 ghost use Rattle.cti_top.specs.Answers.{ask_of, origin_of, IsInRange};
 
-use crate::line::command_line;
+use crate::command_line::command_line;
 use crate::steps::{predicates_in, steps_of};
 use clap::ArgMatches;
 use clap::error::ErrorKind;
 use std::alloc::{AllocError, Global};
 
-/// Why the words ask for nothing.
+/// Why the words are not a command.
 #[derive(Clone, Copy, PartialEq, Eq)]
 pub enum Refusal {
-    /// They are no command.
+    /// They are none.
     Usage,
     /// Memory ran out.
     Memory,
@@ -58,14 +58,14 @@ impl<'a> Request<'a> {
 
 /// The matches of the words, or why there are none.
 fn matches_of<'a>(alloc: Global, words: &'a [&'a str]) -> Result<ArgMatches<'a>, Refusal>
-    ensures usage { IsErrOf result Refusal.Usage → fault_of line (map (λ w. w.now) words.entry.now) ≢ [] }
-    ensures taken { IfOk result (λ _. fault_of line (map (λ w. w.now) words.entry.now) ≡ []) }
-    ensures rows { IfOk result (λ m. subcommand_rows_of m ≡ subcommand_of line (map (λ w. w.now) words.entry.now)) }
+    ensures usage { IsErrOf result Refusal.Usage → fault_of command_line (map (λ w. w.now) words.entry.now) ≢ [] }
+    ensures taken { IfOk result (λ _. fault_of command_line (map (λ w. w.now) words.entry.now) ≡ []) }
+    ensures rows { IfOk result (λ m. subcommand_rows_of m ≡ subcommand_of command_line (map (λ w. w.now) words.entry.now)) }
 {
-    let Ok(line) = command_line(alloc) else {
+    let Ok(command) = command_line(alloc) else {
         return Err(Refusal::Memory);
     };
-    match line.try_get_matches_from(words) {
+    match command.try_get_matches_from(words) {
         Ok(matches) => Ok(matches),
         Err(error) => match error.kind() {
             ErrorKind::OutOfMemory => Err(Refusal::Memory),
@@ -99,7 +99,7 @@ fn word<'a>(matches: &ArgMatches<'a>, id: &str) -> &'a str
     }
 }
 
-/// What `gen` asks for by its word, or why it asks for nothing.
+/// What `gen` asks for by its word, or why it is not a command.
 fn generation<'a>(matches: &ArgMatches<'a>) -> Result<Request<'a>, Refusal>
     ensures asked { IfOk result (λ r. option_map asked_gen (predicates_in (given (codes "count") (rows_of (found_of matches.now)))) ≡ Some (ask_of r)) }
     ensures usage { IfErr result (λ e. (e ≡ Refusal.Usage) × (option_map asked_gen (predicates_in (given (codes "count") (rows_of (found_of matches.now)))) ≡ None)) }
@@ -111,7 +111,7 @@ fn generation<'a>(matches: &ArgMatches<'a>) -> Result<Request<'a>, Refusal>
     }
 }
 
-/// What a command asks for by its arguments, or why it asks for nothing.
+/// What a command asks for by its arguments, or why it is not a command.
 fn request_by<'a>(name: &str, given: &ArgMatches<'a>) -> Result<Request<'a>, Refusal>
     ensures asked { IfOk result (λ r. ask_by name.now (rows_of (found_of given.now)) ≡ Some (ask_of r)) }
     ensures usage { IfErr result (λ e. (e ≡ Refusal.Usage) × (ask_by name.now (rows_of (found_of given.now)) ≡ None)) }
@@ -133,7 +133,7 @@ fn request_by<'a>(name: &str, given: &ArgMatches<'a>) -> Result<Request<'a>, Ref
     }
 }
 
-/// What the words ask for, or why they ask for nothing.
+/// What the words ask for, or why they are not a command.
 #[tactic(auto, using(crate::proofs::WordLemmas::is_entered))]
 pub fn request_in<'a>(alloc: Global, words: &'a [&'a str]) -> Result<Request<'a>, Refusal>
     ensures asked { IfOk result (λ r. asks (map (λ w. w.now) words.entry.now) ≡ Some (ask_of r)) }

@@ -29,7 +29,7 @@ fn status_of(ending: Ending) -> Status
     }
 }
 
-/// Runs a goal of a program, and tells what was found.
+/// The answer to a goal of a program: its run.
 fn ran(alloc: Global, source: &Source, goal: &Goal, steps: u64) -> Result<Answer, AllocError>
     requires { IsGoalOf source.now.program goal.now }
     ensures { IfOk result (λ a. IsTextOfRun source.now.names source.now.program goal.now steps a.status a.text.items) }

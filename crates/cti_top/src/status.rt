@@ -12,7 +12,7 @@ pub enum Status {
     Done,
     /// The certificate is not valid; the line that says why was written.
     No,
-    /// The words are no command; the usage was written.
+    /// The words are not a command; the usage was written.
     Usage,
     /// The program, the certificate or the query was refused; the line that says why was written.
     Refused,

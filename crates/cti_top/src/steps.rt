@@ -18,7 +18,7 @@ const MOST_PREDICATES: u64 = 300;
 /// The most digits that say so.
 const PREDICATES_DIGITS: usize = 3;
 
-/// The number that a text spells with so many decimal digits at most, where it is from 1 to the greatest.
+/// The number that a text spells with at most `digits` decimal digits, where it is from 1 to the greatest.
 fn number_in(text: &[u8], digits: usize, greatest: u64) -> Option<u64>
     requires { greatest ≤ 1000000 }
     ensures number { result ≡ number_in digits greatest text.now }

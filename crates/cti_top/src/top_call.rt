@@ -3,22 +3,20 @@
 ghost use Rattle.std.specs.Prelude.{◌≡◌, ◌≤◌, List, ℕ, map, Some};
 ghost use Rattle.certificate.specs.Reading.{IsTextOf};
 ghost use Rattle.certificate.specs.declared.certificate.Certificate.{Certificate as TheCertificate};
-ghost use Rattle.cti_top.specs.Causes.{Rose};
+ghost use Rattle.outside.specs.Causes.{Rose};
 ghost use Rattle.cti_top.specs.Words.{Ask, asks, check, gen, infer, origin, run};
 ghost use Rattle.cti_top.specs.Programs.{IsRefused};
 ghost use Rattle.cti_top.specs.Outcome.{FileRose, HasFile, HasText, IsCheckedOrMemory, IsDoneOrMemory, IsRanOrMemory, IsRefusedOrMemory, Outcome};
 ghost use Rattle.cti_top.specs.Queries.{IsQueryOf, Known};
 ghost use Rattle.cti_top.specs.Runs.{IsKnown, IsRefusedQuery};
-ghost use Rattle.cti_top.specs.Told.{Keeps};
+ghost use Rattle.outside.specs.Told.{Keeps};
 ghost use Rattle.report.specs.Generated.{generated};
 ghost use Rattle.cti_terms.specs.Listing.{Listing};
 ghost use Rattle.cti_terms.specs.declared.derivation.Goal.{Goal};
 
-use crate::answering::answer_for;
-use crate::files::Files;
-use crate::sink::Sink;
+use crate::answering::answer_words;
 use crate::status::Status;
-use crate::writing::write_text;
+use outside::{Files, Sink, write_text};
 use std::alloc::Global;
 
 /// Carries out the command that the words after the program's name ask for.
@@ -74,7 +72,7 @@ pub fn command<F: Files, S: Sink>(
         → HasFile (F.told files.old) name bytes → IsRefusedQuery bytes query kind at
         → (Rose (F.faults files.old name) (F.faults files.new name) → ⊥) → (Rose (S.faults out.old) (S.faults out.new) → ⊥) → IsRefusedOrMemory result }
 {
-    match answer_for(alloc, words, files) {
+    match answer_words(alloc, words, files) {
         Ok(answer) => match write_text(&answer.text, out) {
             Ok(()) => answer.status,
             Err(_) => Status::OutFault,

@@ -1,0 +1,20 @@
+use Rattle.std.proofs.Common.{ℕ, List, sym, subst}
+use Rattle.cti_top.specs.Answers.{ask_of, AnswersAsk, AnswersQuery}
+use Rattle.cti_top.specs.Known.{known_of}
+use Rattle.cti_top.specs.declared.request.Request.{Request}
+use Rattle.cti_top.proofs.AnswerLemmas.{if_ok}
+use Rattle.cti_top.proofs.answering.answer_program.Goals as goal
+
+pub returns-in-Check-clause-answered : goal.returns-in-Check-clause-answered
+returns-in-Check-clause-answered g c =
+    let told = g.F.Files.told c.args.files.now in
+    if_ok c.check_of.result
+    (λ a h bytes is. subst (λ (r : Request). AnswersAsk told bytes (ask_of r) a.status a.text.items) (sym c.in-Check.is) (known_of c.args.source, is, h))
+    c.check_of.ensures.answered
+
+pub returns-in_ok-run_of-in-Run-clause-answered : goal.returns-in_ok-run_of-in-Run-clause-answered
+returns-in_ok-run_of-in-Run-clause-answered g c = λ bytes is.
+    let told = g.F.Files.told c.args.files.now in
+    let a = c.in_ok-run_of-in-Run.field-0 in
+    subst (λ (r : Request). AnswersAsk told bytes (ask_of r) a.status a.text.items) (sym c.in-Run.is)
+    (subst (λ (q : List ℕ). AnswersQuery bytes q c.in-Run.steps a.status a.text.items) c.as_bytes.ensures.value (c.in_ok-run_of-in-Run.ensures bytes is))

@@ -1,0 +1,4 @@
+pub mod Causes
+pub mod Told
+pub mod Held
+pub mod Counted
