@@ -1,5 +1,5 @@
-//! Large inputs and outputs, failing files and sinks, and the adapters over a real file and a real writer. What words and
-//! files of ordinary size give stands in the program `cases`.
+//! Large inputs and outputs, and the adapters over a real file and a real writer. What words and files of ordinary size give stands
+//! in the program `cases`.
 
 use cti_top::{
     Files, LoadFault, MemFiles, MemSink, RealFiles, RealSink, Sink, SinkFault, Status, Subject,
@@ -29,8 +29,8 @@ fn store(alloc: Global, text: &[u8], fails: &[u64]) -> Result<MemFiles, AllocErr
     })
 }
 
-/// A sink that takes so many bytes in a call, and whose calls of these numbers fail.
-fn sink(alloc: Global, chunk: usize, fails: &[u64]) -> Result<MemSink, AllocError> {
+/// A sink that takes at most `chunk` bytes in a call, and whose calls of these numbers fail.
+pub(crate) fn sink(alloc: Global, chunk: usize, fails: &[u64]) -> Result<MemSink, AllocError> {
     Ok(MemSink {
         taken: Vec::new(alloc),
         chunk,
@@ -41,7 +41,7 @@ fn sink(alloc: Global, chunk: usize, fails: &[u64]) -> Result<MemSink, AllocErro
 }
 
 /// Concatenation of lists.
-const APPEND: &str = "app([],L,L).\napp([H|T],L,[H|R]) :- app(T,L,R).\n";
+pub(crate) const APPEND: &str = "app([],L,L).\napp([H|T],L,[H|R]) :- app(T,L,R).\n";
 
 /// The status and the bytes of these words, where the file has this text.
 fn answered(alloc: Global, text: &[u8], words: &[&str]) -> Result<(Status, Vec<u8>), AllocError> {
@@ -50,7 +50,7 @@ fn answered(alloc: Global, text: &[u8], words: &[&str]) -> Result<(Status, Vec<u
     Ok((status, out.taken))
 }
 
-/// A text and so many repetitions of another.
+/// A text and `count` repetitions of another.
 fn repeated(alloc: Global, first: &[u8], text: &[u8], count: usize) -> Result<Vec<u8>, AllocError> {
     let mut whole = Vec::from_slice(alloc, first)?;
     for _ in 0..count {
@@ -59,7 +59,7 @@ fn repeated(alloc: Global, first: &[u8], text: &[u8], count: usize) -> Result<Ve
     Ok(whole)
 }
 
-/// A term of one name around another so often.
+/// A term with `s` around it `count` times.
 fn nested(alloc: Global, inner: &[u8], count: usize) -> Result<Vec<u8>, AllocError> {
     let mut text = repeated(alloc, b"", b"s(", count)?;
     text.extend_from_slice(inner)?;
@@ -78,14 +78,14 @@ fn joined(alloc: Global, parts: &[&[u8]]) -> Result<Vec<u8>, AllocError> {
     Ok(text)
 }
 
-/// What is written for one answer that is this term, or is too large, after so many nodes.
+/// What is written for one answer that is this term, or is too large, with this last line.
 fn one_answer(
     alloc: Global,
     term: &[u8],
-    is_told: bool,
+    is_printed: bool,
     last: &[u8],
 ) -> Result<Vec<u8>, AllocError> {
-    if is_told {
+    if is_printed {
         joined(alloc, &[b"answer([", term, b"]).\n", last])
     } else {
         joined(alloc, &[b"answer(large).\n", last])
@@ -96,7 +96,7 @@ fn one_answer(
 fn deep_answers(rt: HostRuntime) -> Result<(), Fail> {
     let alloc = rt.alloc();
     let step = nested(alloc, b"X", 990)?;
-    for (outer, is_told) in [(38, true), (39, false)] {
+    for (outer, is_printed) in [(38, true), (39, false)] {
         let head = nested(alloc, b"X", outer)?;
         let program = joined(
             alloc,
@@ -110,7 +110,7 @@ fn deep_answers(rt: HostRuntime) -> Result<(), Fail> {
         )?;
         let deep = nested(alloc, b"0", 3960 + outer)?;
         let term = joined(alloc, &[b"q(", &deep, b")"])?;
-        let lines = one_answer(alloc, &term, is_told, b"ran(5,5,finished).\n")?;
+        let lines = one_answer(alloc, &term, is_printed, b"ran(5,5,finished).\n")?;
         let (status, taken) = answered(alloc, &program, &["run", "a.pl", "q(X)"])?;
         assert_eq!(rt; status, Status::Done);
         assert!(rt; taken == lines, "{outer}");
@@ -121,11 +121,11 @@ fn deep_answers(rt: HostRuntime) -> Result<(), Fail> {
 #[test]
 fn large_answers(rt: HostRuntime) -> Result<(), Fail> {
     let alloc = rt.alloc();
-    for (count, is_told) in [(99_997, true), (99_998, false)] {
+    for (count, is_printed) in [(99_997, true), (99_998, false)] {
         let term = repeated(alloc, b"p(f(a", b",a", count)?;
         let term = joined(alloc, &[&term, b"))"])?;
         let program = joined(alloc, &[&term, b".\n"])?;
-        let lines = one_answer(alloc, &term, is_told, b"ran(1,1,finished).\n")?;
+        let lines = one_answer(alloc, &term, is_printed, b"ran(1,1,finished).\n")?;
         let (status, taken) = answered(alloc, &program, &["run", "a.pl", "p(X)"])?;
         assert_eq!(rt; status, Status::Done);
         assert!(rt; taken == lines, "{count}");
@@ -145,11 +145,15 @@ fn is_refused(alloc: Global, text: &[u8], words: &[&str], line: &[u8]) -> Result
     Ok(status == Status::Refused && taken.as_slice() == line)
 }
 
-// A text of one byte more than is read, as a program and as a query.
+// The longest text that is read, and a text of one byte more, as a program and as a query.
 #[test]
 fn long_texts(rt: HostRuntime) -> Result<(), Fail> {
     let alloc = rt.alloc();
-    let long = repeated(alloc, b"", b"\n", 1_048_577)?;
+    let longest = repeated(alloc, b"", b"\n", 1_048_576)?;
+    let (status, taken) = answered(alloc, &longest, &["infer", "a.pl"])?;
+    assert_eq!(rt; status, Status::Done);
+    assert_eq!(rt; taken.as_slice(), b"cti(1).\n".as_slice());
+    let long = repeated(alloc, &longest, b"\n", 1)?;
     let query = std::str::from_utf8(&long).unwrap_or("");
     assert!(rt;
         is_refused(
@@ -183,32 +187,6 @@ fn queries_of_two_lines(rt: HostRuntime) -> Result<(), Fail> {
             b"refused(query,2,3,11).\n"
         )?
     );
-    Ok(())
-}
-
-#[test]
-fn faults_of_files_and_sinks(rt: HostRuntime) -> Result<(), Fail> {
-    let alloc = rt.alloc();
-    let mut out = sink(alloc, 8, &[2])?;
-    let status = command(
-        alloc,
-        &["infer", "a.pl"],
-        &mut store(alloc, b"p.", &[])?,
-        &mut out,
-    );
-    assert_eq!(rt; status, Status::OutFault);
-    assert_eq!(rt; out.taken.as_slice(), b"cti(1).\n".as_slice());
-    for (name, fails) in [("a.pl", 1), ("b.pl", 0)] {
-        let mut out = sink(alloc, 8, &[])?;
-        let status = command(
-            alloc,
-            &["infer", name],
-            &mut store(alloc, b"p.", &[fails])?,
-            &mut out,
-        );
-        assert_eq!(rt; status, Status::FileFault);
-        assert!(rt; out.taken.is_empty());
-    }
     Ok(())
 }
 

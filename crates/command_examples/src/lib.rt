@@ -6,4 +6,6 @@ mod checks;
 #[cfg(test)]
 mod commands;
 #[cfg(test)]
+mod failing;
+#[cfg(test)]
 mod texts;

@@ -6,7 +6,7 @@ use std::alloc::{AllocError, Global};
 use std::test::Fail;
 
 /// A certificate for `append/3`.
-const APPEND: &str = "cti(1).
+pub(crate) const APPEND: &str = "cti(1).
 terminates(app/3,[[1],[3]]).
 size(app/3,1,[0,1,1,-1]).
 size(app/3,2,[0,-1,-1,1]).

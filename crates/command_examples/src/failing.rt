@@ -1,0 +1,166 @@
+//! Failing files and sinks: each load and each write of a command fails in turn; and what is tried again in the adapters.
+
+use crate::commands::{APPEND, sink};
+use crate::texts::APPEND as CERTIFICATE;
+use cti_top::{Status, command};
+use outside::{LoadFault, MemFiles, RealSink, Sink, read_limited};
+use std::alloc::{AllocError, Global};
+use std::collections::BTreeMap;
+use std::io;
+use std::io::{ErrorKind, Read, Write};
+use std::test::Fail;
+
+/// The most writes that fail in turn.
+const MOST_WRITES: u64 = 20;
+
+/// The program of append and its certificate, in a store whose loads of these numbers fail.
+fn store(alloc: Global, fails: &[u64]) -> Result<MemFiles, AllocError> {
+    let mut files = BTreeMap::new(alloc);
+    for (name, text) in [("app.pl", APPEND), ("app.cert", CERTIFICATE)] {
+        let text = Vec::from_slice(alloc, text.as_bytes())?;
+        files.insert(String::from_str(alloc, name)?, text)?;
+    }
+    Ok(MemFiles {
+        files,
+        fails: Vec::from_slice(alloc, fails)?,
+        calls: 0,
+        faults: 0,
+    })
+}
+
+/// Whether the command ends with this status and writes this text, where the loads and the writes of these numbers fail.
+fn ends(
+    alloc: Global,
+    words: &[&str],
+    chunk: usize,
+    loads: &[u64],
+    writes: &[u64],
+    end: (Status, &[u8]),
+) -> Result<bool, AllocError> {
+    let mut files = store(alloc, loads)?;
+    let mut out = sink(alloc, chunk, writes)?;
+    let status = command(alloc, words, &mut files, &mut out);
+    Ok(status == end.0 && out.taken.as_slice() == end.1)
+}
+
+/// What the command writes where nothing fails.
+fn written(alloc: Global, words: &[&str]) -> Result<Vec<u8>, AllocError> {
+    let mut files = store(alloc, &[])?;
+    let mut out = sink(alloc, 4096, &[])?;
+    command(alloc, words, &mut files, &mut out);
+    Ok(out.taken)
+}
+
+/// Whether nothing is written where one of the loads of the command fails.
+fn loads_fail(alloc: Global, words: &[&str], chunk: usize, loads: u64) -> Result<bool, AllocError> {
+    for load in 1..=loads {
+        let end = (Status::FileFault, b"".as_slice());
+        if !ends(alloc, words, chunk, &[load], &[], end)? {
+            return Ok(false);
+        }
+    }
+    Ok(true)
+}
+
+/// Whether the sink has taken the pieces of the earlier writes alone, where one of the first writes of this text fails.
+fn writes_fail(
+    alloc: Global,
+    words: &[&str],
+    chunk: usize,
+    text: &[u8],
+) -> Result<bool, AllocError> {
+    for earlier in 0..MOST_WRITES {
+        let taken = chunk.saturating_mul(earlier as usize);
+        if taken >= text.len() {
+            break;
+        }
+        let end = (Status::OutFault, &text[..taken]);
+        if !ends(alloc, words, chunk, &[], &[earlier.saturating_add(1)], end)? {
+            return Ok(false);
+        }
+    }
+    Ok(true)
+}
+
+// Each of the loads of a command, and each of its first twenty writes, fails in turn.
+#[test]
+fn loads_and_writes_that_fail(rt: HostRuntime) -> Result<(), Fail> {
+    let alloc = rt.alloc();
+    for (words, loads) in [
+        (["infer", "app.pl"].as_slice(), 1),
+        (["check", "app.pl", "app.cert"].as_slice(), 2),
+        (["run", "app.pl", "app(X,Y,[a])"].as_slice(), 1),
+        (["gen", "1"].as_slice(), 0),
+    ] {
+        let text = written(alloc, words)?;
+        for chunk in [1, 8, 4096] {
+            assert!(rt; loads_fail(alloc, words, chunk, loads)?, "{chunk}");
+            assert!(rt; writes_fail(alloc, words, chunk, &text)?, "{chunk}");
+        }
+    }
+    let end = (Status::OutFault, b"cti(1).\n".as_slice());
+    assert!(rt; ends(alloc, &["infer", "app.pl"], 8, &[], &[2], end)?);
+    Ok(())
+}
+
+/// A reader and writer whose first call is interrupted.
+#[derive(Drop)]
+struct Interrupted {
+    bytes: Vec<u8>,
+    is_called: bool,
+}
+
+impl Interrupted {
+    /// Interrupts the first call.
+    fn call(&mut self) -> io::Result<()> {
+        if self.is_called {
+            return Ok(());
+        }
+        self.is_called = true;
+        Err(io::Error::from(ErrorKind::Interrupted))
+    }
+}
+
+impl Write for Interrupted {
+    fn write(&mut self, bytes: &[u8]) -> io::Result<usize> {
+        self.call()?;
+        self.bytes.write(bytes)
+    }
+
+    fn flush(&mut self) -> io::Result<()> {
+        Ok(())
+    }
+}
+
+impl Read for Interrupted {
+    fn read(&mut self, buffer: &mut [u8]) -> io::Result<usize> {
+        self.call()?;
+        let count = self.bytes.len().min(buffer.len());
+        buffer[..count].copy_from_slice(&self.bytes[..count]);
+        self.bytes.clear();
+        Ok(count)
+    }
+}
+
+#[test]
+fn interrupted_calls_are_tried_again(rt: HostRuntime) -> Result<(), Fail> {
+    let alloc = rt.alloc();
+    let mut sink = RealSink {
+        inner: Interrupted {
+            bytes: Vec::new(alloc),
+            is_called: false,
+        },
+        faults: 0,
+    };
+    assert_eq!(rt; sink.write(b"p(a)."), Ok(5));
+    assert_eq!(rt; sink.faults, 0);
+    sink.inner.is_called = false;
+    let bytes = read_limited(alloc, &mut sink.inner, 5);
+    assert_eq!(rt; bytes.as_deref(), Ok(b"p(a).".as_slice()));
+    sink.inner.bytes.extend_from_slice(b"p(a).")?;
+    assert_eq!(rt;
+        read_limited(alloc, &mut sink.inner, 4).err(),
+        Some(LoadFault::TooLong)
+    );
+    Ok(())
+}
