@@ -30,7 +30,7 @@ level_needs s names h words false below needs none =
 
 -- words that are taken enter a subcommand
 pub is_entered : (words : List Text) → fault_of command_line words ≡ [] → is_some (subcommand_of command_line words) ≡ true
-is_entered words h = level_needs (built line).top _ _ _ _ _ refl h
+is_entered words h = level_needs (built command_line).top _ _ _ _ _ refl h
 
 -- a file's name that does not begin with a dash is taken
 pub infer_taken : (c : ℕ) (cs : List ℕ) → nat_eq c 45 ≡ false → fault_of command_line (codes "infer" ∷ (c ∷ cs) ∷ []) ≡ []
