@@ -10,4 +10,5 @@ pub mod PlaceLaws
 pub mod RemoveLaws
 pub mod RoundLaws
 pub mod Searching
+pub mod SettingLaws
 pub mod StartLaws

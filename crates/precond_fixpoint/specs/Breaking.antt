@@ -1,13 +1,21 @@
 -- Private.
 -- Values of a clause's variables that break the rule, as sets have it. Nothing here has to be believed.
-use Rattle.std.specs.Prelude.{◌≡◌, ◌<◌, ℕ, Bool, if◌then◌else◌, List, slice_get, Some}
-use Rattle.truth_rows.specs.Ready.{HasAtom, HasAtoms}
+use Rattle.std.specs.Prelude.{◌≡◌, ◌<◌, ℕ, Bool, if◌then◌else◌, List, length, slice_get, Some}
+use Rattle.truth_rows.specs.Ready.{HasAtom, HasAtoms, IsReadyClause}
 use Rattle.truth_rows.specs.Rules.{same_rank}
 use Rattle.bool_diagrams.specs.declared.diagram.Diagram.{Diagram}
 use Rattle.bool_diagrams.specs.Tree.{Tree as Rows}
 use Rattle.cti_terms.specs.Tree.{Tree}
 use Rattle.cti_terms.specs.declared.atom_list.Atom.{Atom}
 use Rattle.cti_terms.specs.declared.clauses.Clause.{Clause}
+
+-- the clause's predicates have ranks, and its atoms sets of each kind
+pub record AreReadyFor (trees : List Rows) (ranks : List ℕ) (grounds pre allowed : List Diagram) (k : Clause) : Type 0 where
+  pub head : k.head.pred.0 < length ranks
+  pub body : (j : ℕ) (b : Atom) → slice_get k.body j ≡ Some b → b.pred.0 < length ranks
+  pub grounds_ready : IsReadyClause trees grounds k
+  pub pre_ready : IsReadyClause trees pre k
+  pub allowed_ready : IsReadyClause trees allowed k
 
 module _ (truth : (ℕ → Bool) → Tree → Bool) (trees : List Rows) (ranks : List ℕ) (grounds pre allowed : List Diagram) (k : Clause) where
   -- the call at a place is reached and is not in its set

@@ -2,4 +2,5 @@ pub mod Allowed
 pub mod Breaking
 pub mod Greatest
 pub mod Removing
+pub mod Setting
 pub mod Solving

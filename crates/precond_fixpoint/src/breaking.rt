@@ -1,11 +1,9 @@
 //! The values of a clause's variables that break the rule of preconditions.
 
-ghost use Rattle.std.specs.Prelude.{◌≡◌, ◌↔◌, ◌<◌, ◌≤◌, ℕ, Bool, IsTrue, IfOk, if◌then◌else◌, length, slice_get, Some};
-ghost use Rattle.truth_rows.specs.Ready.{HasAtom, HasTruths, IsReady, IsReadyClause};
-ghost use Rattle.truth_rows.specs.Rules.{same_rank};
+ghost use Rattle.std.specs.Prelude.{◌≡◌, ◌↔◌, ◌≤◌, ℕ, Bool, IsTrue, IfOk, if◌then◌else◌, length};
+ghost use Rattle.truth_rows.specs.Ready.{HasAtom, HasTruths, IsReady};
 ghost use Rattle.bool_diagrams.specs.Rows.{IsDiagram, Keeps, holds};
-ghost use Rattle.cti_terms.specs.declared.atom_list.Atom.{Atom};
-ghost use Rattle.precond_fixpoint.specs.Breaking.{Breaks};
+ghost use Rattle.precond_fixpoint.specs.Breaking.{AreReadyFor, Breaks};
 ghost use Rattle.termination_model.specs.Grounds.{truth_row};
 
 use bool_diagrams::{Diagram, Table};
@@ -54,11 +52,7 @@ fn breaking_values<N: Norm>(
     allowed: &[Diagram],
     clause: &Clause,
 ) -> Result<Diagram, AllocError>
-    requires head { clause.now.head.pred.0 < length ranks.now }
-    requires body { (j : ℕ) (b : Atom) → slice_get clause.now.body j ≡ Some b → b.pred.0 < length ranks.now }
-    requires grounds { IsReadyClause table.old grounds.now clause.now }
-    requires pre { IsReadyClause table.old pre.now clause.now }
-    requires allowed { IsReadyClause table.old allowed.now clause.now }
+    requires { AreReadyFor table.old ranks.now grounds.now pre.now allowed.now clause.now }
     ensures keeps { Keeps table.old table.new }
     ensures known { IfOk result (IsDiagram table.new) }
     ensures all { IfOk result (λ d. (v : ℕ → Bool)
@@ -96,11 +90,7 @@ pub(crate) fn broken_rows<N: Norm>(
     allowed: &[Diagram],
     clause: &Clause,
 ) -> Result<Diagram, AllocError>
-    requires head { clause.now.head.pred.0 < length ranks.now }
-    requires body { (j : ℕ) (b : Atom) → slice_get clause.now.body j ≡ Some b → b.pred.0 < length ranks.now }
-    requires grounds { IsReadyClause table.old grounds.now clause.now }
-    requires pre { IsReadyClause table.old pre.now clause.now }
-    requires allowed { IsReadyClause table.old allowed.now clause.now }
+    requires { AreReadyFor table.old ranks.now grounds.now pre.now allowed.now clause.now }
     ensures keeps { Keeps table.old table.new }
     ensures known { IfOk result (IsDiagram table.new) }
     ensures rows { IfOk result (λ d. (row : ℕ → Bool) → IsTrue (holds table.new d row)

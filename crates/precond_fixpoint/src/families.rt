@@ -3,20 +3,18 @@
 ghost use Rattle.std.specs.Prelude.{◌≡◌, ◌<◌, ◌++◌, ◌∷◌, [], ℕ, true, IfOk, List, OnOk, length, slice_get, slice_index_or, slice_set, Some};
 ghost use Rattle.bool_diagrams.specs.Rows.{Keeps};
 ghost use Rattle.bool_diagrams.specs.declared.diagram.Diagram.{Diagram as TheDiagram};
-ghost use Rattle.cti_terms.specs.Listing.{IsProgram};
 ghost use Rattle.cti_terms.specs.declared.predicates.PredId.{PredId as ThePred};
-ghost use Rattle.groundness.specs.Marks.{AreHeads, AreUsers};
 ghost use Rattle.number_tests.specs.Levels.{items_of};
-ghost use Rattle.precond_fixpoint.specs.Removing.{AreRanked};
-ghost use Rattle.precond_fixpoint.specs.Solving.{AreColumns, AreSolutions, HaveParts};
-ghost use Rattle.truth_rows.specs.Sets.{AreSets, family_of};
+ghost use Rattle.precond_fixpoint.specs.Setting.{IsComponent, IsSetting, rows_of};
+ghost use Rattle.precond_fixpoint.specs.Solving.{AreColumns, AreSolutions};
+ghost use Rattle.truth_rows.specs.Sets.{AreSets};
 
 use crate::columns::no_sets;
 use crate::greatest::greatest_sets;
+use crate::setting::{Component, Setting};
 use bool_diagrams::{Diagram, Table};
-use cti_terms::{PredId, Program};
-use groundness::{ClauseLists, Marks};
-use number_tests::LevelPart;
+use cti_terms::PredId;
+use groundness::Marks;
 use sequences::Sequence;
 use std::alloc::{AllocError, Global};
 use term_size::Norm;
@@ -26,46 +24,29 @@ use term_size::Norm;
 /// `sets` has a set for each predicate; those of the members are made anew for each mapping.
 pub(crate) fn member_sets<N: Norm>(
     alloc: Global,
-    p: &Program,
-    norm: &N,
+    setting: &Setting<N>,
+    component: &Component,
     table: &mut Table,
-    ranks: &[u32],
-    rank: u32,
-    members: &[PredId],
-    heads: &ClauseLists,
-    users: &ClauseLists,
     marks: &mut Marks,
-    grounds: &[Diagram],
-    allowed: &[Diagram],
-    levels: &[Sequence<LevelPart>],
     count: usize,
     sets: &mut [Diagram],
 ) -> Result<Vec<Sequence<Diagram>>, AllocError>
-    requires program { IsProgram p.now }
-    requires ranks { length ranks.now ≡ length p.now.preds }
-    requires members { AreRanked p.now.preds ranks.now rank members.now }
-    requires heads { AreHeads p.now heads.now }
-    requires users { AreUsers p.now users.now }
-    requires marks { length marks.old ≡ length p.now.clauses }
-    requires grounds { AreSets p.now.preds table.old grounds.now }
-    requires allowed { AreSets p.now.preds table.old allowed.now }
-    requires levels { HaveParts p.now.preds levels.now }
-    requires mappings { (j : ℕ) (a : ThePred) → slice_get members.now j ≡ Some a → length (items_of levels.now a.0) ≡ count }
-    requires sets { AreSets p.now.preds table.old sets.old }
+    requires setting { IsSetting setting.now table.old }
+    requires component { IsComponent setting.now component.now table.old }
+    requires marks { length marks.old ≡ length setting.now.program.now.clauses }
+    requires mappings { (j : ℕ) (a : ThePred) → slice_get component.now.members.now j ≡ Some a → length (items_of setting.now.levels.now a.0) ≡ count }
+    requires sets { AreSets setting.now.program.now.preds table.old sets.old }
     ensures keeps { Keeps table.old table.new }
-    ensures marks { OnOk result (length marks.new ≡ length p.now.clauses) }
-    ensures sets { OnOk result (AreSets p.now.preds table.new sets.new) }
-    ensures each { IfOk result (λ columns. length columns.items ≡ length members.now) }
+    ensures marks { OnOk result (length marks.new ≡ length setting.now.program.now.clauses) }
+    ensures sets { OnOk result (AreSets setting.now.program.now.preds table.new sets.new) }
+    ensures each { IfOk result (λ columns. length columns.items ≡ length component.now.members.now) }
     ensures solutions { IfOk result (λ columns.
-        AreSolutions (N.truth norm.now) p.now ranks.now rank (family_of p.now.preds table.old allowed.now) (family_of p.now.preds table.old grounds.now) levels.now table.new count members.now columns.items) }
+        AreSolutions (N.truth setting.now.norm.now) setting.now.program.now setting.now.ranks.now component.now.rank (rows_of setting.now table.old component.now.allowed.now) (rows_of setting.now table.old setting.now.grounds.now) setting.now.levels.now table.new count component.now.members.now columns.items) }
 {
-    let mut columns = no_sets(alloc, members.len())?;
+    let mut columns = no_sets(alloc, component.members.len())?;
     for m in 0..count {
-        greatest_sets(
-            alloc, p, norm, table, ranks, rank, members, heads, users, marks, grounds, allowed,
-            levels, m, sets,
-        )?;
-        push_sets(members, sets, &mut columns)?;
+        greatest_sets(alloc, setting, component, table, marks, m, sets)?;
+        push_sets(component.members, sets, &mut columns)?;
     }
     Ok(columns)
 }

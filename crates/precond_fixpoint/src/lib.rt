@@ -4,7 +4,7 @@
 //! coefficients, those are removed from which a clause reaches a call outside its set, until the rule holds; what is left is
 //! the greatest precondition. Its rows that stay in it where further arguments become rigid are allowed for callers.
 //!
-//! Stands on `truth_rows` and `groundness`, whose sets these are, and on `termination_model`, which says what ends.
+//! Depends on `truth_rows` and `groundness` for these sets, and on `termination_model` for what ends.
 #![tactic(auto)]
 
 mod breaking;
@@ -18,6 +18,7 @@ mod modes;
 mod preconditions;
 mod ranks;
 mod removing;
+mod setting;
 mod solving;
 
 pub use mode::Mode;

@@ -1,10 +1,9 @@
 //! The preconditions of a program, component by component.
 
-ghost use Rattle.std.specs.Prelude.{◌≡◌, ◌<◌, ◌+◌, ℕ, IfOk, OnOk, length, map, slice_get};
+ghost use Rattle.std.specs.Prelude.{◌≡◌, ◌<◌, ℕ, IfOk, OnOk, length, slice_get};
 ghost use Rattle.bool_diagrams.specs.Rows.{Keeps};
 ghost use Rattle.call_components.specs.Partition.{AreComponents, IsIn};
-ghost use Rattle.cti_terms.specs.Listing.{IsProgram};
-ghost use Rattle.groundness.specs.Marks.{AreHeads, AreUsers};
+ghost use Rattle.precond_fixpoint.specs.Setting.{IsSetting, rows_of};
 ghost use Rattle.precond_fixpoint.specs.Solving.{AreLevels, AreMappingSets, AreModes, AreUnions, IsSolved, allowed_family};
 ghost use Rattle.truth_rows.specs.Sets.{AreSets, family_of};
 
@@ -13,10 +12,11 @@ use crate::families::member_sets;
 use crate::modes::all_modes;
 use crate::preconditions::Preconditions;
 use crate::ranks::component_ranks;
+use crate::setting::{Component, Setting};
 use bool_diagrams::{Diagram, Table};
 use call_components::Components;
 use cti_terms::Program;
-use groundness::{ClauseLists, Marks, heads, users};
+use groundness::{Marks, heads, users};
 use number_tests::LevelPart;
 use sequences::Sequence;
 use std::alloc::{AllocError, Global};
@@ -49,20 +49,40 @@ pub fn solve_levels<N: Norm>(
     ensures modes { IfOk result (λ pre. AreModes p.now.preds (allowed_family p.now.preds table.new pre.sets) pre.modes) }
 {
     let _program = p.preds();
-    let mut sets = no_sets(alloc, p.preds() as usize)?;
-    let mut allowed = vec![in alloc; table.truth(false); p.preds() as usize]?;
-    solve_components(
-        alloc,
-        p,
+    let ranks = component_ranks(alloc, p, comps)?;
+    let heads = heads(alloc, p)?;
+    let users = users(alloc, p)?;
+    let setting = Setting {
+        program: p,
         comps,
         norm,
-        table,
+        ranks: &ranks,
+        heads: &heads,
+        users: &users,
         grounds,
         levels,
-        &mut sets,
-        &mut allowed,
-    )?;
-    let modes = all_modes(alloc, table, p, &allowed)?;
+    };
+    solve_components(alloc, &setting, table)
+}
+
+// The same in a setting.
+fn solve_components<N: Norm>(
+    alloc: Global,
+    setting: &Setting<N>,
+    table: &mut Table,
+) -> Result<Preconditions, AllocError>
+    requires setting { IsSetting setting.now table.old }
+    ensures keeps { Keeps table.old table.new }
+    ensures sets { IfOk result (λ pre. AreMappingSets setting.now.program.now.preds table.new pre.sets) }
+    ensures greatest { IfOk result (λ pre. (c : ℕ) → c < length setting.now.comps.now.members
+        → IsSolved (N.truth setting.now.norm.now) setting.now.program.now setting.now.comps.now (rows_of setting.now table.old setting.now.grounds.now) setting.now.levels.now table.new pre.sets c) }
+    ensures modes { IfOk result (λ pre. AreModes setting.now.program.now.preds (allowed_family setting.now.program.now.preds table.new pre.sets) pre.modes) }
+{
+    let count = setting.program.preds() as usize;
+    let mut sets = no_sets(alloc, count)?;
+    let mut allowed = vec![in alloc; table.truth(false); count]?;
+    solve_in_turn(alloc, setting, table, &mut sets, &mut allowed)?;
+    let modes = all_modes(alloc, table, setting.program, &allowed)?;
     Ok(Preconditions {
         sets: Sequence::from_vec(sets),
         modes,
@@ -70,140 +90,78 @@ pub fn solve_levels<N: Norm>(
 }
 
 // Solves the components in turn, callees first.
-fn solve_components<N: Norm>(
-    alloc: Global,
-    p: &Program,
-    comps: &Components,
-    norm: &N,
-    table: &mut Table,
-    grounds: &[Diagram],
-    levels: &[Sequence<LevelPart>],
-    sets: &mut [Sequence<Diagram>],
-    allowed: &mut [Diagram],
-) -> Result<(), AllocError>
-    requires program { IsProgram p.now }
-    requires components { AreComponents p.now comps.now }
-    requires grounds { AreSets p.now.preds table.old grounds.now }
-    requires levels { AreLevels p.now comps.now levels.now }
-    requires sets { AreMappingSets p.now.preds table.old sets.old }
-    requires allowed { AreUnions p.now.preds table.old sets.old allowed.old }
-    ensures keeps { Keeps table.old table.new }
-    ensures sets { OnOk result (AreMappingSets p.now.preds table.new sets.new) }
-    ensures allowed { OnOk result (AreUnions p.now.preds table.new sets.new allowed.new) }
-    ensures solved { OnOk result ((c : ℕ) → c < length comps.now.members
-        → IsSolved (N.truth norm.now) p.now comps.now (family_of p.now.preds table.old grounds.now) levels.now table.new sets.new c) }
-{
-    let ranks = component_ranks(alloc, p, comps)?;
-    let heads = heads(alloc, p)?;
-    let users = users(alloc, p)?;
-    solve_in_turn(
-        alloc, p, comps, norm, table, &ranks, &heads, &users, grounds, levels, sets, allowed,
-    )
-}
-
-// The same, by the ranks of predicates and their clauses.
 fn solve_in_turn<N: Norm>(
     alloc: Global,
-    p: &Program,
-    comps: &Components,
-    norm: &N,
+    setting: &Setting<N>,
     table: &mut Table,
-    ranks: &[u32],
-    heads: &ClauseLists,
-    users: &ClauseLists,
-    grounds: &[Diagram],
-    levels: &[Sequence<LevelPart>],
     sets: &mut [Sequence<Diagram>],
     allowed: &mut [Diagram],
 ) -> Result<(), AllocError>
-    requires program { IsProgram p.now }
-    requires components { AreComponents p.now comps.now }
-    requires ranks { ranks.now ≡ map (λ d. d + 1) comps.now.of }
-    requires heads { AreHeads p.now heads.now }
-    requires users { AreUsers p.now users.now }
-    requires grounds { AreSets p.now.preds table.old grounds.now }
-    requires levels { AreLevels p.now comps.now levels.now }
-    requires sets { AreMappingSets p.now.preds table.old sets.old }
-    requires allowed { AreUnions p.now.preds table.old sets.old allowed.old }
+    requires setting { IsSetting setting.now table.old }
+    requires sets { AreMappingSets setting.now.program.now.preds table.old sets.old }
+    requires allowed { AreUnions setting.now.program.now.preds table.old sets.old allowed.old }
     ensures keeps { Keeps table.old table.new }
-    ensures sets { OnOk result (AreMappingSets p.now.preds table.new sets.new) }
-    ensures allowed { OnOk result (AreUnions p.now.preds table.new sets.new allowed.new) }
-    ensures solved { OnOk result ((c : ℕ) → c < length comps.now.members
-        → IsSolved (N.truth norm.now) p.now comps.now (family_of p.now.preds table.old grounds.now) levels.now table.new sets.new c) }
+    ensures sets { OnOk result (AreMappingSets setting.now.program.now.preds table.new sets.new) }
+    ensures allowed { OnOk result (AreUnions setting.now.program.now.preds table.new sets.new allowed.new) }
+    ensures solved { OnOk result ((c : ℕ) → c < length setting.now.comps.now.members
+        → IsSolved (N.truth setting.now.norm.now) setting.now.program.now setting.now.comps.now (rows_of setting.now table.old setting.now.grounds.now) setting.now.levels.now table.new sets.new c) }
 {
-    let mut marks = Marks::none(alloc, p.clauses())?;
+    let mut marks = Marks::none(alloc, setting.program.clauses())?;
     // What is put for one mapping after the other. What it has before does not matter.
     let mut pre = Vec::from_slice(alloc, allowed)?;
-    for c in 0..comps.count() {
+    for c in 0..setting.comps.count() {
         solve_component(
-            alloc, p, comps, norm, table, ranks, heads, users, &mut marks, c, grounds, levels,
-            &mut pre, sets, allowed,
+            alloc, setting, table, c, &mut marks, &mut pre, sets, allowed,
         )?;
     }
     Ok(())
 }
 
-/// Puts into the places of a component's members the greatest sets for each of its mappings, and what these allow.
-///
-/// `sets` and `allowed` are those of the components that it calls; the places of other predicates stay. `pre` has a set for
-/// each predicate, and is used for the members' sets of one mapping at a time.
-pub(crate) fn solve_component<N: Norm>(
+// Puts into the places of a component's members the greatest sets for each of its mappings, and what these allow.
+//
+// `sets` and `allowed` are those of the components that it calls; the places of other predicates stay. `pre` has a set for
+// each predicate, and is used for the members' sets of one mapping at a time.
+fn solve_component<N: Norm>(
     alloc: Global,
-    p: &Program,
-    comps: &Components,
-    norm: &N,
+    setting: &Setting<N>,
     table: &mut Table,
-    ranks: &[u32],
-    heads: &ClauseLists,
-    users: &ClauseLists,
-    marks: &mut Marks,
     c: u32,
-    grounds: &[Diagram],
-    levels: &[Sequence<LevelPart>],
+    marks: &mut Marks,
     pre: &mut [Diagram],
     sets: &mut [Sequence<Diagram>],
     allowed: &mut [Diagram],
 ) -> Result<(), AllocError>
-    requires program { IsProgram p.now }
-    requires components { AreComponents p.now comps.now }
-    requires ranks { ranks.now ≡ map (λ d. d + 1) comps.now.of }
-    requires heads { AreHeads p.now heads.now }
-    requires users { AreUsers p.now users.now }
-    requires marks { length marks.old ≡ length p.now.clauses }
-    requires component { c < length comps.now.members }
-    requires grounds { AreSets p.now.preds table.old grounds.now }
-    requires levels { AreLevels p.now comps.now levels.now }
-    requires pre { AreSets p.now.preds table.old pre.old }
-    requires sets { AreMappingSets p.now.preds table.old sets.old }
-    requires allowed { AreUnions p.now.preds table.old sets.old allowed.old }
+    requires setting { IsSetting setting.now table.old }
+    requires component { c < length setting.now.comps.now.members }
+    requires marks { length marks.old ≡ length setting.now.program.now.clauses }
+    requires pre { AreSets setting.now.program.now.preds table.old pre.old }
+    requires sets { AreMappingSets setting.now.program.now.preds table.old sets.old }
+    requires allowed { AreUnions setting.now.program.now.preds table.old sets.old allowed.old }
     ensures keeps { Keeps table.old table.new }
-    ensures marks { OnOk result (length marks.new ≡ length p.now.clauses) }
-    ensures pre { OnOk result (AreSets p.now.preds table.new pre.new) }
-    ensures sets { OnOk result (AreMappingSets p.now.preds table.new sets.new) }
-    ensures allowed { OnOk result (AreUnions p.now.preds table.new sets.new allowed.new) }
-    ensures solved { OnOk result (IsSolved (N.truth norm.now) p.now comps.now (family_of p.now.preds table.old grounds.now) levels.now table.new sets.new c) }
-    ensures others { OnOk result ((q : ℕ) → (IsIn comps.now c q → ⊥) → slice_get sets.new q ≡ slice_get sets.old q) }
+    ensures marks { OnOk result (length marks.new ≡ length setting.now.program.now.clauses) }
+    ensures pre { OnOk result (AreSets setting.now.program.now.preds table.new pre.new) }
+    ensures sets { OnOk result (AreMappingSets setting.now.program.now.preds table.new sets.new) }
+    ensures allowed { OnOk result (AreUnions setting.now.program.now.preds table.new sets.new allowed.new) }
+    ensures solved { OnOk result (IsSolved (N.truth setting.now.norm.now) setting.now.program.now setting.now.comps.now (rows_of setting.now table.old setting.now.grounds.now) setting.now.levels.now table.new sets.new c) }
+    ensures others { OnOk result ((q : ℕ) → (IsIn setting.now.comps.now c q → ⊥) → slice_get sets.new q ≡ slice_get sets.old q) }
 {
-    let _count = comps.count();
-    let members = comps.members(c);
-    let count = levels[members[0].0 as usize].len();
-    let columns = member_sets(
-        alloc,
-        p,
-        norm,
-        table,
-        ranks,
-        c + 1,
+    let _count = setting.comps.count();
+    let members = setting.comps.members(c);
+    let count = setting.levels[members[0].0 as usize].len();
+    let component = Component {
+        rank: c + 1,
         members,
-        heads,
-        users,
-        marks,
-        grounds,
         allowed,
-        levels,
-        count,
-        pre,
+    };
+    let columns = member_sets(alloc, setting, &component, table, marks, count, pre)?;
+    put_members(
+        alloc,
+        setting.program,
+        table,
+        members,
+        &columns,
+        sets,
+        allowed,
     )?;
-    put_members(alloc, p, table, members, &columns, sets, allowed)?;
     Ok(())
 }

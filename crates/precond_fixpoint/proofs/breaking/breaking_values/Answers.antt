@@ -14,7 +14,7 @@ use Rattle.precond_fixpoint.proofs.BreakingLaws.{all_breaks, breaks_all, breaks_
 use Rattle.precond_fixpoint.proofs.breaking.breaking_values.Goals as goal
 
 pub put_body_off-requires-clause-small : goal.put_body_off-requires-clause-small
-put_body_off-requires-clause-small g c = λ j b at. (c.requires.grounds.body j b at).small
+put_body_off-requires-clause-small g c = λ j b at. (c.requires.grounds_ready.body j b at).small
 
 pub loop-place-init : goal.loop-place-init
 loop-place-init g c = record {
@@ -32,14 +32,14 @@ leaving_rows-requires-clause-pre g c =
     let n = c.loop-place.place in
     let b = c.atom-item.result in
     let at : slice_get c.args.clause.now.body n ≡ Some b = ap (λ (bs : List Atom). slice_get bs n) (sym c.as_slice-atom-items.ensures) ∙ at_place c.as_slice-atom-items.result.now n b c.loop-place-test.true c.atom-item.is in
-    ready_later c.args.table.now c.without_ended-in-loop-place.new.table (keeps_twice _ _ _ c.loop-place.invariant.keeps (keeps_twice _ _ _ c.without_ended.ensures.keeps c.without_ended-in-loop-place.ensures.keeps)) c.args.pre.now c.args.clause.now.vars b (c.requires.pre.body n b at)
+    ready_later c.args.table.now c.without_ended-in-loop-place.new.table (keeps_twice _ _ _ c.loop-place.invariant.keeps (keeps_twice _ _ _ c.without_ended.ensures.keeps c.without_ended-in-loop-place.ensures.keeps)) c.args.pre.now c.args.clause.now.vars b (c.requires.pre_ready.body n b at)
 
 pub leaving_rows-requires-clause-allowed : goal.leaving_rows-requires-clause-allowed
 leaving_rows-requires-clause-allowed g c =
     let n = c.loop-place.place in
     let b = c.atom-item.result in
     let at : slice_get c.args.clause.now.body n ≡ Some b = ap (λ (bs : List Atom). slice_get bs n) (sym c.as_slice-atom-items.ensures) ∙ at_place c.as_slice-atom-items.result.now n b c.loop-place-test.true c.atom-item.is in
-    ready_later c.args.table.now c.without_ended-in-loop-place.new.table (keeps_twice _ _ _ c.loop-place.invariant.keeps (keeps_twice _ _ _ c.without_ended.ensures.keeps c.without_ended-in-loop-place.ensures.keeps)) c.args.allowed.now c.args.clause.now.vars b (c.requires.allowed.body n b at)
+    ready_later c.args.table.now c.without_ended-in-loop-place.new.table (keeps_twice _ _ _ c.loop-place.invariant.keeps (keeps_twice _ _ _ c.without_ended.ensures.keeps c.without_ended-in-loop-place.ensures.keeps)) c.args.allowed.now c.args.clause.now.vars b (c.requires.allowed_ready.body n b at)
 
 pub atom_rows-requires-in-loop-place-clause-ready :
     goal.atom_rows-requires-in-loop-place-clause-ready
@@ -48,7 +48,7 @@ atom_rows-requires-in-loop-place-clause-ready g c =
     let b = c.atom-item.result in
     let at : slice_get c.args.clause.now.body n ≡ Some b = ap (λ (bs : List Atom). slice_get bs n) (sym c.as_slice-atom-items.ensures) ∙ at_place c.as_slice-atom-items.result.now n b c.loop-place-test.true c.atom-item.is in
     let ended = keeps_twice _ _ _ c.without_ended.ensures.keeps c.without_ended-in-loop-place.ensures.keeps in
-    ready_later c.args.table.now c.or.new.self (keeps_twice _ _ _ c.loop-place.invariant.keeps (keeps_twice _ _ _ ended (keeps_twice _ _ _ c.leaving_rows.ensures.keeps c.or.ensures.keeps))) c.args.grounds.now c.args.clause.now.vars b (c.requires.grounds.body n b at)
+    ready_later c.args.table.now c.or.new.self (keeps_twice _ _ _ c.loop-place.invariant.keeps (keeps_twice _ _ _ ended (keeps_twice _ _ _ c.leaving_rows.ensures.keeps c.or.ensures.keeps))) c.args.grounds.now c.args.clause.now.vars b (c.requires.grounds_ready.body n b at)
 
 pub loop-place-preserved : goal.loop-place-preserved
 loop-place-preserved g c =
@@ -84,7 +84,7 @@ loop-place-preserved g c =
     let at : slice_get k.body n ≡ Some b = ap (λ (bs : List Atom). slice_get bs n) (sym c.as_slice-atom-items.ensures) ∙ at_place c.as_slice-atom-items.result.now n b c.loop-place-test.true c.atom-item.is in
     let own = same_rank ranks b.pred.0 k.head.pred.0 in
     let sets = if own then pre else allowed in
-    let chosen = chosen_ready old pre allowed k.vars b own (c.requires.pre.body n b at) (c.requires.allowed.body n b at) in
+    let chosen = chosen_ready old pre allowed k.vars b own (c.requires.pre_ready.body n b at) (c.requires.allowed_ready.body n b at) in
     let to2 = keeps_twice _ _ _ i.keeps (keeps_twice _ _ _ K1 K2) in
     let to4 = keeps_twice _ _ _ to2 (keeps_twice _ _ _ K3 K4) in
     let told = all_told_more truth c.put_body_off.new.ends ends n b.args (c.put_all_off.ensures.more n) (c.put_body_off.ensures.told n b at) in
@@ -95,7 +95,7 @@ loop-place-preserved g c =
     (λ v. (λ t. sym (kept0 v) ∙ t, λ t. kept0 v ∙ t)) c.in_ok-broken.ensures.rows in
     let says2 = says_later ends n n (λ (v : ℕ → Bool). BreaksBelow truth old ranks grounds pre allowed k n v) (holds T0 c.loop-place.broken) (holds T2 broken1) (omega arith) i.broken ended in
     let wanted = atom_later old T2 to2 sets k.vars b chosen truth in
-    let held = atom_later old T4 to4 grounds k.vars b (c.requires.grounds.body n b at) truth in
+    let held = atom_later old T4 to4 grounds k.vars b (c.requires.grounds_ready.body n b at) truth in
     let reach2 = holds_later T1 T2 reached1 K2 c.in_ok-reached-2.ensures.known in
     let reach5 = holds_later T1 T5 reached1 (keeps_twice _ _ _ K2 (keeps_twice _ _ _ K3 (keeps_twice _ _ _ K4 K5))) c.in_ok-reached-2.ensures.known in
     let kept3 = holds_later T2 T3 broken1 K3 c.in_ok-broken.ensures.known in

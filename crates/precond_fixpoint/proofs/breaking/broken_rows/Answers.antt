@@ -13,6 +13,6 @@ returns-clause-rows g c = λ row.
       λ s. c.in_ok-rows.ensures.all s.0 row
           (λ w agree. c.in_ok-values.ensures.all w
           (breaks_agree (g.N.Norm.size c.args.norm.now) truth (g.N.Norm.expression c.args.norm.now) (g.met.N.Norm.laws c.args.norm.now)
-          c.args.table.now c.args.ranks.now c.args.grounds.now c.args.pre.now c.args.allowed.now k c.requires.grounds s.0 w agree s.1))
+          c.args.table.now c.args.ranks.now c.args.grounds.now c.args.pre.now c.args.allowed.now k c.requires.grounds_ready s.0 w agree s.1))
           s.2,
     )

@@ -9,8 +9,8 @@ abbrev pub invariant-loop-m : goal.invariant-loop-m
 invariant-loop-m g l =
     record {
       keeps : Keeps l.fn.table l.table;
-      marks : length l.marks ≡ length l.p.clauses;
-      sets : AreSets l.p.preds l.table l.sets;
-      each : length l.columns.items ≡ length l.members;
-      solutions : AreSolutions (g.N.Norm.truth l.norm) l.p l.ranks l.rank (family_of l.p.preds l.fn.table l.allowed) (family_of l.p.preds l.fn.table l.grounds) l.levels l.table l.m l.members l.columns.items;
+      marks : length l.marks ≡ length l.setting.program.now.clauses;
+      sets : AreSets l.setting.program.now.preds l.table l.sets;
+      each : length l.columns.items ≡ length l.component.members.now;
+      solutions : AreSolutions (g.N.Norm.truth l.setting.norm.now) l.setting.program.now l.setting.ranks.now l.component.rank (family_of l.setting.program.now.preds l.fn.table l.component.allowed.now) (family_of l.setting.program.now.preds l.fn.table l.setting.grounds.now) l.setting.levels.now l.table l.m l.component.members.now l.columns.items;
     }

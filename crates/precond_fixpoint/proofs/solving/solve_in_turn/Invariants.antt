@@ -9,9 +9,9 @@ abbrev pub invariant-loop-c : goal.invariant-loop-c
 invariant-loop-c g l =
     record {
       keeps : Keeps l.fn.table l.table;
-      marks : length l.marks ≡ length l.p.clauses;
-      pre : AreSets l.p.preds l.table l.pre.items;
-      sets : AreMappingSets l.p.preds l.table l.sets;
-      allowed : AreUnions l.p.preds l.table l.sets l.allowed;
-      solved : (d : ℕ) → d < l.c → IsSolved (g.N.Norm.truth l.norm) l.p l.comps (family_of l.p.preds l.fn.table l.grounds) l.levels l.table l.sets d;
+      marks : length l.marks ≡ length l.setting.program.now.clauses;
+      pre : AreSets l.setting.program.now.preds l.table l.pre.items;
+      sets : AreMappingSets l.setting.program.now.preds l.table l.sets;
+      allowed : AreUnions l.setting.program.now.preds l.table l.sets l.allowed;
+      solved : (d : ℕ) → d < l.c → IsSolved (g.N.Norm.truth l.setting.norm.now) l.setting.program.now l.setting.comps.now (family_of l.setting.program.now.preds l.fn.table l.setting.grounds.now) l.setting.levels.now l.table l.sets d;
     }
