@@ -1,5 +1,5 @@
 -- The rows that coefficients cover, by places.
-use Rattle.std.proofs.Common.{◌≡◌, ◌↔◌, ℕ, zero, suc, ◌<◌, ◌≤◌, Bool, true, false, ◌&&◌, IsTrue, List, [], ◌∷◌, length, map, slice_get, Some, nat_lt, ltb-true, inl, inr, refl, ap, sym, ◌∙◌, arith}
+use Rattle.std.proofs.Common.{◌≡◌, ◌↔◌, ℕ, suc, ◌<◌, ◌≤◌, Bool, true, false, ◌&&◌, IsTrue, List, length, map, slice_get, Some, nat_lt, inl, inr, refl, ap, sym, ◌∙◌, arith}
 use Rattle.std.proofs.lemmas.Bool.{cases_eq}
 use Rattle.bool_diagrams.specs.Cubes.{values_of}
 use Rattle.termination_model.specs.Rows.{Covers}

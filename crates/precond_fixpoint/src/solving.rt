@@ -107,12 +107,33 @@ fn solve_in_turn<N: Norm>(
         → IsSolved (N.truth setting.now.norm.now) setting.now.program.now setting.now.comps.now (rows_of setting.now table.old setting.now.grounds.now) setting.now.levels.now table.new sets.new c) }
 {
     let mut marks = Marks::none(alloc, setting.program.clauses())?;
-    // What is put for one mapping after the other. What it has before does not matter.
     let mut pre = Vec::from_slice(alloc, allowed)?;
+    solve_each(alloc, setting, table, &mut marks, &mut pre, sets, allowed)
+}
+
+// The same with marks and sets for the search of one component after the other. What they hold before does not matter.
+fn solve_each<N: Norm>(
+    alloc: Global,
+    setting: &Setting<N>,
+    table: &mut Table,
+    marks: &mut Marks,
+    pre: &mut [Diagram],
+    sets: &mut [Sequence<Diagram>],
+    allowed: &mut [Diagram],
+) -> Result<(), AllocError>
+    requires setting { IsSetting setting.now table.old }
+    requires marks { length marks.old ≡ length setting.now.program.now.clauses }
+    requires pre { AreSets setting.now.program.now.preds table.old pre.old }
+    requires sets { AreMappingSets setting.now.program.now.preds table.old sets.old }
+    requires allowed { AreUnions setting.now.program.now.preds table.old sets.old allowed.old }
+    ensures keeps { Keeps table.old table.new }
+    ensures sets { OnOk result (AreMappingSets setting.now.program.now.preds table.new sets.new) }
+    ensures allowed { OnOk result (AreUnions setting.now.program.now.preds table.new sets.new allowed.new) }
+    ensures solved { OnOk result ((c : ℕ) → c < length setting.now.comps.now.members
+        → IsSolved (N.truth setting.now.norm.now) setting.now.program.now setting.now.comps.now (rows_of setting.now table.old setting.now.grounds.now) setting.now.levels.now table.new sets.new c) }
+{
     for c in 0..setting.comps.count() {
-        solve_component(
-            alloc, setting, table, c, &mut marks, &mut pre, sets, allowed,
-        )?;
+        solve_component(alloc, setting, table, c, marks, pre, sets, allowed)?;
     }
     Ok(())
 }
