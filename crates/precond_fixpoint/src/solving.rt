@@ -1,6 +1,6 @@
 //! The preconditions of a program, component by component.
 
-ghost use Rattle.std.specs.Prelude.{◌≡◌, ◌<◌, ℕ, IfOk, OnOk, length, slice_get};
+ghost use Rattle.std.specs.Prelude.{◌≡◌, ◌<◌, [], ℕ, IfOk, OnOk, length, replicate, slice_get};
 ghost use Rattle.bool_diagrams.specs.Rows.{Keeps};
 ghost use Rattle.call_components.specs.Partition.{AreComponents, IsIn};
 ghost use Rattle.precond_fixpoint.specs.Setting.{IsSetting, rows_of};
@@ -9,6 +9,7 @@ ghost use Rattle.truth_rows.specs.Sets.{AreSets, family_of};
 
 use crate::columns::{no_sets, put_members};
 use crate::families::member_sets;
+use crate::mode::Mode;
 use crate::modes::all_modes;
 use crate::preconditions::Preconditions;
 use crate::ranks::component_ranks;
@@ -78,15 +79,33 @@ fn solve_components<N: Norm>(
         → IsSolved (N.truth setting.now.norm.now) setting.now.program.now setting.now.comps.now (rows_of setting.now table.old setting.now.grounds.now) setting.now.levels.now table.new pre.sets c) }
     ensures modes { IfOk result (λ pre. AreModes setting.now.program.now.preds (allowed_family setting.now.program.now.preds table.new pre.sets) pre.modes) }
 {
-    let count = setting.program.preds() as usize;
-    let mut sets = no_sets(alloc, count)?;
-    let mut allowed = vec![in alloc; table.truth(false); count]?;
-    solve_in_turn(alloc, setting, table, &mut sets, &mut allowed)?;
-    let modes = all_modes(alloc, table, setting.program, &allowed)?;
+    let mut sets = no_sets(alloc, setting.program.preds() as usize)?;
+    let modes = solve_all(alloc, setting, table, &mut sets)?;
     Ok(Preconditions {
         sets: Sequence::from_vec(sets),
         modes,
     })
+}
+
+// Puts the sets of all components into their places, which are empty before, and gives the modes that they allow.
+fn solve_all<N: Norm>(
+    alloc: Global,
+    setting: &Setting<N>,
+    table: &mut Table,
+    sets: &mut [Sequence<Diagram>],
+) -> Result<Sequence<Sequence<Mode>>, AllocError>
+    requires setting { IsSetting setting.now table.old }
+    requires empty { sets.old ≡ replicate (length setting.now.program.now.preds) [] }
+    ensures keeps { Keeps table.old table.new }
+    ensures sets { IfOk result (λ modes. AreMappingSets setting.now.program.now.preds table.new sets.new) }
+    ensures solved { IfOk result (λ modes. (c : ℕ) → c < length setting.now.comps.now.members
+        → IsSolved (N.truth setting.now.norm.now) setting.now.program.now setting.now.comps.now (rows_of setting.now table.old setting.now.grounds.now) setting.now.levels.now table.new sets.new c) }
+    ensures modes { IfOk result (AreModes setting.now.program.now.preds (allowed_family setting.now.program.now.preds table.new sets.new)) }
+{
+    let count = setting.program.preds() as usize;
+    let mut allowed = vec![in alloc; table.truth(false); count]?;
+    solve_in_turn(alloc, setting, table, sets, &mut allowed)?;
+    all_modes(alloc, table, setting.program, &allowed)
 }
 
 // Solves the components in turn, callees first.
