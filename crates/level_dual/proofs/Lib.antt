@@ -33,6 +33,7 @@ pub mod SupportLaws
 pub mod SystemSteps
 pub mod SystemWidths
 pub mod ValueLaws
+pub mod VanishLaws
 pub mod ViewCalls
 pub mod Visits
 pub mod WalkLaws

@@ -12,5 +12,6 @@ pub mod Refuted
 pub mod Searched
 pub mod Subsequences
 pub mod Valued
+pub mod Vanishing
 pub mod Walk
 pub mod Walked

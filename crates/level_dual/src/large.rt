@@ -7,17 +7,20 @@ ghost use Rattle.level_dual.specs.Found.{IsFound, count, without};
 ghost use Rattle.level_dual.specs.Held.{spelled};
 ghost use Rattle.level_dual.specs.Large.{IsHadMapping, IsLeftOut, IsShorterThan, has_coefficient};
 ghost use Rattle.level_dual.specs.Mappings.{support_of};
-ghost use Rattle.level_dual.specs.Searched.{IsComponent, IsSound};
+ghost use Rattle.level_dual.specs.Searched.{IsAnswer, IsComponent, IsSound};
 ghost use Rattle.level_dual.specs.Subsequences.{AreOnce};
+ghost use Rattle.level_dual.specs.Vanishing.{IsKnown};
 
 use crate::answer::Answer;
 use crate::component::Component;
+use crate::excluding::exclude;
 use crate::falling::find_part;
 use crate::found::Found;
 use crate::mapping::Mapping;
 use crate::measure::Measure;
 use crate::position::Position;
 use crate::searching::search;
+use crate::vanishing::starts_of;
 use cti_terms::Program;
 use sequences::Sequence;
 use std::alloc::{AllocError, Global};
@@ -72,6 +75,31 @@ pub(crate) enum LeftOut {
     None(Sequence<Sequence<u32>>),
 }
 
+// Searches at a set, unless it is seen from what was found before that no mapping decreases there.
+fn search_unless_excluded(
+    alloc: Global,
+    p: &Program,
+    component: &Component,
+    starts: &[usize],
+    set: &[u32],
+    known: &mut Option<Sequence<bool>>,
+) -> Result<Answer, AllocError>
+    requires sound { IsSound p.now component.now }
+    requires small { length component.now.positions.items < 2 ^ 32 }
+    ensures known { (size : (ℕ → ℕ) → Tree → ℕ) (truth : (ℕ → Bool) → Tree → Bool) (expression : ℕ → Tree → List ℤ) (comps : Partition) (rows : ℕ → List (List ℤ)) (c : ℕ)
+        → IsComponent size truth expression p.now comps rows c component.now
+        → IsKnown expression p.now comps rows c component.now.positions.items known.old → IsKnown expression p.now comps rows c component.now.positions.items known.new }
+    ensures answer { IfOk result (λ answer. (size : (ℕ → ℕ) → Tree → ℕ) (truth : (ℕ → Bool) → Tree → Bool) (expression : ℕ → Tree → List ℤ) (comps : Partition) (rows : ℕ → List (List ℤ)) (c : ℕ)
+        → IsComponent size truth expression p.now comps rows c component.now
+        → IsKnown expression p.now comps rows c component.now.positions.items known.old → IsAnswer expression p.now comps rows c set.now answer) }
+{
+    if exclude(alloc, p, component, starts, set, known)? {
+        return Ok(Answer::Refuted);
+    }
+    let answer = search(alloc, p, component, set)?;
+    Ok(answer)
+}
+
 // Searches at the support of a mapping without one position after another, up to a mapping of smaller support.
 fn leave_out(
     alloc: Global,
@@ -85,10 +113,19 @@ fn leave_out(
     ensures left_out { IfOk result (λ out. (size : (ℕ → ℕ) → Tree → ℕ) (truth : (ℕ → Bool) → Tree → Bool) (expression : ℕ → Tree → List ℤ) (comps : Partition) (rows : ℕ → List (List ℤ)) (c : ℕ)
         → IsComponent size truth expression p.now comps rows c component.now → AreOnce support.now → IsLeftOut expression p.now comps rows c support.now out) }
 {
+    let starts = starts_of(alloc, component.positions.as_slice())?;
     let mut blown = Sequence::new(alloc);
+    let mut known = None;
     for number in support {
         let set = without(alloc, support, *number)?;
-        match search(alloc, p, component, set.as_slice())? {
+        match search_unless_excluded(
+            alloc,
+            p,
+            component,
+            starts.as_slice(),
+            set.as_slice(),
+            &mut known,
+        )? {
             Answer::Mapping(mapping) => {
                 // The support of a mapping at this set is smaller. It is tested, since the caller's loop ends by that.
                 let smaller = support_of(alloc, component.positions.as_slice(), &mapping)?;

@@ -12,6 +12,7 @@ mod answer;
 mod collect;
 mod collecting;
 mod component;
+mod excluding;
 mod fall;
 mod falling;
 mod finding;
@@ -30,6 +31,7 @@ mod small;
 mod solving;
 mod support_rows;
 mod values;
+mod vanishing;
 mod walked;
 mod walking;
 

@@ -48,8 +48,8 @@ fn are_zero(numbers: &[i128]) -> bool
     true
 }
 
-// Whether a number is 0.
-fn is_nought(x: i128) -> bool
+/// Whether a number is 0.
+pub(crate) fn is_nought(x: i128) -> bool
     ensures { IsTrue result ↔ (x ≡ pos 0) }
 {
     x == 0

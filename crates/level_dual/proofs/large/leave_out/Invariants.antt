@@ -4,9 +4,11 @@ use Rattle.cti_terms.specs.Tree.{Tree}
 use Rattle.level_dual.specs.Large.{AreTried}
 use Rattle.level_dual.specs.Searched.{IsComponent}
 use Rattle.level_dual.specs.Subsequences.{AreOnce}
+use Rattle.level_dual.specs.Vanishing.{IsKnown}
 use Rattle.level_dual.proofs.large.leave_out.Given as goal
 
 abbrev pub invariant-loop-number : goal.invariant-loop-number
 invariant-loop-number l =
     (size : (ℕ → ℕ) → Tree → ℕ) (truth : (ℕ → Bool) → Tree → Bool) (expression : ℕ → Tree → List ℤ) (comps : Partition) (rows : ℕ → List (List ℤ)) (c : ℕ)
-    → IsComponent size truth expression l.p comps rows c l.component → AreOnce l.support → AreTried expression l.p comps rows c l.support l.number-index l.blown
+    → IsComponent size truth expression l.p comps rows c l.component → AreOnce l.support
+    → AreTried expression l.p comps rows c l.support l.number-index l.blown × IsKnown expression l.p comps rows c l.component.positions.items l.known

@@ -1,0 +1,343 @@
+-- Coefficients that are 0 where others are.
+use Rattle.std.proofs.Common.{◌≡◌, ◌≢◌, ℕ, zero, suc, ◌+◌, ◌<◌, ◌≤◌, ℤ, pos, negsuc, ◌+ℤ◌, ◌*ℤ◌, ◌≤ℤ◌, Bool, true, false, if◌then◌else◌, List, [], ◌∷◌, ◌++◌, map, take, length, slice_get, slice_set, Some, ◌⊎◌, inl, inr, refl, ap, sym, subst, ◌∙◌, arith, nat_lt}
+use Rattle.std.specs.Prelude.{All}
+use Rattle.std.specs.List.{AllByRecursion}
+use Rattle.std.proofs.lemmas.Int.{ints}
+use Rattle.std.proofs.lemmas.Bool.Decides.{nat_tests}
+use lib.IntN.{*ℤ_comm}
+use Rattle.cti_terms.specs.Listing.{Listing}
+use Rattle.cti_terms.specs.Tree.{Tree}
+use Rattle.call_components.specs.Partition.{Partition}
+use Rattle.call_components.proofs.Lists.{slice_get-set_same, slice_get-set_other}
+use Rattle.exact128.proofs.Rings.{mul_mono, mul_nonneg}
+use Rattle.exact128.specs.Sums.{dot, entry}
+use Rattle.linear_rows.specs.Members.{In}
+use Rattle.linear_rows.specs.Plain.{plain_row, plain_rows}
+use Rattle.linear_rows.specs.Rows.{HoldsOn}
+use Rattle.linear_rows.specs.declared.row.Row.{Row}
+use Rattle.linear_rows.specs.declared.row.Rows.{Rows}
+use Rattle.linear_rows.proofs.Members.{in-left, in-map, in-right, of-append}
+use Rattle.termination_model.specs.Best.{coefficient}
+use Rattle.termination_model.specs.Claims.{Mapping}
+use Rattle.termination_model.specs.ComponentViews.{Has, component_view, no_truth, positions_in}
+use Rattle.termination_model.specs.Minimal.{IsExcluded}
+use Rattle.termination_model.specs.Modes.{is_part}
+use Rattle.termination_model.specs.OwnCalls.{Position as Place, rows_before}
+use Rattle.termination_model.specs.Refutation.{Decreases}
+use Rattle.termination_model.specs.Rows.{added, scaled}
+use Rattle.termination_model.specs.Supports.{support_from}
+use Rattle.termination_model.specs.Systems.{row_over}
+use Rattle.termination_model.specs.View.{Call, Member, Rule, fall_over, system_of}
+use Rattle.termination_model.proofs.Entries.{entry_added, entry_scaled, entry_substituted}
+use Rattle.termination_model.proofs.Lists.{mapped_place, place_below}
+use Rattle.termination_model.proofs.Readiness.{from_in, own_of, some_there}
+use Rattle.termination_model.proofs.Sets.{of_part, to_part}
+use Rattle.level_dual.specs.Held.{AreSizes, IsHeld, spelled}
+use Rattle.level_dual.specs.Searched.{IsComponent}
+use Rattle.level_dual.specs.Vanishing.{AreMarkedOrIn, AreUnlisted, IsSilent, IsVoid, KeepsColumns, Vanishes, sizes_at}
+use Rattle.level_dual.specs.declared.component.Component.{Component}
+use Rattle.level_dual.specs.declared.own_call.OwnCall.{OwnCall}
+use Rattle.level_dual.specs.declared.position.Position.{Position}
+use Rattle.level_dual.proofs.HeldCalls.{all_in, calls_are, re, recalls, rows_are}
+
+-- ---- products of natural coefficients
+-- one to which no positive coefficient adds is 0
+pub silent_dot : (cs : List ℕ) (es : List ℤ) → ((a : ℕ) → 0 < coefficient cs a → entry es a ≡ pos 0) → dot (map pos cs) es ≡ pos 0
+unfolding dot
+silent_dot [] es h = refl
+silent_dot (c ∷ cs) [] h = refl
+silent_dot (zero ∷ cs) (e ∷ es) h = let rest = silent_dot cs es (λ a. h (suc a)) in omega (arith, ints, rest)
+silent_dot (suc c ∷ cs) (e ∷ es) h =
+    let here : e ≡ pos 0 = h 0 (omega arith) in
+    let rest = silent_dot cs es (λ a. h (suc a)) in
+    rw here (omega (arith, ints, rest))
+
+dot_natural : (cs : List ℕ) (es : List ℤ) → ((a : ℕ) → pos 0 ≤ℤ entry es a) → pos 0 ≤ℤ dot (map pos cs) es
+unfolding dot
+dot_natural [] es h = omega (arith, ints)
+dot_natural (c ∷ cs) [] h = omega (arith, ints)
+dot_natural (c ∷ cs) (e ∷ es) h =
+    let here = mul_nonneg (pos c) e (omega (arith, ints)) (h 0) in
+    let rest = dot_natural cs es (λ a. h (suc a)) in
+    omega (arith, ints, here, rest)
+
+zero_factor : (c : ℕ) (e : ℤ) → 0 < c → pos 0 ≤ℤ e → (pos c *ℤ e) ≤ℤ pos 0 → e ≡ pos 0
+zero_factor zero e k n l = absurd (omega (arith, k))
+zero_factor (suc c) (pos zero) k n l = refl
+zero_factor (suc c) (pos (suc e)) k n l =
+    let m = mul_mono (pos 1) (pos (suc e)) (suc c) (omega (arith, ints)) in
+    let swap = *ℤ_comm (pos (suc e)) (pos (suc c)) in
+    absurd (omega (arith, ints, m, swap, l))
+zero_factor (suc c) (negsuc e) k n l = absurd (omega (arith, ints, n))
+
+-- where one of naturals is at most 0, each at a positive coefficient is 0
+pub silent_of : (cs : List ℕ) (es : List ℤ) → ((a : ℕ) → pos 0 ≤ℤ entry es a) → dot (map pos cs) es ≤ℤ pos 0 → (a : ℕ) → 0 < coefficient cs a → entry es a ≡ pos 0
+unfolding dot
+silent_of [] es h d a k = absurd (omega (arith, k))
+silent_of (c ∷ cs) [] h d a k = refl
+silent_of (c ∷ cs) (e ∷ es) h d zero k =
+    let rest = dot_natural cs es (λ a. h (suc a)) in
+    let here : (pos c *ℤ e) ≤ℤ pos 0 = omega (arith, ints, rest, d) in
+    zero_factor c e k (h 0) here
+silent_of (c ∷ cs) (e ∷ es) h d (suc a) k =
+    let here = mul_nonneg (pos c) e (omega (arith, ints)) (h 0) in
+    silent_of cs es (λ b. h (suc b)) (omega (arith, ints, here, d)) a k
+
+-- ---- columns of a row that holds everywhere
+abbrev flat : ℕ → List ℕ
+flat zero = []
+flat (suc n) = 0 ∷ flat n
+
+-- of n numbers all are 0 but that at one place
+abbrev spike : ℕ → ℕ → ℕ → List ℕ
+spike j k zero = []
+spike zero k (suc n) = k ∷ flat n
+spike (suc j) k (suc n) = 0 ∷ spike j k n
+
+length_flat : (n : ℕ) → length (flat n) ≡ n
+length_flat zero = refl
+length_flat (suc n) = ap suc (length_flat n)
+
+length_spike : (j k n : ℕ) → length (spike j k n) ≡ n
+length_spike j k zero = refl
+length_spike zero k (suc n) = ap suc (length_flat n)
+length_spike (suc j) k (suc n) = ap suc (length_spike j k n)
+
+dot_flat : (es : List ℤ) (n : ℕ) → dot es (map pos (flat n)) ≡ pos 0
+unfolding dot
+dot_flat [] n = refl
+dot_flat (e ∷ es) zero = refl
+dot_flat (e ∷ es) (suc n) = let rest = dot_flat es n in omega (arith, ints, rest)
+
+dot_spike : (es : List ℤ) (j k n : ℕ) → j < n → dot es (map pos (spike j k n)) ≡ pos k *ℤ entry es j
+unfolding dot
+dot_spike es j k zero l = absurd (omega (arith, l))
+dot_spike [] zero k (suc n) l = omega (arith, ints)
+dot_spike [] (suc j) k (suc n) l = omega (arith, ints)
+dot_spike (e ∷ es) zero k (suc n) l = let rest = dot_flat es n in let swap = *ℤ_comm e (pos k) in omega (arith, ints, rest, swap)
+dot_spike (e ∷ es) (suc j) k (suc n) l = let rest = dot_spike es j k n (omega (arith, l)) in omega (arith, ints, rest)
+
+-- a line that never falls below 0 does not fall
+never_below : (a b : ℤ) → ((k : ℕ) → pos 0 ≤ℤ (a +ℤ pos k *ℤ b)) → pos 0 ≤ℤ b
+never_below a (pos n) h = omega (arith, ints)
+never_below (pos a) (negsuc n) h = absurd (let l = h (suc a) in omega (arith, ints))
+never_below (negsuc a) (negsuc n) h = absurd (let l = h 0 in omega (arith, ints))
+
+column_kept : (n : ℕ) (row : List ℤ) → HoldsOn (suc n) [] row → (j : ℕ) → j < n → pos 0 ≤ℤ entry row (suc j)
+unfolding dot
+column_kept n [] on j l = omega (arith, ints)
+column_kept n (b ∷ row) on j l =
+    never_below b (entry row j) (λ k.
+    let long = length_spike j k n in
+    let holds : pos 0 ≤ℤ (b *ℤ pos 1 +ℤ dot row (map pos (spike j k n))) = on 1 (spike j k n) (omega arith) (omega (arith, long)) (λ i e less. absurd (omega (arith, less))) in
+    let at = dot_spike row j k n l in
+    omega (arith, ints, holds, at))
+
+fall_column : (expression : ℕ → Tree → List ℤ) (r : Rule) (q : ℕ) (ts : List Tree) (l : Mapping) (j : ℕ) → pos 0 ≤ℤ entry (fall_over no_truth expression r q ts 1 l) (suc j)
+    → dot (map pos (l.coefficients q)) (map (λ e. entry e (suc j)) (map (expression r.vars) ts))
+    ≤ℤ dot (map pos (l.coefficients r.member)) (map (λ e. entry e (suc j)) (map (expression r.vars) r.args))
+fall_column expression r q ts l j le =
+    let head = row_over expression r.vars r.args (pos (l.offset r.member) ∷ map pos (l.coefficients r.member)) in
+    let call = row_over expression r.vars ts (pos (l.offset q) ∷ map pos (l.coefficients q)) in
+    let a = entry_added head (scaled (negsuc 0) (added call (pos 1 ∷ []))) (suc j) in
+    let b = entry_scaled (negsuc 0) (added call (pos 1 ∷ [])) (suc j) in
+    let d = entry_added call (pos 1 ∷ []) (suc j) in
+    let h = entry_substituted r.vars (map (expression r.vars) r.args) (pos (l.offset r.member)) (map pos (l.coefficients r.member)) (suc j) in
+    let g = entry_substituted r.vars (map (expression r.vars) ts) (pos (l.offset q)) (map pos (l.coefficients q)) (suc j) in
+    omega (arith, ints, le, a, b, d, h, g)
+
+-- ---- sizes
+pub size_at : (rows : List Row) (x a : ℕ) (r : Row) → slice_get rows a ≡ Some r → entry (map (λ e. entry e x) (map plain_row rows)) a ≡ entry (plain_row r) x
+size_at [] x a r e = cc
+size_at (y ∷ rows) x zero r e = let same : y ≡ r = cc in ap (λ (z : Row). entry (plain_row z) x) same
+size_at (y ∷ rows) x (suc a) r e = size_at rows x a r e
+
+size_past : (rows : List Row) (x a : ℕ) → length rows ≤ a → entry (map (λ e. entry e x) (map plain_row rows)) a ≡ pos 0
+size_past [] x a l = refl
+size_past (y ∷ rows) x zero l = absurd (omega (arith, l))
+size_past (y ∷ rows) x (suc a) l = size_past rows x a (omega (arith, l))
+
+below_or : (a n : ℕ) → (a < n) ⊎ (n ≤ a)
+below_or a n = grind arith
+
+-- what is so of all arguments is so of all numbers
+pub silent_everywhere : (l : Mapping) (q : ℕ) (sizes : Rows) (x : ℕ) → IsSilent l q sizes x (length sizes.list) → (a : ℕ) → 0 < coefficient (l.coefficients q) a → entry (sizes_at sizes x) a ≡ pos 0
+silent_everywhere l q sizes x h a more = elim (below_or a (length sizes.list)) [ inl lt ↦ h a lt more | inr le ↦ size_past sizes.list x a le ]
+
+pub natural_sizes : (rows : List Row) (x : ℕ) → All (λ (r : Row). (x < length (plain_row r)) × (pos 0 ≤ℤ entry (plain_row r) x)) rows → (a : ℕ) → pos 0 ≤ℤ entry (map (λ e. entry e x) (map plain_row rows)) a
+natural_sizes [] x h a = omega (arith, ints)
+natural_sizes (r ∷ rows) x h zero = (h 0 r (omega arith)).1
+natural_sizes (r ∷ rows) x h (suc a) = natural_sizes rows x (λ k d l. h (suc k) d (omega (arith, l))) a
+
+pub none_there : {X : Type 0} (xs : List X) → length xs ≤ 0 → xs ≡ []
+none_there [] l = refl
+none_there (x ∷ xs) l = absurd (omega (arith, l))
+
+-- where a call keeps its columns and the head is silent, so is the call
+pub call_silent : (l : Mapping) (own : OwnCall) (x : ℕ) → KeepsColumns l own → own.rows.list ≡ [] → x < own.rows.width → AreSizes (suc x) own.callee_sizes
+    → IsSilent l own.caller.0 own.caller_sizes (suc x) (length own.caller_sizes.list) → IsSilent l own.callee.0 own.callee_sizes (suc x) (length own.callee_sizes.list)
+call_silent l own x keeps none lt sizes silent a less more =
+    let head = silent_dot (l.coefficients own.caller.0) (sizes_at own.caller_sizes (suc x)) (silent_everywhere l own.caller.0 own.caller_sizes (suc x) silent) in
+    let kept = keeps none x lt in
+    silent_of (l.coefficients own.callee.0) (sizes_at own.callee_sizes (suc x)) (natural_sizes own.callee_sizes.list (suc x) sizes) (omega (arith, ints, head, kept)) a more
+
+-- ---- marks
+pub zero_unless : (n : ℕ) → (0 < n → ⊥) → n ≡ 0
+zero_unless zero h = refl
+zero_unless (suc n) h = absurd (h (omega arith))
+
+pub same_or : (i j : ℕ) → (i ≡ j) ⊎ (i ≢ j)
+same_or zero zero = inl refl
+same_or zero (suc j) = inr (λ e. omega (arith, e))
+same_or (suc i) zero = inr (λ e. omega (arith, e))
+same_or (suc i) (suc j) = elim (same_or i j) [ inl e ↦ inl (ap suc e) | inr n ↦ inr (λ e. n (omega (arith, e))) ]
+
+-- one more mark
+pub marked_too : (positions : List Position) (marks : List Bool) (k : ℕ) (q a : ℕ) (l : Mapping) (x : Position) → slice_get positions k ≡ Some x → x.pred.0 ≡ q → x.argument ≡ a
+    → coefficient (l.coefficients q) a ≡ 0 → Vanishes positions marks l → Vanishes positions (slice_set marks k true) l
+marked_too positions marks k q a l x at pred argument none v j y there marked = elim (same_or j k) [
+  | inl e ↦
+      let same : y ≡ x = let other : slice_get positions j ≡ Some x = ap (slice_get positions) e ∙ at in cc in
+      ap (λ (z : Position). coefficient (l.coefficients z.pred.0) z.argument) same ∙ (λ i. coefficient (l.coefficients (pred i)) (argument i)) ∙ none
+  | inr n ↦ v j y there (sym (slice_get-set_other marks k j true n) ∙ marked)
+]
+
+-- one more number of a set
+pub cleared : (marks : List Bool) (s : List ℕ) (x j : ℕ) → AreUnlisted marks s → suc j ≡ x → j < length marks → AreUnlisted (slice_set marks j false) (s ++ x ∷ [])
+cleared marks s x j h is lt k marked i = elim (same_or k j) [
+  | inl same ↦
+      let here : slice_get (slice_set marks j false) k ≡ Some false = ap (slice_get (slice_set marks j false)) same ∙ slice_get-set_same marks j false lt in
+      cc
+  | inr n ↦
+      let there : slice_get marks k ≡ Some true = sym (slice_get-set_other marks j k false n) ∙ marked in
+      elim (of-append s (x ∷ []) (suc k) i) [ inl a ↦ h k there a | inr b ↦ elim b [ inl f ↦ n (omega (arith, is, f)) | inr none ↦ none ] ]
+]
+
+pub still_unlisted : (marks : List Bool) (s : List ℕ) (x : ℕ) → AreUnlisted marks s → ((k : ℕ) → slice_get marks k ≡ Some true → x ≡ suc k → ⊥) → AreUnlisted marks (s ++ x ∷ [])
+still_unlisted marks s x h n k marked i =
+    elim (of-append s (x ∷ []) (suc k) i) [ inl a ↦ h k marked a | inr b ↦ elim b [ inl f ↦ n k marked f | inr none ↦ none ] ]
+
+-- one more place
+less_or_same : (i k : ℕ) → i < k + 1 → (i ≡ k) ⊎ (i < k)
+less_or_same i k l = grind arith
+
+pub listed_more : (k : ℕ) (marks : List Bool) (s : List ℕ) → AreMarkedOrIn k marks s → AreMarkedOrIn (k + 1) marks (s ++ (k + 1) ∷ [])
+listed_more k marks s h i lt = elim (less_or_same i k lt) [
+  | inl e ↦ let is : k + 1 ≡ suc i = omega (arith, e) in inr (in-right s ((k + 1) ∷ []) (suc i) (inl is))
+  | inr less ↦ elim (h i less) [ inl m ↦ inl m | inr j ↦ inr (in-left s ((k + 1) ∷ []) (suc i) j) ]
+]
+
+pub marked_more : (k : ℕ) (marks : List Bool) (s : List ℕ) → AreMarkedOrIn k marks s → slice_get marks k ≡ Some true → AreMarkedOrIn (k + 1) marks s
+marked_more k marks s h there i lt = elim (less_or_same i k lt) [
+  | inl e ↦ inl (ap (slice_get marks) e ∙ there)
+  | inr less ↦ h i less
+]
+
+module _ (size : (ℕ → ℕ) → Tree → ℕ) (truth : (ℕ → Bool) → Tree → Bool) (expression : ℕ → Tree → List ℤ) (p : Listing) (comps : Partition) (rows : ℕ → List (List ℤ)) (c : ℕ) (x : Component)
+    (h : IsComponent size truth expression p comps rows c x) (l : Mapping) where
+  module _ (d : Decreases no_truth expression (component_view expression p comps rows c) l) where
+    call_keeps : (own : OwnCall) → In own x.calls.items → KeepsColumns l own
+    call_keeps own i none j lt =
+        let view = component_view expression p comps rows c in
+        let held = from_in (IsHeld expression p rows) x.calls.items h.held own i in
+        let o = re expression p comps rows c own in
+        let r = recalls expression p comps rows c own held in
+        let mine = own_of view o (subst (In o) (sym (calls_are expression p comps rows c x.calls.items h.pairs h.held)) (in-map (re expression p comps rows c) x.calls.items own i)) in
+        let fall = from_in (λ (k : Rule). (n : ℕ) (b : Call) (q : ℕ) → slice_get k.body n ≡ Some b → b.place ≡ Member q
+        → HoldsOn (suc k.vars) (system_of expression k.vars (take n k.body)) (fall_over no_truth expression k q b.args 1 l)) view d o.rule (some_there view o.rule mine.there) o.place o.call o.member mine.call mine.member in
+        let empty : rows_before expression o ≡ [] = sym (rows_are expression p comps rows c own held) ∙ ap plain_rows none in
+        let all = subst (λ (rs : List (List ℤ)). HoldsOn (suc o.rule.vars) rs (fall_over no_truth expression o.rule o.member o.call.args 1 l)) empty fall in
+        let inside : j < o.rule.vars = let wide = r.vars in omega (arith, lt, wide) in
+        let kept = fall_column expression o.rule o.member o.call.args l j (column_kept o.rule.vars (fall_over no_truth expression o.rule o.member o.call.args 1 l) all j inside) in
+        let call : dot (map pos (l.coefficients own.callee.0)) (sizes_at own.callee_sizes (suc j)) ≡ dot (map pos (l.coefficients o.member)) (map (λ e. entry e (suc j)) (map (expression o.rule.vars) o.call.args)) =
+        λ i. dot (map pos (l.coefficients (r.callee i))) (map (λ e. entry e (suc j)) (r.callee_sizes i)) in
+        let head : dot (map pos (l.coefficients own.caller.0)) (sizes_at own.caller_sizes (suc j)) ≡ dot (map pos (l.coefficients o.rule.member)) (map (λ e. entry e (suc j)) (map (expression o.rule.vars) o.rule.args)) =
+        λ i. dot (map pos (l.coefficients (r.caller i))) (map (λ e. entry e (suc j)) (r.caller_sizes i)) in
+        omega (arith, ints, kept, call, head)
+
+    pub all_keep : AllByRecursion (KeepsColumns l) x.calls.items
+    all_keep = all_in (KeepsColumns l) x.calls.items call_keeps
+
+-- ---- supports
+in_here : (b : Bool) (i : ℕ) (xs : List ℕ) → b ≡ true → In i (if b then i ∷ xs else xs)
+in_here true i xs e = inl refl
+in_here false i xs e = cc
+
+in_later : (b : Bool) (i j : ℕ) (xs : List ℕ) → In j xs → In j (if b then i ∷ xs else xs)
+in_later true i j xs h = inr h
+in_later false i j xs h = h
+
+is_less : (n : ℕ) → 0 < n → nat_lt 0 n ≡ true
+is_less n h = grind (arith, nat_tests)
+
+less_of : (n : ℕ) → nat_lt 0 n ≡ true → 0 < n
+less_of n h = grind (arith, nat_tests)
+
+support_has : (ps : List Place) (l : Mapping) (i k : ℕ) (y : Place) → slice_get ps k ≡ Some y → 0 < coefficient (l.coefficients y.0) y.1 → In (i + k) (support_from i ps l)
+support_has [] l i k y e n = cc
+support_has (z ∷ ps) l i zero y e n =
+    let same : z ≡ y = cc in
+    let yes : nat_lt 0 (coefficient (l.coefficients z.0) z.1) ≡ true = subst (λ (v : Place). nat_lt 0 (coefficient (l.coefficients v.0) v.1) ≡ true) (sym same) (is_less _ n) in
+    let here : i + 0 ≡ i = omega arith in
+    rw here (in_here (nat_lt 0 (coefficient (l.coefficients z.0) z.1)) i (support_from (suc i) ps l) yes)
+support_has (z ∷ ps) l i (suc k) y e n =
+    let more : i + suc k ≡ suc i + k = omega arith in
+    rw more (in_later (nat_lt 0 (coefficient (l.coefficients z.0) z.1)) i (suc i + k) (support_from (suc i) ps l) (support_has ps l (suc i) k y e n))
+
+-- a number of a support, with its position
+pub record IsSupporting (ps : List Place) (l : Mapping) (i x : ℕ) : Type 0 where
+  pub k : ℕ
+  pub y : Place
+  pub there : slice_get ps k ≡ Some y
+  pub is : x ≡ i + k
+  pub positive : 0 < coefficient (l.coefficients y.0) y.1
+
+support_in : (ps : List Place) (l : Mapping) (i x : ℕ) → In x (support_from i ps l) → IsSupporting ps l i x
+support_in [] l i x h = absurd h
+support_in (z ∷ ps) l i x h = go (nat_lt 0 (coefficient (l.coefficients z.0) z.1)) refl h (support_in ps l (suc i) x)
+  where
+    later : IsSupporting ps l (suc i) x → IsSupporting (z ∷ ps) l i x
+    later s = let e = s.is in record { k = suc s.k; y = s.y; there = s.there; is = omega (arith, e); positive = s.positive }
+
+    go : (b : Bool) → nat_lt 0 (coefficient (l.coefficients z.0) z.1) ≡ b → In x (if b then i ∷ support_from (suc i) ps l else support_from (suc i) ps l)
+        → (In x (support_from (suc i) ps l) → IsSupporting ps l (suc i) x) → IsSupporting (z ∷ ps) l i x
+    go true e (inl s) rec = record { k = 0; y = z; there = refl; is = omega (arith, s); positive = less_of _ e }
+    go true e (inr j) rec = later (rec j)
+    go false e j rec = later (rec j)
+
+-- a position of a list that is spelled
+pub record IsSpelledAt (positions : List Position) (k : ℕ) (y : Place) : Type 0 where
+  pub x : Position
+  pub there : slice_get positions k ≡ Some x
+  pub is : spelled x ≡ y
+
+spelled_at : (positions : List Position) (k : ℕ) (y : Place) → slice_get (map spelled positions) k ≡ Some y → IsSpelledAt positions k y
+spelled_at [] k y e = cc
+spelled_at (x ∷ positions) zero y e = record { x = x; there = refl; is = cc }
+spelled_at (x ∷ positions) (suc k) y e = let r = spelled_at positions k y e in record { x = r.x; there = r.there; is = r.is }
+
+-- what is had within a set vanishes at all other places
+pub vanishes_there : (positions : List Position) (places : List Place) (l : Mapping) (marks : List Bool) (u set : List ℕ) → map spelled positions ≡ places → support_from 1 places l ≡ u
+    → is_part u set ≡ true → AreUnlisted marks set → Vanishes positions marks l
+vanishes_there positions places l marks u set same support part unlisted k x at marked =
+    zero_unless (coefficient (l.coefficients x.pred.0) x.argument) (λ more.
+    let there : slice_get places k ≡ Some (spelled x) = ap (λ (ps : List Place). slice_get ps k) (sym same) ∙ mapped_place spelled positions k x at in
+    let one : 1 + k ≡ suc k = omega arith in
+    let inside : In (suc k) u = subst (λ (n : ℕ). In n u) one (subst (In (1 + k)) support (support_has places l 1 k (spelled x) there more)) in
+    unlisted k marked (to_part u set part (suc k) inside))
+
+module _ (expression : ℕ → Tree → List ℤ) (p : Listing) (comps : Partition) (rows : ℕ → List (List ℤ)) (c : ℕ) (positions : List Position) (same : map spelled positions ≡ positions_in p comps c) where
+  -- where the set of the places without marks is excluded, so is each mapping that vanishes at the marks
+  pub void_of : (marks : List Bool) (numbers : List ℕ) → AreMarkedOrIn (length positions) marks numbers → IsExcluded (Has expression p comps rows c) numbers → IsVoid expression p comps rows c positions marks
+  void_of marks numbers cover excluded l at d v =
+      let places = positions_in p comps c in
+      excluded (support_from 1 places l)
+      (of_part (support_from 1 places l) numbers (λ n i.
+      let s = support_in places l 1 n i in
+      let z = spelled_at positions s.k s.y (ap (λ (ps : List Place). slice_get ps s.k) same ∙ s.there) in
+      let positive : 0 < coefficient (l.coefficients z.x.pred.0) z.x.argument = subst (λ (y : Place). 0 < coefficient (l.coefficients y.0) y.1) (sym z.is) s.positive in
+      elim (cover s.k (place_below positions s.k z.x z.there)) [
+        | inl marked ↦ let none = v s.k z.x z.there marked in absurd (omega (arith, none, positive))
+        | inr j ↦ let e : suc s.k ≡ n = let is = s.is in omega (arith, is) in subst (λ (m : ℕ). In m numbers) e j
+      ]))
+      (record { mapping = l; at = at; decreases = d; is = refl })

@@ -1,0 +1,6 @@
+use Rattle.termination_model.specs.Claims.{Mapping}
+use Rattle.level_dual.specs.Vanishing.{KeepsColumns, Vanishes}
+use Rattle.level_dual.proofs.vanishing.spread_at.Given as goal
+
+abbrev pub invariant-loop-variable : goal.invariant-loop-variable
+invariant-loop-variable l = (m : Mapping) → KeepsColumns m l.own → Vanishes l.positions l.fn.marks.items m → Vanishes l.positions l.marks.items m

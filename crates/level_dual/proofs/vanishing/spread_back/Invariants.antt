@@ -1,0 +1,7 @@
+use Rattle.std.specs.List.{AllByRecursion}
+use Rattle.termination_model.specs.Claims.{Mapping}
+use Rattle.level_dual.specs.Vanishing.{KeepsColumns, Vanishes}
+use Rattle.level_dual.proofs.vanishing.spread_back.Given as goal
+
+abbrev pub invariant-loop-i : goal.invariant-loop-i
+invariant-loop-i l = (m : Mapping) → AllByRecursion (KeepsColumns m) l.calls → Vanishes l.positions l.fn.marks.items m → Vanishes l.positions l.marks.items m

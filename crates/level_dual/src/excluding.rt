@@ -1,0 +1,109 @@
+//! Sets of positions at which no mapping decreases, by what has to be 0 with the other positions.
+
+ghost use Rattle.std.specs.Prelude.{◌≡◌, ◌<◌, ◌^◌, ℕ, ℤ, Bool, List, IfOk, length, true};
+ghost use Rattle.call_components.specs.Partition.{Partition};
+ghost use Rattle.cti_terms.specs.Listing.{Listing};
+ghost use Rattle.cti_terms.specs.Tree.{Tree};
+ghost use Rattle.level_dual.specs.Searched.{IsComponent, IsSound};
+ghost use Rattle.level_dual.specs.Vanishing.{IsKnown, IsVoid};
+ghost use Rattle.level_dual.specs.declared.position.Position.{Position};
+ghost use Rattle.termination_model.specs.ComponentViews.{Has};
+ghost use Rattle.termination_model.specs.Minimal.{IsExcluded};
+
+use crate::answer::Answer;
+use crate::component::Component;
+use crate::searching::search;
+use crate::vanishing::{is_covered, spread, unlisted, unmarked};
+use cti_terms::Program;
+use sequences::Sequence;
+use std::alloc::{AllocError, Global};
+
+// Marks where each mapping at a set is 0: at the positions outside of it, and where that makes coefficients 0.
+fn marks_outside(
+    alloc: Global,
+    p: &Program,
+    component: &Component,
+    starts: &[usize],
+    set: &[u32],
+) -> Result<Vec<bool>, AllocError>
+    requires sound { IsSound p.now component.now }
+    ensures { IfOk result (λ marks. (size : (ℕ → ℕ) → Tree → ℕ) (truth : (ℕ → Bool) → Tree → Bool) (expression : ℕ → Tree → List ℤ) (comps : Partition) (rows : ℕ → List (List ℤ)) (c : ℕ)
+        → IsComponent size truth expression p.now comps rows c component.now
+        → IsVoid expression p.now comps rows c component.now.positions.items marks.items → IsExcluded (Has expression p.now comps rows c) set.now) }
+{
+    // What every program keeps.
+    p.preds();
+    let mut marks = unlisted(alloc, component.positions.len(), set)?;
+    spread(
+        component.calls.as_slice(),
+        component.positions.as_slice(),
+        starts,
+        &mut marks,
+    );
+    Ok(marks)
+}
+
+// Whether it is known of fewer marks that no mapping is 0 at all of them.
+fn is_known(known: &Option<Sequence<bool>>, marks: &[bool]) -> bool
+    ensures { result ≡ true → (expression : ℕ → Tree → List ℤ) (p : Listing) (comps : Partition) (rows : ℕ → List (List ℤ)) (c : ℕ) (positions : List Position)
+        → IsKnown expression p comps rows c positions known.now → IsVoid expression p comps rows c positions marks.now }
+{
+    match known {
+        Some(few) => is_covered(few.as_slice(), marks),
+        None => false,
+    }
+}
+
+// Whether a search at the positions without marks, if these are fewer than `most`, finds that there is no mapping.
+fn is_void(
+    alloc: Global,
+    p: &Program,
+    component: &Component,
+    marks: &[bool],
+    most: usize,
+) -> Result<bool, AllocError>
+    requires sound { IsSound p.now component.now }
+    requires small { length component.now.positions.items < 2 ^ 32 }
+    ensures { IfOk result (λ void. void ≡ true → (size : (ℕ → ℕ) → Tree → ℕ) (truth : (ℕ → Bool) → Tree → Bool) (expression : ℕ → Tree → List ℤ) (comps : Partition) (rows : ℕ → List (List ℤ)) (c : ℕ)
+        → IsComponent size truth expression p.now comps rows c component.now → IsVoid expression p.now comps rows c component.now.positions.items marks.now) }
+{
+    let rest = unmarked(alloc, component.positions.as_slice().len(), marks)?;
+    if rest.len() >= most {
+        return Ok(false);
+    }
+    match search(alloc, p, component, rest.as_slice())? {
+        Answer::Refuted => Ok(true),
+        Answer::Mapping(_) => Ok(false),
+        Answer::Blown => Ok(false),
+    }
+}
+
+/// Whether it is seen that no mapping decreases at a set, by the last marks that showed this of another set or by a
+/// search at fewer positions.
+pub(crate) fn exclude(
+    alloc: Global,
+    p: &Program,
+    component: &Component,
+    starts: &[usize],
+    set: &[u32],
+    known: &mut Option<Sequence<bool>>,
+) -> Result<bool, AllocError>
+    requires sound { IsSound p.now component.now }
+    requires small { length component.now.positions.items < 2 ^ 32 }
+    ensures known { (size : (ℕ → ℕ) → Tree → ℕ) (truth : (ℕ → Bool) → Tree → Bool) (expression : ℕ → Tree → List ℤ) (comps : Partition) (rows : ℕ → List (List ℤ)) (c : ℕ)
+        → IsComponent size truth expression p.now comps rows c component.now
+        → IsKnown expression p.now comps rows c component.now.positions.items known.old → IsKnown expression p.now comps rows c component.now.positions.items known.new }
+    ensures excluded { IfOk result (λ yes. yes ≡ true → (size : (ℕ → ℕ) → Tree → ℕ) (truth : (ℕ → Bool) → Tree → Bool) (expression : ℕ → Tree → List ℤ) (comps : Partition) (rows : ℕ → List (List ℤ)) (c : ℕ)
+        → IsComponent size truth expression p.now comps rows c component.now
+        → IsKnown expression p.now comps rows c component.now.positions.items known.old → IsExcluded (Has expression p.now comps rows c) set.now) }
+{
+    let marks = marks_outside(alloc, p, component, starts, set)?;
+    if is_known(known, marks.as_slice()) {
+        return Ok(true);
+    }
+    if !is_void(alloc, p, component, marks.as_slice(), set.len())? {
+        return Ok(false);
+    }
+    *known = Some(Sequence::from_vec(marks));
+    Ok(true)
+}
