@@ -2,6 +2,7 @@ pub mod ViewLemmas
 pub mod NameLemmas
 pub mod NamingLemmas
 pub mod MachineLemmas
+pub mod StackLemmas
 pub mod WalkLemmas
 pub mod VariableLemmas
 pub mod TextLemmas
@@ -16,6 +17,8 @@ pub mod QueryLemmas
 pub mod MeasureLemmas
 pub mod WeightLemmas
 pub mod FitLemmas
+pub mod ProgressLemmas
+pub mod EndLemmas
 pub mod OneAnswer
 pub mod TextNames
 pub mod SomeAnswer

@@ -1,24 +1,13 @@
--- Lemmas on the code's stack and on terms under way.
+-- Lemmas on terms under way.
 use Rattle.std.proofs.Common.{◌≡◌, ℕ, suc, ◌+◌, length, List, [], ◌∷◌, ◌++◌, refl, map, ap, arith, ◌∙◌, reverse}
 use Rattle.std.proofs.lemmas.List.{reverse-append}
 use Rattle.prolog_reader.specs.declared.part.Part.{Part as CodePart}
-use Rattle.prolog_reader.specs.declared.frame.Frame.{Frame as CodeFrame}
 use Rattle.prolog_reader.specs.declared.term.ReadTerm.{ReadTerm}
-use Rattle.prolog_grammar.specs.Machine.{Frame}
 use Rattle.prolog_grammar.specs.Placed.{Trees, no_trees, more_trees, Part, part_tree, row_of, depth_of, Known, named_at, chain}
 use Rattle.prolog_grammar.specs.Syntax.{greater}
-use Rattle.prolog_grammar.specs.Run.{items_past}
 use Rattle.prolog_reader.specs.Clauses.{row}
 use Rattle.prolog_reader.specs.Terms.{tree_of}
-use Rattle.prolog_reader.specs.Views.{part_view, frame_of, frames_onto, frames_of}
-
-frames_onto_push : (k : List (Frame Part)) (fs : List CodeFrame) (f : CodeFrame) → frames_onto k (fs ++ f ∷ []) ≡ frame_of f ∷ frames_onto k fs
-frames_onto_push k [] f = refl
-frames_onto_push k (g ∷ fs) f = frames_onto_push (frame_of g ∷ k) fs f
-
--- a frame that is pushed is on top
-pub frames_of_push : (fs : List CodeFrame) (f : CodeFrame) → frames_of (fs ++ f ∷ []) ≡ frame_of f ∷ frames_of fs
-frames_of_push fs f = frames_onto_push [] fs f
+use Rattle.prolog_reader.specs.Views.{part_view}
 
 -- one term more
 pub parts_push : (ts : List CodePart) (t : CodePart) → map part_view (ts ++ t ∷ []) ≡ map part_view ts ++ part_view t ∷ []
@@ -29,15 +18,6 @@ parts_push (s ∷ ts) t = ap (λ (xs : List Part). part_view s ∷ xs) (parts_pu
 pub chain_push : (names : Known) (at : ℕ) (ps : List Part) (p tail : Part) → chain 1000 names at (ps ++ p ∷ []) tail ≡ chain 1000 names at ps (named_at 1000 at names.cell (p ∷ tail ∷ []))
 chain_push names at [] p tail = refl
 chain_push names at (q ∷ ps) p tail = ap (λ (r : Part). named_at 1000 at names.cell (q ∷ r ∷ [])) (chain_push names at ps p tail)
-
--- the openers over what follows some items
-pub past_parts : (ps : List Part) (h : ℕ) → items_past ps h ≡ length ps + h
-past_parts [] h = omega arith
-past_parts (p ∷ ps) h = past_parts ps (suc h) ∙ omega arith
-
-pub length_parts : (ts : List CodePart) → length (map part_view ts) ≡ length ts
-length_parts [] = refl
-length_parts (t ∷ ts) = ap suc (length_parts ts)
 
 -- the arguments in front of others, from the end
 abbrev pub onto : List Part → Trees → Trees

@@ -12,6 +12,7 @@ use Rattle.prolog_reader.specs.declared.clause_reading.Found.{Found}
 use Rattle.prolog_reader.specs.declared.clause_reading.Found.TheVariants as found
 use Rattle.prolog_reader.specs.Names.{Extends}
 use Rattle.prolog_reader.specs.Naming.{with_names, token_texts, name_texts}
+use Rattle.prolog_reader.specs.Progress.{Naming}
 use Rattle.prolog_reader.specs.Scan.{IsNextFault, Names}
 use Rattle.prolog_reader.proofs.LexLemmas.{cursor, none_past}
 use Rattle.prolog_reader.proofs.NameLemmas.{extends_self, extends_trans, extends_with_text}
@@ -38,11 +39,6 @@ names_stay names (t ∷ ts) = extends_trans names (with_text names t) (with_name
 -- names put behind names that were put
 pub names_then : (x y z : List (List ℕ)) (ts us : List (List ℕ)) → y ≡ with_names x ts → z ≡ with_names y us → z ≡ with_names x (ts ++ us)
 names_then x y z ts us h k = k ∙ ap (λ n. with_names n us) h ∙ sym (names_more x ts us)
-
--- how the names stand before a token: what the tokens from the start name comes to the same as what those from here do
-pub record Naming (text : List ℕ) (before names : List (List ℕ)) (there here : Cursor) (first token : TextToken) : Type 0 where
-  pub each : (ts0 : List TextToken) (fault : Option LexFault) → Lexes there ts0 fault
-      → (ts : List TextToken) × Lexes here ts fault × (with_names before (name_texts text (first ∷ ts0)) ≡ with_names names (name_texts text (token ∷ ts)))
 
 pub naming_start : (text : List ℕ) (names : List (List ℕ)) (there here : Cursor) (first : TextToken) → here ≡ there → Naming text names names there here first first
 naming_start text names there here first same = record { each = λ ts0 fault lexes. (ts0, subst (λ c. Lexes c ts0 fault) (sym same) lexes, refl) }

@@ -25,6 +25,7 @@ use Rattle.prolog_reader.specs.Table.{Table}
 use Rattle.prolog_reader.specs.Views.{from_tree, table_rules}
 use Rattle.prolog_reader.specs.Reading.{fault_at}
 use Rattle.prolog_reader.specs.Words.{known}
+use Rattle.prolog_reader.specs.Progress.{Running, Taken}
 use Rattle.prolog_reader.specs.Scan.{Outcome, scanned, scan_end, scan, closing_of, IsNextFault, Closes, Gives, Finds}
 use Rattle.prolog_reader.proofs.LexLemmas.{cursor, none_past}
 use Rattle.prolog_reader.proofs.NameLemmas.{extends_trans}
@@ -58,13 +59,6 @@ pub closes_step : (rules : Rules Part) (s : State Part) (query : Bool) (vars at 
     → Closes (walked n (λ s'. Err (unexpected [])) (End ∷ []) []) vars at f → Closes (walk 1000 rules s (closing_of query None)) vars at f
 closes_step rules s query vars at n f h step closes = rw (h, walk_end rules s, ← step) closes
 
--- how a run stands before a token: from the start it comes to the same as from here
-pub record Running (text : List ℕ) (names : List (List ℕ)) (query : Bool) (rules : Rules Part) (there here : Cursor) (first : TextToken) (s : State Part) (seen : Seen)
-    (before : Option TextToken) (token : TextToken) : Type 0 where
-  pub each : (later : List (List ℕ)) (ts0 : List TextToken) (fault : Option LexFault) → Extends names later → Lexes there ts0 fault
-      → (ts : List TextToken) × Lexes here ts fault
-      × (scan later text fault (closing_of query fault) rules start none_seen None (first ∷ ts0) ≡ scan later text fault (closing_of query fault) rules s seen before (token ∷ ts))
-
 pub running_start : (text : List ℕ) (names : List (List ℕ)) (query : Bool) (rules : Rules Part) (there here : Cursor) (first : TextToken) (s : State Part) (seen : Seen)
     → here ≡ there → s ≡ start → seen ≡ none_seen → Running text names query rules there here first s seen None first
 running_start text names query rules there here first s seen same begins none = record {
@@ -75,14 +69,6 @@ running_start text names query rules there here first s seen same begins none = 
         ∙ ap (λ seen'. scan later text fault (closing_of query fault) rules s seen' None (first ∷ ts0)) (sym none),
   );
 }
-
--- and how it stands once the token is taken
-pub record Taken (text : List ℕ) (names : List (List ℕ)) (query : Bool) (rules : Rules Part) (there here : Cursor) (first : TextToken) (n : Next Part) (seen : Seen)
-    (token : TextToken) : Type 0 where
-  pub each : (later : List (List ℕ)) (ts0 : List TextToken) (fault : Option LexFault) → Extends names later → Lexes there ts0 fault
-      → (ts : List TextToken) × Lexes here ts fault
-      × (scan later text fault (closing_of query fault) rules start none_seen None (first ∷ ts0)
-      ≡ scanned later text fault (closing_of query fault) rules n (λ s'. scan later text fault (closing_of query fault) rules s' seen (Some token) ts) seen token ts)
 
 module _ (text : List ℕ) (names names' : List (List ℕ)) (query : Bool) (rules : Rules Part) (there here : Cursor) (first : TextToken) where
   pub taken : (s : State Part) (seen seen' : Seen) (before : Option TextToken) (token : TextToken) (n : Next Part) (u : Token) (touch : Bool)

@@ -21,7 +21,7 @@ AnswersText names text answer = (later : List (List ℕ)) → Extends names late
 abbrev pub AnswersQuery : List (List ℕ) → Table → List ℕ → Result Clause Fault → Type 0
 AnswersQuery names table text answer = (later : List (List ℕ)) → Extends names later → IsQueryAnswer later table text answer
 
--- a refusal that is the answer; want of memory says nothing
+-- a refusal that is the answer; out of memory says nothing
 abbrev pub RefusesText : List (List ℕ) → List ℕ → ReadFault → Type 0
 RefusesText names text (Refused kind at) = AnswersText names text (Err (kind, at))
 RefusesText names text Memory = Unit {0}

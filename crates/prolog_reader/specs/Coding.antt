@@ -1,5 +1,5 @@
 -- Private.
--- How a proof tells clauses apart: a term as a list of codes that gives it back. Nothing here has to be believed.
+-- How proofs distinguish clauses: a term as a list of codes that gives it back. Nothing here has to be believed.
 use Rattle.std.specs.Prelude.{◌≡◌, ℕ, ℤ, List, [], ◌∷◌, ◌++◌, take, drop, ◌⊎◌, refl}
 use Rattle.std.proofs.Common.{inl, inr, ap, ◌∙◌}
 use Rattle.std.specs.Coded.{Coded, code_by, coded×, coded⊎, coded_ℕ, coded_ℤ, coded_list}

@@ -14,7 +14,7 @@ use Rattle.prolog_reader.specs.Symbols.{none_seen, tokens_of}
 use Rattle.prolog_reader.specs.Table.{Table}
 use Rattle.prolog_reader.specs.Words.{known}
 
--- the place behind the last of these tokens, where they begin behind a place
+-- the place after the last of these tokens, where they begin after a place
 abbrev pub end_behind : ℕ → List TextToken → ℕ
 end_behind at [] = at
 end_behind at (t ∷ ts) = end_behind t.end ts
@@ -37,7 +37,7 @@ seen_tokens names text ts = tokens_of names text none_seen None ts
 abbrev pub text_with : List ℕ → List TextToken → List ℕ → List ℕ
 text_with text ts bytes = take (end_behind 0 ts) text ++ bytes
 
--- Some bytes complete the clause that these tokens of a text begin, behind those of earlier clauses. Where the bytes stand behind the last
+-- Some bytes complete the clause that these tokens of a text begin, after those of earlier clauses. Where the bytes stand after the last
 -- of the tokens, in the place of what stood there, the tokens are still what they were, and those that follow make them a clause.
 pub record IsCompleted (names : List (List ℕ)) (table : Table) (text : List ℕ) (earlier begun : List TextToken) : Type 0 where
   pub bytes : List ℕ

@@ -69,7 +69,7 @@ module _ (words : Words) where
   in_front (Some n) None = None
   in_front None rest = None
 
-  -- the names of a list: [], or a cell with an operator and the list behind it
+  -- the names of a list: [], or a cell with an operator and the list after it
   abbrev mutual
     pub listed : Tree → Option (List ℕ)
     listed (tree at s) = listed_shape s
@@ -83,7 +83,7 @@ module _ (words : Words) where
     listed_parts n no_trees = if n == words.known.nil then Some [] else None
     listed_parts n (more_trees t ts) = if n == words.known.cell then listed_tail t ts else None
 
-    -- behind its operator a cell has one more argument
+    -- after its operator a cell has one more argument
     pub listed_tail : Tree → Trees → Option (List ℕ)
     listed_tail t no_trees = None
     listed_tail t (more_trees u no_trees) = in_front (operator_of t) (listed u)

@@ -1,3 +1,4 @@
+pub mod Limits
 pub mod Clauses
 pub mod Coding
 pub mod Terms
@@ -8,13 +9,16 @@ pub mod Names
 pub mod Naming
 pub mod Meanings
 pub mod Views
+pub mod Parsing
 pub mod Symbols
 pub mod Directive
 pub mod Reading
 pub mod Numbering
 pub mod Ranges
 pub mod Scan
+pub mod Progress
 pub mod Knowing
+pub mod Kinds
 pub mod Words
 pub mod Answers
 pub mod Measures

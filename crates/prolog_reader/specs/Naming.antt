@@ -16,7 +16,7 @@ use Rattle.prolog_reader.specs.declared.fault.ReadFault.{ReadFault}
 use Rattle.prolog_reader.specs.declared.fault.ReadFault.TheVariants.{Fault as Refused, Memory}
 use Rattle.prolog_reader.specs.Names.{Extends}
 
--- the names, and behind them those of these texts that are new, in order
+-- the names, and after them those of these texts that are new, in order
 unfoldable pub with_names : List (List ℕ) → List (List ℕ) → List (List ℕ)
 with_names names [] = names
 with_names names (t ∷ ts) = with_names (with_text names t) ts
@@ -59,7 +59,7 @@ abbrev pub name_texts : List ℕ → List TextToken → List (List ℕ)
 name_texts text [] = []
 name_texts text (t ∷ ts) = token_texts text t ++ name_texts text ts
 
--- the names of a text, behind those that were there: these own ones of the reader, and those of the text's tokens
+-- the names of a text, after those that were there: these own ones of the reader, and those of the text's tokens
 pub record AreNamesOf (own : List (List ℕ)) (earlier : List (List ℕ)) (text : List ℕ) (names : List (List ℕ)) : Type 0 where
   pub tokens : List TextToken
   pub fault : Option LexFault
@@ -79,7 +79,7 @@ text_own = word_texts ++ operator_texts
 abbrev pub query_own : List (List ℕ)
 query_own = syntax_texts
 
--- the names are the first of those; after want of memory nothing is said
+-- the names are the first of those; when memory ran out nothing is said
 abbrev pub BeginNames : List (List ℕ) → List (List ℕ) → List ℕ → List (List ℕ) → ReadFault → Type 0
 BeginNames own earlier text names (Refused kind at) = BeginNamesOf own earlier text names
 BeginNames own earlier text names Memory = Unit {0}

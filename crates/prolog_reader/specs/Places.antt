@@ -9,7 +9,7 @@ use Rattle.prolog_reader.specs.declared.fault.ReadFault.{ReadFault}
 use Rattle.prolog_reader.specs.declared.fault.ReadFault.TheVariants.{Fault as Refused, Memory}
 use Rattle.prolog_reader.specs.Clauses.{Clause}
 
--- all terms of the clauses stand within so many bytes
+-- all terms of the clauses stand within this number of bytes
 abbrev pub ArePlacedClauses : ℕ → List Clause → Type 0
 ArePlacedClauses size cs = AllByRecursion (λ (c : Clause). IsPlaced size c.term) cs
 

@@ -4,7 +4,7 @@
 -- Names are their numbers in a list of names. The list has to have the names of the text and of the operators: the calls put them there.
 --
 -- A text is read clause by clause. From the tokens that are left, the grammar reads the first clause by the operators in force, up to
--- its End, or finds the first fault; `IsVerdict` of prolog_grammar says which. A lexical fault stands behind the last token: it counts
+-- its End, or finds the first fault; `IsVerdict` of prolog_grammar says which. A lexical fault stands after the last token: it counts
 -- where the clause's tokens before it can go on. A clause `:- op(..)` changes the operators for the clauses after it.
 --
 -- To believe: all of this file, and below it Symbols.antt, Directive.antt, Table.antt; the tokens of a text, `Lexes` of prolog_tokens;
@@ -20,6 +20,7 @@ use Rattle.prolog_grammar.specs.Placed.{Part, part_tree}
 use Rattle.prolog_grammar.specs.Reading.{IsVerdict}
 use Rattle.prolog_reader.specs.declared.fault.ReadKind.{ReadKind}
 use Rattle.prolog_reader.specs.declared.fault.ReadKind.TheVariants.{Lex, Unexpected, Deep, Long, BadOp}
+use Rattle.prolog_reader.specs.Limits.{most_bytes}
 use Rattle.prolog_reader.specs.Clauses.{Clause}
 use Rattle.prolog_reader.specs.Symbols.{none_seen, tokens_of, seen_after_all}
 use Rattle.prolog_reader.specs.Table.{Table, standard}
@@ -34,7 +35,7 @@ Fault = ReadKind × ℕ
 abbrev pub Answer : Type 0
 Answer = Result (List Clause × Table) Fault
 
--- where nothing more is expected: the first of these tokens, or a lexical fault behind the last token, or the end of the text
+-- where nothing more is expected: the first of these tokens, or a lexical fault after the last token, or the end of the text
 abbrev pub fault_at : ℕ → Option LexFault → List TextToken → Fault
 fault_at size fault (t ∷ ts) = (Unexpected, t.start)
 fault_at size (Some f) [] = (Lex f.kind, f.at)
@@ -49,7 +50,7 @@ place_at size [] = size
 abbrev pub before_rest : List Token → List Token → ℕ
 before_rest us rest = length us - length rest
 
--- the clause of a term that so many of the tokens read as
+-- the clause of a term that this number of the tokens read as
 abbrev pub clause_at : List ℕ → List TextToken → ℕ → Part → Clause
 clause_at text ts n part = record { term = part_tree part; vars = (seen_after_all text none_seen (take n ts)).count }
 
@@ -68,12 +69,12 @@ abbrev pub IsLeft : List TextToken → Option LexFault → Type 0
 IsLeft [] None = ⊥
 IsLeft _ _ = Unit {0}
 
--- what is fed behind the last token of a query: an End, where no lexical fault stands there
+-- what is fed after the last token of a query: an End, where no lexical fault stands there
 abbrev pub end_of : Option LexFault → List Token
 end_of (Some f) = []
 end_of None = End ∷ []
 
--- a clause behind which nothing may stand
+-- a clause that nothing may follow
 abbrev pub if_nothing_left : List TextToken → Option LexFault → Clause → Fault → Result Clause Fault
 if_nothing_left [] None c f = Ok c
 if_nothing_left _ _ c f = Err f
@@ -104,7 +105,7 @@ module _ (names : List (List ℕ)) (text : List ℕ) (fault : Option LexFault) w
         → Answers table' (drop (before_rest (clause_tokens ts) rest) ts) others
         → answer ≡ with_clause (clause_at text ts (before_rest (clause_tokens ts) rest) part) others → Answers table ts answer
 
-  -- the tokens of a query, with what is fed behind the last one
+  -- the tokens of a query, with what is fed after the last one
   abbrev pub query_tokens : List TextToken → List Token
   query_tokens ts = clause_tokens ts ++ end_of fault
 
@@ -117,13 +118,13 @@ module _ (names : List (List ℕ)) (text : List ℕ) (fault : Option LexFault) w
 
 -- a text that is read, or its first fault
 pub data IsTextAnswer (names : List (List ℕ)) (text : List ℕ) (answer : Answer) : Type 0 where
-  too_long : 1048576 < length text → answer ≡ Err (Long, 0) → IsTextAnswer names text answer
-  by_clauses : (tokens : List TextToken) (fault : Option LexFault) → length text ≤ 1048576 → Lexes (record { text = text; at = 0 }) tokens fault
+  too_long : most_bytes < length text → answer ≡ Err (Long, 0) → IsTextAnswer names text answer
+  by_clauses : (tokens : List TextToken) (fault : Option LexFault) → length text ≤ most_bytes → Lexes (record { text = text; at = 0 }) tokens fault
       → Answers names text fault (standard names) tokens answer → IsTextAnswer names text answer
 
 -- a query that is read by these operators, or its first fault
 pub data IsQueryAnswer (names : List (List ℕ)) (table : Table) (text : List ℕ) (answer : Result Clause Fault) : Type 0 where
-  too_long_query : 1048576 < length text → answer ≡ Err (Long, 0) → IsQueryAnswer names table text answer
-  by_tokens : (tokens : List TextToken) (fault : Option LexFault) (verdict : Verdict Part) → length text ≤ 1048576 → Lexes (record { text = text; at = 0 }) tokens fault
+  too_long_query : most_bytes < length text → answer ≡ Err (Long, 0) → IsQueryAnswer names table text answer
+  by_tokens : (tokens : List TextToken) (fault : Option LexFault) (verdict : Verdict Part) → length text ≤ most_bytes → Lexes (record { text = text; at = 0 }) tokens fault
       → ReadsBy names text fault table (query_tokens names text fault tokens) verdict
       → answer ≡ query_answer names text fault tokens verdict → IsQueryAnswer names table text answer

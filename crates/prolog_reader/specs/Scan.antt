@@ -23,7 +23,7 @@ use Rattle.prolog_reader.specs.Views.{table_rules}
 use Rattle.prolog_reader.specs.Reading.{Fault, fault_at, end_of}
 use Rattle.prolog_reader.specs.Words.{known}
 
--- a term with the variables of its clause and the tokens behind it, or a fault
+-- a term with the variables of its clause and the tokens after it, or a fault
 abbrev pub Outcome : Type 0
 Outcome = Result (Part × (Seen × List TextToken)) Fault
 
@@ -49,7 +49,7 @@ module _ (names : List (List ℕ)) (text : List ℕ) (fault : Option LexFault) (
       scanned (walk_step 1000 rules s (token_of names text seen before t) (touches (tokens_of names text (seen_after text seen t) (Some t) ts ++ closing)))
       (λ s'. scan s' (seen_after text seen t) (Some t) ts) (seen_after text seen t) t ts
 
--- what is fed behind the last token
+-- what is fed after the last token
 abbrev pub closing_of : Bool → Option LexFault → List Token
 closing_of true fault = end_of fault
 closing_of false fault = []
@@ -81,7 +81,7 @@ Closes (Err (unexpected rest)) vars at (found.Refused kind place) = (kind ≡ Un
 Closes (Err (deep rest)) vars at (found.Refused kind place) = (kind ≡ Deep) × (place ≡ at)
 Closes _ vars at _ = ⊥
 
--- where the text goes on behind a clause that is read
+-- where the text goes on after a clause that is read
 abbrev pub GoesOn : Found → Cursor → List TextToken → Option LexFault → Type 0
 GoesOn (found.Clause c) at rest fault = Lexes at rest fault
 GoesOn (found.Refused kind place) at rest fault = Unit {0}

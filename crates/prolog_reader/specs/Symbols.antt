@@ -44,7 +44,7 @@ with_variable seen name =
     else if is_seen seen name then seen
     else record { named = seen.named ++ name ∷ []; numbers = seen.numbers ++ seen.count ∷ []; count = seen.count + 1 }
 
--- the token stands directly behind the one before it
+-- the token stands directly after the one before it
 abbrev pub touches_before : Option TextToken → TextToken → Bool
 touches_before None t = false
 touches_before (Some b) t = b.end == t.start

@@ -103,7 +103,7 @@ setting_by table (Some priority) kind name text = if is_reserved text then Err B
 abbrev pub setting : Table → ℤ → OpKind → ℕ → List ℕ → Result Table OpFault
 setting table priority kind name text = setting_by table (priority_in priority) kind name text
 
--- the refusal is that one; want of memory needs no cause
+-- the refusal is that one; out of memory needs no cause
 abbrev pub IsCauseOf : OpFault → Result Table OpFault → Type 0
 IsCauseOf Memory answer = Unit {0}
 IsCauseOf fault answer = answer ≡ Err fault

@@ -1,6 +1,6 @@
 -- Private.
 -- The values of the code as those of the machine. Nothing here has to be believed.
-use Rattle.std.specs.Prelude.{◌≡◌, ◌≤◌, ℕ, List, [], ◌∷◌, map, Option, option_map}
+use Rattle.std.specs.Prelude.{◌≡◌, ◌≤◌, ◌+◌, ℕ, List, [], ◌∷◌, length, map, Option, option_map}
 use Rattle.prolog_reader.specs.declared.part.Part.{Part as CodePart}
 use Rattle.prolog_reader.specs.declared.operators.Infix.{Infix as CodeInfix}
 use Rattle.prolog_reader.specs.declared.operators.Ops.{Ops}
@@ -11,12 +11,17 @@ use Rattle.prolog_reader.specs.declared.frame.Head.{Head as CodeHead}
 use Rattle.prolog_reader.specs.declared.frame.Head.TheVariants as head
 use Rattle.prolog_reader.specs.declared.frame.Open.{Open as CodeOpen}
 use Rattle.prolog_reader.specs.declared.frame.Open.TheVariants as opening
+use Rattle.prolog_reader.specs.declared.frame.Operator.{Operator as CodeOperator}
+use Rattle.prolog_reader.specs.declared.frame.Operator.TheVariants as operator
 use Rattle.prolog_reader.specs.declared.frame.Frame.{Frame as CodeFrame}
 use Rattle.prolog_reader.specs.declared.frame.Frame.TheVariants as frame
-use Rattle.prolog_reader.specs.declared.frame.Mode.{Mode}
-use Rattle.prolog_reader.specs.declared.frame.Mode.TheVariants as mode
-use Rattle.prolog_reader.specs.declared.frame.Next.{Next as CodeNext}
-use Rattle.prolog_reader.specs.declared.frame.Next.TheVariants as code
+use Rattle.prolog_reader.specs.declared.stack.Stack.{Stack}
+use Rattle.prolog_reader.specs.declared.state.State.{State as CodeState}
+use Rattle.prolog_reader.specs.declared.state.State.TheVariants as state
+use Rattle.prolog_reader.specs.declared.state.Refusal.{Refusal}
+use Rattle.prolog_reader.specs.declared.state.Refusal.TheVariants as refusal
+use Rattle.prolog_reader.specs.declared.state.Step.{Step}
+use Rattle.prolog_reader.specs.declared.state.Step.TheVariants as code
 use Rattle.cti_terms.specs.declared.naming.Name.{Name}
 use Rattle.prolog_grammar.specs.Token.{variable, integer, text, Token, Leaf, Joined, Name as NameToken, Paren, Touching, ParenEnd, Bracket, BracketEnd, Brace, BraceEnd, Comma, Bar, End}
 use Rattle.prolog_grammar.specs.Rules.{Infix, Head, plain, brackets, braces, Rules}
@@ -24,6 +29,7 @@ use Rattle.prolog_grammar.specs.Machine.{Open, group_open, curly_open, arguments
 use Rattle.prolog_grammar.specs.Walk.{Next, go_on, stuck, finished, unexpected_here, deep_here}
 use Rattle.prolog_grammar.specs.Placed.{Tree, tree, Part, Known, placed_rules}
 use Rattle.prolog_grammar.specs.Run.{height}
+use Rattle.prolog_reader.specs.Limits.{most_openers}
 use Rattle.prolog_reader.specs.Table.{Table}
 use Rattle.prolog_reader.specs.Meanings.{infix_of, table_of}
 use Rattle.prolog_reader.specs.Terms.{tree_of}
@@ -77,9 +83,12 @@ open_of (opening.Arguments h parts) = arguments_open (head_of h) (map part_view 
 open_of (opening.Items at parts) = items_open at (map part_view parts.items)
 open_of (opening.Tail at parts) = tail_open at (map part_view parts.items)
 
+abbrev pub operator_frame : ℕ → ℕ → CodeOperator → Frame Part
+operator_frame bound priority (operator.Infix name left) = infix_frame bound name.0 priority (part_view left)
+operator_frame bound priority (operator.Prefix at name) = prefix_frame bound at name.0 priority
+
 abbrev pub frame_of : CodeFrame → Frame Part
-frame_of (frame.Infix bound name priority left) = infix_frame bound name.0 priority (part_view left)
-frame_of (frame.Prefix bound at name priority) = prefix_frame bound at name.0 priority
+frame_of (frame.Operator bound priority o) = operator_frame bound priority o
 frame_of (frame.Open bound o) = open_frame bound (open_of o)
 
 -- the last frame of the code's stack is on top
@@ -90,27 +99,48 @@ frames_onto k (f ∷ fs) = frames_onto (frame_of f ∷ k) fs
 abbrev pub frames_of : List CodeFrame → List (Frame Part)
 frames_of fs = frames_onto [] fs
 
-abbrev pub state_of : Mode → List CodeFrame → State Part
-state_of (mode.Want bound) fs = want bound (frames_of fs)
-state_of (mode.Named bound at n) fs = named bound at n.0 (frames_of fs)
-state_of (mode.Titled bound h) fs = titled bound (head_of h) (frames_of fs)
-state_of (mode.Bracketed bound at) fs = bracketed bound at (frames_of fs)
-state_of (mode.Braced bound at) fs = braced bound at (frames_of fs)
-state_of (mode.Have bound p priority) fs = have bound (part_view p) priority (frames_of fs)
+abbrev pub opened : Stack → List (Frame Part)
+opened s = frames_of s.frames.items
 
-abbrev pub next_of : CodeNext → List CodeFrame → Next Part
-next_of (code.GoOn m) fs = go_on (state_of m fs)
-next_of code.Stuck fs = stuck
-next_of (code.Finished p) fs = finished (part_view p)
-next_of code.Unexpected fs = unexpected_here
-next_of code.Deep fs = deep_here
+-- how many openers a frame counts for
+abbrev pub open_openers : CodeOpen → ℕ
+open_openers (opening.Group at) = 1
+open_openers (opening.Curly at) = 1
+open_openers (opening.Arguments h parts) = 1
+open_openers (opening.Items at parts) = length parts.items + 1
+open_openers (opening.Tail at parts) = length parts.items + 1
 
--- no more openers than there may be: one more than the limit where an operand is wanted
-abbrev pub FitsOpeners : Mode → ℕ → Type 0
-FitsOpeners (mode.Want bound) openers = openers ≤ 1001
-FitsOpeners _ openers = openers ≤ 1000
+abbrev pub frame_openers : CodeFrame → ℕ
+frame_openers (frame.Operator bound priority o) = 1
+frame_openers (frame.Open bound o) = open_openers o
 
--- the counter of openers is right, where reading goes on
-abbrev pub Counts : CodeNext → List CodeFrame → ℕ → Type 0
-Counts (code.GoOn m) fs openers = (openers ≡ height (frames_of fs)) × FitsOpeners m openers
-Counts _ fs openers = Unit {0}
+-- the stack's counter of openers is right
+abbrev pub IsCounted : Stack → Type 0
+IsCounted s = s.openers ≡ height (opened s)
+
+abbrev pub state_of : CodeState → List (Frame Part) → State Part
+state_of (state.ExpectOperand bound) k = want bound k
+state_of (state.AfterName n) k = named n.bound n.at n.name.0 k
+state_of (state.AfterBrackets bound h) k = titled bound (head_of h) k
+state_of (state.AfterOpenList bound at) k = bracketed bound at k
+state_of (state.AfterOpenCurly bound at) k = braced bound at k
+state_of (state.AfterTerm bound p priority) k = have bound (part_view p) priority k
+
+abbrev pub refusal_of : Refusal → Next Part
+refusal_of refusal.Unexpected = unexpected_here
+refusal_of refusal.NextUnexpected = stuck
+refusal_of refusal.Deep = deep_here
+
+abbrev pub step_of : Step → List (Frame Part) → Next Part
+step_of (code.Continue s) k = go_on (state_of s k)
+step_of (code.Finished p) k = finished (part_view p)
+step_of (code.Refused r) k = refusal_of r
+
+-- no more openers than there may be: one more than the limit where an operand is expected
+abbrev pub FitsState : CodeState → ℕ → Type 0
+FitsState (state.ExpectOperand bound) openers = openers ≤ most_openers + 1
+FitsState _ openers = openers ≤ most_openers
+
+abbrev pub FitsStep : Step → ℕ → Type 0
+FitsStep (code.Continue s) openers = FitsState s openers
+FitsStep _ openers = Unit {0}

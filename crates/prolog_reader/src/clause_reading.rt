@@ -1,28 +1,28 @@
 //! Reading one clause.
 
-ghost use Rattle.std.specs.Prelude.{◌≡◌, ◌≤◌, ◌<◌, ◌+◌, ◌*◌, ℕ, List, ◌∷◌, length, drop, Option, None, IfOk};
+ghost use Rattle.std.specs.Prelude.{◌≡◌, ◌≤◌, ◌<◌, ◌+◌, ◌*◌, ℕ, List, ◌∷◌, length, drop, Option, IfOk};
 ghost use Rattle.prolog_tokens.specs.Bytes.{begins_with};
 ghost use Rattle.prolog_tokens.specs.Decoding.{IsTokenOf};
 ghost use Rattle.prolog_tokens.specs.Stream.{Lexes};
 ghost use Rattle.prolog_tokens.specs.declared.token.Token.{Token as TextToken};
 ghost use Rattle.prolog_tokens.specs.declared.fault.LexFault.{LexFault};
-ghost use Rattle.prolog_grammar.specs.Run.{height};
-ghost use Rattle.prolog_grammar.specs.Walk.{walk};
+ghost use Rattle.prolog_reader.specs.Limits.{most_bytes};
 ghost use Rattle.prolog_reader.specs.Meanings.{table_of};
-ghost use Rattle.prolog_reader.specs.Views.{rules_of, known_of, frames_of, state_of, FitsOpeners};
+ghost use Rattle.prolog_reader.specs.Parsing.{IsIn};
+ghost use Rattle.prolog_reader.specs.Progress.{start_of, Begins, IsFound, IsMoved, IsReady, IsTaken, AreNamed, advanced, IsClause, IsRefusal, IsEnd, end_kind};
 ghost use Rattle.prolog_reader.specs.Names.{Extends};
 ghost use Rattle.prolog_reader.specs.Knowing.{AreKnown};
 ghost use Rattle.prolog_reader.specs.Ranges.{IsWithin};
-ghost use Rattle.prolog_reader.specs.FoundFit.{AreWithin, IsFoundFit};
-ghost use Rattle.prolog_reader.specs.Measures.{IsStateFine, state_nodes};
-ghost use Rattle.prolog_reader.specs.Scan.{closing_of, IsNextFault, Closes, Finds, Names as ReadNames};
+ghost use Rattle.prolog_reader.specs.FoundFit.{IsFoundFit};
+ghost use Rattle.prolog_reader.specs.Scan.{closing_of, IsNextFault, Finds, Names as ReadNames};
 
 use crate::clause::ReadClause;
 use crate::fault::ReadKind;
-use crate::frame::{Frame, Mode, Next};
 use crate::limits::MOST_PRIORITY;
-use crate::machine::step;
 use crate::operators::Ops;
+use crate::parser::Parser;
+use crate::part::Part;
+use crate::state::{Refusal, State, Step};
 use crate::symbol::{Known, Symbol};
 use crate::symbols::next_symbol;
 use crate::variables::Variables;
@@ -35,6 +35,30 @@ use std::alloc::{AllocError, Global};
 pub enum Found {
     Clause(ReadClause),
     Refused { kind: ReadKind, at: u32 },
+}
+
+/// A clause that is being read: the text, the parser, the variables so far, the token at hand and the one before it, and whether the
+/// clause is a query, which ends also where the text does.
+pub struct ClauseReader<'a> {
+    text: &'a [u8],
+    parser: Parser<'a>,
+    variables: Variables,
+    before: Option<Token>,
+    token: Token,
+    is_query: bool,
+}
+
+impl Drop for ClauseReader<'_> {
+    fn drop(self) {
+        let ClauseReader {
+            text: _,
+            parser: _,
+            variables: _,
+            before: _,
+            token: _,
+            is_query: _,
+        } = self;
+    }
 }
 
 /// Whether a parenthesis stands at a place of the text.
@@ -50,7 +74,7 @@ fn is_touched(text: &[u8], at: u32) -> bool
 
 /// The fault where nothing more is expected: the next token, a lexical fault, or the end of the text.
 fn next_fault(text: &[u8], lexer: &mut Lexer) -> Found
-    requires short { length text.now ≤ 1048576 }
+    requires short { length text.now ≤ most_bytes }
     requires within { lexer.old.at ≤ length lexer.old.text }
     ensures fault { (ts : List TextToken) (fault : Option LexFault) → Lexes lexer.old ts fault → IsNextFault (length text.now) fault ts result }
     ensures fit { (count before after : ℕ) → IsFoundFit count before after result }
@@ -73,51 +97,13 @@ fn next_fault(text: &[u8], lexer: &mut Lexer) -> Found
     }
 }
 
-/// The end of the text within a clause with so many variables. A query may end there.
-fn end(
-    alloc: Global,
-    ops: &Ops,
-    known: Known,
-    stack: &mut Vec<Frame>,
-    openers: &mut u32,
-    mode: Mode,
-    vars: u32,
-    at: u32,
-    is_query: bool,
-) -> Result<Found, AllocError>
-    requires counted { openers.now ≡ height (frames_of stack.now.items) }
-    requires bounded { FitsOpeners mode openers.now }
-    ensures found { IfOk result (λ found. Closes (walk 1000 (rules_of ops.now known) (state_of mode stack.old.items) (closing_of is_query None)) vars at found) }
-    ensures fit { IfOk result (λ found. (count before after : ℕ) → AreWithin count (known_of known) → IsStateFine count vars (state_of mode stack.old.items)
-        → state_nodes (state_of mode stack.old.items) + 1 + before ≤ after → IsFoundFit count before after found) }
+/// The kind of the fault where a query's end is refused.
+fn end_kind(refusal: Refusal) -> ReadKind
+    ensures { result ≡ end_kind refusal }
 {
-    if !is_query {
-        return Ok(Found::Refused {
-            kind: ReadKind::Unexpected,
-            at,
-        });
-    }
-    match step(alloc, ops, known, stack, openers, mode, &Symbol::End, false)? {
-        Next::Finished(part) => Ok(Found::Clause(ReadClause {
-            term: part.term,
-            vars,
-        })),
-        Next::Deep => Ok(Found::Refused {
-            kind: ReadKind::Deep,
-            at,
-        }),
-        Next::GoOn(_) => Ok(Found::Refused {
-            kind: ReadKind::Unexpected,
-            at,
-        }),
-        Next::Stuck => Ok(Found::Refused {
-            kind: ReadKind::Unexpected,
-            at,
-        }),
-        Next::Unexpected => Ok(Found::Refused {
-            kind: ReadKind::Unexpected,
-            at,
-        }),
+    match refusal {
+        Refusal::Unexpected | Refusal::NextUnexpected => ReadKind::Unexpected,
+        Refusal::Deep => ReadKind::Deep,
     }
 }
 
@@ -132,7 +118,7 @@ pub fn read_clause(
     first: Token,
     is_query: bool,
 ) -> Result<Found, AllocError>
-    requires short { length text.now ≤ 1048576 }
+    requires short { length text.now ≤ most_bytes }
     requires same { lexer.old.text ≡ text.now }
     requires behind { lexer.old.at ≡ first.end }
     requires given { IsTokenOf text.now first }
@@ -148,73 +134,135 @@ pub fn read_clause(
     ensures kept { Extends names.old names.new }
     ensures few { length names.new + first.start ≤ length names.old + lexer.new.at }
 {
-    let mut stack = Vec::new(alloc);
-    let mut openers = 0;
-    let mut mode = Mode::Want {
-        bound: MOST_PRIORITY,
+    let parser = Parser::new(alloc, ops, known);
+    let variables = Variables::new(alloc);
+    let mut reader = ClauseReader {
+        text,
+        parser,
+        variables,
+        before: None,
+        token: first,
+        is_query,
     };
-    let mut variables = Variables::new(alloc);
-    let mut before = None;
-    let mut token = first;
-    'tokens: loop {
-        let symbol = next_symbol(alloc, text, names, &mut variables, before, token)?;
-        let touch = is_touched(text, token.end);
-        match step(
-            alloc,
-            ops,
-            known,
-            &mut stack,
-            &mut openers,
-            mode,
-            &symbol,
-            touch,
-        )? {
-            Next::GoOn(next) => mode = next,
-            Next::Finished(part) => {
-                return Ok(Found::Clause(ReadClause {
-                    term: part.term,
-                    vars: variables.count(),
-                }));
-            }
-            Next::Stuck => return Ok(next_fault(text, lexer)),
-            Next::Unexpected => {
-                return Ok(Found::Refused {
-                    kind: ReadKind::Unexpected,
-                    at: token.start,
-                });
-            }
-            Next::Deep => {
-                return Ok(Found::Refused {
-                    kind: ReadKind::Deep,
-                    at: token.start,
-                });
+    let found = reader.read(lexer, names)?;
+    Ok(found)
+}
+
+impl ClauseReader<'_> {
+    /// Reads the clause from the token at hand on, or says why there is none. After an error nothing is said of the reader.
+    fn read(&mut self, lexer: &mut Lexer, names: &mut Names) -> Result<Found, AllocError>
+        requires begins { Begins lexer.old names.old self.old }
+        ensures found { IfOk result (IsFound (start_of lexer.old names.old self.old) names.new lexer.new) }
+        ensures moved { IsMoved (start_of lexer.old names.old self.old) names.new lexer.new }
+    {
+        let mut state = State::ExpectOperand {
+            bound: MOST_PRIORITY,
+        };
+        'tokens: loop {
+            state = match self.take(names, state)? {
+                Step::Continue(next) => next,
+                Step::Finished(part) => return Ok(self.clause(part)),
+                Step::Refused(refusal) => return Ok(self.refused(refusal, lexer)),
+            };
+            match lexer.next() {
+                Ok(Some(token)) => self.advance(token),
+                Ok(None) => {
+                    let found = self.end(state)?;
+                    return Ok(found);
+                }
+                Err(fault) => {
+                    return Ok(Found::Refused {
+                        kind: ReadKind::Lex(fault.kind),
+                        at: fault.at,
+                    });
+                }
             }
         }
-        before = Some(token);
-        token = match lexer.next() {
-            Ok(Some(token)) => token,
-            Ok(None) => {
-                let at = text.len() as u32;
-                let vars = variables.count();
-                let found = end(
-                    alloc,
-                    ops,
-                    known,
-                    &mut stack,
-                    &mut openers,
-                    mode,
-                    vars,
-                    at,
-                    is_query,
-                )?;
-                return Ok(found);
-            }
-            Err(fault) => {
-                return Ok(Found::Refused {
-                    kind: ReadKind::Lex(fault.kind),
-                    at: fault.at,
-                });
-            }
-        };
+    }
+
+    /// Takes the token at hand in a state of the parser. After an error nothing is said of the reader.
+    fn take(&mut self, names: &mut Names, state: State) -> Result<Step, AllocError>
+        requires ready { IsReady names.old state self.old }
+        ensures taken { IfOk result (IsTaken names.old names.new state self.old self.new) }
+        ensures names { AreNamed names.old names.new }
+    {
+        let symbol = next_symbol(
+            self.parser.alloc,
+            self.text,
+            names,
+            &mut self.variables,
+            self.before,
+            self.token,
+        )?;
+        let touched = is_touched(self.text, self.token.end);
+        let step = self.parser.step(state, &symbol, touched)?;
+        Ok(step)
+    }
+
+    /// The next token is at hand.
+    fn advance(&mut self, token: Token)
+        ensures { self.new ≡ advanced self.old token }
+    {
+        self.before = Some(self.token);
+        self.token = token;
+    }
+
+    /// The whole clause with this term.
+    fn clause(&self, part: Part) -> Found
+        ensures { IsClause self.now part result }
+    {
+        Found::Clause(ReadClause {
+            term: part.term,
+            vars: self.variables.count(),
+        })
+    }
+
+    /// The fault where the token at hand is refused.
+    fn refused(&self, refusal: Refusal, lexer: &mut Lexer) -> Found
+        requires short { length self.now.text.now ≤ most_bytes }
+        requires within { lexer.old.at ≤ length lexer.old.text }
+        ensures fault { IsRefusal self.now refusal lexer.old result }
+        ensures fit { (count before after : ℕ) → IsFoundFit count before after result }
+        ensures text { lexer.new.text ≡ lexer.old.text }
+        ensures on { (lexer.old.at ≤ lexer.new.at) × (lexer.new.at ≤ length lexer.old.text) }
+    {
+        let at = self.token.start;
+        match refusal {
+            Refusal::Unexpected => Found::Refused {
+                kind: ReadKind::Unexpected,
+                at,
+            },
+            Refusal::NextUnexpected => next_fault(self.text, lexer),
+            Refusal::Deep => Found::Refused {
+                kind: ReadKind::Deep,
+                at,
+            },
+        }
+    }
+
+    /// The end of the text within the clause. A query may end there. After an error nothing is said of the reader.
+    fn end(&mut self, state: State) -> Result<Found, AllocError>
+        requires short { length self.old.text.now ≤ most_bytes }
+        requires fits { IsIn state self.old.parser }
+        ensures { IfOk result (IsEnd state self.old) }
+    {
+        let at = self.text.len() as u32;
+        if !self.is_query {
+            return Ok(Found::Refused {
+                kind: ReadKind::Unexpected,
+                at,
+            });
+        }
+        match self.parser.step(state, &Symbol::End, false)? {
+            Step::Finished(part) => Ok(self.clause(part)),
+            Step::Refused(refusal) => Ok(Found::Refused {
+                kind: end_kind(refusal),
+                at,
+            }),
+            Step::Continue(_) => Ok(Found::Refused {
+                kind: ReadKind::Unexpected,
+                at,
+            }),
+        }
     }
 }

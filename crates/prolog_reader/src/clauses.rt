@@ -1,4 +1,4 @@
-//! Clauses in a row.
+//! A list of clauses.
 
 ghost use Rattle.std.specs.Prelude.{◌≡◌, ◌↔◌, IsTrue, [], ◌∷◌, ◌++◌, length, map, OnOk, OnErr};
 ghost use Rattle.prolog_reader.specs.Terms.{clause_of};
@@ -7,7 +7,7 @@ use crate::clause::ReadClause;
 use std::alloc::{AllocError, Global};
 use std::marker::Model;
 
-/// Clauses in a row. Contracts see the list of the plain clauses.
+/// A list of clauses. Contracts see the list of the plain clauses.
 #[derive(Drop)]
 pub struct ReadClauses {
     items: Vec<ReadClause>,
@@ -58,7 +58,7 @@ impl ReadClauses {
         self.items.len()
     }
 
-    /// Whether there is no clause.
+    /// Whether there are no clauses.
     pub fn is_empty(&self) -> bool
         ensures { IsTrue result ↔ (length self.now ≡ 0) }
     {

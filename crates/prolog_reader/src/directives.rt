@@ -138,7 +138,7 @@ fn three(terms: &[ReadTerm]) -> Option<(&ReadTerm, &ReadTerm, &ReadTerm)>
     }
 }
 
-/// Sets each operator of a list, or answers false where it is no list of operators. Then some may be set.
+/// Sets each operator of a list, or answers false where it is not a list of operators. Then some may be set.
 fn set_listed(
     ops: &mut Ops,
     words: &Words,

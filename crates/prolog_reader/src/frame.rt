@@ -1,5 +1,10 @@
-//! What is open while a clause is read, and what was read last.
+//! What is open while a clause is read.
 
+ghost use Rattle.std.specs.Prelude.{◌≡◌};
+ghost use Rattle.prolog_grammar.specs.Machine.{inside};
+ghost use Rattle.prolog_reader.specs.Views.{open_of, open_openers, frame_openers};
+
+use crate::limits::{MOST_ARGUMENT, MOST_PRIORITY};
 use crate::part::Part;
 use cti_terms::Name;
 
@@ -9,6 +14,13 @@ pub enum Head {
     Plain { at: u32, name: Name },
     Brackets { at: u32 },
     Braces { at: u32 },
+}
+
+/// An operator whose right side is under way.
+#[derive(Drop)]
+pub enum Operator {
+    Infix { name: Name, left: Part },
+    Prefix { at: u32, name: Name },
 }
 
 /// What stands between an opening token and the term under way.
@@ -21,20 +33,35 @@ pub enum Open {
     Tail { at: u32, parts: Vec<Part> },
 }
 
-/// What is open: an operator whose right side is under way, or an opening token. The bound is that of the term round it.
+impl Open {
+    /// The bound of the term under way.
+    pub fn inside(&self) -> u32
+        ensures { result ≡ inside (open_of self.now) }
+    {
+        match self {
+            Open::Group { .. } | Open::Curly { .. } => MOST_PRIORITY,
+            Open::Arguments { .. } | Open::Items { .. } | Open::Tail { .. } => MOST_ARGUMENT,
+        }
+    }
+
+    /// How many openers it counts for: itself, and each comma or bar of a list.
+    pub fn openers(&self) -> usize
+        ensures { result ≡ open_openers self.now }
+    {
+        match self {
+            Open::Group { .. } | Open::Curly { .. } | Open::Arguments { .. } => 1,
+            Open::Items { parts, .. } | Open::Tail { parts, .. } => parts.len() + 1,
+        }
+    }
+}
+
+/// What is open: an operator whose right side is under way, or an opening token. The bound is that of the term around it.
 #[derive(Drop)]
 pub enum Frame {
-    Infix {
+    Operator {
         bound: u32,
-        name: Name,
         priority: u32,
-        left: Part,
-    },
-    Prefix {
-        bound: u32,
-        at: u32,
-        name: Name,
-        priority: u32,
+        operator: Operator,
     },
     Open {
         bound: u32,
@@ -42,49 +69,14 @@ pub enum Frame {
     },
 }
 
-/// What was read last, in a term with that bound.
-#[derive(Drop)]
-pub enum Mode {
-    /// An operand begins here.
-    Want {
-        bound: u32,
-    },
-    /// A name.
-    Named {
-        bound: u32,
-        at: u32,
-        name: Name,
-    },
-    /// `[]` or `{}`.
-    Titled {
-        bound: u32,
-        head: Head,
-    },
-    /// `[`
-    Bracketed {
-        bound: u32,
-        at: u32,
-    },
-    /// `{`
-    Braced {
-        bound: u32,
-        at: u32,
-    },
-    /// A term.
-    Have {
-        bound: u32,
-        part: Part,
-        priority: u32,
-    },
-}
-
-/// Where a token leads.
-#[derive(Drop)]
-pub enum Next {
-    GoOn(Mode),
-    /// The token is expected, and no token behind it is.
-    Stuck,
-    Finished(Part),
-    Unexpected,
-    Deep,
+impl Frame {
+    /// How many openers it counts for.
+    pub fn openers(&self) -> usize
+        ensures { result ≡ frame_openers self.now }
+    {
+        match self {
+            Frame::Operator { .. } => 1,
+            Frame::Open { open, .. } => open.openers(),
+        }
+    }
 }

@@ -1,24 +1,30 @@
 //! Reads program texts and queries into terms with places, by operators that a text may change.
 //!
-//! The reader is a machine with a stack of what is open, which takes a token at a time and never recurses. What tokens read as is
-//! the grammar of `prolog_grammar`, and what a text reads as stands in `specs/Reading.antt`. Stands on `cti_terms` for names,
-//! `prolog_tokens` for tokens, `prolog_grammar` for the grammar and its laws, and `thiserror`.
+//! A `Parser` holds a stack of what is open, takes a token at a time and never recurses; a `ClauseReader` feeds it the tokens of a
+//! clause. What tokens read as is the grammar of `prolog_grammar`, and what a text reads as is defined in `specs/Reading.antt`. Depends
+//! on `cti_terms` for names, `prolog_tokens` for tokens, `prolog_grammar` for the grammar and its laws, and `thiserror`.
 #![tactic(auto)]
 
+mod after_name;
+mod after_term;
 mod clause;
 mod clause_reading;
 mod clauses;
 mod directives;
+mod ends;
 mod fault;
 mod frame;
 mod kind;
 mod laws;
 mod limits;
-mod machine;
 mod natural;
+mod operands;
 mod operators;
+mod parser;
 mod part;
 mod reading;
+mod stack;
+mod state;
 mod symbol;
 mod symbols;
 mod term;

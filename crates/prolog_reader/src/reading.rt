@@ -8,6 +8,7 @@ ghost use Rattle.prolog_reader.specs.Naming.{AreNamesOf, BeginNames, text_own, q
 ghost use Rattle.prolog_grammar.specs.Places.{IsPlaced};
 ghost use Rattle.prolog_reader.specs.Places.{ArePlacedClauses, IsFaultPlaced};
 ghost use Rattle.prolog_reader.specs.Terms.{clause_of};
+ghost use Rattle.prolog_reader.specs.Limits.{most_bytes};
 ghost use Rattle.prolog_reader.specs.Meanings.{table_of};
 ghost use Rattle.prolog_reader.specs.Table.{Table, standard};
 ghost use Rattle.prolog_reader.specs.Knowing.{AreKnown, AreWords};
@@ -51,7 +52,7 @@ pub fn read_text(alloc: Global, text: &[u8], names: &mut Names) -> Result<ReadTe
     ensures begin { IfErr result (λ fault. BeginNames text_own names.old text.now names.new fault) }
     ensures kept { Extends names.old names.new }
 
-    // There are at most so many more as the text has bytes and the operators names.
+    // There are at most as many new ones as the text has bytes and the operators have names.
     ensures few { length names.new ≤ length names.old + length text.now + 53 }
 
     // The terms stand within the text, and so does the place of a refusal.
@@ -66,7 +67,7 @@ pub fn read_text(alloc: Global, text: &[u8], names: &mut Names) -> Result<ReadTe
 
 /// Whether a text has too many bytes.
 fn is_long(text: &[u8]) -> bool
-    ensures { result ≡ nat_lt 1048576 (length text.now) }
+    ensures { result ≡ nat_lt most_bytes (length text.now) }
 {
     text.len() > MOST_BYTES
 }
@@ -101,7 +102,7 @@ fn read_clauses(
     words: Words,
     ops: Ops,
 ) -> Result<ReadText, ReadFault>
-    requires short { length text.now ≤ 1048576 }
+    requires short { length text.now ≤ most_bytes }
     requires room { length names.old ≤ 4293000000 }
     requires words { AreWords names.old words }
     requires standard { (later : List (List ℕ)) → Extends names.old later → table_of ops ≡ standard later }
@@ -151,7 +152,7 @@ fn read_clauses(
     }
 }
 
-/// Reads one term with an optional end, by these operators. Nothing may stand behind it.
+/// Reads one term with an optional end, by these operators. Nothing may follow it.
 ///
 /// A place counts bytes from 0. Names that the query adds stay in `names`, also after a refusal.
 ///
@@ -176,7 +177,7 @@ pub fn read_query(
     ensures begin { IfErr result (λ fault. BeginNames query_own names.old text.now names.new fault) }
     ensures kept { Extends names.old names.new }
 
-    // There are at most so many more as the query has bytes and the syntax names.
+    // There are at most as many new ones as the query has bytes and the syntax has names.
     ensures few { length names.new ≤ length names.old + length text.now + 4 }
 
     // The term stands within the query, and so does the place of a refusal.
@@ -223,7 +224,7 @@ fn read_term(
     known: Known,
     ops: &Ops,
 ) -> Result<ReadClause, ReadFault>
-    requires short { length text.now ≤ 1048576 }
+    requires short { length text.now ≤ most_bytes }
     requires room { length names.old ≤ 4293000000 }
     requires known { AreKnown names.old known }
     ensures found { IfOk result (λ clause. AnswersQuery names.new (table_of ops.now) text.now (Ok (clause_of clause))) }

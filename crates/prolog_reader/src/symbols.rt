@@ -29,7 +29,7 @@ fn bytes_of(text: &[u8], token: Token) -> &[u8]
     &text[token.start as usize..token.end as usize]
 }
 
-/// Whether a token stands directly behind the one before it.
+/// Whether a token stands directly after the one before it.
 fn touches(before: Option<Token>, token: Token) -> bool
     ensures { result ≡ touches_before before token }
 {

@@ -4,6 +4,7 @@ ghost use Rattle.std.specs.Prelude.{◌≡◌, ◌≤◌, ◌+◌, ◌∷◌, []
 ghost use Rattle.prolog_reader.specs.Names.{Extends, IsNumber};
 ghost use Rattle.prolog_reader.specs.Naming.{with_names, syntax_texts, word_texts};
 ghost use Rattle.prolog_reader.specs.Knowing.{AreKnown, AreWords};
+ghost use Rattle.prolog_reader.specs.Kinds.{kind_words, AreKinds};
 
 use crate::symbol::Known;
 use cti_terms::{Name, Names};
@@ -55,6 +56,38 @@ pub fn find_known(names: &mut Names) -> Result<Known, AllocError>
     })
 }
 
+/// The names of the kinds of operators in an `op` clause.
+#[derive(Clone, Copy, PartialEq, Eq)]
+pub struct Kinds {
+    pub xfx: Name,
+    pub xfy: Name,
+    pub yfx: Name,
+    pub fx: Name,
+    pub fy: Name,
+}
+
+/// Finds the names of the kinds of operators.
+fn find_kinds(names: &mut Names) -> Result<Kinds, AllocError>
+    requires { length names.old ≤ 4294967100 }
+    ensures kinds { IfOk result (λ kinds. AreKinds names.new kinds) }
+    ensures added { OnOk result (names.new ≡ with_names names.old kind_words) }
+    ensures kept { Extends names.old names.new }
+    ensures few { length names.new ≤ length names.old + 5 }
+{
+    let xfx = word(names, b"xfx")?;
+    let xfy = word(names, b"xfy")?;
+    let yfx = word(names, b"yfx")?;
+    let fx = word(names, b"fx")?;
+    let fy = word(names, b"fy")?;
+    Ok(Kinds {
+        xfx,
+        xfy,
+        yfx,
+        fx,
+        fy,
+    })
+}
+
 /// Finds all these names.
 pub fn find_words(names: &mut Names) -> Result<Words, AllocError>
     requires { length names.old ≤ 4294967050 }
@@ -66,21 +99,17 @@ pub fn find_words(names: &mut Names) -> Result<Words, AllocError>
     let known = find_known(names)?;
     let neck = word(names, b":-")?;
     let op = word(names, b"op")?;
-    let xfx = word(names, b"xfx")?;
-    let xfy = word(names, b"xfy")?;
-    let yfx = word(names, b"yfx")?;
-    let fx = word(names, b"fx")?;
-    let fy = word(names, b"fy")?;
+    let kinds = find_kinds(names)?;
     let bar = word(names, b"|")?;
     Ok(Words {
         known,
         neck,
         op,
-        xfx,
-        xfy,
-        yfx,
-        fx,
-        fy,
+        xfx: kinds.xfx,
+        xfy: kinds.xfy,
+        yfx: kinds.yfx,
+        fx: kinds.fx,
+        fy: kinds.fy,
         bar,
     })
 }

@@ -1,0 +1,12 @@
+-- How much a text may hold.
+--
+-- To believe: all of this file.
+use Rattle.std.specs.Prelude.{ℕ}
+
+-- the most bytes of a text
+abbrev pub most_bytes : ℕ
+most_bytes = 1048576
+
+-- the most openers under which an operand may begin
+abbrev pub most_openers : ℕ
+most_openers = 1000
