@@ -16,20 +16,20 @@ use Rattle.prolog_reader.specs.declared.fault.ReadKind.{ReadKind}
 use Rattle.prolog_reader.specs.declared.fault.ReadKind.TheVariants.{Lex, BadOp}
 use Rattle.prolog_reader.specs.Clauses.{Clause, place}
 use Rattle.prolog_reader.specs.Symbols.{Seen, none_seen, tokens_of, seen_after_all}
-use Rattle.prolog_reader.specs.Table.{Table, standard}
+use Rattle.prolog_operators.specs.Table.{Table, standard}
 use Rattle.prolog_reader.specs.Views.{table_rules}
 use Rattle.prolog_reader.specs.Words.{known, words_of}
 use Rattle.prolog_reader.specs.Directive.{sets, refuses, effect}
 use Rattle.prolog_reader.specs.Reading.{Fault, Answer, fault_at, before_rest, clause_fault, with_clause, IsLeft, clause_tokens, ReadsBy, Answers, by_clauses, all_read, stops, bad_operator, one_more}
 use Rattle.prolog_reader.specs.Scan.{Outcome, scan, Gives, Finds}
 use Rattle.prolog_reader.specs.Answers.{AnswersText}
-use Rattle.prolog_reader.specs.Names.{Extends}
+use Rattle.prolog_operators.specs.Names.{Extends}
 use Rattle.prolog_reader.specs.Terms.{tree_of, clause_of}
 use Rattle.prolog_reader.specs.declared.clause.ReadClause.{ReadClause}
 use Rattle.prolog_reader.specs.declared.clause_reading.Found.{Found}
 use Rattle.prolog_reader.specs.declared.clause_reading.Found.TheVariants as found
 use Rattle.prolog_tokens.proofs.StreamLemmas.{after_token, at_end, at_fault}
-use Rattle.prolog_reader.proofs.NameLemmas.{extends_trans}
+use Rattle.prolog_operators.proofs.NameLemmas.{extends_trans}
 use Rattle.prolog_reader.proofs.ViewLemmas.{tree_of_parts}
 use Rattle.prolog_reader.proofs.LexLemmas.{cursor, next_token}
 use Rattle.prolog_reader.proofs.ScanLemmas.{outcome, scan_is, drop_none}

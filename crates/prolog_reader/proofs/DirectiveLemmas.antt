@@ -2,9 +2,9 @@
 use Rattle.std.proofs.Common.{◌≡◌, ◌≢◌, ℕ, ◌<◌, ◌==◌, Bool, true, false, List, [], ◌∷◌, map, length, get_or, Option, Some, None, refl, sym, ap, ◌∙◌, arith, not, eqb-true, if◌then◌else◌}
 use Rattle.std.proofs.lemmas.List.{length-map}
 use Rattle.prolog_grammar.specs.Placed.{Tree, tree, Var, Int, Fun, no_trees, more_trees}
-use Rattle.prolog_reader.specs.declared.kind.OpKind.{OpKind}
+use Rattle.prolog_operators.specs.declared.kind.OpKind.{OpKind}
 use Rattle.prolog_reader.specs.Clauses.{list_of, nodes}
-use Rattle.prolog_reader.specs.Table.{Table, with_operator}
+use Rattle.prolog_operators.specs.Table.{Table, with_operator}
 use Rattle.prolog_reader.specs.Words.{Words}
 use Rattle.prolog_reader.specs.Knowing.{done_effect}
 use Rattle.prolog_reader.specs.Directive.{sets, parts_of, priority_of, kind_of, operator_of, operators_of, in_front, listed, effect_of, directive_by, effect_by}

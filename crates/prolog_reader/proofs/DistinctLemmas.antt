@@ -8,7 +8,7 @@ use Rattle.std.proofs.Math.Seq.{get_or-append_seam}
 use Rattle.prolog_tokens.proofs.CharacterLemmas.{either}
 use Rattle.cti_terms.specs.Numbers.{with_text}
 use Rattle.prolog_reader.specs.Naming.{with_names}
-use Rattle.prolog_reader.proofs.NameLemmas.{itself, text_there, text_away}
+use Rattle.prolog_operators.proofs.NameLemmas.{itself, text_there, text_away}
 
 abbrev pub AreDistinct : List (List ℕ) → Type 0
 AreDistinct names = AllPairs (λ (a b : List ℕ). a ≢ b) names

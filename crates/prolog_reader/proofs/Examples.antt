@@ -7,12 +7,12 @@ use Rattle.prolog_grammar.specs.Token.{variable, integer, Leaf, Joined, Name, To
 use Rattle.prolog_grammar.specs.Rules.{Infix}
 use Rattle.prolog_grammar.specs.Fault.{unexpected}
 use Rattle.prolog_grammar.specs.Placed.{Tree, tree, Int, Fun, no_trees, more_trees}
-use Rattle.prolog_reader.specs.declared.kind.OpKind.TheVariants.{Xfx}
-use Rattle.prolog_reader.specs.declared.fault.OpFault.TheVariants.{BadPriority, BadName}
+use Rattle.prolog_operators.specs.declared.kind.OpKind.TheVariants.{Xfx}
+use Rattle.prolog_operators.specs.declared.fault.OpFault.TheVariants.{BadPriority, BadName}
 use Rattle.prolog_reader.specs.declared.fault.ReadKind.TheVariants.{Lex, Unexpected}
 use Rattle.prolog_tokens.specs.declared.fault.LexKind.TheVariants.{Unclosed}
 use Rattle.prolog_reader.specs.Symbols.{none_seen, tokens_of, seen_after_all}
-use Rattle.prolog_reader.specs.Table.{standard, setting}
+use Rattle.prolog_operators.specs.Table.{standard, setting}
 use Rattle.prolog_reader.specs.Words.{words_of}
 use Rattle.prolog_reader.specs.Directive.{Effect, sets, refuses, effect}
 use Rattle.prolog_reader.specs.Reading.{clause_fault}

@@ -6,13 +6,13 @@ use Rattle.prolog_grammar.specs.Placed.{Tree, Part, part_tree, Known}
 use Rattle.prolog_grammar.specs.Machine.{State}
 use Rattle.prolog_grammar.specs.Walk.{Next, walk_step}
 use Rattle.prolog_reader.specs.Clauses.{nodes, is_below, is_known}
-use Rattle.prolog_reader.specs.Names.{Extends}
+use Rattle.prolog_operators.specs.Names.{Extends}
 use Rattle.prolog_reader.specs.Words.{known}
-use Rattle.prolog_reader.specs.Table.{Table}
+use Rattle.prolog_operators.specs.Table.{Table}
 use Rattle.prolog_reader.specs.FoundFit.{AreWithin, IsClauseFit}
 use Rattle.prolog_reader.specs.Views.{table_rules}
 use Rattle.prolog_reader.specs.Measures.{weight, part_nodes, state_nodes, NextWithin, IsFine, IsStateFine, IsNextFine, IsTokenFine}
-use Rattle.prolog_reader.proofs.NameLemmas.{number_within}
+use Rattle.prolog_operators.proofs.NameLemmas.{number_within}
 use Rattle.prolog_reader.proofs.MeasureLemmas.{step_fine, step_within}
 
 pub known_within : (names : List (List ℕ)) (k : Known) (count : ℕ) → ((later : List (List ℕ)) → Extends names later → known later ≡ k) → length names ≤ count → AreWithin count k

@@ -1,5 +1,5 @@
+pub use Rattle.prolog_operators.proofs.NameLemmas
 pub mod ViewLemmas
-pub mod NameLemmas
 pub mod NamingLemmas
 pub mod MachineLemmas
 pub mod StackLemmas
@@ -10,7 +10,6 @@ pub mod LexLemmas
 pub mod SymbolLemmas
 pub mod ScanLemmas
 pub mod RunLemmas
-pub mod TableLemmas
 pub mod DirectiveLemmas
 pub mod AnswerLemmas
 pub mod QueryLemmas

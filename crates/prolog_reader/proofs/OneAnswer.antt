@@ -17,9 +17,9 @@ use Rattle.prolog_reader.specs.declared.text.ReadText.{ReadText}
 use Rattle.prolog_reader.specs.declared.clause.ReadClause.{ReadClause}
 use Rattle.prolog_reader.specs.Clauses.{Clause}
 use Rattle.prolog_reader.specs.Terms.{clause_of}
-use Rattle.prolog_reader.specs.Names.{Extends}
-use Rattle.prolog_reader.specs.Meanings.{table_of}
-use Rattle.prolog_reader.specs.Table.{Table, standard}
+use Rattle.prolog_operators.specs.Names.{Extends}
+use Rattle.prolog_operators.specs.Meanings.{table_of}
+use Rattle.prolog_operators.specs.Table.{Table, standard}
 use Rattle.prolog_reader.specs.Views.{table_rules}
 use Rattle.prolog_reader.specs.Words.{known, words_of}
 use Rattle.prolog_reader.specs.Directive.{Effect, sets, refuses, effect}

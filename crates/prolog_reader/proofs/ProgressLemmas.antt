@@ -16,7 +16,7 @@ use Rattle.prolog_reader.specs.declared.clause_reading.ClauseReader.{ClauseReade
 use Rattle.prolog_reader.specs.declared.clause_reading.Found.{Found}
 use Rattle.prolog_reader.specs.declared.clause_reading.Found.TheVariants as found
 use Rattle.prolog_reader.specs.declared.fault.ReadKind.TheVariants.{Lex, Unexpected, Deep}
-use Rattle.prolog_reader.specs.declared.operators.Ops.{Ops}
+use Rattle.prolog_operators.specs.declared.operators.Ops.{Ops}
 use Rattle.prolog_reader.specs.declared.symbol.Known.{Known as CodeKnown}
 use Rattle.prolog_reader.specs.declared.part.Part.{Part as CodePart}
 use Rattle.prolog_reader.specs.declared.state.State.{State as CodeState}
@@ -27,7 +27,7 @@ use Rattle.prolog_reader.specs.declared.state.Step.{Step}
 use Rattle.prolog_reader.specs.declared.state.Step.TheVariants as code
 use Rattle.prolog_reader.specs.FoundFit.{AreWithin, IsClauseFit, IsFoundFit}
 use Rattle.prolog_reader.specs.Measures.{weight, state_nodes, stack_nodes, IsStackFine}
-use Rattle.prolog_reader.specs.Names.{Extends}
+use Rattle.prolog_operators.specs.Names.{Extends}
 use Rattle.prolog_reader.specs.Parsing.{rules, frames}
 use Rattle.prolog_reader.specs.Progress.{text_of, table, known, seen, IsSame, Start, Begins, IsReady, AreNamed, IsTaken, advanced, IsClause, IsRefusal, IsEnd, IsFound, IsMoved, Running, Taken, IsBefore, IsAfter}
 use Rattle.prolog_reader.specs.Ranges.{IsWithin}
@@ -42,7 +42,7 @@ use Rattle.prolog_reader.specs.Views.{rules_of, known_of, part_view, state_of, s
 use Rattle.prolog_reader.proofs.FitLemmas.{known_within, next_fine, next_within, clause_fit}
 use Rattle.prolog_reader.proofs.LexLemmas.{cursor}
 use Rattle.prolog_reader.proofs.MeasureLemmas.{token_more}
-use Rattle.prolog_reader.proofs.NameLemmas.{extends_self, extends_trans, extends_length}
+use Rattle.prolog_operators.proofs.NameLemmas.{extends_self, extends_trans, extends_length}
 use Rattle.prolog_reader.proofs.NamingLemmas.{naming_start, names_next, names_read, names_refused, names_stuck, names_ended}
 use Rattle.prolog_reader.proofs.RunLemmas.{running_start, taken, goes_next, finishes, is_unexpected, is_deep, is_stuck, is_lexical, is_ended, cursor_is, part_tree_view, clause_by, text_here, at_here, given_here, count_after}
 use Rattle.prolog_reader.proofs.WeightLemmas.{token_weight, count_grows}

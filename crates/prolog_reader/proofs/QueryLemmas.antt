@@ -17,9 +17,9 @@ use Rattle.prolog_reader.specs.declared.fault.ReadKind.TheVariants.{Lex, Unexpec
 use Rattle.prolog_reader.specs.declared.clause_reading.Found.{Found}
 use Rattle.prolog_reader.specs.declared.clause_reading.Found.TheVariants as found
 use Rattle.prolog_reader.specs.Clauses.{Clause}
-use Rattle.prolog_reader.specs.Names.{Extends}
+use Rattle.prolog_operators.specs.Names.{Extends}
 use Rattle.prolog_reader.specs.Symbols.{Seen}
-use Rattle.prolog_reader.specs.Table.{Table}
+use Rattle.prolog_operators.specs.Table.{Table}
 use Rattle.prolog_reader.specs.Views.{table_rules}
 use Rattle.prolog_reader.specs.Words.{known}
 use Rattle.prolog_reader.specs.Reading.{Fault, fault_at, before_rest, ReadsBy, query_tokens, query_answer, if_nothing_left, end_of, by_tokens}

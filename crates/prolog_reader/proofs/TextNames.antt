@@ -10,7 +10,7 @@ use Rattle.prolog_reader.specs.declared.fault.ReadFault.{ReadFault}
 use Rattle.prolog_reader.specs.declared.fault.ReadFault.TheVariants.{Fault as Refused, Memory}
 use Rattle.prolog_reader.specs.declared.clause_reading.Found.{Found}
 use Rattle.prolog_reader.specs.declared.clause_reading.Found.TheVariants as found
-use Rattle.prolog_reader.specs.Names.{Extends}
+use Rattle.prolog_operators.specs.Names.{Extends}
 use Rattle.prolog_reader.specs.Naming.{with_names, name_texts, AreNamesOf, BeginNamesOf, BeginNames}
 use Rattle.prolog_reader.specs.Scan.{Names}
 use Rattle.prolog_reader.proofs.AnswerLemmas.{lexed}

@@ -3,7 +3,7 @@ use Rattle.std.proofs.Common.{◌≡◌, ℕ, zero, suc, get_or, ◌+◌, ◌<�
 use Rattle.std.specs.Cmp.Lexicographic.{pointwise}
 use Rattle.cti_terms.specs.Numbers.{number_of, with_text}
 use Rattle.prolog_reader.specs.Symbols.{Seen, is_anonymous, is_seen, with_variable}
-use Rattle.prolog_reader.proofs.NameLemmas.{Placed, placed, text_there, text_away}
+use Rattle.prolog_operators.proofs.NameLemmas.{Placed, placed, text_there, text_away}
 
 module _ (named : List (List ℕ)) (numbers : List ℕ) (count : ℕ) (name : List ℕ) (paired : length named ≡ length numbers) (plain : is_anonymous name ≡ false) where
   abbrev seen : Seen

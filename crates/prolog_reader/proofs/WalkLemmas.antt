@@ -3,13 +3,13 @@ use Rattle.std.proofs.Common.{◌≡◌, ℕ, ◌≤◌, nat_le, Bool, true, fal
 use Rattle.std.proofs.lemmas.Bool.{le-leb}
 use Rattle.prolog_reader.specs.declared.frame.Operator.{Operator}
 use Rattle.prolog_reader.specs.declared.frame.Operator.TheVariants as operator
-use Rattle.prolog_reader.specs.Table.{Table}
+use Rattle.prolog_operators.specs.Table.{Table}
 use Rattle.prolog_reader.specs.Limits.{most_openers}
 use Rattle.prolog_reader.specs.Views.{known_of, token_of, table_rules, operator_frame}
 use Rattle.prolog_reader.specs.declared.parser.Parser.{Parser}
 use Rattle.prolog_reader.specs.declared.state.Step.{Step}
 use Rattle.prolog_reader.specs.declared.symbol.Symbol.{Symbol}
-use Rattle.prolog_reader.specs.Meanings.{table_of}
+use Rattle.prolog_operators.specs.Meanings.{table_of}
 use Rattle.prolog_reader.specs.Parsing.{rules, frames, Leads, infix_move, term_move, applied}
 use Rattle.prolog_grammar.specs.Placed.{Part, Known}
 use Rattle.prolog_grammar.specs.Token.{Token}

@@ -9,9 +9,9 @@ use Rattle.prolog_reader.specs.declared.text.ReadText.{ReadText}
 use Rattle.prolog_reader.specs.declared.clause.ReadClause.{ReadClause}
 use Rattle.prolog_reader.specs.Clauses.{Clause}
 use Rattle.prolog_reader.specs.Terms.{clause_of}
-use Rattle.prolog_reader.specs.Meanings.{table_of}
-use Rattle.prolog_reader.specs.Names.{Extends}
-use Rattle.prolog_reader.specs.Table.{Table}
+use Rattle.prolog_operators.specs.Meanings.{table_of}
+use Rattle.prolog_operators.specs.Names.{Extends}
+use Rattle.prolog_operators.specs.Table.{Table}
 use Rattle.prolog_reader.specs.Reading.{Fault, Answer, IsTextAnswer, IsQueryAnswer}
 
 -- it is the answer for the text, by these names and whatever names come later

@@ -8,10 +8,10 @@
 -- Source: ISO/IEC 13211-1:1995, 8.14.3 (op/3), in this project's profile.
 use Rattle.std.specs.Prelude.{ℕ, ◌==◌, ◌||◌, Bool, List, [], ◌∷◌, Option, Some, None, option_map, if◌then◌else◌}
 use Rattle.prolog_grammar.specs.Placed.{Tree, tree, Shape, Var, Int, Fun, Trees, no_trees, more_trees}
-use Rattle.prolog_reader.specs.declared.kind.OpKind.{OpKind}
-use Rattle.prolog_reader.specs.declared.kind.OpKind.TheVariants.{Xfx, Xfy, Yfx, Fx, Fy}
+use Rattle.prolog_operators.specs.declared.kind.OpKind.{OpKind}
+use Rattle.prolog_operators.specs.declared.kind.OpKind.TheVariants.{Xfx, Xfy, Yfx, Fx, Fy}
 use Rattle.prolog_reader.specs.Clauses.{list_of}
-use Rattle.prolog_reader.specs.Table.{Table, priority_in, with_operators}
+use Rattle.prolog_operators.specs.Table.{Table, priority_in, with_operators}
 use Rattle.prolog_reader.specs.Words.{Words}
 
 -- what a clause does: it leaves the operators as they are or changes them, or it is refused

@@ -1,7 +1,7 @@
 -- The numbers of the names of the kinds of operators. Nothing here has to be believed.
 use Rattle.std.specs.Prelude.{ℕ, List, [], ◌∷◌, codes}
 use Rattle.prolog_reader.specs.declared.words.Kinds.{Kinds}
-use Rattle.prolog_reader.specs.Names.{IsNumber}
+use Rattle.prolog_operators.specs.Names.{IsNumber}
 
 -- their texts
 abbrev pub kind_words : List (List ℕ)

@@ -1,13 +1,13 @@
+pub use Rattle.prolog_operators.specs.Names
+pub use Rattle.prolog_operators.specs.Table
+pub use Rattle.prolog_operators.specs.Meanings
 pub mod Limits
 pub mod Clauses
 pub mod Coding
 pub mod Terms
 pub mod Fit
 pub mod Places
-pub mod Table
-pub mod Names
 pub mod Naming
-pub mod Meanings
 pub mod Views
 pub mod Parsing
 pub mod Symbols

@@ -5,7 +5,6 @@
 --
 -- To believe: all of this file, and below it `with_text` of cti_terms, `meaning_of` and `Lexes` of prolog_tokens.
 use Rattle.std.specs.Prelude.{◌≡◌, ℕ, List, [], ◌∷◌, ◌++◌, Option, codes}
-use Rattle.cti_terms.specs.Numbers.{with_text}
 use Rattle.prolog_tokens.specs.Decoding.{bytes_of, meaning_of}
 use Rattle.prolog_tokens.specs.Stream.{Lexes}
 use Rattle.prolog_tokens.specs.declared.token.TokenKind.{TokenKind}
@@ -14,12 +13,9 @@ use Rattle.prolog_tokens.specs.declared.token.Token.{Token as TextToken}
 use Rattle.prolog_tokens.specs.declared.fault.LexFault.{LexFault}
 use Rattle.prolog_reader.specs.declared.fault.ReadFault.{ReadFault}
 use Rattle.prolog_reader.specs.declared.fault.ReadFault.TheVariants.{Fault as Refused, Memory}
-use Rattle.prolog_reader.specs.Names.{Extends}
-
--- the names, and after them those of these texts that are new, in order
-unfoldable pub with_names : List (List ℕ) → List (List ℕ) → List (List ℕ)
-with_names names [] = names
-with_names names (t ∷ ts) = with_names (with_text names t) ts
+use Rattle.prolog_operators.specs.Names.{Extends}
+unfoldable pub use Rattle.prolog_operators.specs.Texts.{with_names}
+pub use Rattle.prolog_operators.specs.Texts.{clause_texts, comparison_texts, arithmetic_texts, operator_texts}
 
 -- the texts that the syntax makes terms of
 abbrev pub syntax_texts : List (List ℕ)
@@ -28,22 +24,6 @@ syntax_texts = codes "," ∷ codes "[]" ∷ codes "{}" ∷ codes "." ∷ []
 -- and with them those of an `op` clause
 abbrev pub word_texts : List (List ℕ)
 word_texts = syntax_texts ++ codes ":-" ∷ codes "op" ∷ codes "xfx" ∷ codes "xfy" ∷ codes "yfx" ∷ codes "fx" ∷ codes "fy" ∷ codes "|" ∷ []
-
--- the texts of the operators before the first clause
-abbrev pub clause_texts : List (List ℕ)
-clause_texts = codes ":-" ∷ codes "-->" ∷ codes ":-" ∷ codes "?-" ∷ codes ";" ∷ codes "->" ∷ codes "\\+" ∷ []
-
-abbrev pub comparison_texts : List (List ℕ)
-comparison_texts =
-    codes "=" ∷ codes "\\=" ∷ codes "==" ∷ codes "\\==" ∷ codes "@<" ∷ codes "@=<" ∷ codes "@>" ∷ codes "@>=" ∷ codes "=.." ∷ codes "is" ∷ codes "=:=" ∷ codes "=\\=" ∷ codes "<" ∷ codes "=<" ∷ codes ">"
-    ∷ codes ">=" ∷ []
-
-abbrev pub arithmetic_texts : List (List ℕ)
-arithmetic_texts =
-    codes "+" ∷ codes "-" ∷ codes "/\\" ∷ codes "\\/" ∷ codes "*" ∷ codes "/" ∷ codes "//" ∷ codes "rem" ∷ codes "mod" ∷ codes "<<" ∷ codes ">>" ∷ codes "**" ∷ codes "^" ∷ codes "-" ∷ codes "\\" ∷ []
-
-abbrev pub operator_texts : List (List ℕ)
-operator_texts = clause_texts ++ comparison_texts ++ arithmetic_texts
 
 -- what a token of this kind with these bytes names
 abbrev pub kind_texts : TokenKind → List ℕ → List (List ℕ)

@@ -6,7 +6,7 @@ use Rattle.prolog_grammar.specs.Machine.{Open, Frame, infix_frame, open_frame, w
 use Rattle.prolog_grammar.specs.Walk.{Next, go_on, deep_here, walk_have, walk_ended, walk_want, walk_apply, walk_titled, walk_bracketed, walk_braced, walk_prefix, walk_named, walk_step, or_stuck, only_stuck}
 use Rattle.prolog_grammar.specs.Run.{height, inside_height}
 use Rattle.prolog_grammar.specs.Placed.{Part, named_at}
-use Rattle.prolog_reader.specs.declared.operators.Ops.{Ops}
+use Rattle.prolog_operators.specs.declared.operators.Ops.{Ops}
 use Rattle.prolog_reader.specs.declared.symbol.Known.{Known}
 use Rattle.prolog_reader.specs.declared.symbol.Symbol.{Symbol}
 use Rattle.prolog_reader.specs.declared.frame.Operator.{Operator}

@@ -2,8 +2,8 @@
 -- The values of the code as those of the machine. Nothing here has to be believed.
 use Rattle.std.specs.Prelude.{◌≡◌, ◌≤◌, ◌+◌, ℕ, List, [], ◌∷◌, length, map, Option, option_map}
 use Rattle.prolog_reader.specs.declared.part.Part.{Part as CodePart}
-use Rattle.prolog_reader.specs.declared.operators.Infix.{Infix as CodeInfix}
-use Rattle.prolog_reader.specs.declared.operators.Ops.{Ops}
+use Rattle.prolog_operators.specs.declared.operators.Infix.{Infix as CodeInfix}
+use Rattle.prolog_operators.specs.declared.operators.Ops.{Ops}
 use Rattle.prolog_reader.specs.declared.symbol.Known.{Known as CodeKnown}
 use Rattle.prolog_reader.specs.declared.symbol.Symbol.{Symbol}
 use Rattle.prolog_reader.specs.declared.symbol.Symbol.TheVariants as symbol
@@ -30,8 +30,8 @@ use Rattle.prolog_grammar.specs.Walk.{Next, go_on, stuck, finished, unexpected_h
 use Rattle.prolog_grammar.specs.Placed.{Tree, tree, Part, Known, placed_rules}
 use Rattle.prolog_grammar.specs.Run.{height}
 use Rattle.prolog_reader.specs.Limits.{most_openers}
-use Rattle.prolog_reader.specs.Table.{Table}
-use Rattle.prolog_reader.specs.Meanings.{infix_of, table_of}
+use Rattle.prolog_operators.specs.Table.{Table}
+use Rattle.prolog_operators.specs.Meanings.{infix_of, table_of}
 use Rattle.prolog_reader.specs.Terms.{tree_of}
 
 abbrev pub from_tree : Tree → ℕ → Part

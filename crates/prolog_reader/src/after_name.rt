@@ -2,20 +2,20 @@
 
 ghost use Rattle.std.specs.Prelude.{◌≡◌, IfOk};
 ghost use Rattle.prolog_grammar.specs.Rules.{plain, is_infix_alone};
-ghost use Rattle.prolog_reader.specs.Meanings.{prefix_of};
+ghost use Rattle.prolog_operators.specs.Meanings.{prefix_of};
 ghost use Rattle.prolog_reader.specs.Limits.{most_openers};
 ghost use Rattle.prolog_reader.specs.Views.{part_view, head_of};
 ghost use Rattle.prolog_reader.specs.Parsing.{rules, IsUnder, Leads, name_move, prefix_move, applied_move, atom_move, decided, arguments_move, brackets_move, open_list_move, open_curly_move};
 
 use crate::frame::{Frame, Head, Open, Operator};
-use crate::limits::{MOST_ARGUMENT, MOST_PRIORITY};
-use crate::operators::Prefix;
+use crate::limits::MOST_ARGUMENT;
 use crate::parser::Parser;
 use crate::part::{Part, atom, single};
 use crate::state::{NameRead, Refusal, State, Step};
 use crate::symbol::Symbol;
 use crate::term::ReadShape;
 use cti_terms::Name;
+use prolog_operators::{MOST_PRIORITY, Prefix};
 use std::alloc::AllocError;
 
 impl Parser<'_> {

@@ -3,19 +3,19 @@
 ghost use Rattle.std.specs.Prelude.{◌≡◌, Some, IfOk};
 ghost use Rattle.prolog_grammar.specs.Rules.{taken, if_fits};
 ghost use Rattle.prolog_grammar.specs.Walk.{walk_text};
-ghost use Rattle.prolog_reader.specs.Meanings.{infix_of};
+ghost use Rattle.prolog_operators.specs.Meanings.{infix_of};
 ghost use Rattle.prolog_reader.specs.Limits.{most_openers};
 ghost use Rattle.prolog_reader.specs.Views.{IsCounted, found_of, token_of, part_view};
 ghost use Rattle.prolog_reader.specs.Parsing.{rules, IsUnder, Leads, term_move, infix_move, applied};
 
 use crate::frame::{Frame, Operator};
 use crate::limits::MOST_OPENERS;
-use crate::operators::Infix;
 use crate::parser::Parser;
 use crate::part::{Part, pair, unary};
 use crate::state::{Refusal, State, Step};
 use crate::symbol::Symbol;
 use cti_terms::Name;
+use prolog_operators::Infix;
 use std::alloc::{AllocError, Global};
 
 /// The comma token as an operator.

@@ -7,10 +7,10 @@ ghost use Rattle.prolog_tokens.specs.Stream.{Lexes};
 ghost use Rattle.prolog_tokens.specs.declared.token.Token.{Token as TextToken};
 ghost use Rattle.prolog_tokens.specs.declared.fault.LexFault.{LexFault};
 ghost use Rattle.prolog_reader.specs.Limits.{most_bytes};
-ghost use Rattle.prolog_reader.specs.Meanings.{table_of};
+ghost use Rattle.prolog_operators.specs.Meanings.{table_of};
 ghost use Rattle.prolog_reader.specs.Parsing.{IsIn};
 ghost use Rattle.prolog_reader.specs.Progress.{start_of, Begins, IsFound, IsMoved, IsReady, IsTaken, AreNamed, advanced, IsClause, IsRefusal, IsEnd, end_kind};
-ghost use Rattle.prolog_reader.specs.Names.{Extends};
+ghost use Rattle.prolog_operators.specs.Names.{Extends};
 ghost use Rattle.prolog_reader.specs.Knowing.{AreKnown};
 ghost use Rattle.prolog_reader.specs.Ranges.{IsWithin};
 ghost use Rattle.prolog_reader.specs.FoundFit.{IsFoundFit};
@@ -18,8 +18,6 @@ ghost use Rattle.prolog_reader.specs.Scan.{closing_of, IsNextFault, Finds, Names
 
 use crate::clause::ReadClause;
 use crate::fault::ReadKind;
-use crate::limits::MOST_PRIORITY;
-use crate::operators::Ops;
 use crate::parser::Parser;
 use crate::part::Part;
 use crate::state::{Refusal, State, Step};
@@ -27,6 +25,7 @@ use crate::symbol::{Known, Symbol};
 use crate::symbols::next_symbol;
 use crate::variables::Variables;
 use cti_terms::Names;
+use prolog_operators::{MOST_PRIORITY, Ops};
 use prolog_tokens::{Lexer, Token};
 use std::alloc::{AllocError, Global};
 

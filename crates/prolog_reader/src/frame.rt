@@ -4,9 +4,10 @@ ghost use Rattle.std.specs.Prelude.{◌≡◌};
 ghost use Rattle.prolog_grammar.specs.Machine.{inside};
 ghost use Rattle.prolog_reader.specs.Views.{open_of, open_openers, frame_openers};
 
-use crate::limits::{MOST_ARGUMENT, MOST_PRIORITY};
+use crate::limits::MOST_ARGUMENT;
 use crate::part::Part;
 use cti_terms::Name;
+use prolog_operators::MOST_PRIORITY;
 
 /// A name that arguments may follow, by its place: a token, `[` and `]`, or `{` and `}`.
 #[derive(Clone, Copy, PartialEq, Eq)]

@@ -8,7 +8,7 @@ ghost use Rattle.prolog_grammar.specs.Token.{Token as SeenToken};
 ghost use Rattle.prolog_grammar.specs.Fault.{CanGoOn, IsUnexpected, IsDeep};
 ghost use Rattle.prolog_reader.specs.Completion.{EndClauses, IsCompleted, rules_by, seen_tokens};
 ghost use Rattle.prolog_reader.specs.Reading.{before_rest};
-ghost use Rattle.prolog_reader.specs.Table.{Table};
+ghost use Rattle.prolog_operators.specs.Table.{Table};
 
 /// Where some further tokens complete a clause that tokens of a text begin, some bytes do. So some bytes complete what stands before the
 /// first unexpected token, and what ends with the first token that is too deep.

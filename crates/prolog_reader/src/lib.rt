@@ -2,7 +2,7 @@
 //!
 //! A `Parser` holds a stack of what is open, takes a token at a time and never recurses; a `ClauseReader` feeds it the tokens of a
 //! clause. What tokens read as is the grammar of `prolog_grammar`, and what a text reads as is defined in `specs/Reading.antt`. Depends
-//! on `cti_terms` for names, `prolog_tokens` for tokens, `prolog_grammar` for the grammar and its laws, and `thiserror`.
+//! on `cti_terms` for names, `prolog_operators` for operators, `prolog_tokens` for tokens, `prolog_grammar` for the grammar and its laws, and `thiserror`.
 #![tactic(auto)]
 
 mod after_name;
@@ -14,12 +14,10 @@ mod directives;
 mod ends;
 mod fault;
 mod frame;
-mod kind;
 mod laws;
 mod limits;
 mod natural;
 mod operands;
-mod operators;
 mod parser;
 mod part;
 mod reading;
@@ -34,11 +32,10 @@ mod words;
 
 pub use clause::ReadClause;
 pub use clauses::ReadClauses;
-pub use fault::{OpFault, ReadFault, ReadKind};
-pub use kind::OpKind;
+pub use fault::{ReadFault, ReadKind};
 pub use laws::bytes_complete_clauses;
-pub use limits::{MOST_BYTES, MOST_OPENERS, MOST_PRIORITY};
-pub use operators::Ops;
+pub use limits::{MOST_BYTES, MOST_OPENERS};
+pub use prolog_operators::{MOST_PRIORITY, OpFault, OpKind, Ops};
 pub use reading::{one_answer, read_query, read_text};
 pub use term::{ReadShape, ReadTerm};
 pub use text::ReadText;

@@ -7,8 +7,5 @@ pub const MOST_BYTES: usize = 1_048_576;
 /// as its left side.
 pub const MOST_OPENERS: u32 = 1_000;
 
-/// The highest priority of an operator and of a clause.
-pub const MOST_PRIORITY: u32 = 1_200;
-
 /// The highest priority of an argument and of a list's element: below that of the comma.
 pub const MOST_ARGUMENT: u32 = 999;

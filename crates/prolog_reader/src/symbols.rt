@@ -6,7 +6,7 @@ ghost use Rattle.prolog_tokens.specs.Items.{item_characters};
 ghost use Rattle.prolog_tokens.specs.Decoding.{IsTokenOf, bytes_of, characters_of};
 ghost use Rattle.prolog_tokens.specs.declared.token.TokenKind.TheVariants.{Text as TextKind, Int as IntKind};
 ghost use Rattle.prolog_grammar.specs.Token.{integer as integer_value, Leaf, Joined as JoinedToken, Name as NameToken};
-ghost use Rattle.prolog_reader.specs.Names.{Extends, IsNumber};
+ghost use Rattle.prolog_operators.specs.Names.{Extends, IsNumber};
 ghost use Rattle.prolog_reader.specs.Naming.{with_names, token_texts};
 ghost use Rattle.prolog_reader.specs.Symbols.{is_minus, touches_before, joins_before, token_of as plain_token, seen_after};
 ghost use Rattle.prolog_reader.specs.Numbering.{seen_of, AreNumbered};

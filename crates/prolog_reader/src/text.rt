@@ -1,7 +1,7 @@
 //! What a text reads as.
 
 use crate::clauses::ReadClauses;
-use crate::operators::Ops;
+use prolog_operators::Ops;
 
 /// The clauses of a text in its order, and the operators after the last one.
 #[derive(Drop)]

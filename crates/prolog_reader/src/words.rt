@@ -1,7 +1,7 @@
 //! Names that mean something to the reader.
 
 ghost use Rattle.std.specs.Prelude.{◌≡◌, ◌≤◌, ◌+◌, ◌∷◌, [], ℕ, List, length, codes, IfOk, OnOk};
-ghost use Rattle.prolog_reader.specs.Names.{Extends, IsNumber};
+ghost use Rattle.prolog_operators.specs.Names.{Extends, IsNumber};
 ghost use Rattle.prolog_reader.specs.Naming.{with_names, syntax_texts, word_texts};
 ghost use Rattle.prolog_reader.specs.Knowing.{AreKnown, AreWords};
 ghost use Rattle.prolog_reader.specs.Kinds.{kind_words, AreKinds};

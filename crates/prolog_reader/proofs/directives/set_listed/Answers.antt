@@ -1,7 +1,7 @@
 use Rattle.std.proofs.Common.{◌==◌, map, Some, None, sym, ap, ◌∙◌}
 use Rattle.prolog_reader.specs.Terms.{tree_of}
-use Rattle.prolog_reader.specs.Meanings.{table_of}
-use Rattle.prolog_reader.specs.Table.{Table}
+use Rattle.prolog_operators.specs.Meanings.{table_of}
+use Rattle.prolog_operators.specs.Table.{Table}
 use Rattle.prolog_reader.specs.Directive.{effect_of, listed}
 use Rattle.prolog_reader.specs.Knowing.{words_view, done_effect}
 use Rattle.prolog_reader.proofs.DirectiveLemmas.{listed_atom, listed_other, listed_cell, cell_found, cell_other, effect_in_front, nil_effect, no_items, some_items, other_length, not_true, not_false}

@@ -8,12 +8,12 @@ use Rattle.prolog_reader.specs.Fit.{IsFit}
 use Rattle.prolog_reader.specs.FoundFit.{IsClauseFit}
 use Rattle.prolog_reader.proofs.FitLemmas.{all_push}
 use Rattle.prolog_reader.specs.Terms.{clause_of, tree_of}
-use Rattle.prolog_reader.specs.Meanings.{table_of}
+use Rattle.prolog_operators.specs.Meanings.{table_of}
 use Rattle.prolog_reader.specs.Words.{Words}
 use Rattle.prolog_reader.specs.Directive.{effect}
 use Rattle.prolog_reader.specs.Knowing.{done_effect}
 use Rattle.prolog_reader.proofs.LexLemmas.{cursor}
-use Rattle.prolog_reader.proofs.NameLemmas.{extends_self, extends_trans, extends_length}
+use Rattle.prolog_operators.proofs.NameLemmas.{extends_self, extends_trans, extends_length}
 use Rattle.prolog_reader.proofs.RunLemmas.{cursor_is, given_here}
 use Rattle.prolog_reader.proofs.AnswerLemmas.{reading_start, ends_read, lexical_found, refused_found, bad_found, clause_found}
 use Rattle.prolog_reader.proofs.TextNames.{named_start, all_named, some_named, refused_named, clause_named}

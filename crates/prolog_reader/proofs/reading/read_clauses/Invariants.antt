@@ -2,9 +2,9 @@ use Rattle.std.proofs.Common.{◌≡◌, ◌≤◌, ◌+◌, ◌*◌, ◌-◌, �
 use Rattle.std.specs.List.{AllByRecursion}
 use Rattle.prolog_reader.specs.Clauses.{Clause, nodes}
 use Rattle.prolog_reader.specs.Fit.{IsFit}
-use Rattle.prolog_reader.specs.Meanings.{table_of}
-use Rattle.prolog_reader.specs.Names.{Extends}
-use Rattle.prolog_reader.specs.Table.{standard}
+use Rattle.prolog_operators.specs.Meanings.{table_of}
+use Rattle.prolog_operators.specs.Names.{Extends}
+use Rattle.prolog_operators.specs.Table.{standard}
 use Rattle.prolog_reader.proofs.AnswerLemmas.{Reading}
 use Rattle.prolog_reader.proofs.TextNames.{Named}
 use Rattle.prolog_reader.proofs.reading.read_clauses.Given as goal

@@ -1,4 +1,4 @@
-use Rattle.prolog_reader.specs.Meanings.{table_of}
+use Rattle.prolog_operators.specs.Meanings.{table_of}
 use Rattle.prolog_reader.proofs.PlaceLemmas.{query_found_placed, query_refused_placed}
 use Rattle.prolog_reader.proofs.OneAnswer.{only_query}
 use Rattle.prolog_reader.proofs.reading.read_query.Goals as goal

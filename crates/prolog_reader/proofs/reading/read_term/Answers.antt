@@ -2,9 +2,9 @@ use Rattle.std.proofs.Common.{◌*◌, ◌∷◌, length, true, ap, sym, ◌∙�
 use Rattle.prolog_tokens.specs.Cursor.{Cursor}
 use Rattle.prolog_tokens.proofs.NextLemmas.{token_within}
 use Rattle.prolog_reader.specs.Terms.{clause_of}
-use Rattle.prolog_reader.specs.Meanings.{table_of}
+use Rattle.prolog_operators.specs.Meanings.{table_of}
 use Rattle.prolog_reader.proofs.LexLemmas.{cursor}
-use Rattle.prolog_reader.proofs.NameLemmas.{extends_self}
+use Rattle.prolog_operators.proofs.NameLemmas.{extends_self}
 use Rattle.prolog_reader.proofs.RunLemmas.{given_here}
 use Rattle.prolog_reader.specs.FoundFit.{IsClauseFit}
 use Rattle.prolog_reader.specs.Scan.{Finds, closing_of}

@@ -1,6 +1,6 @@
 use Rattle.std.proofs.Common.{◌++◌, List, ℕ, ap, ◌∙◌}
 use Rattle.prolog_tokens.specs.Decoding.{characters_of}
-use Rattle.prolog_reader.proofs.NameLemmas.{number_kept, extends_with_text, got_within}
+use Rattle.prolog_operators.proofs.NameLemmas.{number_kept, extends_with_text, got_within}
 use Rattle.std.proofs.Common.{sym}
 use Rattle.cti_terms.specs.Numbers.{with_text}
 use Rattle.prolog_reader.proofs.NamingLemmas.{names_one}

@@ -1,5 +1,5 @@
 use Rattle.std.proofs.Common.{[], ◌∷◌, ◌++◌, codes}
-use Rattle.prolog_reader.proofs.NameLemmas.{extends_trans}
+use Rattle.prolog_operators.proofs.NameLemmas.{extends_trans}
 use Rattle.prolog_reader.proofs.NamingLemmas.{names_then}
 use Rattle.prolog_reader.proofs.words.find_kinds.Goals as goal
 

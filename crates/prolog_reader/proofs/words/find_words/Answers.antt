@@ -1,7 +1,7 @@
 use Rattle.std.proofs.Common.{refl, [], ◌∷◌, ◌++◌, codes}
 use Rattle.prolog_reader.specs.Kinds.{kind_words}
 use Rattle.prolog_reader.specs.Naming.{syntax_texts}
-use Rattle.prolog_reader.proofs.NameLemmas.{extends_trans}
+use Rattle.prolog_operators.proofs.NameLemmas.{extends_trans}
 use Rattle.prolog_reader.proofs.NamingLemmas.{names_then}
 use Rattle.prolog_reader.proofs.words.find_words.Goals as goal
 

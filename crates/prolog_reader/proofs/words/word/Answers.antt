@@ -1,4 +1,4 @@
-use Rattle.prolog_reader.proofs.NameLemmas.{number_kept, extends_with_text}
+use Rattle.prolog_operators.proofs.NameLemmas.{number_kept, extends_with_text}
 use Rattle.std.proofs.Common.{◌∙◌, sym}
 use Rattle.prolog_reader.proofs.NamingLemmas.{names_one}
 use Rattle.prolog_reader.proofs.words.word.Goals as goal

@@ -1,5 +1,5 @@
 use Rattle.std.proofs.Common.{Bor, refl, ap}
-use Rattle.prolog_reader.specs.declared.operators.Ops.{Ops}
+use Rattle.prolog_operators.specs.declared.operators.Ops.{Ops}
 use Rattle.prolog_reader.specs.Views.{token_of}
 use Rattle.prolog_reader.proofs.clause_reading.ClauseReader.take.Goals as goal
 

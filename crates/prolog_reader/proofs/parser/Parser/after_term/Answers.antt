@@ -1,7 +1,7 @@
 use Rattle.std.proofs.Common.{List, length, ap, sym, arith}
 use Rattle.prolog_grammar.specs.Machine.{Frame}
 use Rattle.prolog_grammar.specs.Placed.{Part}
-use Rattle.prolog_reader.specs.Meanings.{infix_of}
+use Rattle.prolog_operators.specs.Meanings.{infix_of}
 use Rattle.prolog_reader.specs.Views.{part_view}
 use Rattle.prolog_reader.proofs.WalkLemmas.{leads_infix}
 use Rattle.prolog_reader.proofs.parser.Parser.after_term.Goals as goal

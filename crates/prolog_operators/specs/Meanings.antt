@@ -3,11 +3,11 @@
 use Rattle.std.specs.Prelude.{option_map}
 use Rattle.std.specs.Ordering.{nat_cmp}
 use Rattle.std.specs.BTreeMap.{get}
-use Rattle.prolog_reader.specs.declared.operators.Infix.{Infix as CodeInfix}
-use Rattle.prolog_reader.specs.declared.operators.Prefix.{Prefix as CodePrefix}
-use Rattle.prolog_reader.specs.declared.operators.Ops.{Ops}
+use Rattle.prolog_operators.specs.declared.operators.Infix.{Infix as CodeInfix}
+use Rattle.prolog_operators.specs.declared.operators.Prefix.{Prefix as CodePrefix}
+use Rattle.prolog_operators.specs.declared.operators.Ops.{Ops}
 use Rattle.prolog_grammar.specs.Rules.{Infix, Prefix}
-use Rattle.prolog_reader.specs.Table.{Table}
+use Rattle.prolog_operators.specs.Table.{Table}
 
 abbrev pub infix_of : CodeInfix → Infix
 infix_of op = record { priority = op.priority; left = op.left; right = op.right }

@@ -6,8 +6,8 @@ use Rattle.std.specs.Ordering.{nat_cmp, is_eq}
 use Rattle.std.specs.Cmp.{nat_cmp_is}
 use Rattle.std.specs.BTreeMap.{is_at}
 use Rattle.prolog_tokens.proofs.CharacterLemmas.{either}
-use Rattle.prolog_reader.specs.declared.kind.OpKind.{OpKind}
-use Rattle.prolog_reader.specs.Table.{Table, changed, with_operator, with_texts}
+use Rattle.prolog_operators.specs.declared.kind.OpKind.{OpKind}
+use Rattle.prolog_operators.specs.Table.{Table, changed, with_operator, with_texts}
 use Rattle.cti_terms.specs.Numbers.{number_of}
 
 -- the order of numbers tells whether they are the same

@@ -9,7 +9,7 @@ use Rattle.std.proofs.lemmas.Option.{slice_get_within}
 use Rattle.std.proofs.Math.ListN.{get_or-append}
 use Rattle.std.proofs.Math.Seq.{get_or-append_seam}
 use Rattle.cti_terms.specs.Numbers.{number_of, with_text}
-use Rattle.prolog_reader.specs.Names.{Extends, name_text, IsNumber}
+use Rattle.prolog_operators.specs.Names.{Extends, name_text, IsNumber}
 
 module _ {X : Type 0} (p : X → Bool) where
   -- a list has an element that passes, and the first place is within it, or it has none

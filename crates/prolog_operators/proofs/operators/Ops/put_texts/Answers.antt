@@ -1,14 +1,14 @@
 use Rattle.std.proofs.Common.{◌≡◌, ◌+◌, ◌++◌, ◌∷◌, [], ℕ, List, length, map, take, refl, sym, ap, ◌∙◌, arith, subst, take_all, Bor}
 use Rattle.std.proofs.lemmas.List.{take_more, map-append}
 use Rattle.cti_terms.specs.Numbers.{number_of}
-use Rattle.prolog_reader.specs.Names.{Extends}
-use Rattle.prolog_reader.specs.Meanings.{table_of}
-use Rattle.prolog_reader.specs.Table.{Table, with_operator, with_texts}
-use Rattle.prolog_reader.proofs.NameLemmas.{number_kept, extends_self, extends_with_text, extends_trans, length-with_text}
-use Rattle.prolog_reader.specs.Naming.{with_names}
-use Rattle.prolog_reader.proofs.NamingLemmas.{names_none, names_one, names_then}
-use Rattle.prolog_reader.proofs.TableLemmas.{with_texts_push}
-use Rattle.prolog_reader.proofs.operators.Ops.put_texts.Goals as goal
+use Rattle.prolog_operators.specs.Names.{Extends}
+use Rattle.prolog_operators.specs.Meanings.{table_of}
+use Rattle.prolog_operators.specs.Table.{Table, with_operator, with_texts}
+use Rattle.prolog_operators.proofs.NameLemmas.{number_kept, extends_self, extends_with_text, extends_trans, length-with_text}
+use Rattle.prolog_operators.specs.Texts.{with_names}
+use Rattle.prolog_operators.proofs.TextsLemmas.{names_none, names_one, names_then}
+use Rattle.prolog_operators.proofs.TableLemmas.{with_texts_push}
+use Rattle.prolog_operators.proofs.operators.Ops.put_texts.Goals as goal
 
 pub texts-init : goal.texts-init
 texts-init c = record {

@@ -1,9 +1,9 @@
 use Rattle.std.proofs.Common.{◌≡◌, ◌≤◌, ◌+◌, ℕ, List, length, map, take}
-use Rattle.prolog_reader.specs.Names.{Extends}
-use Rattle.prolog_reader.specs.Naming.{with_names}
-use Rattle.prolog_reader.specs.Meanings.{table_of}
-use Rattle.prolog_reader.specs.Table.{with_texts}
-use Rattle.prolog_reader.proofs.operators.Ops.put_texts.Given as goal
+use Rattle.prolog_operators.specs.Names.{Extends}
+use Rattle.prolog_operators.specs.Texts.{with_names}
+use Rattle.prolog_operators.specs.Meanings.{table_of}
+use Rattle.prolog_operators.specs.Table.{with_texts}
+use Rattle.prolog_operators.proofs.operators.Ops.put_texts.Given as goal
 
 -- the names so far are set
 abbrev pub invariant-texts : goal.invariant-texts

@@ -1,10 +1,10 @@
 //! The operators in force.
 
 ghost use Rattle.std.specs.Prelude.{◌≡◌, ◌≤◌, ◌<◌, ◌+◌, ◌-◌, ◌^◌, ℕ, List, None, length, map, option_map, IfOk, IfErr, OnOk, OnErr, Ok};
-ghost use Rattle.prolog_reader.specs.Meanings.{infix_of, prefix_of, table_of};
-ghost use Rattle.prolog_reader.specs.Names.{Extends, name_text};
-ghost use Rattle.prolog_reader.specs.Naming.{with_names, clause_texts, comparison_texts, arithmetic_texts, operator_texts};
-ghost use Rattle.prolog_reader.specs.Table.{no_operators, with_infix, with_prefix, infix_meaning, prefix_meaning, with_operator, with_texts, clause_operators, comparison_operators, arithmetic_operators, standard, priority_in, setting, IsCauseOf, is_reserved};
+ghost use Rattle.prolog_operators.specs.Meanings.{infix_of, prefix_of, table_of};
+ghost use Rattle.prolog_operators.specs.Names.{Extends, name_text};
+ghost use Rattle.prolog_operators.specs.Texts.{with_names, clause_texts, comparison_texts, arithmetic_texts, operator_texts};
+ghost use Rattle.prolog_operators.specs.Table.{no_operators, with_infix, with_prefix, infix_meaning, prefix_meaning, with_operator, with_texts, clause_operators, comparison_operators, arithmetic_operators, standard, priority_in, setting, IsCauseOf, is_reserved};
 
 use crate::fault::OpFault;
 use crate::kind::OpKind;

@@ -1,10 +1,10 @@
 use Rattle.std.proofs.Common.{ap, ◌∙◌}
-use Rattle.prolog_reader.specs.Table.{clause_operators, comparison_operators, arithmetic_operators}
-use Rattle.prolog_reader.proofs.NameLemmas.{extends_trans}
+use Rattle.prolog_operators.specs.Table.{clause_operators, comparison_operators, arithmetic_operators}
+use Rattle.prolog_operators.proofs.NameLemmas.{extends_trans}
 use Rattle.std.proofs.Common.{◌++◌}
-use Rattle.prolog_reader.specs.Naming.{clause_texts, comparison_texts, arithmetic_texts}
-use Rattle.prolog_reader.proofs.NamingLemmas.{names_then}
-use Rattle.prolog_reader.proofs.operators.Ops.standard.Goals as goal
+use Rattle.prolog_operators.specs.Texts.{clause_texts, comparison_texts, arithmetic_texts}
+use Rattle.prolog_operators.proofs.TextsLemmas.{names_then}
+use Rattle.prolog_operators.proofs.operators.Ops.standard.Goals as goal
 
 pub returns-clause-table : goal.returns-clause-table
 returns-clause-table c = λ later ext.

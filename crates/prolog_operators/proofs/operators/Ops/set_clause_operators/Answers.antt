@@ -1,10 +1,10 @@
 use Rattle.std.proofs.Common.{[], ◌∷◌, codes, ap, ◌∙◌}
-use Rattle.prolog_reader.specs.declared.kind.OpKind.TheVariants.{Xfy, Fx, Fy}
-use Rattle.prolog_reader.specs.Table.{Table, with_texts}
-use Rattle.prolog_reader.proofs.NameLemmas.{extends_trans}
+use Rattle.prolog_operators.specs.declared.kind.OpKind.TheVariants.{Xfy, Fx, Fy}
+use Rattle.prolog_operators.specs.Table.{Table, with_texts}
+use Rattle.prolog_operators.proofs.NameLemmas.{extends_trans}
 use Rattle.std.proofs.Common.{◌++◌}
-use Rattle.prolog_reader.proofs.NamingLemmas.{names_then}
-use Rattle.prolog_reader.proofs.operators.Ops.set_clause_operators.Goals as goal
+use Rattle.prolog_operators.proofs.TextsLemmas.{names_then}
+use Rattle.prolog_operators.proofs.operators.Ops.set_clause_operators.Goals as goal
 
 pub returns-clause-ok : goal.returns-clause-ok
 returns-clause-ok c = λ later ext.

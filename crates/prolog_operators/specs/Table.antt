@@ -8,10 +8,10 @@ use Rattle.std.specs.List.{list_any}
 use Rattle.std.specs.Cmp.Lexicographic.{pointwise}
 use Rattle.cti_terms.specs.Numbers.{number_of}
 use Rattle.prolog_grammar.specs.Rules.{Infix, Prefix}
-use Rattle.prolog_reader.specs.declared.kind.OpKind.{OpKind}
-use Rattle.prolog_reader.specs.declared.fault.OpFault.{OpFault}
-use Rattle.prolog_reader.specs.declared.fault.OpFault.TheVariants.{BadPriority, BadName, Memory}
-use Rattle.prolog_reader.specs.declared.kind.OpKind.TheVariants.{Xfx, Xfy, Yfx, Fx, Fy}
+use Rattle.prolog_operators.specs.declared.kind.OpKind.{OpKind}
+use Rattle.prolog_operators.specs.declared.fault.OpFault.{OpFault}
+use Rattle.prolog_operators.specs.declared.fault.OpFault.TheVariants.{BadPriority, BadName, Memory}
+use Rattle.prolog_operators.specs.declared.kind.OpKind.TheVariants.{Xfx, Xfy, Yfx, Fx, Fy}
 
 -- the infix and the prefix meaning of each name
 pub record Table : Type 0 where

@@ -1,0 +1,4 @@
+pub mod Names
+pub mod Texts
+pub mod Table
+pub mod Meanings
