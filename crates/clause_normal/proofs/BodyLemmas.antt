@@ -72,7 +72,7 @@ goals_both names all stack below after t l r e f both =
     ∙ ap (λ hs. joined hs rest) (sym both)
     ∙ sym (ap (stack_goals names all) e ∙ stack_goals_push names all below t)
 
--- and of one whose top is no goal
+-- and of one whose top is not a goal
 pub goals_nothing : (names : List (List ℕ)) (all : List ℕ) (stack below : Bodies) (t : Bor ReadTerm) → stack ≡ below ++ t ∷ [] → goals_of names t.now all ≡ no_goals
     → stack_goals names all below ≡ stack_goals names all stack
 goals_nothing names all stack below t e none =
@@ -108,7 +108,7 @@ some_node (tree at (Var x)) = omega arith
 some_node (tree at (Int n)) = omega arith
 some_node (tree at (Fun f ts)) = omega arith
 
--- what is no disjunction is one branch
+-- what is not a disjunction is one branch
 pub not_either : (names : List (List ℕ)) (t : ReadTerm) (r : Part) → ((x y : Bor ReadTerm) → r ≡ part.Either x y → ⊥) → IsPart names t r → IsBranch names t
 not_either names t (part.Both x y) h p = p.1
 not_either names t (part.Either x y) h p = absurd (h x y refl)

@@ -255,7 +255,7 @@ pub weight : Goals → ℕ
 weight no_goals = 0
 weight (more_goals g gs) = goal_weight g + weight gs
 
--- limits: the variables are among some, and bodies have at most so many goals and nodes, with those of their heads
+-- limits: the variables are among some, and bodies have at most the given number of goals and nodes, with those of their heads
 module _ (most : ℕ) (ys : List ℕ) where
   abbrev mutual
     pub GoalsFit : Goals → Type 0
@@ -291,7 +291,7 @@ module _ (most : ℕ) (ys : List ℕ) where
         (omega (arith, k, le), omega (arith, v, le), h all args [] (ap (λ (xs : List ℕ). args ++ xs) (sym (append-nil (occurrences t)))) (omega (arith, le)) i, tt);
   }
 
-  -- a goal that is no disjunction, of a term
+  -- a goal that is not a disjunction, of a term
   abbrev pub PlainFit : Tree → Goal → Type 0
   PlainFit t g = (goal_weight g ≤ nodes t) × (AllIn ys (occurrences t) → GoalFit g)
 

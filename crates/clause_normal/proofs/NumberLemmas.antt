@@ -15,7 +15,7 @@ first_in p (x ∷ xs) ys h = by_test (p x) refl (λ k. first_in p xs ys k)
     by_test true e more = rw e refl
     by_test false e more = rw e (ap (λ n. 1 + n) (more (let k = rw e at h in omega (arith, k))))
 
--- and one that passes behind others that do not
+-- and one that passes after others that do not
 pub first_behind : {X : Type 0} (p : X → Bool) (xs : List X) (x : X) → position_or_len p xs ≡ length xs → p x ≡ true → position_or_len p (xs ++ x ∷ []) ≡ length xs
 first_behind p [] x h is = rw is refl
 first_behind p (y ∷ ys) x h is = by_test (p y) refl (λ k. first_behind p ys x k is)

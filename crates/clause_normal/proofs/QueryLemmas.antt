@@ -37,7 +37,7 @@ queries_both names stack below after t l r e f both =
     ∙ ap (λ (hs : List Goal). hs ++ rest) (sym both)
     ∙ sym (ap (stack_query names) e ∙ stack_query_push names below t)
 
--- one whose top is no goal
+-- one whose top is not a goal
 pub queries_nothing : (names : List (List ℕ)) (stack below : Queries) (t : Bor ReadTerm) → stack ≡ below ++ t ∷ [] → query_goals names (tree_of t.now) ≡ [] → stack_query names below ≡ stack_query names stack
 queries_nothing names stack below t e none =
     sym (ap (stack_query names) e ∙ stack_query_push names below t ∙ ap (λ (hs : List Goal). hs ++ stack_query names below) none)

@@ -73,7 +73,7 @@ branches_few (more_branches b bs) cs most h head n =
     let l = branches_few bs cs most h head (n + (choices b + inner b)) in
     omega (arith, l, branch_more head n b (joined_branches bs cs), branch_more head n b bs)
 
--- a body of a term of so many nodes
+-- a body of a term of the given number of nodes
 record BodyFew (size : ℕ) (b : Body) : Type 0 where
   level : (all : List ℕ) (m : ℕ) → length (calls m (b.goals all)) ≤ size
   goals : (all : List ℕ) (m n : ℕ) → suc (total m n (b.goals all)) ≤ 2 * size
@@ -89,7 +89,7 @@ of_goals_few size t goals l h = record {
       omega (arith, few, branch_more head n gs no_branches);
 }
 
--- a goal that is no disjunction
+-- a goal that is not a disjunction
 abbrev IsPlain : Goal → Type 0
 IsPlain (call f ts) = Unit {0}
 IsPlain (choice args bs) = ⊥
@@ -158,7 +158,7 @@ disjunction_few size k l t at b c le h i =
       branches = λ args head n. let l = both args head n in omega (arith, l, le);
     }
 
--- bodies of terms that have so many nodes together
+-- bodies of terms that have the given number of nodes together
 abbrev AllFew : List Body → ℕ → Type 0
 AllFew [] size = Unit {0}
 AllFew (b ∷ bs) size = (k : ℕ) × (r : ℕ) × (k + r ≤ size) × BodyFew k b × AllFew bs r
@@ -191,7 +191,7 @@ mutual
 
 -- ---- the clauses of a text
 
--- goals behind a head, of a term of so many nodes
+-- goals after a head, of a term of the given number of nodes
 abbrev FormFew : ℕ → Form → Type 0
 FormFew size skipped = Unit {0}
 FormFew size (refused k) = Unit {0}
@@ -201,7 +201,7 @@ silent_few : (size : ℕ) (b : Bool) (k : NormKind) → FormFew size (if b then 
 silent_few size true k = tt
 silent_few size false k = tt
 
--- a list of terms that have so many nodes together
+-- a list of terms that have the given number of nodes together
 abbrev SumOf : List Tree → ℕ → Type 0
 SumOf [] size = Unit {0}
 SumOf (t ∷ ts) size = (r : ℕ) × (nodes t + r ≤ size) × SumOf ts r
@@ -222,7 +222,7 @@ form_few names (tree at (Var x)) = λ m n. omega arith
 form_few names (tree at (Int i)) = λ m n. omega arith
 form_few names (tree at (Fun f ts)) = named_form_few names (all_nodes ts) (tree at (Fun f ts)) (neck_of (name_text names f) (arity ts)) (list_of ts) (list_sum ts)
 
--- made clauses that have at most so many calls
+-- made clauses that have at most the given number of calls
 abbrev MadeFew : ℕ → Made → Type 0
 MadeFew most (Ok p) = rule_calls p.0 ≤ most
 MadeFew most (Err f) = Unit {0}

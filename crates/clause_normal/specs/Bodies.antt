@@ -1,7 +1,7 @@
 -- To believe, for reading.
 -- The goals of a clause's body.
 --
--- A body is a conjunction: its goals stand in a row, and `true` is no goal. A disjunction is a goal with its branches in a row, each of
+-- A body is a conjunction: its goals stand in a row, and `true` is not a goal. A disjunction is a goal with its branches in a row, each of
 -- them a body again. It becomes the call of a predicate of its own, and that predicate's arguments are those of its variables
 -- that occur elsewhere in the clause that is made. The clause of a branch has that predicate as its head.
 --
@@ -49,12 +49,12 @@ abbrev pub goals_row : List Goal → Goals
 goals_row [] = no_goals
 goals_row (g ∷ gs) = more_goals g (goals_row gs)
 
--- goals, and others behind them
+-- goals, and others after them
 abbrev pub joined : Goals → Goals → Goals
 joined no_goals hs = hs
 joined (more_goals g gs) hs = more_goals g (joined gs hs)
 
--- branches, and others behind them
+-- branches, and others after them
 abbrev pub joined_branches : Branches → Branches → Branches
 joined_branches no_branches cs = cs
 joined_branches (more_branches b bs) cs = more_branches b (joined_branches bs cs)

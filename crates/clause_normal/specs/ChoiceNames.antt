@@ -26,6 +26,6 @@ abbrev pub made_texts : Result (List Rule) Fault → List (List ℕ)
 made_texts (Ok rs) = rule_texts rs
 made_texts (Err f) = []
 
--- the names of the program of a text's clauses, behind those by which the text was read
+-- the names of the program of a text's clauses, after those by which the text was read
 abbrev pub program_names : List (List ℕ) → List Clause → List (List ℕ)
 program_names names clauses = with_names names (made_texts (normal_rules names [] 1 clauses))

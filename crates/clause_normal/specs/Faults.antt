@@ -9,7 +9,7 @@ use Rattle.clause_normal.specs.NormalForm.{Fault, Made, head_fault, head_call}
 use Rattle.clause_normal.specs.Rules.{Rule}
 use Rattle.clause_normal.specs.RuleViews.{call_of, CallIsFit}
 
--- the fault of the code is that one, but for want of memory
+-- the fault of the code is that one, but out of memory
 abbrev pub IfFault : NormFault → (Fault → Type 0) → Type 0
 IfFault (code.Fault kind at) P = P (kind, at)
 IfFault code.Memory P = Unit {0}

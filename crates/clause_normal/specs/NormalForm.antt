@@ -46,7 +46,7 @@ abbrev mutual
   branches_fault no_branches = None
   branches_fault (more_branches b bs) = first_of (goals_fault b) (branches_fault bs)
 
--- the fault of a head whose name has this text and so many arguments
+-- the fault of a head whose name has this text and the given number of arguments
 abbrev pub named_head_fault : List ℕ → ℕ → ℕ → Option Fault
 named_head_fault text arity at =
     if is_reserved text arity then Some (kind.BadHead, at)
@@ -108,7 +108,7 @@ abbrev pub made_or_fault : Option Fault → ℕ → List Rule → ℕ → Made
 made_or_fault (Some f) at made n = Err f
 made_or_fault None at made n = if nat_lt MOST_TEXT_CLAUSES (length made) then Err (kind.ManyClauses, at) else Ok (made, n)
 
--- what a term of this form leads to, behind the clauses that are made already, with disjunctions numbered from n on
+-- what a term of this form leads to, after the clauses that are made already, with disjunctions numbered from n on
 abbrev pub with_form : List (List ℕ) → List Rule → ℕ → Clause → Form → Made
 with_form names made n c skipped = Ok (made, n)
 with_form names made n c (refused kind) = Err (kind, place c.term)
@@ -124,7 +124,7 @@ abbrev pub and_next : Made → (List Rule → ℕ → Result (List Rule) Fault) 
 and_next (Ok p) next = next p.0 p.1
 and_next (Err f) next = Err f
 
--- the clauses of a text behind those that are made already
+-- the clauses of a text after those that are made already
 abbrev pub normal_rules : List (List ℕ) → List Rule → ℕ → List Clause → Result (List Rule) Fault
 normal_rules names made n [] = Ok made
 normal_rules names made n (c ∷ cs) = and_next (with_clause names made n c) (λ made' n'. normal_rules names made' n' cs)

@@ -76,7 +76,7 @@ is_equality names p = is_name names p.name.0 (codes "=") && (p.arity == 2)
 abbrev pub equality_clause : ℕ → Clause
 equality_clause q = record { head = record { pred = record { 0 = q }; args = Variable 0 ∷ Variable 0 ∷ [] }; body = []; vars = 1 }
 
--- the clause of =/2 behind these clauses, where =/2 has this number, if any
+-- the clause of =/2 after these clauses, where =/2 has this number, if any
 abbrev pub with_equality_clause : Option ℕ → List Clause → List Clause
 with_equality_clause None clauses = clauses
 with_equality_clause (Some q) clauses = clauses ++ equality_clause q ∷ []

@@ -2,7 +2,7 @@
 -- The goal of a query, and the program with what it needs; or the first fault.
 --
 -- A query is a conjunction of atoms. A disjunction in it is impure. Variables are numbered by first occurrence, and the goal's counter is
--- how many different ones there are. Its predicates that are new go behind those of the program, and =/2 gets its clause where it is new.
+-- how many different ones there are. Its predicates that are new go after those of the program, and =/2 gets its clause where it is new.
 --
 -- To believe: all of this file.
 use Rattle.std.specs.Prelude.{◌≡◌, ℕ, List, [], ◌∷◌, ◌++◌, Option, Some, None, Result, Ok, Err, length, position, is_some, if◌then◌else◌}
@@ -88,7 +88,7 @@ query_form names p c =
     let gs = query_goals names c.term in
     query_of names p (query_calls gs) (first_of (query_fault gs) (variables_fault (place c.term) (occurrences c.term)))
 
--- the goal with this program, or the fault, but for want of memory
+-- the goal with this program, or the fault, but out of memory
 abbrev pub AnswersQuery : Result (Listing × Query) Fault → Listing → Result Query NormFault → Type 0
 AnswersQuery form p (Ok g) = form ≡ Ok (p, g)
 AnswersQuery form p (Err (norm.Fault kind at)) = form ≡ Err (kind, at)

@@ -54,7 +54,7 @@ is_among xs x = list_any (nat_eq x) xs
 abbrev pub with_number : List ℕ → ℕ → List ℕ
 with_number xs x = if is_among xs x then xs else xs ++ x ∷ []
 
--- these numbers, and others behind them, each once, in order of first occurrence
+-- these numbers, and others after them, each once, in order of first occurrence
 abbrev pub with_numbers : List ℕ → List ℕ → List ℕ
 with_numbers xs [] = xs
 with_numbers xs (y ∷ ys) = with_numbers (with_number xs y) ys

@@ -20,7 +20,7 @@ same = pointwise nat_eq
 abbrev pub is_name : List (List ℕ) → ℕ → List ℕ → Bool
 is_name names n text = same (name_text names n) text
 
--- whether a name with so many arguments is in the table of impure names
+-- whether a name of the given arity is in the table of impure names
 unfoldable pub is_impure : List ℕ → ℕ → Bool
 is_impure text arity = list_any (λ w. same w.0.now text && (w.1 == arity)) IMPURE
 
@@ -33,7 +33,7 @@ abbrev pub is_reserved : List ℕ → ℕ → Bool
 is_reserved text arity =
     is_impure text arity || is_choice_name text || (same text (codes "true") && (arity == 0)) || (same text (codes "fail") && (arity == 0)) || (same text (codes "=") && (arity == 2))
 
--- what a name with so many arguments does to the bodies that are its arguments
+-- what a name of the given arity does to the bodies that are its arguments
 unfoldable pub connective_of : List ℕ → ℕ → Connective
 connective_of text arity =
     if same text (codes ",") && (arity == 2) then And
@@ -41,7 +41,7 @@ connective_of text arity =
     else if same text (codes "true") && (arity == 0) then Truth
     else Other
 
--- what a name with so many arguments makes of a clause's term
+-- what a name of the given arity makes of a clause's term
 unfoldable pub neck_of : List ℕ → ℕ → Neck
 neck_of text arity =
     if same text (codes ":-") && (arity == 1) then Directive
@@ -50,6 +50,6 @@ neck_of text arity =
     else if same text (codes "-->") && (arity == 2) then Grammar
     else Fact
 
--- whether a directive of this name with so many arguments asks for nothing here: an operator is set by the reader, and clauses may stand anywhere
+-- whether a directive of this name of the given arity asks for nothing here: an operator is set by the reader, and clauses may stand anywhere
 unfoldable pub is_silent : List ℕ → ℕ → Bool
 is_silent text arity = (same text (codes "op") && (arity == 3)) || (same text (codes "discontiguous") && (arity == 1))

@@ -1,4 +1,4 @@
-//! Why the clauses of a text are no program.
+//! Why the clauses of a text are not a program.
 
 use std::alloc::AllocError;
 use thiserror::Error;
@@ -20,7 +20,7 @@ pub enum NormKind {
     ManyClauses,
 }
 
-/// Why the clauses of a text are no program. A place counts bytes from 0.
+/// Why the clauses of a text are not a program. A place counts bytes from 0.
 #[derive(Clone, Copy, Debug, PartialEq, Eq, Error)]
 pub enum NormFault {
     /// The clauses are refused, at this place.

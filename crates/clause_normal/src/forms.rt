@@ -18,7 +18,7 @@ use prolog_reader::{ReadShape, ReadTerm};
 pub(crate) enum Form<'a> {
     /// A directive that asks for nothing here.
     Skipped,
-    /// What is no clause.
+    /// What is not a clause.
     Refused(NormKind),
     /// A head alone.
     Fact(&'a ReadTerm),
@@ -73,7 +73,7 @@ pub(crate) fn form_of<'a>(names: &Names, term: &'a ReadTerm) -> Form<'a>
     }
 }
 
-/// What is wrong with a head whose name has this text and so many arguments.
+/// What is wrong with a head whose name has this text and the given number of arguments.
 fn head_kind(text: &[u8], arity: usize) -> Option<NormKind>
     ensures fault { (at : ℕ) → named_head_fault text.now arity at ≡ option_map (λ k. (k, at)) result }
     ensures few { IfNone result (arity ≤ 12) }

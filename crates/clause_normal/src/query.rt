@@ -151,7 +151,7 @@ fn add_new_equality(
 /// The goal of a conjunction, with its variables numbered by first occurrence.
 ///
 /// A predicate that is not there is added to the program without clauses, and `=`/2 with its clause. A disjunction is impure here.
-/// A fault is the first, and its place counts bytes from 0. After a fault the program is unchanged; after want of memory its earlier
+/// A fault is the first, and its place counts bytes from 0. After a fault the program is unchanged; out of memory, its earlier
 /// predicates and clauses are.
 pub fn normal_query(
     alloc: Global,
@@ -168,7 +168,7 @@ pub fn normal_query(
     requires preds { length program.old.preds ≤ 4292870143 }
     requires clauses { position (is_equality names.old) program.old.preds ≡ None → length program.old.clauses < 16385 }
 
-    // The very goal of the definition with the program that it needs, or its very fault.
+    // The very goal of the definition with the program that it needs, or exactly its fault.
     ensures exact { AnswersQuery (query_form names.old program.old (clause_of query.now)) program.new result }
 
     // The goal is one of that program: each variable is below its counter.

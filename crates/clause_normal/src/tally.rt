@@ -13,7 +13,7 @@ pub(crate) struct Tally {
 }
 
 impl Tally {
-    /// So many variables, none of which occurs.
+    /// The given number of variables, none of which occurs.
     pub(crate) fn new(alloc: Global, vars: u32) -> Result<Tally, AllocError>
         ensures { IfOk result (λ t. AreCounts vars [] t.counts.items) }
     {

@@ -103,7 +103,7 @@ pub fn normal(alloc: Global, text: &ReadText, names: &mut Names) -> Result<Progr
     requires fit { AreFit (length names.old) text.now.clauses }
     requires room { length names.old ≤ 4292870143 }
 
-    // The very program of the definition, or its very fault.
+    // The very program of the definition, or exactly its fault.
     ensures exact { MatchResult result (λ p. normal_form names.new text.now.clauses ≡ Ok p) (λ e. IfFault e (λ f. normal_form names.new text.now.clauses ≡ Err f)) }
 
     // The names are those of the definition, and after a fault those that were there. Earlier names keep their numbers, and those of the
@@ -114,7 +114,7 @@ pub fn normal(alloc: Global, text: &ReadText, names: &mut Names) -> Result<Progr
     ensures known { IfOk result (λ p. AllByRecursion (λ (q : ThePred). q.name.0 < length names.new) p.preds) }
     ensures sound { IfOk result IsProgram }
 
-    // There is room for one clause more where =/2 is no predicate of the program.
+    // There is room for one clause more where =/2 is not a predicate of the program.
     ensures room { IfOk result (λ p. position (is_equality names.new) p.preds ≡ None → length p.clauses < 16385) }
 {
     let rules = match text_rules(alloc, names, text.clauses.as_slice()) {

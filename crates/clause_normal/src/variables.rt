@@ -59,7 +59,7 @@ pub(crate) fn term_variables(alloc: Global, term: &ReadTerm) -> Result<Vec<u32>,
     Ok(variables)
 }
 
-/// These variables, and behind them those of a term from left to right, as often as they occur.
+/// These variables, and after them those of a term from left to right, as often as they occur.
 pub(crate) fn with_variables(
     alloc: Global,
     mut variables: Vec<u32>,

@@ -7,7 +7,7 @@ ghost use Rattle.clause_normal.specs.Words.{same, is_impure, is_choice_name, is_
 
 use cti_terms::{Name, Names};
 
-/// The names of what is no pure resolution, and of what has a meaning in a clause, each with its number of arguments.
+/// The names of what is not a pure resolution, and of what has a meaning in a clause, each with its number of arguments.
 pub(crate) const IMPURE: [(&str, usize); 93] = [
     ("!", 0),
     (",", 2),
@@ -113,7 +113,7 @@ pub(crate) fn text_of(names: &Names, name: Name) -> &[u8]
     names.text(name)
 }
 
-/// Whether a name with so many arguments stands in a table.
+/// Whether a name of the given arity stands in a table.
 fn is_in(table: &[(&str, usize)], text: &[u8], arity: usize) -> bool
     ensures { result ≡ list_any (λ w. same w.0.now text.now && (w.1 == arity)) table.now }
 {
@@ -122,7 +122,7 @@ fn is_in(table: &[(&str, usize)], text: &[u8], arity: usize) -> bool
         .any(|word| word.0.as_bytes() == text && word.1 == arity)
 }
 
-/// Whether a name with so many arguments is impure.
+/// Whether a name of the given arity is impure.
 #[tactic(auto, unfolding(crate::specs::Words::is_impure))]
 pub(crate) fn is_impure(text: &[u8], arity: usize) -> bool
     ensures { result ≡ is_impure text.now arity }
@@ -155,13 +155,13 @@ pub(crate) enum Connective {
     And,
     /// It is a disjunction of two bodies.
     Or,
-    /// It is no goal.
+    /// It is not a goal.
     Truth,
     /// It is a goal.
     Other,
 }
 
-/// What a name with so many arguments does to the bodies that are its arguments.
+/// What a name of the given arity does to the bodies that are its arguments.
 #[tactic(auto, unfolding(crate::specs::Words::connective_of))]
 pub(crate) fn connective_of(text: &[u8], arity: usize) -> Connective
     ensures { result ≡ connective_of text.now arity }
@@ -192,7 +192,7 @@ pub(crate) enum Neck {
     Fact,
 }
 
-/// What a name with so many arguments makes of a clause's term.
+/// What a name of the given arity makes of a clause's term.
 #[tactic(auto, unfolding(crate::specs::Words::neck_of))]
 pub(crate) fn neck_of(text: &[u8], arity: usize) -> Neck
     ensures { result ≡ neck_of text.now arity }
@@ -210,7 +210,7 @@ pub(crate) fn neck_of(text: &[u8], arity: usize) -> Neck
     }
 }
 
-/// Whether a directive of this name with so many arguments asks for nothing here.
+/// Whether a directive of this name of the given arity asks for nothing here.
 #[tactic(auto, unfolding(crate::specs::Words::is_silent))]
 pub(crate) fn is_silent(text: &[u8], arity: usize) -> bool
     ensures { result ≡ is_silent text.now arity }

@@ -24,6 +24,6 @@ unfolding with_names
 names_stay names [] = extends_self names
 names_stay names (t ∷ ts) = extends_trans names (with_text names t) (with_names (with_text names t) ts) (extends_with_text names t) (names_stay (with_text names t) ts)
 
--- names put behind names that were put
+-- names put after names that were put
 pub names_then : (x y z : List (List ℕ)) (ts us : List (List ℕ)) → y ≡ with_names x ts → z ≡ with_names y us → z ≡ with_names x (ts ++ us)
 names_then x y z ts us h k = k ∙ ap (λ n. with_names n us) h ∙ sym (names_more x ts us)

@@ -35,7 +35,7 @@ use Rattle.prolog_reader.proofs.LexLemmas.{cursor, next_token}
 use Rattle.prolog_reader.proofs.ScanLemmas.{outcome, scan_is, drop_none}
 use Rattle.prolog_reader.proofs.RunLemmas.{walk_none}
 
--- a text has tokens, and a fault behind them or none
+-- a text has tokens, and a fault after them or none
 pub record Lexed (text : List ℕ) (at : ℕ) : Type 0 where
   pub tokens : List TextToken
   pub fault : Option LexFault
@@ -132,7 +132,7 @@ module _ (names : List (List ℕ)) (text : List ℕ) (fault : Option LexFault) (
   no_closing : (ts : List TextToken) → tokens_of names text none_seen None ts ++ [] ≡ clause_tokens names text fault ts
   no_closing ts = append-nil (tokens_of names text none_seen None ts)
 
-  -- a clause that is read, and the others behind it
+  -- a clause that is read, and the others after it
   pub more_read : (t : TextToken) (ts : List TextToken) (at : Cursor) (c : Clause) (table' : Table) → (g : Gives names text fault [] table (t ∷ ts) at c)
       → effect (words_of names) table c.term ≡ sets table' → (others : Answer) → Answers names text fault table' g.rest others → Answers names text fault table (t ∷ ts) (with_clause c others)
   more_read t ts at c table' g does others rest =
@@ -170,7 +170,7 @@ module _ (names : List (List ℕ)) (text : List ℕ) (fault : Option LexFault) (
       stops (unexpected []) (subst (IsLeft []) (sym is) tt) (subst (λ v. ReadsBy names text fault table [] v) (walk_none (table_rules table (known names)) start) verdict)
       (ap (λ e. Err (fault_at (length text) e [])) (sym is) ∙ ap (λ (xs : List TextToken). Err (fault_at (length text) fault xs)) (sym (drop_none {A = TextToken} 0)))
 
--- how the reading of a text stands before a clause: what is read from here stands behind the clauses so far
+-- how the reading of a text stands before a clause: what is read from here stands after the clauses so far
 pub record Reading (text : List ℕ) (names : List (List ℕ)) (begins : List (List ℕ) → Table) (here : Cursor) (table : Table) (clauses : List Clause) : Type 0 where
   pub each : (later : List (List ℕ)) (ts0 : List TextToken) (fault : Option LexFault) → Extends names later → Lexes (cursor text 0) ts0 fault
       → (ts : List TextToken) × Lexes here ts fault
@@ -213,7 +213,7 @@ module _ (text : List ℕ) (names names' : List (List ℕ)) (here : Cursor) (tab
       r.2 (Err (Lex f.kind, f.at)) (subst (λ (ts : List TextToken). Answers later text fault table ts (Err (Lex f.kind, f.at))) (sym over.0) (lexical_read later text fault table f over.1)))
 
   module _ (t : TextToken) (is : next_of here ≡ Ok (Some t)) (same : here.text ≡ text) (there there' : Cursor) (begins : there ≡ cursor text t.end) where
-    -- the tokens behind the first one of a clause
+    -- the tokens after the first one of a clause
     behind : (later : List (List ℕ)) (ts0 : List TextToken) (fault : Option LexFault) → Extends names later → Lexes (cursor text 0) ts0 fault
         → (ts : List TextToken) × Lexes there ts fault × ((a : Answer) → Answers later text fault table (t ∷ ts) a → Answers later text fault (standard later) ts0 (prepend clauses a))
     behind later ts0 fault ext lexes =

@@ -70,7 +70,7 @@ behind_all (t ∷ []) [] h = sym (ap name_kind h)
 behind_all (t ∷ []) (u ∷ begun) h = behind_last false u begun
 behind_all (t ∷ u ∷ earlier) begun h = behind_all (u ∷ earlier) begun h
 
--- ---- the place behind the last token
+-- ---- the place after the last token
 
 abbrev EndsAt : Option TextToken → ℕ → Type 0
 EndsAt None at = Unit {0}
@@ -196,7 +196,7 @@ led true (brace_end ∷ ms) h = absurd h
 led true (dot ∷ ms) h = absurd h
 led false ms h = (32, mark_bytes ms, spaces, refl)
 
--- behind a name the marks touch it, and elsewhere they begin with no parenthesis
+-- after a name the marks touch it, and elsewhere they begin with no parenthesis
 lead_touches : (name : Bool) (before : Option TextToken) (e : ℕ) (ms : List Mark) → SeparatedBy name ms → EndsAt before e → (name ≡ true → (t : TextToken) × (before ≡ Some t)) → Touches before (e + length (lead name)) ms
 lead_touches name before e [] sep at_end is = tt
 lead_touches name None e (paren ∷ ms) sep at_end is = absurd (none name sep is)

@@ -1,4 +1,4 @@
--- A token stays what it is where a text goes on otherwise behind it, with a parenthesis, a bracket or a space.
+-- A token stays what it is where a text goes on otherwise after it, with a parenthesis, a bracket or a space.
 use Rattle.std.proofs.Common.{◌≡◌, ℕ, ◌+◌, ◌<◌, ◌≤◌, ◌^◌, ◌==◌, ◌&&◌, nat_lt, Bool, true, false, List, [], ◌∷◌, ◌++◌, length, take, drop, pos, Ok, Err, ◌⊎◌, inl, inr, ⊎_elim, refl, sym, ◌∙◌, ap, subst, append_assoc, length-append, arith, if◌then◌else◌}
 use Rattle.std.specs.Char.{digit_value, is_digit as is_digit_in}
 use Rattle.std.specs.List.{prefix_len}
@@ -26,7 +26,7 @@ use Rattle.prolog_tokens.proofs.BodyLemmas.{item_closed}
 use Rattle.prolog_tokens.proofs.FitLemmas.{and_false, integer_at_digits, token_at_digit, integer_at_based, integer_at_code, token_at_single, token_at_double}
 use Rattle.prolog_tokens.proofs.LongestLemmas.{fault_is_found}
 
--- a byte that separates what stands behind a name, or behind another token
+-- a byte that separates what stands after a name, or after another token
 pub data Separates : Bool → ℕ → Type 0 where
   opens : Separates true 40
   lists : Separates true 91
@@ -110,7 +110,7 @@ ends_none s more lists = refl
 ends_some : (s : ℕ) (more : List ℕ) → Separates false s → ends_clause (s ∷ more) ≡ true
 ends_some s more spaces = refl
 
--- where no letter of a base and no quote stands behind a 0, and behind another digit, the digits decide
+-- where no letter of a base and no quote stands after a 0, and after another digit, the digits decide
 zero_decimal : (c : ℕ) (r : List ℕ) → (c == 120) ≡ false → (c == 111) ≡ false → (c == 98) ≡ false → (c == 39) ≡ false → integer_at (48 ∷ c ∷ r) ≡ decimal_at (48 ∷ c ∷ r)
 unfolding integer_at
 zero_decimal c r h o i q = rw (h, o, i, q) refl
@@ -241,7 +241,7 @@ module _ (b : Bool) (s : ℕ) (sep : Separates b s) (more : List ℕ) where
       let len : digits_len base (digits ++ after) ≡ length digits = prefix_len-Each (λ y. is_digit_in y base) digits after each ended in
       rw len (rw (ne_eqb (length digits) 0 (λ e. omega (arith, e, some))) (rw (take_at digits after (length digits) refl) (rw (lt-ltb (number_of base digits) (2 ^ 127) narrow) refl)))
 
-  -- a 0 and the letter of a base, without a digit behind it
+  -- a 0 and the letter of a base, without a digit after it
   letter_cut : (k : TokenKind) (base letter : ℕ) (w x : List ℕ) → IsBase base letter → integer_at (48 ∷ letter ∷ (w ++ x)) ≡ Ok (k, 1) → integer_at (48 ∷ letter ∷ (w ++ s ∷ more)) ≡ zero_alone
   letter_cut k base letter w x is e =
       integer_at_based base letter (w ++ s ∷ more) is

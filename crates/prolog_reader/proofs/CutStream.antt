@@ -1,4 +1,4 @@
--- The tokens of a text stay where it goes on otherwise behind them, and marks behind them are tokens.
+-- The tokens of a text stay where it goes on otherwise after them, and marks after them are tokens.
 use Rattle.std.proofs.Common.{◌≡◌, ℕ, ◌+◌, ◌<◌, ◌≤◌, ◌==◌, ◌||◌, nat_lt, Bool, true, false, List, [], ◌∷◌, ◌++◌, map, length, drop, Option, Some, None, Result, Ok, Err, inl, inr, refl, sym, ◌∙◌, ap, subst, append_assoc, append-nil, length-append, length-drop, arith}
 use Rattle.std.specs.Char.{is_digit as is_digit_in}
 use Rattle.std.proofs.lemmas.Bool.{eqb-true, eqb-false, lt-ltb}
@@ -72,7 +72,7 @@ module _ (b : Bool) (s : ℕ) (sep : Separates b s) (others : List ℕ) where
 
   -- ---- one token
 
-  -- the token behind a gap
+  -- the token after a gap
   next_placed : (c : Cursor) → c.at ≤ length c.text → (gap after : List ℕ) → drop c.at c.text ≡ gap ++ after → IsGap gap after → begins_space after ≡ false → 0 < length after
       → next_of c ≡ placed (c.at + length gap) (token_at after)
   next_placed c within gap after whole is_gap apart some =
@@ -114,7 +114,7 @@ module _ (b : Bool) (s : ℕ) (sep : Separates b s) (others : List ℕ) where
       (omega (arith, length-append n.text (w ++ s ∷ others), some)) in
       new_next ∙ ap (placed (at + length n.gap)) again ∙ ap (λ m. placed m (Ok (t.kind, length n.text))) (sym n.start) ∙ ap (λ m. Ok (Some (record { kind = t.kind; start = t.start; end = m }))) (sym n.end)
 
--- ---- the place behind tokens
+-- ---- the place after tokens
 
 -- a token by its forms
 next_token : (text : List ℕ) (at : ℕ) (t : Token) → at ≤ length text → next_of (record { text = text; at = at }) ≡ Ok (Some t) → IsNextToken (record { text = text; at = at }) t
@@ -231,7 +231,7 @@ Behind b [] = Unit {0}
 Behind b (t ∷ []) = b ≡ name_kind t.kind
 Behind b (t ∷ u ∷ ts) = Behind b (u ∷ ts)
 
--- a longer beginning goes on behind a shorter one
+-- a longer beginning goes on after a shorter one
 split : (xs ys us vs : List ℕ) → xs ++ ys ≡ us ++ vs → length us ≤ length xs → (ws : List ℕ) × (xs ≡ us ++ ws) × (vs ≡ ws ++ ys)
 split xs ys [] vs e l = (xs, refl, sym e)
 split [] ys (u ∷ us) vs e l = absurd (omega (arith, l))

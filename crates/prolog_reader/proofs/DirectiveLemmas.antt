@@ -43,7 +43,7 @@ some_parts n m xs ys h = (ap (λ (p : Parts). first n p) h, ap (λ (p : Parts). 
     second d None = d
 
 module _ (words : Words) where
-  -- what is no name with arguments is no list
+  -- what is not a name with arguments is not a list
   pub listed_none : (t : Tree) → None ≡ parts_of t → listed words t ≡ None
   listed_none (tree at (Var v)) h = refl
   listed_none (tree at (Int i)) h = refl

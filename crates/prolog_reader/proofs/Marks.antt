@@ -38,7 +38,7 @@ mark_kind bracket_end = kind.ListEnd
 mark_kind brace_end = kind.CurlyEnd
 mark_kind dot = kind.End
 
--- a parenthesis stands behind an underscore, and nothing behind a dot
+-- a parenthesis stands after an underscore, and nothing after a dot
 abbrev pub Fine : Mark → List Mark → Type 0
 Fine dot ms = ms ≡ []
 Fine underscore (paren_end ∷ ms) = Unit {0}
@@ -49,7 +49,7 @@ abbrev pub AllFine : List Mark → Type 0
 AllFine [] = Unit {0}
 AllFine (m ∷ ms) = Fine m ms × AllFine ms
 
--- marks behind a name begin with an opening parenthesis or bracket, and others with no opening parenthesis
+-- marks after a name begin with an opening parenthesis or bracket, and others with no opening parenthesis
 abbrev pub SeparatedBy : Bool → List Mark → Type 0
 SeparatedBy true (paren ∷ ms) = Unit {0}
 SeparatedBy true (bracket ∷ ms) = Unit {0}
@@ -166,7 +166,7 @@ list_closes_infix : {T : Type 0} (rules : Rules T) (bound at : ℕ) (k : List (F
 unfolding go
 list_closes_infix rules bound at k = titled_closes rules k bound (brackets at)
 
--- arguments behind a name
+-- arguments after a name
 call_closes : {T : Type 0} (rules : Rules T) (bound at n at' at'' v : ℕ) (k : List (Frame T)) → Ends rules (named bound at n k) (Touching at' ∷ Leaf at'' (variable v) ∷ ParenEnd ∷ close k)
 unfolding go close closer
 call_closes rules bound at n at' at'' v k = have_closes rules (open_frame bound (arguments_open (plain at n) []) ∷ k) 999 (rules.leaf at'' (variable v)) 0

@@ -229,7 +229,7 @@ module _ (infixes : ℕ → Option Infix) (prefixes : ℕ → Option Prefix) (na
   titled_within k bound h Bar = atom_within k bound h Bar
   titled_within k bound h End = atom_within k bound h End
 
-  -- the first token behind an opening bracket or brace
+  -- the first token after an opening bracket or brace
   first_within : (bound b : ℕ) (o : Open Part) (k : List (Frame Part)) (u : Token) → open_nodes o ≤ 1 → NextWithin (suc (stack_nodes k) + weight u) (walk_want 1000 rules bound (open_frame b o ∷ k) u)
   first_within bound b o k u h = within_more _ _ (walk_want 1000 rules bound (open_frame b o ∷ k) u) (want_within bound (open_frame b o ∷ k) u) (omega (arith, h))
 

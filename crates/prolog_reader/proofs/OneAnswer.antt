@@ -63,7 +63,7 @@ module _ (names : List (List ℕ)) (text : List ℕ) (fault : Option LexFault) w
   verdict_once : (table : Table) (us : List Token) (v w : Verdict Part) → ReadsBy names text fault table us v → ReadsBy names text fault table us w → v ≡ w
   verdict_once table us v w h g = sym (one_verdict 1000 table.infixes table.prefixes (known names) us v h) ∙ one_verdict 1000 table.infixes table.prefixes (known names) us w g
 
-  -- nothing is no clause
+  -- nothing is not a clause
   none_read : (table : Table) (r : Part × List Token) → ReadsBy names text fault table [] (Ok r) → ⊥
   none_read table r h =
       ok_err r (unexpected []) (sym (one_verdict 1000 table.infixes table.prefixes (known names) [] (Ok r) h) ∙ walk_none (table_rules table (known names)) start)

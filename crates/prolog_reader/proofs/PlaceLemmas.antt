@@ -32,7 +32,7 @@ use Rattle.prolog_reader.specs.Reading.{Fault, Answer, fault_at, place_at, befor
 use Rattle.prolog_operators.proofs.NameLemmas.{extends_self}
 use Rattle.prolog_reader.proofs.LexLemmas.{cursor, none_past}
 
--- the tokens, and the fault behind them
+-- the tokens, and the fault after them
 abbrev Within : ℕ → List TextToken → Type 0
 Within size ts = AllByRecursion (λ (t : TextToken). t.start ≤ size) ts
 

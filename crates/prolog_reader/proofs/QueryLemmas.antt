@@ -89,7 +89,7 @@ module _ (text : List ℕ) (names : List (List ℕ)) (table : Table) (here : Cur
     FindsAll f = (later : List (List ℕ)) (ts : List TextToken) (fault : Option LexFault) → Extends names' later → Lexes there ts fault
         → Finds later text fault (closing_of true fault) table (t ∷ ts) there' f
 
-    -- the tokens behind the first one
+    -- the tokens after the first one
     behind : (ts : List TextToken) (fault : Option LexFault) → Lexes (cursor text 0) ts fault → (more : List TextToken) × (ts ≡ t ∷ more) × Lexes there more fault
     behind ts fault lexes =
         let after = after_token (at_start ts fault lexes) t is in
@@ -107,7 +107,7 @@ module _ (text : List ℕ) (names : List (List ℕ)) (table : Table) (here : Cur
         let r = clause_stops later text fault (end_of fault) table (t ∷ b.0) kind place run in
         by_first later ts b.0 fault (Err (kind, place)) b.1 (record { verdict = Err r.of; reads = r.reads; is = ap (λ x. Err x) (sym r.fault_is) }))
 
-    -- a query's clause, by what stands behind it
+    -- a query's clause, by what stands after it
     clause_says : (later : List (List ℕ)) (more : List TextToken) (fault : Option LexFault) (c : Clause) → (g : Gives later text fault (closing_of true fault) table (t ∷ more) there' c)
         → Says later text fault table (t ∷ more) (if_nothing_left g.rest fault c (fault_at (length text) fault g.rest))
     clause_says later more fault c g =
@@ -123,7 +123,7 @@ module _ (text : List ℕ) (names : List (List ℕ)) (table : Table) (here : Cur
 
     module _ (c : Clause) (f : Found) (gives : (later : List (List ℕ)) (ts : List TextToken) (fault : Option LexFault) → Extends names' later → Lexes there ts fault
         → Gives later text fault (closing_of true fault) table (t ∷ ts) there' c) where
-      -- nothing stands behind it
+      -- nothing stands after it
       pub query_read : next_of there' ≡ Ok None → AnswersQuery names' table text (Ok c)
       query_read ends = whole text names' table (Ok c) short (λ later ts fault ext lexes.
           let b = behind ts fault lexes in
@@ -133,7 +133,7 @@ module _ (text : List ℕ) (names : List (List ℕ)) (table : Table) (here : Cur
           (ap (λ (xs : List TextToken). if_nothing_left xs fault c (fault_at (length text) fault xs)) over.0 ∙ ap (λ (e : Option LexFault). if_nothing_left [] e c (fault_at (length text) e [])) over.1)
           (clause_says later b.0 fault c g)))
 
-      -- a token stands behind it
+      -- a token stands after it
       pub query_followed : (u : TextToken) → next_of there' ≡ Ok (Some u) → AnswersQuery names' table text (Err (Unexpected, u.start))
       query_followed u ends = whole text names' table (Err (Unexpected, u.start)) short (λ later ts fault ext lexes.
           let b = behind ts fault lexes in
@@ -143,7 +143,7 @@ module _ (text : List ℕ) (names : List (List ℕ)) (table : Table) (here : Cur
           (ap (λ (xs : List TextToken). if_nothing_left xs fault c (fault_at (length text) fault xs)) after.first)
           (clause_says later b.0 fault c g)))
 
-      -- a lexical fault stands behind it
+      -- a lexical fault stands after it
       pub query_then_lexical : (e : LexFault) → next_of there' ≡ Err e → AnswersQuery names' table text (Err (Lex e.kind, e.at))
       query_then_lexical e ends = whole text names' table (Err (Lex e.kind, e.at)) short (λ later ts fault ext lexes.
           let b = behind ts fault lexes in

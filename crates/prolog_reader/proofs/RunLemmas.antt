@@ -128,7 +128,7 @@ module _ (text : List ℕ) (names : List (List ℕ)) (query : Bool) (table : Tab
     pub is_deep : (seen : Seen) (token : TextToken) → Taken text names query rules there here first deep_here seen token → run (known later) ≡ Err (Deep, token.start)
     is_deep seen token taken = let r = taken.each later ts0 fault ext lexes in same_run (Err (Deep, token.start)) r.2
 
-    -- no token behind is expected
+    -- no token after is expected
     pub is_stuck : (seen : Seen) (token : TextToken) (at : Cursor) (f : Found) → Taken text names query rules there here first stuck seen token
         → ((ts : List TextToken) (e : Option LexFault) → Lexes here ts e → IsNextFault (length text) e ts f) → Finds later text fault (closing_of query fault) table (first ∷ ts0) at f
     is_stuck seen token at (found.Clause c) taken next = absurd (let r = taken.each later ts0 fault ext lexes in next r.0 fault r.1)
@@ -136,7 +136,7 @@ module _ (text : List ℕ) (names : List (List ℕ)) (query : Bool) (table : Tab
         let r = taken.each later ts0 fault ext lexes in
         same_run (Err (kind, place)) (r.2 ∙ ap (λ e. Err e) (next r.0 fault r.1))
 
-    -- a lexical fault stands behind
+    -- a lexical fault stands after
     pub is_lexical : (s : State Part) (seen : Seen) (token : TextToken) (f : LexFault) → Taken text names query rules there here first (go_on s) seen token → next_of here ≡ Err f
         → run (known later) ≡ Err (Lex f.kind, f.at)
     is_lexical s seen token f taken is =

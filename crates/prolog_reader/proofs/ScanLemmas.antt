@@ -102,7 +102,7 @@ module _ (names : List (List ℕ)) (text : List ℕ) (fault : Option LexFault) (
       (token_of names text seen before t) (all (seen_after text seen t) (Some t) ts)
       (λ s'. scan names text fault closing rules s' (seen_after text seen t) (Some t) ts) (λ s'. scan_is ts s' (seen_after text seen t) (Some t))
 
--- a token that is no touching parenthesis
+-- a token that is not a touching parenthesis
 kind_apart : (names : List (List ℕ)) (seen : Seen) (touching joined : Bool) (k : TokenKind) (bytes : List ℕ) (at : ℕ) (rest : List Token) → (k ≡ kind.Paren → touching ≡ false)
     → touches (kind_token names seen touching joined k bytes at ∷ rest) ≡ false
 kind_apart names seen touching joined kind.Name bytes at rest apart = refl
@@ -128,7 +128,7 @@ some_is : (t u : TextToken) → ◌≡◌ {A = LexAnswer} (Ok (Some t)) (Ok (Som
 some_is t u h = cc
 
 module _ (names : List (List ℕ)) (text : List ℕ) (closing : List Token) (apart : touches closing ≡ false) where
-  -- whether a parenthesis touches a token is seen from the byte behind it
+  -- whether a parenthesis touches a token is seen from the byte after it
   pub touch_is : (seen : Seen) (b : TextToken) {ts : List TextToken} {fault : Option LexFault} → Lexes (cursor text b.end) ts fault
       → begins_with 40 (drop b.end text) ≡ touches (tokens_of names text seen (Some b) ts ++ closing)
   touch_is seen b (ends h) = ⊎_elim there away (either (begins_with 40 (drop b.end text)))

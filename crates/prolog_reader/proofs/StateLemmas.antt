@@ -184,7 +184,7 @@ titled_fits rules k bound head Comma = have_fits rules k bound (rules.atom head)
 titled_fits rules k bound head Bar = have_fits rules k bound (rules.atom head) 0 Bar
 titled_fits rules k bound head End = have_fits rules k bound (rules.atom head) 0 End
 
--- a token that is no closing bracket, or no closing brace, where that one may stand
+-- a token that is neither a closing bracket nor a closing brace, where that one may stand
 bracketed_fits : {T : Type 0} (rules : Rules T) (k : List (Frame T)) (bound at : ℕ) (token : Token) → Fits (by token) (step_bracketed rules k bound at token)
 bracketed_fits rules k bound at BracketEnd = tt
 bracketed_fits rules k bound at (Name a n) = tt

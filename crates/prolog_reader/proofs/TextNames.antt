@@ -40,7 +40,7 @@ names_begin own earlier text =
     }
 
 module _ (own earlier between : List (List ℕ)) (text : List ℕ) (names : List (List ℕ)) (put : between ≡ with_names earlier own) where
-  -- behind the reader's own
+  -- after the reader's own
   pub names_behind : AreNamesOf [] between text names → AreNamesOf own earlier text names
   names_behind a = record {
     tokens = a.tokens;
@@ -93,7 +93,7 @@ module _ (text : List ℕ) (before names : List (List ℕ)) (here : Cursor) (nam
 
   module _ (t : TextToken) (is : next_of here ≡ Ok (Some t)) (same : here.text ≡ text) (there there' : Cursor) (begins : there ≡ cursor text t.end) (names' : List (List ℕ)) (f : Found)
       (added : (ts : List TextToken) (fault : Option LexFault) → Lexes there ts fault → Names text names names' (t ∷ ts) fault there' f) where
-    -- behind the first token of a clause
+    -- after the first token of a clause
     behind : (ts0 : List TextToken) (fault : Option LexFault) → Lexes (cursor text 0) ts0 fault
         → (ts : List TextToken) × Names text names names' (t ∷ ts) fault there' f × (with_names before (name_texts text ts0) ≡ with_names names (name_texts text (t ∷ ts)))
     behind ts0 fault lexes =

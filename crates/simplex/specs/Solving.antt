@@ -13,7 +13,7 @@ pub record Solves (n : ℕ) (rows : List (List ℤ)) (solved : Solved) : Type 0 
   pub decides : Decides n rows solved
   pub proved : RefutesInFit n rows solved
 
--- a blown answer is that of elimination, with its step; want of memory is free
+-- a blown answer is that of elimination, with its step; running out of memory is free
 abbrev pub IsBlownAs : Solution → Result Solved ElimFault → Type 0
 IsBlownAs s (Ok solved) = Unit {0}
 IsBlownAs s (Err (BlownFault step wide)) = s ≡ Blown step wide

@@ -1,5 +1,5 @@
 -- Private.
--- What the test of a row tells.
+-- What the test of a row shows.
 --
 -- To believe: `Tells`, over the words of linear_rows.
 use Rattle.std.specs.Prelude.{◌≡◌, ◌+◌, ℕ, ℤ, true, false, List, Option, None, Some}

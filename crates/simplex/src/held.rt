@@ -1,4 +1,4 @@
-// What the test of a row tells.
+// What the test of a row shows.
 use linear_rows::{Multipliers, Point};
 
 /// Whether a row holds on rows.

@@ -2,7 +2,7 @@
 //!
 //! `solve` answers a point or multipliers wherever elimination does, and also on many rows on which elimination is
 //! blown. `holds` says whether a row holds wherever rows hold. What points and multipliers are, and when elimination is
-//! blown, is defined in linear_rows. The crate stands on `exact128`, `rational128`, `linear_rows` and `fourier`.
+//! blown, is defined in linear_rows. The crate depends on `exact128`, `rational128`, `linear_rows` and `fourier`.
 #![tactic(auto)]
 
 mod divisors;

@@ -4,7 +4,7 @@ use Rattle.prolog_reader.specs.Views.{part_view}
 use Rattle.prolog_reader.proofs.MachineLemmas.{onto, back, depth_onto}
 use Rattle.prolog_reader.proofs.part.arguments.Given as goal
 
--- the arguments that are left, with those that were taken behind them, are all
+-- the arguments that are left, with those that were taken after them, are all
 abbrev pub invariant-arguments : goal.invariant-arguments
 invariant-arguments l = record {
   terms : onto (map part_view l.parts.items) (back no_trees l.terms.items) ≡ onto (map part_view l.fn.parts.items) no_trees;

@@ -9,7 +9,7 @@ use Rattle.prolog_reader.proofs.AnswerLemmas.{Reading}
 use Rattle.prolog_reader.proofs.TextNames.{Named}
 use Rattle.prolog_reader.proofs.reading.read_clauses.Given as goal
 
--- what is read from here stands behind the clauses so far; each name took a byte
+-- what is read from here stands after the clauses so far; each name took a byte
 abbrev pub invariant-clauses : goal.invariant-clauses
 invariant-clauses l = record {
   reading : Reading l.text l.names standard l.lexer (table_of l.ops) l.clauses;
