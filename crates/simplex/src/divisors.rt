@@ -6,8 +6,8 @@ pub fn shared_by(a: i128, b: i128) -> i128 {
     i128::try_from(gcd(a.unsigned_abs(), b.unsigned_abs())).unwrap_or(0)
 }
 
-/// The greatest common divisor of numbers, or 0 where it does not fit.
-pub fn shared_of(numbers: &[i128]) -> i128 {
+// The greatest common divisor of numbers, or 0 where it does not fit.
+fn shared_of(numbers: &[i128]) -> i128 {
     let mut shared = 0;
     for number in numbers {
         if shared != 1 {

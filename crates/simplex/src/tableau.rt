@@ -264,7 +264,7 @@ impl Tableau {
         true
     }
 
-    // Subtracts from a row the given number of times another one, which has numbers at these places.
+    // Subtracts a multiple of a row, which has numbers at these places, from another row.
     fn subtract(&mut self, other: usize, row: usize, factor: i128, places: &[usize]) -> bool {
         for place in places {
             let x = self.number(other, *place);
