@@ -1,3 +1,4 @@
+-- Private.
 -- Pairs of terms that unification has found equal, or will. Nothing here has to be believed.
 use Rattle.std.specs.Prelude.{◌≡◌, ℕ, ◌-◌, List, ◌∷◌, take, length}
 use Rattle.std.specs.List.{AllByRecursion}

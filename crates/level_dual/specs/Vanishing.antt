@@ -1,3 +1,4 @@
+-- Private.
 -- Mappings that are 0 at marked positions. Nothing here has to be believed.
 use Rattle.std.specs.Prelude.{◌≡◌, ◌<◌, ◌≤ℤ◌, ◌⊎◌, ℕ, suc, ℤ, pos, Bool, true, List, [], map, slice_get, slice_set, Option, None, Some}
 use Rattle.cti_terms.specs.Listing.{Listing}

@@ -1,3 +1,4 @@
+-- Private.
 -- How a count goes up by one.
 use Rattle.std.specs.Prelude.{ℕ, ◌+◌, ◌-◌, ◌^◌, min}
 

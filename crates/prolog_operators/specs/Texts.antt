@@ -1,3 +1,4 @@
+-- To believe, for reading.
 -- The texts of the operators before the first clause, and how texts are put to a list of names.
 --
 -- To believe: all of this file, and below it `with_text` of cti_terms.

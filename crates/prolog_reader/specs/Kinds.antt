@@ -1,3 +1,4 @@
+-- Private.
 -- The numbers of the names of the kinds of operators. Nothing here has to be believed.
 use Rattle.std.specs.Prelude.{ℕ, List, [], ◌∷◌, codes}
 use Rattle.prolog_reader.specs.declared.words.Kinds.{Kinds}

@@ -1,3 +1,4 @@
+-- To believe, for reading.
 -- How much a text may hold.
 --
 -- To believe: all of this file.

@@ -1,3 +1,4 @@
+-- Private.
 -- What the parser's functions do, as moves of the machine. Nothing here has to be believed.
 use Rattle.std.specs.Prelude.{◌≡◌, ◌≤◌, nat_le, ℕ, List, [], ◌∷◌, Bool, true, false, if◌then◌else◌}
 use Rattle.prolog_grammar.specs.Token.{Leaf, Paren, text}

@@ -1,3 +1,4 @@
+-- Private.
 -- How far the reading of a clause is, and what each of its parts promises. Nothing here has to be believed.
 use Rattle.std.specs.Prelude.{◌≡◌, ◌≤◌, ◌<◌, ◌+◌, ◌*◌, ◌^◌, ◌-◌, Bool, ℕ, List, [], ◌∷◌, length, drop, Option, Some, None, IfSome}
 use Rattle.prolog_tokens.specs.Bytes.{begins_with}
