@@ -57,7 +57,7 @@ all_measures : (parts : Parts) (pre : ℕ → Family) (Q : Measure → Type 0) (
 all_measures parts pre Q m zero h = tt
 all_measures parts pre Q m (suc n) h = (h m (omega arith), all_measures parts pre Q (suc m) n (λ i lt. h i (omega arith)))
 
-any_at : {X : Type 0} → (P : X → Type 0) (xs : List X) (i : ℕ) (x : X) → slice_get xs i ≡ Some x → P x → Any P xs
+pub any_at : {X : Type 0} → (P : X → Type 0) (xs : List X) (i : ℕ) (x : X) → slice_get xs i ≡ Some x → P x → Any P xs
 any_at P [] i x e h = cc
 any_at P (y ∷ xs) zero x e h = let same : y ≡ x = cc in any_here P y xs (subst P (sym same) h)
 any_at P (y ∷ xs) (suc i) x e h = any_there P y xs (any_at P xs i x e h)

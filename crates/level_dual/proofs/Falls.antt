@@ -25,12 +25,7 @@ use Rattle.level_dual.specs.Pairs.{call_at, clause_at}
 use Rattle.level_dual.specs.declared.fall.Fall.{Fall}
 use Rattle.level_dual.specs.declared.measure.Measure.{Measure}
 use Rattle.level_dual.specs.declared.own_call.OwnCall.{OwnCall}
-
-length-system : (expression : ℕ → Tree → List ℤ) (rows : ℕ → List (List ℤ)) (n : ℕ) (bs : List Atom) → length (system expression rows n bs) ≡ row_count rows bs
-length-system expression rows n [] = refl
-length-system expression rows n (b ∷ bs) =
-    let one = length-map (rows b.pred.0) (row_over expression n b.args) in
-    omega (arith, one, length-append (map (row_over expression n b.args) (rows b.pred.0)) (system expression rows n bs), length-system expression rows n bs)
+use Rattle.number_tests.proofs.RowSteps.{length-system}
 
 short_is : (r : List ℤ) → row_fits r ≡ true → short_row r ≡ r
 short_is r e = λ i. if e i then r else map (λ _. pos 0) r

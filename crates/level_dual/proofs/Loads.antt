@@ -9,6 +9,7 @@ use Rattle.number_tests.specs.Refuting.{SumsFit}
 use Rattle.termination_model.specs.Refutation.{Load, gather}
 use Rattle.termination_model.specs.Rows.{added}
 use Rattle.level_dual.specs.Refuted.{IsNought}
+use Rattle.level_dual.proofs.SupportLaws.{and_both, and_parts}
 
 pub nought_head : (z : ℤ) (zs : List ℤ) → IsNought (z ∷ zs) → z ≡ pos 0
 nought_head z zs h = h 0 z (omega arith)
@@ -60,15 +61,6 @@ firsts_left [] gs e k = (0, ap (take k) e ∙ taken_none k)
 firsts_left (h ∷ hs) gs (inl l) k = let r = firsts_left hs gs l.1 k in (suc r.0, inl (l.0, r.1))
 firsts_left (h ∷ hs) gs (inr l) zero = (0, refl)
 firsts_left (h ∷ hs) gs (inr l) (suc k) = let r = firsts_left hs l.0 l.2 k in (suc r.0, inr (take k l.0, ap (take (suc k)) l.1, r.1))
-
--- ---- numbers that fit
-and_both : (a b : Bool) → a ≡ true → b ≡ true → (a && b) ≡ true
-and_both true b h k = k
-and_both false b h k = cc
-
-and_parts : (a b : Bool) → (a && b) ≡ true → (a ≡ true) × (b ≡ true)
-and_parts true b h = (refl, h)
-and_parts false b h = cc
 
 entries_fit : (r : List ℤ) → row_fits r ≡ true → (k : ℕ) → fits (entry r k) ≡ true
 entries_fit [] h k = refl

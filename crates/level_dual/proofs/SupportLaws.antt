@@ -116,11 +116,11 @@ position_of arity (r ∷ qs) q a (inl e) i =
 position_of arity (r ∷ qs) q a (inr h) i = in-right (map (λ b. (r, b)) (columns 0 (arity r))) (positions_by arity qs) (q, a) (position_of arity qs q a h i)
 
 -- ---- picked positions in order
-and_parts : (a b : Bool) → (a && b) ≡ true → (a ≡ true) × (b ≡ true)
+pub and_parts : (a b : Bool) → (a && b) ≡ true → (a ≡ true) × (b ≡ true)
 and_parts true b h = (refl, h)
 and_parts false b h = cc
 
-and_both : (a b : Bool) → a ≡ true → b ≡ true → (a && b) ≡ true
+pub and_both : (a b : Bool) → a ≡ true → b ≡ true → (a && b) ≡ true
 and_both true b h k = k
 and_both false b h k = cc
 

@@ -39,6 +39,7 @@ use Rattle.level_dual.specs.declared.component.Component.{Component}
 use Rattle.level_dual.specs.declared.own_call.OwnCall.{OwnCall}
 use Rattle.level_dual.specs.declared.position.Position.{Position}
 use Rattle.level_dual.proofs.HeldCalls.{all_in, calls_are, re, recalls, rows_are}
+use Rattle.termination_model.proofs.Naturals.{never_below}
 
 -- ---- products of natural coefficients
 -- one to which no positive coefficient adds is 0
@@ -116,12 +117,6 @@ dot_spike [] zero k (suc n) l = omega (arith, ints)
 dot_spike [] (suc j) k (suc n) l = omega (arith, ints)
 dot_spike (e ∷ es) zero k (suc n) l = let rest = dot_flat es n in let swap = *ℤ_comm e (pos k) in omega (arith, ints, rest, swap)
 dot_spike (e ∷ es) (suc j) k (suc n) l = let rest = dot_spike es j k n (omega (arith, l)) in omega (arith, ints, rest)
-
--- a line that never falls below 0 does not fall
-never_below : (a b : ℤ) → ((k : ℕ) → pos 0 ≤ℤ (a +ℤ pos k *ℤ b)) → pos 0 ≤ℤ b
-never_below a (pos n) h = omega (arith, ints)
-never_below (pos a) (negsuc n) h = absurd (let l = h (suc a) in omega (arith, ints))
-never_below (negsuc a) (negsuc n) h = absurd (let l = h 0 in omega (arith, ints))
 
 column_kept : (n : ℕ) (row : List ℤ) → HoldsOn (suc n) [] row → (j : ℕ) → j < n → pos 0 ≤ℤ entry row (suc j)
 unfolding dot

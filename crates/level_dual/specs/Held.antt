@@ -12,13 +12,13 @@ use Rattle.call_components.specs.Partition.{Partition}
 use Rattle.linear_rows.specs.Irredundant.{TestIsBlown}
 use Rattle.linear_rows.specs.Members.{In}
 use Rattle.linear_rows.specs.Plain.{plain_row, plain_rows, HaveWidth}
-use Rattle.linear_rows.specs.Rows.{AllHold}
 use Rattle.linear_rows.specs.Showing.{Shows, bottom_row}
 use Rattle.linear_rows.specs.Solving.{zeros}
 use Rattle.linear_rows.specs.declared.multipliers.Multipliers.{Multipliers}
 use Rattle.linear_rows.specs.declared.row.Row.{Row}
 use Rattle.linear_rows.specs.declared.row.Rows.{Rows}
 use Rattle.number_tests.specs.Targets.{AreFallColumns}
+pub use Rattle.termination_model.specs.ChainRows.{HasPoint}
 use Rattle.termination_model.specs.ComponentViews.{size_claims}
 use Rattle.termination_model.specs.OwnCalls.{Position as Place, OwnCall as Recalled}
 use Rattle.termination_model.specs.Ready.{itself}
@@ -46,14 +46,6 @@ held_numbers own positions members before after x =
     ++ zeros before)
     ++ map (λ r. neg_ℤ (entry (plain_row r) x)) own.rows.list)
     ++ zeros after
-
--- some point of n naturals obeys the rows
-pub record HasPoint (n : ℕ) (rows : List (List ℤ)) : Type 0 where
-  pub t : ℕ
-  pub w : List ℕ
-  pub some : 1 ≤ t
-  pub long : length w ≡ n
-  pub hold : AllHold rows t w
 
 -- the rows before a call hold at some point, or multipliers with scale 0 show that they hold nowhere
 abbrev pub IsReach : ℕ → List (List ℤ) → Option Multipliers → Type 0

@@ -24,7 +24,7 @@ use Rattle.number_tests.specs.Systems.{IsSystemUpTo}
 use Rattle.number_tests.specs.declared.flaw.Flaw.{Flaw}
 
 -- as many rows as the atoms have
-length-system : (expression : ℕ → Tree → List ℤ) (rows : ℕ → List (List ℤ)) (n : ℕ) (bs : List Atom) → length (system expression rows n bs) ≡ row_count rows bs
+pub length-system : (expression : ℕ → Tree → List ℤ) (rows : ℕ → List (List ℤ)) (n : ℕ) (bs : List Atom) → length (system expression rows n bs) ≡ row_count rows bs
 length-system expression rows n [] = refl
 length-system expression rows n (b ∷ bs) =
     let one = length-map (rows b.pred.0) (row_over expression n b.args) in

@@ -45,6 +45,7 @@ use Rattle.report.proofs.SetParts.{listed_at, mapped_at, mapped_count}
 use Rattle.report.specs.Assembly.{AreFound}
 use Rattle.report.specs.Levels.{by_or_none, fall_in, fall_list, falls_at, falls_from, level_list, levels_at, mappings_at, mappings_of_component, part_or_zero, zero_part}
 use Rattle.report.specs.Ranges.{AreMultipliersBelow, IsPartBelow}
+use Rattle.cert_checker.proofs.Claims.{any_at}
 
 -- ---- lists
 all_mapped : {X Y : Type 0} (P : Y → Type 0) (g : X → Y) (xs : List X) → AllByRecursion (λ x. P (g x)) xs → AllByRecursion P (map g xs)
@@ -192,11 +193,6 @@ falls_there p comps found k i (x ∷ bs) zero b e =
 falls_there p comps found k i (x ∷ bs) (suc j) b e =
     let next : suc i + j ≡ i + suc j = omega arith in
     falls_there p comps found k (suc i) bs j b e ∙ ap (λ n. Some (falls_at p comps found k n (Some b))) next
-
-any_at : {X : Type 0} → (P : X → Type 0) (xs : List X) (i : ℕ) (x : X) → slice_get xs i ≡ Some x → P x → Any P xs
-any_at P [] i x e h = cc
-any_at P (y ∷ xs) zero x e h = let same : y ≡ x = cc in any_here P y xs (subst P (sym same) h)
-any_at P (y ∷ xs) (suc i) x e h = any_there P y xs (any_at P xs i x e h)
 
 together_in : (comps : Partition) (a b c : ℕ) → IsIn comps c a → is_together comps a b ≡ true → IsIn comps c b
 together_in comps a b c inside e = go (slice_get comps.of b) refl (subst (λ (o : Option ℕ). is_same o (slice_get comps.of b) ≡ true) inside e)

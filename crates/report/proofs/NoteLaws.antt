@@ -18,17 +18,7 @@ use Rattle.termination_model.proofs.Lists.{append_assoc, indexed}
 use Rattle.termination_model.specs.ComponentViews.{positions_in}
 use Rattle.termination_model.specs.Ready.{arity_in, positions_by}
 use Rattle.report.specs.SupportNotes.{arguments_in, large_at}
-
-pub drop_at : {X : Type 0} → (xs : List X) (i : ℕ) (x : X) → slice_get xs i ≡ Some x → drop i xs ≡ x ∷ drop (i + 1) xs
-drop_at [] i x e = cc
-drop_at (y ∷ xs) zero x e = let same : y ≡ x = cc in ap (λ z. z ∷ xs) same
-drop_at (y ∷ xs) (suc i) x e = let more : suc i + 1 ≡ suc (i + 1) = omega arith in rw more (drop_at xs i x e)
-
-pub drop_all : {X : Type 0} → (xs : List X) (i : ℕ) → length xs ≤ i → drop i xs ≡ []
-drop_all [] zero le = refl
-drop_all [] (suc i) le = refl
-drop_all (x ∷ xs) zero le = absurd (omega arith)
-drop_all (x ∷ xs) (suc i) le = drop_all xs i (omega arith)
+use Rattle.level_dual.proofs.PairLists.{drop_at}
 
 pub append_none : {X : Type 0} (xs : List X) → xs ++ [] ≡ xs
 append_none [] = refl

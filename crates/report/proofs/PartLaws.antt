@@ -8,7 +8,7 @@ use Rattle.level_dual.specs.declared.fall.Fall.{Fall}
 use Rattle.level_dual.specs.declared.found.Found.{Found}
 use Rattle.level_dual.specs.declared.measure.Measure.{Measure}
 use Rattle.linear_rows.specs.Step.{columns}
-use Rattle.report.proofs.NoteLaws.{drop_at}
+use Rattle.level_dual.proofs.PairLists.{drop_at}
 use Rattle.report.specs.Levels.{fall_in, falls_at, falls_from}
 
 pub mapped_step : {X : Type 0} (f : ℕ → X) (q n : ℕ) → q < n → map f (columns q (n - q)) ≡ (f q ∷ []) ++ map f (columns (q + 1) (n - (q + 1)))
