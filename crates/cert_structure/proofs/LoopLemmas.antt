@@ -15,6 +15,7 @@ use Rattle.number_tests.specs.declared.pair_point.PairPoint.{PairPoint}
 use Rattle.cert_structure.specs.declared.fault.StructureReason.TheVariants as reason
 use Rattle.cert_structure.specs.declared.stop.Stop.{Stop}
 use Rattle.cert_structure.specs.declared.stop.Stop.TheVariants as stop
+use Rattle.cert_structure.specs.Filling.{Fills}
 use Rattle.cert_structure.specs.Order.{is_note}
 use Rattle.cert_structure.specs.Shape.{rows_of}
 use Rattle.cert_structure.specs.Structure.{AreNotes}
@@ -26,6 +27,20 @@ pub part_err : {A B : Type 0} (r : Result (B × Bor (List Fact)) Stop) (e : Stop
 part_err (Ok s) e p o f h k = absurd (false≢true f.0)
 part_err (Err (stop.Wrong left why)) e p o f h k = k (left, why) (rw (← f.1) at h)
 part_err (Err stop.Memory) e p o f h k = tt
+
+-- the same where values are read into their places
+pub fills_err : {A B : Type 0} (r : Result (Bor (List Fact)) Stop) (x : A) (y : B) (e : Stop) (p : Read A) (o : Read B)
+    → IsErr r × IsErrAnd r (λ d. d ≡ e) → Fills {A = A} (Err e) x p → ((w : Wrong) → p ≡ Err w → o ≡ Err w) → Fills r y o
+fills_err (Ok s) x y e p o f h k = absurd (false≢true f.0)
+fills_err (Err (stop.Wrong left why)) x y e p o f h k = k (left, why) (rw (← f.1) at h)
+fills_err (Err stop.Memory) x y e p o f h k = tt
+
+-- what is read last fills the whole
+pub fills_last : {A B : Type 0} (r : Result (Bor (List Fact)) Stop) (x : A) (y : B) (p : Read A) (o : Read B)
+    → Fills r x p → ((s : List Fact) → p ≡ Ok (x, s) → o ≡ Ok (y, s)) → ((w : Wrong) → p ≡ Err w → o ≡ Err w) → Fills r y o
+fills_last (Ok s) x y p o h k l = k s.now h
+fills_last (Err (stop.Wrong left why)) x y p o h k l = l (left, why) h
+fills_last (Err stop.Memory) x y p o h k l = tt
 
 pub length_more : {A : Type 0} (xs : List A) (x : A) → length (xs ++ x ∷ []) ≡ suc (length xs)
 length_more [] x = refl

@@ -1,3 +1,4 @@
+pub mod Filling
 pub mod Numbered
 pub mod Order
 pub mod Shape

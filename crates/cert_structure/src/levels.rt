@@ -1,6 +1,7 @@
 //! The parts of predicates in level mappings.
 
 ghost use Rattle.std.specs.Prelude.{◌≡◌, length, [], ◌++◌, ◌∷◌};
+ghost use Rattle.cert_structure.specs.Filling.{Fills};
 ghost use Rattle.cert_structure.specs.Shape.{items_of};
 ghost use Rattle.cert_structure.specs.Walk.{Agrees, AgreesKept, named, level_read, take_level, read_level, read_levels};
 
@@ -100,7 +101,7 @@ fn pred_levels<'f>(
 }
 
 /// The levels of each predicate.
-pub(crate) fn levels<'f>(
+fn levels<'f>(
     alloc: Global,
     calls: &Calls,
     names: &Names,
@@ -116,4 +117,19 @@ pub(crate) fn levels<'f>(
         rest = after;
     }
     Ok((levels, rest))
+}
+
+/// Reads the levels of each predicate into the place of others, and gives the facts after them.
+pub(crate) fn levels_into<'f>(
+    alloc: Global,
+    calls: &Calls,
+    names: &Names,
+    place: &mut Sequence<Sequence<LevelPart>>,
+    facts: &'f [Fact],
+) -> Result<&'f [Fact], Stop>
+    ensures { Fills result place.new (read_levels calls.now.p.now names.now calls.now.comps.now [] 0 (length calls.now.p.now.preds) facts.now) }
+{
+    let (read, rest) = levels(alloc, calls, names, facts)?;
+    *place = read;
+    Ok(rest)
 }

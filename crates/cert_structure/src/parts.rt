@@ -4,6 +4,7 @@ use bool_diagrams::Cube;
 use linear_rows::Multipliers;
 use number_tests::{LevelPart, Refutation};
 use sequences::Sequence;
+use std::alloc::Global;
 use termination_model::SizeRows;
 
 /// All that a certificate says of a program, but for its notes.
@@ -31,6 +32,22 @@ pub struct Parts {
 
     /// For each predicate the refutation for the component that it is the first one of, where there is one.
     pub refutations: Sequence<Option<Refutation>>,
+}
+
+impl Parts {
+    /// No parts of any predicate or clause.
+    pub(crate) fn none(alloc: Global) -> Parts {
+        Parts {
+            modes: Sequence::new(alloc),
+            rows: SizeRows::from_vec(Vec::new(alloc)),
+            row_proofs: Sequence::new(alloc),
+            grounds: Sequence::new(alloc),
+            levels: Sequence::new(alloc),
+            falls: Sequence::new(alloc),
+            preconditions: Sequence::new(alloc),
+            refutations: Sequence::new(alloc),
+        }
+    }
 }
 
 impl Drop for Parts {

@@ -2,6 +2,7 @@
 
 ghost use Rattle.std.specs.Prelude.{◌≡◌, ℕ, List};
 ghost use Rattle.certificate.specs.declared.fact.Fact.{Fact as TheFact};
+ghost use Rattle.cert_structure.specs.Filling.{Fills};
 ghost use Rattle.cert_structure.specs.Walk.{Agrees, Read, read_each};
 
 use crate::stop::Stop;
@@ -44,4 +45,19 @@ pub(crate) fn each<'f, R: Reader>(
         rest = after;
     }
     Ok((items, rest))
+}
+
+/// Reads the items of the numbers below `count` into the place of others, and gives the facts after them.
+pub(crate) fn each_into<'f, R: Reader>(
+    alloc: Global,
+    reader: &R,
+    count: u64,
+    items: &mut Sequence<R::Item>,
+    facts: &'f [Fact],
+) -> Result<&'f [Fact], Stop>
+    ensures { Fills result items.new (read_each (R.reads reader.now) 0 count facts.now) }
+{
+    let (read, rest) = each(alloc, reader, count, facts)?;
+    *items = read;
+    Ok(rest)
 }

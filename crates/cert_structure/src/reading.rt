@@ -8,6 +8,7 @@ ghost use Rattle.cti_terms.specs.Listing.{Listing};
 ghost use Rattle.cert_structure.specs.declared.fault.PartsFault.TheVariants.{Memory, Wrong as IsWrong};
 ghost use Rattle.cert_structure.specs.declared.fault.StructureReason.{StructureReason as TheReason};
 ghost use Rattle.cert_structure.specs.declared.parts.Parts.{Parts as TheParts};
+ghost use Rattle.cert_structure.specs.Filling.{Fills};
 ghost use Rattle.cert_structure.specs.Order.{is_note, pred_text};
 ghost use Rattle.cert_structure.specs.Structure.{IsStructured, AreNamed};
 ghost use Rattle.cert_structure.specs.StructureFault.{IsFirstWrong, IsStructureFault};
@@ -17,19 +18,18 @@ use crate::calls::Calls;
 use crate::falls::Falls;
 use crate::fault::{PartsFault, StructureReason};
 use crate::grounds::Grounds;
-use crate::levels::levels;
+use crate::levels::levels_into;
 use crate::modes::Modes;
 use crate::parts::Parts;
 use crate::preconditions::Preconditions;
-use crate::reader::each;
+use crate::reader::each_into;
 use crate::refutations::Refutations;
-use crate::sizes::{PredRows, Proofs};
+use crate::sizes::{PredRows, Proofs, rows_into};
 use crate::stop::{Stop, wrong};
 use call_components::Components;
 use certificate::{Certificate, Fact};
 use cti_terms::{Names, Program};
 use std::alloc::Global;
-use termination_model::SizeRows;
 
 /// The facts after that of the version, which comes first.
 #[tactic(auto, unfolding(crate::specs::Walk::read_version))]
@@ -49,8 +49,51 @@ fn version(facts: &[Fact]) -> Result<&[Fact], Stop>
     }
 }
 
-/// The parts, and the notes after them.
+/// Reads all parts into the place of others, section by section, and gives the notes after them.
 #[tactic(auto, unfolding(crate::specs::Walk::read_parts))]
+fn fill<'a, 'f>(
+    alloc: Global,
+    calls: &'a Calls<'a>,
+    names: &'a Names,
+    parts: &mut Parts,
+    facts: &'f [Fact],
+) -> Result<&'f [Fact], Stop>
+    ensures { Fills result parts.new (read_parts calls.now.p.now names.now calls.now.comps.now facts.now) }
+{
+    let p = calls.p;
+    let (preds, clauses) = (u64::from(p.preds()), u64::from(p.clauses()));
+    let modes = version(facts)?;
+    let sizes = each_into(alloc, &Modes { p, names }, preds, &mut parts.modes, modes)?;
+    let proofs = rows_into(alloc, &PredRows { p, names }, preds, &mut parts.rows, sizes)?;
+    let reader = Proofs {
+        p,
+        rows: &parts.rows,
+    };
+    let grounds = each_into(alloc, &reader, clauses, &mut parts.row_proofs, proofs)?;
+    let reader = Grounds { p, names };
+    let measures = each_into(alloc, &reader, preds, &mut parts.grounds, grounds)?;
+    let falls = levels_into(alloc, calls, names, &mut parts.levels, measures)?;
+    let reader = Falls {
+        calls: *calls,
+        rows: &parts.rows,
+        levels: parts.levels.as_slice(),
+    };
+    let cubes = each_into(alloc, &reader, clauses, &mut parts.falls, falls)?;
+    let reader = Preconditions {
+        p,
+        names,
+        levels: parts.levels.as_slice(),
+    };
+    let refutations = each_into(alloc, &reader, preds, &mut parts.preconditions, cubes)?;
+    let reader = Refutations {
+        calls: *calls,
+        names,
+        levels: parts.levels.as_slice(),
+    };
+    each_into(alloc, &reader, preds, &mut parts.refutations, refutations)
+}
+
+/// The parts, and the notes after them.
 fn parts<'f>(
     alloc: Global,
     calls: &Calls,
@@ -59,46 +102,9 @@ fn parts<'f>(
 ) -> Result<(Parts, &'f [Fact]), Stop>
     ensures { Agrees result (read_parts calls.now.p.now names.now calls.now.comps.now facts.now) }
 {
-    let p = calls.p;
-    let (preds, clauses) = (u64::from(p.preds()), u64::from(p.clauses()));
-    let facts = version(facts)?;
-    let (modes, facts) = each(alloc, &Modes { p, names }, preds, facts)?;
-    let (rows, facts) = each(alloc, &PredRows { p, names }, preds, facts)?;
-    let rows = SizeRows::from_vec(rows.into_vec());
-    let (row_proofs, facts) = each(alloc, &Proofs { p, rows: &rows }, clauses, facts)?;
-    let (grounds, facts) = each(alloc, &Grounds { p, names }, preds, facts)?;
-    let (levels, facts) = levels(alloc, calls, names, facts)?;
-    let falls = Falls {
-        calls: *calls,
-        rows: &rows,
-        levels: levels.as_slice(),
-    };
-    let (falls, facts) = each(alloc, &falls, clauses, facts)?;
-    let cubes = Preconditions {
-        p,
-        names,
-        levels: levels.as_slice(),
-    };
-    let (preconditions, facts) = each(alloc, &cubes, preds, facts)?;
-    let refutations = Refutations {
-        calls: *calls,
-        names,
-        levels: levels.as_slice(),
-    };
-    let (refutations, facts) = each(alloc, &refutations, preds, facts)?;
-    Ok((
-        Parts {
-            modes,
-            rows,
-            row_proofs,
-            grounds,
-            levels,
-            falls,
-            preconditions,
-            refutations,
-        },
-        facts,
-    ))
+    let mut parts = Parts::none(alloc);
+    let rest = fill(alloc, calls, names, &mut parts, facts)?;
+    Ok((parts, rest))
 }
 
 /// Whether a fact is a note.

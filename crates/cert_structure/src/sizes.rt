@@ -1,8 +1,9 @@
 //! The size rows of predicates, and their proofs.
 
 ghost use Rattle.std.specs.Prelude.{◌≡◌, ◌++◌, map, length, sum_by};
+ghost use Rattle.cert_structure.specs.Filling.{Fills};
 ghost use Rattle.cert_structure.specs.Shape.{arity_of, rows_of, rows_of_atoms};
-ghost use Rattle.cert_structure.specs.Walk.{AgreesKept, named, row_read, take_row, read_rows, take_proof, read_proofs};
+ghost use Rattle.cert_structure.specs.Walk.{AgreesKept, named, read_each, row_read, take_row, read_rows, take_proof, read_proofs};
 
 use crate::clauses::{body_at, head_at};
 use crate::kind::{Kind, Next, many};
@@ -86,6 +87,21 @@ impl Reader for PredRows<'_> {
             rest,
         ))
     }
+}
+
+/// Reads the size rows of the predicates below `count` into the place of others, and gives the facts after them.
+pub(crate) fn rows_into<'f>(
+    alloc: Global,
+    reader: &PredRows,
+    count: u64,
+    rows: &mut SizeRows,
+    facts: &'f [Fact],
+) -> Result<&'f [Fact], Stop>
+    ensures { Fills result rows.new (read_each (read_rows reader.now.p.now reader.now.names.now) 0 count facts.now) }
+{
+    let (read, rest) = each(alloc, reader, count, facts)?;
+    *rows = SizeRows::from_vec(read.into_vec());
+    Ok(rest)
 }
 
 /// How many size rows a predicate has.
