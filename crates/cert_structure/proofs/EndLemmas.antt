@@ -1,5 +1,5 @@
 -- Where reading fails, the facts before the wrong one begin those of parts, and what is missing there can be written.
-use Rattle.std.proofs.Common.{◌≡◌, ◌≢◌, ℕ, zero, suc, ◌+◌, ◌<◌, ◌≤◌, ◌⊎◌, inl, inr, Bool, true, false, ◌==◌, if◌then◌else◌, List, [], ◌∷◌, ◌++◌, length, take, slice_get, Some, None, Ok, Err, refl, ap, sym, ◌∙◌, subst, arith, eqb-true, eq-eqb, append_assoc, append-nil}
+use Rattle.std.proofs.Common.{◌≡◌, ℕ, zero, suc, ◌+◌, ◌<◌, ◌≤◌, ◌⊎◌, inl, inr, Bool, true, false, ◌==◌, if◌then◌else◌, List, [], ◌∷◌, ◌++◌, length, take, slice_get, Some, None, Ok, Err, refl, ap, sym, ◌∙◌, subst, arith, eqb-true, eq-eqb, append_assoc, append-nil}
 use Rattle.std.proofs.lemmas.Bool.{false≢true, and_parts}
 use Rattle.std.specs.Prelude.{ℤ, pos, ◌&&◌}
 use Rattle.std.specs.List.{AllByRecursion, list_all}
@@ -23,11 +23,11 @@ use Rattle.cert_structure.specs.Order.{mode_facts, size_facts, proof_facts, grou
 use Rattle.cert_structure.specs.Shape.{arity_of, head_of, body_of, rows_of, rows_of_atoms, items_of, is_recursive, first_of, mappings_of, proofs_of_call, IsMode, IsSizeRow, AreMultipliers, HasWidth, IsLevel}
 use Rattle.cert_structure.specs.StructureFault.{HaveOnePlace, content_fault}
 use Rattle.cert_structure.specs.StructureFault as place
-use Rattle.cert_structure.specs.Walk.{Wrong, Read, Taken, at_place, item_of, go_on, result_map, wrong_at, with_first, same_pred, kept, is_mode, are_entries, row_read, multipliers_read, cube_read, level_read, take_modes, take_row, take_proof, take_ground, take_level, take_fall, take_pre, read_next, read_many, read_each, read_modes, read_rows, read_proofs, read_grounds, read_level, read_levels, read_call, read_calls, read_falls, read_cubes, read_pre}
+use Rattle.cert_structure.specs.Walk.{Wrong, Read, Taken, at_place, item_of, go_on, result_map, with_first, same_pred, kept, is_mode, are_entries, row_read, multipliers_read, cube_read, level_read, take_modes, take_row, take_proof, take_ground, take_level, take_fall, take_pre, read_next, read_many, read_each, read_modes, read_rows, read_proofs, read_grounds, read_level, read_levels, read_call, read_calls, read_falls, read_cubes, read_pre}
 use Rattle.cert_structure.proofs.KindLemmas.{split_modes, split_row, split_proof, split_ground, split_level, split_fall, split_pre, IsTerminates, IsSize, IsBy, IsGrounds, IsMeasure, IsFalls, IsPre}
-use Rattle.cert_structure.proofs.SectionLemmas.{same_some, same_ok, err_ok, mapped, IsTaken, next_sound, many_sound, counted_sound, each_all, all_each}
+use Rattle.cert_structure.proofs.SectionLemmas.{err_ok, mapped, IsTaken, next_sound, many_sound, counted_sound, each_all}
 use Rattle.cert_structure.proofs.TakeLemmas.{same_is, amount_is, entries_are, modes_taken, row_taken, proof_taken, ground_taken, level_taken, fall_taken, pre_taken}
-use Rattle.cert_structure.proofs.LevelLemmas.{arity_text, place_behind, place_before, front, one_longer, IsCall, IsLevels, IsCounted, calls_sound, level_sound, count_is, rows_more}
+use Rattle.cert_structure.proofs.LevelLemmas.{arity_text, place_behind, front, one_longer, IsCall, IsLevels, IsCounted, calls_sound, level_sound, count_is, rows_more}
 use Rattle.cert_structure.proofs.StructureLemmas.{cubes_section}
 use Rattle.cert_structure.proofs.LocalLemmas.{same_err, bound_err, mapped_err}
 
@@ -82,8 +82,8 @@ ends_more P Q more s w e h = record {
 pub ends_weaker : (P Q : List Fact → Type 0) (s : List Fact) (w : Wrong) → Ends P s w → ((l : List Fact) → P l → Q l) → Ends Q s w
 ends_weaker P Q s w e h = record { done = e.done; stands = e.stands; may = e.may; split = e.split; left = e.left; end = h (e.done ++ e.may) e.end; why = e.why }
 
-pub behind : (P : List Fact → Type 0) (zs s : List Fact) (w : Wrong) → Ends (λ l. P (zs ++ l)) s w → Ends P (zs ++ s) w
-behind P zs s w e = record {
+pub after_these : (P : List Fact → Type 0) (zs s : List Fact) (w : Wrong) → Ends (λ l. P (zs ++ l)) s w → Ends P (zs ++ s) w
+after_these P zs s w e = record {
   done = zs ++ e.done;
   stands = e.stands;
   may = e.may;
@@ -95,7 +95,7 @@ behind P zs s w e = record {
 
 -- what was read stands in front
 pub after_read : (P : List Fact → Type 0) (r zs s : List Fact) (w : Wrong) → r ≡ zs ++ s → Ends (λ l. P (zs ++ l)) s w → Ends P r w
-after_read P r zs s w e h = subst (λ z. Ends P z w) (sym e) (behind P zs s w h)
+after_read P r zs s w e h = subst (λ z. Ends P z w) (sym e) (after_these P zs s w h)
 
 pub at_wrong : {A : Type 0} (P : List Fact → Type 0) (s : List Fact) (v w : Wrong) → ◌≡◌ {A = Read A} (Err v) (Err w) → Ends P s v → Ends P s w
 at_wrong {A = A} P s v w e h = subst (λ z. Ends P s z) (same_err {A = A × List Fact} v w e) h

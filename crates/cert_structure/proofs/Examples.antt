@@ -90,7 +90,7 @@ a_pair = refl
 no_pair : is_pair append one_component 0 1 1 ≡ false
 no_pair = refl
 
--- a point at infinity has a second point behind it
+-- a second point follows a point at infinity
 infinite : PairPoint
 infinite = record { clause = 2; call = 1; point = record { t = pos 0; w = pos 1 ∷ [] }; at = Some (record { t = pos 1; w = pos 0 ∷ [] }) }
 

@@ -1,40 +1,37 @@
 -- The fault that reading finds is the first one of the certificate.
-use Rattle.std.proofs.Common.{◌≡◌, ◌≢◌, ℕ, zero, suc, ◌+◌, ◌-◌, ◌<◌, ◌≤◌, ◌⊎◌, inl, inr, Bool, true, false, ◌==◌, nat_lt, if◌then◌else◌, List, [], ◌∷◌, ◌++◌, length, slice_get, slice_index_or, Option, Some, None, option_and_then, unwrap_or, Ok, Err, refl, ap, sym, ◌∙◌, subst, arith, eqb-true, eq-eqb, lt-ltb, ltb-true, ltb-false, append_assoc, append-nil, length-append, ap₂, le-ltb, Result}
+use Rattle.std.proofs.Common.{◌≡◌, ◌≢◌, ℕ, zero, suc, ◌+◌, ◌-◌, ◌<◌, ◌≤◌, ◌⊎◌, inl, inr, Bool, true, false, nat_lt, if◌then◌else◌, List, [], ◌∷◌, ◌++◌, length, slice_get, slice_index_or, Option, Some, None, option_and_then, unwrap_or, Ok, Err, refl, ap, sym, ◌∙◌, subst, arith, eq-eqb, lt-ltb, ltb-true, ltb-false, append_assoc, append-nil, length-append, ap₂, Result}
 use Rattle.std.proofs.lemmas.Bool.{false≢true}
-use Rattle.std.specs.Prelude.{ℤ, pos, IsTrue}
+use Rattle.std.specs.Prelude.{ℤ, pos}
 use Rattle.std.specs.Ordering.{int_eq}
 use Rattle.std.specs.List.{AllByRecursion, prefix_len}
-use Rattle.call_components.specs.Partition.{Partition, IsIn, AreComponents}
+use Rattle.call_components.specs.Partition.{Partition, AreComponents}
 use Rattle.certificate.specs.declared.fact.Fact.{Fact}
 use Rattle.certificate.specs.declared.fact.Fact.TheVariants as fact
-use Rattle.cti_terms.specs.declared.atom_list.Atom.{Atom}
-use Rattle.cti_terms.specs.declared.clauses.Clause.{Clause}
-use Rattle.cti_terms.specs.Listing.{Listing, numbered}
+use Rattle.cti_terms.specs.Listing.{Listing}
 use Rattle.linear_rows.specs.declared.row.Rows.{Rows}
-use Rattle.number_tests.specs.declared.level_part.LevelPart.{LevelPart}
 use Rattle.linear_rows.specs.declared.point.Point.{Point}
 use Rattle.number_tests.specs.declared.pair_point.PairPoint.{PairPoint}
 use Rattle.number_tests.specs.declared.refutation.Refutation.{Refutation}
 use Rattle.cert_structure.specs.declared.fault.StructureReason.{StructureReason}
 use Rattle.cert_structure.specs.declared.fault.StructureReason.TheVariants as reason
 use Rattle.cert_structure.specs.declared.parts.Parts.{Parts}
-use Rattle.cert_structure.specs.Numbered.{facts_from, lines_from, EachFrom, AreEach}
-use Rattle.cert_structure.specs.Order.{pred_text, mode_facts, size_facts, proof_facts, ground_facts, level_facts, fall_facts, pre_facts, refuted_facts, refutation_facts, point_facts, at_facts, measure_line, listed, is_note}
+use Rattle.cert_structure.specs.Numbered.{facts_from, EachFrom, AreEach}
+use Rattle.cert_structure.specs.Order.{pred_text, mode_facts, size_facts, proof_facts, ground_facts, level_facts, fall_facts, pre_facts, refuted_facts, refutation_facts, point_facts, at_facts, listed, is_note}
 use Rattle.cert_structure.specs.Shape.{IsPairPoint, PairsAscend, pair_of, arity_of, mappings_of, is_recursive, is_pair, IsLevel, IsRefutation, HaveShape}
 use Rattle.cert_structure.specs.Structure.{IsStructured, AreNotes}
 use Rattle.cert_structure.specs.StructureFault.{HaveOnePlace, content_fault, claimed, IsBeginning, whole, short, IsStructureFault, missing, extra, content}
 use Rattle.cert_structure.specs.StructureFault as place
 use Rattle.cert_structure.specs.Walk.{◌>>=◌, Wrong, Read, result_map, wrong_at, with_first, take_refuted, is_open, read_point, read_points, read_group, read_version, read_each, read_modes, read_rows, read_proofs, read_grounds, read_levels, read_falls, read_pre, read_refutation, read_parts, with_notes, read_whole}
 use Rattle.cert_structure.proofs.KindLemmas.{kind}
-use Rattle.cert_structure.proofs.SectionLemmas.{same_ok, err_ok, all_both, all_from, others_from, all_weaker}
+use Rattle.cert_structure.proofs.SectionLemmas.{err_ok, all_both, all_from, others_from, all_weaker}
 use Rattle.cert_structure.proofs.TakeLemmas.{refuted_given}
 use Rattle.cert_structure.proofs.PointLemmas.{point_given, open_back, refutation_given}
 use Rattle.cert_structure.proofs.ComponentLemmas.{first_le, shape, structure}
 use Rattle.cert_structure.proofs.LevelLemmas.{IsLevels, NoLevel, not_same, levels_sound, levels_back}
 use Rattle.cert_structure.proofs.StructureLemmas.{AreLater, proofs_later, grounds_later, levels_later, falls_later, pre_later, refuted_later, no_level, modes_section, modes_listed, rows_section, rows_listed, proofs_section, proofs_listed, grounds_section, grounds_listed, falls_section, falls_listed, pre_section, pre_listed}
 use Rattle.cert_structure.proofs.WholeLemmas.{noted, version_sound, parts_sound, whole_back}
-use Rattle.cert_structure.proofs.LocalLemmas.{same_err, bound_err, IsLocal, Fails, MayReplace, with_made, same_head, version_split, Modes, Proofs, Grounds, Levels, Falls, Cubes, Refutations, made, from_refutations, from_cubes, from_falls, from_levels, from_grounds, from_proofs, from_rows, from_modes, parts_are, local_parts}
-use Rattle.cert_structure.proofs.EndLemmas.{IsBad, Shows, shows_more, Ends, ends_weaker, after_read, AreLevelsFrom, levels_fill, levels_ends, AreModes, modes_fill, modes_ends, AreRows, rows_fill, rows_ends, AreProofs, proofs_fill, proofs_ends, AreGrounds, grounds_fill, grounds_ends, AreFalls, falls_fill, falls_ends, AreCubes, cubes_fill, cubes_ends}
+use Rattle.cert_structure.proofs.LocalLemmas.{same_err, bound_err, Fails, MayReplace, with_made, same_head, version_split, Modes, Proofs, Grounds, Levels, Falls, Cubes, Refutations, made, from_refutations, from_cubes, from_falls, from_levels, from_grounds, from_proofs, from_rows, from_modes, parts_are, local_parts}
+use Rattle.cert_structure.proofs.EndLemmas.{IsBad, shows_more, Ends, ends_weaker, after_read, levels_fill, levels_ends, AreModes, modes_fill, modes_ends, AreRows, rows_fill, rows_ends, AreProofs, proofs_fill, proofs_ends, AreGrounds, grounds_fill, grounds_ends, AreFalls, falls_fill, falls_ends, AreCubes, cubes_fill, cubes_ends}
 use Rattle.cert_structure.proofs.PointEnds.{HaveClaimed, refutations_ends}
 
 ends_with : (P Q : List Fact → Type 0) (s : List Fact) (w : Wrong) (e : Ends P s w) (tail : List Fact) → Q ((e.done ++ e.may) ++ tail) → Ends Q s w
@@ -55,7 +52,7 @@ same_cons x y xs ys e = (cc, cc)
 at_line : {A : Type 0} (xs us all : List A) → all ≡ xs ++ us → length all ≡ length xs + length us
 at_line xs us all e = ap (λ z. length z) e ∙ length-append xs us
 
--- two splits of a list with equally many behind
+-- two splits of a list that leave equally many are one
 same_split : {A : Type 0} (xs ys us vs : List A) → xs ++ us ≡ ys ++ vs → length us ≡ length vs → (xs ≡ ys) × (us ≡ vs)
 same_split [] [] us vs e size = (refl, e)
 same_split [] (y ∷ ys) us vs e size =
@@ -217,169 +214,173 @@ module _ (p : Listing) (names : List (List ℕ)) (comps : Partition) (h : AreCom
       let own : x ≡ xs = all in
       (text ∙ ap (λ z. level_facts p names z ++ t) (sym own), level_shape x xs all count each)
 
-  abbrev prefix0 : List Fact → List Fact
-  prefix0 l = fact.Cti (pos 1) ∷ l
+  -- the facts up to the end of a section, and these after them
+  abbrev past_version : List Fact → List Fact
+  past_version l = fact.Cti (pos 1) ∷ l
 
-  abbrev prefix1 : Modes → List Fact → List Fact
-  prefix1 modes l = prefix0 (mode_facts p names modes ++ l)
+  abbrev past_modes : Modes → List Fact → List Fact
+  past_modes modes l = past_version (mode_facts p names modes ++ l)
 
-  abbrev prefix2 : Modes → List Rows → List Fact → List Fact
-  prefix2 modes rows l = prefix1 modes (size_facts p names rows ++ l)
+  abbrev past_rows : Modes → List Rows → List Fact → List Fact
+  past_rows modes rows l = past_modes modes (size_facts p names rows ++ l)
 
-  abbrev prefix3 : Modes → List Rows → Proofs → List Fact → List Fact
-  prefix3 modes rows proofs l = prefix2 modes rows (proof_facts proofs ++ l)
+  abbrev past_proofs : Modes → List Rows → Proofs → List Fact → List Fact
+  past_proofs modes rows proofs l = past_rows modes rows (proof_facts proofs ++ l)
 
-  abbrev prefix4 : Modes → List Rows → Proofs → Grounds → List Fact → List Fact
-  prefix4 modes rows proofs grounds l = prefix3 modes rows proofs (ground_facts p names grounds ++ l)
+  abbrev past_grounds : Modes → List Rows → Proofs → Grounds → List Fact → List Fact
+  past_grounds modes rows proofs grounds l = past_proofs modes rows proofs (ground_facts p names grounds ++ l)
 
-  abbrev prefix5 : Modes → List Rows → Proofs → Grounds → Levels → List Fact → List Fact
-  prefix5 modes rows proofs grounds levels l = prefix4 modes rows proofs grounds (level_facts p names levels ++ l)
+  abbrev past_levels : Modes → List Rows → Proofs → Grounds → Levels → List Fact → List Fact
+  past_levels modes rows proofs grounds levels l = past_grounds modes rows proofs grounds (level_facts p names levels ++ l)
 
-  abbrev prefix6 : Modes → List Rows → Proofs → Grounds → Levels → Falls → List Fact → List Fact
-  prefix6 modes rows proofs grounds levels falls l = prefix5 modes rows proofs grounds levels (fall_facts falls ++ l)
+  abbrev past_falls : Modes → List Rows → Proofs → Grounds → Levels → Falls → List Fact → List Fact
+  past_falls modes rows proofs grounds levels falls l = past_levels modes rows proofs grounds levels (fall_facts falls ++ l)
 
-  abbrev prefix7 : Modes → List Rows → Proofs → Grounds → Levels → Falls → Cubes → List Fact → List Fact
-  prefix7 modes rows proofs grounds levels falls cubes l = prefix6 modes rows proofs grounds levels falls (pre_facts p names cubes ++ l)
+  abbrev past_cubes : Modes → List Rows → Proofs → Grounds → Levels → Falls → Cubes → List Fact → List Fact
+  past_cubes modes rows proofs grounds levels falls cubes l = past_falls modes rows proofs grounds levels falls (pre_facts p names cubes ++ l)
 
-  abbrev tail8 : List Fact
-  tail8 = refuted_facts p names (nones (length p.preds)) ++ []
+  -- the facts of a section and of those after it, as few as there may be
+  abbrev no_more_refutations : List Fact
+  no_more_refutations = refuted_facts p names (nones (length p.preds)) ++ []
 
-  abbrev tail7 : Levels → List Fact
-  tail7 levels = pre_facts p names (cubes_fill p names levels).0 ++ tail8
+  abbrev no_more_cubes : Levels → List Fact
+  no_more_cubes levels = pre_facts p names (cubes_fill p names levels).0 ++ no_more_refutations
 
-  abbrev tail6 : List Rows → Levels → List Fact
-  tail6 rows levels = fall_facts (falls_fill p rows comps levels).0 ++ tail7 levels
+  abbrev no_more_falls : List Rows → Levels → List Fact
+  no_more_falls rows levels = fall_facts (falls_fill p rows comps levels).0 ++ no_more_cubes levels
 
-  abbrev tail5 : List Rows → List Fact
-  tail5 rows = level_facts p names levels_some.0 ++ tail6 rows levels_some.0
+  abbrev no_more_levels : List Rows → List Fact
+  no_more_levels rows = level_facts p names levels_some.0 ++ no_more_falls rows levels_some.0
 
-  abbrev tail4 : List Rows → List Fact
-  tail4 rows = ground_facts p names (grounds_fill p names).0 ++ tail5 rows
+  abbrev no_more_grounds : List Rows → List Fact
+  no_more_grounds rows = ground_facts p names (grounds_fill p names).0 ++ no_more_levels rows
 
-  abbrev tail3 : List Rows → List Fact
-  tail3 rows = proof_facts (proofs_fill p rows).0 ++ tail4 rows
+  abbrev no_more_proofs : List Rows → List Fact
+  no_more_proofs rows = proof_facts (proofs_fill p rows).0 ++ no_more_grounds rows
 
-  abbrev tail2 : List Fact
-  tail2 = size_facts p names (rows_fill p names).0 ++ tail3 (rows_fill p names).0
+  abbrev no_more_rows : List Fact
+  no_more_rows = size_facts p names (rows_fill p names).0 ++ no_more_proofs (rows_fill p names).0
 
-  fin8 : (modes : Modes) (right1 : AreModes p names modes) (rows : List Rows) (right2 : AreRows p names rows) (proofs : Proofs) (right3 : AreProofs p rows proofs) (grounds : Grounds) (right4 : AreGrounds p names grounds) (levels : Levels) (right5 : AreLevels levels) (falls : Falls) (right6 : AreFalls p rows comps levels falls) (cubes : Cubes) (right7 : AreCubes p names levels cubes) → IsBeginning p names comps (prefix7 modes rows proofs grounds levels falls cubes tail8)
-  fin8 modes right1 rows right2 proofs right3 grounds right4 levels right5 falls right6 cubes right7 = whole (made modes rows proofs grounds levels falls cubes (nones (length p.preds))) [] [] (record { modes = right1; rows = right2; row_proofs = right3; grounds = right4; levels = right5; falls = right6; preconditions = right7; refutations = nones_right levels }) tt (append-nil (prefix7 modes rows proofs grounds levels falls cubes tail8))
+  -- with these the facts before them are a certificate
+  begun_refutations : (modes : Modes) (right1 : AreModes p names modes) (rows : List Rows) (right2 : AreRows p names rows) (proofs : Proofs) (right3 : AreProofs p rows proofs) (grounds : Grounds) (right4 : AreGrounds p names grounds) (levels : Levels) (right5 : AreLevels levels) (falls : Falls) (right6 : AreFalls p rows comps levels falls) (cubes : Cubes) (right7 : AreCubes p names levels cubes) → IsBeginning p names comps (past_cubes modes rows proofs grounds levels falls cubes no_more_refutations)
+  begun_refutations modes right1 rows right2 proofs right3 grounds right4 levels right5 falls right6 cubes right7 = whole (made modes rows proofs grounds levels falls cubes (nones (length p.preds))) [] [] (record { modes = right1; rows = right2; row_proofs = right3; grounds = right4; levels = right5; falls = right6; preconditions = right7; refutations = nones_right levels }) tt (append-nil (past_cubes modes rows proofs grounds levels falls cubes no_more_refutations))
 
-  fin7 : (modes : Modes) (right1 : AreModes p names modes) (rows : List Rows) (right2 : AreRows p names rows) (proofs : Proofs) (right3 : AreProofs p rows proofs) (grounds : Grounds) (right4 : AreGrounds p names grounds) (levels : Levels) (right5 : AreLevels levels) (falls : Falls) (right6 : AreFalls p rows comps levels falls) → IsBeginning p names comps (prefix6 modes rows proofs grounds levels falls (tail7 levels))
-  fin7 modes right1 rows right2 proofs right3 grounds right4 levels right5 falls right6 = fin8 modes right1 rows right2 proofs right3 grounds right4 levels right5 falls right6 (cubes_fill p names levels).0 (cubes_fill p names levels).1
+  begun_cubes : (modes : Modes) (right1 : AreModes p names modes) (rows : List Rows) (right2 : AreRows p names rows) (proofs : Proofs) (right3 : AreProofs p rows proofs) (grounds : Grounds) (right4 : AreGrounds p names grounds) (levels : Levels) (right5 : AreLevels levels) (falls : Falls) (right6 : AreFalls p rows comps levels falls) → IsBeginning p names comps (past_falls modes rows proofs grounds levels falls (no_more_cubes levels))
+  begun_cubes modes right1 rows right2 proofs right3 grounds right4 levels right5 falls right6 = begun_refutations modes right1 rows right2 proofs right3 grounds right4 levels right5 falls right6 (cubes_fill p names levels).0 (cubes_fill p names levels).1
 
-  fin6 : (modes : Modes) (right1 : AreModes p names modes) (rows : List Rows) (right2 : AreRows p names rows) (proofs : Proofs) (right3 : AreProofs p rows proofs) (grounds : Grounds) (right4 : AreGrounds p names grounds) (levels : Levels) (right5 : AreLevels levels) → IsBeginning p names comps (prefix5 modes rows proofs grounds levels (tail6 rows levels))
-  fin6 modes right1 rows right2 proofs right3 grounds right4 levels right5 = fin7 modes right1 rows right2 proofs right3 grounds right4 levels right5 (falls_fill p rows comps levels).0 (falls_fill p rows comps levels).1
+  begun_falls : (modes : Modes) (right1 : AreModes p names modes) (rows : List Rows) (right2 : AreRows p names rows) (proofs : Proofs) (right3 : AreProofs p rows proofs) (grounds : Grounds) (right4 : AreGrounds p names grounds) (levels : Levels) (right5 : AreLevels levels) → IsBeginning p names comps (past_levels modes rows proofs grounds levels (no_more_falls rows levels))
+  begun_falls modes right1 rows right2 proofs right3 grounds right4 levels right5 = begun_cubes modes right1 rows right2 proofs right3 grounds right4 levels right5 (falls_fill p rows comps levels).0 (falls_fill p rows comps levels).1
 
-  fin5 : (modes : Modes) (right1 : AreModes p names modes) (rows : List Rows) (right2 : AreRows p names rows) (proofs : Proofs) (right3 : AreProofs p rows proofs) (grounds : Grounds) (right4 : AreGrounds p names grounds) → IsBeginning p names comps (prefix4 modes rows proofs grounds (tail5 rows))
-  fin5 modes right1 rows right2 proofs right3 grounds right4 = fin6 modes right1 rows right2 proofs right3 grounds right4 levels_some.0 levels_some.1
+  begun_levels : (modes : Modes) (right1 : AreModes p names modes) (rows : List Rows) (right2 : AreRows p names rows) (proofs : Proofs) (right3 : AreProofs p rows proofs) (grounds : Grounds) (right4 : AreGrounds p names grounds) → IsBeginning p names comps (past_grounds modes rows proofs grounds (no_more_levels rows))
+  begun_levels modes right1 rows right2 proofs right3 grounds right4 = begun_falls modes right1 rows right2 proofs right3 grounds right4 levels_some.0 levels_some.1
 
-  fin4 : (modes : Modes) (right1 : AreModes p names modes) (rows : List Rows) (right2 : AreRows p names rows) (proofs : Proofs) (right3 : AreProofs p rows proofs) → IsBeginning p names comps (prefix3 modes rows proofs (tail4 rows))
-  fin4 modes right1 rows right2 proofs right3 = fin5 modes right1 rows right2 proofs right3 (grounds_fill p names).0 (grounds_fill p names).1
+  begun_grounds : (modes : Modes) (right1 : AreModes p names modes) (rows : List Rows) (right2 : AreRows p names rows) (proofs : Proofs) (right3 : AreProofs p rows proofs) → IsBeginning p names comps (past_proofs modes rows proofs (no_more_grounds rows))
+  begun_grounds modes right1 rows right2 proofs right3 = begun_levels modes right1 rows right2 proofs right3 (grounds_fill p names).0 (grounds_fill p names).1
 
-  fin3 : (modes : Modes) (right1 : AreModes p names modes) (rows : List Rows) (right2 : AreRows p names rows) → IsBeginning p names comps (prefix2 modes rows (tail3 rows))
-  fin3 modes right1 rows right2 = fin4 modes right1 rows right2 (proofs_fill p rows).0 (proofs_fill p rows).1
+  begun_proofs : (modes : Modes) (right1 : AreModes p names modes) (rows : List Rows) (right2 : AreRows p names rows) → IsBeginning p names comps (past_rows modes rows (no_more_proofs rows))
+  begun_proofs modes right1 rows right2 = begun_grounds modes right1 rows right2 (proofs_fill p rows).0 (proofs_fill p rows).1
 
-  fin2 : (modes : Modes) (right1 : AreModes p names modes) → IsBeginning p names comps (prefix1 modes (tail2))
-  fin2 modes right1 = fin3 modes right1 (rows_fill p names).0 (rows_fill p names).1
+  begun_rows : (modes : Modes) (right1 : AreModes p names modes) → IsBeginning p names comps (past_modes modes (no_more_rows))
+  begun_rows modes right1 = begun_proofs modes right1 (rows_fill p names).0 (rows_fill p names).1
 
-  ends8 : (modes : Modes) (right1 : AreModes p names modes) (rows : List Rows) (right2 : AreRows p names rows) (proofs : Proofs) (right3 : AreProofs p rows proofs) (grounds : Grounds) (right4 : AreGrounds p names grounds) (levels : Levels) (right5 : AreLevels levels) (falls : Falls) (right6 : AreFalls p rows comps levels falls) (cubes : Cubes) (right7 : AreCubes p names levels cubes) (s : List Fact) (w : Wrong) → from_refutations p names comps levels (made modes rows proofs grounds levels falls cubes) s ≡ Err w → Ends (λ l. IsBeginning p names comps (prefix7 modes rows proofs grounds levels falls cubes l)) s w
-  ends8 modes right1 rows right2 proofs right3 grounds right4 levels right5 falls right6 cubes right7 s w e =
+  -- where reading fails in a section or in one after it
+  fails_in_refutations : (modes : Modes) (right1 : AreModes p names modes) (rows : List Rows) (right2 : AreRows p names rows) (proofs : Proofs) (right3 : AreProofs p rows proofs) (grounds : Grounds) (right4 : AreGrounds p names grounds) (levels : Levels) (right5 : AreLevels levels) (falls : Falls) (right6 : AreFalls p rows comps levels falls) (cubes : Cubes) (right7 : AreCubes p names levels cubes) (s : List Fact) (w : Wrong) → from_refutations p names comps levels (made modes rows proofs grounds levels falls cubes) s ≡ Err w → Ends (λ l. IsBeginning p names comps (past_cubes modes rows proofs grounds levels falls cubes l)) s w
+  fails_in_refutations modes right1 rows right2 proofs right3 grounds right4 levels right5 falls right6 cubes right7 s w e =
       bound_err (λ x. Ok (made modes rows proofs grounds levels falls cubes x.0, x.1)) (read_each (read_refutation p names comps levels) 0 (length p.preds) s) w e
-      (λ first. ends_weaker _ (λ l. IsBeginning p names comps (prefix7 modes rows proofs grounds levels falls cubes l)) s w (refutations_ends p names comps levels (recursive_pair p comps h) 0 (length p.preds) s w first) (λ l c. cut l c))
+      (λ first. ends_weaker _ (λ l. IsBeginning p names comps (past_cubes modes rows proofs grounds levels falls cubes l)) s w (refutations_ends p names comps levels (recursive_pair p comps h) 0 (length p.preds) s w first) (λ l c. cut l c))
       (λ q read more. err_ok w (made modes rows proofs grounds levels falls cubes q.0, q.1) (sym more))
     where
-      cut : (l : List Fact) → HaveClaimed p names comps levels 0 (length p.preds) l → IsBeginning p names comps (prefix7 modes rows proofs grounds levels falls cubes l)
+      cut : (l : List Fact) → HaveClaimed p names comps levels 0 (length p.preds) l → IsBeginning p names comps (past_cubes modes rows proofs grounds levels falls cubes l)
       cut l c =
           let number = c.number in
           let at : c.at ≡ length c.before = omega (arith, number) in
           short (made modes rows proofs grounds levels falls cubes (c.before ++ Some c.own ∷ c.later)) c.before c.later c.own c.count []
           (record { modes = right1; rows = right2; row_proofs = right3; grounds = right4; levels = right5; falls = right6; preconditions = right7; refutations = record { count = c.all; each = c.each } })
           refl c.enough
-          (append-nil (prefix7 modes rows proofs grounds levels falls cubes l) ∙ ap (λ z. prefix7 modes rows proofs grounds levels falls cubes z) (c.is ∙ ap (λ n. refuted_facts p names c.before ++ fact.Refuted (pred_text p names n) c.count ∷ facts_from 0 (λ _ x. point_facts x) c.own.points) at))
+          (append-nil (past_cubes modes rows proofs grounds levels falls cubes l) ∙ ap (λ z. past_cubes modes rows proofs grounds levels falls cubes z) (c.is ∙ ap (λ n. refuted_facts p names c.before ++ fact.Refuted (pred_text p names n) c.count ∷ facts_from 0 (λ _ x. point_facts x) c.own.points) at))
 
-  ends7 : (modes : Modes) (right1 : AreModes p names modes) (rows : List Rows) (right2 : AreRows p names rows) (proofs : Proofs) (right3 : AreProofs p rows proofs) (grounds : Grounds) (right4 : AreGrounds p names grounds) (levels : Levels) (right5 : AreLevels levels) (falls : Falls) (right6 : AreFalls p rows comps levels falls) (s : List Fact) (w : Wrong) → from_cubes p names comps levels (made modes rows proofs grounds levels falls) s ≡ Err w → Ends (λ l. IsBeginning p names comps (prefix6 modes rows proofs grounds levels falls l)) s w
-  ends7 modes right1 rows right2 proofs right3 grounds right4 levels right5 falls right6 s w e =
+  fails_in_cubes : (modes : Modes) (right1 : AreModes p names modes) (rows : List Rows) (right2 : AreRows p names rows) (proofs : Proofs) (right3 : AreProofs p rows proofs) (grounds : Grounds) (right4 : AreGrounds p names grounds) (levels : Levels) (right5 : AreLevels levels) (falls : Falls) (right6 : AreFalls p rows comps levels falls) (s : List Fact) (w : Wrong) → from_cubes p names comps levels (made modes rows proofs grounds levels falls) s ≡ Err w → Ends (λ l. IsBeginning p names comps (past_falls modes rows proofs grounds levels falls l)) s w
+  fails_in_cubes modes right1 rows right2 proofs right3 grounds right4 levels right5 falls right6 s w e =
       bound_err (λ x. from_refutations p names comps levels (made modes rows proofs grounds levels falls x.0) x.1) (read_each (read_pre p names levels) 0 (length p.preds) s) w e
       (λ first.
       let b = cubes_ends p names levels s w first in
       let (x, is, right) = b.end in
-      ends_with _ (λ l. IsBeginning p names comps (prefix6 modes rows proofs grounds levels falls l)) s w b (tail8) (subst (λ z. IsBeginning p names comps (prefix6 modes rows proofs grounds levels falls (z ++ tail8))) (sym is) (fin8 modes right1 rows right2 proofs right3 grounds right4 levels right5 falls right6 x right)))
+      ends_with _ (λ l. IsBeginning p names comps (past_falls modes rows proofs grounds levels falls l)) s w b (no_more_refutations) (subst (λ z. IsBeginning p names comps (past_falls modes rows proofs grounds levels falls (z ++ no_more_refutations))) (sym is) (begun_refutations modes right1 rows right2 proofs right3 grounds right4 levels right5 falls right6 x right)))
       (λ q read more.
       let (one, right) = pre_section p names levels s q.1 q.0 read in
-      after_read (λ l. IsBeginning p names comps (prefix6 modes rows proofs grounds levels falls l)) s (pre_facts p names q.0) q.1 w one (ends8 modes right1 rows right2 proofs right3 grounds right4 levels right5 falls right6 q.0 right q.1 w more))
+      after_read (λ l. IsBeginning p names comps (past_falls modes rows proofs grounds levels falls l)) s (pre_facts p names q.0) q.1 w one (fails_in_refutations modes right1 rows right2 proofs right3 grounds right4 levels right5 falls right6 q.0 right q.1 w more))
 
-  ends6 : (modes : Modes) (right1 : AreModes p names modes) (rows : List Rows) (right2 : AreRows p names rows) (proofs : Proofs) (right3 : AreProofs p rows proofs) (grounds : Grounds) (right4 : AreGrounds p names grounds) (levels : Levels) (right5 : AreLevels levels) (s : List Fact) (w : Wrong) → from_falls p names comps rows levels (made modes rows proofs grounds levels) s ≡ Err w → Ends (λ l. IsBeginning p names comps (prefix5 modes rows proofs grounds levels l)) s w
-  ends6 modes right1 rows right2 proofs right3 grounds right4 levels right5 s w e =
+  fails_in_falls : (modes : Modes) (right1 : AreModes p names modes) (rows : List Rows) (right2 : AreRows p names rows) (proofs : Proofs) (right3 : AreProofs p rows proofs) (grounds : Grounds) (right4 : AreGrounds p names grounds) (levels : Levels) (right5 : AreLevels levels) (s : List Fact) (w : Wrong) → from_falls p names comps rows levels (made modes rows proofs grounds levels) s ≡ Err w → Ends (λ l. IsBeginning p names comps (past_levels modes rows proofs grounds levels l)) s w
+  fails_in_falls modes right1 rows right2 proofs right3 grounds right4 levels right5 s w e =
       bound_err (λ x. from_cubes p names comps levels (made modes rows proofs grounds levels x.0) x.1) (read_each (read_falls p comps rows levels) 0 (length p.clauses) s) w e
       (λ first.
       let b = falls_ends p rows comps levels s w first in
       let (x, is, right) = b.end in
-      ends_with _ (λ l. IsBeginning p names comps (prefix5 modes rows proofs grounds levels l)) s w b (tail7 levels) (subst (λ z. IsBeginning p names comps (prefix5 modes rows proofs grounds levels (z ++ tail7 levels))) (sym is) (fin7 modes right1 rows right2 proofs right3 grounds right4 levels right5 x right)))
+      ends_with _ (λ l. IsBeginning p names comps (past_levels modes rows proofs grounds levels l)) s w b (no_more_cubes levels) (subst (λ z. IsBeginning p names comps (past_levels modes rows proofs grounds levels (z ++ no_more_cubes levels))) (sym is) (begun_cubes modes right1 rows right2 proofs right3 grounds right4 levels right5 x right)))
       (λ q read more.
       let (one, right) = falls_section p rows comps levels s q.1 q.0 read in
-      after_read (λ l. IsBeginning p names comps (prefix5 modes rows proofs grounds levels l)) s (fall_facts q.0) q.1 w one (ends7 modes right1 rows right2 proofs right3 grounds right4 levels right5 q.0 right q.1 w more))
+      after_read (λ l. IsBeginning p names comps (past_levels modes rows proofs grounds levels l)) s (fall_facts q.0) q.1 w one (fails_in_cubes modes right1 rows right2 proofs right3 grounds right4 levels right5 q.0 right q.1 w more))
 
-  ends5 : (modes : Modes) (right1 : AreModes p names modes) (rows : List Rows) (right2 : AreRows p names rows) (proofs : Proofs) (right3 : AreProofs p rows proofs) (grounds : Grounds) (right4 : AreGrounds p names grounds) (s : List Fact) (w : Wrong) → from_levels p names comps rows (made modes rows proofs grounds) s ≡ Err w → Ends (λ l. IsBeginning p names comps (prefix4 modes rows proofs grounds l)) s w
-  ends5 modes right1 rows right2 proofs right3 grounds right4 s w e =
+  fails_in_levels : (modes : Modes) (right1 : AreModes p names modes) (rows : List Rows) (right2 : AreRows p names rows) (proofs : Proofs) (right3 : AreProofs p rows proofs) (grounds : Grounds) (right4 : AreGrounds p names grounds) (s : List Fact) (w : Wrong) → from_levels p names comps rows (made modes rows proofs grounds) s ≡ Err w → Ends (λ l. IsBeginning p names comps (past_grounds modes rows proofs grounds l)) s w
+  fails_in_levels modes right1 rows right2 proofs right3 grounds right4 s w e =
       bound_err (λ x. from_falls p names comps rows x.0 (made modes rows proofs grounds x.0) x.1) (read_levels p names comps [] 0 (length p.preds) s) w e
       (λ first.
       let b = levels_end s w first in
       let (x, is, right) = b.end in
-      ends_with _ (λ l. IsBeginning p names comps (prefix4 modes rows proofs grounds l)) s w b (tail6 rows x) (subst (λ z. IsBeginning p names comps (prefix4 modes rows proofs grounds (z ++ tail6 rows x))) (sym is) (fin6 modes right1 rows right2 proofs right3 grounds right4 x right)))
+      ends_with _ (λ l. IsBeginning p names comps (past_grounds modes rows proofs grounds l)) s w b (no_more_falls rows x) (subst (λ z. IsBeginning p names comps (past_grounds modes rows proofs grounds (z ++ no_more_falls rows x))) (sym is) (begun_falls modes right1 rows right2 proofs right3 grounds right4 x right)))
       (λ q read more.
       let (one, right) = levels_read s q.1 q.0 read in
-      after_read (λ l. IsBeginning p names comps (prefix4 modes rows proofs grounds l)) s (level_facts p names q.0) q.1 w one (ends6 modes right1 rows right2 proofs right3 grounds right4 q.0 right q.1 w more))
+      after_read (λ l. IsBeginning p names comps (past_grounds modes rows proofs grounds l)) s (level_facts p names q.0) q.1 w one (fails_in_falls modes right1 rows right2 proofs right3 grounds right4 q.0 right q.1 w more))
 
-  ends4 : (modes : Modes) (right1 : AreModes p names modes) (rows : List Rows) (right2 : AreRows p names rows) (proofs : Proofs) (right3 : AreProofs p rows proofs) (s : List Fact) (w : Wrong) → from_grounds p names comps rows (made modes rows proofs) s ≡ Err w → Ends (λ l. IsBeginning p names comps (prefix3 modes rows proofs l)) s w
-  ends4 modes right1 rows right2 proofs right3 s w e =
+  fails_in_grounds : (modes : Modes) (right1 : AreModes p names modes) (rows : List Rows) (right2 : AreRows p names rows) (proofs : Proofs) (right3 : AreProofs p rows proofs) (s : List Fact) (w : Wrong) → from_grounds p names comps rows (made modes rows proofs) s ≡ Err w → Ends (λ l. IsBeginning p names comps (past_proofs modes rows proofs l)) s w
+  fails_in_grounds modes right1 rows right2 proofs right3 s w e =
       bound_err (λ x. from_levels p names comps rows (made modes rows proofs x.0) x.1) (read_each (read_grounds p names) 0 (length p.preds) s) w e
       (λ first.
       let b = grounds_ends p names s w first in
       let (x, is, right) = b.end in
-      ends_with _ (λ l. IsBeginning p names comps (prefix3 modes rows proofs l)) s w b (tail5 rows) (subst (λ z. IsBeginning p names comps (prefix3 modes rows proofs (z ++ tail5 rows))) (sym is) (fin5 modes right1 rows right2 proofs right3 x right)))
+      ends_with _ (λ l. IsBeginning p names comps (past_proofs modes rows proofs l)) s w b (no_more_levels rows) (subst (λ z. IsBeginning p names comps (past_proofs modes rows proofs (z ++ no_more_levels rows))) (sym is) (begun_levels modes right1 rows right2 proofs right3 x right)))
       (λ q read more.
       let (one, right) = grounds_section p names s q.1 q.0 read in
-      after_read (λ l. IsBeginning p names comps (prefix3 modes rows proofs l)) s (ground_facts p names q.0) q.1 w one (ends5 modes right1 rows right2 proofs right3 q.0 right q.1 w more))
+      after_read (λ l. IsBeginning p names comps (past_proofs modes rows proofs l)) s (ground_facts p names q.0) q.1 w one (fails_in_levels modes right1 rows right2 proofs right3 q.0 right q.1 w more))
 
-  ends3 : (modes : Modes) (right1 : AreModes p names modes) (rows : List Rows) (right2 : AreRows p names rows) (s : List Fact) (w : Wrong) → from_proofs p names comps rows (made modes rows) s ≡ Err w → Ends (λ l. IsBeginning p names comps (prefix2 modes rows l)) s w
-  ends3 modes right1 rows right2 s w e =
+  fails_in_proofs : (modes : Modes) (right1 : AreModes p names modes) (rows : List Rows) (right2 : AreRows p names rows) (s : List Fact) (w : Wrong) → from_proofs p names comps rows (made modes rows) s ≡ Err w → Ends (λ l. IsBeginning p names comps (past_rows modes rows l)) s w
+  fails_in_proofs modes right1 rows right2 s w e =
       bound_err (λ x. from_grounds p names comps rows (made modes rows x.0) x.1) (read_each (read_proofs p rows) 0 (length p.clauses) s) w e
       (λ first.
       let b = proofs_ends p rows s w first in
       let (x, is, right) = b.end in
-      ends_with _ (λ l. IsBeginning p names comps (prefix2 modes rows l)) s w b (tail4 rows) (subst (λ z. IsBeginning p names comps (prefix2 modes rows (z ++ tail4 rows))) (sym is) (fin4 modes right1 rows right2 x right)))
+      ends_with _ (λ l. IsBeginning p names comps (past_rows modes rows l)) s w b (no_more_grounds rows) (subst (λ z. IsBeginning p names comps (past_rows modes rows (z ++ no_more_grounds rows))) (sym is) (begun_grounds modes right1 rows right2 x right)))
       (λ q read more.
       let (one, right) = proofs_section p rows s q.1 q.0 read in
-      after_read (λ l. IsBeginning p names comps (prefix2 modes rows l)) s (proof_facts q.0) q.1 w one (ends4 modes right1 rows right2 q.0 right q.1 w more))
+      after_read (λ l. IsBeginning p names comps (past_rows modes rows l)) s (proof_facts q.0) q.1 w one (fails_in_grounds modes right1 rows right2 q.0 right q.1 w more))
 
-  ends2 : (modes : Modes) (right1 : AreModes p names modes) (s : List Fact) (w : Wrong) → from_rows p names comps (made modes) s ≡ Err w → Ends (λ l. IsBeginning p names comps (prefix1 modes l)) s w
-  ends2 modes right1 s w e =
+  fails_in_rows : (modes : Modes) (right1 : AreModes p names modes) (s : List Fact) (w : Wrong) → from_rows p names comps (made modes) s ≡ Err w → Ends (λ l. IsBeginning p names comps (past_modes modes l)) s w
+  fails_in_rows modes right1 s w e =
       bound_err (λ x. from_proofs p names comps x.0 (made modes x.0) x.1) (read_each (read_rows p names) 0 (length p.preds) s) w e
       (λ first.
       let b = rows_ends p names s w first in
       let (x, is, right) = b.end in
-      ends_with _ (λ l. IsBeginning p names comps (prefix1 modes l)) s w b (tail3 x) (subst (λ z. IsBeginning p names comps (prefix1 modes (z ++ tail3 x))) (sym is) (fin3 modes right1 x right)))
+      ends_with _ (λ l. IsBeginning p names comps (past_modes modes l)) s w b (no_more_proofs x) (subst (λ z. IsBeginning p names comps (past_modes modes (z ++ no_more_proofs x))) (sym is) (begun_proofs modes right1 x right)))
       (λ q read more.
       let (one, right) = rows_section p names s q.1 q.0 read in
-      after_read (λ l. IsBeginning p names comps (prefix1 modes l)) s (size_facts p names q.0) q.1 w one (ends3 modes right1 q.0 right q.1 w more))
+      after_read (λ l. IsBeginning p names comps (past_modes modes l)) s (size_facts p names q.0) q.1 w one (fails_in_proofs modes right1 q.0 right q.1 w more))
 
-  ends1 : (s : List Fact) (w : Wrong) → from_modes p names comps s ≡ Err w → Ends (λ l. IsBeginning p names comps (prefix0 l)) s w
-  ends1 s w e =
+  fails_in_modes : (s : List Fact) (w : Wrong) → from_modes p names comps s ≡ Err w → Ends (λ l. IsBeginning p names comps (past_version l)) s w
+  fails_in_modes s w e =
       bound_err (λ x. from_rows p names comps (made x.0) x.1) (read_each (read_modes p names) 0 (length p.preds) s) w e
       (λ first.
       let b = modes_ends p names s w first in
       let (x, is, right) = b.end in
-      ends_with _ (λ l. IsBeginning p names comps (prefix0 l)) s w b (tail2) (subst (λ z. IsBeginning p names comps (prefix0 (z ++ tail2))) (sym is) (fin2 x right)))
+      ends_with _ (λ l. IsBeginning p names comps (past_version l)) s w b (no_more_rows) (subst (λ z. IsBeginning p names comps (past_version (z ++ no_more_rows))) (sym is) (begun_rows x right)))
       (λ q read more.
       let (one, right) = modes_section p names s q.1 q.0 read in
-      after_read (λ l. IsBeginning p names comps (prefix0 l)) s (mode_facts p names q.0) q.1 w one (ends2 q.0 right q.1 w more))
+      after_read (λ l. IsBeginning p names comps (past_version l)) s (mode_facts p names q.0) q.1 w one (fails_in_rows q.0 right q.1 w more))
 
   abbrev all_facts : List Fact
-  all_facts = prefix0 (mode_facts p names (modes_fill p names).0 ++ tail2)
+  all_facts = past_version (mode_facts p names (modes_fill p names).0 ++ no_more_rows)
 
   all_begin : IsBeginning p names comps all_facts
-  all_begin = fin2 (modes_fill p names).0 (modes_fill p names).1
+  all_begin = begun_rows (modes_fill p names).0 (modes_fill p names).1
 
   -- a failure in the version
   number_ends : (v : ℤ) (s : List Fact) (w : Wrong) → read_version (fact.Cti v ∷ s) ≡ Err w → Ends (IsBeginning p names comps) (fact.Cti v ∷ s) w
@@ -401,7 +402,7 @@ module _ (p : Listing) (names : List (List ℕ)) (comps : Partition) (h : AreCom
               own = fact.Cti v;
               other = fact.Cti (pos 1);
               after = s;
-              more = mode_facts p names (modes_fill p names).0 ++ tail2;
+              more = mode_facts p names (modes_fill p names).0 ++ no_more_rows;
               first = refl;
               instead = refl;
               place = place.version;
@@ -424,7 +425,7 @@ module _ (p : Listing) (names : List (List ℕ)) (comps : Partition) (h : AreCom
   parts_ends : (s : List Fact) (w : Wrong) → read_parts p names comps s ≡ Err w → Ends (IsBeginning p names comps) s w
   parts_ends s w e =
       bound_err (from_modes p names comps) (read_version s) w (sym (parts_are p names comps s) ∙ e) (λ first. version_ends s w first)
-      (λ s0 e0 more. after_read (IsBeginning p names comps) s (fact.Cti (pos 1) ∷ []) s0 w (version_sound s s0 e0) (ends1 s0 w more))
+      (λ s0 e0 more. after_read (IsBeginning p names comps) s (fact.Cti (pos 1) ∷ []) s0 w (version_sound s s0 e0) (fails_in_modes s0 w more))
 
   -- the notes
   note_stays : {f g : Fact} → HaveOnePlace f g → is_note f ≡ false → is_note g ≡ false
@@ -677,7 +678,7 @@ module _ (p : Listing) (names : List (List ℕ)) (comps : Partition) (h : AreCom
 
     -- what is left after all sections but the refutations
     sections_back : (parts : Parts) (tail : List Fact) → HaveShape p comps parts → AllByRecursion (λ f. 7 < kind f) tail
-        → read_parts p names comps (prefix7 parts.modes parts.rows parts.row_proofs parts.grounds parts.levels parts.falls parts.preconditions tail)
+        → read_parts p names comps (past_cubes parts.modes parts.rows parts.row_proofs parts.grounds parts.levels parts.falls parts.preconditions tail)
         ≡ from_refutations p names comps parts.levels (made parts.modes parts.rows parts.row_proofs parts.grounds parts.levels parts.falls parts.preconditions) tail
     unfolding read_version
     sections_back parts tail shape late =

@@ -1,8 +1,8 @@
 -- Where reading a refutation fails, the facts before the wrong one begin those of one, which may claim more pairs.
-use Rattle.std.proofs.Common.{◌≡◌, ℕ, zero, suc, ◌+◌, ◌<◌, ◌≤◌, ◌⊎◌, inl, inr, Bool, true, false, ◌==◌, nat_le, if◌then◌else◌, List, [], ◌∷◌, ◌++◌, length, slice_get, Option, Some, None, option_map, Ok, Err, refl, ap, sym, ◌∙◌, subst, arith, eqb-true, eq-eqb, append_assoc, append-nil}
-use Rattle.std.proofs.lemmas.Bool.{false≢true, and_parts}
+use Rattle.std.proofs.Common.{◌≡◌, ℕ, zero, suc, ◌+◌, ◌≤◌, ◌⊎◌, inl, inr, Bool, true, false, ◌==◌, nat_le, if◌then◌else◌, List, [], ◌∷◌, ◌++◌, length, Option, Some, None, Ok, Err, refl, ap, sym, ◌∙◌, subst, arith, eqb-true, append_assoc, append-nil}
+use Rattle.std.proofs.lemmas.Bool.{and_parts}
 use Rattle.std.proofs.lemmas.Bool.Decides.{Decides-int_eq}
-use Rattle.std.specs.Prelude.{ℤ, pos, ◌&&◌, ◌≢◌, IsTrue}
+use Rattle.std.specs.Prelude.{pos, ◌&&◌, ◌≢◌}
 use Rattle.std.specs.Ordering.{int_eq}
 use Rattle.std.specs.List.{AllByRecursion}
 use Rattle.call_components.specs.Partition.{Partition}
@@ -15,21 +15,19 @@ use Rattle.number_tests.specs.declared.level_part.LevelPart.{LevelPart}
 use Rattle.linear_rows.specs.declared.point.Point.{Point}
 use Rattle.number_tests.specs.declared.pair_point.PairPoint.{PairPoint}
 use Rattle.number_tests.specs.declared.refutation.Refutation.{Refutation}
-use Rattle.cert_structure.specs.declared.fault.StructureReason.{StructureReason}
-use Rattle.cert_structure.specs.declared.fault.StructureReason.TheVariants as reason
 use Rattle.cert_structure.specs.declared.refutations.FirstPoint.{FirstPoint}
-use Rattle.cert_structure.specs.Numbered.{facts_from, EachFrom, AreEach}
-use Rattle.cert_structure.specs.Order.{pred_text, at_facts, point_facts, refutation_facts, refuted_facts}
-use Rattle.cert_structure.specs.Shape.{vars_of, is_recursive, is_pair, IsBefore, pair_of, PairsAscend, IsPoint, HasSecond, IsPairPoint, IsOpen, IsRefutation}
+use Rattle.cert_structure.specs.Numbered.{facts_from, EachFrom}
+use Rattle.cert_structure.specs.Order.{pred_text, point_facts, refutation_facts}
+use Rattle.cert_structure.specs.Shape.{vars_of, is_recursive, is_pair, IsBefore, PairsAscend, IsPoint, IsPairPoint, IsRefutation}
 use Rattle.cert_structure.specs.StructureFault.{HaveOnePlace, content_fault}
 use Rattle.cert_structure.specs.StructureFault as place
-use Rattle.cert_structure.specs.Walk.{Wrong, Read, Taken, at_place, item_of, result_map, wrong_at, with_first, same_pred, kept, is_before, pair_end, pair_point, paired, point_read, take_refuted, take_point, take_second, read_next, read_second, read_point, read_points, refutation_read, read_group, is_open, read_refutation, read_each}
+use Rattle.cert_structure.specs.Walk.{Wrong, Taken, item_of, result_map, with_first, same_pred, kept, is_before, pair_end, pair_point, paired, point_read, take_refuted, take_point, take_second, read_next, read_second, read_point, read_points, refutation_read, read_group, is_open, read_refutation, read_each}
 use Rattle.cert_structure.proofs.KindLemmas.{split_refuted, split_point, split_second, IsRefuted, IsPoint as IsPointFact, IsAt}
-use Rattle.cert_structure.proofs.SectionLemmas.{same_ok, err_ok, mapped, next_sound}
+use Rattle.cert_structure.proofs.SectionLemmas.{err_ok, next_sound}
 use Rattle.cert_structure.proofs.TakeLemmas.{same_is, amount_is, refuted_taken}
 use Rattle.cert_structure.proofs.PointLemmas.{before_is, IsFirst, first_taken, second_taken, point_sound, open_is, refutation_sound}
 use Rattle.cert_structure.proofs.LocalLemmas.{bound_err, mapped_err, with_made}
-use Rattle.cert_structure.proofs.EndLemmas.{IsBad, Shows, shows_more, Ends, ends_more, ends_weaker, behind, after_read, at_wrong, missed, bad_place, IsBadAt, next_ends, fill, zeros, many_zeros, zero_amount, zeros_amounts}
+use Rattle.cert_structure.proofs.EndLemmas.{shows_more, Ends, ends_weaker, after_read, at_wrong, missed, bad_place, IsBadAt, next_ends, fill, zeros, many_zeros, zeros_amounts}
 
 one_amount : IsAmount (pos 1)
 one_amount = amount_is (pos 1) refl

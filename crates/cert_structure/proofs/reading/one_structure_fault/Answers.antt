@@ -1,4 +1,4 @@
-use Rattle.cert_structure.proofs.FaultLemmas.{fault_moved, read_fault}
+use Rattle.cert_structure.proofs.FaultLemmas.{fault_moved}
 use Rattle.cert_structure.proofs.reading.one_structure_fault.Goals as goal
 
 pub returns : goal.returns
