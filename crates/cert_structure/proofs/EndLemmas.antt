@@ -31,7 +31,7 @@ use Rattle.cert_structure.proofs.LevelLemmas.{arity_text, place_behind, front, o
 use Rattle.cert_structure.proofs.StructureLemmas.{cubes_section}
 use Rattle.cert_structure.proofs.LocalLemmas.{same_err, bound_err, mapped_err}
 
--- what stands from a wrong fact on, and what may stand there instead
+-- the facts from a wrong one on, and those that may come in their place
 pub record IsBad (why : StructureReason) (stands may : List Fact) : Type 0 where
   pub own : Fact
   pub other : Fact
@@ -93,7 +93,7 @@ after_these P zs s w e = record {
   why = e.why;
 }
 
--- what was read stands in front
+-- the same after the facts that were read
 pub after_read : (P : List Fact → Type 0) (r zs s : List Fact) (w : Wrong) → r ≡ zs ++ s → Ends (λ l. P (zs ++ l)) s w → Ends P r w
 after_read P r zs s w e h = subst (λ z. Ends P z w) (sym e) (after_these P zs s w h)
 
@@ -178,7 +178,7 @@ module _ {A : Type 0} (item : ℕ → List Fact → Read A) (facts : ℕ → A �
         (ends_weaker _ _ p.1 w (each_ends (suc i) n p.1 w (omega (arith, fits)) (mapped_err (with_first p.0) (read_each item (suc i) n p.1) w more))
         (λ l h. (p.0 ∷ h.0, ap (λ z. facts i p.0 ++ z) h.1, ap suc h.2, (right, h.3)))))
 
--- so many facts of one kind
+-- a stated number of facts of one kind
 module _ {A : Type 0} (taken : ℕ → Fact → Taken A) (line : ℕ → A → Fact) (good : A → Type 0) (sound : IsTaken taken line good) (none : A) (right : good none)
     (bad : (i : ℕ) (f : Fact) → taken i f ≡ None → HaveOnePlace f (line i none) × (content_fault f ≡ reason.Shape)) where
   pub counted_ends : (n : ℕ) (s : List Fact) (w : Wrong) → read_each (read_next taken) 0 n s ≡ Err w

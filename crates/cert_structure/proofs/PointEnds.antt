@@ -50,7 +50,7 @@ module _ (p : Listing) (comps : Partition) (a : ℕ) where
   some_pair_right clause call own =
       record { pair = own; point = some_point_right (vars_of (numbered p.clauses clause)); second = some_point_above (vars_of (numbered p.clauses clause)) }
 
-  -- pairs that follow another, at most so many
+  -- at most `n` pairs that follow another
   abbrev pub ArePairs : ℕ × ℕ → ℕ → List PairPoint → Type 0
   ArePairs last n xs = (length xs ≤ n) × PairsAscend last xs × AllByRecursion (IsPairPoint p comps a) xs
 

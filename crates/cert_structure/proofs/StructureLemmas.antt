@@ -88,7 +88,7 @@ note_kind m h (fact.Large q positions) note = h
 pub notes_later : (m : ℕ) → m < 9 → (facts : List Fact) → AreNotes facts → AreLater m facts
 notes_later m h facts notes = all_weaker (λ f. IsTrue (is_note f)) (λ f. m < kind f) (note_kind m h) facts notes
 
--- a fact of a later kind is none of a reader's
+-- a reader takes no fact of a later kind
 pub no_row : (pred : PredText) (f : Fact) → 2 < kind f → (i : ℕ) → take_row pred i f ≡ Some None
 no_row pred f h i = go (split_row f)
   where

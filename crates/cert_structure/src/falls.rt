@@ -21,7 +21,7 @@ use sequences::Sequence;
 use std::alloc::Global;
 use termination_model::SizeRows;
 
-/// The facts of the proofs for a call, which are over so many rows.
+/// The facts of the proofs for a call, each with `rows` multipliers.
 #[derive(Drop)]
 struct FallFact {
     clause: u64,

@@ -17,7 +17,7 @@ use number_tests::LevelPart;
 use sequences::Sequence;
 use std::alloc::Global;
 
-/// A level with so many coefficients.
+/// A level with a coefficient for each of `arity` arguments.
 fn level(alloc: Global, arity: u32, coeffs: &[i128], offset: i128) -> Result<LevelPart, FactFault>
     ensures { AgreesKept result (level_read arity coeffs.now offset) }
 {

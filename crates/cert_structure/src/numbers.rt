@@ -42,7 +42,7 @@ pub(crate) fn copied(alloc: Global, numbers: &[i128]) -> Result<Numbers, AllocEr
     Ok(Numbers::from_vec(Vec::from_slice(alloc, numbers)?))
 }
 
-/// Multipliers, one for each of so many rows.
+/// Multipliers, one for each of `rows` rows.
 pub(crate) fn multipliers(
     alloc: Global,
     rows: u128,

@@ -19,7 +19,7 @@ use number_tests::{LevelPart, PairPoint, Refutation};
 use sequences::Sequence;
 use std::alloc::Global;
 
-/// A point with a value for each of so many variables.
+/// A point with a value for each of `vars` variables.
 fn scaled_point(alloc: Global, vars: u32, t: i128, w: &[i128]) -> Result<Point, FactFault>
     ensures { AgreesKept result (point_read vars t w.now) }
 {
@@ -153,7 +153,7 @@ fn pair_point<'f>(
     second(alloc, calls, first, rest)
 }
 
-/// So many pairs with their points.
+/// The next `count` pairs with their points.
 fn points<'f>(
     alloc: Global,
     calls: &Calls,

@@ -18,7 +18,7 @@ use sequences::Sequence;
 use std::alloc::Global;
 use termination_model::SizeRows;
 
-/// A row with a constant and so many coefficients.
+/// A row with a constant and a coefficient for each of `arity` arguments.
 fn size_row(alloc: Global, arity: u32, row: &[i128]) -> Result<Row, FactFault>
     ensures { AgreesKept result (row_read arity row.now) }
 {
@@ -116,7 +116,7 @@ pub(crate) fn rows_of(rows: &SizeRows, pred: PredId) -> u64
     }
 }
 
-/// The facts of the proofs for a clause, which are over so many rows.
+/// The facts of the proofs for a clause, each with `rows` multipliers.
 #[derive(Drop)]
 struct ProofFact {
     clause: u64,
