@@ -13,7 +13,7 @@ mod choosing;
 mod closing;
 mod covering;
 mod fault;
-mod laws;
+pub mod laws;
 mod marks;
 mod ranks;
 mod rules;
@@ -21,4 +21,3 @@ mod sets;
 
 pub use checking::mode_fault;
 pub use fault::{ModeFault, ModeReason};
-pub use laws::holding_modes_show;

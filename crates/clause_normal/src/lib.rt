@@ -12,7 +12,7 @@ mod clauses;
 mod copying;
 mod fault;
 mod forms;
-mod laws;
+pub mod laws;
 mod level;
 mod limits;
 mod making;
@@ -28,10 +28,6 @@ mod variables;
 mod words;
 
 pub use fault::{NormFault, NormKind};
-pub use laws::{
-    faults_stand_in_their_texts, few_names_and_predicates, goals_of_queries_are_small,
-    made_clauses_are_small,
-};
 pub use limits::MOST_TEXT_CLAUSES;
 pub use query::normal_query;
 pub use text_program::normal;

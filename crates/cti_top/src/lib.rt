@@ -7,8 +7,8 @@ mod checking;
 mod command_line;
 mod generating;
 mod inferring;
-mod laws;
-mod number_laws;
+pub mod laws;
+pub mod number_laws;
 mod places;
 mod querying;
 mod refusal;
@@ -21,11 +21,6 @@ mod sure;
 mod top_call;
 mod verdicts;
 
-pub use laws::{
-    a_text_has_one_answer, plain_words_ask, refusals_stand_in_their_texts,
-    valid_certificates_bound_their_nodes,
-};
-pub use number_laws::gen_words_ask;
 pub use outside::{
     Files, LoadFault, MemFiles, MemSink, RealFiles, RealSink, Sink, SinkFault, SureFiles, SureSink,
 };

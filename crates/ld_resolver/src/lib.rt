@@ -16,7 +16,7 @@ mod bindings;
 mod choices;
 mod clause_chain;
 mod equal_pairs;
-mod laws;
+pub mod laws;
 mod occurs_check;
 mod raised_term;
 mod running;
@@ -27,8 +27,4 @@ mod visited;
 
 pub use answer::Answer;
 pub use answer_list::Answers;
-pub use laws::{
-    a_budget_of_all_nodes_finishes, bounded_goals_have_finitely_many_nodes, first_nodes_come_first,
-    nodes_are_derivations,
-};
 pub use running::{Ending, Ran, run};
