@@ -8,7 +8,7 @@ ghost use Rattle.cti_terms.specs.Listing.{IsProgram, Listing};
 ghost use Rattle.cert_checker.specs.Bounding.{ModesAreBounded};
 ghost use Rattle.cert_checker.specs.Valid.{IsValid};
 
-use cert_modes::holding_modes_show;
+use cert_modes::laws::holding_modes_show;
 
 /// Where a certificate of a program is valid, each query that meets one of its modes is bounded.
 ///
