@@ -18,7 +18,7 @@ ghost use Rattle.cti_top.specs.Runs.{IsFinished, IsKnown};
 ghost use Rattle.cti_top.specs.Words.{asks, infer, check, run};
 
 use cert_checker::valid_certificates_bound_their_modes;
-use ld_resolver::{a_budget_of_all_nodes_finishes, bounded_goals_have_finitely_many_nodes};
+use ld_resolver::laws::{a_budget_of_all_nodes_finishes, bounded_goals_have_finitely_many_nodes};
 
 /// Where a certificate of a program is valid, each query that meets one of its modes has some number of nodes, and its run with a budget of
 /// at least that number is finished: there are no more nodes, and the status is Done.
