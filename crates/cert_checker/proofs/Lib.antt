@@ -4,6 +4,7 @@ pub mod Claims
 pub mod Examples
 pub mod Excludes
 pub mod LevelFacts
+pub mod ModeFaultLaws
 pub mod NoMapping
 pub mod Partitions
 pub mod PrintedModes

@@ -26,6 +26,13 @@ pub record PartsHold (truth : (ℕ → Bool) → Tree → Bool) (expression : �
   pub falls : FallsHold expression p comps parts
   pub refutations : RefutationsHold expression p comps parts
 
+-- the same without the modes. Nothing here has to be believed.
+pub record NumbersHold (expression : ℕ → Tree → List ℤ) (p : Listing) (comps : Partition) (parts : Parts) : Type 0 where
+  pub rows : ByHold expression p parts
+  pub measures : MeasuresAreZero comps parts
+  pub falls : FallsHold expression p comps parts
+  pub refutations : RefutationsHold expression p comps parts
+
 -- the facts are those of parts that hold
 pub record IsValid (p : Listing) (names : List (List ℕ)) (facts : List Fact) : Type 0 where
   pub comps : Partition

@@ -1,13 +1,16 @@
 //! The check of a certificate.
 
-ghost use Rattle.std.specs.Prelude.{◌≡◌, ◌↔◌, IfOk, None};
+ghost use Rattle.std.specs.Prelude.{◌≡◌, ◌↔◌, IfOk, None, Some};
 ghost use Rattle.call_components.specs.Partition.{AreComponents};
 ghost use Rattle.cert_structure.specs.Shape.{HaveShape};
 ghost use Rattle.cert_structure.specs.Structure.{AreNamed};
 ghost use Rattle.cert_checker.specs.Bounding.{ModesAreBounded};
+ghost use Rattle.cert_checker.specs.ModeFaults.{HasModeFault, fault_of, mode_reason};
 ghost use Rattle.cert_checker.specs.Refutes.{RefutedHaveNoMapping};
-ghost use Rattle.cert_checker.specs.Valid.{IsValid, PartsHold};
-ghost use Rattle.cert_checker.specs.declared.verdict.Verdict.TheVariants.{Yes};
+ghost use Rattle.cert_checker.specs.Valid.{IsValid, NumbersHold, PartsHold};
+ghost use Rattle.cert_modes.specs.Failing.{IsFirstPred};
+ghost use Rattle.cert_modes.specs.declared.fault.ModeFault.{ModeFault as TheModeFault};
+ghost use Rattle.cert_checker.specs.declared.verdict.Verdict.TheVariants.{No, Yes};
 ghost use Rattle.cti_terms.specs.Tree.{truth};
 ghost use Rattle.term_size.specs.Occurrences.{size_row};
 
@@ -27,23 +30,20 @@ use cti_terms::{Names, Program};
 use std::alloc::{AllocError, Global};
 use term_size::TermSize;
 
-// The first fault of the parts of a certificate, in the order of its lines.
-fn value_fault(
+// The first fault of the numbers of a certificate, in the order of its lines.
+fn number_fault(
     alloc: Global,
     p: &Program,
     comps: &Components,
     parts: &Parts,
+    lines: Lines,
 ) -> Result<Option<Fault>, AllocError>
     requires components { AreComponents p.now comps.now }
     requires shape { HaveShape p.now comps.now parts.now }
-    ensures { IfOk result (λ fault. (fault ≡ None) ↔ PartsHold truth size_row p.now comps.now parts.now) }
+    ensures { IfOk result (λ fault. (fault ≡ None) ↔ NumbersHold size_row p.now comps.now parts.now) }
 {
     // What every program keeps, its clauses among them.
     p.preds();
-    let lines = Lines::of(parts);
-    if let Some(fault) = mode_fault(alloc, p, &TermSize, comps, parts, lines.modes)? {
-        return Ok(Some(fault.into()));
-    }
     if let Some(fault) = size_fault(alloc, p, &TermSize, parts, lines.row_proofs)? {
         return Ok(Some(fault));
     }
@@ -57,6 +57,26 @@ fn value_fault(
     Ok(fault)
 }
 
+// The first fault of the parts of a certificate, in the order of its lines: that of the modes, or else that of the numbers.
+fn value_fault(
+    alloc: Global,
+    p: &Program,
+    comps: &Components,
+    parts: &Parts,
+) -> Result<Option<Fault>, AllocError>
+    requires components { AreComponents p.now comps.now }
+    requires shape { HaveShape p.now comps.now parts.now }
+    ensures hold { IfOk result (λ fault. (fault ≡ None) ↔ PartsHold truth size_row p.now comps.now parts.now) }
+    ensures modes { IfOk result (λ fault. (f : TheModeFault) → IsFirstPred truth p.now comps.now parts.now 2 f → fault ≡ Some (fault_of f)) }
+{
+    let lines = Lines::of(parts);
+    let modes = mode_fault(alloc, p, &TermSize, comps, parts, lines.modes)?;
+    match modes {
+        Some(fault) => Ok(Some(Fault::of_modes(fault))),
+        None => number_fault(alloc, p, comps, parts, lines),
+    }
+}
+
 // The first fault of a certificate.
 fn first_fault(
     alloc: Global,
@@ -67,6 +87,7 @@ fn first_fault(
     requires named { AreNamed names.now p.now.preds }
     ensures valid { IfOk result (λ fault. (fault ≡ None) ↔ IsValid p.now names.now c.now.facts) }
     ensures excluded { IfOk result (λ fault. fault ≡ None → RefutedHaveNoMapping p.now names.now c.now.facts) }
+    ensures modes { IfOk result (λ fault. (f : TheModeFault) → HasModeFault p.now names.now c.now.facts f → fault ≡ Some (fault_of f)) }
 {
     // What every program keeps.
     p.preds();
@@ -86,7 +107,7 @@ fn first_fault(
 /// Whether a certificate of a program is valid.
 ///
 /// The names are those that gave the program's. Where the certificate is not valid, the verdict has the first line of a
-/// fact that does not hold, and the first reason there; no clause says so. Sizes are term sizes.
+/// fact that does not hold, and the first reason there; the clauses say so of modes. Sizes are term sizes.
 ///
 /// Source: the conditions of Mesnard and Neumerkel 2001, with a proof for each size row, mapping and refutation.
 pub fn check(
@@ -105,6 +126,9 @@ pub fn check(
 
     // And no mapping of a component with a refutation decreases, for the size rows of the certificate.
     ensures excluded { IfOk result (λ v. v ≡ Yes → RefutedHaveNoMapping p.now names.now c.now.facts) }
+
+    // Where the structure is right and modes do not hold, the line is that of the first predicate whose modes fail, and the reason the first one there.
+    ensures modes { IfOk result (λ v. (f : TheModeFault) → HasModeFault p.now names.now c.now.facts f → v ≡ No f.line (mode_reason f.reason)) }
 {
     // No two names have the same text, and no two predicates the same name and arity.
     names.count();

@@ -1,5 +1,7 @@
 //! The lines of a certificate.
 
+ghost use Rattle.std.specs.Prelude.{◌≡◌};
+
 use cert_structure::Parts;
 use sequences::Sequence;
 use termination_model::SizeRows;
@@ -17,12 +19,12 @@ pub(crate) struct Lines {
     pub(crate) refutations: u64,
 }
 
-// The line behind so many facts.
+// The line after this many facts.
 fn behind(line: u64, facts: usize) -> u64 {
     line.saturating_add(facts as u64)
 }
 
-// The line behind the size rows, the first of which has this line.
+// The line after the size rows, the first of which has this line.
 fn behind_rows(rows: &SizeRows, line: u64) -> u64 {
     let mut line = line;
     for q in 0..rows.len() {
@@ -31,7 +33,7 @@ fn behind_rows(rows: &SizeRows, line: u64) -> u64 {
     line
 }
 
-// The line behind lists of facts.
+// The line after lists of facts.
 fn behind_lists<T>(lists: &[Sequence<T>], line: u64) -> u64 {
     let mut line = line;
     for list in lists {
@@ -40,7 +42,7 @@ fn behind_lists<T>(lists: &[Sequence<T>], line: u64) -> u64 {
     line
 }
 
-// The line behind lists of such lists.
+// The line after lists of such lists.
 fn behind_all<T>(lists: &[Sequence<Sequence<T>>], line: u64) -> u64 {
     let mut line = line;
     for list in lists {
@@ -51,7 +53,9 @@ fn behind_all<T>(lists: &[Sequence<Sequence<T>>], line: u64) -> u64 {
 
 impl Lines {
     /// The lines of these parts, in the order of the format.
-    pub(crate) fn of(parts: &Parts) -> Lines {
+    pub(crate) fn of(parts: &Parts) -> Lines
+        ensures { result.modes ≡ 2 }
+    {
         let rows = behind(MODES, parts.modes.len());
         let row_proofs = behind_rows(&parts.rows, rows);
         let grounds = behind_lists(parts.row_proofs.as_slice(), row_proofs);

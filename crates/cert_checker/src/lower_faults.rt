@@ -1,5 +1,8 @@
 //! Faults that the crates below find, as faults of a certificate.
 
+ghost use Rattle.std.specs.Prelude.{◌≡◌};
+ghost use Rattle.cert_checker.specs.ModeFaults.{fault_of, mode_reason};
+
 use crate::fault::Fault;
 use crate::reason::Reason;
 use cert_modes::{ModeFault, ModeReason};
@@ -27,21 +30,25 @@ impl From<StructureReason> for Reason {
     }
 }
 
-impl From<ModeReason> for Reason {
-    fn from(reason: ModeReason) -> Reason {
-        match reason {
-            ModeReason::Ground => Reason::Ground,
-            ModeReason::Precondition => Reason::Precondition,
-            ModeReason::Mode => Reason::Mode,
-        }
+// The reason why modes fail, as one of a certificate.
+fn mode_reason(reason: ModeReason) -> Reason
+    ensures { result ≡ mode_reason reason }
+{
+    match reason {
+        ModeReason::Ground => Reason::Ground,
+        ModeReason::Precondition => Reason::Precondition,
+        ModeReason::Mode => Reason::Mode,
     }
 }
 
-impl From<ModeFault> for Fault {
-    fn from(fault: ModeFault) -> Fault {
+impl Fault {
+    /// The fault of modes, as one of a certificate.
+    pub(crate) fn of_modes(fault: ModeFault) -> Fault
+        ensures { result ≡ fault_of fault }
+    {
         Fault {
             line: fault.line,
-            reason: fault.reason.into(),
+            reason: mode_reason(fault.reason),
         }
     }
 }

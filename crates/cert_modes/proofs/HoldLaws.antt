@@ -22,8 +22,9 @@ use Rattle.cti_terms.specs.declared.atom_list.Atom.{Atom}
 use Rattle.cti_terms.specs.declared.clauses.Clause.{Clause}
 use Rattle.cti_terms.specs.declared.predicates.Pred.{Pred}
 use Rattle.termination_model.specs.Descent.{mode_row}
-use Rattle.termination_model.specs.Grounds.{Family, IsClosed}
+use Rattle.termination_model.specs.Grounds.{Family, IsClosedUnder}
 use Rattle.termination_model.specs.Rows.{Covers}
+use Rattle.cert_modes.specs.Failing.{Admits, Closes, KeepsRule, OfPred}
 use Rattle.cert_modes.specs.Modes.{allowed, coefficients_of, grounds_of, naturals, precondition}
 use Rattle.cert_modes.specs.Sets.{AreCovered, AreReady, HaveLevels, KeepsEach, SpellParts, mapping_family}
 use Rattle.cert_modes.specs.declared.sets.Sets.{Sets}
@@ -67,40 +68,41 @@ module _ (truth : (ℕ → Bool) → Tree → Bool) (p : Listing) (program : IsP
         reads = R.preconditions.reads q;
       }
 
-  pub closed_is : IsClosed truth p (family_of p.preds T sets.grounds.items) ↔ IsClosed truth p (grounds_of p parts)
-  closed_is = (λ h. subst (IsClosed truth p) S.grounds h, λ h. subst (IsClosed truth p) (sym S.grounds) h)
+  -- the clauses of a predicate
+  pub closed_at : (q : ℕ) → OfPred p q (IsClosedUnder truth (family_of p.preds T sets.grounds.items)) ↔ Closes truth p comps parts q
+  closed_at q = (λ h. subst (λ (f : Family). OfPred p q (IsClosedUnder truth f)) S.grounds h, λ h. subst (λ (f : Family). OfPred p q (IsClosedUnder truth f)) (sym S.grounds) h)
 
   -- rows that are covered
-  pub covered_is : (T2 : List Rows) → Keeps T T2
-      → ((q : ℕ) → q < length p.preds → AreCovered T2 (items_of parts.levels q) (items_of sets.preconditions q))
-      ↔ ((m q : ℕ) (row : List Bool) → IsTrue (precondition p parts m q row) → Covers (coefficients_of parts.levels m q) row)
-  covered_is T2 K = (forth, back)
+  pub covered_at : (T2 : List Rows) → Keeps T T2 → (q : ℕ)
+      → (q < length p.preds → AreCovered T2 (items_of parts.levels q) (items_of sets.preconditions q))
+      ↔ ((m : ℕ) (row : List Bool) → IsTrue (precondition p parts m q row) → Covers (coefficients_of parts.levels m q) row)
+  covered_at T2 K q = (forth, back)
     where
-      forth : ((q : ℕ) → q < length p.preds → AreCovered T2 (items_of parts.levels q) (items_of sets.preconditions q))
-          → (m q : ℕ) (row : List Bool) → IsTrue (precondition p parts m q row) → Covers (coefficients_of parts.levels m q) row
-      forth h m q row t =
+      forth : (q < length p.preds → AreCovered T2 (items_of parts.levels q) (items_of sets.preconditions q))
+          → (m : ℕ) (row : List Bool) → IsTrue (precondition p parts m q row) → Covers (coefficients_of parts.levels m q) row
+      forth h m row t =
           let w = mapping_in (slice_get p.preds q) T (slice_get (items_of sets.preconditions q) m) row ((λ i. S.preconditions m i q row) ∙ t) in
           let lt = place_below p.preds q w.0 w.2 in
           let have = levels_of q lt in
           let at = there (items_of parts.levels q) m (record { coeffs = []; offset = pos 0 }) (omega (arith, place_below (items_of sets.preconditions q) m w.1 w.3, have.each)) in
           let level = slice_index_or (items_of parts.levels q) m (record { coeffs = []; offset = pos 0 }) in
-          let covered = (covered_later T T2 K (items_of parts.levels q) (items_of sets.preconditions q) have.known).0 (h q lt) in
+          let covered = (covered_later T T2 K (items_of parts.levels q) (items_of sets.preconditions q) have.known).0 (h lt) in
           subst (λ cs. Covers cs row) (sym (ap naturals at)) (covered m level w.1 at w.3 row (sym w.4 ∙ sym (arity_at p q w.0 w.2) ∙ sym (have.wide m level at)) w.5)
 
-      back : ((m q : ℕ) (row : List Bool) → IsTrue (precondition p parts m q row) → Covers (coefficients_of parts.levels m q) row)
-          → (q : ℕ) → q < length p.preds → AreCovered T2 (items_of parts.levels q) (items_of sets.preconditions q)
-      back h q lt =
+      back : ((m : ℕ) (row : List Bool) → IsTrue (precondition p parts m q row) → Covers (coefficients_of parts.levels m q) row)
+          → q < length p.preds → AreCovered T2 (items_of parts.levels q) (items_of sets.preconditions q)
+      back h lt =
           let have = levels_of q lt in
           (covered_later T T2 K (items_of parts.levels q) (items_of sets.preconditions q) have.known).1 (λ m level d e f row long t.
           let x = slice_index_or p.preds q (record { name = record { 0 = 0 }; arity = 0 }) in
           let at : slice_get p.preds q ≡ Some x = there p.preds q (record { name = record { 0 = 0 }; arity = 0 }) lt in
           let wide : x.arity ≡ length row = sym (arity_at p q x at) ∙ sym (have.wide m level e) ∙ sym long in
           let there_row : has_row (slice_get p.preds q) T (slice_get (items_of sets.preconditions q) m) row ≡ true = (λ i. has_row (at i) T (f i) row) ∙ both (x.arity == length row) (truth_rows T d row) (eq-eqb x.arity (length row) wide) t in
-          subst (λ cs. Covers cs row) (ap naturals e) (h m q row ((λ i. sym (S.preconditions m) i q row) ∙ there_row)))
+          subst (λ cs. Covers cs row) (ap naturals e) (h m row ((λ i. sym (S.preconditions m) i q row) ∙ there_row)))
 
   -- the rule of one clause
   rule_of : (k : Clause) → IsClause p.preds k
-      → KeepsEach truth p T comps.of sets k ↔ ((m : ℕ) → KeepsSets truth (precondition p parts m) (allowed p parts) (grounds_of p parts) (λ q. is_together comps q k.head.pred.0) k)
+      → KeepsEach truth p T comps.of sets k ↔ ((m : ℕ) → KeepsRule truth p comps parts m k)
   rule_of k c = (
     λ h m. keeps_agree truth k (precondition p parts m) (precondition p parts m) (allowed p parts) (grounds_of p parts) ranked together (λ row. refl) (λ j b at row. refl) same
         (subst (λ (f : Family). KeepsSets truth f (allowed p parts) (grounds_of p parts) ranked k) (S.preconditions m)
@@ -125,29 +127,26 @@ module _ (truth : (ℕ → Bool) → Tree → Bool) (p : Listing) (program : IsP
           let less = atom_below p.preds k.vars k.head c.head in
           together_is comps b.pred.0 k.head.pred.0 (omega (arith, lt, components.each)) (omega (arith, less, components.each))
 
-  pub rule_is : (T2 : List Rows) → Keeps T T2 → (ranks : List ℕ) → ranks ≡ comps.of
-      → AllByRecursion (KeepsEach truth p T2 ranks sets) p.clauses
-      ↔ ((m : ℕ) → AllByRecursion (λ (k : Clause). KeepsSets truth (precondition p parts m) (allowed p parts) (grounds_of p parts) (λ q. is_together comps q k.head.pred.0) k) p.clauses)
-  rule_is T2 K ranks numbers = (
-    λ h m. from_places (λ (k : Clause). KeepsSets truth (precondition p parts m) (allowed p parts) (grounds_of p parts) (λ q. is_together comps q k.head.pred.0) k) p.clauses (λ j k e.
-        (rule_of k (sound j k e)).0 (subst (λ (rs : List ℕ). KeepsEach truth p T rs sets k) numbers ((each_later truth p T T2 K sets R ranks k).0 (by_places (KeepsEach truth p T2 ranks sets) p.clauses h j k e))) m),
-    λ h. from_places (KeepsEach truth p T2 ranks sets) p.clauses (λ j k e.
-        (each_later truth p T T2 K sets R ranks k).1 (subst (λ (rs : List ℕ). KeepsEach truth p T rs sets k) (sym numbers)
-        ((rule_of k (sound j k e)).1 (λ m. by_places (λ (k : Clause). KeepsSets truth (precondition p parts m) (allowed p parts) (grounds_of p parts) (λ q. is_together comps q k.head.pred.0) k) p.clauses (h m) j k e)))),
+  pub rule_at : (T2 : List Rows) → Keeps T T2 → (ranks : List ℕ) → ranks ≡ comps.of → (q : ℕ)
+      → OfPred p q (KeepsEach truth p T2 ranks sets) ↔ ((m : ℕ) → OfPred p q (KeepsRule truth p comps parts m))
+  rule_at T2 K ranks numbers q = (
+    λ h m j k e same. (rule_of k (sound j k e)).0 (subst (λ (rs : List ℕ). KeepsEach truth p T rs sets k) numbers ((each_later truth p T T2 K sets R ranks k).0 (h j k e same))) m,
+    λ h j k e same.
+        (each_later truth p T T2 K sets R ranks k).1 (subst (λ (rs : List ℕ). KeepsEach truth p T rs sets k) (sym numbers) ((rule_of k (sound j k e)).1 (λ m. h m j k e same))),
   )
     where
       sound : (j : ℕ) (k : Clause) → slice_get p.clauses j ≡ Some k → IsClause p.preds k
       sound j k e = by_places (IsClause p.preds) p.clauses program.clauses j k e
 
   -- modes that are admitted
-  pub modes_are : (T2 : List Rows) → Keeps T T2
-      → ((q : ℕ) (d : Diagram) → slice_get sets.allowed.items q ≡ Some d → IsTrue (list_all (λ mode. truth_rows T2 d (mode_row mode 1 (arity_of p q))) (items_of parts.modes q)))
-      ↔ ((q : ℕ) → AllByRecursion (λ mode. IsTrue (allowed p parts q (mode_row mode 1 (arity_of p q)))) (items_of parts.modes q))
-  modes_are T2 K = (forth, back)
+  pub modes_at : (T2 : List Rows) → Keeps T T2 → (q : ℕ)
+      → ((d : Diagram) → slice_get sets.allowed.items q ≡ Some d → IsTrue (list_all (λ mode. truth_rows T2 d (mode_row mode 1 (arity_of p q))) (items_of parts.modes q)))
+      ↔ Admits truth p comps parts q
+  modes_at T2 K q = (forth, back)
     where
       -- the set of a predicate, and what is allowed
-      same : (q : ℕ) (d : Diagram) → slice_get sets.allowed.items q ≡ Some d → (mode : List ℕ) → truth_rows T2 d (mode_row mode 1 (arity_of p q)) ≡ allowed p parts q (mode_row mode 1 (arity_of p q))
-      same q d f mode =
+      same : (d : Diagram) → slice_get sets.allowed.items q ≡ Some d → (mode : List ℕ) → truth_rows T2 d (mode_row mode 1 (arity_of p q)) ≡ allowed p parts q (mode_row mode 1 (arity_of p q))
+      same d f mode =
           let row = mode_row mode 1 (arity_of p q) in
           let lt : q < length p.preds = omega (arith, place_below sets.allowed.items q d f, R.allowed.each) in
           let x = slice_index_or p.preds q (record { name = record { 0 = 0 }; arity = 0 }) in
@@ -157,22 +156,22 @@ module _ (truth : (ℕ → Bool) → Tree → Bool) (p : Listing) (program : IsP
           ∙ sym ((λ i. has_row (at i) T (f i) row) ∙ (λ i. eq-eqb x.arity (length row) wide i && truth_rows T d row))
           ∙ (λ i. S.allowed i q row)
 
-      forth : ((q : ℕ) (d : Diagram) → slice_get sets.allowed.items q ≡ Some d → IsTrue (list_all (λ mode. truth_rows T2 d (mode_row mode 1 (arity_of p q))) (items_of parts.modes q)))
-          → (q : ℕ) → AllByRecursion (λ mode. IsTrue (allowed p parts q (mode_row mode 1 (arity_of p q)))) (items_of parts.modes q)
-      forth h q = elim (cases_lt q (length p.preds)) [
+      forth : ((d : Diagram) → slice_get sets.allowed.items q ≡ Some d → IsTrue (list_all (λ mode. truth_rows T2 d (mode_row mode 1 (arity_of p q))) (items_of parts.modes q)))
+          → Admits truth p comps parts q
+      forth h = elim (cases_lt q (length p.preds)) [
         | inl lt ↦
             let f = there sets.allowed.items q none (omega (arith, lt, R.allowed.each)) in
-            let all = (all_test (λ mode. truth_rows T2 (slice_index_or sets.allowed.items q none) (mode_row mode 1 (arity_of p q))) (items_of parts.modes q)).0 (h q _ f) in
+            let all = (all_test (λ mode. truth_rows T2 (slice_index_or sets.allowed.items q none) (mode_row mode 1 (arity_of p q))) (items_of parts.modes q)).0 (h _ f) in
             from_places (λ mode. IsTrue (allowed p parts q (mode_row mode 1 (arity_of p q)))) (items_of parts.modes q) (λ j mode e.
-            sym (same q _ f mode) ∙ by_places (λ mode. IsTrue (truth_rows T2 (slice_index_or sets.allowed.items q none) (mode_row mode 1 (arity_of p q)))) (items_of parts.modes q) all j mode e)
+            sym (same _ f mode) ∙ by_places (λ mode. IsTrue (truth_rows T2 (slice_index_or sets.allowed.items q none) (mode_row mode 1 (arity_of p q)))) (items_of parts.modes q) all j mode e)
         | inr ge ↦
             let e = nothing_at parts.modes q (λ lt. omega (arith, lt, ge, shape.modes.count)) in
             let empty : items_of parts.modes q ≡ [] = ap (λ o. unwrap_or o []) e in
             subst (AllByRecursion (λ mode. IsTrue (allowed p parts q (mode_row mode 1 (arity_of p q))))) (sym empty) tt
       ]
 
-      back : ((q : ℕ) → AllByRecursion (λ mode. IsTrue (allowed p parts q (mode_row mode 1 (arity_of p q)))) (items_of parts.modes q))
-          → (q : ℕ) (d : Diagram) → slice_get sets.allowed.items q ≡ Some d → IsTrue (list_all (λ mode. truth_rows T2 d (mode_row mode 1 (arity_of p q))) (items_of parts.modes q))
-      back h q d f = (all_test (λ mode. truth_rows T2 d (mode_row mode 1 (arity_of p q))) (items_of parts.modes q)).1
+      back : Admits truth p comps parts q
+          → (d : Diagram) → slice_get sets.allowed.items q ≡ Some d → IsTrue (list_all (λ mode. truth_rows T2 d (mode_row mode 1 (arity_of p q))) (items_of parts.modes q))
+      back h d f = (all_test (λ mode. truth_rows T2 d (mode_row mode 1 (arity_of p q))) (items_of parts.modes q)).1
           (from_places (λ mode. IsTrue (truth_rows T2 d (mode_row mode 1 (arity_of p q)))) (items_of parts.modes q) (λ j mode e.
-          same q d f mode ∙ by_places (λ mode. IsTrue (allowed p parts q (mode_row mode 1 (arity_of p q)))) (items_of parts.modes q) (h q) j mode e))
+          same d f mode ∙ by_places (λ mode. IsTrue (allowed p parts q (mode_row mode 1 (arity_of p q)))) (items_of parts.modes q) h j mode e))

@@ -1,6 +1,7 @@
 pub mod ClaimedLaws
 pub mod CoverLaws
 pub mod Examples
+pub mod FirstLaws
 pub mod HoldLaws
 pub mod MarkLaws
 pub mod PlaceLaws

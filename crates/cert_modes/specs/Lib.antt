@@ -1,4 +1,5 @@
 pub mod Claimed
+pub mod Failing
 pub mod Marks
 pub mod Modes
 pub mod Sets

@@ -1,10 +1,11 @@
 //! Whether the ground rows are closed.
 
-ghost use Rattle.std.specs.Prelude.{◌≡◌, ◌↔◌, IsTrue, OnOk, length};
+ghost use Rattle.std.specs.Prelude.{◌≡◌, ℕ, OnOk, length};
 ghost use Rattle.truth_rows.specs.Sets.{AreSets, family_of};
 ghost use Rattle.bool_diagrams.specs.Rows.{Keeps};
-ghost use Rattle.cert_modes.specs.Marks.{is_clear};
-ghost use Rattle.termination_model.specs.Grounds.{IsClosed};
+ghost use Rattle.cert_modes.specs.Failing.{OfPred};
+ghost use Rattle.cert_modes.specs.Marks.{IsMarked, mark_at};
+ghost use Rattle.termination_model.specs.Grounds.{IsClosedUnder};
 
 use crate::fault::ModeReason;
 use crate::marks::Marks;
@@ -26,8 +27,8 @@ pub(crate) fn mark_open<N: Norm>(
     requires marks { length marks.old ≡ length p.now.preds }
     ensures keeps { Keeps table.old table.new }
     ensures each { OnOk result (length marks.new ≡ length marks.old) }
-    ensures closed { OnOk result (IsTrue (is_clear marks.new)
-        ↔ (IsTrue (is_clear marks.old) × IsClosed (N.truth norm.now) p.now (family_of p.now.preds table.old sets.now))) }
+    ensures closed { OnOk result ((q : ℕ) → IsMarked (OfPred p.now q (IsClosedUnder (N.truth norm.now) (family_of p.now.preds table.old sets.now))) ModeReason.Ground
+        (mark_at marks.old q) (mark_at marks.new q)) }
 {
     for k in 0..p.clauses() {
         let closed = is_closed_under(norm, table, p, sets, k + 1)?;

@@ -3,7 +3,7 @@
 ghost use Rattle.std.specs.Prelude.{◌≡◌, ◌↔◌, ◌<◌, ℕ, IfOk, IsTrue, OnOk, length, map};
 ghost use Rattle.bool_diagrams.specs.Rows.{Keeps};
 ghost use Rattle.cert_structure.specs.Shape.{arity_of, items_of};
-ghost use Rattle.cert_modes.specs.Marks.{is_clear};
+ghost use Rattle.cert_modes.specs.Marks.{IsMarked, mark_at};
 ghost use Rattle.cert_modes.specs.Sets.{AreCovered, HaveLevels, is_positive};
 
 use crate::fault::ModeReason;
@@ -30,9 +30,8 @@ pub(crate) fn mark_uncovered(
     requires each { (q : ℕ) → q < length p.now.preds → HaveLevels table.old (arity_of p.now q) (items_of levels.now q) (items_of sets.now q) }
     ensures keeps { Keeps table.old table.new }
     ensures each { OnOk result (length marks.new ≡ length marks.old) }
-    ensures covered { OnOk result (IsTrue (is_clear marks.new)
-        ↔ (IsTrue (is_clear marks.old)
-        × ((q : ℕ) → q < length p.now.preds → AreCovered table.old (items_of levels.now q) (items_of sets.now q)))) }
+    ensures covered { OnOk result ((q : ℕ) → IsMarked (q < length p.now.preds → AreCovered table.old (items_of levels.now q) (items_of sets.now q)) ModeReason.Precondition
+        (mark_at marks.old q) (mark_at marks.new q)) }
 {
     for q in 0..p.preds() {
         let own = levels[q as usize].as_slice();

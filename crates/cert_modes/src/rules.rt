@@ -1,11 +1,11 @@
 //! Whether preconditions keep their rule.
 
-ghost use Rattle.std.specs.Prelude.{◌≡◌, ◌↔◌, ◌≤◌, ◌-◌, IfOk, IsTrue, OnOk, length, slice_get, Some};
-ghost use Rattle.std.specs.List.{AllByRecursion};
+ghost use Rattle.std.specs.Prelude.{◌≡◌, ◌↔◌, ◌≤◌, ◌-◌, ℕ, IfOk, IsTrue, OnOk, length, slice_get, Some};
 ghost use Rattle.truth_rows.specs.Sets.{AreSets};
 ghost use Rattle.bool_diagrams.specs.Rows.{Keeps};
 ghost use Rattle.cti_terms.specs.declared.clauses.Clause.{Clause as TheClause};
-ghost use Rattle.cert_modes.specs.Marks.{is_clear};
+ghost use Rattle.cert_modes.specs.Failing.{OfPred};
+ghost use Rattle.cert_modes.specs.Marks.{IsMarked, mark_at};
 ghost use Rattle.cert_modes.specs.Sets.{AreReady, KeepsEach};
 
 use crate::choosing::choose;
@@ -35,9 +35,8 @@ pub(crate) fn mark_broken<N: Norm>(
     requires marks { length marks.old ≡ length p.now.preds }
     ensures keeps { Keeps table.old table.new }
     ensures each { OnOk result (length marks.new ≡ length marks.old) }
-    ensures kept { OnOk result (IsTrue (is_clear marks.new)
-        ↔ (IsTrue (is_clear marks.old)
-        × AllByRecursion (KeepsEach (N.truth norm.now) p.now table.old ranks.now sets.now) p.now.clauses)) }
+    ensures kept { OnOk result ((q : ℕ) → IsMarked (OfPred p.now q (KeepsEach (N.truth norm.now) p.now table.old ranks.now sets.now)) ModeReason.Precondition
+        (mark_at marks.old q) (mark_at marks.new q)) }
 {
     let mut chosen = vec![in alloc; sets.none; p.preds() as usize]?;
     mark_each(norm, table, p, ranks, sets, &mut chosen, marks)
@@ -59,9 +58,8 @@ fn mark_each<N: Norm>(
     requires marks { length marks.old ≡ length p.now.preds }
     ensures keeps { Keeps table.old table.new }
     ensures each { OnOk result (length marks.new ≡ length marks.old) }
-    ensures kept { OnOk result (IsTrue (is_clear marks.new)
-        ↔ (IsTrue (is_clear marks.old)
-        × AllByRecursion (KeepsEach (N.truth norm.now) p.now table.old ranks.now sets.now) p.now.clauses)) }
+    ensures kept { OnOk result ((q : ℕ) → IsMarked (OfPred p.now q (KeepsEach (N.truth norm.now) p.now table.old ranks.now sets.now)) ModeReason.Precondition
+        (mark_at marks.old q) (mark_at marks.new q)) }
 {
     for k in 0..p.clauses() {
         let kept = keeps_each(norm, table, p, ranks, sets, chosen, k + 1)?;

@@ -1,4 +1,4 @@
-use Rattle.std.proofs.Common.{◌≡◌, ◌↔◌, None, Option}
+use Rattle.std.proofs.Common.{◌≡◌, ◌↔◌, None, Option, Some}
 use Rattle.cti_terms.specs.Tree.{truth}
 use Rattle.term_size.specs.Occurrences.{size_row}
 use Rattle.cert_checker.specs.Valid.{IsValid, PartsHold}
@@ -6,6 +6,10 @@ use Rattle.cert_checker.specs.declared.fault.Fault.{Fault}
 use Rattle.number_tests.proofs.CallFacts.{if_ok_more}
 use Rattle.cert_checker.specs.Refutes.{RefutedHaveNoMapping}
 use Rattle.cert_checker.proofs.NoMapping.{refuted_have_none}
+use Rattle.cert_modes.specs.Failing.{IsFirstPred}
+use Rattle.cert_modes.specs.declared.fault.ModeFault.{ModeFault}
+use Rattle.cert_checker.specs.ModeFaults.{HasModeFault, fault_of}
+use Rattle.cert_checker.proofs.ModeFaultLaws.{no_first, own_first}
 use Rattle.cert_checker.proofs.Validity.{decided, without_parts}
 use Rattle.cert_checker.proofs.checking.first_fault.Goals as goal
 
@@ -14,7 +18,7 @@ returns-in-Ok-clause-valid c =
     if_ok_more (λ (fault : Option Fault). (fault ≡ None) ↔ PartsHold truth size_row c.args.p.now c.in_ok-comps.comps c.in-Ok.parts)
     (λ (fault : Option Fault). (fault ≡ None) ↔ IsValid c.args.p.now c.args.names.now c.args.c.now.facts)
     (λ fault decides. decided c.one_structure.ensures c.args.p.now c.args.names.now c.in_ok-comps.comps c.in_ok-comps.ensures c.args.c.now.facts
-    (fault ≡ None) c.in-Ok.parts c.in-Ok.ensures.found c.in-Ok.ensures.only decides) c.value_fault.result c.value_fault.ensures
+    (fault ≡ None) c.in-Ok.parts c.in-Ok.ensures.found c.in-Ok.ensures.only decides) c.value_fault.result c.value_fault.ensures.hold
 
 pub returns-in-Err-Wrong-clause-valid : goal.returns-in-Err-Wrong-clause-valid
 returns-in-Err-Wrong-clause-valid c = (
@@ -28,4 +32,18 @@ returns-in-Ok-clause-excluded c =
     if_ok_more (λ (fault : Option Fault). (fault ≡ None) ↔ PartsHold truth size_row c.args.p.now c.in_ok-comps.comps c.in-Ok.parts)
     (λ (fault : Option Fault). fault ≡ None → RefutedHaveNoMapping c.args.p.now c.args.names.now c.args.c.now.facts)
     (λ fault decides. λ none. refuted_have_none c.one_structure.ensures c.args.p.now c.args.names.now c.in_ok-comps.comps c.preds.ensures.sound c.in_ok-comps.ensures c.args.c.now.facts
-    c.in-Ok.parts c.in-Ok.ensures.only (decides.0 none)) c.value_fault.result c.value_fault.ensures
+    c.in-Ok.parts c.in-Ok.ensures.only (decides.0 none)) c.value_fault.result c.value_fault.ensures.hold
+
+pub returns-in-Ok-clause-modes : goal.returns-in-Ok-clause-modes
+returns-in-Ok-clause-modes c =
+    let p = c.args.p.now in
+    let names = c.args.names.now in
+    let comps = c.in_ok-comps.comps in
+    let facts = c.args.c.now.facts in
+    if_ok_more (λ (fault : Option Fault). (f : ModeFault) → IsFirstPred truth p comps c.in-Ok.parts 2 f → fault ≡ Some (fault_of f))
+    (λ (fault : Option Fault). (f : ModeFault) → HasModeFault p names facts f → fault ≡ Some (fault_of f))
+    (λ fault told f has. told f (own_first c.one_structure.ensures p names comps c.in-Ok.parts facts c.in_ok-comps.ensures c.in-Ok.ensures.only f has)) c.value_fault.result c.value_fault.ensures.modes
+
+pub returns-in-Err-Wrong-clause-modes : goal.returns-in-Err-Wrong-clause-modes
+returns-in-Err-Wrong-clause-modes c = λ f has.
+    absurd (no_first c.one_structure.ensures c.args.p.now c.args.names.now c.in_ok-comps.comps c.args.c.now.facts c.in_ok-comps.ensures (λ own is. let wrong = c.in-Err-Wrong.ensures.only own is in cc) f has)

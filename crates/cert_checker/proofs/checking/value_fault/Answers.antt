@@ -1,40 +1,42 @@
-use Rattle.std.proofs.Common.{refl}
-use Rattle.cert_checker.proofs.ShapeLaws.{are_sizes, have_falls, have_levels, have_refutations, have_row_proofs}
+use Rattle.std.proofs.Common.{◌≡◌, ◌↔◌, ℕ, None, Some, Option, IfSome, ap, subst, ◌∙◌}
+use Rattle.cti_terms.specs.Tree.{truth}
+use Rattle.term_size.specs.Occurrences.{size_row}
+use Rattle.cert_modes.specs.Failing.{IsFirstPred}
+use Rattle.cert_modes.specs.declared.fault.ModeFault.{ModeFault}
+use Rattle.number_tests.proofs.CallFacts.{if_ok_more}
+use Rattle.cert_checker.specs.ModeFaults.{fault_of}
+use Rattle.cert_checker.specs.Valid.{NumbersHold, PartsHold}
+use Rattle.cert_checker.specs.declared.fault.Fault.{Fault}
+use Rattle.cert_checker.proofs.ModeFaultLaws.{none_first, one_first}
 use Rattle.cert_checker.proofs.checking.value_fault.Goals as goal
 
-pub size_fault-requires-clause-sizes : goal.size_fault-requires-clause-sizes
-size_fault-requires-clause-sizes c = are_sizes c.args.p.now c.args.comps.now c.args.parts.now c.requires.shape
+pub returns-in-Some-clause-hold : goal.returns-in-Some-clause-hold
+returns-in-Some-clause-hold c = (λ none. cc, λ hold. let none = c.in_ok-modes.ensures.hold.1 hold.modes in let some = c.in-Some.is in cc)
 
-pub size_fault-requires-clause-proofs : goal.size_fault-requires-clause-proofs
-size_fault-requires-clause-proofs c = have_row_proofs c.args.p.now c.args.comps.now c.args.parts.now c.requires.shape
+pub returns-in-Some-clause-modes : goal.returns-in-Some-clause-modes
+returns-in-Some-clause-modes c = λ f is.
+    let p = c.args.p.now in
+    let comps = c.args.comps.now in
+    let parts = c.args.parts.now in
+    let first : IsFirstPred truth p comps parts c.of-lines.result.modes c.in-Some.fault = subst (λ (o : Option ModeFault). IfSome o (IsFirstPred truth p comps parts c.of-lines.result.modes)) c.in-Some.is c.in_ok-modes.ensures.first in
+    let own : IsFirstPred truth p comps parts 2 c.in-Some.fault = subst (λ (line : ℕ). IsFirstPred truth p comps parts line c.in-Some.fault) c.of-lines.ensures first in
+    ap Some (c.of_modes.ensures ∙ ap fault_of (one_first truth p comps parts 2 c.in-Some.fault f own is))
 
-pub measure_fault-requires-clause-levels : goal.measure_fault-requires-clause-levels
-measure_fault-requires-clause-levels c = have_levels c.args.p.now c.args.comps.now c.args.parts.now c.requires.shape c.requires.components
+pub returns-in-None-clause-hold : goal.returns-in-None-clause-hold
+returns-in-None-clause-hold c =
+    let p = c.args.p.now in
+    let comps = c.args.comps.now in
+    let parts = c.args.parts.now in
+    if_ok_more (λ (fault : Option Fault). (fault ≡ None) ↔ NumbersHold size_row p comps parts) (λ (fault : Option Fault). (fault ≡ None) ↔ PartsHold truth size_row p comps parts)
+    (λ fault decides. (
+      λ none. let numbers = decides.0 none in record { modes = c.in_ok-modes.ensures.hold.0 c.in-None.is; rows = numbers.rows; measures = numbers.measures; falls = numbers.falls; refutations = numbers.refutations },
+      λ hold. decides.1 (record { rows = hold.rows; measures = hold.measures; falls = hold.falls; refutations = hold.refutations }),
+    )) c.number_fault.result c.number_fault.ensures
 
-pub fall_fault-requires-clause-sizes : goal.fall_fault-requires-clause-sizes
-fall_fault-requires-clause-sizes c = are_sizes c.args.p.now c.args.comps.now c.args.parts.now c.requires.shape
-
-pub fall_fault-requires-clause-levels : goal.fall_fault-requires-clause-levels
-fall_fault-requires-clause-levels c = have_levels c.args.p.now c.args.comps.now c.args.parts.now c.requires.shape c.requires.components
-
-pub fall_fault-requires-clause-falls : goal.fall_fault-requires-clause-falls
-fall_fault-requires-clause-falls c = have_falls c.args.p.now c.args.comps.now c.args.parts.now c.requires.shape c.requires.components c.preds.ensures.sound
-
-pub refutation_fault-requires-clause-sizes : goal.refutation_fault-requires-clause-sizes
-refutation_fault-requires-clause-sizes c = are_sizes c.args.p.now c.args.comps.now c.args.parts.now c.requires.shape
-
-pub refutation_fault-requires-clause-refutations : goal.refutation_fault-requires-clause-refutations
-refutation_fault-requires-clause-refutations c = have_refutations c.args.p.now c.args.comps.now c.args.parts.now c.requires.shape
-
--- the last fault decides, since the tests before it have found none
-pub returns : goal.returns
-returns c = (
-  λ none. record {
-    modes = c.in_ok-fault.ensures.0 c.in_default.is;
-    rows = c.in_ok-fault-2.ensures.0 c.in_default-2.is;
-    measures = c.in_default-measure_fault.ensures.0 refl;
-    falls = c.in_ok-fault-3.ensures.0 c.in_default-3.is;
-    refutations = c.in_ok-fault-4.ensures.0 none;
-  },
-  λ hold. c.in_ok-fault-4.ensures.1 hold.refutations,
-)
+pub returns-in-None-clause-modes : goal.returns-in-None-clause-modes
+returns-in-None-clause-modes c =
+    let p = c.args.p.now in
+    let comps = c.args.comps.now in
+    let parts = c.args.parts.now in
+    if_ok_more (λ (fault : Option Fault). (fault ≡ None) ↔ NumbersHold size_row p comps parts) (λ (fault : Option Fault). (f : ModeFault) → IsFirstPred truth p comps parts 2 f → fault ≡ Some (fault_of f))
+    (λ fault decides f is. absurd (none_first truth p comps parts (c.in_ok-modes.ensures.hold.0 c.in-None.is) 2 f is)) c.number_fault.result c.number_fault.ensures

@@ -1,11 +1,11 @@
-use Rattle.std.proofs.Common.{◌≡◌, ◌↔◌, ◌∙◌, ◌+◌, ◌-◌, ℕ, IsTrue, slice_get, Some, subst, arith}
+use Rattle.termination_model.proofs.Lists.{one_element, place_below}
+use Rattle.std.proofs.Common.{◌≡◌, ◌↔◌, ◌∙◌, ◌+◌, ◌-◌, ℕ, IsTrue, slice_get, Some, ap, sym, subst, arith}
 use Rattle.truth_rows.proofs.CallerLemmas.{family_later}
-use Rattle.termination_model.proofs.Lists.{by_places, from_places, place_below}
 use Rattle.truth_rows.specs.Sets.{family_of}
 use Rattle.bool_diagrams.proofs.CallerLemmas.{keeps_twice}
 use Rattle.cti_terms.specs.declared.clauses.Clause.{Clause}
-use Rattle.cert_modes.specs.Marks.{is_clear}
-use Rattle.cert_modes.proofs.MarkLaws.{at_one, clear_more}
+use Rattle.cert_modes.specs.declared.fault.ModeReason.TheVariants as reason
+use Rattle.cert_modes.proofs.MarkLaws.{at_one, marked_same, note_more}
 use Rattle.termination_model.specs.Grounds.{Family, IsClosedUnder}
 use Rattle.cert_modes.proofs.closing.mark_open.Goals as goal
 
@@ -23,17 +23,16 @@ loop-k-preserved g c =
     record {
       keeps = keeps_twice _ _ _ i.keeps c.is_closed_under.ensures.keeps;
       each = c.note.ensures.each ∙ i.each;
-      closed = clear_more (λ (j : ℕ). (k : Clause) → slice_get p.clauses j ≡ Some k → IsClosedUnder truth (family_of p.preds c.args.table.now c.args.sets.now) k) n (IsTrue (is_clear c.args.marks.now))
-          (is_clear c.loop-k.marks) (is_clear c.note.new.self) c.in_ok-closed.closed i.closed test c.note.ensures.clear;
+      closed = note_more (λ j q. (k : Clause) → slice_get p.clauses j ≡ Some k → k.head.pred.0 ≡ q → IsClosedUnder truth (family_of p.preds c.args.table.now c.args.sets.now) k) n c.clause.result.now.head.pred.0 reason.Ground
+          c.args.marks.now c.loop-k.marks c.note.new.self c.in_ok-closed.closed i.closed
+          (λ t k e same. test.0 t k e, λ all. test.1 (λ k e. all k e (ap (λ (x : Clause). x.head.pred.0) (one_element p.clauses n k c.clause.result.now e at))))
+          (λ q other k e same. absurd (other (sym same ∙ ap (λ (x : Clause). x.head.pred.0) (one_element p.clauses n k c.clause.result.now e at)))) c.note.ensures.at c.note.ensures.others;
     }
 
 pub returns-clause-closed : goal.returns-clause-closed
-returns-clause-closed g c =
-    let i = c.loop-k.invariant in
+returns-clause-closed g c = λ q.
     let p = c.args.p.now in
-    let closed = IsClosedUnder (g.N.Norm.truth c.args.norm.now) (family_of p.preds c.args.table.now c.args.sets.now) in (
-      λ t.
-          let s = i.closed.0 t in
-          (s.0, from_places closed p.clauses (λ j k e. s.1 j (omega (arith, place_below p.clauses j k e, c.loop-k-test.false, c.clauses-k-end.ensures.count, c.loop-k.auto.k-end)) k e)),
-      λ s. i.closed.1 (s.0, λ j lt k e. by_places closed p.clauses s.1 j k e),
+    marked_same (c.loop-k.invariant.closed q) (
+      λ h k x e same. h k (omega (arith, place_below p.clauses k x e, c.loop-k-test.false, c.clauses-k-end.ensures.count, c.loop-k.auto.k-end)) x e same,
+      λ h k lt x e same. h k x e same,
     )

@@ -1,13 +1,13 @@
-use Rattle.std.proofs.Common.{◌↔◌, ◌∙◌, ◌<◌, ℕ, IsTrue, List, length, sym, subst, arith}
 use Rattle.termination_model.proofs.Lists.{at_place}
+use Rattle.std.proofs.Common.{◌≡◌, ◌↔◌, ◌∙◌, ◌<◌, ℕ, IsTrue, List, length, refl, sym, subst, arith}
 use Rattle.bool_diagrams.proofs.CallerLemmas.{keeps_twice}
 use Rattle.bool_diagrams.specs.declared.diagram.Diagram.{Diagram}
 use Rattle.cert_structure.specs.Shape.{arity_of, items_of}
 use Rattle.number_tests.specs.declared.level_part.LevelPart.{LevelPart}
-use Rattle.cert_modes.specs.Marks.{is_clear}
+use Rattle.cert_modes.specs.declared.fault.ModeReason.TheVariants as reason
 use Rattle.cert_modes.specs.Sets.{AreCovered, HaveLevels}
 use Rattle.cert_modes.proofs.CoverLaws.{covered_later, levels_later}
-use Rattle.cert_modes.proofs.MarkLaws.{clear_more}
+use Rattle.cert_modes.proofs.MarkLaws.{marked_same, note_more}
 use Rattle.cert_modes.proofs.PlaceLaws.{items_at}
 use Rattle.cert_modes.proofs.covering.mark_uncovered.Goals as goal
 
@@ -40,6 +40,16 @@ loop-q-preserved c =
     record {
       keeps = keeps_twice _ _ _ i.keeps c.are_covered.ensures.keeps;
       each = c.note.ensures.each ∙ i.each;
-      covered = clear_more (λ (j : ℕ). AreCovered c.args.table.now (items_of levels j) (items_of sets j)) q (IsTrue (is_clear c.args.marks.now))
-          (is_clear c.loop-q.marks) (is_clear c.note.new.self) c.in_ok-covered.covered i.covered (λ t. later.0 (now.0 t), λ s. now.1 (later.1 s)) c.note.ensures.clear;
+      covered = note_more (λ j r. r ≡ j → AreCovered c.args.table.now (items_of levels j) (items_of sets j)) q q reason.Precondition
+          c.args.marks.now c.loop-q.marks c.note.new.self c.in_ok-covered.covered i.covered
+          (λ t same. later.0 (now.0 t), λ one. now.1 (later.1 (one refl))) (λ r other same. absurd (other same)) c.note.ensures.at c.note.ensures.others;
     }
+
+pub returns-clause-covered : goal.returns-clause-covered
+returns-clause-covered c = λ q.
+    let p = c.args.p.now in
+    marked_same (c.loop-q.invariant.covered q) (
+      λ h lt. h q (omega (arith, lt, c.loop-q-test.false, c.preds-q-end.ensures.count, c.loop-q.auto.q-end)) refl,
+      λ h j lt same. subst (λ (r : ℕ). r < length p.preds → AreCovered c.args.table.now (items_of c.args.levels.now r) (items_of c.args.sets.now r)) same h
+          (omega (arith, lt, c.preds-q-end.ensures.count, c.loop-q.auto.q-end)),
+    )

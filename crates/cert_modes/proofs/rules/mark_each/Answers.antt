@@ -1,11 +1,11 @@
-use Rattle.std.proofs.Common.{◌≡◌, ◌↔◌, ◌∙◌, ◌+◌, ◌-◌, ℕ, IsTrue, slice_get, Some, subst, arith}
+use Rattle.termination_model.proofs.Lists.{one_element, place_below}
+use Rattle.std.proofs.Common.{◌≡◌, ◌↔◌, ◌∙◌, ◌+◌, ◌-◌, ℕ, IsTrue, slice_get, Some, ap, sym, subst, arith}
 use Rattle.truth_rows.proofs.CallerLemmas.{sets_later}
-use Rattle.termination_model.proofs.Lists.{by_places, from_places, place_below}
 use Rattle.bool_diagrams.proofs.CallerLemmas.{keeps_twice}
 use Rattle.cti_terms.specs.declared.clauses.Clause.{Clause}
-use Rattle.cert_modes.specs.Marks.{is_clear}
+use Rattle.cert_modes.specs.declared.fault.ModeReason.TheVariants as reason
 use Rattle.cert_modes.specs.Sets.{KeepsEach}
-use Rattle.cert_modes.proofs.MarkLaws.{at_one, clear_more}
+use Rattle.cert_modes.proofs.MarkLaws.{at_one, marked_same, note_more}
 use Rattle.cert_modes.proofs.RuleLaws.{each_later}
 use Rattle.cert_modes.proofs.rules.mark_each.Goals as goal
 
@@ -30,17 +30,16 @@ loop-k-preserved g c =
       keeps = keeps_twice _ _ _ i.keeps c.keeps_each.ensures.keeps;
       each = c.note.ensures.each ∙ i.each;
       chosen = sets_later p.preds c.loop-k.table c.keeps_each.new.table c.keeps_each.ensures.keeps c.keeps_each.new.chosen c.in_ok-kept.ensures.chosen;
-      kept = clear_more (λ (j : ℕ). (k : Clause) → slice_get p.clauses j ≡ Some k → KeepsEach truth p old ranks sets k) n (IsTrue (is_clear c.args.marks.now))
-          (is_clear c.loop-k.marks) (is_clear c.note.new.self) c.in_ok-kept.kept i.kept test c.note.ensures.clear;
+      kept = note_more (λ j q. (k : Clause) → slice_get p.clauses j ≡ Some k → k.head.pred.0 ≡ q → KeepsEach truth p old ranks sets k) n c.clause.result.now.head.pred.0 reason.Precondition
+          c.args.marks.now c.loop-k.marks c.note.new.self c.in_ok-kept.kept i.kept
+          (λ t k e same. test.0 t k e, λ all. test.1 (λ k e. all k e (ap (λ (x : Clause). x.head.pred.0) (one_element p.clauses n k c.clause.result.now e at))))
+          (λ q other k e same. absurd (other (sym same ∙ ap (λ (x : Clause). x.head.pred.0) (one_element p.clauses n k c.clause.result.now e at)))) c.note.ensures.at c.note.ensures.others;
     }
 
 pub returns-clause-kept : goal.returns-clause-kept
-returns-clause-kept g c =
-    let i = c.loop-k.invariant in
+returns-clause-kept g c = λ q.
     let p = c.args.p.now in
-    let kept = KeepsEach (g.N.Norm.truth c.args.norm.now) p c.args.table.now c.args.ranks.now c.args.sets.now in (
-      λ t.
-          let s = i.kept.0 t in
-          (s.0, from_places kept p.clauses (λ j k e. s.1 j (omega (arith, place_below p.clauses j k e, c.loop-k-test.false, c.clauses-k-end.ensures.count, c.loop-k.auto.k-end)) k e)),
-      λ s. i.kept.1 (s.0, λ j lt k e. by_places kept p.clauses s.1 j k e),
+    marked_same (c.loop-k.invariant.kept q) (
+      λ h k x e same. h k (omega (arith, place_below p.clauses k x e, c.loop-k-test.false, c.clauses-k-end.ensures.count, c.loop-k.auto.k-end)) x e same,
+      λ h k lt x e same. h k x e same,
     )

@@ -1,5 +1,5 @@
-use Rattle.std.proofs.Common.{◌≡◌, true, length}
-use Rattle.cert_modes.specs.Marks.{is_clear}
+use Rattle.std.proofs.Common.{◌≡◌, ℕ, None, length}
+use Rattle.cert_modes.specs.Marks.{mark_at}
 use Rattle.cert_modes.proofs.marks.Marks.new.Given as goal
 
 -- no marks so far
@@ -7,5 +7,5 @@ abbrev pub invariant-loop-pred : goal.invariant-loop-pred
 invariant-loop-pred l =
     record {
       each : length l.reasons.items ≡ l._pred;
-      clear : is_clear l.reasons.items ≡ true;
+      clear : (q : ℕ) → mark_at l.reasons.items q ≡ None;
     }
