@@ -3,10 +3,15 @@ pub mod Bounded
 pub mod Claims
 pub mod Examples
 pub mod Excludes
+pub mod FallLaws
+pub mod FindLaws
+pub mod FlawLaws
 pub mod LevelFacts
+pub mod MeasureLaws
 pub mod ModeFaultLaws
 pub mod NoMapping
 pub mod Partitions
 pub mod PrintedModes
 pub mod ShapeLaws
+pub mod TextLaws
 pub mod Validity

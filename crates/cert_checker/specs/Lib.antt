@@ -2,6 +2,7 @@ pub mod Bounding
 pub mod Claimed
 pub mod Excluded
 pub mod Fault
+pub mod Finding
 pub mod ModeFaults
 pub mod Proved
 pub mod Refutes

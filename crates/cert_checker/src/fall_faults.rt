@@ -3,7 +3,11 @@
 ghost use Rattle.std.specs.Prelude.{◌≡◌, ◌↔◌, ◌+◌, ◌-◌, ◌≤◌, ℕ, IfOk, IfSome, IsTrue, None, Some, length, map, slice_get};
 ghost use Rattle.std.specs.List.{AllByRecursion};
 ghost use Rattle.call_components.specs.Partition.{AreComponents};
+ghost use Rattle.cert_checker.specs.Finding.{Finds, MappingsFail};
 ghost use Rattle.cert_checker.specs.Proved.{CallsFall, FallsHold};
+ghost use Rattle.cert_structure.specs.Numbered.{lines_from};
+ghost use Rattle.cert_structure.specs.Order.{falls_line};
+ghost use Rattle.number_tests.specs.Failing.{MultipliersFail};
 ghost use Rattle.linear_rows.specs.Showing.{AreMultipliers, IsShown};
 ghost use Rattle.number_tests.specs.Shape.{list_at};
 ghost use Rattle.cert_checker.specs.Shape.{HaveFalls, HaveLevels};
@@ -23,11 +27,34 @@ use call_components::Components;
 use cert_structure::{LevelPart, Parts};
 use cti_terms::Program;
 use linear_rows::{Multipliers, Numbers, Rows};
-use number_tests::{extend, fall_columns, fall_flaw, first_system, weigh_fall};
+use number_tests::{Flaw, extend, fall_columns, fall_flaw, first_system, weigh_fall};
 use sequences::Sequence;
 use std::alloc::{AllocError, Global};
 use term_size::Norm;
 use termination_model::replaced;
+
+// Why multipliers do not show that a mapping falls over the rows of a system, if they do not.
+//
+// The columns are those of the head's arguments and of the call's.
+fn mapping_flaw(
+    alloc: Global,
+    rows: &Rows,
+    columns: &[Numbers],
+    head: &LevelPart,
+    call: &LevelPart,
+    by: &Multipliers,
+) -> Result<Option<Flaw>, AllocError>
+    requires multipliers { AreMultipliers (length rows.now.list) by.now }
+    requires weighed { CanBeWeighed columns.now head.now call.now }
+    requires width { HaveWidth rows.now.width rows.now.list }
+    requires count { length columns.now ≡ rows.now.width + 1 }
+    ensures shown { IfOk result (λ flaw. (flaw ≡ None) ↔ IsShown (plain_rows rows.now.list) (over_columns columns.now (fall_weights head.now call.now)) by.now) }
+    ensures fails { IfOk result (λ flaw. IfSome flaw (MultipliersFail (plain_rows rows.now.list) by.now.list (over_columns columns.now (fall_weights head.now call.now)) by.now.scale)) }
+{
+    let weights = weigh_fall(alloc, head, call)?;
+    let target = replaced(alloc, weights.as_slice(), columns)?;
+    Ok(fall_flaw(rows, target, by))
+}
 
 // The first mapping that its multipliers do not show to fall. The first one has this line.
 //
@@ -47,14 +74,15 @@ fn mapping_fault(
     requires parts { (m : ℕ) (head call : LevelPart) → slice_get heads.now m ≡ Some head → slice_get calls.now m ≡ Some call → CanBeWeighed columns.now head call }
     requires width { HaveWidth rows.now.width rows.now.list }
     requires count { length columns.now ≡ rows.now.width + 1 }
-    ensures { IfOk result (λ fault. (fault ≡ None) ↔ ((m : ℕ) (head call : LevelPart) (by : Multipliers)
+    ensures hold { IfOk result (λ fault. (fault ≡ None) ↔ ((m : ℕ) (head call : LevelPart) (by : Multipliers)
         → slice_get heads.now m ≡ Some head → slice_get calls.now m ≡ Some call → slice_get proofs.now m ≡ Some by
         → IsShown (plain_rows rows.now.list) (over_columns columns.now (fall_weights head call)) by)) }
+    ensures first { IfOk result (λ fault. (k j : ℕ)
+        → Finds (MappingsFail (plain_rows rows.now.list) columns.now heads.now calls.now) line (lines_from 0 (falls_line k j) proofs.now) fault) }
 {
     for m in 0..proofs.len() {
-        let weights = weigh_fall(alloc, &heads[m], &calls[m])?;
-        let target = replaced(alloc, weights.as_slice(), columns)?;
-        if let Some(flaw) = fall_flaw(rows, target, &proofs[m]) {
+        let flaw = mapping_flaw(alloc, rows, columns, &heads[m], &calls[m], &proofs[m])?;
+        if let Some(flaw) = flaw {
             return Ok(Some(Fault {
                 line: line.saturating_add(m as u64),
                 reason: Reason::of(flaw, Reason::Measure),
@@ -110,7 +138,7 @@ fn clause_fall_fault<N: Norm>(
     Ok(None)
 }
 
-// The line behind the falls of a clause.
+// The line after the falls of a clause.
 fn line_after(proofs: &[Sequence<Multipliers>], line: u64) -> u64 {
     let mut line = line;
     for own in proofs {

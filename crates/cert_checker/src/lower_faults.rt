@@ -1,6 +1,7 @@
 //! Faults that the crates below find, as faults of a certificate.
 
 ghost use Rattle.std.specs.Prelude.{◌≡◌};
+ghost use Rattle.cert_checker.specs.Fault.{reason_of};
 ghost use Rattle.cert_checker.specs.ModeFaults.{fault_of, mode_reason};
 
 use crate::fault::Fault;
@@ -11,7 +12,9 @@ use number_tests::Flaw;
 
 impl Reason {
     /// The reason for a flaw: the given one where the numbers fail, and `Wide` where one does not fit.
-    pub(crate) fn of(flaw: Flaw, failing: Reason) -> Reason {
+    pub(crate) fn of(flaw: Flaw, failing: Reason) -> Reason
+        ensures { result ≡ reason_of flaw failing }
+    {
         match flaw {
             Flaw::Fails => failing,
             Flaw::Wide => Reason::Wide,

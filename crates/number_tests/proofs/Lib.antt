@@ -1,6 +1,8 @@
+pub mod BeforeLaws
 pub mod CallFacts
 pub mod ColumnLengths
 pub mod FallTargets
+pub mod FlawLaws
 pub mod PointSteps
 pub mod RowSteps
 pub mod Sized

@@ -9,8 +9,14 @@ use Rattle.linear_rows.specs.declared.point.Point.{Point}
 use Rattle.linear_rows.specs.declared.system.System.{System}
 use Rattle.termination_model.specs.Sizes.{wide_rows}
 use Rattle.termination_model.specs.Systems.{row_fits, short_row, system}
-use Rattle.number_tests.specs.Refuting.{PointHolds, RowHolds, RowsHold, clause_of, clause_or_none}
-use Rattle.number_tests.specs.SystemPoints.{SystemHolds, ValueHolds}
+use Rattle.number_tests.specs.Refuting.{PointHolds, RowHolds, RowsHold, ValueFits, clause_of, clause_or_none}
+use Rattle.call_components.proofs.Lists.{all_map}
+use Rattle.linear_rows.specs.Plain.{plain_rows}
+use Rattle.number_tests.specs.Failing.{IsFirstOfPair, PointFails, fails_point, first, second, wide_point}
+use Rattle.number_tests.specs.SystemPoints.{SystemFails, SystemHolds, ValueHolds, fails, wide}
+use Rattle.number_tests.specs.declared.flaw.Flaw.{Flaw}
+use Rattle.number_tests.specs.declared.flaw.Flaw.TheVariants as flaw
+use Rattle.number_tests.specs.declared.point_flaw.PointFlaw.{PointFlaw}
 use Rattle.number_tests.specs.Systems.{IsSystemUpTo}
 
 -- a fact of what is there
@@ -30,32 +36,46 @@ fits_now : (b : Bool) → (not b) ≡ false → b ≡ true
 fits_now true e = refl
 fits_now false e = cc
 
-module _ (x : Point) where
-  from_short : (rs : List (List ℤ)) → wide_rows rs ≡ false → AllByRecursion (ValueHolds x) (map short_row rs) → AllByRecursion (RowHolds x) rs
-  from_short [] e all = tt
-  from_short (r ∷ rs) e all =
-      let (here, rest) = or_false (not (row_fits r)) (wide_rows rs) e in
-      let same : short_row r ≡ r = fits_or_not r (row_fits r) refl here in
-      let holds : ValueHolds x r = subst (ValueHolds x) same all.0 in
-      (record { numbers_fit = fits_now (row_fits r) here; value_fits = holds.0; holds = holds.1 }, from_short rs rest all.1)
+-- rows that were not replaced fit, and have what the others in their place have
+from_short : (H : List ℤ → Type 0) (rs : List (List ℤ)) → wide_rows rs ≡ false → AllByRecursion H (map short_row rs) → AllByRecursion (λ r. (row_fits r ≡ true) × H r) rs
+from_short H [] e all = tt
+from_short H (r ∷ rs) e all =
+    let (here, rest) = or_false (not (row_fits r)) (wide_rows rs) e in
+    let same : short_row r ≡ r = fits_or_not r (row_fits r) refl here in
+    ((fits_now (row_fits r) here, subst H same all.0), from_short H rs rest all.1)
 
-  to_short : (rs : List (List ℤ)) → AllByRecursion (RowHolds x) rs → (wide_rows rs ≡ false) × AllByRecursion (ValueHolds x) (map short_row rs)
-  to_short [] all = (refl, tt)
-  to_short (r ∷ rs) all =
-      let rest = to_short rs all.1 in
-      let first = all.0 in
-      let here : (not (row_fits r)) ≡ false = ap not first.numbers_fit in
-      let same : short_row r ≡ r = fits_or_not r (row_fits r) refl here in
-      ((λ i. here i || rest.0 i), (subst (ValueHolds x) (sym same) (first.value_fits, first.holds), rest.1))
+to_short : (H : List ℤ → Type 0) (rs : List (List ℤ)) → AllByRecursion (λ r. (row_fits r ≡ true) × H r) rs → (wide_rows rs ≡ false) × AllByRecursion H (map short_row rs)
+to_short H [] all = (refl, tt)
+to_short H (r ∷ rs) all =
+    let rest = to_short H rs all.1 in
+    let here : (not (row_fits r)) ≡ false = ap not all.0.0 in
+    let same : short_row r ≡ r = fits_or_not r (row_fits r) refl here in
+    ((λ i. here i || rest.0 i), (subst H (sym same) all.0.1, rest.1))
 
 module _ (expression : ℕ → Tree → List ℤ) (rows : ℕ → List (List ℤ)) (c : Clause) (j : ℕ) (s : System) (is : IsSystemUpTo expression rows c j s) where
-  system_holds : (x : Point) → SystemHolds s x → RowsHold expression rows c j x
-  system_holds x h = from_short x (system expression rows c.vars (take j c.body)) (sym is.wide ∙ h.0) (subst (AllByRecursion (ValueHolds x)) is.rows h.1)
+  from_system : (H : List ℤ → Type 0) → (s.wide ≡ false) × AllByRecursion H (plain_rows s.rows.list) → AllByRecursion (λ r. (row_fits r ≡ true) × H r) (system expression rows c.vars (take j c.body))
+  from_system H h = from_short H (system expression rows c.vars (take j c.body)) (sym is.wide ∙ h.0) (subst (AllByRecursion H) is.rows h.1)
+
+  to_system : (H : List ℤ → Type 0) → AllByRecursion (λ r. (row_fits r ≡ true) × H r) (system expression rows c.vars (take j c.body)) → (s.wide ≡ false) × AllByRecursion H (plain_rows s.rows.list)
+  to_system H h = let (narrow, all) = to_short H (system expression rows c.vars (take j c.body)) h in (is.wide ∙ narrow, subst (AllByRecursion H) (sym is.rows) all)
+
+  pub system_holds : (x : Point) → SystemHolds s x → RowsHold expression rows c j x
+  system_holds x h =
+      all_map (λ r. (row_fits r ≡ true) × ValueHolds x r) (RowHolds x) (λ r a. record { numbers_fit = a.0; value_fits = a.1.0; holds = a.1.1 })
+      (system expression rows c.vars (take j c.body)) (from_system (ValueHolds x) h)
 
   holds_system : (x : Point) → RowsHold expression rows c j x → SystemHolds s x
   holds_system x h =
-      let (narrow, all) = to_short x (system expression rows c.vars (take j c.body)) h in
-      (is.wide ∙ narrow, subst (AllByRecursion (ValueHolds x)) (sym is.rows) all)
+      to_system (ValueHolds x) (all_map (RowHolds x) (λ r. (row_fits r ≡ true) × ValueHolds x r) (λ r a. (a.numbers_fit, (a.value_fits, a.holds))) (system expression rows c.vars (take j c.body)) h)
+
+  -- why the rows do not hold at a point
+  pub point_fails : (x : Point) (f : Flaw) → SystemFails s x f → PointFails expression rows c j x f
+  point_fails x flaw.Wide (wide never) = wide_point (λ fit. never (to_system (ValueFits x) fit))
+  point_fails x flaw.Fails (fails fit never) = fails_point (from_system (ValueFits x) fit) (λ h. never (holds_system x h))
+
+  pub first_fails : (x : PairPoint) (place : ℕ) (f : PointFlaw) → IsFirstOfPair (SystemHolds s) (SystemFails s) x place f → IsFirstOfPair (RowsHold expression rows c j) (PointFails expression rows c j) x place f
+  first_fails x place f (first at why) = first at (point_fails x.point f.flaw why)
+  first_fails x place f (second y has holds at why) = second y has (system_holds x.point holds) at (point_fails y f.flaw why)
 
   pub point_decided : (p : Listing) (x : PairPoint) (P : Type 0) → slice_get p.clauses (x.clause - 1) ≡ Some c → j ≡ x.call - 1
       → P ↔ (SystemHolds s x.point × IfSome x.at (SystemHolds s)) → P ↔ PointHolds expression p rows x

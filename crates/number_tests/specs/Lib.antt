@@ -1,3 +1,4 @@
+pub mod Failing
 pub mod Levels
 pub mod PairSums
 pub mod Proved

@@ -31,7 +31,7 @@ pub use level_part::LevelPart;
 pub use pair_point::PairPoint;
 pub use pair_sums::sums_flaw;
 pub use point_flaw::PointFlaw;
-pub use point_flaws::points_flaw;
+pub use point_flaws::{points_flaw, points_of};
 pub use refutation::Refutation;
 pub use row_proofs::{check_fall, check_size, fall_flaw, size_flaw};
 pub use targets::{join_columns, size_target, weigh_fall};

@@ -1,8 +1,9 @@
 //! The sums of the values at the points of a refutation.
 
-ghost use Rattle.std.specs.Prelude.{◌≡◌, ◌↔◌, ◌≤ℤ◌, IfOk, IsTrue, None, [], length, map, pos, true, ℕ};
+ghost use Rattle.std.specs.Prelude.{◌≡◌, ◌↔◌, ◌≤ℤ◌, IfOk, IfSome, IsTrue, None, [], length, map, pos, true, ℕ};
 ghost use Rattle.std.specs.List.{AllByRecursion};
 ghost use Rattle.call_components.specs.Numbers.{number_of};
+ghost use Rattle.number_tests.specs.Failing.{SumsFail};
 ghost use Rattle.number_tests.specs.PairSums.{AddsBoth, AddsLoad};
 ghost use Rattle.number_tests.specs.Refuting.{PairsFit, SumsRefute, call_loads, call_of, clause_of, head_loads, sizes_at};
 ghost use Rattle.number_tests.specs.Shape.{IsPairOf};
@@ -120,7 +121,8 @@ pub fn sums_flaw<N: Norm>(
 ) -> Result<Option<Flaw>, AllocError>
     requires sizes { AreSizes p.now.preds sizes.now }
     requires pairs { AllByRecursion (IsPairOf p.now) points.now }
-    ensures { IfOk result (λ flaw. (flaw ≡ None) ↔ SumsRefute (N.expression norm.now) p.now (map number_of members.now) points.now) }
+    ensures refute { IfOk result (λ flaw. (flaw ≡ None) ↔ SumsRefute (N.expression norm.now) p.now (map number_of members.now) points.now) }
+    ensures fails { IfOk result (λ flaw. IfSome flaw (SumsFail (N.expression norm.now) p.now (map number_of members.now) points.now)) }
 {
     let mut heads = BTreeMap::new(alloc);
     let mut calls = BTreeMap::new(alloc);

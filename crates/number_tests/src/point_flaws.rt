@@ -2,9 +2,10 @@
 
 ghost use Rattle.std.specs.Prelude.{◌≡◌, ◌↔◌, IfOk, IfSome, None, length};
 ghost use Rattle.std.specs.List.{AllByRecursion};
+ghost use Rattle.number_tests.specs.Failing.{IsFirstOfPair, IsFirstPoint, points_of};
 ghost use Rattle.number_tests.specs.Refuting.{PointHolds};
 ghost use Rattle.number_tests.specs.Shape.{IsPairOf};
-ghost use Rattle.number_tests.specs.SystemPoints.{SystemHolds};
+ghost use Rattle.number_tests.specs.SystemPoints.{SystemFails, SystemHolds};
 ghost use Rattle.linear_rows.specs.Plain.{HaveWidth};
 ghost use Rattle.termination_model.specs.Sizes.{AreSizes, rows_of};
 
@@ -22,7 +23,8 @@ use termination_model::SizeRows;
 // Why some row of a system does not hold at a point, if one does not.
 fn rows_flaw(system: &System, point: &Point) -> Option<Flaw>
     requires { HaveWidth (length point.now.w) system.now.rows.list }
-    ensures { (result ≡ None) ↔ SystemHolds system.now point.now }
+    ensures holds { (result ≡ None) ↔ SystemHolds system.now point.now }
+    ensures fails { IfSome result (SystemFails system.now point.now) }
 {
     if system.wide {
         return Some(Flaw::Wide);
@@ -43,7 +45,8 @@ fn rows_flaw(system: &System, point: &Point) -> Option<Flaw>
 fn pair_flaw(system: &System, x: &PairPoint, place: u64) -> Option<PointFlaw>
     requires point { HaveWidth (length x.now.point.w) system.now.rows.list }
     requires at { IfSome x.now.at (λ y. HaveWidth (length y.w) system.now.rows.list) }
-    ensures { (result ≡ None) ↔ (SystemHolds system.now x.now.point × IfSome x.now.at (SystemHolds system.now)) }
+    ensures holds { (result ≡ None) ↔ (SystemHolds system.now x.now.point × IfSome x.now.at (SystemHolds system.now)) }
+    ensures first { IfSome result (IsFirstOfPair (SystemHolds system.now) (SystemFails system.now) x.now place) }
 {
     if let Some(flaw) = rows_flaw(system, &x.point) {
         return Some(PointFlaw { place, flaw });
@@ -58,6 +61,16 @@ fn pair_flaw(system: &System, x: &PairPoint, place: u64) -> Option<PointFlaw>
     })
 }
 
+/// How many points a pair has.
+pub fn points_of(x: &PairPoint) -> u64
+    ensures { result ≡ points_of x.now }
+{
+    match x.at {
+        None => 1,
+        Some(_) => 2,
+    }
+}
+
 /// The first point at which some row of the atoms before its call does not hold.
 pub fn points_flaw<N: Norm>(
     alloc: Global,
@@ -68,7 +81,8 @@ pub fn points_flaw<N: Norm>(
 ) -> Result<Option<PointFlaw>, AllocError>
     requires sizes { AreSizes p.now.preds sizes.now }
     requires pairs { AllByRecursion (IsPairOf p.now) points.now }
-    ensures { IfOk result (λ flaw. (flaw ≡ None) ↔ AllByRecursion (PointHolds (N.expression norm.now) p.now (rows_of sizes.now)) points.now) }
+    ensures hold { IfOk result (λ flaw. (flaw ≡ None) ↔ AllByRecursion (PointHolds (N.expression norm.now) p.now (rows_of sizes.now)) points.now) }
+    ensures first { IfOk result (λ flaw. IfSome flaw (IsFirstPoint (N.expression norm.now) p.now (rows_of sizes.now) points.now)) }
 {
     let mut place = 0;
     let mut reached = nothing_reached(alloc);
@@ -78,7 +92,7 @@ pub fn points_flaw<N: Norm>(
         if let Some(flaw) = pair_flaw(&reached.system, x, place) {
             return Ok(Some(flaw));
         }
-        place = place.saturating_add(1 + u64::from(x.at.is_some()));
+        place = place.saturating_add(points_of(x));
     }
     Ok(None)
 }

@@ -2,7 +2,7 @@
 
 ghost use Rattle.std.specs.Prelude.{◌≡◌, ◌↔◌, ◌≤ℤ◌, All, IfSome, None, Some, length, pos, true};
 ghost use Rattle.linear_rows.specs.Showing.{AreMultipliers};
-ghost use Rattle.number_tests.specs.Shown.{FlawShows};
+ghost use Rattle.number_tests.specs.Shown.{FlawFails, FlawShows, flaw_in};
 ghost use Rattle.linear_rows.specs.Plain.{HaveWidth, plain_row, plain_rows};
 ghost use Rattle.linear_rows.specs.Proves.{AllColumnsFit, Proves};
 ghost use Rattle.linear_rows.specs.Verdict.{Says};
@@ -55,7 +55,8 @@ pub fn check_fall(rows: &Rows, target: &Row, by: &Multipliers) -> Proof
 
 // What the answer of a test says of its multipliers.
 fn flaw_of(proof: Proof) -> Option<Flaw>
-    ensures { (result ≡ None) ↔ (proof ≡ Proof.Holds) }
+    ensures none { (result ≡ None) ↔ (proof ≡ Proof.Holds) }
+    ensures which { result ≡ flaw_in proof }
 {
     match proof {
         Proof::Holds => None,
@@ -69,7 +70,8 @@ pub fn size_flaw(rows: &Rows, target: Option<Row>, by: &Multipliers) -> Option<F
     requires multipliers { AreMultipliers (length rows.now.list) by.now }
     requires width { HaveWidth rows.now.width rows.now.list }
     requires target { IfSome target (λ t. length t.coeffs ≡ rows.now.width) }
-    ensures { FlawShows (plain_rows rows.now.list) target by.now result }
+    ensures shows { FlawShows (plain_rows rows.now.list) target by.now result }
+    ensures fails { FlawFails (plain_rows rows.now.list) target by.now result }
 {
     let Some(target) = target else {
         return Some(Flaw::Wide);
@@ -82,7 +84,8 @@ pub fn fall_flaw(rows: &Rows, target: Option<Row>, by: &Multipliers) -> Option<F
     requires multipliers { AreMultipliers (length rows.now.list) by.now }
     requires width { HaveWidth rows.now.width rows.now.list }
     requires target { IfSome target (λ t. length t.coeffs ≡ rows.now.width) }
-    ensures { FlawShows (plain_rows rows.now.list) target by.now result }
+    ensures shows { FlawShows (plain_rows rows.now.list) target by.now result }
+    ensures fails { FlawFails (plain_rows rows.now.list) target by.now result }
 {
     let Some(target) = target else {
         return Some(Flaw::Wide);

@@ -30,8 +30,8 @@ refutation_fault-requires-clause-refutations c = have_refutations c.args.p.now c
 pub returns : goal.returns
 returns c = (
   λ none. record {
-    rows = c.in_ok-fault.ensures.0 c.in_default.is;
-    measures = c.in_default-measure_fault.ensures.0 refl;
+    rows = c.in_ok-fault.ensures.hold.0 c.in_default.is;
+    measures = c.in_default-measure_fault.ensures.hold.0 refl;
     falls = c.in_ok-fault-2.ensures.0 c.in_default-2.is;
     refutations = c.in_ok-fault-3.ensures.0 none;
   },

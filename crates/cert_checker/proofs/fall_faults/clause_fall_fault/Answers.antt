@@ -262,7 +262,7 @@ returns-in-Some g c =
     (subst (λ (cs : List LevelPart). (c.in_ok-fault.fault ≡ None) ↔ MappingsFall e (plain_rows c.extend.new.system.rows.list) clause b c.as_slice-heads.result.now cs (list_at (list_at parts.falls k) n)) calls
     (subst (λ (ms : List Multipliers). (c.in_ok-fault.fault ≡ None) ↔ MappingsFall e (plain_rows c.extend.new.system.rows.list) clause b c.as_slice-heads.result.now c.as_slice-calls.result.now ms) own
     (mappings_decided clause b c.as_slice-columns.result.now c.as_slice-heads.result.now c.as_slice-calls.result.now head_parts call_parts (g.N.Norm.size c.args.norm.now) (g.N.Norm.truth c.args.norm.now) e (g.met.N.Norm.laws c.args.norm.now)
-    (c.in_ok-fault.fault ≡ None) (plain_rows c.extend.new.system.rows.list) c.as_slice-own.result.now columns c.in_ok-fault.ensures)))) in
+    (c.in_ok-fault.fault ≡ None) (plain_rows c.extend.new.system.rows.list) c.as_slice-own.result.now columns c.in_ok-fault.ensures.hold)))) in
     λ x ex.
     let same : clause ≡ x = one_element p.clauses k clause x c.clause-clause.ensures.there ex in
     subst (λ (y : Clause). (Some c.in-Some.fault ≡ None) ↔ CallsFall e comps parts y (list_at parts.falls k)) same
@@ -305,7 +305,7 @@ loop-j-preserved g c =
     (subst (λ (cs : List LevelPart). (c.in_ok-fault.fault ≡ None) ↔ MappingsFall e (plain_rows c.extend.new.system.rows.list) clause b c.as_slice-heads.result.now cs (list_at (list_at parts.falls k) n)) calls
     (subst (λ (ms : List Multipliers). (c.in_ok-fault.fault ≡ None) ↔ MappingsFall e (plain_rows c.extend.new.system.rows.list) clause b c.as_slice-heads.result.now c.as_slice-calls.result.now ms) own
     (mappings_decided clause b c.as_slice-columns.result.now c.as_slice-heads.result.now c.as_slice-calls.result.now head_parts call_parts (g.N.Norm.size c.args.norm.now) (g.N.Norm.truth c.args.norm.now) e (g.met.N.Norm.laws c.args.norm.now)
-    (c.in_ok-fault.fault ≡ None) (plain_rows c.extend.new.system.rows.list) c.as_slice-own.result.now columns c.in_ok-fault.ensures)))) in
+    (c.in_ok-fault.fault ≡ None) (plain_rows c.extend.new.system.rows.list) c.as_slice-own.result.now columns c.in_ok-fault.ensures.hold)))) in
     record {
       order = omega arith;
       system = is;

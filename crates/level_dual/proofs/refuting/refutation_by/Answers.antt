@@ -52,8 +52,8 @@ returns-clause-refutes g c = λ comps r members callers callees.
       ascend = subst (PairsAscend (0, 0)) c.as_slice.ensures ((c.are_formed.ensures.0 formed).0);
       own = are_own e p comps rows r owns c.requires.held callers callees c.in-Some.points mine (subst (AllByRecursion HasPoints) c.as_slice.ensures ((c.are_formed.ensures.0 formed).1));
       sums = subst (λ (ms : List ℕ). SumsRefute e p ms c.in-Some.points) (listed ∙ members)
-          (subst (SumsRefute e p (map number_of c.as_slice-members.result.now)) c.as_slice-2.ensures (c.in_ok-sums.ensures.0 sums_none));
-      points = subst (AllByRecursion (PointHolds e p rows)) c.as_slice-3.ensures (c.in_ok-flaw.ensures.0 flaw_none);
+          (subst (SumsRefute e p (map number_of c.as_slice-members.result.now)) c.as_slice-2.ensures (c.in_ok-sums.ensures.refute.0 sums_none));
+      points = subst (AllByRecursion (PointHolds e p rows)) c.as_slice-3.ensures (c.in_ok-flaw.ensures.hold.0 flaw_none);
     }
 
 pub returns-in_default-clause-given_up : goal.returns-in_default-clause-given_up
@@ -94,6 +94,6 @@ returns-then-is_some-clause-given_up g c = λ alone none comps r h fit.
     (subst (λ (ms : List ℕ). SumsRefute e p ms xs) (sym listed) (sums_accepted size truth e p comps rows r x h fit xs given)) in
     let points = subst (AllByRecursion (PointHolds e p rows)) (sym c.as_slice-3.ensures) (points_accepted size truth e p comps rows r x h fit xs given) in
     elim c.then-is_some.branch [
-      | then-is_some-via-then-is_some w ↦ none_some c.in_ok-sums.sums (c.in_ok-sums.ensures.1 sums) w.if-is_some.ensures
-      | then-is_some-via-else-is_some+then-is_some-2 w ↦ none_some c.in_ok-flaw.flaw (c.in_ok-flaw.ensures.1 points) w.if-is_some-2.ensures
+      | then-is_some-via-then-is_some w ↦ none_some c.in_ok-sums.sums (c.in_ok-sums.ensures.refute.1 sums) w.if-is_some.ensures
+      | then-is_some-via-else-is_some+then-is_some-2 w ↦ none_some c.in_ok-flaw.flaw (c.in_ok-flaw.ensures.hold.1 points) w.if-is_some-2.ensures
     ]
