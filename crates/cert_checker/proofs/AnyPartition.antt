@@ -1,17 +1,15 @@
 -- What parts claim holds for each partition of a program into components where it holds for one.
-use Rattle.std.proofs.Common.{◌≡◌, ℕ, ℤ, Bool, false, List, Contains, take, slice_get, Some, subst}
-use Rattle.std.specs.List.{AllByRecursion}
+use Rattle.std.proofs.Common.{ℕ, ℤ, Bool, List, subst}
 use Rattle.cti_terms.specs.Listing.{Listing}
 use Rattle.cti_terms.specs.Tree.{Tree}
 use Rattle.cti_terms.specs.declared.clauses.Clause.{Clause}
 use Rattle.truth_rows.specs.Rules.{KeepsSets}
 use Rattle.call_components.proofs.Lists.{all_map}
-use Rattle.call_components.specs.Partition.{AreComponents, IsIn, Partition}
+use Rattle.call_components.specs.Partition.{AreComponents, Partition}
 use Rattle.cert_structure.specs.Shape.{is_together}
 use Rattle.cert_structure.specs.declared.parts.Parts.{Parts}
 use Rattle.cert_modes.specs.Modes.{ModesHold, allowed, grounds_of, precondition}
 use Rattle.cert_checker.specs.Proved.{FallsHold, MeasuresAreZero}
-use Rattle.number_tests.specs.Refuting.{SumsRefute}
 use Rattle.cert_checker.specs.Refuting.{RefutationsHold}
 use Rattle.cert_checker.specs.Valid.{PartsHold}
 use Rattle.number_tests.proofs.ColumnLengths.{an_element}

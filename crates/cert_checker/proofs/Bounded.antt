@@ -1,44 +1,38 @@
 -- A valid certificate's claims show that queries end, so that each query that meets one of its modes is bounded.
 --
 -- What holding modes show is a premise here, which the law of `cert_modes` gives.
-use Rattle.std.proofs.Common.{◌≡◌, ◌≢◌, ℕ, zero, suc, ◌+◌, ◌<◌, ◌≤◌, ◌≤ℤ◌, ◌==◌, ◌||◌, ℤ, pos, negsuc, Bool, true, false, IsTrue, List, [], ◌∷◌, ◌++◌, All, map, length, Contains, slice_get, slice_index_or, unwrap_or, unsigned_abs, Option, None, Some, IsSomeAnd, refl, sym, ap, subst, ◌∙◌, arith, eqb-true}
-use Rattle.std.specs.List.{AllByRecursion, AllPairs, list_any}
+use Rattle.std.proofs.Common.{◌≡◌, ◌≢◌, ℕ, zero, suc, ◌+◌, ◌<◌, ◌≤ℤ◌, ℤ, pos, negsuc, List, [], ◌∷◌, All, map, length, slice_get, unwrap_or, unsigned_abs, Option, Some, refl, sym, ap, subst, ◌∙◌, arith}
+use Rattle.std.specs.List.{AllByRecursion, AllPairs}
 use Rattle.std.proofs.lemmas.Option.{slice_get_within}
 use Rattle.cti_terms.specs.Derive.{query, Bounded}
 use Rattle.cti_terms.specs.Listing.{IsProgram, Listing}
-use Rattle.cti_terms.specs.Tree.{Tree, size, truth}
+use Rattle.cti_terms.specs.Tree.{size, truth}
 use Rattle.cti_terms.specs.declared.atom_list.Atom.{Atom}
 use Rattle.cti_terms.specs.declared.clauses.Clause.{Clause}
 use Rattle.cti_terms.specs.declared.predicates.Pred.{Pred}
-use Rattle.call_components.proofs.Lists.{all_append, all_both, all_map, has_contains}
+use Rattle.call_components.proofs.Lists.{all_both, all_map, has_contains}
 use Rattle.call_components.specs.Partition.{AreComponents, IsIn, Partition}
-use Rattle.call_components.specs.Table.{Has}
 use Rattle.certificate.specs.declared.fact.Fact.{Fact}
-use Rattle.certificate.specs.declared.fact.Fact.TheVariants as fact
-use Rattle.cert_structure.specs.Numbered.{facts_from, lines_from}
 use Rattle.cert_structure.specs.Order as order
 use Rattle.cert_structure.specs.Shape as shape
-use Rattle.cert_structure.specs.Structure.{AreNamed, AreNotes, IsStructured}
+use Rattle.cert_structure.specs.Structure.{AreNamed}
 use Rattle.number_tests.specs.declared.level_part.LevelPart.{LevelPart}
 use Rattle.cert_structure.specs.declared.parts.Parts.{Parts}
-use Rattle.number_tests.specs.declared.refutation.Refutation.{Refutation}
-use Rattle.linear_rows.specs.declared.point.Point.{Point}
 use Rattle.cert_modes.specs.Claimed.{ClaimModes, HoldingModesShow, IsMeasure, KeepsRows, ShowModes}
 use Rattle.cert_modes.specs.Modes as holding
 use Rattle.term_size.specs.Occurrences.{size_row}
 use Rattle.term_size.specs.TermSize.{is_a_norm}
-use Rattle.termination_model.proofs.Lists.{by_places, from_places, indexed, there}
+use Rattle.termination_model.proofs.Lists.{indexed, there}
 use Rattle.termination_model.proofs.Proved.{shown}
 use Rattle.termination_model.proofs.Query.{modes_end}
-use Rattle.termination_model.specs.Claims.{Admits, Claims, Measure, Shows}
+use Rattle.termination_model.specs.Claims.{Admits, Claims, Measure}
 use Rattle.termination_model.specs.Descent.{Meets, mode_row}
 use Rattle.termination_model.specs.Grounds.{Family, HasArity}
-use Rattle.termination_model.specs.Rows.{IsUpper}
 use Rattle.termination_model.specs.Short.{DescendsProved, ServesProved, ShowsProved}
-use Rattle.cert_checker.specs.Bounding.{FactIsBounded, IsOf, ModeIsBounded, ModesAreBounded, NamedAreRigid}
+use Rattle.cert_checker.specs.Bounding.{ModeIsBounded, ModesAreBounded}
 use Rattle.cert_checker.specs.Claimed.{claims_of, natural_coefficients, mapping_count, mapping_of, measure_of, measures_from, rank_of}
 use Rattle.number_tests.specs.Shape.{IsLevelPart, list_at}
-use Rattle.cert_checker.specs.Shape.{AreTogether, HaveLevels}
+use Rattle.cert_checker.specs.Shape.{HaveLevels}
 use Rattle.cert_checker.specs.Valid.{IsValid, PartsHold}
 use Rattle.cert_checker.proofs.Claims.{falls, ranked, sizes}
 use Rattle.number_tests.proofs.ColumnLengths.{an_element}

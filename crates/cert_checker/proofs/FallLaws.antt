@@ -1,33 +1,21 @@
 -- Falls of mappings, fact by fact.
 use Rattle.std.specs.Io.Iter.{u64_saturate}
-use Rattle.std.proofs.Common.{◌≡◌, ◌↔◌, ℕ, suc, ℤ, List, [], ◌∷◌, slice_get, take, Some, refl, sym, ap, subst, ◌∙◌, arith}
-use Rattle.call_components.specs.Partition.{Partition}
-use Rattle.cti_terms.specs.Listing.{Listing}
-use Rattle.cti_terms.specs.Tree.{Tree}
-use Rattle.cti_terms.specs.declared.atom_list.Atom.{Atom}
-use Rattle.cti_terms.specs.declared.clauses.Clause.{Clause}
-use Rattle.cert_structure.specs.Numbered.{lines_from}
+use Rattle.std.proofs.Common.{◌≡◌, ℕ, suc, ℤ, List, [], ◌∷◌, slice_get, Some, refl, sym, ap, subst, ◌∙◌}
 use Rattle.cert_structure.specs.Order.{falls_line}
-use Rattle.cert_structure.specs.declared.parts.Parts.{Parts}
 use Rattle.linear_rows.specs.Showing.{IsShown}
 use Rattle.linear_rows.specs.declared.multipliers.Multipliers.{Multipliers}
 use Rattle.number_tests.specs.Failing.{MultipliersFail}
-use Rattle.number_tests.specs.Proved.{fall_of}
-use Rattle.number_tests.specs.Shape.{list_at}
 use Rattle.number_tests.specs.Targets.{fall_weights}
 use Rattle.number_tests.specs.declared.flaw.Flaw.{Flaw}
 use Rattle.number_tests.specs.declared.level_part.LevelPart.{LevelPart}
 use Rattle.termination_model.proofs.Lists.{one_element}
 use Rattle.termination_model.specs.Replacing.{over_columns}
-use Rattle.termination_model.specs.Sizes.{rows_of}
-use Rattle.termination_model.specs.Systems.{short_system}
-use Rattle.cert_checker.specs.Fault.{FallFails, reason_of}
-use Rattle.cert_checker.specs.Finding.{FallsFail, Finds, MappingFails, MappingsFail, NoneFails}
-use Rattle.cert_checker.specs.Shape.{AreTogether}
+use Rattle.cert_checker.specs.Fault.{reason_of}
+use Rattle.cert_checker.specs.Finding.{Finds, MappingFails, MappingsFail, NoneFails}
 use Rattle.cert_checker.specs.declared.fault.Fault.{Fault}
 use Rattle.cert_checker.specs.declared.reason.Reason.{Reason}
 use Rattle.cert_checker.specs.declared.reason.Reason.TheVariants as reason
-use Rattle.cert_checker.proofs.FindLaws.{finds_fact, finds_none, finds_same, same_lines}
+use Rattle.cert_checker.proofs.FindLaws.{finds_fact}
 use Rattle.cert_checker.proofs.FlawLaws.{one_flaw, same_number, shown_holds}
 
 module _ (rows columns : List (List ℤ)) (heads calls : List LevelPart) (k j m : ℕ) (head call : LevelPart) (eh : slice_get heads m ≡ Some head) (ec : slice_get calls m ≡ Some call) (by : Multipliers) where

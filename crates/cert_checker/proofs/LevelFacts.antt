@@ -1,5 +1,5 @@
 -- What is known at a call of a clause: its predicate is there, with its parts of its component's mappings.
-use Rattle.std.proofs.Common.{◌≡◌, ℕ, ◌<◌, List, length, slice_get, Option, Some, None, IsSomeAnd, refl, subst, arith}
+use Rattle.std.proofs.Common.{◌≡◌, ℕ, ◌<◌, length, slice_get, Option, Some, None, IsSomeAnd, refl, subst, arith}
 use Rattle.std.specs.List.{AllByRecursion}
 use Rattle.cti_terms.specs.Listing.{Listing, IsAtom}
 use Rattle.cti_terms.specs.declared.atom_list.Atom.{Atom}

@@ -1,10 +1,9 @@
 -- The first predicate whose modes do not hold: there is one at most, whatever partition is taken.
-use Rattle.std.proofs.Common.{◌≡◌, ℕ, ◌<◌, Bool, List, slice_get, Some, refl, sym, subst, ◌∙◌, arith}
+use Rattle.std.proofs.Common.{◌≡◌, ℕ, ◌<◌, Bool, List, refl, sym, subst, arith}
 use Rattle.call_components.specs.Partition.{AreComponents, Partition}
 use Rattle.certificate.specs.declared.fact.Fact.{Fact}
 use Rattle.cti_terms.specs.Listing.{Listing}
 use Rattle.cti_terms.specs.Tree.{Tree, truth}
-use Rattle.cti_terms.specs.declared.clauses.Clause.{Clause}
 use Rattle.truth_rows.specs.Rules.{KeepsSets}
 use Rattle.cert_structure.specs.Structure.{IsStructured}
 use Rattle.cert_structure.specs.declared.parts.Parts.{Parts}

@@ -1,16 +1,16 @@
 -- Where a certificate is valid, no mapping of a component with a refutation decreases.
-use Rattle.std.proofs.Common.{◌≡◌, ℕ, zero, suc, ◌-◌, ◌<◌, ◌≤◌, ◌≤ℤ◌, ◌==◌, ◌&&◌, ◌⊎◌, inl, inr, ℤ, pos, negsuc, Bool, true, false, IsTrue, cond, if◌then◌else◌, List, [], ◌∷◌, ◌++◌, All, map, take, length, slice_get, Option, None, Some, refl, sym, ap, subst, ◌∙◌, arith, eqb-true}
+use Rattle.std.proofs.Common.{◌≡◌, ℕ, zero, suc, ◌-◌, ◌<◌, ◌≤ℤ◌, ◌==◌, ◌⊎◌, inl, inr, ℤ, pos, negsuc, Bool, true, false, IsTrue, cond, if◌then◌else◌, List, [], ◌∷◌, All, map, take, length, slice_get, Option, None, Some, refl, sym, ap, subst, ◌∙◌, arith, eqb-true}
 use Rattle.std.specs.Prelude.{filter}
 use Rattle.std.specs.List.{AllByRecursion}
 use Rattle.std.proofs.lemmas.Int.{ints}
 use Rattle.std.proofs.lemmas.Bool.{and_parts}
-use Rattle.cti_terms.specs.Tree.{Tree, size, truth}
+use Rattle.cti_terms.specs.Tree.{size, truth}
 use Rattle.cti_terms.specs.Listing.{IsProgram, Listing, numbered}
 use Rattle.cti_terms.specs.declared.atom_list.Atom.{Atom}
 use Rattle.cti_terms.specs.declared.clauses.Clause.{Clause}
 use Rattle.call_components.proofs.Lists.{all_map}
 use Rattle.call_components.specs.Partition.{AreComponents, IsIn, Partition}
-use Rattle.certificate.specs.Range.{AreAmounts, IsAmount}
+use Rattle.certificate.specs.Range.{AreAmounts}
 use Rattle.certificate.specs.declared.fact.Fact.{Fact}
 use Rattle.cert_structure.specs.Shape as shape
 use Rattle.cert_structure.specs.Structure.{IsStructured}
@@ -24,10 +24,9 @@ use Rattle.termination_model.specs.Claims.{Claims, Mapping}
 use Rattle.termination_model.specs.Grounds.{Family}
 use Rattle.termination_model.specs.Refutation.{Decreases}
 use Rattle.termination_model.specs.Sizes.{rows_of}
-use Rattle.termination_model.specs.Systems.{row_over, system}
+use Rattle.termination_model.specs.Systems.{system}
 use Rattle.termination_model.specs.View.{Call, Lower, Member, Place, Rule, fall_over, rule_of, system_of, upward_union, view_of}
 use Rattle.termination_model.specs.View as view
-use Rattle.termination_model.proofs.Lists.{by_places, from_places, there}
 use Rattle.termination_model.proofs.Refuted.{none_decreases}
 use Rattle.cert_checker.specs.Claimed.{claims_of, rank_of}
 use Rattle.cert_checker.specs.Excluded.{IsNatural, IsPairIn, itself, pair_of}
@@ -35,8 +34,7 @@ use Rattle.cert_checker.proofs.AnyPartition.{parts_hold}
 use Rattle.cert_checker.proofs.Validity.{OneStructure}
 use Rattle.cert_checker.specs.Refutes.{MappingDecreases, RefutedHaveNoMapping}
 use Rattle.number_tests.specs.Refuting.{atom_or_none, call_of, clause_of, clause_or_none}
-use Rattle.cert_checker.specs.Shape.{HaveRefutations}
-use Rattle.cert_checker.specs.Valid.{IsValid, PartsHold}
+use Rattle.cert_checker.specs.Valid.{PartsHold}
 use Rattle.cert_checker.proofs.Excludes.{excluded, in_range, system_same, take_mapped}
 use Rattle.cert_checker.proofs.Partitions.{together_is}
 use Rattle.cert_checker.proofs.ShapeLaws.{have_refutations, numbered_is, one_of}

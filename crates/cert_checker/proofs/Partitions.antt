@@ -1,5 +1,5 @@
 -- Two partitions of a program have the same predicates together, and the same components recursive.
-use Rattle.std.proofs.Common.{◌≡◌, ℕ, ◌<◌, ◌≤◌, Bool, true, false, IsTrue, ◌==◌, ◌⊎◌, inl, inr, List, length, Contains, slice_get, Option, None, Some, refl, sym, ap, subst, ◌∙◌, arith, eq-eqb, eqb-true}
+use Rattle.std.proofs.Common.{◌≡◌, ℕ, ◌≤◌, Bool, true, false, IsTrue, ◌==◌, inl, inr, List, length, Contains, slice_get, Option, None, Some, refl, sym, ap, subst, ◌∙◌, arith, eq-eqb, eqb-true}
 use Rattle.std.proofs.lemmas.Option.{slice_get_cases, slice_get_past, slice_get_within}
 use Rattle.cti_terms.specs.Listing.{Listing}
 use Rattle.call_components.specs.Partition.{AreComponents, IsIn, Partition}

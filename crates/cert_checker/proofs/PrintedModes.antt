@@ -1,5 +1,5 @@
 -- The modes that facts print are those of the parts, and what is known of these is known of the facts.
-use Rattle.std.proofs.Common.{◌≡◌, ◌≢◌, ℕ, zero, suc, ◌+◌, ◌<◌, ◌≤◌, ◌==◌, ◌||◌, Bool, true, false, IsTrue, List, [], ◌∷◌, ◌++◌, map, length, Contains, slice_get, slice_index_or, unwrap_or, Option, None, Some, refl, sym, ap, subst, ◌∙◌, arith, eqb-true}
+use Rattle.std.proofs.Common.{◌≡◌, ◌≢◌, ℕ, suc, ◌+◌, ◌<◌, ◌==◌, ◌||◌, Bool, true, false, IsTrue, List, [], ◌∷◌, map, length, slice_get, unwrap_or, Option, None, Some, refl, sym, ap, subst, ◌∙◌, arith, eqb-true}
 use Rattle.std.specs.List.{AllByRecursion, AllPairs, list_any}
 use Rattle.std.proofs.lemmas.Option.{slice_get_within}
 use Rattle.cti_terms.specs.Listing.{IsProgram, Listing}
@@ -14,13 +14,12 @@ use Rattle.cert_structure.specs.Numbered.{facts_from, lines_from}
 use Rattle.cert_structure.specs.Order as order
 use Rattle.cert_structure.specs.Structure.{AreNamed, AreNotes}
 use Rattle.cert_structure.specs.declared.parts.Parts.{Parts}
-use Rattle.number_tests.specs.declared.pair_point.PairPoint.{PairPoint}
 use Rattle.number_tests.specs.declared.refutation.Refutation.{Refutation}
 use Rattle.linear_rows.specs.declared.point.Point.{Point}
 use Rattle.termination_model.proofs.Lists.{by_places, indexed}
 use Rattle.termination_model.specs.Descent.{mode_row}
 use Rattle.termination_model.specs.Rows.{IsUpper}
-use Rattle.cert_checker.specs.Bounding.{FactIsBounded, IsOf, ModeIsBounded, ModesAreBounded, NamedAreRigid}
+use Rattle.cert_checker.specs.Bounding.{FactIsBounded, ModeIsBounded, ModesAreBounded, NamedAreRigid}
 use Rattle.number_tests.proofs.ColumnLengths.{an_element}
 
 -- what holds of each fact of each item holds of all facts

@@ -1,30 +1,28 @@
 -- Parts of the shape that a certificate's structure asks have what the tests of their numbers ask.
-use Rattle.std.proofs.Common.{◌≡◌, ℕ, zero, suc, ◌+◌, ◌-◌, ◌<◌, ◌≤◌, ◌≤ℤ◌, ℤ, pos, Bool, true, false, IsTrue, ◌&&◌, inl, inr, List, [], ◌∷◌, All, map, take, length, slice_get, slice_index_or, unwrap_or, option_map, if◌then◌else◌, option_and_then, Option, None, Some, IfSome, IsSomeAnd, refl, sym, ap, subst, ◌∙◌, arith, sum_by}
+use Rattle.std.proofs.Common.{◌≡◌, ℕ, zero, suc, ◌+◌, ◌-◌, ◌<◌, ◌≤◌, ◌≤ℤ◌, ℤ, pos, Bool, true, false, IsTrue, ◌&&◌, inl, inr, List, [], ◌∷◌, All, take, length, slice_get, slice_index_or, unwrap_or, option_map, if◌then◌else◌, option_and_then, Option, None, Some, IfSome, IsSomeAnd, refl, sym, ap, subst, ◌∙◌, arith}
 use Rattle.std.specs.List.{AllByRecursion}
 use Rattle.std.proofs.lemmas.List.{length-map}
 use Rattle.std.proofs.lemmas.List.Sums.{sum_by-cons}
-use Rattle.std.proofs.lemmas.Option.{slice_get_cases, slice_get_past, slice_get_within}
+use Rattle.std.proofs.lemmas.Option.{slice_get_cases, slice_get_within}
 use Rattle.cti_terms.specs.Listing.{Listing, IsClause, IsProgram, numbered}
 use Rattle.cti_terms.specs.declared.atom_list.Atom.{Atom}
 use Rattle.cti_terms.specs.declared.clauses.Clause.{Clause}
 use Rattle.cti_terms.specs.declared.predicates.Pred.{Pred}
 use Rattle.call_components.proofs.Lists.{all_map}
 use Rattle.call_components.specs.Partition.{AreComponents, IsIn, Partition}
-use Rattle.certificate.specs.Range.{AreAmounts, IsAmount}
+use Rattle.certificate.specs.Range.{AreAmounts}
 use Rattle.cert_structure.specs.Numbered.{AreEach, EachFrom}
 use Rattle.cert_structure.specs.Shape as shape
 use Rattle.number_tests.specs.declared.level_part.LevelPart.{LevelPart}
 use Rattle.number_tests.specs.declared.pair_point.PairPoint.{PairPoint}
 use Rattle.cert_structure.specs.declared.parts.Parts.{Parts}
-use Rattle.number_tests.specs.declared.refutation.Refutation.{Refutation}
 use Rattle.linear_rows.specs.declared.point.Point.{Point}
 use Rattle.linear_rows.specs.Plain.{HaveWidth, plain_row}
 use Rattle.linear_rows.specs.declared.multipliers.Multipliers.{Multipliers}
 use Rattle.linear_rows.specs.declared.row.Row.{Row}
 use Rattle.linear_rows.specs.declared.row.Rows.{Rows}
-use Rattle.termination_model.specs.Grounds.{HasArity}
 use Rattle.termination_model.specs.Sizes.{AreSizes, plain_or_none, rows_of}
-use Rattle.termination_model.proofs.Lists.{by_places, from_places, place_below, there}
+use Rattle.termination_model.proofs.Lists.{by_places, from_places, there}
 use Rattle.number_tests.proofs.ColumnLengths.{an_element}
 use Rattle.cert_checker.proofs.Partitions.{is_together_in}
 use Rattle.number_tests.proofs.Sized.{some_below}

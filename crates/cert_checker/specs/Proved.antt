@@ -7,7 +7,7 @@
 -- rows and mappings are counted from 0 here.
 --
 -- To believe: `ByHold`, `MeasuresAreZero`, `FallsHold`.
-use Rattle.std.specs.Prelude.{◌≡◌, ℕ, ℤ, pos, negsuc, false, List, [], ◌∷◌, take, slice_get, Some}
+use Rattle.std.specs.Prelude.{◌≡◌, ℕ, ℤ, pos, false, List, take, slice_get, Some}
 use Rattle.std.specs.List.{AllByRecursion}
 use Rattle.cti_terms.specs.Tree.{Tree}
 use Rattle.cti_terms.specs.Listing.{Listing}
@@ -15,7 +15,6 @@ use Rattle.cti_terms.specs.declared.atom_list.Atom.{Atom}
 use Rattle.cti_terms.specs.declared.clauses.Clause.{Clause}
 use Rattle.call_components.specs.Partition.{Partition, IsIn}
 use Rattle.linear_rows.specs.declared.multipliers.Multipliers.{Multipliers}
-use Rattle.linear_rows.specs.declared.row.Rows.{Rows}
 use Rattle.number_tests.specs.declared.level_part.LevelPart.{LevelPart}
 use Rattle.cert_structure.specs.declared.parts.Parts.{Parts}
 use Rattle.termination_model.specs.Sizes.{rows_of}

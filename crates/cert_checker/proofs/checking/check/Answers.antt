@@ -1,4 +1,3 @@
-use Rattle.std.proofs.Common.{◌≡◌, Some, sym, ◌∙◌}
 use Rattle.cert_checker.proofs.checking.check.Goals as goal
 
 pub returns-in-None-clause-excluded : goal.returns-in-None-clause-excluded

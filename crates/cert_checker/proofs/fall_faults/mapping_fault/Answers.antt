@@ -1,4 +1,4 @@
-use Rattle.std.proofs.Common.{◌≡◌, ◌↔◌, ℕ, ℤ, List, [], ◌∷◌, length, slice_get, slice_index_or, Option, Some, None, IfSome, refl, sym, subst, arith, below_more}
+use Rattle.std.proofs.Common.{◌≡◌, ℕ, [], ◌∷◌, length, slice_get, Option, Some, IfSome, refl, subst, arith, below_more}
 use Rattle.cert_structure.specs.Order.{falls_line}
 use Rattle.number_tests.specs.Failing.{MultipliersFail}
 use Rattle.number_tests.specs.declared.flaw.Flaw.{Flaw}

@@ -1,4 +1,4 @@
-use Rattle.std.proofs.Common.{◌≡◌, ◌≢◌, ◌↔◌, ◌+◌, ◌<◌, ℕ, Bool, List, [], length, slice_get, Option, None, Some, false, refl, sym, ap, subst, ◌∙◌, arith, below_more}
+use Rattle.std.proofs.Common.{◌≡◌, ◌≢◌, ◌+◌, ◌<◌, ℕ, List, length, slice_get, Some, false, sym, subst, ◌∙◌, arith, below_more}
 use Rattle.std.specs.List.{AllByRecursion, AllPairs}
 use Rattle.call_components.specs.Partition.{IsIn}
 use Rattle.cert_structure.specs.Numbered.{lines_from}
@@ -13,7 +13,6 @@ use Rattle.cert_checker.proofs.FindLaws.{finds_item, finds_none, length_lines, l
 use Rattle.cert_checker.proofs.MeasureLaws.{failing_part, not_recursive, zero_parts}
 use Rattle.cert_checker.specs.Finding.{Finds, MeasuresFail, NoneFails, PartsFail}
 use Rattle.cert_checker.specs.Proved.{IsZero}
-use Rattle.cert_checker.specs.declared.fault.Fault.{Fault}
 use Rattle.cert_checker.proofs.measure_faults.measure_fault.Goals as goal
 
 pub loop-q-init : goal.loop-q-init
