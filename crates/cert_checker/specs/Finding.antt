@@ -1,3 +1,4 @@
+-- Private.
 -- What the tests find among facts. Nothing here has to be believed.
 use Rattle.std.specs.Io.Iter.{u64_saturate}
 use Rattle.std.specs.Prelude.{◌≡◌, ℕ, ◌+◌, ℤ, List, Option, None, Some}

@@ -1,3 +1,4 @@
+-- Private.
 -- The fault of a certificate whose structure is right, and whose modes do not hold: it comes before those of numbers.
 --
 -- To believe: all of this file.

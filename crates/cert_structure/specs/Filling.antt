@@ -1,3 +1,4 @@
+-- Private.
 -- Private: reading parts one after the other into their places. Nothing here has to be believed.
 use Rattle.std.specs.Prelude.{◌≡◌, List, Result, Ok, Err}
 use Rattle.std.specs.Borrow.{Bor}
