@@ -9,4 +9,5 @@ pub mod Refutes
 pub mod Refuting
 pub mod Shape
 pub mod Shows
+pub mod StructureFaults
 pub mod Valid

@@ -1,12 +1,14 @@
 //! The check of a certificate.
 
-ghost use Rattle.std.specs.Prelude.{◌≡◌, ◌↔◌, IfOk, None, Some};
+ghost use Rattle.std.specs.Prelude.{◌≡◌, ◌↔◌, ℕ, IfOk, None, Some};
 ghost use Rattle.call_components.specs.Partition.{AreComponents};
 ghost use Rattle.cert_structure.specs.Shape.{HaveShape};
 ghost use Rattle.cert_structure.specs.Structure.{AreNamed};
+ghost use Rattle.cert_structure.specs.declared.fault.StructureReason.{StructureReason as TheStructureReason};
 ghost use Rattle.cert_checker.specs.Bounding.{ModesAreBounded};
 ghost use Rattle.cert_checker.specs.ModeFaults.{HasModeFault, fault_of, mode_reason};
 ghost use Rattle.cert_checker.specs.Refutes.{RefutedHaveNoMapping};
+ghost use Rattle.cert_checker.specs.StructureFaults.{HasStructureFault, structure_fault, structure_reason};
 ghost use Rattle.cert_checker.specs.Valid.{IsValid, NumbersHold, PartsHold};
 ghost use Rattle.cert_modes.specs.Failing.{IsFirstPred};
 ghost use Rattle.cert_modes.specs.declared.fault.ModeFault.{ModeFault as TheModeFault};
@@ -24,7 +26,7 @@ use crate::size_faults::size_fault;
 use crate::verdict::Verdict;
 use call_components::{Components, components};
 use cert_modes::mode_fault;
-use cert_structure::{Parts, PartsFault, one_structure, parts_of};
+use cert_structure::{Parts, PartsFault, one_structure, one_structure_fault, parts_of};
 use certificate::Certificate;
 use cti_terms::{Names, Program};
 use std::alloc::{AllocError, Global};
@@ -87,19 +89,18 @@ fn first_fault(
     requires named { AreNamed names.now p.now.preds }
     ensures valid { IfOk result (λ fault. (fault ≡ None) ↔ IsValid p.now names.now c.now.facts) }
     ensures excluded { IfOk result (λ fault. fault ≡ None → RefutedHaveNoMapping p.now names.now c.now.facts) }
+    ensures structure { IfOk result (λ fault. (line : ℕ) (why : TheStructureReason) → HasStructureFault p.now names.now c.now.facts line why → fault ≡ Some (structure_fault line why)) }
     ensures modes { IfOk result (λ fault. (f : TheModeFault) → HasModeFault p.now names.now c.now.facts f → fault ≡ Some (fault_of f)) }
 {
     // What every program keeps.
     p.preds();
     let comps = components(alloc, p)?;
-    // The parts do not depend on how the components are numbered.
+    // The parts and the fault do not depend on how the components are numbered.
     one_structure();
+    one_structure_fault();
     match parts_of(alloc, p, names, &comps, c) {
         Ok(parts) => value_fault(alloc, p, &comps, &parts),
-        Err(PartsFault::Wrong { line, reason }) => Ok(Some(Fault {
-            line,
-            reason: reason.into(),
-        })),
+        Err(PartsFault::Wrong { line, reason }) => Ok(Some(Fault::of_structure(line, reason))),
         Err(PartsFault::Memory) => Err(AllocError),
     }
 }
@@ -107,7 +108,7 @@ fn first_fault(
 /// Whether a certificate of a program is valid.
 ///
 /// The names are those that gave the program's. Where the certificate is not valid, the verdict has the first line of a
-/// fact that does not hold, and the first reason there; the clauses say so of modes. Sizes are term sizes.
+/// fact that does not hold, and the first reason there; the clauses say so of the structure and of modes. Sizes are term sizes.
 ///
 /// Source: the conditions of Mesnard and Neumerkel 2001, with a proof for each size row, mapping and refutation.
 pub fn check(
@@ -126,6 +127,9 @@ pub fn check(
 
     // And no mapping of a component with a refutation decreases, for the size rows of the certificate.
     ensures excluded { IfOk result (λ v. v ≡ Yes → RefutedHaveNoMapping p.now names.now c.now.facts) }
+
+    // Where the structure is wrong, the line is that of the first fact that is, or after the last where one is missing, and the reason what is wrong there.
+    ensures structure { IfOk result (λ v. (line : ℕ) (why : TheStructureReason) → HasStructureFault p.now names.now c.now.facts line why → v ≡ No line (structure_reason why)) }
 
     // Where the structure is right and modes do not hold, the line is that of the first predicate whose modes fail, and the reason the first one there.
     ensures modes { IfOk result (λ v. (f : TheModeFault) → HasModeFault p.now names.now c.now.facts f → v ≡ No f.line (mode_reason f.reason)) }

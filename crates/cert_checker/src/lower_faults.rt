@@ -3,6 +3,7 @@
 ghost use Rattle.std.specs.Prelude.{◌≡◌};
 ghost use Rattle.cert_checker.specs.Fault.{reason_of};
 ghost use Rattle.cert_checker.specs.ModeFaults.{fault_of, mode_reason};
+ghost use Rattle.cert_checker.specs.StructureFaults.{structure_fault, structure_reason};
 
 use crate::fault::Fault;
 use crate::reason::Reason;
@@ -22,14 +23,15 @@ impl Reason {
     }
 }
 
-impl From<StructureReason> for Reason {
-    fn from(reason: StructureReason) -> Reason {
-        match reason {
-            StructureReason::Version => Reason::Version,
-            StructureReason::Missing => Reason::Missing,
-            StructureReason::Extra => Reason::Extra,
-            StructureReason::Shape => Reason::Shape,
-        }
+// What is wrong with the structure, as a reason of a certificate.
+fn structure_reason(reason: StructureReason) -> Reason
+    ensures { result ≡ structure_reason reason }
+{
+    match reason {
+        StructureReason::Version => Reason::Version,
+        StructureReason::Missing => Reason::Missing,
+        StructureReason::Extra => Reason::Extra,
+        StructureReason::Shape => Reason::Shape,
     }
 }
 
@@ -45,6 +47,16 @@ fn mode_reason(reason: ModeReason) -> Reason
 }
 
 impl Fault {
+    /// The fault of the structure, as one of a certificate.
+    pub(crate) fn of_structure(line: u64, reason: StructureReason) -> Fault
+        ensures { result ≡ structure_fault line reason }
+    {
+        Fault {
+            line,
+            reason: structure_reason(reason),
+        }
+    }
+
     /// The fault of modes, as one of a certificate.
     pub(crate) fn of_modes(fault: ModeFault) -> Fault
         ensures { result ≡ fault_of fault }

@@ -1,4 +1,4 @@
-use Rattle.std.proofs.Common.{◌≡◌, ◌↔◌, None, Option, Some}
+use Rattle.std.proofs.Common.{◌≡◌, ◌↔◌, ℕ, None, Option, Some, inl, inr}
 use Rattle.cti_terms.specs.Tree.{truth}
 use Rattle.term_size.specs.Occurrences.{size_row}
 use Rattle.cert_checker.specs.Valid.{IsValid, PartsHold}
@@ -9,6 +9,8 @@ use Rattle.cert_checker.proofs.NoMapping.{refuted_have_none}
 use Rattle.cert_modes.specs.Failing.{IsFirstPred}
 use Rattle.cert_modes.specs.declared.fault.ModeFault.{ModeFault}
 use Rattle.cert_checker.specs.ModeFaults.{HasModeFault, fault_of}
+use Rattle.cert_checker.specs.StructureFaults.{HasStructureFault, structure_fault}
+use Rattle.cert_structure.specs.declared.fault.StructureReason.{StructureReason}
 use Rattle.cert_checker.proofs.ModeFaultLaws.{no_first, own_first}
 use Rattle.cert_checker.proofs.Validity.{decided, without_parts}
 use Rattle.cert_checker.proofs.checking.first_fault.Goals as goal
@@ -47,3 +49,24 @@ returns-in-Ok-clause-modes c =
 pub returns-in-Err-Wrong-clause-modes : goal.returns-in-Err-Wrong-clause-modes
 returns-in-Err-Wrong-clause-modes c = λ f has.
     absurd (no_first c.one_structure.ensures c.args.p.now c.args.names.now c.in_ok-comps.comps c.args.c.now.facts c.in_ok-comps.ensures (λ own is. let wrong = c.in-Err-Wrong.ensures.only own is in cc) f has)
+
+pub returns-in-Ok-clause-structure : goal.returns-in-Ok-clause-structure
+returns-in-Ok-clause-structure c =
+    let p = c.args.p.now in
+    let names = c.args.names.now in
+    let comps = c.in_ok-comps.comps in
+    let facts = c.args.c.now.facts in
+    if_ok_more (λ (fault : Option Fault). (fault ≡ None) ↔ PartsHold truth size_row p comps c.in-Ok.parts)
+    (λ (fault : Option Fault). (line : ℕ) (why : StructureReason) → HasStructureFault p names facts line why → fault ≡ Some (structure_fault line why))
+    (λ fault decides line why has. absurd (c.in-Ok.ensures.fault line why (c.one_structure_fault.ensures p names has.comps comps facts line why has.components c.in_ok-comps.ensures has.fault)))
+    c.value_fault.result c.value_fault.ensures.hold
+
+pub returns-in-Err-Wrong-clause-structure : goal.returns-in-Err-Wrong-clause-structure
+returns-in-Err-Wrong-clause-structure c = λ line why has.
+    let p = c.args.p.now in
+    let names = c.args.names.now in
+    let comps = c.in_ok-comps.comps in
+    let facts = c.args.c.now.facts in
+    let is = c.in-Err-Wrong.ensures.fault line why (c.one_structure_fault.ensures p names has.comps comps facts line why has.components c.in_ok-comps.ensures has.fault) in
+    let made = c.of_structure.ensures in
+    cc
