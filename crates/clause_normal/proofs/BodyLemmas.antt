@@ -1,9 +1,9 @@
 -- Lemmas on goals and branches in rows, and on bodies on a stack.
 use Rattle.std.proofs.Common.{◌≡◌, ℕ, ◌+◌, ◌<◌, ◌≤◌, List, [], ◌∷◌, ◌++◌, length, map, refl, ap, sym, ◌∙◌, arith, Bor}
-use Rattle.prolog_reader.specs.declared.term.ReadTerm.{ReadTerm}
+use Rattle.prolog_terms.specs.declared.term.ReadTerm.{ReadTerm}
 use Rattle.prolog_grammar.specs.Placed.{Tree, tree, Var, Int, Fun}
-use Rattle.prolog_reader.specs.Clauses.{nodes}
-use Rattle.prolog_reader.specs.Terms.{tree_of}
+use Rattle.prolog_terms.specs.Clauses.{nodes}
+use Rattle.prolog_terms.specs.Terms.{tree_of}
 use Rattle.clause_normal.specs.declared.part.Item.{Item}
 use Rattle.clause_normal.specs.Bodies.{Goal, Goals, Branches, no_goals, more_goals, no_branches, more_branches, one_goal, one_branch, joined, joined_branches, goals_row}
 use Rattle.clause_normal.specs.Views.{goal_of, goals_of, branches_of, branch_work, branches_work, item_work, items_work, IsPart, IsBranch}

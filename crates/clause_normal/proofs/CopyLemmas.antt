@@ -9,10 +9,10 @@ use Rattle.cti_terms.specs.declared.naming.Name.{Name}
 use Rattle.cti_terms.specs.declared.syntax.Term.{Term as CodeTerm}
 use Rattle.cti_terms.specs.declared.syntax.Term.TheVariants.{Fun as CodeFun}
 use Rattle.cti_terms.proofs.Spelled.{tree_of_fun as cti_tree_of_fun}
-use Rattle.prolog_reader.specs.declared.term.ReadTerm.{ReadTerm}
-use Rattle.prolog_reader.specs.declared.term.ReadShape.TheVariants as shape
-use Rattle.prolog_reader.specs.Clauses.{row}
-use Rattle.prolog_reader.specs.Terms.{tree_of}
+use Rattle.prolog_terms.specs.declared.term.ReadTerm.{ReadTerm}
+use Rattle.prolog_terms.specs.declared.term.ReadShape.TheVariants as shape
+use Rattle.prolog_terms.specs.Clauses.{row}
+use Rattle.prolog_terms.specs.Terms.{tree_of}
 use Rattle.prolog_reader.proofs.ViewLemmas.{tree_of_fun}
 use Rattle.clause_normal.specs.Terms.{plain, plain_terms, renumbered}
 use Rattle.clause_normal.specs.Views.{plain_of}

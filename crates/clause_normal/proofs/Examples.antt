@@ -5,7 +5,7 @@ use Rattle.std.specs.Fmt.{digits}
 use Rattle.cti_terms.specs.Tree.{Tree as Term, Variable, Integer, Compound, End, More}
 use Rattle.cti_terms.specs.Listing.{Listing}
 use Rattle.prolog_grammar.specs.Placed.{Tree, tree, Shape, Var, Int, Fun, Trees, no_trees, more_trees}
-use Rattle.prolog_reader.specs.Clauses.{Clause, row}
+use Rattle.prolog_terms.specs.Clauses.{Clause, row}
 use Rattle.clause_normal.specs.Words.{is_impure, connective_of, neck_of}
 use Rattle.clause_normal.specs.declared.fault.NormKind.TheVariants as kind
 use Rattle.clause_normal.specs.NormalForm.{normal_form}

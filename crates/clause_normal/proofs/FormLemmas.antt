@@ -3,11 +3,11 @@ use Rattle.std.proofs.Common.{◌≡◌, ℕ, ◌+◌, ◌<◌, ◌≤◌, Bool,
 use Rattle.std.proofs.lemmas.Bool.Decides.{nat_tests}
 use Rattle.cti_terms.specs.declared.naming.Name.{Name}
 use Rattle.prolog_grammar.specs.Placed.{Tree, tree, Shape, Var, Int, Fun, Trees, no_trees, more_trees}
-use Rattle.prolog_reader.specs.declared.term.ReadTerm.{ReadTerm}
-use Rattle.prolog_reader.specs.declared.term.ReadShape.TheVariants as shape
-use Rattle.prolog_reader.specs.Clauses.{row, list_of, arity, nodes}
+use Rattle.prolog_terms.specs.declared.term.ReadTerm.{ReadTerm}
+use Rattle.prolog_terms.specs.declared.term.ReadShape.TheVariants as shape
+use Rattle.prolog_terms.specs.Clauses.{row, list_of, arity, nodes}
 use Rattle.prolog_reader.specs.Names.{name_text}
-use Rattle.prolog_reader.specs.Terms.{tree_of}
+use Rattle.prolog_terms.specs.Terms.{tree_of}
 use Rattle.prolog_reader.proofs.ViewLemmas.{tree_of_fun, arity_terms, list_of_row}
 use Rattle.clause_normal.specs.declared.fault.NormKind.{NormKind}
 use Rattle.clause_normal.specs.declared.fault.NormKind.TheVariants as kind

@@ -4,7 +4,7 @@ use Rattle.std.specs.List.{AllByRecursion}
 use Rattle.std.proofs.lemmas.Bool.{and_parts, ltb-true}
 use Rattle.std.proofs.Math.ListN.{get_or-append}
 use Rattle.prolog_grammar.specs.Placed.{Tree, tree, Shape, Var, Int, Fun, Trees, no_trees, more_trees}
-use Rattle.prolog_reader.specs.Clauses.{Clause, arity, place, list_of, is_known, shape_known, all_known}
+use Rattle.prolog_terms.specs.Clauses.{Clause, arity, place, list_of, is_known, shape_known, all_known}
 use Rattle.prolog_reader.specs.Fit.{IsFit}
 use Rattle.prolog_reader.specs.Names.{name_text, Extends}
 use Rattle.clause_normal.specs.declared.words.Connective.{Connective}

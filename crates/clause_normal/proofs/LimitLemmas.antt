@@ -7,7 +7,7 @@ use Rattle.cti_terms.specs.Tree.{Tree as Term, Variable, nodes_of, all_nodes as 
 use Rattle.cti_terms.specs.declared.limits.TheConstants.{MOST_ARGUMENTS, MOST_VARIABLES}
 use Rattle.prolog_grammar.specs.Placed.{Tree, tree, Shape, Var, Int, Fun, Trees, no_trees, more_trees}
 use Rattle.prolog_reader.specs.Names.{name_text}
-use Rattle.prolog_reader.specs.Clauses.{Clause, arity, place, list_of, nodes, shape_nodes, all_nodes}
+use Rattle.prolog_terms.specs.Clauses.{Clause, arity, place, list_of, nodes, shape_nodes, all_nodes}
 use Rattle.clause_normal.specs.declared.limits.TheConstants.{MOST_TEXT_CLAUSES}
 use Rattle.clause_normal.specs.declared.fault.NormKind.{NormKind}
 use Rattle.clause_normal.specs.declared.fault.NormKind.TheVariants as kind

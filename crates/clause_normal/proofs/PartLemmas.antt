@@ -5,12 +5,12 @@ use Rattle.std.proofs.lemmas.Bool.Decides.{nat_tests}
 use Rattle.cti_terms.specs.Tree.{Tree as Term}
 use Rattle.cti_terms.specs.declared.naming.Name.{Name}
 use Rattle.prolog_grammar.specs.Placed.{Tree, tree, Shape, Var, Int, Fun, Trees, no_trees, more_trees}
-use Rattle.prolog_reader.specs.declared.term.ReadTerm.{ReadTerm}
-use Rattle.prolog_reader.specs.declared.term.ReadShape.{ReadShape}
-use Rattle.prolog_reader.specs.declared.term.ReadShape.TheVariants as shape
-use Rattle.prolog_reader.specs.Clauses.{row, arity, is_known, nodes}
+use Rattle.prolog_terms.specs.declared.term.ReadTerm.{ReadTerm}
+use Rattle.prolog_terms.specs.declared.term.ReadShape.{ReadShape}
+use Rattle.prolog_terms.specs.declared.term.ReadShape.TheVariants as shape
+use Rattle.prolog_terms.specs.Clauses.{row, arity, is_known, nodes}
 use Rattle.prolog_reader.specs.Names.{name_text}
-use Rattle.prolog_reader.specs.Terms.{tree_of}
+use Rattle.prolog_terms.specs.Terms.{tree_of}
 use Rattle.prolog_reader.proofs.ViewLemmas.{tree_of_fun, tree_of_var, tree_of_int, arity_terms}
 use Rattle.clause_normal.specs.declared.words.Connective.{Connective}
 use Rattle.clause_normal.specs.declared.words.Connective.TheVariants as connective

@@ -8,7 +8,7 @@ use Rattle.cti_terms.specs.declared.derivation.Goal.{Goal as Query}
 use Rattle.prolog_grammar.specs.Placed.{Tree, tree, Shape, Var, Int, Fun, Trees, no_trees, more_trees}
 use Rattle.prolog_grammar.specs.Places.{IsPlaced, IsShapePlaced, ArePlaced}
 use Rattle.prolog_reader.specs.Names.{name_text}
-use Rattle.prolog_reader.specs.Clauses.{Clause, arity, place, list_of}
+use Rattle.prolog_terms.specs.Clauses.{Clause, arity, place, list_of}
 use Rattle.prolog_reader.specs.Places.{ArePlacedClauses}
 use Rattle.clause_normal.specs.declared.limits.TheConstants.{MOST_TEXT_CLAUSES}
 use Rattle.clause_normal.specs.declared.fault.NormKind.{NormKind}

@@ -1,8 +1,8 @@
 -- Lemmas on the goals of a query.
 use Rattle.std.proofs.Common.{◌≡◌, ℕ, ◌+◌, ◌<◌, drop, get_or, List, [], ◌∷◌, ◌++◌, length, map, Option, Some, None, Result, Ok, Err, refl, ap, sym, ◌∙◌, append_assoc, append-nil, Bor}
 use Rattle.std.proofs.lemmas.List.{map-append, at_drop_more}
-use Rattle.prolog_reader.specs.declared.term.ReadTerm.{ReadTerm}
-use Rattle.prolog_reader.specs.Terms.{tree_of}
+use Rattle.prolog_terms.specs.declared.term.ReadTerm.{ReadTerm}
+use Rattle.prolog_terms.specs.Terms.{tree_of}
 use Rattle.clause_normal.specs.declared.part.Item.{Item}
 use Rattle.clause_normal.specs.Bodies.{Goal}
 use Rattle.clause_normal.specs.Query.{query_goals, query_call, query_calls, bad_goal, query_fault, query_of, with_query, query_goal, AnswersQuery}

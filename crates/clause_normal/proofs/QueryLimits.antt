@@ -5,7 +5,7 @@ use Rattle.cti_terms.specs.declared.derivation.Goal.{Goal as Query}
 use Rattle.cti_terms.specs.declared.limits.TheConstants.{MOST_VARIABLES, MOST_NODES}
 use Rattle.prolog_grammar.specs.Placed.{Tree, tree, Shape, Var, Int, Fun, Trees, no_trees, more_trees}
 use Rattle.prolog_reader.specs.Names.{name_text}
-use Rattle.prolog_reader.specs.Clauses.{Clause, arity, place, nodes}
+use Rattle.prolog_terms.specs.Clauses.{Clause, arity, place, nodes}
 use Rattle.clause_normal.specs.declared.words.Connective.{Connective}
 use Rattle.clause_normal.specs.declared.words.Connective.TheVariants as connective
 use Rattle.clause_normal.specs.Words.{connective_of}

@@ -10,7 +10,7 @@ use Rattle.cti_terms.specs.declared.predicates.Pred.{Pred}
 use Rattle.prolog_grammar.specs.Placed.{Tree, tree, Shape, Var, Int, Fun, Trees, no_trees, more_trees}
 use Rattle.prolog_reader.specs.Names.{name_text}
 use Rattle.prolog_reader.specs.Naming.{with_names}
-use Rattle.prolog_reader.specs.Clauses.{Clause, arity, place, list_of, nodes, shape_nodes, all_nodes}
+use Rattle.prolog_terms.specs.Clauses.{Clause, arity, place, list_of, nodes, shape_nodes, all_nodes}
 use Rattle.prolog_reader.proofs.NameLemmas.{length-with_text}
 use Rattle.clause_normal.specs.declared.limits.TheConstants.{MOST_TEXT_CLAUSES}
 use Rattle.clause_normal.specs.declared.fault.NormKind.{NormKind}

@@ -1,9 +1,9 @@
 -- Lemmas on tasks on a stack.
 use Rattle.std.proofs.Common.{◌≡◌, ℕ, ◌+◌, ◌*◌, ◌<◌, ◌≤◌, List, [], ◌∷◌, ◌++◌, Option, Some, None, map, refl, ap, sym, ◌∙◌, arith, Bor, Vec, Global}
-use Rattle.prolog_reader.specs.declared.term.ReadTerm.{ReadTerm}
+use Rattle.prolog_terms.specs.declared.term.ReadTerm.{ReadTerm}
 use Rattle.cti_terms.specs.declared.naming.Name.{Name}
-use Rattle.prolog_reader.specs.Clauses.{nodes}
-use Rattle.prolog_reader.specs.Terms.{tree_of}
+use Rattle.prolog_terms.specs.Clauses.{nodes}
+use Rattle.prolog_terms.specs.Terms.{tree_of}
 use Rattle.clause_normal.specs.declared.fault.NormKind.{NormKind}
 use Rattle.clause_normal.specs.declared.part.Item.{Item}
 use Rattle.clause_normal.specs.declared.part.Item.TheVariants as item

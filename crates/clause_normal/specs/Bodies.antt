@@ -10,7 +10,7 @@ use Rattle.std.specs.Prelude.{ℕ, ◌||◌, nat_eq, nat_lt, List, [], ◌∷◌
 use Rattle.cti_terms.specs.Tree.{Tree as Term}
 use Rattle.prolog_grammar.specs.Placed.{Tree, tree, Shape, Var, Int, Fun, Trees, no_trees, more_trees}
 use Rattle.prolog_reader.specs.Names.{name_text}
-use Rattle.prolog_reader.specs.Clauses.{arity}
+use Rattle.prolog_terms.specs.Clauses.{arity}
 use Rattle.cti_terms.specs.declared.limits.TheConstants.{MOST_ARGUMENTS}
 use Rattle.clause_normal.specs.declared.fault.NormKind.{NormKind}
 use Rattle.clause_normal.specs.declared.fault.NormKind.TheVariants as kind

@@ -3,7 +3,7 @@
 --
 -- To believe: all of this file, and in prolog_reader `with_names`.
 use Rattle.std.specs.Prelude.{ℕ, List, [], ◌∷◌, ◌++◌, Result, Ok, Err}
-use Rattle.prolog_reader.specs.Clauses.{Clause}
+use Rattle.prolog_terms.specs.Clauses.{Clause}
 use Rattle.prolog_reader.specs.Naming.{with_names}
 use Rattle.clause_normal.specs.NormalForm.{Fault, normal_rules}
 use Rattle.clause_normal.specs.Numbering.{choice_text}

@@ -10,7 +10,7 @@ use Rattle.cti_terms.specs.Listing.{Listing}
 use Rattle.cti_terms.specs.declared.limits.TheConstants.{MOST_ARGUMENTS, MOST_VARIABLES}
 use Rattle.prolog_grammar.specs.Placed.{Tree, tree, Var, Int, Fun}
 use Rattle.prolog_reader.specs.Names.{name_text}
-use Rattle.prolog_reader.specs.Clauses.{Clause, arity, place, list_of}
+use Rattle.prolog_terms.specs.Clauses.{Clause, arity, place, list_of}
 use Rattle.clause_normal.specs.declared.limits.TheConstants.{MOST_TEXT_CLAUSES}
 use Rattle.clause_normal.specs.declared.fault.NormKind.{NormKind}
 use Rattle.clause_normal.specs.declared.fault.NormKind.TheVariants as kind

@@ -12,7 +12,7 @@ use Rattle.cti_terms.specs.declared.predicates.Pred.{Pred}
 use Rattle.clause_normal.specs.declared.fault.NormFault.{NormFault}
 use Rattle.clause_normal.specs.declared.fault.NormFault.TheVariants as norm
 use Rattle.prolog_grammar.specs.Placed.{Tree, tree, Shape, Var, Int, Fun, Trees, no_trees, more_trees}
-use Rattle.prolog_reader.specs.Clauses.{Clause, place, arity}
+use Rattle.prolog_terms.specs.Clauses.{Clause, place, arity}
 use Rattle.prolog_reader.specs.Names.{name_text}
 use Rattle.clause_normal.specs.declared.words.Connective.{Connective}
 use Rattle.clause_normal.specs.declared.words.Connective.TheVariants as connective

@@ -2,9 +2,9 @@
 -- What stands on a stack, whose last element is on top. Nothing here has to be believed.
 use Rattle.std.specs.Prelude.{ℕ, ◌+◌, ◌*◌, List, [], ◌∷◌, ◌++◌, map}
 use Rattle.std.specs.Borrow.{Bor}
-use Rattle.prolog_reader.specs.declared.term.ReadTerm.{ReadTerm}
-use Rattle.prolog_reader.specs.Clauses.{nodes, all_nodes, row}
-use Rattle.prolog_reader.specs.Terms.{tree_of}
+use Rattle.prolog_terms.specs.declared.term.ReadTerm.{ReadTerm}
+use Rattle.prolog_terms.specs.Clauses.{nodes, all_nodes, row}
+use Rattle.prolog_terms.specs.Terms.{tree_of}
 use Rattle.clause_normal.specs.Terms.{list_variables, occurrences}
 use Rattle.clause_normal.specs.Views.{plain_of, goals_of, branches_of}
 use Rattle.clause_normal.specs.Query.{query_goals}

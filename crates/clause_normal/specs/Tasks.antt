@@ -2,7 +2,7 @@
 -- What is left to be looked at in a clause, on a stack whose last element is on top. Nothing here has to be believed.
 use Rattle.std.specs.Prelude.{ℕ, ◌+◌, ◌<◌, List, [], ◌∷◌, ◌++◌, Option, None}
 use Rattle.std.specs.List.{AllByRecursion}
-use Rattle.prolog_reader.specs.Terms.{tree_of}
+use Rattle.prolog_terms.specs.Terms.{tree_of}
 use Rattle.clause_normal.specs.declared.task.Task.{Task}
 use Rattle.clause_normal.specs.declared.task.Task.TheVariants as task
 use Rattle.clause_normal.specs.Terms.{occurrences}

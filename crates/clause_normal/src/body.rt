@@ -2,8 +2,8 @@
 
 ghost use Rattle.std.specs.Prelude.{◌≡◌, ◌<◌, ◌≤◌, ◌+◌, ◌*◌, ℕ, IsTrue, List, [], length, map, filter, nat_lt, slice_index, IfOk, OnOk};
 ghost use Rattle.std.specs.List.{AllByRecursion};
-ghost use Rattle.prolog_reader.specs.Clauses.{is_below, nodes};
-ghost use Rattle.prolog_reader.specs.Terms.{tree_of};
+ghost use Rattle.prolog_terms.specs.Clauses.{is_below, nodes};
+ghost use Rattle.prolog_terms.specs.Terms.{tree_of};
 ghost use Rattle.clause_normal.specs.Bodies.{arguments, choice_goal, goals_row, joined_branches};
 ghost use Rattle.clause_normal.specs.Counts.{AreCounts};
 ghost use Rattle.clause_normal.specs.Terms.{occurrences};

@@ -2,9 +2,9 @@
 
 ghost use Rattle.std.specs.Prelude.{◌≡◌, ◌<◌, ◌≤◌, ◌+◌, ◌*◌, ◌++◌, ◌∷◌, [], ◌^◌, ℕ, IsTrue, Some, None, not, length, map, nat_lt, if◌then◌else◌, Ok, Err, MatchResult, IfOk, OnOk};
 ghost use Rattle.std.specs.List.{AllByRecursion};
-ghost use Rattle.prolog_reader.specs.Clauses.{is_known, nodes};
+ghost use Rattle.prolog_terms.specs.Clauses.{is_known, nodes};
 ghost use Rattle.prolog_reader.specs.Fit.{IsFit, AreFit};
-ghost use Rattle.prolog_reader.specs.Terms.{tree_of, clause_of};
+ghost use Rattle.prolog_terms.specs.Terms.{tree_of, clause_of};
 ghost use Rattle.clause_normal.specs.Faults.{AnswersFault, AnswersHead, AnswersNext, AnswersNumber, IfFault};
 ghost use Rattle.clause_normal.specs.NormalForm.{goals_fault, variables_fault, with_form, with_clause, normal_rules, clause};
 ghost use Rattle.clause_normal.specs.Bodies.{no_goals};

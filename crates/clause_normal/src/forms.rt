@@ -1,8 +1,8 @@
 //! What the term of a clause is.
 
 ghost use Rattle.std.specs.Prelude.{◌≡◌, ◌≤◌, ◌∷◌, [], ℕ, IsTrue, IfNone, length, option_map};
-ghost use Rattle.prolog_reader.specs.Clauses.{is_below, is_known};
-ghost use Rattle.prolog_reader.specs.Terms.{tree_of};
+ghost use Rattle.prolog_terms.specs.Clauses.{is_below, is_known};
+ghost use Rattle.prolog_terms.specs.Terms.{tree_of};
 ghost use Rattle.clause_normal.specs.FormViews.{IsForm, FormIsFit, IsHead};
 ghost use Rattle.clause_normal.specs.NormalForm.{is_silent_goal, named_head_fault};
 

@@ -5,7 +5,7 @@ ghost use Rattle.std.specs.List.{AllByRecursion};
 ghost use Rattle.cti_terms.specs.Listing.{Listing};
 ghost use Rattle.cti_terms.specs.declared.derivation.Goal.{Goal as Query};
 ghost use Rattle.prolog_grammar.specs.Places.{IsPlaced};
-ghost use Rattle.prolog_reader.specs.Clauses.{Clause, nodes};
+ghost use Rattle.prolog_terms.specs.Clauses.{Clause, nodes};
 ghost use Rattle.clause_normal.specs.ChoiceNames.{program_names};
 ghost use Rattle.prolog_reader.specs.Places.{ArePlacedClauses};
 ghost use Rattle.clause_normal.specs.NormalForm.{Fault, normal_form, normal_rules};

@@ -2,8 +2,8 @@
 
 ghost use Rattle.std.specs.Prelude.{◌≡◌, ◌<◌, ◌≤◌, ◌+◌, ◌*◌, ◌^◌, ◌++◌, ℕ, List, length, map, reverse, IfOk, OnOk};
 ghost use Rattle.std.specs.List.{AllByRecursion};
-ghost use Rattle.prolog_reader.specs.Clauses.{nodes};
-ghost use Rattle.prolog_reader.specs.Terms.{tree_of};
+ghost use Rattle.prolog_terms.specs.Clauses.{nodes};
+ghost use Rattle.prolog_terms.specs.Terms.{tree_of};
 ghost use Rattle.clause_normal.specs.Rules.{rules, after};
 ghost use Rattle.clause_normal.specs.RuleViews.{call_of, rule_of, plan_of, pending_work, CallIsFit, PendingIsFit, RuleIsFit};
 ghost use Rattle.clause_normal.specs.Tallies.{AreNone};

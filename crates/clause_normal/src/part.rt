@@ -1,8 +1,8 @@
 //! What a term is in a clause's body.
 
 ghost use Rattle.std.specs.Prelude.{◌≡◌, ◌<◌, ◌≤◌, ℕ, IsTrue, List, [], ◌∷◌, length, map};
-ghost use Rattle.prolog_reader.specs.Clauses.{is_below, is_known};
-ghost use Rattle.prolog_reader.specs.Terms.{tree_of};
+ghost use Rattle.prolog_terms.specs.Clauses.{is_below, is_known};
+ghost use Rattle.prolog_terms.specs.Terms.{tree_of};
 ghost use Rattle.clause_normal.specs.Bodies.{atom_goal, named_goal};
 ghost use Rattle.clause_normal.specs.Views.{goal_of, plain_of, IsPart, IsQueryPart, item_work, ItemIsFit, PartIsFit, PartIsSmaller};
 

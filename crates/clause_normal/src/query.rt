@@ -5,7 +5,7 @@ ghost use Rattle.std.specs.List.{AllByRecursion};
 ghost use Rattle.cti_terms.specs.Listing.{IsAtom};
 ghost use Rattle.cti_terms.specs.declared.predicates.Pred.{Pred as ThePred};
 ghost use Rattle.prolog_reader.specs.Fit.{IsQueryFit};
-ghost use Rattle.prolog_reader.specs.Terms.{tree_of, clause_of};
+ghost use Rattle.prolog_terms.specs.Terms.{tree_of, clause_of};
 ghost use Rattle.clause_normal.specs.Faults.{AnswersFault, IfFault};
 ghost use Rattle.clause_normal.specs.Numbering.{is_equality, call_variables, with_equality_clause};
 ghost use Rattle.clause_normal.specs.Query.{query_goals, query_call, bad_goal, query_fault, query_calls, query_form, AnswersQuery};

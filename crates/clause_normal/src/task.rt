@@ -3,7 +3,7 @@
 ghost use Rattle.std.specs.Prelude.{◌≡◌, ◌+◌, ◌<◌, ℕ, List, map, OnOk};
 ghost use Rattle.std.specs.List.{AllByRecursion};
 ghost use Rattle.std.specs.Borrow.{Bor};
-ghost use Rattle.prolog_reader.specs.declared.term.ReadTerm.{ReadTerm as Term};
+ghost use Rattle.prolog_terms.specs.declared.term.ReadTerm.{ReadTerm as Term};
 ghost use Rattle.clause_normal.specs.Bodies.{goals_row};
 ghost use Rattle.clause_normal.specs.NormalForm.{first_of, goals_fault, branches_fault};
 ghost use Rattle.clause_normal.specs.Stacks.{branches_row};

@@ -2,8 +2,8 @@
 
 ghost use Rattle.std.specs.Prelude.{◌≡◌, ◌<◌, ◌++◌, ℕ, IsTrue, [], ◌∷◌, map, MatchOption, IfOk, OnOk};
 ghost use Rattle.std.specs.List.{AllByRecursion};
-ghost use Rattle.prolog_reader.specs.Clauses.{is_below};
-ghost use Rattle.prolog_reader.specs.Terms.{tree_of};
+ghost use Rattle.prolog_terms.specs.Clauses.{is_below};
+ghost use Rattle.prolog_terms.specs.Terms.{tree_of};
 ghost use Rattle.clause_normal.specs.Terms.{occurrences, list_variables};
 ghost use Rattle.clause_normal.specs.Views.{plain_of};
 

@@ -2,7 +2,7 @@
 use Rattle.std.proofs.Common.{◌≡◌, ℕ, ◌≤◌, List, [], ◌++◌, length, Result, Ok, Err, ◌⊎◌, inl, inr, refl, sym, ap, ◌∙◌, subst}
 use Rattle.cti_terms.specs.Listing.{Listing}
 use Rattle.cti_terms.specs.declared.derivation.Goal.{Goal}
-use Rattle.prolog_reader.specs.Clauses.{Clause}
+use Rattle.prolog_terms.specs.Clauses.{Clause}
 use Rattle.prolog_reader.specs.Naming.{AreNamesOf, name_texts, text_own, query_own}
 use Rattle.prolog_reader.specs.Reading.{Answer, Fault, IsTextAnswer, IsQueryAnswer, too_long, by_clauses}
 use Rattle.prolog_reader.specs.Table.{Table}

@@ -7,7 +7,7 @@ use Rattle.prolog_reader.specs.declared.fault.ReadFault.{ReadFault}
 use Rattle.prolog_reader.specs.declared.fault.ReadFault.TheVariants as reading
 use Rattle.prolog_reader.specs.declared.fault.ReadKind.TheVariants.{Long}
 use Rattle.prolog_reader.specs.Answers.{RefusesQuery}
-use Rattle.prolog_reader.specs.Clauses.{Clause}
+use Rattle.prolog_terms.specs.Clauses.{Clause}
 use Rattle.prolog_reader.specs.Names.{Extends}
 use Rattle.prolog_reader.specs.Naming.{BeginNames, query_own}
 use Rattle.prolog_reader.specs.Reading.{too_long_query}

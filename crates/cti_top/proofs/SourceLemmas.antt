@@ -3,7 +3,7 @@ use Rattle.std.proofs.Common.{◌≡◌, ◌∙◌, ℕ, List, [], refl, sym, ap
 use Rattle.prolog_reader.specs.declared.fault.ReadFault.{ReadFault}
 use Rattle.prolog_reader.specs.declared.fault.ReadFault.TheVariants as reading
 use Rattle.prolog_reader.specs.Answers.{RefusesText}
-use Rattle.prolog_reader.specs.Clauses.{Clause}
+use Rattle.prolog_terms.specs.Clauses.{Clause}
 use Rattle.prolog_reader.specs.Naming.{with_names, BeginNames, text_own}
 use Rattle.prolog_reader.proofs.NamingLemmas.{names_none}
 use Rattle.prolog_reader.specs.Table.{Table}

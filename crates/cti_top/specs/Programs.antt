@@ -10,7 +10,7 @@
 use Rattle.std.specs.Prelude.{◌≡◌, ℕ, List, [], Ok, Err}
 use Rattle.cti_terms.specs.Listing.{Listing}
 use Rattle.prolog_reader.specs.declared.fault.ReadKind.{ReadKind}
-use Rattle.prolog_reader.specs.Clauses.{Clause}
+use Rattle.prolog_terms.specs.Clauses.{Clause}
 use Rattle.prolog_reader.specs.Naming.{AreNamesOf, text_own}
 use Rattle.prolog_reader.specs.Reading.{IsTextAnswer}
 use Rattle.prolog_reader.specs.Table.{Table}

@@ -9,7 +9,7 @@ use Rattle.std.specs.Prelude.{◌≡◌, ℕ, List, Ok, Err}
 use Rattle.cti_terms.specs.Listing.{Listing}
 use Rattle.cti_terms.specs.declared.derivation.Goal.{Goal}
 use Rattle.prolog_reader.specs.declared.fault.ReadKind.{ReadKind}
-use Rattle.prolog_reader.specs.Clauses.{Clause}
+use Rattle.prolog_terms.specs.Clauses.{Clause}
 use Rattle.prolog_reader.specs.Naming.{AreNamesOf, query_own}
 use Rattle.prolog_reader.specs.Reading.{IsQueryAnswer}
 use Rattle.prolog_reader.specs.Table.{Table}

@@ -35,15 +35,15 @@ use Rattle.termination_model.specs.Refutation.{IsPair, IsRefutation, Load, Pair,
 use Rattle.termination_model.specs.SupportSystem.{support_rows, unknowns}
 use Rattle.termination_model.specs.Systems.{system}
 use Rattle.termination_model.specs.View.{Rule, system_of}
-use Rattle.level_dual.specs.Held.{IsHeld, live_of, pair_of, spelled, with_live}
-use Rattle.level_dual.specs.Pairs.{clause_at}
-use Rattle.level_dual.specs.Refuted.{ArePoints, AreSpelled, HasPoints, IsInFit, RefuteIf, lives_of, solution_of}
-use Rattle.level_dual.specs.Searched.{IsComponent}
-use Rattle.level_dual.specs.declared.component.Component.{Component}
-use Rattle.level_dual.specs.declared.own_call.OwnCall.{OwnCall}
+use Rattle.level_systems.specs.Held.{IsHeld, live_of, pair_of, spelled, with_live}
+use Rattle.level_systems.specs.Pairs.{clause_at}
+use Rattle.level_systems.specs.Refuted.{ArePoints, AreSpelled, HasPoints, IsInFit, RefuteIf, lives_of, solution_of}
+use Rattle.level_systems.specs.Searched.{IsComponent}
+use Rattle.level_systems.specs.declared.component.Component.{Component}
+use Rattle.level_systems.specs.declared.own_call.OwnCall.{OwnCall}
 use Rattle.level_dual.proofs.Ascending.{AscendFrom, live_ascend, pairs_ascend}
 use Rattle.level_dual.proofs.Excluded.{callees, callers, of_members, rows_number}
-use Rattle.level_dual.proofs.HeldCalls.{all_in, all_live, in_calls, lives_in, lives_own, re, rows_are}
+use Rattle.level_systems.proofs.HeldCalls.{all_in, all_live, in_calls, lives_in, lives_own, re, rows_are}
 use Rattle.level_dual.proofs.Loads.{gathers_same, sums_fit}
 use Rattle.level_dual.proofs.SearchLaws.{lives, mine, take_mapped}
 use Rattle.level_dual.proofs.SolvedSystems.{one_refutation}

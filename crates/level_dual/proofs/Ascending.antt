@@ -7,9 +7,9 @@ use Rattle.linear_rows.specs.declared.multipliers.Multipliers.{Multipliers}
 use Rattle.std.specs.Prelude.{Option, None, Some}
 use Rattle.number_tests.specs.Shape.{IsBefore}
 use Rattle.termination_model.specs.ComponentViews.{rank_in}
-use Rattle.level_dual.specs.Held.{live_of, pair_of, with_live}
-use Rattle.level_dual.specs.Pairs.{calls_from, pairs_from}
-use Rattle.level_dual.specs.declared.own_call.OwnCall.{OwnCall}
+use Rattle.level_systems.specs.Held.{live_of, pair_of, with_live}
+use Rattle.level_systems.specs.Pairs.{calls_from, pairs_from}
+use Rattle.level_systems.specs.declared.own_call.OwnCall.{OwnCall}
 
 -- each pair is after the one before it, and the first after this one
 abbrev pub AscendFrom : ℕ × ℕ → List (ℕ × ℕ) → Type 0

@@ -26,22 +26,22 @@ use Rattle.termination_model.specs.Systems.{row_fits, system}
 use Rattle.termination_model.specs.View.{fall_over}
 use Rattle.termination_model.specs.View as view
 use Rattle.termination_model.proofs.Points.{points_fall}
-use Rattle.level_dual.specs.Collected.{SomeGivenUp}
-use Rattle.level_dual.specs.Falling.{ShowFalls}
-use Rattle.level_dual.specs.Found.{IsBlownSet}
-use Rattle.level_dual.specs.Held.{recalled_at, spelled}
-use Rattle.level_dual.specs.Pairs.{clause_at, pairs_of}
-use Rattle.level_dual.specs.Recalled.{count_of}
-use Rattle.level_dual.specs.Searched.{AreMeasuresAt, IsComponent}
-use Rattle.level_dual.specs.declared.component.Component.{Component}
-use Rattle.level_dual.specs.declared.measure.Measure.{Measure}
-use Rattle.level_dual.specs.declared.position.Position.{Position}
+use Rattle.level_systems.specs.Collected.{SomeGivenUp}
+use Rattle.level_systems.specs.Falling.{ShowFalls}
+use Rattle.level_systems.specs.Found.{IsBlownSet}
+use Rattle.level_systems.specs.Held.{recalled_at, spelled}
+use Rattle.level_systems.specs.Pairs.{clause_at, pairs_of}
+use Rattle.level_systems.specs.Recalled.{count_of}
+use Rattle.level_systems.specs.Searched.{AreMeasuresAt, IsComponent}
+use Rattle.level_systems.specs.declared.component.Component.{Component}
+use Rattle.level_systems.specs.declared.measure.Measure.{Measure}
+use Rattle.level_systems.specs.declared.position.Position.{Position}
 use Rattle.level_dual.proofs.FallsShown.{all_shown}
 use Rattle.level_dual.proofs.FoundLaws.{wide_heads}
-use Rattle.level_dual.proofs.HeldCalls.{calls_are, lives_few}
+use Rattle.level_systems.proofs.HeldCalls.{calls_are, lives_few}
 use Rattle.level_dual.proofs.LiveCalls.{blown_by_lives}
 use Rattle.level_dual.proofs.SearchLaws.{counts, drop_mapped, length_drop, length_take, lives, split_values, take_mapped}
-use Rattle.level_dual.proofs.ViewCalls.{calls_are_pairs, system_same, take_map}
+use Rattle.level_systems.proofs.ViewCalls.{calls_are_pairs, system_same, take_map}
 
 -- where some call is given up, every set is blown
 module _ (expression : ℕ → Tree → List ℤ) (p : Listing) (comps : Partition) (rows : ℕ → List (List ℤ)) (c : ℕ) where

@@ -8,8 +8,8 @@ use Rattle.termination_model.specs.Claims.{Mapping as PlainMapping}
 use Rattle.termination_model.specs.OwnCalls.{Position}
 use Rattle.termination_model.specs.Supports.{support_from}
 use Rattle.level_dual.specs.Large.{has_coefficient}
-use Rattle.level_dual.specs.Mappings.{natural_coefficients, level_in}
-use Rattle.level_dual.specs.declared.measure.Measure.{Measure}
+use Rattle.level_systems.specs.Mappings.{natural_coefficients, level_in}
+use Rattle.level_systems.specs.declared.measure.Measure.{Measure}
 
 coefficient_at : (zs : List ℤ) (i : ℕ) → coefficient (map unsigned_abs zs) i ≡ unsigned_abs (entry zs i)
 coefficient_at [] i = refl

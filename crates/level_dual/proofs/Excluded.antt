@@ -23,15 +23,15 @@ use Rattle.termination_model.proofs.Having.{picked_in}
 use Rattle.termination_model.proofs.Lists.{indexed, place_below}
 use Rattle.termination_model.proofs.Readiness.{at_of, views_are_ready}
 use Rattle.termination_model.proofs.Refuting.{multipliers_refute}
-use Rattle.level_dual.specs.Held.{IsHeld, live_of, pair_of, spelled}
-use Rattle.level_dual.specs.Recalled.{count_of}
-use Rattle.level_dual.specs.Searched.{IsComponent}
-use Rattle.level_dual.specs.declared.component.Component.{Component}
-use Rattle.level_dual.specs.declared.own_call.OwnCall.{OwnCall}
-use Rattle.level_dual.proofs.HeldCalls.{all_live, in_calls, lives_in, lives_own, re}
+use Rattle.level_systems.specs.Held.{IsHeld, live_of, pair_of, spelled}
+use Rattle.level_systems.specs.Recalled.{count_of}
+use Rattle.level_systems.specs.Searched.{IsComponent}
+use Rattle.level_systems.specs.declared.component.Component.{Component}
+use Rattle.level_systems.specs.declared.own_call.OwnCall.{OwnCall}
+use Rattle.level_systems.proofs.HeldCalls.{all_live, in_calls, lives_in, lives_own, re}
 use Rattle.level_dual.proofs.MemberLaws.{all_members}
 use Rattle.level_dual.proofs.PartLaws.{are_naturals}
-use Rattle.level_dual.proofs.SoundLaws.{in_contains, no_place}
+use Rattle.level_systems.proofs.SoundLaws.{in_contains, no_place}
 use Rattle.level_dual.proofs.SearchLaws.{counts, laws, lives, mine}
 use Rattle.level_dual.proofs.SupportLaws.{in_ordered, position_of, pred_of}
 

@@ -2,8 +2,8 @@
 use Rattle.std.proofs.Common.{◌≡◌, ℕ, zero, suc, ◌+◌, ◌-◌, ◌<◌, ◌≤◌, ◌≤ℤ◌, ℤ, pos, List, [], ◌∷◌, ◌++◌, drop, take, length, Option, None, Some, refl, ap, sym, subst, ◌∙◌, arith}
 use Rattle.std.specs.Prelude.{All}
 use Rattle.linear_rows.specs.declared.multipliers.Multipliers.{Multipliers}
-use Rattle.level_dual.specs.Falling.{values_after}
-use Rattle.level_dual.specs.Recalled.{with_count}
+use Rattle.level_systems.specs.Falling.{values_after}
+use Rattle.level_systems.specs.Recalled.{with_count}
 use Rattle.level_dual.proofs.PartLaws.{all_dropped}
 
 length_after : (xs : List ℤ) (n k : ℕ) → n + k ≤ length xs → k ≤ length (drop n xs)

@@ -27,15 +27,15 @@ use Rattle.termination_model.specs.Rows.{added, scaled}
 use Rattle.termination_model.specs.SupportLaws.{AreFalls}
 use Rattle.termination_model.specs.Systems.{row_over}
 use Rattle.termination_model.specs.View.{fall_over}
-use Rattle.level_dual.specs.Falling.{ShowFalls, ShowsFall, multipliers_of, scale_of, values_after}
-use Rattle.level_dual.specs.Held.{IsHeld, IsReach, live_of, with_live}
-use Rattle.level_dual.specs.Mappings.{level_in}
-use Rattle.level_dual.specs.Pairs.{call_at, clause_at}
-use Rattle.level_dual.specs.Valued.{IsPartOf}
-use Rattle.level_dual.specs.declared.measure.Measure.{Measure}
-use Rattle.level_dual.specs.declared.own_call.OwnCall.{OwnCall}
+use Rattle.level_systems.specs.Falling.{ShowFalls, ShowsFall, multipliers_of, scale_of, values_after}
+use Rattle.level_systems.specs.Held.{IsHeld, IsReach, live_of, with_live}
+use Rattle.level_systems.specs.Mappings.{level_in}
+use Rattle.level_systems.specs.Pairs.{call_at, clause_at}
+use Rattle.level_systems.specs.Valued.{IsPartOf}
+use Rattle.level_systems.specs.declared.measure.Measure.{Measure}
+use Rattle.level_systems.specs.declared.own_call.OwnCall.{OwnCall}
 use Rattle.level_dual.proofs.FoundLaws.{part_of}
-use Rattle.level_dual.proofs.HeldCalls.{re, rows_are}
+use Rattle.level_systems.proofs.HeldCalls.{re, rows_are}
 use Rattle.level_dual.proofs.SearchLaws.{drop_mapped, take_mapped}
 
 -- ---- scale 0 shows any target

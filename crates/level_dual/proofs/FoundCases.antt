@@ -16,13 +16,13 @@ use Rattle.termination_model.specs.Minimal.{IsAbove, IsSet}
 use Rattle.termination_model.specs.Modes.{chosen_up_to, is_part}
 use Rattle.termination_model.proofs.Sets.{of_part, part_same, part_self, set_short, to_part, up_to_set}
 use Rattle.level_dual.specs.Cases.{undecided}
-use Rattle.level_dual.specs.Found.{IsBlownSet, IsFound, IsRefutationOf, count, full, had}
-use Rattle.level_dual.specs.Mappings.{IsMappingOf, mapping_of, support_of}
-use Rattle.level_dual.specs.Searched.{IsDecreasing}
-use Rattle.level_dual.specs.Subsequences.{AreOnce, IsSubsequence}
+use Rattle.level_systems.specs.Found.{IsBlownSet, IsFound, IsRefutationOf, count, full, had}
+use Rattle.level_systems.specs.Mappings.{IsMappingOf, mapping_of, support_of}
+use Rattle.level_systems.specs.Searched.{IsDecreasing}
+use Rattle.level_systems.specs.Subsequences.{AreOnce, IsSubsequence}
 use Rattle.level_dual.specs.Walked.{IsAllWalked, IsCompleted}
-use Rattle.level_dual.specs.declared.found.Found.{Found}
-use Rattle.level_dual.specs.declared.mapping.Mapping.{Mapping}
+use Rattle.level_systems.specs.declared.found.Found.{Found}
+use Rattle.level_systems.specs.declared.mapping.Mapping.{Mapping}
 use Rattle.level_dual.specs.declared.walked.Walked.{Walked}
 use Rattle.level_dual.proofs.Subsequences.{in_whole, once_push}
 use Rattle.level_dual.proofs.WalkSteps.{walk_steps}

@@ -16,20 +16,20 @@ use Rattle.termination_model.specs.Ready.{arity_in, positions_by}
 use Rattle.termination_model.specs.SupportSystem.{support_rows}
 use Rattle.termination_model.specs.Supports.{picked_from}
 use Rattle.termination_model.proofs.Lists.{by_places}
-use Rattle.level_dual.specs.Falling.{AreFallsOf, ShowFalls}
-use Rattle.level_dual.specs.Held.{IsHeld, spelled}
-use Rattle.level_dual.specs.Mappings.{HasMeasures, IsMappingOf, level_in}
-use Rattle.level_dual.specs.Pairs.{call_at, clause_at}
-use Rattle.level_dual.specs.Recalled.{count_of}
-use Rattle.level_dual.specs.Searched.{AreMeasuresAt, IsComponent, IsFoundIn}
-use Rattle.level_dual.specs.declared.component.Component.{Component}
-use Rattle.level_dual.specs.declared.mapping.Mapping.{Mapping}
-use Rattle.level_dual.specs.declared.measure.Measure.{Measure}
-use Rattle.level_dual.specs.declared.own_call.OwnCall.{OwnCall}
-use Rattle.level_dual.specs.declared.position.Position.{Position}
-use Rattle.level_dual.proofs.Falls.{falls_are, pairs_are}
+use Rattle.level_systems.specs.Falling.{AreFallsOf, ShowFalls}
+use Rattle.level_systems.specs.Held.{IsHeld, spelled}
+use Rattle.level_systems.specs.Mappings.{HasMeasures, IsMappingOf, level_in}
+use Rattle.level_systems.specs.Pairs.{call_at, clause_at}
+use Rattle.level_systems.specs.Recalled.{count_of}
+use Rattle.level_systems.specs.Searched.{AreMeasuresAt, IsComponent, IsFoundIn}
+use Rattle.level_systems.specs.declared.component.Component.{Component}
+use Rattle.level_systems.specs.declared.mapping.Mapping.{Mapping}
+use Rattle.level_systems.specs.declared.measure.Measure.{Measure}
+use Rattle.level_systems.specs.declared.own_call.OwnCall.{OwnCall}
+use Rattle.level_systems.specs.declared.position.Position.{Position}
+use Rattle.level_systems.proofs.Falls.{falls_are, pairs_are}
 use Rattle.level_dual.proofs.SearchLaws.{drop_mapped, length_drop, length_take, lives, mine, point_found, split_values, take_mapped}
-use Rattle.level_dual.proofs.SoundLaws.{some_arity}
+use Rattle.level_systems.proofs.SoundLaws.{some_arity}
 
 pub part_of : (P : ℕ → LevelPart → Type 0) (ms : List Measure) (q : ℕ) (l : LevelPart) → AllByRecursion (λ (m : Measure). P m.pred.0 m.part) ms → level_in ms q ≡ Some l → P q l
 part_of P [] q l all e = cc

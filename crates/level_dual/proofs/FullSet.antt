@@ -26,15 +26,15 @@ use Rattle.termination_model.specs.Ready.{arity_in, itself, positions_by}
 use Rattle.termination_model.specs.SupportSystem.{mapping_at, support_rows, unknowns}
 use Rattle.termination_model.specs.Supports.{picked_from, support_from}
 use Rattle.termination_model.specs.View.{Rule, rule_of}
-use Rattle.level_dual.specs.Held.{spelled}
-use Rattle.level_dual.specs.Recalled.{count_of}
-use Rattle.level_dual.specs.Refuted.{IsInFit, lives_of, solution_of}
-use Rattle.level_dual.specs.Searched.{IsComponent}
-use Rattle.level_dual.specs.declared.component.Component.{Component}
+use Rattle.level_systems.specs.Held.{spelled}
+use Rattle.level_systems.specs.Recalled.{count_of}
+use Rattle.level_systems.specs.Refuted.{IsInFit, lives_of, solution_of}
+use Rattle.level_systems.specs.Searched.{IsComponent}
+use Rattle.level_systems.specs.declared.component.Component.{Component}
 use Rattle.level_dual.proofs.LiveCalls.{blown_by_lives}
 use Rattle.level_dual.proofs.PartLaws.{are_naturals}
 use Rattle.level_dual.proofs.SearchLaws.{at_picked, counts, laws, length_drop, length_take, lives, mine, point_decreases, split_values}
-use Rattle.level_dual.proofs.SoundLaws.{inside_member}
+use Rattle.level_systems.proofs.SoundLaws.{inside_member}
 use Rattle.level_dual.proofs.SupportLaws.{in_ordered, position_of, pred_of}
 use Rattle.level_dual.proofs.SystemWidths.{support_wide}
 

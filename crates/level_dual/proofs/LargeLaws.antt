@@ -11,12 +11,12 @@ use Rattle.termination_model.specs.Minimal.{IsExcluded, IsSet}
 use Rattle.termination_model.specs.Modes.{is_part}
 use Rattle.termination_model.proofs.Lists.{taken_more}
 use Rattle.termination_model.proofs.Sets.{to_part}
-use Rattle.level_dual.specs.Found.{IsBlownSet, IsFound, count, without}
+use Rattle.level_systems.specs.Found.{IsBlownSet, IsFound, count, without}
 use Rattle.level_dual.specs.Large.{AreTried, IsHadMapping, IsLeftOut}
-use Rattle.level_dual.specs.Mappings.{support_of}
-use Rattle.level_dual.specs.Subsequences.{AreOnce}
+use Rattle.level_systems.specs.Mappings.{support_of}
+use Rattle.level_systems.specs.Subsequences.{AreOnce}
 use Rattle.level_dual.specs.declared.large.LeftOut.TheVariants.{None as NoneLeft}
-use Rattle.level_dual.specs.declared.mapping.Mapping.{Mapping}
+use Rattle.level_systems.specs.declared.mapping.Mapping.{Mapping}
 use Rattle.level_dual.proofs.Subsequences.{once_push}
 
 pub without_not : (i : ℕ) (s : List ℕ) → In i (without i s) → ⊥

@@ -30,10 +30,10 @@ use Rattle.termination_model.specs.BlownSupports.IsBlownAt.{undecided}
 use Rattle.termination_model.specs.ComponentViews.{component_view, no_truth}
 use Rattle.termination_model.specs.OwnCalls.{OwnCall as Recalled, Position, own_calls, rows_before}
 use Rattle.termination_model.specs.Ready.{arity_in}
-use Rattle.level_dual.specs.Held.{HasPoint, IsHeld, IsReach, live_of, pair_of, with_live}
-use Rattle.level_dual.specs.Pairs.{clause_at, pairs_of}
-use Rattle.level_dual.specs.declared.own_call.OwnCall.{OwnCall}
-use Rattle.level_dual.proofs.HeldCalls.{calls_are, re, rows_are, shown_empty}
+use Rattle.level_systems.specs.Held.{HasPoint, IsHeld, IsReach, live_of, pair_of, with_live}
+use Rattle.level_systems.specs.Pairs.{clause_at, pairs_of}
+use Rattle.level_systems.specs.declared.own_call.OwnCall.{OwnCall}
+use Rattle.level_systems.proofs.HeldCalls.{calls_are, re, rows_are, shown_empty}
 
 -- ---- the test whether rows are empty
 length_zeros : (n : ℕ) → length (zeros n) ≡ n

@@ -8,7 +8,7 @@ use Rattle.number_tests.proofs.SumLists.{entry_sum}
 use Rattle.number_tests.specs.Refuting.{SumsFit}
 use Rattle.termination_model.specs.Refutation.{Load, gather}
 use Rattle.termination_model.specs.Rows.{added}
-use Rattle.level_dual.specs.Refuted.{IsNought}
+use Rattle.level_systems.specs.Refuted.{IsNought}
 use Rattle.level_dual.proofs.SupportLaws.{and_both, and_parts}
 
 pub nought_head : (z : ℤ) (zs : List ℤ) → IsNought (z ∷ zs) → z ≡ pos 0

@@ -8,7 +8,7 @@ use Rattle.number_tests.specs.Shape.{IsLevelPart}
 use Rattle.number_tests.specs.declared.level_part.LevelPart.{LevelPart}
 use Rattle.termination_model.specs.OwnCalls.{Position}
 use Rattle.termination_model.specs.SupportSystem.{mapping_at, value_of_position}
-use Rattle.level_dual.specs.Valued.{IsPartOf}
+use Rattle.level_systems.specs.Valued.{IsPartOf}
 
 length_columns : (k n : ℕ) → length (columns k n) ≡ n
 length_columns k zero = refl

@@ -4,10 +4,10 @@ use Rattle.std.specs.Prelude.{is_some}
 use Rattle.linear_rows.specs.declared.multipliers.Multipliers.{Multipliers}
 use Rattle.number_tests.specs.declared.pair_point.PairPoint.{PairPoint}
 use Rattle.termination_model.proofs.Lists.{append_assoc}
-use Rattle.level_dual.specs.Held.{live_of, with_live}
-use Rattle.level_dual.specs.Refuted.{ArePoints, AreSpelled, IsAdded}
-use Rattle.level_dual.specs.declared.own_call.OwnCall.{OwnCall}
-use Rattle.level_dual.proofs.PairLists.{drop_all, drop_at}
+use Rattle.level_systems.specs.Held.{live_of, with_live}
+use Rattle.level_systems.specs.Refuted.{ArePoints, AreSpelled, IsAdded}
+use Rattle.level_systems.specs.declared.own_call.OwnCall.{OwnCall}
+use Rattle.level_systems.proofs.PairLists.{drop_all, drop_at}
 
 -- ---- lists
 pub take_all : {X : Type 0} (xs : List X) (n : ℕ) → length xs ≤ n → take n xs ≡ xs

@@ -13,13 +13,13 @@ use Rattle.linear_rows.specs.declared.point.Point.{Point}
 use Rattle.number_tests.specs.Shape.{IsPairOf}
 use Rattle.number_tests.specs.declared.pair_point.PairPoint.{PairPoint}
 use Rattle.termination_model.proofs.Lists.{place_below}
-use Rattle.level_dual.specs.Held.{IsHeld}
-use Rattle.level_dual.specs.Pairs.{call_at, clause_at}
-use Rattle.level_dual.specs.Found.{IsOwnPair, PairsAscend}
-use Rattle.level_dual.specs.Refuted.{HasPoints, HasWidths, IsOfCalls, IsPointAt}
-use Rattle.level_dual.proofs.PairLists.{drop_at}
-use Rattle.level_dual.specs.Searched.{IsSoundCall}
-use Rattle.level_dual.specs.declared.own_call.OwnCall.{OwnCall}
+use Rattle.level_systems.specs.Held.{IsHeld}
+use Rattle.level_systems.specs.Pairs.{call_at, clause_at}
+use Rattle.level_systems.specs.Found.{IsOwnPair, PairsAscend}
+use Rattle.level_systems.specs.Refuted.{HasPoints, HasWidths, IsOfCalls, IsPointAt}
+use Rattle.level_systems.proofs.PairLists.{drop_at}
+use Rattle.level_systems.specs.Searched.{IsSoundCall}
+use Rattle.level_systems.specs.declared.own_call.OwnCall.{OwnCall}
 
 widths_long : (m n : ℕ) (o : Option Point) → m ≡ n → IfSome o (λ (y : Point). length y.w ≡ m) → IfSome o (λ (y : Point). length y.w ≡ n)
 widths_long m n None e h = tt

@@ -35,19 +35,19 @@ use Rattle.linear_rows.proofs.Members.{of-map}
 use Rattle.termination_model.proofs.Lists.{indexed}
 use Rattle.termination_model.proofs.Points.{points_fall}
 use Rattle.termination_model.proofs.Readiness.{own_of, positions_are_distinct}
-use Rattle.level_dual.specs.Falling.{AreFallsOf, ShowFalls}
-use Rattle.level_dual.specs.Held.{IsHeld, live_of, pair_of, spelled, with_live}
-use Rattle.level_dual.specs.Mappings.{HasMeasures, IsMappingOf, level_in, mapping_of, support_of}
-use Rattle.level_dual.specs.Recalled.{count_of, with_count}
-use Rattle.level_dual.specs.Searched.{IsComponent, IsFoundIn}
-use Rattle.level_dual.specs.Valued.{IsPartOf}
-use Rattle.level_dual.specs.declared.component.Component.{Component}
-use Rattle.level_dual.specs.declared.mapping.Mapping.{Mapping}
-use Rattle.level_dual.specs.declared.measure.Measure.{Measure}
-use Rattle.level_dual.specs.declared.own_call.OwnCall.{OwnCall}
-use Rattle.level_dual.proofs.HeldCalls.{are_lives, calls_are, lives_few, lives_own, all_live, re, rows_are}
+use Rattle.level_systems.specs.Falling.{AreFallsOf, ShowFalls}
+use Rattle.level_systems.specs.Held.{IsHeld, live_of, pair_of, spelled, with_live}
+use Rattle.level_systems.specs.Mappings.{HasMeasures, IsMappingOf, level_in, mapping_of, support_of}
+use Rattle.level_systems.specs.Recalled.{count_of, with_count}
+use Rattle.level_systems.specs.Searched.{IsComponent, IsFoundIn}
+use Rattle.level_systems.specs.Valued.{IsPartOf}
+use Rattle.level_systems.specs.declared.component.Component.{Component}
+use Rattle.level_systems.specs.declared.mapping.Mapping.{Mapping}
+use Rattle.level_systems.specs.declared.measure.Measure.{Measure}
+use Rattle.level_systems.specs.declared.own_call.OwnCall.{OwnCall}
+use Rattle.level_systems.proofs.HeldCalls.{are_lives, calls_are, lives_few, lives_own, all_live, re, rows_are}
 use Rattle.level_dual.proofs.SupportLaws.{mapping_same, of_ordered, offset_same, part_or_none, pred_of, support_same}
-use Rattle.level_dual.proofs.SoundLaws.{inside_member}
+use Rattle.level_systems.proofs.SoundLaws.{inside_member}
 
 some_all : {X : Type 0} (P : X → Type 0) (xs : List X) → AllByRecursion P xs → (x : X) → SomeOf (λ y. y ≡ x) xs → P x
 some_all P [] all x s = absurd s

@@ -9,13 +9,13 @@ use Rattle.linear_rows.specs.Solving.{Solution, solution}
 use Rattle.linear_rows.specs.Solving.Solution.{Found, Refuted}
 use Rattle.termination_model.specs.OwnCalls.{OwnCall as Recalled}
 use Rattle.termination_model.specs.SupportSystem.{support_rows, unknowns}
-use Rattle.level_dual.specs.Held.{live_of, spelled}
-use Rattle.level_dual.specs.Recalled.{Recalls, count_of}
-use Rattle.level_dual.specs.Refuted.{solution_of}
-use Rattle.level_dual.specs.declared.component.Component.{Component}
-use Rattle.level_dual.specs.declared.own_call.OwnCall.{OwnCall}
-use Rattle.level_dual.specs.declared.position.Position.{Position}
-use Rattle.level_dual.proofs.SystemSteps.{counts_are}
+use Rattle.level_systems.specs.Held.{live_of, spelled}
+use Rattle.level_systems.specs.Recalled.{Recalls, count_of}
+use Rattle.level_systems.specs.Refuted.{solution_of}
+use Rattle.level_systems.specs.declared.component.Component.{Component}
+use Rattle.level_systems.specs.declared.own_call.OwnCall.{OwnCall}
+use Rattle.level_systems.specs.declared.position.Position.{Position}
+use Rattle.level_systems.proofs.SystemSteps.{counts_are}
 
 module _ (expression : ℕ → Tree → List ℤ) (re : OwnCall → Recalled) (x : Component) (recalled : AllByRecursion (λ (own : OwnCall). Recalls expression (re own) own) x.calls.items) where
   -- the code's system is that of all positions

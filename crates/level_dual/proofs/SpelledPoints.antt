@@ -25,13 +25,13 @@ use Rattle.termination_model.specs.ComponentViews.{no_truth}
 use Rattle.termination_model.specs.Excluding.{number_count, pairs_at}
 use Rattle.termination_model.specs.OwnCalls.{OwnCall as Recalled, rows_before}
 use Rattle.termination_model.specs.Refutation.{Pair, call_load, head_load, values_at}
-use Rattle.level_dual.specs.Found.{HasSecondPoint}
-use Rattle.level_dual.specs.Held.{IsHeld, pair_of}
-use Rattle.level_dual.specs.Pairs.{clause_at}
-use Rattle.level_dual.specs.Refuted.{ArePoints, AreSpelled, HasFoundPoint, HasPoints, IsNought}
-use Rattle.level_dual.specs.declared.own_call.OwnCall.{OwnCall}
+use Rattle.level_systems.specs.Found.{HasSecondPoint}
+use Rattle.level_systems.specs.Held.{IsHeld, pair_of}
+use Rattle.level_systems.specs.Pairs.{clause_at}
+use Rattle.level_systems.specs.Refuted.{ArePoints, AreSpelled, HasFoundPoint, HasPoints, IsNought}
+use Rattle.level_systems.specs.declared.own_call.OwnCall.{OwnCall}
 use Rattle.level_dual.proofs.Ascending.{AscendFrom, ascend_lower}
-use Rattle.level_dual.proofs.HeldCalls.{re, rows_are}
+use Rattle.level_systems.proofs.HeldCalls.{re, rows_are}
 use Rattle.level_dual.proofs.LiveCalls.{test_wide, wide_rows}
 use Rattle.level_dual.proofs.Loads.{AreLeft, dot_nought, nought_head}
 use Rattle.level_dual.proofs.PartLaws.{all_natural}

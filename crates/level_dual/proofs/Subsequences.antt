@@ -3,7 +3,7 @@ use Rattle.std.proofs.Common.{◌≡◌, ℕ, suc, ◌+◌, ◌⊎◌, inl, inr,
 use Rattle.linear_rows.specs.Members.{In}
 use Rattle.linear_rows.proofs.Members.{of-append}
 use Rattle.termination_model.proofs.Lists.{taken_more}
-use Rattle.level_dual.specs.Subsequences.{AreOnce, IsSubsequence}
+use Rattle.level_systems.specs.Subsequences.{AreOnce, IsSubsequence}
 
 pub longer : {X : Type 0} (xs ys : List X) (y : X) → IsSubsequence xs ys → IsSubsequence xs (ys ++ y ∷ [])
 longer [] ys y h = tt

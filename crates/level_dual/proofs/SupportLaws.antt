@@ -14,12 +14,12 @@ use Rattle.termination_model.specs.OwnCalls.{Position}
 use Rattle.termination_model.specs.Ready.{arity_in, positions_by}
 use Rattle.termination_model.specs.Supports.{picked_from, support_from}
 use Rattle.number_tests.specs.Shape.{IsLevelPart}
-use Rattle.level_dual.specs.Falling.{HasParts}
-use Rattle.level_dual.specs.Mappings.{HasMeasures, natural_coefficients, level_in, mapping_of, natural_offset}
-use Rattle.level_dual.specs.Searched.{IsSoundCall}
-use Rattle.level_dual.specs.declared.own_call.OwnCall.{OwnCall}
-use Rattle.level_dual.specs.Valued.{IsPartOf}
-use Rattle.level_dual.specs.declared.measure.Measure.{Measure}
+use Rattle.level_systems.specs.Falling.{HasParts}
+use Rattle.level_systems.specs.Mappings.{HasMeasures, natural_coefficients, level_in, mapping_of, natural_offset}
+use Rattle.level_systems.specs.Searched.{IsSoundCall}
+use Rattle.level_systems.specs.declared.own_call.OwnCall.{OwnCall}
+use Rattle.level_systems.specs.Valued.{IsPartOf}
+use Rattle.level_systems.specs.declared.measure.Measure.{Measure}
 
 -- ---- supports
 pub support_same : (ps : List Position) (i : ℕ) (l k : Mapping) → ((x : Position) → In x ps → l.coefficients x.0 ≡ k.coefficients x.0) → support_from i ps l ≡ support_from i ps k

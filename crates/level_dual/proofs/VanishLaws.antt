@@ -32,13 +32,13 @@ use Rattle.termination_model.proofs.Entries.{entry_added, entry_scaled, entry_su
 use Rattle.termination_model.proofs.Lists.{mapped_place, place_below}
 use Rattle.termination_model.proofs.Readiness.{from_in, own_of, some_there}
 use Rattle.termination_model.proofs.Sets.{of_part, to_part}
-use Rattle.level_dual.specs.Held.{AreSizes, IsHeld, spelled}
-use Rattle.level_dual.specs.Searched.{IsComponent}
+use Rattle.level_systems.specs.Held.{AreSizes, IsHeld, spelled}
+use Rattle.level_systems.specs.Searched.{IsComponent}
 use Rattle.level_dual.specs.Vanishing.{AreMarkedOrIn, AreUnlisted, IsSilent, IsVoid, KeepsColumns, Vanishes, sizes_at}
-use Rattle.level_dual.specs.declared.component.Component.{Component}
-use Rattle.level_dual.specs.declared.own_call.OwnCall.{OwnCall}
-use Rattle.level_dual.specs.declared.position.Position.{Position}
-use Rattle.level_dual.proofs.HeldCalls.{all_in, calls_are, re, recalls, rows_are}
+use Rattle.level_systems.specs.declared.component.Component.{Component}
+use Rattle.level_systems.specs.declared.own_call.OwnCall.{OwnCall}
+use Rattle.level_systems.specs.declared.position.Position.{Position}
+use Rattle.level_systems.proofs.HeldCalls.{all_in, calls_are, re, recalls, rows_are}
 use Rattle.termination_model.proofs.Naturals.{never_below}
 
 -- ---- products of natural coefficients

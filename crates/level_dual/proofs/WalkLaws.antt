@@ -13,15 +13,15 @@ use Rattle.termination_model.specs.Minimal.{IsExcluded, IsSet}
 use Rattle.termination_model.specs.Modes.{chosen_up_to, is_part}
 use Rattle.termination_model.proofs.Lists.{map_push}
 use Rattle.termination_model.proofs.Sets.{part_self}
-use Rattle.level_dual.specs.Found.{IsBlownSet}
-use Rattle.level_dual.specs.Held.{spelled}
-use Rattle.level_dual.specs.Mappings.{support_of}
-use Rattle.level_dual.specs.Searched.{IsComponent, IsDecreasing, IsFoundIn}
-use Rattle.level_dual.specs.Subsequences.{IsSubsequence}
+use Rattle.level_systems.specs.Found.{IsBlownSet}
+use Rattle.level_systems.specs.Held.{spelled}
+use Rattle.level_systems.specs.Mappings.{support_of}
+use Rattle.level_systems.specs.Searched.{IsComponent, IsDecreasing, IsFoundIn}
+use Rattle.level_systems.specs.Subsequences.{IsSubsequence}
 use Rattle.level_dual.specs.Walk.{IsWalked}
 use Rattle.level_dual.specs.Walked.{IsAllWalked, IsWalkedTo}
-use Rattle.level_dual.specs.declared.component.Component.{Component}
-use Rattle.level_dual.specs.declared.mapping.Mapping.{Mapping}
+use Rattle.level_systems.specs.declared.component.Component.{Component}
+use Rattle.level_systems.specs.declared.mapping.Mapping.{Mapping}
 use Rattle.level_dual.specs.declared.walked.Walked.{Walked}
 use Rattle.level_dual.proofs.SearchLaws.{laws}
 use Rattle.level_dual.proofs.Subsequences.{kept_order, once_push, pushed_order}

@@ -9,14 +9,14 @@ use Rattle.termination_model.specs.Best.{coefficient}
 use Rattle.termination_model.specs.ComponentViews.{Has, positions_in}
 use Rattle.termination_model.specs.Minimal.{IsExcluded}
 use Rattle.termination_model.specs.OwnCalls.{Position}
-use Rattle.level_dual.specs.Found.{IsBlownSet, without}
-use Rattle.level_dual.specs.Mappings.{mapping_of, support_of}
-use Rattle.level_dual.specs.Searched.{IsDecreasing}
-use Rattle.level_dual.specs.Subsequences.{AreOnce}
+use Rattle.level_systems.specs.Found.{IsBlownSet, without}
+use Rattle.level_systems.specs.Mappings.{mapping_of, support_of}
+use Rattle.level_systems.specs.Searched.{IsDecreasing}
+use Rattle.level_systems.specs.Subsequences.{AreOnce}
 use Rattle.level_dual.specs.declared.large.LeftOut.{LeftOut}
 use Rattle.level_dual.specs.declared.large.LeftOut.TheVariants.{Smaller, None as NoneLeft}
-use Rattle.level_dual.specs.declared.mapping.Mapping.{Mapping}
-use Rattle.level_dual.specs.declared.measure.Measure.{Measure}
+use Rattle.level_systems.specs.declared.mapping.Mapping.{Mapping}
+use Rattle.level_systems.specs.declared.measure.Measure.{Measure}
 
 abbrev pub has_coefficient : List Measure → Position → Bool
 has_coefficient ms x = nat_lt 0 (coefficient ((mapping_of ms).coefficients x.0) x.1)

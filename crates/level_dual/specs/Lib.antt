@@ -1,17 +1,5 @@
 pub mod Cases
-pub mod Collected
-pub mod Falling
-pub mod Found
-pub mod Held
 pub mod Large
-pub mod Mappings
-pub mod Ordered
-pub mod Pairs
-pub mod Recalled
-pub mod Refuted
-pub mod Searched
-pub mod Subsequences
-pub mod Valued
 pub mod Vanishing
 pub mod Walk
 pub mod Walked

@@ -13,8 +13,8 @@ use Rattle.termination_model.specs.Claims.{Mapping}
 use Rattle.termination_model.specs.ComponentViews.{component_view, no_truth, positions_in}
 use Rattle.termination_model.specs.Excluding.{IsAt}
 use Rattle.termination_model.specs.Refutation.{Decreases}
-use Rattle.level_dual.specs.declared.own_call.OwnCall.{OwnCall}
-use Rattle.level_dual.specs.declared.position.Position.{Position}
+use Rattle.level_systems.specs.declared.own_call.OwnCall.{OwnCall}
+use Rattle.level_systems.specs.declared.position.Position.{Position}
 
 -- the position of an argument has this place
 pub record IsPlace (positions : List Position) (q a k : ℕ) : Type 0 where

@@ -8,10 +8,10 @@ use Rattle.call_components.specs.Partition.{Partition}
 use Rattle.termination_model.specs.ComponentViews.{Has, positions_in}
 use Rattle.linear_rows.specs.Members.{In}
 use Rattle.termination_model.specs.Modes.{chosen_up_to, is_part}
-use Rattle.level_dual.specs.Found.{IsBlownSet}
-use Rattle.level_dual.specs.Mappings.{support_of}
-use Rattle.level_dual.specs.Searched.{IsDecreasing}
-use Rattle.level_dual.specs.Subsequences.{AreOnce, IsSubsequence}
+use Rattle.level_systems.specs.Found.{IsBlownSet}
+use Rattle.level_systems.specs.Mappings.{support_of}
+use Rattle.level_systems.specs.Searched.{IsDecreasing}
+use Rattle.level_systems.specs.Subsequences.{AreOnce, IsSubsequence}
 use Rattle.level_dual.specs.Walk.{IsWalked}
 use Rattle.level_dual.specs.declared.walked.Walked.{Walked}
 

@@ -4,17 +4,16 @@ ghost use Rattle.std.specs.Prelude.{◌≡◌, ◌<◌, ◌^◌, ℕ, ℤ, Bool,
 ghost use Rattle.call_components.specs.Partition.{Partition};
 ghost use Rattle.cti_terms.specs.Listing.{Listing};
 ghost use Rattle.cti_terms.specs.Tree.{Tree};
-ghost use Rattle.level_dual.specs.Searched.{IsComponent, IsSound};
+ghost use Rattle.level_systems.specs.Searched.{IsComponent, IsSound};
 ghost use Rattle.level_dual.specs.Vanishing.{IsKnown, IsVoid};
-ghost use Rattle.level_dual.specs.declared.position.Position.{Position};
+ghost use Rattle.level_systems.specs.declared.position.Position.{Position};
 ghost use Rattle.termination_model.specs.ComponentViews.{Has};
 ghost use Rattle.termination_model.specs.Minimal.{IsExcluded};
 
-use crate::answer::Answer;
-use crate::component::Component;
 use crate::searching::search;
 use crate::vanishing::{is_covered, spread, unlisted, unmarked};
 use cti_terms::Program;
+use level_systems::{Answer, Component};
 use sequences::Sequence;
 use std::alloc::{AllocError, Global};
 

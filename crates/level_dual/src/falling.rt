@@ -2,16 +2,14 @@
 
 ghost use Rattle.std.specs.Prelude.{◌≡◌, ◌≤◌, ◌≤ℤ◌, ◌+◌, All, IfOk, IfSome, None, Some, length, pos, suc};
 ghost use Rattle.std.specs.List.{AllByRecursion};
-ghost use Rattle.level_dual.specs.Falling.{AreFallsIf, HasParts, IsFallIf, IsReady, multipliers_of, scale_of, values_after};
-ghost use Rattle.level_dual.specs.Mappings.{level_in};
-ghost use Rattle.level_dual.specs.Recalled.{count_of};
+ghost use Rattle.level_systems.specs.Falling.{AreFallsIf, HasParts, IsFallIf, IsReady, multipliers_of, scale_of, values_after};
+ghost use Rattle.level_systems.specs.Mappings.{level_in};
+ghost use Rattle.level_systems.specs.Recalled.{count_of};
 ghost use Rattle.linear_rows.specs.Plain.{HaveWidth};
 ghost use Rattle.linear_rows.specs.Showing.{AreMultipliers};
 
-use crate::fall::Fall;
-use crate::measure::Measure;
-use crate::own_call::OwnCall;
 use cti_terms::PredId;
+use level_systems::{Fall, Measure, OwnCall};
 use linear_rows::{Multipliers, Numbers};
 use number_tests::{LevelPart, fall_flaw, weigh_fall};
 use sequences::Sequence;

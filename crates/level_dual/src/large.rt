@@ -3,25 +3,20 @@
 ghost use Rattle.std.specs.Prelude.{◌≡◌, ◌↔◌, ◌<◌, ◌^◌, ℕ, ℤ, Bool, List, IfOk, IsTrue, length, map, nat_lt, true};
 ghost use Rattle.call_components.specs.Partition.{Partition};
 ghost use Rattle.cti_terms.specs.Tree.{Tree};
-ghost use Rattle.level_dual.specs.Found.{IsFound, count, without};
-ghost use Rattle.level_dual.specs.Held.{spelled};
+ghost use Rattle.level_systems.specs.Found.{IsFound, count, without};
+ghost use Rattle.level_systems.specs.Held.{spelled};
 ghost use Rattle.level_dual.specs.Large.{IsHadMapping, IsLeftOut, IsShorterThan, has_coefficient};
-ghost use Rattle.level_dual.specs.Mappings.{support_of};
-ghost use Rattle.level_dual.specs.Searched.{IsAnswer, IsComponent, IsSound};
-ghost use Rattle.level_dual.specs.Subsequences.{AreOnce};
+ghost use Rattle.level_systems.specs.Mappings.{support_of};
+ghost use Rattle.level_systems.specs.Searched.{IsAnswer, IsComponent, IsSound};
+ghost use Rattle.level_systems.specs.Subsequences.{AreOnce};
 ghost use Rattle.level_dual.specs.Vanishing.{IsKnown};
 
-use crate::answer::Answer;
-use crate::component::Component;
 use crate::excluding::exclude;
 use crate::falling::find_part;
-use crate::found::Found;
-use crate::mapping::Mapping;
-use crate::measure::Measure;
-use crate::position::Position;
 use crate::searching::search;
 use crate::vanishing::starts_of;
 use cti_terms::Program;
+use level_systems::{Answer, Component, Found, Mapping, Measure, Position};
 use sequences::Sequence;
 use std::alloc::{AllocError, Global};
 

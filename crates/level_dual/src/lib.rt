@@ -8,36 +8,17 @@
 //! and the refutation are tested as the check of a certificate tests them. What is found is said in `specs/Found.antt`.
 #![tactic(auto)]
 
-mod answer;
-mod collect;
-mod collecting;
-mod component;
 mod excluding;
-mod fall;
 mod falling;
 mod finding;
-mod found;
 mod large;
-mod mapping;
-mod measure;
-mod members;
-mod own_call;
-mod picking;
-mod position;
-mod reaching;
 mod refuting;
 mod searching;
 mod small;
-mod solving;
-mod support_rows;
-mod values;
 mod vanishing;
 mod walked;
 mod walking;
 
-pub use fall::Fall;
 pub use finding::mappings;
-pub use found::Found;
-pub use mapping::Mapping;
-pub use measure::Measure;
+pub use level_systems::{Fall, Found, Mapping, Measure};
 pub use number_tests::{LevelPart, PairPoint, Refutation};

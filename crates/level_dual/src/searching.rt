@@ -5,28 +5,23 @@ ghost use Rattle.std.specs.List.{list_any};
 ghost use Rattle.call_components.specs.Numbers.{number_of};
 ghost use Rattle.call_components.specs.Partition.{Partition};
 ghost use Rattle.cti_terms.specs.Tree.{Tree};
-ghost use Rattle.level_dual.specs.Found.{IsBlownSet};
-ghost use Rattle.level_dual.specs.Held.{live_of, pair_of, recalled_at, spelled};
-ghost use Rattle.level_dual.specs.Recalled.{count_of};
-ghost use Rattle.level_dual.specs.Searched.{AreMeasuresAt, IsAnswer, IsComponent, IsMappingIf, IsSound};
-ghost use Rattle.level_dual.specs.declared.own_call.OwnCall.{OwnCall};
+ghost use Rattle.level_systems.specs.Found.{IsBlownSet};
+ghost use Rattle.level_systems.specs.Held.{live_of, pair_of, recalled_at, spelled};
+ghost use Rattle.level_systems.specs.Recalled.{count_of};
+ghost use Rattle.level_systems.specs.Searched.{AreMeasuresAt, IsAnswer, IsComponent, IsMappingIf, IsSound};
+ghost use Rattle.level_systems.specs.declared.own_call.OwnCall.{OwnCall};
 ghost use Rattle.linear_rows.specs.Plain.{HaveWidth, plain_rows};
 ghost use Rattle.termination_model.specs.BlownSupports.{same_position};
 ghost use Rattle.termination_model.specs.Supports.{AreDistinct, picked_from};
 ghost use Rattle.termination_model.specs.SupportSystem.{support_rows};
 
-use crate::answer::Answer;
-use crate::component::Component;
 use crate::falling::falls_of;
-use crate::mapping::Mapping;
-use crate::measure::Measure;
-use crate::picking::{in_order, picked};
-use crate::position::Position;
-use crate::solving::solve_by;
-use crate::support_rows::support_system;
-use crate::values::level_part;
 use cti_terms::Program;
 use fourier::{ElimFault, Solved};
+use level_systems::{
+    Answer, Component, Mapping, Measure, Position, in_order, level_part, picked, solve_by,
+    support_system,
+};
 use linear_rows::{Numbers, Rows};
 use sequences::Sequence;
 use std::alloc::{AllocError, Global};

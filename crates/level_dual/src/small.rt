@@ -4,17 +4,16 @@ ghost use Rattle.std.specs.Prelude.{◌≡◌, ◌↔◌, ◌<◌, ◌^◌, ◌+
 ghost use Rattle.std.specs.List.{list_any};
 ghost use Rattle.call_components.specs.Partition.{Partition};
 ghost use Rattle.cti_terms.specs.Tree.{Tree};
-ghost use Rattle.level_dual.specs.Found.{IsBlownSet, IsFound, count, had};
-ghost use Rattle.level_dual.specs.Searched.{IsComponent, IsSound};
+ghost use Rattle.level_systems.specs.Found.{IsBlownSet, IsFound, count, had};
+ghost use Rattle.level_systems.specs.Searched.{IsComponent, IsSound};
 ghost use Rattle.level_dual.specs.Walked.{IsCompleted};
 ghost use Rattle.linear_rows.specs.Step.{columns};
 ghost use Rattle.termination_model.specs.Modes.{is_part};
 
-use crate::component::Component;
-use crate::found::Found;
 use crate::walked::Walked;
 use crate::walking::{is_part, walk};
 use cti_terms::Program;
+use level_systems::{Component, Found};
 use sequences::Sequence;
 use std::alloc::{AllocError, Global};
 

@@ -7,15 +7,14 @@
 ghost use Rattle.std.specs.Prelude.{◌≡◌, ◌<◌, ◌^◌, ℕ, suc, pos, IfOk, IfSome, Some, length, slice_get, true};
 ghost use Rattle.std.specs.List.{AllByRecursion};
 ghost use Rattle.exact128.specs.Sums.{entry};
-ghost use Rattle.level_dual.specs.Recalled.{HasNumbers};
+ghost use Rattle.level_systems.specs.Recalled.{HasNumbers};
 ghost use Rattle.level_dual.specs.Vanishing.{AreMarkedOrIn, AreUnlisted, IsMarkedAt, IsPlace, IsSilent, KeepsColumns, Vanishes, sizes_at};
 ghost use Rattle.termination_model.specs.Best.{coefficient};
 ghost use Rattle.termination_model.specs.Claims.{Mapping};
 
-use crate::own_call::OwnCall;
-use crate::position::Position;
 use crate::refuting::is_nought;
 use cti_terms::PredId;
+use level_systems::{OwnCall, Position};
 use linear_rows::Rows;
 use std::alloc::{AllocError, Global};
 

@@ -1,6 +1,6 @@
 //! What a walk over sets of positions has found.
 
-use crate::mapping::Mapping;
+use level_systems::Mapping;
 use sequences::Sequence;
 
 /// The minimal supports that were found, each with its mapping, and the sets that were given up.

@@ -4,15 +4,14 @@ ghost use Rattle.std.specs.Prelude.{◌≡◌, ◌||◌, ◌<◌, ◌^◌, ◌+�
 ghost use Rattle.std.specs.List.{list_any};
 ghost use Rattle.call_components.specs.Partition.{Partition};
 ghost use Rattle.cti_terms.specs.Tree.{Tree};
-ghost use Rattle.level_dual.specs.Searched.{IsComponent, IsSound};
+ghost use Rattle.level_systems.specs.Searched.{IsComponent, IsSound};
 ghost use Rattle.level_dual.specs.Walked.{IsAllWalked, IsWalkedTo};
 ghost use Rattle.termination_model.specs.Modes.{chosen_up_to, is_part};
 
-use crate::answer::Answer;
-use crate::component::Component;
 use crate::searching::search;
 use crate::walked::Walked;
 use cti_terms::Program;
+use level_systems::{Answer, Component};
 use sequences::Sequence;
 use std::alloc::{AllocError, Global};
 use termination_model::number_sets;

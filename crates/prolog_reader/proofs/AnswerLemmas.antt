@@ -14,8 +14,8 @@ use Rattle.prolog_grammar.specs.Walk.{walk}
 use Rattle.prolog_grammar.proofs.OneVerdict.{verdict_found}
 use Rattle.prolog_reader.specs.declared.fault.ReadKind.{ReadKind}
 use Rattle.prolog_reader.specs.declared.fault.ReadKind.TheVariants.{Lex, BadOp}
-use Rattle.prolog_reader.specs.Clauses.{Clause, place}
-use Rattle.prolog_reader.specs.Symbols.{Seen, none_seen, tokens_of, seen_after_all}
+use Rattle.prolog_terms.specs.Clauses.{Clause, place}
+use Rattle.prolog_terms.specs.Symbols.{Seen, none_seen, tokens_of, seen_after_all}
 use Rattle.prolog_operators.specs.Table.{Table, standard}
 use Rattle.prolog_reader.specs.Views.{table_rules}
 use Rattle.prolog_reader.specs.Words.{known, words_of}
@@ -24,8 +24,8 @@ use Rattle.prolog_reader.specs.Reading.{Fault, Answer, fault_at, before_rest, cl
 use Rattle.prolog_reader.specs.Scan.{Outcome, scan, Gives, Finds}
 use Rattle.prolog_reader.specs.Answers.{AnswersText}
 use Rattle.prolog_operators.specs.Names.{Extends}
-use Rattle.prolog_reader.specs.Terms.{tree_of, clause_of}
-use Rattle.prolog_reader.specs.declared.clause.ReadClause.{ReadClause}
+use Rattle.prolog_terms.specs.Terms.{tree_of, clause_of}
+use Rattle.prolog_terms.specs.declared.clause.ReadClause.{ReadClause}
 use Rattle.prolog_reader.specs.declared.clause_reading.Found.{Found}
 use Rattle.prolog_reader.specs.declared.clause_reading.Found.TheVariants as found
 use Rattle.prolog_tokens.proofs.StreamLemmas.{after_token, at_end, at_fault}

@@ -14,7 +14,7 @@ use Rattle.prolog_tokens.proofs.NextLemmas.{token_within}
 use Rattle.prolog_grammar.specs.Token.{Token}
 use Rattle.prolog_grammar.specs.Fault.{IsClause, CanGoOn, IsUnexpected, IsDeep, is_name}
 use Rattle.prolog_grammar.specs.Machine.{start}
-use Rattle.prolog_reader.specs.Symbols.{Seen, none_seen, touches_before, is_minus, joins_before, kind_token, kind_seen, token_of, seen_after, tokens_of, seen_after_all}
+use Rattle.prolog_terms.specs.Symbols.{Seen, none_seen, touches_before, is_minus, joins_before, kind_token, kind_seen, token_of, seen_after, tokens_of, seen_after_all}
 use Rattle.prolog_operators.specs.Table.{Table}
 use Rattle.prolog_reader.specs.Reading.{before_rest}
 use Rattle.prolog_reader.specs.Completion.{end_behind, EndClauses, rules_by, seen_tokens, IsCompleted}

@@ -3,7 +3,7 @@ use Rattle.std.proofs.Common.{◌≡◌, ◌≢◌, ℕ, ◌<◌, ◌==◌, Bool
 use Rattle.std.proofs.lemmas.List.{length-map}
 use Rattle.prolog_grammar.specs.Placed.{Tree, tree, Var, Int, Fun, no_trees, more_trees}
 use Rattle.prolog_operators.specs.declared.kind.OpKind.{OpKind}
-use Rattle.prolog_reader.specs.Clauses.{list_of, nodes}
+use Rattle.prolog_terms.specs.Clauses.{list_of, nodes}
 use Rattle.prolog_operators.specs.Table.{Table, with_operator}
 use Rattle.prolog_reader.specs.Words.{Words}
 use Rattle.prolog_reader.specs.Knowing.{done_effect}

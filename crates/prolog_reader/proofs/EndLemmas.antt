@@ -13,12 +13,12 @@ use Rattle.prolog_reader.specs.declared.part.Part.{Part as CodePart}
 use Rattle.prolog_reader.specs.declared.state.State.{State as CodeState}
 use Rattle.prolog_reader.specs.declared.state.Refusal.{Refusal}
 use Rattle.prolog_reader.specs.declared.state.Refusal.TheVariants as refusal
-use Rattle.prolog_reader.specs.Clauses.{Clause}
+use Rattle.prolog_terms.specs.Clauses.{Clause}
 use Rattle.prolog_reader.specs.FoundFit.{IsClauseFit}
 use Rattle.prolog_reader.specs.Parsing.{rules, frames}
 use Rattle.prolog_reader.specs.Progress.{text_of, table, known, seen, IsClause, IsEnd, end_kind}
 use Rattle.prolog_reader.specs.Scan.{Closes}
-use Rattle.prolog_reader.specs.Terms.{tree_of, clause_of}
+use Rattle.prolog_terms.specs.Terms.{tree_of, clause_of}
 use Rattle.prolog_reader.specs.Views.{part_view, state_of, refusal_of}
 use Rattle.prolog_reader.proofs.FitLemmas.{next_fine, next_within, clause_fit}
 use Rattle.prolog_reader.proofs.RunLemmas.{part_tree_view, clause_by, closes_none, closes_step}

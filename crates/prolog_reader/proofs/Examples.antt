@@ -11,7 +11,7 @@ use Rattle.prolog_operators.specs.declared.kind.OpKind.TheVariants.{Xfx}
 use Rattle.prolog_operators.specs.declared.fault.OpFault.TheVariants.{BadPriority, BadName}
 use Rattle.prolog_reader.specs.declared.fault.ReadKind.TheVariants.{Lex, Unexpected}
 use Rattle.prolog_tokens.specs.declared.fault.LexKind.TheVariants.{Unclosed}
-use Rattle.prolog_reader.specs.Symbols.{none_seen, tokens_of, seen_after_all}
+use Rattle.prolog_terms.specs.Symbols.{none_seen, tokens_of, seen_after_all}
 use Rattle.prolog_operators.specs.Table.{standard, setting}
 use Rattle.prolog_reader.specs.Words.{words_of}
 use Rattle.prolog_reader.specs.Directive.{Effect, sets, refuses, effect}

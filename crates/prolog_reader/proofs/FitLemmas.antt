@@ -5,7 +5,7 @@ use Rattle.prolog_grammar.specs.Token.{Token}
 use Rattle.prolog_grammar.specs.Placed.{Tree, Part, part_tree, Known}
 use Rattle.prolog_grammar.specs.Machine.{State}
 use Rattle.prolog_grammar.specs.Walk.{Next, walk_step}
-use Rattle.prolog_reader.specs.Clauses.{nodes, is_below, is_known}
+use Rattle.prolog_terms.specs.Clauses.{nodes, is_below, is_known}
 use Rattle.prolog_operators.specs.Names.{Extends}
 use Rattle.prolog_reader.specs.Words.{known}
 use Rattle.prolog_operators.specs.Table.{Table}

@@ -4,7 +4,6 @@ pub mod NamingLemmas
 pub mod MachineLemmas
 pub mod StackLemmas
 pub mod WalkLemmas
-pub mod VariableLemmas
 pub mod TextLemmas
 pub mod LexLemmas
 pub mod SymbolLemmas

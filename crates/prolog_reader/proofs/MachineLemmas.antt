@@ -2,11 +2,11 @@
 use Rattle.std.proofs.Common.{◌≡◌, ℕ, suc, ◌+◌, length, List, [], ◌∷◌, ◌++◌, refl, map, ap, arith, ◌∙◌, reverse}
 use Rattle.std.proofs.lemmas.List.{reverse-append}
 use Rattle.prolog_reader.specs.declared.part.Part.{Part as CodePart}
-use Rattle.prolog_reader.specs.declared.term.ReadTerm.{ReadTerm}
+use Rattle.prolog_terms.specs.declared.term.ReadTerm.{ReadTerm}
 use Rattle.prolog_grammar.specs.Placed.{Trees, no_trees, more_trees, Part, part_tree, row_of, depth_of, Known, named_at, chain}
 use Rattle.prolog_grammar.specs.Syntax.{greater}
-use Rattle.prolog_reader.specs.Clauses.{row}
-use Rattle.prolog_reader.specs.Terms.{tree_of}
+use Rattle.prolog_terms.specs.Clauses.{row}
+use Rattle.prolog_terms.specs.Terms.{tree_of}
 use Rattle.prolog_reader.specs.Views.{part_view}
 
 -- one term more

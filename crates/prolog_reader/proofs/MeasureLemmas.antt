@@ -8,7 +8,7 @@ use Rattle.prolog_grammar.specs.Placed.{Var, Int, Part, row_of, Known, place_of,
 use Rattle.prolog_grammar.specs.Machine.{Open, group_open, curly_open, arguments_open, items_open, tail_open, Frame, infix_frame, prefix_frame, open_frame, State, want, named, titled, bracketed, braced, have, unsure, infix_only, next, fault, Ended, closed, goes_on, wrong, ends}
 use Rattle.prolog_grammar.specs.Run.{height, want_load}
 use Rattle.prolog_grammar.specs.Walk.{Next, go_on, stuck, finished, unexpected_here, deep_here, judged, walk_want, walk_take, walk_ended, walk_text, walk_have, walk_apply, or_stuck, only_stuck, walk_fork, walk_prefix, walk_apart, walk_named, walk_titled, walk_bracketed, walk_braced, walk_step}
-use Rattle.prolog_reader.specs.Clauses.{all_nodes, all_below, all_known}
+use Rattle.prolog_terms.specs.Clauses.{all_nodes, all_below, all_known}
 use Rattle.prolog_reader.specs.Measures.{value_weight, weight, part_nodes, parts_nodes, open_nodes, stack_nodes, state_nodes, NextWithin, IsFine, AreFine, IsHeadFine, IsOpenFine, IsStackFine, IsStateFine, IsNextFine, IsValueFine, IsTokenFine}
 
 row_nodes : (ps : List Part) → all_nodes (row_of ps) ≡ parts_nodes ps

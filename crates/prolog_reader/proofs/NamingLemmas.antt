@@ -6,7 +6,7 @@ use Rattle.prolog_tokens.specs.Stream.{Lexes, ends}
 use Rattle.prolog_tokens.specs.declared.token.Token.{Token as TextToken}
 use Rattle.prolog_tokens.specs.declared.fault.LexFault.{LexFault}
 use Rattle.prolog_tokens.proofs.StreamLemmas.{after_token, at_end}
-use Rattle.prolog_reader.specs.declared.clause.ReadClause.{ReadClause}
+use Rattle.prolog_terms.specs.declared.clause.ReadClause.{ReadClause}
 use Rattle.prolog_reader.specs.declared.fault.ReadKind.{ReadKind}
 use Rattle.prolog_reader.specs.declared.clause_reading.Found.{Found}
 use Rattle.prolog_reader.specs.declared.clause_reading.Found.TheVariants as found

@@ -14,9 +14,9 @@ use Rattle.prolog_reader.specs.declared.fault.ReadKind.TheVariants.{BadOp}
 use Rattle.prolog_reader.specs.declared.fault.ReadFault.{ReadFault}
 use Rattle.prolog_reader.specs.declared.fault.ReadFault.TheVariants.{Fault as Refused, Memory}
 use Rattle.prolog_reader.specs.declared.text.ReadText.{ReadText}
-use Rattle.prolog_reader.specs.declared.clause.ReadClause.{ReadClause}
-use Rattle.prolog_reader.specs.Clauses.{Clause}
-use Rattle.prolog_reader.specs.Terms.{clause_of}
+use Rattle.prolog_terms.specs.declared.clause.ReadClause.{ReadClause}
+use Rattle.prolog_terms.specs.Clauses.{Clause}
+use Rattle.prolog_terms.specs.Terms.{clause_of}
 use Rattle.prolog_operators.specs.Names.{Extends}
 use Rattle.prolog_operators.specs.Meanings.{table_of}
 use Rattle.prolog_operators.specs.Table.{Table, standard}

@@ -16,16 +16,16 @@ use Rattle.prolog_grammar.specs.Fault.{ReadFault as ClauseFault, unexpected, dee
 use Rattle.prolog_grammar.specs.Placed.{Part, part_tree}
 use Rattle.prolog_grammar.specs.Places.{IsPlaced}
 use Rattle.prolog_grammar.proofs.PlacesKept.{IsWithin, reading_placed}
-use Rattle.prolog_reader.specs.declared.clause.ReadClause.{ReadClause}
+use Rattle.prolog_terms.specs.declared.clause.ReadClause.{ReadClause}
 use Rattle.prolog_reader.specs.declared.fault.ReadFault.{ReadFault}
 use Rattle.prolog_reader.specs.declared.fault.ReadFault.TheVariants.{Fault as Refused, Memory}
 use Rattle.prolog_reader.specs.declared.text.ReadText.{ReadText}
 use Rattle.prolog_reader.specs.Answers.{AnswersText, AnswersQuery, RefusesText, RefusesQuery}
-use Rattle.prolog_reader.specs.Clauses.{Clause}
+use Rattle.prolog_terms.specs.Clauses.{Clause}
 use Rattle.prolog_operators.specs.Meanings.{table_of}
 use Rattle.prolog_reader.specs.Places.{ArePlacedClauses, IsFaultPlaced}
-use Rattle.prolog_reader.specs.Terms.{clause_of}
-use Rattle.prolog_reader.specs.Symbols.{Seen, none_seen, kind_token, touches_before, joins_before, tokens_of, seen_after}
+use Rattle.prolog_terms.specs.Terms.{clause_of}
+use Rattle.prolog_terms.specs.Symbols.{Seen, none_seen, kind_token, touches_before, joins_before, tokens_of, seen_after}
 use Rattle.prolog_operators.specs.Table.{Table}
 use Rattle.prolog_reader.specs.Words.{known}
 use Rattle.prolog_reader.specs.Reading.{Fault, Answer, fault_at, place_at, before_rest, clause_at, clause_fault, with_clause, if_nothing_left, end_of, clause_tokens, ReadsBy, Answers, all_read, stops, bad_operator, one_more, IsTextAnswer, too_long, by_clauses, query_tokens, query_answer, IsQueryAnswer, too_long_query, by_tokens}

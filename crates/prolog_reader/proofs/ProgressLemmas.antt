@@ -17,7 +17,7 @@ use Rattle.prolog_reader.specs.declared.clause_reading.Found.{Found}
 use Rattle.prolog_reader.specs.declared.clause_reading.Found.TheVariants as found
 use Rattle.prolog_reader.specs.declared.fault.ReadKind.TheVariants.{Lex, Unexpected, Deep}
 use Rattle.prolog_operators.specs.declared.operators.Ops.{Ops}
-use Rattle.prolog_reader.specs.declared.symbol.Known.{Known as CodeKnown}
+use Rattle.prolog_terms.specs.declared.symbol.Known.{Known as CodeKnown}
 use Rattle.prolog_reader.specs.declared.part.Part.{Part as CodePart}
 use Rattle.prolog_reader.specs.declared.state.State.{State as CodeState}
 use Rattle.prolog_reader.specs.declared.state.State.TheVariants as state
@@ -32,10 +32,10 @@ use Rattle.prolog_reader.specs.Parsing.{rules, frames}
 use Rattle.prolog_reader.specs.Progress.{text_of, table, known, seen, IsSame, Start, Begins, IsReady, AreNamed, IsTaken, advanced, IsClause, IsRefusal, IsEnd, IsFound, IsMoved, Running, Taken, IsBefore, IsAfter}
 use Rattle.prolog_reader.specs.Ranges.{IsWithin}
 use Rattle.prolog_reader.specs.Scan.{closing_of, Finds, IsNextFault, Closes}
-use Rattle.prolog_reader.specs.Symbols.{Seen, token_of, seen_after}
-use Rattle.prolog_reader.specs.Terms.{tree_of, clause_of}
+use Rattle.prolog_terms.specs.Symbols.{Seen, token_of, seen_after}
+use Rattle.prolog_terms.specs.Terms.{tree_of, clause_of}
 use Rattle.prolog_reader.specs.Words.{known as known_names}
-use Rattle.prolog_reader.specs.Clauses.{Clause}
+use Rattle.prolog_terms.specs.Clauses.{Clause}
 use Rattle.prolog_reader.specs.Naming.{with_names, token_texts}
 use Rattle.prolog_reader.specs.Limits.{most_openers}
 use Rattle.prolog_reader.specs.Views.{rules_of, known_of, part_view, state_of, step_of}

@@ -16,9 +16,9 @@ use Rattle.prolog_reader.specs.declared.fault.ReadKind.{ReadKind}
 use Rattle.prolog_reader.specs.declared.fault.ReadKind.TheVariants.{Lex, Unexpected}
 use Rattle.prolog_reader.specs.declared.clause_reading.Found.{Found}
 use Rattle.prolog_reader.specs.declared.clause_reading.Found.TheVariants as found
-use Rattle.prolog_reader.specs.Clauses.{Clause}
+use Rattle.prolog_terms.specs.Clauses.{Clause}
 use Rattle.prolog_operators.specs.Names.{Extends}
-use Rattle.prolog_reader.specs.Symbols.{Seen}
+use Rattle.prolog_terms.specs.Symbols.{Seen}
 use Rattle.prolog_operators.specs.Table.{Table}
 use Rattle.prolog_reader.specs.Views.{table_rules}
 use Rattle.prolog_reader.specs.Words.{known}

@@ -18,9 +18,9 @@ use Rattle.prolog_grammar.specs.Walk.{Next, go_on, stuck, finished, unexpected_h
 use Rattle.prolog_reader.specs.declared.fault.ReadKind.TheVariants.{Lex, Unexpected, Deep}
 use Rattle.prolog_reader.specs.declared.clause_reading.Found.{Found}
 use Rattle.prolog_reader.specs.declared.clause_reading.Found.TheVariants as found
-use Rattle.prolog_reader.specs.Clauses.{Clause}
+use Rattle.prolog_terms.specs.Clauses.{Clause}
 use Rattle.prolog_operators.specs.Names.{Extends}
-use Rattle.prolog_reader.specs.Symbols.{Seen, none_seen, token_of, kind_seen, seen_after}
+use Rattle.prolog_terms.specs.Symbols.{Seen, none_seen, token_of, kind_seen, seen_after}
 use Rattle.prolog_operators.specs.Table.{Table}
 use Rattle.prolog_reader.specs.Views.{from_tree, table_rules}
 use Rattle.prolog_reader.specs.Reading.{fault_at}
@@ -29,7 +29,7 @@ use Rattle.prolog_reader.specs.Progress.{Running, Taken}
 use Rattle.prolog_reader.specs.Scan.{Outcome, scanned, scan_end, scan, closing_of, IsNextFault, Closes, Gives, Finds}
 use Rattle.prolog_reader.proofs.LexLemmas.{cursor, none_past}
 use Rattle.prolog_operators.proofs.NameLemmas.{extends_trans}
-use Rattle.prolog_reader.proofs.VariableLemmas.{variable_count}
+use Rattle.prolog_terms.proofs.VariableLemmas.{variable_count}
 use Rattle.prolog_reader.proofs.ScanLemmas.{scan_step, scan_last}
 
 -- a term under way is its plain term

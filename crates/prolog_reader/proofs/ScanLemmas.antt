@@ -15,7 +15,7 @@ use Rattle.prolog_grammar.specs.Placed.{Part}
 use Rattle.prolog_grammar.specs.Rules.{Rules}
 use Rattle.prolog_grammar.specs.Machine.{State}
 use Rattle.prolog_grammar.specs.Walk.{Next, go_on, stuck, finished, unexpected_here, deep_here, walk_step, walked, walk}
-use Rattle.prolog_reader.specs.Symbols.{Seen, kind_token, touches_before, joins_before, token_of, tokens_of, seen_after, seen_after_all}
+use Rattle.prolog_terms.specs.Symbols.{Seen, kind_token, touches_before, joins_before, token_of, tokens_of, seen_after, seen_after_all}
 use Rattle.prolog_reader.specs.Reading.{before_rest, clause_fault}
 use Rattle.prolog_reader.specs.Scan.{Outcome, scanned, scan_end, scan}
 use Rattle.prolog_reader.proofs.LexLemmas.{cursor, paren_there, paren_is}

@@ -11,8 +11,8 @@ use Rattle.prolog_grammar.specs.Machine.{State, start}
 use Rattle.prolog_grammar.specs.Walk.{Next, go_on, stuck, finished, unexpected_here, deep_here, walk_step, walked, walk}
 use Rattle.prolog_grammar.proofs.OneVerdict.{verdict_found}
 use Rattle.prolog_reader.specs.declared.fault.ReadKind.TheVariants.{Long, BadOp}
-use Rattle.prolog_reader.specs.Clauses.{Clause}
-use Rattle.prolog_reader.specs.Symbols.{Seen, none_seen, tokens_of, seen_after}
+use Rattle.prolog_terms.specs.Clauses.{Clause}
+use Rattle.prolog_terms.specs.Symbols.{Seen, none_seen, tokens_of, seen_after}
 use Rattle.prolog_operators.specs.Table.{Table, standard}
 use Rattle.prolog_reader.specs.Views.{table_rules}
 use Rattle.prolog_reader.specs.Words.{known, words_of}

@@ -5,7 +5,7 @@ use Rattle.prolog_tokens.specs.Decoding.{characters_of}
 use Rattle.prolog_tokens.specs.declared.token.TokenKind.TheVariants as kind
 use Rattle.prolog_tokens.specs.declared.token.Token.{Token}
 use Rattle.prolog_grammar.specs.Token.{Name}
-use Rattle.prolog_reader.specs.Symbols.{Seen, token_of}
+use Rattle.prolog_terms.specs.Symbols.{Seen, token_of}
 
 -- a name, quoted or not
 pub named_token : (names : List (List ℕ)) (text : List ℕ) (seen : Seen) (before : Option Token) (t : Token) (n : ℕ) → (t.kind ≡ kind.Name) ⊎ (t.kind ≡ kind.Quoted)

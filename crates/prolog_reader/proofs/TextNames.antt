@@ -5,7 +5,7 @@ use Rattle.prolog_tokens.specs.Stream.{Lexes}
 use Rattle.prolog_tokens.specs.declared.token.Token.{Token as TextToken}
 use Rattle.prolog_tokens.specs.declared.fault.LexFault.{LexFault}
 use Rattle.prolog_tokens.proofs.StreamLemmas.{after_token, at_end}
-use Rattle.prolog_reader.specs.declared.clause.ReadClause.{ReadClause}
+use Rattle.prolog_terms.specs.declared.clause.ReadClause.{ReadClause}
 use Rattle.prolog_reader.specs.declared.fault.ReadFault.{ReadFault}
 use Rattle.prolog_reader.specs.declared.fault.ReadFault.TheVariants.{Fault as Refused, Memory}
 use Rattle.prolog_reader.specs.declared.clause_reading.Found.{Found}

@@ -1,13 +1,13 @@
 -- Lemmas on the code's terms.
 use Rattle.std.proofs.Common.{◌≡◌, ℕ, ℤ, List, [], ◌∷◌, ◌++◌, length, refl, map, ap, sym, ◌∙◌, arith, Vec, Global}
-use Rattle.prolog_reader.specs.declared.term.ReadTerm.{ReadTerm, fold_out-ReadTerm}
-use Rattle.prolog_reader.specs.declared.term.ReadShape.{ReadShape, fold-roll-ReadShape}
-use Rattle.prolog_reader.specs.declared.term.ReadShape.TheVariants.{Var, Int, Fun, rolls-Var, rolls-Int, rolls-Fun}
-use Rattle.prolog_reader.specs.declared.term.ReadShape.TheOpen as layer
+use Rattle.prolog_terms.specs.declared.term.ReadTerm.{ReadTerm, fold_out-ReadTerm}
+use Rattle.prolog_terms.specs.declared.term.ReadShape.{ReadShape, fold-roll-ReadShape}
+use Rattle.prolog_terms.specs.declared.term.ReadShape.TheVariants.{Var, Int, Fun, rolls-Var, rolls-Int, rolls-Fun}
+use Rattle.prolog_terms.specs.declared.term.ReadShape.TheOpen as layer
 use Rattle.prolog_grammar.specs.Placed.{Tree, tree, Shape, Var as PlainVar, Int as PlainInt, Fun as PlainFun, Trees, no_trees, more_trees}
 use Rattle.cti_terms.specs.declared.naming.Name.{Name}
-use Rattle.prolog_reader.specs.Clauses.{row, list_of, arity}
-use Rattle.prolog_reader.specs.Terms.{shape_step, term_step, tree_of, shape_of}
+use Rattle.prolog_terms.specs.Clauses.{row, list_of, arity}
+use Rattle.prolog_terms.specs.Terms.{shape_step, term_step, tree_of, shape_of}
 
 -- one argument more
 pub trees_push : (ts : List ReadTerm) (t : ReadTerm) → map tree_of (ts ++ t ∷ []) ≡ map tree_of ts ++ tree_of t ∷ []

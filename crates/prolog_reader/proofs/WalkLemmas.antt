@@ -8,7 +8,7 @@ use Rattle.prolog_reader.specs.Limits.{most_openers}
 use Rattle.prolog_reader.specs.Views.{known_of, token_of, table_rules, operator_frame}
 use Rattle.prolog_reader.specs.declared.parser.Parser.{Parser}
 use Rattle.prolog_reader.specs.declared.state.Step.{Step}
-use Rattle.prolog_reader.specs.declared.symbol.Symbol.{Symbol}
+use Rattle.prolog_terms.specs.declared.symbol.Symbol.{Symbol}
 use Rattle.prolog_operators.specs.Meanings.{table_of}
 use Rattle.prolog_reader.specs.Parsing.{rules, frames, Leads, infix_move, term_move, applied}
 use Rattle.prolog_grammar.specs.Placed.{Part, Known}

@@ -6,7 +6,7 @@ use Rattle.prolog_tokens.specs.declared.token.TokenKind.TheVariants as kind
 use Rattle.prolog_tokens.specs.declared.token.Token.{Token as TextToken}
 use Rattle.prolog_tokens.proofs.NextLemmas.{token_within}
 use Rattle.prolog_grammar.specs.Token.{Token}
-use Rattle.prolog_reader.specs.Symbols.{Seen, kind_token, touches_before, joins_before, token_of, is_anonymous, is_seen, with_variable, kind_seen, seen_after}
+use Rattle.prolog_terms.specs.Symbols.{Seen, kind_token, touches_before, joins_before, token_of, is_anonymous, is_seen, with_variable, kind_seen, seen_after}
 use Rattle.prolog_reader.specs.Measures.{weight}
 use Rattle.prolog_reader.proofs.TextLemmas.{item_spells}
 

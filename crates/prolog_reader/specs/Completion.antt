@@ -10,7 +10,7 @@ use Rattle.prolog_grammar.specs.Token.{Token}
 use Rattle.prolog_grammar.specs.Rules.{Rules}
 use Rattle.prolog_grammar.specs.Syntax.{Syntax, syntax_rules}
 use Rattle.prolog_grammar.specs.Fault.{IsClause}
-use Rattle.prolog_reader.specs.Symbols.{none_seen, tokens_of}
+use Rattle.prolog_terms.specs.Symbols.{none_seen, tokens_of}
 use Rattle.prolog_operators.specs.Table.{Table}
 use Rattle.prolog_reader.specs.Words.{known}
 

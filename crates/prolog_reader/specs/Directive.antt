@@ -10,7 +10,7 @@ use Rattle.std.specs.Prelude.{ℕ, ◌==◌, ◌||◌, Bool, List, [], ◌∷◌
 use Rattle.prolog_grammar.specs.Placed.{Tree, tree, Shape, Var, Int, Fun, Trees, no_trees, more_trees}
 use Rattle.prolog_operators.specs.declared.kind.OpKind.{OpKind}
 use Rattle.prolog_operators.specs.declared.kind.OpKind.TheVariants.{Xfx, Xfy, Yfx, Fx, Fy}
-use Rattle.prolog_reader.specs.Clauses.{list_of}
+use Rattle.prolog_terms.specs.Clauses.{list_of}
 use Rattle.prolog_operators.specs.Table.{Table, priority_in, with_operators}
 use Rattle.prolog_reader.specs.Words.{Words}
 

@@ -2,7 +2,7 @@
 -- What callers need of the clauses that are read: all numbers are in range.
 use Rattle.std.specs.Prelude.{◌≤◌, ℕ, IsTrue, List, sum_by}
 use Rattle.std.specs.List.{AllByRecursion}
-use Rattle.prolog_reader.specs.Clauses.{Clause, nodes, is_below, is_known}
+use Rattle.prolog_terms.specs.Clauses.{Clause, nodes, is_below, is_known}
 
 -- a clause in which each variable is below its number of variables, and each name below `names`
 pub record IsFit (names : ℕ) (c : Clause) : Type 0 where

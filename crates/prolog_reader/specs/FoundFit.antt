@@ -4,8 +4,8 @@ use Rattle.std.specs.Prelude.{◌+◌, ◌≤◌, ◌<◌, ℕ}
 use Rattle.prolog_grammar.specs.Placed.{Known}
 use Rattle.prolog_reader.specs.declared.clause_reading.Found.{Found}
 use Rattle.prolog_reader.specs.declared.clause_reading.Found.TheVariants as found
-use Rattle.prolog_reader.specs.Clauses.{Clause, nodes}
-use Rattle.prolog_reader.specs.Terms.{clause_of}
+use Rattle.prolog_terms.specs.Clauses.{Clause, nodes}
+use Rattle.prolog_terms.specs.Terms.{clause_of}
 use Rattle.prolog_reader.specs.Fit.{IsFit}
 
 -- the nodes make up no more than the difference

@@ -4,7 +4,7 @@ use Rattle.std.specs.Prelude.{◌≡◌, ℕ, List, Bool, true, false}
 use Rattle.prolog_operators.specs.Table.{Table}
 use Rattle.prolog_reader.specs.Directive.{Effect, sets, refuses}
 use Rattle.prolog_reader.specs.declared.words.Words.{Words as CodeWords}
-use Rattle.prolog_reader.specs.declared.symbol.Known.{Known as CodeKnown}
+use Rattle.prolog_terms.specs.declared.symbol.Known.{Known as CodeKnown}
 use Rattle.prolog_operators.specs.Names.{Extends}
 use Rattle.prolog_reader.specs.Words.{Words, known, words_of}
 use Rattle.prolog_reader.specs.Views.{known_of}

@@ -6,7 +6,7 @@ use Rattle.prolog_grammar.specs.Rules.{Head, plain, brackets, braces}
 use Rattle.prolog_grammar.specs.Placed.{Part, part_tree}
 use Rattle.prolog_grammar.specs.Machine.{Open, group_open, curly_open, arguments_open, items_open, tail_open, Frame, infix_frame, prefix_frame, open_frame, State, want, named, titled, bracketed, braced, have, unsure, infix_only}
 use Rattle.prolog_grammar.specs.Walk.{Next, go_on, finished}
-use Rattle.prolog_reader.specs.Clauses.{nodes, is_below, is_known}
+use Rattle.prolog_terms.specs.Clauses.{nodes, is_below, is_known}
 
 -- a token pays for its own node; a text for two of each character and one
 abbrev pub value_weight : Value → ℕ

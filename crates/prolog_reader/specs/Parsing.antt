@@ -8,8 +8,8 @@ use Rattle.prolog_grammar.specs.Walk.{Next, go_on, deep_here, walk_have, walk_en
 use Rattle.prolog_grammar.specs.Run.{height, inside_height}
 use Rattle.prolog_grammar.specs.Placed.{Part, named_at}
 use Rattle.prolog_operators.specs.declared.operators.Ops.{Ops}
-use Rattle.prolog_reader.specs.declared.symbol.Known.{Known}
-use Rattle.prolog_reader.specs.declared.symbol.Symbol.{Symbol}
+use Rattle.prolog_terms.specs.declared.symbol.Known.{Known}
+use Rattle.prolog_terms.specs.declared.symbol.Symbol.{Symbol}
 use Rattle.prolog_reader.specs.declared.frame.Operator.{Operator}
 use Rattle.prolog_reader.specs.declared.frame.Operator.TheVariants as operator
 use Rattle.prolog_reader.specs.declared.state.NameRead.{NameRead}

@@ -7,7 +7,7 @@ use Rattle.std.specs.List.{AllByRecursion}
 use Rattle.prolog_grammar.specs.Places.{IsPlaced}
 use Rattle.prolog_reader.specs.declared.fault.ReadFault.{ReadFault}
 use Rattle.prolog_reader.specs.declared.fault.ReadFault.TheVariants.{Fault as Refused, Memory}
-use Rattle.prolog_reader.specs.Clauses.{Clause}
+use Rattle.prolog_terms.specs.Clauses.{Clause}
 
 -- all terms of the clauses stand within this number of bytes
 abbrev pub ArePlacedClauses : ℕ → List Clause → Type 0

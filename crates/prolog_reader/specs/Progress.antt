@@ -30,11 +30,11 @@ use Rattle.prolog_operators.specs.Meanings.{table_of}
 use Rattle.prolog_reader.specs.Measures.{IsStateFine, IsNextFine, IsTokenFine, NextWithin, state_nodes}
 use Rattle.prolog_operators.specs.Names.{Extends}
 use Rattle.prolog_reader.specs.Naming.{with_names, token_texts, name_texts}
-use Rattle.prolog_reader.specs.Numbering.{seen_of, AreNumbered}
+use Rattle.prolog_terms.specs.Numbering.{seen_of, AreNumbered}
 use Rattle.prolog_reader.specs.Parsing.{rules, frames, IsIn}
 use Rattle.prolog_reader.specs.Ranges.{IsWithin}
 use Rattle.prolog_reader.specs.Scan.{scanned, scan, closing_of, Finds, IsNextFault, Closes, Names as ReadNames}
-use Rattle.prolog_reader.specs.Symbols.{Seen, none_seen, token_of, seen_after}
+use Rattle.prolog_terms.specs.Symbols.{Seen, none_seen, token_of, seen_after}
 use Rattle.prolog_operators.specs.Table.{Table}
 use Rattle.prolog_reader.specs.Views.{known_of, state_of, step_of, IsCounted, FitsStep}
 

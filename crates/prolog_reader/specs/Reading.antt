@@ -21,8 +21,8 @@ use Rattle.prolog_grammar.specs.Reading.{IsVerdict}
 use Rattle.prolog_reader.specs.declared.fault.ReadKind.{ReadKind}
 use Rattle.prolog_reader.specs.declared.fault.ReadKind.TheVariants.{Lex, Unexpected, Deep, Long, BadOp}
 use Rattle.prolog_reader.specs.Limits.{most_bytes}
-use Rattle.prolog_reader.specs.Clauses.{Clause}
-use Rattle.prolog_reader.specs.Symbols.{none_seen, tokens_of, seen_after_all}
+use Rattle.prolog_terms.specs.Clauses.{Clause}
+use Rattle.prolog_terms.specs.Symbols.{none_seen, tokens_of, seen_after_all}
 use Rattle.prolog_operators.specs.Table.{Table, standard}
 use Rattle.prolog_reader.specs.Words.{known, words_of}
 use Rattle.prolog_reader.specs.Directive.{sets, refuses, effect}

@@ -14,10 +14,10 @@ use Rattle.prolog_grammar.specs.Walk.{Next, go_on, stuck, finished, unexpected_h
 use Rattle.prolog_reader.specs.declared.fault.ReadKind.TheVariants.{Unexpected, Deep}
 use Rattle.prolog_reader.specs.declared.clause_reading.Found.{Found}
 use Rattle.prolog_reader.specs.declared.clause_reading.Found.TheVariants as found
-use Rattle.prolog_reader.specs.Clauses.{Clause}
-use Rattle.prolog_reader.specs.Terms.{clause_of}
+use Rattle.prolog_terms.specs.Clauses.{Clause}
+use Rattle.prolog_terms.specs.Terms.{clause_of}
 use Rattle.prolog_reader.specs.Naming.{with_names, name_texts}
-use Rattle.prolog_reader.specs.Symbols.{Seen, none_seen, token_of, tokens_of, seen_after}
+use Rattle.prolog_terms.specs.Symbols.{Seen, none_seen, token_of, tokens_of, seen_after}
 use Rattle.prolog_operators.specs.Table.{Table}
 use Rattle.prolog_reader.specs.Views.{table_rules}
 use Rattle.prolog_reader.specs.Reading.{Fault, fault_at, end_of}

@@ -4,9 +4,9 @@ use Rattle.std.specs.Prelude.{◌≡◌, ◌≤◌, ◌+◌, ℕ, List, [], ◌�
 use Rattle.prolog_reader.specs.declared.part.Part.{Part as CodePart}
 use Rattle.prolog_operators.specs.declared.operators.Infix.{Infix as CodeInfix}
 use Rattle.prolog_operators.specs.declared.operators.Ops.{Ops}
-use Rattle.prolog_reader.specs.declared.symbol.Known.{Known as CodeKnown}
-use Rattle.prolog_reader.specs.declared.symbol.Symbol.{Symbol}
-use Rattle.prolog_reader.specs.declared.symbol.Symbol.TheVariants as symbol
+use Rattle.prolog_terms.specs.declared.symbol.Known.{Known as CodeKnown}
+use Rattle.prolog_terms.specs.declared.symbol.Symbol.{Symbol}
+use Rattle.prolog_terms.specs.declared.symbol.Symbol.TheVariants as symbol
 use Rattle.prolog_reader.specs.declared.frame.Head.{Head as CodeHead}
 use Rattle.prolog_reader.specs.declared.frame.Head.TheVariants as head
 use Rattle.prolog_reader.specs.declared.frame.Open.{Open as CodeOpen}
@@ -32,7 +32,7 @@ use Rattle.prolog_grammar.specs.Run.{height}
 use Rattle.prolog_reader.specs.Limits.{most_openers}
 use Rattle.prolog_operators.specs.Table.{Table}
 use Rattle.prolog_operators.specs.Meanings.{infix_of, table_of}
-use Rattle.prolog_reader.specs.Terms.{tree_of}
+use Rattle.prolog_terms.specs.Terms.{tree_of}
 
 abbrev pub from_tree : Tree → ℕ → Part
 from_tree (tree at shape) d = record { at = at; shape = shape; depth = d }

@@ -12,10 +12,9 @@ use crate::limits::MOST_ARGUMENT;
 use crate::parser::Parser;
 use crate::part::{Part, atom, single};
 use crate::state::{NameRead, Refusal, State, Step};
-use crate::symbol::Symbol;
-use crate::term::ReadShape;
 use cti_terms::Name;
 use prolog_operators::{MOST_PRIORITY, Prefix};
+use prolog_terms::{ReadShape, Symbol};
 use std::alloc::AllocError;
 
 impl Parser<'_> {

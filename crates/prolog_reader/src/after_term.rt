@@ -13,9 +13,9 @@ use crate::limits::MOST_OPENERS;
 use crate::parser::Parser;
 use crate::part::{Part, pair, unary};
 use crate::state::{Refusal, State, Step};
-use crate::symbol::Symbol;
 use cti_terms::Name;
 use prolog_operators::Infix;
+use prolog_terms::Symbol;
 use std::alloc::{AllocError, Global};
 
 /// The comma token as an operator.

@@ -16,16 +16,14 @@ ghost use Rattle.prolog_reader.specs.Ranges.{IsWithin};
 ghost use Rattle.prolog_reader.specs.FoundFit.{IsFoundFit};
 ghost use Rattle.prolog_reader.specs.Scan.{closing_of, IsNextFault, Finds, Names as ReadNames};
 
-use crate::clause::ReadClause;
 use crate::fault::ReadKind;
 use crate::parser::Parser;
 use crate::part::Part;
 use crate::state::{Refusal, State, Step};
-use crate::symbol::{Known, Symbol};
 use crate::symbols::next_symbol;
-use crate::variables::Variables;
 use cti_terms::Names;
 use prolog_operators::{MOST_PRIORITY, Ops};
+use prolog_terms::{Known, ReadClause, Symbol, Variables};
 use prolog_tokens::{Lexer, Token};
 use std::alloc::{AllocError, Global};
 

@@ -1,17 +1,16 @@
 //! Clauses that change the operators.
 
 ghost use Rattle.std.specs.Prelude.{◌≡◌, ◌≢◌, ℕ, List, [], ◌∷◌, map, length, option_map, Option, Some, IfOk, IfSome, IfNone};
-ghost use Rattle.prolog_reader.specs.Terms.{tree_of};
+ghost use Rattle.prolog_terms.specs.Terms.{tree_of};
 ghost use Rattle.prolog_operators.specs.Meanings.{table_of};
 ghost use Rattle.prolog_reader.specs.Directive.{Effect, sets, refuses, parts_of, atom_of, priority_of, kind_named, kind_of, is_barred, operator_of, listed, operators_of, effect_of, directive_by, effect};
 ghost use Rattle.prolog_reader.specs.Knowing.{words_view, done_effect};
 ghost use Rattle.prolog_reader.specs.Views.{known_of};
 
-use crate::symbol::Known;
-use crate::term::{ReadShape, ReadTerm};
 use crate::words::Words;
 use cti_terms::Name;
 use prolog_operators::{OpKind, Ops, priority_in};
+use prolog_terms::{Known, ReadShape, ReadTerm};
 use std::alloc::AllocError;
 
 /// The name of a term and its arguments.

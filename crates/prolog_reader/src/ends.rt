@@ -10,8 +10,7 @@ use crate::frame::{Head, Open};
 use crate::parser::Parser;
 use crate::part::{Part, atom, chain, compound, unary};
 use crate::state::{Refusal, State, Step};
-use crate::symbol::Symbol;
-use crate::term::ReadTerm;
+use prolog_terms::{ReadTerm, Symbol};
 use std::alloc::AllocError;
 
 impl Parser<'_> {

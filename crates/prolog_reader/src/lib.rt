@@ -7,34 +7,26 @@
 
 mod after_name;
 mod after_term;
-mod clause;
 mod clause_reading;
-mod clauses;
 mod directives;
 mod ends;
 mod fault;
 mod frame;
 pub mod laws;
 mod limits;
-mod natural;
 mod operands;
 mod parser;
 mod part;
 mod reading;
 mod stack;
 mod state;
-mod symbol;
 mod symbols;
-mod term;
 mod text;
-mod variables;
 mod words;
 
-pub use clause::ReadClause;
-pub use clauses::ReadClauses;
 pub use fault::{ReadFault, ReadKind};
 pub use limits::{MOST_BYTES, MOST_OPENERS};
 pub use prolog_operators::{MOST_PRIORITY, OpFault, OpKind, Ops};
+pub use prolog_terms::{ReadClause, ReadClauses, ReadShape, ReadTerm};
 pub use reading::{one_answer, read_query, read_text};
-pub use term::{ReadShape, ReadTerm};
 pub use text::ReadText;

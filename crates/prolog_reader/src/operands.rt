@@ -11,8 +11,7 @@ use crate::limits::MOST_OPENERS;
 use crate::parser::Parser;
 use crate::part::{single, text};
 use crate::state::{NameRead, Refusal, State, Step};
-use crate::symbol::Symbol;
-use crate::term::ReadShape;
+use prolog_terms::{ReadShape, Symbol};
 use std::alloc::AllocError;
 
 impl Parser<'_> {

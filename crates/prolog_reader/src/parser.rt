@@ -7,8 +7,8 @@ ghost use Rattle.prolog_reader.specs.Parsing.{IsFresh, IsIn, Leads, state_move};
 
 use crate::stack::Stack;
 use crate::state::{State, Step};
-use crate::symbol::{Known, Symbol};
 use prolog_operators::Ops;
+use prolog_terms::{Known, Symbol};
 use std::alloc::{AllocError, Global};
 
 /// A clause under way: the operators and names by which it is read, and what is open.

@@ -4,14 +4,13 @@ ghost use Rattle.std.specs.Prelude.{◌≡◌, ◌∷◌, [], map, pos, IfOk};
 ghost use Rattle.prolog_grammar.specs.Syntax.{greater};
 ghost use Rattle.prolog_grammar.specs.Token.{text};
 ghost use Rattle.prolog_grammar.specs.Placed.{Int as PlainInt, single_at, deeper, named_at, chain, nil_at, row_of, depth_of, value_at};
-ghost use Rattle.prolog_reader.specs.Clauses.{row};
-ghost use Rattle.prolog_reader.specs.Terms.{tree_of, shape_of};
+ghost use Rattle.prolog_terms.specs.Clauses.{row};
+ghost use Rattle.prolog_terms.specs.Terms.{tree_of, shape_of};
 ghost use Rattle.prolog_reader.specs.Views.{part_view, known_of};
 
 use crate::limits::MOST_OPENERS;
-use crate::symbol::Known;
-use crate::term::{ReadShape, ReadTerm};
 use cti_terms::Name;
+use prolog_terms::{Known, ReadShape, ReadTerm};
 use std::alloc::{AllocError, Global};
 
 /// A term and how deep it is, counted up to the limit.

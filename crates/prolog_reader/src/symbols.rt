@@ -8,16 +8,14 @@ ghost use Rattle.prolog_tokens.specs.declared.token.TokenKind.TheVariants.{Text 
 ghost use Rattle.prolog_grammar.specs.Token.{integer as integer_value, Leaf, Joined as JoinedToken, Name as NameToken};
 ghost use Rattle.prolog_operators.specs.Names.{Extends, IsNumber};
 ghost use Rattle.prolog_reader.specs.Naming.{with_names, token_texts};
-ghost use Rattle.prolog_reader.specs.Symbols.{is_minus, touches_before, joins_before, token_of as plain_token, seen_after};
-ghost use Rattle.prolog_reader.specs.Numbering.{seen_of, AreNumbered};
+ghost use Rattle.prolog_terms.specs.Symbols.{is_minus, touches_before, joins_before, token_of as plain_token, seen_after};
+ghost use Rattle.prolog_terms.specs.Numbering.{seen_of, AreNumbered};
 ghost use Rattle.prolog_reader.specs.Views.{token_of};
 ghost use Rattle.prolog_reader.specs.Ranges.{IsWithin};
 ghost use Rattle.prolog_reader.specs.Measures.{IsTokenFine};
 
-use crate::natural::Natural;
-use crate::symbol::Symbol;
-use crate::variables::Variables;
 use cti_terms::{Name, Names};
+use prolog_terms::{Natural, Symbol, Variables};
 use prolog_tokens::{Token, TokenKind, decode};
 use std::alloc::{AllocError, Global};
 

@@ -1,7 +1,7 @@
 //! What a text reads as.
 
-use crate::clauses::ReadClauses;
 use prolog_operators::Ops;
+use prolog_terms::ReadClauses;
 
 /// The clauses of a text in its order, and the operators after the last one.
 #[derive(Drop)]

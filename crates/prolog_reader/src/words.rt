@@ -6,8 +6,8 @@ ghost use Rattle.prolog_reader.specs.Naming.{with_names, syntax_texts, word_text
 ghost use Rattle.prolog_reader.specs.Knowing.{AreKnown, AreWords};
 ghost use Rattle.prolog_reader.specs.Kinds.{kind_words, AreKinds};
 
-use crate::symbol::Known;
 use cti_terms::{Name, Names};
+use prolog_terms::Known;
 use std::alloc::AllocError;
 
 /// The names that the syntax makes terms of, and those of an `op` clause.

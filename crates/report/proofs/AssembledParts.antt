@@ -15,7 +15,7 @@ use Rattle.cert_structure.specs.declared.parts.Parts.{Parts}
 use Rattle.cti_terms.specs.Listing.{IsProgram, Listing}
 use Rattle.cti_terms.specs.Tree.{truth}
 use Rattle.exact128.specs.Fits.{fits}
-use Rattle.level_dual.specs.declared.found.Found.{Found}
+use Rattle.level_systems.specs.declared.found.Found.{Found}
 use Rattle.linear_rows.specs.Blown.{all_of}
 use Rattle.linear_rows.specs.Replacing.{row_fits}
 use Rattle.linear_rows.specs.Step.{columns}

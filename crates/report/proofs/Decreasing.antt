@@ -10,12 +10,12 @@ use Rattle.cti_terms.specs.Listing.{IsProgram, Listing}
 use Rattle.cti_terms.specs.Tree.{Tree}
 use Rattle.cti_terms.specs.declared.atom_list.Atom.{Atom}
 use Rattle.cti_terms.specs.declared.clauses.Clause.{Clause}
-use Rattle.level_dual.specs.Mappings as dual
-use Rattle.level_dual.specs.Mappings.{IsMappingOf, level_in, mapping_of}
-use Rattle.level_dual.specs.declared.found.Found.{Found}
-use Rattle.level_dual.specs.declared.mapping.Mapping.{Mapping}
-use Rattle.level_dual.specs.declared.measure.Measure.{Measure}
-use Rattle.level_dual.proofs.ViewCalls.{system_same}
+use Rattle.level_systems.specs.Mappings as dual
+use Rattle.level_systems.specs.Mappings.{IsMappingOf, level_in, mapping_of}
+use Rattle.level_systems.specs.declared.found.Found.{Found}
+use Rattle.level_systems.specs.declared.mapping.Mapping.{Mapping}
+use Rattle.level_systems.specs.declared.measure.Measure.{Measure}
+use Rattle.level_systems.proofs.ViewCalls.{system_same}
 use Rattle.linear_rows.proofs.Soundness.{law_empty, law_holds}
 use Rattle.linear_rows.specs.Members.{In}
 use Rattle.linear_rows.specs.Proves.{Proves}

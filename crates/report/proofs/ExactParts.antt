@@ -11,11 +11,11 @@ use Rattle.cert_structure.specs.Shape.{arity_of, first_of, is_recursive, is_same
 use Rattle.cert_structure.specs.declared.parts.Parts.{Parts}
 use Rattle.cti_terms.specs.Listing.{IsProgram, Listing}
 use Rattle.cti_terms.specs.Tree.{Tree}
-use Rattle.level_dual.specs.Found.{IsFound}
-use Rattle.level_dual.specs.Mappings as dual
-use Rattle.level_dual.specs.Mappings.{IsMappingOf, level_in, mapping_of, support_of}
-use Rattle.level_dual.specs.declared.found.Found.{Found}
-use Rattle.level_dual.specs.declared.mapping.Mapping.{Mapping}
+use Rattle.level_systems.specs.Found.{IsFound}
+use Rattle.level_systems.specs.Mappings as dual
+use Rattle.level_systems.specs.Mappings.{IsMappingOf, level_in, mapping_of, support_of}
+use Rattle.level_systems.specs.declared.found.Found.{Found}
+use Rattle.level_systems.specs.declared.mapping.Mapping.{Mapping}
 use Rattle.linear_rows.specs.Members.{In}
 use Rattle.linear_rows.specs.Step.{columns}
 use Rattle.number_tests.specs.Shape.{IsLevelPart}
@@ -31,7 +31,7 @@ use Rattle.termination_model.specs.Sizes.{rows_of}
 use Rattle.termination_model.specs.SupportLaws.{HasWidths}
 use Rattle.report.proofs.Decreasing.{level_member, mapping_at, mapping_decreases}
 use Rattle.termination_model.specs.Supports.{support_from}
-use Rattle.level_dual.specs.Subsequences.{IsSubsequence}
+use Rattle.level_systems.specs.Subsequences.{IsSubsequence}
 use Rattle.report.proofs.MappingParts.{answer_at, count_deep, found_at, level_there, levels_deep, levels_is, list_is, measured, member_below, recursive_at, unmapped}
 use Rattle.report.proofs.ModeLaws.{there}
 use Rattle.report.proofs.RefutedParts.{led_parts, leads, refuted_at}

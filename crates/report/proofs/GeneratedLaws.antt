@@ -5,7 +5,7 @@ use Rattle.std.proofs.lemmas.Fmt.{length-decimal-le}
 use Rattle.std.proofs.lemmas.List.{length-append}
 use Rattle.std.proofs.lemmas.List.Concat.{flat_map-append}
 use Rattle.linear_rows.specs.Step.{columns}
-use Rattle.level_dual.proofs.RowLengths.{columns_on}
+use Rattle.level_systems.proofs.RowLengths.{columns_on}
 use Rattle.report.specs.Generated.{named, appends, reverses, reverses_more, repeats, predicate, generated}
 
 -- the pieces of a clause, one after another

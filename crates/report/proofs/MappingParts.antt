@@ -19,13 +19,13 @@ use Rattle.cti_terms.specs.Tree.{Tree}
 use Rattle.cti_terms.specs.declared.atom_list.Atom.{Atom}
 use Rattle.cti_terms.specs.declared.clauses.Clause.{Clause}
 use Rattle.cti_terms.specs.declared.predicates.Pred.{Pred}
-use Rattle.level_dual.specs.Found.{IsFound}
-use Rattle.level_dual.specs.Mappings.{IsFall, IsMappingOf, level_in}
-use Rattle.level_dual.specs.Pairs.{calls_from, pairs_from, pairs_of}
-use Rattle.level_dual.specs.declared.fall.Fall.{Fall}
-use Rattle.level_dual.specs.declared.found.Found.{Found}
-use Rattle.level_dual.specs.declared.mapping.Mapping.{Mapping}
-use Rattle.level_dual.specs.declared.measure.Measure.{Measure}
+use Rattle.level_systems.specs.Found.{IsFound}
+use Rattle.level_systems.specs.Mappings.{IsFall, IsMappingOf, level_in}
+use Rattle.level_systems.specs.Pairs.{calls_from, pairs_from, pairs_of}
+use Rattle.level_systems.specs.declared.fall.Fall.{Fall}
+use Rattle.level_systems.specs.declared.found.Found.{Found}
+use Rattle.level_systems.specs.declared.mapping.Mapping.{Mapping}
+use Rattle.level_systems.specs.declared.measure.Measure.{Measure}
 use Rattle.linear_rows.specs.Members.{In}
 use Rattle.linear_rows.specs.Showing.{AreMultipliers, IsShown}
 use Rattle.linear_rows.specs.Solving.{zeros}

@@ -18,7 +18,7 @@ use Rattle.termination_model.proofs.Lists.{append_assoc, indexed}
 use Rattle.termination_model.specs.ComponentViews.{positions_in}
 use Rattle.termination_model.specs.Ready.{arity_in, positions_by}
 use Rattle.report.specs.SupportNotes.{arguments_in, large_at}
-use Rattle.level_dual.proofs.PairLists.{drop_at}
+use Rattle.level_systems.proofs.PairLists.{drop_at}
 
 pub append_none : {X : Type 0} (xs : List X) → xs ++ [] ≡ xs
 append_none [] = refl

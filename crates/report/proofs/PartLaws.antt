@@ -3,12 +3,12 @@ use Rattle.std.proofs.Common.{◌≡◌, ℕ, suc, ◌+◌, ◌-◌, ◌<◌, �
 use Rattle.call_components.specs.Partition.{Partition}
 use Rattle.cti_terms.specs.Listing.{Listing}
 use Rattle.cti_terms.specs.declared.atom_list.Atom.{Atom}
-use Rattle.level_dual.specs.Mappings.{level_in}
-use Rattle.level_dual.specs.declared.fall.Fall.{Fall}
-use Rattle.level_dual.specs.declared.found.Found.{Found}
-use Rattle.level_dual.specs.declared.measure.Measure.{Measure}
+use Rattle.level_systems.specs.Mappings.{level_in}
+use Rattle.level_systems.specs.declared.fall.Fall.{Fall}
+use Rattle.level_systems.specs.declared.found.Found.{Found}
+use Rattle.level_systems.specs.declared.measure.Measure.{Measure}
 use Rattle.linear_rows.specs.Step.{columns}
-use Rattle.level_dual.proofs.PairLists.{drop_at}
+use Rattle.level_systems.proofs.PairLists.{drop_at}
 use Rattle.report.specs.Levels.{fall_in, falls_at, falls_from}
 
 pub mapped_step : {X : Type 0} (f : ℕ → X) (q n : ℕ) → q < n → map f (columns q (n - q)) ≡ (f q ∷ []) ++ map f (columns (q + 1) (n - (q + 1)))

@@ -10,11 +10,11 @@ use Rattle.cti_terms.specs.Listing.{IsProgram, Listing, numbered}
 use Rattle.cti_terms.specs.Tree.{Tree}
 use Rattle.cti_terms.specs.declared.atom_list.Atom.{Atom}
 use Rattle.cti_terms.specs.declared.clauses.Clause.{Clause}
-use Rattle.level_dual.specs.Found.{IsFound}
+use Rattle.level_systems.specs.Found.{IsFound}
 use Rattle.report.specs.Shaped.{HasSecondPoint, IsNaturalPoint, IsOwnPair}
-use Rattle.level_dual.specs.Mappings.{IsMappingOf, mapping_of, support_of}
-use Rattle.level_dual.specs.declared.found.Found.{Found}
-use Rattle.level_dual.specs.declared.mapping.Mapping.{Mapping}
+use Rattle.level_systems.specs.Mappings.{IsMappingOf, mapping_of, support_of}
+use Rattle.level_systems.specs.declared.found.Found.{Found}
+use Rattle.level_systems.specs.declared.mapping.Mapping.{Mapping}
 use Rattle.linear_rows.specs.declared.point.Point.{Point}
 use Rattle.linear_rows.specs.declared.row.Rows.{Rows}
 use Rattle.number_tests.specs.Refuting.{PointHolds, SumsRefute, atom_or_none, call_of, clause_of, clause_or_none}

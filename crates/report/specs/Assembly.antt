@@ -11,8 +11,8 @@ use Rattle.cert_structure.specs.Structure.{AreNotes}
 use Rattle.cert_structure.specs.declared.parts.Parts.{Parts}
 use Rattle.cti_terms.specs.Listing.{Listing}
 use Rattle.cti_terms.specs.Tree.{Tree, truth}
-use Rattle.level_dual.specs.Found.{IsFound}
-use Rattle.level_dual.specs.declared.found.Found.{Found}
+use Rattle.level_systems.specs.Found.{IsFound}
+use Rattle.level_systems.specs.declared.found.Found.{Found}
 use Rattle.linear_rows.specs.declared.row.Rows.{Rows as SizeRows}
 use Rattle.number_tests.specs.declared.level_part.LevelPart.{LevelPart}
 use Rattle.number_tests.specs.declared.refutation.Refutation.{Refutation}

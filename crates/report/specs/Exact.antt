@@ -14,8 +14,8 @@ use Rattle.cert_structure.specs.declared.parts.Parts.{Parts}
 use Rattle.cti_terms.specs.Listing.{Listing}
 use Rattle.cti_terms.specs.Tree.{Tree, truth}
 use Rattle.exact128.specs.Fits.{fits}
-use Rattle.level_dual.specs.Found.{without}
-use Rattle.level_dual.specs.Subsequences.{AreOnce}
+use Rattle.level_systems.specs.Found.{without}
+use Rattle.level_systems.specs.Subsequences.{AreOnce}
 use Rattle.linear_rows.specs.Members.{In}
 use Rattle.linear_rows.specs.Step.{columns}
 use Rattle.number_tests.specs.declared.refutation.Refutation.{Refutation}

@@ -14,7 +14,7 @@ use Rattle.cti_terms.specs.Listing.{Listing, IsProgram}
 use Rattle.cti_terms.specs.Tree.{Tree}
 use Rattle.cti_terms.specs.declared.predicates.Pred.{Pred}
 use Rattle.cert_modes.specs.Modes.{allowed, coefficients_of, grounds_of}
-use Rattle.level_dual.specs.Subsequences.{IsSubsequence}
+use Rattle.level_systems.specs.Subsequences.{IsSubsequence}
 use Rattle.linear_rows.specs.Step.{columns}
 use Rattle.termination_model.specs.Claims.{Mapping}
 use Rattle.termination_model.specs.ComponentViews.{Has, component_view, no_truth, positions_in}

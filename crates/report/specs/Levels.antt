@@ -7,10 +7,10 @@ use Rattle.call_components.specs.Partition.{Partition}
 use Rattle.cert_structure.specs.Shape.{arity_of, head_of, body_of, is_own_call, is_recursive}
 use Rattle.cti_terms.specs.Listing.{Listing}
 use Rattle.cti_terms.specs.declared.atom_list.Atom.{Atom}
-use Rattle.level_dual.specs.Mappings.{level_in}
-use Rattle.level_dual.specs.declared.fall.Fall.{Fall}
-use Rattle.level_dual.specs.declared.found.Found.{Found}
-use Rattle.level_dual.specs.declared.mapping.Mapping.{Mapping}
+use Rattle.level_systems.specs.Mappings.{level_in}
+use Rattle.level_systems.specs.declared.fall.Fall.{Fall}
+use Rattle.level_systems.specs.declared.found.Found.{Found}
+use Rattle.level_systems.specs.declared.mapping.Mapping.{Mapping}
 use Rattle.linear_rows.specs.Solving.{zeros}
 use Rattle.linear_rows.specs.Step.{columns}
 use Rattle.linear_rows.specs.declared.multipliers.Multipliers.{Multipliers}

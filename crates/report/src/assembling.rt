@@ -4,7 +4,7 @@ ghost use Rattle.std.specs.Prelude.{◌≡◌, ◌<◌, ◌++◌, IfOk, OnOk, So
 ghost use Rattle.std.specs.List.{AllByRecursion};
 ghost use Rattle.call_components.specs.Partition.{AreComponents};
 ghost use Rattle.cert_structure.specs.Order.{listed};
-ghost use Rattle.level_dual.specs.Found.{IsFound};
+ghost use Rattle.level_systems.specs.Found.{IsFound};
 ghost use Rattle.number_tests.specs.Shape.{IsPairOf};
 ghost use Rattle.number_tests.specs.declared.refutation.Refutation.{Refutation as TheRefutation};
 ghost use Rattle.numeric_model.specs.States.{plain_step};

@@ -3,7 +3,7 @@
 ghost use Rattle.std.specs.Prelude.{◌≡◌, ◌<◌, ◌≤◌, ◌+◌, ℕ, suc, IfOk, Some, length, map, slice_get};
 ghost use Rattle.call_components.specs.Partition.{AreComponents};
 ghost use Rattle.cert_structure.specs.Shape.{arity_of, body_of, head_of};
-ghost use Rattle.level_dual.specs.Mappings.{level_in};
+ghost use Rattle.level_systems.specs.Mappings.{level_in};
 ghost use Rattle.report.specs.Levels.{by_or_none, fall_in, fall_list, falls_at, falls_from, level_list, levels_at, mappings_at, part_or_zero, refutation_list, refutation_of, zero_part};
 ghost use Rattle.report.specs.SupportNotes.{led_by};
 

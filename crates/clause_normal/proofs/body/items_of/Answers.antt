@@ -1,6 +1,6 @@
 use Rattle.std.proofs.Common.{◌≡◌, ◌∙◌, ◌++◌, ◌∷◌, [], ℕ, List, length, map, sym, ap, refl, arith, Bor}
-use Rattle.prolog_reader.specs.declared.term.ReadTerm.{ReadTerm}
-use Rattle.prolog_reader.specs.Terms.{tree_of}
+use Rattle.prolog_terms.specs.declared.term.ReadTerm.{ReadTerm}
+use Rattle.prolog_terms.specs.Terms.{tree_of}
 use Rattle.clause_normal.specs.Bodies.{goals_row, joined, no_goals, more_goals}
 use Rattle.clause_normal.specs.Views.{goal_of, goals_of, IsTermFit, ItemIsFit}
 use Rattle.clause_normal.specs.Stacks.{stack_goals}

@@ -1,8 +1,8 @@
 use Rattle.std.proofs.Common.{◌≡◌, ◌+◌, ◌*◌, ◌≤◌, ℕ, List, [], length, map, Bor}
 use Rattle.std.specs.List.{AllByRecursion}
-use Rattle.prolog_reader.specs.declared.term.ReadTerm.{ReadTerm}
-use Rattle.prolog_reader.specs.Clauses.{nodes}
-use Rattle.prolog_reader.specs.Terms.{tree_of}
+use Rattle.prolog_terms.specs.declared.term.ReadTerm.{ReadTerm}
+use Rattle.prolog_terms.specs.Clauses.{nodes}
+use Rattle.prolog_terms.specs.Terms.{tree_of}
 use Rattle.clause_normal.specs.Bodies.{goals_row, joined}
 use Rattle.clause_normal.specs.Counts.{AreCounts}
 use Rattle.clause_normal.specs.Stacks.{stack_goals, stack_nodes}

@@ -1,6 +1,6 @@
 use Rattle.std.proofs.Common.{◌≡◌, ◌∙◌, ◌++◌, ◌∷◌, [], ℕ, List, length, sym, ap, refl, arith, Bor}
-use Rattle.prolog_reader.specs.declared.term.ReadTerm.{ReadTerm}
-use Rattle.prolog_reader.specs.Terms.{tree_of}
+use Rattle.prolog_terms.specs.declared.term.ReadTerm.{ReadTerm}
+use Rattle.prolog_terms.specs.Terms.{tree_of}
 use Rattle.clause_normal.specs.Bodies.{joined_branches}
 use Rattle.clause_normal.specs.Views.{IsTermFit}
 use Rattle.clause_normal.specs.Stacks.{branches_row, stack_branches}

@@ -1,6 +1,6 @@
 use Rattle.std.proofs.Common.{◌≡◌, ◌+◌, ◌≤◌, ℕ, List, length, Bor}
 use Rattle.std.specs.List.{AllByRecursion}
-use Rattle.prolog_reader.specs.declared.term.ReadTerm.{ReadTerm}
+use Rattle.prolog_terms.specs.declared.term.ReadTerm.{ReadTerm}
 use Rattle.clause_normal.specs.Bodies.{joined_branches}
 use Rattle.clause_normal.specs.Stacks.{branches_row, stack_branches, stack_nodes}
 use Rattle.clause_normal.specs.Views.{branches_of, branch_work, branches_work, IsTermFit}

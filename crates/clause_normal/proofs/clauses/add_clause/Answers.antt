@@ -1,6 +1,6 @@
 use Rattle.std.proofs.Common.{◌≡◌, ◌∙◌, map, sym, ap, subst, Err}
-use Rattle.prolog_reader.specs.declared.term.ReadTerm.{ReadTerm}
-use Rattle.prolog_reader.specs.Terms.{tree_of, clause_of}
+use Rattle.prolog_terms.specs.declared.term.ReadTerm.{ReadTerm}
+use Rattle.prolog_terms.specs.Terms.{tree_of, clause_of}
 use Rattle.clause_normal.specs.Bodies.{no_goals}
 use Rattle.clause_normal.specs.Faults.{IfFault}
 use Rattle.clause_normal.specs.NormalForm.{Made, clause, with_form, with_clause}

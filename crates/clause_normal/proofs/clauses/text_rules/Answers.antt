@@ -1,7 +1,7 @@
 use Rattle.std.proofs.Common.{◌≡◌, ◌∙◌, length, map, get_or, sym, ap, subst}
-use Rattle.prolog_reader.specs.Clauses.{Clause}
+use Rattle.prolog_terms.specs.Clauses.{Clause}
 use Rattle.prolog_reader.specs.Fit.{IsFit}
-use Rattle.prolog_reader.specs.Terms.{clause_of}
+use Rattle.prolog_terms.specs.Terms.{clause_of}
 use Rattle.clause_normal.proofs.ListLemmas.{all_mapped_at}
 use Rattle.clause_normal.proofs.clauses.text_rules.Goals as goal
 

@@ -1,7 +1,7 @@
 use Rattle.std.proofs.Common.{◌≡◌, ◌≤◌, ◌+◌, ◌*◌, ℕ, [], length, map, drop, sum_by}
 use Rattle.std.specs.List.{AllByRecursion}
-use Rattle.prolog_reader.specs.Clauses.{Clause, nodes}
-use Rattle.prolog_reader.specs.Terms.{clause_of}
+use Rattle.prolog_terms.specs.Clauses.{Clause, nodes}
+use Rattle.prolog_terms.specs.Terms.{clause_of}
 use Rattle.clause_normal.specs.NormalForm.{normal_rules}
 use Rattle.clause_normal.specs.RuleViews.{rule_of, RuleIsFit}
 use Rattle.clause_normal.proofs.clauses.text_rules.Given as goal

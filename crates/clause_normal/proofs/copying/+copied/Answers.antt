@@ -2,7 +2,7 @@ use Rattle.std.proofs.Common.{◌≡◌, ◌∙◌, ◌+◌, ◌++◌, List, map
 use Rattle.std.proofs.lemmas.List.{drop_all}
 use Rattle.cti_terms.specs.Tree.{Tree, all_nodes, trees}
 use Rattle.cti_terms.specs.Spell.{tree_of}
-use Rattle.prolog_reader.specs.declared.term.ReadTerm.{ReadTerm}
+use Rattle.prolog_terms.specs.declared.term.ReadTerm.{ReadTerm}
 use Rattle.clause_normal.specs.Terms.{renumbered}
 use Rattle.clause_normal.specs.Views.{plain_of}
 use Rattle.clause_normal.proofs.CopyLemmas.{copied_fun, all_nodes_push, copy_step}

@@ -1,6 +1,6 @@
 use Rattle.std.proofs.Common.{◌≡◌, ◌+◌, ◌++◌, map, drop}
 use Rattle.cti_terms.specs.Tree.{Tree, all_nodes, trees}
-use Rattle.prolog_reader.specs.declared.term.ReadTerm.{ReadTerm}
+use Rattle.prolog_terms.specs.declared.term.ReadTerm.{ReadTerm}
 use Rattle.clause_normal.specs.Terms.{renumbered}
 use Rattle.clause_normal.specs.Views.{plain_of}
 use Rattle.clause_normal.proofs.copying.+copied.Given as goal

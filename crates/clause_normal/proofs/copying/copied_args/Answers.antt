@@ -3,7 +3,7 @@ use Rattle.std.specs.List.{position_or_len}
 use Rattle.std.proofs.lemmas.List.{drop_all}
 use Rattle.cti_terms.specs.Tree.{Tree, Variable, nodes_of}
 use Rattle.cti_terms.specs.Spell.{tree_of}
-use Rattle.prolog_reader.specs.declared.term.ReadTerm.{ReadTerm}
+use Rattle.prolog_terms.specs.declared.term.ReadTerm.{ReadTerm}
 use Rattle.clause_normal.specs.declared.rule.Args.{Args}
 use Rattle.clause_normal.specs.RuleViews.{args_of}
 use Rattle.clause_normal.specs.Terms.{renumbered}

@@ -1,7 +1,7 @@
 use Rattle.std.proofs.Common.{◌≡◌, ◌+◌, ◌++◌, ℕ, map, drop, nat_eq, sum_by}
 use Rattle.std.specs.List.{position_or_len}
 use Rattle.cti_terms.specs.Tree.{Tree, Variable, nodes_of}
-use Rattle.prolog_reader.specs.declared.term.ReadTerm.{ReadTerm}
+use Rattle.prolog_terms.specs.declared.term.ReadTerm.{ReadTerm}
 use Rattle.clause_normal.specs.Terms.{renumbered}
 use Rattle.clause_normal.specs.Views.{plain_of}
 use Rattle.clause_normal.proofs.copying.copied_args.Given as goal

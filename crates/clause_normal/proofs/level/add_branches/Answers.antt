@@ -1,7 +1,7 @@
 use Rattle.std.proofs.Common.{◌≡◌, ◌<◌, ◌≤◌, ◌∙◌, ◌+◌, ◌++◌, ◌∷◌, [], ℕ, List, length, map, drop, get_or, sym, ap, subst, refl, arith, append_assoc, append-nil, Bor}
 use Rattle.std.specs.List.{AllByRecursion}
 use Rattle.std.proofs.lemmas.List.{at_drop_more, map-append, drop_all}
-use Rattle.prolog_reader.specs.declared.term.ReadTerm.{ReadTerm}
+use Rattle.prolog_terms.specs.declared.term.ReadTerm.{ReadTerm}
 use Rattle.clause_normal.specs.Rules.{choice_call}
 use Rattle.clause_normal.specs.RuleViews.{Plan, plan_of, branch_plans, pending_work, PendingIsFit}
 use Rattle.clause_normal.specs.Stacks.{branches_row}
@@ -9,7 +9,7 @@ use Rattle.clause_normal.specs.Views.{goals_of, branch_work, branches_work, IsTe
 use Rattle.clause_normal.specs.Bodies.{Goals, Branches}
 use Rattle.clause_normal.specs.Terms.{occurrences}
 use Rattle.clause_normal.specs.declared.rule.Pending.{Pending}
-use Rattle.prolog_reader.specs.Terms.{tree_of}
+use Rattle.prolog_terms.specs.Terms.{tree_of}
 use Rattle.clause_normal.proofs.ListLemmas.{all_push, all_at}
 use Rattle.clause_normal.proofs.RuleLemmas.{pending_work_push}
 use Rattle.clause_normal.proofs.level.add_branches.Goals as goal

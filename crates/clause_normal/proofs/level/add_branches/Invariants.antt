@@ -1,6 +1,6 @@
 use Rattle.std.proofs.Common.{◌≡◌, ◌<◌, ◌≤◌, ◌+◌, ◌++◌, ℕ, List, length, map, drop, Bor}
 use Rattle.std.specs.List.{AllByRecursion}
-use Rattle.prolog_reader.specs.declared.term.ReadTerm.{ReadTerm}
+use Rattle.prolog_terms.specs.declared.term.ReadTerm.{ReadTerm}
 use Rattle.clause_normal.specs.Rules.{choice_call}
 use Rattle.clause_normal.specs.RuleViews.{plan_of, branch_plans, pending_work, PendingIsFit}
 use Rattle.clause_normal.specs.Stacks.{branches_row}

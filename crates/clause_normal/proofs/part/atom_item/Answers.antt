@@ -1,5 +1,5 @@
 use Rattle.std.proofs.Common.{◌≡◌, ◌∙◌, ℕ, List, map, ap, sym}
-use Rattle.prolog_reader.specs.declared.term.ReadTerm.{ReadTerm}
+use Rattle.prolog_terms.specs.declared.term.ReadTerm.{ReadTerm}
 use Rattle.prolog_reader.specs.Names.{name_text}
 use Rattle.clause_normal.specs.Bodies.{named_goal}
 use Rattle.clause_normal.specs.Views.{plain_of}

@@ -5,9 +5,9 @@ use Rattle.cti_terms.specs.Tree.{Tree as Term, is_below}
 use Rattle.cti_terms.specs.declared.atom_list.Atom.{Atom}
 use Rattle.cti_terms.specs.declared.derivation.Goal.{Goal as Query}
 use Rattle.cti_terms.specs.declared.predicates.Pred.{Pred}
-use Rattle.prolog_reader.specs.Clauses.{place}
+use Rattle.prolog_terms.specs.Clauses.{place}
 use Rattle.prolog_reader.specs.Names.{Extends}
-use Rattle.prolog_reader.specs.Terms.{tree_of, clause_of}
+use Rattle.prolog_terms.specs.Terms.{tree_of, clause_of}
 use Rattle.prolog_reader.proofs.NameLemmas.{extends_self}
 use Rattle.prolog_reader.proofs.ViewLemmas.{tree_of_parts}
 use Rattle.clause_normal.specs.declared.part.Item.{Item}

@@ -1,7 +1,7 @@
 use Rattle.std.proofs.Common.{◌≡◌, ◌<◌, ◌∙◌, ◌++◌, ◌∷◌, [], ℕ, List, map, sym, ap, subst, arith, Bor, Option}
 use Rattle.std.specs.List.{AllByRecursion}
-use Rattle.prolog_reader.specs.declared.term.ReadTerm.{ReadTerm}
-use Rattle.prolog_reader.specs.Terms.{tree_of}
+use Rattle.prolog_terms.specs.declared.term.ReadTerm.{ReadTerm}
+use Rattle.prolog_terms.specs.Terms.{tree_of}
 use Rattle.clause_normal.specs.declared.task.Task.TheVariants as task
 use Rattle.clause_normal.specs.NormalForm.{Fault, first_of, goals_fault, branches_fault}
 use Rattle.clause_normal.specs.Stacks.{branches_row}

@@ -1,6 +1,6 @@
 use Rattle.std.proofs.Common.{◌≡◌, ◌<◌, ◌+◌, ℕ, List, vec_len, Bor}
 use Rattle.std.specs.List.{AllByRecursion}
-use Rattle.prolog_reader.specs.declared.term.ReadTerm.{ReadTerm}
+use Rattle.prolog_terms.specs.declared.term.ReadTerm.{ReadTerm}
 use Rattle.clause_normal.specs.NormalForm.{first_of, branches_fault}
 use Rattle.clause_normal.specs.Stacks.{branches_row}
 use Rattle.clause_normal.specs.Tasks.{tasks_fault, tasks_work, TaskIsFit}

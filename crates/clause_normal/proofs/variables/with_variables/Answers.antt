@@ -1,7 +1,7 @@
 use Rattle.std.proofs.Common.{◌≡◌, ◌<◌, ◌∙◌, ◌++◌, ℕ, [], List, map, ap, sym, subst, append-nil}
 use Rattle.std.specs.List.{AllByRecursion}
-use Rattle.prolog_reader.specs.declared.term.ReadTerm.{ReadTerm}
-use Rattle.prolog_reader.specs.Terms.{tree_of}
+use Rattle.prolog_terms.specs.declared.term.ReadTerm.{ReadTerm}
+use Rattle.prolog_terms.specs.Terms.{tree_of}
 use Rattle.clause_normal.specs.Terms.{occurrences, list_variables}
 use Rattle.clause_normal.specs.Views.{plain_of}
 use Rattle.clause_normal.proofs.ListLemmas.{all_append}

@@ -1,5 +1,5 @@
 use Rattle.std.proofs.Common.{◌≡◌, ◌∙◌, ℕ, List, sym, subst, arith}
-use Rattle.prolog_reader.specs.Terms.{clause_of}
+use Rattle.prolog_terms.specs.Terms.{clause_of}
 use Rattle.prolog_reader.proofs.NameLemmas.{extends_self}
 use Rattle.cti_top.specs.Known.{known_of}
 use Rattle.cti_top.specs.Queries.{IsQueryOf, ReadsQueryAs}

@@ -1,7 +1,7 @@
 use Rattle.std.proofs.Common.{ℕ, ap, length, subst}
 use Rattle.termination_model.specs.ComponentViews.{Has}
 use Rattle.termination_model.specs.Minimal.{IsExcluded}
-use Rattle.level_dual.specs.Searched.{IsAnswer}
+use Rattle.level_systems.specs.Searched.{IsAnswer}
 use Rattle.level_dual.specs.Vanishing.{AreMarkedOrIn}
 use Rattle.level_dual.proofs.VanishLaws.{void_of}
 use Rattle.level_dual.proofs.excluding.is_void.Goals as goal

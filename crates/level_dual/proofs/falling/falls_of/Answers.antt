@@ -3,12 +3,12 @@ use Rattle.std.specs.List.{AllByRecursion}
 use Rattle.linear_rows.specs.Showing.{AreMultipliers}
 use Rattle.linear_rows.specs.declared.multipliers.Multipliers.{Multipliers}
 use Rattle.termination_model.proofs.Lists.{append_assoc, at_place, by_places}
-use Rattle.level_dual.specs.Falling.{AreFallsOf, HasParts, IsFallIf, IsReady, ShowFalls, ShowsFall, by_of, values_after}
-use Rattle.level_dual.specs.Recalled.{count_of, with_count}
-use Rattle.level_dual.specs.declared.fall.Fall.{Fall}
-use Rattle.level_dual.specs.declared.own_call.OwnCall.{OwnCall}
+use Rattle.level_systems.specs.Falling.{AreFallsOf, HasParts, IsFallIf, IsReady, ShowFalls, ShowsFall, by_of, values_after}
+use Rattle.level_systems.specs.Recalled.{count_of, with_count}
+use Rattle.level_systems.specs.declared.fall.Fall.{Fall}
+use Rattle.level_systems.specs.declared.own_call.OwnCall.{OwnCall}
 use Rattle.level_dual.proofs.FallSteps.{naturals_after, room_after, room_here}
-use Rattle.level_dual.proofs.PairLists.{drop_all, drop_at}
+use Rattle.level_systems.proofs.PairLists.{drop_all, drop_at}
 use Rattle.level_dual.proofs.falling.falls_of.Goals as goal
 
 pub returns-in_default : goal.returns-in_default

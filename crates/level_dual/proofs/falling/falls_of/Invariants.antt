@@ -1,7 +1,7 @@
 use Rattle.std.proofs.Common.{◌≡◌, ◌≤◌, ◌≤ℤ◌, ◌++◌, List, All, drop, length, pos}
-use Rattle.level_dual.specs.Falling.{AreFallsOf, ShowFalls}
-use Rattle.level_dual.specs.Recalled.{count_of}
-use Rattle.level_dual.specs.declared.fall.Fall.{Fall}
+use Rattle.level_systems.specs.Falling.{AreFallsOf, ShowFalls}
+use Rattle.level_systems.specs.Recalled.{count_of}
+use Rattle.level_systems.specs.declared.fall.Fall.{Fall}
 use Rattle.level_dual.proofs.falling.falls_of.Given as goal
 
 abbrev pub invariant-loop-own : goal.invariant-loop-own

@@ -1,9 +1,9 @@
 use Rattle.std.proofs.Common.{◌≡◌, ℕ, ◌==◌, ◌+◌, if◌then◌else◌, Bool, true, false, List, ◌∷◌, drop, length, slice_get, Option, None, Some, refl, ap, sym, subst, ◌∙◌, arith, eq-eqb, eqb-true}
 use Rattle.number_tests.specs.declared.level_part.LevelPart.{LevelPart}
 use Rattle.termination_model.proofs.Lists.{at_place}
-use Rattle.level_dual.specs.Mappings.{level_in}
-use Rattle.level_dual.specs.declared.measure.Measure.{Measure}
-use Rattle.level_dual.proofs.PairLists.{drop_all, drop_at, unequal}
+use Rattle.level_systems.specs.Mappings.{level_in}
+use Rattle.level_systems.specs.declared.measure.Measure.{Measure}
+use Rattle.level_systems.proofs.PairLists.{drop_all, drop_at, unequal}
 use Rattle.level_dual.proofs.falling.find_part.Goals as goal
 
 pub returns-then-measure-pred-clause-some : goal.returns-then-measure-pred-clause-some

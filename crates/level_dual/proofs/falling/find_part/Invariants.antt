@@ -1,5 +1,5 @@
 use Rattle.std.proofs.Common.{◌≡◌, drop}
-use Rattle.level_dual.specs.Mappings.{level_in}
+use Rattle.level_systems.specs.Mappings.{level_in}
 use Rattle.level_dual.proofs.falling.find_part.Given as goal
 
 abbrev pub invariant-loop-measure : goal.invariant-loop-measure

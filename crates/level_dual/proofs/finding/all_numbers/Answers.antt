@@ -1,6 +1,6 @@
 use Rattle.std.proofs.Common.{◌≡◌, ◌+◌, ◌++◌, ◌∷◌, [], ℕ, List, ap, sym, ◌∙◌, arith}
 use Rattle.linear_rows.specs.Step.{columns}
-use Rattle.level_dual.proofs.RowLengths.{columns_on}
+use Rattle.level_systems.proofs.RowLengths.{columns_on}
 use Rattle.level_dual.proofs.finding.all_numbers.Goals as goal
 
 pub loop-number-preserved : goal.loop-number-preserved

@@ -2,9 +2,9 @@ use Rattle.std.proofs.Common.{◌≡◌, ◌<◌, ◌↔◌, ◌∷◌, [], ℕ,
 use Rattle.termination_model.specs.ComponentViews.{positions_in}
 use Rattle.termination_model.specs.Modes.{is_part}
 use Rattle.termination_model.specs.Sizes.{rows_of}
-use Rattle.level_dual.specs.Found.{IsBlownSet, count}
-use Rattle.level_dual.specs.Mappings.{support_of}
-use Rattle.level_dual.specs.Searched.{IsAnswer}
+use Rattle.level_systems.specs.Found.{IsBlownSet, count}
+use Rattle.level_systems.specs.Mappings.{support_of}
+use Rattle.level_systems.specs.Searched.{IsAnswer}
 use Rattle.level_dual.proofs.FoundCases.{given_up_is, part_full}
 use Rattle.level_dual.proofs.Results.{if_ok}
 use Rattle.level_dual.proofs.WalkLaws.{full_in, sets}

@@ -2,9 +2,9 @@ use Rattle.std.proofs.Common.{◌≡◌, ◌<◌, ◌↔◌, ℕ, IfSome, IsTrue
 use Rattle.std.proofs.lemmas.List.{length-map}
 use Rattle.linear_rows.specs.Step.{columns}
 use Rattle.termination_model.specs.Sizes.{rows_of}
-use Rattle.level_dual.specs.Found.{count}
-use Rattle.level_dual.specs.Held.{spelled}
-use Rattle.level_dual.specs.Searched.{IsComponent}
+use Rattle.level_systems.specs.Found.{count}
+use Rattle.level_systems.specs.Held.{spelled}
+use Rattle.level_systems.specs.Searched.{IsComponent}
 use Rattle.level_dual.proofs.BlownSets.{all_blown}
 use Rattle.level_dual.proofs.FoundCases.{undecided_is}
 use Rattle.level_dual.proofs.Results.{if_ok}

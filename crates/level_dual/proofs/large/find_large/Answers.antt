@@ -1,13 +1,13 @@
 use Rattle.std.proofs.Common.{◌≡◌, ◌++◌, ◌∷◌, [], ℕ, suc, List, map, length, None, true, ap, sym, subst, ◌∙◌}
 use Rattle.termination_model.specs.ComponentViews.{positions_in}
-use Rattle.level_dual.specs.Found.{IsFound}
-use Rattle.level_dual.specs.Held.{spelled}
+use Rattle.level_systems.specs.Found.{IsFound}
+use Rattle.level_systems.specs.Held.{spelled}
 use Rattle.level_dual.specs.Large.{IsLeftOut}
-use Rattle.level_dual.specs.Mappings.{support_of}
-use Rattle.level_dual.specs.Subsequences.{AreOnce}
+use Rattle.level_systems.specs.Mappings.{support_of}
+use Rattle.level_systems.specs.Subsequences.{AreOnce}
 use Rattle.level_dual.specs.declared.large.LeftOut.TheVariants.{None as NoneLeft}
-use Rattle.level_dual.specs.declared.mapping.Mapping.{Mapping}
-use Rattle.level_dual.specs.declared.position.Position.{Position}
+use Rattle.level_systems.specs.declared.mapping.Mapping.{Mapping}
+use Rattle.level_systems.specs.declared.position.Position.{Position}
 use Rattle.level_dual.proofs.LargeLaws.{large_found, set_once}
 use Rattle.level_dual.proofs.WalkLaws.{sets_in}
 use Rattle.level_dual.proofs.large.find_large.Goals as goal

@@ -1,10 +1,10 @@
 use Rattle.std.proofs.Common.{ℕ, ℤ, Bool, List, length, map}
 use Rattle.call_components.specs.Partition.{Partition}
 use Rattle.cti_terms.specs.Tree.{Tree}
-use Rattle.level_dual.specs.Held.{spelled}
+use Rattle.level_systems.specs.Held.{spelled}
 use Rattle.level_dual.specs.Large.{IsHadMapping}
-use Rattle.level_dual.specs.Mappings.{support_of}
-use Rattle.level_dual.specs.Searched.{IsComponent}
+use Rattle.level_systems.specs.Mappings.{support_of}
+use Rattle.level_systems.specs.Searched.{IsComponent}
 use Rattle.level_dual.proofs.large.find_large.Given as goal
 
 abbrev pub invariant-loop-mapping : goal.invariant-loop-mapping

@@ -2,7 +2,7 @@ use Rattle.std.proofs.Common.{rules, ◌≡◌, ℤ, ap, sym, ◌∙◌}
 use Rattle.std.specs.Int.{w128}
 use Rattle.std.specs.Prelude.{FitsSigned, nat_lt, unsigned_abs}
 use Rattle.std.proofs.lemmas.Int.{to_z-of_z}
-use Rattle.level_dual.specs.Held.{spelled}
+use Rattle.level_systems.specs.Held.{spelled}
 use Rattle.level_dual.proofs.CoefficientLaws.{coefficient_is}
 use Rattle.level_dual.proofs.large.has_coefficient.Goals as goal
 

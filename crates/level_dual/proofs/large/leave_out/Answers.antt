@@ -3,13 +3,13 @@ use Rattle.termination_model.specs.Minimal.{IsExcluded}
 use Rattle.termination_model.specs.Modes.{is_part}
 use Rattle.termination_model.specs.ComponentViews.{Has, positions_in}
 use Rattle.termination_model.proofs.Lists.{there}
-use Rattle.level_dual.specs.Found.{IsBlownSet, without}
-use Rattle.level_dual.specs.Held.{spelled}
+use Rattle.level_systems.specs.Found.{IsBlownSet, without}
+use Rattle.level_systems.specs.Held.{spelled}
 use Rattle.level_dual.specs.Large.{AreTried}
-use Rattle.level_dual.specs.Mappings.{support_of}
-use Rattle.level_dual.specs.Searched.{IsAnswer}
-use Rattle.level_dual.specs.declared.mapping.Mapping.{Mapping}
-use Rattle.level_dual.specs.declared.position.Position.{Position}
+use Rattle.level_systems.specs.Mappings.{support_of}
+use Rattle.level_systems.specs.Searched.{IsAnswer}
+use Rattle.level_systems.specs.declared.mapping.Mapping.{Mapping}
+use Rattle.level_systems.specs.declared.position.Position.{Position}
 use Rattle.level_dual.proofs.LargeLaws.{all_tried, excluded_too, given_up_too, part_without, place_in, set_once}
 use Rattle.level_dual.proofs.WalkLaws.{sets_in}
 use Rattle.level_dual.proofs.large.leave_out.Goals.{in-Mapping+in_ok-smaller-in-Mapping+else-len-support+in_ok-push-in-Mapping, in-Refuted, in-Blown+in_ok-push-in-Blown}

@@ -2,8 +2,8 @@ use Rattle.std.proofs.Common.{ℕ, ℤ, Bool, List}
 use Rattle.call_components.specs.Partition.{Partition}
 use Rattle.cti_terms.specs.Tree.{Tree}
 use Rattle.level_dual.specs.Large.{AreTried}
-use Rattle.level_dual.specs.Searched.{IsComponent}
-use Rattle.level_dual.specs.Subsequences.{AreOnce}
+use Rattle.level_systems.specs.Searched.{IsComponent}
+use Rattle.level_systems.specs.Subsequences.{AreOnce}
 use Rattle.level_dual.specs.Vanishing.{IsKnown}
 use Rattle.level_dual.proofs.large.leave_out.Given as goal
 

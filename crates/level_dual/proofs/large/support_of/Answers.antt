@@ -3,12 +3,12 @@ use Rattle.std.specs.Prelude.{nat_lt}
 use Rattle.termination_model.specs.Best.{coefficient}
 use Rattle.termination_model.specs.Supports.{support_from}
 use Rattle.termination_model.proofs.Lists.{append_assoc, there}
-use Rattle.level_dual.specs.Held.{spelled}
+use Rattle.level_systems.specs.Held.{spelled}
 use Rattle.level_dual.specs.Large.{has_coefficient}
-use Rattle.level_dual.specs.Mappings.{mapping_of}
-use Rattle.level_dual.specs.declared.measure.Measure.{Measure}
-use Rattle.level_dual.specs.declared.position.Position.{Position}
-use Rattle.level_dual.proofs.PairLists.{drop_at}
+use Rattle.level_systems.specs.Mappings.{mapping_of}
+use Rattle.level_systems.specs.declared.measure.Measure.{Measure}
+use Rattle.level_systems.specs.declared.position.Position.{Position}
+use Rattle.level_systems.proofs.PairLists.{drop_at}
 use Rattle.level_dual.proofs.large.support_of.Goals.{then-has_coefficient+in_ok-push, else-has_coefficient}
 use Rattle.level_dual.proofs.large.support_of.Goals as goal
 

@@ -1,6 +1,6 @@
 use Rattle.std.proofs.Common.{◌≡◌, ◌++◌, ◌+◌, map, drop}
-use Rattle.level_dual.specs.Held.{spelled}
-use Rattle.level_dual.specs.Mappings.{mapping_of, support_of}
+use Rattle.level_systems.specs.Held.{spelled}
+use Rattle.level_systems.specs.Mappings.{mapping_of, support_of}
 use Rattle.termination_model.specs.Supports.{support_from}
 use Rattle.level_dual.proofs.large.support_of.Given as goal
 

@@ -1,5 +1,5 @@
 use Rattle.std.proofs.Common.{◌≡◌, ◌++◌, drop, take}
-use Rattle.level_dual.specs.Found.{without}
+use Rattle.level_systems.specs.Found.{without}
 use Rattle.level_dual.proofs.large.without.Given as goal
 
 abbrev pub invariant-loop-other : goal.invariant-loop-other

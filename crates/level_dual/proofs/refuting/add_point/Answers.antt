@@ -5,7 +5,7 @@ use Rattle.std.specs.List.{AllByRecursion}
 use Rattle.std.proofs.lemmas.Int.{to_z-of_z}
 use Rattle.call_components.proofs.Lists.{all_append}
 use Rattle.number_tests.specs.declared.pair_point.PairPoint.{PairPoint}
-use Rattle.level_dual.specs.Refuted.{IsOfCalls, IsPointAt, IsSpelled, IsSpelledIf}
+use Rattle.level_systems.specs.Refuted.{IsOfCalls, IsPointAt, IsSpelled, IsSpelledIf}
 use Rattle.level_dual.proofs.PointLists.{first_rest, rest_whole}
 use Rattle.level_dual.proofs.refuting.add_point.Goals as goal
 

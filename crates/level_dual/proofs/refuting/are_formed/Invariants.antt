@@ -1,7 +1,7 @@
 use Rattle.std.proofs.Common.{drop}
 use Rattle.std.specs.List.{AllByRecursion}
-use Rattle.level_dual.specs.Found.{PairsAscend}
-use Rattle.level_dual.specs.Refuted.{HasPoints}
+use Rattle.level_systems.specs.Found.{PairsAscend}
+use Rattle.level_systems.specs.Refuted.{HasPoints}
 use Rattle.level_dual.proofs.refuting.are_formed.Given as goal
 
 -- the rest ascends and has its points exactly where all do

@@ -4,7 +4,7 @@ use Rattle.std.specs.Prelude.{FitsSigned}
 use Rattle.std.proofs.lemmas.Int.{to_z-of_z}
 use Rattle.linear_rows.specs.Plain.{plain_rows}
 use Rattle.linear_rows.specs.declared.point.Point.{Point}
-use Rattle.level_dual.specs.Refuted.{HasFoundPoint, IsFoundPoint}
+use Rattle.level_systems.specs.Refuted.{HasFoundPoint, IsFoundPoint}
 use Rattle.level_dual.proofs.refuting.pair_point.Goals as goal
 use Rattle.level_dual.proofs.refuting.pair_point.Goals.{then-is_nought+in_ok-second+in-Some, else-is_nought}
 

@@ -1,9 +1,9 @@
 use Rattle.std.proofs.Common.{rules, ◌≡◌, ◌+◌, suc, ℤ, List, drop, take, slice_get, None, Some, true, sym, subst, arith}
 use Rattle.termination_model.proofs.Lists.{at_place, by_places}
 use Rattle.termination_model.proofs.Readiness.{at_of}
-use Rattle.level_dual.specs.Held.{live_of}
-use Rattle.level_dual.specs.Refuted.{ArePoints, AreSpelled, HasWidths, IsAdded}
-use Rattle.level_dual.specs.declared.own_call.OwnCall.{OwnCall}
+use Rattle.level_systems.specs.Held.{live_of}
+use Rattle.level_systems.specs.Refuted.{ArePoints, AreSpelled, HasWidths, IsAdded}
+use Rattle.level_systems.specs.declared.own_call.OwnCall.{OwnCall}
 use Rattle.level_dual.proofs.PointLists.{live_here, points_end, points_more, rest_whole, spelled_more}
 use Rattle.level_dual.proofs.refuting.points_of.Goals as goal
 

@@ -1,8 +1,8 @@
 use Rattle.std.proofs.Common.{◌≡◌, ◌++◌, false, List, drop}
 use Rattle.std.specs.List.{AllByRecursion}
 use Rattle.number_tests.specs.declared.pair_point.PairPoint.{PairPoint}
-use Rattle.level_dual.specs.Held.{live_of}
-use Rattle.level_dual.specs.Refuted.{ArePoints, AreSpelled, IsOfCalls}
+use Rattle.level_systems.specs.Held.{live_of}
+use Rattle.level_systems.specs.Refuted.{ArePoints, AreSpelled, IsOfCalls}
 use Rattle.level_dual.proofs.refuting.points_of.Given as goal
 
 -- with the points of the calls that are left, these are those of all calls

@@ -7,11 +7,11 @@ use Rattle.number_tests.specs.Shape.{IsPairOf}
 use Rattle.number_tests.specs.declared.pair_point.PairPoint.{PairPoint}
 use Rattle.termination_model.specs.ComponentViews.{members_in}
 use Rattle.termination_model.specs.Sizes.{rows_of}
-use Rattle.level_dual.specs.Found.{PairsAscend}
-use Rattle.level_dual.specs.Held.{live_of}
-use Rattle.level_dual.specs.Refuted.{HasPoints, IsOfCalls, RefuteIf, lives_of, solution_of}
+use Rattle.level_systems.specs.Found.{PairsAscend}
+use Rattle.level_systems.specs.Held.{live_of}
+use Rattle.level_systems.specs.Refuted.{HasPoints, IsOfCalls, RefuteIf, lives_of, solution_of}
 use Rattle.level_dual.proofs.AcceptedPoints.{formed_accepted, points_accepted, spelled_accepted, sums_accepted}
-use Rattle.level_dual.proofs.HeldCalls.{all_recall, re}
+use Rattle.level_systems.proofs.HeldCalls.{all_recall, re}
 use Rattle.level_dual.proofs.RefuteLaws.{are_own, are_pairs, none_of}
 use Rattle.level_dual.proofs.refuting.refutation_by.Goals as goal
 use Rattle.level_dual.proofs.refuting.refutation_by.Goals.{then-is_some-via-then-is_some, then-is_some-via-else-is_some+then-is_some-2}

@@ -6,9 +6,9 @@ use Rattle.linear_rows.specs.Plain.{plain_rows}
 use Rattle.linear_rows.specs.Solving.{Solution, solution}
 use Rattle.linear_rows.specs.Solving.Solution.{Blown, Found, Refuted}
 use Rattle.number_tests.specs.declared.pair_point.PairPoint.{PairPoint}
-use Rattle.level_dual.specs.Held.{live_of}
-use Rattle.level_dual.specs.Refuted.{ArePointsIf, AreSpelled, RefuteIf, solution_of}
-use Rattle.level_dual.specs.declared.own_call.OwnCall.{OwnCall}
+use Rattle.level_systems.specs.Held.{live_of}
+use Rattle.level_systems.specs.Refuted.{ArePointsIf, AreSpelled, RefuteIf, solution_of}
+use Rattle.level_systems.specs.declared.own_call.OwnCall.{OwnCall}
 use Rattle.level_dual.proofs.Results.{if_ok}
 use Rattle.level_dual.proofs.SolvedSystems.{no_point, one_refutation, solution_same}
 use Rattle.level_dual.proofs.refuting.refuting_points.Goals as goal

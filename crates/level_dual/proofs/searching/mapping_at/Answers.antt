@@ -2,13 +2,13 @@ use Rattle.std.proofs.Common.{◌≡◌, ◌-◌, ◌≤ℤ◌, ℕ, ℤ, pos, L
 use Rattle.std.specs.List.{AllByRecursion}
 use Rattle.call_components.specs.Numbers.{number_of}
 use Rattle.call_components.proofs.Lists.{all_map}
-use Rattle.level_dual.specs.Falling.{HasParts, IsReady}
-use Rattle.level_dual.specs.Searched.{IsSoundCall}
-use Rattle.level_dual.specs.declared.measure.Measure.{Measure}
-use Rattle.level_dual.specs.declared.own_call.OwnCall.{OwnCall}
+use Rattle.level_systems.specs.Falling.{HasParts, IsReady}
+use Rattle.level_systems.specs.Searched.{IsSoundCall}
+use Rattle.level_systems.specs.declared.measure.Measure.{Measure}
+use Rattle.level_systems.specs.declared.own_call.OwnCall.{OwnCall}
 use Rattle.level_dual.proofs.PartLaws.{all_dropped}
 use Rattle.level_dual.proofs.SupportLaws.{has_parts}
-use Rattle.level_dual.proofs.ValueLaws.{rest_whole}
+use Rattle.level_systems.proofs.ValueLaws.{rest_whole}
 use Rattle.level_dual.proofs.searching.mapping_at.Goals as goal
 
 pub falls_of-requires-clause-parts : goal.falls_of-requires-clause-parts

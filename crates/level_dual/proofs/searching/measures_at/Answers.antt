@@ -9,9 +9,9 @@ use Rattle.number_tests.specs.Shape.{IsLevelPart}
 use Rattle.termination_model.specs.Ready.{arity_in}
 use Rattle.termination_model.specs.SupportSystem.{mapping_at}
 use Rattle.termination_model.proofs.Lists.{by_places, map_push, mapped_place, taken_more, there}
-use Rattle.level_dual.specs.Held.{spelled}
-use Rattle.level_dual.specs.Valued.{IsPartOf}
-use Rattle.level_dual.specs.declared.measure.Measure.{Measure}
+use Rattle.level_systems.specs.Held.{spelled}
+use Rattle.level_systems.specs.Valued.{IsPartOf}
+use Rattle.level_systems.specs.declared.measure.Measure.{Measure}
 use Rattle.level_dual.proofs.PartLaws.{all_dropped, all_taken, are_naturals, part_shape}
 use Rattle.level_dual.proofs.SearchLaws.{length_drop_at, length_take}
 use Rattle.level_dual.proofs.searching.measures_at.Goals as goal

@@ -4,9 +4,9 @@ use Rattle.call_components.specs.Numbers.{number_of}
 use Rattle.number_tests.specs.Shape.{IsLevelPart}
 use Rattle.termination_model.specs.Ready.{arity_in}
 use Rattle.termination_model.specs.SupportSystem.{mapping_at}
-use Rattle.level_dual.specs.Held.{spelled}
-use Rattle.level_dual.specs.Valued.{IsPartOf}
-use Rattle.level_dual.specs.declared.measure.Measure.{Measure}
+use Rattle.level_systems.specs.Held.{spelled}
+use Rattle.level_systems.specs.Valued.{IsPartOf}
+use Rattle.level_systems.specs.declared.measure.Measure.{Measure}
 use Rattle.level_dual.proofs.searching.measures_at.Given as goal
 
 abbrev pub invariant-loop-member : goal.invariant-loop-member

@@ -14,16 +14,16 @@ use Rattle.simplex.specs.Solving.{IsBlownAs}
 use Rattle.termination_model.specs.BlownSupports.{same_position}
 use Rattle.termination_model.specs.SupportSystem.{support_rows}
 use Rattle.termination_model.specs.Supports.{AreDistinct, picked_from}
-use Rattle.level_dual.specs.Held.{live_of, spelled}
-use Rattle.level_dual.specs.Recalled.{count_of}
-use Rattle.level_dual.specs.Searched.{IsMappingIf}
-use Rattle.level_dual.specs.declared.position.Position.{Position}
+use Rattle.level_systems.specs.Held.{live_of, spelled}
+use Rattle.level_systems.specs.Recalled.{count_of}
+use Rattle.level_systems.specs.Searched.{IsMappingIf}
+use Rattle.level_systems.specs.declared.position.Position.{Position}
 use Rattle.level_dual.proofs.BlownSets.{mapping_blown, solving_blown}
 use Rattle.level_dual.proofs.Excluded.{set_excluded}
 use Rattle.level_dual.proofs.FoundLaws.{found_at}
-use Rattle.level_dual.proofs.HeldCalls.{re}
+use Rattle.level_systems.proofs.HeldCalls.{re}
 use Rattle.level_dual.proofs.PartLaws.{all_natural}
-use Rattle.level_dual.proofs.SoundLaws.{filter_distinct}
+use Rattle.level_systems.proofs.SoundLaws.{filter_distinct}
 use Rattle.level_dual.proofs.searching.search_by.Goals as goal
 
 pub mapping_at-requires-clause-distinct : goal.mapping_at-requires-clause-distinct

@@ -2,10 +2,10 @@ use Rattle.std.proofs.Common.{map, sym, subst, ◌∙◌}
 use Rattle.std.specs.List.{AllByRecursion}
 use Rattle.call_components.specs.Numbers.{number_of}
 use Rattle.termination_model.specs.SupportSystem.{support_rows}
-use Rattle.level_dual.specs.Held.{live_of, spelled}
-use Rattle.level_dual.specs.Recalled.{Recalls}
-use Rattle.level_dual.specs.declared.own_call.OwnCall.{OwnCall}
-use Rattle.level_dual.proofs.HeldCalls.{all_recall, re}
+use Rattle.level_systems.specs.Held.{live_of, spelled}
+use Rattle.level_systems.specs.Recalled.{Recalls}
+use Rattle.level_systems.specs.declared.own_call.OwnCall.{OwnCall}
+use Rattle.level_systems.proofs.HeldCalls.{all_recall, re}
 use Rattle.level_dual.proofs.Results.{if_ok}
 use Rattle.level_dual.proofs.searching.system_at.Goals as goal
 

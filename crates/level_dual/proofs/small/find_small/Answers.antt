@@ -1,5 +1,5 @@
 use Rattle.std.proofs.Common.{List, ℕ, ◌∙◌, subst}
-use Rattle.level_dual.specs.Found.{IsBlownSet}
+use Rattle.level_systems.specs.Found.{IsBlownSet}
 use Rattle.level_dual.specs.Walked.{IsCompleted}
 use Rattle.level_dual.specs.declared.walked.Walked.{Walked}
 use Rattle.level_dual.proofs.FoundCases.{completed_found}

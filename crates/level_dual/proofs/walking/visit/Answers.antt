@@ -1,5 +1,5 @@
 use Rattle.std.proofs.Common.{◌++◌, ◌∷◌, [], sym, subst, ◌∙◌}
-use Rattle.level_dual.specs.Searched.{IsAnswer}
+use Rattle.level_systems.specs.Searched.{IsAnswer}
 use Rattle.level_dual.proofs.WalkLaws.{given_up_on, mapped_on, passed_on, refuted_on}
 use Rattle.level_dual.proofs.walking.visit.Goals as goal
 

@@ -1,7 +1,7 @@
 use Rattle.std.proofs.Common.{ℕ, ℤ, Bool, List, length}
 use Rattle.call_components.specs.Partition.{Partition}
 use Rattle.cti_terms.specs.Tree.{Tree}
-use Rattle.level_dual.specs.Searched.{IsComponent}
+use Rattle.level_systems.specs.Searched.{IsComponent}
 use Rattle.level_dual.specs.Walked.{IsWalkedTo}
 use Rattle.level_dual.proofs.walking.walk.Given as goal
 

@@ -1,6 +1,6 @@
 use Rattle.std.proofs.Common.{◌∷◌, refl, sym, subst}
 use Rattle.prolog_operators.specs.declared.operators.Ops.{Ops}
-use Rattle.prolog_reader.specs.declared.symbol.Known.{Known}
+use Rattle.prolog_terms.specs.declared.symbol.Known.{Known}
 use Rattle.prolog_reader.specs.Knowing.{AreKnown}
 use Rattle.prolog_operators.specs.Meanings.{table_of}
 use Rattle.prolog_reader.specs.Scan.{closing_of, Finds}

@@ -1,5 +1,5 @@
 use Rattle.std.proofs.Common.{◌≡◌, map, IfOk, ap, sym, ◌∙◌, subst}
-use Rattle.prolog_reader.specs.Terms.{tree_of}
+use Rattle.prolog_terms.specs.Terms.{tree_of}
 use Rattle.prolog_operators.specs.Meanings.{table_of}
 use Rattle.prolog_reader.specs.Directive.{Effect, directive_by}
 use Rattle.prolog_reader.specs.Knowing.{words_view, done_effect}

@@ -1,6 +1,6 @@
 use Rattle.std.proofs.Common.{List, Some, ap, sym, ◌∙◌, map}
 use Rattle.prolog_grammar.specs.Placed.{Tree}
-use Rattle.prolog_reader.specs.Terms.{tree_of}
+use Rattle.prolog_terms.specs.Terms.{tree_of}
 use Rattle.prolog_reader.specs.Directive.{parts_of}
 use Rattle.prolog_reader.proofs.ViewLemmas.{tree_of_fun, list_of_row}
 use Rattle.prolog_reader.proofs.directives.parts.Goals as goal

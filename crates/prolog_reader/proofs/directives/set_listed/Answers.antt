@@ -1,5 +1,5 @@
 use Rattle.std.proofs.Common.{◌==◌, map, Some, None, sym, ap, ◌∙◌}
-use Rattle.prolog_reader.specs.Terms.{tree_of}
+use Rattle.prolog_terms.specs.Terms.{tree_of}
 use Rattle.prolog_operators.specs.Meanings.{table_of}
 use Rattle.prolog_operators.specs.Table.{Table}
 use Rattle.prolog_reader.specs.Directive.{effect_of, listed}

@@ -1,6 +1,6 @@
 use Rattle.std.proofs.Common.{◌≡◌, Some}
-use Rattle.prolog_reader.specs.Clauses.{nodes}
-use Rattle.prolog_reader.specs.Terms.{tree_of}
+use Rattle.prolog_terms.specs.Clauses.{nodes}
+use Rattle.prolog_terms.specs.Terms.{tree_of}
 use Rattle.prolog_operators.specs.Meanings.{table_of}
 use Rattle.prolog_reader.specs.Directive.{listed, effect_of}
 use Rattle.prolog_reader.specs.Knowing.{words_view}

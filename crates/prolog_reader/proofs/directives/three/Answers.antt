@@ -1,4 +1,4 @@
-use Rattle.prolog_reader.specs.Terms.{tree_of}
+use Rattle.prolog_terms.specs.Terms.{tree_of}
 use Rattle.prolog_reader.proofs.DirectiveLemmas.{three_items}
 use Rattle.prolog_reader.proofs.directives.three.Goals as goal
 

@@ -3,11 +3,11 @@ use Rattle.prolog_tokens.specs.Cursor.{Cursor}
 use Rattle.prolog_tokens.proofs.NextLemmas.{token_within}
 use Rattle.std.specs.List.{AllByRecursion}
 use Rattle.std.proofs.lemmas.List.Sums.{sum_by_push}
-use Rattle.prolog_reader.specs.Clauses.{Clause, nodes}
+use Rattle.prolog_terms.specs.Clauses.{Clause, nodes}
 use Rattle.prolog_reader.specs.Fit.{IsFit}
 use Rattle.prolog_reader.specs.FoundFit.{IsClauseFit}
 use Rattle.prolog_reader.proofs.FitLemmas.{all_push}
-use Rattle.prolog_reader.specs.Terms.{clause_of, tree_of}
+use Rattle.prolog_terms.specs.Terms.{clause_of, tree_of}
 use Rattle.prolog_operators.specs.Meanings.{table_of}
 use Rattle.prolog_reader.specs.Words.{Words}
 use Rattle.prolog_reader.specs.Directive.{effect}

@@ -1,6 +1,6 @@
 use Rattle.std.proofs.Common.{◌≡◌, ◌≤◌, ◌+◌, ◌*◌, ◌-◌, ℕ, length, sum_by}
 use Rattle.std.specs.List.{AllByRecursion}
-use Rattle.prolog_reader.specs.Clauses.{Clause, nodes}
+use Rattle.prolog_terms.specs.Clauses.{Clause, nodes}
 use Rattle.prolog_reader.specs.Fit.{IsFit}
 use Rattle.prolog_operators.specs.Meanings.{table_of}
 use Rattle.prolog_operators.specs.Names.{Extends}

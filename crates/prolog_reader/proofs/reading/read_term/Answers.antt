@@ -1,7 +1,7 @@
 use Rattle.std.proofs.Common.{◌*◌, ◌∷◌, length, true, ap, sym, ◌∙◌, subst, arith}
 use Rattle.prolog_tokens.specs.Cursor.{Cursor}
 use Rattle.prolog_tokens.proofs.NextLemmas.{token_within}
-use Rattle.prolog_reader.specs.Terms.{clause_of}
+use Rattle.prolog_terms.specs.Terms.{clause_of}
 use Rattle.prolog_operators.specs.Meanings.{table_of}
 use Rattle.prolog_reader.proofs.LexLemmas.{cursor}
 use Rattle.prolog_operators.proofs.NameLemmas.{extends_self}

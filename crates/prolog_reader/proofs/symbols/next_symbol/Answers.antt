@@ -1,4 +1,4 @@
-use Rattle.prolog_reader.specs.Numbering.{seen_of}
+use Rattle.prolog_terms.specs.Numbering.{seen_of}
 use Rattle.prolog_reader.proofs.LexLemmas.{int_small}
 use Rattle.prolog_reader.proofs.SymbolLemmas.{named_token}
 use Rattle.prolog_reader.proofs.symbols.next_symbol.Goals as goal

@@ -1,5 +1,5 @@
 use Rattle.std.proofs.Common.{◌++◌, List, map, subst, ◌∙◌}
-use Rattle.level_dual.specs.declared.found.Found.{Found}
+use Rattle.level_systems.specs.declared.found.Found.{Found}
 use Rattle.numeric_model.specs.States.{plain_step}
 use Rattle.report.proofs.AssembledParts.{assembled}
 use Rattle.report.specs.Assembly.{ArePartsOf}

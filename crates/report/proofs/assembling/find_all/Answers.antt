@@ -1,7 +1,7 @@
 use Rattle.std.proofs.Common.{◌≡◌, ◌+◌, ℕ, List, ap, arith, length, slice_get, subst, sym, inl, inr, ◌∙◌}
 use Rattle.std.proofs.lemmas.List.{length_push}
-use Rattle.level_dual.specs.Found.{IsFound}
-use Rattle.level_dual.specs.declared.found.Found.{Found}
+use Rattle.level_systems.specs.Found.{IsFound}
+use Rattle.level_systems.specs.declared.found.Found.{Found}
 use Rattle.term_size.specs.Occurrences.{size_row}
 use Rattle.termination_model.specs.Sizes.{rows_of}
 use Rattle.report.specs.Shaped.{IsShaped}

@@ -1,6 +1,6 @@
 use Rattle.std.proofs.Common.{◌≡◌, ℕ, Some, length, slice_get, true}
-use Rattle.level_dual.specs.Found.{IsFound}
-use Rattle.level_dual.specs.declared.found.Found.{Found}
+use Rattle.level_systems.specs.Found.{IsFound}
+use Rattle.level_systems.specs.declared.found.Found.{Found}
 use Rattle.number_tests.specs.declared.refutation.Refutation.{Refutation}
 use Rattle.report.specs.Shaped.{IsShaped}
 use Rattle.term_size.specs.Occurrences.{size_row}

@@ -4,7 +4,7 @@ use Rattle.numeric_model.specs.States.{plain_step}
 use Rattle.termination_model.proofs.Lists.{at_place}
 use Rattle.report.specs.ChainNotes.{step_notes}
 use Rattle.report.proofs.NoteLaws.{added, ended, facts_step}
-use Rattle.level_dual.proofs.PairLists.{drop_all}
+use Rattle.level_systems.proofs.PairLists.{drop_all}
 use Rattle.report.proofs.chain_notes.note_chain.Goals as goal
 
 pub loop-index-preserved : goal.loop-index-preserved

@@ -1,5 +1,5 @@
 use Rattle.std.proofs.Common.{◌≡◌, drop}
-use Rattle.level_dual.specs.Mappings.{level_in}
+use Rattle.level_systems.specs.Mappings.{level_in}
 use Rattle.report.proofs.levels.part_of.Given as goal
 
 -- none of the measures so far is the predicate's

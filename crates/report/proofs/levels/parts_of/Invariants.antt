@@ -1,6 +1,6 @@
 use Rattle.std.proofs.Common.{◌≡◌, map, take}
 use Rattle.cert_structure.specs.Shape.{arity_of}
-use Rattle.level_dual.specs.Mappings.{level_in}
+use Rattle.level_systems.specs.Mappings.{level_in}
 use Rattle.report.specs.Levels.{part_or_zero}
 use Rattle.report.proofs.levels.parts_of.Given as goal
 

@@ -1,8 +1,0 @@
-use Rattle.std.proofs.Common.{◌≡◌, ◌++◌, ◌-◌, map}
-use Rattle.level_dual.specs.Held.{spelled}
-use Rattle.level_dual.specs.Ordered.{arguments_from}
-use Rattle.level_dual.proofs.members.add_positions.Given as goal
-
-abbrev pub invariant-loop-argument : goal.invariant-loop-argument
-invariant-loop-argument l =
-    map spelled l.positions.items ++ arguments_from l.pred.0 l.argument (l.argument-end - l.argument) ≡ map spelled l.fn.positions.items ++ arguments_from l.pred.0 0 l.argument-end

@@ -1,0 +1,13 @@
+pub mod Bottoms
+pub mod Falls
+pub mod HeldCalls
+pub mod Holding
+pub mod MemberLists
+pub mod OwnCallLaws
+pub mod PairLists
+pub mod RowLengths
+pub mod SoundLaws
+pub mod SystemSteps
+pub mod ValueLaws
+pub mod ViewCalls
+pub mod Zeros

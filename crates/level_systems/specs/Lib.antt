@@ -1,0 +1,12 @@
+pub mod Collected
+pub mod Falling
+pub mod Found
+pub mod Held
+pub mod Mappings
+pub mod Ordered
+pub mod Pairs
+pub mod Recalled
+pub mod Refuted
+pub mod Searched
+pub mod Subsequences
+pub mod Valued
