@@ -12,13 +12,27 @@ use Rattle.ld_resolver.specs.declared.choices.Choice.{Choice}
 use Rattle.ld_resolver.specs.Store.{made, full}
 use Rattle.ld_resolver.specs.Pending.{Extends, KeepsFree, IsUnified}
 use Rattle.ld_resolver.specs.Tails.{tail_at}
-use Rattle.ld_resolver.specs.Below.{AtomsBelow, FreeFrom}
+use Rattle.ld_resolver.specs.Below.{ArgumentsBelow, AtomsBelow, FreeFrom}
 use Rattle.ld_resolver.specs.Walk.{Visit, walk}
-use Rattle.ld_resolver.specs.Choices.{kept, goal_of, left, AreChoices}
+use Rattle.ld_resolver.specs.Choices.{kept, goal_of, left, IsChoice, AreChoices}
 use Rattle.ld_resolver.specs.Searches.{AreWithin, attempts_at, goal_with, IsTakenAt}
 use Rattle.ld_resolver.proofs.SearchLaws.{Agree, left_gone, later_choices, no_node, node, fewer_attempts, resolve_at, same_pred, left_goal, node_free, head_below, goal_below}
 
-module _ (p : Listing) (s now : List Binding) (rests rests_now : List (List Atom)) (old new : List Choice) (c : Choice) (k : Clause) (all : AreChoices p s rests old) (t : IsTakenAt p old c k new) (e : Extends now (kept s c.mark)) (agree : Agree c.rests rests rests_now) (enough : c.rests ≤ length rests → c.rests ≤ length rests_now) where
+-- what the head of the clause is to be unified with
+module _ (p : Listing) (s taken : List Binding) (rests : List (List Atom)) (old new : List Choice) (c : Choice) (k : Clause) (all : AreChoices p s rests old) (t : IsTakenAt p s old c k taken new) where
+  chosen : IsChoice p s rests c
+  chosen = (subst (AreChoices p s rests) t.was all).0
+
+  pub head_free : FreeFrom c.fresh taken
+  head_free = subst (FreeFrom c.fresh) (sym t.back) chosen.free
+
+  pub atom_below : ArgumentsBelow c.fresh (over (full taken) (raised c.base c.atom.now)).args
+  atom_below = subst (λ (b : List Binding). ArgumentsBelow c.fresh (over (full b) (raised c.base c.atom.now)).args) (sym t.back) chosen.below.0
+
+module _ (p : Listing) (s taken now : List Binding) (rests rests_now : List (List Atom)) (old new : List Choice) (c : Choice) (k : Clause) (all : AreChoices p s rests old) (t : IsTakenAt p s old c k taken new) (extended : Extends now taken) (agree : Agree c.rests rests rests_now) (enough : c.rests ≤ length rests → c.rests ≤ length rests_now) where
+  e : Extends now (kept s c.mark)
+  e = subst (Extends now) t.back extended
+
   here : AreChoices p s rests (c ∷ t.below)
   here = subst (AreChoices p s rests) t.was all
 
@@ -84,11 +98,14 @@ module _ (p : Listing) (s now : List Binding) (rests rests_now : List (List Atom
       ∙ same_pred (over (full (kept s c.mark)) (raised c.base c.atom.now)) (map (over (full (kept s c.mark))) (tail_at rests c.rest)) c.fresh k h
       ∙ ap (option_map (answered (map (over (full (kept s c.mark))) (tail_at rests c.rest)) c.fresh k)) u
 
-  pub fails_by_unifier : c.atom.now.pred.0 ≡ k.head.pred.0 → unify (head_equations (over (full (kept s c.mark)) (raised c.base c.atom.now)) c.fresh k) ≡ None → resolve p (goal_of s rests c) c.next ≡ None
-  fails_by_unifier h u = resolves None h u
+  pub fails_by_unifier : c.atom.now.pred.0 ≡ k.head.pred.0 → unify (head_equations (over (full taken) (raised c.base c.atom.now)) c.fresh k) ≡ None → resolve p (goal_of s rests c) c.next ≡ None
+  fails_by_unifier h u = resolves None h (subst (λ (b : List Binding). unify (head_equations (over (full b) (raised c.base c.atom.now)) c.fresh k) ≡ None) t.back u)
 
   -- a goal is left
-  module _ (h : c.atom.now.pred.0 ≡ k.head.pred.0) (u : IsUnified (made (kept s c.mark)) (head_equations (over (full (kept s c.mark)) (raised c.base c.atom.now)) c.fresh k) (made now) true) where
+  module _ (h : c.atom.now.pred.0 ≡ k.head.pred.0) (unified : IsUnified (made taken) (head_equations (over (full taken) (raised c.base c.atom.now)) c.fresh k) (made now) true) where
+    u : IsUnified (made (kept s c.mark)) (head_equations (over (full (kept s c.mark)) (raised c.base c.atom.now)) c.fresh k) (made now) true
+    u = subst (λ (b : List Binding). IsUnified (made b) (head_equations (over (full b) (raised c.base c.atom.now)) c.fresh k) (made now) true) t.back unified
+
     abbrev pub left_by_node : Goal
     left_by_node = goal_with now (map (raised c.fresh) k.body) (tail_at rests_now c.rest) (c.fresh + k.vars)
 
@@ -109,10 +126,11 @@ module _ (p : Listing) (s now : List Binding) (rests rests_now : List (List Atom
     pub taken_rest : c.rest ≤ length rests_now
     taken_rest = let r = here.0.rest in omega (arith, r, long)
 
-    pub taken_free : KeepsFree (head_equations (over (full (kept s c.mark)) (raised c.base c.atom.now)) c.fresh k) (kept s c.mark) now → FreeFrom (c.fresh + k.vars) now
+    pub taken_free : KeepsFree (head_equations (over (full taken) (raised c.base c.atom.now)) c.fresh k) taken now → FreeFrom (c.fresh + k.vars) now
     taken_free keeps =
         node_free (kept s c.mark) now (head_equations (over (full (kept s c.mark)) (raised c.base c.atom.now)) c.fresh k) c.fresh (c.fresh + k.vars) (omega arith) here.0.free
-        (head_below (over (full (kept s c.mark)) (raised c.base c.atom.now)) c.fresh k here.0.below.0 t.clause.head.below) keeps
+        (head_below (over (full (kept s c.mark)) (raised c.base c.atom.now)) c.fresh k here.0.below.0 t.clause.head.below)
+        (subst (λ (b : List Binding). KeepsFree (head_equations (over (full b) (raised c.base c.atom.now)) c.fresh k) b now) t.back keeps)
 
     pub taken_below : AtomsBelow (c.fresh + k.vars) left_by_node.atoms
     taken_below =

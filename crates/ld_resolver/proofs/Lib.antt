@@ -6,6 +6,7 @@ pub mod CoverLaws
 pub mod HeadLaws
 pub mod OrderLaws
 pub mod FirstLaws
+pub mod FirstArgumentLaws
 pub mod CountLaws
 pub mod PendingLaws
 pub mod ProgressLaws

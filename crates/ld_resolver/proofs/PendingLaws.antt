@@ -153,7 +153,7 @@ step_two_integers m n d = go (int_eq m n) refl
     go true e = absurd (d ((Decides-int_eq m n).0 e))
     go false e = refl
 
-arity-all_full : (s : List Binding) (n : ℕ) (ts : List Term) → arity (all_full s (all_instances (raise n) (trees_of ts))) ≡ length ts
+pub arity-all_full : (s : List Binding) (n : ℕ) (ts : List Term) → arity (all_full s (all_instances (raise n) (trees_of ts))) ≡ length ts
 arity-all_full s n [] = refl
 arity-all_full s n (t ∷ ts) = ap suc (arity-all_full s n ts)
 

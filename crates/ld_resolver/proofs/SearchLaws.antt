@@ -20,9 +20,9 @@ use Rattle.ld_resolver.specs.Pending.{Extends, KeepsFree}
 use Rattle.ld_resolver.specs.Tails.{tail_at}
 use Rattle.ld_resolver.specs.Below.{ArgumentsBelow, AtomsBelow, FreeFrom}
 use Rattle.ld_resolver.specs.Walk.{Visit, entered, walk_by, walk}
-use Rattle.ld_resolver.specs.Chain.{IsNext}
 use Rattle.ld_resolver.specs.Choices.{kept, goal_from, goal_of, clauses_left, left, IsChoice, Within, AreChoices, GrowsTo}
-use Rattle.ld_resolver.specs.Searches.{attempts_at, AreNumbered, goal_with}
+use Rattle.ld_resolver.specs.FirstArguments.{IsNextMatch}
+use Rattle.ld_resolver.specs.Searches.{attempts_at, AreNumbered, AreMarked, goal_with}
 use Rattle.ld_resolver.proofs.StoreLaws.{applied-append, eqb_same}
 use Rattle.ld_resolver.proofs.BelowLaws.{full_raised, applied_below, wider, all_wider, pairs_below, arguments_raised, atoms_over, below_append, not_below}
 use Rattle.cti_terms.proofs.UnifyLaws.{AllBelow, unify_finds}
@@ -124,6 +124,10 @@ pub are_numbered : (p : Listing) (s : List Binding) (rests : List (List Atom)) (
 are_numbered p s rests [] all = tt
 are_numbered p s rests (c ∷ below) all = ((all.0.from_one, all.0.to_end, all.0.pred), are_numbered p s rests below all.2)
 
+pub are_marked : (p : Listing) (s : List Binding) (rests : List (List Atom)) (cs : List Choice) → AreChoices p s rests cs → AreMarked (length s) cs
+are_marked p s rests [] all = tt
+are_marked p s rests (c ∷ below) all = (all.0.mark, are_marked p s rests below all.2)
+
 pub within_all : (p : Listing) (s : List Binding) (rests : List (List Atom)) (m r : ℕ) (cs : List Choice) → length s ≤ m → length rests ≤ r → AreChoices p s rests cs → Within m r cs
 within_all p s rests m r [] h k all = tt
 within_all p s rests m r (c ∷ below) h k all =
@@ -166,14 +170,10 @@ met_by_none p q deeper bs l h k (suc gap) m e b none =
     ∙ ap (λ o. entered q deeper bs l o ++ walk_by p q deeper bs l h (range_with_len (k + 1) (suc (length p.clauses) - (k + 1)))) (none k (omega arith) (omega (arith, e)))
     ∙ met_by_none p q deeper bs l h (k + 1) gap m (omega (arith, e)) b (λ j low high. none j (omega (arith, low)) high)
 
--- nor are those of other predicates
-pub met_by_others : (p : Listing) (q : List Atom) (deeper : List Binding → ℕ → Goal → List Visit) (bs : List Binding) (l : ℕ) (a : Atom) (rest : List Atom) (n k m : ℕ) → IsNext p a.pred.0 k m → walk_by p q deeper bs l (record { atoms = a ∷ rest; fresh = n }) (range_with_len k (suc (length p.clauses) - k)) ≡ walk_by p q deeper bs l (record { atoms = a ∷ rest; fresh = n }) (range_with_len m (suc (length p.clauses) - m))
-met_by_others p q deeper bs l a rest n k m is =
-    met_by_none p q deeper bs l (record { atoms = a ∷ rest; fresh = n }) k (m - k) m (omega (arith, is.from)) is.to_end (λ j low high. other j low high (numbered p.clauses j) refl)
-  where
-    other : (j : ℕ) → k ≤ j → j < m → (o : Option Clause) → numbered p.clauses j ≡ o → option_and_then (resolve_by (a ∷ rest) n) o ≡ None
-    other j low high None e = refl
-    other j low high (Some c) e = another_pred a rest n c (is.others j c low high e)
+-- nor are those before the next one that can match
+pub met_by_match : (p : Listing) (q : List Atom) (deeper : List Binding → ℕ → Goal → List Visit) (bs : List Binding) (l : ℕ) (s : List Binding) (a : Atom) (rest : List Atom) (n k m : ℕ) → IsNextMatch p s a n k m → walk_by p q deeper bs l (goal_from s n a rest) (range_with_len k (suc (length p.clauses) - k)) ≡ walk_by p q deeper bs l (goal_from s n a rest) (range_with_len m (suc (length p.clauses) - m))
+met_by_match p q deeper bs l s a rest n k m is =
+    met_by_none p q deeper bs l (goal_from s n a rest) k (m - k) m (omega (arith, is.from)) is.to_end (is.skipped rest)
 
 -- ---- the goal that is left
 
@@ -230,7 +230,7 @@ extends_self s m = (take (length s - m) s, sym (take-append-drop (length s - m) 
 pub left_gone : (p : Listing) (q : List Atom) (n : ℕ) (s : List Binding) (rests : List (List Atom)) (c : Choice) (below : List Choice) → length p.clauses < c.next → left p q n s rests (c ∷ below) ≡ left p q n s rests below
 left_gone p q n s rests c below h = ap (λ (ks : List ℕ). walk_by p q (walk p q (n - c.depth)) (made (kept s c.mark)) c.depth (goal_of s rests c) ks ++ left p q n s rests below) (no_clause_left p c h)
 
-module _ (p : Listing) (s now : List Binding) (rests rests_now : List (List Atom)) (c : Choice) (below : List Choice) (all : AreChoices p s rests (c ∷ below)) (inside : c.next ≤ length p.clauses) (m : ℕ) (after : IsNext p c.atom.now.pred.0 (suc c.next) m) (e : Extends now (kept s c.mark)) (agree : Agree c.rests rests rests_now) (long : c.rests ≤ length rests_now) where
+module _ (p : Listing) (s now : List Binding) (rests rests_now : List (List Atom)) (c : Choice) (below : List Choice) (all : AreChoices p s rests (c ∷ below)) (inside : c.next ≤ length p.clauses) (m : ℕ) (after : IsNextMatch p (kept s c.mark) (raised c.base c.atom.now) c.fresh (suc c.next) m) (e : Extends now (kept s c.mark)) (agree : Agree c.rests rests rests_now) (long : c.rests ≤ length rests_now) where
   abbrev pub after_c : Choice
   after_c = record c { next = m }
 
@@ -256,7 +256,7 @@ module _ (p : Listing) (s now : List Binding) (rests rests_now : List (List Atom
   left_by_clause q n o r =
       ap (λ (ks : List ℕ). walk_by p q (walk p q (n - c.depth)) (made (kept s c.mark)) c.depth (goal_of s rests c) ks ++ left p q n s rests below) (clause_left p c inside)
       ∙ ap (λ (vs : List Visit). (entered q (walk p q (n - c.depth)) (made (kept s c.mark)) c.depth (resolve p (goal_of s rests c) c.next) ++ vs) ++ left p q n s rests below)
-      (met_by_others p q (walk p q (n - c.depth)) (made (kept s c.mark)) c.depth (over (full (kept s c.mark)) (raised c.base c.atom.now)) (map (over (full (kept s c.mark))) (tail_at rests c.rest)) c.fresh (c.next + 1) m (subst (λ k. IsNext p c.atom.now.pred.0 k m) next_is after))
+      (met_by_match p q (walk p q (n - c.depth)) (made (kept s c.mark)) c.depth (kept s c.mark) (raised c.base c.atom.now) (tail_at rests c.rest) c.fresh (c.next + 1) m (subst (λ (k : ℕ). IsNextMatch p (kept s c.mark) (raised c.base c.atom.now) c.fresh k m) next_is after))
       ∙ append_assoc (entered q (walk p q (n - c.depth)) (made (kept s c.mark)) c.depth (resolve p (goal_of s rests c) c.next)) (walk_by p q (walk p q (n - c.depth)) (made (kept s c.mark)) c.depth (goal_of s rests c) (clauses_left p after_c)) (left p q n s rests below)
       ∙ (λ i. entered q (walk p q (n - c.depth)) (made (kept s c.mark)) c.depth (r i) ++ sym (left_stays p q n s now rests rests_now (after_c ∷ below) (stay_through p s now rests rests_now c.mark c.rests (after_c ∷ below) stays all.0.mark e agree (same_mark, all.1, all.2))) i)
     where
@@ -281,7 +281,7 @@ module _ (p : Listing) (s now : List Binding) (rests rests_now : List (List Atom
 start_goal : (s : List Binding) (atoms : List Atom) (a : Atom) (rest : List Atom) (n : ℕ) → atoms ≡ a ∷ rest → goal_with s atoms [] n ≡ goal_from s n a rest
 start_goal s atoms a rest n e = λ i. record { atoms = map (over (full s)) ((append-nil atoms ∙ e) i); fresh = n }
 
-module _ (p : Listing) (s : List Binding) (rests now : List (List Atom)) (cs : List Choice) (all : AreChoices p s rests cs) (g : GrowsTo rests now) (c : Choice) (atoms rest : List Atom) (e : atoms ++ rest ≡ raised c.base c.atom.now ∷ tail_at now c.rest) (within : c.rest ≤ length now) (newest : c.rests ≡ length now) (first : IsNext p c.atom.now.pred.0 1 c.next) (mark : c.mark ≡ length s) (free : FreeFrom c.fresh s) (below : AtomsBelow c.fresh (goal_with s atoms rest c.fresh).atoms) where
+module _ (p : Listing) (s : List Binding) (rests now : List (List Atom)) (cs : List Choice) (all : AreChoices p s rests cs) (g : GrowsTo rests now) (c : Choice) (atoms rest : List Atom) (e : atoms ++ rest ≡ raised c.base c.atom.now ∷ tail_at now c.rest) (within : c.rest ≤ length now) (newest : c.rests ≡ length now) (first : IsNextMatch p s (raised c.base c.atom.now) c.fresh 1 c.next) (mark : c.mark ≡ length s) (free : FreeFrom c.fresh s) (below : AtomsBelow c.fresh (goal_with s atoms rest c.fresh).atoms) where
   all_kept : kept s c.mark ≡ s
   all_kept = ap (kept s) mark ∙ kept_all s
 
@@ -307,7 +307,7 @@ module _ (p : Listing) (s : List Binding) (rests now : List (List Atom)) (cs : L
   clauses_all : (q : List Atom) (deeper : List Binding → ℕ → Goal → List Visit) (bs : List Binding) (l : ℕ) → walk_by p q deeper bs l (goal_of s now c) (range_with_len 1 (length p.clauses)) ≡ walk_by p q deeper bs l (goal_of s now c) (clauses_left p c)
   clauses_all q deeper bs l =
       ap (λ k. walk_by p q deeper bs l (goal_of s now c) (range_with_len 1 k)) (sym count)
-      ∙ met_by_others p q deeper bs l (over (full (kept s c.mark)) (raised c.base c.atom.now)) (map (over (full (kept s c.mark))) (tail_at now c.rest)) c.fresh 1 c.next first
+      ∙ met_by_match p q deeper bs l (kept s c.mark) (raised c.base c.atom.now) (tail_at now c.rest) c.fresh 1 c.next (subst (λ (b : List Binding). IsNextMatch p b (raised c.base c.atom.now) c.fresh 1 c.next) (sym all_kept) first)
     where
       count : suc (length p.clauses) - 1 ≡ length p.clauses
       count = omega arith

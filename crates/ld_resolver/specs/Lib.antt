@@ -7,6 +7,7 @@ pub mod Below
 pub mod Tails
 pub mod Chain
 pub mod Choices
+pub mod FirstArguments
 pub mod Searches
 pub mod Measured
 pub mod Told

@@ -19,8 +19,8 @@ use Rattle.ld_resolver.specs.Store.{made, full}
 use Rattle.ld_resolver.specs.Tails.{tail_at}
 use Rattle.ld_resolver.specs.Below.{AtomsBelow, FreeFrom}
 use Rattle.ld_resolver.specs.Walk.{Visit, walk}
-use Rattle.ld_resolver.specs.Chain.{IsNext}
-use Rattle.ld_resolver.specs.Choices.{left, AreChoices}
+use Rattle.ld_resolver.specs.Choices.{kept, left, AreChoices}
+use Rattle.ld_resolver.specs.FirstArguments.{IsNextMatch}
 
 -- how many attempts are left at choices, with one to see that there are no more
 abbrev pub attempts_at : Listing → List Choice → ℕ
@@ -31,6 +31,10 @@ attempts_at p (c ∷ below) = (suc (suc (length p.clauses)) - c.next) + attempts
 abbrev pub AreNumbered : Listing → List Choice → Type 0
 AreNumbered p = AllByRecursion (λ (c : Choice). (1 ≤ c.next) × (c.next ≤ suc (length p.clauses)) × ((k : ProgramClause) → numbered p.clauses c.next ≡ Some k → c.atom.now.pred.0 ≡ k.head.pred.0))
 
+-- each choice has at most m bindings
+abbrev pub AreMarked : ℕ → List Choice → Type 0
+AreMarked m = AllByRecursion (λ (c : Choice). c.mark ≤ m)
+
 -- at most d steps lead to each choice
 abbrev pub AreWithin : ℕ → List Choice → Type 0
 AreWithin d = AllByRecursion (λ (c : Choice). c.depth ≤ d)
@@ -39,8 +43,9 @@ AreWithin d = AllByRecursion (λ (c : Choice). c.depth ≤ d)
 abbrev pub IsPutBack : Listing → List Choice → Choice → List Choice → Type 0
 IsPutBack p old c new = (new ≡ c ∷ old) ⊎ ((new ≡ old) × (length p.clauses < c.next))
 
--- a clause is taken at the last choice, which goes on with the next clause of its predicate, or goes where there is none
-pub record IsTakenAt (p : Listing) (old : List Choice) (c : Choice) (k : ProgramClause) (new : List Choice) : Type 0 where
+-- a clause is taken at the last choice, whose bindings are kept alone. The choice goes on with the next clause that can
+-- match, or goes where there is none
+pub record IsTakenAt (p : Listing) (s : List Binding) (old : List Choice) (c : Choice) (k : ProgramClause) (now : List Binding) (new : List Choice) : Type 0 where
   pub below : List Choice
   pub m : ℕ
   pub was : old ≡ c ∷ below
@@ -49,13 +54,14 @@ pub record IsTakenAt (p : Listing) (old : List Choice) (c : Choice) (k : Program
   pub there : slice_get p.clauses (c.next - 1) ≡ Some k
   pub clause : IsClause p.preds k
   pub pred : c.atom.now.pred.0 ≡ k.head.pred.0
-  pub next : IsNext p c.atom.now.pred.0 (suc c.next) m
+  pub back : now ≡ kept s c.mark
+  pub next : IsNextMatch p (kept s c.mark) (raised c.base c.atom.now) c.fresh (suc c.next) m
 
--- how a clause is taken at choices, the last one first
-abbrev pub IsTaken : Listing → List Choice → Taken → List Choice → Type 0
-IsTaken p old Nothing new = (old ≡ []) × (new ≡ [])
-IsTaken p old Exhausted new = (c : Choice) × (old ≡ c ∷ new) × (length p.clauses < c.next)
-IsTaken p old (Clause c k) new = IsTakenAt p old c k.now new
+-- how a clause is taken at choices, the last one first, and what becomes of the bindings
+abbrev pub IsTaken : Listing → List Binding → List Choice → Taken → List Binding → List Choice → Type 0
+IsTaken p s old Nothing now new = (old ≡ []) × (new ≡ []) × (now ≡ s)
+IsTaken p s old Exhausted now new = (c : Choice) × (old ≡ c ∷ new) × (length p.clauses < c.next) × (now ≡ s)
+IsTaken p s old (Clause c k) now new = IsTakenAt p s old c k.now now new
 
 -- the choices of a search, the last one first
 abbrev pub choices_of : Search → List Choice

@@ -7,7 +7,6 @@ ghost use Rattle.cti_terms.specs.Resolve.{over, raised, head_equations};
 ghost use Rattle.ld_resolver.specs.Store.{full, made};
 ghost use Rattle.ld_resolver.specs.Pending.{IsUnified, Extends, KeepsFree};
 ghost use Rattle.ld_resolver.specs.Below.{ArgumentsBelow, FreeFrom};
-ghost use Rattle.ld_resolver.specs.Choices.{kept};
 
 use crate::bindings::Bindings;
 use crate::choices::Choice;
@@ -49,23 +48,20 @@ impl<'p> Stacks<'p> {
     }
 }
 
-/// Unifies the first atom of a choice with the head of a clause, whose variables are raised by the choice's counter.
-///
-/// Bindings that were made after the choice's are taken back first.
+/// Unifies the first atom of a choice with the head of a clause, whose variables are raised by the choice's counter. The
+/// bindings are the choice's.
 pub fn unify_head<'p>(
     bindings: &mut Bindings<'p>,
     stacks: &mut Stacks<'p>,
     choice: Choice<'p>,
     clause: &'p Clause,
 ) -> Result<bool, AllocError>
-    requires mark { choice.mark ≤ length bindings.old }
-    requires free { FreeFrom choice.fresh (kept bindings.old choice.mark) }
-    requires below { ArgumentsBelow choice.fresh (over (full (kept bindings.old choice.mark)) (raised choice.base choice.atom.now)).args }
-    ensures unifier { IfOk result (IsUnified (made (kept bindings.old choice.entry.mark)) (head_equations (over (full (kept bindings.old choice.entry.mark)) (raised choice.entry.base choice.entry.atom.now)) choice.entry.fresh clause.now) (made bindings.new)) }
-    ensures extended { OnOk result (Extends bindings.new (kept bindings.old choice.entry.mark)) }
-    ensures free { OnOk result (KeepsFree (head_equations (over (full (kept bindings.old choice.entry.mark)) (raised choice.entry.base choice.entry.atom.now)) choice.entry.fresh clause.now) (kept bindings.old choice.entry.mark) bindings.new) }
+    requires free { FreeFrom choice.fresh bindings.old }
+    requires below { ArgumentsBelow choice.fresh (over (full bindings.old) (raised choice.base choice.atom.now)).args }
+    ensures unifier { IfOk result (IsUnified (made bindings.old) (head_equations (over (full bindings.old) (raised choice.entry.base choice.entry.atom.now)) choice.entry.fresh clause.now) (made bindings.new)) }
+    ensures extended { OnOk result (Extends bindings.new bindings.old) }
+    ensures free { OnOk result (KeepsFree (head_equations (over (full bindings.old) (raised choice.entry.base choice.entry.atom.now)) choice.entry.fresh clause.now) bindings.old bindings.new) }
 {
-    bindings.undo(choice.mark);
     stacks.equations.clear();
     push_equations(
         &mut stacks.equations,

@@ -3,7 +3,8 @@
 //! A run looks at the derivations from a goal in the order of Prolog's search, with the occurs check, and gives the
 //! answers, how many derivations it looked at, and whether there are more. What it answers is proved to be what the
 //! definitions of `cti_terms` say, which substitute in whole goals. The code binds variables in a store instead,
-//! takes bindings back where it chooses another clause, shares the rests of goals, and unifies no pair of variables over and over.
+//! takes bindings back where it chooses another clause, passes over clauses that the first argument rules out, shares
+//! the rests of goals, and unifies no pair of variables over and over.
 //!
 //! Depends on `cti_terms`, and on `indexmap`, which numbers the variables of an answer in the order of first occurrence and
 //! finds the pairs of variables that were unified.
@@ -16,6 +17,7 @@ mod bindings;
 mod choices;
 mod clause_chain;
 mod equal_pairs;
+mod first_argument;
 pub mod laws;
 mod occurs_check;
 mod raised_term;

@@ -7,13 +7,14 @@ ghost use Rattle.ld_resolver.specs.Chain.{IsChain};
 ghost use Rattle.ld_resolver.specs.Tails.{tail_at};
 ghost use Rattle.ld_resolver.specs.Told.{told};
 ghost use Rattle.ld_resolver.specs.Measured.{answered_atoms};
-ghost use Rattle.ld_resolver.specs.Searches.{AreNumbered, AreWithin, IsPutBack, IsTaken, IsSearch, IsAttempt, IsEntered, choices_of, attempts_left, goal_with};
+ghost use Rattle.ld_resolver.specs.Searches.{AreMarked, AreNumbered, AreWithin, IsPutBack, IsTaken, IsSearch, IsAttempt, IsEntered, choices_of, attempts_left, goal_with};
 
 use crate::answer::{Answer, make_answer};
 use crate::attempts::{Stacks, unify_head};
 use crate::bindings::Bindings;
 use crate::choices::{Choice, goal_start};
 use crate::clause_chain::ClauseChain;
+use crate::first_argument::next_match;
 use crate::tails::Tails;
 use cti_terms::{Atom, Clause, Program};
 use std::alloc::{AllocError, Global};
@@ -69,15 +70,18 @@ fn put_back<'p>(
     Ok(())
 }
 
-/// Takes the next clause at the last choice, which goes where it has no more.
+/// Takes the next clause at the last choice, and takes back the bindings that were made after the choice's. The choice
+/// goes where no clause is left that can match.
 fn take_clause<'p>(
     program: &'p Program,
     chain: &ClauseChain,
+    bindings: &mut Bindings<'p>,
     choices: &mut Vec<Choice<'p>>,
 ) -> Result<Taken<'p>, AllocError>
     requires chain { IsChain program.now chain.now }
     requires numbered { AreNumbered program.now (reverse choices.old.items) }
-    ensures { IfOk result (λ t. IsTaken program.now (reverse choices.old.items) t (reverse choices.new.items)) }
+    requires marked { AreMarked (length bindings.old) (reverse choices.old.items) }
+    ensures { IfOk result (λ t. IsTaken program.now bindings.old (reverse choices.old.items) t bindings.new (reverse choices.new.items)) }
 {
     let choice = match choices.pop() {
         Some(choice) => choice,
@@ -86,9 +90,12 @@ fn take_clause<'p>(
     if choice.next > program.clauses() {
         return Ok(Taken::Exhausted);
     }
+    let clause = program.clause(choice.next);
+    bindings.undo(choice.mark);
     let next = chain.after(choice.next);
+    let next = next_match(program, chain, bindings, Choice { next, ..choice });
     put_back(program, choices, Choice { next, ..choice })?;
-    Ok(Taken::Clause(choice, program.clause(choice.next)))
+    Ok(Taken::Clause(choice, clause))
 }
 
 impl<'p> Search<'p> {
@@ -117,7 +124,7 @@ impl<'p> Search<'p> {
         ensures attempt { IfOk result (λ a. IsAttempt self.old a self.new) }
         ensures depths { OnOk result ((d : ℕ) → AreWithin d (choices_of self.old) → AreWithin d (choices_of self.new)) }
     {
-        match take_clause(self.program, chain, &mut self.choices)? {
+        match take_clause(self.program, chain, &mut self.bindings, &mut self.choices)? {
             Taken::Nothing => Ok(Attempt::Ended),
             Taken::Exhausted => Ok(Attempt::Failed),
             Taken::Clause(choice, clause) => {
@@ -155,7 +162,7 @@ impl<'p> Search<'p> {
     {
         match goal_start(&mut self.tails, atoms, base, rest)? {
             Some(start) => {
-                self.choices.push(Choice {
+                let choice = Choice {
                     atom: start.atom,
                     base: start.base,
                     rest: start.rest,
@@ -164,12 +171,15 @@ impl<'p> Search<'p> {
                     mark: self.bindings.len(),
                     rests: self.tails.len(),
                     depth,
-                })?;
+                };
+                let next = next_match(self.program, chain, &self.bindings, choice);
+                self.choices.push(Choice { next, ..choice })?;
                 Ok(true)
             }
             None => Ok(false),
         }
     }
+
     /// The answer that the bindings give of a query.
     pub fn answer(&mut self, alloc: Global, query: &'p [Atom]) -> Result<Answer, AllocError>
         ensures answer { IfOk result (λ a. a ≡ told (answered_atoms self.old.bindings query.now)) }

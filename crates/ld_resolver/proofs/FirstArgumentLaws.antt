@@ -1,0 +1,116 @@
+-- Laws of clauses that cannot match a goal by its first argument.
+use Rattle.std.proofs.Common.{◌≡◌, ◌≢◌, ℕ, suc, ◌<◌, ◌≤◌, Bool, true, false, ◌&&◌, ◌==◌, if◌then◌else◌, List, [], ◌∷◌, map, length, slice_get, Option, None, Some, option_map, option_and_then, inl, inr, refl, ap, sym, ◌∙◌, subst, arith, eqb-true}
+use Rattle.std.proofs.lemmas.Bool.{cases_eq, cases_lt}
+use Rattle.cti_terms.specs.Tree.{Tree, Compound, arity, trees, instance, all_instances}
+use Rattle.cti_terms.specs.declared.syntax.Term.{Term}
+use Rattle.cti_terms.specs.Spell.{tree_of, trees_of}
+use Rattle.cti_terms.specs.declared.atom_list.Atom.{Atom}
+use Rattle.cti_terms.specs.declared.clauses.Clause.{Clause}
+use Rattle.cti_terms.specs.Listing.{Listing, numbered}
+use Rattle.cti_terms.specs.Unify.{Binding, Step, first_step, pairs}
+use Rattle.cti_terms.specs.UnifyFunction.{unify}
+use Rattle.cti_terms.specs.Resolve.{over, raised, head_equations, answered, resolve_by, resolve}
+use Rattle.ld_resolver.specs.declared.raised_term.Met.{Met}
+use Rattle.ld_resolver.specs.declared.raised_term.Shape.{Shape}
+use Rattle.ld_resolver.specs.Raised.{raised_tree, raise}
+use Rattle.ld_resolver.specs.Shapes.{shape_tree, shape_full, IsMet}
+use Rattle.ld_resolver.specs.Store.{full}
+use Rattle.ld_resolver.specs.Pending.{args_full}
+use Rattle.ld_resolver.specs.Chain.{IsNext}
+use Rattle.ld_resolver.specs.Choices.{goal_from}
+use Rattle.ld_resolver.specs.FirstArguments.{HasFirst, Clash, IsRuledOut, IsNextMatch}
+use Rattle.ld_resolver.proofs.PendingLaws.{arity-all_full}
+use Rattle.ld_resolver.proofs.SearchLaws.{another_pred}
+use Rattle.ld_resolver.proofs.UnifySteps.{unify_step}
+
+arity-raised : (n : ℕ) (ts : List Term) → arity (all_instances (raise n) (trees_of ts)) ≡ length ts
+arity-raised n [] = refl
+arity-raised n (t ∷ ts) = ap suc (arity-raised n ts)
+
+-- two compound terms of different names or arities
+pub two_compounds : (s : List Binding) (f g n m : ℕ) (ts us : List Term) → ((f ≡ g) × (length ts ≡ length us) → ⊥) → first_step (Compound f (args_full s n ts)) (Compound g (all_instances (raise m) (trees_of us))) ≡ Step.Failed
+two_compounds s f g n m ts us h = by_length ∙ go (f == g) (length ts == length us) refl refl
+  where
+    by_length : first_step (Compound f (args_full s n ts)) (Compound g (all_instances (raise m) (trees_of us))) ≡ (if (f == g) && (length ts == length us) then Step.Split (pairs (args_full s n ts) (all_instances (raise m) (trees_of us))) else Step.Failed)
+    by_length = λ i. if (f == g) && (arity-all_full s n ts i == arity-raised m us i) then Step.Split (pairs (args_full s n ts) (all_instances (raise m) (trees_of us))) else Step.Failed
+
+    go : (a b : Bool) → (f == g) ≡ a → (length ts == length us) ≡ b → (if (f == g) && (length ts == length us) then Step.Split (pairs (args_full s n ts) (all_instances (raise m) (trees_of us))) else Step.Failed) ≡ Step.Failed
+    go true true p q = absurd (h (eqb-true f g p, eqb-true (length ts) (length us) q))
+    go true false p q = λ i. if (p i) && (q i) then Step.Split (pairs (args_full s n ts) (all_instances (raise m) (trees_of us))) else Step.Failed
+    go false b p q = λ i. if (p i) && (length ts == length us) then Step.Split (pairs (args_full s n ts) (all_instances (raise m) (trees_of us))) else Step.Failed
+
+-- the first argument of a raised atom has the kind that its term was found to have
+pub has_first : (s : List Binding) (a : Atom) (base : ℕ) (ts : List Term) (t : Term) (m : Met) → map tree_of ts ≡ a.args → Some t ≡ slice_get ts 0 → full s (raised_tree m.term) ≡ full s (instance (raise base) (tree_of t)) → IsMet s m → HasFirst s (raised base a) m.shape
+has_first s a base [] t m e h same met = cc
+has_first s a base (u ∷ ts) t m e h same met = record {
+  base = m.term.base;
+  others = map (full s) (map (instance (raise base)) (map tree_of ts));
+  are =
+      ap (λ (l : List Tree). map (full s) (map (instance (raise base)) l)) (sym e)
+      ∙ ap (λ (x : Tree). x ∷ map (full s) (map (instance (raise base)) (map tree_of ts))) (ap (λ (v : Term). full s (instance (raise base) (tree_of v))) it ∙ sym same ∙ met.tree);
+}
+  where
+    it : u ≡ t
+    it = cc
+
+-- a clause whose first argument clashes is ruled out
+pub ruled_out : (n : ℕ) (h g : Shape) (c : Clause) (u : Tree) (us : List Tree) → c.head.args ≡ u ∷ us → instance (raise n) u ≡ shape_tree n g → Clash n h g → IsRuledOut n h c
+ruled_out n h g c u us e r clash s a rest first =
+    ap (λ (o : Option (List Binding)). if a.pred.0 == c.head.pred.0 then option_map (answered (map (over (full s)) rest) n c) o else None) none
+    ∙ either_way (a.pred.0 == c.head.pred.0)
+  where
+    either_way : (b : Bool) → (if b then option_map (answered (map (over (full s)) rest) n c) None else None) ≡ None
+    either_way true = refl
+    either_way false = refl
+
+    begins : head_equations (over (full s) a) n c ≡ (shape_full s first.base h, shape_tree n g) ∷ pairs (trees first.others) (trees (map (instance (raise n)) us))
+    begins =
+        (λ i. pairs (trees (first.are i)) (trees (map (instance (raise n)) (e i))))
+        ∙ (λ i. (shape_full s first.base h, r i) ∷ pairs (trees first.others) (trees (map (instance (raise n)) us)))
+
+    none : unify (head_equations (over (full s) a) n c) ≡ None
+    none = ap unify begins ∙ unify_step (shape_full s first.base h) (shape_tree n g) (pairs (trees first.others) (trees (map (instance (raise n)) us))) Step.Failed (clash s first.base)
+
+-- a clause of another predicate resolves no goal
+another : (s : List Binding) (n : ℕ) (a : Atom) (rest : List Atom) (c : Clause) → a.pred.0 ≢ c.head.pred.0 → resolve_by (goal_from s n a rest).atoms n c ≡ None
+another s n a rest c d = another_pred (over (full s) a) (map (over (full s)) rest) n c d
+
+-- nor do the clauses before the next one of its predicate
+others_skipped : (p : Listing) (s : List Binding) (a : Atom) (n k m : ℕ) → IsNext p a.pred.0 k m → (rest : List Atom) (j : ℕ) → k ≤ j → j < m → resolve p (goal_from s n a rest) j ≡ None
+others_skipped p s a n k m is rest j low high = go (numbered p.clauses j) refl
+  where
+    go : (o : Option Clause) → numbered p.clauses j ≡ o → option_and_then (resolve_by (goal_from s n a rest).atoms n) o ≡ None
+    go None e = refl
+    go (Some c) e = another s n a rest c (is.others j c low high e)
+
+pub next_matches : (p : Listing) (s : List Binding) (a : Atom) (n k m : ℕ) → IsNext p a.pred.0 k m → IsNextMatch p s a n k m
+next_matches p s a n k m is = record {
+  from = is.from;
+  to_end = is.to_end;
+  skipped = others_skipped p s a n k m is;
+  found = is.found;
+}
+
+-- a clause that is ruled out is passed over
+pub next_later : (p : Listing) (s : List Binding) (a : Atom) (n k m later : ℕ) (h : Shape) (c : Clause) → IsNextMatch p s a n k m → numbered p.clauses m ≡ Some c → IsRuledOut n h c → HasFirst s a h → IsNext p c.head.pred.0 (suc m) later → IsNextMatch p s a n k later
+next_later p s a n k m later h c is at out first after = record {
+  from = omega (arith, is.from, after.from);
+  to_end = after.to_end;
+  skipped = λ rest j low high. by_place rest j low high;
+  found = λ d e. is.found c at ∙ after.found d e;
+}
+  where
+    here : IsNext p a.pred.0 (suc m) later
+    here = subst (λ (f : ℕ). IsNext p f (suc m) later) (sym (is.found c at)) after
+
+    itself : (rest : List Atom) → resolve p (goal_from s n a rest) m ≡ None
+    itself rest = ap (option_and_then (resolve_by (goal_from s n a rest).atoms n)) at ∙ out s a rest first
+
+    by_place : (rest : List Atom) (j : ℕ) → k ≤ j → j < later → resolve p (goal_from s n a rest) j ≡ None
+    by_place rest j low high = elim (cases_lt j m) [
+      | inl less ↦ is.skipped rest j low less
+      | inr more ↦ elim (cases_eq j m) [
+        | inl same ↦ subst (λ (i : ℕ). resolve p (goal_from s n a rest) i ≡ None) (sym same) (itself rest)
+        | inr differs ↦ others_skipped p s a n (suc m) later here rest j (omega (arith, more, differs)) high
+      ]
+    ]

@@ -1,0 +1,16 @@
+use Rattle.std.proofs.Common.{arith}
+use Rattle.cti_terms.specs.Resolve.{raised}
+use Rattle.ld_resolver.proofs.FirstArgumentLaws.{next_later}
+use Rattle.ld_resolver.proofs.first_argument.next_match.Goals as goal
+
+pub loop-shape-preserved : goal.loop-shape-preserved
+loop-shape-preserved c =
+    let p = c.args.program.now in
+    let choice = c.args.choice in
+    let number = c.loop-shape.number in
+    let out = c.is_skipped.ensures c.loop-shape-test.true in
+    let after = c.after-number.ensures p c.requires.chain out.0 out.1 in
+    record {
+      from_one = omega (arith, after.from);
+      next = λ k first. next_later p c.args.bindings.now (raised choice.base choice.atom.now) choice.fresh k number c.after-number.result c.in-Some.shape out.0 (c.loop-shape.invariant.next k first) out.1 out.2 c.in-Some.ensures after;
+    }
