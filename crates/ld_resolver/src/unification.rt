@@ -3,14 +3,14 @@
 ghost use Rattle.std.specs.Prelude.{true, false, ◌≡◌, ◌≤◌, ◌<◌, ◌^◌, ℕ, ◌++◌, IfOk, OnOk, MatchOption, List, [], ◌∷◌, length, vec_len, map};
 ghost use Rattle.cti_terms.specs.Tree.{all_instances, Variable, Integer, Compound};
 ghost use Rattle.cti_terms.specs.Spell.{trees_of};
-ghost use Rattle.cti_terms.specs.Unify.{Binding, first_step, bound, occurs, pairs};
+ghost use Rattle.cti_terms.specs.Unify.{Binding, Equation, first_step, bound, occurs, pairs};
 ghost use Rattle.cti_terms.specs.UnifyFunction.{unify};
 ghost use Rattle.ld_resolver.specs.Raised.{raise, raised_tree};
 ghost use Rattle.ld_resolver.specs.Shapes.{IsMet};
 ghost use Rattle.ld_resolver.specs.Store.{stored, full, made, IsOpen};
 ghost use Rattle.ld_resolver.specs.Below.{TermBelow, LeftBelow};
 ghost use Rattle.ld_resolver.specs.Pending.{args_full, raw_equations, waiting, step_of, IsFit, IsNext, IsUnified, Extends, KeepsFree};
-ghost use Rattle.ld_resolver.specs.Remembered.{AreRemembered, AreRememberedAfter};
+ghost use Rattle.ld_resolver.specs.Remembered.{Entails, above, AreRemembered, AreRememberedAfter};
 
 use crate::bindings::Bindings;
 use crate::equal_pairs::EqualPairs;
@@ -63,6 +63,24 @@ pub fn push_equations<'p>(
         );
         stack.push(equation)?;
     }
+    Ok(())
+}
+
+/// Puts the equations of the arguments of two terms on the stack, and notes that the terms are being unified.
+fn open_arguments<'p>(
+    stack: &mut Vec<(RaisedTerm<'p>, RaisedTerm<'p>)>,
+    known: &mut EqualPairs<'p>,
+    terms: (RaisedTerm<'p>, RaisedTerm<'p>),
+    left: &'p [Term],
+    left_base: u32,
+    right: &'p [Term],
+    right_base: u32,
+) -> Result<(), AllocError>
+    ensures stack { OnOk result (raw_equations stack.new.items ≡ pairs (all_instances (raise left_base) (trees_of left.now)) (all_instances (raise right_base) (trees_of right.now)) ++ raw_equations stack.old.items) }
+    ensures known { OnOk result ((s : List Binding) (es : List Equation) → Entails (above (length stack.old.items) es) (full s (raised_tree terms.entry.0)) (full s (raised_tree terms.entry.1)) → AreRemembered s es known.old → AreRemembered s es known.new) }
+{
+    known.open(terms.0, terms.1, stack.len())?;
+    push_equations(stack, left, left_base, right, right_base)?;
     Ok(())
 }
 
@@ -199,8 +217,15 @@ fn next_binding<'p>(
             Found::Nothing => {}
             Found::Binds(x, term, above) => return Ok(Next::Bound(x, term, above)),
             Found::Arguments(ts, us) => {
-                push_equations(equations, ts, left.term.base, us, right.term.base)?;
-                pairs.open(l, r, below)?;
+                open_arguments(
+                    equations,
+                    pairs,
+                    (l, r),
+                    ts,
+                    left.term.base,
+                    us,
+                    right.term.base,
+                )?;
             }
             Found::Clash => return Ok(Next::Failed),
         }

@@ -72,7 +72,7 @@ loop-l-smaller c =
     let e = waiting_first s c.loop-l.equations.items rest c.in-Some.l c.in-Some.r t u c.in-Some.ensures.items c.met-left.ensures.same c.met-right.ensures.same in
     let qs = pairs (args_full s l.term.base c.in-Arguments.ts.now) (args_full s r.term.base c.in-Arguments.us.now) in
     let h = sym c.in_ok-step.ensures.step ∙ ap (step_of s l.term.base r.term.base) c.in-Arguments.is in
-    let p = waiting_pushed s l.term.base r.term.base c.in-Arguments.ts.now c.in-Arguments.us.now c.push_equations.new.stack.items rest c.in_ok-push_equations-in-Arguments.ensures in
+    let p = waiting_pushed s l.term.base r.term.base c.in-Arguments.ts.now c.in-Arguments.us.now c.open_arguments.new.stack.items rest c.in_ok-open_arguments-in-Arguments.ensures.stack in
     let less = work_split t u qs h in
     omega (arith, less, work-append qs (waiting s rest), ap work e, ap work p)
 
@@ -89,7 +89,7 @@ loop-l-preserved c =
     let now = waiting s c.loop-l.equations.items in
     let qs = pairs (args_full s l.term.base c.in-Arguments.ts.now) (args_full s r.term.base c.in-Arguments.us.now) in
     let h = sym c.in_ok-step.ensures.step ∙ ap (step_of s l.term.base r.term.base) c.in-Arguments.is in
-    let p = waiting_pushed s l.term.base r.term.base c.in-Arguments.ts.now c.in-Arguments.us.now c.push_equations.new.stack.items rest c.in_ok-push_equations-in-Arguments.ensures in
+    let p = waiting_pushed s l.term.base r.term.base c.in-Arguments.ts.now c.in-Arguments.us.now c.open_arguments.new.stack.items rest c.in_ok-open_arguments-in-Arguments.ensures.stack in
     let count = c.len-below.ensures ∙ c.pop.new.self.ok.0 in
     let few : length (waiting s c.loop-l.equations.items) ≤ c.len-below.result + 1 = omega (arith, count, ap length e, length-waiting s rest) in
     let m = subst (λ (es : List Equation). AreRemembered s es c.know.new.self) e (c.in_ok-know.ensures.kept s (waiting s c.loop-l.equations.items) few c.loop-l.invariant.pairs) in
@@ -100,10 +100,10 @@ loop-l-preserved c =
       same = same_after_arguments before now t u (waiting s rest) c.loop-l.invariant.same c.loop-l.invariant.inside e qs h ∙ ap unify (sym p);
       inside = subst (OccurBefore before) (sym p) (inside_after_arguments before now t u (waiting s rest) c.loop-l.invariant.same c.loop-l.invariant.inside e qs h);
       pairs =
-          let place = count ∙ sym (length-waiting s rest) in
-          let entailed = opened s c.in-Some.l c.in-Some.r t u qs (waiting s rest) c.len-below.result place h c.met-left.ensures.same c.met-right.ensures.same in
-          subst (λ (es : List Equation). AreRemembered s es c.open.new.self) (sym p)
-          (c.in_ok-open-in-Arguments.ensures s (qs ++ waiting s rest) entailed (remembered_split s t u qs (waiting s rest) c.know.new.self h m));
+          let place = sym (length-waiting s rest) in
+          let entailed = opened s c.in-Some.l c.in-Some.r t u qs (waiting s rest) (length rest) place h c.met-left.ensures.same c.met-right.ensures.same in
+          subst (λ (es : List Equation). AreRemembered s es c.open_arguments.new.known) (sym p)
+          (c.in_ok-open_arguments-in-Arguments.ensures.known s (qs ++ waiting s rest) entailed (remembered_split s t u qs (waiting s rest) c.know.new.self h m));
     }
 
 pub returns-in-Clash : goal.returns-in-Clash
