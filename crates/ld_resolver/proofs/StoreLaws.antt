@@ -1,5 +1,6 @@
 -- Laws of stored bindings.
-use Rattle.std.proofs.Common.{◌≡◌, ◌≢◌, ℕ, zero, suc, ◌<◌, Bool, true, false, ◌==◌, if◌then◌else◌, List, [], ◌∷◌, ◌++◌, map, reverse, length, set, replicate, Option, None, Some, IfSome, option_map, refl, ap, sym, ◌∙◌, subst, arith, eqb-true}
+use Rattle.std.proofs.Common.{◌≡◌, ◌≢◌, ℕ, zero, suc, ◌<◌, Bool, true, false, ◌==◌, if◌then◌else◌, List, [], ◌∷◌, ◌++◌, map, reverse, length, drop, set, replicate, Option, None, Some, IfSome, option_map, refl, ap, sym, ◌∙◌, subst, arith, eqb-true}
+use Rattle.std.specs.Prelude.{unwrap_or}
 use Rattle.std.proofs.lemmas.Bool.Decides.{nat_tests}
 use Rattle.std.proofs.lemmas.List.{map-append, reverse-append, length-reverse, length-map}
 use Rattle.cti_terms.specs.Tree.{Tree, Variable, Integer, Compound, instance}
@@ -7,7 +8,7 @@ use Rattle.cti_terms.specs.Unify.{Binding, occurs, only, applied}
 use Rattle.cti_terms.proofs.Unifier.{absent, only_same}
 use Rattle.ld_resolver.specs.declared.raised_term.RaisedTerm.{RaisedTerm}
 use Rattle.ld_resolver.specs.Raised.{raised_tree}
-use Rattle.ld_resolver.specs.Store.{stored, made, full, IsOpen, MayBind, AreMade, one_more, chain, chain_of, trail_of, slot, IsStore}
+use Rattle.ld_resolver.specs.Store.{stored, made, full, IsOpen, MayBind, AreMade, one_more, chain, chain_of, binding_in, trail_of, slot, IsStore}
 
 -- bindings in turn
 pub applied-append : (bs cs : List Binding) (t : Tree) → applied (bs ++ cs) t ≡ applied cs (applied bs t)
@@ -136,73 +137,117 @@ slot_grown [] n j = slot_none n j
 slot_grown (x ∷ xs) n zero = refl
 slot_grown (x ∷ xs) n (suc j) = slot_grown xs n j
 
-pub trail_more : (es : List (ℕ × RaisedTerm)) (e : ℕ × RaisedTerm) → trail_of (es ++ e ∷ []) ≡ (e.0, raised_tree e.1) ∷ trail_of es
-trail_more es e =
-    ap reverse (map-append (λ (d : ℕ × RaisedTerm). (d.0, raised_tree d.1)) es (e ∷ []))
-    ∙ reverse-append (map (λ (d : ℕ × RaisedTerm). (d.0, raised_tree d.1)) es) ((e.0, raised_tree e.1) ∷ [])
-
--- a binding is kept
-pub store_more : (slots : List (Option RaisedTerm)) (trail : List (ℕ × RaisedTerm)) (x : ℕ) (r : RaisedTerm) → IsStore slots trail → x < length slots → MayBind (trail_of trail) x (raised_tree r) → IsStore (set slots x (Some r)) (trail ++ (x, r) ∷ [])
-store_more slots trail x r s within may = record {
-  agree = λ y. ap (λ l. stored l y) (trail_more trail (x, r)) ∙ at y (x == y) refl;
-  made = subst AreMade (sym (trail_more trail (x, r))) (may, s.made);
-}
-  where
-    at : (y : ℕ) (c : Bool) → (x == y) ≡ c → (if x == y then Some (raised_tree r) else stored (trail_of trail) y) ≡ slot (set slots x (Some r)) y
-    at y true e =
-        if_same (x == y) (Some (raised_tree r)) (stored (trail_of trail) y) e
-        ∙ sym (slot_set_same slots x (Some r) within)
-        ∙ ap (slot (set slots x (Some r))) (eqb-true x y e)
-    at y false e =
-        if_other (x == y) (Some (raised_tree r)) (stored (trail_of trail) y) e
-        ∙ s.agree y
-        ∙ sym (slot_set_other slots x y (Some r) (eqb_false x y e))
-
--- the same slots
-pub store_same : (slots more : List (Option RaisedTerm)) (trail : List (ℕ × RaisedTerm)) → IsStore slots trail → ((x : ℕ) → slot more x ≡ slot slots x) → IsStore more trail
-store_same slots more trail s same = record { agree = λ y. s.agree y ∙ sym (same y); made = s.made }
+pub trail_more : (slots : List (Option RaisedTerm)) (xs : List ℕ) (x : ℕ) → trail_of slots (xs ++ x ∷ []) ≡ binding_in slots x ∷ trail_of slots xs
+trail_more slots xs x = ap reverse (map-append (binding_in slots) xs (x ∷ [])) ∙ reverse-append (map (binding_in slots) xs) (binding_in slots x ∷ [])
 
 -- as many bindings
-pub length-trail_of : (es : List (ℕ × RaisedTerm)) → length (trail_of es) ≡ length es
-length-trail_of es = length-reverse (map (λ (e : ℕ × RaisedTerm). (e.0, raised_tree e.1)) es) ∙ length-map es (λ (e : ℕ × RaisedTerm). (e.0, raised_tree e.1))
+pub length-trail_of : (slots : List (Option RaisedTerm)) (xs : List ℕ) → length (trail_of slots xs) ≡ length xs
+length-trail_of slots xs = length-reverse (map (binding_in slots) xs) ∙ length-map xs (binding_in slots)
+
+-- a variable that is free with one more binding is free, and another one than the binding's
+stored_last : (s : List Binding) (b : Binding) (x : ℕ) → stored (s ++ b ∷ []) x ≡ None → (stored s x ≡ None) × ((b.0 == x) ≡ false)
+stored_last [] b x h = (refl, go (b.0 == x) h)
+  where
+    go : (c : Bool) → (if c then Some b.1 else None) ≡ None → c ≡ false
+    go true k = cc
+    go false k = refl
+stored_last (a ∷ s) b x h = go (a.0 == x) h (stored_last s b x)
+  where
+    go : (c : Bool) → (if c then Some a.1 else stored (s ++ b ∷ []) x) ≡ None → (stored (s ++ b ∷ []) x ≡ None → (stored s x ≡ None) × ((b.0 == x) ≡ false)) → ((if c then Some a.1 else stored s x) ≡ None) × ((b.0 == x) ≡ false)
+    go true k rest = cc
+    go false k rest = rest k
+
+-- the slot of a free variable says nothing of the bindings
+trail_kept : (slots more : List (Option RaisedTerm)) (x : ℕ) (xs : List ℕ) → ((y : ℕ) → (y == x) ≡ false → slot more y ≡ slot slots y) → stored (trail_of slots xs) x ≡ None → trail_of more xs ≡ trail_of slots xs
+trail_kept slots more x [] same h = refl
+trail_kept slots more x (y ∷ ys) same h =
+    let split = reverse-append (binding_in slots y ∷ []) (map (binding_in slots) ys) in
+    let parts = stored_last (trail_of slots ys) (binding_in slots y) x (ap (λ l. stored l x) (sym split) ∙ h) in
+    let term = same y parts.1 in
+    let others = trail_kept slots more x ys same parts.0 in
+    reverse-append (binding_in more y ∷ []) (map (binding_in more) ys)
+    ∙ (λ i. others i ++ (y, unwrap_or (term i) (Variable y)) ∷ [])
+    ∙ sym split
+
+set_kept : (slots : List (Option RaisedTerm)) (x : ℕ) (v : Option RaisedTerm) (xs : List ℕ) → stored (trail_of slots xs) x ≡ None → trail_of (set slots x v) xs ≡ trail_of slots xs
+set_kept slots x v xs h = trail_kept slots (set slots x v) x xs (λ y e. slot_set_other slots x y v (λ z. eqb_false y x e (sym z))) h
+
+-- the same slots
+bindings_same : (slots more : List (Option RaisedTerm)) → ((x : ℕ) → slot more x ≡ slot slots x) → (xs : List ℕ) → map (binding_in more) xs ≡ map (binding_in slots) xs
+bindings_same slots more same [] = refl
+bindings_same slots more same (x ∷ xs) = λ i. (x, unwrap_or (same x i) (Variable x)) ∷ bindings_same slots more same xs i
+
+pub trail_same : (slots more : List (Option RaisedTerm)) (trail : List ℕ) → ((x : ℕ) → slot more x ≡ slot slots x) → trail_of more trail ≡ trail_of slots trail
+trail_same slots more trail same = ap reverse (bindings_same slots more same trail)
+
+pub store_same : (slots more : List (Option RaisedTerm)) (trail : List ℕ) → IsStore slots trail → ((x : ℕ) → slot more x ≡ slot slots x) → IsStore more trail
+store_same slots more trail s same =
+    let kept = trail_same slots more trail same in
+    record { agree = λ y. ap (λ l. stored l y) kept ∙ s.agree y ∙ sym (same y); made = subst AreMade (sym kept) s.made }
+
+-- a binding is kept
+module _ (slots : List (Option RaisedTerm)) (trail : List ℕ) (x : ℕ) (r : RaisedTerm) (s : IsStore slots trail) (within : x < length slots) (may : MayBind (trail_of slots trail) x (raised_tree r)) where
+  pub trail_bound : trail_of (set slots x (Some r)) (trail ++ x ∷ []) ≡ (x, raised_tree r) ∷ trail_of slots trail
+  trail_bound =
+      let term = slot_set_same slots x (Some r) within in
+      let others = set_kept slots x (Some r) trail may.free in
+      trail_more (set slots x (Some r)) trail x ∙ (λ i. (x, unwrap_or (term i) (Variable x)) ∷ others i)
+
+  pub store_more : IsStore (set slots x (Some r)) (trail ++ x ∷ [])
+  store_more = record {
+    agree = λ y. ap (λ l. stored l y) trail_bound ∙ at y (x == y) refl;
+    made = subst AreMade (sym trail_bound) (may, s.made);
+  }
+    where
+      at : (y : ℕ) (c : Bool) → (x == y) ≡ c → (if x == y then Some (raised_tree r) else stored (trail_of slots trail) y) ≡ slot (set slots x (Some r)) y
+      at y true e =
+          if_same (x == y) (Some (raised_tree r)) (stored (trail_of slots trail) y) e
+          ∙ sym (slot_set_same slots x (Some r) within)
+          ∙ ap (slot (set slots x (Some r))) (eqb-true x y e)
+      at y false e =
+          if_other (x == y) (Some (raised_tree r)) (stored (trail_of slots trail) y) e
+          ∙ s.agree y
+          ∙ sym (slot_set_other slots x y (Some r) (eqb_false x y e))
 
 -- the last binding is taken back
-pub store_less : (slots : List (Option RaisedTerm)) (trail : List (ℕ × RaisedTerm)) (x : ℕ) (r : RaisedTerm) → IsStore slots (trail ++ (x, r) ∷ []) → IsStore (set slots x None) trail
-store_less slots trail x r s = record { agree = λ y. at y (x == y) refl; made = before.1 }
-  where
-    before : AreMade ((x, raised_tree r) ∷ trail_of trail)
-    before = subst AreMade (trail_more trail (x, r)) s.made
+module _ (slots : List (Option RaisedTerm)) (trail : List ℕ) (x : ℕ) (s : IsStore slots (trail ++ x ∷ [])) where
+  abbrev term : Tree
+  term = unwrap_or (slot slots x) (Variable x)
 
-    old : (y : ℕ) → (if x == y then Some (raised_tree r) else stored (trail_of trail) y) ≡ slot slots y
-    old y = sym (ap (λ l. stored l y) (trail_more trail (x, r))) ∙ s.agree y
+  before : AreMade (binding_in slots x ∷ trail_of slots trail)
+  before = subst AreMade (trail_more slots trail x) s.made
 
-    within : x < length slots
-    within = there slots x (sym (old x) ∙ if_same (x == x) (Some (raised_tree r)) (stored (trail_of trail) x) (eqb_same x))
-      where
-        there : (os : List (Option RaisedTerm)) (i : ℕ) → slot os i ≡ Some (raised_tree r) → i < length os
-        there [] i h = cc
-        there (o ∷ os) zero h = omega arith
-        there (o ∷ os) (suc i) h = let k = there os i h in omega (arith, k)
+  old : (y : ℕ) → (if x == y then Some term else stored (trail_of slots trail) y) ≡ slot slots y
+  old y = sym (ap (λ l. stored l y) (trail_more slots trail x)) ∙ s.agree y
 
-    at : (y : ℕ) (c : Bool) → (x == y) ≡ c → stored (trail_of trail) y ≡ slot (set slots x None) y
-    at y true e =
-        ap (stored (trail_of trail)) (sym (eqb-true x y e))
-        ∙ before.0.free
-        ∙ sym (slot_set_same slots x None within)
-        ∙ ap (slot (set slots x None)) (eqb-true x y e)
-    at y false e =
-        sym (if_other (x == y) (Some (raised_tree r)) (stored (trail_of trail) y) e)
-        ∙ old y
-        ∙ sym (slot_set_other slots x y None (eqb_false x y e))
+  -- its variable has a slot
+  pub last_within : x < length slots
+  last_within = there slots x (sym (old x) ∙ if_same (x == x) (Some term) (stored (trail_of slots trail) x) (eqb_same x))
+    where
+      there : (os : List (Option RaisedTerm)) (i : ℕ) → slot os i ≡ Some term → i < length os
+      there [] i h = cc
+      there (o ∷ os) zero h = omega arith
+      there (o ∷ os) (suc i) h = let k = there os i h in omega (arith, k)
 
--- the variable of the last binding has a slot
-pub last_within : (slots : List (Option RaisedTerm)) (trail : List (ℕ × RaisedTerm)) (x : ℕ) (r : RaisedTerm) → IsStore slots (trail ++ (x, r) ∷ []) → x < length slots
-last_within slots trail x r s = there slots x (sym (s.agree x) ∙ ap (λ l. stored l x) (trail_more trail (x, r)) ∙ if_same (x == x) (Some (raised_tree r)) (stored (trail_of trail) x) (eqb_same x))
-  where
-    there : (os : List (Option RaisedTerm)) (i : ℕ) → slot os i ≡ Some (raised_tree r) → i < length os
-    there [] i h = cc
-    there (o ∷ os) zero h = omega arith
-    there (o ∷ os) (suc i) h = let k = there os i h in omega (arith, k)
+  kept : trail_of (set slots x None) trail ≡ trail_of slots trail
+  kept = set_kept slots x None trail before.0.free
+
+  pub trail_less : trail_of (set slots x None) trail ≡ drop 1 (trail_of slots (trail ++ x ∷ []))
+  trail_less = kept ∙ ap (drop 1) (sym (trail_more slots trail x))
+
+  pub store_less : IsStore (set slots x None) trail
+  store_less = record { agree = λ y. ap (λ l. stored l y) kept ∙ at y (x == y) refl; made = subst AreMade (sym kept) before.1 }
+    where
+      at : (y : ℕ) (c : Bool) → (x == y) ≡ c → stored (trail_of slots trail) y ≡ slot (set slots x None) y
+      at y true e =
+          ap (stored (trail_of slots trail)) (sym (eqb-true x y e))
+          ∙ before.0.free
+          ∙ sym (slot_set_same slots x None last_within)
+          ∙ ap (slot (set slots x None)) (eqb-true x y e)
+      at y false e =
+          sym (if_other (x == y) (Some term) (stored (trail_of slots trail) y) e)
+          ∙ old y
+          ∙ sym (slot_set_other slots x y None (eqb_false x y e))
 
 -- what the term of a variable is
 pub value_same : (s : List Binding) (x : ℕ) (o : Option RaisedTerm) → AreMade s → option_map raised_tree o ≡ stored s x → IfSome o (λ t. full s (raised_tree t) ≡ full s (Variable x))

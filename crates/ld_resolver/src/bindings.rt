@@ -19,8 +19,8 @@ use std::marker::Model;
 pub struct Bindings<'p> {
     /// The term of each variable.
     slots: Vec<Option<RaisedTerm<'p>>>,
-    /// The bound variables with their terms, in the order in which they were bound.
-    trail: Vec<(usize, RaisedTerm<'p>)>,
+    /// The bound variables, in the order in which they were bound.
+    trail: Vec<usize>,
 }
 
 impl<'p> Model for Bindings<'p> {
@@ -34,7 +34,7 @@ impl<'p> Model for Bindings<'p> {
 
     ghost coded = { coded_list (coded× coded_ℕ coded_tree) };
 
-    ghost view = { λ a. trail_of a.trail.items };
+    ghost view = { λ a. trail_of a.slots.items a.trail.items };
 
     ghost invariant = { λ a. IsStore a.slots.items a.trail.items };
 }
@@ -94,7 +94,7 @@ impl<'p> Bindings<'p> {
         ensures { OnOk result (self.new ≡ (variable, raised_tree term.entry) ∷ self.old) }
     {
         grow(&mut self.slots, variable)?;
-        self.trail.push((variable, term))?;
+        self.trail.push(variable)?;
         self.slots[variable] = Some(term);
         Ok(())
     }
@@ -105,7 +105,7 @@ impl<'p> Bindings<'p> {
         ensures { self.new ≡ drop 1 self.old }
     {
         match self.trail.pop() {
-            Some((variable, _)) => self.slots[variable] = None,
+            Some(variable) => self.slots[variable] = None,
             None => unreachable!(),
         }
     }

@@ -1,4 +1,4 @@
-use Rattle.std.proofs.Common.{ℕ, ◌+◌, ◌≤◌, List, length}
+use Rattle.std.proofs.Common.{◌+◌, ◌≤◌, List, length}
 use Rattle.cti_terms.specs.Unify.{Equation, Binding}
 use Rattle.ld_resolver.specs.Remembered.{AreRemembered}
 use Rattle.ld_resolver.proofs.equal_pairs.EqualPairs.settle.Given as goal
