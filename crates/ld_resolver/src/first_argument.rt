@@ -81,6 +81,9 @@ pub fn next_match<'p>(
     ensures { (k : ℕ) → IsNext program.now choice.entry.atom.now.pred.0 k choice.entry.next → IsNextMatch program.now bindings.now (raised choice.entry.base choice.entry.atom.now) choice.entry.fresh k result }
 {
     let mut number = choice.next;
+    if program.clauses() < number {
+        return number;
+    }
     if let Some(shape) = first_shape(bindings, choice.atom, choice.base) {
         while is_skipped(program, shape, number, choice.fresh) {
             number = chain.after(number);
