@@ -1,3 +1,4 @@
+-- Private.
 -- Clauses that cannot match a goal, by the kinds of its first argument and of theirs. Nothing here has to be believed.
 use Rattle.std.specs.Prelude.{◌≡◌, ℕ, suc, ◌≤◌, ◌<◌, List, ◌∷◌, map, length, None, Some}
 use Rattle.cti_terms.specs.Tree.{Tree}
