@@ -2,7 +2,6 @@ use Rattle.std.proofs.Common.{rules, ◌≡◌, suc, sym, ◌∙◌}
 use Rattle.std.specs.Int.{w128}
 use Rattle.std.specs.Prelude.{FitsSigned, slice_get, Some}
 use Rattle.std.proofs.lemmas.Int.{to_z-of_z}
-use Rattle.termination_model.proofs.Lists.{there}
 use Rattle.level_dual.proofs.VanishLaws.{size_at}
 use Rattle.level_dual.proofs.vanishing.number.Goals as goal
 
@@ -11,5 +10,5 @@ returns c =
     let list = c.args.sizes.now.list in
     let row = c.get.result.now in
     let fits : FitsSigned w128 c.entry.result = search rules in
-    let at : slice_get list c.args.argument ≡ Some row = there list c.args.argument row c.requires ∙ (λ i. Some (sym c.get.ensures i)) in
+    let at : slice_get list c.args.argument ≡ Some row = c.get.ensures in
     to_z-of_z w128 c.entry.result fits ∙ c.entry.ensures ∙ sym (size_at list (suc c.args.variable) c.args.argument row at)
