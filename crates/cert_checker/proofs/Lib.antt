@@ -13,5 +13,6 @@ pub mod NoMapping
 pub mod Partitions
 pub mod PrintedModes
 pub mod ShapeLaws
+pub mod StructureLaws
 pub mod TextLaws
 pub mod Validity

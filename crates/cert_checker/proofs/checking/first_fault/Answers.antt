@@ -1,4 +1,4 @@
-use Rattle.std.proofs.Common.{◌≡◌, ◌↔◌, ℕ, None, Option, Some, inl, inr}
+use Rattle.std.proofs.Common.{◌≡◌, ◌↔◌, ℕ, None, Option, Some, ap, ◌∙◌}
 use Rattle.cti_terms.specs.Tree.{truth}
 use Rattle.term_size.specs.Occurrences.{size_row}
 use Rattle.cert_checker.specs.Valid.{IsValid, PartsHold}
@@ -12,6 +12,7 @@ use Rattle.cert_checker.specs.ModeFaults.{HasModeFault, fault_of}
 use Rattle.cert_checker.specs.StructureFaults.{HasStructureFault, structure_fault}
 use Rattle.cert_structure.specs.declared.fault.StructureReason.{StructureReason}
 use Rattle.cert_checker.proofs.ModeFaultLaws.{no_first, own_first}
+use Rattle.cert_checker.proofs.StructureLaws.{same_fault}
 use Rattle.cert_checker.proofs.Validity.{decided, without_parts}
 use Rattle.cert_checker.proofs.checking.first_fault.Goals as goal
 
@@ -68,5 +69,4 @@ returns-in-Err-Wrong-clause-structure c = λ line why has.
     let comps = c.in_ok-comps.comps in
     let facts = c.args.c.now.facts in
     let is = c.in-Err-Wrong.ensures.fault line why (c.one_structure_fault.ensures p names has.comps comps facts line why has.components c.in_ok-comps.ensures has.fault) in
-    let made = c.of_structure.ensures in
-    cc
+    ap Some (c.of_structure.ensures ∙ (λ i. structure_fault (c.in-Err-Wrong.line-is i) (c.in-Err-Wrong.reason-is i)) ∙ same_fault c.in-Err-Wrong.field-0 c.in-Err-Wrong.line line c.in-Err-Wrong.reason why c.in-Err-Wrong.field-0-is is)
