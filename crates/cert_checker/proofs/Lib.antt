@@ -12,6 +12,7 @@ pub mod ModeFaultLaws
 pub mod NoMapping
 pub mod Partitions
 pub mod PrintedModes
+pub mod RefutationLaws
 pub mod ShapeLaws
 pub mod StructureLaws
 pub mod TextLaws

@@ -1,13 +1,17 @@
 -- Private.
 -- What the tests find among facts. Nothing here has to be believed.
 use Rattle.std.specs.Io.Iter.{u64_saturate}
-use Rattle.std.specs.Prelude.{◌≡◌, ℕ, ◌+◌, ℤ, List, Option, None, Some}
+use Rattle.std.specs.Prelude.{◌≡◌, ℕ, ◌+◌, ℤ, List, ◌∷◌, length, Option, None, Some}
 use Rattle.std.specs.List.{AllByRecursion}
 use Rattle.certificate.specs.declared.fact.Fact.{Fact}
-use Rattle.number_tests.specs.Failing.{MultipliersFail}
+use Rattle.certificate.specs.declared.pred_text.PredText.{PredText}
+use Rattle.cert_structure.specs.Numbered.{facts_from}
+use Rattle.cert_structure.specs.Order.{point_facts}
+use Rattle.number_tests.specs.Failing.{MultipliersFail, SumsFail}
 use Rattle.number_tests.specs.Targets.{fall_weights}
 use Rattle.number_tests.specs.declared.flaw.Flaw.{Flaw}
 use Rattle.number_tests.specs.declared.level_part.LevelPart.{LevelPart}
+use Rattle.number_tests.specs.declared.pair_point.PairPoint.{PairPoint}
 use Rattle.termination_model.specs.Replacing.{over_columns}
 use Rattle.certificate.specs.declared.fact.Fact.TheVariants as fact
 use Rattle.cert_structure.specs.declared.parts.Parts.{Parts}
@@ -15,7 +19,7 @@ use Rattle.cti_terms.specs.Listing.{Listing, numbered}
 use Rattle.cti_terms.specs.Tree.{Tree}
 use Rattle.linear_rows.specs.declared.row.Rows.{Rows}
 use Rattle.call_components.specs.Partition.{Partition}
-use Rattle.cert_checker.specs.Fault.{FallFails, IsFirstAt, MeasureFails, RowFails, reason_of}
+use Rattle.cert_checker.specs.Fault.{FallFails, IsFirstAt, MeasureFails, RefutationFails, RowFails, RowsFailAt, reason_of}
 use Rattle.cert_checker.specs.Proved.{IsZero}
 use Rattle.cert_checker.specs.declared.fault.Fault.{Fault}
 use Rattle.cert_checker.specs.declared.reason.Reason.{Reason}
@@ -37,6 +41,23 @@ MeasuresFail p names comps _ why = ⊥
 abbrev pub FallsFail : (ℕ → Tree → List ℤ) → Listing → Partition → Parts → Fact → Reason → Type 0
 FallsFail expression p comps parts (fact.Falls k j m scale ms) why = FallFails expression p comps parts.rows parts.levels k j m ms scale why
 FallsFail expression p comps parts _ why = ⊥
+
+abbrev pub RefutationsFail : (ℕ → Tree → List ℤ) → Listing → List (List ℕ) → Partition → Parts → Fact → Reason → Type 0
+RefutationsFail expression p names comps parts (fact.Refuted text n) why = RefutationFails p names expression comps parts.refutations text why
+RefutationsFail expression p names comps parts (fact.Point k j t w) why = RowsFailAt expression p parts.rows k j (record { t = t; w = w }) why
+RefutationsFail expression p names comps parts (fact.At k j t w) why = RowsFailAt expression p parts.rows k j (record { t = t; w = w }) why
+RefutationsFail expression p names comps parts _ why = ⊥
+
+-- a refutation of a predicate, and its points
+abbrev pub group_facts : PredText → List PairPoint → List Fact
+group_facts pred points = fact.Refuted pred (length points) ∷ facts_from 0 (λ _ x. point_facts x) points
+
+-- what fails of them, by the members of the component
+abbrev pub GroupFails : (ℕ → Tree → List ℤ) → Listing → List Rows → List ℕ → List PairPoint → Fact → Reason → Type 0
+GroupFails expression p rows members points (fact.Refuted text n) why = (f : Flaw) × SumsFail expression p members points f × (why ≡ reason_of f reason.Refutation)
+GroupFails expression p rows members points (fact.Point k j t w) why = RowsFailAt expression p rows k j (record { t = t; w = w }) why
+GroupFails expression p rows members points (fact.At k j t w) why = RowsFailAt expression p rows k j (record { t = t; w = w }) why
+GroupFails expression p rows members points _ why = ⊥
 
 -- a mapping's multipliers do not show its fall over these rows and columns
 pub record MappingFails (rows columns : List (List ℤ)) (heads calls : List LevelPart) (m : ℕ) (ms : List ℤ) (scale : ℤ) (why : Reason) : Type 0 where

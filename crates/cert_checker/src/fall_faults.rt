@@ -1,13 +1,14 @@
 //! Falls of mappings at calls.
 
-ghost use Rattle.std.specs.Prelude.{◌≡◌, ◌↔◌, ◌+◌, ◌-◌, ◌≤◌, ℕ, IfOk, IfSome, IsTrue, None, Some, length, map, slice_get};
+ghost use Rattle.std.specs.Io.Iter.{u64_saturate};
+ghost use Rattle.std.specs.Prelude.{◌≡◌, ◌↔◌, ◌+◌, ◌-◌, ◌≤◌, ℕ, List, IfOk, IfSome, IsTrue, None, Some, length, map, slice_get};
 ghost use Rattle.std.specs.List.{AllByRecursion};
 ghost use Rattle.call_components.specs.Partition.{AreComponents};
-ghost use Rattle.cert_checker.specs.Finding.{Finds, MappingsFail};
+ghost use Rattle.cert_checker.specs.Finding.{FallsFail, Finds, MappingsFail};
 ghost use Rattle.cert_checker.specs.Proved.{CallsFall, FallsHold};
-ghost use Rattle.cert_structure.specs.Numbered.{lines_from};
-ghost use Rattle.cert_structure.specs.Order.{falls_line};
-ghost use Rattle.number_tests.specs.Failing.{MultipliersFail};
+ghost use Rattle.cert_structure.specs.Order.{fall_facts, falls_line};
+ghost use Rattle.cert_structure.specs.Numbered.{facts_from, lines_from};
+ghost use Rattle.number_tests.specs.Failing.{MultipliersFail, before};
 ghost use Rattle.linear_rows.specs.Showing.{AreMultipliers, IsShown};
 ghost use Rattle.number_tests.specs.Shape.{list_at};
 ghost use Rattle.cert_checker.specs.Shape.{HaveFalls, HaveLevels};
@@ -17,7 +18,7 @@ ghost use Rattle.cti_terms.specs.Listing.{atom_nodes};
 ghost use Rattle.cti_terms.specs.Tree.{is_below};
 ghost use Rattle.cti_terms.specs.declared.clauses.Clause.{Clause};
 ghost use Rattle.linear_rows.specs.Plain.{HaveWidth, plain_rows};
-ghost use Rattle.linear_rows.specs.declared.multipliers.Multipliers.{Multipliers};
+ghost use Rattle.linear_rows.specs.declared.multipliers.Multipliers.{Multipliers as TheMultipliers};
 ghost use Rattle.termination_model.specs.Replacing.{over_columns};
 ghost use Rattle.termination_model.specs.Sizes.{AreSizes};
 
@@ -74,7 +75,7 @@ fn mapping_fault(
     requires parts { (m : ℕ) (head call : LevelPart) → slice_get heads.now m ≡ Some head → slice_get calls.now m ≡ Some call → CanBeWeighed columns.now head call }
     requires width { HaveWidth rows.now.width rows.now.list }
     requires count { length columns.now ≡ rows.now.width + 1 }
-    ensures hold { IfOk result (λ fault. (fault ≡ None) ↔ ((m : ℕ) (head call : LevelPart) (by : Multipliers)
+    ensures hold { IfOk result (λ fault. (fault ≡ None) ↔ ((m : ℕ) (head call : LevelPart) (by : TheMultipliers)
         → slice_get heads.now m ≡ Some head → slice_get calls.now m ≡ Some call → slice_get proofs.now m ≡ Some by
         → IsShown (plain_rows rows.now.list) (over_columns columns.now (fall_weights head call)) by)) }
     ensures first { IfOk result (λ fault. (k j : ℕ)
@@ -92,7 +93,7 @@ fn mapping_fault(
     Ok(None)
 }
 
-// The first fall of a clause that is not shown. Clauses count from 1, and the first fall has this line.
+// The first fall of a clause that is not shown. Clauses count from 1, and the first fall has the line `first`.
 fn clause_fall_fault<N: Norm>(
     alloc: Global,
     p: &Program,
@@ -100,7 +101,7 @@ fn clause_fall_fault<N: Norm>(
     norm: &N,
     parts: &Parts,
     k: u32,
-    line: u64,
+    first: u64,
 ) -> Result<Option<Fault>, AllocError>
     requires first { 1 ≤ k }
     requires last { k ≤ length p.now.clauses }
@@ -108,8 +109,10 @@ fn clause_fall_fault<N: Norm>(
     requires sizes { AreSizes p.now.preds parts.now.rows }
     requires levels { HaveLevels p.now comps.now parts.now }
     requires falls { HaveFalls p.now comps.now parts.now }
-    ensures { IfOk result (λ fault. (c : Clause) → slice_get p.now.clauses (k - 1) ≡ Some c
+    ensures hold { IfOk result (λ fault. (c : Clause) → slice_get p.now.clauses (k - 1) ≡ Some c
         → (fault ≡ None) ↔ CallsFall (N.expression norm.now) comps.now parts.now c (list_at parts.now.falls (k - 1))) }
+    ensures first { IfOk result (Finds (FallsFail (N.expression norm.now) p.now comps.now parts.now) first
+        (facts_from 0 (λ j ms. lines_from 0 (falls_line (k - 1) j) ms) (list_at parts.now.falls (k - 1)))) }
 {
     let clause = p.clause(k);
     let component = comps.of(clause.head.pred);
@@ -117,30 +120,33 @@ fn clause_fall_fault<N: Norm>(
     let proofs = parts.falls.as_slice()[k as usize - 1].as_slice();
     let mut system = first_system(alloc, norm, &parts.rows, clause)?;
     let mut atoms = 0;
-    let mut line = line;
+    let mut line = first;
     for j in 0..clause.body.len() {
         let call = &clause.body.as_slice()[j];
+        let own = proofs[j].as_slice();
+        let start = line;
+        line = line.saturating_add(own.len() as u64);
         if comps.of(call.pred) != component {
             continue;
         }
         extend(alloc, norm, &parts.rows, clause, atoms, j, &mut system)?;
         atoms = j;
         let calls = parts.levels.as_slice()[call.pred.0 as usize].as_slice();
-        let own = proofs[j].as_slice();
         let columns = fall_columns(alloc, norm, &system, call)?;
         let columns = columns.as_slice();
-        let fault = mapping_fault(alloc, &system.rows, columns, heads, calls, own, line)?;
+        let fault = mapping_fault(alloc, &system.rows, columns, heads, calls, own, start)?;
         if let Some(fault) = fault {
             return Ok(Some(fault));
         }
-        line = line.saturating_add(own.len() as u64);
     }
     Ok(None)
 }
 
-// The line after the falls of a clause.
-fn line_after(proofs: &[Sequence<Multipliers>], line: u64) -> u64 {
-    let mut line = line;
+// The line after the falls of a clause, the first of which has the line `first`.
+fn line_after(proofs: &[Sequence<Multipliers>], first: u64) -> u64
+    ensures { (n : ℕ) → u64_saturate (result + n) ≡ u64_saturate (first + before (λ (ms : List TheMultipliers). length ms) proofs.now (length proofs.now) + n) }
+{
+    let mut line = first;
     for own in proofs {
         line = line.saturating_add(own.len() as u64);
     }
@@ -149,7 +155,7 @@ fn line_after(proofs: &[Sequence<Multipliers>], line: u64) -> u64 {
 
 /// The first mapping that its multipliers do not show to fall at a call of the clause's own component.
 ///
-/// There is one line for each clause, each such call and each mapping, from the given line on. `Measure` says that the
+/// There is one line for each clause, each such call and each mapping, from the line `first` on. `Measure` says that the
 /// multipliers fail over the rows of the atoms before the call, and `Wide` that a number does not fit.
 pub fn fall_fault<N: Norm>(
     alloc: Global,
@@ -157,15 +163,16 @@ pub fn fall_fault<N: Norm>(
     comps: &Components,
     norm: &N,
     parts: &Parts,
-    line: u64,
+    first: u64,
 ) -> Result<Option<Fault>, AllocError>
     requires components { AreComponents p.now comps.now }
     requires sizes { AreSizes p.now.preds parts.now.rows }
     requires levels { HaveLevels p.now comps.now parts.now }
     requires falls { HaveFalls p.now comps.now parts.now }
-    ensures { IfOk result (λ fault. (fault ≡ None) ↔ FallsHold (N.expression norm.now) p.now comps.now parts.now) }
+    ensures hold { IfOk result (λ fault. (fault ≡ None) ↔ FallsHold (N.expression norm.now) p.now comps.now parts.now) }
+    ensures first { IfOk result (Finds (FallsFail (N.expression norm.now) p.now comps.now parts.now) first (fall_facts parts.now.falls)) }
 {
-    let mut line = line;
+    let mut line = first;
     for k in 0..p.clauses() {
         let fault = clause_fall_fault(alloc, p, comps, norm, parts, k + 1, line)?;
         if let Some(fault) = fault {

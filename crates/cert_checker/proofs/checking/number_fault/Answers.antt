@@ -32,8 +32,8 @@ returns c = (
   λ none. record {
     rows = c.in_ok-fault.ensures.hold.0 c.in_default.is;
     measures = c.in_default-measure_fault.ensures.hold.0 refl;
-    falls = c.in_ok-fault-2.ensures.0 c.in_default-2.is;
-    refutations = c.in_ok-fault-3.ensures.0 none;
+    falls = c.in_ok-fault-2.ensures.hold.0 c.in_default-2.is;
+    refutations = c.in_ok-fault-3.ensures.hold.0 none;
   },
-  λ hold. c.in_ok-fault-3.ensures.1 hold.refutations,
+  λ hold. c.in_ok-fault-3.ensures.hold.1 hold.refutations,
 )

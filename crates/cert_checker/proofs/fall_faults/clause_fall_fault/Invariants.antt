@@ -1,11 +1,17 @@
-use Rattle.std.proofs.Common.{◌≡◌, ◌<◌, ◌≤◌, ℕ, slice_get, take, Some}
+use Rattle.std.specs.Io.Iter.{u64_saturate}
+use Rattle.std.proofs.Common.{◌≡◌, ◌+◌, ◌-◌, ◌<◌, ◌≤◌, ℕ, List, length, slice_get, take, Some}
+use Rattle.cert_structure.specs.Numbered.{lines_from}
+use Rattle.cert_structure.specs.Order.{falls_line}
 use Rattle.cti_terms.specs.declared.atom_list.Atom.{Atom}
+use Rattle.linear_rows.specs.declared.multipliers.Multipliers.{Multipliers}
 use Rattle.termination_model.specs.Sizes.{rows_of}
 use Rattle.termination_model.specs.Systems.{short_system}
+use Rattle.number_tests.specs.Failing.{before}
 use Rattle.number_tests.specs.Proved.{MappingsFall}
 use Rattle.number_tests.specs.Shape.{list_at}
 use Rattle.cert_checker.specs.Shape.{AreTogether}
 use Rattle.number_tests.specs.Systems.{IsSystemUpTo}
+use Rattle.cert_checker.specs.Finding.{FallsFail, NoneFails}
 use Rattle.cert_checker.proofs.fall_faults.clause_fall_fault.Given as goal
 
 abbrev pub invariant-loop-j : goal.invariant-loop-j
@@ -15,4 +21,6 @@ invariant-loop-j g l = record {
   calls : (j : ℕ) → j < l.j → (b : Atom) → slice_get l.clause.body j ≡ Some b → AreTogether l.comps l.clause.head.pred.0 b.pred.0
       → MappingsFall (g.N.Norm.expression l.norm) (short_system (g.N.Norm.expression l.norm) (rows_of l.parts.rows) l.clause.vars (take j l.clause.body)) l.clause b
       (list_at l.parts.levels l.clause.head.pred.0) (list_at l.parts.levels b.pred.0) (list_at l.proofs j);
+  line : (n : ℕ) → u64_saturate (l.line + n) ≡ u64_saturate (l.first + before (λ (ms : List Multipliers). length ms) l.proofs l.j + n);
+  none : (j : ℕ) → j < l.j → (ms : List Multipliers) → slice_get l.proofs j ≡ Some ms → NoneFails (FallsFail (g.N.Norm.expression l.norm) l.p l.comps l.parts) (lines_from 0 (falls_line (l.k - 1) j) ms);
 }
