@@ -13,6 +13,7 @@ pub mod NoMapping
 pub mod Partitions
 pub mod PrintedModes
 pub mod RefutationLaws
+pub mod SectionLaws
 pub mod ShapeLaws
 pub mod StructureLaws
 pub mod TextLaws

@@ -7,6 +7,7 @@ pub mod ModeFaults
 pub mod Proved
 pub mod Refutes
 pub mod Refuting
+pub mod Sections
 pub mod Shape
 pub mod Shows
 pub mod StructureFaults

@@ -1,11 +1,15 @@
 //! The check of a certificate.
 
-ghost use Rattle.std.specs.Prelude.{◌≡◌, ◌↔◌, ℕ, IfOk, None, Some};
+ghost use Rattle.std.specs.Prelude.{◌≡◌, ◌≢◌, ◌↔◌, ℕ, List, IfOk, None, Some};
+ghost use Rattle.std.specs.List.{AllPairs};
 ghost use Rattle.call_components.specs.Partition.{AreComponents};
 ghost use Rattle.cert_structure.specs.Shape.{HaveShape};
 ghost use Rattle.cert_structure.specs.Structure.{AreNamed};
 ghost use Rattle.cert_structure.specs.declared.fault.StructureReason.{StructureReason as TheStructureReason};
 ghost use Rattle.cert_checker.specs.Bounding.{ModesAreBounded};
+ghost use Rattle.cert_checker.specs.Fault.{FactFails};
+ghost use Rattle.cert_checker.specs.Finding.{Finds};
+ghost use Rattle.cert_checker.specs.Sections.{AreLines, number_facts};
 ghost use Rattle.cert_checker.specs.ModeFaults.{HasModeFault, fault_of, mode_reason};
 ghost use Rattle.cert_checker.specs.Refutes.{RefutedHaveNoMapping};
 ghost use Rattle.cert_checker.specs.StructureFaults.{HasStructureFault, structure_fault, structure_reason};
@@ -32,7 +36,7 @@ use cti_terms::{Names, Program};
 use std::alloc::{AllocError, Global};
 use term_size::TermSize;
 
-// The first fault of the numbers of a certificate, in the order of its lines.
+// The first fault of the numbers of a certificate, in the order of its lines: that of the first fact that fails.
 fn number_fault(
     alloc: Global,
     p: &Program,
@@ -42,7 +46,10 @@ fn number_fault(
 ) -> Result<Option<Fault>, AllocError>
     requires components { AreComponents p.now comps.now }
     requires shape { HaveShape p.now comps.now parts.now }
-    ensures { IfOk result (λ fault. (fault ≡ None) ↔ NumbersHold size_row p.now comps.now parts.now) }
+    requires lines { AreLines parts.now lines }
+    ensures hold { IfOk result (λ fault. (fault ≡ None) ↔ NumbersHold size_row p.now comps.now parts.now) }
+    ensures first { IfOk result (λ fault. (names : List (List ℕ)) → AreNamed names p.now.preds → AllPairs (λ a b. a ≢ b) names
+        → Finds (FactFails p.now names truth size_row comps.now parts.now) lines.row_proofs (number_facts p.now names parts.now) fault) }
 {
     // What every program keeps, its clauses among them.
     p.preds();

@@ -1,6 +1,8 @@
 //! The lines of a certificate.
 
-ghost use Rattle.std.specs.Prelude.{◌≡◌};
+ghost use Rattle.std.specs.Io.Iter.{u64_saturate};
+ghost use Rattle.std.specs.Prelude.{◌≡◌, ◌+◌};
+ghost use Rattle.cert_checker.specs.Sections.{AreLines, count_all, count_in, rows_in};
 
 use cert_structure::Parts;
 use sequences::Sequence;
@@ -20,33 +22,41 @@ pub(crate) struct Lines {
 }
 
 // The line after this many facts.
-fn behind(line: u64, facts: usize) -> u64 {
+fn after(line: u64, facts: usize) -> u64
+    ensures { result ≡ u64_saturate (line + facts) }
+{
     line.saturating_add(facts as u64)
 }
 
-// The line after the size rows, the first of which has this line.
-fn behind_rows(rows: &SizeRows, line: u64) -> u64 {
-    let mut line = line;
+// The line after the size rows, the first of which has the line `first`.
+fn after_rows(rows: &SizeRows, first: u64) -> u64
+    ensures { result ≡ u64_saturate (first + rows_in rows.now) }
+{
+    let mut line = first;
     for q in 0..rows.len() {
-        line = behind(line, rows.get(q).list.len());
+        line = after(line, rows.get(q).list.len());
     }
     line
 }
 
 // The line after lists of facts.
-fn behind_lists<T>(lists: &[Sequence<T>], line: u64) -> u64 {
-    let mut line = line;
+fn after_lists<T>(lists: &[Sequence<T>], first: u64) -> u64
+    ensures { result ≡ u64_saturate (first + count_in lists.now) }
+{
+    let mut line = first;
     for list in lists {
-        line = behind(line, list.len());
+        line = after(line, list.len());
     }
     line
 }
 
 // The line after lists of such lists.
-fn behind_all<T>(lists: &[Sequence<Sequence<T>>], line: u64) -> u64 {
-    let mut line = line;
+fn after_all<T>(lists: &[Sequence<Sequence<T>>], first: u64) -> u64
+    ensures { result ≡ u64_saturate (first + count_all lists.now) }
+{
+    let mut line = first;
     for list in lists {
-        line = behind_lists(list.as_slice(), line);
+        line = after_lists(list.as_slice(), line);
     }
     line
 }
@@ -54,15 +64,15 @@ fn behind_all<T>(lists: &[Sequence<Sequence<T>>], line: u64) -> u64 {
 impl Lines {
     /// The lines of these parts, in the order of the format.
     pub(crate) fn of(parts: &Parts) -> Lines
-        ensures { result.modes ≡ 2 }
+        ensures { AreLines parts.now result }
     {
-        let rows = behind(MODES, parts.modes.len());
-        let row_proofs = behind_rows(&parts.rows, rows);
-        let grounds = behind_lists(parts.row_proofs.as_slice(), row_proofs);
-        let measures = behind_lists(parts.grounds.as_slice(), grounds);
-        let falls = behind_lists(parts.levels.as_slice(), measures);
-        let preconditions = behind_all(parts.falls.as_slice(), falls);
-        let refutations = behind_all(parts.preconditions.as_slice(), preconditions);
+        let rows = after(MODES, parts.modes.len());
+        let row_proofs = after_rows(&parts.rows, rows);
+        let grounds = after_lists(parts.row_proofs.as_slice(), row_proofs);
+        let measures = after_lists(parts.grounds.as_slice(), grounds);
+        let falls = after_lists(parts.levels.as_slice(), measures);
+        let preconditions = after_all(parts.falls.as_slice(), falls);
+        let refutations = after_all(parts.preconditions.as_slice(), preconditions);
         Lines {
             modes: MODES,
             row_proofs,

@@ -1,4 +1,9 @@
-use Rattle.std.proofs.Common.{refl}
+use Rattle.std.proofs.Common.{refl, subst}
+use Rattle.cti_terms.specs.Tree.{truth}
+use Rattle.cert_structure.specs.Order.{fall_facts, level_facts, proof_facts}
+use Rattle.term_size.specs.Occurrences.{size_row}
+use Rattle.cert_checker.specs.Finding.{ByFails, FallsFail, Finds, MeasuresFail}
+use Rattle.cert_checker.proofs.SectionLaws.{first_by, first_fall, first_measure, first_refutation}
 use Rattle.cert_checker.proofs.ShapeLaws.{are_sizes, have_falls, have_levels, have_refutations, have_row_proofs}
 use Rattle.cert_checker.proofs.checking.number_fault.Goals as goal
 
@@ -27,8 +32,8 @@ pub refutation_fault-requires-clause-refutations : goal.refutation_fault-require
 refutation_fault-requires-clause-refutations c = have_refutations c.args.p.now c.args.comps.now c.args.parts.now c.requires.shape
 
 -- the last fault decides, since the tests before it have found none
-pub returns : goal.returns
-returns c = (
+pub returns-clause-hold : goal.returns-clause-hold
+returns-clause-hold c = (
   λ none. record {
     rows = c.in_ok-fault.ensures.hold.0 c.in_default.is;
     measures = c.in_default-measure_fault.ensures.hold.0 refl;
@@ -37,3 +42,45 @@ returns c = (
   },
   λ hold. c.in_ok-fault-3.ensures.hold.1 hold.refutations,
 )
+
+pub returns-in-Some-clause-first : goal.returns-in-Some-clause-first
+returns-in-Some-clause-first c = λ names named distinct.
+    let p = c.args.p.now in
+    let comps = c.args.comps.now in
+    let parts = c.args.parts.now in
+    let lines = c.args.lines in
+    first_by truth size_row p names comps parts lines c.requires.lines c.in-Some.fault
+    (subst (Finds (ByFails size_row p parts.rows) lines.row_proofs (proof_facts parts.row_proofs)) c.in-Some.is c.in_ok-fault.ensures.first)
+
+pub returns-in-Some-measure_fault-clause-first : goal.returns-in-Some-measure_fault-clause-first
+returns-in-Some-measure_fault-clause-first c = λ names named distinct.
+    let p = c.args.p.now in
+    let comps = c.args.comps.now in
+    let parts = c.args.parts.now in
+    let lines = c.args.lines in
+    first_measure truth size_row p names comps parts lines c.requires.lines
+    (subst (Finds (ByFails size_row p parts.rows) lines.row_proofs (proof_facts parts.row_proofs)) c.in_default.is c.in_ok-fault.ensures.first) c.in-Some-measure_fault.fault
+    (subst (Finds (MeasuresFail p names comps) lines.measures (level_facts p names parts.levels)) c.in-Some-measure_fault.is (c.measure_fault.ensures.first names named distinct))
+
+pub returns-in-Some-2-clause-first : goal.returns-in-Some-2-clause-first
+returns-in-Some-2-clause-first c = λ names named distinct.
+    let p = c.args.p.now in
+    let comps = c.args.comps.now in
+    let parts = c.args.parts.now in
+    let lines = c.args.lines in
+    first_fall truth size_row p names comps parts lines c.requires.lines
+    (subst (Finds (ByFails size_row p parts.rows) lines.row_proofs (proof_facts parts.row_proofs)) c.in_default.is c.in_ok-fault.ensures.first)
+    (c.in_default-measure_fault.ensures.first names named distinct) c.in-Some-2.fault
+    (subst (Finds (FallsFail size_row p comps parts) lines.falls (fall_facts parts.falls)) c.in-Some-2.is c.in_ok-fault-2.ensures.first)
+
+pub returns-clause-first : goal.returns-clause-first
+returns-clause-first c = λ names named distinct.
+    let p = c.args.p.now in
+    let comps = c.args.comps.now in
+    let parts = c.args.parts.now in
+    let lines = c.args.lines in
+    first_refutation truth size_row p names comps parts lines c.requires.lines
+    (subst (Finds (ByFails size_row p parts.rows) lines.row_proofs (proof_facts parts.row_proofs)) c.in_default.is c.in_ok-fault.ensures.first)
+    (c.in_default-measure_fault.ensures.first names named distinct)
+    (subst (Finds (FallsFail size_row p comps parts) lines.falls (fall_facts parts.falls)) c.in_default-2.is c.in_ok-fault-2.ensures.first)
+    c.in_ok-fault-3.fault (c.in_ok-fault-3.ensures.first names named distinct)

@@ -19,7 +19,7 @@ returns-in-Some-clause-modes c = λ f is.
     let comps = c.args.comps.now in
     let parts = c.args.parts.now in
     let first : IsFirstPred truth p comps parts c.of-lines.result.modes c.in-Some.fault = subst (λ (o : Option ModeFault). IfSome o (IsFirstPred truth p comps parts c.of-lines.result.modes)) c.in-Some.is c.in_ok-modes.ensures.first in
-    let own : IsFirstPred truth p comps parts 2 c.in-Some.fault = subst (λ (line : ℕ). IsFirstPred truth p comps parts line c.in-Some.fault) c.of-lines.ensures first in
+    let own : IsFirstPred truth p comps parts 2 c.in-Some.fault = subst (λ (line : ℕ). IsFirstPred truth p comps parts line c.in-Some.fault) c.of-lines.ensures.modes first in
     ap Some (c.of_modes.ensures ∙ ap fault_of (one_first truth p comps parts 2 c.in-Some.fault f own is))
 
 pub returns-in-None-clause-hold : goal.returns-in-None-clause-hold
@@ -31,7 +31,7 @@ returns-in-None-clause-hold c =
     (λ fault decides. (
       λ none. let numbers = decides.0 none in record { modes = c.in_ok-modes.ensures.hold.0 c.in-None.is; rows = numbers.rows; measures = numbers.measures; falls = numbers.falls; refutations = numbers.refutations },
       λ hold. decides.1 (record { rows = hold.rows; measures = hold.measures; falls = hold.falls; refutations = hold.refutations }),
-    )) c.number_fault.result c.number_fault.ensures
+    )) c.number_fault.result c.number_fault.ensures.hold
 
 pub returns-in-None-clause-modes : goal.returns-in-None-clause-modes
 returns-in-None-clause-modes c =
@@ -39,4 +39,4 @@ returns-in-None-clause-modes c =
     let comps = c.args.comps.now in
     let parts = c.args.parts.now in
     if_ok_more (λ (fault : Option Fault). (fault ≡ None) ↔ NumbersHold size_row p comps parts) (λ (fault : Option Fault). (f : ModeFault) → IsFirstPred truth p comps parts 2 f → fault ≡ Some (fault_of f))
-    (λ fault decides f is. absurd (none_first truth p comps parts (c.in_ok-modes.ensures.hold.0 c.in-None.is) 2 f is)) c.number_fault.result c.number_fault.ensures
+    (λ fault decides f is. absurd (none_first truth p comps parts (c.in_ok-modes.ensures.hold.0 c.in-None.is) 2 f is)) c.number_fault.result c.number_fault.ensures.hold
