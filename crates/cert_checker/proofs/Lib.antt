@@ -18,3 +18,4 @@ pub mod ShapeLaws
 pub mod StructureLaws
 pub mod TextLaws
 pub mod Validity
+pub mod ValueLaws

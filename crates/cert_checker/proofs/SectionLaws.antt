@@ -48,7 +48,7 @@ same_from : (Fails Breaks : Fact → Reason → Type 0) {A : Type 0} → (facts 
 same_from Fails Breaks facts same i [] = tt
 same_from Fails Breaks facts same i (x ∷ xs) = all_append (λ f. (why : Reason) → Fails f why ↔ Breaks f why) (facts i x) (facts_from (suc i) facts xs) (same i x) (same_from Fails Breaks facts same (suc i) xs)
 
-none_in : (Fails : Fact → Reason → Type 0) {A : Type 0} → (facts : ℕ → A → List Fact) → ((k : ℕ) (x : A) → NoneFails Fails (facts k x)) → (i : ℕ) (xs : List A) → NoneFails Fails (facts_from i facts xs)
+pub none_in : (Fails : Fact → Reason → Type 0) {A : Type 0} → (facts : ℕ → A → List Fact) → ((k : ℕ) (x : A) → NoneFails Fails (facts k x)) → (i : ℕ) (xs : List A) → NoneFails Fails (facts_from i facts xs)
 none_in Fails facts none i [] = tt
 none_in Fails facts none i (x ∷ xs) = all_append (λ f. (why : Reason) → ¬ Fails f why) (facts i x) (facts_from (suc i) facts xs) (none i x) (none_in Fails facts none (suc i) xs)
 

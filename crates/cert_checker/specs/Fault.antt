@@ -1,7 +1,7 @@
 -- Private.
--- Which fact of a certificate of right structure does not hold, and why.
+-- Which fact of a certificate is the first at fault, and why: where the structure is right, the first that claims what does not hold.
 --
--- To believe: all of this file, as far as a clause names it: `FactFails` and `IsValueFault` are a draft of the first fault of all.
+-- To believe: all of this file, where the fault that is named is to be the first one.
 use Rattle.std.specs.Prelude.{◌≡◌, ℕ, ◌-◌, ◌<◌, ◌≤◌, ℤ, Bool, false, List, length, take, slice_get, Option, Some}
 use Rattle.call_components.specs.Partition.{AreComponents, IsIn, Partition}
 use Rattle.certificate.specs.declared.fact.Fact.{Fact}
@@ -10,6 +10,7 @@ use Rattle.certificate.specs.declared.pred_text.PredText.{PredText}
 use Rattle.cert_structure.specs.Order.{pred_text}
 use Rattle.cert_structure.specs.Structure.{IsStructured}
 use Rattle.cert_structure.specs.declared.parts.Parts.{Parts}
+use Rattle.cert_structure.specs.declared.fault.StructureReason.{StructureReason}
 use Rattle.cert_modes.specs.Failing.{ModesFail}
 use Rattle.cert_modes.specs.declared.fault.ModeReason.{ModeReason}
 use Rattle.cti_terms.specs.Listing.{Listing, numbered}
@@ -31,6 +32,7 @@ use Rattle.termination_model.specs.Systems.{row_over, short_system}
 use Rattle.cert_checker.specs.ModeFaults.{mode_reason}
 use Rattle.cert_checker.specs.Proved.{IsZero}
 use Rattle.cert_checker.specs.Shape.{AreTogether}
+use Rattle.cert_checker.specs.StructureFaults.{HasStructureFault, structure_reason}
 use Rattle.cert_checker.specs.declared.reason.Reason.{Reason}
 use Rattle.cert_checker.specs.declared.reason.Reason.TheVariants as reason
 
@@ -151,3 +153,8 @@ pub record IsValueFault (p : Listing) (names : List (List ℕ)) (facts : List Fa
   pub structured : IsStructured p names comps parts facts
   pub counted : 1 ≤ line
   pub first : IsFirstAt (FactFails p names truth size_row comps parts) facts (line - 1) why
+
+-- the first fault of a certificate: its structure is wrong at this line, or else the fact of the line claims what does not hold
+pub data IsFault (p : Listing) (names : List (List ℕ)) (facts : List Fact) (line : ℕ) : Reason → Type 0 where
+  wrong_structure : (why : StructureReason) → HasStructureFault p names facts line why → IsFault p names facts line (structure_reason why)
+  failing_fact : (why : Reason) → IsValueFault p names facts line why → IsFault p names facts line why

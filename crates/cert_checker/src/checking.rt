@@ -1,13 +1,15 @@
 //! The check of a certificate.
 
-ghost use Rattle.std.specs.Prelude.{◌≡◌, ◌≢◌, ◌↔◌, ℕ, List, IfOk, None, Some};
+ghost use Rattle.std.specs.Prelude.{◌≡◌, ◌≢◌, ◌↔◌, ℕ, List, IfOk, IfSome, None, Some};
 ghost use Rattle.std.specs.List.{AllPairs};
 ghost use Rattle.call_components.specs.Partition.{AreComponents};
+ghost use Rattle.certificate.specs.declared.fact.Fact.{Fact as TheFact};
+ghost use Rattle.cert_structure.specs.Order.{listed};
 ghost use Rattle.cert_structure.specs.Shape.{HaveShape};
-ghost use Rattle.cert_structure.specs.Structure.{AreNamed};
+ghost use Rattle.cert_structure.specs.Structure.{AreNamed, AreNotes};
 ghost use Rattle.cert_structure.specs.declared.fault.StructureReason.{StructureReason as TheStructureReason};
 ghost use Rattle.cert_checker.specs.Bounding.{ModesAreBounded};
-ghost use Rattle.cert_checker.specs.Fault.{FactFails};
+ghost use Rattle.cert_checker.specs.Fault.{FactFails, IsFault};
 ghost use Rattle.cert_checker.specs.Finding.{Finds};
 ghost use Rattle.cert_checker.specs.Sections.{AreLines, number_facts};
 ghost use Rattle.cert_checker.specs.ModeFaults.{HasModeFault, fault_of, mode_reason};
@@ -16,6 +18,7 @@ ghost use Rattle.cert_checker.specs.StructureFaults.{HasStructureFault, structur
 ghost use Rattle.cert_checker.specs.Valid.{IsValid, NumbersHold, PartsHold};
 ghost use Rattle.cert_modes.specs.Failing.{IsFirstPred};
 ghost use Rattle.cert_modes.specs.declared.fault.ModeFault.{ModeFault as TheModeFault};
+ghost use Rattle.cert_checker.specs.declared.reason.Reason.{Reason as TheReason};
 ghost use Rattle.cert_checker.specs.declared.verdict.Verdict.TheVariants.{No, Yes};
 ghost use Rattle.cti_terms.specs.Tree.{truth};
 ghost use Rattle.term_size.specs.Occurrences.{size_row};
@@ -77,7 +80,11 @@ fn value_fault(
     requires shape { HaveShape p.now comps.now parts.now }
     ensures hold { IfOk result (λ fault. (fault ≡ None) ↔ PartsHold truth size_row p.now comps.now parts.now) }
     ensures modes { IfOk result (λ fault. (f : TheModeFault) → IsFirstPred truth p.now comps.now parts.now 2 f → fault ≡ Some (fault_of f)) }
+    ensures first { IfOk result (λ fault. (names : List (List ℕ)) (notes : List TheFact) → AreNamed names p.now.preds → AllPairs (λ a b. a ≢ b) names → AreNotes notes
+        → Finds (FactFails p.now names truth size_row comps.now parts.now) 1 (listed p.now names parts.now notes) fault) }
 {
+    // What every program keeps.
+    p.preds();
     let lines = Lines::of(parts);
     let modes = mode_fault(alloc, p, &TermSize, comps, parts, lines.modes)?;
     match modes {
@@ -98,9 +105,12 @@ fn first_fault(
     ensures excluded { IfOk result (λ fault. fault ≡ None → RefutedHaveNoMapping p.now names.now c.now.facts) }
     ensures structure { IfOk result (λ fault. (line : ℕ) (why : TheStructureReason) → HasStructureFault p.now names.now c.now.facts line why → fault ≡ Some (structure_fault line why)) }
     ensures modes { IfOk result (λ fault. (f : TheModeFault) → HasModeFault p.now names.now c.now.facts f → fault ≡ Some (fault_of f)) }
+    ensures fault { IfOk result (λ fault. IfSome fault (λ f. IsFault p.now names.now c.now.facts f.line f.reason)) }
 {
-    // What every program keeps.
+    // What every program and all names keep, and that the facts can be counted.
     p.preds();
+    names.count();
+    c.facts.len();
     let comps = components(alloc, p)?;
     // The parts and the fault do not depend on how the components are numbered.
     one_structure();
@@ -115,7 +125,7 @@ fn first_fault(
 /// Whether a certificate of a program is valid.
 ///
 /// The names are those that gave the program's. Where the certificate is not valid, the verdict has the first line of a
-/// fact that does not hold, and the first reason there; the clauses say so of the structure and of modes. Sizes are term sizes.
+/// fact that does not hold, and the first reason there. Sizes are term sizes.
 ///
 /// Source: the conditions of Mesnard and Neumerkel 2001, with a proof for each size row, mapping and refutation.
 pub fn check(
@@ -137,6 +147,9 @@ pub fn check(
 
     // Where the structure is wrong, the line is that of the first fact that is, or after the last where one is missing, and the reason what is wrong there.
     ensures structure { IfOk result (λ v. (line : ℕ) (why : TheStructureReason) → HasStructureFault p.now names.now c.now.facts line why → v ≡ No line (structure_reason why)) }
+
+    // The line and the reason of a No are those of the first fault: of the structure, or else of the first fact that claims what does not hold.
+    ensures fault { IfOk result (λ v. (line : ℕ) (why : TheReason) → v ≡ No line why → IsFault p.now names.now c.now.facts line why) }
 
     // Where the structure is right and modes do not hold, the line is that of the first predicate whose modes fail, and the reason the first one there.
     ensures modes { IfOk result (λ v. (f : TheModeFault) → HasModeFault p.now names.now c.now.facts f → v ≡ No f.line (mode_reason f.reason)) }

@@ -1,4 +1,6 @@
-use Rattle.std.proofs.Common.{◌≡◌, Some, sym, ap, ◌∙◌}
+use Rattle.std.proofs.Common.{◌≡◌, Option, Some, IfSome, sym, ap, subst, ◌∙◌}
+use Rattle.cert_checker.proofs.ValueLaws.{same_no}
+use Rattle.cert_checker.specs.Fault.{IsFault}
 use Rattle.cert_checker.specs.StructureFaults.{structure_fault}
 use Rattle.cert_checker.specs.declared.fault.Fault.{Fault}
 use Rattle.cert_checker.specs.declared.verdict.Verdict.TheVariants.{No}
@@ -18,3 +20,14 @@ returns-in-Some-clause-structure c = λ line why has.
     let both : Some c.in-Some.field-0 ≡ Some (structure_fault line why) = sym c.in-Some.is ∙ c.in_ok-first_fault.ensures.structure line why has in
     let same : c.in-Some.field-0 ≡ structure_fault line why = cc in
     ap (λ (f : Fault). No f.line f.reason) same
+
+pub returns-in-None-clause-fault : goal.returns-in-None-clause-fault
+returns-in-None-clause-fault c = λ line why no. cc
+
+pub returns-in-Some-clause-fault : goal.returns-in-Some-clause-fault
+returns-in-Some-clause-fault c = λ line why no.
+    let p = c.args.p.now in
+    let names = c.args.names.now in
+    let facts = c.args.c.now.facts in
+    let own : IsFault p names facts c.in-Some.field-0.line c.in-Some.field-0.reason = subst (λ (o : Option Fault). IfSome o (λ f. IsFault p names facts f.line f.reason)) c.in-Some.is c.in_ok-first_fault.ensures.fault in
+    same_no p names facts c.in-Some.field-0.line line c.in-Some.field-0.reason why no own

@@ -1,4 +1,9 @@
-use Rattle.std.proofs.Common.{◌≡◌, ◌↔◌, ℕ, None, Option, Some, ap, ◌∙◌}
+use Rattle.std.proofs.Common.{◌≡◌, ◌≢◌, ◌↔◌, ℕ, List, None, Option, Some, IfSome, sym, subst, ap, ◌∙◌, arith}
+use Rattle.std.specs.List.{AllPairs}
+use Rattle.certificate.specs.declared.fact.Fact.{Fact as CertFact}
+use Rattle.cert_structure.specs.Order.{listed}
+use Rattle.cert_structure.specs.Structure.{AreNamed, AreNotes, IsStructured}
+use Rattle.cert_structure.specs.StructureFault.{IsFirstWrong, IsStructureFault}
 use Rattle.cti_terms.specs.Tree.{truth}
 use Rattle.term_size.specs.Occurrences.{size_row}
 use Rattle.cert_checker.specs.Valid.{IsValid, PartsHold}
@@ -13,6 +18,9 @@ use Rattle.cert_checker.specs.StructureFaults.{HasStructureFault, structure_faul
 use Rattle.cert_structure.specs.declared.fault.StructureReason.{StructureReason}
 use Rattle.cert_checker.proofs.ModeFaultLaws.{no_first, own_first}
 use Rattle.cert_checker.proofs.StructureLaws.{same_fault}
+use Rattle.cert_checker.specs.Fault.{FactFails, IsFault, wrong_structure}
+use Rattle.cert_checker.specs.Finding.{Finds}
+use Rattle.cert_checker.proofs.ValueLaws.{fault_found}
 use Rattle.cert_checker.proofs.Validity.{decided, without_parts}
 use Rattle.cert_checker.proofs.checking.first_fault.Goals as goal
 
@@ -70,3 +78,27 @@ returns-in-Err-Wrong-clause-structure c = λ line why has.
     let facts = c.args.c.now.facts in
     let is = c.in-Err-Wrong.ensures.fault line why (c.one_structure_fault.ensures p names has.comps comps facts line why has.components c.in_ok-comps.ensures has.fault) in
     ap Some (c.of_structure.ensures ∙ (λ i. structure_fault (c.in-Err-Wrong.line-is i) (c.in-Err-Wrong.reason-is i)) ∙ same_fault c.in-Err-Wrong.field-0 c.in-Err-Wrong.line line c.in-Err-Wrong.reason why c.in-Err-Wrong.field-0-is is)
+
+pub returns-in-Ok-clause-fault : goal.returns-in-Ok-clause-fault
+returns-in-Ok-clause-fault c =
+    let p = c.args.p.now in
+    let names = c.args.names.now in
+    let comps = c.in_ok-comps.comps in
+    let parts = c.in-Ok.parts in
+    let facts = c.args.c.now.facts in
+    let s : IsStructured p names comps parts facts = c.in-Ok.ensures.found in
+    if_ok_more
+    (λ (fault : Option Fault). (names : List (List ℕ)) (notes : List CertFact) → AreNamed names p.preds → AllPairs (λ a b. a ≢ b) names → AreNotes notes → Finds (FactFails p names truth size_row comps parts) 1 (listed p names parts notes) fault)
+    (λ (fault : Option Fault). IfSome fault (λ f. IsFault p names facts f.line f.reason))
+    (λ fault found. fault_found p names comps parts facts c.in_ok-comps.ensures s (omega (arith, c.len.ensures)) fault (found names s.notes c.requires.named c.count.ensures.distinct s.are_notes))
+    c.value_fault.result c.value_fault.ensures.first
+
+pub returns-in-Err-Wrong-clause-fault : goal.returns-in-Err-Wrong-clause-fault
+returns-in-Err-Wrong-clause-fault c =
+    let p = c.args.p.now in
+    let names = c.args.names.now in
+    let comps = c.in_ok-comps.comps in
+    let facts = c.args.c.now.facts in
+    let wrong : IsStructureFault p names comps facts c.in-Err-Wrong.line c.in-Err-Wrong.reason = subst (IsFirstWrong p names comps facts) c.in-Err-Wrong.field-0-is c.in-Err-Wrong.ensures.wrong in
+    let made = c.of_structure.ensures ∙ (λ i. structure_fault (c.in-Err-Wrong.line-is i) (c.in-Err-Wrong.reason-is i)) in
+    subst (λ (f : Fault). IsFault p names facts f.line f.reason) (sym made) (wrong_structure c.in-Err-Wrong.reason (record { comps = comps; components = c.in_ok-comps.ensures; fault = wrong }))

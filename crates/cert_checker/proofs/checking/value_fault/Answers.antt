@@ -1,10 +1,18 @@
-use Rattle.std.proofs.Common.{◌≡◌, ◌↔◌, ℕ, None, Some, Option, IfSome, ap, subst, ◌∙◌}
+use Rattle.std.proofs.Common.{◌≡◌, ◌≢◌, ◌↔◌, ℕ, List, None, Some, Option, IfSome, sym, ap, subst, ◌∙◌}
+use Rattle.std.specs.List.{AllPairs}
+use Rattle.certificate.specs.declared.fact.Fact.{Fact as CertFact}
+use Rattle.cert_structure.specs.Order.{listed}
+use Rattle.cert_structure.specs.Structure.{AreNamed, AreNotes}
 use Rattle.cti_terms.specs.Tree.{truth}
 use Rattle.term_size.specs.Occurrences.{size_row}
 use Rattle.cert_modes.specs.Failing.{IsFirstPred}
 use Rattle.cert_modes.specs.declared.fault.ModeFault.{ModeFault}
 use Rattle.number_tests.proofs.CallFacts.{if_ok_more}
+use Rattle.cert_checker.specs.Fault.{FactFails}
+use Rattle.cert_checker.specs.Finding.{Finds}
 use Rattle.cert_checker.specs.ModeFaults.{fault_of}
+use Rattle.cert_checker.specs.Sections.{number_facts}
+use Rattle.cert_checker.proofs.ValueLaws.{mode_first, number_first}
 use Rattle.cert_checker.specs.Valid.{NumbersHold, PartsHold}
 use Rattle.cert_checker.specs.declared.fault.Fault.{Fault}
 use Rattle.cert_checker.proofs.ModeFaultLaws.{none_first, one_first}
@@ -40,3 +48,25 @@ returns-in-None-clause-modes c =
     let parts = c.args.parts.now in
     if_ok_more (λ (fault : Option Fault). (fault ≡ None) ↔ NumbersHold size_row p comps parts) (λ (fault : Option Fault). (f : ModeFault) → IsFirstPred truth p comps parts 2 f → fault ≡ Some (fault_of f))
     (λ fault decides f is. absurd (none_first truth p comps parts (c.in_ok-modes.ensures.hold.0 c.in-None.is) 2 f is)) c.number_fault.result c.number_fault.ensures.hold
+
+pub returns-in-Some-clause-first : goal.returns-in-Some-clause-first
+returns-in-Some-clause-first c = λ names notes named distinct are_notes.
+    let p = c.args.p.now in
+    let comps = c.args.comps.now in
+    let parts = c.args.parts.now in
+    let first : IsFirstPred truth p comps parts c.of-lines.result.modes c.in-Some.fault = subst (λ (o : Option ModeFault). IfSome o (IsFirstPred truth p comps parts c.of-lines.result.modes)) c.in-Some.is c.in_ok-modes.ensures.first in
+    let own : IsFirstPred truth p comps parts 2 c.in-Some.fault = subst (λ (line : ℕ). IsFirstPred truth p comps parts line c.in-Some.fault) c.of-lines.ensures.modes first in
+    subst (λ (f : Fault). Finds (FactFails p names truth size_row comps parts) 1 (listed p names parts notes) (Some f)) (sym c.of_modes.ensures)
+    (mode_first p names comps parts c.preds.ensures.sound named distinct c.requires.shape notes are_notes c.in-Some.fault own)
+
+pub returns-in-None-clause-first : goal.returns-in-None-clause-first
+returns-in-None-clause-first c =
+    let p = c.args.p.now in
+    let comps = c.args.comps.now in
+    let parts = c.args.parts.now in
+    if_ok_more
+    (λ (fault : Option Fault). (names : List (List ℕ)) → AreNamed names p.preds → AllPairs (λ a b. a ≢ b) names → Finds (FactFails p names truth size_row comps parts) c.of-lines.result.row_proofs (number_facts p names parts) fault)
+    (λ (fault : Option Fault). (names : List (List ℕ)) (notes : List CertFact) → AreNamed names p.preds → AllPairs (λ a b. a ≢ b) names → AreNotes notes → Finds (FactFails p names truth size_row comps parts) 1 (listed p names parts notes) fault)
+    (λ fault found names notes named distinct are_notes.
+    number_first p names comps parts c.preds.ensures.sound named distinct c.requires.shape notes are_notes c.of-lines.result c.of-lines.ensures (c.in_ok-modes.ensures.hold.0 c.in-None.is) fault (found names named distinct))
+    c.number_fault.result c.number_fault.ensures.first
