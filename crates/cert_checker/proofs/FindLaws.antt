@@ -78,7 +78,7 @@ module _ (Fails : Fact → Reason → Type 0) where
       one : is.fact ≡ also.fact
       one = let there : slice_get facts m ≡ Some also.fact = subst (λ (k : ℕ). slice_get facts k ≡ Some also.fact) (sym same) also.there in let both = sym is.there ∙ there in cc
 
-  none_first : (facts : List Fact) (n : ℕ) (why : Reason) → NoneFails Fails facts → ¬ IsFirstAt Fails facts n why
+  pub none_first : (facts : List Fact) (n : ℕ) (why : Reason) → NoneFails Fails facts → ¬ IsFirstAt Fails facts n why
   none_first facts n why none is = by_places (λ f. (other : Reason) → ¬ Fails f other) facts none n is.fact is.there why is.fails
 
   -- the facts of items

@@ -4,6 +4,7 @@ pub mod Claims
 pub mod Examples
 pub mod Excludes
 pub mod FallLaws
+pub mod FaultLaws
 pub mod FindLaws
 pub mod FlawLaws
 pub mod LevelFacts

@@ -19,7 +19,7 @@ use Rattle.cert_checker.proofs.Partitions.{is_together_same}
 use Rattle.cert_checker.proofs.Validity.{OneStructure}
 
 module _ (truth : (ℕ → Bool) → Tree → Bool) (p : Listing) (one other : Partition) (a : AreComponents p one) (b : AreComponents p other) (parts : Parts) where
-  keeps_moves : (q : ℕ) → KeepsPreconditions truth p one parts q → KeepsPreconditions truth p other parts q
+  pub keeps_moves : (q : ℕ) → KeepsPreconditions truth p one parts q → KeepsPreconditions truth p other parts q
   keeps_moves q h = record {
     covered = h.covered;
     rule = λ m k c e same.

@@ -9,7 +9,7 @@ ghost use Rattle.cert_structure.specs.Shape.{HaveShape};
 ghost use Rattle.cert_structure.specs.Structure.{AreNamed, AreNotes};
 ghost use Rattle.cert_structure.specs.declared.fault.StructureReason.{StructureReason as TheStructureReason};
 ghost use Rattle.cert_checker.specs.Bounding.{ModesAreBounded};
-ghost use Rattle.cert_checker.specs.Fault.{FactFails, IsFault};
+ghost use Rattle.cert_checker.specs.Fault.{FactFails, IsFault, IsValueFault};
 ghost use Rattle.cert_checker.specs.Finding.{Finds};
 ghost use Rattle.cert_checker.specs.Sections.{AreLines, number_facts};
 ghost use Rattle.cert_checker.specs.ModeFaults.{HasModeFault, fault_of, mode_reason};
@@ -106,6 +106,7 @@ fn first_fault(
     ensures structure { IfOk result (λ fault. (line : ℕ) (why : TheStructureReason) → HasStructureFault p.now names.now c.now.facts line why → fault ≡ Some (structure_fault line why)) }
     ensures modes { IfOk result (λ fault. (f : TheModeFault) → HasModeFault p.now names.now c.now.facts f → fault ≡ Some (fault_of f)) }
     ensures fault { IfOk result (λ fault. IfSome fault (λ f. IsFault p.now names.now c.now.facts f.line f.reason)) }
+    ensures numbers { IfOk result (λ fault. (line : ℕ) (why : TheReason) → IsValueFault p.now names.now c.now.facts line why → fault ≡ Some (record { line = line; reason = why })) }
 {
     // What every program and all names keep, and that the facts can be counted.
     p.preds();
@@ -124,8 +125,8 @@ fn first_fault(
 
 /// Whether a certificate of a program is valid.
 ///
-/// The names are those that gave the program's. Where the certificate is not valid, the verdict has the first line of a
-/// fact that does not hold, and the first reason there. Sizes are term sizes.
+/// The names are those that gave the program's. Where the certificate is not valid, the verdict has the line of the first
+/// fault and its reason. Sizes are term sizes.
 ///
 /// Source: the conditions of Mesnard and Neumerkel 2001, with a proof for each size row, mapping and refutation.
 pub fn check(
@@ -148,8 +149,8 @@ pub fn check(
     // Where the structure is wrong, the line is that of the first fact that is, or after the last where one is missing, and the reason what is wrong there.
     ensures structure { IfOk result (λ v. (line : ℕ) (why : TheStructureReason) → HasStructureFault p.now names.now c.now.facts line why → v ≡ No line (structure_reason why)) }
 
-    // The line and the reason of a No are those of the first fault: of the structure, or else of the first fact that claims what does not hold.
-    ensures fault { IfOk result (λ v. (line : ℕ) (why : TheReason) → v ≡ No line why → IsFault p.now names.now c.now.facts line why) }
+    // The answer is No with a line and a reason exactly where they are those of the first fault: of the structure, or else of the first fact that claims what does not hold.
+    ensures fault { IfOk result (λ v. (line : ℕ) (why : TheReason) → (v ≡ No line why) ↔ IsFault p.now names.now c.now.facts line why) }
 
     // Where the structure is right and modes do not hold, the line is that of the first predicate whose modes fail, and the reason the first one there.
     ensures modes { IfOk result (λ v. (f : TheModeFault) → HasModeFault p.now names.now c.now.facts f → v ≡ No f.line (mode_reason f.reason)) }

@@ -18,8 +18,10 @@ use Rattle.cert_checker.specs.StructureFaults.{HasStructureFault, structure_faul
 use Rattle.cert_structure.specs.declared.fault.StructureReason.{StructureReason}
 use Rattle.cert_checker.proofs.ModeFaultLaws.{no_first, own_first}
 use Rattle.cert_checker.proofs.StructureLaws.{same_fault}
-use Rattle.cert_checker.specs.Fault.{FactFails, IsFault, wrong_structure}
+use Rattle.cert_checker.specs.Fault.{FactFails, IsFault, IsValueFault, wrong_structure}
 use Rattle.cert_checker.specs.Finding.{Finds}
+use Rattle.cert_checker.specs.declared.reason.Reason.{Reason}
+use Rattle.cert_checker.proofs.FaultLaws.{only_fault}
 use Rattle.cert_checker.proofs.ValueLaws.{fault_found}
 use Rattle.cert_checker.proofs.Validity.{decided, without_parts}
 use Rattle.cert_checker.proofs.checking.first_fault.Goals as goal
@@ -102,3 +104,22 @@ returns-in-Err-Wrong-clause-fault c =
     let wrong : IsStructureFault p names comps facts c.in-Err-Wrong.line c.in-Err-Wrong.reason = subst (IsFirstWrong p names comps facts) c.in-Err-Wrong.field-0-is c.in-Err-Wrong.ensures.wrong in
     let made = c.of_structure.ensures ∙ (λ i. structure_fault (c.in-Err-Wrong.line-is i) (c.in-Err-Wrong.reason-is i)) in
     subst (λ (f : Fault). IsFault p names facts f.line f.reason) (sym made) (wrong_structure c.in-Err-Wrong.reason (record { comps = comps; components = c.in_ok-comps.ensures; fault = wrong }))
+
+pub returns-in-Ok-clause-numbers : goal.returns-in-Ok-clause-numbers
+returns-in-Ok-clause-numbers c =
+    let p = c.args.p.now in
+    let names = c.args.names.now in
+    let comps = c.in_ok-comps.comps in
+    let parts = c.in-Ok.parts in
+    let facts = c.args.c.now.facts in
+    let s : IsStructured p names comps parts facts = c.in-Ok.ensures.found in
+    if_ok_more
+    (λ (fault : Option Fault). (names : List (List ℕ)) (notes : List CertFact) → AreNamed names p.preds → AllPairs (λ a b. a ≢ b) names → AreNotes notes → Finds (FactFails p names truth size_row comps parts) 1 (listed p names parts notes) fault)
+    (λ (fault : Option Fault). (line : ℕ) (why : Reason) → IsValueFault p names facts line why → fault ≡ Some (record { line = line; reason = why }))
+    (λ fault found. only_fault c.one_structure.ensures p names comps parts facts c.in_ok-comps.ensures s c.in-Ok.ensures.only (omega (arith, c.len.ensures)) fault (found names s.notes c.requires.named c.count.ensures.distinct s.are_notes))
+    c.value_fault.result c.value_fault.ensures.first
+
+pub returns-in-Err-Wrong-clause-numbers : goal.returns-in-Err-Wrong-clause-numbers
+returns-in-Err-Wrong-clause-numbers c = λ line why has.
+    absurd (let own = c.one_structure.ensures c.args.p.now c.args.names.now has.comps c.in_ok-comps.comps has.parts c.args.c.now.facts has.components c.in_ok-comps.ensures has.structured in
+    let wrong = c.in-Err-Wrong.ensures.only has.parts own in cc)
