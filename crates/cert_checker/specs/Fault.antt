@@ -1,4 +1,4 @@
--- Private.
+-- To believe, for the command.
 -- Which fact of a certificate is the first at fault, and why: where the structure is right, the first that claims what does not hold.
 --
 -- To believe: all of this file, where the fault that is named is to be the first one.

@@ -1,4 +1,4 @@
--- Private.
+-- To believe, for the command.
 -- The fault of a certificate whose structure is right, and whose modes do not hold: it comes before those of numbers.
 --
 -- To believe: all of this file.

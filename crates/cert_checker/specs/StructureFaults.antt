@@ -1,4 +1,4 @@
--- Private.
+-- To believe, for the command.
 -- The fault of a certificate whose structure is wrong: it comes before those of what the certificate claims.
 --
 -- To believe: all of this file, over `IsStructureFault` of cert_structure.

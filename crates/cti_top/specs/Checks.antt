@@ -1,17 +1,18 @@
 -- To believe, for the command.
 -- What is answered to a certificate of a program.
 --
--- A Yes comes exactly where the certificate is valid, and then the queries that meet its modes are bounded. Where it is not, which line
--- and which reason are named is not said here.
+-- A Yes comes exactly where the certificate is valid, and then the queries that meet its modes are bounded. Where it is not, the line
+-- and the reason are those of its first fault.
 --
 -- To believe: all of this file, over the program of a text, `IsTextOf` and `IsFirstWrong` of certificate, and `ModesAreBounded` of
--- cert_checker; `IsValid` of cert_checker only where a Yes is to mean more than that queries end.
+-- cert_checker; `IsValid` and `IsFault` of cert_checker only where a Yes is to mean more than that queries end, and a No what is wrong.
 use Rattle.std.specs.Prelude.{◌≡◌, ℕ, List}
 use Rattle.certificate.specs.declared.certificate.Certificate.{Certificate}
 use Rattle.certificate.specs.declared.fact.Fact.{Fact}
 use Rattle.certificate.specs.Lines.{IsFirstWrong}
 use Rattle.certificate.specs.Reading.{IsTextOf}
 use Rattle.cert_checker.specs.Bounding.{ModesAreBounded}
+use Rattle.cert_checker.specs.Fault.{IsFault}
 use Rattle.cert_checker.specs.Valid.{IsValid}
 use Rattle.cert_checker.specs.declared.reason.Reason.{Reason}
 use Rattle.cert_checker.specs.declared.verdict.Verdict.TheVariants as verdict
@@ -21,10 +22,10 @@ use Rattle.cti_top.specs.Verdicts.{verdict_line}
 use Rattle.cti_top.specs.declared.status.Status.{Status}
 use Rattle.cti_top.specs.declared.status.Status.TheVariants.{Done, No}
 
--- the facts are valid for the program and its names, or they are not
+-- the facts are valid for the program and its names, or this is their first fault
 pub data IsVerdictOn (p : Listing) (names : List (List ℕ)) (facts : List Fact) (status : Status) (text : List ℕ) : Type 0 where
   valid : IsValid p names facts → ModesAreBounded p names facts → status ≡ Done → text ≡ verdict_line verdict.Yes → IsVerdictOn p names facts status text
-  not_valid : (line : ℕ) (reason : Reason) → (IsValid p names facts → ⊥) → status ≡ No → text ≡ verdict_line (verdict.No line reason) → IsVerdictOn p names facts status text
+  not_valid : (line : ℕ) (reason : Reason) → (IsValid p names facts → ⊥) → IsFault p names facts line reason → status ≡ No → text ≡ verdict_line (verdict.No line reason) → IsVerdictOn p names facts status text
 
 -- the text is what is answered to the certificate of this text, for this program
 pub record IsCheckOf (known : Known) (certified : List ℕ) (status : Status) (text : List ℕ) : Type 0 where
