@@ -28,7 +28,7 @@ QUEENS = PERM + (
     "diff(0,s(_)).\ndiff(s(_),0).\ndiff(s(X),s(Y)) :- diff(X,Y).\nplus(0,Y,Y).\nplus(s(X),Y,s(Z)) :- plus(X,Y,Z).\n"
 )
 COUNTER = "c(R,N) :- c(R,s(N)).\n"
-SHARED = "pair(0,X,X).\npair(s(N),X,T) :- pair(N,f(X,X),T).\nboth(N) :- pair(N,X,S), pair(N,Y,T), S = T.\n"
+SHARED = "pair(0,X,X).\npair(s(N),X,T) :- pair(N,f(X,X),T).\nboth(N) :- pair(N,_,S), pair(N,_,T), S = T.\n"
 RUNS = 7
 
 
@@ -85,7 +85,7 @@ for name, text, query in CASES:
     file.write_text(text)
     for kind, asked, work in [
         ("searched", f"{query}, fail", f"\\+ ({query}, fail)"),
-        ("written", query, f"Q = {query}, forall(Q, (writeq(Q), nl))"),
+        ("written", query, f"Goal = ({query}), forall(Goal, (writeq(Goal), nl))"),
     ]:
         steps, spent, bytes_each = ours(file, asked)
         line = f"{name}, {kind}: {steps} steps, {spent:.3f} s, {bytes_each:.0f} bytes a step"
