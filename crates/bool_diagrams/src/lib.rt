@@ -1,7 +1,7 @@
 //! Sets of rows of 64 Boolean variables, as reduced and ordered decision diagrams over one set of shared nodes, so that
 //! equal sets are one diagram (Bryant 1986).
 //!
-//! Stands on `lru`, which bounds what a table keeps of its answers.
+//! Depends on `lru`, which bounds what a table keeps of its answers.
 #![tactic(auto)]
 
 mod connective;

@@ -15,7 +15,7 @@ impl Table {
         if value { Diagram(1) } else { Diagram(0) }
     }
 
-    /// Tells whether a diagram has a row, whose bit `v` is the value of variable `v`.
+    /// Whether a diagram has a row, whose bit `v` is the value of variable `v`.
     pub fn eval(&self, a: Diagram, row: u64) -> bool
         requires { IsDiagram self.now a }
         ensures { result ≡ holds self.now a (bit_of row) }

@@ -72,7 +72,7 @@ impl Table {
         Ok(Diagram(self.node(v, 0, 1)?))
     }
 
-    /// Tells whether two diagrams have the same rows, by their roots alone.
+    /// Whether two diagrams have the same rows, by their roots alone.
     ///
     /// Source: Bryant 1986, where a reduced diagram is canonical.
     pub fn same(&self, a: Diagram, b: Diagram) -> bool

@@ -1,7 +1,7 @@
 -- Private.
 -- The state of the search for components. Nothing here has to be believed.
 --
--- The open predicates stand in a row that is cut into segments. From each of them there is a way to each later one,
+-- The open predicates are a list that is cut into segments. From each of them there is a way to each later one,
 -- and the members of a segment reach each other as far as the calls that were followed say. What is closed calls
 -- only what is closed, and has its component's number.
 use Rattle.std.specs.Prelude.{◌≡◌, ℕ, ◌+◌, ◌≤◌, ◌<◌, ◌^◌, ◌↔◌, ◌⊎◌, List, [], ◌∷◌, length, reverse, if◌then◌else◌, nat_lt, slice_get, Some}

@@ -104,7 +104,7 @@ module _ (p : Listing) (names : List (List ℕ)) where
         (all_map (λ f. IsTrue (order.is_note f)) Q (note_is_bounded p names) notes are)))))))),
   )
 
-  -- a predicate is told by its text
+  -- a predicate is known by its text
   pub same_pred : IsProgram p → AreNamed names p.preds → AllPairs (λ a b. a ≢ b) names → (q r : ℕ) (d e : Pred) → slice_get p.preds q ≡ Some d → slice_get p.preds r ≡ Some e
       → slice_get names d.name.0 ≡ Some (order.pred_text p names r).name → d.arity ≡ (order.pred_text p names r).arity → r ≡ q
   same_pred prog named distinct q r d e ed ee name arity =

@@ -1,4 +1,4 @@
--- Predicates are told apart by their texts.
+-- Predicates are distinguished by their texts.
 use Rattle.std.proofs.Common.{◌≡◌, ◌≢◌, ℕ, ◌<◌, List, [], length, unwrap_or, Option, Some, sym, ap, ◌∙◌}
 use Rattle.std.specs.List.{AllPairs}
 use Rattle.certificate.specs.declared.pred_text.PredText.{PredText}

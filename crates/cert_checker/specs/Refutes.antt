@@ -20,7 +20,7 @@ use Rattle.termination_model.specs.Sizes.{rows_of}
 use Rattle.termination_model.specs.Systems.{row_over, system}
 
 module _ (expression : ℕ → Tree → List ℤ) where
-  -- the level of an atom, over so many variables
+  -- the level of an atom, over the given number of variables
   abbrev pub level_by : ℕ → Mapping → Atom → List ℤ
   level_by vars l a = row_over expression vars a.args (pos (l.offset a.pred.0) ∷ map pos (l.coefficients a.pred.0))
 

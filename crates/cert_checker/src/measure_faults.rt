@@ -64,7 +64,7 @@ pub fn measure_fault(p: &Program, comps: &Components, parts: &Parts, first: u64)
     requires levels { HaveLevels p.now comps.now parts.now }
     ensures hold { (result ≡ None) ↔ MeasuresAreZero comps.now parts.now }
 
-    // Predicates are told apart by their texts.
+    // Predicates are distinguished by their texts.
     ensures first { (names : List (List ℕ)) → AreNamed names p.now.preds → AllPairs (λ a b. a ≢ b) names
         → Finds (MeasuresFail p.now names comps.now) first (level_facts p.now names parts.now.levels) result }
 {

@@ -85,7 +85,7 @@ pub fn refutation_fault<N: Norm>(
     requires refutations { HaveRefutations p.now parts.now }
     ensures hold { IfOk result (λ fault. (fault ≡ None) ↔ RefutationsHold (N.expression norm.now) p.now comps.now parts.now) }
 
-    // Predicates are told apart by their texts.
+    // Predicates are distinguished by their texts.
     ensures first { IfOk result (λ fault. (names : List (List ℕ)) → AreNamed names p.now.preds → AllPairs (λ a b. a ≢ b) names
         → Finds (RefutationsFail (N.expression norm.now) p.now names comps.now parts.now) first (refuted_facts p.now names parts.now.refutations) fault) }
 {

@@ -43,7 +43,7 @@ module _ (truth : (ℕ → Bool) → Tree → Bool) (p : Listing) (comps : Parti
           let i = says.measures (c.rank q) m x e in
           (λ k. all_upper (i.pre k q) row) ∙ ap (λ y. all_upper (cube_row p q y) row) (items_at (items_of parts.preconditions q) m cs f))
 
-  -- components are told by their ranks
+  -- components are known by their ranks
   together_is : (q r : ℕ) → q < length p.preds → r < length p.preds → is_together comps q r ≡ (c.rank q == c.rank r)
   together_is q r lt less =
       let at = there comps.of q 0 (omega (arith, lt, components.each)) in

@@ -22,7 +22,7 @@ use Rattle.termination_model.specs.View.{all_upper}
 use Rattle.cert_modes.specs.Modes.{allowed, grounds_of, natural, naturals, precondition}
 use Rattle.cert_modes.specs.declared.sets.Sets.{Sets}
 
--- a diagram of the table, over so many arguments, with the rows of that many values that a set has
+-- a diagram of the table, over the given number of arguments, with the rows of that many values that a set has
 pub record HasRows (trees : List Rows) (width : ℕ) (set : List Bool → Bool) (d : Diagram) : Type 0 where
   pub known : IsDiagram trees d
   pub reads : ReadsBelow trees d width

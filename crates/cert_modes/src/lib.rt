@@ -4,7 +4,7 @@
 //! mapping, and each printed mode has to be admitted. What that means is `ModesHold` of `specs/Modes.antt`. The numbers of
 //! sizes and mappings are not asked here.
 //!
-//! Stands on `truth_rows`, which tests sets of truth rows, and on `cert_structure`, whose parts are tested.
+//! Depends on `truth_rows`, which tests sets of truth rows, and on `cert_structure`, whose parts are tested.
 #![tactic(auto)]
 
 mod admitting;

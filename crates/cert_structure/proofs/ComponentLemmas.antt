@@ -1,4 +1,4 @@
--- What the components of a program say does not depend on their numbers, and predicates are told apart by their texts.
+-- What the components of a program say does not depend on their numbers, and predicates are distinguished by their texts.
 use Rattle.std.proofs.Common.{◌≡◌, ◌≢◌, ℕ, zero, suc, ◌+◌, ◌<◌, ◌≤◌, Bool, true, false, List, [], ◌∷◌, length, slice_get, slice_index, slice_index_or, Option, Some, None, option_and_then, unwrap_or, refl, ap, ap₂, sym, ◌∙◌, subst, arith, eqb-true, eq-eqb, nat_lt, ltb-true, ltb-false, add-one}
 use Rattle.std.proofs.lemmas.Bool.{false≢true}
 use Rattle.std.proofs.lemmas.Option.{none-some}
@@ -239,7 +239,7 @@ module _ (p : Listing) (one other : Partition) (h : AreComponents p one) (k : Ar
   pub structure : (names : List (List ℕ)) (parts : Parts) (facts : List Fact) → IsStructured p names one parts facts → IsStructured p names other parts facts
   structure names parts facts is = record { notes = is.notes; are_notes = is.are_notes; shape = shape parts is.shape; is = is.is }
 
--- predicates are told apart by their texts
+-- predicates are distinguished by their texts
 module _ (p : Listing) (names : List (List ℕ)) (program : IsProgram p) (distinct : AllPairs (λ a b. a ≢ b) names) (named : AreNamed names p.preds) where
   one_name : (i j : ℕ) (x y : List ℕ) → slice_get names i ≡ Some x → slice_get names j ≡ Some y → x ≡ y → i < j → ⊥
   one_name i j x y here beside same less =

@@ -146,7 +146,7 @@ structure_of_p = record {
 no_mapping : HaveShape alone calls_nothing (record parts_of_p { levels = [] ∷ [] }) → ⊥
 no_mapping h = let one : 0 ≡ 1 = h.levels.each.0.0 in absurd (omega (arith, one))
 
--- where there is no fact, one is missing in line 1
+-- where there are no facts, one is missing in line 1
 nothing : IsStructureFault alone (codes "p" ∷ []) calls_nothing [] 1 reason.Missing
 nothing = missing (whole parts_of_p [] (listed alone (codes "p" ∷ []) parts_of_p []) structure_of_p.shape tt refl) (λ parts is. let none = is.is in cc none)
 

@@ -1,4 +1,4 @@
--- Lemmas on reading items in a row: what is read is listed so, and what is listed so is read.
+-- Lemmas on reading a list of items: what is read is listed so, and what is listed so is read.
 use Rattle.std.proofs.Common.{◌≡◌, ℕ, zero, suc, ◌+◌, ◌<◌, ◌≤◌, List, [], ◌∷◌, ◌++◌, length, Some, None, Result, Ok, Err, refl, ap, sym, ◌∙◌, arith, append_assoc}
 use Rattle.std.specs.List.{AllByRecursion}
 use Rattle.certificate.specs.declared.fact.Fact.{Fact}

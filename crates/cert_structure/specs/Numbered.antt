@@ -19,7 +19,7 @@ abbrev pub EachFrom : {A : Type 0} → ℕ → (ℕ → A → Type 0) → List A
 EachFrom i P [] = Unit {0}
 EachFrom i P (x ∷ xs) = P i x × EachFrom (suc i) P xs
 
--- there are so many items, and each has what its number asks
+-- there are that many items, and each has what its number asks
 pub record AreEach {A : Type 0} (n : ℕ) (P : ℕ → A → Type 0) (xs : List A) : Type 0 where
   pub count : length xs ≡ n
   pub each : EachFrom 0 P xs

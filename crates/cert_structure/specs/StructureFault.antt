@@ -1,4 +1,4 @@
--- Private.
+-- To believe, for the command.
 -- The first fault in the structure of a certificate: the fact that is wrong, missing or out of place, and what is wrong with it.
 --
 -- To believe: all of this file, and below it Structure.antt. Lines are counted from 1.

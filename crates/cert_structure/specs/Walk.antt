@@ -107,7 +107,7 @@ with_first x p = (x ∷ p.0, p.1)
 abbrev pub with_all : {A : Type 0} → List A → Read (List A) → Read (List A)
 with_all xs o = result_map (λ p. (xs ++ p.0, p.1)) o
 
--- so many items, the first of which has this number
+-- the given number of items, the first of which has this number
 unfoldable pub read_each : {A : Type 0} → (ℕ → List Fact → Read A) → ℕ → ℕ → List Fact → Read (List A)
 read_each item i zero s = Ok ([], s)
 read_each item i (suc n) s = item i s >>= λ p. result_map (with_first p.0) (read_each item (suc i) n p.1)
@@ -297,7 +297,7 @@ read_levels p names comps earlier a zero s = Ok (earlier, s)
 read_levels p names comps earlier a (suc n) s =
     read_level p names comps earlier a s >>= λ x. read_levels p names comps (earlier ++ x.0 ∷ []) (suc a) n x.1
 
--- the proofs for a call, where the atoms before it have so many rows
+-- the proofs for a call, where the atoms before it have the given number of rows
 unfoldable pub read_call : Partition → List (List LevelPart) → ℕ → ℕ → ℕ → ℕ → Option Atom → List Fact → Read (List Multipliers)
 read_call comps levels head k j rows call s = read_each (read_next (take_fall k j rows)) 0 (proofs_of_call comps levels head call) s
 

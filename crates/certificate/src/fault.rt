@@ -10,7 +10,7 @@ pub enum CertFault {
     #[error("the certificate is too long")]
     Long,
     /// This line, counted from 1, is the first that is not a fact's text.
-    #[error("line {line} of the certificate is no fact")]
+    #[error("line {line} of the certificate is not a fact")]
     NotAFact { line: u32 },
     /// Memory ran out.
     #[error("out of memory")]

@@ -28,7 +28,7 @@ pub branches_assoc : (bs' bs cs : Branches) → joined_branches (joined_branches
 branches_assoc no_branches bs cs = refl
 branches_assoc (more_branches a bs') bs cs = ap (more_branches a) (branches_assoc bs' bs cs)
 
--- one goal more in a row
+-- one more goal in a list
 pub row_push : (names : List (List ℕ)) (items : List Item) (i : Item) → goals_row (map (goal_of names) (items ++ i ∷ [])) ≡ joined (goals_row (map (goal_of names) items)) (one_goal (goal_of names i))
 row_push names [] i = refl
 row_push names (j ∷ items) i = ap (more_goals (goal_of names j)) (row_push names items i)
@@ -115,7 +115,7 @@ not_either names t (part.Either x y) h p = absurd (h x y refl)
 not_either names t part.Nothing h p = p.1
 not_either names t (part.Goal i) h p = p.1
 
--- one branch more in a row
+-- one more branch in a list
 pub branches_row_push : (names : List (List ℕ)) (args : List ℕ) (s : Bodies) (t : Bor ReadTerm)
     → branches_row names args (s ++ t ∷ []) ≡ joined_branches (branches_row names args s) (one_branch (goals_of names t.now (args ++ occurrences (tree_of t.now))))
 branches_row_push names args [] t = refl

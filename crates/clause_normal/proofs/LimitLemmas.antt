@@ -321,7 +321,7 @@ module _ (most : ℕ) (ys : List ℕ) where
       let f = atom_fit names t in
       of_goals_fit t (λ all. one_goal (atom_goal names t)) (λ all. some_nodes t) (λ all. let l = f.0 in omega (arith, l)) (λ all pre post e le i. (f.1 i, tt))
 
-  -- goals in a row
+  -- a list of goals
   joined_count : (gs hs : Goals) → count_goals (joined gs hs) ≡ count_goals gs + count_goals hs
   joined_count no_goals hs = omega arith
   joined_count (more_goals g gs) hs = let e = joined_count gs hs in omega (arith, e)

@@ -1,7 +1,7 @@
 -- To believe, for reading.
 -- The goals of a clause's body.
 --
--- A body is a conjunction: its goals stand in a row, and `true` is not a goal. A disjunction is a goal with its branches in a row, each of
+-- A body is a conjunction: its goals are a list, and `true` is not a goal. A disjunction is a goal with its list of branches, each of
 -- them a body again. It becomes the call of a predicate of its own, and that predicate's arguments are those of its variables
 -- that occur elsewhere in the clause that is made. The clause of a branch has that predicate as its head.
 --
@@ -26,12 +26,12 @@ mutual
     choice : List ℕ → Branches → Goal
     bad : NormKind → ℕ → Goal
 
-  -- goals in a row
+  -- a list of goals
   pub data Goals : Type 0 where
     no_goals : Goals
     more_goals : Goal → Goals → Goals
 
-  -- branches in a row
+  -- a list of branches
   pub data Branches : Type 0 where
     no_branches : Branches
     more_branches : Goals → Branches → Branches

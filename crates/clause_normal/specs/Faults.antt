@@ -14,7 +14,7 @@ abbrev pub IfFault : NormFault → (Fault → Type 0) → Type 0
 IfFault (code.Fault kind at) P = P (kind, at)
 IfFault code.Memory P = Unit {0}
 
--- the answer is well where there is no such fault, and else it is that fault
+-- the answer is right where there is no such fault, and otherwise it is that fault
 abbrev pub AnswersFault : {X : Type 0} → Option Fault → Result X NormFault → Type 0
 AnswersFault fault (Ok x) = fault ≡ None
 AnswersFault fault (Err e) = IfFault e (λ f. fault ≡ Some f)

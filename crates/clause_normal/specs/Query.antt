@@ -30,7 +30,7 @@ named_goals names t connective.Truth gss = []
 named_goals names t c gss = atom_goal names t ∷ []
 
 abbrev mutual
-  -- the goals of a query in a row
+  -- the goals of a query, as a list
   pub query_goals : List (List ℕ) → Tree → List Goal
   query_goals names (tree at s) = shape_goals names at s
 

@@ -1,5 +1,5 @@
 -- Private.
--- What stands on a stack, whose last element is on top. Nothing here has to be believed.
+-- What is on a stack, whose last element is on top. Nothing here has to be believed.
 use Rattle.std.specs.Prelude.{ℕ, ◌+◌, ◌*◌, List, [], ◌∷◌, ◌++◌, map}
 use Rattle.std.specs.Borrow.{Bor}
 use Rattle.prolog_terms.specs.declared.term.ReadTerm.{ReadTerm}

@@ -27,7 +27,7 @@ plain_list no_trees = []
 plain_list (more_trees t ts) = plain t ∷ plain_list ts
 
 abbrev mutual
-  -- the variables of a term from left to right, as often as they occur
+  -- the variables of a term from left to right, with repetitions
   pub variables : Term → List ℕ
   variables (Variable x) = x ∷ []
   variables (Integer n) = []

@@ -82,7 +82,7 @@ fn choice_item<'a>(
     }
 }
 
-/// The goals of a body of a clause whose variables are counted. The bodies that are left stand on a stack.
+/// The goals of a body of a clause whose variables are counted. The bodies that are left are kept on a stack.
 fn items_of<'a>(
     alloc: Global,
     names: &Names,
@@ -120,7 +120,7 @@ fn items_of<'a>(
     Ok(items)
 }
 
-/// The goals of a body of a clause with these variables, as often as they occur.
+/// The goals of a body of a clause with these variables, with repetitions.
 pub(crate) fn body_items<'a>(
     alloc: Global,
     names: &Names,

@@ -13,7 +13,7 @@ use cti_terms::Names;
 use prolog_reader::ReadTerm;
 use std::alloc::{AllocError, Global};
 
-/// The branches of a disjunction in order. What is left to be taken apart stands on a stack.
+/// The branches of a disjunction in order. What is left to be taken apart is kept on a stack.
 pub(crate) fn branch_terms<'a>(
     alloc: Global,
     names: &Names,

@@ -16,7 +16,7 @@ use cti_terms::Names;
 use prolog_reader::ReadTerm;
 use std::alloc::{AllocError, Global};
 
-/// The first fault of a body of a clause with these variables, as often as they occur. What is left to be looked at stands on a stack.
+/// The first fault of a body of a clause with these variables, with repetitions. What is left to be looked at is kept on a stack.
 pub(crate) fn body_fault(
     alloc: Global,
     names: &Names,

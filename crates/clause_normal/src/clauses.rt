@@ -49,7 +49,7 @@ fn head_call<'a>(names: &Names, head: &'a ReadTerm) -> Result<Call<'a>, NormFaul
     }
 }
 
-/// Tells the fault of a body, if it has one.
+/// Reports the fault of a body, if it has one.
 fn check_body(
     alloc: Global,
     names: &Names,
@@ -69,7 +69,7 @@ fn check_body(
     }
 }
 
-/// Tells the fault of a clause at a place with too many different variables.
+/// Reports the fault of a clause at a place with too many different variables.
 pub(crate) fn check_variables(alloc: Global, variables: &[u32], at: u32) -> Result<(), NormFault>
     ensures { AnswersFault (variables_fault at variables.now) result }
 {
@@ -83,7 +83,7 @@ pub(crate) fn check_variables(alloc: Global, variables: &[u32], at: u32) -> Resu
     }
 }
 
-/// Tells the fault of a clause at a place with which there are too many.
+/// Reports the fault of a clause at a place with which there are too many.
 fn check_count(made: &[Rule], at: u32) -> Result<(), NormFault>
     ensures fault { AnswersFault (if nat_lt 16384 (length made.now) then Some (ManyClauses, at) else None) result }
     ensures count { OnOk result (length made.now ≤ 16384) }

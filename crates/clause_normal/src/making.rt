@@ -29,7 +29,7 @@ fn push_plans<'a>(
 }
 
 /// Adds the clause that is to be made, and those of its disjunctions' branches, whose predicates are numbered from `first` on.
-/// Answers the number after the last one. What is left to be made stands on a stack.
+/// Answers the number after the last one. What is left to be made is kept on a stack.
 pub(crate) fn make_rules<'a>(
     alloc: Global,
     names: &Names,

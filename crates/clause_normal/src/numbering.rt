@@ -86,7 +86,7 @@ fn add_atom(
     Ok(Atom { pred, args })
 }
 
-/// Adds the variables of arguments from left to right, as often as they occur.
+/// Adds the variables of arguments from left to right, with repetitions.
 #[tactic(auto, using(crate::proofs::NumberingLemmas::variables_of_variables))]
 pub(crate) fn add_arg_variables(
     alloc: Global,
@@ -107,7 +107,7 @@ pub(crate) fn add_arg_variables(
     }
 }
 
-/// The variables of a clause from left to right, as often as they occur.
+/// The variables of a clause from left to right, with repetitions.
 fn rule_variables(alloc: Global, rule: &Rule) -> Result<Vec<u32>, AllocError>
     ensures { IfOk result (λ v. v.items ≡ call_variables ((rule_of rule.now).head ∷ (rule_of rule.now).body)) }
 {

@@ -25,7 +25,7 @@ use cti_terms::{Goal, MOST_CLAUSES, MOST_NODES, MOST_VARIABLES, Names, Program};
 use prolog_reader::{ReadClause, ReadTerm};
 use std::alloc::{AllocError, Global};
 
-/// The goals of a query in a row. What is left to be taken apart stands on a stack.
+/// The goals of a query in a row. What is left to be taken apart is kept on a stack.
 fn query_items<'a>(
     alloc: Global,
     names: &Names,
@@ -67,7 +67,7 @@ fn item_fault(item: &Item) -> Option<(NormKind, u32)>
     }
 }
 
-/// Tells the first fault of these goals.
+/// Reports the first fault of these goals.
 fn check_items(items: &[Item]) -> Result<(), NormFault>
     ensures { (names : List (List ℕ)) → AnswersFault (query_fault (map (goal_of names) items.now)) result }
 {
@@ -110,7 +110,7 @@ fn item_calls<'a>(alloc: Global, items: &[Item<'a>]) -> Result<Vec<Call<'a>>, Al
     Ok(calls)
 }
 
-/// The variables of calls from left to right, as often as they occur.
+/// The variables of calls from left to right, with repetitions.
 fn calls_variables(alloc: Global, calls: &[Call]) -> Result<Vec<u32>, AllocError>
     ensures { IfOk result (λ v. v.items ≡ call_variables (map call_of calls.now)) }
 {
@@ -168,7 +168,7 @@ pub fn normal_query(
     requires preds { length program.old.preds ≤ 4292870143 }
     requires clauses { position (is_equality names.old) program.old.preds ≡ None → length program.old.clauses < 16385 }
 
-    // The very goal of the definition with the program that it needs, or exactly its fault.
+    // Exactly the goal of the definition with the program that it needs, or exactly its fault.
     ensures exact { AnswersQuery (query_form names.old program.old (clause_of query.now)) program.new result }
 
     // The goal is one of that program: each variable is below its counter.

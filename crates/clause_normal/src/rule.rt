@@ -52,7 +52,7 @@ impl Drop for Rule<'_> {
     }
 }
 
-/// A clause to be made: its head, its variables as often as they occur, and its body.
+/// A clause to be made: its head, its variables with repetitions, and its body.
 #[derive(Drop)]
 pub(crate) struct Pending<'a> {
     pub(crate) head: Call<'a>,

@@ -103,7 +103,7 @@ pub fn normal(alloc: Global, text: &ReadText, names: &mut Names) -> Result<Progr
     requires fit { AreFit (length names.old) text.now.clauses }
     requires room { length names.old ≤ 4292870143 }
 
-    // The very program of the definition, or exactly its fault.
+    // Exactly the program of the definition, or exactly its fault.
     ensures exact { MatchResult result (λ p. normal_form names.new text.now.clauses ≡ Ok p) (λ e. IfFault e (λ f. normal_form names.new text.now.clauses ≡ Err f)) }
 
     // The names are those of the definition, and after a fault those that were there. Earlier names keep their numbers, and those of the

@@ -18,7 +18,7 @@ fn first_and_rest(terms: &[ReadTerm]) -> Option<(&ReadTerm, &[ReadTerm])>
     terms.split_first()
 }
 
-/// Adds the variables of terms from left to right, as often as they occur. What is left to be looked at stands on a stack.
+/// Adds the variables of terms from left to right, with repetitions. What is left to be looked at is kept on a stack.
 pub(crate) fn add_variables(
     alloc: Global,
     variables: &mut Vec<u32>,
@@ -41,7 +41,7 @@ pub(crate) fn add_variables(
     Ok(())
 }
 
-/// The variables of terms from left to right, as often as they occur.
+/// The variables of terms from left to right, with repetitions.
 pub(crate) fn variables_of(alloc: Global, terms: &[ReadTerm]) -> Result<Vec<u32>, AllocError>
     ensures { IfOk result (λ v. v.items ≡ list_variables (map plain_of terms.now)) }
 {
@@ -50,7 +50,7 @@ pub(crate) fn variables_of(alloc: Global, terms: &[ReadTerm]) -> Result<Vec<u32>
     Ok(variables)
 }
 
-/// The variables of a term from left to right, as often as they occur.
+/// The variables of a term from left to right, with repetitions.
 pub(crate) fn term_variables(alloc: Global, term: &ReadTerm) -> Result<Vec<u32>, AllocError>
     ensures value { IfOk result (λ v. v.items ≡ occurrences (tree_of term.now)) }
     ensures below { IfOk result (λ v. (vars : ℕ) → IsTrue (is_below vars (tree_of term.now)) → AllByRecursion (λ x. x < vars) v.items) }
@@ -59,7 +59,7 @@ pub(crate) fn term_variables(alloc: Global, term: &ReadTerm) -> Result<Vec<u32>,
     Ok(variables)
 }
 
-/// These variables, and after them those of a term from left to right, as often as they occur.
+/// These variables, and after them those of a term from left to right, with repetitions.
 pub(crate) fn with_variables(
     alloc: Global,
     mut variables: Vec<u32>,

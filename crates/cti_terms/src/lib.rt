@@ -4,7 +4,7 @@
 //! the occurs check, left-to-right resolution, derivations, and when a goal's derivations are bounded.
 //! They speak of plain trees, which contracts see wherever the code holds terms.
 //!
-//! Stands on `indexmap`, which numbers names and predicates in the order of their first use.
+//! Depends on `indexmap`, which numbers names and predicates in the order of their first use.
 #![tactic(auto)]
 
 mod atom_list;

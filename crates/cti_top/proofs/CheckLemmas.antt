@@ -23,6 +23,6 @@ pub verdict_on : (p : Listing) (names : List (List ℕ)) (facts : List Fact) (v 
 verdict_on p names facts verdict.Yes status text says bounded named s e = valid (says.0 refl) (bounded refl) s e
 verdict_on p names facts (verdict.No line reason) status text says bounded named s e = not_valid line reason (λ v. no_yes line reason (says.1 v)) ((named line reason).0 refl) s e
 
--- a wrong line is not want of memory
+-- a wrong line is not being out of memory
 pub line_or_memory : (n : ℕ) → fault.NotAFact n ≡ fault.Memory → ⊥
 line_or_memory n e = cc

@@ -9,7 +9,7 @@ use Rattle.cti_top.specs.Words.{Ask, infer, check, run, gen}
 pub untouched : (told : Map) (faults : List ℕ → ℕ) → Keeps told told faults faults
 untouched told faults = record { map = refl; counts = λ name. omega arith }
 
--- a store behind a load
+-- a store after a load
 pub loaded : (told after : Map) (faults later : List ℕ → ℕ) → after ≡ told → ((name : List ℕ) → faults name ≤ later name) → Keeps told after faults later
 loaded told after faults later map counts = record { map = map; counts = counts }
 

@@ -24,7 +24,7 @@ use Rattle.cti_top.specs.declared.status.Status.TheVariants.{Done, No, Usage, Re
 abbrev pub most_bytes : ℕ
 most_bytes = 1048576
 
--- the bytes are the text of a program of this origin, as far as the store tells
+-- the bytes are the text of a program of this origin, as far as the store shows
 abbrev pub TellsText : Map → Origin → List ℕ → Type 0
 TellsText told (file name) bytes = TellsAt told name bytes
 TellsText told (generated n) bytes = bytes ≡ generated_text n
@@ -36,7 +36,7 @@ TellsLong told (generated n) = ⊥
 
 -- The answer to the words: the usage exactly where they ask for nothing; the modes of the program that they name; the check of their
 -- certificate; the run of their query; how many modes their generated program has; or why the program's text, the certificate's or the
--- query is refused. Where the store tells its map, the bytes are those at the file's name.
+-- query is refused. Where the store shows its map, the bytes are those at the file's name.
 pub data IsAnswer (told : Map) (words : List (List ℕ)) (status : Status) (text : List ℕ) : Type 0 where
   usage : asks words ≡ None → status ≡ Usage → text ≡ usage_lines → IsAnswer told words status text
   inferred : (name bytes : List ℕ) → asks words ≡ Some (infer name) → TellsAt told name bytes → IsInferred bytes text → status ≡ Done → IsAnswer told words status text
@@ -65,7 +65,7 @@ Outcome told words before after FileFault = after ≡ before
 Outcome told words before after Memory = after ≡ before
 Outcome told words before after status = (text : List ℕ) × IsAnswer told words status text × Takes before text after
 
--- the map is told, and has these bytes at the name
+-- the map is visible, and has these bytes at the name
 abbrev pub HasFile : Map → List ℕ → List ℕ → Type 0
 HasFile None name bytes = ⊥
 HasFile (Some files) name bytes = files name ≡ Some bytes

@@ -1,5 +1,5 @@
 -- To believe, for the command.
--- What is printed for a query: its answers among so many nodes, how many nodes there were, and whether there are more.
+-- What is printed for a query: its answers among the nodes looked at, how many nodes there were, and whether there are more.
 --
 -- To believe: all of this file, over the goal of a query, `run_lines` of term_text, `told` of ld_resolver, and `answers`, `first_nodes`,
 -- `longest` and `HasMoreNodes` of cti_terms.

@@ -73,11 +73,11 @@ origin (check name certificate) = file name
 origin (run name query steps) = file name
 origin (gen n) = generated n
 
--- so many decimal digits at most, and one at least
+-- at most the given number of decimal digits, and at least one
 abbrev pub is_short_number : ℕ → Text → Bool
 is_short_number digits text = nat_lt 0 (length text) && (nat_le (length text) digits && list_all (λ b. is_digit b 10) text)
 
--- the number that a text spells with so many digits at most, where it is from 1 to the greatest
+-- the number that a text spells with at most the given number of digits, where it is from 1 to the greatest
 abbrev pub number_in : ℕ → ℕ → Text → Option ℕ
 number_in digits greatest text =
     if is_short_number digits text && (nat_lt 0 (digits_value 10 text) && nat_le (digits_value 10 text) greatest) then Some (digits_value 10 text) else None

@@ -46,7 +46,7 @@ pub fn command<F: Files, S: Sink>(
     ensures kept { Keeps (F.told files.old) (F.told files.new) (F.faults files.old) (F.faults files.new) }
     ensures later { S.faults out.old ≤ S.faults out.new }
 
-    // A file that is told and is a program is answered, unless memory runs out or a count of faults rises.
+    // A file that is visible to contracts and is a program is answered, unless memory runs out or a count of faults rises.
     ensures complete { (name bytes : List ℕ) (known : Known) → asks (map (λ w. w.now) words.entry.now) ≡ Some (infer name) → HasFile (F.told files.old) name bytes → IsKnown bytes known
         → (Rose (F.faults files.old name) (F.faults files.new name) → ⊥) → (Rose (S.faults out.old) (S.faults out.new) → ⊥) → IsDoneOrMemory result }
 

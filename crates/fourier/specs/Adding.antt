@@ -35,7 +35,7 @@ add_row m kept row = if nat_lt 4096 (length kept) then kept else insert_clean m 
 abbrev pub add_rows : ℕ → List (List ℤ) → List (List ℤ) → List (List ℤ)
 add_rows m kept rows = fold (add_row m) kept rows
 
--- whether the variable of a column stands in a row
+-- whether the variable of a column occurs in a row
 abbrev pub moves : ℕ → List ℤ → Bool
 moves k q = is_positive (entry q k) || is_negative (entry q k)
 

@@ -31,7 +31,7 @@ use std::alloc::{AllocError, Global};
 pub fn solve(alloc: Global, rows: &Rows) -> Result<Solved, ElimFault>
     requires { HaveWidth rows.now.width rows.now.list }
 
-    // The very solution of that definition, unless memory runs out.
+    // Exactly the solution of that definition, unless memory runs out.
     ensures exact { Spells (solution rows.now.width (plain_rows rows.now.list)) result }
 
     // What it is for.
@@ -49,7 +49,7 @@ pub fn solve(alloc: Global, rows: &Rows) -> Result<Solved, ElimFault>
 pub fn solve_briefly(alloc: Global, rows: &Rows) -> Result<Option<Solved>, AllocError>
     requires { HaveWidth rows.now.width rows.now.list }
 
-    // The very solution of that definition, but for how a solving is blown.
+    // Exactly the solution of that definition, but for how a solving is blown.
     ensures spells { IfOk result (SpellsOrBlown (solution rows.now.width (plain_rows rows.now.list))) }
 
     // What it is for.

@@ -6,7 +6,7 @@
 //! The sets are found by marks: each clause that may still give a row has one. Whoever looks for sets by clauses in
 //! another way takes the marks and the lists of clauses from here.
 //!
-//! Stands on `termination_model`, which says what the least family is, and on `truth_rows`, whose sets these are.
+//! Depends on `termination_model`, which says what the least family is, and on `truth_rows`, whose sets these are.
 #![tactic(auto)]
 
 mod clause_lists;

@@ -36,7 +36,7 @@ some_there : {X : Type 0} (x : X) (xs : List X) → IsIn x xs → 0 < length xs
 some_there x [] h = absurd h
 some_there x (y ∷ ys) h = omega arith
 
--- what stands behind the first n comes after each of them
+-- what comes after the first n elements comes after each of them
 after_taken : (ks : List ℕ) (n : ℕ) (ns : List (List ℕ)) → AreAscending ns → IsIn ks (drop n ns) → (n < length ns) × ((length (take n ns) ≡ n) × AllByRecursion (λ (ls : List ℕ). Before ls ks) (take n ns))
 after_taken ks zero ns a h = (some_there ks ns h, (refl, tt))
 after_taken ks (suc n) [] a h = absurd h

@@ -1,5 +1,5 @@
 -- Private.
--- How a proof tells answers apart, so that a contract may see a list of them. Nothing here has to be believed.
+-- How a proof distinguishes answers, so that a contract may see a list of them. Nothing here has to be believed.
 use Rattle.std.specs.Prelude.{ℕ, List, ◌⊎◌, refl}
 use Rattle.std.proofs.Common.{inl, inr, ◌≡◌}
 use Rattle.std.specs.Coded.{Coded, code_by, coded⊎, coded_ℕ, coded_list}

@@ -20,7 +20,7 @@ answered_atoms s atoms = map (over (full s)) atoms
 abbrev pub answered_terms : List Binding → List Atom → Trees
 answered_terms s atoms = all_written (answered_atoms s atoms)
 
--- the arguments of atoms, in a row
+-- the arguments of atoms, as one list
 abbrev pub all_arguments : List Atom → List Tree
 all_arguments = flat_map (λ a. a.args)
 

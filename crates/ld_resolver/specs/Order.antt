@@ -11,7 +11,7 @@ Before ks [] = ⊥
 Before [] (l ∷ ls) = Unit {0}
 Before (k ∷ ks) (l ∷ ls) = (k < l) ⊎ ((k ≡ l) × Before ks ls)
 
--- each comes before all that stand behind it
+-- each comes before all that follow it
 abbrev pub AreAscending : List (List ℕ) → Type 0
 AreAscending [] = Unit {0}
 AreAscending (ks ∷ kss) = AllByRecursion (Before ks) kss × AreAscending kss

@@ -16,7 +16,7 @@ abbrev pub scaled : ℕ → ℕ → ℕ
 scaled zero w = 0
 scaled (suc k) w = w + scaled k w
 
--- the answers that are told after these visits
+-- the answers that are reported after these visits
 abbrev pub told_after : Goal → List Visit → List Answer
 told_after g done = map told (cons_option (answer_by g.atoms [] g.atoms) (met_answers done))
 

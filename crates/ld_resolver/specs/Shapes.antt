@@ -34,7 +34,7 @@ IsFree s (Variable x) = stored s x ≡ None
 IsFree s (Integer i) = Unit {0}
 IsFree s (Compound f args) = Unit {0}
 
--- a term that is no bound variable, with its kind
+-- a term that is not a bound variable, with its kind
 pub record IsMet (s : List Binding) (m : Met) : Type 0 where
   pub tree : full s (raised_tree m.term) ≡ shape_full s m.term.base m.shape
   pub followed : IsOpen s (raised_tree m.term)

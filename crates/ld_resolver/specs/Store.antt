@@ -27,13 +27,13 @@ full s t = applied (made s) t
 abbrev pub all_full : List Binding → Trees → Trees
 all_full s ts = all_instances (λ x. full s (Variable x)) ts
 
--- a term that is no bound variable
+-- a term that is not a bound variable
 abbrev pub IsOpen : List Binding → Tree → Type 0
 IsOpen s (Variable x) = stored s x ≡ None
 IsOpen s (Integer n) = Unit {0}
 IsOpen s (Compound f ts) = Unit {0}
 
--- a free variable may be bound to a term that is no bound variable, and in which it does not occur
+-- a free variable may be bound to a term that is not a bound variable, and in which it does not occur
 pub record MayBind (s : List Binding) (x : ℕ) (t : Tree) : Type 0 where
   pub free : stored s x ≡ None
   pub followed : IsOpen s t

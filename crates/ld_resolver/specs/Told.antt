@@ -1,5 +1,5 @@
 -- To believe, for the command.
--- What an answer is told as.
+-- How an answer is reported.
 --
 -- To believe: `told`.
 use Rattle.std.specs.Prelude.{List, if◌then◌else◌}

@@ -21,7 +21,7 @@ use cti_terms::{Atom, Atoms, MOST_ANSWER_DEPTH, MOST_ANSWER_NODES, Term, Terms};
 use indexmap::IndexSet;
 use std::alloc::{AllocError, Global};
 
-/// An answer: the query's atoms as a derivation leaves them, or that they are too large to be told.
+/// An answer: the query's atoms as a derivation leaves them, or that they are too large to be reported.
 #[derive(Drop)]
 pub enum Answer {
     /// The atoms, with their variables numbered from 0 by first occurrence.
@@ -85,7 +85,7 @@ fn has_many_nodes<'p>(
     Ok(false)
 }
 
-/// Whether a term is too deep under so many levels. It looks no deeper than that takes.
+/// Whether a term is too deep under the given number of levels. It looks no deeper than that takes.
 fn is_deep<'p>(bindings: &Bindings<'p>, term: RaisedTerm<'p>, above: u32) -> bool
     requires { above ≤ MOST_ANSWER_DEPTH }
     ensures { result ≡ nat_lt MOST_ANSWER_DEPTH (above + depth_of (full bindings.now (raised_tree term.entry))) }

@@ -1,4 +1,4 @@
-//! Answers in a row.
+//! A list of answers.
 
 ghost use Rattle.std.specs.Prelude.{◌≡◌, OnOk, length, [], ◌∷◌, ◌++◌};
 
@@ -6,7 +6,7 @@ use crate::answer::Answer;
 use std::alloc::{AllocError, Global};
 use std::marker::Model;
 
-/// Answers in a row. Contracts see the list.
+/// A list of answers. Contracts see the list.
 #[derive(Drop)]
 pub struct Answers {
     items: Vec<Answer>,

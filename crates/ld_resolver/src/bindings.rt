@@ -120,7 +120,7 @@ impl<'p> Bindings<'p> {
         }
     }
 
-    /// The term that is no bound variable and stands for this one.
+    /// The term that is not a bound variable and stands for this one.
     pub fn followed(&self, term: RaisedTerm<'p>) -> RaisedTerm<'p>
         ensures same { full self.now (raised_tree result) ≡ full self.now (raised_tree term.entry) }
         ensures open { IsOpen self.now (raised_tree result) }
@@ -134,7 +134,7 @@ impl<'p> Bindings<'p> {
         }
         now
     }
-    /// The term that is no bound variable and stands for this one, with its kind.
+    /// The term that is not a bound variable and stands for this one, with its kind.
     pub fn met(&self, term: RaisedTerm<'p>) -> Met<'p>
         ensures met { IsMet self.now result }
         ensures same { full self.now (raised_tree result.term) ≡ full self.now (raised_tree term.entry) }

@@ -21,7 +21,7 @@ pub enum Shape<'p> {
     Compound(Name, &'p [Term]),
 }
 
-/// A term that is no bound variable, with its kind.
+/// A term that is not a bound variable, with its kind.
 #[derive(Clone, Copy, Drop)]
 pub struct Met<'p> {
     pub term: RaisedTerm<'p>,

@@ -80,7 +80,7 @@ fn begin<'p>(
 pub fn run(alloc: Global, program: &Program, goal: &Goal, budget: u64) -> Result<Ran, AllocError>
     requires { IsGoalOf program.now goal.now }
 
-    // The answers, told in order, and the measures of what was looked at.
+    // The answers, reported in order, and the measures of what was looked at.
     ensures answers { IfOk result (λ ran. ran.answers ≡ map told (answers program.now goal.now budget)) }
     ensures steps { IfOk result (λ ran. ran.steps ≡ length (first_nodes program.now goal.now budget)) }
     ensures longest { IfOk result (λ ran. ran.longest ≡ longest (first_nodes program.now goal.now budget)) }

@@ -19,7 +19,7 @@ use crate::tails::Tails;
 use cti_terms::{Atom, Clause, Program};
 use std::alloc::{AllocError, Global};
 
-/// What was taken at the last choice: nothing, as there is no choice; no clause, as it had none left and is gone; or a clause.
+/// What was taken at the last choice: nothing, since there is no choice; no clause, since it had none left and is gone; or a clause.
 #[derive(Clone, Copy, Drop)]
 pub enum Taken<'p> {
     Nothing,

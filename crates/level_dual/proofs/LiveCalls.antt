@@ -90,7 +90,7 @@ refuted_none n rows ms wide e point =
     by_scale (pos (suc d)) s naturals proves = bottom_fails n point.t point.w point.some (law_holds rows (take (length rows) ms) (bottom_row n) d naturals proves point.t point.w point.some long point.hold)
     by_scale (negsuc d) s naturals proves = absurd (omega (arith, ints, s))
 
--- rows of so many coefficients
+-- rows with the given number of coefficients
 pub wide_rows : (n : ℕ) (rs : List Row) → HaveWidth n rs → All (λ (r : List ℤ). length r ≡ suc n) (plain_rows rs)
 wide_rows n rs h = to_All (λ (r : List ℤ). length r ≡ suc n) (plain_rows rs) (λ r i.
     let w = of-map plain_row rs r i in

@@ -27,7 +27,7 @@ pub record WalkSteps (n : ℕ) (Has : List ℕ → Type 0) : Type 0 where
       → IsWalked Has (take i (chosen_up_to n n)) found blown → IsExcluded Has s → IsWalked Has (take (suc i) (chosen_up_to n n)) found blown
   pub given_up : (i : ℕ) (s : List ℕ) (found blown : List (List ℕ)) → slice_get (chosen_up_to n n) i ≡ Some s
       → IsWalked Has (take i (chosen_up_to n n)) found blown → IsWalked Has (take (suc i) (chosen_up_to n n)) found (blown ++ s ∷ [])
-  -- a mapping whose support u is part of the set has the very set, which is minimal
+  -- a mapping whose support u is part of the set has exactly that set, which is minimal
   pub mapped : (i : ℕ) (s u : List ℕ) (found blown : List (List ℕ)) → slice_get (chosen_up_to n n) i ≡ Some s
       → IsWalked Has (take i (chosen_up_to n n)) found blown → (IsAbove found s → ⊥) → (IsAbove blown s → ⊥) → is_part u s ≡ true → Has u
       → (u ≡ s) × IsWalked Has (take (suc i) (chosen_up_to n n)) (found ++ s ∷ []) blown

@@ -41,7 +41,7 @@ fn count_of(positions: &[Position]) -> usize
     positions.len()
 }
 
-// The numbers of so many positions, from 1 on. 2^32 and more have no memory.
+// The numbers of the given number of positions, from 1 on. 2^32 and more have no memory.
 fn all_numbers(alloc: Global, count: usize) -> Result<Sequence<u32>, AllocError>
     ensures numbers { IfOk result (λ numbers. numbers ≡ columns 1 count) }
     ensures few { IfOk result (λ numbers. count + 1 < 2 ^ 32) }

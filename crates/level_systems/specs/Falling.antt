@@ -22,7 +22,7 @@ pub record HasParts (ms : List Measure) (own : OwnCall) : Type 0 where
   pub head_part : IsLevelPart (length own.caller_sizes.list) head
   pub call_part : IsLevelPart (length own.callee_sizes.list) call
 
--- the multipliers of a call: those that show that it cannot be reached, or the values behind those of calls before it
+-- the multipliers of a call: those that show that it cannot be reached, or the values after those of calls before it
 abbrev pub multipliers_of : Option Multipliers → ℕ → List ℤ → List ℤ
 multipliers_of (Some by) n values = by.list
 multipliers_of None n values = take n values

@@ -38,7 +38,7 @@ spelled p = (p.pred.0, p.argument)
 abbrev pub AreSizes : ℕ → Rows → Type 0
 AreSizes x sizes = All (λ (r : Row). (x < length (plain_row r)) × (pos 0 ≤ℤ entry (plain_row r) x)) sizes.list
 
--- the numbers behind the constant in the row of a held call and a column
+-- the numbers after the constant in the row of a held call and a column
 abbrev pub held_numbers : OwnCall → List Position → List PredId → ℕ → ℕ → ℕ → List ℤ
 held_numbers own positions members before after x =
     (((map (λ p. share own.caller.0 (plain_rows own.caller_sizes.list) x (spelled p) -ℤ share own.callee.0 (plain_rows own.callee_sizes.list) x (spelled p)) positions

@@ -7,7 +7,7 @@ use Rattle.call_components.specs.Partition.{Partition}
 use Rattle.termination_model.specs.ComponentViews.{rank_in}
 use Rattle.termination_model.specs.OwnCalls.{Position}
 
--- the members of the heads of clauses, each once, behind those that are there
+-- the members of the heads of clauses, each once, after those that are there
 abbrev pub with_member : Partition → ℕ → List ℕ → ℕ → List ℕ
 with_member comps c members q =
     if rank_in comps q == c then (if list_any (λ m. m == q) members then members else members ++ q ∷ []) else members

@@ -116,7 +116,7 @@ fn test_of(alloc: Global, rows: &Rows) -> Result<Rows, AllocError>
     ensures test { IfOk result (λ test. HaveWidth test.width test.list) }
     ensures rows { IfOk result (λ test. plain_rows test.list ≡ test_rows rows.now.width (plain_rows rows.now.list) (bottom_row rows.now.width)) }
 {
-    // So many variables have no memory.
+    // There is no memory for that many variables.
     let Some(last) = rows.width.checked_add(1) else {
         return Err(AllocError);
     };

@@ -99,7 +99,7 @@ fn add_offsets(
     Ok(())
 }
 
-// So many zeros.
+// The given number of zeros.
 fn add_zeros(row: &mut Vec<i128>, count: usize) -> Result<(), AllocError>
     ensures { OnOk result (row.new.items ≡ row.old.items ++ zeros count) }
 {
@@ -137,7 +137,7 @@ fn less_one(x: usize) -> i128
     if x == 0 { -1 } else { 0 }
 }
 
-// The numbers of the coefficients in the row of a call and a column, with so many multipliers of other calls around its own.
+// The numbers of the coefficients in the row of a call and a column, with the multipliers of other calls around its own.
 fn row_numbers(
     alloc: Global,
     own: &OwnCall,
@@ -185,7 +185,7 @@ fn call_row(
     })
 }
 
-// The rows of a call, one for each column, with so many multipliers of other calls around its own.
+// The rows of a call, one for each column, with the multipliers of other calls around its own.
 fn add_call(
     alloc: Global,
     own: &OwnCall,
@@ -208,7 +208,7 @@ fn add_call(
     Ok(())
 }
 
-// How many multipliers the calls that can be reached have together. So many that they have no count have no memory.
+// How many multipliers the calls that can be reached have together. There is no memory for more than a count can say.
 fn count_of(calls: &[OwnCall]) -> Result<usize, AllocError>
     ensures { IfOk result (λ n. n ≡ count_of calls.now) }
 {

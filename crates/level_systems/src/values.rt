@@ -29,7 +29,7 @@ fn value_at(positions: &[Position], values: &Numbers, pred: PredId, argument: u3
     0
 }
 
-// The offset of a member, or 0 where it has none. Offsets stand behind so many other values.
+// The offset of a member, or 0 where it has none. Offsets come after the given number of other values.
 fn offset_at(members: &[PredId], values: &Numbers, before: usize, pred: PredId) -> i128
     requires apart { Apart (map number_of members.now) }
     requires room { before + length members.now ≤ length values.now }

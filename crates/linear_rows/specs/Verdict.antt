@@ -1,4 +1,4 @@
--- Private.
+-- To believe, for the command.
 -- What the test of multipliers says: the first column decides that fails or has a number that does not fit.
 use Rattle.std.specs.Prelude.{ℕ, ℤ, pos, List, ◌<◌, ◌≤ℤ◌, ◌<ℤ◌, length}
 use Rattle.linear_rows.specs.Proves.{rest_number, ColumnFits}

@@ -38,7 +38,7 @@ fn command_fault<'a>(word: Option<&'a str>) -> Option<WordFault<'a>> {
 }
 
 impl<'a> Words<'a> {
-    /// Tells the words after the program's name apart.
+    /// Sorts the words after the program's name.
     pub fn of(words: &[&'a str]) -> Words<'a> {
         let first = words.first().copied();
         let mut told = Words {

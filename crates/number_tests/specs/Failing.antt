@@ -1,4 +1,4 @@
--- Private.
+-- To believe, for the command.
 -- Why tests of multipliers and of points fail.
 --
 -- Multipliers fail where a column of their test is below 0, and a number of the target or of the test may not fit. At a point of a

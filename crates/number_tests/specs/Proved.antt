@@ -30,7 +30,7 @@ module _ (expression : ℕ → Tree → List ℤ) where
       (i : ℕ) (row : List ℤ) (by : Multipliers) → slice_get (rows_of rows c.head.pred.0) i ≡ Some row → slice_get ms i ≡ Some by
       → RowIsKept rows c row by
 
-  -- the level of an atom, over so many variables
+  -- the level of an atom, over the given number of variables
   abbrev pub level_of : ℕ → Atom → LevelPart → List ℤ
   level_of vars a l = row_over expression vars a.args (l.offset ∷ l.coeffs)
 

@@ -49,7 +49,7 @@ pub record RowHolds (x : Point) (row : List ℤ) : Type 0 where
   pub value_fits : ValueFits x row
   pub holds : pos 0 ≤ℤ dot row (numbers_of x)
 
--- the values of expressions at a point, behind that of an offset, which is t
+-- the values of expressions at a point, after that of an offset, which is t
 abbrev pub values_of : List (List ℤ) → Point → List ℤ
 values_of es x = x.t ∷ map (λ e. dot e (numbers_of x)) es
 

@@ -10,7 +10,7 @@ joined [] ys = []
 joined (x ∷ xs) [] = []
 joined (x ∷ xs) (y ∷ ys) = (x ++ y) ∷ joined xs ys
 
--- the columns of a head's expressions over so many variables, each followed by that of a call's
+-- the columns of a head's expressions over the given number of variables, each followed by that of a call's
 pub record AreFallColumns (head call : List (List ℤ)) (vars : ℕ) (columns : List (List ℤ)) : Type 0 where
   pub count : length columns ≡ suc vars
   pub each : (x : ℕ) → x < suc vars → slice_index_or columns x [] ≡ column_over head x ++ column_over call x

@@ -32,7 +32,7 @@ pub(crate) fn value_at(row: &Row, point: &Point) -> Option<i128>
     Some(sum)
 }
 
-/// The values of expressions at a point behind its `t`, where each of their numbers fits.
+/// The values of expressions at a point after its `t`, where each of their numbers fits.
 pub(crate) fn values_at(
     alloc: Global,
     sizes: &Rows,

@@ -4,7 +4,7 @@
 //! component changes no rows. Over any domain of size rows the steps are a legal chain, as `termination_model` defines
 //! it, and each row of the chain's last rows has its proof for each clause.
 //!
-//! Stands on `polyhedra`, whose trait of domains says all that is used of a domain, and on `termination_model`.
+//! Depends on `polyhedra`, whose trait of domains says all that is used of a domain, and on `termination_model`.
 #![tactic(auto)]
 
 mod chain;

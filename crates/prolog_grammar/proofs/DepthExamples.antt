@@ -99,7 +99,7 @@ loads_of_a_text = refl
 depth_of_a_text : depth (leaf 0 (text (97 ∷ 98 ∷ []))) ≡ depth (listed 0 (more (leaf 1 (integer 97)) (more (leaf 4 (integer 98)) nothing)))
 depth_of_a_text = refl
 
--- With the limit 1000. So many opening parentheses before these tokens, and closing ones
+-- With the limit 1000. That many opening parentheses before these tokens, and closing ones
 abbrev opening : ℕ → List Token → List Token
 opening zero us = us
 opening (suc n) us = Touching 0 ∷ opening n us

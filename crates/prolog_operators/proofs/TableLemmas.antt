@@ -10,7 +10,7 @@ use Rattle.prolog_operators.specs.declared.kind.OpKind.{OpKind}
 use Rattle.prolog_operators.specs.Table.{Table, changed, with_operator, with_texts}
 use Rattle.cti_terms.specs.Numbers.{number_of}
 
--- the order of numbers tells whether they are the same
+-- the order of numbers decides whether they are the same
 pub same_number : (a b : ℕ) → is_eq (nat_cmp a b) ≡ (a == b)
 same_number a b = ⊎_elim yes no (either (a == b))
   where

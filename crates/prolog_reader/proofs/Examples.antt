@@ -80,7 +80,7 @@ example_op_negative = refl
 example_op_comma : effect (words_of names) (standard names) (op_clause (tree 6 (Int (pos 700))) (atom 4)) ≡ refuses
 example_op_comma = refl
 
--- both wrong: the priority is told
+-- both wrong: the priority is reported
 example_setting : setting (standard names) (pos 1201) Xfx 4 (codes ",") ≡ Err BadPriority
 example_setting = refl
 

@@ -14,7 +14,7 @@ pub trees_push : (ts : List ReadTerm) (t : ReadTerm) → map tree_of (ts ++ t �
 trees_push [] t = refl
 trees_push (s ∷ ts) t = ap (λ (xs : List Tree). tree_of s ∷ xs) (trees_push ts t)
 
--- arguments in a row are as many as the list has, and are that list
+-- the arguments of a list are as many as the list has, and are that list
 pub arity_row : (ts : List Tree) → arity (row ts) ≡ length ts
 arity_row [] = refl
 arity_row (t ∷ ts) = omega (arith, arity_row ts)

@@ -2,7 +2,7 @@
 //!
 //! What makes a certificate exact is `IsExact` of `specs/Exact.antt`. Laws say what follows from that.
 //!
-//! Stands on the engines, which give the parts of a certificate, and on `cert_structure`, which writes its facts.
+//! Depends on the engines, which give the parts of a certificate, and on `cert_structure`, which writes its facts.
 #![tactic(auto)]
 
 mod assembling;

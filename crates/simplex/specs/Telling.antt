@@ -29,7 +29,7 @@ abbrev pub ShowsIfFits : List (List ℤ) → List ℤ → List ℤ → Option Mu
 ShowsIfFits rows row ms None = EndsBlown rows row (Refuted ms)
 ShowsIfFits rows row ms (Some by) = Shows rows row by
 
--- what solves the rows of a test tells it, or is multipliers whose test meets a number that does not fit
+-- what solves the rows of a test says it, or is multipliers whose test meets a number that does not fit
 abbrev pub TellsNothing : List (List ℤ) → List ℤ → Solved → Type 0
 TellsNothing rows row (Point p) = ⊥
 TellsNothing rows row (RefutedBy m) = EndsBlown rows row (Refuted m.list)

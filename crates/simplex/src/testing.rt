@@ -52,7 +52,7 @@ fn failing(point: Point, width: usize) -> Point
     }
 }
 
-// What is told by what solves the rows of a test, unless the multipliers are not tested in numbers that fit.
+// What the solution of the rows of a test says, unless the multipliers are not tested in numbers that fit.
 fn held(rows: &Rows, row: &Row, solved: Solved) -> Option<Held>
     requires width { HaveWidth rows.now.width rows.now.list }
     requires row { length row.now.coeffs ≡ rows.now.width }
@@ -87,7 +87,7 @@ fn by_pivots(
     }
 }
 
-// What elimination tells.
+// What elimination answers.
 fn by_elimination(alloc: Global, rows: &Rows, row: &Row, system: &Rows) -> Result<Held, AllocError>
     requires width { HaveWidth rows.now.width rows.now.list }
     requires row { length row.now.coeffs ≡ rows.now.width }

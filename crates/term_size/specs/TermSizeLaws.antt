@@ -97,7 +97,7 @@ summed-one s y k (suc n) le lt = go (k == y) refl (summed-one s y (suc k) n) (su
         omega (arith, h)
 
 mutual
-  -- a size is the names, and each variable as often as it occurs
+  -- a size is the names, and each variable once for each of its occurrences
   size_summed : (s : ℕ → ℕ) (n : ℕ) (t : Tree) → is_below n t ≡ true → size s t ≡ size (λ _. 0) t + summed (λ x. occurrences x t) s 0 n
   size_summed s n (Variable y) h = let lt : y < n = ltb-true y n h in omega (arith, summed-one s y 0 n (omega arith) (omega (arith, lt)))
   size_summed s n (Integer m) h = omega (arith, summed-zero s 0 n)

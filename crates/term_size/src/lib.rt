@@ -3,7 +3,7 @@
 //! A norm gives each term a natural number, and says which terms are rigid: their size is the same in every instance.
 //! Code that is given some norm rests on the laws that stand in `specs/Norm.antt`.
 //!
-//! Stands on `cti_terms`.
+//! Depends on `cti_terms`.
 #![tactic(auto)]
 
 mod counting;

@@ -7,7 +7,7 @@
 //!
 //! How size rows come about is defined too: by legal chains of steps, whose last rows the clauses keep.
 //!
-//! Stands on `cti_terms`, `call_components`, `term_size` and `linear_rows`.
+//! Depends on `cti_terms`, `call_components`, `term_size` and `linear_rows`.
 #![tactic(auto)]
 
 mod choosing;

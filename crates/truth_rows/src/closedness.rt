@@ -15,7 +15,7 @@ use cti_terms::{Clause, Program};
 use std::alloc::AllocError;
 use term_size::Norm;
 
-/// Tells whether sets, one for each predicate, are closed under a clause of the program: wherever the truth rows of its
+/// Whether sets, one for each predicate, are closed under a clause of the program: wherever the truth rows of its
 /// body are in their sets, that of its head is.
 ///
 /// Clauses count from 1.

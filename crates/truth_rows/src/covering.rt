@@ -10,7 +10,7 @@ use bool_diagrams::{Diagram, Table};
 use cti_terms::MOST_ARGUMENTS;
 use std::alloc::AllocError;
 
-/// Tells whether each row of a set is true wherever a coefficient is positive.
+/// Whether each row of a set is true wherever a coefficient is positive.
 ///
 /// `positive` says of each argument whether its coefficient is: the clause holds for all coefficients with these signs.
 pub fn is_covered(table: &mut Table, set: Diagram, positive: &[bool]) -> Result<bool, AllocError>

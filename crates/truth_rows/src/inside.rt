@@ -6,7 +6,7 @@ ghost use Rattle.bool_diagrams.specs.Rows.{IsDiagram, Keeps, holds};
 use bool_diagrams::{Diagram, Table};
 use std::alloc::AllocError;
 
-/// Tells whether each row of a set is in another set: what they share is then the first set.
+/// Whether each row of a set is in another set: what they share is then the first set.
 pub fn is_inside(table: &mut Table, inner: Diagram, outer: Diagram) -> Result<bool, AllocError>
     requires inner { IsDiagram table.old inner }
     requires outer { IsDiagram table.old outer }

@@ -4,7 +4,7 @@
 //! i. In the diagrams of a clause, variable i is the clause's variable i, and twelve further variables stand for the
 //! arguments of one atom at a time. So each test over all values of a clause's variables is exact.
 //!
-//! Stands on `bool_diagrams`, and on `termination_model`, which says what is tested.
+//! Depends on `bool_diagrams`, and on `termination_model`, which says what is tested.
 #![tactic(auto)]
 
 mod atoms;

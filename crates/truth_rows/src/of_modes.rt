@@ -9,7 +9,7 @@ ghost use Rattle.termination_model.specs.Descent.{mode_row};
 use bool_diagrams::{Diagram, Table};
 use cti_terms::MOST_ARGUMENTS;
 
-/// Tells whether a set has the row of a mode: the arguments that the mode names, counted from 1, are true, and the
+/// Whether a set has the row of a mode: the arguments that the mode names, counted from 1, are true, and the
 /// others of `arity` arguments are false. It takes no memory.
 pub fn admits(table: &Table, set: Diagram, mode: &[u32], arity: u32) -> bool
     requires known { IsDiagram table.now set }

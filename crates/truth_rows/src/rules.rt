@@ -16,7 +16,7 @@ use cti_terms::{Atom, Clause, MOST_VARIABLES, Program};
 use std::alloc::AllocError;
 use term_size::Norm;
 
-/// Tells whether a clause keeps the rule of preconditions: from each truth row of the head in `pre`, each call that is
+/// Whether a clause keeps the rule of preconditions: from each truth row of the head in `pre`, each call that is
 /// reached has a truth row in turn, in `pre` where its predicate has the rank of the head's, else in `allowed`.
 ///
 /// A call is reached where the truth rows of all atoms before it are in `grounds`. Each of the three has a set for each
