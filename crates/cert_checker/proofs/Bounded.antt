@@ -126,11 +126,11 @@ module _ (p : Listing) (comps : Partition) (parts : Parts) (prog : IsProgram p) 
     }
 
     -- each query that meets a mode of its predicate's part is bounded
-    query_ends : (q : ℕ) (mode : List ℕ) → Admits (claims p comps parts) q (mode_row mode 1 (shape.arity_of p q)) → (a : Atom) (n : ℕ) → a.pred.0 ≡ q → HasArity p.preds a.pred.0 (length a.args)
-        → shape.arity_of p q ≡ length a.args → Meets (claims p comps parts) mode a → Bounded p (query a n)
+    query_ends : (q : ℕ) (mode : List ℕ) → Admits (claims p comps parts) q (mode_row mode 1 (shape.arity_in p q)) → (a : Atom) (n : ℕ) → a.pred.0 ≡ q → HasArity p.preds a.pred.0 (length a.args)
+        → shape.arity_in p q ≡ length a.args → Meets (claims p comps parts) mode a → Bounded p (query a n)
     query_ends q mode admits a n same arity long meets =
         modes_end p (claims p comps parts) prog (shown p (claims p comps parts) prog shown_claims) a n arity mode
-        (subst (λ (k : ℕ). Admits (claims p comps parts) a.pred.0 (mode_row mode 1 k)) long (subst (λ (k : ℕ). Admits (claims p comps parts) k (mode_row mode 1 (shape.arity_of p q))) (sym same) admits)) meets
+        (subst (λ (k : ℕ). Admits (claims p comps parts) a.pred.0 (mode_row mode 1 k)) long (subst (λ (k : ℕ). Admits (claims p comps parts) k (mode_row mode 1 (shape.arity_in p q))) (sym same) admits)) meets
 
 -- a valid certificate of a program bounds its modes
 pub valid_bounds : HoldingModesShow → (p : Listing) (names : List (List ℕ)) (facts : List Fact) → IsProgram p → AreNamed names p.preds → AllPairs (λ a b. a ≢ b) names
@@ -140,12 +140,12 @@ valid_bounds modes_show p names facts prog named distinct valid =
     let have = valid.structured.shape in
     subst (ModesAreBounded p names) (sym valid.structured.is) (listed_bounded p names parts valid.structured.notes valid.structured.are_notes (λ q modes at.
     let (e, ee) = an_element p.preds q (omega (arith, slice_get_within parts.modes q modes at, have.modes.count)) in
-    let admitted = subst (AllByRecursion (λ mode. Admits (claims p valid.comps parts) q (mode_row mode 1 (shape.arity_of p q)))) (ap (λ (o : Option (List (List ℕ))). unwrap_or o []) at)
+    let admitted = subst (AllByRecursion (λ mode. Admits (claims p valid.comps parts) q (mode_row mode 1 (shape.arity_in p q)))) (ap (λ (o : Option (List (List ℕ))). unwrap_or o []) at)
     ((shown_modes p valid.comps parts prog valid.components have modes_show valid.hold).modes q) in
-    all_map (λ mode. Admits (claims p valid.comps parts) q (mode_row mode 1 (shape.arity_of p q))) (ModeIsBounded p names (order.pred_text p names q))
+    all_map (λ mode. Admits (claims p valid.comps parts) q (mode_row mode 1 (shape.arity_in p q))) (ModeIsBounded p names (order.pred_text p names q))
     (λ mode admits a n is rigid.
     let same : q ≡ a.pred.0 = same_pred p names prog named distinct a.pred.0 q is.pred e is.there ee is.name is.arity in
-    let long : shape.arity_of p q ≡ length a.args = arity_at p q e ee ∙ sym (ap (λ (o : Option Pred). (order.text_or_none names o).arity) ee) ∙ sym is.arguments in
+    let long : shape.arity_in p q ≡ length a.args = arity_at p q e ee ∙ sym (ap (λ (o : Option Pred). (order.text_or_none names o).arity) ee) ∙ sym is.arguments in
     query_ends p valid.comps parts prog valid.components have modes_show valid.hold q mode admits a n (sym same)
     (some_is (λ (d : Pred). d.arity ≡ length a.args) (slice_get p.preds a.pred.0) is.pred is.there (is.arity ∙ sym is.arguments)) long (meets_row mode 1 a.args rigid))
     modes admitted))

@@ -102,7 +102,7 @@ numbered_is xs (suc i) x e = let same : i ≡ suc i - 1 = omega arith in (omega 
 
 module _ (p : Listing) where
   -- the arity of a predicate, the head and the body of a clause
-  pub arity_at : (q : ℕ) (d : Pred) → slice_get p.preds q ≡ Some d → shape.arity_of p q ≡ d.arity
+  pub arity_at : (q : ℕ) (d : Pred) → slice_get p.preds q ≡ Some d → shape.arity_in p q ≡ d.arity
   arity_at q d e = ap (λ (o : Option Pred). unwrap_or (option_map (λ (x : Pred). x.arity) o) 0) e
 
   head_at : (k : ℕ) (c : Clause) → slice_get p.clauses k ≡ Some c → shape.head_of p k ≡ c.head.pred.0
@@ -118,7 +118,7 @@ module _ (p : Listing) where
       width = λ q r e.
           let (wide, rows) = one_of parts.rows have.rows q r e in
           let (d, at) = an_element p.preds q (omega (arith, slice_get_within parts.rows q r e, have.rows.count)) in
-          (some_is (λ (x : Pred). x.arity ≡ r.width) (slice_get p.preds q) d at (sym (wide ∙ arity_at q d at)), widths_are (shape.arity_of p q) r.width (sym wide) r.list rows);
+          (some_is (λ (x : Pred). x.arity ≡ r.width) (slice_get p.preds q) d at (sym (wide ∙ arity_at q d at)), widths_are (shape.arity_in p q) r.width (sym wide) r.list rows);
     }
 
     clause_proofs : (k : ℕ) (c : Clause) → slice_get p.clauses k ≡ Some c
@@ -193,7 +193,7 @@ module _ (p : Listing) where
       have_levels = record {
         each = have.levels.count;
         naturals = λ q d e.
-            all_map (shape.IsLevel (shape.arity_of p q)) (IsLevelPart d.arity) (level_is (shape.arity_of p q) d.arity (arity_at q d e)) (list_at parts.levels q)
+            all_map (shape.IsLevel (shape.arity_in p q)) (IsLevelPart d.arity) (level_is (shape.arity_in p q) d.arity (arity_at q d e)) (list_at parts.levels q)
             (one_of parts.levels have.levels q (list_at parts.levels q) (list_there parts.levels (length p.preds) q have.levels.count (slice_get_within p.preds q d e))).1;
         members = members;
       }

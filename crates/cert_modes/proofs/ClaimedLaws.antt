@@ -7,7 +7,7 @@ use Rattle.termination_model.proofs.Lists.{by_places, from_places, place_below, 
 use Rattle.truth_rows.specs.Rules.{KeepsSets}
 use Rattle.bool_diagrams.specs.Cubes.{covered}
 use Rattle.call_components.specs.Partition.{AreComponents, Partition}
-use Rattle.cert_structure.specs.Shape.{arity_of, is_same, is_together, items_of}
+use Rattle.cert_structure.specs.Shape.{arity_in, is_same, is_together, items_of}
 use Rattle.cert_structure.specs.declared.parts.Parts.{Parts}
 use Rattle.cti_terms.specs.Listing.{IsAtom, IsClause, IsProgram, Listing}
 use Rattle.cti_terms.specs.Tree.{Tree}
@@ -85,8 +85,8 @@ module _ (truth : (ℕ → Bool) → Tree → Bool) (p : Listing) (comps : Parti
               rule_of r m x i k (by_places (IsClause p.preds) p.clauses program.clauses j k f)
               (by_places (λ (y : Clause). KeepsSets truth (precondition p parts m) (allowed p parts) (grounds_of p parts) (λ q. is_together comps q y.head.pred.0) y) p.clauses (hold.rule m) j k f));
         });
-    modes = λ q. from_places (λ mode. Admits c q (mode_row mode 1 (arity_of p q))) (items_of parts.modes q) (λ j mode e.
-        admitted_row q (mode_row mode 1 (arity_of p q)) (by_places (λ mode. IsTrue (allowed p parts q (mode_row mode 1 (arity_of p q)))) (items_of parts.modes q) (hold.modes q) j mode e));
+    modes = λ q. from_places (λ mode. Admits c q (mode_row mode 1 (arity_in p q))) (items_of parts.modes q) (λ j mode e.
+        admitted_row q (mode_row mode 1 (arity_in p q)) (by_places (λ mode. IsTrue (allowed p parts q (mode_row mode 1 (arity_in p q)))) (items_of parts.modes q) (hold.modes q) j mode e));
   }
 
 pub holding_modes : HoldingModesShow

@@ -14,7 +14,7 @@ use Rattle.bool_diagrams.specs.Tree.{Tree as Rows}
 use Rattle.bool_diagrams.specs.declared.diagram.Diagram.{Diagram}
 use Rattle.call_components.specs.Partition.{AreComponents, Partition}
 use Rattle.cert_structure.specs.Numbered.{AreEach}
-use Rattle.cert_structure.specs.Shape.{HaveShape, IsLevel, HasWidth, arity_of, is_same, is_together, items_of, mappings_of}
+use Rattle.cert_structure.specs.Shape.{HaveShape, IsLevel, HasWidth, arity_in, is_same, is_together, items_of, mappings_of}
 use Rattle.cert_structure.specs.declared.parts.Parts.{Parts}
 use Rattle.cti_terms.specs.Listing.{IsAtom, IsClause, IsProgram, Listing}
 use Rattle.cti_terms.specs.Tree.{Tree}
@@ -51,19 +51,19 @@ together_is comps q r lt less = sym ((λ i. is_same (there comps.of q 0 lt i) (s
 module _ (truth : (ℕ → Bool) → Tree → Bool) (p : Listing) (program : IsProgram p) (comps : Partition) (components : AreComponents p comps) (parts : Parts) (shape : HaveShape p comps parts)
     (T : List Rows) (sets : Sets) (R : AreReady p T sets) (S : SpellParts p parts T sets) where
   -- the mappings of a predicate
-  pub levels_of : (q : ℕ) → q < length p.preds → HaveLevels T (arity_of p q) (items_of parts.levels q) (items_of sets.preconditions q)
+  pub levels_of : (q : ℕ) → q < length p.preds → HaveLevels T (arity_in p q) (items_of parts.levels q) (items_of sets.preconditions q)
   levels_of q lt =
       let at = there p.preds q (record { name = record { 0 = 0 }; arity = 0 }) lt in
       let few = arity_few p program q _ at in
       let wide = arity_at p q _ at in
       let l = there parts.levels q [] (omega (arith, lt, shape.levels.count)) in
-      let own = each_at (length p.preds) (λ a ls. (length ls ≡ mappings_of comps parts.levels a) × AllByRecursion (IsLevel (arity_of p a)) ls) parts.levels shape.levels q _ l in
+      let own = each_at (length p.preds) (λ a ls. (length ls ≡ mappings_of comps parts.levels a) × AllByRecursion (IsLevel (arity_in p a)) ls) parts.levels shape.levels q _ l in
       let c = there parts.preconditions q [] (omega (arith, lt, shape.preconditions.count)) in
-      let cubes = each_at (length p.preds) (λ a. AreEach (length (items_of parts.levels a)) (λ _. AllByRecursion (HasWidth (arity_of p a)))) parts.preconditions shape.preconditions q _ c in
+      let cubes = each_at (length p.preds) (λ a. AreEach (length (items_of parts.levels a)) (λ _. AllByRecursion (HasWidth (arity_in p a)))) parts.preconditions shape.preconditions q _ c in
       record {
         few = omega (arith, few, wide);
         each = S.each q ∙ ap length (items_at parts.preconditions q _ c) ∙ cubes.count;
-        wide = λ m level e. (by_places (IsLevel (arity_of p q)) (slice_index_or parts.levels q []) own.1 m level (ap (λ ls. slice_get ls m) (sym (items_at parts.levels q _ l)) ∙ e)).0;
+        wide = λ m level e. (by_places (IsLevel (arity_in p q)) (slice_index_or parts.levels q []) own.1 m level (ap (λ ls. slice_get ls m) (sym (items_at parts.levels q _ l)) ∙ e)).0;
         known = R.preconditions.known q;
         reads = R.preconditions.reads q;
       }
@@ -140,38 +140,38 @@ module _ (truth : (ℕ → Bool) → Tree → Bool) (p : Listing) (program : IsP
 
   -- modes that are admitted
   pub modes_at : (T2 : List Rows) → Keeps T T2 → (q : ℕ)
-      → ((d : Diagram) → slice_get sets.allowed.items q ≡ Some d → IsTrue (list_all (λ mode. truth_rows T2 d (mode_row mode 1 (arity_of p q))) (items_of parts.modes q)))
+      → ((d : Diagram) → slice_get sets.allowed.items q ≡ Some d → IsTrue (list_all (λ mode. truth_rows T2 d (mode_row mode 1 (arity_in p q))) (items_of parts.modes q)))
       ↔ Admits truth p comps parts q
   modes_at T2 K q = (forth, back)
     where
       -- the set of a predicate, and what is allowed
-      same : (d : Diagram) → slice_get sets.allowed.items q ≡ Some d → (mode : List ℕ) → truth_rows T2 d (mode_row mode 1 (arity_of p q)) ≡ allowed p parts q (mode_row mode 1 (arity_of p q))
+      same : (d : Diagram) → slice_get sets.allowed.items q ≡ Some d → (mode : List ℕ) → truth_rows T2 d (mode_row mode 1 (arity_in p q)) ≡ allowed p parts q (mode_row mode 1 (arity_in p q))
       same d f mode =
-          let row = mode_row mode 1 (arity_of p q) in
+          let row = mode_row mode 1 (arity_in p q) in
           let lt : q < length p.preds = omega (arith, place_below sets.allowed.items q d f, R.allowed.each) in
           let x = slice_index_or p.preds q (record { name = record { 0 = 0 }; arity = 0 }) in
           let at : slice_get p.preds q ≡ Some x = there p.preds q (record { name = record { 0 = 0 }; arity = 0 }) lt in
-          let wide : x.arity ≡ length (mode_row mode 1 (arity_of p q)) = sym (arity_at p q x at) ∙ sym (mode_length mode 1 (arity_of p q)) in
+          let wide : x.arity ≡ length (mode_row mode 1 (arity_in p q)) = sym (arity_at p q x at) ∙ sym (mode_length mode 1 (arity_in p q)) in
           holds_later T T2 d K (R.allowed.known q d f) (values_of row)
           ∙ sym ((λ i. has_row (at i) T (f i) row) ∙ (λ i. eq-eqb x.arity (length row) wide i && truth_rows T d row))
           ∙ (λ i. S.allowed i q row)
 
-      forth : ((d : Diagram) → slice_get sets.allowed.items q ≡ Some d → IsTrue (list_all (λ mode. truth_rows T2 d (mode_row mode 1 (arity_of p q))) (items_of parts.modes q)))
+      forth : ((d : Diagram) → slice_get sets.allowed.items q ≡ Some d → IsTrue (list_all (λ mode. truth_rows T2 d (mode_row mode 1 (arity_in p q))) (items_of parts.modes q)))
           → Admits truth p comps parts q
       forth h = elim (cases_lt q (length p.preds)) [
         | inl lt ↦
             let f = there sets.allowed.items q none (omega (arith, lt, R.allowed.each)) in
-            let all = (all_test (λ mode. truth_rows T2 (slice_index_or sets.allowed.items q none) (mode_row mode 1 (arity_of p q))) (items_of parts.modes q)).0 (h _ f) in
-            from_places (λ mode. IsTrue (allowed p parts q (mode_row mode 1 (arity_of p q)))) (items_of parts.modes q) (λ j mode e.
-            sym (same _ f mode) ∙ by_places (λ mode. IsTrue (truth_rows T2 (slice_index_or sets.allowed.items q none) (mode_row mode 1 (arity_of p q)))) (items_of parts.modes q) all j mode e)
+            let all = (all_test (λ mode. truth_rows T2 (slice_index_or sets.allowed.items q none) (mode_row mode 1 (arity_in p q))) (items_of parts.modes q)).0 (h _ f) in
+            from_places (λ mode. IsTrue (allowed p parts q (mode_row mode 1 (arity_in p q)))) (items_of parts.modes q) (λ j mode e.
+            sym (same _ f mode) ∙ by_places (λ mode. IsTrue (truth_rows T2 (slice_index_or sets.allowed.items q none) (mode_row mode 1 (arity_in p q)))) (items_of parts.modes q) all j mode e)
         | inr ge ↦
             let e = nothing_at parts.modes q (λ lt. omega (arith, lt, ge, shape.modes.count)) in
             let empty : items_of parts.modes q ≡ [] = ap (λ o. unwrap_or o []) e in
-            subst (AllByRecursion (λ mode. IsTrue (allowed p parts q (mode_row mode 1 (arity_of p q))))) (sym empty) tt
+            subst (AllByRecursion (λ mode. IsTrue (allowed p parts q (mode_row mode 1 (arity_in p q))))) (sym empty) tt
       ]
 
       back : Admits truth p comps parts q
-          → (d : Diagram) → slice_get sets.allowed.items q ≡ Some d → IsTrue (list_all (λ mode. truth_rows T2 d (mode_row mode 1 (arity_of p q))) (items_of parts.modes q))
-      back h d f = (all_test (λ mode. truth_rows T2 d (mode_row mode 1 (arity_of p q))) (items_of parts.modes q)).1
-          (from_places (λ mode. IsTrue (truth_rows T2 d (mode_row mode 1 (arity_of p q)))) (items_of parts.modes q) (λ j mode e.
-          same d f mode ∙ by_places (λ mode. IsTrue (allowed p parts q (mode_row mode 1 (arity_of p q)))) (items_of parts.modes q) h j mode e))
+          → (d : Diagram) → slice_get sets.allowed.items q ≡ Some d → IsTrue (list_all (λ mode. truth_rows T2 d (mode_row mode 1 (arity_in p q))) (items_of parts.modes q))
+      back h d f = (all_test (λ mode. truth_rows T2 d (mode_row mode 1 (arity_in p q))) (items_of parts.modes q)).1
+          (from_places (λ mode. IsTrue (truth_rows T2 d (mode_row mode 1 (arity_in p q)))) (items_of parts.modes q) (λ j mode e.
+          same d f mode ∙ by_places (λ mode. IsTrue (allowed p parts q (mode_row mode 1 (arity_in p q)))) (items_of parts.modes q) h j mode e))

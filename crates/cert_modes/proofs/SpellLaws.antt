@@ -13,7 +13,7 @@ use Rattle.bool_diagrams.specs.Rows.{IsDiagram, Keeps, ReadsBelow}
 use Rattle.bool_diagrams.specs.Tree.{Tree as Rows}
 use Rattle.bool_diagrams.specs.declared.cube.Cell.{Cell}
 use Rattle.bool_diagrams.specs.declared.diagram.Diagram.{Diagram}
-use Rattle.cert_structure.specs.Shape.{arity_of, items_of}
+use Rattle.cert_structure.specs.Shape.{arity_in, items_of}
 use Rattle.cti_terms.specs.Listing.{IsProgram, Listing}
 use Rattle.cti_terms.specs.declared.predicates.Pred.{Pred}
 use Rattle.termination_model.specs.Grounds.{Family}
@@ -23,7 +23,7 @@ use Rattle.cert_modes.specs.Sets.{AllSpelled, AreMappingSets, AreReady, AreSpell
 use Rattle.cert_modes.specs.declared.sets.Sets.{Sets}
 use Rattle.cert_modes.proofs.PlaceLaws.{any_same, items_at, nothing_at}
 
-pub arity_at : (p : Listing) (q : ℕ) (d : Pred) → slice_get p.preds q ≡ Some d → arity_of p q ≡ d.arity
+pub arity_at : (p : Listing) (q : ℕ) (d : Pred) → slice_get p.preds q ≡ Some d → arity_in p q ≡ d.arity
 arity_at p q d e = ap (λ o. unwrap_or (option_map (λ (x : Pred). x.arity) o) 0) e
 
 pub arity_few : (p : Listing) → IsProgram p → (q : ℕ) (d : Pred) → slice_get p.preds q ≡ Some d → d.arity ≤ 12
@@ -42,16 +42,16 @@ module _ (T T2 : List Rows) (K : Keeps T T2) where
   spelled_later width cubes sets s = record { each = s.each; rows = λ m d e. has_later width (covered (items_of cubes m)) d (s.rows m d e) }
 
   pub have_later : (p : Listing) (family : Family) (sets : List Diagram) → HaveRows p T family sets → HaveRows p T2 family sets
-  have_later p family sets h = record { each = h.each; rows = λ q d e. has_later (arity_of p q) (family q) d (h.rows q d e) }
+  have_later p family sets h = record { each = h.each; rows = λ q d e. has_later (arity_in p q) (family q) d (h.rows q d e) }
 
   pub all_later : (p : Listing) (cubes : List (List (List (List Cell)))) (sets : List (List Diagram)) → AllSpelled p T cubes sets → AllSpelled p T2 cubes sets
-  all_later p cubes sets s = record { each = s.each; rows = λ q ds e. spelled_later (arity_of p q) (items_of cubes q) ds (s.rows q ds e) }
+  all_later p cubes sets s = record { each = s.each; rows = λ q ds e. spelled_later (arity_in p q) (items_of cubes q) ds (s.rows q ds e) }
 
   pub mappings_later : (p : Listing) (sets : List (List Diagram)) → AreMappingSets p T sets → AreMappingSets p T2 sets
   mappings_later p sets s = record {
     each = s.each;
     known = λ q m d e. known_later T T2 d K (s.known q m d e);
-    reads = λ q m d e. reads_later T T2 K d (s.known q m d e) (arity_of p q) (s.reads q m d e);
+    reads = λ q m d e. reads_later T T2 K d (s.known q m d e) (arity_in p q) (s.reads q m d e);
   }
 
   pub upward_later : (sets : List Diagram) → ((m : ℕ) (d : Diagram) → slice_get sets m ≡ Some d → IsDiagram T d) → (row : List Bool) → upward T2 sets row ≡ upward T sets row
@@ -125,10 +125,10 @@ module _ (p : Listing) (T : List Rows) where
 
   module _ (cubes : List (List (List (List Cell)))) (sets : List (List Diagram)) (S : AllSpelled p T cubes sets) (each : length cubes ≡ length p.preds) where
     -- the sets of a predicate
-    spelled : (q : ℕ) → q < length p.preds → AreSpelled T (arity_of p q) (items_of cubes q) (items_of sets q)
+    spelled : (q : ℕ) → q < length p.preds → AreSpelled T (arity_in p q) (items_of cubes q) (items_of sets q)
     spelled q lt =
         let f = there sets q [] (omega (arith, S.each)) in
-        subst (AreSpelled T (arity_of p q) (items_of cubes q)) (sym (items_at sets q (slice_index_or sets q []) f)) (S.rows q (slice_index_or sets q []) f)
+        subst (AreSpelled T (arity_in p q) (items_of cubes q)) (sym (items_at sets q (slice_index_or sets q []) f)) (S.rows q (slice_index_or sets q []) f)
 
     inside : (q m : ℕ) (d : Diagram) → slice_get (items_of sets q) m ≡ Some d → q < length p.preds
     inside q m d e = elim (cases_lt q (length p.preds)) [
@@ -164,7 +164,7 @@ module _ (p : Listing) (T : List Rows) where
         let s = spelled q (place_below p.preds q d at) in
         go s d at long (slice_get (items_of sets q) m) refl)
       where
-        go : AreSpelled T (arity_of p q) (items_of cubes q) (items_of sets q) → (d : Pred) → slice_get p.preds q ≡ Some d → d.arity ≡ length row
+        go : AreSpelled T (arity_in p q) (items_of cubes q) (items_of sets q) → (d : Pred) → slice_get p.preds q ≡ Some d → d.arity ≡ length row
             → (o : Option Diagram) → slice_get (items_of sets q) m ≡ o → rows_or_none T o row ≡ covered (items_of (items_of cubes q) m) row
         go s d at long None e =
             let past : slice_get (items_of cubes q) m ≡ None = nothing_at (items_of cubes q) m (λ lt.
@@ -181,7 +181,7 @@ module _ (p : Listing) (T : List Rows) where
         go : (t : Bool) → is_row (slice_get p.preds q) row ≡ t → (is_row (slice_get p.preds q) row && upward T (items_of sets q) row) ≡ list_any (λ cs. all_upper (cube_row p q cs) row) (items_of cubes q)
         go true e =
             let w = row_of (slice_get p.preds q) row e in
-            let long : length row ≡ arity_of p q = sym w.2 ∙ sym (arity_at p q w.0 w.1) in
+            let long : length row ≡ arity_in p q = sym w.2 ∙ sym (arity_at p q w.0 w.1) in
             let s = spelled q (place_below p.preds q w.0 w.1) in
             (λ i. e i && upward T (items_of sets q) row)
             ∙ any_same (λ d. all_upper (truth_rows T d) row) (λ cs. all_upper (cube_row p q cs) row) (items_of sets q) (items_of cubes q) s.each (λ m d cs f g.

@@ -5,7 +5,7 @@
 use Rattle.std.specs.Prelude.{◌≡◌, ◌<◌, ℕ, Bool, [], ◌∷◌, length, slice_get, Some}
 use Rattle.std.specs.List.{AllByRecursion}
 use Rattle.call_components.specs.Partition.{AreComponents, IsIn, Partition}
-use Rattle.cert_structure.specs.Shape.{arity_of, items_of}
+use Rattle.cert_structure.specs.Shape.{arity_in, items_of}
 use Rattle.cert_structure.specs.declared.parts.Parts.{Parts}
 use Rattle.cti_terms.specs.Listing.{IsProgram, Listing}
 use Rattle.cti_terms.specs.Tree.{Tree}
@@ -39,7 +39,7 @@ pub record KeepsRows (p : Listing) (c : Claims) (r : ℕ) (m : Measure) : Type 0
 pub record ShowModes (p : Listing) (parts : Parts) (c : Claims) : Type 0 where
   pub closed : IsClosed c.truth p c.grounds
   pub measures : (r : ℕ) → AllByRecursion (KeepsRows p c r) (c.measures r)
-  pub modes : (q : ℕ) → AllByRecursion (λ mode. Admits c q (mode_row mode 1 (arity_of p q))) (items_of parts.modes q)
+  pub modes : (q : ℕ) → AllByRecursion (λ mode. Admits c q (mode_row mode 1 (arity_in p q))) (items_of parts.modes q)
 
 abbrev pub HoldingModesShow : Type 0
 HoldingModesShow = (truth : (ℕ → Bool) → Tree → Bool) (p : Listing) (comps : Partition) (parts : Parts) (c : Claims)

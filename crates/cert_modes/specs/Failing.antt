@@ -13,7 +13,7 @@ use Rattle.termination_model.specs.Grounds.{IsClosedUnder}
 use Rattle.termination_model.specs.Rows.{Covers}
 use Rattle.truth_rows.specs.Rules.{KeepsSets}
 use Rattle.std.specs.Io.Iter.{u64_saturate}
-use Rattle.cert_structure.specs.Shape.{arity_of, is_together, items_of}
+use Rattle.cert_structure.specs.Shape.{arity_in, is_together, items_of}
 use Rattle.cert_structure.specs.declared.parts.Parts.{Parts}
 use Rattle.cert_modes.specs.Modes.{allowed, coefficients_of, grounds_of, precondition}
 use Rattle.cert_modes.specs.declared.fault.ModeFault.{ModeFault}
@@ -40,7 +40,7 @@ module _ (truth : (ℕ → Bool) → Tree → Bool) (p : Listing) (comps : Parti
 
   -- each mode of a predicate is allowed
   abbrev pub Admits : ℕ → Type 0
-  Admits q = AllByRecursion (λ mode. IsTrue (allowed p parts q (mode_row mode 1 (arity_of p q)))) (items_of parts.modes q)
+  Admits q = AllByRecursion (λ mode. IsTrue (allowed p parts q (mode_row mode 1 (arity_in p q)))) (items_of parts.modes q)
 
   -- its modes fail for this reason, among others
   abbrev pub ModesFail : ℕ → ModeReason → Type 0

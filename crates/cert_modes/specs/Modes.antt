@@ -17,7 +17,7 @@ use Rattle.termination_model.specs.Grounds.{Family, IsClosed}
 use Rattle.termination_model.specs.Rows.{Covers}
 use Rattle.termination_model.specs.View.{all_upper}
 use Rattle.truth_rows.specs.Rules.{KeepsSets}
-use Rattle.cert_structure.specs.Shape.{arity_of, is_together, items_of}
+use Rattle.cert_structure.specs.Shape.{arity_in, is_together, items_of}
 pub use Rattle.number_tests.specs.Levels.{natural, naturals, coefficients_of}
 use Rattle.cert_structure.specs.declared.parts.Parts.{Parts}
 
@@ -52,4 +52,4 @@ pub record ModesHold (truth : (ℕ → Bool) → Tree → Bool) (p : Listing) (c
   -- from a row of the head, each call that is reached has a row in turn: of the same mapping within the component, else an allowed one
   pub rule : (m : ℕ) → AllByRecursion (λ (k : Clause). KeepsSets truth (precondition p parts m) (allowed p parts) (grounds_of p parts) (λ q. is_together comps q k.head.pred.0) k) p.clauses
   -- the row of each mode is allowed
-  pub modes : (q : ℕ) → AllByRecursion (λ mode. IsTrue (allowed p parts q (mode_row mode 1 (arity_of p q)))) (items_of parts.modes q)
+  pub modes : (q : ℕ) → AllByRecursion (λ mode. IsTrue (allowed p parts q (mode_row mode 1 (arity_in p q)))) (items_of parts.modes q)

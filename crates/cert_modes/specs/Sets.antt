@@ -9,7 +9,7 @@ use Rattle.bool_diagrams.specs.Rows.{IsDiagram, ReadsBelow, holds}
 use Rattle.bool_diagrams.specs.Tree.{Tree as Rows}
 use Rattle.bool_diagrams.specs.declared.cube.Cell.{Cell}
 use Rattle.bool_diagrams.specs.declared.diagram.Diagram.{Diagram}
-use Rattle.cert_structure.specs.Shape.{arity_of, items_of}
+use Rattle.cert_structure.specs.Shape.{arity_in, items_of}
 use Rattle.number_tests.specs.declared.level_part.LevelPart.{LevelPart}
 use Rattle.cert_structure.specs.declared.parts.Parts.{Parts}
 use Rattle.cti_terms.specs.Listing.{Listing}
@@ -31,7 +31,7 @@ pub record HasRows (trees : List Rows) (width : ℕ) (set : List Bool → Bool) 
 -- such a diagram for each predicate
 pub record HaveRows (p : Listing) (trees : List Rows) (family : Family) (sets : List Diagram) : Type 0 where
   pub each : length sets ≡ length p.preds
-  pub rows : (q : ℕ) (d : Diagram) → slice_get sets q ≡ Some d → HasRows trees (arity_of p q) (family q) d
+  pub rows : (q : ℕ) (d : Diagram) → slice_get sets q ≡ Some d → HasRows trees (arity_in p q) (family q) d
 
 -- a diagram for each list of cubes, with the rows that they cover
 pub record AreSpelled (trees : List Rows) (width : ℕ) (cubes : List (List (List Cell))) (sets : List Diagram) : Type 0 where
@@ -41,13 +41,13 @@ pub record AreSpelled (trees : List Rows) (width : ℕ) (cubes : List (List (Lis
 -- such diagrams for each predicate
 pub record AllSpelled (p : Listing) (trees : List Rows) (cubes : List (List (List (List Cell)))) (sets : List (List Diagram)) : Type 0 where
   pub each : length sets ≡ length p.preds
-  pub rows : (q : ℕ) (ds : List Diagram) → slice_get sets q ≡ Some ds → AreSpelled trees (arity_of p q) (items_of cubes q) ds
+  pub rows : (q : ℕ) (ds : List Diagram) → slice_get sets q ≡ Some ds → AreSpelled trees (arity_in p q) (items_of cubes q) ds
 
 -- diagrams of the table for each predicate, one for each mapping, over its arguments
 pub record AreMappingSets (p : Listing) (trees : List Rows) (sets : List (List Diagram)) : Type 0 where
   pub each : length sets ≡ length p.preds
   pub known : (q m : ℕ) (d : Diagram) → slice_get (items_of sets q) m ≡ Some d → IsDiagram trees d
-  pub reads : (q m : ℕ) (d : Diagram) → slice_get (items_of sets q) m ≡ Some d → ReadsBelow trees d (arity_of p q)
+  pub reads : (q m : ℕ) (d : Diagram) → slice_get (items_of sets q) m ≡ Some d → ReadsBelow trees d (arity_in p q)
 
 -- some diagram has the row, and each row that is upper to it
 abbrev pub upward : List Rows → List Diagram → List Bool → Bool

@@ -6,7 +6,7 @@ ghost use Rattle.truth_rows.specs.Sets.{AreSets};
 ghost use Rattle.bool_diagrams.specs.Cubes.{truth_rows};
 ghost use Rattle.bool_diagrams.specs.Rows.{IsDiagram, ReadsBelow};
 ghost use Rattle.bool_diagrams.specs.declared.diagram.Diagram.{Diagram as TheDiagram};
-ghost use Rattle.cert_structure.specs.Shape.{arity_of, items_of};
+ghost use Rattle.cert_structure.specs.Shape.{arity_in, items_of};
 ghost use Rattle.cert_modes.specs.Marks.{IsMarked, mark_at};
 ghost use Rattle.termination_model.specs.Descent.{mode_row};
 
@@ -30,7 +30,7 @@ pub(crate) fn mark_refused(
     requires marks { length marks.old ≡ length p.now.preds }
     ensures each { length marks.new ≡ length marks.old }
     ensures admitted { (q : ℕ) → IsMarked ((d : TheDiagram) → slice_get sets.now q ≡ Some d
-        → IsTrue (list_all (λ mode. truth_rows table.now d (mode_row mode 1 (arity_of p.now q))) (items_of modes.now q))) ModeReason.Mode
+        → IsTrue (list_all (λ mode. truth_rows table.now d (mode_row mode 1 (arity_in p.now q))) (items_of modes.now q))) ModeReason.Mode
         (mark_at marks.old q) (mark_at marks.new q) }
 {
     for q in 0..p.preds() {

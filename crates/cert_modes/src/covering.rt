@@ -2,7 +2,7 @@
 
 ghost use Rattle.std.specs.Prelude.{◌≡◌, ◌↔◌, ◌<◌, ℕ, IfOk, IsTrue, OnOk, length, map};
 ghost use Rattle.bool_diagrams.specs.Rows.{Keeps};
-ghost use Rattle.cert_structure.specs.Shape.{arity_of, items_of};
+ghost use Rattle.cert_structure.specs.Shape.{arity_in, items_of};
 ghost use Rattle.cert_modes.specs.Marks.{IsMarked, mark_at};
 ghost use Rattle.cert_modes.specs.Sets.{AreCovered, HaveLevels, is_positive};
 
@@ -27,7 +27,7 @@ pub(crate) fn mark_uncovered(
     requires levels { length levels.now ≡ length p.now.preds }
     requires sets { length sets.now ≡ length p.now.preds }
     requires marks { length marks.old ≡ length p.now.preds }
-    requires each { (q : ℕ) → q < length p.now.preds → HaveLevels table.old (arity_of p.now q) (items_of levels.now q) (items_of sets.now q) }
+    requires each { (q : ℕ) → q < length p.now.preds → HaveLevels table.old (arity_in p.now q) (items_of levels.now q) (items_of sets.now q) }
     ensures keeps { Keeps table.old table.new }
     ensures each { OnOk result (length marks.new ≡ length marks.old) }
     ensures covered { OnOk result ((q : ℕ) → IsMarked (q < length p.now.preds → AreCovered table.old (items_of levels.now q) (items_of sets.now q)) ModeReason.Precondition

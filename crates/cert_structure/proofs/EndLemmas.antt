@@ -20,7 +20,7 @@ use Rattle.cert_structure.specs.declared.fault.StructureReason.{StructureReason}
 use Rattle.cert_structure.specs.declared.fault.StructureReason.TheVariants as reason
 use Rattle.cert_structure.specs.Numbered.{facts_from, lines_from, EachFrom, AreEach}
 use Rattle.cert_structure.specs.Order.{mode_facts, size_facts, proof_facts, ground_facts, fall_facts, pre_facts, pred_text, size_line, by_line, grounds_line, measure_line, falls_line, pre_line}
-use Rattle.cert_structure.specs.Shape.{arity_of, head_of, body_of, rows_of, rows_of_atoms, items_of, is_recursive, first_of, mappings_of, proofs_of_call, IsMode, IsSizeRow, AreMultipliers, HasWidth, IsLevel}
+use Rattle.cert_structure.specs.Shape.{arity_in, head_of, body_of, rows_of, rows_of_atoms, items_of, is_recursive, first_of, mappings_of, proofs_of_call, IsMode, IsSizeRow, AreMultipliers, HasWidth, IsLevel}
 use Rattle.cert_structure.specs.StructureFault.{HaveOnePlace, content_fault}
 use Rattle.cert_structure.specs.StructureFault as place
 use Rattle.cert_structure.specs.Walk.{Wrong, Read, Taken, at_place, item_of, go_on, result_map, with_first, same_pred, kept, is_mode, are_entries, row_read, multipliers_read, cube_read, level_read, take_modes, take_row, take_proof, take_ground, take_level, take_fall, take_pre, read_next, read_many, read_each, read_modes, read_rows, read_proofs, read_grounds, read_level, read_levels, read_call, read_calls, read_falls, read_cubes, read_pre}
@@ -340,15 +340,15 @@ module _ (p : Listing) (names : List (List ℕ)) (comps : Partition) where
   lines_of a ls = lines_from 0 (measure_line (pred_text p names a)) ls
 
   abbrev IsLevelOf : List (List LevelPart) → ℕ → List Fact → Type 0
-  IsLevelOf earlier a l = (x : List LevelPart) × (l ≡ lines_from 0 (measure_line (pred_text p names a)) x) × AllByRecursion (IsLevel (arity_of p a)) x × IsCounted p names comps earlier a x
+  IsLevelOf earlier a l = (x : List LevelPart) × (l ≡ lines_from 0 (measure_line (pred_text p names a)) x) × AllByRecursion (IsLevel (arity_in p a)) x × IsCounted p names comps earlier a x
 
-  level_fill : (earlier : List (List LevelPart)) (a : ℕ) → (x : List LevelPart) × AllByRecursion (IsLevel (arity_of p a)) x × IsCounted p names comps earlier a x
+  level_fill : (earlier : List (List LevelPart)) (a : ℕ) → (x : List LevelPart) × AllByRecursion (IsLevel (arity_in p a)) x × IsCounted p names comps earlier a x
   level_fill earlier a = go (is_recursive comps a) (first_of comps a == a) refl refl
     where
-      some : (n : ℕ) → (x : List LevelPart) × (length x ≡ n) × EachFrom 0 (λ _. IsLevel (arity_of p a)) x
-      some n = fill (λ _. IsLevel (arity_of p a)) n (λ i below. (no_level (arity_of p a), no_level_right (arity_of p a))) 0 n (omega arith)
+      some : (n : ℕ) → (x : List LevelPart) × (length x ≡ n) × EachFrom 0 (λ _. IsLevel (arity_in p a)) x
+      some n = fill (λ _. IsLevel (arity_in p a)) n (λ i below. (no_level (arity_in p a), no_level_right (arity_in p a))) 0 n (omega arith)
 
-      go : (b c : Bool) → is_recursive comps a ≡ b → (first_of comps a == a) ≡ c → (x : List LevelPart) × AllByRecursion (IsLevel (arity_of p a)) x × IsCounted p names comps earlier a x
+      go : (b c : Bool) → is_recursive comps a ≡ b → (first_of comps a == a) ≡ c → (x : List LevelPart) × AllByRecursion (IsLevel (arity_in p a)) x × IsCounted p names comps earlier a x
       go true true recursive first = ([], tt, inr (inl (recursive, eqb-true (first_of comps a) a first)))
       go true false recursive first =
           let (x, count, each) = some (length (items_of earlier (first_of comps a))) in
@@ -362,7 +362,7 @@ module _ (p : Listing) (names : List (List ℕ)) (comps : Partition) where
       pred : PredText
       pred = pred_text p names a
 
-      right : (x : List LevelPart) → AllByRecursion (IsLevel (pred_text p names a).arity) x → AllByRecursion (IsLevel (arity_of p a)) x
+      right : (x : List LevelPart) → AllByRecursion (IsLevel (pred_text p names a).arity) x → AllByRecursion (IsLevel (arity_in p a)) x
       right x h = subst (λ n. AllByRecursion (IsLevel n) x) (arity_text p names a) h
 
       counted : (n : ℕ) → read_each (read_next (take_level (pred_text p names a))) 0 n s ≡ Err w
@@ -393,7 +393,7 @@ module _ (p : Listing) (names : List (List ℕ)) (comps : Partition) where
     AreLevelsFrom earlier a n levels xs = (levels ≡ earlier ++ xs) × (length xs ≡ n) × EachFrom a (IsLevels p names comps first_le levels) xs
 
     one_level : (n : ℕ) (earlier : List (List LevelPart)) (a : ℕ) (x : List LevelPart) (levels ys : List (List LevelPart)) → a ≡ length earlier → a < length p.preds
-        → AllByRecursion (IsLevel (arity_of p a)) x → IsCounted p names comps earlier a x → AreLevelsFrom (earlier ++ x ∷ []) (suc a) n levels ys → AreLevelsFrom earlier a (suc n) levels (x ∷ ys)
+        → AllByRecursion (IsLevel (arity_in p a)) x → IsCounted p names comps earlier a x → AreLevelsFrom (earlier ++ x ∷ []) (suc a) n levels ys → AreLevelsFrom earlier a (suc n) levels (x ∷ ys)
     one_level n earlier a x levels ys here below right counted h =
         let whole : levels ≡ earlier ++ x ∷ ys = h.0 ∙ append_assoc earlier (x ∷ []) ys in
         let mine : length x ≡ mappings_of comps levels a = count_is p names comps first_le earlier a x ys below here counted ∙ ap (λ ls. mappings_of comps ls a) (sym whole) in
@@ -501,18 +501,18 @@ module _ (p : Listing) (names : List (List ℕ)) where
   abbrev text : ℕ → PredText
   text a = pred_text p names a
 
-  at_arity : (P : ℕ → Type 0) (a : ℕ) → P (pred_text p names a).arity → P (arity_of p a)
+  at_arity : (P : ℕ → Type 0) (a : ℕ) → P (pred_text p names a).arity → P (arity_in p a)
   at_arity P a h = subst P (arity_text p names a) h
 
   abbrev pub AreModes : List (List (List ℕ)) → Type 0
-  AreModes xs = AreEach (length p.preds) (λ a. AllByRecursion (IsMode (arity_of p a))) xs
+  AreModes xs = AreEach (length p.preds) (λ a. AllByRecursion (IsMode (arity_in p a))) xs
 
   pub modes_fill : (xs : List (List (List ℕ))) × AreModes xs
   modes_fill =
-      let (xs, count, each) = fill (λ a ms. AllByRecursion (IsMode (arity_of p a)) ms) (length p.preds) (λ a below. ([], tt)) 0 (length p.preds) (omega arith) in
+      let (xs, count, each) = fill (λ a ms. AllByRecursion (IsMode (arity_in p a)) ms) (length p.preds) (λ a below. ([], tt)) 0 (length p.preds) (omega arith) in
       (xs, record { count = count; each = each })
 
-  modes_item : (a : ℕ) (s t : List Fact) (x : List (List ℕ)) → read_modes p names a s ≡ Ok (x, t) → (s ≡ (fact.Terminates (pred_text p names a) x ∷ []) ++ t) × AllByRecursion (IsMode (arity_of p a)) x
+  modes_item : (a : ℕ) (s t : List Fact) (x : List (List ℕ)) → read_modes p names a s ≡ Ok (x, t) → (s ≡ (fact.Terminates (pred_text p names a) x ∷ []) ++ t) × AllByRecursion (IsMode (arity_in p a)) x
   unfolding read_modes
   modes_item a s t x read =
       let (one, right) = next_sound (take_modes (text a)) (λ _ ms. fact.Terminates (text a) ms) _ (modes_taken (text a)) 0 s t x read in
@@ -521,76 +521,76 @@ module _ (p : Listing) (names : List (List ℕ)) where
   pub modes_ends : (s : List Fact) (w : Wrong) → read_each (read_modes p names) 0 (length p.preds) s ≡ Err w → Ends (λ l. (xs : List (List (List ℕ))) × (l ≡ mode_facts p names xs) × AreModes xs) s w
   unfolding read_modes
   modes_ends s w e =
-      ends_weaker _ _ s w (each_ends (read_modes p names) (λ a ms. fact.Terminates (pred_text p names a) ms ∷ []) (λ a ms. AllByRecursion (IsMode (arity_of p a)) ms) (length p.preds) (λ a below. ([], tt)) modes_item
+      ends_weaker _ _ s w (each_ends (read_modes p names) (λ a ms. fact.Terminates (pred_text p names a) ms ∷ []) (λ a ms. AllByRecursion (IsMode (arity_in p a)) ms) (length p.preds) (λ a below. ([], tt)) modes_item
       (λ a s w below fails. item a s w fails) 0 (length p.preds) s w (omega arith) e)
       (λ l h. (h.0, h.1, record { count = h.2; each = h.3 }))
     where
       item : (a : ℕ) (s : List Fact) (w : Wrong) → read_modes p names a s ≡ Err w
-          → Ends (λ l. (x : List (List ℕ)) × (l ≡ fact.Terminates (pred_text p names a) x ∷ []) × AllByRecursion (IsMode (arity_of p a)) x) s w
+          → Ends (λ l. (x : List (List ℕ)) × (l ≡ fact.Terminates (pred_text p names a) x ∷ []) × AllByRecursion (IsMode (arity_in p a)) x) s w
       item a s w fails =
           ends_weaker _ _ s w (next_ends (take_modes (text a)) (λ _ ms. fact.Terminates (text a) ms) (AllByRecursion (IsMode (text a).arity)) (modes_taken (text a)) [] tt (λ i f bad. modes_bad (text a) [] i f bad) 0 s w fails)
           (λ l h. (h.0, h.1, at_arity (λ n. AllByRecursion (IsMode n) h.0) a h.2))
 
   abbrev pub AreRows : List Rows → Type 0
-  AreRows xs = AreEach (length p.preds) (λ a r. (r.width ≡ arity_of p a) × AllByRecursion (IsSizeRow (arity_of p a)) r.list) xs
+  AreRows xs = AreEach (length p.preds) (λ a r. (r.width ≡ arity_in p a) × AllByRecursion (IsSizeRow (arity_in p a)) r.list) xs
 
   abbrev no_rows : ℕ → Rows
-  no_rows a = record { width = arity_of p a; list = [] }
+  no_rows a = record { width = arity_in p a; list = [] }
 
   pub rows_fill : (xs : List Rows) × AreRows xs
   rows_fill =
-      let (xs, count, each) = fill (λ a r. (r.width ≡ arity_of p a) × AllByRecursion (IsSizeRow (arity_of p a)) r.list) (length p.preds) (λ a below. (no_rows a, (refl, tt))) 0
+      let (xs, count, each) = fill (λ a r. (r.width ≡ arity_in p a) × AllByRecursion (IsSizeRow (arity_in p a)) r.list) (length p.preds) (λ a below. (no_rows a, (refl, tt))) 0
       (length p.preds) (omega arith) in
       (xs, record { count = count; each = each })
 
   pub rows_ends : (s : List Fact) (w : Wrong) → read_each (read_rows p names) 0 (length p.preds) s ≡ Err w → Ends (λ l. (xs : List Rows) × (l ≡ size_facts p names xs) × AreRows xs) s w
   unfolding read_rows
   rows_ends s w e =
-      ends_weaker _ _ s w (each_ends (read_rows p names) (λ a r. lines_from 0 (size_line (pred_text p names a)) r.list) (λ a r. (r.width ≡ arity_of p a) × AllByRecursion (IsSizeRow (arity_of p a)) r.list) (length p.preds)
+      ends_weaker _ _ s w (each_ends (read_rows p names) (λ a r. lines_from 0 (size_line (pred_text p names a)) r.list) (λ a r. (r.width ≡ arity_in p a) × AllByRecursion (IsSizeRow (arity_in p a)) r.list) (length p.preds)
       (λ a below. (no_rows a, (refl, tt))) sound (λ a s w below fails. item a s w fails) 0 (length p.preds) s w (omega arith) e)
       (λ l h. (h.0, h.1, record { count = h.2; each = h.3 }))
     where
       with_width : ℕ → List Row × List Fact → Rows × List Fact
-      with_width a x = (record { width = arity_of p a; list = x.0 }, x.1)
+      with_width a x = (record { width = arity_in p a; list = x.0 }, x.1)
 
       sound : (a : ℕ) (s t : List Fact) (x : Rows) → read_rows p names a s ≡ Ok (x, t)
-          → (s ≡ lines_from 0 (size_line (pred_text p names a)) x.list ++ t) × ((x.width ≡ arity_of p a) × AllByRecursion (IsSizeRow (arity_of p a)) x.list)
+          → (s ≡ lines_from 0 (size_line (pred_text p names a)) x.list ++ t) × ((x.width ≡ arity_in p a) × AllByRecursion (IsSizeRow (arity_in p a)) x.list)
       sound a s t x read =
           mapped (with_width a) (read_many (take_row (text a)) 0 s) (x, t) read λ q here both.
           let (one, right) = many_sound (take_row (text a)) (size_line (text a)) _ (row_taken (text a)) 0 s q.1 q.0 here in
-          let first : record { width = arity_of p a; list = q.0 } ≡ x = ap (λ r. r.0) both in
+          let first : record { width = arity_in p a; list = q.0 } ≡ x = ap (λ r. r.0) both in
           let rest : q.1 ≡ t = ap (λ r. r.1) both in
           rw (← first, ← rest) (one, (refl, at_arity (λ n. AllByRecursion (IsSizeRow n) q.0) a right))
 
       item : (a : ℕ) (s : List Fact) (w : Wrong) → read_rows p names a s ≡ Err w
-          → Ends (λ l. (x : Rows) × (l ≡ lines_from 0 (size_line (pred_text p names a)) x.list) × ((x.width ≡ arity_of p a) × AllByRecursion (IsSizeRow (arity_of p a)) x.list)) s w
+          → Ends (λ l. (x : Rows) × (l ≡ lines_from 0 (size_line (pred_text p names a)) x.list) × ((x.width ≡ arity_in p a) × AllByRecursion (IsSizeRow (arity_in p a)) x.list)) s w
       item a s w fails =
           ends_weaker _ _ s w (many_ends (take_row (text a)) (size_line (text a)) (IsSizeRow (text a).arity) (row_taken (text a)) (no_row (text a).arity) (no_row_right (text a).arity) (row_bad (text a) (no_row (text a).arity)) 0 s w
           (mapped_err (with_width a) (read_many (take_row (text a)) 0 s) w fails))
-          (λ l h. (record { width = arity_of p a; list = h.0 }, h.1, (refl, at_arity (λ n. AllByRecursion (IsSizeRow n) h.0) a h.2)))
+          (λ l h. (record { width = arity_in p a; list = h.0 }, h.1, (refl, at_arity (λ n. AllByRecursion (IsSizeRow n) h.0) a h.2)))
 
   abbrev pub AreGrounds : List (List (List Cell)) → Type 0
-  AreGrounds xs = AreEach (length p.preds) (λ a. AllByRecursion (HasWidth (arity_of p a))) xs
+  AreGrounds xs = AreEach (length p.preds) (λ a. AllByRecursion (HasWidth (arity_in p a))) xs
 
   pub grounds_fill : (xs : List (List (List Cell))) × AreGrounds xs
   grounds_fill =
-      let (xs, count, each) = fill (λ a cs. AllByRecursion (HasWidth (arity_of p a)) cs) (length p.preds) (λ a below. ([], tt)) 0 (length p.preds) (omega arith) in
+      let (xs, count, each) = fill (λ a cs. AllByRecursion (HasWidth (arity_in p a)) cs) (length p.preds) (λ a below. ([], tt)) 0 (length p.preds) (omega arith) in
       (xs, record { count = count; each = each })
 
   pub grounds_ends : (s : List Fact) (w : Wrong) → read_each (read_grounds p names) 0 (length p.preds) s ≡ Err w → Ends (λ l. (xs : List (List (List Cell))) × (l ≡ ground_facts p names xs) × AreGrounds xs) s w
   unfolding read_grounds
   grounds_ends s w e =
-      ends_weaker _ _ s w (each_ends (read_grounds p names) (λ a cs. lines_from 0 (grounds_line (pred_text p names a)) cs) (λ a cs. AllByRecursion (HasWidth (arity_of p a)) cs) (length p.preds) (λ a below. ([], tt)) sound
+      ends_weaker _ _ s w (each_ends (read_grounds p names) (λ a cs. lines_from 0 (grounds_line (pred_text p names a)) cs) (λ a cs. AllByRecursion (HasWidth (arity_in p a)) cs) (length p.preds) (λ a below. ([], tt)) sound
       (λ a s w below fails. item a s w fails) 0 (length p.preds) s w (omega arith) e)
       (λ l h. (h.0, h.1, record { count = h.2; each = h.3 }))
     where
-      sound : (a : ℕ) (s t : List Fact) (x : List (List Cell)) → read_grounds p names a s ≡ Ok (x, t) → (s ≡ lines_from 0 (grounds_line (pred_text p names a)) x ++ t) × AllByRecursion (HasWidth (arity_of p a)) x
+      sound : (a : ℕ) (s t : List Fact) (x : List (List Cell)) → read_grounds p names a s ≡ Ok (x, t) → (s ≡ lines_from 0 (grounds_line (pred_text p names a)) x ++ t) × AllByRecursion (HasWidth (arity_in p a)) x
       sound a s t x read =
           let (one, right) = many_sound (take_ground (text a)) (grounds_line (text a)) _ (ground_taken (text a)) 0 s t x read in
           (one, at_arity (λ n. AllByRecursion (HasWidth n) x) a right)
 
       item : (a : ℕ) (s : List Fact) (w : Wrong) → read_grounds p names a s ≡ Err w
-          → Ends (λ l. (x : List (List Cell)) × (l ≡ lines_from 0 (grounds_line (pred_text p names a)) x) × AllByRecursion (HasWidth (arity_of p a)) x) s w
+          → Ends (λ l. (x : List (List Cell)) × (l ≡ lines_from 0 (grounds_line (pred_text p names a)) x) × AllByRecursion (HasWidth (arity_in p a)) x) s w
       item a s w fails =
           ends_weaker _ _ s w (many_ends (take_ground (text a)) (grounds_line (text a)) (HasWidth (text a).arity) (ground_taken (text a)) (any_cells (text a).arity) (many_cells (text a).arity)
           (ground_bad (text a) (any_cells (text a).arity)) 0 s w fails)
@@ -598,30 +598,30 @@ module _ (p : Listing) (names : List (List ℕ)) where
 
   module _ (levels : List (List LevelPart)) where
     abbrev pub AreCubes : List (List (List (List Cell))) → Type 0
-    AreCubes xs = AreEach (length p.preds) (λ a. AreEach (length (items_of levels a)) (λ _. AllByRecursion (HasWidth (arity_of p a)))) xs
+    AreCubes xs = AreEach (length p.preds) (λ a. AreEach (length (items_of levels a)) (λ _. AllByRecursion (HasWidth (arity_in p a)))) xs
 
-    one_cubes : (a : ℕ) → (x : List (List (List Cell))) × AreEach (length (items_of levels a)) (λ _. AllByRecursion (HasWidth (arity_of p a))) x
+    one_cubes : (a : ℕ) → (x : List (List (List Cell))) × AreEach (length (items_of levels a)) (λ _. AllByRecursion (HasWidth (arity_in p a))) x
     one_cubes a =
-        let (xs, count, each) = fill (λ _ cs. AllByRecursion (HasWidth (arity_of p a)) cs) (length (items_of levels a)) (λ m below. ([], tt)) 0 (length (items_of levels a)) (omega arith) in
+        let (xs, count, each) = fill (λ _ cs. AllByRecursion (HasWidth (arity_in p a)) cs) (length (items_of levels a)) (λ m below. ([], tt)) 0 (length (items_of levels a)) (omega arith) in
         (xs, record { count = count; each = each })
 
     pub cubes_fill : (xs : List (List (List (List Cell)))) × AreCubes xs
     cubes_fill =
-        let (xs, count, each) = fill (λ a ms. AreEach (length (items_of levels a)) (λ _. AllByRecursion (HasWidth (arity_of p a))) ms) (length p.preds) (λ a below. one_cubes a) 0
+        let (xs, count, each) = fill (λ a ms. AreEach (length (items_of levels a)) (λ _. AllByRecursion (HasWidth (arity_in p a))) ms) (length p.preds) (λ a below. one_cubes a) 0
         (length p.preds) (omega arith) in
         (xs, record { count = count; each = each })
 
     pub cubes_ends : (s : List Fact) (w : Wrong) → read_each (read_pre p names levels) 0 (length p.preds) s ≡ Err w → Ends (λ l. (xs : List (List (List (List Cell)))) × (l ≡ pre_facts p names xs) × AreCubes xs) s w
     unfolding read_pre read_cubes
     cubes_ends s w e =
-        ends_weaker _ _ s w (each_ends (read_pre p names levels) (λ a ms. facts_from 0 (λ m cs. lines_from 0 (pre_line (pred_text p names a) m) cs) ms) (λ a ms. AreEach (length (items_of levels a)) (λ _. AllByRecursion (HasWidth (arity_of p a))) ms)
+        ends_weaker _ _ s w (each_ends (read_pre p names levels) (λ a ms. facts_from 0 (λ m cs. lines_from 0 (pre_line (pred_text p names a) m) cs) ms) (λ a ms. AreEach (length (items_of levels a)) (λ _. AllByRecursion (HasWidth (arity_in p a))) ms)
         (length p.preds) (λ a below. one_cubes a) (λ a s t x read. cubes_section p names levels a s t x read) (λ a s w below fails. item a s w fails) 0 (length p.preds) s w (omega arith) e)
         (λ l h. (h.0, h.1, record { count = h.2; each = h.3 }))
       where
         item : (a : ℕ) (s : List Fact) (w : Wrong) → read_pre p names levels a s ≡ Err w
-            → Ends (λ l. (x : List (List (List Cell))) × (l ≡ facts_from 0 (λ m cs. lines_from 0 (pre_line (pred_text p names a) m) cs) x) × AreEach (length (items_of levels a)) (λ _. AllByRecursion (HasWidth (arity_of p a))) x) s w
+            → Ends (λ l. (x : List (List (List Cell))) × (l ≡ facts_from 0 (λ m cs. lines_from 0 (pre_line (pred_text p names a) m) cs) x) × AreEach (length (items_of levels a)) (λ _. AllByRecursion (HasWidth (arity_in p a))) x) s w
         item a s w fails =
-            ends_weaker _ _ s w (each_ends (read_cubes p names a) (λ m cs. lines_from 0 (pre_line (pred_text p names a) m) cs) (λ m cs. AllByRecursion (HasWidth (arity_of p a)) cs) (length (items_of levels a)) (λ m below. ([], tt))
+            ends_weaker _ _ s w (each_ends (read_cubes p names a) (λ m cs. lines_from 0 (pre_line (pred_text p names a) m) cs) (λ m cs. AllByRecursion (HasWidth (arity_in p a)) cs) (length (items_of levels a)) (λ m below. ([], tt))
             (λ m s t x read.
             let (one, right) = many_sound (take_pre (text a) m) (pre_line (text a) m) _ (pre_taken (text a) m) 0 s t x read in
             (one, at_arity (λ n. AllByRecursion (HasWidth n) x) a right))

@@ -17,7 +17,7 @@ use Rattle.cert_structure.specs.declared.fault.StructureReason.TheVariants as re
 use Rattle.cert_structure.specs.declared.parts.Parts.{Parts}
 use Rattle.cert_structure.specs.Numbered.{facts_from, EachFrom, AreEach}
 use Rattle.cert_structure.specs.Order.{pred_text, mode_facts, size_facts, proof_facts, ground_facts, level_facts, fall_facts, pre_facts, refuted_facts, refutation_facts, point_facts, at_facts, listed, is_note}
-use Rattle.cert_structure.specs.Shape.{IsPairPoint, PairsAscend, pair_of, arity_of, mappings_of, is_recursive, is_pair, IsLevel, IsRefutation, HaveShape}
+use Rattle.cert_structure.specs.Shape.{IsPairPoint, PairsAscend, pair_of, arity_in, mappings_of, is_recursive, is_pair, IsLevel, IsRefutation, HaveShape}
 use Rattle.cert_structure.specs.Structure.{IsStructured, AreNotes}
 use Rattle.cert_structure.specs.StructureFault.{HaveOnePlace, content_fault, claimed, IsBeginning, whole, short, IsStructureFault, missing, extra, content}
 use Rattle.cert_structure.specs.StructureFault as place
@@ -188,7 +188,7 @@ module _ (p : Listing) (names : List (List ℕ)) (comps : Partition) (h : AreCom
   nones_right levels = let (count, each) = nones_each levels 0 (length p.preds) in record { count = count; each = each }
 
   abbrev AreLevels : Levels → Type 0
-  AreLevels levels = AreEach (length p.preds) (λ a ls. (length ls ≡ mappings_of comps levels a) × AllByRecursion (IsLevel (arity_of p a)) ls) levels
+  AreLevels levels = AreEach (length p.preds) (λ a ls. (length ls ≡ mappings_of comps levels a) × AllByRecursion (IsLevel (arity_in p a)) ls) levels
 
   level_shape : (levels xs : Levels) → (levels ≡ [] ++ xs) → length xs ≡ length p.preds → EachFrom 0 (IsLevels p names comps (first_le p comps h) levels) xs → AreLevels levels
   level_shape levels xs all count each =

@@ -14,13 +14,13 @@ use Rattle.linear_rows.specs.declared.row.Rows.{Rows}
 use Rattle.number_tests.specs.declared.level_part.LevelPart.{LevelPart}
 use Rattle.cert_structure.specs.Numbered.{facts_from, lines_from, EachFrom, AreEach}
 use Rattle.cert_structure.specs.Order.{text_or_none, pred_text, measure_line, falls_line}
-use Rattle.cert_structure.specs.Shape.{arity_of, rows_of, rows_of_atoms, items_of, is_recursive, first_of, mappings_of, proofs_of_call, AreMultipliers, IsLevel}
+use Rattle.cert_structure.specs.Shape.{arity_in, rows_of, rows_of_atoms, items_of, is_recursive, first_of, mappings_of, proofs_of_call, AreMultipliers, IsLevel}
 use Rattle.cert_structure.specs.Walk.{same_pred, result_map, with_first, take_level, take_fall, read_each, read_next, read_many, read_level, read_levels, read_call, read_calls}
 use Rattle.cert_structure.proofs.SectionLemmas.{same_ok, bound, mapped, all_both, all_from, others_from, each_all, all_each, counted_sound, counted_back, many_sound, many_back}
 use Rattle.cert_structure.proofs.TakeLemmas.{same_is, level_taken, level_given, fall_taken, fall_given}
 
 -- the arity of a predicate's text is the predicate's
-pub arity_text : (p : Listing) (names : List (List ℕ)) (a : ℕ) → (pred_text p names a).arity ≡ arity_of p a
+pub arity_text : (p : Listing) (names : List (List ℕ)) (a : ℕ) → (pred_text p names a).arity ≡ arity_in p a
 arity_text p names a = go (slice_get p.preds a)
   where
     go : (o : Option Pred) → (text_or_none names o).arity ≡ unwrap_or (option_map (λ q. q.arity) o) 0
@@ -70,11 +70,11 @@ module _ (p : Listing) (names : List (List ℕ)) (comps : Partition) where
       ⊎ ((is_recursive comps a ≡ true) × (first_of comps a ≢ a) × (length x ≡ length (items_of earlier (first_of comps a)))))
 
   pub level_sound : (earlier : List (List LevelPart)) (a : ℕ) (s t : List Fact) (x : List LevelPart) → read_level p names comps earlier a s ≡ Ok (x, t)
-      → (s ≡ lines_from 0 (measure_line (pred_text p names a)) x ++ t) × AllByRecursion (IsLevel (arity_of p a)) x × IsCounted earlier a x
+      → (s ≡ lines_from 0 (measure_line (pred_text p names a)) x ++ t) × AllByRecursion (IsLevel (arity_in p a)) x × IsCounted earlier a x
   unfolding read_level
   level_sound earlier a s t x e = go (is_recursive comps a) (first_of comps a == a) refl refl e
     where
-      right : AllByRecursion (IsLevel (pred_text p names a).arity) x → AllByRecursion (IsLevel (arity_of p a)) x
+      right : AllByRecursion (IsLevel (pred_text p names a).arity) x → AllByRecursion (IsLevel (arity_in p a)) x
       right h = subst (λ n. AllByRecursion (IsLevel n) x) (arity_text p names a) h
 
       go : (b c : Bool) → is_recursive comps a ≡ b → (first_of comps a == a) ≡ c
@@ -83,7 +83,7 @@ module _ (p : Listing) (names : List (List ℕ)) (comps : Partition) where
           then read_many (take_level (pred_text p names a)) 0 s
           else read_each (read_next (take_level (pred_text p names a))) 0 (length (items_of earlier (first_of comps a))) s
           else read_each (read_next (take_level (pred_text p names a))) 0 1 s) ≡ Ok (x, t)
-          → (s ≡ lines_from 0 (measure_line (pred_text p names a)) x ++ t) × AllByRecursion (IsLevel (arity_of p a)) x × IsCounted earlier a x
+          → (s ≡ lines_from 0 (measure_line (pred_text p names a)) x ++ t) × AllByRecursion (IsLevel (arity_in p a)) x × IsCounted earlier a x
       go true true recursive first read =
           let (whole, all) = many_sound (take_level (pred_text p names a)) (measure_line (pred_text p names a)) _ (level_taken (pred_text p names a)) 0 s t x read in
           (whole, right all, inr (inl (recursive, eqb-true (first_of comps a) a first)))
@@ -107,7 +107,7 @@ module _ (p : Listing) (names : List (List ℕ)) (comps : Partition) where
         rw (h.0, place_before earlier (x ∷ later) (first_of comps a) (first_earlier a earlier within here h.1)) h.2
 
     abbrev pub IsLevels : List (List LevelPart) → ℕ → List LevelPart → Type 0
-    IsLevels levels a ls = (length ls ≡ mappings_of comps levels a) × AllByRecursion (IsLevel (arity_of p a)) ls
+    IsLevels levels a ls = (length ls ≡ mappings_of comps levels a) × AllByRecursion (IsLevel (arity_in p a)) ls
 
     abbrev lines_of : ℕ → List LevelPart → List Fact
     lines_of a ls = lines_from 0 (measure_line (pred_text p names a)) ls

@@ -20,7 +20,7 @@ use Rattle.cert_structure.specs.declared.fault.StructureReason.TheVariants as re
 use Rattle.cert_structure.specs.declared.parts.Parts.{Parts}
 use Rattle.cert_structure.specs.declared.refutations.FirstPoint.{FirstPoint}
 use Rattle.cert_structure.specs.Order.{pred_text}
-use Rattle.cert_structure.specs.Shape.{is_pair, arity_of, head_of, body_of, vars_of, rows_of, rows_of_atoms, items_of, is_recursive, first_of, proofs_of_call}
+use Rattle.cert_structure.specs.Shape.{is_pair, arity_in, head_of, body_of, vars_of, rows_of, rows_of_atoms, items_of, is_recursive, first_of, proofs_of_call}
 use Rattle.cert_structure.specs.StructureFault.{HaveOnePlace}
 use Rattle.cert_structure.specs.StructureFault as place
 use Rattle.cert_structure.specs.Walk.{◌>>=◌, Wrong, Read, Taken, result_map, wrong_at, with_first, item_of, go_on, kept, at_place, same_pred, is_mode, is_entry, are_entries, is_amount, are_amounts, is_before, cell_read, pair_end, pair_point, point_read, row_read, multipliers_read, level_read, paired, take_modes, take_row, take_proof, take_ground, take_level, take_fall, take_pre, take_refuted, take_point, take_second, read_next, read_many, read_each, read_second, read_point, read_points, refutation_read, read_group, is_open, read_refutation, read_modes, read_rows, read_proofs, read_grounds, read_level, read_levels, read_call, read_calls, read_falls, read_cubes, read_pre, read_version, read_parts}
@@ -439,7 +439,7 @@ module _ (p : Listing) (names : List (List ℕ)) where
 
   local_rows : (a : ℕ) → IsLocal (read_rows p names a)
   unfolding read_rows
-  local_rows a = local_map (λ xs. record { width = arity_of p a; list = xs }) (read_many (take_row (pred_text p names a)) 0) (local_many (take_row (pred_text p names a)) (row_stay (pred_text p names a)) 0)
+  local_rows a = local_map (λ xs. record { width = arity_in p a; list = xs }) (read_many (take_row (pred_text p names a)) 0) (local_many (take_row (pred_text p names a)) (row_stay (pred_text p names a)) 0)
 
   local_proofs : (rows : List Rows) (k : ℕ) → IsLocal (read_proofs p rows k)
   unfolding read_proofs

@@ -17,7 +17,7 @@ use Rattle.linear_rows.specs.declared.point.Point.{Point}
 use Rattle.number_tests.specs.declared.refutation.Refutation.{Refutation}
 use Rattle.cert_structure.specs.Numbered.{facts_from, lines_from, AreEach}
 use Rattle.cert_structure.specs.Order.{pred_text, size_line, by_line, grounds_line, measure_line, falls_line, pre_line, at_facts, point_facts, refutation_facts, mode_facts, size_facts, proof_facts, ground_facts, level_facts, fall_facts, pre_facts, refuted_facts, is_note}
-use Rattle.cert_structure.specs.Shape.{arity_of, head_of, body_of, rows_of, rows_of_atoms, items_of, IsMode, IsSizeRow, AreMultipliers, HasWidth, IsRefutation}
+use Rattle.cert_structure.specs.Shape.{arity_in, head_of, body_of, rows_of, rows_of_atoms, items_of, IsMode, IsSizeRow, AreMultipliers, HasWidth, IsRefutation}
 use Rattle.cert_structure.specs.Structure.{AreNotes}
 use Rattle.cert_structure.specs.Walk.{take_modes, take_row, take_proof, take_ground, take_level, take_pre, take_refuted, read_many, read_each, read_modes, read_rows, read_proofs, read_grounds, read_falls, read_cubes, read_pre, read_refutation}
 use Rattle.cert_structure.proofs.KindLemmas.{kind, split_row, split_ground, split_level, split_pre, split_refuted, IsSize, IsGrounds, IsMeasure, IsPre, IsRefuted}
@@ -129,28 +129,28 @@ module _ (p : Listing) (names : List (List ℕ)) where
   abbrev text : ℕ → PredText
   text a = pred_text p names a
 
-  at_arity : (P : ℕ → Type 0) (a : ℕ) → P (pred_text p names a).arity → P (arity_of p a)
+  at_arity : (P : ℕ → Type 0) (a : ℕ) → P (pred_text p names a).arity → P (arity_in p a)
   at_arity P a h = subst P (arity_text p names a) h
 
-  from_arity : (P : ℕ → Type 0) (a : ℕ) → P (arity_of p a) → P (pred_text p names a).arity
+  from_arity : (P : ℕ → Type 0) (a : ℕ) → P (arity_in p a) → P (pred_text p names a).arity
   from_arity P a h = subst P (sym (arity_text p names a)) h
 
   pub modes_section : (s t : List Fact) (xs : List (List (List ℕ))) → read_each (read_modes p names) 0 (length p.preds) s ≡ Ok (xs, t)
-      → (s ≡ mode_facts p names xs ++ t) × AreEach (length p.preds) (λ a. AllByRecursion (IsMode (arity_of p a))) xs
+      → (s ≡ mode_facts p names xs ++ t) × AreEach (length p.preds) (λ a. AllByRecursion (IsMode (arity_in p a))) xs
   unfolding read_modes
   modes_section s t xs e =
-      let (whole, count, each) = each_sound (read_modes p names) (λ a ms. fact.Terminates (pred_text p names a) ms ∷ []) (λ a ms. AllByRecursion (IsMode (arity_of p a)) ms)
+      let (whole, count, each) = each_sound (read_modes p names) (λ a ms. fact.Terminates (pred_text p names a) ms ∷ []) (λ a ms. AllByRecursion (IsMode (arity_in p a)) ms)
       (λ a s t x read.
       let (one, right) = next_sound (take_modes (text a)) (λ _ ms. fact.Terminates (text a) ms) _ (modes_taken (text a)) 0 s t x read in
       (one, at_arity (λ n. AllByRecursion (IsMode n) x) a right))
       0 (length p.preds) s t xs e in
       (whole, record { count = count; each = each })
 
-  pub modes_listed : (xs : List (List (List ℕ))) (t : List Fact) → AreEach (length p.preds) (λ a. AllByRecursion (IsMode (arity_of p a))) xs
+  pub modes_listed : (xs : List (List (List ℕ))) (t : List Fact) → AreEach (length p.preds) (λ a. AllByRecursion (IsMode (arity_in p a))) xs
       → read_each (read_modes p names) 0 (length p.preds) (mode_facts p names xs ++ t) ≡ Ok (xs, t)
   unfolding read_modes
   modes_listed xs t h =
-      each_back (read_modes p names) (λ a ms. fact.Terminates (pred_text p names a) ms ∷ []) (λ a ms. AllByRecursion (IsMode (arity_of p a)) ms)
+      each_back (read_modes p names) (λ a ms. fact.Terminates (pred_text p names a) ms ∷ []) (λ a ms. AllByRecursion (IsMode (arity_in p a)) ms)
       (λ a f. Unit {0}) (length p.preds)
       (λ a x t below right none. next_back (take_modes (text a)) (λ _ ms. fact.Terminates (text a) ms) _ (modes_given (text a)) 0 x t (from_arity (λ n. AllByRecursion (IsMode n) x) a right))
       (λ a b x less below. (tt, tt))
@@ -161,28 +161,28 @@ module _ (p : Listing) (names : List (List ℕ)) where
       free (f ∷ u) = (tt, free u)
 
   abbrev HasRows : ℕ → Rows → Type 0
-  HasRows a r = (r.width ≡ arity_of p a) × AllByRecursion (IsSizeRow (arity_of p a)) r.list
+  HasRows a r = (r.width ≡ arity_in p a) × AllByRecursion (IsSizeRow (arity_in p a)) r.list
 
   pub rows_section : (s t : List Fact) (xs : List Rows) → read_each (read_rows p names) 0 (length p.preds) s ≡ Ok (xs, t)
-      → (s ≡ size_facts p names xs ++ t) × AreEach (length p.preds) (λ a r. (r.width ≡ arity_of p a) × AllByRecursion (IsSizeRow (arity_of p a)) r.list) xs
+      → (s ≡ size_facts p names xs ++ t) × AreEach (length p.preds) (λ a r. (r.width ≡ arity_in p a) × AllByRecursion (IsSizeRow (arity_in p a)) r.list) xs
   unfolding read_rows
   rows_section s t xs e =
       let (whole, count, each) = each_sound (read_rows p names) (λ a r. lines_from 0 (size_line (pred_text p names a)) r.list) HasRows
       (λ a s t x read.
       mapped (with_width a) (read_many (take_row (text a)) 0 s) (x, t) read λ q here both.
       let (one, right) = many_sound (take_row (text a)) (size_line (text a)) _ (row_taken (text a)) 0 s q.1 q.0 here in
-      let first : record { width = arity_of p a; list = q.0 } ≡ x = ap (λ r. r.0) both in
+      let first : record { width = arity_in p a; list = q.0 } ≡ x = ap (λ r. r.0) both in
       let rest : q.1 ≡ t = ap (λ r. r.1) both in
       rw (← first, ← rest) (one, (refl, at_arity (λ n. AllByRecursion (IsSizeRow n) q.0) a right)))
       0 (length p.preds) s t xs e in
       (whole, record { count = count; each = each })
     where
       with_width : ℕ → List Row × List Fact → Rows × List Fact
-      with_width a x = (record { width = arity_of p a; list = x.0 }, x.1)
+      with_width a x = (record { width = arity_in p a; list = x.0 }, x.1)
 
   module _ (apart : (a b : ℕ) → a < b → b < length p.preds → pred_text p names b ≢ pred_text p names a) where
     pub rows_listed : (xs : List Rows) (t : List Fact)
-        → AreEach (length p.preds) (λ a r. (r.width ≡ arity_of p a) × AllByRecursion (IsSizeRow (arity_of p a)) r.list) xs → AreLater 2 t
+        → AreEach (length p.preds) (λ a r. (r.width ≡ arity_in p a) × AllByRecursion (IsSizeRow (arity_in p a)) r.list) xs → AreLater 2 t
         → read_each (read_rows p names) 0 (length p.preds) (size_facts p names xs ++ t) ≡ Ok (xs, t)
     unfolding read_rows take_row
     rows_listed xs t h later =
@@ -195,11 +195,11 @@ module _ (p : Listing) (names : List (List ℕ)) where
         0 (length p.preds) xs t h.count (omega arith) h.each
         (λ j below. all_weaker (λ f. 2 < kind f) (λ f. (i : ℕ) → take_row (text j) i f ≡ Some None) (λ f late. no_row (text j) f late) t later)
 
-    pub grounds_listed : (xs : List (List (List Cell))) (t : List Fact) → AreEach (length p.preds) (λ a. AllByRecursion (HasWidth (arity_of p a))) xs → AreLater 4 t
+    pub grounds_listed : (xs : List (List (List Cell))) (t : List Fact) → AreEach (length p.preds) (λ a. AllByRecursion (HasWidth (arity_in p a))) xs → AreLater 4 t
         → read_each (read_grounds p names) 0 (length p.preds) (ground_facts p names xs ++ t) ≡ Ok (xs, t)
     unfolding read_grounds take_ground
     grounds_listed xs t h later =
-        each_back (read_grounds p names) (λ a cs. lines_from 0 (grounds_line (pred_text p names a)) cs) (λ a cs. AllByRecursion (HasWidth (arity_of p a)) cs)
+        each_back (read_grounds p names) (λ a cs. lines_from 0 (grounds_line (pred_text p names a)) cs) (λ a cs. AllByRecursion (HasWidth (arity_in p a)) cs)
         (λ a f. (i : ℕ) → take_ground (text a) i f ≡ Some None) (length p.preds)
         (λ a x t below right none.
         many_back (take_ground (text a)) (grounds_line (text a)) _ (ground_given (text a)) 0 x t (from_arity (λ n. AllByRecursion (HasWidth n) x) a right) none)
@@ -209,10 +209,10 @@ module _ (p : Listing) (names : List (List ℕ)) where
         (λ j below. all_weaker (λ f. 4 < kind f) (λ f. (i : ℕ) → take_ground (text j) i f ≡ Some None) (λ f late. no_ground (text j) f late) t later)
 
   pub grounds_section : (s t : List Fact) (xs : List (List (List Cell))) → read_each (read_grounds p names) 0 (length p.preds) s ≡ Ok (xs, t)
-      → (s ≡ ground_facts p names xs ++ t) × AreEach (length p.preds) (λ a. AllByRecursion (HasWidth (arity_of p a))) xs
+      → (s ≡ ground_facts p names xs ++ t) × AreEach (length p.preds) (λ a. AllByRecursion (HasWidth (arity_in p a))) xs
   unfolding read_grounds
   grounds_section s t xs e =
-      let (whole, count, each) = each_sound (read_grounds p names) (λ a cs. lines_from 0 (grounds_line (pred_text p names a)) cs) (λ a cs. AllByRecursion (HasWidth (arity_of p a)) cs)
+      let (whole, count, each) = each_sound (read_grounds p names) (λ a cs. lines_from 0 (grounds_line (pred_text p names a)) cs) (λ a cs. AllByRecursion (HasWidth (arity_in p a)) cs)
       (λ a s t x read.
       let (one, right) = many_sound (take_ground (text a)) (grounds_line (text a)) _ (ground_taken (text a)) 0 s t x read in
       (one, at_arity (λ n. AllByRecursion (HasWidth n) x) a right))
@@ -222,22 +222,22 @@ module _ (p : Listing) (names : List (List ℕ)) where
   -- the cubes of one predicate
   module _ (levels : List (List LevelPart)) (a : ℕ) where
     pub cubes_section : (s t : List Fact) (xs : List (List (List Cell))) → read_pre p names levels a s ≡ Ok (xs, t)
-        → (s ≡ facts_from 0 (λ m cs. lines_from 0 (pre_line (pred_text p names a) m) cs) xs ++ t) × AreEach (length (items_of levels a)) (λ _. AllByRecursion (HasWidth (arity_of p a))) xs
+        → (s ≡ facts_from 0 (λ m cs. lines_from 0 (pre_line (pred_text p names a) m) cs) xs ++ t) × AreEach (length (items_of levels a)) (λ _. AllByRecursion (HasWidth (arity_in p a))) xs
     unfolding read_pre read_cubes
     cubes_section s t xs e =
-        let (whole, count, each) = each_sound (read_cubes p names a) (λ m cs. lines_from 0 (pre_line (pred_text p names a) m) cs) (λ m cs. AllByRecursion (HasWidth (arity_of p a)) cs)
+        let (whole, count, each) = each_sound (read_cubes p names a) (λ m cs. lines_from 0 (pre_line (pred_text p names a) m) cs) (λ m cs. AllByRecursion (HasWidth (arity_in p a)) cs)
         (λ m s t x read.
         let (one, right) = many_sound (take_pre (text a) m) (pre_line (text a) m) _ (pre_taken (text a) m) 0 s t x read in
         (one, at_arity (λ n. AllByRecursion (HasWidth n) x) a right))
         0 (length (items_of levels a)) s t xs e in
         (whole, record { count = count; each = each })
 
-    pub cubes_listed : (xs : List (List (List Cell))) (t : List Fact) → AreEach (length (items_of levels a)) (λ _. AllByRecursion (HasWidth (arity_of p a))) xs
+    pub cubes_listed : (xs : List (List (List Cell))) (t : List Fact) → AreEach (length (items_of levels a)) (λ _. AllByRecursion (HasWidth (arity_in p a))) xs
         → AllByRecursion (λ f. (m i : ℕ) → take_pre (pred_text p names a) m i f ≡ Some None) t
         → read_pre p names levels a (facts_from 0 (λ m cs. lines_from 0 (pre_line (pred_text p names a) m) cs) xs ++ t) ≡ Ok (xs, t)
     unfolding read_pre read_cubes take_pre
     cubes_listed xs t h others =
-        each_back (read_cubes p names a) (λ m cs. lines_from 0 (pre_line (pred_text p names a) m) cs) (λ m cs. AllByRecursion (HasWidth (arity_of p a)) cs)
+        each_back (read_cubes p names a) (λ m cs. lines_from 0 (pre_line (pred_text p names a) m) cs) (λ m cs. AllByRecursion (HasWidth (arity_in p a)) cs)
         (λ m f. (i : ℕ) → take_pre (text a) m i f ≡ Some None) (length (items_of levels a))
         (λ m x t below right none.
         many_back (take_pre (text a) m) (pre_line (text a) m) _ (pre_given (text a) m) 0 x t (from_arity (λ n. AllByRecursion (HasWidth n) x) a right) none)
@@ -248,21 +248,21 @@ module _ (p : Listing) (names : List (List ℕ)) where
 
   module _ (levels : List (List LevelPart)) where
     pub pre_section : (s t : List Fact) (xs : List (List (List (List Cell)))) → read_each (read_pre p names levels) 0 (length p.preds) s ≡ Ok (xs, t)
-        → (s ≡ pre_facts p names xs ++ t) × AreEach (length p.preds) (λ a. AreEach (length (items_of levels a)) (λ _. AllByRecursion (HasWidth (arity_of p a)))) xs
+        → (s ≡ pre_facts p names xs ++ t) × AreEach (length p.preds) (λ a. AreEach (length (items_of levels a)) (λ _. AllByRecursion (HasWidth (arity_in p a)))) xs
     pre_section s t xs e =
         let (whole, count, each) = each_sound (read_pre p names levels) (λ a ms. facts_from 0 (λ m cs. lines_from 0 (pre_line (pred_text p names a) m) cs) ms)
-        (λ a ms. AreEach (length (items_of levels a)) (λ _. AllByRecursion (HasWidth (arity_of p a))) ms)
+        (λ a ms. AreEach (length (items_of levels a)) (λ _. AllByRecursion (HasWidth (arity_in p a))) ms)
         (λ a s t x read. cubes_section levels a s t x read)
         0 (length p.preds) s t xs e in
         (whole, record { count = count; each = each })
 
     pub pre_listed : ((a b : ℕ) → a < b → b < length p.preds → pred_text p names b ≢ pred_text p names a) → (xs : List (List (List (List Cell)))) (t : List Fact)
-        → AreEach (length p.preds) (λ a. AreEach (length (items_of levels a)) (λ _. AllByRecursion (HasWidth (arity_of p a)))) xs → AreLater 7 t
+        → AreEach (length p.preds) (λ a. AreEach (length (items_of levels a)) (λ _. AllByRecursion (HasWidth (arity_in p a)))) xs → AreLater 7 t
         → read_each (read_pre p names levels) 0 (length p.preds) (pre_facts p names xs ++ t) ≡ Ok (xs, t)
     unfolding take_pre
     pre_listed apart xs t h later =
         each_back (read_pre p names levels) (λ a ms. facts_from 0 (λ m cs. lines_from 0 (pre_line (pred_text p names a) m) cs) ms)
-        (λ a ms. AreEach (length (items_of levels a)) (λ _. AllByRecursion (HasWidth (arity_of p a))) ms)
+        (λ a ms. AreEach (length (items_of levels a)) (λ _. AllByRecursion (HasWidth (arity_in p a))) ms)
         (λ a f. (m i : ℕ) → take_pre (text a) m i f ≡ Some None) (length p.preds)
         (λ a x t below right none. cubes_listed levels a x t right none)
         (λ a b x less below. all_from (λ f. (m i : ℕ) → take_pre (text a) m i f ≡ Some None) (λ n cs. lines_from 0 (pre_line (text b) n) cs)

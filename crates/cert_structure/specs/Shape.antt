@@ -17,13 +17,10 @@ use Rattle.linear_rows.specs.declared.point.Point.{Point}
 pub use Rattle.number_tests.specs.Levels.{items_of}
 pub use Rattle.number_tests.specs.Shape.{IsBefore, pair_of, PairsAscend}
 use Rattle.number_tests.specs.declared.pair_point.PairPoint.{PairPoint}
+pub use Rattle.termination_model.specs.Ready.{arity_in}
 use Rattle.number_tests.specs.declared.refutation.Refutation.{Refutation}
 use Rattle.cert_structure.specs.declared.parts.Parts.{Parts}
 use Rattle.cert_structure.specs.Numbered.{AreEach}
-
--- how many arguments a predicate has
-abbrev pub arity_of : Listing → ℕ → ℕ
-arity_of p a = unwrap_or (option_map (λ q. q.arity) (slice_get p.preds a)) 0
 
 -- the predicate of a clause's head, its body, and how many variables it has
 abbrev pub head_of : Listing → ℕ → ℕ
@@ -131,17 +128,17 @@ IsRefutation p comps levels a (Some r) =
 
 -- the parts have the shape that the program and its components ask
 pub record HaveShape (p : Listing) (comps : Partition) (parts : Parts) : Type 0 where
-  pub modes : AreEach (length p.preds) (λ a. AllByRecursion (IsMode (arity_of p a))) parts.modes
-  pub rows : AreEach (length p.preds) (λ a r. (r.width ≡ arity_of p a) × AllByRecursion (IsSizeRow (arity_of p a)) r.list) parts.rows
+  pub modes : AreEach (length p.preds) (λ a. AllByRecursion (IsMode (arity_in p a))) parts.modes
+  pub rows : AreEach (length p.preds) (λ a r. (r.width ≡ arity_in p a) × AllByRecursion (IsSizeRow (arity_in p a)) r.list) parts.rows
   -- a proof for each size row of the head, over the rows of the whole body
   pub row_proofs : AreEach (length p.clauses)
       (λ k. AreEach (rows_of parts.rows (head_of p k)) (λ _. AreMultipliers (rows_of_atoms parts.rows (body_of p k)))) parts.row_proofs
-  pub grounds : AreEach (length p.preds) (λ a. AllByRecursion (HasWidth (arity_of p a))) parts.grounds
-  pub levels : AreEach (length p.preds) (λ a ls. (length ls ≡ mappings_of comps parts.levels a) × AllByRecursion (IsLevel (arity_of p a)) ls) parts.levels
+  pub grounds : AreEach (length p.preds) (λ a. AllByRecursion (HasWidth (arity_in p a))) parts.grounds
+  pub levels : AreEach (length p.preds) (λ a ls. (length ls ≡ mappings_of comps parts.levels a) × AllByRecursion (IsLevel (arity_in p a)) ls) parts.levels
   -- for a call to the own component a proof for each mapping, over the rows of the atoms before the call
   pub falls : AreEach (length p.clauses)
       (λ k. AreEach (length (body_of p k)) (λ j. AreEach (proofs_of_call comps parts.levels (head_of p k) (slice_get (body_of p k) j)) (λ _. AreMultipliers (rows_of_atoms parts.rows (take j (body_of p k))))))
       parts.falls
   pub preconditions : AreEach (length p.preds)
-      (λ a. AreEach (length (items_of parts.levels a)) (λ _. AllByRecursion (HasWidth (arity_of p a)))) parts.preconditions
+      (λ a. AreEach (length (items_of parts.levels a)) (λ _. AllByRecursion (HasWidth (arity_in p a)))) parts.preconditions
   pub refutations : AreEach (length p.preds) (IsRefutation p comps parts.levels) parts.refutations

@@ -34,7 +34,7 @@ use Rattle.cert_structure.specs.declared.stop.FactFault.TheVariants as fault
 use Rattle.cert_structure.specs.declared.stop.Stop.{Stop}
 use Rattle.cert_structure.specs.declared.stop.Stop.TheVariants as stop
 use Rattle.cert_structure.specs.Order.{pred_text, is_note}
-use Rattle.cert_structure.specs.Shape.{arity_of, head_of, body_of, vars_of, rows_of, rows_of_atoms, items_of, is_recursive, first_of, proofs_of_call, is_pair}
+use Rattle.cert_structure.specs.Shape.{arity_in, head_of, body_of, vars_of, rows_of, rows_of_atoms, items_of, is_recursive, first_of, proofs_of_call, is_pair}
 
 -- how many facts are left from the first wrong one on, and what is wrong with it
 abbrev pub Wrong : Type 0
@@ -275,7 +275,7 @@ read_modes p names a s = read_next (take_modes (pred_text p names a)) 0 s
 
 unfoldable pub read_rows : Listing → List (List ℕ) → ℕ → List Fact → Read Rows
 read_rows p names a s =
-    result_map (λ x. (record { width = arity_of p a; list = x.0 }, x.1)) (read_many (take_row (pred_text p names a)) 0 s)
+    result_map (λ x. (record { width = arity_in p a; list = x.0 }, x.1)) (read_many (take_row (pred_text p names a)) 0 s)
 
 unfoldable pub read_proofs : Listing → List Rows → ℕ → List Fact → Read (List Multipliers)
 read_proofs p rows k s = read_each (read_next (take_proof k (rows_of_atoms rows (body_of p k)))) 0 (rows_of rows (head_of p k)) s

@@ -2,7 +2,7 @@
 
 ghost use Rattle.std.specs.Prelude.{◌≡◌, ◌++◌, map, length, sum_by};
 ghost use Rattle.cert_structure.specs.Filling.{Fills};
-ghost use Rattle.cert_structure.specs.Shape.{arity_of, rows_of, rows_of_atoms};
+ghost use Rattle.cert_structure.specs.Shape.{arity_in, rows_of, rows_of_atoms};
 ghost use Rattle.cert_structure.specs.Walk.{AgreesKept, named, read_each, row_read, take_row, read_rows, take_proof, read_proofs};
 
 use crate::clauses::{body_at, head_at};

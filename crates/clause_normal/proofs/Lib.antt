@@ -7,7 +7,6 @@ pub mod BodyLemmas
 pub mod TaskLemmas
 pub mod RuleLemmas
 pub mod CopyLemmas
-pub mod NumberLemmas
 pub mod Later
 pub mod NumberingLemmas
 pub mod FormLemmas

@@ -1,6 +1,6 @@
 -- The function gives the unifier of the relation, and only that.
 use Rattle.std.proofs.Common.{◌≡◌, ℕ, zero, suc, ◌+◌, ◌<◌, ◌≤◌, max, Bool, true, false, ◌&&◌, ◌||◌, ◌==◌, cond, if◌then◌else◌, List, [], ◌∷◌, ◌++◌, Option, None, Some, option_map, true≢false, ◌⊎◌, inl, inr, refl, ap, sym, ◌∙◌, subst, arith}
-use Rattle.std.proofs.lemmas.Bool.{cases_lt}
+use Rattle.std.proofs.lemmas.Bool.{cases_lt, or_cases, or_left, or_right}
 use Rattle.std.proofs.lemmas.Bool.Decides.{nat_tests}
 use Rattle.std.specs.Ordering.{int_eq}
 use Rattle.cti_terms.specs.Tree.{Tree, Trees, Variable, Integer, Compound, End, More, instance, all_instances, arity, nodes_of, all_nodes}
@@ -34,17 +34,6 @@ with_finds (suc v) es bs h = to_finds (unify_with v) (with_finds v) (work es) es
 pub unify_finds : (es : List Equation) (bs : List Binding) → unify es ≡ Some bs → Unifies es bs
 unify_finds es bs h = with_finds (occurring (above_equations es) es) es bs h
 
-pub or_cases : (b c : Bool) → (b || c) ≡ true → (b ≡ true) ⊎ (c ≡ true)
-or_cases true c h = inl refl
-or_cases false c h = inr h
-
-pub or_first : (b c : Bool) → b ≡ true → (b || c) ≡ true
-or_first b c h = ap (λ d. d || c) h
-
-pub or_second : (b c : Bool) → c ≡ true → (b || c) ≡ true
-or_second true c h = refl
-or_second false c h = h
-
 -- y occurs in v, or in t and is not x
 abbrev pub Comes : ℕ → ℕ → Tree → Bool → Type 0
 Comes y x v b = (occurs y v ≡ true) ⊎ ((b ≡ true) × (y ≡ x → ⊥))
@@ -58,8 +47,8 @@ comes_variable y x z v true e h = inl h
 comes_variable y x z v false e h = inr (h, λ p. grind (arith, nat_tests))
 
 come_either : (y x : ℕ) (v : Tree) (b c d e : Bool) → (d || e) ≡ true → (d ≡ true → Comes y x v b) → (e ≡ true → Comes y x v c) → Comes y x v (b || c)
-come_either y x v b c true e h f g = comes_wider y x v b (b || c) (or_first b c) (f refl)
-come_either y x v b c false e h f g = comes_wider y x v c (b || c) (or_second b c) (g h)
+come_either y x v b c true e h f g = comes_wider y x v b (b || c) (or_left b c) (f refl)
+come_either y x v b c false e h f g = comes_wider y x v c (b || c) (or_right b c) (g h)
 
 mutual
   pub comes : (y x : ℕ) (v t : Tree) → occurs y (instance (only x v) t) ≡ true → Comes y x v (occurs y t)
@@ -167,10 +156,10 @@ pub eqb_same : (x : ℕ) → (x == x) ≡ true
 eqb_same x = grind (arith, nat_tests)
 
 binds_left : (y : ℕ) (u : Tree) → occurs y u ≡ false → Binds (Variable y) u y u
-binds_left y u h = record { gone = h; there = ap (λ b. b || occurs y u) (eqb_same y); inside = λ z k. or_second (z == y) (occurs z u) k }
+binds_left y u h = record { gone = h; there = ap (λ b. b || occurs y u) (eqb_same y); inside = λ z k. or_right (z == y) (occurs z u) k }
 
 binds_right : (y : ℕ) (t : Tree) → occurs y t ≡ false → Binds t (Variable y) y t
-binds_right y t h = record { gone = h; there = or_second (occurs y t) (y == y) (eqb_same y); inside = λ z k. or_first (occurs z t) (z == y) k }
+binds_right y t h = record { gone = h; there = or_right (occurs y t) (y == y) (eqb_same y); inside = λ z k. or_left (occurs z t) (z == y) k }
 
 binds_moved : (t u : Tree) (y x : ℕ) (w v : Tree) → Bound y w ≡ Bound x v → Binds t u y w → Binds t u x v
 binds_moved t u y x w v e h =
@@ -230,8 +219,8 @@ pub bind_inside : (t u : Tree) (x : ℕ) (v : Tree) (es : List Equation) → Bin
 bind_inside t u x v es b y h = go (all_equations_come y x v es h)
   where
     go : Comes y x v (occurs_in y es) → occurs_in y ((t, u) ∷ es) ≡ true
-    go (inl k) = or_first (occurs y t || occurs y u) (occurs_in y es) (b.inside y k)
-    go (inr k) = or_second (occurs y t || occurs y u) (occurs_in y es) k.0
+    go (inl k) = or_left (occurs y t || occurs y u) (occurs_in y es) (b.inside y k)
+    go (inr k) = or_right (occurs y t || occurs y u) (occurs_in y es) k.0
 
 -- and the variable does not
 pub bind_gone : (t u : Tree) (x : ℕ) (v : Tree) (es : List Equation) → Binds t u x v → occurs_in x (replaced x v es) ≡ false
@@ -247,7 +236,7 @@ bind_gone t u x v es b = go (occurs_in x (replaced x v es)) refl
 
 mixed : (a b c d e : Bool) → (e ≡ true → (c || d) ≡ true) → ((a || b) || e) ≡ true → ((a || c) || (b || d)) ≡ true
 mixed true b c d e f h = refl
-mixed false true c d e f h = or_second c true refl
+mixed false true c d e f h = or_right c true refl
 mixed false false c d e f h = f h
 
 pairs_inside : (y : ℕ) (ts us : Trees) → occurs_in y (pairs ts us) ≡ true → (occurs_among y ts || occurs_among y us) ≡ true
@@ -292,8 +281,8 @@ pub replaced_inside : (t u : Tree) (qs es : List Equation) (y : ℕ) → first_s
 replaced_inside t u qs es y e h = go (or_cases (occurs_in y qs) (occurs_in y es) (sym (occurs_append y qs es) ∙ h))
   where
     go : (occurs_in y qs ≡ true) ⊎ (occurs_in y es ≡ true) → occurs_in y ((t, u) ∷ es) ≡ true
-    go (inl k) = or_first (occurs y t || occurs y u) (occurs_in y es) (split_inside t u qs y e k)
-    go (inr k) = or_second (occurs y t || occurs y u) (occurs_in y es) k
+    go (inl k) = or_left (occurs y t || occurs y u) (occurs_in y es) (split_inside t u qs y e k)
+    go (inr k) = or_right (occurs y t || occurs y u) (occurs_in y es) k
 
 -- every variable is below a number
 abbrev pub AllBelow : ℕ → List Equation → Type 0
@@ -303,20 +292,20 @@ complete : {es : List Equation} {bs : List Binding} → Unifies es bs → (m : �
 complete none m below v n few short = refl
 complete (drop {t = t} {u = u} {es = es} {bs = bs} e r) m below v zero few short = absurd (omega (arith, short, nodes_positive t))
 complete (drop {t = t} {u = u} {es = es} {bs = bs} e r) m below v (suc n) few short =
-    let wider : (y : ℕ) → occurs_in y es ≡ true → occurs_in y ((t, u) ∷ es) ≡ true = λ y h. or_second (occurs y t || occurs y u) (occurs_in y es) h in
+    let wider : (y : ℕ) → occurs_in y es ≡ true → occurs_in y ((t, u) ∷ es) ≡ true = λ y h. or_right (occurs y t || occurs y u) (occurs_in y es) h in
     let fewer = occurring_le m es ((t, u) ∷ es) wider in
     ap (λ s. after (unify_to (rest v) n) (rest v) s es) e
     ∙ complete r m (λ y h. below y (wider y h)) v n (omega (arith, few, fewer)) (omega (arith, short, nodes_positive t))
 complete (bind {t = t} {u = u} {v = w} {x = x} {es = es} {bs = bs} e r) m below v zero few short = absurd (omega (arith, short, nodes_positive t))
 complete (bind {t = t} {u = u} {v = w} {x = x} {es = es} {bs = bs} e r) m below zero (suc n) few short =
     let b = binds t u x w e in
-    let there = or_first (occurs x t || occurs x u) (occurs_in x es) b.there in
+    let there = or_left (occurs x t || occurs x u) (occurs_in x es) b.there in
     let fewer = occurring_lt m x (replaced x w es) ((t, u) ∷ es) (bind_inside t u x w es b) (below x there) (bind_gone t u x w es b) there in
     absurd (omega (arith, few, fewer))
 complete (bind {t = t} {u = u} {v = w} {x = x} {es = es} {bs = bs} e r) m below (suc v) (suc n) few short =
     let b = binds t u x w e in
     let wider = bind_inside t u x w es b in
-    let there = or_first (occurs x t || occurs x u) (occurs_in x es) b.there in
+    let there = or_left (occurs x t || occurs x u) (occurs_in x es) b.there in
     let fewer = occurring_lt m x (replaced x w es) ((t, u) ∷ es) wider (below x there) (bind_gone t u x w es b) there in
     let found = with_is v (replaced x w es) ∙ complete r m (λ y h. below y (wider y h)) v (work (replaced x w es)) (omega (arith, few, fewer)) (omega arith) in
     ap (λ s. after (unify_to (rest (suc v)) n) (rest (suc v)) s es) e ∙ ap (option_map (λ cs. (x, w) ∷ cs)) found

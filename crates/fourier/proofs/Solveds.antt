@@ -1,16 +1,13 @@
 -- Rows crossed with an equation.
 use Rattle.std.proofs.Common.{◌≡◌, ℕ, zero, suc, ℤ, List, [], ◌∷◌, ◌++◌, ◌+◌, ◌<◌, Bool, true, false, cond, not, ◌||◌, nat_eq, map, take, length, get_or, refl, sym, subst, ap, ◌∙◌, arith}
 use Rattle.std.specs.Prelude.{fold, filter, ◌&&◌}
+use Rattle.std.proofs.lemmas.Bool.{or_right}
 use Rattle.exact128.specs.Sums.{entry}
 use Rattle.linear_rows.specs.Elimination.{crossed, is_positive, is_negative}
 use Rattle.linear_rows.specs.Equation.{other_places, solved_row, solved_rows}
 use Rattle.linear_rows.specs.Blown.{all_of, crossed_fits, solved_fits, solved_rows_fit}
 use Rattle.fourier.specs.Adding.{add_row, add_rows, moves, add_solved, add_solved_fits}
 use Rattle.fourier.proofs.Loops.{Done, done_more}
-
-or_right : (a b : Bool) → b ≡ true → (a || b) ≡ true
-or_right true b e = refl
-or_right false b e = e
 
 falling_moves : (k : ℕ) (q : List ℤ) → is_negative (entry q k) ≡ true → moves k q ≡ true
 falling_moves k q n = or_right (is_positive (entry q k)) (is_negative (entry q k)) n

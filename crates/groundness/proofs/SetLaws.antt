@@ -1,6 +1,6 @@
 -- What it does to the family of the sets that the rows of a clause are added.
 use Rattle.std.proofs.Common.{◌≡◌, ◌↔◌, inl, inr, ℕ, ◌<◌, Bool, ◌||◌, IsTrue, List, length, slice_get, slice_set, slice_index_or, Option, Some, refl, ap, sym, subst, ◌∙◌, arith}
-use Rattle.std.proofs.lemmas.Bool.{cases_eq}
+use Rattle.std.proofs.lemmas.Bool.{cases_eq, or_cases, or_left, or_right}
 use Rattle.std.proofs.lemmas.List.{length-map}
 use Rattle.bool_diagrams.specs.declared.diagram.Diagram.{Diagram}
 use Rattle.bool_diagrams.specs.Cubes.{truth_rows, values_of}
@@ -22,7 +22,7 @@ use Rattle.truth_rows.proofs.CallerLemmas.{family_later, sets_later, sets_with}
 use Rattle.truth_rows.proofs.SetLaws.{none, some_is, family_in, family_put, row_is, truths_of, atom_there}
 use Rattle.groundness.proofs.MissingLaws.{all_missing_set, missing_less}
 use Rattle.termination_model.proofs.Lists.{by_places, from_places, place_below, there}
-use Rattle.truth_rows.proofs.RowLaws.{or_cases, or_left, or_right, same_bool, first_row, first_values, length-first}
+use Rattle.truth_rows.proofs.RowLaws.{same_bool, first_row, first_values, length-first}
 
 module _ (p : Listing) (program : IsProgram p) (trees : List Rows) (sets : List Diagram) (S : AreSets p.preds trees sets) where
   module _ (truth : (ℕ → Bool) → Tree → Bool) (T1 T2 : List Rows) (K1 : Keeps trees T1) (K2 : Keeps T1 T2) (k : Clause) (c : IsClause p.preds k) (given joined : Diagram) (known : IsDiagram T2 joined)

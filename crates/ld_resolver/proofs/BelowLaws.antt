@@ -3,13 +3,14 @@ use Rattle.std.proofs.Common.{◌≡◌, ℕ, ◌+◌, ◌<◌, ◌≤◌, Bool,
 use Rattle.std.proofs.lemmas.Bool.Decides.{nat_tests}
 use Rattle.std.specs.List.{AllByRecursion}
 use Rattle.std.specs.Ordering.{int_eq}
+use Rattle.std.proofs.lemmas.Bool.{or_cases, or_left, or_right, and_parts}
 use Rattle.cti_terms.specs.Tree.{Tree, Trees, arity, Variable, Integer, Compound, End, More, trees, instance, all_instances, all_truths, is_below}
 use Rattle.cti_terms.specs.Unify.{Equation, Binding, Dropped, Bound, Split, Failed, occurs, occurs_among, only, first_step, replaced, Unifies, none, drop, bind, split, pairs, applied}
 use Rattle.cti_terms.specs.UnifyFunction.{occurs_in}
 use Rattle.cti_terms.specs.declared.atom_list.Atom.{Atom}
 use Rattle.cti_terms.specs.Resolve.{over}
-use Rattle.cti_terms.proofs.UnifyLaws.{or_cases, or_first, or_second, comes, binds, bind_inside, replaced_inside, AllBelow}
-use Rattle.cti_terms.proofs.Unifier.{and_left, and_right, absent, instance_same, instance_twice, applied_instance}
+use Rattle.cti_terms.proofs.UnifyLaws.{comes, binds, bind_inside, replaced_inside, AllBelow}
+use Rattle.cti_terms.proofs.Unifier.{absent, instance_same, instance_twice, applied_instance}
 use Rattle.ld_resolver.specs.Below.{TermBelow, ArgumentsBelow, AtomsBelow, FreeFrom, LeftBelow}
 use Rattle.ld_resolver.specs.Raised.{raise}
 use Rattle.ld_resolver.specs.Store.{made, full}
@@ -29,19 +30,19 @@ mutual
   all_raised_below n k End h y o = cc
   all_raised_below n k (More t ts) h y o =
       elim (or_cases (occurs y (instance (raise n) t)) (occurs_among y (all_instances (raise n) ts)) o) [
-        | inl l ↦ raised_below n k t (and_left (is_below k t) (all_truths (λ x. nat_lt x k) ts) h) y l
-        | inr r ↦ all_raised_below n k ts (and_right (is_below k t) (all_truths (λ x. nat_lt x k) ts) h) y r
+        | inl l ↦ raised_below n k t (and_parts (is_below k t) (all_truths (λ x. nat_lt x k) ts) h).0 y l
+        | inr r ↦ all_raised_below n k ts (and_parts (is_below k t) (all_truths (λ x. nat_lt x k) ts) h).1 y r
       ]
 
 -- a term under a unifier of equations below m
 pub applied_below : {es : List Equation} {bs : List Binding} → Unifies es bs → (m : ℕ) → AllBelow m es → (t : Tree) → TermBelow m t → TermBelow m (applied bs t)
 applied_below none m below t h = h
-applied_below (drop {t = l} {u = r} {es = es} e u) m below t h = applied_below u m (λ y k. below y (or_second (occurs y l || occurs y r) (occurs_in y es) k)) t h
+applied_below (drop {t = l} {u = r} {es = es} e u) m below t h = applied_below u m (λ y k. below y (or_right (occurs y l || occurs y r) (occurs_in y es) k)) t h
 applied_below (bind {t = l} {u = r} {v = v} {x = x} {es = es} e u) m below t h =
     let b = binds l r x v e in
     applied_below u m (λ y k. below y (bind_inside l r x v es b y k)) (instance (only x v) t) (λ y o.
     elim (comes y x v t o) [
-      | inl k ↦ below y (or_first (occurs y l || occurs y r) (occurs_in y es) (b.inside y k))
+      | inl k ↦ below y (or_left (occurs y l || occurs y r) (occurs_in y es) (b.inside y k))
       | inr k ↦ h y k.0
     ])
 applied_below (split {t = l} {u = r} {qs = qs} {es = es} e u) m below t h = applied_below u m (λ y k. below y (replaced_inside l r qs es y e k)) t h
@@ -115,7 +116,7 @@ apart n y t h l = go (occurs y t) refl
 pub left_pairs : (n : ℕ) (ts us : Trees) → ((y : ℕ) → occurs_among y ts ≡ true → y < n) → LeftBelow n (pairs ts us)
 left_pairs n End us h = tt
 left_pairs n (More t ts) End h = tt
-left_pairs n (More t ts) (More u us) h = ((λ y o. h y (or_first (occurs y t) (occurs_among y ts) o)), left_pairs n ts us (λ y o. h y (or_second (occurs y t) (occurs_among y ts) o)))
+left_pairs n (More t ts) (More u us) h = ((λ y o. h y (or_left (occurs y t) (occurs_among y ts) o)), left_pairs n ts us (λ y o. h y (or_right (occurs y t) (occurs_among y ts) o)))
 
 pub left_append : (n : ℕ) (es fs : List Equation) → LeftBelow n es → LeftBelow n fs → LeftBelow n (es ++ fs)
 left_append n [] fs h k = k

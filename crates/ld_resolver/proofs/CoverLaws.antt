@@ -2,12 +2,12 @@
 use Rattle.std.proofs.Common.{◌≡◌, ◌⊎◌, inl, inr, ℕ, zero, suc, ◌+◌, ◌*◌, ◌<◌, ◌≤◌, Bool, true, false, ◌||◌, ◌==◌, if◌then◌else◌, List, [], ◌∷◌, ◌++◌, map, length, refl, ap, sym, ◌∙◌, subst, arith, eqb-true}
 use Rattle.std.specs.List.{AllByRecursion}
 use Rattle.std.proofs.lemmas.Nat.{mul-le}
+use Rattle.std.proofs.lemmas.Bool.{or_cases, or_left}
 use Rattle.cti_terms.specs.Tree.{Tree, Variable, Integer, Compound, trees, instance, all_instances, nodes_of, all_nodes}
 use Rattle.cti_terms.specs.declared.syntax.Term.{Term}
 use Rattle.cti_terms.specs.Spell.{tree_of, trees_of}
 use Rattle.cti_terms.specs.Unify.{Binding, occurs, occurs_among}
 use Rattle.cti_terms.proofs.Unifier.{applied_instance}
-use Rattle.cti_terms.proofs.UnifyLaws.{or_cases, or_first}
 use Rattle.ld_resolver.specs.declared.raised_term.RaisedTerm.{RaisedTerm}
 use Rattle.ld_resolver.specs.Raised.{raise, raised_tree}
 use Rattle.ld_resolver.specs.Store.{made, full, all_full, one_more, chain, chain_of}
@@ -113,7 +113,7 @@ module _ (s : List Binding) (x : ℕ) where
 
   below_occurs : (n : ℕ) (ts : List Tree) → OccursBelow s x n ts → occurs_left s x ts ≡ true
   below_occurs n [] h = absurd h
-  below_occurs n (t ∷ ts) (inl h) = or_first (occurs x (full s t)) (occurs_left s x ts) h.1
+  below_occurs n (t ∷ ts) (inl h) = or_left (occurs x (full s t)) (occurs_left s x ts) h.1
   below_occurs n (t ∷ ts) (inr h) = or_second_true (occurs x (full s t)) (occurs_left s x ts) (below_occurs n ts h)
 
   -- arguments of a compound term are below it
@@ -175,7 +175,7 @@ module _ (s : List Binding) (x : ℕ) where
         go : (o : Bool) → occurs x (full s (Variable y)) ≡ o → occurs_left s x ts ≡ (occurs_left s x ts || (occurs x (full s (Variable y)) || false))
         go true e =
             let l = below_occurs (rank s (Variable y)) ts (again_below y c e) in
-            l ∙ sym (or_first (occurs_left s x ts) (occurs x (full s (Variable y)) || false) l)
+            l ∙ sym (or_left (occurs_left s x ts) (occurs x (full s (Variable y)) || false) l)
         go false e = none (occurs_left s x ts) ∙ ap (λ b. occurs_left s x ts || (b || false)) (sym e)
 
     -- a variable is visited, and its term comes in its place

@@ -1,9 +1,10 @@
 -- Unification step by step: how the unifier of equations goes on after the first one.
 use Rattle.std.proofs.Common.{◌≡◌, ℕ, ◌<◌, Bool, true, false, ◌||◌, List, [], ◌∷◌, ◌++◌, Option, None, Some, option_map, append_assoc, true≢false, eqb-true, ◌==◌, if◌then◌else◌, refl, ap, sym, ◌∙◌, subst}
+use Rattle.std.proofs.lemmas.Bool.{or_left, or_right}
 use Rattle.cti_terms.specs.Tree.{Tree}
 use Rattle.cti_terms.specs.Unify.{Equation, Binding, Step, Dropped, Bound, Split, Failed, first_step, replaced, Unifies, drop, bind, split, occurs}
 use Rattle.cti_terms.specs.UnifyFunction.{unify, after, occurs_in, occurring}
-use Rattle.cti_terms.proofs.UnifyLaws.{unify_finds, unify_complete, binds, bind_inside, bind_gone, replaced_inside, or_first, or_second, AllBelow, occurring_lt}
+use Rattle.cti_terms.proofs.UnifyLaws.{unify_finds, unify_complete, binds, bind_inside, bind_gone, replaced_inside, AllBelow, occurring_lt}
 use Rattle.ld_resolver.specs.Pending.{OccurBefore, GoesOn}
 use Rattle.ld_resolver.specs.Store.{stored}
 
@@ -68,7 +69,7 @@ unify_step t u es (Bound x v) e =
 
 -- what occurs after a step that binds nothing occurred before
 pub occur_dropped : (t u : Tree) (es : List Equation) → OccurBefore ((t, u) ∷ es) es
-occur_dropped t u es y h = or_second (occurs y t || occurs y u) (occurs_in y es) h
+occur_dropped t u es y h = or_right (occurs y t || occurs y u) (occurs_in y es) h
 
 pub occur_split : (t u : Tree) (qs es : List Equation) → first_step t u ≡ Split qs → OccurBefore ((t, u) ∷ es) (qs ++ es)
 occur_split t u qs es e y h = replaced_inside t u qs es y e h
@@ -80,7 +81,7 @@ goes_on t u x v es e =
     record {
       unifier = unify_step t u es (Bound x v) e;
       inside = bind_inside t u x v es b;
-      there = or_first (occurs x t || occurs x u) (occurs_in x es) b.there;
+      there = or_left (occurs x t || occurs x u) (occurs_in x es) b.there;
       gone = bind_gone t u x v es b;
     }
 

@@ -9,7 +9,7 @@ use Rattle.number_tests.specs.Refuting.{SumsFit}
 use Rattle.termination_model.specs.Refutation.{Load, gather}
 use Rattle.termination_model.specs.Rows.{added}
 use Rattle.level_systems.specs.Refuted.{IsNought}
-use Rattle.level_dual.proofs.SupportLaws.{and_both, and_parts}
+use Rattle.std.proofs.lemmas.Bool.{and_from, and_parts}
 
 pub nought_head : (z : ℤ) (zs : List ℤ) → IsNought (z ∷ zs) → z ≡ pos 0
 nought_head z zs h = h 0 z (omega arith)
@@ -69,7 +69,7 @@ entries_fit (z ∷ zs) h (suc k) = entries_fit zs (and_parts (fits z) (row_fits 
 
 fit_entries : (r : List ℤ) → ((k : ℕ) → fits (entry r k) ≡ true) → row_fits r ≡ true
 fit_entries [] h = refl
-fit_entries (z ∷ zs) h = and_both (fits z) (row_fits zs) (h 0) (fit_entries zs (λ k. h (suc k)))
+fit_entries (z ∷ zs) h = and_from (fits z) (row_fits zs) (h 0) (fit_entries zs (λ k. h (suc k)))
 
 pub sums_fit : (hs gs : List Load) → AreLeft hs gs → ((k q : ℕ) → row_fits (gather q (take k hs)) ≡ true) → SumsFit gs
 sums_fit hs gs l h k q =

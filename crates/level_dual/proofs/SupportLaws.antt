@@ -2,6 +2,7 @@
 use Rattle.std.proofs.Common.{◌≡◌, ℕ, zero, suc, ◌+◌, ◌<◌, ◌==◌, ◌&&◌, ◌||◌, ℤ, pos, Bool, true, false, if◌then◌else◌, List, [], ◌∷◌, ◌++◌, map, filter, length, Option, None, Some, ◌⊎◌, inl, inr, refl, ap, sym, subst, ◌∙◌, arith, nat_lt, eq-eqb, eqb-true}
 use Rattle.std.specs.Prelude.{unsigned_abs}
 use Rattle.std.specs.List.{AllByRecursion, list_any}
+use Rattle.std.proofs.lemmas.Bool.{or_cases, or_left, or_right, and_parts, and_from}
 use Rattle.cti_terms.specs.Listing.{Listing}
 use Rattle.linear_rows.specs.Members.{In}
 use Rattle.linear_rows.specs.Step.{columns}
@@ -116,25 +117,6 @@ position_of arity (r ∷ qs) q a (inl e) i =
 position_of arity (r ∷ qs) q a (inr h) i = in-right (map (λ b. (r, b)) (columns 0 (arity r))) (positions_by arity qs) (q, a) (position_of arity qs q a h i)
 
 -- ---- picked positions in order
-pub and_parts : (a b : Bool) → (a && b) ≡ true → (a ≡ true) × (b ≡ true)
-and_parts true b h = (refl, h)
-and_parts false b h = cc
-
-pub and_both : (a b : Bool) → a ≡ true → b ≡ true → (a && b) ≡ true
-and_both true b h k = k
-and_both false b h k = cc
-
-or_cases : (a b : Bool) → (a || b) ≡ true → (a ≡ true) ⊎ (b ≡ true)
-or_cases true b h = inl refl
-or_cases false b h = inr h
-
-or_right : (a b : Bool) → b ≡ true → (a || b) ≡ true
-or_right true b h = refl
-or_right false b h = h
-
-or_left : (a b : Bool) → a ≡ true → (a || b) ≡ true
-or_left true b h = refl
-or_left false b h = cc
 
 same_is : (x y : Position) → same_position x y ≡ true → y ≡ x
 same_is x y h =
@@ -145,7 +127,7 @@ same_is x y h =
 
 is_same : (x y : Position) → y ≡ x → same_position x y ≡ true
 is_same x y e =
-    and_both (x.0 == y.0) (x.1 == y.1) (eq-eqb x.0 y.0 (ap (λ (z : Position). z.0) (sym e))) (eq-eqb x.1 y.1 (ap (λ (z : Position). z.1) (sym e)))
+    and_from (x.0 == y.0) (x.1 == y.1) (eq-eqb x.0 y.0 (ap (λ (z : Position). z.0) (sym e))) (eq-eqb x.1 y.1 (ap (λ (z : Position). z.1) (sym e)))
 
 picked_any : (ps : List Position) (x : Position) → list_any (same_position x) ps ≡ true → In x ps
 picked_any [] x h = cc

@@ -18,18 +18,10 @@ use Rattle.prolog_tokens.specs.declared.token.Token.{Token}
 use Rattle.prolog_tokens.specs.declared.fault.LexFault.{LexFault}
 use Rattle.prolog_tokens.proofs.FitLemmas.{and_false}
 use Rattle.prolog_tokens.proofs.WholeGapLemmas.{gap_ends, gap_len-IsGap}
-use Rattle.prolog_tokens.proofs.NextLemmas.{no_space_at, next_behind, next_is, no_next, token_within}
+use Rattle.prolog_tokens.proofs.NextLemmas.{or_false, or_first, no_space_at, next_behind, next_is, no_next, token_within}
 use Rattle.prolog_reader.specs.Completion.{end_behind}
 use Rattle.prolog_reader.proofs.Marks.{Mark, paren, underscore, paren_end, bracket, bracket_end, brace_end, dot, mark_byte, mark_kind, Fine, AllFine}
 use Rattle.prolog_reader.proofs.CutLemmas.{Separates, opens, lists, spaces, name_kind, token_cut}
-
-or_false : (a b : Bool) → (a || b) ≡ false → b ≡ false
-or_false true b h = cc
-or_false false b h = h
-
-or_first : (a b : Bool) → (a || b) ≡ false → a ≡ false
-or_first true b h = cc
-or_first false b h = refl
 
 -- ---- gaps
 

@@ -1,7 +1,7 @@
 -- The computed next token is the one of the forms.
 use Rattle.std.proofs.Common.{◌≡◌, ℕ, ◌+◌, ◌-◌, ◌<◌, ◌≤◌, ◌||◌, ◌==◌, nat_lt, Bool, true, false, List, [], ◌∷◌, ◌++◌, length, drop, Some, None, Result, Ok, Err, inl, inr, ⊎_elim, refl, sym, ◌∙◌, ap, subst, append-nil, length-append, length-drop, length-take, arith, if◌then◌else◌}
 use Rattle.std.specs.Char.{is_digit as is_digit_in}
-use Rattle.std.proofs.lemmas.Bool.{ltb-true, ltb-false, lt-ltb, le-ltb}
+use Rattle.std.proofs.lemmas.Bool.{ltb-true, ltb-false, lt-ltb, le-ltb, or_parts}
 use Rattle.std.proofs.lemmas.List.{drop_at, drop_all, drop-drop, nil_from_length}
 use Rattle.prolog_tokens.specs.Bytes.{is_small, is_capital, is_word, is_graphic, is_layout, begins_comment}
 use Rattle.prolog_tokens.specs.Places.{moved, further}
@@ -21,13 +21,11 @@ use Rattle.prolog_tokens.proofs.RunLemmas.{length-run}
 use Rattle.prolog_tokens.proofs.WholeGapLemmas.{IsWholeGap, gap_ends, whole_gap, gap_len-IsGap, gap_fault_found}
 use Rattle.prolog_tokens.proofs.LongestLemmas.{IsMatch, is_match, fault_is_found, only_token}
 
-or_false : (a b : Bool) → (a || b) ≡ false → b ≡ false
-or_false true b h = cc
-or_false false b h = h
+pub or_false : (a b : Bool) → (a || b) ≡ false → b ≡ false
+or_false a b h = (or_parts a b h).1
 
-or_first : (a b : Bool) → (a || b) ≡ false → a ≡ false
-or_first true b h = cc
-or_first false b h = refl
+pub or_first : (a b : Bool) → (a || b) ≡ false → a ≡ false
+or_first a b h = (or_parts a b h).0
 
 no_comment : (bs : List ℕ) → begins_space bs ≡ false → begins_comment bs ≡ false
 no_comment [] h = refl

@@ -9,7 +9,7 @@ use Rattle.certificate.specs.declared.fact.Fact.TheVariants as fact
 use Rattle.cert_structure.specs.Numbered.{AreEach, facts_from}
 use Rattle.cert_structure.specs.Order.{is_note, pred_text}
 use Rattle.cert_structure.specs.Shape as shape
-use Rattle.cert_structure.specs.Shape.{arity_of, body_of, head_of, mappings_of, proofs_of_call, rows_of_atoms}
+use Rattle.cert_structure.specs.Shape.{arity_in, body_of, head_of, mappings_of, proofs_of_call, rows_of_atoms}
 use Rattle.cert_structure.specs.Structure.{AreNotes}
 use Rattle.cert_structure.specs.declared.parts.Parts.{Parts}
 use Rattle.cti_terms.specs.Listing.{IsProgram, Listing}
@@ -114,7 +114,7 @@ module _ (p : Listing) (names : List (List ℕ)) (comps : Partition) (sizes : Si
 
   mappings_hold : MappingsHold size_row p comps parts
   mappings_hold = record {
-    levels = subst (λ (ls : List (List LevelPart)). AreEach (length p.preds) (λ a l. (length l ≡ mappings_of comps ls a) × AllByRecursion (shape.IsLevel (arity_of p a)) l) ls) (sym are.levels)
+    levels = subst (λ (ls : List (List LevelPart)). AreEach (length p.preds) (λ a l. (length l ≡ mappings_of comps ls a) × AllByRecursion (shape.IsLevel (arity_in p a)) l) ls) (sym are.levels)
         (levels_shape size_row p comps parts.rows found program components founds_here (subst (AllByRecursion (AllByRecursion IsPartBelow)) are.levels bounded.levels));
     falls =
         subst (λ (ls : List (List LevelPart)).

@@ -3,6 +3,7 @@ use Rattle.std.proofs.Common.{◌≡◌, ℕ, zero, suc, ◌+◌, ◌<◌, ◌�
 use Rattle.std.specs.Prelude.{IsSomeAnd}
 use Rattle.std.specs.List.{AllByRecursion, list_any}
 use Rattle.std.proofs.lemmas.Bool.Decides.{nat_tests}
+use Rattle.std.proofs.lemmas.Bool.{or_cases, or_left, or_right}
 use Rattle.bool_diagrams.specs.declared.cube.Cell.{Cell}
 use Rattle.call_components.specs.Partition.{Partition, AreComponents, IsIn}
 use Rattle.cert_structure.specs.Shape.{items_of}
@@ -81,15 +82,7 @@ positive_too (r ∷ ps) i l k part p (inr h) c = positive_too ps (suc i) l k tai
 any_place : {X : Type 0} (f : X → Bool) (xs : List X) (i : ℕ) (x : X) → slice_get xs i ≡ Some x → f x ≡ true → list_any f xs ≡ true
 any_place f [] i x e h = cc
 any_place f (y ∷ ys) zero x e h = let same : y ≡ x = cc in or_left (f y) (list_any f ys) (ap f same ∙ h)
-  where
-    or_left : (a b : Bool) → a ≡ true → (a || b) ≡ true
-    or_left true b h = refl
-    or_left false b h = cc
 any_place f (y ∷ ys) (suc i) x e h = or_right (f y) (list_any f ys) (any_place f ys i x e h)
-  where
-    or_right : (a b : Bool) → b ≡ true → (a || b) ≡ true
-    or_right true b h = refl
-    or_right false b h = h
 
 in_case : (b : Bool) (xs : List ℕ) (i : ℕ) → b ≡ true → 0 < coefficient xs i → 0 < coefficient (if b then xs else []) i
 in_case true xs i e h = h
@@ -144,10 +137,6 @@ module _ (truth : (ℕ → Bool) → Tree → Bool) (expression : ℕ → Tree �
   upper_true : (f : List Bool → Bool) (row : List Bool) → all_upper f row ≡ true → (us : List Bool) → IsUpper us row → f us ≡ true
   upper_true f row h us u = upper_all f row us h u
 
-  or_cases : (a b : Bool) → (a || b) ≡ true → (a ≡ true) ⊎ (b ≡ true)
-  or_cases true b h = inl refl
-  or_cases false b h = inr h
-
   -- what some mapping of the list admits is allowed
   no_more : (c q : ℕ) → IsIn comps c q → MappingsAreExact expression p comps parts c q [] → (ns : List Solved) → AllByRecursion (IsSolvedMapping expression p comps parts truth c) ns
       → (row : List Bool) → HasArity p.preds q (length row) → admitted_by expression p comps parts truth ns q row ≡ true → IsTrue (allowed p parts q row)
@@ -175,17 +164,9 @@ module _ (truth : (ℕ → Bool) → Tree → Bool) (expression : ℕ → Tree �
   same_support c q inside mappings m few fewer cubes at row arity h [] some = absurd some
   same_support c q inside mappings m few fewer cubes at row arity h (n ∷ ns) (inr some) =
       or_right (all_upper (n.1 q) row) (admitted_by expression p comps parts truth ns q row) (same_support c q inside mappings m few fewer cubes at row arity h ns some)
-    where
-      or_right : (a b : Bool) → b ≡ true → (a || b) ≡ true
-      or_right true b h = refl
-      or_right false b h = h
   same_support c q inside mappings m few fewer cubes at row arity h (n ∷ ns) (inl (solved, same)) =
       or_left (all_upper (n.1 q) row) (admitted_by expression p comps parts truth ns q row) (all_from_upper (n.1 q) row uppers)
     where
-      or_left : (a b : Bool) → a ≡ true → (a || b) ≡ true
-      or_left true b h = refl
-      or_left false b h = cc
-
       printed : PreIsGreatest truth p comps parts c m
       printed = pre truth p program comps components parts counted exact c q m inside fewer
 

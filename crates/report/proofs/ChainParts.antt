@@ -63,7 +63,7 @@ rows_are n [] long fit = tt
 rows_are n (r ∷ rs) long fit =
     (row_of n r (All-head (λ (x : Row). length x.coeffs ≡ n) r rs long) (All-head (λ z. row_fits z ≡ true) (plain_row r) (plain_rows rs) fit), rows_are n rs (All-tail (λ (x : Row). length x.coeffs ≡ n) r rs long) (All-tail (λ z. row_fits z ≡ true) (plain_row r) (plain_rows rs) fit))
 
-arity_is : (p : Listing) (q n : ℕ) → HasArity p.preds q n → n ≡ shape.arity_of p q
+arity_is : (p : Listing) (q n : ℕ) → HasArity p.preds q n → n ≡ shape.arity_in p q
 arity_is p q n h = go (slice_get p.preds q) h
   where
     go : (o : Option Pred) → IsSomeAnd o (λ d. d.arity ≡ n) → n ≡ unwrap_or (option_map (λ (d : Pred). d.arity) o) 0
@@ -145,12 +145,12 @@ clause_body p k c e = ap (λ (o : Option Clause). unwrap_or (option_map (λ (x :
 
 module _ (expression : ℕ → Tree → List ℤ) (p : Listing) (rows : List Rows) (proofs : List (List Multipliers)) (sizes : AreSizes p.preds rows) (fit : (q : ℕ) → All (λ r. row_fits r ≡ true) (rows_of rows q))
     (proved : AreProved expression (rows_of rows) p.clauses proofs) (below : AllByRecursion (AllByRecursion AreMultipliersBelow) proofs) where
-  rows_shape : (q : ℕ) (r : Rows) → slice_get rows q ≡ Some r → (r.width ≡ shape.arity_of p q) × AllByRecursion (shape.IsSizeRow (shape.arity_of p q)) r.list
+  rows_shape : (q : ℕ) (r : Rows) → slice_get rows q ≡ Some r → (r.width ≡ shape.arity_in p q) × AllByRecursion (shape.IsSizeRow (shape.arity_in p q)) r.list
   rows_shape q r e =
       let w = sizes.width q r e in
       let a = arity_is p q r.width w.0 in
       let plain : rows_of rows q ≡ plain_rows r.list = ap plain_or_none e in
-      (a, rows_are (shape.arity_of p q) r.list (subst (λ (n : ℕ). HaveWidth n r.list) a w.1) (subst (λ (zs : List (List ℤ)). All (λ z. row_fits z ≡ true) zs) plain (fit q)))
+      (a, rows_are (shape.arity_in p q) r.list (subst (λ (n : ℕ). HaveWidth n r.list) a w.1) (subst (λ (zs : List (List ℤ)). All (λ z. row_fits z ≡ true) zs) plain (fit q)))
 
   clause_there : (k : ℕ) (ms : List Multipliers) → slice_get proofs k ≡ Some ms → (c : Clause) × (slice_get p.clauses k ≡ Some c)
   clause_there k ms e = let l = place_below proofs k ms e in let n = proved_count expression (rows_of rows) p.clauses proofs proved in there p.clauses k (omega arith)
@@ -178,7 +178,7 @@ module _ (expression : ℕ → Tree → List ℤ) (p : Listing) (rows : List Row
 
   pub chain_sizes_hold : SizesHold expression p rows proofs
   chain_sizes_hold = record {
-    shape = are_each (length p.preds) (λ q r. (r.width ≡ shape.arity_of p q) × AllByRecursion (shape.IsSizeRow (shape.arity_of p q)) r.list) rows sizes.each rows_shape;
+    shape = are_each (length p.preds) (λ q r. (r.width ≡ shape.arity_in p q) × AllByRecursion (shape.IsSizeRow (shape.arity_in p q)) r.list) rows sizes.each rows_shape;
     proofs_shape = are_each (length p.clauses) (λ k. AreEach (shape.rows_of rows (shape.head_of p k)) (λ _. shape.AreMultipliers (shape.rows_of_atoms rows (shape.body_of p k)))) proofs
         (proved_count expression (rows_of rows) p.clauses proofs proved) proof_shape;
     hold = keeps;

@@ -7,7 +7,7 @@ use Rattle.std.proofs.lemmas.List.{length-map}
 use Rattle.call_components.specs.Partition.{AreComponents, IsIn, Partition}
 use Rattle.cert_checker.specs.Claimed as claimed
 use Rattle.cert_modes.specs.Modes.{coefficients_of, natural, naturals}
-use Rattle.cert_structure.specs.Shape.{arity_of, first_of, is_recursive, is_same, items_of}
+use Rattle.cert_structure.specs.Shape.{arity_in, first_of, is_recursive, is_same, items_of}
 use Rattle.cert_structure.specs.declared.parts.Parts.{Parts}
 use Rattle.cti_terms.specs.Listing.{IsProgram, Listing}
 use Rattle.cti_terms.specs.Tree.{Tree}
@@ -107,9 +107,9 @@ module _ (expression : ℕ → Tree → List ℤ) (p : Listing) (comps : Partiti
   count = ap (λ (ls : List (List LevelPart)). length (items_of ls q)) levels_eq ∙ count_deep expression p comps parts.rows found program components founds c q f inside at recursive
 
   -- a member's part in a mapping
-  part_at : (r m : ℕ) (mm : Mapping) → IsIn comps c r → slice_get f.mappings m ≡ Some mm → slice_get (items_of parts.levels r) m ≡ Some (part_or_zero (arity_of p r) (level_in mm.measures r))
+  part_at : (r m : ℕ) (mm : Mapping) → IsIn comps c r → slice_get f.mappings m ≡ Some mm → slice_get (items_of parts.levels r) m ≡ Some (part_or_zero (arity_in p r) (level_in mm.measures r))
   part_at r m mm ir em =
-      let g = λ (m : Mapping). part_or_zero (arity_of p r) (level_in m.measures r) in
+      let g = λ (m : Mapping). part_or_zero (arity_in p r) (level_in m.measures r) in
       let own = ap (λ (ls : List (List LevelPart)). items_of ls r) levels_eq ∙ levels_is expression p comps parts.rows found program components founds r (member_below expression p comps parts.rows found program components founds c r ir) ∙ levels_deep expression p comps parts.rows found program components founds c r f ir at (recursive_at expression p comps parts.rows found program components founds c r true ir answer) in
       ap (λ (ls : List LevelPart). slice_get ls m) own ∙ mapped_place g f.mappings m mm em
 
@@ -132,7 +132,7 @@ module _ (expression : ℕ → Tree → List ℤ) (p : Listing) (comps : Partiti
       im = by_places (IsMappingOf expression p (rows_of parts.rows) comps c) f.mappings is.mappings m mm em
 
       natural_parts : (r : ℕ) (l : LevelPart) → level_in mm.measures r ≡ Some l → map natural l.coeffs ≡ map unsigned_abs l.coeffs
-      natural_parts r l e = naturals_are l.coeffs (measured (λ (x : ℕ) (l : LevelPart). IsLevelPart (arity_of p x) l) mm.measures r l im.measures.parts e).naturals
+      natural_parts r l e = naturals_are l.coeffs (measured (λ (x : ℕ) (l : LevelPart). IsLevelPart (arity_in p x) l) mm.measures r l im.measures.parts e).naturals
 
       coefficients : (r : ℕ) → (if is_member comps c r then coefficients_of parts.levels m r else []) ≡ dual.natural_coefficients (level_in mm.measures r)
       coefficients r = go (is_member comps c r) refl
@@ -143,7 +143,7 @@ module _ (expression : ℕ → Tree → List ℤ) (p : Listing) (comps : Partiti
               let (l, el) = level_there expression p comps parts.rows found program components founds c r mm ir im in
               (λ i. if e i then coefficients_of parts.levels m r else [])
               ∙ ap naturals (part_at r m mm ir em)
-              ∙ ap (λ (o : Option LevelPart). naturals (Some (part_or_zero (arity_of p r) o))) el
+              ∙ ap (λ (o : Option LevelPart). naturals (Some (part_or_zero (arity_in p r) o))) el
               ∙ natural_parts r l el
               ∙ ap dual.natural_coefficients (sym el)
           go false e = (λ i. if e i then coefficients_of parts.levels m r else []) ∙ ap dual.natural_coefficients (sym (none_outside r mm im e))
@@ -158,7 +158,7 @@ module _ (expression : ℕ → Tree → List ℤ) (p : Listing) (comps : Partiti
               (λ i. if e i then (claimed.mapping_of parts m).offset r else 0)
               ∙ ap (λ (ls : List LevelPart). claimed.natural_offset (slice_get ls m)) (sym (list_is parts.levels r))
               ∙ ap claimed.natural_offset (part_at r m mm ir em)
-              ∙ ap (λ (o : Option LevelPart). claimed.natural_offset (Some (part_or_zero (arity_of p r) o))) el
+              ∙ ap (λ (o : Option LevelPart). claimed.natural_offset (Some (part_or_zero (arity_in p r) o))) el
               ∙ ap dual.natural_offset (sym el)
           go false e = (λ i. if e i then (claimed.mapping_of parts m).offset r else 0) ∙ ap dual.natural_offset (sym (none_outside r mm im e))
 

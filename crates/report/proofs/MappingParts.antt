@@ -13,7 +13,7 @@ use Rattle.cert_checker.specs.Proved.{IsZero}
 use Rattle.cert_checker.specs.Shape.{AreTogether}
 use Rattle.cert_structure.specs.Numbered.{AreEach}
 use Rattle.cert_structure.specs.Shape as shape
-use Rattle.cert_structure.specs.Shape.{arity_of, body_of, first_of, head_of, is_own_call, is_recursive, is_same, is_together, items_of, mappings_of, proofs_of_call, rows_of_atoms}
+use Rattle.cert_structure.specs.Shape.{arity_in, body_of, first_of, head_of, is_own_call, is_recursive, is_same, is_together, items_of, mappings_of, proofs_of_call, rows_of_atoms}
 use Rattle.cti_terms.specs.Listing.{IsAtom, IsClause, IsProgram, Listing}
 use Rattle.cti_terms.specs.Tree.{Tree}
 use Rattle.cti_terms.specs.declared.atom_list.Atom.{Atom}
@@ -234,37 +234,37 @@ module _ (expression : ℕ → Tree → List ℤ) (p : Listing) (comps : Partiti
   pub levels_is : (q : ℕ) → q < n → items_of levels q ≡ levels_at p comps found q
   levels_is q less = listed_at (levels_at p comps found) n q less
 
-  pub levels_flat : (q : ℕ) → is_recursive comps q ≡ false → levels_at p comps found q ≡ zero_part (arity_of p q) ∷ []
-  levels_flat q e = λ i. if e i then map (λ (m : Mapping). part_or_zero (arity_of p q) (level_in m.measures q)) (mappings_at comps found q) else zero_part (arity_of p q) ∷ []
+  pub levels_flat : (q : ℕ) → is_recursive comps q ≡ false → levels_at p comps found q ≡ zero_part (arity_in p q) ∷ []
+  levels_flat q e = λ i. if e i then map (λ (m : Mapping). part_or_zero (arity_in p q) (level_in m.measures q)) (mappings_at comps found q) else zero_part (arity_in p q) ∷ []
 
-  pub levels_deep : (c q : ℕ) (f : Found) → IsIn comps c q → slice_get found c ≡ Some f → is_recursive comps q ≡ true → levels_at p comps found q ≡ map (λ (m : Mapping). part_or_zero (arity_of p q) (level_in m.measures q)) f.mappings
+  pub levels_deep : (c q : ℕ) (f : Found) → IsIn comps c q → slice_get found c ≡ Some f → is_recursive comps q ≡ true → levels_at p comps found q ≡ map (λ (m : Mapping). part_or_zero (arity_in p q) (level_in m.measures q)) f.mappings
   levels_deep c q f inside at e =
       let ms = mappings_are c q f inside at in
-      λ i. if e i then map (λ (m : Mapping). part_or_zero (arity_of p q) (level_in m.measures q)) (ms i) else zero_part (arity_of p q) ∷ []
+      λ i. if e i then map (λ (m : Mapping). part_or_zero (arity_in p q) (level_in m.measures q)) (ms i) else zero_part (arity_in p q) ∷ []
 
   found_is : (c q : ℕ) (f : Found) → IsIn comps c q → slice_get found c ≡ Some f → is_recursive comps q ≡ true → IsFound expression p comps (rows_of rows) c f
   found_is c q f inside at e = founds.are c f at (answer_at c q true inside e)
 
-  parts_are : (q : ℕ) → q < n → AllByRecursion (IsLevelPart (arity_of p q)) (levels_at p comps found q)
+  parts_are : (q : ℕ) → q < n → AllByRecursion (IsLevelPart (arity_in p q)) (levels_at p comps found q)
   parts_are q less = go (is_recursive comps q) refl
     where
-      go : (b : Bool) → is_recursive comps q ≡ b → AllByRecursion (IsLevelPart (arity_of p q)) (levels_at p comps found q)
-      go false e = subst (AllByRecursion (IsLevelPart (arity_of p q))) (sym (levels_flat q e)) (zero_is (arity_of p q), tt)
+      go : (b : Bool) → is_recursive comps q ≡ b → AllByRecursion (IsLevelPart (arity_in p q)) (levels_at p comps found q)
+      go false e = subst (AllByRecursion (IsLevelPart (arity_in p q))) (sym (levels_flat q e)) (zero_is (arity_in p q), tt)
       go true e =
           let (c, inside) = in_some q less in
           let (f, at) = found_at c q inside in
           let is = found_is c q f inside at e in
-          subst (AllByRecursion (IsLevelPart (arity_of p q))) (sym (levels_deep c q f inside at e))
-          (all_mapped (IsLevelPart (arity_of p q)) (λ (m : Mapping). part_or_zero (arity_of p q) (level_in m.measures q)) f.mappings
-          (all_weaker (IsMappingOf expression p (rows_of rows) comps c) (λ (m : Mapping). IsLevelPart (arity_of p q) (part_or_zero (arity_of p q) (level_in m.measures q)))
-          (λ m im. part_is (arity_of p q) (level_in m.measures q) (λ l el. measured (λ (x : ℕ) (l : LevelPart). IsLevelPart (arity_of p x) l) m.measures q l im.measures.parts el)) f.mappings is.mappings))
+          subst (AllByRecursion (IsLevelPart (arity_in p q))) (sym (levels_deep c q f inside at e))
+          (all_mapped (IsLevelPart (arity_in p q)) (λ (m : Mapping). part_or_zero (arity_in p q) (level_in m.measures q)) f.mappings
+          (all_weaker (IsMappingOf expression p (rows_of rows) comps c) (λ (m : Mapping). IsLevelPart (arity_in p q) (part_or_zero (arity_in p q) (level_in m.measures q)))
+          (λ m im. part_is (arity_in p q) (level_in m.measures q) (λ l el. measured (λ (x : ℕ) (l : LevelPart). IsLevelPart (arity_in p x) l) m.measures q l im.measures.parts el)) f.mappings is.mappings))
 
   -- how many mappings a predicate has
   count_flat : (q : ℕ) → q < n → is_recursive comps q ≡ false → length (items_of levels q) ≡ 1
   count_flat q less e = ap length (levels_is q less ∙ levels_flat q e)
 
   pub count_deep : (c q : ℕ) (f : Found) → IsIn comps c q → slice_get found c ≡ Some f → is_recursive comps q ≡ true → length (items_of levels q) ≡ length f.mappings
-  count_deep c q f inside at e = ap length (levels_is q (member_below c q inside) ∙ levels_deep c q f inside at e) ∙ length-map f.mappings (λ (m : Mapping). part_or_zero (arity_of p q) (level_in m.measures q))
+  count_deep c q f inside at e = ap length (levels_is q (member_below c q inside) ∙ levels_deep c q f inside at e) ∙ length-map f.mappings (λ (m : Mapping). part_or_zero (arity_in p q) (level_in m.measures q))
 
   same_count : (c a b : ℕ) → IsIn comps c a → IsIn comps c b → length (items_of levels a) ≡ length (items_of levels b)
   same_count c a b ia ib = go (is_recursive comps a) refl
@@ -275,7 +275,7 @@ module _ (expression : ℕ → Tree → List ℤ) (p : Listing) (comps : Partiti
           let (f, at) = found_at c a ia in
           count_deep c a f ia at e ∙ sym (count_deep c b f ib at (recursive_at c b true ib (answer_at c a true ia e)))
 
-  arity_there : (q : ℕ) (x : Pred) → slice_get p.preds q ≡ Some x → arity_of p q ≡ x.arity
+  arity_there : (q : ℕ) (x : Pred) → slice_get p.preds q ≡ Some x → arity_in p q ≡ x.arity
   arity_there q x e = ap (λ (o : Option Pred). unwrap_or (option_map (λ (d : Pred). d.arity) o) 0) e
 
   pub levels_are : AreLevels p comps levels
@@ -285,7 +285,7 @@ module _ (expression : ℕ → Tree → List ℤ) (p : Listing) (comps : Partiti
       wide = λ q m x part e at.
           let less = place_below p.preds q x e in
           let own : slice_get (levels_at p comps found q) m ≡ Some part = ap (λ (ls : List LevelPart). slice_get ls m) (sym (levels_is q less)) ∙ at in
-          (by_places (IsLevelPart (arity_of p q)) (levels_at p comps found q) (parts_are q less) m part own).each ∙ arity_there q x e;
+          (by_places (IsLevelPart (arity_in p q)) (levels_at p comps found q) (parts_are q less) m part own).each ∙ arity_there q x e;
     };
     together = same_count;
   }
@@ -326,18 +326,18 @@ module _ (expression : ℕ → Tree → List ℤ) (p : Listing) (comps : Partiti
     both k [] h b = tt
     both k (l ∷ ls) h b = (level_is k l h.0 b.0, both k ls h.1 b.1)
 
-    level_shape : (q : ℕ) (ls : List LevelPart) → slice_get levels q ≡ Some ls → (length ls ≡ mappings_of comps levels q) × AllByRecursion (shape.IsLevel (arity_of p q)) ls
+    level_shape : (q : ℕ) (ls : List LevelPart) → slice_get levels q ≡ Some ls → (length ls ≡ mappings_of comps levels q) × AllByRecursion (shape.IsLevel (arity_in p q)) ls
     level_shape q ls e =
         let (less, same) = levels_at_place q ls e in
-        (ap length (sym same ∙ sym (levels_is q less)) ∙ mappings_count q less, both (arity_of p q) ls (subst (AllByRecursion (IsLevelPart (arity_of p q))) same (parts_are q less)) (by_places (AllByRecursion IsPartBelow) levels below q ls e))
+        (ap length (sym same ∙ sym (levels_is q less)) ∙ mappings_count q less, both (arity_in p q) ls (subst (AllByRecursion (IsLevelPart (arity_in p q))) same (parts_are q less)) (by_places (AllByRecursion IsPartBelow) levels below q ls e))
 
-    pub levels_shape : AreEach (length p.preds) (λ a ls. (length ls ≡ mappings_of comps levels a) × AllByRecursion (shape.IsLevel (arity_of p a)) ls) levels
-    levels_shape = are_each n (λ a ls. (length ls ≡ mappings_of comps levels a) × AllByRecursion (shape.IsLevel (arity_of p a)) ls) levels (mapped_count (levels_at p comps found) n) level_shape
+    pub levels_shape : AreEach (length p.preds) (λ a ls. (length ls ≡ mappings_of comps levels a) × AllByRecursion (shape.IsLevel (arity_in p a)) ls) levels
+    levels_shape = are_each n (λ a ls. (length ls ≡ mappings_of comps levels a) × AllByRecursion (shape.IsLevel (arity_in p a)) ls) levels (mapped_count (levels_at p comps found) n) level_shape
 
   pub measures_zero : (c q : ℕ) → IsIn comps c q → slice_get comps.recursive c ≡ Some false → AllByRecursion IsZero (list_at levels q)
   measures_zero c q inside e =
       let flat = recursive_at c q false inside e in
-      subst (AllByRecursion IsZero) (sym (levels_flat q flat) ∙ sym (levels_is q (member_below c q inside)) ∙ list_is levels q) ((refl, zeros_zero (arity_of p q)), tt)
+      subst (AllByRecursion IsZero) (sym (levels_flat q flat) ∙ sym (levels_is q (member_below c q inside)) ∙ list_is levels q) ((refl, zeros_zero (arity_in p q)), tt)
 
   -- ---- falls
   pub level_there : (c q : ℕ) (m : Mapping) → IsIn comps c q → IsMappingOf expression p (rows_of rows) comps c m → (l : LevelPart) × (level_in m.measures q ≡ Some l)
@@ -515,8 +515,8 @@ module _ (expression : ℕ → Tree → List ℤ) (p : Listing) (comps : Partiti
       let (f, at) = found_at c x.head.pred.0 ih in
       let answer = recursive_here c k j x b ek ej ih ib in
       let found_f = founds.are c f at answer in
-      let gh = λ (m : Mapping). part_or_zero (arity_of p x.head.pred.0) (level_in m.measures x.head.pred.0) in
-      let gb = λ (m : Mapping). part_or_zero (arity_of p b.pred.0) (level_in m.measures b.pred.0) in
+      let gh = λ (m : Mapping). part_or_zero (arity_in p x.head.pred.0) (level_in m.measures x.head.pred.0) in
+      let gb = λ (m : Mapping). part_or_zero (arity_in p b.pred.0) (level_in m.measures b.pred.0) in
       let g = λ (m : Mapping). by_or_none (fall_in m.falls (suc k) (suc j)) in
       let heads = sym (list_is levels x.head.pred.0) ∙ levels_is x.head.pred.0 (member_below c x.head.pred.0 ih) ∙ levels_deep c x.head.pred.0 f ih at (recursive_at c x.head.pred.0 true ih answer) in
       let calls = sym (list_is levels b.pred.0) ∙ levels_is b.pred.0 (member_below c b.pred.0 ib) ∙ levels_deep c b.pred.0 f ib at (recursive_at c b.pred.0 true ib answer) in
@@ -530,8 +530,8 @@ module _ (expression : ℕ → Tree → List ℤ) (p : Listing) (comps : Partiti
       let (real, ef, shown) = own_fall c k j x b mm ek ej ih ib im in
       let (hl, ehl) = level_there c x.head.pred.0 mm ih im in
       let (cl, ecl) = level_there c b.pred.0 mm ib im in
-      let head_is : hl ≡ head = sym (ap (part_or_zero (arity_of p x.head.pred.0)) ehl) ∙ same_h in
-      let call_is : cl ≡ call = sym (ap (part_or_zero (arity_of p b.pred.0)) ecl) ∙ sym (ap gb one) ∙ same_c in
+      let head_is : hl ≡ head = sym (ap (part_or_zero (arity_in p x.head.pred.0)) ehl) ∙ same_h in
+      let call_is : cl ≡ call = sym (ap (part_or_zero (arity_in p b.pred.0)) ecl) ∙ sym (ap gb one) ∙ same_c in
       let by_is : real ≡ by = sym (ap by_or_none ef) ∙ sym (ap g two) ∙ same_b in
       let s = (shown hl cl ehl ecl).1 in
       subst (λ (y : Multipliers). IsShown (short_system expression (rows_of rows) x.vars (take j x.body)) (fall_of expression x b head call) y) by_is

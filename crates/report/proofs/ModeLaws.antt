@@ -10,7 +10,7 @@ use Rattle.bool_diagrams.specs.declared.cube.Cell.{Cell}
 use Rattle.bool_diagrams.specs.declared.cube.Cell.TheVariants.{Zero, One, Any}
 use Rattle.call_components.specs.Partition.{Partition, AreComponents, IsIn}
 use Rattle.cert_structure.specs.Numbered.{AreEach, EachFrom}
-use Rattle.cert_structure.specs.Shape.{arity_of, Ascend, HasWidth, is_same, is_together, IsMode, items_of}
+use Rattle.cert_structure.specs.Shape.{arity_in, Ascend, HasWidth, is_same, is_together, IsMode, items_of}
 use Rattle.cert_structure.specs.declared.parts.Parts.{Parts}
 use Rattle.cti_terms.specs.Listing.{Listing, IsProgram, IsClause, IsAtom}
 use Rattle.cti_terms.specs.Tree.{Tree}
@@ -56,7 +56,7 @@ there (x ∷ xs) (suc i) l = there xs i (omega arith)
 pub item_is : {X : Type 0} (xss : List (List X)) (q : ℕ) (xs : List X) → slice_get xss q ≡ Some xs → items_of xss q ≡ xs
 item_is {X = X} xss q xs e = ap (λ (o : Option (List X)). unwrap_or o []) e
 
-arity_is : (p : Listing) (q : ℕ) (d : Pred) → slice_get p.preds q ≡ Some d → arity_of p q ≡ d.arity
+arity_is : (p : Listing) (q : ℕ) (d : Pred) → slice_get p.preds q ≡ Some d → arity_in p q ≡ d.arity
 arity_is p q d e = ap (λ (o : Option Pred). unwrap_or (option_map (λ q. q.arity) o) 0) e
 
 -- ---- cubes have the width of their rows
@@ -266,11 +266,11 @@ module _ (truth : (ℕ → Bool) → Tree → Bool) (p : Listing) (program : IsP
   each_in P [] h = tt
   each_in P (x ∷ xs) h = (h x (inl refl), each_in P xs (λ y i. h y (inr i)))
 
-  modes_at : (q : ℕ) (d : Pred) → slice_get p.preds q ≡ Some d → AllByRecursion (λ mode. IsMode (arity_of p q) mode × IsTrue (allowed p parts q (mode_row mode 1 (arity_of p q)))) (items_of parts.modes q)
+  modes_at : (q : ℕ) (d : Pred) → slice_get p.preds q ≡ Some d → AllByRecursion (λ mode. IsMode (arity_in p q) mode × IsTrue (allowed p parts q (mode_row mode 1 (arity_in p q)))) (items_of parts.modes q)
   modes_at q d at =
-      subst (λ (list : List (List ℕ)). AllByRecursion (λ mode. IsMode (arity_of p q) mode × IsTrue (allowed p parts q (mode_row mode 1 (arity_of p q)))) list)
+      subst (λ (list : List (List ℕ)). AllByRecursion (λ mode. IsMode (arity_in p q) mode × IsTrue (allowed p parts q (mode_row mode 1 (arity_in p q)))) list)
       (ap (λ (n : ℕ). modes n (allowed p parts q)) (arity_is p q d at) ∙ sym (exact.minimal q d at))
-      (each_in (λ mode. IsMode (arity_of p q) mode × IsTrue (allowed p parts q (mode_row mode 1 (arity_of p q)))) (modes (arity_of p q) (allowed p parts q)) (mode_in (arity_of p q) (allowed p parts q)))
+      (each_in (λ mode. IsMode (arity_in p q) mode × IsTrue (allowed p parts q (mode_row mode 1 (arity_in p q)))) (modes (arity_in p q) (allowed p parts q)) (mode_in (arity_in p q) (allowed p parts q)))
 
   firsts : {X : Type 0} (P Q : X → Type 0) (xs : List X) → AllByRecursion (λ x. P x × Q x) xs → AllByRecursion P xs
   firsts P Q [] h = tt
@@ -280,51 +280,51 @@ module _ (truth : (ℕ → Bool) → Tree → Bool) (p : Listing) (program : IsP
   seconds P Q [] h = tt
   seconds P Q (x ∷ xs) h = (h.0.1, seconds P Q xs h.1)
 
-  modes_hold : (q : ℕ) → AllByRecursion (λ mode. IsTrue (allowed p parts q (mode_row mode 1 (arity_of p q)))) (items_of parts.modes q)
+  modes_hold : (q : ℕ) → AllByRecursion (λ mode. IsTrue (allowed p parts q (mode_row mode 1 (arity_in p q)))) (items_of parts.modes q)
   modes_hold q = go (slice_get parts.modes q) refl
     where
-      go : (o : Option (List (List ℕ))) → slice_get parts.modes q ≡ o → AllByRecursion (λ mode. IsTrue (allowed p parts q (mode_row mode 1 (arity_of p q)))) (unwrap_or o [])
+      go : (o : Option (List (List ℕ))) → slice_get parts.modes q ≡ o → AllByRecursion (λ mode. IsTrue (allowed p parts q (mode_row mode 1 (arity_in p q)))) (unwrap_or o [])
       go None e = tt
       go (Some list) e =
           let l = place_below parts.modes q list e in
           let n = counted.modes in
           let d = there p.preds q (omega arith) in
-          subst (λ (x : List (List ℕ)). AllByRecursion (λ mode. IsTrue (allowed p parts q (mode_row mode 1 (arity_of p q)))) x) (item_is parts.modes q list e)
-          (seconds (IsMode (arity_of p q)) (λ mode. IsTrue (allowed p parts q (mode_row mode 1 (arity_of p q)))) (items_of parts.modes q) (modes_at q d.0 d.1))
+          subst (λ (x : List (List ℕ)). AllByRecursion (λ mode. IsTrue (allowed p parts q (mode_row mode 1 (arity_in p q)))) x) (item_is parts.modes q list e)
+          (seconds (IsMode (arity_in p q)) (λ mode. IsTrue (allowed p parts q (mode_row mode 1 (arity_in p q)))) (items_of parts.modes q) (modes_at q d.0 d.1))
 
-  shape_modes : AreEach (length p.preds) (λ a. AllByRecursion (IsMode (arity_of p a))) parts.modes
+  shape_modes : AreEach (length p.preds) (λ a. AllByRecursion (IsMode (arity_in p a))) parts.modes
   shape_modes = record {
     count = counted.modes;
-    each = each_from (λ a. AllByRecursion (IsMode (arity_of p a))) 0 parts.modes (λ q list e.
+    each = each_from (λ a. AllByRecursion (IsMode (arity_in p a))) 0 parts.modes (λ q list e.
         let l = place_below parts.modes q list e in
         let n = counted.modes in
         let d = there p.preds q (omega arith) in
         let zero_more : q ≡ 0 + q = omega arith in
-        subst (λ (a : ℕ). AllByRecursion (IsMode (arity_of p a)) list) zero_more
-        (subst (λ (x : List (List ℕ)). AllByRecursion (IsMode (arity_of p q)) x) (item_is parts.modes q list e)
-        (firsts (IsMode (arity_of p q)) (λ mode. IsTrue (allowed p parts q (mode_row mode 1 (arity_of p q)))) (items_of parts.modes q) (modes_at q d.0 d.1))));
+        subst (λ (a : ℕ). AllByRecursion (IsMode (arity_in p a)) list) zero_more
+        (subst (λ (x : List (List ℕ)). AllByRecursion (IsMode (arity_in p q)) x) (item_is parts.modes q list e)
+        (firsts (IsMode (arity_in p q)) (λ mode. IsTrue (allowed p parts q (mode_row mode 1 (arity_in p q)))) (items_of parts.modes q) (modes_at q d.0 d.1))));
   }
 
-  spelled_width : (q : ℕ) (d : Pred) (set : List Bool → Bool) (list : List (List Cell)) → slice_get p.preds q ≡ Some d → list ≡ cubes d.arity set → AllByRecursion (HasWidth (arity_of p q)) list
+  spelled_width : (q : ℕ) (d : Pred) (set : List Bool → Bool) (list : List (List Cell)) → slice_get p.preds q ≡ Some d → list ≡ cubes d.arity set → AllByRecursion (HasWidth (arity_in p q)) list
   spelled_width q d set list at e =
-      subst (λ (cs : List (List Cell)). AllByRecursion (HasWidth (arity_of p q)) cs) (sym e) (subst (λ (n : ℕ). AllByRecursion (HasWidth n) (cubes d.arity set)) (sym (arity_is p q d at)) (cubes_width d.arity set))
+      subst (λ (cs : List (List Cell)). AllByRecursion (HasWidth (arity_in p q)) cs) (sym e) (subst (λ (n : ℕ). AllByRecursion (HasWidth n) (cubes d.arity set)) (sym (arity_is p q d at)) (cubes_width d.arity set))
 
-  shape_grounds : AreEach (length p.preds) (λ a. AllByRecursion (HasWidth (arity_of p a))) parts.grounds
+  shape_grounds : AreEach (length p.preds) (λ a. AllByRecursion (HasWidth (arity_in p a))) parts.grounds
   shape_grounds = record {
     count = counted.grounds;
-    each = each_from (λ a. AllByRecursion (HasWidth (arity_of p a))) 0 parts.grounds (λ q list e.
+    each = each_from (λ a. AllByRecursion (HasWidth (arity_in p a))) 0 parts.grounds (λ q list e.
         let l = place_below parts.grounds q list e in
         let n = counted.grounds in
         let d = there p.preds q (omega arith) in
         let zero_more : q ≡ 0 + q = omega arith in
-        subst (λ (a : ℕ). AllByRecursion (HasWidth (arity_of p a)) list) zero_more
+        subst (λ (a : ℕ). AllByRecursion (HasWidth (arity_in p a)) list) zero_more
         (spelled_width q d.0 (exact.grounds.family q) list d.1 (sym (item_is parts.grounds q list e) ∙ exact.grounds.spelled q d.0 d.1)));
   }
 
-  shape_pre : (q : ℕ) (lists : List (List (List Cell))) → slice_get parts.preconditions q ≡ Some lists → AreEach (length (items_of parts.levels q)) (λ _. AllByRecursion (HasWidth (arity_of p q))) lists
+  shape_pre : (q : ℕ) (lists : List (List (List Cell))) → slice_get parts.preconditions q ≡ Some lists → AreEach (length (items_of parts.levels q)) (λ _. AllByRecursion (HasWidth (arity_in p q))) lists
   shape_pre q lists e = record {
     count = ap length (sym (item_is parts.preconditions q lists e)) ∙ counted.mappings q;
-    each = each_from (λ _. AllByRecursion (HasWidth (arity_of p q))) 0 lists (λ m list at.
+    each = each_from (λ _. AllByRecursion (HasWidth (arity_in p q))) 0 lists (λ m list at.
         let l = place_below parts.preconditions q lists e in
         let n = counted.preconditions in
         let d = there p.preds q (omega arith) in
@@ -334,12 +334,12 @@ module _ (truth : (ℕ → Bool) → Tree → Bool) (p : Listing) (program : IsP
         spelled_width q d.0 ((pre c.0 q m c.1 few).family q) list d.1 ((pre c.0 q m c.1 few).spelled q d.0 list c.1 d.1 inner));
   }
 
-  shape_pres : AreEach (length p.preds) (λ a. AreEach (length (items_of parts.levels a)) (λ _. AllByRecursion (HasWidth (arity_of p a)))) parts.preconditions
+  shape_pres : AreEach (length p.preds) (λ a. AreEach (length (items_of parts.levels a)) (λ _. AllByRecursion (HasWidth (arity_in p a)))) parts.preconditions
   shape_pres = record {
     count = counted.preconditions;
-    each = each_from (λ a. AreEach (length (items_of parts.levels a)) (λ _. AllByRecursion (HasWidth (arity_of p a)))) 0 parts.preconditions (λ q lists e.
+    each = each_from (λ a. AreEach (length (items_of parts.levels a)) (λ _. AllByRecursion (HasWidth (arity_in p a)))) 0 parts.preconditions (λ q lists e.
         let zero_more : q ≡ 0 + q = omega arith in
-        subst (λ (a : ℕ). AreEach (length (items_of parts.levels a)) (λ _. AllByRecursion (HasWidth (arity_of p a))) lists) zero_more (shape_pre q lists e));
+        subst (λ (a : ℕ). AreEach (length (items_of parts.levels a)) (λ _. AllByRecursion (HasWidth (arity_in p a))) lists) zero_more (shape_pre q lists e));
   }
 
   all : HoldWithShape truth p comps parts

@@ -7,7 +7,7 @@ use Rattle.call_components.specs.Partition.{Partition, AreComponents}
 use Rattle.certificate.specs.declared.fact.Fact.{Fact}
 use Rattle.cert_structure.specs.Numbered.{AreEach}
 use Rattle.cert_structure.specs.Order.{listed}
-use Rattle.cert_structure.specs.Shape.{arity_of, AreMultipliers, body_of, head_of, IsLevel, IsRefutation, IsSizeRow, mappings_of, proofs_of_call, rows_of, rows_of_atoms}
+use Rattle.cert_structure.specs.Shape.{arity_in, AreMultipliers, body_of, head_of, IsLevel, IsRefutation, IsSizeRow, mappings_of, proofs_of_call, rows_of, rows_of_atoms}
 use Rattle.cert_structure.specs.Structure.{AreNotes}
 use Rattle.cert_structure.specs.declared.parts.Parts.{Parts}
 use Rattle.cert_checker.specs.Proved.{FallsHold, MeasuresAreZero}
@@ -25,13 +25,13 @@ use Rattle.report.specs.ExactModes.{AreCounted, ModesAreExact}
 
 -- what the model of sizes gives: the shape of its parts, and that its numbers hold
 pub record SizesHold (expression : ℕ → Tree → List ℤ) (p : Listing) (rows : List Rows) (proofs : List (List Multipliers)) : Type 0 where
-  pub shape : AreEach (length p.preds) (λ a r. (r.width ≡ arity_of p a) × AllByRecursion (IsSizeRow (arity_of p a)) r.list) rows
+  pub shape : AreEach (length p.preds) (λ a r. (r.width ≡ arity_in p a) × AllByRecursion (IsSizeRow (arity_in p a)) r.list) rows
   pub proofs_shape : AreEach (length p.clauses) (λ k. AreEach (rows_of rows (head_of p k)) (λ _. AreMultipliers (rows_of_atoms rows (body_of p k)))) proofs
   pub hold : (k : ℕ) (c : Clause) → slice_get p.clauses k ≡ Some c → RowsAreKept expression rows c (list_at proofs k)
 
 -- what the search for mappings gives
 pub record MappingsHold (expression : ℕ → Tree → List ℤ) (p : Listing) (comps : Partition) (parts : Parts) : Type 0 where
-  pub levels : AreEach (length p.preds) (λ a ls. (length ls ≡ mappings_of comps parts.levels a) × AllByRecursion (IsLevel (arity_of p a)) ls) parts.levels
+  pub levels : AreEach (length p.preds) (λ a ls. (length ls ≡ mappings_of comps parts.levels a) × AllByRecursion (IsLevel (arity_in p a)) ls) parts.levels
   pub falls : AreEach (length p.clauses)
       (λ k. AreEach (length (body_of p k)) (λ j. AreEach (proofs_of_call comps parts.levels (head_of p k) (slice_get (body_of p k) j)) (λ _. AreMultipliers (rows_of_atoms parts.rows (take j (body_of p k))))))
       parts.falls

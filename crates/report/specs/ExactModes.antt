@@ -9,7 +9,7 @@ use Rattle.bool_diagrams.specs.Cubes.{cubes}
 use Rattle.bool_diagrams.specs.declared.cube.Cell.{Cell}
 use Rattle.call_components.specs.Partition.{Partition, AreComponents, IsIn}
 use Rattle.cert_structure.specs.Numbered.{AreEach}
-use Rattle.cert_structure.specs.Shape.{arity_of, HasWidth, is_same, IsMode, items_of}
+use Rattle.cert_structure.specs.Shape.{arity_in, HasWidth, is_same, IsMode, items_of}
 use Rattle.cert_structure.specs.declared.parts.Parts.{Parts}
 use Rattle.cti_terms.specs.Listing.{Listing, IsProgram}
 use Rattle.cti_terms.specs.Tree.{Tree}
@@ -54,10 +54,10 @@ pub record AreCounted (p : Listing) (comps : Partition) (parts : Parts) : Type 0
 -- exact modes hold, and their lists have their shape
 pub record HoldWithShape (truth : (ℕ → Bool) → Tree → Bool) (p : Listing) (comps : Partition) (parts : Parts) : Type 0 where
   pub hold : ModesHold truth p comps parts
-  pub modes : AreEach (length p.preds) (λ a. AllByRecursion (IsMode (arity_of p a))) parts.modes
-  pub grounds : AreEach (length p.preds) (λ a. AllByRecursion (HasWidth (arity_of p a))) parts.grounds
+  pub modes : AreEach (length p.preds) (λ a. AllByRecursion (IsMode (arity_in p a))) parts.modes
+  pub grounds : AreEach (length p.preds) (λ a. AllByRecursion (HasWidth (arity_in p a))) parts.grounds
   pub preconditions : AreEach (length p.preds)
-      (λ a. AreEach (length (items_of parts.levels a)) (λ _. AllByRecursion (HasWidth (arity_of p a)))) parts.preconditions
+      (λ a. AreEach (length (items_of parts.levels a)) (λ _. AllByRecursion (HasWidth (arity_in p a)))) parts.preconditions
 
 abbrev pub ExactModesHold : Type 0
 ExactModesHold = (truth : (ℕ → Bool) → Tree → Bool) (p : Listing) (comps : Partition) (parts : Parts)

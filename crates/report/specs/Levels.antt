@@ -4,7 +4,7 @@
 -- Nothing here has to be believed.
 use Rattle.std.specs.Prelude.{◌==◌, ◌&&◌, ℕ, suc, pos, if◌then◌else◌, List, [], ◌∷◌, length, map, slice_get, Option, None, Some, option_map, unwrap_or}
 use Rattle.call_components.specs.Partition.{Partition}
-use Rattle.cert_structure.specs.Shape.{arity_of, head_of, body_of, is_own_call, is_recursive}
+use Rattle.cert_structure.specs.Shape.{arity_in, head_of, body_of, is_own_call, is_recursive}
 use Rattle.cti_terms.specs.Listing.{Listing}
 use Rattle.cti_terms.specs.declared.atom_list.Atom.{Atom}
 use Rattle.level_systems.specs.Mappings.{level_in}
@@ -59,7 +59,7 @@ module _ (p : Listing) (comps : Partition) (found : List Found) where
   -- the parts of a predicate: one of zeros, where its component is not recursive
   abbrev pub levels_at : ℕ → List LevelPart
   levels_at q =
-      if is_recursive comps q then map (λ (m : Mapping). part_or_zero (arity_of p q) (level_in m.measures q)) (mappings_at comps found q) else zero_part (arity_of p q) ∷ []
+      if is_recursive comps q then map (λ (m : Mapping). part_or_zero (arity_in p q) (level_in m.measures q)) (mappings_at comps found q) else zero_part (arity_in p q) ∷ []
 
   -- the multipliers of a call of a clause, for each mapping; clauses and calls are counted from 0 here
   abbrev pub falls_at : ℕ → ℕ → Option Atom → List Multipliers

@@ -6,7 +6,7 @@ use Rattle.std.specs.Prelude.{◌+◌, ◌==◌, ◌&&◌, ℕ, zero, suc, if◌
 use Rattle.std.specs.List.{flat_map, list_any}
 use Rattle.call_components.specs.Partition.{Partition}
 use Rattle.cert_structure.specs.Order.{pred_text}
-use Rattle.cert_structure.specs.Shape.{arity_of, first_of, is_recursive}
+use Rattle.cert_structure.specs.Shape.{arity_in, first_of, is_recursive}
 use Rattle.certificate.specs.declared.fact.Fact.{Fact}
 use Rattle.certificate.specs.declared.fact.Fact.TheVariants as fact
 use Rattle.cti_terms.specs.Listing.{Listing}
@@ -21,7 +21,7 @@ arguments_in s i a (suc n) = (if list_any (λ x. nat_eq i x) s then a ∷ [] els
 -- one list of arguments for each member
 abbrev pub arguments_of : Listing → List ℕ → ℕ → List ℕ → List (List ℕ)
 arguments_of p s i [] = []
-arguments_of p s i (q ∷ qs) = arguments_in s i 1 (arity_of p q) ∷ arguments_of p s (i + arity_of p q) qs
+arguments_of p s i (q ∷ qs) = arguments_in s i 1 (arity_in p q) ∷ arguments_of p s (i + arity_in p q) qs
 
 -- the recursive component that a predicate is the first member of
 abbrev pub led_by : Partition → ℕ → Option ℕ

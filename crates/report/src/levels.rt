@@ -2,7 +2,7 @@
 
 ghost use Rattle.std.specs.Prelude.{◌≡◌, ◌<◌, ◌≤◌, ◌+◌, ℕ, suc, IfOk, Some, length, map, slice_get};
 ghost use Rattle.call_components.specs.Partition.{AreComponents};
-ghost use Rattle.cert_structure.specs.Shape.{arity_of, body_of, head_of};
+ghost use Rattle.cert_structure.specs.Shape.{arity_in, body_of, head_of};
 ghost use Rattle.level_systems.specs.Mappings.{level_in};
 ghost use Rattle.report.specs.Levels.{by_or_none, fall_in, fall_list, falls_at, falls_from, level_list, levels_at, mappings_at, part_or_zero, refutation_list, refutation_of, zero_part};
 ghost use Rattle.report.specs.SupportNotes.{led_by};
@@ -35,7 +35,7 @@ fn part_of(
     q: PredId,
 ) -> Result<LevelPart, AllocError>
     requires { q.0 < length p.now.preds }
-    ensures { IfOk result (λ part. part ≡ part_or_zero (arity_of p.now q.0) (level_in mapping.now.measures q.0)) }
+    ensures { IfOk result (λ part. part ≡ part_or_zero (arity_in p.now q.0) (level_in mapping.now.measures q.0)) }
 {
     for measure in mapping.measures.as_slice() {
         if measure.pred.0 == q.0 {
@@ -73,7 +73,7 @@ fn parts_of(
     q: PredId,
 ) -> Result<Sequence<LevelPart>, AllocError>
     requires { q.0 < length p.now.preds }
-    ensures { IfOk result (λ parts. parts ≡ map (λ m. part_or_zero (arity_of p.now q.0) (level_in m.measures q.0)) mappings.now) }
+    ensures { IfOk result (λ parts. parts ≡ map (λ m. part_or_zero (arity_in p.now q.0) (level_in m.measures q.0)) mappings.now) }
 {
     let mut parts = Sequence::new(alloc);
     for mapping in mappings {

@@ -1,7 +1,7 @@
 -- The full set of positions.
 use Rattle.std.proofs.Common.{◌≡◌, ℕ, zero, suc, ◌+◌, ◌<◌, ◌≤◌, ◌||◌, Bool, true, false, if◌then◌else◌, List, [], ◌∷◌, ◌++◌, map, length, take, drop, nat_eq, ◌⊎◌, inl, inr, refl, ap, sym, subst, ◌∙◌, arith, eq-eqb}
 use Rattle.std.specs.List.{AllByRecursion, list_any}
-use Rattle.std.proofs.lemmas.Bool.{cases_eq}
+use Rattle.std.proofs.lemmas.Bool.{cases_eq, or_left, or_right}
 use Rattle.linear_rows.specs.Members.{In}
 use Rattle.linear_rows.proofs.Members.{in-left, in-right, in-map}
 use Rattle.linear_rows.specs.Step.{columns}
@@ -20,14 +20,6 @@ any_column k (suc n) j l h = elim (cases_eq j k) [
   | inl same ↦ or_left (nat_eq j k) _ (eq-eqb j k same)
   | inr other ↦ or_right (nat_eq j k) _ (any_column (suc k) n j (omega arith) (omega arith))
 ]
-  where
-    or_left : (a b : Bool) → a ≡ true → (a || b) ≡ true
-    or_left true b h = refl
-    or_left false b h = cc
-
-    or_right : (a b : Bool) → b ≡ true → (a || b) ≡ true
-    or_right true b h = refl
-    or_right false b h = h
 
 all_picked : (s : List ℕ) (i : ℕ) (ps : List Position) → ((j : ℕ) → i ≤ j → j < i + length ps → list_any (λ x. nat_eq j x) s ≡ true) → picked_from i ps s ≡ ps
 all_picked s i [] h = refl

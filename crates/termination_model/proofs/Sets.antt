@@ -3,6 +3,7 @@ use Rattle.std.proofs.Common.{◌≡◌, ℕ, zero, suc, ◌+◌, ◌<◌, ◌�
 use Rattle.std.specs.List.{list_all, list_any}
 use Rattle.std.proofs.lemmas.Bool.Decides.{nat_tests}
 use Rattle.std.proofs.lemmas.List.{length-map, length-append}
+use Rattle.std.proofs.lemmas.Bool.{or_cases, or_left, or_right, and_parts, and_from}
 use Rattle.linear_rows.specs.Members.{In}
 use Rattle.linear_rows.proofs.Members.{in-left, in-right, of-append, in-map}
 use Rattle.termination_model.specs.Modes.{is_part, chosen, chosen_up_to}
@@ -10,26 +11,6 @@ use Rattle.termination_model.specs.Minimal.{IsSet, IsAbove}
 
 abbrev pub Part : List ℕ → List ℕ → Type 0
 Part xs ys = (x : ℕ) → In x xs → In x ys
-
-or_cases : (a b : Bool) → (a || b) ≡ true → (a ≡ true) ⊎ (b ≡ true)
-or_cases true b h = inl refl
-or_cases false b h = inr h
-
-or_left : (a b : Bool) → a ≡ true → (a || b) ≡ true
-or_left true b h = refl
-or_left false b h = cc
-
-or_right : (a b : Bool) → b ≡ true → (a || b) ≡ true
-or_right true b h = refl
-or_right false b h = h
-
-and_parts : (a b : Bool) → (a && b) ≡ true → (a ≡ true) × (b ≡ true)
-and_parts true b h = (refl, h)
-and_parts false b h = cc
-
-and_both : (a b : Bool) → a ≡ true → b ≡ true → (a && b) ≡ true
-and_both true b h k = k
-and_both false b h k = cc
 
 eq_true : (x y : ℕ) → nat_eq x y ≡ true → x ≡ y
 eq_true x y h = grind (arith, nat_tests)
@@ -53,7 +34,7 @@ to_part (z ∷ xs) ys h x (inr i) = to_part xs ys (and_parts (list_any (λ y. na
 
 pub of_part : (xs ys : List ℕ) → Part xs ys → is_part xs ys ≡ true
 of_part [] ys h = refl
-of_part (z ∷ xs) ys h = and_both (list_any (λ y. nat_eq z y) ys) (is_part xs ys) (in_any z ys (h z (inl refl))) (of_part xs ys (λ x i. h x (inr i)))
+of_part (z ∷ xs) ys h = and_from (list_any (λ y. nat_eq z y) ys) (is_part xs ys) (in_any z ys (h z (inl refl))) (of_part xs ys (λ x i. h x (inr i)))
 
 pub part_trans : (xs ys zs : List ℕ) → is_part xs ys ≡ true → is_part ys zs ≡ true → is_part xs zs ≡ true
 part_trans xs ys zs h k = of_part xs zs (λ x i. to_part ys zs k x (to_part xs ys h x i))

@@ -2,6 +2,7 @@
 use Rattle.std.proofs.Common.{◌≡◌, ◌↔◌, inl, inr, ℕ, suc, ◌<◌, ◌≤◌, ◌==◌, Bool, true, false, ◌&&◌, ◌||◌, IsTrue, if◌then◌else◌, List, [], ◌∷◌, length, slice_get, Some, refl, ap, sym, subst, ◌∙◌, arith}
 use Rattle.std.specs.List.{list_any}
 use Rattle.std.proofs.lemmas.Bool.Decides.{nat_tests}
+use Rattle.std.proofs.lemmas.Bool.{or_cases, or_left, or_right}
 use Rattle.bool_diagrams.specs.declared.diagram.Diagram.{Diagram}
 use Rattle.bool_diagrams.specs.Cubes.{truth_rows}
 use Rattle.bool_diagrams.specs.Tree.{Tree as Rows}
@@ -13,7 +14,6 @@ use Rattle.termination_model.specs.Rows.{IsUpper}
 use Rattle.termination_model.specs.View.{all_upper, upward_union}
 use Rattle.truth_rows.specs.Rules.{KeepsSets}
 use Rattle.termination_model.proofs.Lists.{by_places}
-use Rattle.truth_rows.proofs.RowLaws.{or_cases, or_left, or_right}
 use Rattle.truth_rows.proofs.UpperLaws.{all_from_upper}
 use Rattle.termination_model.proofs.ViewLaws.{upper_all}
 

@@ -1,7 +1,7 @@
 -- Laws of ends: what is determined by what is still asked for, and sets that say enough of that.
 use Rattle.std.proofs.Common.{◌≡◌, ◌↔◌, ◌⊎◌, inl, inr, ℕ, ◌<◌, ◌≤◌, Bool, true, false, ◌&&◌, ◌||◌, IsTrue, List, [], ◌∷◌, length, map, slice_get, slice_set, Some, All, Contains, refl, ap, sym, subst, ◌∙◌, arith}
 use Rattle.std.specs.List.{AllByRecursion}
-use Rattle.std.proofs.lemmas.Bool.{and_parts, cases_eq}
+use Rattle.std.proofs.lemmas.Bool.{and_parts, cases_eq, or_cases, or_left, or_right}
 use Rattle.std.proofs.lemmas.List.Elements.{All-contains_itself}
 use Rattle.bool_diagrams.specs.Tree.{with_value}
 use Rattle.cti_terms.specs.Tree.{Tree}
@@ -9,7 +9,7 @@ use Rattle.term_size.specs.Norm.{ListsRigid}
 use Rattle.truth_rows.specs.Ends.{Agree, IsAsked, IsTold, SaysAsked}
 use Rattle.truth_rows.proofs.ListLaws.{set_elsewhere, set_there}
 use Rattle.termination_model.proofs.Lists.{place_below}
-use Rattle.truth_rows.proofs.RowLaws.{both, or_cases, or_left, or_right, same_bool, with_other, with_same}
+use Rattle.truth_rows.proofs.RowLaws.{both, same_bool, with_other, with_same}
 
 -- what is asked for later is asked for now
 pub asked_before : (ends : List ℕ) (n m x : ℕ) → n ≤ m → IsAsked ends m x → IsAsked ends n x

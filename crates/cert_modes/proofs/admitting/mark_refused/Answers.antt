@@ -4,7 +4,7 @@ use Rattle.std.specs.List.{list_all}
 use Rattle.truth_rows.proofs.SetLaws.{none}
 use Rattle.bool_diagrams.specs.Cubes.{truth_rows}
 use Rattle.bool_diagrams.specs.declared.diagram.Diagram.{Diagram}
-use Rattle.cert_structure.specs.Shape.{arity_of, items_of}
+use Rattle.cert_structure.specs.Shape.{arity_in, items_of}
 use Rattle.cti_terms.specs.declared.predicates.Pred.{Pred}
 use Rattle.cert_modes.specs.declared.fault.ModeReason.TheVariants as reason
 use Rattle.cert_modes.proofs.MarkLaws.{marked_same, note_more}
@@ -39,11 +39,11 @@ loop-q-preserved c =
     let value = c.are_admitted-admitted.ensures ∙ (λ k. list_all (λ (mode : List ℕ). truth_rows c.args.table.now d (mode_row mode 1 (wide k))) (own k)) in
     record {
       each = c.note.ensures.each ∙ i.each;
-      admitted = note_more (λ j r. r ≡ j → (x : Diagram) → slice_get c.args.sets.now j ≡ Some x → IsTrue (list_all (λ (mode : List ℕ). truth_rows c.args.table.now x (mode_row mode 1 (arity_of p j))) (items_of c.args.modes.now j))) q q reason.Mode
+      admitted = note_more (λ j r. r ≡ j → (x : Diagram) → slice_get c.args.sets.now j ≡ Some x → IsTrue (list_all (λ (mode : List ℕ). truth_rows c.args.table.now x (mode_row mode 1 (arity_in p j))) (items_of c.args.modes.now j))) q q reason.Mode
           c.args.marks.now c.loop-q.marks c.note.new.self c.are_admitted-admitted.result i.admitted (
             λ t eq x e.
                 let same : d ≡ x = one_element c.args.sets.now q d x f e in
-                subst (λ (y : Diagram). IsTrue (list_all (λ (mode : List ℕ). truth_rows c.args.table.now y (mode_row mode 1 (arity_of p q))) (items_of c.args.modes.now q))) same (sym value ∙ t),
+                subst (λ (y : Diagram). IsTrue (list_all (λ (mode : List ℕ). truth_rows c.args.table.now y (mode_row mode 1 (arity_in p q))) (items_of c.args.modes.now q))) same (sym value ∙ t),
             λ all. value ∙ all refl d f,
           ) (λ r other same. absurd (other same)) c.note.ensures.at c.note.ensures.others;
     }
@@ -53,5 +53,5 @@ returns-clause-admitted c = λ q.
     let p = c.args.p.now in
     marked_same (c.loop-q.invariant.admitted q) (
       λ h d e. h q (omega (arith, place_below c.args.sets.now q d e, c.requires.sets.each, c.loop-q-test.false, c.preds-q-end.ensures.count, c.loop-q.auto.q-end)) refl d e,
-      λ h j lt same. subst (λ (r : ℕ). (d : Diagram) → slice_get c.args.sets.now r ≡ Some d → IsTrue (list_all (λ (mode : List ℕ). truth_rows c.args.table.now d (mode_row mode 1 (arity_of p r))) (items_of c.args.modes.now r))) same h,
+      λ h j lt same. subst (λ (r : ℕ). (d : Diagram) → slice_get c.args.sets.now r ≡ Some d → IsTrue (list_all (λ (mode : List ℕ). truth_rows c.args.table.now d (mode_row mode 1 (arity_in p r))) (items_of c.args.modes.now r))) same h,
     )

@@ -5,7 +5,7 @@ use Rattle.truth_rows.specs.Sets.{AreSets, family_of}
 use Rattle.bool_diagrams.proofs.CallerLemmas.{keeps_twice}
 use Rattle.bool_diagrams.specs.Cubes.{truth_rows}
 use Rattle.bool_diagrams.specs.declared.diagram.Diagram.{Diagram}
-use Rattle.cert_structure.specs.Shape.{arity_of, items_of}
+use Rattle.cert_structure.specs.Shape.{arity_in, items_of}
 use Rattle.number_tests.specs.declared.level_part.LevelPart.{LevelPart}
 use Rattle.cert_modes.specs.Failing.{OfPred}
 use Rattle.cert_modes.specs.Marks.{IsMarked, mark_at}
@@ -25,9 +25,9 @@ mark_uncovered-requires-clause-each g c = λ q lt.
     let p = c.args.p.now in
     let sets = c.args.sets.now in
     let have = levels_of (g.N.Norm.truth c.args.norm.now) p c.preds.ensures.sound c.args.comps.now c.requires.components c.args.parts.now c.requires.shape c.args.table.now sets c.requires.ready c.requires.spell q lt in
-    let later = levels_later c.args.table.now c.mark_open.new.table c.mark_open.ensures.keeps (arity_of p q) (items_of c.args.parts.now.levels q) (items_of sets.preconditions q) have in
-    subst (λ (ls : List (List LevelPart)). HaveLevels c.mark_open.new.table (arity_of p q) (items_of ls q) (items_of c.as_slice-preconditions.result.now q)) (sym c.as_slice-levels.ensures)
-    (subst (λ (ds : List (List Diagram)). HaveLevels c.mark_open.new.table (arity_of p q) (items_of c.args.parts.now.levels q) (items_of ds q)) (sym c.as_slice-preconditions.ensures) later)
+    let later = levels_later c.args.table.now c.mark_open.new.table c.mark_open.ensures.keeps (arity_in p q) (items_of c.args.parts.now.levels q) (items_of sets.preconditions q) have in
+    subst (λ (ls : List (List LevelPart)). HaveLevels c.mark_open.new.table (arity_in p q) (items_of ls q) (items_of c.as_slice-preconditions.result.now q)) (sym c.as_slice-levels.ensures)
+    (subst (λ (ds : List (List Diagram)). HaveLevels c.mark_open.new.table (arity_in p q) (items_of c.args.parts.now.levels q) (items_of ds q)) (sym c.as_slice-preconditions.ensures) later)
 
 pub mark_broken-requires-clause-ready : goal.mark_broken-requires-clause-ready
 mark_broken-requires-clause-ready g c =
@@ -62,9 +62,9 @@ returns-clause-told g c = λ q.
     (mark_at c.mark_open.new.marks q) (mark_at c.mark_uncovered.new.marks q)) c.as_slice-levels.ensures
     (subst (λ (ds : List (List Diagram)). IsMarked (q < length p.preds → AreCovered c.mark_open.new.table (items_of c.as_slice-levels.result.now q) (items_of ds q)) reason.Precondition
     (mark_at c.mark_open.new.marks q) (mark_at c.mark_uncovered.new.marks q)) c.as_slice-preconditions.ensures (c.in_ok-mark_uncovered.ensures.covered q)) in
-    let refused = subst (λ (ms : List (List (List ℕ))). IsMarked ((d : Diagram) → slice_get sets.allowed.items q ≡ Some d → IsTrue (list_all (λ (mode : List ℕ). truth_rows c.mark_broken.new.table d (mode_row mode 1 (arity_of p q))) (items_of ms q))) reason.Mode
+    let refused = subst (λ (ms : List (List (List ℕ))). IsMarked ((d : Diagram) → slice_get sets.allowed.items q ≡ Some d → IsTrue (list_all (λ (mode : List ℕ). truth_rows c.mark_broken.new.table d (mode_row mode 1 (arity_in p q))) (items_of ms q))) reason.Mode
     (mark_at c.mark_broken.new.marks q) (mark_at c.mark_refused.new.marks q)) c.as_slice-3.ensures
-    (subst (λ (ds : List Diagram). IsMarked ((d : Diagram) → slice_get ds q ≡ Some d → IsTrue (list_all (λ (mode : List ℕ). truth_rows c.mark_broken.new.table d (mode_row mode 1 (arity_of p q))) (items_of c.as_slice-3.result.now q))) reason.Mode
+    (subst (λ (ds : List Diagram). IsMarked ((d : Diagram) → slice_get ds q ≡ Some d → IsTrue (list_all (λ (mode : List ℕ). truth_rows c.mark_broken.new.table d (mode_row mode 1 (arity_in p q))) (items_of c.as_slice-3.result.now q))) reason.Mode
     (mark_at c.mark_broken.new.marks q) (mark_at c.mark_refused.new.marks q)) c.as_slice-4.ensures.value (c.mark_refused.ensures.admitted q)) in
     tells truth p comps parts q (mark_at c.mark_refused.new.marks q)
     (mark_says (c.in_ok-marks.ensures.clear q) (marked_same opened closed) (marked_same uncovered covered) (marked_same (c.in_ok-mark_broken.ensures.kept q) rule) (marked_same refused modes))

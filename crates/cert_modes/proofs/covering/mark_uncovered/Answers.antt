@@ -2,7 +2,7 @@ use Rattle.termination_model.proofs.Lists.{at_place}
 use Rattle.std.proofs.Common.{◌≡◌, ◌↔◌, ◌∙◌, ◌<◌, ℕ, IsTrue, List, length, refl, sym, subst, arith}
 use Rattle.bool_diagrams.proofs.CallerLemmas.{keeps_twice}
 use Rattle.bool_diagrams.specs.declared.diagram.Diagram.{Diagram}
-use Rattle.cert_structure.specs.Shape.{arity_of, items_of}
+use Rattle.cert_structure.specs.Shape.{arity_in, items_of}
 use Rattle.number_tests.specs.declared.level_part.LevelPart.{LevelPart}
 use Rattle.cert_modes.specs.declared.fault.ModeReason.TheVariants as reason
 use Rattle.cert_modes.specs.Sets.{AreCovered, HaveLevels}
@@ -19,10 +19,10 @@ are_covered-requires c =
     let sets = c.args.sets.now in
     let own = c.as_slice-own.ensures ∙ sym (items_at levels q c.index-levels-q.result (at_place levels q c.index-levels-q.result (omega (arith, c.requires.levels, lt)) c.index-levels-q.is)) in
     let set = c.as_slice.ensures ∙ sym (items_at sets q c.index-sets-q.result (at_place sets q c.index-sets-q.result (omega (arith, c.requires.sets, lt)) c.index-sets-q.is)) in
-    let have = levels_later c.args.table.now c.loop-q.table c.loop-q.invariant.keeps (arity_of c.args.p.now q) (items_of levels q) (items_of sets q) (c.requires.each q lt) in (
-      arity_of c.args.p.now q,
-      subst (λ (ls : List LevelPart). HaveLevels c.loop-q.table (arity_of c.args.p.now q) ls c.as_slice.result.now) (sym own)
-          (subst (λ (ds : List Diagram). HaveLevels c.loop-q.table (arity_of c.args.p.now q) (items_of levels q) ds) (sym set) have),
+    let have = levels_later c.args.table.now c.loop-q.table c.loop-q.invariant.keeps (arity_in c.args.p.now q) (items_of levels q) (items_of sets q) (c.requires.each q lt) in (
+      arity_in c.args.p.now q,
+      subst (λ (ls : List LevelPart). HaveLevels c.loop-q.table (arity_in c.args.p.now q) ls c.as_slice.result.now) (sym own)
+          (subst (λ (ds : List Diagram). HaveLevels c.loop-q.table (arity_in c.args.p.now q) (items_of levels q) ds) (sym set) have),
     )
 
 pub loop-q-preserved : goal.loop-q-preserved

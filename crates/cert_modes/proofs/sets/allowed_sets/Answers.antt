@@ -3,7 +3,7 @@ use Rattle.termination_model.proofs.Lists.{at_place}
 use Rattle.bool_diagrams.proofs.CallerLemmas.{keeps_twice}
 use Rattle.bool_diagrams.specs.Rows.{ReadsBelow}
 use Rattle.bool_diagrams.specs.declared.diagram.Diagram.{Diagram}
-use Rattle.cert_structure.specs.Shape.{arity_of, items_of}
+use Rattle.cert_structure.specs.Shape.{arity_in, items_of}
 use Rattle.cert_modes.specs.Sets.{HasRows, upward}
 use Rattle.cert_modes.proofs.PlaceLaws.{items_at, pushed, pushed_length}
 use Rattle.cert_modes.proofs.SpellLaws.{arity_at, arity_few, has_later, upward_later}
@@ -44,7 +44,7 @@ loop-q-preserved c =
     let lt : q < length c.args.p.now.preds = omega (arith, c.loop-q-test.true, c.preds-q-end.ensures.count, c.loop-q.auto.q-end) in
     let wide = arity_at p q c.pred.result.now c.pred.ensures in
     let own = c.as_slice.ensures ∙ sym (items_at sets q c.index-sets-q.result (at_place sets q c.index-sets-q.result (omega (arith, c.requires.sets.each, lt)) c.index-sets-q.is)) in
-    let one : HasRows c.upward_union.new.table (arity_of c.args.p.now q) (upward c.args.table.now (items_of c.args.sets.now q)) c.in_ok-union.union = record {
+    let one : HasRows c.upward_union.new.table (arity_in c.args.p.now q) (upward c.args.table.now (items_of c.args.sets.now q)) c.in_ok-union.union = record {
       known = c.in_ok-union.ensures.known;
       reads = subst (ReadsBelow now union) (sym wide) c.in_ok-union.ensures.reads;
       rows = λ row long. c.in_ok-union.ensures.rows row (long ∙ wide) ∙ ap (λ ds. upward c.loop-q.table ds row) own ∙ upward_later old c.loop-q.table i.keeps (items_of sets q) (c.requires.sets.known q) row;
@@ -52,8 +52,8 @@ loop-q-preserved c =
     record {
       keeps = keeps_twice _ _ _ i.keeps c.upward_union.ensures.keeps;
       count = omega (arith, ap length c.in_ok-push.ensures.items, pushed_length c.loop-q.allowed.items union, i.count);
-      rows = subst (λ (xs : List Diagram). (r : ℕ) (d : Diagram) → slice_get xs r ≡ Some d → HasRows now (arity_of p r) (upward old (items_of sets r)) d) (sym c.in_ok-push.ensures.items)
-          (pushed (λ (r : ℕ) (d : Diagram). HasRows now (arity_of p r) (upward old (items_of sets r)) d) c.loop-q.allowed.items union
-          (λ r d e. has_later c.loop-q.table now c.upward_union.ensures.keeps (arity_of p r) (upward old (items_of sets r)) d (i.rows r d e))
-          (subst (λ (n : ℕ). HasRows now (arity_of p n) (upward old (items_of sets n)) union) (sym i.count) one));
+      rows = subst (λ (xs : List Diagram). (r : ℕ) (d : Diagram) → slice_get xs r ≡ Some d → HasRows now (arity_in p r) (upward old (items_of sets r)) d) (sym c.in_ok-push.ensures.items)
+          (pushed (λ (r : ℕ) (d : Diagram). HasRows now (arity_in p r) (upward old (items_of sets r)) d) c.loop-q.allowed.items union
+          (λ r d e. has_later c.loop-q.table now c.upward_union.ensures.keeps (arity_in p r) (upward old (items_of sets r)) d (i.rows r d e))
+          (subst (λ (n : ℕ). HasRows now (arity_in p n) (upward old (items_of sets n)) union) (sym i.count) one));
     }

@@ -3,7 +3,7 @@ use Rattle.termination_model.proofs.Lists.{at_place}
 use Rattle.bool_diagrams.proofs.CallerLemmas.{keeps_twice}
 use Rattle.bool_diagrams.specs.declared.cube.Cell.{Cell}
 use Rattle.bool_diagrams.specs.declared.diagram.Diagram.{Diagram}
-use Rattle.cert_structure.specs.Shape.{arity_of, items_of}
+use Rattle.cert_structure.specs.Shape.{arity_in, items_of}
 use Rattle.cert_modes.specs.Sets.{AreSpelled}
 use Rattle.cert_modes.proofs.PlaceLaws.{items_at, pushed, pushed_length}
 use Rattle.cert_modes.proofs.SpellLaws.{arity_at, spelled_later}
@@ -24,8 +24,8 @@ loop-q-preserved c =
     record {
       keeps = keeps_twice _ _ _ i.keeps c.mapping_sets.ensures.keeps;
       count = omega (arith, ap length c.in_ok-push.ensures.ok, pushed_length c.loop-q.sets own, i.count);
-      rows = subst (λ (xs : List (List Diagram)). (r : ℕ) (ds : List Diagram) → slice_get xs r ≡ Some ds → AreSpelled now (arity_of p r) (items_of cubes r) ds) (sym c.in_ok-push.ensures.ok)
-          (pushed (λ (r : ℕ) (ds : List Diagram). AreSpelled now (arity_of p r) (items_of cubes r) ds) c.loop-q.sets own
-          (λ r ds e. spelled_later c.loop-q.table now c.mapping_sets.ensures.keeps (arity_of p r) (items_of cubes r) ds (i.rows r ds e))
-          (subst (λ (n : ℕ). AreSpelled now (arity_of p n) (items_of cubes n) own) (sym i.count) one));
+      rows = subst (λ (xs : List (List Diagram)). (r : ℕ) (ds : List Diagram) → slice_get xs r ≡ Some ds → AreSpelled now (arity_in p r) (items_of cubes r) ds) (sym c.in_ok-push.ensures.ok)
+          (pushed (λ (r : ℕ) (ds : List Diagram). AreSpelled now (arity_in p r) (items_of cubes r) ds) c.loop-q.sets own
+          (λ r ds e. spelled_later c.loop-q.table now c.mapping_sets.ensures.keeps (arity_in p r) (items_of cubes r) ds (i.rows r ds e))
+          (subst (λ (n : ℕ). AreSpelled now (arity_in p n) (items_of cubes n) own) (sym i.count) one));
     }

@@ -7,7 +7,7 @@ use Rattle.prolog_reader.specs.Naming.{with_names}
 use Rattle.clause_normal.specs.ChoiceNames.{functor_texts}
 use Rattle.clause_normal.specs.Numbering.{name_number, choice_text}
 use Rattle.clause_normal.specs.RuleViews.{functor_of}
-use Rattle.clause_normal.proofs.NumberLemmas.{number_kept}
+use Rattle.prolog_reader.proofs.NameLemmas.{number_kept}
 use Rattle.prolog_reader.proofs.NamingLemmas.{names_none, names_one}
 use Rattle.clause_normal.proofs.numbering.functor_name.Goals as goal
 
