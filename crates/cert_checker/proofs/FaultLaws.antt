@@ -27,7 +27,7 @@ use Rattle.cert_checker.specs.declared.fault.Fault.{Fault}
 use Rattle.cert_checker.specs.declared.reason.Reason.{Reason}
 use Rattle.cert_checker.specs.declared.reason.Reason.TheVariants as reason
 use Rattle.cert_checker.proofs.FindLaws.{none_first, one_first}
-use Rattle.cert_checker.proofs.ModeFaultLaws.{keeps_moves}
+use Rattle.cert_checker.proofs.PreconditionMoves.{keeps_moves}
 use Rattle.cert_checker.proofs.Partitions.{members_move, moved, recursion_moves, together_moves}
 use Rattle.cert_checker.proofs.Validity.{OneStructure}
 

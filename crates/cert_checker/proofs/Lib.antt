@@ -9,7 +9,7 @@ pub mod FindLaws
 pub mod FlawLaws
 pub mod LevelFacts
 pub mod MeasureLaws
-pub mod ModeFaultLaws
+pub mod PreconditionMoves
 pub mod NoMapping
 pub mod Partitions
 pub mod PrintedModes

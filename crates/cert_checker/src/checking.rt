@@ -12,12 +12,9 @@ ghost use Rattle.cert_checker.specs.Bounding.{ModesAreBounded};
 ghost use Rattle.cert_checker.specs.Fault.{FactFails, IsFault, IsValueFault};
 ghost use Rattle.cert_checker.specs.Finding.{Finds};
 ghost use Rattle.cert_checker.specs.Sections.{AreLines, number_facts};
-ghost use Rattle.cert_checker.specs.ModeFaults.{HasModeFault, fault_of, mode_reason};
 ghost use Rattle.cert_checker.specs.Refutes.{RefutedHaveNoMapping};
-ghost use Rattle.cert_checker.specs.StructureFaults.{HasStructureFault, structure_fault, structure_reason};
+ghost use Rattle.cert_checker.specs.StructureFaults.{HasStructureFault, structure_fault};
 ghost use Rattle.cert_checker.specs.Valid.{IsValid, NumbersHold, PartsHold};
-ghost use Rattle.cert_modes.specs.Failing.{IsFirstPred};
-ghost use Rattle.cert_modes.specs.declared.fault.ModeFault.{ModeFault as TheModeFault};
 ghost use Rattle.cert_checker.specs.declared.reason.Reason.{Reason as TheReason};
 ghost use Rattle.cert_checker.specs.declared.verdict.Verdict.TheVariants.{No, Yes};
 ghost use Rattle.cti_terms.specs.Tree.{truth};
@@ -79,7 +76,6 @@ fn value_fault(
     requires components { AreComponents p.now comps.now }
     requires shape { HaveShape p.now comps.now parts.now }
     ensures hold { IfOk result (λ fault. (fault ≡ None) ↔ PartsHold truth size_row p.now comps.now parts.now) }
-    ensures modes { IfOk result (λ fault. (f : TheModeFault) → IsFirstPred truth p.now comps.now parts.now 2 f → fault ≡ Some (fault_of f)) }
     ensures first { IfOk result (λ fault. (names : List (List ℕ)) (notes : List TheFact) → AreNamed names p.now.preds → AllPairs (λ a b. a ≢ b) names → AreNotes notes
         → Finds (FactFails p.now names truth size_row comps.now parts.now) 1 (listed p.now names parts.now notes) fault) }
 {
@@ -104,9 +100,8 @@ fn first_fault(
     ensures valid { IfOk result (λ fault. (fault ≡ None) ↔ IsValid p.now names.now c.now.facts) }
     ensures excluded { IfOk result (λ fault. fault ≡ None → RefutedHaveNoMapping p.now names.now c.now.facts) }
     ensures structure { IfOk result (λ fault. (line : ℕ) (why : TheStructureReason) → HasStructureFault p.now names.now c.now.facts line why → fault ≡ Some (structure_fault line why)) }
-    ensures modes { IfOk result (λ fault. (f : TheModeFault) → HasModeFault p.now names.now c.now.facts f → fault ≡ Some (fault_of f)) }
     ensures fault { IfOk result (λ fault. IfSome fault (λ f. IsFault p.now names.now c.now.facts f.line f.reason)) }
-    ensures numbers { IfOk result (λ fault. (line : ℕ) (why : TheReason) → IsValueFault p.now names.now c.now.facts line why → fault ≡ Some (record { line = line; reason = why })) }
+    ensures values { IfOk result (λ fault. (line : ℕ) (why : TheReason) → IsValueFault p.now names.now c.now.facts line why → fault ≡ Some (record { line = line; reason = why })) }
 {
     // What every program and all names keep, and that the facts can be counted.
     p.preds();
@@ -146,14 +141,8 @@ pub fn check(
     // And no mapping of a component with a refutation decreases, for the size rows of the certificate.
     ensures excluded { IfOk result (λ v. v ≡ Yes → RefutedHaveNoMapping p.now names.now c.now.facts) }
 
-    // Where the structure is wrong, the line is that of the first fact that is, or after the last where one is missing, and the reason what is wrong there.
-    ensures structure { IfOk result (λ v. (line : ℕ) (why : TheStructureReason) → HasStructureFault p.now names.now c.now.facts line why → v ≡ No line (structure_reason why)) }
-
     // The answer is No with a line and a reason exactly where they are those of the first fault: of the structure, or else of the first fact that claims what does not hold.
     ensures fault { IfOk result (λ v. (line : ℕ) (why : TheReason) → (v ≡ No line why) ↔ IsFault p.now names.now c.now.facts line why) }
-
-    // Where the structure is right and modes do not hold, the line is that of the first predicate whose modes fail, and the reason the first one there.
-    ensures modes { IfOk result (λ v. (f : TheModeFault) → HasModeFault p.now names.now c.now.facts f → v ≡ No f.line (mode_reason f.reason)) }
 {
     // No two names have the same text, and no two predicates the same name and arity.
     names.count();

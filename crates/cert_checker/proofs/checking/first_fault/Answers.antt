@@ -11,12 +11,8 @@ use Rattle.cert_checker.specs.declared.fault.Fault.{Fault}
 use Rattle.number_tests.proofs.CallFacts.{if_ok_more}
 use Rattle.cert_checker.specs.Refutes.{RefutedHaveNoMapping}
 use Rattle.cert_checker.proofs.NoMapping.{refuted_have_none}
-use Rattle.cert_modes.specs.Failing.{IsFirstPred}
-use Rattle.cert_modes.specs.declared.fault.ModeFault.{ModeFault}
-use Rattle.cert_checker.specs.ModeFaults.{HasModeFault, fault_of}
 use Rattle.cert_checker.specs.StructureFaults.{HasStructureFault, structure_fault}
 use Rattle.cert_structure.specs.declared.fault.StructureReason.{StructureReason}
-use Rattle.cert_checker.proofs.ModeFaultLaws.{no_first, own_first}
 use Rattle.cert_checker.proofs.StructureLaws.{same_fault}
 use Rattle.cert_checker.specs.Fault.{FactFails, IsFault, IsValueFault, wrong_structure}
 use Rattle.cert_checker.specs.Finding.{Finds}
@@ -46,20 +42,6 @@ returns-in-Ok-clause-excluded c =
     (λ (fault : Option Fault). fault ≡ None → RefutedHaveNoMapping c.args.p.now c.args.names.now c.args.c.now.facts)
     (λ fault decides. λ none. refuted_have_none c.one_structure.ensures c.args.p.now c.args.names.now c.in_ok-comps.comps c.preds.ensures.sound c.in_ok-comps.ensures c.args.c.now.facts
     c.in-Ok.parts c.in-Ok.ensures.only (decides.0 none)) c.value_fault.result c.value_fault.ensures.hold
-
-pub returns-in-Ok-clause-modes : goal.returns-in-Ok-clause-modes
-returns-in-Ok-clause-modes c =
-    let p = c.args.p.now in
-    let names = c.args.names.now in
-    let comps = c.in_ok-comps.comps in
-    let facts = c.args.c.now.facts in
-    if_ok_more (λ (fault : Option Fault). (f : ModeFault) → IsFirstPred truth p comps c.in-Ok.parts 2 f → fault ≡ Some (fault_of f))
-    (λ (fault : Option Fault). (f : ModeFault) → HasModeFault p names facts f → fault ≡ Some (fault_of f))
-    (λ fault told f has. told f (own_first c.one_structure.ensures p names comps c.in-Ok.parts facts c.in_ok-comps.ensures c.in-Ok.ensures.only f has)) c.value_fault.result c.value_fault.ensures.modes
-
-pub returns-in-Err-Wrong-clause-modes : goal.returns-in-Err-Wrong-clause-modes
-returns-in-Err-Wrong-clause-modes c = λ f has.
-    absurd (no_first c.one_structure.ensures c.args.p.now c.args.names.now c.in_ok-comps.comps c.args.c.now.facts c.in_ok-comps.ensures (λ own is. let wrong = c.in-Err-Wrong.ensures.only own is in cc) f has)
 
 pub returns-in-Ok-clause-structure : goal.returns-in-Ok-clause-structure
 returns-in-Ok-clause-structure c =
@@ -105,8 +87,8 @@ returns-in-Err-Wrong-clause-fault c =
     let made = c.of_structure.ensures ∙ (λ i. structure_fault (c.in-Err-Wrong.line-is i) (c.in-Err-Wrong.reason-is i)) in
     subst (λ (f : Fault). IsFault p names facts f.line f.reason) (sym made) (wrong_structure c.in-Err-Wrong.reason (record { comps = comps; components = c.in_ok-comps.ensures; fault = wrong }))
 
-pub returns-in-Ok-clause-numbers : goal.returns-in-Ok-clause-numbers
-returns-in-Ok-clause-numbers c =
+pub returns-in-Ok-clause-values : goal.returns-in-Ok-clause-values
+returns-in-Ok-clause-values c =
     let p = c.args.p.now in
     let names = c.args.names.now in
     let comps = c.in_ok-comps.comps in
@@ -119,7 +101,7 @@ returns-in-Ok-clause-numbers c =
     (λ fault found. only_fault c.one_structure.ensures p names comps parts facts c.in_ok-comps.ensures s c.in-Ok.ensures.only (omega (arith, c.len.ensures)) fault (found names s.notes c.requires.named c.count.ensures.distinct s.are_notes))
     c.value_fault.result c.value_fault.ensures.first
 
-pub returns-in-Err-Wrong-clause-numbers : goal.returns-in-Err-Wrong-clause-numbers
-returns-in-Err-Wrong-clause-numbers c = λ line why has.
+pub returns-in-Err-Wrong-clause-values : goal.returns-in-Err-Wrong-clause-values
+returns-in-Err-Wrong-clause-values c = λ line why has.
     absurd (let own = c.one_structure.ensures c.args.p.now c.args.names.now has.comps c.in_ok-comps.comps has.parts c.args.c.now.facts has.components c.in_ok-comps.ensures has.structured in
     let wrong = c.in-Err-Wrong.ensures.only has.parts own in cc)

@@ -10,25 +10,14 @@ use Rattle.cert_modes.specs.declared.fault.ModeFault.{ModeFault}
 use Rattle.number_tests.proofs.CallFacts.{if_ok_more}
 use Rattle.cert_checker.specs.Fault.{FactFails}
 use Rattle.cert_checker.specs.Finding.{Finds}
-use Rattle.cert_checker.specs.ModeFaults.{fault_of}
 use Rattle.cert_checker.specs.Sections.{number_facts}
 use Rattle.cert_checker.proofs.ValueLaws.{mode_first, number_first}
 use Rattle.cert_checker.specs.Valid.{NumbersHold, PartsHold}
 use Rattle.cert_checker.specs.declared.fault.Fault.{Fault}
-use Rattle.cert_checker.proofs.ModeFaultLaws.{none_first, one_first}
 use Rattle.cert_checker.proofs.checking.value_fault.Goals as goal
 
 pub returns-in-Some-clause-hold : goal.returns-in-Some-clause-hold
 returns-in-Some-clause-hold c = (λ none. cc, λ hold. let none = c.in_ok-modes.ensures.hold.1 hold.modes in let some = c.in-Some.is in cc)
-
-pub returns-in-Some-clause-modes : goal.returns-in-Some-clause-modes
-returns-in-Some-clause-modes c = λ f is.
-    let p = c.args.p.now in
-    let comps = c.args.comps.now in
-    let parts = c.args.parts.now in
-    let first : IsFirstPred truth p comps parts c.of-lines.result.modes c.in-Some.fault = subst (λ (o : Option ModeFault). IfSome o (IsFirstPred truth p comps parts c.of-lines.result.modes)) c.in-Some.is c.in_ok-modes.ensures.first in
-    let own : IsFirstPred truth p comps parts 2 c.in-Some.fault = subst (λ (line : ℕ). IsFirstPred truth p comps parts line c.in-Some.fault) c.of-lines.ensures.modes first in
-    ap Some (c.of_modes.ensures ∙ ap fault_of (one_first truth p comps parts 2 c.in-Some.fault f own is))
 
 pub returns-in-None-clause-hold : goal.returns-in-None-clause-hold
 returns-in-None-clause-hold c =
@@ -40,14 +29,6 @@ returns-in-None-clause-hold c =
       λ none. let numbers = decides.0 none in record { modes = c.in_ok-modes.ensures.hold.0 c.in-None.is; rows = numbers.rows; measures = numbers.measures; falls = numbers.falls; refutations = numbers.refutations },
       λ hold. decides.1 (record { rows = hold.rows; measures = hold.measures; falls = hold.falls; refutations = hold.refutations }),
     )) c.number_fault.result c.number_fault.ensures.hold
-
-pub returns-in-None-clause-modes : goal.returns-in-None-clause-modes
-returns-in-None-clause-modes c =
-    let p = c.args.p.now in
-    let comps = c.args.comps.now in
-    let parts = c.args.parts.now in
-    if_ok_more (λ (fault : Option Fault). (fault ≡ None) ↔ NumbersHold size_row p comps parts) (λ (fault : Option Fault). (f : ModeFault) → IsFirstPred truth p comps parts 2 f → fault ≡ Some (fault_of f))
-    (λ fault decides f is. absurd (none_first truth p comps parts (c.in_ok-modes.ensures.hold.0 c.in-None.is) 2 f is)) c.number_fault.result c.number_fault.ensures.hold
 
 pub returns-in-Some-clause-first : goal.returns-in-Some-clause-first
 returns-in-Some-clause-first c = λ names notes named distinct are_notes.
