@@ -1,4 +1,5 @@
 pub mod Cases
+pub mod Components
 pub mod Large
 pub mod Vanishing
 pub mod Walk

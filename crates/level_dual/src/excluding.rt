@@ -1,15 +1,17 @@
 //! Sets of positions at which no mapping decreases, by what has to be 0 with the other positions.
 
-ghost use Rattle.std.specs.Prelude.{◌≡◌, ◌<◌, ◌^◌, ℕ, ℤ, Bool, List, IfOk, length, true};
+ghost use Rattle.std.specs.Prelude.{◌≡◌, ◌<◌, ◌^◌, ℕ, ℤ, List, IfOk, length, true};
 ghost use Rattle.call_components.specs.Partition.{Partition};
 ghost use Rattle.cti_terms.specs.Listing.{Listing};
 ghost use Rattle.cti_terms.specs.Tree.{Tree};
-ghost use Rattle.level_systems.specs.Searched.{IsComponent, IsSound};
+ghost use Rattle.level_systems.specs.Searched.{IsSound};
+ghost use Rattle.level_dual.specs.Components.{ForComponent};
 ghost use Rattle.level_dual.specs.Vanishing.{IsKnown, IsVoid};
 ghost use Rattle.level_systems.specs.declared.position.Position.{Position};
 ghost use Rattle.termination_model.specs.ComponentViews.{Has};
 ghost use Rattle.termination_model.specs.Minimal.{IsExcluded};
 
+use crate::places::Places;
 use crate::searching::search;
 use crate::vanishing::{is_covered, spread, unlisted, unmarked};
 use cti_terms::Program;
@@ -26,19 +28,18 @@ fn marks_outside(
     set: &[u32],
 ) -> Result<Vec<bool>, AllocError>
     requires sound { IsSound p.now component.now }
-    ensures { IfOk result (λ marks. (size : (ℕ → ℕ) → Tree → ℕ) (truth : (ℕ → Bool) → Tree → Bool) (expression : ℕ → Tree → List ℤ) (comps : Partition) (rows : ℕ → List (List ℤ)) (c : ℕ)
-        → IsComponent size truth expression p.now comps rows c component.now
-        → IsVoid expression p.now comps rows c component.now.positions.items marks.items → IsExcluded (Has expression p.now comps rows c) set.now) }
+    ensures { IfOk result (λ marks. ForComponent p.now component.now (λ expression comps rows c.
+        IsVoid expression p.now comps rows c component.now.positions.items marks.items
+        → IsExcluded (Has expression p.now comps rows c) set.now)) }
 {
     // What every program keeps.
     p.preds();
     let mut marks = unlisted(alloc, component.positions.len(), set)?;
-    spread(
-        component.calls.as_slice(),
-        component.positions.as_slice(),
+    let places = Places {
+        positions: component.positions.as_slice(),
         starts,
-        &mut marks,
-    );
+    };
+    spread(component.calls.as_slice(), &places, &mut marks);
     Ok(marks)
 }
 
@@ -63,8 +64,8 @@ fn is_void(
 ) -> Result<bool, AllocError>
     requires sound { IsSound p.now component.now }
     requires small { length component.now.positions.items < 2 ^ 32 }
-    ensures { IfOk result (λ void. void ≡ true → (size : (ℕ → ℕ) → Tree → ℕ) (truth : (ℕ → Bool) → Tree → Bool) (expression : ℕ → Tree → List ℤ) (comps : Partition) (rows : ℕ → List (List ℤ)) (c : ℕ)
-        → IsComponent size truth expression p.now comps rows c component.now → IsVoid expression p.now comps rows c component.now.positions.items marks.now) }
+    ensures { IfOk result (λ void. void ≡ true → ForComponent p.now component.now (λ expression comps rows c.
+        IsVoid expression p.now comps rows c component.now.positions.items marks.now)) }
 {
     let rest = unmarked(alloc, component.positions.as_slice().len(), marks)?;
     if rest.len() >= most {
@@ -89,12 +90,12 @@ pub(crate) fn exclude(
 ) -> Result<bool, AllocError>
     requires sound { IsSound p.now component.now }
     requires small { length component.now.positions.items < 2 ^ 32 }
-    ensures known { (size : (ℕ → ℕ) → Tree → ℕ) (truth : (ℕ → Bool) → Tree → Bool) (expression : ℕ → Tree → List ℤ) (comps : Partition) (rows : ℕ → List (List ℤ)) (c : ℕ)
-        → IsComponent size truth expression p.now comps rows c component.now
-        → IsKnown expression p.now comps rows c component.now.positions.items known.old → IsKnown expression p.now comps rows c component.now.positions.items known.new }
-    ensures excluded { IfOk result (λ yes. yes ≡ true → (size : (ℕ → ℕ) → Tree → ℕ) (truth : (ℕ → Bool) → Tree → Bool) (expression : ℕ → Tree → List ℤ) (comps : Partition) (rows : ℕ → List (List ℤ)) (c : ℕ)
-        → IsComponent size truth expression p.now comps rows c component.now
-        → IsKnown expression p.now comps rows c component.now.positions.items known.old → IsExcluded (Has expression p.now comps rows c) set.now) }
+    ensures known { ForComponent p.now component.now (λ expression comps rows c.
+        IsKnown expression p.now comps rows c component.now.positions.items known.old
+        → IsKnown expression p.now comps rows c component.now.positions.items known.new) }
+    ensures excluded { IfOk result (λ yes. yes ≡ true → ForComponent p.now component.now (λ expression comps rows c.
+        IsKnown expression p.now comps rows c component.now.positions.items known.old
+        → IsExcluded (Has expression p.now comps rows c) set.now)) }
 {
     let marks = marks_outside(alloc, p, component, starts, set)?;
     if is_known(known, marks.as_slice()) {

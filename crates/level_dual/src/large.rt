@@ -1,20 +1,19 @@
 //! Components of many positions: one mapping, none of whose positions can be left out.
 
-ghost use Rattle.std.specs.Prelude.{◌≡◌, ◌↔◌, ◌<◌, ◌^◌, ℕ, ℤ, Bool, List, IfOk, IsTrue, length, map, nat_lt, true};
-ghost use Rattle.call_components.specs.Partition.{Partition};
-ghost use Rattle.cti_terms.specs.Tree.{Tree};
+ghost use Rattle.std.specs.Prelude.{◌≡◌, ◌↔◌, ◌<◌, ◌^◌, IfOk, IsTrue, length, map, true};
 ghost use Rattle.level_systems.specs.Found.{IsFound, count, without};
 ghost use Rattle.level_systems.specs.Held.{spelled};
+ghost use Rattle.level_dual.specs.Components.{ForComponent};
 ghost use Rattle.level_dual.specs.Large.{IsHadMapping, IsLeftOut, IsShorterThan, has_coefficient};
 ghost use Rattle.level_systems.specs.Mappings.{support_of};
-ghost use Rattle.level_systems.specs.Searched.{IsAnswer, IsComponent, IsSound};
+ghost use Rattle.level_systems.specs.Searched.{IsAnswer, IsSound};
 ghost use Rattle.level_systems.specs.Subsequences.{AreOnce};
 ghost use Rattle.level_dual.specs.Vanishing.{IsKnown};
 
 use crate::excluding::exclude;
 use crate::falling::find_part;
+use crate::places::starts_of;
 use crate::searching::search;
-use crate::vanishing::starts_of;
 use cti_terms::Program;
 use level_systems::{Answer, Component, Found, Mapping, Measure, Position};
 use sequences::Sequence;
@@ -81,12 +80,12 @@ fn search_unless_excluded(
 ) -> Result<Answer, AllocError>
     requires sound { IsSound p.now component.now }
     requires small { length component.now.positions.items < 2 ^ 32 }
-    ensures known { (size : (ℕ → ℕ) → Tree → ℕ) (truth : (ℕ → Bool) → Tree → Bool) (expression : ℕ → Tree → List ℤ) (comps : Partition) (rows : ℕ → List (List ℤ)) (c : ℕ)
-        → IsComponent size truth expression p.now comps rows c component.now
-        → IsKnown expression p.now comps rows c component.now.positions.items known.old → IsKnown expression p.now comps rows c component.now.positions.items known.new }
-    ensures answer { IfOk result (λ answer. (size : (ℕ → ℕ) → Tree → ℕ) (truth : (ℕ → Bool) → Tree → Bool) (expression : ℕ → Tree → List ℤ) (comps : Partition) (rows : ℕ → List (List ℤ)) (c : ℕ)
-        → IsComponent size truth expression p.now comps rows c component.now
-        → IsKnown expression p.now comps rows c component.now.positions.items known.old → IsAnswer expression p.now comps rows c set.now answer) }
+    ensures known { ForComponent p.now component.now (λ expression comps rows c.
+        IsKnown expression p.now comps rows c component.now.positions.items known.old
+        → IsKnown expression p.now comps rows c component.now.positions.items known.new) }
+    ensures answer { IfOk result (λ answer. ForComponent p.now component.now (λ expression comps rows c.
+        IsKnown expression p.now comps rows c component.now.positions.items known.old
+        → IsAnswer expression p.now comps rows c set.now answer)) }
 {
     if exclude(alloc, p, component, starts, set, known)? {
         return Ok(Answer::Refuted);
@@ -105,8 +104,8 @@ fn leave_out(
     requires sound { IsSound p.now component.now }
     requires small { length component.now.positions.items < 2 ^ 32 }
     ensures shorter { IfOk result (IsShorterThan (map spelled component.now.positions.items) (length support.now)) }
-    ensures left_out { IfOk result (λ out. (size : (ℕ → ℕ) → Tree → ℕ) (truth : (ℕ → Bool) → Tree → Bool) (expression : ℕ → Tree → List ℤ) (comps : Partition) (rows : ℕ → List (List ℤ)) (c : ℕ)
-        → IsComponent size truth expression p.now comps rows c component.now → AreOnce support.now → IsLeftOut expression p.now comps rows c support.now out) }
+    ensures left_out { IfOk result (λ out. ForComponent p.now component.now (λ expression comps rows c.
+        AreOnce support.now → IsLeftOut expression p.now comps rows c support.now out)) }
 {
     let starts = starts_of(alloc, component.positions.as_slice())?;
     let mut blown = Sequence::new(alloc);
@@ -145,9 +144,9 @@ pub(crate) fn find_large(
 ) -> Result<Found, AllocError>
     requires sound { IsSound p.now component.now }
     requires small { length component.now.positions.items < 2 ^ 32 }
-    ensures { IfOk result (λ f. (size : (ℕ → ℕ) → Tree → ℕ) (truth : (ℕ → Bool) → Tree → Bool) (expression : ℕ → Tree → List ℤ) (comps : Partition) (rows : ℕ → List (List ℤ)) (c : ℕ)
-        → IsComponent size truth expression p.now comps rows c component.now → IsTrue true ↔ (12 < count expression p.now comps rows c)
-        → IsHadMapping expression p.now comps rows c mapping → IsFound expression p.now comps rows c f) }
+    ensures { IfOk result (λ f. ForComponent p.now component.now (λ expression comps rows c.
+        IsTrue true ↔ (12 < count expression p.now comps rows c) → IsHadMapping expression p.now comps rows c mapping
+        → IsFound expression p.now comps rows c f)) }
 {
     let mut mapping = mapping;
     loop {

@@ -12,6 +12,7 @@ mod excluding;
 mod falling;
 mod finding;
 mod large;
+mod places;
 mod refuting;
 mod searching;
 mod small;

@@ -1,14 +1,13 @@
 //! The search for a mapping at a set of positions.
 
-ghost use Rattle.std.specs.Prelude.{◌≡◌, ◌≤◌, ◌≤ℤ◌, ◌+◌, ℕ, ℤ, Bool, List, All, IfOk, IfSome, None, false, filter, length, map, pos};
+ghost use Rattle.std.specs.Prelude.{◌≡◌, ◌≤◌, ◌≤ℤ◌, ◌+◌, ℤ, All, IfOk, IfSome, None, false, filter, length, map, pos};
 ghost use Rattle.std.specs.List.{list_any};
 ghost use Rattle.call_components.specs.Numbers.{number_of};
-ghost use Rattle.call_components.specs.Partition.{Partition};
-ghost use Rattle.cti_terms.specs.Tree.{Tree};
+ghost use Rattle.level_dual.specs.Components.{ForComponent};
 ghost use Rattle.level_systems.specs.Found.{IsBlownSet};
 ghost use Rattle.level_systems.specs.Held.{live_of, pair_of, recalled_at, spelled};
 ghost use Rattle.level_systems.specs.Recalled.{count_of};
-ghost use Rattle.level_systems.specs.Searched.{AreMeasuresAt, IsAnswer, IsComponent, IsMappingIf, IsSound};
+ghost use Rattle.level_systems.specs.Searched.{AreMeasuresAt, IsAnswer, IsMappingIf, IsSound};
 ghost use Rattle.level_systems.specs.declared.own_call.OwnCall.{OwnCall};
 ghost use Rattle.linear_rows.specs.Plain.{HaveWidth, plain_rows};
 ghost use Rattle.termination_model.specs.BlownSupports.{same_position};
@@ -108,9 +107,8 @@ fn system_at(
     requires sound { IsSound p.now component.now }
     ensures width { IfOk result (λ system. system.width ≡ length at.now + (length component.now.by_clauses.items + count_of component.now.calls.items)) }
     ensures widths { IfOk result (λ system. HaveWidth system.width system.list) }
-    ensures rows { IfOk result (λ system. (size : (ℕ → ℕ) → Tree → ℕ) (truth : (ℕ → Bool) → Tree → Bool) (expression : ℕ → Tree → List ℤ) (comps : Partition) (rows : ℕ → List (List ℤ)) (c : ℕ)
-        → IsComponent size truth expression p.now comps rows c component.now → plain_rows system.list
-        ≡ support_rows expression (map spelled at.now) (map number_of component.now.by_clauses.items) (map (λ (own : OwnCall). recalled_at expression p.now rows comps c (pair_of own)) (live_of component.now.calls.items))) }
+    ensures rows { IfOk result (λ system. ForComponent p.now component.now (λ expression comps rows c.
+        plain_rows system.list ≡ support_rows expression (map spelled at.now) (map number_of component.now.by_clauses.items) (map (λ (own : OwnCall). recalled_at expression p.now rows comps c (pair_of own)) (live_of component.now.calls.items)))) }
 {
     // What every program keeps.
     p.preds();
@@ -132,10 +130,10 @@ fn search_by(
     by_pivots: bool,
 ) -> Result<Option<Answer>, AllocError>
     requires sound { IsSound p.now component.now }
-    ensures some { IfOk result (λ o. IfSome o (λ answer. (size : (ℕ → ℕ) → Tree → ℕ) (truth : (ℕ → Bool) → Tree → Bool) (expression : ℕ → Tree → List ℤ) (comps : Partition) (rows : ℕ → List (List ℤ)) (c : ℕ)
-        → IsComponent size truth expression p.now comps rows c component.now → IsAnswer expression p.now comps rows c set.now answer)) }
-    ensures none { IfOk result (λ o. o ≡ None → by_pivots ≡ false → (size : (ℕ → ℕ) → Tree → ℕ) (truth : (ℕ → Bool) → Tree → Bool) (expression : ℕ → Tree → List ℤ) (comps : Partition) (rows : ℕ → List (List ℤ)) (c : ℕ)
-        → IsComponent size truth expression p.now comps rows c component.now → IsBlownSet expression p.now comps rows c set.now) }
+    ensures some { IfOk result (λ o. IfSome o (λ answer. ForComponent p.now component.now (λ expression comps rows c.
+        IsAnswer expression p.now comps rows c set.now answer))) }
+    ensures none { IfOk result (λ o. o ≡ None → by_pivots ≡ false → ForComponent p.now component.now (λ expression comps rows c.
+        IsBlownSet expression p.now comps rows c set.now)) }
 {
     let at = positions_at(alloc, component, set)?;
     let system = system_at(alloc, p, component, at.as_slice())?;
@@ -166,8 +164,8 @@ pub(crate) fn search(
     set: &[u32],
 ) -> Result<Answer, AllocError>
     requires sound { IsSound p.now component.now }
-    ensures { IfOk result (λ answer. (size : (ℕ → ℕ) → Tree → ℕ) (truth : (ℕ → Bool) → Tree → Bool) (expression : ℕ → Tree → List ℤ) (comps : Partition) (rows : ℕ → List (List ℤ)) (c : ℕ)
-        → IsComponent size truth expression p.now comps rows c component.now → IsAnswer expression p.now comps rows c set.now answer) }
+    ensures { IfOk result (λ answer. ForComponent p.now component.now (λ expression comps rows c.
+        IsAnswer expression p.now comps rows c set.now answer)) }
 {
     if let Some(answer) = search_by(alloc, p, component, set, true)? {
         return Ok(answer);

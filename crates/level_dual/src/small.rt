@@ -1,11 +1,10 @@
 //! Components of few positions: all minimal supports.
 
-ghost use Rattle.std.specs.Prelude.{◌≡◌, ◌↔◌, ◌<◌, ◌^◌, ◌+◌, ℕ, ℤ, Bool, List, IfOk, IsTrue, false, length, true};
+ghost use Rattle.std.specs.Prelude.{◌≡◌, ◌↔◌, ◌<◌, ◌^◌, ◌+◌, ℕ, List, IfOk, IsTrue, false, length, true};
 ghost use Rattle.std.specs.List.{list_any};
-ghost use Rattle.call_components.specs.Partition.{Partition};
-ghost use Rattle.cti_terms.specs.Tree.{Tree};
 ghost use Rattle.level_systems.specs.Found.{IsBlownSet, IsFound, count, had};
-ghost use Rattle.level_systems.specs.Searched.{IsComponent, IsSound};
+ghost use Rattle.level_systems.specs.Searched.{IsSound};
+ghost use Rattle.level_dual.specs.Components.{ForComponent};
 ghost use Rattle.level_dual.specs.Walked.{IsCompleted};
 ghost use Rattle.linear_rows.specs.Step.{columns};
 ghost use Rattle.termination_model.specs.Modes.{is_part};
@@ -66,9 +65,9 @@ pub(crate) fn find_small(
     requires sound { IsSound p.now component.now }
     requires full { full ≡ columns 1 (length component.now.positions.items) }
     requires small { length component.now.positions.items + 1 < 2 ^ 32 }
-    ensures { IfOk result (λ f. (size : (ℕ → ℕ) → Tree → ℕ) (truth : (ℕ → Bool) → Tree → Bool) (expression : ℕ → Tree → List ℤ) (comps : Partition) (rows : ℕ → List (List ℤ)) (c : ℕ)
-        → IsComponent size truth expression p.now comps rows c component.now → IsTrue false ↔ (12 < count expression p.now comps rows c)
-        → (given_up ≡ true → IsBlownSet expression p.now comps rows c full) → (given_up ≡ false → ((s : List ℕ) → had expression p.now comps rows c s → ⊥) → ⊥) → IsFound expression p.now comps rows c f) }
+    ensures { IfOk result (λ f. ForComponent p.now component.now (λ expression comps rows c.
+        IsTrue false ↔ (12 < count expression p.now comps rows c) → (given_up ≡ true → IsBlownSet expression p.now comps rows c full)
+        → (given_up ≡ false → ((s : List ℕ) → had expression p.now comps rows c s → ⊥) → ⊥) → IsFound expression p.now comps rows c f)) }
 {
     let walked = walk(alloc, p, component, component.positions.len() as u32)?;
     let none = walked.mappings.is_empty();

@@ -4,55 +4,20 @@
 //! the call's. So a column that no positive coefficient of the head counts in has none of the call either. Marks say at
 //! which positions the coefficient is 0.
 
-ghost use Rattle.std.specs.Prelude.{◌≡◌, ◌<◌, ◌^◌, ℕ, suc, pos, IfOk, IfSome, Some, length, slice_get, true};
+ghost use Rattle.std.specs.Prelude.{◌≡◌, ◌<◌, ◌^◌, ℕ, suc, pos, IfOk, Some, length, slice_get, true};
 ghost use Rattle.std.specs.List.{AllByRecursion};
 ghost use Rattle.exact128.specs.Sums.{entry};
 ghost use Rattle.level_systems.specs.Recalled.{HasNumbers};
-ghost use Rattle.level_dual.specs.Vanishing.{AreMarkedOrIn, AreUnlisted, IsMarkedAt, IsPlace, IsSilent, KeepsColumns, Vanishes, sizes_at};
+ghost use Rattle.level_dual.specs.Vanishing.{AreMarkedOrIn, AreUnlisted, IsMarkedAt, IsSilent, KeepsColumns, Vanishes, sizes_at};
 ghost use Rattle.termination_model.specs.Best.{coefficient};
 ghost use Rattle.termination_model.specs.Claims.{Mapping};
 
+use crate::places::Places;
 use crate::refuting::is_nought;
 use cti_terms::PredId;
-use level_systems::{OwnCall, Position};
+use level_systems::OwnCall;
 use linear_rows::Rows;
 use std::alloc::{AllocError, Global};
-
-/// Where the positions of each predicate begin, up to the last one that has some.
-pub(crate) fn starts_of(alloc: Global, positions: &[Position]) -> Result<Vec<usize>, AllocError> {
-    let mut starts = Vec::new(alloc);
-    for i in 0..positions.len() {
-        let pred = positions[i].pred.0 as usize;
-        for _before in starts.len()..pred + 1 {
-            starts.push(i)?;
-        }
-    }
-    Ok(starts)
-}
-
-// The place of an argument among positions, if it stands where those of its predicate begin.
-fn place_of(
-    positions: &[Position],
-    starts: &[usize],
-    pred: PredId,
-    argument: usize,
-) -> Option<usize>
-    ensures { IfSome result (IsPlace positions.now pred.0 argument) }
-{
-    if pred.0 as usize >= starts.len() {
-        return None;
-    }
-    let place = starts[pred.0 as usize].checked_add(argument)?;
-    if place >= positions.len() {
-        return None;
-    }
-    let position = positions[place];
-    if position.pred.0 == pred.0 && position.argument as usize == argument {
-        Some(place)
-    } else {
-        None
-    }
-}
 
 // Whether a place is marked.
 fn has_mark(marks: &[bool], place: usize) -> bool
@@ -71,32 +36,20 @@ fn put_mark(marks: &mut Vec<bool>, place: usize)
 }
 
 // Whether an argument's position is marked.
-fn is_marked(
-    positions: &[Position],
-    starts: &[usize],
-    marks: &[bool],
-    pred: PredId,
-    argument: usize,
-) -> bool
-    ensures { result ≡ true → (l : Mapping) → Vanishes positions.now marks.now l → coefficient (l.coefficients pred.0) argument ≡ 0 }
+fn is_marked(places: &Places, marks: &[bool], pred: PredId, argument: usize) -> bool
+    ensures { result ≡ true → (l : Mapping) → Vanishes places.now.positions.now marks.now l → coefficient (l.coefficients pred.0) argument ≡ 0 }
 {
-    let Some(place) = place_of(positions, starts, pred, argument) else {
+    let Some(place) = places.of(pred, argument) else {
         return false;
     };
     has_mark(marks, place)
 }
 
 // Marks an argument's position, if it is found.
-fn mark(
-    positions: &[Position],
-    starts: &[usize],
-    marks: &mut Vec<bool>,
-    pred: PredId,
-    argument: usize,
-)
-    ensures { (l : Mapping) → coefficient (l.coefficients pred.0) argument ≡ 0 → Vanishes positions.now marks.old.items l → Vanishes positions.now marks.new.items l }
+fn mark(places: &Places, marks: &mut Vec<bool>, pred: PredId, argument: usize)
+    ensures { (l : Mapping) → coefficient (l.coefficients pred.0) argument ≡ 0 → Vanishes places.now.positions.now marks.old.items l → Vanishes places.now.positions.now marks.new.items l }
 {
-    let Some(place) = place_of(positions, starts, pred, argument) else {
+    let Some(place) = places.of(pred, argument) else {
         return;
     };
     put_mark(marks, place);
@@ -114,38 +67,29 @@ fn number(sizes: &Rows, argument: usize, variable: usize) -> i128
 fn is_silent(
     sizes: &Rows,
     variable: usize,
-    positions: &[Position],
-    starts: &[usize],
+    places: &Places,
     marks: &[bool],
     pred: PredId,
     argument: usize,
 ) -> bool
     requires { argument < length sizes.now.list }
-    ensures { result ≡ true → (l : Mapping) → Vanishes positions.now marks.now l → 0 < coefficient (l.coefficients pred.0) argument
+    ensures { result ≡ true → (l : Mapping) → Vanishes places.now.positions.now marks.now l → 0 < coefficient (l.coefficients pred.0) argument
         → entry (sizes_at sizes.now (suc variable)) argument ≡ pos 0 }
 {
     if is_nought(number(sizes, argument, variable)) {
         return true;
     }
-    is_marked(positions, starts, marks, pred, argument)
+    is_marked(places, marks, pred, argument)
 }
 
 // Whether the head counts nothing in the column of a variable where the coefficients at marked positions are 0.
-fn is_head_silent(
-    own: &OwnCall,
-    variable: usize,
-    positions: &[Position],
-    starts: &[usize],
-    marks: &[bool],
-) -> bool
-    ensures { result ≡ true → (l : Mapping) → Vanishes positions.now marks.now l
+fn is_head_silent(own: &OwnCall, variable: usize, places: &Places, marks: &[bool]) -> bool
+    ensures { result ≡ true → (l : Mapping) → Vanishes places.now.positions.now marks.now l
         → IsSilent l own.now.caller.0 own.now.caller_sizes (suc variable) (length own.now.caller_sizes.list) }
 {
     let sizes = &own.caller_sizes;
     for argument in 0..sizes.list.len() {
-        if !is_silent(
-            sizes, variable, positions, starts, marks, own.caller, argument,
-        ) {
+        if !is_silent(sizes, variable, places, marks, own.caller, argument) {
             return false;
         }
     }
@@ -153,72 +97,61 @@ fn is_head_silent(
 }
 
 // Marks each argument of the call that counts in the column of a variable.
-fn mark_call(
-    own: &OwnCall,
-    variable: usize,
-    positions: &[Position],
-    starts: &[usize],
-    marks: &mut Vec<bool>,
-)
+fn mark_call(own: &OwnCall, variable: usize, places: &Places, marks: &mut Vec<bool>)
     ensures { (l : Mapping) → IsSilent l own.now.callee.0 own.now.callee_sizes (suc variable) (length own.now.callee_sizes.list)
-        → Vanishes positions.now marks.old.items l → Vanishes positions.now marks.new.items l }
+        → Vanishes places.now.positions.now marks.old.items l → Vanishes places.now.positions.now marks.new.items l }
 {
     for argument in 0..own.callee_sizes.list.len() {
         if !is_nought(number(&own.callee_sizes, argument, variable)) {
-            mark(positions, starts, marks, own.callee, argument);
+            mark(places, marks, own.callee, argument);
         }
     }
 }
 
 // Marks what is 0 at a call where the head's marked coefficients are.
-fn spread_at(own: &OwnCall, positions: &[Position], starts: &[usize], marks: &mut Vec<bool>)
+fn spread_at(own: &OwnCall, places: &Places, marks: &mut Vec<bool>)
     requires { HasNumbers own.now }
-    ensures { (l : Mapping) → KeepsColumns l own.now → Vanishes positions.now marks.old.items l → Vanishes positions.now marks.new.items l }
+    ensures { (l : Mapping) → KeepsColumns l own.now → Vanishes places.now.positions.now marks.old.items l → Vanishes places.now.positions.now marks.new.items l }
 {
     if own.rows.list.len() > 0 {
         return;
     }
     for variable in 0..own.rows.width as usize {
-        if is_head_silent(own, variable, positions, starts, marks.as_slice()) {
-            mark_call(own, variable, positions, starts, marks);
+        if is_head_silent(own, variable, places, marks.as_slice()) {
+            mark_call(own, variable, places, marks);
         }
     }
 }
 
 // Marks what is 0 at calls, from the first to the last.
-fn spread_onward(calls: &[OwnCall], positions: &[Position], starts: &[usize], marks: &mut Vec<bool>)
+fn spread_onward(calls: &[OwnCall], places: &Places, marks: &mut Vec<bool>)
     requires { AllByRecursion HasNumbers calls.now }
-    ensures { (l : Mapping) → AllByRecursion (KeepsColumns l) calls.now → Vanishes positions.now marks.old.items l → Vanishes positions.now marks.new.items l }
+    ensures { (l : Mapping) → AllByRecursion (KeepsColumns l) calls.now → Vanishes places.now.positions.now marks.old.items l → Vanishes places.now.positions.now marks.new.items l }
 {
     for i in 0..calls.len() {
-        spread_at(&calls[i], positions, starts, marks);
+        spread_at(&calls[i], places, marks);
     }
 }
 
 // Marks what is 0 at calls, from the last to the first.
-fn spread_back(calls: &[OwnCall], positions: &[Position], starts: &[usize], marks: &mut Vec<bool>)
+fn spread_back(calls: &[OwnCall], places: &Places, marks: &mut Vec<bool>)
     requires { AllByRecursion HasNumbers calls.now }
-    ensures { (l : Mapping) → AllByRecursion (KeepsColumns l) calls.now → Vanishes positions.now marks.old.items l → Vanishes positions.now marks.new.items l }
+    ensures { (l : Mapping) → AllByRecursion (KeepsColumns l) calls.now → Vanishes places.now.positions.now marks.old.items l → Vanishes places.now.positions.now marks.new.items l }
 {
     for i in 0..calls.len() {
-        spread_at(&calls[calls.len() - 1 - i], positions, starts, marks);
+        spread_at(&calls[calls.len() - 1 - i], places, marks);
     }
 }
 
 /// Marks what is 0 at calls where the marked coefficients are, going over the calls a few times.
-pub(crate) fn spread(
-    calls: &[OwnCall],
-    positions: &[Position],
-    starts: &[usize],
-    marks: &mut Vec<bool>,
-)
+pub(crate) fn spread(calls: &[OwnCall], places: &Places, marks: &mut Vec<bool>)
     requires { AllByRecursion HasNumbers calls.now }
-    ensures { (l : Mapping) → AllByRecursion (KeepsColumns l) calls.now → Vanishes positions.now marks.old.items l → Vanishes positions.now marks.new.items l }
+    ensures { (l : Mapping) → AllByRecursion (KeepsColumns l) calls.now → Vanishes places.now.positions.now marks.old.items l → Vanishes places.now.positions.now marks.new.items l }
 {
-    spread_onward(calls, positions, starts, marks);
-    spread_onward(calls, positions, starts, marks);
-    spread_back(calls, positions, starts, marks);
-    spread_back(calls, positions, starts, marks);
+    spread_onward(calls, places, marks);
+    spread_onward(calls, places, marks);
+    spread_back(calls, places, marks);
+    spread_back(calls, places, marks);
 }
 
 /// Marks at all places but those of a set's numbers, which count from 1.

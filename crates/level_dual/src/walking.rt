@@ -1,10 +1,9 @@
 //! The walk over the sets of positions, the smaller ones first.
 
-ghost use Rattle.std.specs.Prelude.{◌≡◌, ◌||◌, ◌<◌, ◌^◌, ◌+◌, ℕ, ℤ, Bool, List, Some, suc, IfOk, length, slice_get};
+ghost use Rattle.std.specs.Prelude.{◌≡◌, ◌||◌, ◌<◌, ◌^◌, ◌+◌, ℕ, Some, suc, IfOk, length, slice_get};
 ghost use Rattle.std.specs.List.{list_any};
-ghost use Rattle.call_components.specs.Partition.{Partition};
-ghost use Rattle.cti_terms.specs.Tree.{Tree};
-ghost use Rattle.level_systems.specs.Searched.{IsComponent, IsSound};
+ghost use Rattle.level_systems.specs.Searched.{IsSound};
+ghost use Rattle.level_dual.specs.Components.{ForComponent};
 ghost use Rattle.level_dual.specs.Walked.{IsAllWalked, IsWalkedTo};
 ghost use Rattle.termination_model.specs.Modes.{chosen_up_to, is_part};
 
@@ -63,11 +62,10 @@ fn visit(
     walked: &mut Walked,
 ) -> Result<(), AllocError>
     requires sound { IsSound p.now component.now }
-    ensures { IfOk result (λ done. (size : (ℕ → ℕ) → Tree → ℕ) (truth : (ℕ → Bool) → Tree → Bool) (expression : ℕ → Tree → List ℤ) (comps : Partition) (rows : ℕ → List (List ℤ)) (c : ℕ)
-        → IsComponent size truth expression p.now comps rows c component.now
-        → (i : ℕ) → slice_get (chosen_up_to (length component.now.positions.items) (length component.now.positions.items)) i ≡ Some set.now
+    ensures { IfOk result (λ done. ForComponent p.now component.now (λ expression comps rows c.
+        (i : ℕ) → slice_get (chosen_up_to (length component.now.positions.items) (length component.now.positions.items)) i ≡ Some set.now
         → IsWalkedTo expression p.now comps rows c (length component.now.positions.items) i walked.old
-        → IsWalkedTo expression p.now comps rows c (length component.now.positions.items) (suc i) walked.new) }
+        → IsWalkedTo expression p.now comps rows c (length component.now.positions.items) (suc i) walked.new)) }
 {
     if is_passed(walked, set) {
         return Ok(());
@@ -93,8 +91,8 @@ pub(crate) fn walk(
     requires sound { IsSound p.now component.now }
     requires last { last ≡ length component.now.positions.items }
     requires small { last + 1 < 2 ^ 32 }
-    ensures { IfOk result (λ walked. (size : (ℕ → ℕ) → Tree → ℕ) (truth : (ℕ → Bool) → Tree → Bool) (expression : ℕ → Tree → List ℤ) (comps : Partition) (rows : ℕ → List (List ℤ)) (c : ℕ)
-        → IsComponent size truth expression p.now comps rows c component.now → IsAllWalked expression p.now comps rows c walked) }
+    ensures { IfOk result (λ walked. ForComponent p.now component.now (λ expression comps rows c.
+        IsAllWalked expression p.now comps rows c walked)) }
 {
     let mut walked = Walked {
         found: Sequence::new(alloc),

@@ -18,9 +18,9 @@ loop-argument-preserved c = λ m silent v.
     let is : to_z w128 (of_z w128 c.number.result) ≡ c.number.result = to_z-of_z w128 c.number.result fits in
     elim c.if-not-is_nought.branch [
       | then-not-is_nought w ↦
-          subst (λ t. Vanishes c.args.positions.now t.items m) (sym w.marks-is)
+          subst (λ t. Vanishes c.args.places.now.positions.now t.items m) (sym w.marks-is)
           (w.mark.ensures m (zero_unless (coefficient (m.coefficients own.callee.0) a) (λ more.
           let no = subst IsTrue w.if-not-is_nought.true (c.is_nought.ensures.1 (is ∙ c.number.ensures ∙ silent a less more)) in
           cc)) before)
-      | else-not-is_nought w ↦ subst (λ t. Vanishes c.args.positions.now t.items m) (sym w.marks-is) before
+      | else-not-is_nought w ↦ subst (λ t. Vanishes c.args.places.now.positions.now t.items m) (sym w.marks-is) before
     ]

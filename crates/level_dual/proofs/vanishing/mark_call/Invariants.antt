@@ -5,4 +5,4 @@ use Rattle.level_dual.proofs.vanishing.mark_call.Given as goal
 
 abbrev pub invariant-loop-argument : goal.invariant-loop-argument
 invariant-loop-argument l =
-    (m : Mapping) → IsSilent m l.own.callee.0 l.own.callee_sizes (suc l.variable) (length l.own.callee_sizes.list) → Vanishes l.positions l.fn.marks.items m → Vanishes l.positions l.marks.items m
+    (m : Mapping) → IsSilent m l.own.callee.0 l.own.callee_sizes (suc l.variable) (length l.own.callee_sizes.list) → Vanishes l.places.positions.now l.fn.marks.items m → Vanishes l.places.positions.now l.marks.items m

@@ -14,7 +14,7 @@ loop-variable-preserved c = λ m keeps v.
     let sizes = (c.requires.natural (suc j) (omega (arith, less))).1 in
     elim c.if-is_head_silent.branch [
       | then-is_head_silent w ↦
-          let silent = c.is_head_silent.ensures w.if-is_head_silent.true m (subst (λ (xs : List Bool). Vanishes c.args.positions.now xs m) (sym c.as_slice.ensures.value) before) in
-          subst (λ t. Vanishes c.args.positions.now t.items m) (sym w.marks-is) (w.mark_call.ensures m (call_silent m own j keeps none less sizes silent) before)
-      | else-is_head_silent w ↦ subst (λ t. Vanishes c.args.positions.now t.items m) (sym w.marks-is) before
+          let silent = c.is_head_silent.ensures w.if-is_head_silent.true m (subst (λ (xs : List Bool). Vanishes c.args.places.now.positions.now xs m) (sym c.as_slice.ensures.value) before) in
+          subst (λ t. Vanishes c.args.places.now.positions.now t.items m) (sym w.marks-is) (w.mark_call.ensures m (call_silent m own j keeps none less sizes silent) before)
+      | else-is_head_silent w ↦ subst (λ t. Vanishes c.args.places.now.positions.now t.items m) (sym w.marks-is) before
     ]
