@@ -102,7 +102,7 @@ module _ (expression : ℕ → Tree → List ℤ) (p : Listing) where
           let same : fault.clause ≡ clause_of p x = (let both = sym fault.there ∙ is_numbered in cc) in
           subst (λ (c : Clause). PointFails expression (rows_of sizes) c (x.call - 1) y fault.flaw) same fault.fails
 
-      fails_at : (y : Point) (f : Flaw) → Fail y f → (why : Reason) → why ≡ reason_of f reason.Refutation → RowsFailAt expression p sizes x.clause x.call y why
+      pub fails_at : (y : Point) (f : Flaw) → Fail y f → (why : Reason) → why ≡ reason_of f reason.Refutation → RowsFailAt expression p sizes x.clause x.call y why
       fails_at y f fails why is = record { clause = clause_of p x; there = is_numbered; flaw = f; fails = fails; why_is = is }
 
       smallest : (y : Point) (f : Flaw) → Fail y f → (why : Reason) → why ≡ reason_of f reason.Refutation → (other : Reason) → RowsFailAt expression p sizes x.clause x.call y other → reason_number why ≤ reason_number other

@@ -84,10 +84,10 @@ module _ (truth : (ℕ → Bool) → Tree → Bool) (expression : ℕ → Tree �
   refuted_same = same_from (RefutationsFail expression p names comps parts) Whole (λ q o. refutation_facts (pred_text p names q) o) (λ q o. refutation_same (pred_text p names q) o) 0 parts.refutations
 
   -- no number is tested in cubes
-  grounds_hold : NoneFails Whole (ground_facts p names parts.grounds)
+  pub grounds_hold : NoneFails Whole (ground_facts p names parts.grounds)
   grounds_hold = none_in Whole (λ q cs. lines_from 0 (grounds_line (pred_text p names q)) cs) (λ q cs. none_in Whole (λ i c. grounds_line (pred_text p names q) i c ∷ []) (λ i c. (λ why fails. fails, tt)) 0 cs) 0 parts.grounds
 
-  pre_hold : NoneFails Whole (pre_facts p names parts.preconditions)
+  pub pre_hold : NoneFails Whole (pre_facts p names parts.preconditions)
   pre_hold = none_in Whole (λ q ms. facts_from 0 (λ m cs. lines_from 0 (pre_line (pred_text p names q) m) cs) ms)
       (λ q ms. none_in Whole (λ m cs. lines_from 0 (pre_line (pred_text p names q) m) cs) (λ m cs. none_in Whole (λ i c. pre_line (pred_text p names q) m i c ∷ []) (λ i c. (λ why fails. fails, tt)) 0 cs) 0 ms) 0 parts.preconditions
 

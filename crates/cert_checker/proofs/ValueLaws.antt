@@ -84,7 +84,7 @@ module _ (p : Listing) (names : List (List ℕ)) (comps : Partition) (parts : Pa
   )
 
   -- modes that hold have no fault
-  modes_hold : ModesHold truth p comps parts → NoneFails Whole (mode_facts p names parts.modes)
+  pub modes_hold : ModesHold truth p comps parts → NoneFails Whole (mode_facts p names parts.modes)
   modes_hold hold =
       finds_none Whole (λ q ms. mode_fact q ms ∷ []) (λ ms. 1) (λ q ms. refl) parts.modes
       (λ q ms e. pred_none q (let count = shape.modes.count in omega (arith, count, place_below parts.modes q ms e)) (each_holds p comps parts q hold) ms)
@@ -108,7 +108,7 @@ module _ (p : Listing) (names : List (List ℕ)) (comps : Partition) (parts : Pa
       let least = first_smallest p comps parts is.q f.reason fault.mode is.reason (subst (λ (k : ℕ). ModesFail truth p comps parts k fault.mode) same fault.fails) in
       omega (arith, number, least)))
 
-  sizes_hold : NoneFails Whole (size_facts p names parts.rows)
+  pub sizes_hold : NoneFails Whole (size_facts p names parts.rows)
   sizes_hold = none_in Whole (λ q r. lines_from 0 (size_line (pred_text p names q)) r.list) (λ q r. none_in Whole (λ i row. size_line (pred_text p names q) i row ∷ []) (λ i row. (λ why fails. fails, tt)) 0 r.list) 0 parts.rows
 
   sizes_counted : length (size_facts p names parts.rows) ≡ rows_in parts.rows
@@ -134,7 +134,7 @@ module _ (p : Listing) (names : List (List ℕ)) (comps : Partition) (parts : Pa
   note_none (fact.At k j t w) note why fails = cc
 
   module _ (notes : List Fact) (are_notes : AreNotes notes) where
-    notes_hold : NoneFails Whole notes
+    pub notes_hold : NoneFails Whole notes
     notes_hold = from_places (λ x. (why : Reason) → ¬ Whole x why) notes (λ i x e. note_none x (by_places (λ x. is_note x ≡ true) notes are_notes i x e))
 
     abbrev tail : List Fact
