@@ -16,3 +16,4 @@ pub mod CheckLemmas
 pub mod SolveLemmas
 pub mod SparseLemmas
 pub mod Crowds
+pub mod MarkLemmas

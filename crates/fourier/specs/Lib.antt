@@ -5,3 +5,4 @@ pub mod History
 pub mod Exceeding
 pub mod Solves
 pub mod Sparse
+pub mod Marks

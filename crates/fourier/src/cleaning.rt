@@ -1,13 +1,13 @@
 // Rows that are kept: divided by what their numbers share, none that says nothing, and one for each list of coefficients.
-ghost use Rattle.std.specs.Prelude.{◌≡◌, ℕ, true, false, ◌<◌, ◌≤◌, length, OnOk, All, slice_index_or, []};
+ghost use Rattle.std.specs.Prelude.{◌≡◌, OnOk, All};
 ghost use Rattle.exact128.specs.Fits.{Fits};
 ghost use Rattle.linear_rows.specs.Elimination.{without};
-ghost use Rattle.linear_rows.specs.Cleaning.{agree, is_trivial, insert_row};
+ghost use Rattle.linear_rows.specs.Cleaning.{is_trivial, insert_row};
 ghost use Rattle.fourier.specs.Adding.{insert_divided, add_row, add_rows, AllFit};
 
 use crate::line::Line;
 use crate::lines::Lines;
-use crate::sign::{at_most, is_zero, same};
+use crate::sign::{at_most, is_zero};
 use std::alloc::{AllocError, Global};
 
 /// The most rows that a step may leave.
@@ -66,7 +66,7 @@ fn add_divided(kept: &mut Lines, row: Line, last: usize) -> Result<(), AllocErro
 fn insert(kept: &mut Lines, row: Line, last: usize) -> Result<(), AllocError>
     ensures { OnOk result (kept.new ≡ insert_row last kept.old row) }
 {
-    let place = place_of(kept, &row, last);
+    let place = kept.place_of(&row, last);
     if place < kept.len() {
         if at_most(kept.get(place).entry(0), row.entry(0)) {
             return Ok(());
@@ -74,32 +74,6 @@ fn insert(kept: &mut Lines, row: Line, last: usize) -> Result<(), AllocError>
         kept.remove(place);
     }
     kept.push(row)
-}
-
-// The place of the first row with the coefficients of `row`, or the number of rows.
-fn place_of(kept: &Lines, row: &Line, last: usize) -> usize
-    ensures within { result ≤ length kept.now }
-    ensures before { (j : ℕ) → j < result → agree last (slice_index_or kept.now j []) row.now ≡ false }
-    ensures here { result < length kept.now → agree last (slice_index_or kept.now result []) row.now ≡ true }
-{
-    for i in 0..kept.len() {
-        if agree(kept.get(i), row, last) {
-            return i;
-        }
-    }
-    kept.len()
-}
-
-// Whether two rows have the same numbers in the columns 1 to `last`.
-fn agree(r: &Line, s: &Line, last: usize) -> bool
-    ensures { result ≡ agree last r.now s.now }
-{
-    for j in 0..last {
-        if !same(r.entry(j + 1), s.entry(j + 1)) {
-            return false;
-        }
-    }
-    true
 }
 
 // Whether a row has no coefficient and a constant of at least 0.

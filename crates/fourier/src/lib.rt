@@ -18,6 +18,7 @@ mod fault;
 mod history;
 mod line;
 mod lines;
+mod marks;
 mod part;
 mod scaling;
 mod sequence;

@@ -29,7 +29,7 @@ pub fn step(
     requires last { last < 2 ^ 32 }
     ensures { StepSays brief last k rows.now result }
 {
-    let mut kept = Lines::new(alloc);
+    let mut kept = Lines::marked(alloc, last);
     match add_without(alloc, &mut kept, rows, k, last) {
         Ok(()) => {}
         Err(_) => return Err(StepFault::Memory),

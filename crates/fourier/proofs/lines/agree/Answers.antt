@@ -3,7 +3,7 @@ use Rattle.std.specs.Int.{w128}
 use Rattle.std.specs.Prelude.{FitsSigned}
 use Rattle.std.proofs.lemmas.Int.{to_z-of_z}
 use Rattle.fourier.proofs.NumberTests.{agree_from, agree_not}
-use Rattle.fourier.proofs.cleaning.agree.Goals as goal
+use Rattle.fourier.proofs.lines.agree.Goals as goal
 
 pub returns-then-not-same : goal.returns-then-not-same
 returns-then-not-same c =
