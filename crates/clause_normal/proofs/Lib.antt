@@ -4,8 +4,8 @@ pub mod TermLemmas
 pub mod OrderLemmas
 pub mod ListLemmas
 pub mod BodyLemmas
-pub mod TaskLemmas
-pub mod RuleLemmas
+pub mod OutlineLemmas
+pub mod FitLemmas
 pub mod CopyLemmas
 pub mod Later
 pub mod NumberingLemmas

@@ -1,24 +1,23 @@
 -- Lemmas on what a term is in a body.
-use Rattle.std.proofs.Common.{◌≡◌, ℕ, ◌+◌, ◌<◌, ◌≤◌, Bool, true, false, IsTrue, nat_lt, ◌&&◌, ◌==◌, List, [], ◌∷◌, ◌++◌, length, map, get_or, refl, ap, sym, ◌∙◌, arith, subst, Vec, Global, Bor}
+use Rattle.std.proofs.Common.{◌≡◌, ℕ, ◌+◌, ◌<◌, IsTrue, nat_lt, List, [], ◌∷◌, ◌++◌, length, map, get_or, refl, ap, sym, ◌∙◌, arith, subst, Vec, Global, Bor}
 use Rattle.std.proofs.lemmas.Bool.{and_parts, ltb-true}
 use Rattle.std.proofs.lemmas.Bool.Decides.{nat_tests}
 use Rattle.cti_terms.specs.Tree.{Tree as Term}
 use Rattle.cti_terms.specs.declared.naming.Name.{Name}
-use Rattle.prolog_grammar.specs.Placed.{Tree, tree, Shape, Var, Int, Fun, Trees, no_trees, more_trees}
+use Rattle.prolog_grammar.specs.Placed.{Tree, tree, Fun, Trees, no_trees, more_trees}
 use Rattle.prolog_terms.specs.declared.term.ReadTerm.{ReadTerm}
-use Rattle.prolog_terms.specs.declared.term.ReadShape.{ReadShape}
 use Rattle.prolog_terms.specs.declared.term.ReadShape.TheVariants as shape
 use Rattle.prolog_terms.specs.Clauses.{row, arity, is_known, nodes}
 use Rattle.prolog_reader.specs.Names.{name_text}
 use Rattle.prolog_terms.specs.Terms.{tree_of}
-use Rattle.prolog_reader.proofs.ViewLemmas.{tree_of_fun, tree_of_var, tree_of_int, arity_terms}
+use Rattle.prolog_reader.proofs.ViewLemmas.{tree_of_fun, arity_terms}
 use Rattle.clause_normal.specs.declared.words.Connective.{Connective}
 use Rattle.clause_normal.specs.declared.words.Connective.TheVariants as connective
 use Rattle.clause_normal.specs.Words.{connective_of}
-use Rattle.clause_normal.specs.Terms.{plain, plain_list, occurrences}
+use Rattle.clause_normal.specs.Terms.{plain_list, occurrences}
 use Rattle.clause_normal.specs.Bodies.{Goal, Goals, Branches, atom_goal, named_goal, Body, of_goals, named_body, disjunction, choice_goal, arguments, argument_bodies, body_of, one_goal, one_branch, no_goals, joined, joined_branches}
 use Rattle.clause_normal.specs.Query.{query_goals, argument_goals, named_goals}
-use Rattle.clause_normal.specs.Views.{plain_of, goal_of, goals_of, branches_of, IsBranch, IsPart}
+use Rattle.clause_normal.specs.Views.{plain_of, item_goal, goals_of, branches_of, IsBranch, IsPart}
 use Rattle.clause_normal.specs.declared.part.Part.TheVariants as part
 use Rattle.clause_normal.specs.declared.part.Item.{Item}
 
@@ -52,6 +51,10 @@ two_of_and text n h = grind (arith, nat_tests)
 pub two_of_or : (text : List ℕ) (n : ℕ) → connective_of text n ≡ connective.Or → n ≡ 2
 unfolding connective_of
 two_of_or text n h = grind (arith, nat_tests)
+
+pub none_of_truth : (text : List ℕ) (n : ℕ) → connective_of text n ≡ connective.Truth → n ≡ 0
+unfolding connective_of
+none_of_truth text n h = grind (arith, nat_tests)
 
 -- the body of a term of one goal or none
 branch_of_goals : (names : List (List ℕ)) (t : ReadTerm) (tr : Tree) (goals : List ℕ → Goals) → tree_of t ≡ tr → body_of names tr ≡ of_goals tr goals → IsBranch names t
@@ -98,14 +101,14 @@ part_nothing names t f args is h =
     part_of_goals names t tr no_goals (tree_of_fun t f args is) (ap (λ k. named_body names tr t.at k (argument_bodies names ts)) c)
 
 pub part_goal : (names : List (List ℕ)) (t : ReadTerm) (f : Name) (args : Vec ReadTerm Global) (i : Item) → t.shape ≡ shape.Fun f args
-    → connective_of (name_text names f.0) (length args.items) ≡ connective.Other → goal_of names i ≡ atom_goal names (tree_of t) → IsPart names t (part.Goal i)
+    → connective_of (name_text names f.0) (length args.items) ≡ connective.Other → item_goal i ≡ atom_goal names (tree_of t) → IsPart names t (part.Goal i)
 part_goal names t f args i is h g =
     let ts : Trees = row (map tree_of args.items) in
     let tr : Tree = tree t.at (Fun f.0 ts) in
     let s : tree_of t ≡ tr = tree_of_fun t f args is in
     let c : connective_of (name_text names f.0) (arity ts) ≡ connective.Other = ap (connective_of (name_text names f.0)) (arity_terms args.items) ∙ h in
-    let k : atom_goal names tr ≡ goal_of names i = ap (atom_goal names) (sym s) ∙ sym g in
-    part_of_goals names t tr (one_goal (goal_of names i)) s (ap (λ k. named_body names tr t.at k (argument_bodies names ts)) c ∙ ap (λ (g : Goal). of_goals tr (λ all. one_goal g)) k)
+    let k : atom_goal names tr ≡ item_goal i = ap (atom_goal names) (sym s) ∙ sym g in
+    part_of_goals names t tr (one_goal (item_goal i)) s (ap (λ k. named_body names tr t.at k (argument_bodies names ts)) c ∙ ap (λ (g : Goal). of_goals tr (λ all. one_goal g)) k)
 
 -- the name of a known term is known
 pub name_known : (n : ℕ) (t : ReadTerm) (f : Name) (args : Vec ReadTerm Global) → t.shape ≡ shape.Fun f args → IsTrue (is_known n (tree_of t)) → f.0 < n
@@ -140,5 +143,5 @@ module _ (names : List (List ℕ)) (t : ReadTerm) (f : Name) (args : Vec ReadTer
   pub query_nothing : connective_of (name_text names f.0) (length args.items) ≡ connective.Truth → query_goals names (tree_of t) ≡ []
   query_nothing h = query_at connective.Truth h
 
-  pub query_other : (i : Item) → connective_of (name_text names f.0) (length args.items) ≡ connective.Other → goal_of names i ≡ atom_goal names (tree_of t) → query_goals names (tree_of t) ≡ goal_of names i ∷ []
+  pub query_other : (i : Item) → connective_of (name_text names f.0) (length args.items) ≡ connective.Other → item_goal i ≡ atom_goal names (tree_of t) → query_goals names (tree_of t) ≡ item_goal i ∷ []
   query_other i h g = query_at connective.Other h ∙ ap (λ (g : Goal). g ∷ []) (sym g)

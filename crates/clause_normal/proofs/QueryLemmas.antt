@@ -14,7 +14,7 @@ use Rattle.clause_normal.specs.Faults.{IfFault}
 use Rattle.clause_normal.specs.NormalForm.{Fault, first_of}
 use Rattle.clause_normal.specs.Rules.{Call}
 use Rattle.clause_normal.specs.Stacks.{stack_query}
-use Rattle.clause_normal.specs.Views.{goal_of}
+use Rattle.clause_normal.specs.Views.{item_goal}
 
 abbrev pub Queries : Type 0
 Queries = List (Bor ReadTerm)
@@ -44,33 +44,33 @@ queries_nothing names stack below t e none =
 
 -- one whose top is a goal, which goes to the items
 pub queries_item : (names : List (List ℕ)) (stack below : Queries) (t : Bor ReadTerm) (items after : List Item) (i : Item) → stack ≡ below ++ t ∷ [] → after ≡ items ++ i ∷ []
-    → query_goals names (tree_of t.now) ≡ goal_of names i ∷ []
-    → map (goal_of names) after ++ stack_query names below ≡ map (goal_of names) items ++ stack_query names stack
+    → query_goals names (tree_of t.now) ≡ item_goal i ∷ []
+    → map item_goal after ++ stack_query names below ≡ map item_goal items ++ stack_query names stack
 queries_item names stack below t items after i e f one =
     let rest = stack_query names below in
-    ap (λ (is : List Item). map (goal_of names) is ++ rest) f ∙ ap (λ (gs : List Goal). gs ++ rest) (map-append (goal_of names) items (i ∷ []))
-    ∙ append_assoc (map (goal_of names) items) (goal_of names i ∷ []) rest
-    ∙ ap (λ (gs : List Goal). map (goal_of names) items ++ (gs ++ rest)) (sym one)
-    ∙ ap (λ (gs : List Goal). map (goal_of names) items ++ gs) (sym (ap (stack_query names) e ∙ stack_query_push names below t))
+    ap (λ (is : List Item). map item_goal is ++ rest) f ∙ ap (λ (gs : List Goal). gs ++ rest) (map-append item_goal items (i ∷ []))
+    ∙ append_assoc (map item_goal items) (item_goal i ∷ []) rest
+    ∙ ap (λ (gs : List Goal). map item_goal items ++ (gs ++ rest)) (sym one)
+    ∙ ap (λ (gs : List Goal). map item_goal items ++ gs) (sym (ap (stack_query names) e ∙ stack_query_push names below t))
 
 -- one goal more of a list
-module _ (names : List (List ℕ)) (items : List Item) (i : ℕ) (it : Item) (lt : i < length items) (at : it ≡ get_or items i it) where
-  left : map (goal_of names) (drop i items) ≡ goal_of names it ∷ map (goal_of names) (drop (i + 1) items)
-  left = at_drop_more (map (goal_of names)) items i it lt ∙ ap (λ (t : Item). goal_of names t ∷ map (goal_of names) (drop (i + 1) items)) (sym at)
+module _ (items : List Item) (i : ℕ) (it : Item) (lt : i < length items) (at : it ≡ get_or items i it) where
+  left : map item_goal (drop i items) ≡ item_goal it ∷ map item_goal (drop (i + 1) items)
+  left = at_drop_more (map item_goal) items i it lt ∙ ap (λ (t : Item). item_goal t ∷ map item_goal (drop (i + 1) items)) (sym at)
 
-  pub fault_next : bad_goal (goal_of names it) ≡ None → query_fault (map (goal_of names) (drop i items)) ≡ query_fault (map (goal_of names) items)
-      → query_fault (map (goal_of names) (drop (i + 1) items)) ≡ query_fault (map (goal_of names) items)
-  fault_next none inv = sym (ap query_fault left ∙ ap (λ (f : Option Fault). first_of f (query_fault (map (goal_of names) (drop (i + 1) items)))) none) ∙ inv
+  pub fault_next : bad_goal (item_goal it) ≡ None → query_fault (map item_goal (drop i items)) ≡ query_fault (map item_goal items)
+      → query_fault (map item_goal (drop (i + 1) items)) ≡ query_fault (map item_goal items)
+  fault_next none inv = sym (ap query_fault left ∙ ap (λ (f : Option Fault). first_of f (query_fault (map item_goal (drop (i + 1) items)))) none) ∙ inv
 
-  pub fault_found : (f : Fault) → bad_goal (goal_of names it) ≡ Some f → query_fault (map (goal_of names) (drop i items)) ≡ query_fault (map (goal_of names) items)
-      → query_fault (map (goal_of names) items) ≡ Some f
-  fault_found f some inv = sym inv ∙ ap query_fault left ∙ ap (λ (f : Option Fault). first_of f (query_fault (map (goal_of names) (drop (i + 1) items)))) some
+  pub fault_found : (f : Fault) → bad_goal (item_goal it) ≡ Some f → query_fault (map item_goal (drop i items)) ≡ query_fault (map item_goal items)
+      → query_fault (map item_goal items) ≡ Some f
+  fault_found f some inv = sym inv ∙ ap query_fault left ∙ ap (λ (f : Option Fault). first_of f (query_fault (map item_goal (drop (i + 1) items)))) some
 
-  pub calls_next : (old new all : List Call) → new ≡ old ++ query_call (goal_of names it) → old ++ query_calls (map (goal_of names) (drop i items)) ≡ all
-      → new ++ query_calls (map (goal_of names) (drop (i + 1) items)) ≡ all
+  pub calls_next : (old new all : List Call) → new ≡ old ++ query_call (item_goal it) → old ++ query_calls (map item_goal (drop i items)) ≡ all
+      → new ++ query_calls (map item_goal (drop (i + 1) items)) ≡ all
   calls_next old new all e inv =
-      ap (λ (cs : List Call). cs ++ query_calls (map (goal_of names) (drop (i + 1) items))) e
-      ∙ append_assoc old (query_call (goal_of names it)) (query_calls (map (goal_of names) (drop (i + 1) items)))
+      ap (λ (cs : List Call). cs ++ query_calls (map item_goal (drop (i + 1) items))) e
+      ∙ append_assoc old (query_call (item_goal it)) (query_calls (map item_goal (drop (i + 1) items)))
       ∙ ap (λ (gs : List Goal). old ++ query_calls gs) (sym left) ∙ inv
 
 -- what a fault is of one form is a fault of another

@@ -6,12 +6,12 @@ pub mod Numbering
 pub mod NormalForm
 pub mod ChoiceNames
 pub mod Views
+pub mod Outlines
+pub mod OutlineViews
 pub mod Stacks
 pub mod Counts
 pub mod Tallies
-pub mod Tasks
 pub mod RuleViews
-pub mod Levels
 pub mod FormViews
 pub mod Faults
 pub mod Query

@@ -5,10 +5,10 @@ use Rattle.std.specs.Borrow.{Bor}
 use Rattle.prolog_terms.specs.declared.term.ReadTerm.{ReadTerm}
 use Rattle.prolog_terms.specs.Clauses.{nodes, all_nodes, row}
 use Rattle.prolog_terms.specs.Terms.{tree_of}
-use Rattle.clause_normal.specs.Terms.{list_variables, occurrences}
-use Rattle.clause_normal.specs.Views.{plain_of, goals_of, branches_of}
+use Rattle.clause_normal.specs.Terms.{list_variables}
+use Rattle.clause_normal.specs.Views.{plain_of}
 use Rattle.clause_normal.specs.Query.{query_goals}
-use Rattle.clause_normal.specs.Bodies.{Goal, Goals, Branches, no_goals, joined, no_branches, more_branches, joined_branches}
+use Rattle.clause_normal.specs.Bodies.{Goal}
 
 -- the variables of the terms on a stack, those on top first
 abbrev pub stack_variables : List (Bor (List ReadTerm)) → List ℕ
@@ -23,25 +23,10 @@ abbrev pub stack_work : List (Bor (List ReadTerm)) → ℕ
 stack_work [] = 0
 stack_work (ts ∷ below) = stack_work below + list_work ts.now
 
--- the goals of the bodies on a stack, those on top first
-abbrev pub stack_goals : List (List ℕ) → List ℕ → List (Bor ReadTerm) → Goals
-stack_goals names all [] = no_goals
-stack_goals names all (t ∷ below) = joined (stack_goals names all below) (goals_of names t.now all)
-
--- the branches of the bodies on a stack
-abbrev pub stack_branches : List (List ℕ) → List ℕ → List (Bor ReadTerm) → Branches
-stack_branches names args [] = no_branches
-stack_branches names args (t ∷ below) = joined_branches (stack_branches names args below) (branches_of names t.now args)
-
 -- how many nodes there are
 abbrev pub stack_nodes : List (Bor ReadTerm) → ℕ
 stack_nodes [] = 0
 stack_nodes (t ∷ below) = stack_nodes below + nodes (tree_of t.now)
-
--- bodies as the branches of a disjunction whose predicate has these arguments, in order
-abbrev pub branches_row : List (List ℕ) → List ℕ → List (Bor ReadTerm) → Branches
-branches_row names args [] = no_branches
-branches_row names args (t ∷ ts) = more_branches (goals_of names t.now (args ++ occurrences (tree_of t.now))) (branches_row names args ts)
 
 -- the goals of the queries on a stack, those on top first
 abbrev pub stack_query : List (List ℕ) → List (Bor ReadTerm) → List Goal

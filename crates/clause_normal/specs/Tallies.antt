@@ -1,7 +1,7 @@
 -- Private.
 -- Tables of how often variables occur. Nothing here has to be believed.
 use Rattle.std.specs.Prelude.{ℕ, []}
-use Rattle.clause_normal.specs.declared.body.Tallies.{Tallies}
+use Rattle.clause_normal.specs.declared.tally.Tallies.{Tallies}
 use Rattle.clause_normal.specs.Counts.{AreCounts}
 
 -- no variable is counted

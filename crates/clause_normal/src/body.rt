@@ -1,38 +1,21 @@
-//! The goals of a body.
+//! The goals of a body, with the arguments of its disjunctions' predicates.
 
-ghost use Rattle.std.specs.Prelude.{◌≡◌, ◌<◌, ◌≤◌, ◌+◌, ◌*◌, ℕ, IsTrue, List, [], length, map, filter, nat_lt, slice_index, IfOk, OnOk};
+ghost use Rattle.std.specs.Prelude.{◌≡◌, ◌<◌, ◌++◌, ℕ, List, [], length, map, filter, nat_lt, slice_index, IfOk, OnOk};
 ghost use Rattle.std.specs.List.{AllByRecursion};
-ghost use Rattle.prolog_terms.specs.Clauses.{is_below, nodes};
-ghost use Rattle.prolog_terms.specs.Terms.{tree_of};
-ghost use Rattle.clause_normal.specs.Bodies.{arguments, choice_goal, goals_row, joined_branches};
+ghost use Rattle.clause_normal.specs.Bodies.{arguments, choice_goal, goals_row};
 ghost use Rattle.clause_normal.specs.Counts.{AreCounts};
-ghost use Rattle.clause_normal.specs.Terms.{occurrences};
+ghost use Rattle.clause_normal.specs.Outlines.{piece_goal};
+ghost use Rattle.clause_normal.specs.OutlineViews.{piece_of, goal_of, goals_in, branches_in, outline_goals, GoalIsBelow, OutlineIsBelow, OutlinesAreBelow, PieceIsBelow, PiecesAreBelow};
 ghost use Rattle.clause_normal.specs.Tallies.{AreNone};
-ghost use Rattle.clause_normal.specs.Views.{goal_of, goals_of, branches_of, item_work, items_work, IsTermFit, ItemIsFit};
 
 use crate::fault::NormKind;
+use crate::goal::Goal;
 use crate::order::firsts;
-use crate::part::{Item, Part, part_of};
-use crate::tally::Tally;
-use crate::variables::term_variables;
-use cti_terms::{MOST_ARGUMENTS, Names};
-use prolog_reader::ReadTerm;
+use crate::outline::{Outline, Piece};
+use crate::part::Item;
+use crate::tally::{Tallies, Tally};
+use cti_terms::MOST_ARGUMENTS;
 use std::alloc::{AllocError, Global};
-
-/// How often variables occur: in a clause, and in one of its disjunctions.
-pub(crate) struct Tallies {
-    pub(crate) clause: Tally,
-    pub(crate) choice: Tally,
-}
-
-impl Drop for Tallies {
-    fn drop(self) {
-        let Tallies {
-            clause: _,
-            choice: _,
-        } = self;
-    }
-}
 
 /// Those of these variables that occur more often in the clause than in the disjunction.
 fn shared(
@@ -54,90 +37,99 @@ fn shared(
     Ok(shared)
 }
 
-/// A disjunction as a goal of a clause whose variables are counted.
-fn choice_item<'a>(
+/// A disjunction at a place, with these variables and branches, as a goal of a clause whose variables are counted.
+fn choice_goal<'a, 'v, 'o>(
     alloc: Global,
     clause: &Tally,
     choice: &mut Tally,
-    term: &ReadTerm,
-    left: &'a ReadTerm,
-    right: &'a ReadTerm,
-) -> Result<Item<'a>, AllocError>
-    requires below { IsTrue (is_below (length clause.now.counts.items) (tree_of term.now)) }
+    at: u32,
+    own: &[u32],
+    branches: &'o Vec<Outline<'a, 'v>>,
+) -> Result<Goal<'a, 'v, 'o>, AllocError>
+    requires below { AllByRecursion (λ x. x < length clause.now.counts.items) own.now }
     requires none { AreCounts (length clause.now.counts.items) [] choice.old.counts.items }
     ensures none { OnOk result (AreCounts (length clause.now.counts.items) [] choice.new.counts.items) }
-    ensures goal { IfOk result (λ i. (names : List (List ℕ)) (all : List ℕ) → AreCounts (length clause.now.counts.items) all clause.now.counts.items
-        → goal_of names i ≡ choice_goal term.now.at (arguments all (occurrences (tree_of term.now))) (λ args. joined_branches (branches_of names left.now args) (branches_of names right.now args))) }
-    ensures fit { IfOk result (λ i. (names : ℕ) → IsTermFit names (length clause.now.counts.items) left.now → IsTermFit names (length clause.now.counts.items) right.now
-        → ItemIsFit names (length clause.now.counts.items) i) }
-    ensures work { IfOk result (λ i. item_work i ≤ 3 * (nodes (tree_of left.now) + nodes (tree_of right.now)) + 3) }
+    ensures goal { IfOk result (λ g. (all : List ℕ) → AreCounts (length clause.now.counts.items) all clause.now.counts.items
+        → goal_of g ≡ choice_goal at (arguments all own.now) (branches_in branches.now.items)) }
+    ensures below { IfOk result (λ g. OutlinesAreBelow (length clause.now.counts.items) branches.now.items → GoalIsBelow (length clause.now.counts.items) g) }
 {
-    let own = term_variables(alloc, term)?;
-    choice.add(&own);
-    let shared = shared(alloc, clause, choice, &own)?;
-    choice.remove(&own);
+    choice.add(own);
+    let shared = shared(alloc, clause, choice, own)?;
+    choice.remove(own);
     match firsts(alloc, &shared, MOST_ARGUMENTS as usize)? {
-        Some(args) => Ok(Item::Choice(args, left, right)),
-        None => Ok(Item::Bad(NormKind::Arity, term.at)),
+        Some(args) => Ok(Goal::Choice(args, branches)),
+        None => Ok(Goal::Item(Item::Bad(NormKind::Arity, at))),
     }
 }
 
-/// The goals of a body of a clause whose variables are counted. The bodies that are left are kept on a stack.
-fn items_of<'a>(
+/// A piece of a body as a goal of a clause whose variables are counted.
+fn goal<'a, 'v, 'o>(
     alloc: Global,
-    names: &Names,
     clause: &Tally,
     choice: &mut Tally,
-    body: &'a ReadTerm,
-) -> Result<Vec<Item<'a>>, AllocError>
-    requires fit { IsTermFit (length names.now) (length clause.now.counts.items) body.now }
+    piece: &'o Piece<'a, 'v>,
+) -> Result<Goal<'a, 'v, 'o>, AllocError>
+    requires below { PieceIsBelow (length clause.now.counts.items) piece.now }
+    requires none { AreCounts (length clause.now.counts.items) [] choice.old.counts.items }
+    ensures none { OnOk result (AreCounts (length clause.now.counts.items) [] choice.new.counts.items) }
+    ensures goal { IfOk result (λ g. (all : List ℕ) → AreCounts (length clause.now.counts.items) all clause.now.counts.items
+        → goal_of g ≡ piece_goal (piece_of piece.now) all) }
+    ensures below { IfOk result (λ g. GoalIsBelow (length clause.now.counts.items) g) }
+{
+    match piece {
+        Piece::Plain(item) => Ok(Goal::Item(*item)),
+        Piece::Either(at, own, branches) => choice_goal(alloc, clause, choice, *at, own, branches),
+    }
+}
+
+/// The goals of a body of a clause whose variables are counted.
+fn goals<'a, 'v, 'o>(
+    alloc: Global,
+    clause: &Tally,
+    choice: &mut Tally,
+    pieces: &'o [Piece<'a, 'v>],
+) -> Result<Vec<Goal<'a, 'v, 'o>>, AllocError>
+    requires below { PiecesAreBelow (length clause.now.counts.items) pieces.now }
     requires none { AreCounts (length clause.now.counts.items) [] choice.old.counts.items }
     ensures none { OnOk result (AreCounts (length clause.now.counts.items) [] choice.new.counts.items) }
     ensures goals { IfOk result (λ v. (all : List ℕ) → AreCounts (length clause.now.counts.items) all clause.now.counts.items
-        → goals_row (map (goal_of names.now) v.items) ≡ goals_of names.now body.now all) }
-    ensures fit { IfOk result (λ v. AllByRecursion (ItemIsFit (length names.now) (length clause.now.counts.items)) v.items) }
-    ensures work { IfOk result (λ v. items_work v.items ≤ 3 * nodes (tree_of body.now)) }
+        → goals_row (map goal_of v.items) ≡ goals_in pieces.now all) }
+    ensures below { IfOk result (λ v. AllByRecursion (GoalIsBelow (length clause.now.counts.items)) v.items) }
 {
-    let mut items = Vec::new(alloc);
-    let mut stack = Vec::new(alloc);
-    stack.push(body)?;
-    'parts: while let Some(term) = stack.pop() {
-        match part_of(names, term) {
-            Part::Both(left, right) => {
-                stack.push(right)?;
-                stack.push(left)?;
-            }
-            Part::Either(left, right) => {
-                let item = choice_item(alloc, clause, choice, term, left, right)?;
-                items.push(item)?;
-            }
-            Part::Nothing => {}
-            Part::Goal(item) => {
-                items.push(item)?;
-            }
-        }
+    let mut goals = Vec::new(alloc);
+    'pieces: for piece in pieces {
+        let goal = goal(alloc, clause, choice, piece)?;
+        goals.push(goal)?;
     }
-    Ok(items)
+    Ok(goals)
 }
 
-/// The goals of a body of a clause with these variables, with repetitions.
-pub(crate) fn body_items<'a>(
+/// Numbers, and others after them.
+fn joined(alloc: Global, first: &[u32], second: &[u32]) -> Result<Vec<u32>, AllocError>
+    ensures { IfOk result (λ v. v.items ≡ first.now ++ second.now) }
+{
+    let mut both = Vec::from_slice(alloc, first)?;
+    both.extend_from_slice(second)?;
+    Ok(both)
+}
+
+/// The goals of a body as a branch of a disjunction whose predicate has these arguments.
+pub(crate) fn body_goals<'a, 'v, 'o>(
     alloc: Global,
-    names: &Names,
     tallies: &mut Tallies,
-    all: &[u32],
-    body: &'a ReadTerm,
-) -> Result<Vec<Item<'a>>, AllocError>
-    requires fit { IsTermFit (length names.now) (length tallies.old.clause.counts.items) body.now }
-    requires below { AllByRecursion (λ x. x < length tallies.old.clause.counts.items) all.now }
+    args: &[u32],
+    body: &'o Outline<'a, 'v>,
+) -> Result<Vec<Goal<'a, 'v, 'o>>, AllocError>
+    requires args { AllByRecursion (λ x. x < length tallies.old.clause.counts.items) args.now }
+    requires body { OutlineIsBelow (length tallies.old.clause.counts.items) body.now }
     requires none { AreNone (length tallies.old.clause.counts.items) tallies.old }
     ensures none { OnOk result (AreNone (length tallies.old.clause.counts.items) tallies.new) }
-    ensures goals { IfOk result (λ v. goals_row (map (goal_of names.now) v.items) ≡ goals_of names.now body.now all.now) }
-    ensures fit { IfOk result (λ v. AllByRecursion (ItemIsFit (length names.now) (length tallies.old.clause.counts.items)) v.items) }
-    ensures work { IfOk result (λ v. items_work v.items ≤ 3 * nodes (tree_of body.now)) }
+    ensures goals { IfOk result (λ v. goals_row (map goal_of v.items) ≡ outline_goals body.now args.now) }
+    ensures below { IfOk result (λ v. AllByRecursion (GoalIsBelow (length tallies.old.clause.counts.items)) v.items) }
 {
-    tallies.clause.add(all);
-    let items = items_of(alloc, names, &tallies.clause, &mut tallies.choice, body)?;
-    tallies.clause.remove(all);
-    Ok(items)
+    let all = joined(alloc, args, body.own)?;
+    tallies.clause.add(&all);
+    let goals = goals(alloc, &tallies.clause, &mut tallies.choice, &body.pieces)?;
+    tallies.clause.remove(&all);
+    Ok(goals)
 }

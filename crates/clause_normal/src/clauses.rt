@@ -1,28 +1,27 @@
 //! The clauses of a text, one after the other.
 
-ghost use Rattle.std.specs.Prelude.{◌≡◌, ◌<◌, ◌≤◌, ◌+◌, ◌*◌, ◌++◌, ◌∷◌, [], ◌^◌, ℕ, IsTrue, Some, None, not, length, map, nat_lt, if◌then◌else◌, Ok, Err, MatchResult, IfOk, OnOk};
+ghost use Rattle.std.specs.Prelude.{◌≡◌, ◌<◌, ◌≤◌, ◌+◌, ◌++◌, ◌∷◌, [], ◌^◌, ℕ, IsTrue, Some, None, not, length, map, nat_lt, if◌then◌else◌, Ok, Err, MatchResult, IfOk, OnOk};
 ghost use Rattle.std.specs.List.{AllByRecursion};
 ghost use Rattle.prolog_terms.specs.Clauses.{is_known, nodes};
 ghost use Rattle.prolog_reader.specs.Fit.{IsFit, AreFit};
 ghost use Rattle.prolog_terms.specs.Terms.{tree_of, clause_of};
-ghost use Rattle.clause_normal.specs.Faults.{AnswersFault, AnswersHead, AnswersNext, AnswersNumber, IfFault};
+ghost use Rattle.clause_normal.specs.Faults.{AnswersFault, AnswersHead, AnswersMade, AnswersNext, AnswersNumber, IfFault};
 ghost use Rattle.clause_normal.specs.NormalForm.{goals_fault, variables_fault, with_form, with_clause, normal_rules, clause};
 ghost use Rattle.clause_normal.specs.Bodies.{no_goals};
-ghost use Rattle.clause_normal.specs.RuleViews.{rule_of, RuleIsFit};
-ghost use Rattle.clause_normal.specs.Tallies.{AreNone};
+ghost use Rattle.clause_normal.specs.Rules.{after, rules};
+ghost use Rattle.clause_normal.specs.RuleViews.{call_of, rule_of, RuleIsFit};
 ghost use Rattle.clause_normal.specs.Terms.{firsts, occurrences};
 ghost use Rattle.clause_normal.specs.declared.fault.NormKind.TheVariants.{ManyClauses};
-ghost use Rattle.clause_normal.specs.Views.{goals_of, branch_work, IsTermFit};
+ghost use Rattle.clause_normal.specs.Views.{goals_of, IsTermFit};
 
-use crate::body::Tallies;
-use crate::checking::body_fault;
 use crate::fault::{NormFault, NormKind};
 use crate::forms::{Form, form_of, head_of};
 use crate::limits::MOST_TEXT_CLAUSES;
-use crate::making::make_rules;
+use crate::making::add_rules;
 use crate::order::firsts;
-use crate::rule::{Call, Pending, Rule};
-use crate::tally::Tally;
+use crate::outlining::outlined;
+use crate::rule::{Call, Rule};
+use crate::tally::Tallies;
 use crate::variables::term_variables;
 use cti_terms::{MOST_VARIABLES, Names};
 use prolog_reader::{ReadClause, ReadTerm};
@@ -46,26 +45,6 @@ fn head_call<'a>(names: &Names, head: &'a ReadTerm) -> Result<Call<'a>, NormFaul
     match head_of(names, head) {
         Ok(call) => Ok(call),
         Err(kind) => Err(NormFault::Fault { kind, at: head.at }),
-    }
-}
-
-/// Reports the fault of a body, if it has one.
-fn check_body(
-    alloc: Global,
-    names: &Names,
-    tallies: &mut Tallies,
-    all: &[u32],
-    body: &ReadTerm,
-) -> Result<(), NormFault>
-    requires fit { IsTermFit (length names.now) (length tallies.old.clause.counts.items) body.now }
-    requires below { AllByRecursion (λ x. x < length tallies.old.clause.counts.items) all.now }
-    requires none { AreNone (length tallies.old.clause.counts.items) tallies.old }
-    ensures none { OnOk result (AreNone (length tallies.old.clause.counts.items) tallies.new) }
-    ensures fault { AnswersFault (goals_fault (goals_of names.now body.now all.now)) result }
-{
-    match body_fault(alloc, names, tallies, all, body)? {
-        Some((kind, at)) => Err(NormFault::Fault { kind, at }),
-        None => Ok(()),
     }
 }
 
@@ -122,8 +101,7 @@ fn add_fact<'a>(
         Ok(head) => head,
         Err(fault) => return Err(fault),
     };
-    let variables = term_variables(alloc, term)?;
-    match check_variables(alloc, &variables, term.at) {
+    match check_term(alloc, term) {
         Ok(()) => {}
         Err(fault) => return Err(fault),
     }
@@ -137,6 +115,61 @@ fn add_fact<'a>(
     check_count(made, term.at)
 }
 
+/// Reports the fault of a term that is a clause with too many different variables.
+fn check_term(alloc: Global, term: &ReadTerm) -> Result<(), NormFault>
+    ensures { AnswersFault (variables_fault term.now.at (occurrences (tree_of term.now))) result }
+{
+    let variables = term_variables(alloc, term)?;
+    check_variables(alloc, &variables, term.at)
+}
+
+/// Adds the clauses that a call of a head with these variables and a body with these become.
+fn add_with_variables<'a, 'v>(
+    alloc: Global,
+    names: &Names,
+    made: &mut Vec<Rule<'a>>,
+    next: u64,
+    vars: u32,
+    call: Call<'a>,
+    args: &[u32],
+    own: &'v [u32],
+    body: &'a ReadTerm,
+) -> Result<u64, NormFault>
+    requires room { next + nodes (tree_of body.now) + 1 < 2 ^ 64 }
+    requires body { IsTermFit (length names.now) vars body.now }
+    requires args { AllByRecursion (λ x. x < vars) args.now }
+    requires own { own.now ≡ occurrences (tree_of body.now) }
+    ensures { let goals = goals_of names.now body.now (args.now ++ occurrences (tree_of body.now)) in
+        AnswersMade (goals_fault goals) (map rule_of made.old.items ++ rules next (call_of call.entry) goals) (after next goals) (map rule_of made.new.items) result }
+{
+    let outline = outlined(alloc, names, body, own)?;
+    let mut tallies = Tallies::new(alloc, vars)?;
+    add_rules(alloc, &mut tallies, made, next, call, args, &outline)
+}
+
+/// Adds the clauses that a head with a body becomes, which is also given as a call. Answers the number of the next disjunction, or
+/// the first fault of the body.
+fn add_body<'a>(
+    alloc: Global,
+    names: &Names,
+    made: &mut Vec<Rule<'a>>,
+    next: u64,
+    vars: u32,
+    call: Call<'a>,
+    head: &ReadTerm,
+    body: &'a ReadTerm,
+) -> Result<u64, NormFault>
+    requires room { next + nodes (tree_of body.now) + 1 < 2 ^ 64 }
+    requires head { IsTermFit (length names.now) vars head.now }
+    requires body { IsTermFit (length names.now) vars body.now }
+    ensures { let goals = goals_of names.now body.now (occurrences (tree_of head.now) ++ occurrences (tree_of body.now)) in
+        AnswersMade (goals_fault goals) (map rule_of made.old.items ++ rules next (call_of call.entry) goals) (after next goals) (map rule_of made.new.items) result }
+{
+    let args = term_variables(alloc, head)?;
+    let own = term_variables(alloc, body)?;
+    add_with_variables(alloc, names, made, next, vars, call, &args, &own, body)
+}
+
 /// Adds the clauses that a head with a body becomes, and answers the number of the next disjunction.
 fn add_implication<'a>(
     alloc: Global,
@@ -148,36 +181,27 @@ fn add_implication<'a>(
     head: &'a ReadTerm,
     body: &'a ReadTerm,
 ) -> Result<u64, NormFault>
-    requires room { next + branch_work body.now < 2 ^ 64 }
-    requires term { IsTermFit (length names.now) vars term.now }
+    requires room { next + nodes (tree_of body.now) + 1 < 2 ^ 64 }
     requires head { IsTermFit (length names.now) vars head.now }
     requires body { IsTermFit (length names.now) vars body.now }
-    requires variables { occurrences (tree_of term.now) ≡ occurrences (tree_of head.now) ++ occurrences (tree_of body.now) }
     ensures made { AnswersNumber (with_form names.now (map rule_of made.old.items) next (record { term = tree_of term.now; vars = vars })
         (clause (tree_of head.now) (goals_of names.now body.now (occurrences (tree_of head.now) ++ occurrences (tree_of body.now))))) (map rule_of made.new.items) result }
-    ensures few { IfOk result (λ n. n ≤ next + branch_work body.now) }
+    ensures few { IfOk result (λ n. n ≤ next + nodes (tree_of body.now)) }
     ensures count { OnOk result (length made.new.items ≤ 16384) }
     ensures fit { OnOk result (AllByRecursion (RuleIsFit (length names.now)) made.old.items → AllByRecursion (RuleIsFit (length names.now)) made.new.items) }
 {
-    let head = match head_call(names, head) {
-        Ok(head) => head,
+    let call = match head_call(names, head) {
+        Ok(call) => call,
         Err(fault) => return Err(fault),
     };
-    let all = term_variables(alloc, term)?;
-    let mut tallies = Tallies {
-        clause: Tally::new(alloc, vars)?,
-        choice: Tally::new(alloc, vars)?,
+    let after = match add_body(alloc, names, made, next, vars, call, head, body) {
+        Ok(after) => after,
+        Err(fault) => return Err(fault),
     };
-    match check_body(alloc, names, &mut tallies, &all, body) {
+    match check_term(alloc, term) {
         Ok(()) => {}
         Err(fault) => return Err(fault),
     }
-    match check_variables(alloc, &all, term.at) {
-        Ok(()) => {}
-        Err(fault) => return Err(fault),
-    }
-    let pending = Pending { head, all, body };
-    let after = make_rules(alloc, names, &mut tallies, made, next, pending)?;
     match check_count(made, term.at) {
         Ok(()) => Ok(after),
         Err(fault) => Err(fault),
@@ -192,10 +216,10 @@ fn add_clause<'a>(
     next: u64,
     clause: &'a ReadClause,
 ) -> Result<u64, NormFault>
-    requires room { next + 3 * nodes (tree_of clause.now.term) + 1 < 2 ^ 64 }
+    requires room { next + nodes (tree_of clause.now.term) + 1 < 2 ^ 64 }
     requires fit { IsFit (length names.now) (clause_of clause.now) }
     ensures made { AnswersNumber (with_clause names.now (map rule_of made.old.items) next (clause_of clause.now)) (map rule_of made.new.items) result }
-    ensures few { IfOk result (λ n. n ≤ next + 3 * nodes (tree_of clause.now.term)) }
+    ensures few { IfOk result (λ n. n ≤ next + nodes (tree_of clause.now.term)) }
     ensures count { OnOk result (length made.old.items ≤ 16384 → length made.new.items ≤ 16384) }
     ensures fit { OnOk result (AllByRecursion (RuleIsFit (length names.now)) made.old.items → AllByRecursion (RuleIsFit (length names.now)) made.new.items) }
 {

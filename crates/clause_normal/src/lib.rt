@@ -6,23 +6,23 @@
 #![tactic(auto)]
 
 mod body;
-mod branches;
-mod checking;
 mod clauses;
 mod copying;
 mod fault;
 mod forms;
+mod goal;
 pub mod laws;
 mod level;
 mod limits;
 mod making;
 mod numbering;
 mod order;
+mod outline;
+mod outlining;
 mod part;
 mod query;
 mod rule;
 mod tally;
-mod task;
 mod text_program;
 mod variables;
 mod words;

@@ -1,64 +1,168 @@
 //! The clauses that a clause becomes.
 
-ghost use Rattle.std.specs.Prelude.{◌≡◌, ◌<◌, ◌≤◌, ◌+◌, ◌*◌, ◌^◌, ◌++◌, ℕ, List, length, map, reverse, IfOk, OnOk};
+ghost use Rattle.std.specs.Prelude.{◌≡◌, ◌<◌, ◌+◌, ◌^◌, ◌++◌, ◌∷◌, [], List, length, map, IfOk, OnOk};
 ghost use Rattle.std.specs.List.{AllByRecursion};
-ghost use Rattle.prolog_terms.specs.Clauses.{nodes};
-ghost use Rattle.prolog_terms.specs.Terms.{tree_of};
-ghost use Rattle.clause_normal.specs.Rules.{rules, after};
-ghost use Rattle.clause_normal.specs.RuleViews.{call_of, rule_of, plan_of, pending_work, CallIsFit, PendingIsFit, RuleIsFit};
+ghost use Rattle.clause_normal.specs.Bodies.{goals_row};
+ghost use Rattle.clause_normal.specs.Faults.{AnswersMade};
+ghost use Rattle.clause_normal.specs.NormalForm.{goals_fault, goal_fault, branches_fault};
+ghost use Rattle.clause_normal.specs.OutlineViews.{goal_of, branches_in, outline_goals, GoalIsBelow, OutlineIsBelow, OutlinesAreBelow};
+ghost use Rattle.clause_normal.specs.Rules.{rules, after, below, below_at, branch_rules, calls, choice_call, choices, choices_at, inner, inner_at, within};
+ghost use Rattle.clause_normal.specs.RuleViews.{call_of, rule_of};
 ghost use Rattle.clause_normal.specs.Tallies.{AreNone};
-ghost use Rattle.clause_normal.specs.Views.{goals_of, branch_work, IsTermFit};
 
-use crate::body::{Tallies, body_items};
-use crate::level::level_of;
-use crate::rule::{Pending, Rule};
-use cti_terms::Names;
+use crate::body::body_goals;
+use crate::fault::NormFault;
+use crate::goal::Goal;
+use crate::level::{choice_call, level_of};
+use crate::outline::Outline;
+use crate::part::Item;
+use crate::rule::{Call, Rule};
+use crate::tally::Tallies;
 use std::alloc::{AllocError, Global};
 
-/// Puts clauses to be made on a stack, the first on top.
-fn push_plans<'a>(
-    stack: &mut Vec<Pending<'a>>,
-    mut plans: Vec<Pending<'a>>,
-) -> Result<(), AllocError>
-    ensures plans { OnOk result (reverse stack.new.items ≡ plans.entry.items ++ reverse stack.old.items) }
+/// How many disjunctions a goal is, those in it aside.
+fn choices(goal: &Goal) -> u64
+    ensures { result ≡ choices_at (goal_of goal.now) }
 {
-    while let Some(plan) = plans.pop() {
-        stack.push(plan)?;
+    match goal {
+        Goal::Item(_) => 0,
+        Goal::Choice(_, _) => 1,
     }
-    Ok(())
 }
 
-/// Adds the clause that is to be made, and those of its disjunctions' branches, whose predicates are numbered from `first` on.
-/// Answers the number after the last one. What is left to be made is kept on a stack.
-pub(crate) fn make_rules<'a>(
+/// Adds the clause with this head and these goals, whose disjunctions are numbered from `first` on, and answers the number after them.
+fn add_rule<'a>(
     alloc: Global,
-    names: &Names,
+    made: &mut Vec<Rule<'a>>,
+    first: u64,
+    head: Call<'a>,
+    goals: &[Goal<'a, '_, '_>],
+) -> Result<u64, AllocError>
+    requires { first + choices (goals_row (map goal_of goals.now)) + 1 < 2 ^ 64 }
+    ensures rule { OnOk result (map rule_of made.new.items ≡ map rule_of made.old.items ++ record { head = call_of head.entry; body = calls first (goals_row (map goal_of goals.now)) } ∷ []) }
+    ensures next { IfOk result (λ n. n ≡ first + choices (goals_row (map goal_of goals.now))) }
+{
+    let level = level_of(alloc, first, goals)?;
+    made.push(Rule {
+        head,
+        body: level.calls,
+    })?;
+    Ok(level.next)
+}
+
+/// Adds the clause with this head and this body, and those of its disjunctions' branches, whose predicates are numbered from `first` on.
+/// Answers the number after the last one, or the first fault.
+#[cycle(making)]
+pub(crate) fn add_rules<'a, 'v, 'o>(
+    alloc: Global,
     tallies: &mut Tallies,
     made: &mut Vec<Rule<'a>>,
     first: u64,
-    pending: Pending<'a>,
-) -> Result<u64, AllocError>
-    requires room { first + branch_work pending.body.now < 2 ^ 64 }
-    requires fit { PendingIsFit (length names.now) (length tallies.old.clause.counts.items) pending }
+    head: Call<'a>,
+    args: &[u32],
+    body: &'o Outline<'a, 'v>,
+) -> Result<u64, NormFault>
+    requires room { after first (outline_goals body.now args.now) + 1 < 2 ^ 64 }
+    requires args { AllByRecursion (λ x. x < length tallies.old.clause.counts.items) args.now }
+    requires body { OutlineIsBelow (length tallies.old.clause.counts.items) body.now }
     requires none { AreNone (length tallies.old.clause.counts.items) tallies.old }
     ensures none { OnOk result (AreNone (length tallies.old.clause.counts.items) tallies.new) }
-    ensures rules { OnOk result (map rule_of made.new.items ≡ map rule_of made.old.items ++ rules first (call_of pending.entry.head) (goals_of names.now pending.entry.body.now pending.entry.all.items)) }
-    ensures next { IfOk result (λ n. n ≡ after first (goals_of names.now pending.entry.body.now pending.entry.all.items)) }
-    ensures few { IfOk result (λ n. n ≤ first + branch_work pending.entry.body.now) }
-    ensures fit { OnOk result (AllByRecursion (RuleIsFit (length names.now)) made.old.items → AllByRecursion (RuleIsFit (length names.now)) made.new.items) }
+    ensures made { AnswersMade (goals_fault (outline_goals body.now args.now)) (map rule_of made.old.items ++ rules first (call_of head.entry) (outline_goals body.now args.now))
+        (after first (outline_goals body.now args.now)) (map rule_of made.new.items) result }
 {
-    let mut next = first;
-    let mut stack = Vec::new(alloc);
-    stack.push(pending)?;
-    'plans: while let Some(plan) = stack.pop() {
-        let items = body_items(alloc, names, tallies, &plan.all, plan.body)?;
-        let level = level_of(alloc, names, next, &items)?;
-        made.push(Rule {
-            head: plan.head,
-            body: level.calls,
-        })?;
-        push_plans(&mut stack, level.plans)?;
-        next = level.next;
+    let goals = body_goals(alloc, tallies, args, body)?;
+    let next = add_rule(alloc, made, first, head, &goals)?;
+    add_below(alloc, tallies, made, first, next, &goals)
+}
+
+/// Adds the clauses of the branches of the disjunctions among these goals. They are numbered from `first` on, and those in them
+/// from `next` on. Answers the number after the last one, or the first fault of the goals.
+#[cycle(making)]
+fn add_below<'a, 'v, 'o>(
+    alloc: Global,
+    tallies: &mut Tallies,
+    made: &mut Vec<Rule<'a>>,
+    first: u64,
+    next: u64,
+    goals: &[Goal<'a, 'v, 'o>],
+) -> Result<u64, NormFault>
+    requires numbers { first + choices (goals_row (map goal_of goals.now)) < 2 ^ 64 }
+    requires room { next + inner (goals_row (map goal_of goals.now)) + 1 < 2 ^ 64 }
+    requires goals { AllByRecursion (GoalIsBelow (length tallies.old.clause.counts.items)) goals.now }
+    requires none { AreNone (length tallies.old.clause.counts.items) tallies.old }
+    ensures none { OnOk result (AreNone (length tallies.old.clause.counts.items) tallies.new) }
+    ensures made { AnswersMade (goals_fault (goals_row (map goal_of goals.now))) (map rule_of made.old.items ++ below first next (goals_row (map goal_of goals.now)))
+        (next + inner (goals_row (map goal_of goals.now))) (map rule_of made.new.items) result }
+{
+    let mut number = first;
+    let mut after = next;
+    'goals: for goal in goals {
+        match add_goal(alloc, tallies, made, number, after, goal) {
+            Ok(next) => after = next,
+            Err(fault) => return Err(fault),
+        }
+        number += choices(goal);
     }
-    Ok(next)
+    Ok(after)
+}
+
+/// Adds the clauses of the branches of a goal, if it is a disjunction, which has this number then. Those in it are numbered from `next` on.
+/// Answers the number after the last one, or the first fault of the goal.
+#[cycle(making)]
+fn add_goal<'a, 'v, 'o>(
+    alloc: Global,
+    tallies: &mut Tallies,
+    made: &mut Vec<Rule<'a>>,
+    number: u64,
+    next: u64,
+    goal: &Goal<'a, 'v, 'o>,
+) -> Result<u64, NormFault>
+    requires room { next + inner_at (goal_of goal.now) + 1 < 2 ^ 64 }
+    requires goal { GoalIsBelow (length tallies.old.clause.counts.items) goal.now }
+    requires none { AreNone (length tallies.old.clause.counts.items) tallies.old }
+    ensures none { OnOk result (AreNone (length tallies.old.clause.counts.items) tallies.new) }
+    ensures made { AnswersMade (goal_fault (goal_of goal.now)) (map rule_of made.old.items ++ below_at number next (goal_of goal.now))
+        (next + inner_at (goal_of goal.now)) (map rule_of made.new.items) result }
+{
+    match goal {
+        Goal::Item(Item::Call(_, _)) => Ok(next),
+        Goal::Item(Item::Bad(kind, at)) => Err(NormFault::Fault {
+            kind: *kind,
+            at: *at,
+        }),
+        Goal::Choice(args, branches) => {
+            add_branches(alloc, tallies, made, number, next, args, branches)
+        }
+    }
+}
+
+/// Adds the clauses of the branches of the disjunction with this number, whose predicate has these arguments. The disjunctions in them
+/// are numbered from `next` on. Answers the number after the last one, or the first fault of the branches.
+#[cycle(making)]
+fn add_branches<'a, 'v, 'o>(
+    alloc: Global,
+    tallies: &mut Tallies,
+    made: &mut Vec<Rule<'a>>,
+    number: u64,
+    next: u64,
+    args: &[u32],
+    branches: &'o [Outline<'a, 'v>],
+) -> Result<u64, NormFault>
+    requires room { next + within (branches_in branches.now args.now) + 1 < 2 ^ 64 }
+    requires args { AllByRecursion (λ x. x < length tallies.old.clause.counts.items) args.now }
+    requires branches { OutlinesAreBelow (length tallies.old.clause.counts.items) branches.now }
+    requires none { AreNone (length tallies.old.clause.counts.items) tallies.old }
+    ensures none { OnOk result (AreNone (length tallies.old.clause.counts.items) tallies.new) }
+    ensures made { AnswersMade (branches_fault (branches_in branches.now args.now)) (map rule_of made.old.items ++ branch_rules (choice_call number args.now) next (branches_in branches.now args.now))
+        (next + within (branches_in branches.now args.now)) (map rule_of made.new.items) result }
+{
+    let mut after = next;
+    'branches: for branch in branches {
+        let head = choice_call(alloc, number, args)?;
+        match add_rules(alloc, tallies, made, after, head, args, branch) {
+            Ok(next) => after = next,
+            Err(fault) => return Err(fault),
+        }
+    }
+    Ok(after)
 }

@@ -1,29 +1,27 @@
 //! What a term is in a clause's body.
 
-ghost use Rattle.std.specs.Prelude.{◌≡◌, ◌<◌, ◌≤◌, ℕ, IsTrue, List, [], ◌∷◌, length, map};
-ghost use Rattle.prolog_terms.specs.Clauses.{is_below, is_known};
+ghost use Rattle.std.specs.Prelude.{◌≡◌, ◌<◌, ℕ, IsTrue, [], ◌∷◌, length, map};
+ghost use Rattle.prolog_terms.specs.Clauses.{is_known};
 ghost use Rattle.prolog_terms.specs.Terms.{tree_of};
 ghost use Rattle.clause_normal.specs.Bodies.{atom_goal, named_goal};
-ghost use Rattle.clause_normal.specs.Views.{goal_of, plain_of, IsPart, IsQueryPart, item_work, ItemIsFit, PartIsFit, PartIsSmaller};
+ghost use Rattle.clause_normal.specs.Views.{item_goal, plain_of, IsPart, IsQueryPart, ItemIsFit, PartHasOwn, PartIsFit, PartIsSmaller};
 
 use crate::fault::NormKind;
 use crate::words::{Connective, connective_of, is_choice_name, is_impure, text_of};
 use cti_terms::{MOST_ARGUMENTS, Name, Names};
 use prolog_reader::{ReadShape, ReadTerm};
 
-/// A goal of a body.
-#[derive(Drop)]
+/// A goal of a body that is no disjunction.
+#[derive(Clone, Copy)]
 pub(crate) enum Item<'a> {
     /// A call of a name with these arguments.
     Call(Name, &'a [ReadTerm]),
-    /// A disjunction of two bodies, with the variables that its predicate has as arguments.
-    Choice(Vec<u32>, &'a ReadTerm, &'a ReadTerm),
     /// What may not stand there, with its place.
     Bad(NormKind, u32),
 }
 
 /// What a term is in a body.
-#[derive(Drop)]
+#[derive(Clone, Copy)]
 pub(crate) enum Part<'a> {
     /// A conjunction of two bodies.
     Both(&'a ReadTerm, &'a ReadTerm),
@@ -37,9 +35,8 @@ pub(crate) enum Part<'a> {
 
 /// The call of a name with this text as a goal.
 fn named_item<'a>(text: &[u8], name: Name, args: &'a [ReadTerm], at: u32) -> Item<'a>
-    ensures goal { (names : List (List ℕ)) → goal_of names result ≡ named_goal text.now name.0 (map plain_of args.now) at }
-    ensures fit { (names vars : ℕ) → name.0 < names → ItemIsFit names vars result }
-    ensures work { item_work result ≤ 1 }
+    ensures goal { item_goal result ≡ named_goal text.now name.0 (map plain_of args.now) at }
+    ensures fit { (names : ℕ) → name.0 < names → ItemIsFit names result }
 {
     if is_impure(text, args.len()) || is_choice_name(text) {
         Item::Bad(NormKind::NotPure, at)
@@ -53,9 +50,8 @@ fn named_item<'a>(text: &[u8], name: Name, args: &'a [ReadTerm], at: u32) -> Ite
 /// An atom as a goal.
 pub(crate) fn atom_item<'a>(names: &Names, term: &'a ReadTerm) -> Item<'a>
     requires { IsTrue (is_known (length names.now) (tree_of term.now)) }
-    ensures goal { (later : List (List ℕ)) → goal_of later result ≡ atom_goal names.now (tree_of term.now) }
-    ensures fit { (vars : ℕ) → ItemIsFit (length names.now) vars result }
-    ensures work { item_work result ≤ 1 }
+    ensures goal { item_goal result ≡ atom_goal names.now (tree_of term.now) }
+    ensures fit { ItemIsFit (length names.now) result }
 {
     match &term.shape {
         ReadShape::Fun(name, args) => named_item(text_of(names, *name), *name, args, term.at),
@@ -77,7 +73,8 @@ pub(crate) fn part_of<'a>(names: &Names, term: &'a ReadTerm) -> Part<'a>
     ensures part { IsPart names.now term.now result }
     ensures query { IsQueryPart names.now term.now result }
     ensures smaller { PartIsSmaller term.now result }
-    ensures fit { (vars : ℕ) → IsTrue (is_below vars (tree_of term.now)) → PartIsFit (length names.now) vars result }
+    ensures own { PartHasOwn term.now result }
+    ensures fit { PartIsFit (length names.now) result }
 {
     match &term.shape {
         ReadShape::Var(_) | ReadShape::Int(_) => {

@@ -1,17 +1,18 @@
 //! The goal of a query.
 
-ghost use Rattle.std.specs.Prelude.{◌≡◌, ◌<◌, ◌≤◌, ◌+◌, ◌++◌, ◌∷◌, [], ℕ, List, length, map, false, if◌then◌else◌, None, is_some, position, slice_get, IfOk, IfErr, OnOk, OnErr};
+ghost use Rattle.std.specs.Prelude.{◌≡◌, ◌<◌, ◌≤◌, ◌+◌, ◌++◌, ◌∷◌, [], ℕ, IsTrue, length, map, false, if◌then◌else◌, None, is_some, position, slice_get, IfOk, IfErr, OnOk, OnErr};
 ghost use Rattle.std.specs.List.{AllByRecursion};
 ghost use Rattle.cti_terms.specs.Listing.{IsAtom};
 ghost use Rattle.cti_terms.specs.declared.predicates.Pred.{Pred as ThePred};
 ghost use Rattle.prolog_reader.specs.Fit.{IsQueryFit};
+ghost use Rattle.prolog_terms.specs.Clauses.{is_known};
 ghost use Rattle.prolog_terms.specs.Terms.{tree_of, clause_of};
 ghost use Rattle.clause_normal.specs.Faults.{AnswersFault, IfFault};
 ghost use Rattle.clause_normal.specs.Numbering.{is_equality, call_variables, with_equality_clause};
 ghost use Rattle.clause_normal.specs.Query.{query_goals, query_call, bad_goal, query_fault, query_calls, query_form, AnswersQuery};
 ghost use Rattle.clause_normal.specs.RuleViews.{args_of, call_of, CallIsFit, IsNamed};
 ghost use Rattle.clause_normal.specs.declared.rule.Call.{Call as TheCall};
-ghost use Rattle.clause_normal.specs.Views.{goal_of, IsTermFit, ItemIsFit};
+ghost use Rattle.clause_normal.specs.Views.{item_goal, ItemIsFit};
 
 use crate::clauses::check_variables;
 use crate::fault::{NormFault, NormKind};
@@ -31,9 +32,9 @@ fn query_items<'a>(
     names: &Names,
     query: &'a ReadTerm,
 ) -> Result<Vec<Item<'a>>, AllocError>
-    requires { (vars : ℕ) × IsTermFit (length names.now) vars query.now }
-    ensures goals { IfOk result (λ v. map (goal_of names.now) v.items ≡ query_goals names.now (tree_of query.now)) }
-    ensures fit { IfOk result (λ v. (vars : ℕ) → IsTermFit (length names.now) vars query.now → AllByRecursion (ItemIsFit (length names.now) vars) v.items) }
+    requires { IsTrue (is_known (length names.now) (tree_of query.now)) }
+    ensures goals { IfOk result (λ v. map item_goal v.items ≡ query_goals names.now (tree_of query.now)) }
+    ensures fit { IfOk result (λ v. AllByRecursion (ItemIsFit (length names.now)) v.items) }
 {
     let mut items = Vec::new(alloc);
     let mut stack = Vec::new(alloc);
@@ -59,17 +60,17 @@ fn query_items<'a>(
 
 /// The fault that a goal is.
 fn item_fault(item: &Item) -> Option<(NormKind, u32)>
-    ensures { (names : List (List ℕ)) → bad_goal (goal_of names item.now) ≡ result }
+    ensures { bad_goal (item_goal item.now) ≡ result }
 {
     match item {
         Item::Bad(kind, at) => Some((*kind, *at)),
-        Item::Call(_, _) | Item::Choice(_, _, _) => None,
+        Item::Call(_, _) => None,
     }
 }
 
 /// Reports the first fault of these goals.
 fn check_items(items: &[Item]) -> Result<(), NormFault>
-    ensures { (names : List (List ℕ)) → AnswersFault (query_fault (map (goal_of names) items.now)) result }
+    ensures { AnswersFault (query_fault (map item_goal items.now)) result }
 {
     'items: for item in items {
         if let Some((kind, at)) = item_fault(item) {
@@ -81,8 +82,8 @@ fn check_items(items: &[Item]) -> Result<(), NormFault>
 
 /// Adds the call that a goal is.
 fn add_call<'a>(calls: &mut Vec<Call<'a>>, item: &Item<'a>) -> Result<(), AllocError>
-    ensures calls { OnOk result ((names : List (List ℕ)) → map call_of calls.new.items ≡ map call_of calls.old.items ++ query_call (goal_of names item.now)) }
-    ensures fit { OnOk result ((names vars : ℕ) → ItemIsFit names vars item.now → AllByRecursion (CallIsFit names) calls.old.items → AllByRecursion (CallIsFit names) calls.new.items) }
+    ensures calls { OnOk result (map call_of calls.new.items ≡ map call_of calls.old.items ++ query_call (item_goal item.now)) }
+    ensures fit { OnOk result ((names : ℕ) → ItemIsFit names item.now → AllByRecursion (CallIsFit names) calls.old.items → AllByRecursion (CallIsFit names) calls.new.items) }
     ensures named { OnOk result (AllByRecursion (λ (c : TheCall). IsNamed c.functor) calls.old.items → AllByRecursion (λ (c : TheCall). IsNamed c.functor) calls.new.items) }
 {
     match item {
@@ -93,14 +94,14 @@ fn add_call<'a>(calls: &mut Vec<Call<'a>>, item: &Item<'a>) -> Result<(), AllocE
             })?;
             Ok(())
         }
-        Item::Bad(_, _) | Item::Choice(_, _, _) => Ok(()),
+        Item::Bad(_, _) => Ok(()),
     }
 }
 
 /// The calls among these goals.
 fn item_calls<'a>(alloc: Global, items: &[Item<'a>]) -> Result<Vec<Call<'a>>, AllocError>
-    ensures calls { IfOk result (λ v. (names : List (List ℕ)) → map call_of v.items ≡ query_calls (map (goal_of names) items.now)) }
-    ensures fit { IfOk result (λ v. (names vars : ℕ) → AllByRecursion (ItemIsFit names vars) items.now → AllByRecursion (CallIsFit names) v.items) }
+    ensures calls { IfOk result (λ v. map call_of v.items ≡ query_calls (map item_goal items.now)) }
+    ensures fit { IfOk result (λ v. (names : ℕ) → AllByRecursion (ItemIsFit names) items.now → AllByRecursion (CallIsFit names) v.items) }
     ensures named { IfOk result (λ v. AllByRecursion (λ (c : TheCall). IsNamed c.functor) v.items) }
 {
     let mut calls = Vec::new(alloc);

@@ -51,11 +51,3 @@ impl Drop for Rule<'_> {
         let Rule { head: _, body: _ } = self;
     }
 }
-
-/// A clause to be made: its head, its variables with repetitions, and its body.
-#[derive(Drop)]
-pub(crate) struct Pending<'a> {
-    pub(crate) head: Call<'a>,
-    pub(crate) all: Vec<u32>,
-    pub(crate) body: &'a ReadTerm,
-}

@@ -3,6 +3,7 @@
 ghost use Rattle.std.specs.Prelude.{◌≡◌, ◌<◌, [], length, slice_index, IfOk};
 ghost use Rattle.std.specs.List.{AllByRecursion};
 ghost use Rattle.clause_normal.specs.Counts.{AreCounts};
+ghost use Rattle.clause_normal.specs.Tallies.{AreNone};
 
 use std::alloc::{AllocError, Global};
 
@@ -50,5 +51,32 @@ impl Tally {
         ensures { result ≡ slice_index self.now.counts.items x }
     {
         self.counts[x as usize]
+    }
+}
+
+/// How often variables occur: in a clause, and in one of its disjunctions.
+pub(crate) struct Tallies {
+    pub(crate) clause: Tally,
+    pub(crate) choice: Tally,
+}
+
+impl Drop for Tallies {
+    fn drop(self) {
+        let Tallies {
+            clause: _,
+            choice: _,
+        } = self;
+    }
+}
+
+impl Tallies {
+    /// The given number of variables, none of which occurs.
+    pub(crate) fn new(alloc: Global, vars: u32) -> Result<Tallies, AllocError>
+        ensures { IfOk result (AreNone vars) }
+    {
+        Ok(Tallies {
+            clause: Tally::new(alloc, vars)?,
+            choice: Tally::new(alloc, vars)?,
+        })
     }
 }

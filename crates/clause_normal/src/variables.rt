@@ -58,16 +58,3 @@ pub(crate) fn term_variables(alloc: Global, term: &ReadTerm) -> Result<Vec<u32>,
     let variables = variables_of(alloc, from_ref(term))?;
     Ok(variables)
 }
-
-/// These variables, and after them those of a term from left to right, with repetitions.
-pub(crate) fn with_variables(
-    alloc: Global,
-    mut variables: Vec<u32>,
-    term: &ReadTerm,
-) -> Result<Vec<u32>, AllocError>
-    ensures value { IfOk result (λ v. v.items ≡ variables.items ++ occurrences (tree_of term.now)) }
-    ensures below { IfOk result (λ v. (vars : ℕ) → AllByRecursion (λ x. x < vars) variables.items → IsTrue (is_below vars (tree_of term.now)) → AllByRecursion (λ x. x < vars) v.items) }
-{
-    add_variables(alloc, &mut variables, from_ref(term))?;
-    Ok(variables)
-}

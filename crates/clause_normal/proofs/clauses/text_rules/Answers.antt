@@ -1,5 +1,4 @@
-use Rattle.std.proofs.Common.{◌≡◌, ◌∙◌, length, map, get_or, sym, ap, subst}
-use Rattle.prolog_terms.specs.Clauses.{Clause}
+use Rattle.std.proofs.Common.{length, sym, subst}
 use Rattle.prolog_reader.specs.Fit.{IsFit}
 use Rattle.prolog_terms.specs.Terms.{clause_of}
 use Rattle.clause_normal.proofs.ListLemmas.{all_mapped_at}

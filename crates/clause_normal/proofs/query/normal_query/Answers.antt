@@ -1,6 +1,6 @@
-use Rattle.std.proofs.Common.{◌≡◌, ◌<◌, ◌∙◌, ◌+◌, ◌++◌, ℕ, [], List, Some, None, Ok, Err, Option, length, map, sym, ap, subst, arith, position, if◌then◌else◌, IsTrue}
+use Rattle.std.proofs.Common.{◌≡◌, ◌<◌, ◌∙◌, ℕ, [], List, Some, None, Ok, Err, length, map, sym, ap, subst, arith, position, if◌then◌else◌, IsTrue}
 use Rattle.std.specs.List.{AllByRecursion}
-use Rattle.cti_terms.specs.Listing.{Listing, IsAtom}
+use Rattle.cti_terms.specs.Listing.{IsAtom}
 use Rattle.cti_terms.specs.Tree.{Tree as Term, is_below}
 use Rattle.cti_terms.specs.declared.atom_list.Atom.{Atom}
 use Rattle.cti_terms.specs.declared.derivation.Goal.{Goal as Query}
@@ -12,14 +12,12 @@ use Rattle.prolog_reader.proofs.NameLemmas.{extends_self}
 use Rattle.prolog_reader.proofs.ViewLemmas.{tree_of_parts}
 use Rattle.clause_normal.specs.declared.part.Item.{Item}
 use Rattle.clause_normal.specs.declared.rule.Call.{Call as CodeCall}
-use Rattle.clause_normal.specs.Bodies.{Goal}
-use Rattle.clause_normal.specs.NormalForm.{Fault, variables_fault}
+use Rattle.clause_normal.specs.NormalForm.{variables_fault}
 use Rattle.clause_normal.specs.Numbering.{is_equality, with_equality_clause, atoms_after, with_calls, call_variables}
 use Rattle.clause_normal.specs.Query.{query_goals, query_fault, query_calls, query_form, with_query, query_goal, new_equality}
-use Rattle.clause_normal.specs.Rules.{Call}
 use Rattle.clause_normal.specs.RuleViews.{call_of, CallIsFit, IsNamed}
 use Rattle.clause_normal.specs.Terms.{occurrences, firsts}
-use Rattle.clause_normal.specs.Views.{goal_of, IsTermFit, ItemIsFit}
+use Rattle.clause_normal.specs.Views.{item_goal, ItemIsFit}
 use Rattle.clause_normal.proofs.NumberingLemmas.{all_among, atoms_below, are_atoms}
 use Rattle.clause_normal.proofs.QueryLemmas.{if_fault_map, query_err, query_bad, query_many, query_well}
 use Rattle.clause_normal.proofs.query.normal_query.Goals as goal
@@ -30,10 +28,10 @@ returns-in-Err-clause-exact c =
     let p = c.args.program.now in
     let gs = query_goals names (tree_of c.args.query.now.term) in
     let v = variables_fault (place (tree_of c.args.query.now.term)) (occurrences (tree_of c.args.query.now.term)) in
-    let goals : map (goal_of names) c.deref.result.now ≡ gs = ap (λ (is : List Item). map (goal_of names) is) c.deref.ensures.value ∙ c.in_ok-items.ensures.goals in
+    let goals : map item_goal c.deref.result.now ≡ gs = ap (λ (is : List Item). map item_goal is) c.deref.ensures.value ∙ c.in_ok-items.ensures.goals in
     query_err _ p c.in-Err.fault
-    (if_fault_map c.in-Err.fault (λ f. query_fault (map (goal_of names) c.deref.result.now) ≡ Some f) (λ f. query_form names p (clause_of c.args.query.now) ≡ Err f)
-    (λ f e. query_bad names p (query_calls gs) (query_fault gs) v f (sym (ap query_fault goals) ∙ e)) (c.in-Err.ensures names))
+    (if_fault_map c.in-Err.fault (λ f. query_fault (map item_goal c.deref.result.now) ≡ Some f) (λ f. query_form names p (clause_of c.args.query.now) ≡ Err f)
+    (λ f e. query_bad names p (query_calls gs) (query_fault gs) v f (sym (ap query_fault goals) ∙ e)) c.in-Err.ensures)
 
 pub returns-in-Err-check_variables-clause-exact : goal.returns-in-Err-check_variables-clause-exact
 returns-in-Err-check_variables-clause-exact c =
@@ -42,8 +40,8 @@ returns-in-Err-check_variables-clause-exact c =
     let t = c.args.query.now.term in
     let gs = query_goals names (tree_of t) in
     let v = variables_fault (place (tree_of t)) (occurrences (tree_of t)) in
-    let goals : map (goal_of names) c.deref.result.now ≡ gs = ap (λ (is : List Item). map (goal_of names) is) c.deref.ensures.value ∙ c.in_ok-items.ensures.goals in
-    let none : query_fault gs ≡ None = sym (ap query_fault goals) ∙ c.in-Ok.ensures names in
+    let goals : map item_goal c.deref.result.now ≡ gs = ap (λ (is : List Item). map item_goal is) c.deref.ensures.value ∙ c.in_ok-items.ensures.goals in
+    let none : query_fault gs ≡ None = sym (ap query_fault goals) ∙ c.in-Ok.ensures in
     let xs : c.deref-2.result.now ≡ occurrences (tree_of t) = c.deref-2.ensures.value ∙ c.in_ok-variables.ensures.value in
     let at : place (tree_of t) ≡ t.at = ap place (tree_of_parts t) in
     let same : v ≡ variables_fault t.at c.deref-2.result.now = (λ i. variables_fault (at i) (sym xs i)) in
@@ -54,10 +52,8 @@ returns-in-Err-check_variables-clause-exact c =
 pub add_atoms-requires-clause-fit : goal.add_atoms-requires-clause-fit
 add_atoms-requires-clause-fit c =
     let n = length c.args.names.now in
-    let vars = c.args.query.now.vars in
-    let fit : IsTermFit n vars c.args.query.now.term = record { known = c.requires.fit.fit.known; below = c.requires.fit.fit.below } in
-    let items = subst (λ (is : List Item). AllByRecursion (ItemIsFit n vars) is) (sym c.deref-3.ensures.value) (c.in_ok-items.ensures.fit vars fit) in
-    subst (λ (cs : List CodeCall). AllByRecursion (CallIsFit n) cs) (sym c.deref-6.ensures.value) (c.in_ok-calls.ensures.fit n vars items)
+    let items = subst (λ (is : List Item). AllByRecursion (ItemIsFit n) is) (sym c.deref-3.ensures.value) c.in_ok-items.ensures.fit in
+    subst (λ (cs : List CodeCall). AllByRecursion (CallIsFit n) cs) (sym c.deref-6.ensures.value) (c.in_ok-calls.ensures.fit n items)
 
 pub returns-clause-exact : goal.returns-clause-exact
 returns-clause-exact c =
@@ -66,14 +62,14 @@ returns-clause-exact c =
     let t = c.args.query.now.term in
     let gs = query_goals names (tree_of t) in
     let v = variables_fault (place (tree_of t)) (occurrences (tree_of t)) in
-    let goals : map (goal_of names) c.deref.result.now ≡ gs = ap (λ (is : List Item). map (goal_of names) is) c.deref.ensures.value ∙ c.in_ok-items.ensures.goals in
-    let none : query_fault gs ≡ None = sym (ap query_fault goals) ∙ c.in-Ok.ensures names in
+    let goals : map item_goal c.deref.result.now ≡ gs = ap (λ (is : List Item). map item_goal is) c.deref.ensures.value ∙ c.in_ok-items.ensures.goals in
+    let none : query_fault gs ≡ None = sym (ap query_fault goals) ∙ c.in-Ok.ensures in
     let xs : c.deref-2.result.now ≡ occurrences (tree_of t) = c.deref-2.ensures.value ∙ c.in_ok-variables.ensures.value in
     let at : place (tree_of t) ≡ t.at = ap place (tree_of_parts t) in
     let few : v ≡ None = (λ i. variables_fault (at i) (sym xs i)) ∙ c.in-Ok-check_variables.ensures in
     let cs = query_calls gs in
     let calls : map call_of c.in_ok-calls.calls.items ≡ cs =
-    c.in_ok-calls.ensures.calls names ∙ ap (λ (is : List Item). query_calls (map (goal_of names) is)) c.deref-3.ensures.value ∙ ap query_calls c.in_ok-items.ensures.goals in
+    c.in_ok-calls.ensures.calls ∙ ap (λ (is : List Item). query_calls (map item_goal is)) c.deref-3.ensures.value ∙ ap query_calls c.in_ok-items.ensures.goals in
     let here : map call_of c.deref-6.result.now ≡ cs = ap (λ (cs : List CodeCall). map call_of cs) c.deref-6.ensures.value ∙ calls in
     let h = rw c.in-Some.is at c.in_ok-order.ensures in
     let order : c.in-Some.order.items ≡ firsts (call_variables cs) =
@@ -107,7 +103,7 @@ returns-clause-goal c =
     let cs = query_calls (query_goals names (tree_of t)) in
     let order = firsts (call_variables cs) in
     let calls : map call_of c.in_ok-calls.calls.items ≡ cs =
-    c.in_ok-calls.ensures.calls names ∙ ap (λ (is : List Item). query_calls (map (goal_of names) is)) c.deref-3.ensures.value ∙ ap query_calls c.in_ok-items.ensures.goals in
+    c.in_ok-calls.ensures.calls ∙ ap (λ (is : List Item). query_calls (map item_goal is)) c.deref-3.ensures.value ∙ ap query_calls c.in_ok-items.ensures.goals in
     let here : map call_of c.deref-6.result.now ≡ cs = ap (λ (cs : List CodeCall). map call_of cs) c.deref-6.ensures.value ∙ calls in
     let h = rw c.in-Some.is at c.in_ok-order.ensures in
     let ordered : c.in-Some.order.items ≡ order =
