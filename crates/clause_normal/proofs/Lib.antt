@@ -5,6 +5,7 @@ pub mod OrderLemmas
 pub mod ListLemmas
 pub mod BodyLemmas
 pub mod OutlineLemmas
+pub mod OccurringLemmas
 pub mod FitLemmas
 pub mod CopyLemmas
 pub mod Later

@@ -9,8 +9,7 @@ pub mod Views
 pub mod Outlines
 pub mod OutlineViews
 pub mod Stacks
-pub mod Counts
-pub mod Tallies
+pub mod Occurring
 pub mod RuleViews
 pub mod FormViews
 pub mod Faults

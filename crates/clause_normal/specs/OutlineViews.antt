@@ -9,26 +9,30 @@ use Rattle.clause_normal.specs.declared.outline.Outline.{Outline as CodeOutline}
 use Rattle.clause_normal.specs.declared.goal.Goal.{Goal as CodeGoal}
 use Rattle.clause_normal.specs.declared.goal.Goal.TheVariants as code
 use Rattle.clause_normal.specs.Bodies.{Goal, Goals, Branches, choice}
-use Rattle.clause_normal.specs.Outlines.{Piece, Outline, plain, either, pieces_row, outlines_row, pieces_goals, outlines_branches, PieceBelow, PiecesBelow, OutlinesBelow}
+use Rattle.clause_normal.specs.Outlines.{Piece, Pieces, plain, either, pieces_row, outlines_row, pieces_own, pieces_goals, outlines_branches, PieceBelow, PiecesBelow, OutlinesBelow}
 use Rattle.clause_normal.specs.Views.{item_goal}
 
-abbrev pub piece_step : layer.Piece-F Piece Outline → Piece
-piece_step (layer.Plain i) = plain (item_goal i)
+abbrev pub piece_step : layer.Piece-F Piece Pieces → Piece
+piece_step (layer.Plain i own) = plain (item_goal i) own.now
 piece_step (layer.Either at own os) = either at own.now (outlines_row os.items)
 
-abbrev pub outline_step : layer.Outline-F Piece Outline → Outline
-outline_step r = record { own = r.own.now; pieces = pieces_row r.pieces.items }
+abbrev pub outline_step : layer.Outline-F Piece Pieces → Pieces
+outline_step r = pieces_row r.pieces.items
 
 -- the plain goal, and the plain body
 abbrev pub piece_of : CodePiece → Piece
-piece_of = folds.fold-Piece Piece Outline piece_step outline_step
+piece_of = folds.fold-Piece Piece Pieces piece_step outline_step
 
-abbrev pub outline_of : CodeOutline → Outline
-outline_of = folds.fold-Outline Piece Outline piece_step outline_step
+abbrev pub outline_of : CodeOutline → Pieces
+outline_of = folds.fold-Outline Piece Pieces piece_step outline_step
 
 -- the goals of these in a clause with such variables
 abbrev pub goals_in : List CodePiece → List ℕ → Goals
 goals_in ps = pieces_goals (pieces_row (map piece_of ps))
+
+-- the variables of these
+abbrev pub own_in : List CodePiece → List ℕ
+own_in ps = pieces_own (pieces_row (map piece_of ps))
 
 -- the branches that they are of a disjunction whose predicate has such arguments
 abbrev pub branches_in : List CodeOutline → List ℕ → Branches
@@ -36,7 +40,7 @@ branches_in os = outlines_branches (outlines_row (map outline_of os))
 
 -- the goals of a body as the branch of such a disjunction
 abbrev pub outline_goals : CodeOutline → List ℕ → Goals
-outline_goals o args = pieces_goals (outline_of o).pieces (args ++ (outline_of o).own)
+outline_goals o args = pieces_goals (outline_of o) (args ++ pieces_own (outline_of o))
 
 -- the goal with its arguments
 abbrev pub goal_of : CodeGoal → Goal
@@ -54,7 +58,7 @@ abbrev pub OutlinesAreBelow : ℕ → List CodeOutline → Type 0
 OutlinesAreBelow vars os = OutlinesBelow vars (outlines_row (map outline_of os))
 
 abbrev pub OutlineIsBelow : ℕ → CodeOutline → Type 0
-OutlineIsBelow vars o = AllByRecursion (λ (x : ℕ). x < vars) (outline_of o).own × PiecesBelow vars (outline_of o).pieces
+OutlineIsBelow vars o = PiecesBelow vars (outline_of o)
 
 abbrev pub GoalIsBelow : ℕ → CodeGoal → Type 0
 GoalIsBelow vars (code.Item i) = Unit {0}

@@ -6,9 +6,9 @@ use Rattle.std.specs.List.{AllByRecursion}
 use Rattle.clause_normal.specs.Bodies.{Goal, Goals, Branches, no_goals, more_goals, no_branches, more_branches, arguments, choice_goal}
 
 mutual
-  -- a goal that is no disjunction; or a disjunction by its place, its variables and its branches
+  -- a goal that is no disjunction, and its variables; or a disjunction by its place, its variables and its branches
   pub data Piece : Type 0 where
-    plain : Goal → Piece
+    plain : Goal → List ℕ → Piece
     either : ℕ → List ℕ → Outlines → Piece
 
   -- a list of goals
@@ -16,29 +16,33 @@ mutual
     no_pieces : Pieces
     more_pieces : Piece → Pieces → Pieces
 
-  -- a list of bodies, each by its variables and its goals
+  -- a list of bodies
   pub data Outlines : Type 0 where
     no_outlines : Outlines
-    more_outlines : List ℕ → Pieces → Outlines → Outlines
-
--- a body
-pub record Outline : Type 0 where
-  pub own : List ℕ
-  pub pieces : Pieces
+    more_outlines : Pieces → Outlines → Outlines
 
 -- lists
 abbrev pub pieces_row : List Piece → Pieces
 pieces_row [] = no_pieces
 pieces_row (p ∷ ps) = more_pieces p (pieces_row ps)
 
-abbrev pub outlines_row : List Outline → Outlines
+abbrev pub outlines_row : List Pieces → Outlines
 outlines_row [] = no_outlines
-outlines_row (o ∷ os) = more_outlines o.own o.pieces (outlines_row os)
+outlines_row (o ∷ os) = more_outlines o (outlines_row os)
+
+-- the variables of goals
+abbrev pub piece_own : Piece → List ℕ
+piece_own (plain g own) = own
+piece_own (either at own os) = own
+
+abbrev pub pieces_own : Pieces → List ℕ
+pieces_own no_pieces = []
+pieces_own (more_pieces p ps) = piece_own p ++ pieces_own ps
 
 abbrev mutual
   -- the goal in a clause with these variables
   pub piece_goal : Piece → List ℕ → Goal
-  piece_goal (plain g) all = g
+  piece_goal (plain g own) all = g
   piece_goal (either at own os) all = choice_goal at (arguments all own) (outlines_branches os)
 
   pub pieces_goals : Pieces → List ℕ → Goals
@@ -48,12 +52,12 @@ abbrev mutual
   -- bodies as the branches of a disjunction whose predicate has these arguments
   pub outlines_branches : Outlines → List ℕ → Branches
   outlines_branches no_outlines args = no_branches
-  outlines_branches (more_outlines own ps os) args = more_branches (pieces_goals ps (args ++ own)) (outlines_branches os args)
+  outlines_branches (more_outlines ps os) args = more_branches (pieces_goals ps (args ++ pieces_own ps)) (outlines_branches os args)
 
 abbrev mutual
   -- each variable has a number below this
   pub PieceBelow : ℕ → Piece → Type 0
-  PieceBelow vars (plain g) = Unit {0}
+  PieceBelow vars (plain g own) = AllByRecursion (λ (x : ℕ). x < vars) own
   PieceBelow vars (either at own os) = AllByRecursion (λ (x : ℕ). x < vars) own × OutlinesBelow vars os
 
   pub PiecesBelow : ℕ → Pieces → Type 0
@@ -62,4 +66,4 @@ abbrev mutual
 
   pub OutlinesBelow : ℕ → Outlines → Type 0
   OutlinesBelow vars no_outlines = Unit {0}
-  OutlinesBelow vars (more_outlines own ps os) = AllByRecursion (λ (x : ℕ). x < vars) own × PiecesBelow vars ps × OutlinesBelow vars os
+  OutlinesBelow vars (more_outlines ps os) = PiecesBelow vars ps × OutlinesBelow vars os

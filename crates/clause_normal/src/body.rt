@@ -1,135 +1,146 @@
 //! The goals of a body, with the arguments of its disjunctions' predicates.
 
-ghost use Rattle.std.specs.Prelude.{◌≡◌, ◌<◌, ◌++◌, ℕ, List, [], length, map, filter, nat_lt, slice_index, IfOk, OnOk};
+ghost use Rattle.std.specs.Prelude.{◌≡◌, ◌<◌, ◌+◌, ◌++◌, ◌^◌, ◌||◌, ℕ, List, length, map, filter, nat_lt, slice_index, IfOk, OnOk};
 ghost use Rattle.std.specs.List.{AllByRecursion};
 ghost use Rattle.clause_normal.specs.Bodies.{arguments, choice_goal, goals_row};
-ghost use Rattle.clause_normal.specs.Counts.{AreCounts};
-ghost use Rattle.clause_normal.specs.Outlines.{piece_goal};
-ghost use Rattle.clause_normal.specs.OutlineViews.{piece_of, goal_of, goals_in, branches_in, outline_goals, GoalIsBelow, OutlineIsBelow, OutlinesAreBelow, PieceIsBelow, PiecesAreBelow};
-ghost use Rattle.clause_normal.specs.Tallies.{AreNone};
+ghost use Rattle.clause_normal.specs.Outlines.{piece_goal, piece_own};
+ghost use Rattle.clause_normal.specs.OutlineViews.{piece_of, goal_of, goals_in, own_in, branches_in, outline_goals, GoalIsBelow, OutlineIsBelow, OutlinesAreBelow, PieceIsBelow, PiecesAreBelow};
+ghost use Rattle.clause_normal.specs.Occurring.{AreNoted, HasSize};
 
 use crate::fault::NormKind;
 use crate::goal::Goal;
 use crate::order::firsts;
 use crate::outline::{Outline, Piece};
 use crate::part::Item;
-use crate::tally::{Tallies, Tally};
+use crate::places::Places;
 use cti_terms::MOST_ARGUMENTS;
 use std::alloc::{AllocError, Global};
 
-/// Those of these variables that occur more often in the clause than in the disjunction.
+/// Those of these variables that occur before a place, or from another on.
 fn shared(
     alloc: Global,
-    clause: &Tally,
-    choice: &Tally,
+    places: &Places,
+    start: usize,
+    end: usize,
     own: &[u32],
 ) -> Result<Vec<u32>, AllocError>
-    requires clause { AllByRecursion (λ x. x < length clause.now.counts.items) own.now }
-    requires choice { AllByRecursion (λ x. x < length choice.now.counts.items) own.now }
-    ensures { IfOk result (λ v. v.items ≡ filter (λ x. nat_lt (slice_index choice.now.counts.items x) (slice_index clause.now.counts.items x)) own.now) }
+    requires firsts { AllByRecursion (λ x. x < length places.now.firsts.items) own.now }
+    requires ends { AllByRecursion (λ x. x < length places.now.ends.items) own.now }
+    ensures { IfOk result (λ v. v.items ≡ filter (λ x. nat_lt (slice_index places.now.firsts.items x) start || nat_lt end (slice_index places.now.ends.items x)) own.now) }
 {
     let mut shared = Vec::new(alloc);
     for x in own {
-        if choice.of(*x) < clause.of(*x) {
+        if places.is_outside(*x, start, end) {
             shared.push(*x)?;
         }
     }
     Ok(shared)
 }
 
-/// A disjunction at a place, with these variables and branches, as a goal of a clause whose variables are counted.
+/// A disjunction at a place in the text as a goal of a clause whose variables' places are noted. Its own variables, which
+/// start at a place among those of the clause, and its branches are given.
 fn choice_goal<'a, 'v, 'o>(
     alloc: Global,
-    clause: &Tally,
-    choice: &mut Tally,
+    places: &Places,
     at: u32,
+    start: usize,
     own: &[u32],
     branches: &'o Vec<Outline<'a, 'v>>,
 ) -> Result<Goal<'a, 'v, 'o>, AllocError>
-    requires below { AllByRecursion (λ x. x < length clause.now.counts.items) own.now }
-    requires none { AreCounts (length clause.now.counts.items) [] choice.old.counts.items }
-    ensures none { OnOk result (AreCounts (length clause.now.counts.items) [] choice.new.counts.items) }
-    ensures goal { IfOk result (λ g. (all : List ℕ) → AreCounts (length clause.now.counts.items) all clause.now.counts.items
-        → goal_of g ≡ choice_goal at (arguments all own.now) (branches_in branches.now.items)) }
-    ensures below { IfOk result (λ g. OutlinesAreBelow (length clause.now.counts.items) branches.now.items → GoalIsBelow (length clause.now.counts.items) g) }
+    requires room { start + length own.now < 2 ^ 64 }
+    requires size { HasSize (length places.now.firsts.items) places.now }
+    requires below { AllByRecursion (λ x. x < length places.now.firsts.items) own.now }
+    ensures goal { IfOk result (λ g. (earlier later : List ℕ) → length earlier ≡ start → AreNoted (earlier ++ (own.now ++ later)) places.now
+        → goal_of g ≡ choice_goal at (arguments (earlier ++ (own.now ++ later)) own.now) (branches_in branches.now.items)) }
+    ensures below { IfOk result (λ g. OutlinesAreBelow (length places.now.firsts.items) branches.now.items → GoalIsBelow (length places.now.firsts.items) g) }
 {
-    choice.add(own);
-    let shared = shared(alloc, clause, choice, own)?;
-    choice.remove(own);
+    let shared = shared(alloc, places, start, start + own.len(), own)?;
     match firsts(alloc, &shared, MOST_ARGUMENTS as usize)? {
         Some(args) => Ok(Goal::Choice(args, branches)),
         None => Ok(Goal::Item(Item::Bad(NormKind::Arity, at))),
     }
 }
 
-/// A piece of a body as a goal of a clause whose variables are counted.
+/// A piece of a body as a goal of a clause whose variables' places are noted. Those of the piece start at a place.
 fn goal<'a, 'v, 'o>(
     alloc: Global,
-    clause: &Tally,
-    choice: &mut Tally,
+    places: &Places,
+    start: usize,
     piece: &'o Piece<'a, 'v>,
 ) -> Result<Goal<'a, 'v, 'o>, AllocError>
-    requires below { PieceIsBelow (length clause.now.counts.items) piece.now }
-    requires none { AreCounts (length clause.now.counts.items) [] choice.old.counts.items }
-    ensures none { OnOk result (AreCounts (length clause.now.counts.items) [] choice.new.counts.items) }
-    ensures goal { IfOk result (λ g. (all : List ℕ) → AreCounts (length clause.now.counts.items) all clause.now.counts.items
-        → goal_of g ≡ piece_goal (piece_of piece.now) all) }
-    ensures below { IfOk result (λ g. GoalIsBelow (length clause.now.counts.items) g) }
+    requires room { start + length (piece_own (piece_of piece.now)) < 2 ^ 64 }
+    requires size { HasSize (length places.now.firsts.items) places.now }
+    requires below { PieceIsBelow (length places.now.firsts.items) piece.now }
+    ensures goal { IfOk result (λ g. (earlier later : List ℕ) → length earlier ≡ start → AreNoted (earlier ++ (piece_own (piece_of piece.now) ++ later)) places.now
+        → goal_of g ≡ piece_goal (piece_of piece.now) (earlier ++ (piece_own (piece_of piece.now) ++ later))) }
+    ensures below { IfOk result (λ g. GoalIsBelow (length places.now.firsts.items) g) }
 {
     match piece {
-        Piece::Plain(item) => Ok(Goal::Item(*item)),
-        Piece::Either(at, own, branches) => choice_goal(alloc, clause, choice, *at, own, branches),
+        Piece::Plain(item, _) => Ok(Goal::Item(*item)),
+        Piece::Either(at, own, branches) => choice_goal(alloc, places, *at, start, own, branches),
     }
 }
 
-/// The goals of a body of a clause whose variables are counted.
+/// The variables of a piece.
+fn own<'v>(piece: &Piece<'_, 'v>) -> &'v [u32]
+    ensures { result.now ≡ piece_own (piece_of piece.now) }
+{
+    match piece {
+        Piece::Plain(_, own) | Piece::Either(_, own, _) => own,
+    }
+}
+
+/// The goals of a body of a clause whose variables' places are noted. Those of the body start at a place and are the last.
 fn goals<'a, 'v, 'o>(
     alloc: Global,
-    clause: &Tally,
-    choice: &mut Tally,
+    places: &Places,
+    first: usize,
     pieces: &'o [Piece<'a, 'v>],
 ) -> Result<Vec<Goal<'a, 'v, 'o>>, AllocError>
-    requires below { PiecesAreBelow (length clause.now.counts.items) pieces.now }
-    requires none { AreCounts (length clause.now.counts.items) [] choice.old.counts.items }
-    ensures none { OnOk result (AreCounts (length clause.now.counts.items) [] choice.new.counts.items) }
-    ensures goals { IfOk result (λ v. (all : List ℕ) → AreCounts (length clause.now.counts.items) all clause.now.counts.items
-        → goals_row (map goal_of v.items) ≡ goals_in pieces.now all) }
-    ensures below { IfOk result (λ v. AllByRecursion (GoalIsBelow (length clause.now.counts.items)) v.items) }
+    requires room { first + length (own_in pieces.now) < 2 ^ 64 }
+    requires size { HasSize (length places.now.firsts.items) places.now }
+    requires below { PiecesAreBelow (length places.now.firsts.items) pieces.now }
+    ensures goals { IfOk result (λ v. (args : List ℕ) → length args ≡ first → AreNoted (args ++ own_in pieces.now) places.now
+        → goals_row (map goal_of v.items) ≡ goals_in pieces.now (args ++ own_in pieces.now)) }
+    ensures below { IfOk result (λ v. AllByRecursion (GoalIsBelow (length places.now.firsts.items)) v.items) }
 {
     let mut goals = Vec::new(alloc);
+    let mut start = first;
     'pieces: for piece in pieces {
-        let goal = goal(alloc, clause, choice, piece)?;
+        let goal = goal(alloc, places, start, piece)?;
         goals.push(goal)?;
+        start += own(piece).len();
     }
     Ok(goals)
 }
 
-/// Numbers, and others after them.
-fn joined(alloc: Global, first: &[u32], second: &[u32]) -> Result<Vec<u32>, AllocError>
-    ensures { IfOk result (λ v. v.items ≡ first.now ++ second.now) }
+/// These variables, and after them those of a body.
+fn with_own(alloc: Global, args: &[u32], pieces: &[Piece]) -> Result<Vec<u32>, AllocError>
+    ensures { IfOk result (λ v. v.items ≡ args.now ++ own_in pieces.now) }
 {
-    let mut both = Vec::from_slice(alloc, first)?;
-    both.extend_from_slice(second)?;
-    Ok(both)
+    let mut all = Vec::from_slice(alloc, args)?;
+    'pieces: for piece in pieces {
+        all.extend_from_slice(own(piece))?;
+    }
+    Ok(all)
 }
 
 /// The goals of a body as a branch of a disjunction whose predicate has these arguments.
 pub(crate) fn body_goals<'a, 'v, 'o>(
     alloc: Global,
-    tallies: &mut Tallies,
+    places: &mut Places,
     args: &[u32],
     body: &'o Outline<'a, 'v>,
 ) -> Result<Vec<Goal<'a, 'v, 'o>>, AllocError>
-    requires args { AllByRecursion (λ x. x < length tallies.old.clause.counts.items) args.now }
-    requires body { OutlineIsBelow (length tallies.old.clause.counts.items) body.now }
-    requires none { AreNone (length tallies.old.clause.counts.items) tallies.old }
-    ensures none { OnOk result (AreNone (length tallies.old.clause.counts.items) tallies.new) }
+    requires args { AllByRecursion (λ x. x < length places.old.firsts.items) args.now }
+    requires body { OutlineIsBelow (length places.old.firsts.items) body.now }
+    requires size { HasSize (length places.old.firsts.items) places.old }
+    ensures size { OnOk result (HasSize (length places.old.firsts.items) places.new) }
     ensures goals { IfOk result (λ v. goals_row (map goal_of v.items) ≡ outline_goals body.now args.now) }
-    ensures below { IfOk result (λ v. AllByRecursion (GoalIsBelow (length tallies.old.clause.counts.items)) v.items) }
+    ensures below { IfOk result (λ v. AllByRecursion (GoalIsBelow (length places.old.firsts.items)) v.items) }
 {
-    let all = joined(alloc, args, body.own)?;
-    tallies.clause.add(&all);
-    let goals = goals(alloc, &tallies.clause, &mut tallies.choice, &body.pieces)?;
-    tallies.clause.remove(&all);
+    let all = with_own(alloc, args, &body.pieces)?;
+    places.note(&all);
+    let goals = goals(alloc, places, args.len(), &body.pieces)?;
     Ok(goals)
 }

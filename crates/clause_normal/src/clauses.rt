@@ -20,8 +20,8 @@ use crate::limits::MOST_TEXT_CLAUSES;
 use crate::making::add_rules;
 use crate::order::firsts;
 use crate::outlining::outlined;
+use crate::places::Places;
 use crate::rule::{Call, Rule};
-use crate::tally::Tallies;
 use crate::variables::term_variables;
 use cti_terms::{MOST_VARIABLES, Names};
 use prolog_reader::{ReadClause, ReadTerm};
@@ -143,8 +143,8 @@ fn add_with_variables<'a, 'v>(
         AnswersMade (goals_fault goals) (map rule_of made.old.items ++ rules next (call_of call.entry) goals) (after next goals) (map rule_of made.new.items) result }
 {
     let outline = outlined(alloc, names, body, own)?;
-    let mut tallies = Tallies::new(alloc, vars)?;
-    add_rules(alloc, &mut tallies, made, next, call, args, &outline)
+    let mut places = Places::new(alloc, vars)?;
+    add_rules(alloc, &mut places, made, next, call, args, &outline)
 }
 
 /// Adds the clauses that a head with a body becomes, which is also given as a call. Answers the number of the next disjunction, or

@@ -8,7 +8,7 @@ ghost use Rattle.clause_normal.specs.NormalForm.{goals_fault, goal_fault, branch
 ghost use Rattle.clause_normal.specs.OutlineViews.{goal_of, branches_in, outline_goals, GoalIsBelow, OutlineIsBelow, OutlinesAreBelow};
 ghost use Rattle.clause_normal.specs.Rules.{rules, after, below, below_at, branch_rules, calls, choice_call, choices, choices_at, inner, inner_at, within};
 ghost use Rattle.clause_normal.specs.RuleViews.{call_of, rule_of};
-ghost use Rattle.clause_normal.specs.Tallies.{AreNone};
+ghost use Rattle.clause_normal.specs.Occurring.{HasSize};
 
 use crate::body::body_goals;
 use crate::fault::NormFault;
@@ -16,8 +16,8 @@ use crate::goal::Goal;
 use crate::level::{choice_call, level_of};
 use crate::outline::Outline;
 use crate::part::Item;
+use crate::places::Places;
 use crate::rule::{Call, Rule};
-use crate::tally::Tallies;
 use std::alloc::{AllocError, Global};
 
 /// How many disjunctions a goal is, those in it aside.
@@ -55,7 +55,7 @@ fn add_rule<'a>(
 #[cycle(making)]
 pub(crate) fn add_rules<'a, 'v, 'o>(
     alloc: Global,
-    tallies: &mut Tallies,
+    places: &mut Places,
     made: &mut Vec<Rule<'a>>,
     first: u64,
     head: Call<'a>,
@@ -63,16 +63,16 @@ pub(crate) fn add_rules<'a, 'v, 'o>(
     body: &'o Outline<'a, 'v>,
 ) -> Result<u64, NormFault>
     requires room { after first (outline_goals body.now args.now) + 1 < 2 ^ 64 }
-    requires args { AllByRecursion (λ x. x < length tallies.old.clause.counts.items) args.now }
-    requires body { OutlineIsBelow (length tallies.old.clause.counts.items) body.now }
-    requires none { AreNone (length tallies.old.clause.counts.items) tallies.old }
-    ensures none { OnOk result (AreNone (length tallies.old.clause.counts.items) tallies.new) }
+    requires args { AllByRecursion (λ x. x < length places.old.firsts.items) args.now }
+    requires body { OutlineIsBelow (length places.old.firsts.items) body.now }
+    requires size { HasSize (length places.old.firsts.items) places.old }
+    ensures size { OnOk result (HasSize (length places.old.firsts.items) places.new) }
     ensures made { AnswersMade (goals_fault (outline_goals body.now args.now)) (map rule_of made.old.items ++ rules first (call_of head.entry) (outline_goals body.now args.now))
         (after first (outline_goals body.now args.now)) (map rule_of made.new.items) result }
 {
-    let goals = body_goals(alloc, tallies, args, body)?;
+    let goals = body_goals(alloc, places, args, body)?;
     let next = add_rule(alloc, made, first, head, &goals)?;
-    add_below(alloc, tallies, made, first, next, &goals)
+    add_below(alloc, places, made, first, next, &goals)
 }
 
 /// Adds the clauses of the branches of the disjunctions among these goals. They are numbered from `first` on, and those in them
@@ -80,7 +80,7 @@ pub(crate) fn add_rules<'a, 'v, 'o>(
 #[cycle(making)]
 fn add_below<'a, 'v, 'o>(
     alloc: Global,
-    tallies: &mut Tallies,
+    places: &mut Places,
     made: &mut Vec<Rule<'a>>,
     first: u64,
     next: u64,
@@ -88,16 +88,16 @@ fn add_below<'a, 'v, 'o>(
 ) -> Result<u64, NormFault>
     requires numbers { first + choices (goals_row (map goal_of goals.now)) < 2 ^ 64 }
     requires room { next + inner (goals_row (map goal_of goals.now)) + 1 < 2 ^ 64 }
-    requires goals { AllByRecursion (GoalIsBelow (length tallies.old.clause.counts.items)) goals.now }
-    requires none { AreNone (length tallies.old.clause.counts.items) tallies.old }
-    ensures none { OnOk result (AreNone (length tallies.old.clause.counts.items) tallies.new) }
+    requires goals { AllByRecursion (GoalIsBelow (length places.old.firsts.items)) goals.now }
+    requires size { HasSize (length places.old.firsts.items) places.old }
+    ensures size { OnOk result (HasSize (length places.old.firsts.items) places.new) }
     ensures made { AnswersMade (goals_fault (goals_row (map goal_of goals.now))) (map rule_of made.old.items ++ below first next (goals_row (map goal_of goals.now)))
         (next + inner (goals_row (map goal_of goals.now))) (map rule_of made.new.items) result }
 {
     let mut number = first;
     let mut after = next;
     'goals: for goal in goals {
-        match add_goal(alloc, tallies, made, number, after, goal) {
+        match add_goal(alloc, places, made, number, after, goal) {
             Ok(next) => after = next,
             Err(fault) => return Err(fault),
         }
@@ -111,16 +111,16 @@ fn add_below<'a, 'v, 'o>(
 #[cycle(making)]
 fn add_goal<'a, 'v, 'o>(
     alloc: Global,
-    tallies: &mut Tallies,
+    places: &mut Places,
     made: &mut Vec<Rule<'a>>,
     number: u64,
     next: u64,
     goal: &Goal<'a, 'v, 'o>,
 ) -> Result<u64, NormFault>
     requires room { next + inner_at (goal_of goal.now) + 1 < 2 ^ 64 }
-    requires goal { GoalIsBelow (length tallies.old.clause.counts.items) goal.now }
-    requires none { AreNone (length tallies.old.clause.counts.items) tallies.old }
-    ensures none { OnOk result (AreNone (length tallies.old.clause.counts.items) tallies.new) }
+    requires goal { GoalIsBelow (length places.old.firsts.items) goal.now }
+    requires size { HasSize (length places.old.firsts.items) places.old }
+    ensures size { OnOk result (HasSize (length places.old.firsts.items) places.new) }
     ensures made { AnswersMade (goal_fault (goal_of goal.now)) (map rule_of made.old.items ++ below_at number next (goal_of goal.now))
         (next + inner_at (goal_of goal.now)) (map rule_of made.new.items) result }
 {
@@ -131,7 +131,7 @@ fn add_goal<'a, 'v, 'o>(
             at: *at,
         }),
         Goal::Choice(args, branches) => {
-            add_branches(alloc, tallies, made, number, next, args, branches)
+            add_branches(alloc, places, made, number, next, args, branches)
         }
     }
 }
@@ -141,7 +141,7 @@ fn add_goal<'a, 'v, 'o>(
 #[cycle(making)]
 fn add_branches<'a, 'v, 'o>(
     alloc: Global,
-    tallies: &mut Tallies,
+    places: &mut Places,
     made: &mut Vec<Rule<'a>>,
     number: u64,
     next: u64,
@@ -149,17 +149,17 @@ fn add_branches<'a, 'v, 'o>(
     branches: &'o [Outline<'a, 'v>],
 ) -> Result<u64, NormFault>
     requires room { next + within (branches_in branches.now args.now) + 1 < 2 ^ 64 }
-    requires args { AllByRecursion (λ x. x < length tallies.old.clause.counts.items) args.now }
-    requires branches { OutlinesAreBelow (length tallies.old.clause.counts.items) branches.now }
-    requires none { AreNone (length tallies.old.clause.counts.items) tallies.old }
-    ensures none { OnOk result (AreNone (length tallies.old.clause.counts.items) tallies.new) }
+    requires args { AllByRecursion (λ x. x < length places.old.firsts.items) args.now }
+    requires branches { OutlinesAreBelow (length places.old.firsts.items) branches.now }
+    requires size { HasSize (length places.old.firsts.items) places.old }
+    ensures size { OnOk result (HasSize (length places.old.firsts.items) places.new) }
     ensures made { AnswersMade (branches_fault (branches_in branches.now args.now)) (map rule_of made.old.items ++ branch_rules (choice_call number args.now) next (branches_in branches.now args.now))
         (next + within (branches_in branches.now args.now)) (map rule_of made.new.items) result }
 {
     let mut after = next;
     'branches: for branch in branches {
         let head = choice_call(alloc, number, args)?;
-        match add_rules(alloc, tallies, made, after, head, args, branch) {
+        match add_rules(alloc, places, made, after, head, args, branch) {
             Ok(next) => after = next,
             Err(fault) => return Err(fault),
         }

@@ -5,7 +5,7 @@ ghost use Rattle.std.specs.List.{AllByRecursion};
 ghost use Rattle.prolog_terms.specs.Clauses.{is_known};
 ghost use Rattle.prolog_terms.specs.Terms.{tree_of};
 ghost use Rattle.clause_normal.specs.Bodies.{arguments, choice_goal, joined, joined_branches, one_goal};
-ghost use Rattle.clause_normal.specs.OutlineViews.{goals_in, branches_in, outline_goals, PiecesAreBelow, OutlinesAreBelow, OutlineIsBelow};
+ghost use Rattle.clause_normal.specs.OutlineViews.{goals_in, own_in, branches_in, outline_goals, PiecesAreBelow, OutlinesAreBelow, OutlineIsBelow};
 ghost use Rattle.clause_normal.specs.Terms.{occurrences};
 ghost use Rattle.clause_normal.specs.Views.{goals_of, branches_of};
 
@@ -50,6 +50,7 @@ fn add_pieces<'a, 'v>(
     requires variables { (rest : List ℕ) × (variables.now ≡ occurrences (tree_of body.now) ++ rest) }
     ensures rest { IfOk result (λ rest. variables.now ≡ occurrences (tree_of body.now) ++ rest.now) }
     ensures goals { OnOk result ((all : List ℕ) → goals_in pieces.new.items all ≡ joined (goals_in pieces.old.items all) (goals_of names.now body.now all)) }
+    ensures own { OnOk result (own_in pieces.new.items ≡ own_in pieces.old.items ++ occurrences (tree_of body.now)) }
     ensures below { OnOk result ((vars : ℕ) → AllByRecursion (λ x. x < vars) variables.now → PiecesAreBelow vars pieces.old.items → PiecesAreBelow vars pieces.new.items) }
 {
     match part_of(names, body) {
@@ -63,7 +64,7 @@ fn add_pieces<'a, 'v>(
         Part::Nothing => Ok(variables),
         Part::Goal(item) => {
             let rest = after_term(alloc, body, variables)?;
-            pieces.push(Piece::Plain(item))?;
+            pieces.push(Piece::Plain(item, before(variables, rest)))?;
             Ok(rest)
         }
     }
@@ -86,6 +87,7 @@ fn add_disjunction<'a, 'v>(
     ensures rest { IfOk result (λ rest. variables.now ≡ occurrences (tree_of left.now) ++ (occurrences (tree_of right.now) ++ rest.now)) }
     ensures goals { OnOk result ((all : List ℕ) → goals_in pieces.new.items all ≡ joined (goals_in pieces.old.items all)
         (one_goal (choice_goal at (arguments all (occurrences (tree_of left.now) ++ occurrences (tree_of right.now))) (λ args. joined_branches (branches_of names.now left.now args) (branches_of names.now right.now args))))) }
+    ensures own { OnOk result (own_in pieces.new.items ≡ own_in pieces.old.items ++ (occurrences (tree_of left.now) ++ occurrences (tree_of right.now))) }
     ensures below { OnOk result ((vars : ℕ) → AllByRecursion (λ x. x < vars) variables.now → PiecesAreBelow vars pieces.old.items → PiecesAreBelow vars pieces.new.items) }
 {
     let mut branches = Vec::new(alloc);
@@ -116,10 +118,7 @@ fn add_outlines<'a, 'v>(
     } else {
         let mut pieces = Vec::new(alloc);
         let rest = add_pieces(alloc, names, body, variables, &mut pieces)?;
-        outlines.push(Outline {
-            own: before(variables, rest),
-            pieces,
-        })?;
+        outlines.push(Outline { pieces })?;
         Ok(rest)
     }
 }
@@ -138,8 +137,5 @@ pub(crate) fn outlined<'a, 'v>(
 {
     let mut pieces = Vec::new(alloc);
     add_pieces(alloc, names, body, variables, &mut pieces)?;
-    Ok(Outline {
-        own: variables,
-        pieces,
-    })
+    Ok(Outline { pieces })
 }

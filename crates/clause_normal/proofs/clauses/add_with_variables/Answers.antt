@@ -17,11 +17,11 @@ add_rules-requires-clause-room c =
 pub add_rules-requires-clause-args : goal.add_rules-requires-clause-args
 add_rules-requires-clause-args c =
     let A : ℕ → Type 0 = λ n. AllByRecursion (λ (x : ℕ). x < n) c.args.args.now in
-    subst A (sym c.in_ok-tallies.ensures.clause.vars_are) c.requires.args
+    subst A (sym c.in_ok-places.ensures.firsts) c.requires.args
 
 pub add_rules-requires-clause-body : goal.add_rules-requires-clause-body
 add_rules-requires-clause-body c =
     let A : List ℕ → Type 0 = λ xs. AllByRecursion (λ (x : ℕ). x < c.args.vars) xs in
     let B : ℕ → Type 0 = λ n. OutlineIsBelow n c.in_ok-outline.outline in
     let own = subst A (sym c.requires.own) (below_occurrences c.args.vars (tree_of c.args.body.now) c.requires.body.below) in
-    subst B (sym c.in_ok-tallies.ensures.clause.vars_are) (c.in_ok-outline.ensures.below c.args.vars own)
+    subst B (sym c.in_ok-places.ensures.firsts) (c.in_ok-outline.ensures.below c.args.vars own)

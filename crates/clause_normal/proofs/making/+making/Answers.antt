@@ -9,7 +9,7 @@ use Rattle.clause_normal.specs.Outlines.{Outlines, OutlinesBelow, more_outlines,
 use Rattle.clause_normal.specs.OutlineViews.{goal_of, branches_in, outline_of, outline_goals, GoalIsBelow, OutlineIsBelow}
 use Rattle.clause_normal.specs.Rules.{Call, Rule, below, below_at, branch_rules, choice_call, choices, choices_at, inner, rules, within}
 use Rattle.clause_normal.specs.RuleViews.{rule_of}
-use Rattle.clause_normal.specs.Tallies.{AreNone}
+use Rattle.clause_normal.specs.Occurring.{HasSize}
 use Rattle.clause_normal.proofs.FitLemmas.{goals_work, branches_work}
 use Rattle.clause_normal.proofs.QueryLemmas.{if_fault_map}
 use Rattle.clause_normal.proofs.making.+making.Goals as goal
@@ -27,13 +27,13 @@ goals_below vars gs i g lt is h =
     subst A (at_drop_more (λ (hs : List CodeGoal). hs) gs i g lt ∙ ap (λ (k : CodeGoal). k ∷ drop (i + 1) gs) (sym is)) h
 
 -- the branches that are left
-outlines_left : (os : List CodeOutline) (i : ℕ) (o : CodeOutline) → i < length os → o ≡ get_or os i o → outlines_row (map outline_of (drop i os)) ≡ more_outlines (outline_of o).own (outline_of o).pieces (outlines_row (map outline_of (drop (i + 1) os)))
+outlines_left : (os : List CodeOutline) (i : ℕ) (o : CodeOutline) → i < length os → o ≡ get_or os i o → outlines_row (map outline_of (drop i os)) ≡ more_outlines (outline_of o) (outlines_row (map outline_of (drop (i + 1) os)))
 outlines_left os i o lt is =
     let plain : List CodeOutline → Outlines = λ us. outlines_row (map outline_of us) in
     at_drop_more plain os i o lt ∙ ap (λ (u : CodeOutline). plain (u ∷ drop (i + 1) os)) (sym is)
 
 pub add_below-goals-init : goal.add_below-goals-init
-add_below-goals-init t c = record { fault = refl; made = refl; after = refl; number = refl; rest = c.requires.goals; none = c.requires.none; smaller = omega arith }
+add_below-goals-init t c = record { fault = refl; made = refl; after = refl; number = refl; rest = c.requires.goals; size = c.requires.size; smaller = omega arith }
 
 pub add_below-add_goal-requires : goal.add_below-add_goal-requires
 add_below-add_goal-requires t c =
@@ -42,12 +42,12 @@ add_below-add_goal-requires t c =
     let g = c.goal-item.result in
     let inv = c.goals.invariant in
     let left = goals_left gs i g c.goals-test.true c.goal-item.is in
-    let vars_are = inv.none.clause.vars_are in
+    let vars_are = inv.size.firsts in
     let B : ℕ → Type 0 = λ n. GoalIsBelow n g in
-    let N : ℕ → Type 0 = λ n. AreNone n c.goals.tallies in
-    let b = goals_below (length c.args.tallies.now.clause.counts.items) gs i g c.goals-test.true c.goal-item.is inv.rest in (
+    let N : ℕ → Type 0 = λ n. HasSize n c.goals.places in
+    let b = goals_below (length c.args.places.now.firsts.items) gs i g c.goals-test.true c.goal-item.is inv.rest in (
       omega (arith, ap goals_work left, inv.smaller, c.decreases),
-      (omega (arith, inv.after, ap inner left, c.requires.room), (subst B (sym vars_are) b.0, subst N (sym vars_are) inv.none)),
+      (omega (arith, inv.after, ap inner left, c.requires.room), (subst B (sym vars_are) b.0, subst N (sym vars_are) inv.size)),
     )
 
 pub add_below-returns-in-Err-clause-made : goal.add_below-returns-in-Err-clause-made
@@ -79,7 +79,7 @@ add_below-goals-preserved t c =
     let h = goal_of g in
     let ok = c.in-Ok.ensures.made in
     let number : n + c.choices-number.result ≡ n + choices_at h = ap (λ (k : ℕ). n + k) c.choices-number.ensures in
-    let N : ℕ → Type 0 = λ n. AreNone n c.add_goal.new.tallies in
+    let N : ℕ → Type 0 = λ n. HasSize n c.add_goal.new.places in
     record {
       fault = sym (ap goals_fault left ∙ ap (λ (o : Option Fault). first_of o (goals_fault rest)) ok.0) ∙ inv.fault;
       made =
@@ -90,13 +90,13 @@ add_below-goals-preserved t c =
           ∙ inv.made;
       after = omega (arith, inv.after, ok.2, ap inner left);
       number = omega (arith, inv.number, c.choices-number.ensures, ap choices left);
-      rest = (goals_below (length c.args.tallies.now.clause.counts.items) gs i g c.goals-test.true c.goal-item.is inv.rest).1;
-      none = subst N inv.none.clause.vars_are c.in-Ok.ensures.none;
+      rest = (goals_below (length c.args.places.now.firsts.items) gs i g c.goals-test.true c.goal-item.is inv.rest).1;
+      size = subst N inv.size.firsts c.in-Ok.ensures.size;
       smaller = omega (arith, inv.smaller, ap goals_work left);
     }
 
-pub add_below-returns-clause-none : goal.add_below-returns-clause-none
-add_below-returns-clause-none t c = c.goals.invariant.none
+pub add_below-returns-clause-size : goal.add_below-returns-clause-size
+add_below-returns-clause-size t c = c.goals.invariant.size
 
 pub add_below-returns-clause-made : goal.add_below-returns-clause-made
 add_below-returns-clause-made t c =
@@ -109,7 +109,7 @@ add_below-returns-clause-made t c =
     )
 
 pub add_branches-branches-init : goal.add_branches-branches-init
-add_branches-branches-init t c = record { fault = refl; made = refl; after = refl; rest = c.requires.branches; none = c.requires.none; smaller = omega arith }
+add_branches-branches-init t c = record { fault = refl; made = refl; after = refl; rest = c.requires.branches; size = c.requires.size; smaller = omega arith }
 
 pub add_branches-add_rules-requires : goal.add_branches-add_rules-requires
 add_branches-add_rules-requires t c =
@@ -120,14 +120,14 @@ add_branches-add_rules-requires t c =
     let inv = c.branches.invariant in
     let plain = outlines_left os i o c.branches-test.true c.branch-item.is in
     let left : branches_in (drop i os) args ≡ more_branches (outline_goals o args) (branches_in (drop (i + 1) os) args) = ap (λ (us : Outlines). outlines_branches us args) plain in
-    let vars = length c.args.tallies.now.clause.counts.items in
-    let vars_are = sym inv.none.clause.vars_are in
+    let vars = length c.args.places.now.firsts.items in
+    let vars_are = sym inv.size.firsts in
     let A : ℕ → Type 0 = λ n. AllByRecursion (λ (x : ℕ). x < n) args in
     let B : ℕ → Type 0 = λ n. OutlineIsBelow n o in
-    let N : ℕ → Type 0 = λ n. AreNone n c.branches.tallies in
+    let N : ℕ → Type 0 = λ n. HasSize n c.branches.places in
     let b = subst (OutlinesBelow vars) plain inv.rest in (
       omega (arith, ap branches_work left, inv.smaller, c.decreases),
-      (omega (arith, inv.after, ap within left, c.requires.room), (subst A vars_are c.requires.args, (subst B vars_are (b.0, b.1), subst N vars_are inv.none))),
+      (omega (arith, inv.after, ap within left, c.requires.room), (subst A vars_are c.requires.args, (subst B vars_are b.0, subst N vars_are inv.size))),
     )
 
 pub add_branches-returns-in-Err-clause-made : goal.add_branches-returns-in-Err-clause-made
@@ -157,7 +157,7 @@ add_branches-branches-preserved t c =
     let a = c.branches.after in
     let head = choice_call c.args.number args in
     let ok = c.in-Ok.ensures.made in
-    let N : ℕ → Type 0 = λ n. AreNone n c.add_rules.new.tallies in
+    let N : ℕ → Type 0 = λ n. HasSize n c.add_rules.new.places in
     record {
       fault = sym (ap branches_fault left ∙ ap (λ (u : Option Fault). first_of u (branches_fault rest)) ok.0) ∙ inv.fault;
       made =
@@ -167,13 +167,13 @@ add_branches-branches-preserved t c =
           ∙ ap (λ (bs : Branches). old ++ branch_rules head a bs) (sym left)
           ∙ inv.made;
       after = omega (arith, inv.after, ok.2, ap within left);
-      rest = (subst (OutlinesBelow (length c.args.tallies.now.clause.counts.items)) plain inv.rest).2;
-      none = subst N inv.none.clause.vars_are c.in-Ok.ensures.none;
+      rest = (subst (OutlinesBelow (length c.args.places.now.firsts.items)) plain inv.rest).1;
+      size = subst N inv.size.firsts c.in-Ok.ensures.size;
       smaller = omega (arith, inv.smaller, ap branches_work left);
     }
 
-pub add_branches-returns-clause-none : goal.add_branches-returns-clause-none
-add_branches-returns-clause-none t c = c.branches.invariant.none
+pub add_branches-returns-clause-size : goal.add_branches-returns-clause-size
+add_branches-returns-clause-size t c = c.branches.invariant.size
 
 pub add_branches-returns-clause-made : goal.add_branches-returns-clause-made
 add_branches-returns-clause-made t c =

@@ -7,7 +7,7 @@ use Rattle.clause_normal.specs.NormalForm.{goals_fault, branches_fault}
 use Rattle.clause_normal.specs.OutlineViews.{goal_of, branches_in, outline_goals, GoalIsBelow, OutlinesAreBelow}
 use Rattle.clause_normal.specs.Rules.{below, branch_rules, choice_call, choices, inner, within}
 use Rattle.clause_normal.specs.RuleViews.{rule_of}
-use Rattle.clause_normal.specs.Tallies.{AreNone}
+use Rattle.clause_normal.specs.Occurring.{HasSize}
 use Rattle.clause_normal.proofs.FitLemmas.{goals_work, goal_work, branches_work}
 use Rattle.clause_normal.proofs.making.+making.Given as goal
 
@@ -25,7 +25,7 @@ decreases-add_branches l = branches_work (branches_in l.branches.now l.args.now)
 
 abbrev pub invariant-add_below-goals : goal.invariant-add_below-goals
 invariant-add_below-goals l =
-    let vars = length l.fn.tallies.clause.counts.items in
+    let vars = length l.fn.places.firsts.items in
     let row : List CodeGoal → Goals = λ gs. goals_row (map goal_of gs) in
     let left = drop l.goal-index l.goals in
     record {
@@ -34,13 +34,13 @@ invariant-add_below-goals l =
       after : l.after + inner (row left) ≡ l.next + inner (row l.goals);
       number : l.number + choices (row left) ≡ l.first + choices (row l.goals);
       rest : AllByRecursion (GoalIsBelow vars) left;
-      none : AreNone vars l.tallies;
+      size : HasSize vars l.places;
       smaller : goals_work (row left) ≤ goals_work (row l.goals);
     }
 
 abbrev pub invariant-add_branches-branches : goal.invariant-add_branches-branches
 invariant-add_branches-branches l =
-    let vars = length l.fn.tallies.clause.counts.items in
+    let vars = length l.fn.places.firsts.items in
     let head = choice_call l.number l.args in
     let row : List CodeOutline → Branches = λ os. branches_in os l.args in
     let left = drop l.branch-index l.branches in
@@ -49,6 +49,6 @@ invariant-add_branches-branches l =
       made : map rule_of l.made.items ++ branch_rules head l.after (row left) ≡ map rule_of l.fn.made.items ++ branch_rules head l.next (row l.branches);
       after : l.after + within (row left) ≡ l.next + within (row l.branches);
       rest : OutlinesAreBelow vars left;
-      none : AreNone vars l.tallies;
+      size : HasSize vars l.places;
       smaller : branches_work (row left) ≤ branches_work (row l.branches);
     }

@@ -1,4 +1,4 @@
-use Rattle.std.proofs.Common.{◌≡◌, ◌<◌, ◌++◌, ◌∙◌, ℕ, List, sym, ap, subst, append_assoc, arith}
+use Rattle.std.proofs.Common.{◌≡◌, ◌<◌, ◌++◌, ◌∙◌, ℕ, List, sym, ap, subst, append_assoc, append-nil, arith}
 use Rattle.std.specs.List.{AllByRecursion}
 use Rattle.std.proofs.lemmas.List.{append_cancel_left, append_cancel_right}
 use Rattle.prolog_terms.specs.Terms.{tree_of}
@@ -6,12 +6,12 @@ use Rattle.clause_normal.specs.Bodies.{Goals, Branches, joined, joined_branches,
 use Rattle.clause_normal.specs.declared.outline.Outline.{Outline, roll-Outline}
 use Rattle.clause_normal.specs.declared.outline.Piece.{Piece}
 use Rattle.clause_normal.specs.declared.outline.Piece.TheVariants.{Plain, Either}
-use Rattle.clause_normal.specs.OutlineViews.{goals_in, branches_in, PiecesAreBelow, OutlinesAreBelow}
+use Rattle.clause_normal.specs.OutlineViews.{goals_in, own_in, branches_in, PiecesAreBelow, OutlinesAreBelow}
 use Rattle.clause_normal.specs.Terms.{occurrences}
 use Rattle.clause_normal.specs.Views.{goals_of, branches_of}
 use Rattle.clause_normal.proofs.BodyLemmas.{branches_assoc, joined_assoc, joined_none, not_either, some_node}
 use Rattle.clause_normal.proofs.ListLemmas.{all_back, all_front}
-use Rattle.clause_normal.proofs.OutlineLemmas.{either_below, either_goal, made_below, made_goals, on_ok, plain_below, plain_goal, branches_push, goals_push, outlines_push, pieces_push}
+use Rattle.clause_normal.proofs.OutlineLemmas.{either_below, either_goal, either_own, own_push, plain_own, made_below, made_goals, on_ok, plain_below, plain_goal, branches_push, goals_push, outlines_push, pieces_push}
 use Rattle.clause_normal.proofs.outlining.+outlining.Goals as goal
 
 -- a disjunction
@@ -47,6 +47,18 @@ add_disjunction-returns-clause-goals t c = λ all.
     ap (λ (ps : List Piece). goals_in ps all) c.in_ok-push.ensures.items
     ∙ goals_push old (Either c.args.at own os) all
     ∙ ap (λ g. joined (goals_in old all) (one_goal g)) (either_goal c.args.at own os (l ++ r) sides all own_is both)
+
+pub add_disjunction-returns-clause-own : goal.add_disjunction-returns-clause-own
+add_disjunction-returns-clause-own t c =
+    let l = occurrences (tree_of c.args.left.now) in
+    let r = occurrences (tree_of c.args.right.now) in
+    let rest = c.in_ok-rest.rest.now in
+    let own = c.before-2.result in
+    let os = c.add_outlines-2.new.outlines in
+    let old = c.args.pieces.now.items in
+    let all_are : c.args.variables.now ≡ (l ++ r) ++ rest = c.in_ok-middle.ensures.rest ∙ ap (λ (xs : List ℕ). l ++ xs) c.in_ok-rest.ensures.rest ∙ sym (append_assoc l r rest) in
+    ap own_in c.in_ok-push.ensures.items ∙ own_push old (Either c.args.at own os)
+    ∙ ap (λ (xs : List ℕ). own_in old ++ xs) (either_own c.args.at own os ∙ append_cancel_right own.now (l ++ r) rest (sym c.before-2.ensures ∙ all_are))
 
 pub add_disjunction-returns-clause-below : goal.add_disjunction-returns-clause-below
 add_disjunction-returns-clause-below t c = λ vars a h.
@@ -115,12 +127,10 @@ pub add_outlines-returns-in_ok-push : goal.add_outlines-returns-in_ok-push
 add_outlines-returns-in_ok-push t c =
     let names = c.args.names.now in
     let body = c.args.body.now in
-    let own = c.before-in_default.result in
     let ps = c.add_pieces.new.pieces in
-    let o : Outline = roll-Outline (record { own = own; pieces = ps }) in
+    let o : Outline = roll-Outline (record { pieces = ps }) in
     let old = c.args.outlines.now.items in
-    let rest = c.in_ok-rest-2.rest.now in
-    let own_is : own.now ≡ occurrences (tree_of body) = append_cancel_right own.now (occurrences (tree_of body)) rest (sym c.before-in_default.ensures ∙ c.in_ok-rest-2.ensures.rest) in
+    let own : own_in ps.items ≡ occurrences (tree_of body) = c.in_ok-rest-2.ensures.own ∙ ap (λ (ps : List Piece). own_in ps ++ occurrences (tree_of body)) c.new-pieces.ensures.items in
     let goals : (all : List ℕ) → goals_in ps.items all ≡ goals_of names body all =
     λ all. c.in_ok-rest-2.ensures.goals all ∙ ap (λ (ps : List Piece). joined (goals_in ps all) (goals_of names body all)) c.new-pieces.ensures.items in
     let one = not_either names body c.part_of.result c.in_default.not-Either c.part_of.ensures.part in
@@ -129,14 +139,11 @@ add_outlines-returns-in_ok-push t c =
       branches = λ args.
           ap (λ (os : List Outline). branches_in os args) c.in_ok-push.ensures.items
           ∙ branches_push old o args
-          ∙ ap (λ (gs : Goals). joined_branches (branches_in old args) (one_branch gs)) (made_goals own ps args ∙ ap (λ (xs : List ℕ). goals_in ps.items (args ++ xs)) own_is ∙ goals (args ++ occurrences (tree_of body)))
+          ∙ ap (λ (gs : Goals). joined_branches (branches_in old args) (one_branch gs)) (made_goals ps args ∙ ap (λ (xs : List ℕ). goals_in ps.items (args ++ xs)) own ∙ goals (args ++ occurrences (tree_of body)))
           ∙ ap (joined_branches (branches_in old args)) (sym (one args));
       below = λ vars a k.
-          let P : ℕ → Type 0 = λ x. x < vars in
-          let A : List ℕ → Type 0 = λ xs. AllByRecursion P xs in
-          let front = all_front P own.now rest (subst A c.before-in_default.ensures a) in
           let pieces = c.in_ok-rest-2.ensures.below vars a (subst (PiecesAreBelow vars) (sym c.new-pieces.ensures.items) tt) in
-          subst (OutlinesAreBelow vars) (sym c.in_ok-push.ensures.items) (outlines_push vars old o k (made_below own ps vars front pieces));
+          subst (OutlinesAreBelow vars) (sym c.in_ok-push.ensures.items) (outlines_push vars old o k (made_below ps vars pieces));
     }
 
 -- goals
@@ -189,6 +196,17 @@ add_pieces-returns-in_ok-rest-in-Both-clause-goals t c =
     ∙ joined_assoc (goals_in old all) (L all) (R all) ∙ ap (joined (goals_in old all)) (sym (c.in-Both.ensures.part.0 all)))
     c.add_pieces-in-Both.ensures.goals
 
+pub add_pieces-returns-in_ok-rest-in-Both-clause-own : goal.add_pieces-returns-in_ok-rest-in-Both-clause-own
+add_pieces-returns-in_ok-rest-in-Both-clause-own t c =
+    let old = c.args.pieces.now.items in
+    let last = c.add_pieces-in-Both.new.pieces.items in
+    let middle = c.add_pieces.new.pieces.items in
+    let l = occurrences (tree_of c.in-Both.left.now) in
+    let r = occurrences (tree_of c.in-Both.right.now) in
+    on_ok c.add_pieces-in-Both.result (own_in last ≡ own_in middle ++ r) (own_in last ≡ own_in old ++ occurrences (tree_of c.args.body.now))
+    (λ h. h ∙ ap (λ (xs : List ℕ). xs ++ r) c.in_ok-rest-in-Both.ensures.own ∙ append_assoc (own_in old) l r ∙ ap (λ (xs : List ℕ). own_in old ++ xs) (sym c.in-Both.ensures.own))
+    c.add_pieces-in-Both.ensures.own
+
 pub add_pieces-returns-in_ok-rest-in-Both-clause-below : goal.add_pieces-returns-in_ok-rest-in-Both-clause-below
 add_pieces-returns-in_ok-rest-in-Both-clause-below t c =
     let old = c.args.pieces.now.items in
@@ -203,6 +221,11 @@ add_pieces-returns-in_ok-rest-in-Both-clause-below t c =
     h vars (all_back P l c.in_ok-rest-in-Both.rest.now (subst A c.in_ok-rest-in-Both.ensures.rest a)) (c.in_ok-rest-in-Both.ensures.below vars a k))
     c.add_pieces-in-Both.ensures.below
 
+pub add_pieces-returns-in-Nothing-clause-own : goal.add_pieces-returns-in-Nothing-clause-own
+add_pieces-returns-in-Nothing-clause-own t c =
+    let old = own_in c.args.pieces.now.items in
+    sym (ap (λ (xs : List ℕ). old ++ xs) c.in-Nothing.ensures.own ∙ append-nil old)
+
 pub add_pieces-returns-in-Nothing-clause-goals : goal.add_pieces-returns-in-Nothing-clause-goals
 add_pieces-returns-in-Nothing-clause-goals t c = λ all.
     let old = c.args.pieces.now.items in
@@ -212,13 +235,27 @@ pub add_pieces-returns-in_ok-push-in-Goal-clause-goals : goal.add_pieces-returns
 add_pieces-returns-in_ok-push-in-Goal-clause-goals t c = λ all.
     let old = c.args.pieces.now.items in
     let i = c.in-Goal.item in
+    let own = c.before-in-Goal.result in
     ap (λ (ps : List Piece). goals_in ps all) c.in_ok-push-in-Goal.ensures.items
-    ∙ goals_push old (Plain i) all
-    ∙ ap (λ g. joined (goals_in old all) (one_goal g)) (plain_goal i all)
+    ∙ goals_push old (Plain i own) all
+    ∙ ap (λ g. joined (goals_in old all) (one_goal g)) (plain_goal i own all)
     ∙ ap (joined (goals_in old all)) (sym (c.in-Goal.ensures.part.0 all))
+
+pub add_pieces-returns-in_ok-push-in-Goal-clause-own : goal.add_pieces-returns-in_ok-push-in-Goal-clause-own
+add_pieces-returns-in_ok-push-in-Goal-clause-own t c =
+    let old = c.args.pieces.now.items in
+    let i = c.in-Goal.item in
+    let own = c.before-in-Goal.result in
+    let t = occurrences (tree_of c.args.body.now) in
+    ap own_in c.in_ok-push-in-Goal.ensures.items ∙ own_push old (Plain i own)
+    ∙ ap (λ (xs : List ℕ). own_in old ++ xs) (plain_own i own ∙ append_cancel_right own.now t c.in_ok-rest-in-Goal.rest.now (sym c.before-in-Goal.ensures ∙ c.in_ok-rest-in-Goal.ensures))
 
 pub add_pieces-returns-in_ok-push-in-Goal-clause-below : goal.add_pieces-returns-in_ok-push-in-Goal-clause-below
 add_pieces-returns-in_ok-push-in-Goal-clause-below t c = λ vars a h.
+    let P : ℕ → Type 0 = λ x. x < vars in
+    let A : List ℕ → Type 0 = λ xs. AllByRecursion P xs in
     let old = c.args.pieces.now.items in
     let i = c.in-Goal.item in
-    subst (PiecesAreBelow vars) (sym c.in_ok-push-in-Goal.ensures.items) (pieces_push vars old (Plain i) h (plain_below vars i))
+    let own = c.before-in-Goal.result in
+    let front = all_front P own.now c.in_ok-rest-in-Goal.rest.now (subst A c.before-in-Goal.ensures a) in
+    subst (PiecesAreBelow vars) (sym c.in_ok-push-in-Goal.ensures.items) (pieces_push vars old (Plain i own) h (plain_below i own vars front))

@@ -5,4 +5,4 @@ use Rattle.clause_normal.proofs.outlining.outlined.Goals as goal
 
 pub returns-clause-below : goal.returns-clause-below
 returns-clause-below c = λ vars a.
-    made_below c.args.variables c.add_pieces.new.pieces vars a (c.in_ok-add_pieces.ensures.below vars a (subst (PiecesAreBelow vars) (sym c.new-pieces.ensures.items) tt))
+    made_below c.add_pieces.new.pieces vars (c.in_ok-add_pieces.ensures.below vars a (subst (PiecesAreBelow vars) (sym c.new-pieces.ensures.items) tt))

@@ -1,6 +1,0 @@
-use Rattle.std.proofs.Common.{drop, length}
-use Rattle.clause_normal.specs.Counts.{AreCounts}
-use Rattle.clause_normal.proofs.tally.Tally.remove.Given as goal
-
-abbrev pub invariant-loop-x : goal.invariant-loop-x
-invariant-loop-x l = AreCounts (length l.fn.self.counts.items) (drop l.x-index l.variables) l.self.counts.items
