@@ -26,7 +26,8 @@ fn shared(
 ) -> Result<Vec<u32>, AllocError>
     requires firsts { AllByRecursion (λ x. x < length places.now.firsts.items) own.now }
     requires ends { AllByRecursion (λ x. x < length places.now.ends.items) own.now }
-    ensures { IfOk result (λ v. v.items ≡ filter (λ x. nat_lt (slice_index places.now.firsts.items x) start || nat_lt end (slice_index places.now.ends.items x)) own.now) }
+    ensures { IfOk result (λ v. v.items
+        ≡ filter (λ x. nat_lt (slice_index places.now.firsts.items x) start || nat_lt end (slice_index places.now.ends.items x)) own.now) }
 {
     let mut shared = Vec::new(alloc);
     for x in own {
@@ -50,9 +51,11 @@ fn choice_goal<'a, 'v, 'o>(
     requires room { start + length own.now < 2 ^ 64 }
     requires size { HasSize (length places.now.firsts.items) places.now }
     requires below { AllByRecursion (λ x. x < length places.now.firsts.items) own.now }
-    ensures goal { IfOk result (λ g. (earlier later : List ℕ) → length earlier ≡ start → AreNoted (earlier ++ (own.now ++ later)) places.now
+    ensures goal { IfOk result (λ g. (earlier later : List ℕ) → length earlier ≡ start
+        → AreNoted (earlier ++ (own.now ++ later)) places.now
         → goal_of g ≡ choice_goal at (arguments (earlier ++ (own.now ++ later)) own.now) (branches_in branches.now.items)) }
-    ensures below { IfOk result (λ g. OutlinesAreBelow (length places.now.firsts.items) branches.now.items → GoalIsBelow (length places.now.firsts.items) g) }
+    ensures below { IfOk result (λ g. OutlinesAreBelow (length places.now.firsts.items) branches.now.items
+        → GoalIsBelow (length places.now.firsts.items) g) }
 {
     let shared = shared(alloc, places, start, start + own.len(), own)?;
     match firsts(alloc, &shared, MOST_ARGUMENTS as usize)? {
@@ -71,7 +74,8 @@ fn goal<'a, 'v, 'o>(
     requires room { start + length (piece_own (piece_of piece.now)) < 2 ^ 64 }
     requires size { HasSize (length places.now.firsts.items) places.now }
     requires below { PieceIsBelow (length places.now.firsts.items) piece.now }
-    ensures goal { IfOk result (λ g. (earlier later : List ℕ) → length earlier ≡ start → AreNoted (earlier ++ (piece_own (piece_of piece.now) ++ later)) places.now
+    ensures goal { IfOk result (λ g. (earlier later : List ℕ) → length earlier ≡ start
+        → AreNoted (earlier ++ (piece_own (piece_of piece.now) ++ later)) places.now
         → goal_of g ≡ piece_goal (piece_of piece.now) (earlier ++ (piece_own (piece_of piece.now) ++ later))) }
     ensures below { IfOk result (λ g. GoalIsBelow (length places.now.firsts.items) g) }
 {

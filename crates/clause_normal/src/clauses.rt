@@ -140,7 +140,8 @@ fn add_with_variables<'a, 'v>(
     requires args { AllByRecursion (λ x. x < vars) args.now }
     requires own { own.now ≡ occurrences (tree_of body.now) }
     ensures { let goals = goals_of names.now body.now (args.now ++ occurrences (tree_of body.now)) in
-        AnswersMade (goals_fault goals) (map rule_of made.old.items ++ rules next (call_of call.entry) goals) (after next goals) (map rule_of made.new.items) result }
+        let made_then = map rule_of made.old.items ++ rules next (call_of call.entry) goals in
+        AnswersMade (goals_fault goals) made_then (after next goals) (map rule_of made.new.items) result }
 {
     let outline = outlined(alloc, names, body, own)?;
     let mut places = Places::new(alloc, vars)?;
@@ -163,7 +164,8 @@ fn add_body<'a>(
     requires head { IsTermFit (length names.now) vars head.now }
     requires body { IsTermFit (length names.now) vars body.now }
     ensures { let goals = goals_of names.now body.now (occurrences (tree_of head.now) ++ occurrences (tree_of body.now)) in
-        AnswersMade (goals_fault goals) (map rule_of made.old.items ++ rules next (call_of call.entry) goals) (after next goals) (map rule_of made.new.items) result }
+        let made_then = map rule_of made.old.items ++ rules next (call_of call.entry) goals in
+        AnswersMade (goals_fault goals) made_then (after next goals) (map rule_of made.new.items) result }
 {
     let args = term_variables(alloc, head)?;
     let own = term_variables(alloc, body)?;

@@ -39,7 +39,8 @@ fn add_rule<'a>(
     goals: &[Goal<'a, '_, '_>],
 ) -> Result<u64, AllocError>
     requires { first + choices (goals_row (map goal_of goals.now)) + 1 < 2 ^ 64 }
-    ensures rule { OnOk result (map rule_of made.new.items ≡ map rule_of made.old.items ++ record { head = call_of head.entry; body = calls first (goals_row (map goal_of goals.now)) } ∷ []) }
+    ensures rule { OnOk result (map rule_of made.new.items ≡ map rule_of made.old.items
+        ++ record { head = call_of head.entry; body = calls first (goals_row (map goal_of goals.now)) } ∷ []) }
     ensures next { IfOk result (λ n. n ≡ first + choices (goals_row (map goal_of goals.now))) }
 {
     let level = level_of(alloc, first, goals)?;
@@ -67,8 +68,9 @@ pub(crate) fn add_rules<'a, 'v, 'o>(
     requires body { OutlineIsBelow (length places.old.firsts.items) body.now }
     requires size { HasSize (length places.old.firsts.items) places.old }
     ensures size { OnOk result (HasSize (length places.old.firsts.items) places.new) }
-    ensures made { AnswersMade (goals_fault (outline_goals body.now args.now)) (map rule_of made.old.items ++ rules first (call_of head.entry) (outline_goals body.now args.now))
-        (after first (outline_goals body.now args.now)) (map rule_of made.new.items) result }
+    ensures made { let goals = outline_goals body.now args.now in
+        let made_then = map rule_of made.old.items ++ rules first (call_of head.entry) goals in
+        AnswersMade (goals_fault goals) made_then (after first goals) (map rule_of made.new.items) result }
 {
     let goals = body_goals(alloc, places, args, body)?;
     let next = add_rule(alloc, made, first, head, &goals)?;
@@ -91,8 +93,9 @@ fn add_below<'a, 'v, 'o>(
     requires goals { AllByRecursion (GoalIsBelow (length places.old.firsts.items)) goals.now }
     requires size { HasSize (length places.old.firsts.items) places.old }
     ensures size { OnOk result (HasSize (length places.old.firsts.items) places.new) }
-    ensures made { AnswersMade (goals_fault (goals_row (map goal_of goals.now))) (map rule_of made.old.items ++ below first next (goals_row (map goal_of goals.now)))
-        (next + inner (goals_row (map goal_of goals.now))) (map rule_of made.new.items) result }
+    ensures made { let row = goals_row (map goal_of goals.now) in
+        let made_then = map rule_of made.old.items ++ below first next row in
+        AnswersMade (goals_fault row) made_then (next + inner row) (map rule_of made.new.items) result }
 {
     let mut number = first;
     let mut after = next;
@@ -121,8 +124,8 @@ fn add_goal<'a, 'v, 'o>(
     requires goal { GoalIsBelow (length places.old.firsts.items) goal.now }
     requires size { HasSize (length places.old.firsts.items) places.old }
     ensures size { OnOk result (HasSize (length places.old.firsts.items) places.new) }
-    ensures made { AnswersMade (goal_fault (goal_of goal.now)) (map rule_of made.old.items ++ below_at number next (goal_of goal.now))
-        (next + inner_at (goal_of goal.now)) (map rule_of made.new.items) result }
+    ensures made { let made_then = map rule_of made.old.items ++ below_at number next (goal_of goal.now) in
+        AnswersMade (goal_fault (goal_of goal.now)) made_then (next + inner_at (goal_of goal.now)) (map rule_of made.new.items) result }
 {
     match goal {
         Goal::Item(Item::Call(_, _)) => Ok(next),
@@ -153,8 +156,9 @@ fn add_branches<'a, 'v, 'o>(
     requires branches { OutlinesAreBelow (length places.old.firsts.items) branches.now }
     requires size { HasSize (length places.old.firsts.items) places.old }
     ensures size { OnOk result (HasSize (length places.old.firsts.items) places.new) }
-    ensures made { AnswersMade (branches_fault (branches_in branches.now args.now)) (map rule_of made.old.items ++ branch_rules (choice_call number args.now) next (branches_in branches.now args.now))
-        (next + within (branches_in branches.now args.now)) (map rule_of made.new.items) result }
+    ensures made { let row = branches_in branches.now args.now in
+        let made_then = map rule_of made.old.items ++ branch_rules (choice_call number args.now) next row in
+        AnswersMade (branches_fault row) made_then (next + within row) (map rule_of made.new.items) result }
 {
     let mut after = next;
     'branches: for branch in branches {

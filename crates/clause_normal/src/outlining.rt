@@ -1,4 +1,4 @@
-//! Taking bodies apart. A term is gone through once, and a part of the list of its variables is that of each of its terms.
+//! Taking bodies apart. The goals are gone through once, and the variables of each are a part of one list.
 
 ghost use Rattle.std.specs.Prelude.{◌≡◌, ◌<◌, ◌++◌, ℕ, IsTrue, List, length, IfOk, OnOk};
 ghost use Rattle.std.specs.List.{AllByRecursion};
@@ -49,9 +49,11 @@ fn add_pieces<'a, 'v>(
     requires known { IsTrue (is_known (length names.now) (tree_of body.now)) }
     requires variables { (rest : List ℕ) × (variables.now ≡ occurrences (tree_of body.now) ++ rest) }
     ensures rest { IfOk result (λ rest. variables.now ≡ occurrences (tree_of body.now) ++ rest.now) }
-    ensures goals { OnOk result ((all : List ℕ) → goals_in pieces.new.items all ≡ joined (goals_in pieces.old.items all) (goals_of names.now body.now all)) }
+    ensures goals { OnOk result ((all : List ℕ) → goals_in pieces.new.items all
+        ≡ joined (goals_in pieces.old.items all) (goals_of names.now body.now all)) }
     ensures own { OnOk result (own_in pieces.new.items ≡ own_in pieces.old.items ++ occurrences (tree_of body.now)) }
-    ensures below { OnOk result ((vars : ℕ) → AllByRecursion (λ x. x < vars) variables.now → PiecesAreBelow vars pieces.old.items → PiecesAreBelow vars pieces.new.items) }
+    ensures below { OnOk result ((vars : ℕ) → AllByRecursion (λ x. x < vars) variables.now
+        → PiecesAreBelow vars pieces.old.items → PiecesAreBelow vars pieces.new.items) }
 {
     match part_of(names, body) {
         Part::Both(left, right) => {
@@ -86,9 +88,12 @@ fn add_disjunction<'a, 'v>(
     requires variables { (rest : List ℕ) × (variables.now ≡ occurrences (tree_of left.now) ++ (occurrences (tree_of right.now) ++ rest)) }
     ensures rest { IfOk result (λ rest. variables.now ≡ occurrences (tree_of left.now) ++ (occurrences (tree_of right.now) ++ rest.now)) }
     ensures goals { OnOk result ((all : List ℕ) → goals_in pieces.new.items all ≡ joined (goals_in pieces.old.items all)
-        (one_goal (choice_goal at (arguments all (occurrences (tree_of left.now) ++ occurrences (tree_of right.now))) (λ args. joined_branches (branches_of names.now left.now args) (branches_of names.now right.now args))))) }
-    ensures own { OnOk result (own_in pieces.new.items ≡ own_in pieces.old.items ++ (occurrences (tree_of left.now) ++ occurrences (tree_of right.now))) }
-    ensures below { OnOk result ((vars : ℕ) → AllByRecursion (λ x. x < vars) variables.now → PiecesAreBelow vars pieces.old.items → PiecesAreBelow vars pieces.new.items) }
+        (one_goal (choice_goal at (arguments all (occurrences (tree_of left.now) ++ occurrences (tree_of right.now)))
+        (λ args. joined_branches (branches_of names.now left.now args) (branches_of names.now right.now args))))) }
+    ensures own { OnOk result (own_in pieces.new.items
+        ≡ own_in pieces.old.items ++ (occurrences (tree_of left.now) ++ occurrences (tree_of right.now))) }
+    ensures below { OnOk result ((vars : ℕ) → AllByRecursion (λ x. x < vars) variables.now
+        → PiecesAreBelow vars pieces.old.items → PiecesAreBelow vars pieces.new.items) }
 {
     let mut branches = Vec::new(alloc);
     let middle = add_outlines(alloc, names, left, variables, &mut branches)?;
@@ -97,7 +102,8 @@ fn add_disjunction<'a, 'v>(
     Ok(rest)
 }
 
-/// Adds the branches of a disjunction, which is one or none. Their variables are the first of these, and the others are answered.
+/// Adds the branches that a body is in a disjunction: those of its sides where it is one itself, and else the body alone. Their
+/// variables are the first of these, and the others are answered.
 #[cycle(outlining)]
 fn add_outlines<'a, 'v>(
     alloc: Global,
@@ -109,8 +115,10 @@ fn add_outlines<'a, 'v>(
     requires known { IsTrue (is_known (length names.now) (tree_of body.now)) }
     requires variables { (rest : List ℕ) × (variables.now ≡ occurrences (tree_of body.now) ++ rest) }
     ensures rest { IfOk result (λ rest. variables.now ≡ occurrences (tree_of body.now) ++ rest.now) }
-    ensures branches { OnOk result ((args : List ℕ) → branches_in outlines.new.items args ≡ joined_branches (branches_in outlines.old.items args) (branches_of names.now body.now args)) }
-    ensures below { OnOk result ((vars : ℕ) → AllByRecursion (λ x. x < vars) variables.now → OutlinesAreBelow vars outlines.old.items → OutlinesAreBelow vars outlines.new.items) }
+    ensures branches { OnOk result ((args : List ℕ) → branches_in outlines.new.items args
+        ≡ joined_branches (branches_in outlines.old.items args) (branches_of names.now body.now args)) }
+    ensures below { OnOk result ((vars : ℕ) → AllByRecursion (λ x. x < vars) variables.now
+        → OutlinesAreBelow vars outlines.old.items → OutlinesAreBelow vars outlines.new.items) }
 {
     if let Part::Either(left, right) = part_of(names, body) {
         let rest = add_outlines(alloc, names, left, variables, outlines)?;
@@ -132,7 +140,8 @@ pub(crate) fn outlined<'a, 'v>(
 ) -> Result<Outline<'a, 'v>, AllocError>
     requires known { IsTrue (is_known (length names.now) (tree_of body.now)) }
     requires variables { variables.now ≡ occurrences (tree_of body.now) }
-    ensures goals { IfOk result (λ o. (args : List ℕ) → outline_goals o args ≡ goals_of names.now body.now (args ++ occurrences (tree_of body.now))) }
+    ensures goals { IfOk result (λ o. (args : List ℕ) → outline_goals o args
+        ≡ goals_of names.now body.now (args ++ occurrences (tree_of body.now))) }
     ensures below { IfOk result (λ o. (vars : ℕ) → AllByRecursion (λ x. x < vars) variables.now → OutlineIsBelow vars o) }
 {
     let mut pieces = Vec::new(alloc);
