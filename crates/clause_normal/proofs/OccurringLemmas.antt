@@ -1,10 +1,9 @@
 -- Lemmas on where the variables of a list occur.
-use Rattle.std.proofs.Common.{◌≡◌, ℕ, zero, suc, ◌+◌, ◌<◌, ◌≤◌, ◌||◌, Bool, true, false, nat_eq, nat_lt, List, [], ◌∷◌, ◌++◌, length, get_or, drop, take, slice_index, cond, refl, ap, sym, subst, ◌∙◌, append_assoc, arith, length-append}
+use Rattle.std.proofs.Common.{◌≡◌, ℕ, ◌+◌, ◌<◌, ◌≤◌, ◌||◌, Bool, true, false, nat_eq, nat_lt, List, [], ◌∷◌, ◌++◌, length, get_or, drop, take, slice_index, cond, refl, ap, sym, ◌∙◌, append_assoc, arith, length-append}
 use Rattle.std.specs.List.{AllByRecursion, filter}
 use Rattle.std.proofs.lemmas.Bool.{eqb-true, eqb-false, ltb-true, ltb-false, lt-ltb, le-ltb}
-use Rattle.std.proofs.lemmas.List.{get_or-set_same, get_or-set_other, take_all, take_at, take-append-drop, take-take}
+use Rattle.std.proofs.lemmas.List.{take_all, take_at, take-append-drop, take-take}
 use Rattle.std.proofs.lemmas.List.Sums.{sum_by-append, count_by_more_yes, count_by_more_no}
-use Rattle.std.specs.List.{count_by}
 use Rattle.clause_normal.specs.Bodies.{arguments, count}
 use Rattle.clause_normal.specs.Occurring.{AreEnds, AreFirsts, AreNoted, count_to}
 use Rattle.clause_normal.specs.declared.places.Places.{Places}

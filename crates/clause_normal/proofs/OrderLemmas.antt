@@ -1,5 +1,5 @@
 -- Lemmas on numbers in the order of their first occurrence.
-use Rattle.std.proofs.Common.{◌≡◌, ℕ, ◌+◌, ◌<◌, ◌≤◌, Bool, true, false, cond, nat_eq, List, [], ◌∷◌, ◌++◌, length, get_or, drop, refl, ap, sym, arith, length-append, eq-eqb, subst}
+use Rattle.std.proofs.Common.{◌≡◌, ℕ, ◌+◌, ◌<◌, ◌≤◌, ◌∙◌, ◌&&◌, not, Bool, true, false, cond, nat_eq, List, [], ◌∷◌, ◌++◌, length, get_or, drop, refl, ap, sym, arith, length-append, eq-eqb, subst}
 use Rattle.std.specs.List.{count_by, filter, AllByRecursion}
 use Rattle.clause_normal.proofs.ListLemmas.{all_push}
 use Rattle.std.proofs.lemmas.List.Sums.{sum_by-cons}
@@ -60,3 +60,30 @@ all_filter P p (y ∷ ys) h = by_test (all_filter P p ys h.1) (p y) refl
     by_test : AllByRecursion P (filter p ys) → (b : Bool) → p y ≡ b → AllByRecursion P (filter p (y ∷ ys))
     by_test rest true e = rw e (h.0, rest)
     by_test rest false e = rw e rest
+
+-- one number more, which passes a test and is new, or does not
+module _ (p : ℕ → Bool) (order xs : List ℕ) (i : ℕ) (lt : i < length xs) where
+  abbrev next : ℕ
+  next = get_or xs i 0
+
+  abbrev rest : List ℕ
+  rest = drop (i + 1) xs
+
+  step : (b c : Bool) → p next ≡ b → is_among order next ≡ c → (b && not c) ≡ false → with_numbers order (filter p (next ∷ rest)) ≡ with_numbers order (filter p rest)
+  step true true d e h = rw d (ap (λ (ys : List ℕ). with_numbers ys (filter p rest)) (with_number_true order next e))
+  step true false d e h = absurd (cc h)
+  step false c d e h = rw d refl
+
+  more : (b c : Bool) → p next ≡ b → is_among order next ≡ c → (b && not c) ≡ true → with_numbers order (filter p (next ∷ rest)) ≡ with_numbers (order ++ next ∷ []) (filter p rest)
+  more true true d e h = absurd (cc h)
+  more true false d e h = rw d (ap (λ (ys : List ℕ). with_numbers ys (filter p rest)) (with_number_false order next e))
+  more false c d e h = absurd (cc h)
+
+  pub skip_one : (p next && not (is_among order next)) ≡ false → with_numbers order (filter p (drop i xs)) ≡ with_numbers order (filter p rest)
+  skip_one h = at_drop_more (λ (ys : List ℕ). with_numbers order (filter p ys)) xs i 0 lt ∙ step (p next) (is_among order next) refl refl h
+
+  pub take_one : (p next && not (is_among order next)) ≡ true → with_numbers order (filter p (drop i xs)) ≡ with_numbers (order ++ next ∷ []) (filter p rest)
+  take_one h = at_drop_more (λ (ys : List ℕ). with_numbers order (filter p ys)) xs i 0 lt ∙ more (p next) (is_among order next) refl refl h
+
+  pub one_more : (p next && not (is_among order next)) ≡ true → length order < length (with_numbers order (filter p (drop i xs)))
+  one_more h = omega (arith, ap length (take_one h), with_numbers_grows (order ++ next ∷ []) (filter p rest), length-append order (next ∷ []))

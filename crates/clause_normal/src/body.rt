@@ -1,41 +1,55 @@
 //! The goals of a body, with the arguments of its disjunctions' predicates.
 
-ghost use Rattle.std.specs.Prelude.{◌≡◌, ◌<◌, ◌+◌, ◌++◌, ◌^◌, ◌||◌, ℕ, List, length, map, filter, nat_lt, slice_index, IfOk, OnOk};
+ghost use Rattle.std.specs.Prelude.{◌≡◌, ◌<◌, ◌+◌, ◌++◌, ◌^◌, ◌&&◌, ◌||◌, ◌≤◌, ℕ, List, length, map, filter, nat_lt, not, slice_index, IfOk, MatchOption, OnOk};
 ghost use Rattle.std.specs.List.{AllByRecursion};
 ghost use Rattle.clause_normal.specs.Bodies.{arguments, choice_goal, goals_row};
 ghost use Rattle.clause_normal.specs.Outlines.{piece_goal, piece_own};
 ghost use Rattle.clause_normal.specs.OutlineViews.{piece_of, goal_of, goals_in, own_in, branches_in, outline_goals, GoalIsBelow, OutlineIsBelow, OutlinesAreBelow, PieceIsBelow, PiecesAreBelow};
 ghost use Rattle.clause_normal.specs.Occurring.{AreNoted, HasSize};
+ghost use Rattle.clause_normal.specs.Terms.{firsts, is_among};
 
 use crate::fault::NormKind;
 use crate::goal::Goal;
-use crate::order::firsts;
+use crate::order::is_among;
 use crate::outline::{Outline, Piece};
 use crate::part::Item;
 use crate::places::Places;
 use cti_terms::MOST_ARGUMENTS;
 use std::alloc::{AllocError, Global};
 
-/// Those of these variables that occur before a place, or from another on.
+/// Whether a variable occurs before a place, or from another on, and is not among these.
+fn is_new(places: &Places, start: usize, end: usize, order: &[u32], x: u32) -> bool
+    requires firsts { x < length places.now.firsts.items }
+    requires ends { x < length places.now.ends.items }
+    ensures { result ≡ ((nat_lt (slice_index places.now.firsts.items x) start || nat_lt end (slice_index places.now.ends.items x)) && not (is_among order.now x)) }
+{
+    places.is_outside(x, start, end) && !is_among(order, x)
+}
+
+/// Those of these variables that occur before a place, or from another on, each once in order of first occurrence, where these are no
+/// more than a predicate has arguments.
 fn shared(
     alloc: Global,
     places: &Places,
     start: usize,
     end: usize,
     own: &[u32],
-) -> Result<Vec<u32>, AllocError>
+) -> Result<Option<Vec<u32>>, AllocError>
     requires firsts { AllByRecursion (λ x. x < length places.now.firsts.items) own.now }
     requires ends { AllByRecursion (λ x. x < length places.now.ends.items) own.now }
-    ensures { IfOk result (λ v. v.items
-        ≡ filter (λ x. nat_lt (slice_index places.now.firsts.items x) start || nat_lt end (slice_index places.now.ends.items x)) own.now) }
+    ensures { let shared = filter (λ x. nat_lt (slice_index places.now.firsts.items x) start || nat_lt end (slice_index places.now.ends.items x)) own.now in
+        IfOk result (λ order. MatchOption order (12 < length (firsts shared)) (λ v. (v.items ≡ firsts shared) × (length v.items ≤ 12))) }
 {
-    let mut shared = Vec::new(alloc);
-    for x in own {
-        if places.is_outside(*x, start, end) {
-            shared.push(*x)?;
+    let mut order = Vec::new(alloc);
+    'own: for x in own {
+        if is_new(places, start, end, &order, *x) {
+            if order.len() == MOST_ARGUMENTS as usize {
+                return Ok(None);
+            }
+            order.push(*x)?;
         }
     }
-    Ok(shared)
+    Ok(Some(order))
 }
 
 /// A disjunction at a place in the text as a goal of a clause whose variables' places are noted. Its own variables, which
@@ -57,8 +71,7 @@ fn choice_goal<'a, 'v, 'o>(
     ensures below { IfOk result (λ g. OutlinesAreBelow (length places.now.firsts.items) branches.now.items
         → GoalIsBelow (length places.now.firsts.items) g) }
 {
-    let shared = shared(alloc, places, start, start + own.len(), own)?;
-    match firsts(alloc, &shared, MOST_ARGUMENTS as usize)? {
+    match shared(alloc, places, start, start + own.len(), own)? {
         Some(args) => Ok(Goal::Choice(args, branches)),
         None => Ok(Goal::Item(Item::Bad(NormKind::Arity, at))),
     }

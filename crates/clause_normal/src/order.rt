@@ -6,7 +6,7 @@ ghost use Rattle.clause_normal.specs.Terms.{firsts, is_among};
 use std::alloc::{AllocError, Global};
 
 /// Whether a number is among these.
-fn is_among(xs: &[u32], x: u32) -> bool
+pub(crate) fn is_among(xs: &[u32], x: u32) -> bool
     ensures { result ≡ is_among xs.now x }
 {
     xs.iter().any(|y| x == *y)

@@ -1,4 +1,4 @@
-use Rattle.std.proofs.Common.{◌≡◌, ◌<◌, ◌≤◌, ◌+◌, ◌++◌, ◌∙◌, ◌||◌, ℕ, List, Bool, nat_lt, slice_index, length, sym, ap, refl, subst, arith}
+use Rattle.std.proofs.Common.{◌≡◌, ◌<◌, ◌≤◌, ◌+◌, ◌++◌, ◌∙◌, ◌||◌, ℕ, List, Bool, nat_lt, slice_index, length, sym, ap, refl, subst}
 use Rattle.std.specs.List.{AllByRecursion, filter}
 use Rattle.std.proofs.lemmas.Bool.{lt-ltb, le-ltb}
 use Rattle.clause_normal.specs.declared.fault.NormKind.TheVariants as kind
@@ -24,7 +24,7 @@ returns-in-Some-clause-goal c = λ earlier later n k.
     let outside : ℕ → List ℕ = λ m. firsts (filter (λ x. nat_lt (slice_index fs x) m || nat_lt (m + length own) (slice_index es x)) own) in
     let h = rw c.in-Some.is at c.in_ok-args.ensures in
     let same : c.in-Some.args.items ≡ arguments (earlier ++ (own ++ later)) own =
-    h.0 ∙ ap firsts (c.deref.ensures.value ∙ c.in_ok-shared.ensures) ∙ ap outside (sym n) ∙ arguments_are earlier own later c.args.places.now k in
+    h.0 ∙ ap outside (sym n) ∙ arguments_are earlier own later c.args.places.now k in
     let branches : List ℕ → Branches = branches_in c.args.branches.now.items in
     small c.args.at c.in-Some.args.items branches h.1 ∙ ap (λ (xs : List ℕ). choice_goal c.args.at xs branches) same
 
@@ -36,17 +36,16 @@ returns-in-Some-clause-below c = λ os.
     let end = c.args.start + length c.args.own.now in
     let p : ℕ → Bool = λ x. nat_lt (slice_index c.args.places.now.firsts.items x) c.args.start || nat_lt end (slice_index c.args.places.now.ends.items x) in
     let h = rw c.in-Some.is at c.in_ok-args.ensures in
-    let s = subst Q (sym c.in_ok-shared.ensures) (all_filter P p c.args.own.now c.requires.below) in
-    (subst Q (sym h.0) (all_firsts P c.deref.result.now (subst Q (sym c.deref.ensures.value) s)), os)
+    (subst Q (sym h.0) (all_firsts P (filter p c.args.own.now) (all_filter P p c.args.own.now c.requires.below)), os)
 
-pub returns-clause-goal : goal.returns-clause-goal
-returns-clause-goal c = λ earlier later n k.
+pub returns-in-None-clause-goal : goal.returns-in-None-clause-goal
+returns-in-None-clause-goal c = λ earlier later n k.
     let own = c.args.own.now in
     let fs = c.args.places.now.firsts.items in
     let es = c.args.places.now.ends.items in
     let outside : ℕ → List ℕ = λ m. firsts (filter (λ x. nat_lt (slice_index fs x) m || nat_lt (m + length own) (slice_index es x)) own) in
     let h = rw c.in-None.is at c.in_ok-args.ensures in
-    let same : firsts c.deref.result.now ≡ arguments (earlier ++ (own ++ later)) own =
-    ap firsts (c.deref.ensures.value ∙ c.in_ok-shared.ensures) ∙ ap outside (sym n) ∙ arguments_are earlier own later c.args.places.now k in
+    let same : outside c.args.start ≡ arguments (earlier ++ (own ++ later)) own =
+    ap outside (sym n) ∙ arguments_are earlier own later c.args.places.now k in
     let branches : List ℕ → Branches = branches_in c.args.branches.now.items in
-    large c.args.at (firsts c.deref.result.now) branches h ∙ ap (λ (xs : List ℕ). choice_goal c.args.at xs branches) same
+    large c.args.at (outside c.args.start) branches h ∙ ap (λ (xs : List ℕ). choice_goal c.args.at xs branches) same

@@ -1,4 +1,4 @@
-use Rattle.std.proofs.Common.{◌≡◌, ◌<◌, ◌∙◌, ◌+◌, ℕ, get_or, length, refl, slice_set, arith}
+use Rattle.std.proofs.Common.{◌<◌, ◌∙◌, ◌+◌, ℕ, get_or, length, refl, slice_set, arith}
 use Rattle.std.proofs.lemmas.List.{get_or-set_same, get_or-set_other, length-set}
 use Rattle.clause_normal.proofs.ListLemmas.{all_at}
 use Rattle.clause_normal.proofs.OccurringLemmas.{ends_step}
