@@ -28,13 +28,19 @@ full_integer s n = applied_instance (made s) (Integer n)
 -- the tree of a kind under the bindings
 pub shape_is : (s : List Binding) (n : ℕ) (t : Tree) (h : Shape) → t ≡ shape_tree n h → IsOpen s t → full s t ≡ shape_full s n h
 shape_is s n t (OfVariable x) e o = ap (full s) e ∙ full_free s x (subst (IsOpen s) e o)
-shape_is s n t (OfInteger i) e o = ap (full s) e ∙ full_integer s i
+shape_is s n t (OfInteger i) e o = ap (full s) e ∙ full_integer s i.now
 shape_is s n t (OfCompound f args) e o = ap (full s) e ∙ full_compound s f.0 (all_instances (raise n) (trees_of args.now))
 
 pub shape_free : (s : List Binding) (n : ℕ) (t : Tree) (h : Shape) → t ≡ shape_tree n h → IsOpen s t → IsFree s h
 shape_free s n t (OfVariable x) e o = subst (IsOpen s) e o
 shape_free s n t (OfInteger i) e o = tt
 shape_free s n t (OfCompound f args) e o = tt
+
+-- a term of another kind than a variable
+pub shape_open : (s : List Binding) (n : ℕ) (t : Tree) (h : Shape) → t ≡ shape_tree n h → ((x : ℕ) → h ≡ OfVariable x → ⊥) → IsOpen s t
+shape_open s n t (OfVariable x) e o = absurd (o x refl)
+shape_open s n t (OfInteger i) e o = subst (IsOpen s) (sym e) tt
+shape_open s n t (OfCompound f args) e o = subst (IsOpen s) (sym e) tt
 
 pub weight-append : (s : List Binding) (ts us : List Tree) → weight s (ts ++ us) ≡ weight s ts + weight s us
 weight-append s [] us = omega arith

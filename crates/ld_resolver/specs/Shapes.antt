@@ -13,7 +13,7 @@ use Rattle.ld_resolver.specs.Store.{stored, full, all_full, IsOpen}
 -- the tree of a raised term of this kind
 abbrev pub shape_tree : ℕ → Shape → Tree
 shape_tree n (Variable x) = Tree.Variable x
-shape_tree n (Integer i) = Tree.Integer i
+shape_tree n (Integer i) = Tree.Integer i.now
 shape_tree n (Compound f args) = Tree.Compound f.0 (all_instances (raise n) (trees_of args.now))
 
 -- a variable's number has 33 bits at most
@@ -25,7 +25,7 @@ IsSmall (Compound f args) = Unit {0}
 -- the tree of a term of this kind under the bindings, where a variable is free
 abbrev pub shape_full : List Binding → ℕ → Shape → Tree
 shape_full s n (Variable x) = Tree.Variable x
-shape_full s n (Integer i) = Tree.Integer i
+shape_full s n (Integer i) = Tree.Integer i.now
 shape_full s n (Compound f args) = Tree.Compound f.0 (all_full s (all_instances (raise n) (trees_of args.now)))
 
 -- a variable is free

@@ -158,7 +158,7 @@ fn told_term<'p>(
     let met = bindings.met(term);
     match met.shape {
         Shape::Variable(x) => Ok(Term::Var(number_of(variables, x)?)),
-        Shape::Integer(n) => Ok(Term::Int(n)),
+        Shape::Integer(n) => Ok(Term::Int(*n)),
         Shape::Compound(f, args) => {
             let terms = told_terms(alloc, bindings, args, met.term.base, variables)?;
             Ok(Term::Fun(f, terms))

@@ -62,6 +62,7 @@ pub fn unify_head<'p>(
     ensures extended { OnOk result (Extends bindings.new bindings.old) }
     ensures free { OnOk result (KeepsFree (head_equations (over (full bindings.old) (raised choice.entry.base choice.entry.atom.now)) choice.entry.fresh clause.now) bindings.old bindings.new) }
 {
+    bindings.reserve(choice.fresh as usize + clause.vars as usize)?;
     stacks.equations.clear();
     push_equations(
         &mut stacks.equations,

@@ -20,7 +20,7 @@ pub struct Bindings<'p> {
     /// The term of each variable.
     slots: Vec<Option<RaisedTerm<'p>>>,
     /// The bound variables, in the order in which they were bound.
-    trail: Vec<usize>,
+    trail: Vec<u32>,
 }
 
 impl<'p> Model for Bindings<'p> {
@@ -39,14 +39,13 @@ impl<'p> Model for Bindings<'p> {
     ghost invariant = { λ a. IsStore a.slots.items a.trail.items };
 }
 
-/// Makes a slot for a variable, and for those before it.
-fn grow<'p>(slots: &mut Vec<Option<RaisedTerm<'p>>>, variable: usize) -> Result<(), AllocError>
-    requires { variable < 2 ^ 33 }
-    ensures room { OnOk result (variable < vec_len slots.new) }
+/// Makes slots for the variables below this number.
+fn grow<'p>(slots: &mut Vec<Option<RaisedTerm<'p>>>, count: usize) -> Result<(), AllocError>
+    ensures room { OnOk result (count ≤ vec_len slots.new) }
     ensures same { (x : ℕ) → slot slots.new.items x ≡ slot slots.old.items x }
 {
-    if variable >= slots.len() {
-        slots.resize(variable + 1, None)?;
+    if count > slots.len() {
+        slots.resize(count, None)?;
     }
     Ok(())
 }
@@ -87,14 +86,24 @@ impl<'p> Bindings<'p> {
         self.slot(variable)
     }
 
-    /// Binds a variable.
+    /// Makes room for the variables below this number.
+    pub fn reserve(&mut self, count: usize) -> Result<(), AllocError>
+        ensures { OnOk result (self.new ≡ self.old) }
+    {
+        grow(&mut self.slots, count)
+    }
+
+    /// Binds a variable. One whose number has more than 32 bits is out of memory.
     pub fn bind(&mut self, variable: usize, term: RaisedTerm<'p>) -> Result<(), AllocError>
         requires small { variable < 2 ^ 33 }
         requires may { MayBind self.old variable (raised_tree term) }
         ensures { OnOk result (self.new ≡ (variable, raised_tree term.entry) ∷ self.old) }
     {
-        grow(&mut self.slots, variable)?;
-        self.trail.push(variable)?;
+        if variable > u32::MAX as usize {
+            return Err(AllocError);
+        }
+        grow(&mut self.slots, variable + 1)?;
+        self.trail.push(variable as u32)?;
         self.slots[variable] = Some(term);
         Ok(())
     }
@@ -105,7 +114,7 @@ impl<'p> Bindings<'p> {
         ensures { self.new ≡ drop 1 self.old }
     {
         match self.trail.pop() {
-            Some(variable) => self.slots[variable] = None,
+            Some(variable) => self.slots[variable as usize] = None,
             None => unreachable!(),
         }
     }
@@ -120,27 +129,22 @@ impl<'p> Bindings<'p> {
         }
     }
 
-    /// The term that is not a bound variable and stands for this one.
-    pub fn followed(&self, term: RaisedTerm<'p>) -> RaisedTerm<'p>
-        ensures same { full self.now (raised_tree result) ≡ full self.now (raised_tree term.entry) }
-        ensures open { IsOpen self.now (raised_tree result) }
-    {
-        let mut now = term;
-        while let Shape::Variable(x) = now.shape() {
-            match self.value(x) {
-                Some(next) => now = next,
-                None => break,
-            }
-        }
-        now
-    }
     /// The term that is not a bound variable and stands for this one, with its kind.
+    #[inline]
     pub fn met(&self, term: RaisedTerm<'p>) -> Met<'p>
         ensures met { IsMet self.now result }
         ensures same { full self.now (raised_tree result.term) ≡ full self.now (raised_tree term.entry) }
     {
-        let term = self.followed(term);
-        let shape = term.shape();
-        Met { term, shape }
+        let mut now = term;
+        loop {
+            let shape = now.shape();
+            match shape {
+                Shape::Variable(x) => match self.value(x) {
+                    Some(next) => now = next,
+                    None => return Met { term: now, shape },
+                },
+                _ => return Met { term: now, shape },
+            }
+        }
     }
 }

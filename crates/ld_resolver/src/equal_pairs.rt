@@ -150,6 +150,10 @@ impl<'p> EqualPairs<'p> {
         ensures kept { OnOk result ((s : List Binding) (es : List Equation) → length es ≤ others + 1 → AreRemembered s es self.old → AreRemembered s es self.new) }
         ensures equal { IfOk result (λ known. known ≡ true → IsKnown self.new left.entry right.entry) }
     {
+        // Before as many pairs were met, none is remembered.
+        if self.met < UNREMEMBERED {
+            return Ok(false);
+        }
         self.settle(others)?;
         Ok(self.has(left, right))
     }

@@ -31,7 +31,7 @@ fn clash(left: Shape<'_>, right: Shape<'_>) -> bool
     ensures { IsTrue result → (m : ℕ) → Clash m left.entry right.entry }
 {
     match (left, right) {
-        (Shape::Integer(m), Shape::Integer(n)) => m != n,
+        (Shape::Integer(m), Shape::Integer(n)) => *m != *n,
         (Shape::Integer(_), Shape::Compound(_, _)) => true,
         (Shape::Compound(_, _), Shape::Integer(_)) => true,
         (Shape::Compound(f, ts), Shape::Compound(g, us)) => compounds_clash(f, ts, g, us),

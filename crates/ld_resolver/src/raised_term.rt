@@ -17,7 +17,7 @@ pub struct RaisedTerm<'p> {
 #[derive(Clone, Copy, Drop)]
 pub enum Shape<'p> {
     Variable(usize),
-    Integer(i128),
+    Integer(&'p i128),
     Compound(Name, &'p [Term]),
 }
 
@@ -44,7 +44,7 @@ impl<'p> RaisedTerm<'p> {
     {
         match self.term {
             Term::Var(x) => Shape::Variable(raised_variable(*x, self.base)),
-            Term::Int(n) => Shape::Integer(*n),
+            Term::Int(n) => Shape::Integer(n),
             Term::Fun(f, args) => Shape::Compound(*f, args.as_slice()),
         }
     }

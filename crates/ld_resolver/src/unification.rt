@@ -181,7 +181,7 @@ fn step<'p>(
             bound_or_clash(bindings, x, right.term, stack, visited)
         }
         (Shape::Integer(_), Shape::Variable(y)) => Ok(Found::Binds(y, left.term, 0)),
-        (Shape::Integer(m), Shape::Integer(n)) => Ok(nothing_or_clash(m, n)),
+        (Shape::Integer(m), Shape::Integer(n)) => Ok(nothing_or_clash(*m, *n)),
         (Shape::Integer(_), Shape::Compound(_, _)) => Ok(Found::Clash),
         (Shape::Compound(_, _), Shape::Variable(y)) => {
             apart_or_bound(bindings, y, left.term, limit, stack, visited)

@@ -114,7 +114,7 @@ loop-next-smaller-in-Integer c =
 pub loop-next-preserved-in-Integer : goal.loop-next-preserved-in-Integer
 loop-next-preserved-in-Integer c =
     let s = c.args.bindings.now in
-    let i = c.in-Integer.field-0 in
+    let i = c.in-Integer.field-0.now in
     let rest = c.pop.new.self.items in
     let old = c.loop-next.stack.items in
     let t = raised_tree c.in-Some.next in

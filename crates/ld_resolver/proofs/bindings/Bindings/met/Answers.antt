@@ -1,15 +1,37 @@
+use Rattle.std.proofs.Common.{sym, subst}
+use Rattle.cti_terms.specs.Tree.{Tree}
 use Rattle.ld_resolver.specs.Raised.{raised_tree}
-use Rattle.ld_resolver.proofs.PendingLaws.{shape_is, shape_free}
+use Rattle.ld_resolver.specs.Store.{IsOpen}
+use Rattle.ld_resolver.proofs.PendingLaws.{shape_is, shape_free, shape_open}
 use Rattle.ld_resolver.proofs.bindings.Bindings.met.Goals as goal
 
-pub returns-clause-met : goal.returns-clause-met
-returns-clause-met c =
+pub returns-in-None-clause-met : goal.returns-in-None-clause-met
+returns-in-None-clause-met c =
     let s = c.args.self.now in
-    let r = c.followed-term.result in
+    let r = c.loop-x.now in
     let h = c.shape-shape.result in
+    let tree = c.shape-shape.ensures.tree in
+    let is_open = subst (IsOpen s) (sym c.in-Variable.ensures.tree) (sym c.in-None.ensures.stored) in
     record {
-      tree = shape_is s r.base (raised_tree r) h c.shape-shape.ensures.tree c.followed-term.ensures.open;
-      followed = c.followed-term.ensures.open;
+      tree = shape_is s r.base (raised_tree r) h tree is_open;
+      followed = is_open;
       small = c.shape-shape.ensures.small;
-      free = shape_free s r.base (raised_tree r) h c.shape-shape.ensures.tree c.followed-term.ensures.open;
+      free = shape_free s r.base (raised_tree r) h tree is_open;
+    }
+
+pub returns-in_default : goal.returns-in_default
+returns-in_default c =
+    let s = c.args.self.now in
+    let r = c.loop-x.now in
+    let h = c.shape-shape.result in
+    let tree = c.shape-shape.ensures.tree in
+    let is_open = shape_open s r.base (raised_tree r) h tree c.in_default.not-Variable in
+    record {
+      met = record {
+        tree = shape_is s r.base (raised_tree r) h tree is_open;
+        followed = is_open;
+        small = c.shape-shape.ensures.small;
+        free = shape_free s r.base (raised_tree r) h tree is_open;
+      };
+      same = c.loop-x.invariant;
     }

@@ -1,7 +1,7 @@
 use Rattle.std.proofs.Common.{◌≡◌}
 use Rattle.ld_resolver.specs.Raised.{raised_tree}
 use Rattle.ld_resolver.specs.Store.{full, chain_of}
-use Rattle.ld_resolver.proofs.bindings.Bindings.followed.Given as goal
+use Rattle.ld_resolver.proofs.bindings.Bindings.met.Given as goal
 
 abbrev pub invariant-loop-x : goal.invariant-loop-x
 invariant-loop-x l = full l.self (raised_tree l.now) ≡ full l.self (raised_tree l.fn.term)
