@@ -2,6 +2,7 @@ pub mod AnswerLaws
 pub mod AttemptLaws
 pub mod BelowLaws
 pub mod ChainLaws
+pub mod ConstantLaws
 pub mod CoverLaws
 pub mod HeadLaws
 pub mod OrderLaws

@@ -45,7 +45,7 @@ pub fn push_arguments<'p>(
 }
 
 /// Whether a free variable occurs in a term under the bindings, or else a number above all that occur. Each bound
-/// variable is looked into once.
+/// variable is looked into once, and one that is bound to a constant not at all.
 ///
 /// The stack and the visited variables may be any, and are used up.
 pub fn occurs_in<'p>(
@@ -65,6 +65,9 @@ pub fn occurs_in<'p>(
         match next.shape() {
             Shape::Variable(other) => match bindings.value(other) {
                 Some(bound) => {
+                    if bound.is_constant() {
+                        continue;
+                    }
                     if visited.visit(other)? {
                         stack.push(bound)?;
                     }

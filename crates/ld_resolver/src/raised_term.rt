@@ -1,6 +1,8 @@
 //! Terms of the program with raised variables.
 
-ghost use Rattle.std.specs.Prelude.{◌≡◌, ℕ, ◌+◌, ◌<◌, ◌^◌};
+ghost use Rattle.std.specs.Prelude.{◌≡◌, ℕ, ◌+◌, ◌<◌, ◌^◌, List, IsTrue, false};
+ghost use Rattle.cti_terms.specs.Unify.{Binding, occurs};
+ghost use Rattle.ld_resolver.specs.Store.{full};
 ghost use Rattle.ld_resolver.specs.Raised.{raised_tree};
 ghost use Rattle.ld_resolver.specs.Shapes.{shape_tree, IsSmall};
 
@@ -46,6 +48,18 @@ impl<'p> RaisedTerm<'p> {
             Term::Var(x) => Shape::Variable(raised_variable(*x, self.base)),
             Term::Int(n) => Shape::Integer(n),
             Term::Fun(f, args) => Shape::Compound(*f, args.as_slice()),
+        }
+    }
+
+    /// Whether the term is an integer, or a name without arguments. No variable occurs in such a term.
+    #[inline]
+    pub fn is_constant(self) -> bool
+        ensures { IsTrue result → (s : List Binding) (x : ℕ) → occurs x (full s (raised_tree self.entry)) ≡ false }
+    {
+        match self.shape() {
+            Shape::Variable(_) => false,
+            Shape::Integer(_) => true,
+            Shape::Compound(_, args) => args.is_empty(),
         }
     }
 }

@@ -31,14 +31,14 @@ impl Model for Visited {
     ghost invariant = { λ a. AreFlags a.flags.items a.variables.items };
 }
 
-/// Makes a flag for a variable, and for those before it.
+/// Makes a flag for a variable, for those before it, and for some after it.
 fn grow(flags: &mut Vec<bool>, variable: usize) -> Result<(), AllocError>
     requires { variable < 2 ^ 33 }
     ensures room { OnOk result (variable < vec_len flags.new) }
     ensures same { (x : ℕ) → flag flags.new.items x ≡ flag flags.old.items x }
 {
     if variable >= flags.len() {
-        flags.resize(variable + 1, false)?;
+        flags.resize(variable + 64, false)?;
     }
     Ok(())
 }

@@ -158,3 +158,29 @@ loop-next-preserved c =
           let all = subst (λ (l : List Tree). AllByRecursion (IsCovered s x l) c.loop-next.visited) (raw_last old rest c.in-Some.next t c.in-Some.ensures.items refl) (c.loop-next.invariant.covered x w) in
           subst (λ (l : List Tree). AllByRecursion (IsCovered s x l) c.loop-next.visited) (sym d) (covered_arguments s x (raw rest) c.loop-next.visited n f t args h all);
     }
+
+pub loop-next-smaller-then-is_constant : goal.loop-next-smaller-then-is_constant
+loop-next-smaller-then-is_constant c =
+    let rest = c.pop.new.self.items in
+    let old = c.loop-next.stack.items in
+    popped_falls c.args.bindings.now (raw rest) (raw old) (raised_tree c.in-Some.next) (raw_last old rest c.in-Some.next (raised_tree c.in-Some.next) c.in-Some.ensures.items refl)
+
+pub loop-next-preserved-then-is_constant : goal.loop-next-preserved-then-is_constant
+loop-next-preserved-then-is_constant c =
+    let s = c.args.bindings.now in
+    let y = c.in-Variable.other in
+    let rest = c.pop.new.self.items in
+    let old = c.loop-next.stack.items in
+    let t = raised_tree c.in-Some.next in
+    let u = full s (Variable y) in
+    let h = ap (full s) c.in-Variable.ensures.tree in
+    record {
+      left = λ x w.
+          let gone = ap (occurs x) (sym c.in-Some-value.ensures.same) ∙ c.is_constant.ensures c.if-is_constant.true s x in
+          let e = occurs_last s x old rest c.in-Some.next u c.in-Some.ensures.items h in
+          sym (e ∙ or_second_false (occurs_left s x (raw rest)) (occurs x u) gone) ∙ c.loop-next.invariant.left x w;
+      covered = λ x w.
+          let gone = ap (occurs x) (sym c.in-Some-value.ensures.same) ∙ c.is_constant.ensures c.if-is_constant.true s x in
+          let all = subst (λ (l : List Tree). AllByRecursion (IsCovered s x l) c.loop-next.visited) (raw_last old rest c.in-Some.next t c.in-Some.ensures.items refl) (c.loop-next.invariant.covered x w) in
+          covered_absent s x (raw rest) c.loop-next.visited t (ap (occurs x) h ∙ gone) all;
+    }
