@@ -1,5 +1,5 @@
 -- The equations that wait for a head are those of the definition.
-use Rattle.std.proofs.Common.{◌≡◌, ℕ, List, [], ◌∷◌, ◌++◌, map, append-nil, refl, ap, sym, ◌∙◌}
+use Rattle.std.proofs.Common.{◌≡◌, ℕ, List, [], ◌∷◌, ◌++◌, map, refl, sym, ◌∙◌}
 use Rattle.cti_terms.specs.Tree.{Tree, More, trees, instance, all_instances}
 use Rattle.cti_terms.specs.declared.syntax.Term.{Term}
 use Rattle.cti_terms.specs.Spell.{tree_of, trees_of}
@@ -8,13 +8,12 @@ use Rattle.cti_terms.specs.declared.clauses.Clause.{Clause}
 use Rattle.cti_terms.specs.Unify.{Binding, pairs}
 use Rattle.cti_terms.specs.Resolve.{over, raised, head_equations}
 use Rattle.cti_terms.proofs.Unifier.{applied_instance}
-use Rattle.ld_resolver.specs.declared.raised_term.RaisedTerm.{RaisedTerm}
 use Rattle.ld_resolver.specs.Raised.{raise}
 use Rattle.ld_resolver.specs.Store.{made, full, all_full}
 use Rattle.ld_resolver.specs.Below.{FreeFrom}
-use Rattle.ld_resolver.specs.Pending.{raw_equations, waiting, args_full}
+use Rattle.ld_resolver.specs.Pending.{waiting_from}
 use Rattle.ld_resolver.proofs.BelowLaws.{full_raised}
-use Rattle.ld_resolver.proofs.PendingLaws.{waiting_pushed}
+use Rattle.ld_resolver.proofs.PendingLaws.{under_bindings-pairs}
 
 -- arguments under the bindings, one by one
 args_each : (s : List Binding) (n : ℕ) (ts : List Tree) → all_full s (all_instances (raise n) (trees ts)) ≡ trees (map (full s) (map (instance (raise n)) ts))
@@ -26,10 +25,8 @@ args_left : (s : List Binding) (n : ℕ) (ts : List Tree) → FreeFrom n s → t
 args_left s n [] free = refl
 args_left s n (t ∷ ts) free = λ i. More (full_raised s n t free i) (args_left s n ts free i)
 
-pub head_waits : (s : List Binding) (a : Atom) (base n : ℕ) (c : Clause) (ts us : List Term) (new old : List (RaisedTerm × RaisedTerm)) → map tree_of ts ≡ a.args → map tree_of us ≡ c.head.args → raw_equations new ≡ pairs (all_instances (raise base) (trees_of ts)) (all_instances (raise n) (trees_of us)) ++ raw_equations old → old ≡ [] → FreeFrom n s → waiting s new ≡ head_equations (over (full s) (raised base a)) n c
-head_waits s a base n c ts us new old e f h none free =
-    waiting_pushed s base n ts us new old h
-    ∙ ap (λ (o : List (RaisedTerm × RaisedTerm)). pairs (args_full s base ts) (args_full s n us) ++ waiting s o) none
-    ∙ append-nil (pairs (args_full s base ts) (args_full s n us))
+pub head_waits : (s : List Binding) (a : Atom) (base n : ℕ) (c : Clause) (ts us : List Term) → map tree_of ts ≡ a.args → map tree_of us ≡ c.head.args → FreeFrom n s → waiting_from s base n ts us 0 ≡ head_equations (over (full s) (raised base a)) n c
+head_waits s a base n c ts us e f free =
+    under_bindings-pairs s (all_instances (raise base) (trees_of ts)) (all_instances (raise n) (trees_of us))
     ∙ (λ i. pairs (args_each s base (map tree_of ts) i) ((args_each s n (map tree_of us) ∙ args_left s n (map tree_of us) free) i))
     ∙ (λ i. pairs (trees (map (full s) (map (instance (raise base)) (e i)))) (trees (map (instance (raise n)) (f i))))

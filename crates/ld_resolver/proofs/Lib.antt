@@ -5,6 +5,7 @@ pub mod ChainLaws
 pub mod ConstantLaws
 pub mod CoverLaws
 pub mod HeadLaws
+pub mod HeadSteps
 pub mod OrderLaws
 pub mod FirstLaws
 pub mod FirstArgumentLaws
@@ -13,6 +14,7 @@ pub mod PendingLaws
 pub mod ProgressLaws
 pub mod RememberedLaws
 pub mod SearchLaws
+pub mod SequelLaws
 pub mod StoreLaws
 pub mod TailLaws
 pub mod ToldLaws

@@ -8,6 +8,7 @@ pub mod Tails
 pub mod Chain
 pub mod Choices
 pub mod FirstArguments
+pub mod Heads
 pub mod Searches
 pub mod Measured
 pub mod Told

@@ -1,6 +1,6 @@
 -- Private.
 -- Terms and equations that wait on a stack, and what they are under the stored bindings. Nothing here has to be believed.
-use Rattle.std.specs.Prelude.{◌≡◌, ℕ, ◌+◌, ◌<◌, ◌^◌, Bool, false, ◌||◌, true, List, [], ◌∷◌, ◌++◌, map, reverse, None, Some, option_map}
+use Rattle.std.specs.Prelude.{◌≡◌, ℕ, ◌+◌, ◌<◌, ◌^◌, Bool, false, ◌||◌, true, List, [], ◌∷◌, ◌++◌, map, reverse, drop, None, Some, option_map}
 use Rattle.cti_terms.specs.Tree.{Tree, Trees, nodes_of, all_instances}
 use Rattle.cti_terms.specs.declared.syntax.Term.{Term}
 use Rattle.cti_terms.specs.Spell.{trees_of}
@@ -13,7 +13,7 @@ use Rattle.ld_resolver.specs.declared.unification.Next.{Next}
 use Rattle.ld_resolver.specs.declared.unification.Next.TheVariants.{Solved, Failed, Bound}
 use Rattle.ld_resolver.specs.Raised.{raised_tree, raise}
 use Rattle.ld_resolver.specs.Store.{stored, full, all_full, MayBind}
-use Rattle.ld_resolver.specs.Below.{TermBelow}
+use Rattle.ld_resolver.specs.Below.{TermBelow, LeftBelow}
 
 -- the trees of raised terms
 abbrev pub raw : List RaisedTerm → List Tree
@@ -48,6 +48,14 @@ waiting s ps = under_bindings s (raw_equations ps)
 -- arguments with their variables raised, under the bindings
 abbrev pub args_full : List Binding → ℕ → List Term → Trees
 args_full s n ts = all_full s (all_instances (raise n) (trees_of ts))
+
+-- the equations of arguments from number i on, counted from 0, under the bindings
+abbrev pub waiting_from : List Binding → ℕ → ℕ → List Term → List Term → ℕ → List Equation
+waiting_from s n m ts us i = under_bindings s (pairs (all_instances (raise n) (trees_of (drop i ts))) (all_instances (raise m) (trees_of (drop i us))))
+
+-- equations whose left sides are below n under the bindings before have left sides below m under the bindings now
+abbrev pub StaysBelow : ℕ → List Binding → ℕ → List Binding → Type 0
+StaysBelow n before m now = (es : List Equation) → LeftBelow n (under_bindings before es) → LeftBelow m (under_bindings now es)
 
 -- the step of the definition that the code found, at terms with their variables raised by n and by m
 abbrev pub step_of : List Binding → ℕ → ℕ → Found → Step

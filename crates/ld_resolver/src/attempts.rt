@@ -5,14 +5,15 @@ ghost use Rattle.std.specs.List.{AllByRecursion};
 ghost use Rattle.cti_terms.specs.Tree.{is_below};
 ghost use Rattle.cti_terms.specs.Resolve.{over, raised, head_equations};
 ghost use Rattle.ld_resolver.specs.Store.{full, made};
-ghost use Rattle.ld_resolver.specs.Pending.{IsUnified, Extends, KeepsFree};
-ghost use Rattle.ld_resolver.specs.Below.{ArgumentsBelow, FreeFrom};
+ghost use Rattle.ld_resolver.specs.Raised.{raised_tree};
+ghost use Rattle.ld_resolver.specs.Pending.{IsUnified, StaysBelow, Extends, KeepsFree};
+ghost use Rattle.ld_resolver.specs.Below.{TermBelow, ArgumentsBelow, FreeFrom};
 
 use crate::bindings::Bindings;
 use crate::choices::Choice;
 use crate::equal_pairs::EqualPairs;
 use crate::raised_term::RaisedTerm;
-use crate::unification::{push_equations, solve};
+use crate::unification::{Found, push_equations, solve, step};
 use crate::visited::Visited;
 use cti_terms::Clause;
 use std::alloc::{AllocError, Global};
@@ -48,8 +49,59 @@ impl<'p> Stacks<'p> {
     }
 }
 
+/// Unifies two terms, by bindings that are added. Where it fails, some may have been added.
+///
+/// The left term has variables below the limit alone, and the limit goes up with the bindings.
+#[inline(always)]
+fn unify_terms<'p>(
+    bindings: &mut Bindings<'p>,
+    stacks: &mut Stacks<'p>,
+    left: RaisedTerm<'p>,
+    right: RaisedTerm<'p>,
+    limit: &mut usize,
+) -> Result<bool, AllocError>
+    requires { TermBelow limit.old (full bindings.old (raised_tree left)) }
+    ensures unifier { IfOk result (IsUnified (made bindings.old) ((full bindings.old (raised_tree left.entry), full bindings.old (raised_tree right.entry)) ∷ []) (made bindings.new)) }
+    ensures limit { OnOk result (StaysBelow limit.old bindings.old limit.new bindings.new) }
+    ensures extended { OnOk result (Extends bindings.new bindings.old) }
+    ensures free { OnOk result (KeepsFree ((full bindings.old (raised_tree left.entry), full bindings.old (raised_tree right.entry)) ∷ []) bindings.old bindings.new) }
+{
+    let l = bindings.met(left);
+    let r = bindings.met(right);
+    match step(
+        bindings,
+        l,
+        r,
+        *limit,
+        &mut stacks.terms,
+        &mut stacks.visited,
+    )? {
+        Found::Nothing => Ok(true),
+        Found::Binds(x, term, above) => {
+            *limit = (*limit).max(above);
+            bindings.bind(x, term)?;
+            Ok(true)
+        }
+        Found::Arguments(ts, us) => {
+            stacks.equations.clear();
+            push_equations(&mut stacks.equations, ts, l.term.base, us, r.term.base)?;
+            let solved = solve(
+                bindings,
+                &mut stacks.equations,
+                &mut stacks.pairs,
+                limit,
+                &mut stacks.terms,
+                &mut stacks.visited,
+            )?;
+            Ok(solved)
+        }
+        Found::Clash => Ok(false),
+    }
+}
+
 /// Unifies the first atom of a choice with the head of a clause, whose variables are raised by the choice's counter. The
-/// bindings are the choice's.
+/// bindings are the choice's. Only where two compound terms meet are equations put on a stack, and they are solved
+/// before the next argument.
 pub fn unify_head<'p>(
     bindings: &mut Bindings<'p>,
     stacks: &mut Stacks<'p>,
@@ -63,20 +115,24 @@ pub fn unify_head<'p>(
     ensures free { OnOk result (KeepsFree (head_equations (over (full bindings.old) (raised choice.entry.base choice.entry.atom.now)) choice.entry.fresh clause.now) bindings.old bindings.new) }
 {
     bindings.reserve(choice.fresh as usize + clause.vars as usize)?;
-    stacks.equations.clear();
-    push_equations(
-        &mut stacks.equations,
-        choice.atom.args.as_slice(),
-        choice.base,
-        clause.head.args.as_slice(),
-        choice.fresh,
-    )?;
-    solve(
-        bindings,
-        &mut stacks.equations,
-        &mut stacks.pairs,
-        choice.fresh,
-        &mut stacks.terms,
-        &mut stacks.visited,
-    )
+    let left = choice.atom.args.as_slice();
+    let right = clause.head.args.as_slice();
+    let count = left.len().min(right.len());
+    let mut limit = choice.fresh as usize;
+    let mut i = 0;
+    while i < count {
+        let l = RaisedTerm {
+            term: &left[i],
+            base: choice.base,
+        };
+        let r = RaisedTerm {
+            term: &right[i],
+            base: choice.fresh,
+        };
+        if !unify_terms(bindings, stacks, l, r, &mut limit)? {
+            return Ok(false);
+        }
+        i += 1;
+    }
+    Ok(true)
 }

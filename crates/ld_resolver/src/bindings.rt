@@ -94,6 +94,7 @@ impl<'p> Bindings<'p> {
     }
 
     /// Binds a variable. One whose number has more than 32 bits is out of memory.
+    #[inline(always)]
     pub fn bind(&mut self, variable: usize, term: RaisedTerm<'p>) -> Result<(), AllocError>
         requires small { variable < 2 ^ 33 }
         requires may { MayBind self.old variable (raised_tree term) }
@@ -130,7 +131,7 @@ impl<'p> Bindings<'p> {
     }
 
     /// The term that is not a bound variable and stands for this one, with its kind.
-    #[inline]
+    #[inline(always)]
     pub fn met(&self, term: RaisedTerm<'p>) -> Met<'p>
         ensures met { IsMet self.now result }
         ensures same { full self.now (raised_tree result.term) ≡ full self.now (raised_tree term.entry) }

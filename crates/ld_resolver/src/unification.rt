@@ -9,7 +9,7 @@ ghost use Rattle.ld_resolver.specs.Raised.{raise, raised_tree};
 ghost use Rattle.ld_resolver.specs.Shapes.{IsMet};
 ghost use Rattle.ld_resolver.specs.Store.{stored, full, made, IsOpen};
 ghost use Rattle.ld_resolver.specs.Below.{TermBelow, LeftBelow};
-ghost use Rattle.ld_resolver.specs.Pending.{args_full, raw_equations, waiting, step_of, IsFit, IsNext, IsUnified, Extends, KeepsFree};
+ghost use Rattle.ld_resolver.specs.Pending.{args_full, raw_equations, waiting, step_of, IsFit, IsNext, IsUnified, StaysBelow, Extends, KeepsFree};
 ghost use Rattle.ld_resolver.specs.Remembered.{Entails, above, AreRemembered, AreRememberedAfter};
 
 use crate::bindings::Bindings;
@@ -160,7 +160,8 @@ fn nothing_or_bound<'p>(x: usize, y: usize, term: RaisedTerm<'p>) -> Found<'p>
 }
 
 /// What an equation of two terms asks for, of which the left one has variables below the limit alone.
-fn step<'p>(
+#[inline(always)]
+pub fn step<'p>(
     bindings: &Bindings<'p>,
     left: Met<'p>,
     right: Met<'p>,
@@ -234,27 +235,30 @@ fn next_binding<'p>(
 }
 
 /// Unifies the equations on the stack, by bindings that are added. Where it fails, some may have been added.
+///
+/// Left sides have variables below the limit alone. The limit goes up with the bindings, so that this stays true, also of
+/// equations that are not on the stack.
 pub fn solve<'p>(
     bindings: &mut Bindings<'p>,
     equations: &mut Vec<(RaisedTerm<'p>, RaisedTerm<'p>)>,
     pairs: &mut EqualPairs<'p>,
-    from: u32,
+    limit: &mut usize,
     stack: &mut Vec<RaisedTerm<'p>>,
     visited: &mut Visited,
 ) -> Result<bool, AllocError>
-    requires { LeftBelow from (waiting bindings.old equations.old.items) }
+    requires { LeftBelow limit.old (waiting bindings.old equations.old.items) }
     ensures unifier { IfOk result (IsUnified (made bindings.old) (waiting bindings.old equations.old.items) (made bindings.new)) }
+    ensures limit { OnOk result (StaysBelow limit.old bindings.old limit.new bindings.new) }
     ensures extended { OnOk result (Extends bindings.new bindings.old) }
     ensures free { OnOk result (KeepsFree (waiting bindings.old equations.old.items) bindings.old bindings.new) }
 {
     pairs.clear();
-    let mut limit = from as usize;
     loop {
-        match next_binding(bindings, equations, pairs, limit, stack, visited)? {
+        match next_binding(bindings, equations, pairs, *limit, stack, visited)? {
             Next::Solved => return Ok(true),
             Next::Failed => return Ok(false),
             Next::Bound(x, term, above) => {
-                limit = limit.max(above);
+                *limit = (*limit).max(above);
                 bindings.bind(x, term)?;
             }
         }

@@ -73,6 +73,7 @@ impl Visited {
     }
 
     /// Visits a variable. Whether it is the first time.
+    #[inline(always)]
     pub fn visit(&mut self, variable: usize) -> Result<bool, AllocError>
         requires { variable < 2 ^ 33 }
         ensures { IfOk result (IsVisit self.old variable self.new) }

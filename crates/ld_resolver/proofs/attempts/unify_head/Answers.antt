@@ -1,37 +1,124 @@
-use Rattle.std.proofs.Common.{List, IfOk, OnOk, sym, subst}
-use Rattle.cti_terms.specs.Unify.{Equation, Binding}
+use Rattle.std.proofs.Common.{◌≡◌, ◌+◌, ◌<◌, ◌≤◌, min, Bool, true, false, List, [], ◌∷◌, length, refl, ap, sym, ◌∙◌, subst, arith}
+use Rattle.cti_terms.specs.Tree.{instance}
+use Rattle.cti_terms.specs.Spell.{tree_of}
+use Rattle.cti_terms.specs.Unify.{Equation}
 use Rattle.cti_terms.specs.Resolve.{over, raised}
+use Rattle.ld_resolver.specs.Raised.{raise}
 use Rattle.ld_resolver.specs.Store.{full, made}
-use Rattle.ld_resolver.specs.Pending.{waiting, IsUnified, KeepsFree}
 use Rattle.ld_resolver.specs.Below.{LeftBelow}
+use Rattle.ld_resolver.specs.Pending.{IsUnified, KeepsFree}
+use Rattle.ld_resolver.specs.Heads.{IsUnifiedTo}
 use Rattle.ld_resolver.proofs.BelowLaws.{left_arguments}
 use Rattle.ld_resolver.proofs.HeadLaws.{head_waits}
+use Rattle.ld_resolver.proofs.HeadSteps.{none_unified, all_unified, pair_at, pair_fails, pair_extended, pair_free, pair_unified}
 use Rattle.ld_resolver.proofs.attempts.unify_head.Goals as goal
+
+pub loop-i-init : goal.loop-i-init
+loop-i-init c =
+    let k = c.args.bindings.now in
+    let choice = c.args.choice in
+    let ts = c.as_slice-left.result.now in
+    let us = c.as_slice-right.result.now in
+    let a = over (full k) (raised choice.base choice.atom.now) in
+    let waits = head_waits k choice.atom.now choice.base choice.fresh c.args.clause.now ts us c.as_slice-left.ensures c.as_slice-right.ensures c.requires.free in
+    let below = subst (LeftBelow choice.fresh) (sym waits) (left_arguments choice.fresh a.args (raised choice.fresh c.args.clause.now.head).args c.requires.below) in
+    record {
+      within = omega arith;
+      unified =
+          subst (IsUnifiedTo k choice.base choice.fresh ts us 0 choice.fresh) (sym c.in_ok-reserve.ensures)
+          (none_unified k choice.base choice.fresh ts us choice.fresh below);
+    }
+
+pub loop-i-preserved : goal.loop-i-preserved
+loop-i-preserved c =
+    let k = c.args.bindings.now in
+    let s = c.loop-i.bindings in
+    let i = c.loop-i.i in
+    let n = c.args.choice.base in
+    let m = c.args.choice.fresh in
+    let ts = c.as_slice-left.result.now in
+    let us = c.as_slice-right.result.now in
+    let less : i < min (length ts) (length us) = omega (arith, c.loop-i-test.true, c.min-count.ensures) in
+    let e = pair_at s n m i ts us c.index-left-i.result c.index-right-i.result (omega (arith, less)) (omega (arith, less)) c.index-left-i.is c.index-right-i.is in
+    let new = c.unify_terms.new.bindings in
+    let t = full s (instance (raise n) (tree_of c.index-left-i.result)) in
+    let u = full s (instance (raise m) (tree_of c.index-right-i.result)) in
+    let unified = subst (λ (b : Bool). IsUnified (made s) ((t, u) ∷ []) (made new) b) c.if-not-branch.false c.in_ok-unify_terms.ensures.unifier in
+    record {
+      within = omega (arith, less);
+      unified = pair_unified k s n m ts us i c.loop-i.limit c.loop-i.invariant.unified t u e new c.in_ok-unify_terms.ensures.extended c.in_ok-unify_terms.ensures.free c.unify_terms.new.limit unified c.in_ok-unify_terms.ensures.limit;
+    }
+
+pub returns-then-not-branch-clause-unifier : goal.returns-then-not-branch-clause-unifier
+returns-then-not-branch-clause-unifier c =
+    let k = c.args.bindings.now in
+    let choice = c.args.choice in
+    let s = c.loop-i.bindings in
+    let i = c.loop-i.i in
+    let n = c.args.choice.base in
+    let m = c.args.choice.fresh in
+    let ts = c.as_slice-left.result.now in
+    let us = c.as_slice-right.result.now in
+    let waits = head_waits k choice.atom.now choice.base choice.fresh c.args.clause.now ts us c.as_slice-left.ensures c.as_slice-right.ensures c.requires.free in
+    let less : i < min (length ts) (length us) = omega (arith, c.loop-i-test.true, c.min-count.ensures) in
+    let e = pair_at s n m i ts us c.index-left-i.result c.index-right-i.result (omega (arith, less)) (omega (arith, less)) c.index-left-i.is c.index-right-i.is in
+    let new = c.unify_terms.new.bindings in
+    let t = full s (instance (raise n) (tree_of c.index-left-i.result)) in
+    let u = full s (instance (raise m) (tree_of c.index-right-i.result)) in
+    let fails = subst (λ (b : Bool). IsUnified (made s) ((t, u) ∷ []) (made new) b) c.if-not-branch.true c.in_ok-unify_terms.ensures.unifier in
+    subst (λ (es : List Equation). IsUnified (made k) es (made new) false) waits (pair_fails k s n m ts us i c.loop-i.limit c.loop-i.invariant.unified t u e fails)
+
+pub returns-then-not-branch-clause-extended : goal.returns-then-not-branch-clause-extended
+returns-then-not-branch-clause-extended c =
+    let k = c.args.bindings.now in
+    let s = c.loop-i.bindings in
+    let i = c.loop-i.i in
+    let n = c.args.choice.base in
+    let m = c.args.choice.fresh in
+    let ts = c.as_slice-left.result.now in
+    let us = c.as_slice-right.result.now in
+    let less : i < min (length ts) (length us) = omega (arith, c.loop-i-test.true, c.min-count.ensures) in
+    let e = pair_at s n m i ts us c.index-left-i.result c.index-right-i.result (omega (arith, less)) (omega (arith, less)) c.index-left-i.is c.index-right-i.is in
+    let t = full s (instance (raise n) (tree_of c.index-left-i.result)) in
+    let u = full s (instance (raise m) (tree_of c.index-right-i.result)) in
+    pair_extended k s n m ts us i c.loop-i.limit c.loop-i.invariant.unified t u e c.unify_terms.new.bindings c.in_ok-unify_terms.ensures.extended c.in_ok-unify_terms.ensures.free
+
+pub returns-then-not-branch-clause-free : goal.returns-then-not-branch-clause-free
+returns-then-not-branch-clause-free c =
+    let k = c.args.bindings.now in
+    let choice = c.args.choice in
+    let s = c.loop-i.bindings in
+    let i = c.loop-i.i in
+    let n = c.args.choice.base in
+    let m = c.args.choice.fresh in
+    let ts = c.as_slice-left.result.now in
+    let us = c.as_slice-right.result.now in
+    let waits = head_waits k choice.atom.now choice.base choice.fresh c.args.clause.now ts us c.as_slice-left.ensures c.as_slice-right.ensures c.requires.free in
+    let less : i < min (length ts) (length us) = omega (arith, c.loop-i-test.true, c.min-count.ensures) in
+    let e = pair_at s n m i ts us c.index-left-i.result c.index-right-i.result (omega (arith, less)) (omega (arith, less)) c.index-left-i.is c.index-right-i.is in
+    let new = c.unify_terms.new.bindings in
+    let t = full s (instance (raise n) (tree_of c.index-left-i.result)) in
+    let u = full s (instance (raise m) (tree_of c.index-right-i.result)) in
+    subst (λ (es : List Equation). KeepsFree es k new) waits
+    (pair_free k s n m ts us i c.loop-i.limit c.loop-i.invariant.unified t u e new c.in_ok-unify_terms.ensures.extended c.in_ok-unify_terms.ensures.free)
 
 pub returns-clause-unifier : goal.returns-clause-unifier
 returns-clause-unifier c =
-    let choice = c.args.choice in
     let k = c.args.bindings.now in
-    let equations = c.push_equations.new.stack.items in
-    let waits = head_waits k choice.atom.now choice.base choice.fresh c.args.clause.now c.as_slice.result.now c.as_slice-2.result.now equations c.clear.new.self.items c.as_slice.ensures c.as_slice-2.ensures c.in_ok-push_equations.ensures c.clear.ensures.items c.requires.free in
-    subst (λ (es : List Equation). IfOk c.solve.result (IsUnified (made k) es (made c.solve.new.bindings))) waits
-    (subst (λ (b : List Binding). IfOk c.solve.result (IsUnified (made b) (waiting b equations) (made c.solve.new.bindings))) c.in_ok-reserve.ensures c.solve.ensures.unifier)
+    let choice = c.args.choice in
+    let i = c.loop-i.i in
+    let ts = c.as_slice-left.result.now in
+    let us = c.as_slice-right.result.now in
+    let waits = head_waits k choice.atom.now choice.base choice.fresh c.args.clause.now ts us c.as_slice-left.ensures c.as_slice-right.ensures c.requires.free in
+    let all : i ≡ min (length ts) (length us) = omega (arith, c.loop-i-test.false, c.min-count.ensures, c.loop-i.invariant.within) in
+    subst (λ (es : List Equation). IsUnified (made k) es (made c.loop-i.bindings) true) waits
+    (all_unified k c.loop-i.bindings choice.base choice.fresh ts us i c.loop-i.limit c.loop-i.invariant.unified all)
 
 pub returns-clause-free : goal.returns-clause-free
 returns-clause-free c =
-    let choice = c.args.choice in
     let k = c.args.bindings.now in
-    let equations = c.push_equations.new.stack.items in
-    let waits = head_waits k choice.atom.now choice.base choice.fresh c.args.clause.now c.as_slice.result.now c.as_slice-2.result.now equations c.clear.new.self.items c.as_slice.ensures c.as_slice-2.ensures c.in_ok-push_equations.ensures c.clear.ensures.items c.requires.free in
-    subst (λ (es : List Equation). OnOk c.solve.result (KeepsFree es k c.solve.new.bindings)) waits
-    (subst (λ (b : List Binding). OnOk c.solve.result (KeepsFree (waiting b equations) b c.solve.new.bindings)) c.in_ok-reserve.ensures c.solve.ensures.free)
-
-pub solve-requires : goal.solve-requires
-solve-requires c =
     let choice = c.args.choice in
-    let k = c.args.bindings.now in
-    let a = over (full k) (raised choice.base choice.atom.now) in
-    let equations = c.push_equations.new.stack.items in
-    let waits = head_waits k choice.atom.now choice.base choice.fresh c.args.clause.now c.as_slice.result.now c.as_slice-2.result.now equations c.clear.new.self.items c.as_slice.ensures c.as_slice-2.ensures c.in_ok-push_equations.ensures c.clear.ensures.items c.requires.free in
-    subst (λ (b : List Binding). LeftBelow choice.fresh (waiting b equations)) (sym c.in_ok-reserve.ensures)
-    (subst (LeftBelow choice.fresh) (sym waits) (left_arguments choice.fresh a.args (raised choice.fresh c.args.clause.now.head).args c.requires.below))
+    let ts = c.as_slice-left.result.now in
+    let us = c.as_slice-right.result.now in
+    let waits = head_waits k choice.atom.now choice.base choice.fresh c.args.clause.now ts us c.as_slice-left.ensures c.as_slice-right.ensures c.requires.free in
+    subst (λ (es : List Equation). KeepsFree es k c.loop-i.bindings) waits c.loop-i.invariant.unified.free

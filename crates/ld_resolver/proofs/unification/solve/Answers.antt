@@ -5,10 +5,10 @@ use Rattle.cti_terms.proofs.UnifyLaws.{below_equations}
 use Rattle.ld_resolver.specs.declared.unification.Next.{Next}
 use Rattle.ld_resolver.specs.Raised.{raised_tree}
 use Rattle.ld_resolver.specs.Store.{stored, full, made}
-use Rattle.ld_resolver.specs.Pending.{raw_equations, waiting, IsNext}
+use Rattle.ld_resolver.specs.Pending.{raw_equations, under_bindings, waiting, IsNext}
 use Rattle.ld_resolver.specs.Remembered.{AreRemembered, AreRememberedAfter}
 use Rattle.ld_resolver.specs.Below.{LeftBelow}
-use Rattle.ld_resolver.proofs.BelowLaws.{left_bound, left_wider}
+use Rattle.ld_resolver.proofs.HeadSteps.{bound_below}
 use Rattle.ld_resolver.proofs.PendingLaws.{under_more}
 use Rattle.ld_resolver.proofs.UnifySteps.{fewer_occur, option_map_same, option_map_twice, stays_free}
 use Rattle.ld_resolver.proofs.unification.solve.Goals as goal
@@ -19,6 +19,7 @@ loop-x-init c =
     let first = waiting s c.args.equations.now.items in
     record {
       so_far = ([], sym (append-nil (made s)), option_map_same (unify first));
+      limits = λ es h. h;
       left = c.requires;
       pairs = c.clear.ensures s first;
       inside = λ y h. h;
@@ -52,6 +53,8 @@ loop-x-preserved c =
     let same : waiting c.bind.new.self left ≡ replaced x (full s t) (waiting s left) = ap (λ b. waiting b left) c.in_ok-bind-in-Bound.ensures ∙ under_more s (x, t) (raw_equations left) in
     let b : Binding = (x, full s t) in
     let old = c.loop-x.invariant.so_far in
+    let now = c.max.result in
+    let stays = bound_below s x t c.loop-x.limit c.in-Bound.above now (omega (arith, c.max.ensures)) (omega (arith, c.max.ensures)) n.2 in
     record {
       so_far = (
         old.0 ++ b ∷ [],
@@ -60,12 +63,8 @@ loop-x-preserved c =
             ∙ ap (option_map (λ cs. old.0 ++ cs)) (n.3.unifier ∙ ap (λ es. option_map (λ cs. b ∷ cs) (unify es)) (sym same))
             ∙ option_map_twice old.0 b (unify (waiting c.bind.new.self left)),
       );
-      left =
-          let limit = c.loop-x.limit in
-          let above = c.in-Bound.above in
-          let now = c.max-limit.result in
-          subst (LeftBelow now) (sym same)
-          (left_bound now x (full s t) (waiting s left) (λ y o. let k = n.2 y o in omega (arith, k, c.max-limit.ensures)) (left_wider limit now (waiting s left) (omega (arith, c.max-limit.ensures)) c.in_ok-next_binding.ensures.left));
+      limits = λ es h. subst (λ (b : List Binding). LeftBelow now (under_bindings b es)) (sym c.in_ok-bind-in-Bound.ensures) (stays es (c.loop-x.invariant.limits es h));
+      left = subst (λ (b : List Binding). LeftBelow now (waiting b left)) (sym c.in_ok-bind-in-Bound.ensures) (stays (raw_equations left) c.in_ok-next_binding.ensures.left);
       pairs =
           subst (λ (b : List Binding). AreRemembered b (waiting b left) c.next_binding.new.pairs) (sym c.in_ok-bind-in-Bound.ensures)
           (subst (λ (n : Next). AreRememberedAfter s n left c.next_binding.new.pairs) c.in-Bound.is c.in_ok-next_binding.ensures.pairs);
