@@ -15,6 +15,7 @@ pub mod ProgressLaws
 pub mod RememberedLaws
 pub mod SearchLaws
 pub mod SequelLaws
+pub mod SlotLaws
 pub mod StoreLaws
 pub mod TailLaws
 pub mod ToldLaws

@@ -1,5 +1,5 @@
 -- Laws of stored bindings.
-use Rattle.std.proofs.Common.{◌≡◌, ◌≢◌, ℕ, zero, suc, ◌<◌, Bool, true, false, ◌==◌, if◌then◌else◌, List, [], ◌∷◌, ◌++◌, map, reverse, length, drop, set, replicate, Option, None, Some, IfSome, option_map, refl, ap, sym, ◌∙◌, subst, arith, eqb-true}
+use Rattle.std.proofs.Common.{◌≡◌, ◌≢◌, ℕ, zero, suc, ◌<◌, Bool, true, false, ◌==◌, if◌then◌else◌, List, [], ◌∷◌, ◌++◌, map, reverse, length, drop, set, Option, None, Some, IfSome, option_map, refl, ap, sym, ◌∙◌, subst, arith, eqb-true}
 use Rattle.std.specs.Prelude.{unwrap_or}
 use Rattle.std.proofs.lemmas.Bool.Decides.{nat_tests}
 use Rattle.std.proofs.lemmas.List.{map-append, reverse-append, length-reverse, length-map}
@@ -8,7 +8,8 @@ use Rattle.cti_terms.specs.Unify.{Binding, occurs, only, applied}
 use Rattle.cti_terms.proofs.Unifier.{absent, only_same}
 use Rattle.ld_resolver.specs.declared.raised_term.RaisedTerm.{RaisedTerm}
 use Rattle.ld_resolver.specs.Raised.{raised_tree}
-use Rattle.ld_resolver.specs.Store.{stored, made, full, IsOpen, MayBind, AreMade, one_more, chain, chain_of, binding_in, trail_of, slot, IsStore}
+use Rattle.ld_resolver.specs.Slots.{slot}
+use Rattle.ld_resolver.specs.Store.{stored, made, full, IsOpen, MayBind, AreMade, one_more, chain, chain_of, binding_in, trail_of, IsStore}
 
 -- bindings in turn
 pub applied-append : (bs cs : List Binding) (t : Tree) → applied (bs ++ cs) t ≡ applied cs (applied bs t)
@@ -115,33 +116,23 @@ chain_falls (b ∷ s) x t m h = go (b.0 == x) h (chain_falls s x t m.1)
 
 -- ---- slots
 
-slot_set_same : (xs : List (Option RaisedTerm)) (i : ℕ) (v : Option RaisedTerm) → i < length xs → slot (set xs i v) i ≡ option_map raised_tree v
+slot_set_same : (xs : List (Option Tree)) (i : ℕ) (v : Option Tree) → i < length xs → slot (set xs i v) i ≡ v
 slot_set_same [] i v h = absurd (omega (arith, h))
 slot_set_same (x ∷ xs) zero v h = refl
 slot_set_same (x ∷ xs) (suc i) v h = slot_set_same xs i v (omega (arith, h))
 
-slot_set_other : (xs : List (Option RaisedTerm)) (i j : ℕ) (v : Option RaisedTerm) → i ≢ j → slot (set xs i v) j ≡ slot xs j
+slot_set_other : (xs : List (Option Tree)) (i j : ℕ) (v : Option Tree) → i ≢ j → slot (set xs i v) j ≡ slot xs j
 slot_set_other [] i j v h = refl
 slot_set_other (x ∷ xs) zero zero v h = absurd (h refl)
 slot_set_other (x ∷ xs) zero (suc j) v h = refl
 slot_set_other (x ∷ xs) (suc i) zero v h = refl
 slot_set_other (x ∷ xs) (suc i) (suc j) v h = slot_set_other xs i j v (λ e. h (ap suc e))
 
-slot_none : (n j : ℕ) → slot (replicate n None) j ≡ None
-slot_none zero j = refl
-slot_none (suc n) zero = refl
-slot_none (suc n) (suc j) = slot_none n j
-
-pub slot_grown : (xs : List (Option RaisedTerm)) (n j : ℕ) → slot (xs ++ replicate n None) j ≡ slot xs j
-slot_grown [] n j = slot_none n j
-slot_grown (x ∷ xs) n zero = refl
-slot_grown (x ∷ xs) n (suc j) = slot_grown xs n j
-
-pub trail_more : (slots : List (Option RaisedTerm)) (xs : List ℕ) (x : ℕ) → trail_of slots (xs ++ x ∷ []) ≡ binding_in slots x ∷ trail_of slots xs
+pub trail_more : (slots : List (Option Tree)) (xs : List ℕ) (x : ℕ) → trail_of slots (xs ++ x ∷ []) ≡ binding_in slots x ∷ trail_of slots xs
 trail_more slots xs x = ap reverse (map-append (binding_in slots) xs (x ∷ [])) ∙ reverse-append (map (binding_in slots) xs) (binding_in slots x ∷ [])
 
 -- as many bindings
-pub length-trail_of : (slots : List (Option RaisedTerm)) (xs : List ℕ) → length (trail_of slots xs) ≡ length xs
+pub length-trail_of : (slots : List (Option Tree)) (xs : List ℕ) → length (trail_of slots xs) ≡ length xs
 length-trail_of slots xs = length-reverse (map (binding_in slots) xs) ∙ length-map xs (binding_in slots)
 
 -- a variable that is free with one more binding is free, and another one than the binding's
@@ -158,7 +149,7 @@ stored_last (a ∷ s) b x h = go (a.0 == x) h (stored_last s b x)
     go false k rest = rest k
 
 -- the slot of a free variable says nothing of the bindings
-trail_kept : (slots more : List (Option RaisedTerm)) (x : ℕ) (xs : List ℕ) → ((y : ℕ) → (y == x) ≡ false → slot more y ≡ slot slots y) → stored (trail_of slots xs) x ≡ None → trail_of more xs ≡ trail_of slots xs
+trail_kept : (slots more : List (Option Tree)) (x : ℕ) (xs : List ℕ) → ((y : ℕ) → (y == x) ≡ false → slot more y ≡ slot slots y) → stored (trail_of slots xs) x ≡ None → trail_of more xs ≡ trail_of slots xs
 trail_kept slots more x [] same h = refl
 trail_kept slots more x (y ∷ ys) same h =
     let split = reverse-append (binding_in slots y ∷ []) (map (binding_in slots) ys) in
@@ -169,25 +160,25 @@ trail_kept slots more x (y ∷ ys) same h =
     ∙ (λ i. others i ++ (y, unwrap_or (term i) (Variable y)) ∷ [])
     ∙ sym split
 
-set_kept : (slots : List (Option RaisedTerm)) (x : ℕ) (v : Option RaisedTerm) (xs : List ℕ) → stored (trail_of slots xs) x ≡ None → trail_of (set slots x v) xs ≡ trail_of slots xs
+set_kept : (slots : List (Option Tree)) (x : ℕ) (v : Option Tree) (xs : List ℕ) → stored (trail_of slots xs) x ≡ None → trail_of (set slots x v) xs ≡ trail_of slots xs
 set_kept slots x v xs h = trail_kept slots (set slots x v) x xs (λ y e. slot_set_other slots x y v (λ z. eqb_false y x e (sym z))) h
 
 -- the same slots
-bindings_same : (slots more : List (Option RaisedTerm)) → ((x : ℕ) → slot more x ≡ slot slots x) → (xs : List ℕ) → map (binding_in more) xs ≡ map (binding_in slots) xs
+bindings_same : (slots more : List (Option Tree)) → ((x : ℕ) → slot more x ≡ slot slots x) → (xs : List ℕ) → map (binding_in more) xs ≡ map (binding_in slots) xs
 bindings_same slots more same [] = refl
 bindings_same slots more same (x ∷ xs) = λ i. (x, unwrap_or (same x i) (Variable x)) ∷ bindings_same slots more same xs i
 
-pub trail_same : (slots more : List (Option RaisedTerm)) (trail : List ℕ) → ((x : ℕ) → slot more x ≡ slot slots x) → trail_of more trail ≡ trail_of slots trail
+pub trail_same : (slots more : List (Option Tree)) (trail : List ℕ) → ((x : ℕ) → slot more x ≡ slot slots x) → trail_of more trail ≡ trail_of slots trail
 trail_same slots more trail same = ap reverse (bindings_same slots more same trail)
 
-pub store_same : (slots more : List (Option RaisedTerm)) (trail : List ℕ) → IsStore slots trail → ((x : ℕ) → slot more x ≡ slot slots x) → IsStore more trail
+pub store_same : (slots more : List (Option Tree)) (trail : List ℕ) → IsStore slots trail → ((x : ℕ) → slot more x ≡ slot slots x) → IsStore more trail
 store_same slots more trail s same =
     let kept = trail_same slots more trail same in
     record { agree = λ y. ap (λ l. stored l y) kept ∙ s.agree y ∙ sym (same y); made = subst AreMade (sym kept) s.made }
 
 -- a binding is kept
-module _ (slots : List (Option RaisedTerm)) (trail : List ℕ) (x : ℕ) (r : RaisedTerm) (s : IsStore slots trail) (within : x < length slots) (may : MayBind (trail_of slots trail) x (raised_tree r)) where
-  pub trail_bound : trail_of (set slots x (Some r)) (trail ++ x ∷ []) ≡ (x, raised_tree r) ∷ trail_of slots trail
+module _ (slots : List (Option Tree)) (trail : List ℕ) (x : ℕ) (r : Tree) (s : IsStore slots trail) (within : x < length slots) (may : MayBind (trail_of slots trail) x r) where
+  pub trail_bound : trail_of (set slots x (Some r)) (trail ++ x ∷ []) ≡ (x, r) ∷ trail_of slots trail
   trail_bound =
       let term = slot_set_same slots x (Some r) within in
       let others = set_kept slots x (Some r) trail may.free in
@@ -199,18 +190,18 @@ module _ (slots : List (Option RaisedTerm)) (trail : List ℕ) (x : ℕ) (r : Ra
     made = subst AreMade (sym trail_bound) (may, s.made);
   }
     where
-      at : (y : ℕ) (c : Bool) → (x == y) ≡ c → (if x == y then Some (raised_tree r) else stored (trail_of slots trail) y) ≡ slot (set slots x (Some r)) y
+      at : (y : ℕ) (c : Bool) → (x == y) ≡ c → (if x == y then Some r else stored (trail_of slots trail) y) ≡ slot (set slots x (Some r)) y
       at y true e =
-          if_same (x == y) (Some (raised_tree r)) (stored (trail_of slots trail) y) e
+          if_same (x == y) (Some r) (stored (trail_of slots trail) y) e
           ∙ sym (slot_set_same slots x (Some r) within)
           ∙ ap (slot (set slots x (Some r))) (eqb-true x y e)
       at y false e =
-          if_other (x == y) (Some (raised_tree r)) (stored (trail_of slots trail) y) e
+          if_other (x == y) (Some r) (stored (trail_of slots trail) y) e
           ∙ s.agree y
           ∙ sym (slot_set_other slots x y (Some r) (eqb_false x y e))
 
 -- the last binding is taken back
-module _ (slots : List (Option RaisedTerm)) (trail : List ℕ) (x : ℕ) (s : IsStore slots (trail ++ x ∷ [])) where
+module _ (slots : List (Option Tree)) (trail : List ℕ) (x : ℕ) (s : IsStore slots (trail ++ x ∷ [])) where
   abbrev term : Tree
   term = unwrap_or (slot slots x) (Variable x)
 
@@ -224,7 +215,7 @@ module _ (slots : List (Option RaisedTerm)) (trail : List ℕ) (x : ℕ) (s : Is
   pub last_within : x < length slots
   last_within = there slots x (sym (old x) ∙ if_same (x == x) (Some term) (stored (trail_of slots trail) x) (eqb_same x))
     where
-      there : (os : List (Option RaisedTerm)) (i : ℕ) → slot os i ≡ Some term → i < length os
+      there : (os : List (Option Tree)) (i : ℕ) → slot os i ≡ Some term → i < length os
       there [] i h = cc
       there (o ∷ os) zero h = omega arith
       there (o ∷ os) (suc i) h = let k = there os i h in omega (arith, k)

@@ -1,6 +1,7 @@
 pub mod Pending
 pub mod Raised
 pub mod Shapes
+pub mod Slots
 pub mod Store
 pub mod Walk
 pub mod Below

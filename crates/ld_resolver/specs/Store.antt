@@ -3,11 +3,10 @@
 --
 -- A binding is stored with the term as it was met. The definition's binding has the earlier bindings applied to it.
 -- Stored bindings stand in a list with the last one made first. Nothing here has to be believed.
-use Rattle.std.specs.Prelude.{◌≡◌, ℕ, zero, suc, false, ◌==◌, if◌then◌else◌, List, [], ◌∷◌, ◌++◌, map, reverse, slice_get, Option, None, Some, option_map, option_and_then, unwrap_or}
+use Rattle.std.specs.Prelude.{◌≡◌, ℕ, zero, suc, false, ◌==◌, if◌then◌else◌, List, [], ◌∷◌, ◌++◌, map, reverse, Option, None, Some, unwrap_or}
 use Rattle.cti_terms.specs.Tree.{Tree, Trees, Variable, Integer, Compound, all_instances}
 use Rattle.cti_terms.specs.Unify.{Binding, occurs, applied}
-use Rattle.ld_resolver.specs.declared.raised_term.RaisedTerm.{RaisedTerm}
-use Rattle.ld_resolver.specs.Raised.{raised_tree}
+use Rattle.ld_resolver.specs.Slots.{slot}
 
 -- the stored term of a variable
 abbrev pub stored : List Binding → ℕ → Option Tree
@@ -59,19 +58,15 @@ chain_of s (Variable x) = chain s x
 chain_of s (Integer n) = 0
 chain_of s (Compound f ts) = 0
 
--- the tree in a slot
-abbrev pub slot : List (Option RaisedTerm) → ℕ → Option Tree
-slot slots x = option_and_then (option_map raised_tree) (slice_get slots x)
-
 -- the binding of a variable with a term in its slot
-abbrev pub binding_in : List (Option RaisedTerm) → ℕ → Binding
+abbrev pub binding_in : List (Option Tree) → ℕ → Binding
 binding_in slots x = (x, unwrap_or (slot slots x) (Variable x))
 
 -- the bindings of variables in slots, of which the last one was made last
-abbrev pub trail_of : List (Option RaisedTerm) → List ℕ → List Binding
+abbrev pub trail_of : List (Option Tree) → List ℕ → List Binding
 trail_of slots xs = reverse (map (binding_in slots) xs)
 
 -- the variables of the trail have terms in their slots, and no others have
-pub record IsStore (slots : List (Option RaisedTerm)) (trail : List ℕ) : Type 0 where
+pub record IsStore (slots : List (Option Tree)) (trail : List ℕ) : Type 0 where
   pub agree : (x : ℕ) → stored (trail_of slots trail) x ≡ slot slots x
   pub made : AreMade (trail_of slots trail)

@@ -2,11 +2,12 @@
 
 ghost use Rattle.std.specs.Prelude.{◌≡◌, ℕ, ◌-◌, ◌≤◌, ◌<◌, ◌+◌, ◌^◌, [], ◌∷◌, OnOk, length, vec_len, drop, option_map, IfSome};
 ghost use Rattle.ld_resolver.specs.Raised.{raised_tree};
-ghost use Rattle.ld_resolver.specs.Store.{stored, slot, full, IsOpen, MayBind, AreMade, chain, chain_of};
+ghost use Rattle.ld_resolver.specs.Store.{stored, full, IsOpen, MayBind, AreMade, chain, chain_of};
 ghost use Rattle.cti_terms.specs.Tree.{Variable};
 ghost use Rattle.ld_resolver.specs.Shapes.{IsMet};
 
 use crate::raised_term::{Met, RaisedTerm, Shape};
+use crate::slots::Slots;
 use std::alloc::{AllocError, Global};
 use std::marker::Model;
 
@@ -15,12 +16,17 @@ use std::marker::Model;
 /// A variable is bound to a term as the program spells it, so that a binding copies no term.
 ///
 /// Source: the binding store and the trail of Warren 1983, with structure sharing as in Boyer and Moore 1972.
-#[derive(Drop)]
 pub struct Bindings<'p> {
-    /// The term of each variable.
-    slots: Vec<Option<RaisedTerm<'p>>>,
+    /// The term of each bound variable.
+    slots: Slots<'p>,
     /// The bound variables, in the order in which they were bound.
     trail: Vec<u32>,
+}
+
+impl Drop for Bindings<'_> {
+    fn drop(self) {
+        let Bindings { slots: _, trail: _ } = self;
+    }
 }
 
 impl<'p> Model for Bindings<'p> {
@@ -34,20 +40,9 @@ impl<'p> Model for Bindings<'p> {
 
     ghost coded = { coded_list (coded× coded_ℕ coded_tree) };
 
-    ghost view = { λ a. trail_of a.slots.items a.trail.items };
+    ghost view = { λ a. trail_of a.slots a.trail.items };
 
-    ghost invariant = { λ a. IsStore a.slots.items a.trail.items };
-}
-
-/// Makes slots for the variables below this number.
-fn grow<'p>(slots: &mut Vec<Option<RaisedTerm<'p>>>, count: usize) -> Result<(), AllocError>
-    ensures room { OnOk result (count ≤ vec_len slots.new) }
-    ensures same { (x : ℕ) → slot slots.new.items x ≡ slot slots.old.items x }
-{
-    if count > slots.len() {
-        slots.resize(count, None)?;
-    }
-    Ok(())
+    ghost invariant = { λ a. IsStore a.slots a.trail.items };
 }
 
 impl<'p> Bindings<'p> {
@@ -56,7 +51,7 @@ impl<'p> Bindings<'p> {
         ensures { result ≡ [] }
     {
         Bindings {
-            slots: Vec::new(alloc),
+            slots: Slots::new(alloc),
             trail: Vec::new(alloc),
         }
     }
@@ -74,7 +69,7 @@ impl<'p> Bindings<'p> {
         ensures stored { option_map raised_tree result ≡ stored self.now variable }
         ensures made { AreMade self.now }
     {
-        self.slots.get(variable).copied().flatten()
+        self.slots.get(variable)
     }
 
     /// The term of a variable, where it is bound.
@@ -90,7 +85,7 @@ impl<'p> Bindings<'p> {
     pub fn reserve(&mut self, count: usize) -> Result<(), AllocError>
         ensures { OnOk result (self.new ≡ self.old) }
     {
-        grow(&mut self.slots, count)
+        self.slots.reserve(count)
     }
 
     /// Binds a variable. One whose number has more than 32 bits is out of memory.
@@ -103,9 +98,9 @@ impl<'p> Bindings<'p> {
         if variable > u32::MAX as usize {
             return Err(AllocError);
         }
-        grow(&mut self.slots, variable + 1)?;
+        self.slots.reserve(variable + 1)?;
         self.trail.push(variable as u32)?;
-        self.slots[variable] = Some(term);
+        self.slots.set(variable, term);
         Ok(())
     }
 
@@ -115,7 +110,7 @@ impl<'p> Bindings<'p> {
         ensures { self.new ≡ drop 1 self.old }
     {
         match self.trail.pop() {
-            Some(variable) => self.slots[variable as usize] = None,
+            Some(variable) => self.slots.clear(variable as usize),
             None => unreachable!(),
         }
     }

@@ -23,6 +23,8 @@ mod occurs_check;
 mod raised_term;
 mod running;
 mod search;
+mod slot;
+mod slots;
 mod tails;
 mod unification;
 mod visited;
