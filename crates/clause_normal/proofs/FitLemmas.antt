@@ -189,7 +189,7 @@ module _ (names : List (List ℕ)) where
     few_branches = λ args. omega (arith, k (args ++ occurrences t));
   }
 
-  -- a goal that is no disjunction
+  -- a goal that is not a disjunction
   abbrev IsPlain : Goal → Type 0
   IsPlain g = FitGoal known g × (choices_at g + inner_at g ≡ 0)
 

@@ -18,7 +18,7 @@ pub record AreEnds (xs : List ℕ) (i : ℕ) (ends : List ℕ) : Type 0 where
   pub before : (x k : ℕ) → 1 ≤ count_to xs i x → k < slice_index ends x → count_to xs k x < count_to xs i x
   pub from : (x k : ℕ) → 1 ≤ count_to xs i x → slice_index ends x ≤ k → k ≤ i → count_to xs k x ≡ count_to xs i x
 
--- there is room for so many variables
+-- there is room for the given number of variables
 pub record HasSize (vars : ℕ) (p : Places) : Type 0 where
   pub firsts : length p.firsts.items ≡ vars
   pub ends : length p.ends.items ≡ vars

@@ -6,7 +6,7 @@ use Rattle.std.specs.List.{AllByRecursion}
 use Rattle.clause_normal.specs.Bodies.{Goal, Goals, Branches, no_goals, more_goals, no_branches, more_branches, arguments, choice_goal}
 
 mutual
-  -- a goal that is no disjunction, and its variables; or a disjunction by its place, its variables and its branches
+  -- a goal that is not a disjunction, and its variables; or a disjunction by its place, its variables and its branches
   pub data Piece : Type 0 where
     plain : Goal → List ℕ → Piece
     either : ℕ → List ℕ → Outlines → Piece

@@ -5,7 +5,7 @@ use crate::part::Item;
 
 /// A goal of a body, where the arguments of a disjunction's predicate are known.
 pub(crate) enum Goal<'a, 'v, 'o> {
-    /// A goal that is no disjunction.
+    /// A goal that is not a disjunction.
     Item(Item<'a>),
     /// A disjunction: the variables that its predicate has as arguments, and its branches.
     Choice(Vec<u32>, &'o Vec<Outline<'a, 'v>>),

@@ -6,7 +6,7 @@ use crate::part::Item;
 #[cycle(outlines)]
 #[derive(Drop)]
 pub(crate) enum Piece<'a, 'v> {
-    /// A goal that is no disjunction, and its variables.
+    /// A goal that is not a disjunction, and its variables.
     Plain(Item<'a>, &'v [u32]),
     /// A disjunction: its place, its variables and its branches.
     Either(u32, &'v [u32], Vec<Outline<'a, 'v>>),

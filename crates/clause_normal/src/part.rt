@@ -11,7 +11,7 @@ use crate::words::{Connective, connective_of, is_choice_name, is_impure, text_of
 use cti_terms::{MOST_ARGUMENTS, Name, Names};
 use prolog_reader::{ReadShape, ReadTerm};
 
-/// A goal of a body that is no disjunction.
+/// A goal of a body that is not a disjunction.
 #[derive(Clone, Copy)]
 pub(crate) enum Item<'a> {
     /// A call of a name with these arguments.
