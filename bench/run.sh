@@ -54,11 +54,14 @@ ALONE = [
 
 def once(file, query, steps):
     """The last line of a run, its time and its greatest memory in bytes."""
-    child = subprocess.Popen([program, "run", str(file), query, "--steps", str(steps)], stdout=subprocess.PIPE)
+    # GNU time says the memory: what this process waits for has at least the memory of this one.
+    words = ["/usr/bin/time", "-f", "%M", "-o", str(folder / "memory"), program, "run", str(file), query, "--steps", str(steps)]
+    child = subprocess.Popen(words, stdout=subprocess.PIPE)
     last = child.stdout.read().splitlines()[-1]
     used = os.wait4(child.pid, 0)[2]
     child.returncode = 0
-    return last, used.ru_utime + used.ru_stime, used.ru_maxrss * 1024
+    memory = int((folder / "memory").read_text().split()[-1]) * 1024
+    return last, used.ru_utime + used.ru_stime, memory
 
 
 def ours(file, query, limit=1_000_000):

@@ -13,7 +13,7 @@ cat >"$work/crates/driver/src/show.rt" <<'RUST'
 ghost use Rattle.std.specs.Prelude.{◌≤◌, length};
 
 use clause_normal::normal;
-use cti_terms::{Name, Names, PredId, Program};
+use cti_terms::{Atom, Clause, Name, Names, PredId, Program, Term};
 use prolog_reader::read_text;
 use std::io;
 use std::time::Instant;
@@ -48,7 +48,48 @@ fn show_program(rt: &HostRuntime, program: &Program) -> io::Result<()> {
         print!(rt; "{:?}", program.pred(PredId(number)))?;
     }
     for k in 0..program.clauses() {
-        print!(rt; "{:?}", program.clause(k + 1))?;
+        show_clause(rt, program.clause(k + 1))?;
+    }
+    Ok(())
+}
+
+fn show_clause(rt: &HostRuntime, clause: &Clause) -> io::Result<()> {
+    print!(rt; "Clause {{ head: ")?;
+    show_atom(rt, &clause.head)?;
+    print!(rt; ", body: Atoms {{ items: [")?;
+    let mut is_first = true;
+    for atom in clause.body.as_slice() {
+        if !is_first {
+            print!(rt; ", ")?;
+        }
+        is_first = false;
+        show_atom(rt, atom)?;
+    }
+    print!(rt; "] }}, vars: {} }}", clause.vars)
+}
+
+fn show_atom(rt: &HostRuntime, atom: &Atom) -> io::Result<()> {
+    print!(rt; "Atom {{ pred: {:?}, args: Terms {{ items: [", atom.pred)?;
+    show_terms(rt, atom.args.as_slice())?;
+    print!(rt; "] }} }}")
+}
+
+fn show_terms(rt: &HostRuntime, terms: &[Term]) -> io::Result<()> {
+    let mut is_first = true;
+    for term in terms {
+        if !is_first {
+            print!(rt; ", ")?;
+        }
+        is_first = false;
+        match term {
+            Term::Var(x) => print!(rt; "Var({})", *x)?,
+            Term::Int(n) => print!(rt; "Int({})", *n)?,
+            Term::Fun(name, args) => {
+                print!(rt; "Fun({:?}, [", *name)?;
+                show_terms(rt, args)?;
+                print!(rt; "])")?;
+            }
+        }
     }
     Ok(())
 }
