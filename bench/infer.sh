@@ -1,7 +1,7 @@
 #!/usr/bin/env bash
 # Times `cti infer`, outside the gate: 1 MB of facts (long ones, and of different names) and half as much, quicksort, generated programs
-# of 150 and 300 predicates, a chain of 3,000 predicates and a ring of 80 in a shuffled order, and a clause of 48 variables; and `cti check` on
-# the certificates of the generated ones.
+# of 150 and 300 predicates, a chain of 3,000 predicates and a ring of 80 in a shuffled order, a clause of 48 variables, and facts whose
+# arguments have sizes that differ at random; and `cti check` on the certificates of the generated ones.
 # Usage: bench/infer.sh [PROGRAM]     (PROGRAM is bin/cti where none is named)
 set -eu
 cd "$(dirname "$0")/.."
@@ -46,6 +46,19 @@ def shuffled(clauses):
     return "\n".join(clauses) + "\n"
 
 
+def nested(size):
+    """A term of this size."""
+    return "f(" * size + "a" + ")" * size
+
+
+def points(count, arity):
+    """Facts whose arguments have sizes that differ at random from 0 to 9."""
+    pick = random.Random(count * 100 + arity)
+    return "".join("p(" + ",".join(nested(pick.randint(0, 9)) for _ in range(arity)) + ").\n" for _ in range(count))
+
+
+for count, arity in [(80, 3), (20, 4), (9, 5)]:
+    write(f"points_{count}_{arity}", points(count, arity))
 long_fact = "p(" + ",".join(["abcd"] * 11) + ").\n"
 different = "".join(f"p{n:05}(" + ",".join(f"a{n:05}x{k}" for k in range(6)) + ").\n" for n in range(16384))
 for name, text in [("long", long_fact * 16384), ("different", different)]:
@@ -72,7 +85,7 @@ write(
 )
 PYTHON
 
-for name in long_half long different_half different quicksort generated_150 generated_300 chain ring wide; do
+for name in long_half long different_half different quicksort generated_150 generated_300 chain ring wide points_80_3 points_20_4 points_9_5; do
     python3 bench/timed.py "$folder/$name.pl" "$program" infer "$folder/$name.pl"
 done
 for name in generated_150 generated_300; do
