@@ -77,9 +77,13 @@ fn add_ends(alloc: Global, system: &mut Rows, row: &Row) -> Result<(), AllocErro
 fn at_last(alloc: Global, row: &Row, constant: i128) -> Result<Row, AllocError>
     ensures { IfOk result (λ r. plain_row r ≡ at_last (plain_row row.now) constant) }
 {
-    let mut coeffs = row.coeffs.copy(alloc)?;
-    coeffs.push(row.constant)?;
-    Ok(Row { constant, coeffs })
+    let mut numbers = Vec::with_capacity(alloc, row.coeffs.len().saturating_add(1))?;
+    numbers.extend_from_slice(row.coeffs.as_slice())?;
+    numbers.push(row.constant)?;
+    Ok(Row {
+        constant,
+        coeffs: Numbers::from_vec(numbers),
+    })
 }
 
 // The number with the other sign, where it fits.
