@@ -3,7 +3,7 @@
 
 Usage: tools/compare_check.py DRIVER ORACLE SEED COUNT
 
-DRIVER is the program that tools/check_driver.sh builds. ORACLE is a folder with a Python package that has `infer`, `check`,
+DRIVER is the program that tools/check_driver.sh builds, or tools/check_driver.py, which calls bin/cti. ORACLE is a folder with a Python package that has `infer`, `check`,
 `certificate`, `gen_programs`, `fuzz_engines`, `normal` and `reader`. For COUNT random programs it takes the certificate of the
 package's own inference and certificates that differ from it in one fact. Prints the certificates to which the two answer
 differently, and how many there were of each answer.
