@@ -2,6 +2,7 @@
 use Rattle.std.proofs.Common.{◌≡◌, ℕ, List, [], ◌∷◌, map, refl, arith}
 use Rattle.cti_terms.specs.declared.atom_list.Atom.{Atom}
 use Rattle.cti_terms.specs.declared.clauses.Clause.{Clause}
+use Rattle.cti_terms.specs.Arithmetic.{no_arithmetic}
 use Rattle.cti_terms.specs.Listing.{Listing}
 use Rattle.call_components.specs.Calls.{Calls}
 use Rattle.call_components.specs.Table.{callees, Has}
@@ -15,7 +16,7 @@ rule p body = record { head = call p; body = map call body; vars = 0 }
 
 -- r is 0, p is 1 and q is 2
 abbrev example : Listing
-example = record { preds = []; clauses = rule 0 (1 ∷ 2 ∷ []) ∷ (rule 1 (1 ∷ []) ∷ (rule 2 [] ∷ [])) }
+example = record { preds = []; clauses = rule 0 (1 ∷ 2 ∷ []) ∷ (rule 1 (1 ∷ []) ∷ (rule 2 [] ∷ [])); arithmetic = no_arithmetic }
 
 callees_of_r : callees 0 example.clauses ≡ 1 ∷ 2 ∷ []
 callees_of_r = refl

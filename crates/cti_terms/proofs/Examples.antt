@@ -6,6 +6,7 @@ use Rattle.cti_terms.specs.Tree.{Tree, Variable, Compound, trees, instance, size
 use Rattle.cti_terms.specs.declared.atom_list.Atom.{Atom}
 use Rattle.cti_terms.specs.declared.clauses.Clause.{Clause}
 use Rattle.cti_terms.specs.declared.derivation.Goal.{Goal}
+use Rattle.cti_terms.specs.Arithmetic.{no_arithmetic}
 use Rattle.cti_terms.specs.Listing.{Listing}
 use Rattle.cti_terms.specs.Unify.{Binding, applied, first_step, Failed, only}
 use Rattle.cti_terms.specs.UnifyFunction.{unify}
@@ -125,7 +126,7 @@ goes_on = record {
 }
 
 abbrev append : Listing
-append = record { preds = record { name = record { 0 = 5 }; arity = 3 } ∷ []; clauses = ends ∷ goes_on ∷ [] }
+append = record { preds = record { name = record { 0 = 5 }; arity = 3 } ∷ []; clauses = ends ∷ goes_on ∷ []; arithmetic = no_arithmetic }
 
 -- the query app([a],[b],X)
 abbrev appends : Goal

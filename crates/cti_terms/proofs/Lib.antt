@@ -1,3 +1,4 @@
+mod ArithmeticExamples
 pub mod Bounds
 mod Examples
 pub mod OneAnswer

@@ -1,12 +1,13 @@
 -- A clause leaves one goal.
-use Rattle.std.proofs.Common.{◌≡◌, ℕ, ◌++◌, List, [], ◌∷◌, map, Option, None, Some, IsSomeAnd, refl, ap, sym, subst, ◌∙◌}
+use Rattle.std.proofs.Common.{◌≡◌, ℕ, zero, suc, ◌++◌, List, [], ◌∷◌, map, slice_get, Option, None, Some, IsSomeAnd, refl, ap, sym, subst, ◌∙◌}
 use Rattle.cti_terms.specs.declared.atom_list.Atom.{Atom}
 use Rattle.cti_terms.specs.declared.clauses.Clause.{Clause}
-use Rattle.cti_terms.specs.Listing.{Listing, numbered}
+use Rattle.cti_terms.specs.Arithmetic.{Arithmetic}
+use Rattle.cti_terms.specs.Listing.{Listing}
 use Rattle.cti_terms.specs.declared.derivation.Goal.{Goal}
 use Rattle.cti_terms.specs.Unify.{Equation, Binding, replaced, Unifies, none, drop, bind, split, applied}
 use Rattle.cti_terms.specs.Resolve.{over, raised}
-use Rattle.cti_terms.specs.ResolutionStep.{LeavesFrom, Resolves}
+use Rattle.cti_terms.specs.ResolutionStep.{LeavesFrom, PassesFrom, Resolves}
 
 -- equations have at most one unifier
 pub one_unifier : {es : List Equation} {bs cs : List Binding} → Unifies es bs → Unifies es cs → bs ≡ cs
@@ -41,6 +42,14 @@ both : (o : Option Clause) (atoms : List Atom) (n : ℕ) (bs cs : List Binding) 
 both None atoms n bs cs g h l m = absurd l
 both (Some c) atoms n bs cs g h l m = one_left atoms n c bs cs g h l m
 
--- a clause resolves a goal by one unifier, and leaves one goal
+one_passed : (ar : Arithmetic) (atoms : List Atom) (n : ℕ) (bs cs : List Binding) (g h : Goal) → PassesFrom ar atoms n bs g → PassesFrom ar atoms n cs h → (bs ≡ cs) × (g ≡ h)
+one_passed ar [] n bs cs g h l m = absurd l
+one_passed ar (a ∷ rest) n bs cs g h l m =
+    let same : bs ≡ cs = let e = l.passes in let f = m.passes in cc in
+    let left = l.atoms ∙ ap (λ (b : List Binding). map (over (applied b)) rest) same ∙ sym m.atoms in
+    (same, same_goal g h left (l.fresh ∙ sym m.fresh))
+
+-- a number resolves a goal by one unifier, and leaves one goal
 pub one_resolvent : (p : Listing) (g : Goal) (k : ℕ) (bs cs : List Binding) (h h' : Goal) → Resolves p g k bs h → Resolves p g k cs h' → (bs ≡ cs) × (h ≡ h')
-one_resolvent p g k bs cs h h' l m = both (numbered p.clauses k) g.atoms g.fresh bs cs h h' l m
+one_resolvent p g zero bs cs h h' l m = one_passed p.arithmetic g.atoms g.fresh bs cs h h' l m
+one_resolvent p g (suc i) bs cs h h' l m = both (slice_get p.clauses i) g.atoms g.fresh bs cs h h' l m

@@ -1,14 +1,15 @@
 -- The function resolves as the relation does.
-use Rattle.std.proofs.Common.{◌≡◌, ◌==◌, ℕ, Bool, true, false, if◌then◌else◌, List, [], ◌∷◌, Option, None, Some, option_map, IsSomeAnd, option_and_then, unwrap_or, refl, ap, sym, ◌∙◌, arith, eqb-true}
+use Rattle.std.proofs.Common.{◌≡◌, ◌==◌, ℕ, zero, suc, Bool, true, false, if◌then◌else◌, List, [], ◌∷◌, slice_get, Option, None, Some, option_map, IsSomeAnd, option_and_then, unwrap_or, refl, ap, sym, ◌∙◌, arith, eqb-true}
 use Rattle.std.proofs.lemmas.Bool.Decides.{nat_tests}
 use Rattle.cti_terms.specs.declared.atom_list.Atom.{Atom}
 use Rattle.cti_terms.specs.declared.clauses.Clause.{Clause}
-use Rattle.cti_terms.specs.Listing.{Listing, numbered}
+use Rattle.cti_terms.specs.Arithmetic.{Arithmetic, passes}
+use Rattle.cti_terms.specs.Listing.{Listing}
 use Rattle.cti_terms.specs.declared.derivation.Goal.{Goal}
 use Rattle.cti_terms.specs.Unify.{Binding}
 use Rattle.cti_terms.specs.UnifyFunction.{unify}
-use Rattle.cti_terms.specs.ResolutionStep.{Leaves, LeavesFrom, Resolves}
-use Rattle.cti_terms.specs.Resolve.{head_equations, left_by, answered, resolve_by, resolve}
+use Rattle.cti_terms.specs.ResolutionStep.{Leaves, LeavesFrom, Passes, PassesFrom, Resolves}
+use Rattle.cti_terms.specs.Resolve.{head_equations, left_by, answered, resolve_by, passed, resolve_itself, resolve}
 use Rattle.cti_terms.proofs.UnifyLaws.{unify_complete, unify_finds}
 use Rattle.cti_terms.proofs.OneAnswer.{same_goal}
 
@@ -47,8 +48,39 @@ of_clause None atoms n bs h e = cc
 of_clause (Some c) [] n bs h e = cc
 of_clause (Some c) (a ∷ rest) n bs h e = from_found a rest n c bs h e
 
+-- a built-in atom leaves the other atoms
+passes_found : (ar : Arithmetic) (a : Atom) (rest : List Atom) (n : ℕ) (bs : List Binding) (h : Goal) → Passes ar a rest n bs h → resolve_itself ar (a ∷ rest) n ≡ Some (bs, h)
+passes_found ar a rest n bs h l =
+    let goal : (passed rest n bs).1 ≡ h = same_goal _ h (sym l.atoms) (sym l.fresh) in
+    ap (option_map (passed rest n)) l.passes ∙ ap (λ (g : Goal). Some (bs, g)) goal
+
+from_passed : (ar : Arithmetic) (a : Atom) (rest : List Atom) (n : ℕ) (bs : List Binding) (h : Goal) → resolve_itself ar (a ∷ rest) n ≡ Some (bs, h) → Passes ar a rest n bs h
+from_passed ar a rest n bs h e = go (passes ar a) refl e
+  where
+    go : (o : Option (List Binding)) → passes ar a ≡ o → option_map (passed rest n) o ≡ Some (bs, h) → Passes ar a rest n bs h
+    go None p r = cc
+    go (Some cs) p r =
+        let bindings : cs ≡ bs = ap (λ (o : Option (List Binding × Goal)). (unwrap_or o (bs, h)).0) r in
+        let goal : (passed rest n cs).1 ≡ h = ap (λ (o : Option (List Binding × Goal)). (unwrap_or o (bs, h)).1) r in
+        let left : (passed rest n bs).1 ≡ h = ap (λ (b : List Binding). (passed rest n b).1) (sym bindings) ∙ goal in
+        record {
+          passes = p ∙ ap Some bindings;
+          atoms = sym (ap (λ (g : Goal). g.atoms) left);
+          fresh = sym (ap (λ (g : Goal). g.fresh) left);
+        }
+
+itself_complete : (ar : Arithmetic) (atoms : List Atom) (n : ℕ) (bs : List Binding) (h : Goal) → PassesFrom ar atoms n bs h → resolve_itself ar atoms n ≡ Some (bs, h)
+itself_complete ar [] n bs h l = absurd l
+itself_complete ar (a ∷ rest) n bs h l = passes_found ar a rest n bs h l
+
+itself_finds : (ar : Arithmetic) (atoms : List Atom) (n : ℕ) (bs : List Binding) (h : Goal) → resolve_itself ar atoms n ≡ Some (bs, h) → PassesFrom ar atoms n bs h
+itself_finds ar [] n bs h e = cc
+itself_finds ar (a ∷ rest) n bs h e = from_passed ar a rest n bs h e
+
 pub resolve_complete : (p : Listing) (g : Goal) (k : ℕ) (bs : List Binding) (h : Goal) → Resolves p g k bs h → resolve p g k ≡ Some (bs, h)
-resolve_complete p g k bs h r = at_clause (numbered p.clauses k) g.atoms g.fresh bs h r
+resolve_complete p g zero bs h r = itself_complete p.arithmetic g.atoms g.fresh bs h r
+resolve_complete p g (suc i) bs h r = at_clause (slice_get p.clauses i) g.atoms g.fresh bs h r
 
 pub resolve_finds : (p : Listing) (g : Goal) (k : ℕ) (bs : List Binding) (h : Goal) → resolve p g k ≡ Some (bs, h) → Resolves p g k bs h
-resolve_finds p g k bs h e = of_clause (numbered p.clauses k) g.atoms g.fresh bs h e
+resolve_finds p g zero bs h e = itself_finds p.arithmetic g.atoms g.fresh bs h e
+resolve_finds p g (suc i) bs h e = of_clause (slice_get p.clauses i) g.atoms g.fresh bs h e

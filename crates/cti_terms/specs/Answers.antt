@@ -3,13 +3,17 @@
 --
 -- An answer is printed with its variables numbered by first occurrence, and not at all where it is too large.
 --
--- To believe: `reached`, `answer_of`, `answers`; `numbered_atoms`, `is_large`.
-use Rattle.std.specs.Prelude.{ℕ, max, ◌+◌, Bool, ◌||◌, nat_lt, nat_eq, if◌then◌else◌, List, [], ◌∷◌, ◌++◌, map, filter_map, Option, None, Some, option_map, option_and_then}
+-- A search ends at a goal whose first atom is built in and has a value that does not fit, since the code's numbers do not
+-- reach it.
+--
+-- To believe: `reached`, `answer_of`, `visited`, `answers`; `numbered_atoms`, `is_large`.
+use Rattle.std.specs.Prelude.{ℕ, max, ◌+◌, Bool, false, ◌||◌, nat_lt, nat_eq, if◌then◌else◌, IsTrue, List, [], ◌∷◌, ◌++◌, map, drop, filter_map, Option, None, Some, option_map, option_and_then}
 use Rattle.std.specs.List.{list_any, position_or_len}
 use Rattle.cti_terms.specs.Tree.{Tree, Trees, Variable, Integer, Compound, End, More, trees, instance, all_nodes}
 use Rattle.cti_terms.specs.declared.atom_list.Atom.{Atom}
 use Rattle.cti_terms.specs.declared.derivation.Goal.{Goal}
 use Rattle.cti_terms.specs.declared.limits.TheConstants.{MOST_ANSWER_NODES, MOST_ANSWER_DEPTH}
+use Rattle.cti_terms.specs.Arithmetic.{Arithmetic, begins_wide}
 use Rattle.cti_terms.specs.Listing.{Listing}
 use Rattle.cti_terms.specs.Unify.{Binding, applied}
 use Rattle.cti_terms.specs.Resolve.{over, resolve}
@@ -29,9 +33,35 @@ answer_by atoms bs (a ∷ rest) = None
 abbrev pub answer_of : Listing → Goal → List ℕ → Option (List Atom)
 answer_of p g ks = option_and_then (λ r. answer_by g.atoms r.0 r.1.atoms) (reached p g ks)
 
--- the answers of the empty derivation and the first n nodes, in order
+-- whether a goal that is reached begins with a wide atom
+abbrev pub is_wide_left : Arithmetic → Option (List Binding × Goal) → Bool
+is_wide_left ar None = false
+is_wide_left ar (Some r) = begins_wide ar r.1.atoms
+
+-- whether a derivation leaves a wide goal
+abbrev pub leaves_wide : Listing → Goal → List ℕ → Bool
+leaves_wide p g ks = is_wide_left p.arithmetic (reached p g ks)
+
+-- derivations up to the first one that leaves a wide goal, with it
+abbrev pub up_to_wide : Listing → Goal → List (List ℕ) → List (List ℕ)
+up_to_wide p g [] = []
+up_to_wide p g (ks ∷ rest) = ks ∷ (if leaves_wide p g ks then [] else up_to_wide p g rest)
+
+-- what a search visits of the empty derivation and the first n nodes, in order: it ends at a wide goal
+abbrev pub visited : Listing → Goal → ℕ → List (List ℕ)
+visited p g n = up_to_wide p g ([] ∷ first_nodes p g n)
+
+-- the nodes among these
+abbrev pub visited_nodes : Listing → Goal → ℕ → List (List ℕ)
+visited_nodes p g n = drop 1 (visited p g n)
+
+-- the empty derivation or one of the first n nodes leaves a wide goal
+abbrev pub HasWide : Listing → Goal → ℕ → Type 0
+HasWide p g n = IsTrue (list_any (leaves_wide p g) ([] ∷ first_nodes p g n))
+
+-- the answers of the derivations that are visited, in order
 abbrev pub answers : Listing → Goal → ℕ → List (List Atom)
-answers p g n = filter_map (answer_of p g) ([] ∷ first_nodes p g n)
+answers p g n = filter_map (answer_of p g) (visited p g n)
 
 -- ---- how an answer is reported
 

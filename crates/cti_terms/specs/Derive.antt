@@ -1,7 +1,8 @@
 -- To believe, for a Yes.
 -- Derivations, and goals whose derivations are bounded.
 --
--- A derivation is given by the numbers of its clauses, since each of them leaves one goal at most.
+-- A derivation is given by the numbers of its clauses, with 0 for a built-in atom, since each of them leaves one goal at
+-- most.
 --
 -- To believe: `IsDerivation`, `Bounded`. All that is promised of a query is that it is `Bounded`.
 -- Source: LD-derivations, which select the leftmost atom.
@@ -16,7 +17,7 @@ use Rattle.cti_terms.specs.Resolve.{resolve}
 abbrev pub query : Atom → ℕ → Goal
 query a n = record { atoms = a ∷ []; fresh = n }
 
--- each clause of the list resolves the goal that the ones before it have left
+-- each number of the list resolves the goal that the ones before it have left
 abbrev pub IsDerivation : Listing → Goal → List ℕ → Type 0
 IsDerivation p g [] = Unit {0}
 IsDerivation p g (k ∷ ks) = (bs : List Binding) × (h : Goal) × (resolve p g k ≡ Some (bs, h)) × IsDerivation p h ks

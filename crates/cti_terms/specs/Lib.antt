@@ -1,4 +1,5 @@
 pub mod Answers
+pub mod Arithmetic
 pub mod Codes
 pub mod Coding
 pub mod Derive

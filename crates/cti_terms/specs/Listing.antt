@@ -1,20 +1,24 @@
 -- To believe, for a Yes.
--- A program: its predicates, numbered from 0, and its clauses, numbered from 1, in order.
+-- A program: its predicates, numbered from 0, its clauses, numbered from 1, in order, and its built-in predicates.
 --
--- To believe: `Listing`, `is_pred`, `with_pred`, and what every program keeps, `IsProgram`.
+-- To believe: `Listing`, `is_pred`, `with_pred`, and what every program keeps, `IsProgram`. `Arithmetic.antt` says what is built in.
 -- The limits are those of `src/limits.rt`.
-use Rattle.std.specs.Prelude.{◌≡◌, ◌≢◌, ℕ, zero, suc, ◌+◌, ◌≤◌, ◌<◌, ◌^◌, Bool, ◌&&◌, ◌==◌, IsTrue, List, [], ◌∷◌, ◌++◌, if◌then◌else◌, length, sum_by, slice_get, Option, None, IsSomeAnd}
+use Rattle.std.specs.Prelude.{◌≡◌, ◌≢◌, ℕ, zero, suc, ◌+◌, ◌≤◌, ◌<◌, ◌^◌, Bool, ◌&&◌, ◌==◌, IsTrue, List, [], ◌∷◌, ◌++◌, if◌then◌else◌, length, sum_by, slice_get, Option, None, Some, IsSomeAnd}
 use Rattle.std.specs.List.{AllByRecursion, AllPairs, list_any}
+use Rattle.cti_terms.specs.Arithmetic.{Arithmetic, kind_of}
 use Rattle.cti_terms.specs.Tree.{is_below, nodes_of}
 use Rattle.cti_terms.specs.declared.atom_list.Atom.{Atom}
+use Rattle.cti_terms.specs.declared.builtins.Arith.{Arith}
+use Rattle.cti_terms.specs.declared.builtins.Builtin.{Builtin}
 use Rattle.cti_terms.specs.declared.clauses.Clause.{Clause}
 use Rattle.cti_terms.specs.declared.limits.TheConstants.{MOST_ARGUMENTS, MOST_VARIABLES, MOST_CLAUSES, MOST_NODES, MOST_ATOMS}
 use Rattle.cti_terms.specs.declared.predicates.Pred.{Pred}
 
--- predicates and clauses, each in order
+-- predicates and clauses, each in order, and what is built in
 pub record Listing : Type 0 where
   pub preds : List Pred
   pub clauses : List Clause
+  pub arithmetic : Arithmetic
 
 -- the element of a number that counts from 1
 abbrev pub numbered : {X : Type 0} → List X → ℕ → Option X
@@ -50,6 +54,18 @@ pub record IsClause (preds : List Pred) (c : Clause) : Type 0 where
   pub small : clause_nodes c ≤ MOST_NODES
   pub short : length c.body ≤ MOST_ATOMS
 
+-- the three names differ
+abbrev pub AreThree : Arith → Type 0
+AreThree o = (o.plus ≢ o.minus) × (o.plus ≢ o.times) × (o.minus ≢ o.times)
+
+-- each built-in predicate has two arguments
+abbrev pub AreBinary : List Pred → Arithmetic → Type 0
+AreBinary preds ar = (q : ℕ) (b : Builtin) → kind_of ar q ≡ Some b → IsSomeAnd (slice_get preds q) (λ p. p.arity ≡ 2)
+
+-- the clause is one of a predicate that is not built in
+abbrev pub IsOrdinary : Arithmetic → Clause → Type 0
+IsOrdinary ar c = kind_of ar c.head.pred.0 ≡ None
+
 -- what every program keeps
 pub record IsProgram (p : Listing) : Type 0 where
   pub arities : AllByRecursion (λ (q : Pred). q.arity ≤ MOST_ARGUMENTS) p.preds
@@ -57,6 +73,8 @@ pub record IsProgram (p : Listing) : Type 0 where
   pub clauses : AllByRecursion (IsClause p.preds) p.clauses
   pub preds_fit : length p.preds < 2 ^ 32
   pub clauses_fit : length p.clauses ≤ MOST_CLAUSES
+  pub binary : AreBinary p.preds p.arithmetic
+  pub ordinary : AllByRecursion (IsOrdinary p.arithmetic) p.clauses
 
 -- a clause with an empty body
 abbrev pub IsFact : Clause → Type 0

@@ -1,7 +1,7 @@
 -- To believe, for the command.
 -- The nodes of a goal: its derivations but the empty one, in the order in which a search meets them.
 --
--- A derivation is given by the numbers of its clauses. Lists of numbers stand in lexicographic order, a beginning
+-- A derivation is given by the numbers of its clauses, with 0 for a built-in atom. Lists of numbers stand in lexicographic order, a beginning
 -- before what it begins. A goal may have nodes without end, so they are listed to a depth. Each node stands after
 -- all of its beginnings, so the first n nodes have at most n clauses each, and one more has at most n + 1.
 --
@@ -14,7 +14,7 @@ use Rattle.cti_terms.specs.Listing.{Listing}
 use Rattle.cti_terms.specs.Unify.{Binding}
 use Rattle.cti_terms.specs.Resolve.{resolve}
 
--- the nodes that begin with clause k: it alone, and it before each node of the goal that it leaves
+-- the nodes that begin with number k: it alone, and it before each node of the goal that it leaves
 abbrev pub under : ℕ → (Goal → List (List ℕ)) → Option (List Binding × Goal) → List (List ℕ)
 under k nodes_of_goal None = []
 under k nodes_of_goal (Some r) = (k ∷ []) ∷ map (λ ks. k ∷ ks) (nodes_of_goal r.1)
@@ -22,7 +22,7 @@ under k nodes_of_goal (Some r) = (k ∷ []) ∷ map (λ ks. k ∷ ks) (nodes_of_
 -- the derivations of at most d steps, but the empty one, in lexicographic order
 abbrev pub nodes : Listing → ℕ → Goal → List (List ℕ)
 nodes p zero g = []
-nodes p (suc d) g = flat_map (λ k. under k (nodes p d) (resolve p g k)) (range_with_len 1 (length p.clauses))
+nodes p (suc d) g = flat_map (λ k. under k (nodes p d) (resolve p g k)) (range_with_len 0 (suc (length p.clauses)))
 
 -- the first n nodes, or all where there are fewer
 abbrev pub first_nodes : Listing → Goal → ℕ → List (List ℕ)

@@ -1,18 +1,21 @@
 -- To believe, for a Yes.
 -- A step of left-to-right resolution.
 --
+-- A built-in atom at the front of a goal goes away where it succeeds, and its bindings are applied to the other atoms.
+--
 -- A clause resolves a goal where its head has the predicate of the goal's first atom and unifies with it, once
 -- each variable of the clause is raised by the goal's counter. The first atom makes way for the clause's body,
 -- the unifier is applied to the whole goal, and the counter goes up by the clause's number of variables.
 --
--- To believe: `raised`, `left_by`, `resolve`. `ResolutionStep.antt` says the same as a relation.
+-- To believe: `raised`, `left_by`, `resolve_itself`, `resolve`. `ResolutionStep.antt` says the same as a relation.
 -- Source: LD-resolution, with one stated unifier and one stated renaming.
-use Rattle.std.specs.Prelude.{ℕ, ◌+◌, ◌==◌, if◌then◌else◌, List, [], ◌∷◌, ◌++◌, map, Option, None, option_map, option_and_then}
+use Rattle.std.specs.Prelude.{ℕ, zero, suc, ◌+◌, ◌==◌, if◌then◌else◌, List, [], ◌∷◌, ◌++◌, map, slice_get, Option, None, option_map, option_and_then}
 use Rattle.cti_terms.specs.Tree.{Tree, Variable, instance, trees}
 use Rattle.cti_terms.specs.declared.atom_list.Atom.{Atom}
 use Rattle.cti_terms.specs.declared.clauses.Clause.{Clause}
 use Rattle.cti_terms.specs.declared.derivation.Goal.{Goal}
-use Rattle.cti_terms.specs.Listing.{Listing, numbered}
+use Rattle.cti_terms.specs.Arithmetic.{Arithmetic, passes}
+use Rattle.cti_terms.specs.Listing.{Listing}
 use Rattle.cti_terms.specs.Unify.{Equation, Binding, pairs, applied}
 use Rattle.cti_terms.specs.UnifyFunction.{unify}
 
@@ -44,6 +47,15 @@ resolve_by (a ∷ rest) n c =
     then option_map (answered rest n c) (unify (head_equations a n c))
     else None
 
--- what clause k of a program, counted from 1, answers at a goal: the unifier and the goal that is left
+-- what a built-in atom answers at the front of a goal: its bindings, applied to the other atoms
+abbrev pub passed : List Atom → ℕ → List Binding → List Binding × Goal
+passed rest n bs = (bs, record { atoms = map (over (applied bs)) rest; fresh = n })
+
+abbrev pub resolve_itself : Arithmetic → List Atom → ℕ → Option (List Binding × Goal)
+resolve_itself ar [] n = None
+resolve_itself ar (a ∷ rest) n = option_map (passed rest n) (passes ar a)
+
+-- what a number answers at a goal: the unifier and the goal that is left. Number 0 is that of a built-in atom, the others are those of clauses
 abbrev pub resolve : Listing → Goal → ℕ → Option (List Binding × Goal)
-resolve p g k = option_and_then (resolve_by g.atoms g.fresh) (numbered p.clauses k)
+resolve p g zero = resolve_itself p.arithmetic g.atoms g.fresh
+resolve p g (suc i) = option_and_then (resolve_by g.atoms g.fresh) (slice_get p.clauses i)

@@ -1,6 +1,6 @@
 //! Laws of the definitions. Each is a function that does nothing, and whose clauses are proved.
 
-ghost use Rattle.std.specs.Prelude.{◌≡◌, ◌<◌, ℕ, ◌↔◌, List, [], ◌∷◌, Some, length};
+ghost use Rattle.std.specs.Prelude.{◌≡◌, ◌<◌, ℕ, suc, ◌↔◌, List, [], ◌∷◌, None, Some, length};
 ghost use Rattle.std.specs.List.{AllByRecursion};
 ghost use Rattle.cti_terms.specs.Tree.{Tree, Variable, instance};
 ghost use Rattle.cti_terms.specs.Unify.{Equation, Binding, Unifies, applied};
@@ -8,8 +8,10 @@ ghost use Rattle.cti_terms.specs.UnifyFunction.{unify};
 ghost use Rattle.cti_terms.specs.Resolve.{resolve};
 ghost use Rattle.cti_terms.specs.ResolutionStep.{Resolves};
 ghost use Rattle.cti_terms.specs.Derive.{query, IsDerivation, Bounded};
-ghost use Rattle.cti_terms.specs.Listing.{Listing, IsFact, HasNoClause};
+ghost use Rattle.cti_terms.specs.Arithmetic.{kind_of};
+ghost use Rattle.cti_terms.specs.Listing.{Listing, IsFact, IsProgram, HasNoClause};
 ghost use Rattle.cti_terms.specs.declared.atom_list.Atom.{Atom};
+ghost use Rattle.cti_terms.specs.declared.builtins.Builtin.{Builtin};
 ghost use Rattle.cti_terms.specs.declared.derivation.Goal.{Goal};
 
 /// Unification is a function, and what it gives unifies.
@@ -33,11 +35,18 @@ pub fn resolution_is_a_function()
         → Resolves p g k bs h ↔ (resolve p g k ≡ Some (bs, h)) }
 {}
 
-/// A goal that no clause resolves is bounded: one without atoms, and one whose first atom's predicate has no clause.
+/// Where a program's built-in predicates have no clauses, number 0 alone resolves a goal that begins with one of them.
+pub fn builtins_are_resolved_by_zero_alone()
+    ensures { (p : Listing) (a : Atom) (rest : List Atom) (n i : ℕ) (b : Builtin) → IsProgram p → kind_of p.arithmetic a.pred.0 ≡ Some b
+        → resolve p (record { atoms = a ∷ rest; fresh = n }) (suc i) ≡ None }
+{}
+
+/// A goal that nothing resolves is bounded: one without atoms, and one whose first atom's predicate has no clause and is
+/// not built in.
 pub fn finished_goals_are_bounded()
     ensures no_atoms { (p : Listing) (n : ℕ) → Bounded p (record { atoms = []; fresh = n }) }
     ensures no_clause { (p : Listing) (a : Atom) (rest : List Atom) (n : ℕ)
-        → HasNoClause p a → Bounded p (record { atoms = a ∷ rest; fresh = n }) }
+        → HasNoClause p a → kind_of p.arithmetic a.pred.0 ≡ None → Bounded p (record { atoms = a ∷ rest; fresh = n }) }
 {}
 
 /// In a program of facts every query is bounded, with any terms and any counter.

@@ -1,9 +1,11 @@
-//! Programs: predicates and clauses, in order.
+//! Programs: predicates and clauses, in order, and what is built in.
 
 ghost use Rattle.std.specs.Prelude.{◌≡◌, ℕ, ◌+◌, ◌-◌, ◌<◌, ◌≤◌, ◌^◌, ◌↔◌, ◌++◌, [], ◌∷◌, IfOk, OnOk, OnErr, IfSome, IsNone, length, slice_get, position, option_map, Some, Contains};
 ghost use Rattle.std.specs.List.{position_or_len};
-ghost use Rattle.cti_terms.specs.Listing.{is_pred, with_pred, IsClause, IsProgram};
+ghost use Rattle.cti_terms.specs.Arithmetic.{kind_of, kind_among, no_arithmetic};
+ghost use Rattle.cti_terms.specs.Listing.{is_pred, with_pred, AreThree, IsClause, IsOrdinary, IsProgram};
 
+use crate::builtins::{Arith, Builtin};
 use crate::clauses::Clause;
 use crate::limits::{MOST_ARGUMENTS, MOST_CLAUSES};
 use crate::naming::Name;
@@ -12,10 +14,13 @@ use indexmap::IndexSet;
 use std::alloc::{AllocError, Global};
 use std::marker::Model;
 
-/// A program: a list of predicates and a list of clauses. Contracts see the two lists.
+/// A program: a list of predicates and a list of clauses, with the built-in ones among the predicates. Contracts see the
+/// lists.
 pub struct Program {
     preds: IndexSet<Pred>,
     clauses: Vec<Clause>,
+    builtins: Vec<(PredId, Builtin)>,
+    arith: Option<Arith>,
 }
 
 impl Drop for Program {
@@ -23,6 +28,8 @@ impl Drop for Program {
         let Program {
             preds: _,
             clauses: _,
+            builtins: _,
+            arith: _,
         } = self;
     }
 }
@@ -35,9 +42,9 @@ impl Model for Program {
 
     ghost coded = { coded_listing };
 
-    ghost view = { λ p. record { preds = p.preds.keys; clauses = p.clauses.items } };
+    ghost view = { λ p. record { preds = p.preds.keys; clauses = p.clauses.items; arithmetic = record { names = p.arith; builtins = p.builtins.items } } };
 
-    ghost invariant = { λ p. IsProgram (record { preds = p.preds.keys; clauses = p.clauses.items }) };
+    ghost invariant = { λ p. IsProgram (record { preds = p.preds.keys; clauses = p.clauses.items; arithmetic = record { names = p.arith; builtins = p.builtins.items } }) };
 }
 
 /// The place of the predicate of this name and arity, which is found by its hash.
@@ -52,10 +59,13 @@ impl Program {
     pub fn new(alloc: Global) -> Program
         ensures preds { result.preds ≡ [] }
         ensures clauses { result.clauses ≡ [] }
+        ensures arithmetic { result.arithmetic ≡ no_arithmetic }
     {
         Program {
             preds: IndexSet::new(alloc),
             clauses: Vec::new(alloc),
+            builtins: Vec::new(alloc),
+            arith: None,
         }
     }
 
@@ -89,6 +99,7 @@ impl Program {
         requires last { k ≤ length self.now.clauses }
         ensures there { slice_get self.now.clauses (k - 1) ≡ Some result.now }
         ensures sound { IsClause self.now.preds result.now }
+        ensures ordinary { IsOrdinary self.now.arithmetic result.now }
     {
         &self.clauses[k as usize - 1]
     }
@@ -114,6 +125,7 @@ impl Program {
         // Earlier predicates keep their numbers, and out of memory, nothing is changed.
         ensures kept { (i : ℕ) → i < length self.old.preds → slice_get self.new.preds i ≡ slice_get self.old.preds i }
         ensures clauses { self.new.clauses ≡ self.old.clauses }
+        ensures arithmetic { self.new.arithmetic ≡ self.old.arithmetic }
         ensures err { OnErr result (self.new ≡ self.old) }
     {
         let (i, _) = self.preds.insert_full(Pred { name, arity })?;
@@ -123,15 +135,79 @@ impl Program {
     /// Adds a clause at the end, and answers its number, which counts from 1.
     pub fn add_clause(&mut self, clause: Clause) -> Result<u32, AllocError>
         requires sound { IsClause self.old.preds clause }
+        requires ordinary { IsOrdinary self.old.arithmetic clause }
         requires room { length self.old.clauses < MOST_CLAUSES }
         ensures number { IfOk result (λ k. k ≡ length self.old.clauses + 1) }
         ensures clauses { OnOk result (self.new.clauses ≡ self.old.clauses ++ clause ∷ []) }
 
         // Out of memory, nothing is changed.
         ensures preds { self.new.preds ≡ self.old.preds }
+        ensures arithmetic { self.new.arithmetic ≡ self.old.arithmetic }
         ensures err { OnErr result (self.new ≡ self.old) }
     {
         self.clauses.push(clause)?;
         Ok(self.clauses.len() as u32)
     }
+
+    /// Keeps the names of arithmetic operations. It takes no memory.
+    pub fn set_arith(&mut self, arith: Arith)
+        requires { AreThree arith }
+        ensures names { self.new.arithmetic.names ≡ Some arith }
+        ensures builtins { self.new.arithmetic.builtins ≡ self.old.arithmetic.builtins }
+        ensures preds { self.new.preds ≡ self.old.preds }
+        ensures clauses { self.new.clauses ≡ self.old.clauses }
+    {
+        self.arith = Some(arith);
+    }
+
+    /// The names of arithmetic operations that were kept last, if any. It takes no memory.
+    pub fn arith(&self) -> Option<Arith>
+        ensures { result ≡ self.now.arithmetic.names }
+    {
+        self.arith
+    }
+
+    /// Adds a built-in predicate with two arguments.
+    pub fn add_builtin(&mut self, name: Name, kind: Builtin) -> Result<PredId, AllocError>
+        requires new { ¬ Contains self.old.preds (record { name = name; arity = 2 }) }
+        requires room { length self.old.preds < 2 ^ 32 - 1 }
+        ensures number { IfOk result (λ p. p.0 ≡ length self.old.preds) }
+        ensures preds { OnOk result (self.new.preds ≡ self.old.preds ++ record { name = name; arity = 2 } ∷ []) }
+        ensures builtins { IfOk result (λ p. self.new.arithmetic.builtins ≡ self.old.arithmetic.builtins ++ (p, kind) ∷ []) }
+        ensures names { self.new.arithmetic.names ≡ self.old.arithmetic.names }
+        ensures clauses { self.new.clauses ≡ self.old.clauses }
+
+        // Out of memory, nothing is changed.
+        ensures err { OnErr result (self.new ≡ self.old) }
+    {
+        let pred = PredId(self.preds.len() as u32);
+        self.builtins.push((pred, kind))?;
+        match self.preds.insert_full(Pred { name, arity: 2 }) {
+            Ok(_) => Ok(pred),
+            Err(_) => {
+                self.builtins.pop();
+                Err(AllocError)
+            }
+        }
+    }
+
+    /// What a predicate does, if it is built in. It takes no memory.
+    pub fn builtin(&self, p: PredId) -> Option<Builtin>
+        requires { p.0 < length self.now.preds }
+        ensures { result ≡ kind_of self.now.arithmetic p.0 }
+    {
+        kind_among(&self.builtins, p)
+    }
+}
+
+/// The kind of a predicate among built-in ones.
+fn kind_among(builtins: &[(PredId, Builtin)], p: PredId) -> Option<Builtin>
+    ensures { result ≡ kind_among builtins.now p.0 }
+{
+    for builtin in builtins {
+        if builtin.0 == p {
+            return Some(builtin.1);
+        }
+    }
+    None
 }

@@ -12,7 +12,7 @@ invariant_of-self-2 c =
     let n = ap (λ (l : Listing). length l.preds) c.self.view_is in
     let keys : c.insert_full.new.self.keys ≡ with_pred c.self.inside.preds.keys p = c.in_ok-i.ensures.keys in
     let distinct = subst (λ (ks : List Pred). AllPairs (λ q r. q ≢ r) ks) keys (AllPairs-from_IsDistinct pred_decides _ c.in_ok-i.ensures.unique) in
-    rw keys (program_still c.self.inside.preds.keys p c.self.inside.clauses.items c.self.invariant c.requires.small (omega (arith, c.requires.room, n)) distinct)
+    rw keys (program_still c.self.inside.preds.keys p c.self.inside.clauses.items (record { names = c.self.inside.arith; builtins = c.self.inside.builtins.items }) c.self.invariant c.requires.small (omega (arith, c.requires.room, n)) distinct)
 
 pub returns-clause-kept : goal.returns-clause-kept
 returns-clause-kept c =
