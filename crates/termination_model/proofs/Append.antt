@@ -24,6 +24,8 @@ is_program = record {
   );
   preds_fit = omega arith;
   clauses_fit = omega arith;
+  binary = λ q b is. cc;
+  ordinary = (refl, (refl, tt));
 }
 
 falls : (j : ℕ) (b : Atom) → slice_get append_cons.body j ≡ Some b → FallsOn append_claims append_cons [] b 0 first_argument.mappings
@@ -60,7 +62,8 @@ shows = record {
   norm = is_a_norm;
   ranked = (tt, ((omega arith, tt), tt));
   inductive = (λ s h. tt, (λ s h. tt, tt));
-  closed = (λ v h. refl, (λ v h. refl, tt));
+  closed = record { clauses = (λ v h. refl, (λ v h. refl, tt)); builtins = λ q b is. cc };
+  stated = λ q b is. cc;
   measures = λ r. (serves r, tt);
 }
 

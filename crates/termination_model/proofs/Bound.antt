@@ -1,10 +1,9 @@
--- A goal is bounded where what each clause leaves of it is.
+-- A goal is bounded where what each number leaves of it is.
 use Rattle.std.proofs.Common.{◌≡◌, ℕ, zero, suc, ◌<◌, ◌≤◌, max, List, [], ◌∷◌, length, slice_get, Option, None, Some, IsSomeAnd, sym, subst, ◌∙◌, inl, inr, arith, refl}
 use Rattle.std.proofs.lemmas.Option.{some_pair_parts}
-use Rattle.cti_terms.specs.declared.clauses.Clause.{Clause}
 use Rattle.cti_terms.specs.declared.derivation.Goal.{Goal}
 use Rattle.cti_terms.specs.Derive.{IsDerivation, Bounded}
-use Rattle.cti_terms.specs.Listing.{Listing, numbered}
+use Rattle.cti_terms.specs.Listing.{Listing}
 use Rattle.cti_terms.specs.Resolve.{resolve}
 use Rattle.cti_terms.specs.ResolutionStep.{LeavesFrom}
 use Rattle.cti_terms.specs.Unify.{Binding}
@@ -45,15 +44,15 @@ module _ (p : Listing) (g : Goal) (step : (k : ℕ) (bs : List Binding) (h : Goa
   abbrev number : ℕ → ℕ
   number k = (exceeded k).0
 
-  clause_within : (cs : List Clause) (k : ℕ) (Q : Clause → Type 0) → IsSomeAnd (numbered cs k) Q → k ≤ length cs
-  clause_within cs zero Q h = omega arith
-  clause_within cs (suc k) Q h = omega (arith, within Q cs k h)
+  number_within : (k : ℕ) (bs : List Binding) (h : Goal) → resolve p g k ≡ Some (bs, h) → k ≤ length p.clauses
+  number_within zero bs h r = omega arith
+  number_within (suc i) bs h r = omega (arith, within (λ c. LeavesFrom g.atoms g.fresh c bs h) p.clauses i (resolve_finds p g (suc i) bs h r))
 
   short : (ks : List ℕ) → IsDerivation p g ks → length ks < suc (most number (length p.clauses))
   short [] d = omega arith
   short (k ∷ ks) d =
       let here : length ks < number k = (exceeded k).1 d.0 d.1 d.2 ks d.3 in
-      let below : k ≤ length p.clauses = clause_within p.clauses k (λ c. LeavesFrom g.atoms g.fresh c d.0 d.1) (resolve_finds p g k d.0 d.1 d.2) in
+      let below : k ≤ length p.clauses = number_within k d.0 d.1 d.2 in
       let le : number k ≤ most number (length p.clauses) = le-most number (length p.clauses) k below in
       omega arith
 

@@ -1,22 +1,24 @@
 -- A legal chain's last rows are kept by the clauses.
-use Rattle.std.proofs.Common.{◌≡◌, ℕ, zero, suc, ◌+◌, ◌<◌, ◌≤◌, ◌==◌, ℤ, Bool, true, false, inl, inr, List, [], ◌∷◌, map, length, IsTrue, refl, sym, subst, arith, eqb-true}
+use Rattle.std.proofs.Common.{◌≡◌, ℕ, zero, suc, ◌+◌, ◌<◌, ◌≤◌, ◌==◌, ℤ, Bool, true, false, inl, inr, List, [], ◌∷◌, map, length, slice_get, Some, IsTrue, refl, ap, sym, subst, ◌∙◌, arith, eqb-true}
 use Rattle.std.specs.List.{AllByRecursion}
 use Rattle.std.proofs.lemmas.Bool.Decides.{nat_tests}
 use Rattle.cti_terms.specs.Tree.{Tree, is_below}
 use Rattle.cti_terms.specs.declared.clauses.Clause.{Clause}
-use Rattle.cti_terms.specs.Listing.{Listing, IsProgram}
+use Rattle.cti_terms.specs.Arithmetic.{Arithmetic, kind_of}
+use Rattle.cti_terms.specs.Listing.{Listing, IsOrdinary, IsProgram}
+use Rattle.cti_terms.specs.declared.builtins.Builtin.{Builtin}
 use Rattle.call_components.specs.Partition.{Partition, AreComponents}
 use Rattle.linear_rows.specs.Members.{In}
 use Rattle.linear_rows.specs.Step.{columns}
-use Rattle.linear_rows.proofs.Members.{in-filter}
+use Rattle.linear_rows.proofs.Members.{in-filter, of-filter}
 use Rattle.term_size.specs.Norm.{IsNorm}
-use Rattle.termination_model.specs.Chain.{AreSteps, after_pass, AreUnchanged, ArePasses, after_passes, AreRuns, after_runs, counted, component_of, is_number, clauses_of, start_rows, IsLegalChain}
+use Rattle.termination_model.specs.Chain.{AreSteps, after_pass, AreUnchanged, ArePasses, after_passes, AreRuns, after_runs, counted, component_of, is_number, clauses_of, start_as, start_rows, IsLegalChain}
 use Rattle.termination_model.specs.ChainRows.{bottom_row}
 use Rattle.termination_model.specs.ChainSteps.{Step}
-use Rattle.termination_model.specs.ChainKept.{KeepsRows, ChainsKeep}
+use Rattle.termination_model.specs.ChainKept.{KeepsRows, ChainsKeep, ChainsState}
 use Rattle.termination_model.proofs.ChainSieves.{all_of}
 use Rattle.termination_model.proofs.ChainSteps.{step_keeps}
-use Rattle.termination_model.proofs.ChainLeaves.{Numbered, Rowed, keeps_same, after_same, pass_same, runs_leave, of_own, later, in_counted, clause_is, placed, head_before, body_before, of_counted, number_is}
+use Rattle.termination_model.proofs.ChainLeaves.{Numbered, Rowed, keeps_same, after_same, pass_same, NotHead, runs_leave, of_own, later, in_counted, clause_is, placed, head_before, body_before, of_counted, number_is}
 
 module _ (speaks : List ℤ → Bool) (size : (ℕ → ℕ) → Tree → ℕ) (truth : (ℕ → Bool) → Tree → Bool) (expression : ℕ → Tree → List ℤ) (norm : IsNorm size truth expression) (bottoms : (n : ℕ) → speaks (bottom_row n) ≡ true) where
   abbrev Below : Clause → Type 0
@@ -74,3 +76,24 @@ module _ (speaks : List ℤ → Bool) (size : (ℕ → ℕ) → Tree → ℕ) (t
 pub chains_keep : ChainsKeep
 chains_keep speaks size truth expression p comps steps last norm bottoms prog components chain =
     all_of (KeepsRows expression last) p.clauses (all_kept speaks size truth expression norm bottoms p comps prog components steps last chain)
+
+no_head : (ar : Arithmetic) (q : ℕ) (b : Builtin) → kind_of ar q ≡ Some b → (ks : List Clause) → AllByRecursion (IsOrdinary ar) ks → (k : Clause) → In k ks → (k.head.pred.0 == q) ≡ false
+no_head ar q b is [] all k i = absurd i
+no_head ar q b is (x ∷ ks) all k (inl same) = go (k.head.pred.0 == q) refl
+  where
+    go : (o : Bool) → (k.head.pred.0 == q) ≡ o → o ≡ false
+    go true e = let at = eqb-true k.head.pred.0 q e in let f = sym (subst (IsOrdinary ar) same all.0) ∙ ap (kind_of ar) at ∙ is in cc
+    go false e = refl
+no_head ar q b is (x ∷ ks) all k (inr i) = no_head ar q b is ks all.1 k i
+
+own_head : (p : Listing) (comps : Partition) (q : ℕ) → ((k : Clause) → In k p.clauses → (k.head.pred.0 == q) ≡ false) → (cs : List ℕ) (ks : List Numbered) → In ks (map (clauses_of p comps) cs) → NotHead q ks
+own_head p comps q h [] ks i = absurd i
+own_head p comps q h (c ∷ cs) ks (inl is) =
+    subst (NotHead q) is (λ k i. h k.1 (in_counted 1 p.clauses k (of-filter (λ (x : Numbered). is_number c (component_of comps x.1.head.pred.0)) (counted 1 p.clauses) k i).0))
+own_head p comps q h (c ∷ cs) ks (inr i) = own_head p comps q h cs ks i
+
+-- built-in predicates keep the rows that they start with
+pub chains_state : ChainsState
+chains_state speaks expression p comps steps last prog chain q b is =
+    chain.last_are q ∙ runs_leave q (start_rows p) (map (clauses_of p comps) (columns 0 (length comps.members))) chain.runs
+    (own_head p comps q (no_head p.arithmetic q b is p.clauses prog.ordinary) (columns 0 (length comps.members))) ∙ ap (λ o. start_as o (slice_get p.preds q)) is

@@ -148,7 +148,7 @@ module _ (p : Listing) (c : Claims) (prog : IsProgram p) (shows : Shows p c) whe
 
       rows : (v : ℕ → Bool) → Follows (IsGround c.truth c.grounds v) (λ (t : Tag) (x : Atom). OwnRow p c t x.pred.0 (truth_row c.truth v x)) (map tag k.body ++ ws) (map (over (applied bs)) (map (raised n) k.body ++ rest))
       rows = step_walk c.truth shows.norm.truth_of_instance (λ q us. c.grounds q us ≡ true) (OwnRow p c) tag w ws a rest n k bs l.pred len (unifier_unifies l.unifies) facts.rows
-          (λ q us. m.pre q us ≡ true) pre (all_at (IsClosedUnder c.truth c.grounds) p.clauses i k shows.closed is) row_of
+          (λ q us. m.pre q us ≡ true) pre (all_at (IsClosedUnder c.truth c.grounds) p.clauses i k shows.closed.clauses is) row_of
 
       fixed : (s : ℕ → ℕ) → levels m a.pred.0 (sizes c s a) ≡ u
       fixed s = same_levels c.size c.truth c.expression shows.norm s (λ _. 0) a.pred.0 m.mappings a.args (serves.covered a.pred.0 (truth_row c.truth (λ _. false) a) rank (pre (λ _. false)))

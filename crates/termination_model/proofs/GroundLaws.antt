@@ -22,7 +22,10 @@ module _ (truth : (ℕ → Bool) → Tree → Bool) where
   )
 
   pub in_each_is_closed : (p : Listing) → InEachClosedIsClosed truth p
-  in_each_is_closed p = each p p.clauses (λ family closed. closed)
+  in_each_is_closed p = record {
+    clauses = each p p.clauses (λ family closed. closed.clauses);
+    builtins = λ q b is family closed. closed.builtins q b is;
+  }
 
   pub least_where : (p : Listing) (family : Family) → IsLeast truth p family ↔ (IsClosed truth p family × ((q : ℕ) (row : List Bool) → IsTrue (family q row) → IsInEachClosed truth p q row))
   least_where p family = (

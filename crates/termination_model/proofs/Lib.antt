@@ -3,6 +3,7 @@ pub mod Append
 pub mod AppendChain
 pub mod Better
 pub mod Bound
+pub mod BuiltinLaws
 pub mod ChainHeads
 pub mod ChainKeeping
 pub mod ChainLeaves

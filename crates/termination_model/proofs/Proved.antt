@@ -122,6 +122,7 @@ shown p c prog h = record {
   inductive = both (IsClause p.preds) (SizesProved c) (IsInductive c)
       (λ k is proved. inductive c h.norm k is.head.below (each (IsAtom p.preds k.vars) (Below k.vars) (λ x g. g.below) k.body is.body) proved) p.clauses prog.clauses h.sizes;
   closed = h.closed;
+  stated = h.stated;
   measures = λ r. each (ServesProved p c r) (Serves p c r) (λ m s. record {
     covered = s.covered;
     descends = each (λ (k : Clause). c.rank k.head.pred.0 ≡ r → DescendsProved c m k) (λ (k : Clause). c.rank k.head.pred.0 ≡ r → Descends c m k) (λ k d same. descends c h.norm m k (d same)) p.clauses s.descends;

@@ -7,6 +7,7 @@ use Rattle.std.specs.Prelude.{◌≡◌, ℕ, Bool, true, false, List, [], ◌�
 use Rattle.cti_terms.specs.Tree.{Tree, Variable, Compound, End, More, size, truth}
 use Rattle.cti_terms.specs.declared.atom_list.Atom.{Atom}
 use Rattle.cti_terms.specs.declared.clauses.Clause.{Clause}
+use Rattle.cti_terms.specs.Arithmetic.{no_arithmetic}
 use Rattle.cti_terms.specs.Listing.{Listing}
 use Rattle.cti_terms.specs.Derive.{Bounded}
 use Rattle.term_size.specs.Occurrences.{size_row}
@@ -35,7 +36,7 @@ append_cons = record {
 }
 
 abbrev pub append : Listing
-append = record { preds = record { name = record { 0 = 0 }; arity = 3 } ∷ []; clauses = append_nil ∷ append_cons ∷ [] }
+append = record { preds = record { name = record { 0 = 0 }; arity = 3 } ∷ []; clauses = append_nil ∷ append_cons ∷ []; arithmetic = no_arithmetic }
 
 abbrev pub first : List Bool → Bool
 first [] = false

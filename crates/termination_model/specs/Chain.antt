@@ -1,7 +1,8 @@
 -- To believe, for the modes.
 -- How the size rows of a program's predicates come about: legal chains of steps.
 --
--- All predicates start empty: with the one row of constant -1 and zeros, which no size obeys. Components go callees
+-- A built-in predicate starts with its stated rows, and every other one starts empty: with the one row of constant -1 and
+-- zeros, which no size obeys. Components go callees
 -- first, and each goes through passes. A pass takes the clauses of the component's predicates in program order, one step
 -- for each, and the passes end with the first one that changes no rows.
 --
@@ -11,12 +12,15 @@ use Rattle.std.specs.Prelude.{◌≡◌, ℕ, suc, ◌==◌, ℤ, Bool, false, i
 use Rattle.std.specs.List.{flat_map}
 use Rattle.call_components.specs.Partition.{Partition}
 use Rattle.cti_terms.specs.Tree.{Tree}
+use Rattle.cti_terms.specs.Arithmetic.{kind_of}
+use Rattle.cti_terms.specs.declared.builtins.Builtin.{Builtin}
 use Rattle.cti_terms.specs.declared.clauses.Clause.{Clause}
 use Rattle.cti_terms.specs.declared.predicates.Pred.{Pred}
 use Rattle.cti_terms.specs.Listing.{Listing}
 use Rattle.linear_rows.specs.Step.{columns}
 use Rattle.termination_model.specs.ChainRows.{bottom_row}
 use Rattle.termination_model.specs.ChainSteps.{Step, IsLegalStep}
+use Rattle.termination_model.specs.Stated.{stated_rows}
 
 -- the rows after a step: those of the head's predicate are new
 abbrev pub after : Clause → Step → (ℕ → List (List ℤ)) → ℕ → List (List ℤ)
@@ -83,13 +87,18 @@ is_number c (Some d) = d == c
 abbrev pub clauses_of : Listing → Partition → ℕ → List (ℕ × Clause)
 clauses_of p comps c = filter (λ k. is_number c (component_of comps k.1.head.pred.0)) (counted 1 p.clauses)
 
--- what a predicate starts with
+-- what a predicate starts with that is not built in
 abbrev pub start_or_none : Option Pred → List (List ℤ)
 start_or_none None = []
 start_or_none (Some p) = bottom_row p.arity ∷ []
 
+-- what a predicate of this kind, if it is built in, starts with: its stated rows
+abbrev pub start_as : Option Builtin → Option Pred → List (List ℤ)
+start_as None o = start_or_none o
+start_as (Some b) o = stated_rows b
+
 abbrev pub start_rows : Listing → ℕ → List (List ℤ)
-start_rows p q = start_or_none (slice_get p.preds q)
+start_rows p q = start_as (kind_of p.arithmetic q) (slice_get p.preds q)
 
 -- the steps of components, callees first, and the rows that they end with
 pub record IsLegalChain (speaks : List ℤ → Bool) (expression : ℕ → Tree → List ℤ) (p : Listing) (comps : Partition) (steps : List Step) (last : ℕ → List (List ℤ)) : Type 0 where

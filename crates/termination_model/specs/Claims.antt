@@ -17,6 +17,7 @@ use Rattle.linear_rows.specs.Rows.{Holds, HoldsOn}
 use Rattle.term_size.specs.Norm.{IsNorm}
 use Rattle.termination_model.specs.Grounds.{Family, truth_row, IsGround, IsClosed}
 use Rattle.termination_model.specs.Rows.{scaled, added, IsUpper, Covers}
+use Rattle.termination_model.specs.Stated.{AreStated}
 use Rattle.termination_model.specs.Systems.{row_over, system}
 
 -- a natural coefficient for each argument of a predicate, and an offset
@@ -105,4 +106,5 @@ pub record Shows (p : Listing) (c : Claims) : Type 0 where
   pub ranked : AllByRecursion (IsRanked c) p.clauses
   pub inductive : AllByRecursion (IsInductive c) p.clauses
   pub closed : IsClosed c.truth p c.grounds
+  pub stated : AreStated p.arithmetic c.rows
   pub measures : (r : ℕ) → AllByRecursion (Serves p c r) (c.measures r)

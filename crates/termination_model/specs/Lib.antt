@@ -24,6 +24,7 @@ pub mod Short
 pub mod Sizes
 pub mod SupportLaws
 pub mod SupportSystem
+pub mod Stated
 pub mod Supports
 pub mod Systems
 pub mod View

@@ -2,6 +2,7 @@
 -- An example: the query of p, where p calls itself, is not bounded.
 use Rattle.std.specs.Prelude.{ℕ, [], ◌∷◌}
 use Rattle.cti_terms.specs.declared.atom_list.Atom.{Atom}
+use Rattle.cti_terms.specs.Arithmetic.{no_arithmetic}
 use Rattle.cti_terms.specs.Listing.{Listing}
 use Rattle.cti_terms.specs.Derive.{Bounded}
 
@@ -13,6 +14,7 @@ abbrev pub loop : Listing
 loop = record {
   preds = record { name = record { 0 = 0 }; arity = 0 } ∷ [];
   clauses = record { head = proposition; body = proposition ∷ []; vars = 0 } ∷ [];
+  arithmetic = no_arithmetic;
 }
 
 abbrev pub LoopGoesOn : Type 0

@@ -13,6 +13,7 @@ use Rattle.cti_terms.specs.Listing.{Listing, IsProgram}
 use Rattle.term_size.specs.Norm.{IsNorm}
 use Rattle.termination_model.specs.Grounds.{IsClosed}
 use Rattle.termination_model.specs.Claims.{Mapping, Measure, Claims, IsRanked, IsCovered, KeepsRule, fall_row, Shows}
+use Rattle.termination_model.specs.Stated.{AreStated}
 use Rattle.termination_model.specs.Systems.{row_over, short_system}
 
 -- some multipliers show that the row holds where the rows do, or that these hold nowhere
@@ -43,6 +44,7 @@ pub record ShowsProved (p : Listing) (c : Claims) : Type 0 where
   pub ranked : AllByRecursion (IsRanked c) p.clauses
   pub sizes : AllByRecursion (SizesProved c) p.clauses
   pub closed : IsClosed c.truth p c.grounds
+  pub stated : AreStated p.arithmetic c.rows
   pub measures : (r : ℕ) → AllByRecursion (ServesProved p c r) (c.measures r)
 
 abbrev pub ProofsShow : Type 0

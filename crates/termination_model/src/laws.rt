@@ -6,7 +6,7 @@ ghost use Rattle.cti_terms.specs.Tree.{Tree};
 ghost use Rattle.termination_model.specs.Append.{AppendEnds};
 ghost use Rattle.termination_model.specs.AppendChain.{AppendHasThisChain};
 ghost use Rattle.termination_model.specs.Best.{SmallerIsBetter};
-ghost use Rattle.termination_model.specs.ChainKept.{ChainsKeep};
+ghost use Rattle.termination_model.specs.ChainKept.{ChainsKeep, ChainsState};
 ghost use Rattle.termination_model.specs.Loop.{LoopGoesOn};
 ghost use Rattle.termination_model.specs.Refutation.{NoneDecreases};
 ghost use Rattle.termination_model.specs.Grounds.{Family, InEachClosedIsClosed, IsClosed, IsInEachClosed, IsInside, IsLeast};
@@ -48,9 +48,11 @@ pub fn a_loop_goes_on()
     ensures { LoopGoesOn }
 {}
 
-/// The last rows of a legal chain hold wherever the rows of a clause's body do.
+/// The last rows of a legal chain hold wherever the rows of a clause's body do, and those of built-in predicates are the
+/// stated ones.
 pub fn last_rows_are_kept()
-    ensures { ChainsKeep }
+    ensures kept { ChainsKeep }
+    ensures stated { ChainsState }
 {}
 
 /// An example: append has a legal chain of four steps, which ends with x1 + x2 = x3.

@@ -16,6 +16,7 @@ mod how;
 pub mod laws;
 mod replacing;
 mod sizes;
+mod stated;
 mod supports;
 mod systems;
 
@@ -24,6 +25,7 @@ pub use descent::{a_query_is_bounded, proofs_show, views_serve};
 pub use how::How;
 pub use replacing::{add_expressions, columns, replaced};
 pub use sizes::{SizeRows, Sizes};
+pub use stated::stated_rows;
 pub use supports::{
     all_positions_cover, points_give_mappings, refuted_systems_exclude_mappings,
     systems_give_mappings, views_are_ready,
