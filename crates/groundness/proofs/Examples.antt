@@ -2,6 +2,7 @@
 -- where the first two are.
 use Rattle.std.proofs.Common.{◌↔◌, ◌==◌, ◌∙◌, sym, ap, length, slice_get, Some, ◌≡◌, ℕ, zero, suc, Bool, true, false, ◌&&◌, IsTrue, List, [], ◌∷◌, refl}
 use Rattle.cti_terms.specs.Tree.{Tree, Variable, Compound, End, More, truth}
+use Rattle.cti_terms.specs.Arithmetic.{no_arithmetic}
 use Rattle.cti_terms.specs.Listing.{Listing}
 use Rattle.cti_terms.specs.declared.atom_list.Atom.{Atom}
 use Rattle.cti_terms.specs.declared.clauses.Clause.{Clause}
@@ -31,7 +32,7 @@ goes_on = record {
 }
 
 abbrev append : Listing
-append = record { preds = record { name = record { 0 = 2 }; arity = 3 } ∷ []; clauses = ends ∷ goes_on ∷ [] }
+append = record { preds = record { name = record { 0 = 2 }; arity = 3 } ∷ []; clauses = ends ∷ goes_on ∷ []; arithmetic = no_arithmetic }
 
 -- whether the third argument is rigid exactly where the first two are
 abbrev append_row : List Bool → Bool
@@ -61,7 +62,10 @@ longer_lists true false false true h = h
 longer_lists true false false false h = h
 
 rows_are_closed : IsClosed truth append rows
-rows_are_closed = (λ v body. iff_itself (v 0), (λ v body. longer_lists (v 0) (v 1) (v 2) (v 3) body.0, tt))
+rows_are_closed = record {
+  clauses = (λ v body. iff_itself (v 0), (λ v body. longer_lists (v 0) (v 1) (v 2) (v 3) body.0, tt));
+  builtins = λ q b is. cc;
+}
 
 -- a head that is not rigid, and a tail that is
 abbrev one_more : Bool → ℕ → Bool
@@ -71,10 +75,10 @@ one_more b (suc (suc n)) = b
 
 module _ (other : Family) (closed : IsClosed truth append other) where
   of_ends : (b : Bool) → IsTrue (other 0 (true ∷ b ∷ b ∷ []))
-  of_ends b = closed.0 (λ x. b) tt
+  of_ends b = closed.clauses.0 (λ x. b) tt
 
   of_goes_on : (b : Bool) → IsTrue (other 0 (false ∷ b ∷ false ∷ []))
-  of_goes_on b = closed.1.0 (one_more b) (of_ends b, tt)
+  of_goes_on b = closed.clauses.1.0 (one_more b) (of_ends b, tt)
 
   rows_are_needed : (q : ℕ) (row : List Bool) → IsTrue (rows q row) → IsTrue (other q row)
   rows_are_needed zero [] h = cc

@@ -90,7 +90,7 @@ module _ (p : Listing) (program : IsProgram p) (trees : List Rows) (sets : List 
             subst (λ m. IsTrue (other m row)) (sym same)
             (elim (or_cases _ _ (sym (J (values_of row)) ∙ t')) [
               | inl l ↦ inside k.head.pred.0 row (family_put p.preds trees sets k.head.pred.0 row x _ ex' at_q ar (sym (old_now (values_of row)) ∙ l))
-              | inr g ↦ given_inside other (by_places (IsClosedUnder truth other) p.clauses closed i k at) inside row long ((G (values_of row)).0 g)
+              | inr g ↦ given_inside other (by_places (IsClosedUnder truth other) p.clauses closed.clauses i k at) inside row long ((G (values_of row)).0 g)
             ])
 
     pub added_closed : HaveSameRows T2 (slice_index_or sets k.head.pred.0 none) joined → IsClosedUnder truth (family_of p.preds T2 sets) k

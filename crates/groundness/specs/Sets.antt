@@ -1,10 +1,13 @@
 -- Private.
 -- What is added to families while the least one is sought. Nothing here has to be believed.
-use Rattle.std.specs.Prelude.{ℕ, Bool, List, length}
+use Rattle.std.specs.Prelude.{◌≡◌, ◌&&◌, ℕ, Bool, false, List, length, slice_get, Option, None, Some}
 use Rattle.bool_diagrams.specs.declared.diagram.Diagram.{Diagram}
+use Rattle.bool_diagrams.specs.Rows.{IsDiagram, holds}
 use Rattle.bool_diagrams.specs.Tree.{Tree as Rows}
+use Rattle.cti_terms.specs.Arithmetic.{kind_of}
+use Rattle.cti_terms.specs.declared.builtins.Builtin.{Builtin}
 use Rattle.cti_terms.specs.declared.clauses.Clause.{Clause}
-use Rattle.cti_terms.specs.Listing.{Listing}
+use Rattle.cti_terms.specs.Listing.{IsProgram, Listing}
 use Rattle.cti_terms.specs.Tree.{Tree}
 use Rattle.truth_rows.specs.Ready.{HasAtoms, HasTruths}
 use Rattle.termination_model.specs.Grounds.{Family, IsClosed, IsInside}
@@ -16,3 +19,20 @@ AddsOnlyNeeded truth p old new = (other : Family) → IsClosed truth p other →
 -- the clause gives its head this row
 abbrev pub Gives : ((ℕ → Bool) → Tree → Bool) → List Rows → List Diagram → Clause → (ℕ → Bool) → Type 0
 Gives truth trees sets k row = (v : ℕ → Bool) × HasAtoms truth trees sets v k.body (length k.body) × HasTruths truth v row k.head.args (length k.head.args)
+
+-- the set that a predicate of this kind, if it is built in, starts with
+abbrev pub set_as : Diagram → Diagram → Option Builtin → Diagram
+set_as none both None = none
+set_as none both (Some b) = both
+
+-- the sets that a search starts with: one with the row of two rigid arguments for each built-in predicate, and others without rows
+pub record AreStarts (p : Listing) (trees : List Rows) (sets : List Diagram) : Type 0 where
+  pub program : IsProgram p
+  pub none : Diagram
+  pub both : Diagram
+  pub none_known : IsDiagram trees none
+  pub both_known : IsDiagram trees both
+  pub off : (row : ℕ → Bool) → holds trees none row ≡ false
+  pub on : (row : ℕ → Bool) → holds trees both row ≡ (row 0 && row 1)
+  pub each : length sets ≡ length p.preds
+  pub at : (q : ℕ) (d : Diagram) → slice_get sets q ≡ Some d → d ≡ set_as none both (kind_of p.arithmetic q)

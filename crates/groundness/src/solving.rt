@@ -1,14 +1,14 @@
 //! The least family, from no rows upward.
 
-ghost use Rattle.std.specs.Prelude.{◌≡◌, ◌<◌, ◌≤◌, ◌-◌, ℕ, true, false, IfOk, length, slice_get, Some};
-ghost use Rattle.bool_diagrams.specs.Rows.{Keeps};
+ghost use Rattle.std.specs.Prelude.{◌≡◌, ◌<◌, ◌≤◌, ◌-◌, ◌&&◌, ℕ, Bool, true, false, IfOk, length, slice_get, Some};
+ghost use Rattle.bool_diagrams.specs.Rows.{IsDiagram, Keeps, holds};
 ghost use Rattle.call_components.specs.Partition.{AreComponents};
 ghost use Rattle.cti_terms.specs.Listing.{IsProgram};
 ghost use Rattle.cti_terms.specs.declared.clauses.Clause.{Clause};
 ghost use Rattle.groundness.specs.Marks.{AreUsers, HasUser, IsApart, IsMarked, UnmarkedAreClosed, work};
 ghost use Rattle.groundness.specs.Missing.{all_missing};
 ghost use Rattle.truth_rows.specs.Sets.{AreSets, family_of};
-ghost use Rattle.groundness.specs.Sets.{AddsOnlyNeeded};
+ghost use Rattle.groundness.specs.Sets.{AddsOnlyNeeded, AreStarts};
 ghost use Rattle.termination_model.specs.Grounds.{IsClosedUnder, IsInside, IsLeast};
 
 use crate::clause_lists::{ClauseLists, heads, users};
@@ -17,13 +17,13 @@ use crate::grounds::Grounds;
 use crate::marks::Marks;
 use bool_diagrams::{Diagram, Table};
 use call_components::Components;
-use cti_terms::Program;
+use cti_terms::{PredId, Program};
 use std::alloc::{AllocError, Global};
 use term_size::Norm;
 
 /// The least family of sets of truth rows that is closed under the clauses of a program.
 ///
-/// It begins with no rows and a mark for each clause. It takes a mark away and adds what the clause gives; where that is
+/// It begins with the rows of built-in predicates and a mark for each clause. It takes a mark away and adds what the clause gives; where that is
 /// a new row, the clauses that have the head's predicate in their bodies get marks. It ends without marks. The clauses
 /// of a component come before those of later ones, so that one without recursion is looked at once.
 /// Out of memory, the table keeps its earlier diagrams.
@@ -42,9 +42,38 @@ pub fn solve<N: Norm>(
     let mut marks = Marks::new(alloc, p.clauses())?;
     let heads = heads(alloc, p)?;
     prefer_callees(&heads, comps, &mut marks)?;
-    let mut sets = vec![in alloc; table.truth(false); p.preds() as usize]?;
+    let mut sets = start_sets(alloc, p, table)?;
     while add_next(p, norm, &users, table, &mut sets, &mut marks)? {}
     Ok(Grounds { sets })
+}
+
+// The rows of two rigid arguments.
+fn rigid_pair(table: &mut Table) -> Result<Diagram, AllocError>
+    ensures keeps { Keeps table.old table.new }
+    ensures known { IfOk result (IsDiagram table.new) }
+    ensures rows { IfOk result (λ d. (row : ℕ → Bool) → holds table.new d row ≡ (row 0 && row 1)) }
+{
+    let first = table.var(0)?;
+    let second = table.var(1)?;
+    table.and(first, second)
+}
+
+// The sets to begin with: that of a built-in predicate has the row of two rigid arguments, and others have none.
+fn start_sets(alloc: Global, p: &Program, table: &mut Table) -> Result<Vec<Diagram>, AllocError>
+    ensures keeps { Keeps table.old table.new }
+    ensures sets { IfOk result (λ sets. AreStarts p.now table.new sets.items) }
+{
+    let _program = p.clauses();
+    let both = rigid_pair(table)?;
+    let none = table.truth(false);
+    let mut sets = Vec::new(alloc);
+    for q in 0..p.preds() {
+        sets.push(match p.builtin(PredId(q)) {
+            Some(_) => both,
+            None => none,
+        })?;
+    }
+    Ok(sets)
 }
 
 // Lets the clauses of the components come in turn, callees first, and those of a predicate in their order.
@@ -83,6 +112,7 @@ fn add_next<N: Norm>(
     ensures keeps { Keeps table.old table.new }
     ensures sets { IfOk result (λ more. AreSets p.now.preds table.new sets.new) }
     ensures needed { IfOk result (λ more. AddsOnlyNeeded (N.truth norm.now) p.now (family_of p.now.preds table.old sets.old) (family_of p.now.preds table.new sets.new)) }
+    ensures inside { IfOk result (λ more. IsInside (family_of p.now.preds table.old sets.old) (family_of p.now.preds table.new sets.new)) }
     ensures each { IfOk result (λ more. length marks.new ≡ length p.now.clauses) }
     ensures closed { IfOk result (λ more. UnmarkedAreClosed (N.truth norm.now) p.now marks.new (family_of p.now.preds table.new sets.new)) }
     ensures less { IfOk result (λ more. more ≡ true → work p.now.preds table.new sets.new marks.new < work p.now.preds table.old sets.old marks.old) }

@@ -14,7 +14,6 @@ use Rattle.cti_terms.specs.declared.atom_list.Atom.{Atom}
 use Rattle.cti_terms.specs.declared.clauses.Clause.{Clause}
 use Rattle.cti_terms.specs.declared.predicates.Pred.{Pred}
 use Rattle.cti_terms.specs.declared.predicates.PredId.{PredId}
-use Rattle.groundness.proofs.StartLaws.{start_none, start_sets}
 use Rattle.number_tests.specs.Levels.{coefficients_of, items_of}
 use Rattle.number_tests.specs.declared.level_part.LevelPart.{LevelPart}
 use Rattle.precond_fixpoint.specs.Greatest.{IsGreatestIn}
@@ -22,6 +21,7 @@ use Rattle.precond_fixpoint.specs.Removing.{AreRanked, is_ranked}
 use Rattle.precond_fixpoint.specs.Solving.{AreLevels, AreMappingSets, AreUnions, IsColumn, IsSolution, IsSolved, allowed_family, is_member, pre_family}
 use Rattle.precond_fixpoint.proofs.AllowedLaws.{greatest_depends_below, greatest_depends_on_members}
 use Rattle.precond_fixpoint.proofs.FamilyLaws.{allowed_after, column_row, pre_after}
+use Rattle.precond_fixpoint.proofs.NoRows.{start_none, start_sets}
 use Rattle.precond_fixpoint.proofs.PlaceLaws.{any_at, at_is, is_at_of, items_at, items_same, member_place, not_at, place_member, ranked_is, some_at}
 use Rattle.termination_model.specs.Grounds.{Family}
 use Rattle.termination_model.specs.View.{all_upper}
