@@ -7,7 +7,10 @@ use Rattle.std.proofs.lemmas.List.Elements.{All-nil}
 use Rattle.call_components.specs.Partition.{Partition, AreComponents}
 use Rattle.cti_terms.specs.Tree.{Tree}
 use Rattle.cti_terms.specs.Listing.{Listing, IsProgram, IsClause}
+use Rattle.cti_terms.specs.Arithmetic.{kind_of}
 use Rattle.cti_terms.specs.declared.atom_list.Atom.{Atom}
+use Rattle.cti_terms.specs.declared.builtins.Builtin.{Builtin}
+use Rattle.cti_terms.specs.declared.builtins.Builtin.TheVariants.{Is, Equal, NotEqual, Less, AtMost, Greater, AtLeast}
 use Rattle.cti_terms.specs.declared.clauses.Clause.{Clause}
 use Rattle.linear_rows.specs.Members.{In}
 use Rattle.linear_rows.specs.Replacing.{row_fits}
@@ -19,12 +22,14 @@ use Rattle.termination_model.specs.Chain.{after_passes, after_runs, clauses_of, 
 use Rattle.termination_model.specs.ChainRows.{AreSpoken}
 use Rattle.termination_model.specs.ChainSteps.{Step as PlainStep}
 use Rattle.termination_model.specs.Sizes.{plain_or_none}
+use Rattle.termination_model.specs.Stated.{stated_rows}
 use Rattle.termination_model.specs.Systems.{row_over, short_row, system}
 use Rattle.termination_model.proofs.ChainLeaves.{body_before, head_before, number_is, of_own, not_head, passes_leave, placed, same_system, IsBefore}
 use Rattle.termination_model.proofs.ChainSieves.{of_all}
 use Rattle.termination_model.proofs.Lists.{map_push, place_below}
 use Rattle.numeric_model.specs.declared.state.State.{State}
 use Rattle.numeric_model.specs.declared.step.Step.{Step}
+use Rattle.numeric_model.specs.declared.value.Value.{Value}
 use Rattle.numeric_model.specs.Proved.{AreProved, AreShownOver, IsProved}
 use Rattle.numeric_model.specs.Running.{HaveProofs, IsChained, IsRun, rows_in}
 use Rattle.numeric_model.specs.States.{IsState, plain_step}
@@ -187,4 +192,21 @@ module _ {D : Type 0} (width : D → ℕ) (listed : D → List (List ℤ)) (spea
           let each = state.sizes.each in
           let values = state.each in
           let v = some_at s.values.items q (omega arith) in
-          subst (All (λ (r : List ℤ). row_fits r ≡ true)) (state.values q v.0 v.1).rows_are (fits (listed v.0.of) (width v.0.of) (spoken v.0.of))
+          kinds v.0 v.1 (kind_of p.arithmetic q) refl
+        where
+          stated_fit : (b : Builtin) → All (λ r. row_fits r ≡ true) (stated_rows b)
+          stated_fit b = to_All (λ r. row_fits r ≡ true) (stated_rows b) (each b)
+            where
+              each : (b : Builtin) (r : List ℤ) → In r (stated_rows b) → row_fits r ≡ true
+              each Is r (inl same) = ap row_fits (sym same)
+              each Is r (inr none) = absurd none
+              each Equal r i = absurd i
+              each NotEqual r i = absurd i
+              each Less r i = absurd i
+              each AtMost r i = absurd i
+              each Greater r i = absurd i
+              each AtLeast r i = absurd i
+
+          kinds : (v : Value D) → slice_get s.values.items q ≡ Some v → (o : Option Builtin) → kind_of p.arithmetic q ≡ o → All (λ r. row_fits r ≡ true) (rows_in s q)
+          kinds v at None none = subst (All (λ (r : List ℤ). row_fits r ≡ true)) ((state.values q v at).rows_are none) (fits (listed v.of) (width v.of) (spoken v.of))
+          kinds v at (Some b) is = subst (All (λ (r : List ℤ). row_fits r ≡ true)) (sym (state.stated q b is)) (stated_fit b)

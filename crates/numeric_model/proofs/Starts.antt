@@ -1,19 +1,24 @@
 -- A chain's state at the start.
-use Rattle.std.proofs.Common.{◌≡◌, ℕ, zero, suc, ◌^◌, ◌≤◌, ℤ, List, [], ◌∷◌, ◌++◌, length, slice_get, Some, refl, ap, sym, subst, ◌∙◌, arith}
-use Rattle.cti_terms.specs.Listing.{Listing}
+use Rattle.std.proofs.Common.{◌≡◌, ℕ, zero, suc, ◌+◌, ◌^◌, ◌<◌, ◌≤◌, ℤ, ◌⊎◌, inl, inr, List, [], ◌∷◌, ◌++◌, length, slice_get, slice_set, Option, None, Some, refl, ap, sym, subst, ◌∙◌, arith}
+use Rattle.call_components.proofs.Lists.{slice_get-set_same, slice_get-set_other, some_within}
+use Rattle.cti_terms.specs.Arithmetic.{kind_of}
+use Rattle.cti_terms.specs.Listing.{IsProgram, Listing}
+use Rattle.cti_terms.specs.declared.builtins.Builtin.{Builtin}
 use Rattle.cti_terms.specs.declared.predicates.Pred.{Pred}
 use Rattle.linear_rows.specs.Plain.{plain_rows, HaveWidth}
 use Rattle.linear_rows.specs.declared.row.Rows.{Rows}
-use Rattle.termination_model.specs.Chain.{start_rows, start_or_none}
+use Rattle.termination_model.specs.Chain.{start_as, start_rows, start_or_none}
 use Rattle.termination_model.specs.ChainRows.{bottom_row}
 use Rattle.termination_model.specs.Grounds.{HasArity}
-use Rattle.termination_model.specs.Sizes.{rows_of}
+use Rattle.termination_model.specs.Sizes.{AreSizes, plain_or_none, rows_of}
+use Rattle.termination_model.specs.Stated.{stated_rows}
 use Rattle.numeric_model.specs.declared.filled.Filled.{Filled}
 use Rattle.numeric_model.specs.declared.filled.Filled.TheVariants.{Bottom}
 use Rattle.numeric_model.specs.declared.state.State.{State}
 use Rattle.numeric_model.specs.declared.value.Value.{Value}
 use Rattle.numeric_model.specs.Filling.{IsFilled, weight}
-use Rattle.numeric_model.specs.States.{AreStarts, IsAdded, IsFresh, IsStart, IsState, IsValueOf, value_weight}
+use Rattle.numeric_model.specs.States.{AreStarts, AreStatedTo, IsAdded, IsFresh, IsStart, IsState, IsStatedAt, IsValueOf, value_weight}
+use Rattle.numeric_model.proofs.Taking.{same_or_other, length-set}
 
 module _ {D : Type 0} (width : D → ℕ) (listed : D → List (List ℤ)) where
   pub start_of : (n : ℕ) (from rows : Rows) (d : D) → rows ≡ from → from.width ≡ width d → HaveWidth from.width from.list → plain_rows from.list ≡ listed d → width d ≡ n → listed d ≡ bottom_row n ∷ []
@@ -65,7 +70,7 @@ module _ {D : Type 0} (width : D → ℕ) (listed : D → List (List ℤ)) where
   starts_widths (p ∷ ps) (x ∷ rs) (w ∷ vs) a (suc q) r e = starts_widths ps rs vs a.1 q r e
 
   abbrev IsFirst : List Pred → List Rows → ℕ → Value D → Type 0
-  IsFirst ps rs q v = IsValueOf width listed ps (rows_of rs) q v
+  IsFirst ps rs q v = IsValueOf width listed ps None (rows_of rs) q v
 
   first_value : (n : ℕ) (rows : Rows) (v : Value D) → IsStart width listed n rows v → IsFilled (width v.of) v.filled (listed v.of) × (value_weight width listed v ≤ 2 ^ 65)
   first_value n rows v s =
@@ -82,23 +87,97 @@ module _ {D : Type 0} (width : D → ℕ) (listed : D → List (List ℤ)) where
   starts_values (p ∷ ps) (x ∷ rs) (w ∷ vs) a zero v e =
       let same : w ≡ v = cc in
       let first = first_value p.arity x w a.0 in
-      subst (IsFirst (p ∷ ps) (x ∷ rs) zero) same (record { rows_are = a.0.rows_are; arity = sym a.0.value_width; known = first.0; light = first.1 })
+      subst (IsFirst (p ∷ ps) (x ∷ rs) zero) same (record { rows_are = λ _. a.0.rows_are; arity = sym a.0.value_width; known = first.0; light = first.1 })
   starts_values (p ∷ ps) (x ∷ rs) (w ∷ vs) a (suc q) v e =
       let h = starts_values ps rs vs a.1 q v e in
       record { rows_are = h.rows_are; arity = h.arity; known = h.known; light = h.light }
 
-  pub start_state : (p : Listing) (s : State D) → AreStarts width listed p.preds s.sizes.rows s.values.items → length s.proofs.items ≡ length p.clauses → IsState width listed p s
-  start_state p s a proofs =
+  -- no stated rows are put in yet
+  pub stated_none : (p : Listing) (s : State D) → AreStarts width listed p.preds s.sizes.rows s.values.items → AreStatedTo width listed p 0 s
+  stated_none p s a =
       let counts = starts_counts p.preds s.sizes.rows s.values.items a in
       record {
         sizes = record { each = counts.0; width = starts_widths p.preds s.sizes.rows s.values.items a };
         each = counts.1;
-        values = starts_values p.preds s.sizes.rows s.values.items a;
-        proofs = proofs;
+        values = λ q v at. let h = starts_values p.preds s.sizes.rows s.values.items a q v at in record { rows_are = λ _. h.rows_are refl; arity = h.arity; known = h.known; light = h.light };
+        stated = λ q b lt is. absurd (omega (arith, lt));
+        others = λ q is. starts_rows p.preds s.sizes.rows s.values.items a q;
       }
 
-  pub rows_start : (p : Listing) (s : State D) → AreStarts width listed p.preds s.sizes.rows s.values.items → rows_of s.sizes.rows ≡ start_rows p
-  rows_start p s a = λ i q. starts_rows p.preds s.sizes.rows s.values.items a q i
+  -- a predicate that is not built in stays
+  pub stated_past : (p : Listing) (n : ℕ) (s : State D) → kind_of p.arithmetic n ≡ None → AreStatedTo width listed p n s → AreStatedTo width listed p (n + 1) s
+  stated_past p n s none h = record {
+    sizes = h.sizes;
+    each = h.each;
+    values = h.values;
+    stated = λ q b lt is. elim (same_or_other q n) [
+      | inl same ↦ let f = sym none ∙ sym (ap (kind_of p.arithmetic) same) ∙ is in cc
+      | inr apart ↦ h.stated q b (omega (arith, lt, apart)) is
+    ];
+    others = h.others;
+  }
+
+  -- and one that is has its stated rows
+  pub stated_more : (p : Listing) (prog : IsProgram p) (n : ℕ) (kind : Builtin) (s t : State D) → kind_of p.arithmetic n ≡ Some kind → n < length p.preds → AreStatedTo width listed p n s → IsStatedAt width listed n kind s t → AreStatedTo width listed p (n + 1) t
+  stated_more p prog n kind s t is lt h put = record {
+    sizes = subst (AreSizes p.preds) (sym put.sizes) (record { each = length-set s.sizes.rows n put.rows ∙ h.sizes.each; width = λ q r at. sized q r at (same_or_other q n) });
+    each = ap length put.values ∙ h.each;
+    values = λ q v at.
+        let before = h.values q v (sym (ap (λ (vs : List (Value D)). slice_get vs q) put.values) ∙ at) in
+        record { rows_are = λ none. before.rows_are none ∙ sym (rows_other q (λ same. let f = sym none ∙ ap (kind_of p.arithmetic) same ∙ is in cc)); arity = before.arity; known = before.known; light = before.light };
+    stated = λ q b below built. elim (same_or_other q n) [
+      | inl same ↦
+          let kinds : kind ≡ b = let e = sym is ∙ ap (kind_of p.arithmetic) (sym same) ∙ built in cc in
+          ap (rows_of t.sizes.rows) same ∙ rows_here ∙ ap stated_rows kinds
+      | inr apart ↦ rows_other q apart ∙ h.stated q b (omega (arith, below, apart)) built
+    ];
+    others = λ q none. rows_other q (λ same. let f = sym none ∙ ap (kind_of p.arithmetic) same ∙ is in cc) ∙ h.others q none;
+  }
+    where
+      placed : n < length s.sizes.rows
+      placed = omega (arith, lt, h.sizes.each)
+
+      rows_here : rows_of t.sizes.rows n ≡ stated_rows kind
+      rows_here = ap (λ (rs : List Rows). rows_of rs n) put.sizes ∙ ap plain_or_none (slice_get-set_same s.sizes.rows n put.rows placed) ∙ put.rows_are
+
+      rows_other : (q : ℕ) → (q ≡ n → ⊥) → rows_of t.sizes.rows q ≡ rows_of s.sizes.rows q
+      rows_other q apart = ap (λ (rs : List Rows). rows_of rs q) put.sizes ∙ ap plain_or_none (slice_get-set_other s.sizes.rows n q put.rows apart)
+
+      own : HasArity p.preds n put.rows.width × HaveWidth put.rows.width put.rows.list
+      own = (subst (HasArity p.preds n) (sym put.width_is) (prog.binary n kind is), subst (λ (k : ℕ). HaveWidth k put.rows.list) (sym put.width_is) put.long)
+
+      sized : (q : ℕ) (r : Rows) → slice_get (slice_set s.sizes.rows n put.rows) q ≡ Some r → (q ≡ n) ⊎ (q ≡ n → ⊥) → HasArity p.preds q r.width × HaveWidth r.width r.list
+      sized q r at (inl same) =
+          let here : slice_get (slice_set s.sizes.rows n put.rows) q ≡ Some put.rows = ap (slice_get (slice_set s.sizes.rows n put.rows)) same ∙ slice_get-set_same s.sizes.rows n put.rows placed in
+          let is_rows : put.rows ≡ r = cc in
+          subst (λ (y : Rows). HasArity p.preds q y.width × HaveWidth y.width y.list) is_rows (subst (λ (y : ℕ). HasArity p.preds y put.rows.width × HaveWidth put.rows.width put.rows.list) (sym same) own)
+      sized q r at (inr apart) = h.sizes.width q r (sym (slice_get-set_other s.sizes.rows n q put.rows apart) ∙ at)
+
+  module _ (p : Listing) (s : State D) (h : AreStatedTo width listed p (length p.preds) s) (prog : IsProgram p) where
+    below : (q : ℕ) (b : Builtin) → kind_of p.arithmetic q ≡ Some b → q < length p.preds
+    below q b is = some_within (λ (d : Pred). d.arity ≡ 2) p.preds q (prog.binary q b is)
+
+    pub start_state : length s.proofs.items ≡ length p.clauses → IsState width listed p s
+    start_state proofs = record { sizes = h.sizes; each = h.each; values = h.values; stated = λ q b is. h.stated q b (below q b is) is; proofs = proofs }
+
+    pub rows_start : rows_of s.sizes.rows ≡ start_rows p
+    rows_start = λ i q. at q (kind_of p.arithmetic q) refl i
+      where
+        at : (q : ℕ) (o : Option Builtin) → kind_of p.arithmetic q ≡ o → rows_of s.sizes.rows q ≡ start_as (kind_of p.arithmetic q) (slice_get p.preds q)
+        at q None is = h.others q is ∙ ap (λ (o : Option Builtin). start_as o (slice_get p.preds q)) (sym is)
+        at q (Some b) is = h.stated q b (below q b is) is ∙ ap (λ (o : Option Builtin). start_as o (slice_get p.preds q)) (sym is)
+
+  pub stated_later : (p : Listing) (n : ℕ) (s t : State D) → AreStatedTo width listed p n s → t.sizes ≡ s.sizes → t.values ≡ s.values → AreStatedTo width listed p n t
+  stated_later p n s t h sizes values =
+      let rows : t.sizes.rows ≡ s.sizes.rows = λ i. (sizes i).rows in
+      let own : t.values.items ≡ s.values.items = λ i. (values i).items in
+      record {
+        sizes = subst (AreSizes p.preds) (sym rows) h.sizes;
+        each = ap length own ∙ h.each;
+        values = λ q v at. subst (λ (rs : List Rows). IsValueOf width listed p.preds (kind_of p.arithmetic q) (rows_of rs) q v) (sym rows) (h.values q v (sym (ap (λ (vs : List (Value D)). slice_get vs q) own) ∙ at));
+        stated = λ q b lt is. ap (λ (rs : List Rows). rows_of rs q) rows ∙ h.stated q b lt is;
+        others = λ q is. ap (λ (rs : List Rows). rows_of rs q) rows ∙ h.others q is;
+      }
 
   pub fresh_later : (preds : List Pred) (s t : State D) → IsFresh width listed preds s → t.sizes ≡ s.sizes → t.values ≡ s.values → IsFresh width listed preds t
   fresh_later preds s t fresh sizes values =

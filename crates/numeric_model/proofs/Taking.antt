@@ -3,7 +3,9 @@ use Rattle.std.proofs.Common.{◌≡◌, ◌≢◌, ℕ, zero, suc, ◌-◌, ◌
 use Rattle.std.proofs.lemmas.Bool.Decides.{nat_tests}
 use Rattle.call_components.proofs.Lists.{slice_get-set_same, slice_get-set_other, some_within}
 use Rattle.cti_terms.specs.Tree.{Tree}
-use Rattle.cti_terms.specs.Listing.{Listing, IsClause}
+use Rattle.cti_terms.specs.Arithmetic.{kind_of}
+use Rattle.cti_terms.specs.Listing.{Listing, IsClause, IsOrdinary}
+use Rattle.cti_terms.specs.declared.builtins.Builtin.{Builtin}
 use Rattle.cti_terms.specs.declared.clauses.Clause.{Clause}
 use Rattle.cti_terms.specs.declared.predicates.Pred.{Pred}
 use Rattle.linear_rows.specs.Plain.{plain_rows, HaveWidth}
@@ -11,6 +13,7 @@ use Rattle.linear_rows.specs.declared.row.Rows.{Rows}
 use Rattle.termination_model.specs.ChainSteps.{Step as PlainStep, IsLegalStep}
 use Rattle.termination_model.specs.Grounds.{HasArity}
 use Rattle.termination_model.specs.Sizes.{AreSizes, rows_of, plain_or_none}
+use Rattle.termination_model.specs.Stated.{stated_rows}
 use Rattle.numeric_model.specs.declared.filled.Filled.{Filled}
 use Rattle.numeric_model.specs.declared.filled.Filled.TheVariants.{Bottom, Unknown, Inhabited}
 use Rattle.numeric_model.specs.declared.noting.Noted.{Noted}
@@ -31,7 +34,7 @@ same_or_other a b = go (a == b) refl
     go false e = inr (λ s. let t : false ≡ true = grind (arith, nat_tests) in cc)
 
 -- ---- rows of which one list is set
-length-set : {X : Type 0} (xs : List X) (i : ℕ) (x : X) → length (slice_set xs i x) ≡ length xs
+pub length-set : {X : Type 0} (xs : List X) (i : ℕ) (x : X) → length (slice_set xs i x) ≡ length xs
 length-set [] i x = refl
 length-set (y ∷ xs) zero x = refl
 length-set (y ∷ xs) (suc i) x = ap suc (length-set xs i x)
@@ -54,7 +57,7 @@ module _ {D : Type 0} (width : D → ℕ) (listed : D → List (List ℤ)) where
   weights_few (x ∷ vs) h = let here = h zero x refl in let more = weights_few vs (λ q v e. h (suc q) v e) in omega arith
 
   -- ---- a clause's head in a state
-  module _ (p : Listing) (s : State D) (state : IsState width listed p s) (k : Clause) (is : IsClause p.preds k) where
+  module _ (p : Listing) (s : State D) (state : IsState width listed p s) (k : Clause) (is : IsClause p.preds k) (plain : IsOrdinary p.arithmetic k) where
     head_within : k.head.pred.0 < length p.preds
     head_within = some_within (λ (x : Pred). x.arity ≡ length k.head.args) p.preds k.head.pred.0 is.head.arity
 
@@ -76,12 +79,12 @@ module _ {D : Type 0} (width : D → ℕ) (listed : D → List (List ℤ)) where
         let own = state.values k.head.pred.0 v at in
         let wide : width v.of ≡ length k.head.args = one_arity k.head.pred.0 (width v.of) (length k.head.args) own.arity is.head.arity in
         record {
-          rows_are = own.rows_are;
+          rows_are = own.rows_are plain;
           width_is = wide;
           known = subst (λ (n : ℕ). IsFilled n v.filled (listed v.of)) wide own.known;
         }
 
-  module _ (speaks : List ℤ → Bool) (expression : ℕ → Tree → List ℤ) (p : Listing) (pass : ℕ) (old new : State D) (number : ℕ) (k : Clause) (is : IsClause p.preds k) (state : IsState width listed p old)
+  module _ (speaks : List ℤ → Bool) (expression : ℕ → Tree → List ℤ) (p : Listing) (pass : ℕ) (old new : State D) (number : ℕ) (k : Clause) (is : IsClause p.preds k) (plain : IsOrdinary p.arithmetic k) (state : IsState width listed p old)
       (noted : Noted D) (v : Value D) (at : slice_get old.values.items k.head.pred.0 ≡ Some v)
       (noting : IsNoted width listed speaks expression pass (rows_in old) k number v.filled noted) (changed : Bool) (accepted : IsAccepted width listed k.head.pred.0 number noted old new changed) where
     abbrev q : ℕ
@@ -97,10 +100,10 @@ module _ {D : Type 0} (width : D → ℕ) (listed : D → List (List ℤ)) where
     now = rows_after listed (rows q) next
 
     placed : q < length old.sizes.rows
-    placed = head_placed p old state k is
+    placed = head_placed p old state k is plain
 
     valued : q < length old.values.items
-    valued = head_valued p old state k is
+    valued = head_valued p old state k is plain
 
     -- the rows of each predicate after the step
     rows_new : (x : ℕ) → rows_in new x ≡ (if q == x then now else rows x)
@@ -142,7 +145,7 @@ module _ {D : Type 0} (width : D → ℕ) (listed : D → List (List ℤ)) where
     none_of P (Some d) h none e = cc
 
     own_listed : listed v.of ≡ rows q
-    own_listed = (state.values q v at).rows_are
+    own_listed = (state.values q v at).rows_are plain
 
     less : (next : Option D) → IfReplaced width listed q next noted.stepped.filled old new changed → IfNew (λ d. weight noted.stepped.filled (listed d) < weight v.filled (rows q)) next → changed ≡ true
         → weights width listed new.values.items < weights width listed old.values.items
@@ -196,21 +199,21 @@ module _ {D : Type 0} (width : D → ℕ) (listed : D → List (List ℤ)) where
 
     values_new : (next : Option D) → IfReplaced width listed q next noted.stepped.filled old new changed → IfNew (λ d. width d ≡ length k.head.args) next
         → IsFilled (length k.head.args) noted.stepped.filled (rows_after listed (rows q) next) → rows_in new q ≡ rows_after listed (rows q) next
-        → (x : ℕ) (w : Value D) → slice_get new.values.items x ≡ Some w → IsValueOf width listed p.preds (rows_in new) x w
+        → (x : ℕ) (w : Value D) → slice_get new.values.items x ≡ Some w → IsValueOf width listed p.preds (kind_of p.arithmetic x) (rows_in new) x w
     values_new None h sized known own x w e =
-        subst (λ (f : ℕ → List (List ℤ)). IsValueOf width listed p.preds f x w) (sym (ap rows_of h.1)) (state.values x w (sym (ap (λ (vs : List (Value D)). slice_get vs x) h.2) ∙ e))
+        subst (λ (f : ℕ → List (List ℤ)). IsValueOf width listed p.preds (kind_of p.arithmetic x) f x w) (sym (ap rows_of h.1)) (state.values x w (sym (ap (λ (vs : List (Value D)). slice_get vs x) h.2) ∙ e))
     values_new (Some d) h sized known own x w e = go (same_or_other x q)
       where
         there : slice_get (slice_set old.values.items q (record { of = d; filled = noted.stepped.filled })) x ≡ Some w
         there = sym (ap (λ (vs : List (Value D)). slice_get vs x) h.1.values) ∙ e
 
-        go : (x ≡ q) ⊎ (x ≡ q → ⊥) → IsValueOf width listed p.preds (rows_in new) x w
+        go : (x ≡ q) ⊎ (x ≡ q → ⊥) → IsValueOf width listed p.preds (kind_of p.arithmetic x) (rows_in new) x w
         go (inl s) =
             let here : slice_get (slice_set old.values.items q (record { of = d; filled = noted.stepped.filled })) x ≡ Some (record { of = d; filled = noted.stepped.filled }) =
             ap (slice_get (slice_set old.values.items q (record { of = d; filled = noted.stepped.filled }))) s ∙ slice_get-set_same old.values.items q (record { of = d; filled = noted.stepped.filled }) valued in
             let same : record { of = d; filled = noted.stepped.filled } ≡ w = cc in
-            subst (IsValueOf width listed p.preds (rows_in new) x) same (subst (λ (y : ℕ). IsValueOf width listed p.preds (rows_in new) y (record { of = d; filled = noted.stepped.filled })) (sym s) (record {
-              rows_are = sym own;
+            subst (IsValueOf width listed p.preds (kind_of p.arithmetic x) (rows_in new) x) same (subst (λ (y : ℕ). IsValueOf width listed p.preds (kind_of p.arithmetic y) (rows_in new) y (record { of = d; filled = noted.stepped.filled })) (sym s) (record {
+              rows_are = λ _. sym own;
               arity = subst (HasArity p.preds q) (sym sized) is.head.arity;
               known = subst (λ (n : ℕ). IsFilled n noted.stepped.filled (listed d)) (sym sized) known;
               light = light noted.stepped.filled (listed d) h.1.few;
@@ -219,16 +222,26 @@ module _ {D : Type 0} (width : D → ℕ) (listed : D → List (List ℤ)) where
             let before = state.values x w (sym (slice_get-set_other old.values.items q x (record { of = d; filled = noted.stepped.filled }) apart) ∙ there) in
             let t : (q == x) ≡ false = grind (arith, nat_tests) in
             let rows_same : rows_in new x ≡ rows x = rows_new x ∙ ap (λ (b : Bool). if b then now else rows x) t in
-            record { rows_are = before.rows_are ∙ sym rows_same; arity = before.arity; known = before.known; light = before.light }
+            record { rows_are = λ none. before.rows_are none ∙ sym rows_same; arity = before.arity; known = before.known; light = before.light }
 
     pub state_new : IsState width listed p new
     state_new = record {
       sizes = sizes_new next accepted.replaced noting.sized;
       each = counts next accepted.replaced ∙ state.each;
       values = values_new next accepted.replaced noting.sized noting.known own_rows;
+      stated = stated_new;
       proofs = ap length accepted.proofs ∙ length-set old.proofs.items (number - 1) noted.stepped.by ∙ state.proofs;
     }
       where
+        stated_new : (x : ℕ) (b : Builtin) → kind_of p.arithmetic x ≡ Some b → rows_in new x ≡ stated_rows b
+        stated_new x b is =
+            let apart : (q == x) ≡ false = go (q == x) refl in
+            rows_new x ∙ ap (λ (o : Bool). if o then now else rows x) apart ∙ state.stated x b is
+          where
+            go : (o : Bool) → (q == x) ≡ o → o ≡ false
+            go true e = let same = eqb-true q x e in let f = sym plain ∙ ap (kind_of p.arithmetic) same ∙ is in cc
+            go false e = refl
+
         counts : (next : Option D) → IfReplaced width listed q next noted.stepped.filled old new changed → length new.values.items ≡ length old.values.items
         counts None h = ap length h.2
         counts (Some d) h = ap length h.1.values ∙ length-set old.values.items q (record { of = d; filled = noted.stepped.filled })

@@ -1,13 +1,17 @@
 -- Private.
 -- The state of a chain, and what a step does to it.
 use Rattle.std.specs.Prelude.{◌≡◌, ℕ, ◌+◌, ◌-◌, ◌^◌, ◌<◌, ◌≤◌, ℤ, Bool, true, false, List, [], ◌∷◌, ◌++◌, length, slice_get, slice_set, Option, None, Some}
+use Rattle.cti_terms.specs.Arithmetic.{kind_of}
 use Rattle.cti_terms.specs.Listing.{Listing}
+use Rattle.cti_terms.specs.declared.builtins.Builtin.{Builtin}
 use Rattle.cti_terms.specs.declared.predicates.Pred.{Pred}
 use Rattle.linear_rows.specs.Plain.{plain_rows, HaveWidth}
 use Rattle.linear_rows.specs.declared.row.Rows.{Rows}
+use Rattle.termination_model.specs.Chain.{start_or_none}
 use Rattle.termination_model.specs.ChainSteps.{Step as PlainStep}
 use Rattle.termination_model.specs.Grounds.{HasArity}
 use Rattle.termination_model.specs.Sizes.{AreSizes, rows_of}
+use Rattle.termination_model.specs.Stated.{stated_rows}
 use Rattle.numeric_model.specs.declared.filled.Filled.{Filled}
 use Rattle.numeric_model.specs.declared.filled.Filled.TheVariants.{Bottom}
 use Rattle.numeric_model.specs.declared.noting.Noted.{Noted}
@@ -29,9 +33,9 @@ module _ {D : Type 0} (width : D → ℕ) (listed : D → List (List ℤ)) where
   weights [] = 0
   weights (v ∷ vs) = value_weight v + weights vs
 
-  -- the value of a predicate lists the predicate's rows
-  pub record IsValueOf (preds : List Pred) (rows : ℕ → List (List ℤ)) (q : ℕ) (v : Value D) : Type 0 where
-    pub rows_are : listed v.of ≡ rows q
+  -- the value of a predicate lists the predicate's rows, unless it is built in
+  pub record IsValueOf (preds : List Pred) (kind : Option Builtin) (rows : ℕ → List (List ℤ)) (q : ℕ) (v : Value D) : Type 0 where
+    pub rows_are : kind ≡ None → listed v.of ≡ rows q
     pub arity : HasArity preds q (width v.of)
     pub known : IsFilled (width v.of) v.filled (listed v.of)
     pub light : value_weight v ≤ 2 ^ 65
@@ -39,7 +43,8 @@ module _ {D : Type 0} (width : D → ℕ) (listed : D → List (List ℤ)) where
   pub record IsState (p : Listing) (s : State D) : Type 0 where
     pub sizes : AreSizes p.preds s.sizes.rows
     pub each : length s.values.items ≡ length p.preds
-    pub values : (q : ℕ) (v : Value D) → slice_get s.values.items q ≡ Some v → IsValueOf p.preds (rows_of s.sizes.rows) q v
+    pub values : (q : ℕ) (v : Value D) → slice_get s.values.items q ≡ Some v → IsValueOf p.preds (kind_of p.arithmetic q) (rows_of s.sizes.rows) q v
+    pub stated : (q : ℕ) (b : Builtin) → kind_of p.arithmetic q ≡ Some b → rows_of s.sizes.rows q ≡ stated_rows b
     pub proofs : length s.proofs.items ≡ length p.clauses
 
   -- the rows and the value of a predicate at the start
@@ -62,6 +67,23 @@ module _ {D : Type 0} (width : D → ℕ) (listed : D → List (List ℤ)) where
 
   abbrev pub IsFresh : List Pred → State D → Type 0
   IsFresh preds s = AreStarts preds s.sizes.rows s.values.items
+
+  -- the rows of a predicate have given way to those that are stated of it
+  pub record IsStatedAt (q : ℕ) (kind : Builtin) (old new : State D) : Type 0 where
+    pub rows : Rows
+    pub width_is : rows.width ≡ 2
+    pub long : HaveWidth 2 rows.list
+    pub rows_are : plain_rows rows.list ≡ stated_rows kind
+    pub sizes : new.sizes.rows ≡ slice_set old.sizes.rows q rows
+    pub values : new.values.items ≡ old.values.items
+
+  -- so it is with the built-in predicates below n
+  pub record AreStatedTo (p : Listing) (n : ℕ) (s : State D) : Type 0 where
+    pub sizes : AreSizes p.preds s.sizes.rows
+    pub each : length s.values.items ≡ length p.preds
+    pub values : (q : ℕ) (v : Value D) → slice_get s.values.items q ≡ Some v → IsValueOf p.preds (kind_of p.arithmetic q) (rows_of s.sizes.rows) q v
+    pub stated : (q : ℕ) (b : Builtin) → q < n → kind_of p.arithmetic q ≡ Some b → rows_of s.sizes.rows q ≡ stated_rows b
+    pub others : (q : ℕ) → kind_of p.arithmetic q ≡ None → rows_of s.sizes.rows q ≡ start_or_none (slice_get p.preds q)
 
   -- one more predicate, at the start
   pub record IsAdded (n : ℕ) (old new : State D) : Type 0 where

@@ -1,10 +1,10 @@
 // The state of a chain: the rows of each predicate, and the steps so far.
 ghost use Rattle.std.specs.Prelude.{◌≡◌, ◌≤◌, ◌<◌, ◌-◌, IfOk, OnOk, length, [], ◌∷◌, slice_get, Some};
-ghost use Rattle.cti_terms.specs.Listing.{Listing};
+ghost use Rattle.cti_terms.specs.Listing.{IsProgram, Listing};
 ghost use Rattle.linear_rows.specs.declared.row.Rows.{Rows};
 ghost use Rattle.termination_model.specs.Chain.{start_rows};
 ghost use Rattle.termination_model.specs.Sizes.{rows_of};
-ghost use Rattle.numeric_model.specs.States.{IfReplaced, IsAccepted, IsAdded, IsFresh, IsState};
+ghost use Rattle.numeric_model.specs.States.{AreStatedTo, IfReplaced, IsAccepted, IsAdded, IsFresh, IsState, IsStatedAt};
 
 use crate::chain::Chain;
 use crate::filled::Filled;
@@ -12,12 +12,12 @@ use crate::noting::Noted;
 use crate::step::Step;
 use crate::stepped::Stepped;
 use crate::value::Value;
-use cti_terms::{PredId, Program};
+use cti_terms::{Builtin, PredId, Program};
 use linear_rows::Multipliers;
 use polyhedra::Domain;
 use sequences::Sequence;
 use std::alloc::{AllocError, Global};
-use termination_model::{SizeRows, Sizes};
+use termination_model::{SizeRows, Sizes, stated_rows};
 
 /// The rows of each predicate while a chain goes on.
 pub(crate) struct State<D> {
@@ -43,7 +43,7 @@ impl<D: Drop> Drop for State<D> {
 }
 
 impl<D: Domain> State<D> {
-    /// All predicates are empty, and there are no steps.
+    /// Built-in predicates have their stated rows, all others are empty, and there are no steps.
     pub(crate) fn start(alloc: Global, p: &Program) -> Result<State<D>, AllocError>
         ensures state { IfOk result (IsState D.width D.listed p.now) }
         ensures rows { IfOk result (λ s. rows_of s.sizes.rows ≡ start_rows p.now) }
@@ -59,6 +59,7 @@ impl<D: Domain> State<D> {
             steps: Sequence::new(alloc),
         };
         state.add_values(alloc, p)?;
+        state.put_stated(alloc, p)?;
         state.add_proofs(alloc, p)?;
         Ok(state)
     }
@@ -90,6 +91,35 @@ impl<D: Domain> State<D> {
             of,
             filled: Filled::Bottom,
         })?;
+        Ok(())
+    }
+
+    // Puts the stated rows in the place of those of built-in predicates.
+    fn put_stated(&mut self, alloc: Global, p: &Program) -> Result<(), AllocError>
+        requires fresh { IsFresh D.width D.listed p.now.preds self.old }
+        ensures stated { OnOk result (AreStatedTo D.width D.listed p.now (length p.now.preds) self.new) }
+        ensures sound { OnOk result (IsProgram p.now) }
+        ensures proofs { OnOk result (self.new.proofs ≡ self.old.proofs) }
+        ensures steps { OnOk result (self.new.steps ≡ self.old.steps) }
+    {
+        let _program = p.clauses();
+        for q in 0..p.preds() {
+            if let Some(kind) = p.builtin(PredId(q)) {
+                self.put_rows(alloc, q, kind)?;
+            }
+        }
+        Ok(())
+    }
+
+    // Puts the stated rows of a kind in the place of a predicate's.
+    fn put_rows(&mut self, alloc: Global, q: u32, kind: Builtin) -> Result<(), AllocError>
+        requires { q < length self.old.sizes.rows }
+        ensures put { OnOk result (IsStatedAt D.width D.listed q kind self.old self.new) }
+        ensures proofs { OnOk result (self.new.proofs ≡ self.old.proofs) }
+        ensures steps { OnOk result (self.new.steps ≡ self.old.steps) }
+    {
+        let rows = stated_rows(alloc, kind)?;
+        self.sizes.rows.set(q as usize, rows);
         Ok(())
     }
 

@@ -1,12 +1,20 @@
-use Rattle.numeric_model.proofs.Starts.{start_state, rows_start, fresh_later}
+use Rattle.std.proofs.Common.{length}
+use Rattle.numeric_model.specs.States.{AreStatedTo}
+use Rattle.numeric_model.proofs.Starts.{start_state, rows_start, stated_later}
 use Rattle.numeric_model.proofs.state.State.start.Goals as goal
 
 pub returns-clause-state : goal.returns-clause-state
 returns-clause-state g c =
-    let fresh = fresh_later g.D.Domain.width g.D.Domain.listed c.args.p.now.preds c.add_values.new.self c.add_proofs.new.self c.in_ok-add_values.ensures.fresh c.in_ok-add_proofs.ensures.sizes c.in_ok-add_proofs.ensures.values in
-    start_state g.D.Domain.width g.D.Domain.listed c.args.p.now c.add_proofs.new.self fresh c.in_ok-add_proofs.ensures.proofs
+    let p = c.args.p.now in
+    let width = g.D.Domain.width in
+    let listed = g.D.Domain.listed in
+    let stated = stated_later width listed p (length p.preds) c.put_stated.new.self c.add_proofs.new.self c.in_ok-put_stated.ensures.stated c.in_ok-add_proofs.ensures.sizes c.in_ok-add_proofs.ensures.values in
+    start_state width listed p c.add_proofs.new.self stated c.in_ok-put_stated.ensures.sound c.in_ok-add_proofs.ensures.proofs
 
 pub returns-clause-rows : goal.returns-clause-rows
 returns-clause-rows g c =
-    let fresh = fresh_later g.D.Domain.width g.D.Domain.listed c.args.p.now.preds c.add_values.new.self c.add_proofs.new.self c.in_ok-add_values.ensures.fresh c.in_ok-add_proofs.ensures.sizes c.in_ok-add_proofs.ensures.values in
-    rows_start g.D.Domain.width g.D.Domain.listed c.args.p.now c.add_proofs.new.self fresh
+    let p = c.args.p.now in
+    let width = g.D.Domain.width in
+    let listed = g.D.Domain.listed in
+    let stated = stated_later width listed p (length p.preds) c.put_stated.new.self c.add_proofs.new.self c.in_ok-put_stated.ensures.stated c.in_ok-add_proofs.ensures.sizes c.in_ok-add_proofs.ensures.values in
+    rows_start width listed p c.add_proofs.new.self stated c.in_ok-put_stated.ensures.sound
