@@ -3,6 +3,7 @@ use Rattle.std.proofs.Common.{◌≡◌, ℕ, ◌+◌, ◌-◌, ◌<◌, ◌≤�
 use Rattle.cti_terms.specs.declared.atom_list.Atom.{Atom}
 use Rattle.cti_terms.specs.declared.clauses.Clause.{Clause}
 use Rattle.cti_terms.specs.declared.derivation.Goal.{Goal}
+use Rattle.cti_terms.specs.Arithmetic.{begins_wide}
 use Rattle.cti_terms.specs.Listing.{Listing}
 use Rattle.cti_terms.specs.Unify.{Binding}
 use Rattle.cti_terms.specs.UnifyFunction.{unify}
@@ -117,11 +118,11 @@ module _ (p : Listing) (s taken now : List Binding) (rests rests_now : List (Lis
         resolves (Some u.0) h u.1
         ∙ ap (λ (g : Goal). Some (u.0, g)) (left_goal (kept s c.mark) now u.0 (tail_at rests c.rest) c.fresh k u.2 here.0.free ∙ same_goal)
 
-    pub taken_met : (q : List Atom) (n : ℕ) → left p q n s rests old ≡ (record { steps = c.depth + 1; answer = answer_by q (made now) left_by_node.atoms } ∷ walk p q (n - c.depth) (made now) (c.depth + 1) left_by_node) ++ left p q n now rests_now new
+    pub taken_met : (q : List Atom) (n : ℕ) → left p q n s rests old ≡ (record { steps = c.depth + 1; answer = answer_by q (made now) left_by_node.atoms; wide = begins_wide p.arithmetic left_by_node.atoms } ∷ walk p q (n - c.depth) (made now) (c.depth + 1) left_by_node) ++ left p q n now rests_now new
     taken_met q n =
         ap (left p q n s rests) t.was
         ∙ node p s now rests rests_now c t.below here t.within t.m t.next e agree long q n u.0 left_by_node found u.2
-        ∙ ap (λ (vs : List Visit). (record { steps = c.depth + 1; answer = answer_by q (made now) left_by_node.atoms } ∷ walk p q (n - c.depth) (made now) (c.depth + 1) left_by_node) ++ vs) (same_left q n)
+        ∙ ap (λ (vs : List Visit). (record { steps = c.depth + 1; answer = answer_by q (made now) left_by_node.atoms; wide = begins_wide p.arithmetic left_by_node.atoms } ∷ walk p q (n - c.depth) (made now) (c.depth + 1) left_by_node) ++ vs) (same_left q n)
 
     pub taken_rest : c.rest ≤ length rests_now
     taken_rest = let r = here.0.rest in omega (arith, r, long)

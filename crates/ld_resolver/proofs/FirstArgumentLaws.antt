@@ -1,15 +1,18 @@
 -- Laws of clauses that cannot match a goal by its first argument.
-use Rattle.std.proofs.Common.{◌≡◌, ◌≢◌, ℕ, suc, ◌<◌, ◌≤◌, Bool, true, false, ◌&&◌, ◌==◌, if◌then◌else◌, List, [], ◌∷◌, map, length, slice_get, Option, None, Some, option_map, option_and_then, inl, inr, refl, ap, sym, ◌∙◌, subst, arith, eqb-true}
+use Rattle.std.proofs.Common.{◌≡◌, ◌≢◌, ℕ, zero, suc, ◌<◌, ◌≤◌, Bool, true, false, ◌&&◌, ◌==◌, if◌then◌else◌, List, [], ◌∷◌, map, length, slice_get, Option, None, Some, option_map, option_and_then, inl, inr, refl, ap, sym, ◌∙◌, subst, arith, eqb-true}
 use Rattle.std.proofs.lemmas.Bool.{cases_eq, cases_lt}
 use Rattle.cti_terms.specs.Tree.{Tree, Compound, arity, trees, instance, all_instances}
 use Rattle.cti_terms.specs.declared.syntax.Term.{Term}
 use Rattle.cti_terms.specs.Spell.{tree_of, trees_of}
 use Rattle.cti_terms.specs.declared.atom_list.Atom.{Atom}
 use Rattle.cti_terms.specs.declared.clauses.Clause.{Clause}
+use Rattle.cti_terms.specs.Arithmetic.{kind_of, passes_as}
 use Rattle.cti_terms.specs.Listing.{Listing, numbered}
+use Rattle.cti_terms.specs.declared.builtins.Builtin.{Builtin}
+use Rattle.cti_terms.specs.declared.derivation.Goal.{Goal}
 use Rattle.cti_terms.specs.Unify.{Binding, Step, first_step, pairs}
 use Rattle.cti_terms.specs.UnifyFunction.{unify}
-use Rattle.cti_terms.specs.Resolve.{over, raised, head_equations, answered, resolve_by, resolve}
+use Rattle.cti_terms.specs.Resolve.{over, raised, head_equations, answered, passed, resolve_by, resolve}
 use Rattle.ld_resolver.specs.declared.raised_term.Met.{Met}
 use Rattle.ld_resolver.specs.declared.raised_term.Shape.{Shape}
 use Rattle.ld_resolver.specs.Raised.{raised_tree, raise}
@@ -71,29 +74,35 @@ ruled_out n h g c u us e r clash s a rest first =
     none : unify (head_equations (over (full s) a) n c) ≡ None
     none = ap unify begins ∙ unify_step (shape_full s first.base h) (shape_tree n g) (pairs (trees first.others) (trees (map (instance (raise n)) us))) Step.Failed (clash s first.base)
 
+-- a clause's number resolves by the clause
+pub resolve_of : (p : Listing) (g : Goal) (k : ℕ) (c : Clause) → numbered p.clauses k ≡ Some c → resolve p g k ≡ resolve_by g.atoms g.fresh c
+resolve_of p g zero c e = cc
+resolve_of p g (suc i) c e = ap (option_and_then (resolve_by g.atoms g.fresh)) e
+
 -- a clause of another predicate resolves no goal
 another : (s : List Binding) (n : ℕ) (a : Atom) (rest : List Atom) (c : Clause) → a.pred.0 ≢ c.head.pred.0 → resolve_by (goal_from s n a rest).atoms n c ≡ None
 another s n a rest c d = another_pred (over (full s) a) (map (over (full s)) rest) n c d
 
 -- nor do the clauses before the next one of its predicate
-others_skipped : (p : Listing) (s : List Binding) (a : Atom) (n k m : ℕ) → IsNext p a.pred.0 k m → (rest : List Atom) (j : ℕ) → k ≤ j → j < m → resolve p (goal_from s n a rest) j ≡ None
-others_skipped p s a n k m is rest j low high = go (numbered p.clauses j) refl
+others_skipped : (p : Listing) (s : List Binding) (a : Atom) (n k m : ℕ) → kind_of p.arithmetic a.pred.0 ≡ None → IsNext p a.pred.0 k m → (rest : List Atom) (j : ℕ) → k ≤ j → j < m → resolve p (goal_from s n a rest) j ≡ None
+others_skipped p s a n k m plain is rest zero low high = ap (λ (o : Option Builtin). option_map (passed (map (over (full s)) rest) n) (passes_as p.arithmetic.names o (map (full s) a.args))) plain
+others_skipped p s a n k m plain is rest (suc i) low high = go (slice_get p.clauses i) refl
   where
-    go : (o : Option Clause) → numbered p.clauses j ≡ o → option_and_then (resolve_by (goal_from s n a rest).atoms n) o ≡ None
+    go : (o : Option Clause) → slice_get p.clauses i ≡ o → option_and_then (resolve_by (goal_from s n a rest).atoms n) o ≡ None
     go None e = refl
-    go (Some c) e = another s n a rest c (is.others j c low high e)
+    go (Some c) e = another s n a rest c (is.others (suc i) c low high e)
 
-pub next_matches : (p : Listing) (s : List Binding) (a : Atom) (n k m : ℕ) → IsNext p a.pred.0 k m → IsNextMatch p s a n k m
-next_matches p s a n k m is = record {
+pub next_matches : (p : Listing) (s : List Binding) (a : Atom) (n k m : ℕ) → kind_of p.arithmetic a.pred.0 ≡ None → IsNext p a.pred.0 k m → IsNextMatch p s a n k m
+next_matches p s a n k m plain is = record {
   from = is.from;
   to_end = is.to_end;
-  skipped = others_skipped p s a n k m is;
+  skipped = others_skipped p s a n k m plain is;
   found = is.found;
 }
 
 -- a clause that is ruled out is passed over
-pub next_later : (p : Listing) (s : List Binding) (a : Atom) (n k m later : ℕ) (h : Shape) (c : Clause) → IsNextMatch p s a n k m → numbered p.clauses m ≡ Some c → IsRuledOut n h c → HasFirst s a h → IsNext p c.head.pred.0 (suc m) later → IsNextMatch p s a n k later
-next_later p s a n k m later h c is at out first after = record {
+pub next_later : (p : Listing) (s : List Binding) (a : Atom) (n k m later : ℕ) (h : Shape) (c : Clause) → kind_of p.arithmetic a.pred.0 ≡ None → IsNextMatch p s a n k m → numbered p.clauses m ≡ Some c → IsRuledOut n h c → HasFirst s a h → IsNext p c.head.pred.0 (suc m) later → IsNextMatch p s a n k later
+next_later p s a n k m later h c plain is at out first after = record {
   from = omega (arith, is.from, after.from);
   to_end = after.to_end;
   skipped = λ rest j low high. by_place rest j low high;
@@ -104,13 +113,13 @@ next_later p s a n k m later h c is at out first after = record {
     here = subst (λ (f : ℕ). IsNext p f (suc m) later) (sym (is.found c at)) after
 
     itself : (rest : List Atom) → resolve p (goal_from s n a rest) m ≡ None
-    itself rest = ap (option_and_then (resolve_by (goal_from s n a rest).atoms n)) at ∙ out s a rest first
+    itself rest = resolve_of p (goal_from s n a rest) m c at ∙ out s a rest first
 
     by_place : (rest : List Atom) (j : ℕ) → k ≤ j → j < later → resolve p (goal_from s n a rest) j ≡ None
     by_place rest j low high = elim (cases_lt j m) [
       | inl less ↦ is.skipped rest j low less
       | inr more ↦ elim (cases_eq j m) [
         | inl same ↦ subst (λ (i : ℕ). resolve p (goal_from s n a rest) i ≡ None) (sym same) (itself rest)
-        | inr differs ↦ others_skipped p s a n (suc m) later here rest j (omega (arith, more, differs)) high
+        | inr differs ↦ others_skipped p s a n (suc m) later plain here rest j (omega (arith, more, differs)) high
       ]
     ]

@@ -66,7 +66,7 @@ module _ (p : Listing) where
   -- each of the first n nodes has at most n clauses
   pub shallow : (d n : ℕ) (g : Goal) (ks : List ℕ) → IsIn ks (take n (nodes p d g)) → length ks ≤ n
   shallow zero n g ks h = absurd (from_taken ks n [] h)
-  shallow (suc d) n g ks h = gathered n (range_with_len 1 (length p.clauses)) h (shallow d)
+  shallow (suc d) n g ks h = gathered n (range_with_len 0 (suc (length p.clauses))) h (shallow d)
     where
       under_shallow : (n k : ℕ) (o : Option (List Binding × Goal)) → IsIn ks (take n (under k (nodes p d) o)) → ((n : ℕ) (h : Goal) (js : List ℕ) → IsIn js (take n (nodes p d h)) → length js ≤ n) → length ks ≤ n
       under_shallow zero k o i rec = absurd i

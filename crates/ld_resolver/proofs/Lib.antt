@@ -1,6 +1,7 @@
 pub mod AnswerLaws
 pub mod AttemptLaws
 pub mod BelowLaws
+pub mod BuiltinChoices
 pub mod ChainLaws
 pub mod ConstantLaws
 pub mod CoverLaws
@@ -22,3 +23,4 @@ pub mod ToldLaws
 pub mod UnifySteps
 pub mod VisitLaws
 pub mod WalkLaws
+pub mod WideLaws

@@ -56,11 +56,11 @@ from_gathered f ks (j ∷ js) h = elim (in_either ks (f j) (flat_map f js) h) [ 
 
 module _ (p : Listing) where
   -- a clause that resolves is one of the program's
-  bounds : (g : Goal) (k : ℕ) (r : List Binding × Goal) → resolve p g k ≡ Some r → (1 ≤ k) × (k < 1 + length p.clauses)
-  bounds g zero r h = cc
+  bounds : (g : Goal) (k : ℕ) (r : List Binding × Goal) → resolve p g k ≡ Some r → (0 ≤ k) × (k < 0 + suc (length p.clauses))
+  bounds g zero r h = (omega arith, omega arith)
   bounds g (suc i) r h = go (slice_get p.clauses i) refl h
     where
-      go : (o : Option Clause) → slice_get p.clauses i ≡ o → option_and_then (resolve_by g.atoms g.fresh) o ≡ Some r → (1 ≤ suc i) × (suc i < 1 + length p.clauses)
+      go : (o : Option Clause) → slice_get p.clauses i ≡ o → option_and_then (resolve_by g.atoms g.fresh) o ≡ Some r → (0 ≤ suc i) × (suc i < 0 + suc (length p.clauses))
       go None e h = cc
       go (Some c) e h = let l = slice_get_within p.clauses i c e in (omega arith, omega (arith, l))
 
@@ -69,7 +69,7 @@ module _ (p : Listing) where
   there zero g (k ∷ ks) n l h = absurd (omega (arith, l))
   there (suc d) g (k ∷ ks) n l (bs, h, r, rest) =
       let b = bounds g k (bs, h) r in
-      in_gathered (λ j. under j (nodes p d) (resolve p g j)) 1 (length p.clauses) k (k ∷ ks) b.0 b.1
+      in_gathered (λ j. under j (nodes p d) (resolve p g j)) 0 (suc (length p.clauses)) k (k ∷ ks) b.0 b.1
       (subst (λ (o : Option (List Binding × Goal)). IsIn (k ∷ ks) (under k (nodes p d) o)) (sym r) (here ks rest (λ m. there d h ks m (omega (arith, l)))))
     where
       here : (ks : List ℕ) → IsDerivation p h ks → (ks ≢ [] → IsDerivation p h ks → IsIn ks (nodes p d h)) → IsIn (k ∷ ks) ((k ∷ []) ∷ map (λ js. k ∷ js) (nodes p d h))
@@ -79,7 +79,7 @@ module _ (p : Listing) where
   only_nodes : (d : ℕ) (g : Goal) (ks : List ℕ) → IsIn ks (nodes p d g) → (ks ≢ []) × (length ks ≤ d) × IsDerivation p g ks
   only_nodes zero g ks h = absurd h
   only_nodes (suc d) g ks h =
-      let f = from_gathered (λ j. under j (nodes p d) (resolve p g j)) ks (range_with_len 1 (length p.clauses)) h in
+      let f = from_gathered (λ j. under j (nodes p d) (resolve p g j)) ks (range_with_len 0 (suc (length p.clauses))) h in
       go f.0 (resolve p g f.0) refl f.1 (only_nodes d)
     where
       go : (k : ℕ) (o : Option (List Binding × Goal)) → resolve p g k ≡ o → IsIn ks (under k (nodes p d) o) → ((h : Goal) (js : List ℕ) → IsIn js (nodes p d h) → (js ≢ []) × (length js ≤ d) × IsDerivation p h js) → (ks ≢ []) × (length ks ≤ suc d) × IsDerivation p g ks
@@ -177,7 +177,7 @@ both : (p : Listing) (d : ℕ) → ((g : Goal) → AreAscending (nodes p d g)) �
 both p zero = ((λ g. tt), λ g. tt)
 both p (suc d) =
     let b = both p d in
-    ((λ g. gathered_order p d g b.0 b.1 1 (length p.clauses)), λ g. begin_full 1 (nodes p (suc d) g) (gathered_from p d g b.0 b.1 1 (length p.clauses)))
+    ((λ g. gathered_order p d g b.0 b.1 0 (suc (length p.clauses))), λ g. begin_full 0 (nodes p (suc d) g) (gathered_from p d g b.0 b.1 0 (suc (length p.clauses))))
 
 pub in_order : (p : Listing) (g : Goal) (d : ℕ) → AreAscending (nodes p d g)
 in_order p g d = (both p d).0 g
@@ -205,7 +205,7 @@ module _ (p : Listing) where
 
   deeper : (d : ℕ) (g : Goal) → length (nodes p d g) ≤ length (nodes p (suc d) g)
   deeper zero g = omega arith
-  deeper (suc d) g = gathered_more g d (suc d) (range_with_len 1 (length p.clauses)) (deeper d)
+  deeper (suc d) g = gathered_more g d (suc d) (range_with_len 0 (suc (length p.clauses))) (deeper d)
 
   pub much_deeper : (m e : ℕ) (g : Goal) → length (nodes p m g) ≤ length (nodes p (m + e) g)
   much_deeper m zero g = let s : m + 0 ≡ m = omega arith in subst (λ (n : ℕ). length (nodes p m g) ≤ length (nodes p n g)) (sym s) (omega arith)
@@ -227,7 +227,7 @@ module _ (p : Listing) where
   -- no derivation has d steps or more
   settled : (d : ℕ) (g : Goal) → ((ks : List ℕ) → IsDerivation p g ks → suc (length ks) ≤ d) → nodes p (suc d) g ≡ nodes p d g
   settled zero g short = absurd (let h = short [] tt in omega (arith, h))
-  settled (suc d) g short = same_gathered d g (range_with_len 1 (length p.clauses)) (λ ks h. let k = short ks h in omega (arith, k)) (λ h s. settled d h s)
+  settled (suc d) g short = same_gathered d g (range_with_len 0 (suc (length p.clauses))) (λ ks h. let k = short ks h in omega (arith, k)) (λ h s. settled d h s)
 
   pub settled_from : (d e : ℕ) (g : Goal) → ((ks : List ℕ) → IsDerivation p g ks → suc (length ks) ≤ d) → nodes p (d + e) g ≡ nodes p d g
   settled_from d zero g short = ap (λ n. nodes p n g) (let s : d + 0 ≡ d = omega arith in s)

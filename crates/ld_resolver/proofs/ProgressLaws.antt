@@ -1,6 +1,6 @@
 -- How a run goes on, and what it says when it ends.
-use Rattle.std.proofs.Common.{◌≡◌, ℕ, zero, suc, max, true, false, ◌+◌, ◌-◌, ◌<◌, ◌≤◌, IsTrue, List, [], ◌∷◌, ◌++◌, map, reverse, take, length, Option, None, Some, append_assoc, append-nil, length-append, refl, ap, sym, ◌∙◌, subst, arith}
-use Rattle.std.specs.List.{AllByRecursion, cons_option}
+use Rattle.std.proofs.Common.{◌≡◌, ℕ, zero, suc, max, Bool, true, false, ◌||◌, filter_map, drop, ◌+◌, ◌-◌, ◌<◌, ◌≤◌, IsTrue, List, [], ◌∷◌, ◌++◌, map, reverse, take, length, Option, None, Some, append_assoc, append-nil, length-append, refl, ap, sym, ◌∙◌, subst, arith}
+use Rattle.std.specs.List.{AllByRecursion, cons_option, list_any}
 use Rattle.std.proofs.lemmas.List.{map-append, length-map}
 use Rattle.std.proofs.lemmas.List.Elements.{filter_map-append}
 use Rattle.cti_terms.specs.Tree.{Tree, instance, is_below}
@@ -11,7 +11,8 @@ use Rattle.cti_terms.specs.Listing.{Listing, IsAtom}
 use Rattle.cti_terms.specs.Unify.{Binding}
 use Rattle.cti_terms.specs.Resolve.{over, raised}
 use Rattle.cti_terms.specs.Nodes.{nodes, first_nodes, HasMoreNodes, longest}
-use Rattle.cti_terms.specs.Answers.{answer_by, answers}
+use Rattle.cti_terms.specs.Arithmetic.{begins_wide}
+use Rattle.cti_terms.specs.Answers.{answer_by, answer_of, answers, leaves_wide, visited, visited_nodes, HasWide}
 use Rattle.ld_resolver.specs.declared.answer.Answer.{Answer}
 use Rattle.ld_resolver.specs.declared.search.Search.{Search}
 use Rattle.ld_resolver.specs.Raised.{raise}
@@ -28,7 +29,8 @@ use Rattle.ld_resolver.specs.Searches.{AreWithin, IsSearch, IsNode, IsEntered, g
 use Rattle.ld_resolver.specs.Progress.{scaled, told_after, IsDone, IsUnderWay, to_do}
 use Rattle.ld_resolver.proofs.BelowLaws.{raised_below, raised_zero}
 use Rattle.ld_resolver.proofs.SearchLaws.{walk_none}
-use Rattle.ld_resolver.proofs.WalkLaws.{walk_nodes, most_visits, met_visits, most_steps-append}
+use Rattle.ld_resolver.proofs.WalkLaws.{walk_nodes, most_visits, met_visits, wide_visits, most_steps-append}
+use Rattle.ld_resolver.proofs.WideLaws.{all_visited}
 
 -- ---- the goal of a query
 
@@ -66,12 +68,21 @@ told_more g done v =
     ∙ ap (map told) (cons_option-append (answer_by g.atoms [] g.atoms) (met_answers done) (cons_option v.answer []))
     ∙ map-append told (cons_option (answer_by g.atoms [] g.atoms) (met_answers done)) (cons_option v.answer [])
 
-pub done_more : (p : Listing) (g : Goal) (n : ℕ) (done left left_now : List Visit) (v : Visit) (steps longest : ℕ) (old now : List Answer) → IsDone p g n done left steps longest old → left ≡ v ∷ left_now → now ≡ old ++ map told (cons_option v.answer []) → IsDone p g n (done ++ v ∷ []) left_now (steps + 1) (max longest v.steps) now
-done_more p g n done left left_now v steps longest old now d e h = record {
+any_more : {X : Type 0} (f : X → Bool) (xs : List X) (x : X) → list_any f xs ≡ false → f x ≡ false → list_any f (xs ++ x ∷ []) ≡ false
+any_more f [] x h e = ap (λ b. b || false) e
+any_more f (y ∷ ys) x h e = go (f y) h (λ k. any_more f ys x k e)
+  where
+    go : (b : Bool) → (b || list_any f ys) ≡ false → (list_any f ys ≡ false → list_any f (ys ++ x ∷ []) ≡ false) → (b || list_any f (ys ++ x ∷ [])) ≡ false
+    go true k rec = cc
+    go false k rec = rec k
+
+pub done_more : (p : Listing) (g : Goal) (n : ℕ) (done left left_now : List Visit) (v : Visit) (steps longest : ℕ) (old now : List Answer) → IsDone p g n done left steps longest old → left ≡ v ∷ left_now → now ≡ old ++ map told (cons_option v.answer []) → v.wide ≡ false → IsDone p g n (done ++ v ∷ []) left_now (steps + 1) (max longest v.steps) now
+done_more p g n done left left_now v steps longest old now d e h fits = record {
   walked = d.walked ∙ ap (λ (l : List Visit). done ++ l) e ∙ sym (append_assoc done (v ∷ []) left_now);
   counted = omega (arith, length-append done (v ∷ []), d.counted);
   most = omega (arith, most_steps-append done (v ∷ []), d.most);
   told_so_far = h ∙ ap (λ (l : List Answer). l ++ map told (cons_option v.answer [])) d.told_so_far ∙ sym (told_more g done v);
+  fit = any_more (λ (v : Visit). v.wide) done v d.fit fits;
 }
 
 -- ---- the measure
@@ -137,25 +148,42 @@ module _ (p : Listing) (g : Goal) (n : ℕ) where
       omega (arith, count, d.counted, e)
 
   -- what was seen says what was counted
-  module _ (done left : List Visit) (steps most : ℕ) (told_now : List Answer) (d : IsDone p g n done left steps most told_now) (s : map (visit p g.atoms [] 0 g) (first_nodes p g n) ≡ done) where
-    pub counted_is : steps ≡ length (first_nodes p g n)
-    counted_is = sym d.counted ∙ ap length (sym s) ∙ length-map (first_nodes p g n) (visit p g.atoms [] 0 g)
+  module _ (done left : List Visit) (steps most : ℕ) (told_now : List Answer) (d : IsDone p g n done left steps most told_now) (s : map (visit p g.atoms [] 0 g) (first_nodes p g n) ≡ done) (b : begins_wide p.arithmetic g.atoms ≡ false) where
+    none_wide : list_any (leaves_wide p g) (first_nodes p g n) ≡ false
+    none_wide = sym (wide_visits p g (first_nodes p g n)) ∙ ap (list_any (λ (v : Visit). v.wide)) s ∙ d.fit
 
-    pub most_is : most ≡ longest (first_nodes p g n)
-    most_is = sym d.most ∙ ap most_steps (sym s) ∙ most_visits p g (first_nodes p g n)
+    pub all_fit : list_any (leaves_wide p g) ([] ∷ first_nodes p g n) ≡ false
+    all_fit = λ i. b i || none_wide i
+
+    everything : visited p g n ≡ [] ∷ first_nodes p g n
+    everything = all_visited p g ([] ∷ first_nodes p g n) all_fit
+
+    nodes_all : visited_nodes p g n ≡ first_nodes p g n
+    nodes_all = ap (drop 1) everything
+
+    pub counted_is : steps ≡ length (visited_nodes p g n)
+    counted_is = sym d.counted ∙ ap length (sym s) ∙ length-map (first_nodes p g n) (visit p g.atoms [] 0 g) ∙ ap length (sym nodes_all)
+
+    pub most_is : most ≡ longest (visited_nodes p g n)
+    most_is = sym d.most ∙ ap most_steps (sym s) ∙ most_visits p g (first_nodes p g n) ∙ ap longest (sym nodes_all)
 
     pub told_is : told_now ≡ map told (answers p g n)
     told_is =
         d.told_so_far
         ∙ ap (λ (l : List (List Atom)). map told (cons_option (answer_by g.atoms [] g.atoms) l)) (ap met_answers (sym s) ∙ met_visits p g (first_nodes p g n))
+        ∙ ap (λ (ns : List (List ℕ)). map told (filter_map (answer_of p g) ns)) (sym everything)
 
 -- ---- a run that has ended
 
 -- what a run says, with whether there are more nodes
+never_wide : IsTrue false → ⊥
+never_wide h = cc
+
 pub record Says (p : Listing) (g : Goal) (n steps most : ℕ) (told_now : List Answer) : Type 0 where
   pub told_all : told_now ≡ map told (answers p g n)
-  pub counted : steps ≡ length (first_nodes p g n)
-  pub most_of_all : most ≡ longest (first_nodes p g n)
+  pub counted : steps ≡ length (visited_nodes p g n)
+  pub most_of_all : most ≡ longest (visited_nodes p g n)
+  pub fits : HasWide p g n → ⊥
 
 none_in : (x : Search) (q : List Atom) (n : ℕ) → choices_of x ≡ [] → left_of q n x ≡ []
 none_in x q n e = ap (left x.program.now q n x.bindings x.tails) e
@@ -170,9 +198,10 @@ module _ (p : Listing) (g : Goal) (n : ℕ) (x : Search) (steps most : ℕ) (tol
     ended_says =
         let s = seen_all p g n u.done.0 steps most told_now done_all u.within in
         record {
-          told_all = told_is p g n u.done.0 [] steps most told_now done_all s;
-          counted = counted_is p g n u.done.0 [] steps most told_now done_all s;
-          most_of_all = most_is p g n u.done.0 [] steps most told_now done_all s;
+          told_all = told_is p g n u.done.0 [] steps most told_now done_all s u.begins;
+          counted = counted_is p g n u.done.0 [] steps most told_now done_all s u.begins;
+          most_of_all = most_is p g n u.done.0 [] steps most told_now done_all s u.begins;
+          fits = λ w. never_wide (subst IsTrue (all_fit p g n u.done.0 [] steps most told_now done_all s u.begins) w);
         }
 
     pub ended_without_more : HasMoreNodes p g n → ⊥
@@ -184,9 +213,10 @@ module _ (p : Listing) (g : Goal) (n : ℕ) (x : Search) (steps most : ℕ) (tol
     stopped_says =
         let s = seen_first p g n u.done.0 (left_of g.atoms n x) steps most told_now u.done.1 e in
         record {
-          told_all = told_is p g n u.done.0 (left_of g.atoms n x) steps most told_now u.done.1 s;
-          counted = counted_is p g n u.done.0 (left_of g.atoms n x) steps most told_now u.done.1 s;
-          most_of_all = most_is p g n u.done.0 (left_of g.atoms n x) steps most told_now u.done.1 s;
+          told_all = told_is p g n u.done.0 (left_of g.atoms n x) steps most told_now u.done.1 s u.begins;
+          counted = counted_is p g n u.done.0 (left_of g.atoms n x) steps most told_now u.done.1 s u.begins;
+          most_of_all = most_is p g n u.done.0 (left_of g.atoms n x) steps most told_now u.done.1 s u.begins;
+          fits = λ w. never_wide (subst IsTrue (all_fit p g n u.done.0 (left_of g.atoms n x) steps most told_now u.done.1 s u.begins) w);
         }
 
     pub stopped_with_more : HasMoreNodes p g n
@@ -230,7 +260,7 @@ module _ (p : Listing) (g : Goal) (n : ℕ) (old mid new : Search) (c : Choice) 
   later = within_more steps (choices_of mid) (within_mid steps u.depth)
 
   abbrev here : Visit
-  here = record { steps = c.depth + 1; answer = answer_by g.atoms (made mid.bindings) (node_goal mid c k).atoms }
+  here = record { steps = c.depth + 1; answer = answer_by g.atoms (made mid.bindings) (node_goal mid c k).atoms; wide = begins_wide mid.program.now.arithmetic (node_goal mid c k).atoms }
 
   abbrev below_here : ℕ → List Visit
   below_here d = walk mid.program.now g.atoms d (made mid.bindings) (c.depth + 1) (node_goal mid c k)
@@ -240,8 +270,9 @@ module _ (p : Listing) (g : Goal) (n : ℕ) (old mid new : Search) (c : Choice) 
   with_atoms is program all e = record {
     search = is;
     program = program ∙ program_mid ∙ u.program;
-    done = (u.done.0 ++ here ∷ [], done_more p g n u.done.0 (left_of g.atoms n old) (left_of g.atoms n new) here steps most told_now told_now u.done.1 left_now told_same);
+    done = (u.done.0 ++ here ∷ [], done_more p g n u.done.0 (left_of g.atoms n old) (left_of g.atoms n new) here steps most told_now told_now u.done.1 left_now told_same e.2);
     within = omega (arith, less);
+    begins = u.begins;
     depth = all (steps + 1) later (omega (arith, bound));
   }
     where
@@ -256,8 +287,9 @@ module _ (p : Listing) (g : Goal) (n : ℕ) (old mid new : Search) (c : Choice) 
   without_atoms last a is program bindings all e same is_told = record {
     search = same_is new last same is;
     program = same.program ∙ program ∙ program_mid ∙ u.program;
-    done = (u.done.0 ++ here ∷ [], done_more p g n u.done.0 (left_of g.atoms n old) (left_of g.atoms n last) here steps most told_now (told_now ++ a ∷ []) u.done.1 left_now told_one);
+    done = (u.done.0 ++ here ∷ [], done_more p g n u.done.0 (left_of g.atoms n old) (left_of g.atoms n last) here steps most told_now (told_now ++ a ∷ []) u.done.1 left_now told_one (ap (begins_wide mid.program.now.arithmetic) e.0));
     within = omega (arith, less);
+    begins = u.begins;
     depth = same_within new last same (steps + 1) (all (steps + 1) later (omega (arith, bound)));
   }
     where
@@ -308,9 +340,11 @@ module _ (g : Goal) (n : ℕ) (old new : Search) (b : old.bindings ≡ []) (ch :
         counted = refl;
         most = refl;
         told_so_far = ap (λ (o : Option (List Atom)). map told (cons_option o [])) (sym (e.0 g.atoms []));
+        fit = refl;
       },
     );
     within = omega arith;
+    begins = e.2;
     depth = none_deep;
   }
 
@@ -329,9 +363,11 @@ module _ (g : Goal) (n : ℕ) (old new : Search) (b : old.bindings ≡ []) (ch :
         counted = refl;
         most = refl;
         told_so_far = told_one;
+        fit = refl;
       },
     );
     within = omega arith;
+    begins = ap (begins_wide old.program.now.arithmetic) e.0;
     depth = same_within new last same 0 none_deep;
   }
     where

@@ -7,11 +7,13 @@ use Rattle.cti_terms.specs.Tree.{Tree, instance, is_below}
 use Rattle.cti_terms.specs.declared.atom_list.Atom.{Atom}
 use Rattle.cti_terms.specs.declared.clauses.Clause.{Clause}
 use Rattle.cti_terms.specs.declared.derivation.Goal.{Goal}
+use Rattle.cti_terms.specs.Arithmetic.{kind_of, passes_as, is_wide_as, begins_wide}
+use Rattle.cti_terms.specs.declared.builtins.Builtin.{Builtin}
 use Rattle.cti_terms.specs.Listing.{Listing, IsAtom, IsClause, numbered}
 use Rattle.cti_terms.specs.declared.predicates.Pred.{Pred}
 use Rattle.cti_terms.specs.Unify.{Equation, Binding, applied}
 use Rattle.cti_terms.specs.UnifyFunction.{unify}
-use Rattle.cti_terms.specs.Resolve.{over, raised, head_equations, left_by, answered, resolve_by, resolve}
+use Rattle.cti_terms.specs.Resolve.{over, raised, head_equations, left_by, answered, passed, resolve_by, resolve_itself, resolve}
 use Rattle.cti_terms.specs.Answers.{answer_by}
 use Rattle.ld_resolver.specs.declared.choices.Choice.{Choice}
 use Rattle.ld_resolver.specs.Raised.{raise}
@@ -148,7 +150,15 @@ clause_left p c h =
 -- ---- resolution by a clause
 
 pub resolve_at : (p : Listing) (a : Atom) (rest : List Atom) (n k : ℕ) (c : Clause) → 1 ≤ k → slice_get p.clauses (k - 1) ≡ Some c → resolve p (record { atoms = a ∷ rest; fresh = n }) k ≡ resolve_by (a ∷ rest) n c
-resolve_at p a rest n k c l h = ap (option_and_then (resolve_by (a ∷ rest) n)) (clause_at p.clauses k c l h)
+resolve_at p a rest n zero c l h = absurd (omega (arith, l))
+resolve_at p a rest n (suc i) c l h = ap (option_and_then (resolve_by (a ∷ rest) n)) (clause_at p.clauses (suc i) c l h)
+
+-- an atom that is not built in does not go away by itself
+pub ordinary_none : (p : Listing) (a : Atom) (rest : List Atom) (n : ℕ) → kind_of p.arithmetic a.pred.0 ≡ None → resolve p (record { atoms = a ∷ rest; fresh = n }) 0 ≡ None
+ordinary_none p a rest n e = ap (λ (o : Option Builtin). option_map (passed rest n) (passes_as p.arithmetic.names o a.args)) e
+
+pub ordinary_fits : (p : Listing) (a : Atom) (rest : List Atom) → kind_of p.arithmetic a.pred.0 ≡ None → begins_wide p.arithmetic (a ∷ rest) ≡ false
+ordinary_fits p a rest e = ap (λ (o : Option Builtin). is_wide_as p.arithmetic.names o a.args) e
 
 pub another_pred : (a : Atom) (rest : List Atom) (n : ℕ) (c : Clause) → a.pred.0 ≢ c.head.pred.0 → resolve_by (a ∷ rest) n c ≡ None
 another_pred a rest n c d = ap (λ b. if b then option_map (answered rest n c) (unify (head_equations a n c)) else None) (off (a.pred.0) (c.head.pred.0) d)
@@ -162,12 +172,12 @@ same_pred a rest n c e = ap (λ b. if b then option_map (answered rest n c) (uni
 -- ---- clauses that are passed over
 
 -- clauses that leave no goal are not met
-met_by_none : (p : Listing) (q : List Atom) (deeper : List Binding → ℕ → Goal → List Visit) (bs : List Binding) (l : ℕ) (h : Goal) (k gap m : ℕ) → m ≡ gap + k → m ≤ suc (length p.clauses) → ((j : ℕ) → k ≤ j → j < m → resolve p h j ≡ None) → walk_by p q deeper bs l h (range_with_len k (suc (length p.clauses) - k)) ≡ walk_by p q deeper bs l h (range_with_len m (suc (length p.clauses) - m))
+pub met_by_none : (p : Listing) (q : List Atom) (deeper : List Binding → ℕ → Goal → List Visit) (bs : List Binding) (l : ℕ) (h : Goal) (k gap m : ℕ) → m ≡ gap + k → m ≤ suc (length p.clauses) → ((j : ℕ) → k ≤ j → j < m → resolve p h j ≡ None) → walk_by p q deeper bs l h (range_with_len k (suc (length p.clauses) - k)) ≡ walk_by p q deeper bs l h (range_with_len m (suc (length p.clauses) - m))
 met_by_none p q deeper bs l h k zero m e b none = let same : k ≡ m = omega (arith, e) in ap (λ x. walk_by p q deeper bs l h (range_with_len x (suc (length p.clauses) - x))) same
 met_by_none p q deeper bs l h k (suc gap) m e b none =
     let one : suc (length p.clauses) - k ≡ suc (suc (length p.clauses) - (k + 1)) = omega (arith, e, b) in
     ap (λ d. walk_by p q deeper bs l h (range_with_len k d)) one
-    ∙ ap (λ o. entered q deeper bs l o ++ walk_by p q deeper bs l h (range_with_len (k + 1) (suc (length p.clauses) - (k + 1)))) (none k (omega arith) (omega (arith, e)))
+    ∙ ap (λ o. entered p.arithmetic q deeper bs l o ++ walk_by p q deeper bs l h (range_with_len (k + 1) (suc (length p.clauses) - (k + 1)))) (none k (omega arith) (omega (arith, e)))
     ∙ met_by_none p q deeper bs l h (k + 1) gap m (omega (arith, e)) b (λ j low high. none j (omega (arith, low)) high)
 
 -- nor are those before the next one that can match
@@ -208,10 +218,11 @@ left_goal s now bs rest n c e free = λ i. record { atoms = sym same i; fresh = 
 -- a goal without atoms is not walked
 pub walk_none : (p : Listing) (q : List Atom) (d : ℕ) (bs : List Binding) (l : ℕ) (h : Goal) → h.atoms ≡ [] → walk p q d bs l h ≡ []
 walk_none p q zero bs l h e = refl
-walk_none p q (suc d) bs l h e = each (range_with_len 1 (length p.clauses))
+walk_none p q (suc d) bs l h e = each (range_with_len 0 (suc (length p.clauses)))
   where
     none : (k : ℕ) → resolve p h k ≡ None
-    none k = ap (λ (xs : List Atom). option_and_then (resolve_by xs h.fresh) (numbered p.clauses k)) e ∙ go (numbered p.clauses k)
+    none zero = ap (λ (xs : List Atom). resolve_itself p.arithmetic xs h.fresh) e
+    none (suc i) = ap (λ (xs : List Atom). option_and_then (resolve_by xs h.fresh) (slice_get p.clauses i)) e ∙ go (slice_get p.clauses i)
       where
         go : (o : Option Clause) → option_and_then (resolve_by [] h.fresh) o ≡ None
         go None = refl
@@ -219,7 +230,7 @@ walk_none p q (suc d) bs l h e = each (range_with_len 1 (length p.clauses))
 
     each : (ks : List ℕ) → walk_by p q (walk p q d) bs l h ks ≡ []
     each [] = refl
-    each (k ∷ ks) = λ i. entered q (walk p q d) bs l (none k i) ++ each ks i
+    each (k ∷ ks) = λ i. entered p.arithmetic q (walk p q d) bs l (none k i) ++ each ks i
 
 -- ---- an attempt
 
@@ -252,13 +263,13 @@ module _ (p : Listing) (s now : List Binding) (rests rests_now : List (List Atom
   pub later_choices : AreChoices p now rests_now (after_c ∷ below)
   later_choices = choices_through p s now rests rests_now c.mark c.rests (after_c ∷ below) stays all.0.mark e agree long (same_mark, all.1, all.2)
 
-  pub left_by_clause : (q : List Atom) (n : ℕ) (o : Option (List Binding × Goal)) → resolve p (goal_of s rests c) c.next ≡ o → left p q n s rests (c ∷ below) ≡ entered q (walk p q (n - c.depth)) (made (kept s c.mark)) c.depth o ++ left p q n now rests_now (after_c ∷ below)
+  pub left_by_clause : (q : List Atom) (n : ℕ) (o : Option (List Binding × Goal)) → resolve p (goal_of s rests c) c.next ≡ o → left p q n s rests (c ∷ below) ≡ entered p.arithmetic q (walk p q (n - c.depth)) (made (kept s c.mark)) c.depth o ++ left p q n now rests_now (after_c ∷ below)
   left_by_clause q n o r =
       ap (λ (ks : List ℕ). walk_by p q (walk p q (n - c.depth)) (made (kept s c.mark)) c.depth (goal_of s rests c) ks ++ left p q n s rests below) (clause_left p c inside)
-      ∙ ap (λ (vs : List Visit). (entered q (walk p q (n - c.depth)) (made (kept s c.mark)) c.depth (resolve p (goal_of s rests c) c.next) ++ vs) ++ left p q n s rests below)
+      ∙ ap (λ (vs : List Visit). (entered p.arithmetic q (walk p q (n - c.depth)) (made (kept s c.mark)) c.depth (resolve p (goal_of s rests c) c.next) ++ vs) ++ left p q n s rests below)
       (met_by_match p q (walk p q (n - c.depth)) (made (kept s c.mark)) c.depth (kept s c.mark) (raised c.base c.atom.now) (tail_at rests c.rest) c.fresh (c.next + 1) m (subst (λ (k : ℕ). IsNextMatch p (kept s c.mark) (raised c.base c.atom.now) c.fresh k m) next_is after))
-      ∙ append_assoc (entered q (walk p q (n - c.depth)) (made (kept s c.mark)) c.depth (resolve p (goal_of s rests c) c.next)) (walk_by p q (walk p q (n - c.depth)) (made (kept s c.mark)) c.depth (goal_of s rests c) (clauses_left p after_c)) (left p q n s rests below)
-      ∙ (λ i. entered q (walk p q (n - c.depth)) (made (kept s c.mark)) c.depth (r i) ++ sym (left_stays p q n s now rests rests_now (after_c ∷ below) (stay_through p s now rests rests_now c.mark c.rests (after_c ∷ below) stays all.0.mark e agree (same_mark, all.1, all.2))) i)
+      ∙ append_assoc (entered p.arithmetic q (walk p q (n - c.depth)) (made (kept s c.mark)) c.depth (resolve p (goal_of s rests c) c.next)) (walk_by p q (walk p q (n - c.depth)) (made (kept s c.mark)) c.depth (goal_of s rests c) (clauses_left p after_c)) (left p q n s rests below)
+      ∙ (λ i. entered p.arithmetic q (walk p q (n - c.depth)) (made (kept s c.mark)) c.depth (r i) ++ sym (left_stays p q n s now rests rests_now (after_c ∷ below) (stay_through p s now rests rests_now c.mark c.rests (after_c ∷ below) stays all.0.mark e agree (same_mark, all.1, all.2))) i)
     where
       next_is : suc c.next ≡ c.next + 1
       next_is = omega arith
@@ -271,17 +282,17 @@ module _ (p : Listing) (s now : List Binding) (rests rests_now : List (List Atom
   no_node q n r = left_by_clause q n None r
 
   -- it leaves one
-  pub node : (q : List Atom) (n : ℕ) (bs : List Binding) (h : Goal) → resolve p (goal_of s rests c) c.next ≡ Some (bs, h) → made now ≡ made (kept s c.mark) ++ bs → left p q n s rests (c ∷ below) ≡ (record { steps = c.depth + 1; answer = answer_by q (made now) h.atoms } ∷ walk p q (n - c.depth) (made now) (c.depth + 1) h) ++ left p q n now rests_now (after_c ∷ below)
+  pub node : (q : List Atom) (n : ℕ) (bs : List Binding) (h : Goal) → resolve p (goal_of s rests c) c.next ≡ Some (bs, h) → made now ≡ made (kept s c.mark) ++ bs → left p q n s rests (c ∷ below) ≡ (record { steps = c.depth + 1; answer = answer_by q (made now) h.atoms; wide = begins_wide p.arithmetic h.atoms } ∷ walk p q (n - c.depth) (made now) (c.depth + 1) h) ++ left p q n now rests_now (after_c ∷ below)
   node q n bs h r m =
       left_by_clause q n (Some (bs, h)) r
-      ∙ (λ i. (record { steps = c.depth + 1; answer = answer_by q (sym m i) h.atoms } ∷ walk p q (n - c.depth) (sym m i) (c.depth + 1) h) ++ left p q n now rests_now (after_c ∷ below))
+      ∙ (λ i. (record { steps = c.depth + 1; answer = answer_by q (sym m i) h.atoms; wide = begins_wide p.arithmetic h.atoms } ∷ walk p q (n - c.depth) (sym m i) (c.depth + 1) h) ++ left p q n now rests_now (after_c ∷ below))
 
 -- ---- a goal that is entered
 
 start_goal : (s : List Binding) (atoms : List Atom) (a : Atom) (rest : List Atom) (n : ℕ) → atoms ≡ a ∷ rest → goal_with s atoms [] n ≡ goal_from s n a rest
 start_goal s atoms a rest n e = λ i. record { atoms = map (over (full s)) ((append-nil atoms ∙ e) i); fresh = n }
 
-module _ (p : Listing) (s : List Binding) (rests now : List (List Atom)) (cs : List Choice) (all : AreChoices p s rests cs) (g : GrowsTo rests now) (c : Choice) (atoms rest : List Atom) (e : atoms ++ rest ≡ raised c.base c.atom.now ∷ tail_at now c.rest) (within : c.rest ≤ length now) (newest : c.rests ≡ length now) (first : IsNextMatch p s (raised c.base c.atom.now) c.fresh 1 c.next) (mark : c.mark ≡ length s) (free : FreeFrom c.fresh s) (below : AtomsBelow c.fresh (goal_with s atoms rest c.fresh).atoms) where
+module _ (p : Listing) (s : List Binding) (rests now : List (List Atom)) (cs : List Choice) (all : AreChoices p s rests cs) (g : GrowsTo rests now) (c : Choice) (atoms rest : List Atom) (e : atoms ++ rest ≡ raised c.base c.atom.now ∷ tail_at now c.rest) (within : c.rest ≤ length now) (newest : c.rests ≡ length now) (first : IsNextMatch p s (raised c.base c.atom.now) c.fresh 1 c.next) (plain : kind_of p.arithmetic c.atom.now.pred.0 ≡ None) (mark : c.mark ≡ length s) (free : FreeFrom c.fresh s) (below : AtomsBelow c.fresh (goal_with s atoms rest c.fresh).atoms) where
   all_kept : kept s c.mark ≡ s
   all_kept = ap (kept s) mark ∙ kept_all s
 
@@ -304,21 +315,30 @@ module _ (p : Listing) (s : List Binding) (rests now : List (List Atom)) (cs : L
     choices_grown p s rests now cs g all,
   )
 
-  clauses_all : (q : List Atom) (deeper : List Binding → ℕ → Goal → List Visit) (bs : List Binding) (l : ℕ) → walk_by p q deeper bs l (goal_of s now c) (range_with_len 1 (length p.clauses)) ≡ walk_by p q deeper bs l (goal_of s now c) (clauses_left p c)
+  clauses_all : (q : List Atom) (deeper : List Binding → ℕ → Goal → List Visit) (bs : List Binding) (l : ℕ) → walk_by p q deeper bs l (goal_of s now c) (range_with_len 0 (suc (length p.clauses))) ≡ walk_by p q deeper bs l (goal_of s now c) (clauses_left p c)
   clauses_all q deeper bs l =
-      ap (λ k. walk_by p q deeper bs l (goal_of s now c) (range_with_len 1 k)) (sym count)
+      ap (λ o. entered p.arithmetic q deeper bs l o ++ walk_by p q deeper bs l (goal_of s now c) (range_with_len 1 (length p.clauses))) none_by_itself
+      ∙ ap (λ k. walk_by p q deeper bs l (goal_of s now c) (range_with_len 1 k)) (sym count)
       ∙ met_by_match p q deeper bs l (kept s c.mark) (raised c.base c.atom.now) (tail_at now c.rest) c.fresh 1 c.next (subst (λ (b : List Binding). IsNextMatch p b (raised c.base c.atom.now) c.fresh 1 c.next) (sym all_kept) first)
     where
+      none_by_itself : resolve p (goal_of s now c) 0 ≡ None
+      none_by_itself = ordinary_none p (over (full (kept s c.mark)) (raised c.base c.atom.now)) (map (over (full (kept s c.mark))) (tail_at now c.rest)) c.fresh plain
+
       count : suc (length p.clauses) - 1 ≡ length p.clauses
       count = omega arith
 
   pub left_entered : (q : List Atom) (n : ℕ) → walk p q (suc (n - c.depth)) (made s) c.depth (goal_with s atoms rest c.fresh) ++ left p q n s rests cs ≡ left p q n s now (c ∷ cs)
   left_entered q n =
-      (λ i. walk_by p q (walk p q (n - c.depth)) (made (sym all_kept i)) c.depth (sym same_goal i) (range_with_len 1 (length p.clauses)) ++ sym (left_stays p q n s s rests now cs (stay_grown p s rests now cs g all)) i)
+      (λ i. walk_by p q (walk p q (n - c.depth)) (made (sym all_kept i)) c.depth (sym same_goal i) (range_with_len 0 (suc (length p.clauses))) ++ sym (left_stays p q n s s rests now cs (stay_grown p s rests now cs g all)) i)
       ∙ ap (λ (vs : List Visit). vs ++ left p q n s now cs) (clauses_all q (walk p q (n - c.depth)) (made (kept s c.mark)) c.depth)
 
   pub no_answer : (q : List Atom) (bs : List Binding) → answer_by q bs (goal_with s atoms rest c.fresh).atoms ≡ None
   no_answer q bs = ap (λ (h : Goal). answer_by q bs h.atoms) (sym same_goal)
+
+  pub not_wide : begins_wide p.arithmetic (goal_with s atoms rest c.fresh).atoms ≡ false
+  not_wide =
+      ap (λ (h : Goal). begins_wide p.arithmetic h.atoms) (sym same_goal)
+      ∙ ordinary_fits p (over (full (kept s c.mark)) (raised c.base c.atom.now)) (map (over (full (kept s c.mark))) (tail_at now c.rest)) plain
 
 -- ---- the counter of a goal that is left
 

@@ -1,8 +1,9 @@
 -- Private.
 -- How far a run has come. Nothing here has to be believed.
-use Rattle.std.specs.Prelude.{◌≡◌, ℕ, zero, suc, ◌+◌, ◌-◌, ◌≤◌, List, [], ◌++◌, map, length}
-use Rattle.std.specs.List.{cons_option}
+use Rattle.std.specs.Prelude.{◌≡◌, ℕ, zero, suc, false, ◌+◌, ◌-◌, ◌≤◌, List, [], ◌++◌, map, length}
+use Rattle.std.specs.List.{cons_option, list_any}
 use Rattle.cti_terms.specs.declared.derivation.Goal.{Goal}
+use Rattle.cti_terms.specs.Arithmetic.{begins_wide}
 use Rattle.cti_terms.specs.Listing.{Listing}
 use Rattle.cti_terms.specs.Answers.{answer_by}
 use Rattle.ld_resolver.specs.declared.answer.Answer.{Answer}
@@ -26,6 +27,7 @@ pub record IsDone (p : Listing) (g : Goal) (n : ℕ) (done left : List Visit) (s
   pub counted : length done ≡ steps
   pub most : most_steps done ≡ longest
   pub told_so_far : answers ≡ told_after g done
+  pub fit : list_any (λ (v : Visit). v.wide) done ≡ false
 
 -- the state of a run between two attempts
 pub record IsUnderWay (p : Listing) (g : Goal) (n : ℕ) (x : Search) (steps longest : ℕ) (answers : List Answer) : Type 0 where
@@ -33,6 +35,7 @@ pub record IsUnderWay (p : Listing) (g : Goal) (n : ℕ) (x : Search) (steps lon
   pub program : x.program.now ≡ p
   pub done : (done : List Visit) × IsDone p g n done (left_of g.atoms n x) steps longest answers
   pub within : steps ≤ n
+  pub begins : begins_wide p.arithmetic g.atoms ≡ false
   pub depth : AreWithin steps (choices_of x)
 
 -- a number that falls at each attempt

@@ -5,6 +5,7 @@ use Rattle.std.specs.List.{AllByRecursion}
 use Rattle.cti_terms.specs.declared.atom_list.Atom.{Atom}
 use Rattle.cti_terms.specs.declared.clauses.Clause.{Clause as ProgramClause}
 use Rattle.cti_terms.specs.declared.derivation.Goal.{Goal}
+use Rattle.cti_terms.specs.Arithmetic.{begins_wide}
 use Rattle.cti_terms.specs.Listing.{Listing, IsClause, numbered}
 use Rattle.cti_terms.specs.Unify.{Binding}
 use Rattle.cti_terms.specs.Resolve.{over, raised}
@@ -89,7 +90,7 @@ node_goal x c k = goal_with x.bindings (map (raised c.fresh) k.body) (tail_at x.
 -- what is met at the node of this goal, to which l steps and one more lead, and then below it
 abbrev pub met_at : List Atom → ℕ → Search → ℕ → Goal → List Visit
 met_at q n x l h =
-    record { steps = l + 1; answer = answer_by q (made x.bindings) h.atoms }
+    record { steps = l + 1; answer = answer_by q (made x.bindings) h.atoms; wide = begins_wide x.program.now.arithmetic h.atoms }
     ∷ walk x.program.now q (n - l) (made x.bindings) (l + 1) h
 
 -- a clause at a choice leaves a node, which the search has not entered yet
@@ -111,4 +112,5 @@ IsAttempt old (Resolved c k) new = IsNode old c k.now new
 abbrev pub IsEntered : Search → ℕ → Goal → Bool → Search → Type 0
 IsEntered old l h true new = ((q : List Atom) (bs : List Binding) → answer_by q bs h.atoms ≡ None)
     × ((q : List Atom) (n : ℕ) → walk old.program.now q (suc (n - l)) (made old.bindings) l h ++ left_of q n old ≡ left_of q n new)
+    × (begins_wide old.program.now.arithmetic h.atoms ≡ false)
 IsEntered old l h false new = (h.atoms ≡ []) × ((q : List Atom) (n : ℕ) → left_of q n old ≡ left_of q n new)

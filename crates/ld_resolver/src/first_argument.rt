@@ -1,6 +1,7 @@
 //! Clauses that cannot match a goal, by the kinds of its first argument and of theirs.
 
-ghost use Rattle.std.specs.Prelude.{◌≡◌, ℕ, ◌≤◌, List, IsTrue, IfSome};
+ghost use Rattle.std.specs.Prelude.{◌≡◌, ℕ, ◌≤◌, List, IsTrue, IfSome, None};
+ghost use Rattle.cti_terms.specs.Arithmetic.{kind_of};
 ghost use Rattle.cti_terms.specs.Tree.{Compound, all_instances};
 ghost use Rattle.cti_terms.specs.Spell.{trees_of};
 ghost use Rattle.cti_terms.specs.Unify.{Binding, Step, first_step};
@@ -78,6 +79,7 @@ pub fn next_match<'p>(
 ) -> u32
     requires chain { IsChain program.now chain.now }
     requires next { 1 ≤ choice.next }
+    requires ordinary { kind_of program.now.arithmetic choice.atom.now.pred.0 ≡ None }
     ensures { (k : ℕ) → IsNext program.now choice.entry.atom.now.pred.0 k choice.entry.next → IsNextMatch program.now bindings.now (raised choice.entry.base choice.entry.atom.now) choice.entry.fresh k result }
 {
     let mut number = choice.next;

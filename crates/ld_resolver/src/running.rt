@@ -1,8 +1,8 @@
 //! The run of a query.
 
 ghost use Rattle.std.specs.Prelude.{◌≡◌, ◌↔◌, ℕ, ◌+◌, [], IfOk, map, length};
-ghost use Rattle.cti_terms.specs.Nodes.{first_nodes, HasMoreNodes, longest};
-ghost use Rattle.cti_terms.specs.Answers.{answers};
+ghost use Rattle.cti_terms.specs.Nodes.{HasMoreNodes, longest};
+ghost use Rattle.cti_terms.specs.Answers.{answers, visited_nodes, HasWide};
 ghost use Rattle.ld_resolver.specs.Chain.{IsChain};
 ghost use Rattle.ld_resolver.specs.Told.{told};
 ghost use Rattle.ld_resolver.specs.Runs.{IsGoalOf};
@@ -23,6 +23,10 @@ pub enum Ending {
 
     /// There are more nodes than the budget.
     Stopped,
+
+    /// The query or one of the first nodes, as many as the budget says, leaves a goal that begins with a built-in atom
+    /// whose value does not fit.
+    Overflow,
 }
 
 /// What a run has found.
@@ -82,12 +86,13 @@ pub fn run(alloc: Global, program: &Program, goal: &Goal, budget: u64) -> Result
 
     // The answers, reported in order, and the measures of what was looked at.
     ensures answers { IfOk result (λ ran. ran.answers ≡ map told (answers program.now goal.now budget)) }
-    ensures steps { IfOk result (λ ran. ran.steps ≡ length (first_nodes program.now goal.now budget)) }
-    ensures longest { IfOk result (λ ran. ran.longest ≡ longest (first_nodes program.now goal.now budget)) }
+    ensures steps { IfOk result (λ ran. ran.steps ≡ length (visited_nodes program.now goal.now budget)) }
+    ensures longest { IfOk result (λ ran. ran.longest ≡ longest (visited_nodes program.now goal.now budget)) }
 
     // Stopped comes exactly where there are more nodes than the budget, and Finished exactly where there are not.
-    ensures stopped { IfOk result (λ ran. (ran.ending ≡ Ending.Stopped) ↔ HasMoreNodes program.now goal.now budget) }
-    ensures finished { IfOk result (λ ran. (ran.ending ≡ Ending.Finished) ↔ ¬ HasMoreNodes program.now goal.now budget) }
+    ensures stopped { IfOk result (λ ran. (ran.ending ≡ Ending.Stopped) ↔ ((¬ HasWide program.now goal.now budget) × HasMoreNodes program.now goal.now budget)) }
+    ensures finished { IfOk result (λ ran. (ran.ending ≡ Ending.Finished) ↔ ((¬ HasWide program.now goal.now budget) × (¬ HasMoreNodes program.now goal.now budget))) }
+    ensures overflow { IfOk result (λ ran. (ran.ending ≡ Ending.Overflow) ↔ HasWide program.now goal.now budget) }
 {
     let chain = ClauseChain::new(alloc, program)?;
     let mut search = Search::new(alloc, program);

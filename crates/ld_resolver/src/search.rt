@@ -1,6 +1,7 @@
 //! The search for the nodes of a goal.
 
-ghost use Rattle.std.specs.Prelude.{◌≡◌, ℕ, ◌≤◌, ◌<◌, ◌+◌, ◌++◌, [], ◌∷◌, IfOk, OnOk, length, map, reverse};
+ghost use Rattle.std.specs.Prelude.{◌≡◌, ℕ, ◌≤◌, ◌<◌, ◌+◌, ◌++◌, [], ◌∷◌, IfOk, IsTrue, None, OnOk, length, map, reverse};
+ghost use Rattle.cti_terms.specs.Arithmetic.{kind_of};
 ghost use Rattle.cti_terms.specs.Resolve.{raised};
 ghost use Rattle.ld_resolver.specs.Below.{AtomsBelow, FreeFrom};
 ghost use Rattle.ld_resolver.specs.Chain.{IsChain};
@@ -16,7 +17,7 @@ use crate::choices::{Choice, goal_start};
 use crate::clause_chain::ClauseChain;
 use crate::first_argument::next_match;
 use crate::tails::Tails;
-use cti_terms::{Atom, Clause, Program};
+use cti_terms::{Atom, Clause, PredId, Program};
 use std::alloc::{AllocError, Global};
 
 /// What was taken at the last choice: nothing, since there is no choice; no clause, since it had none left and is gone; or a clause.
@@ -68,6 +69,13 @@ fn put_back<'p>(
         choices.push(choice)?;
     }
     Ok(())
+}
+
+/// Whether a predicate is one of the program's and not built in.
+fn is_ordinary(program: &Program, p: PredId) -> bool
+    ensures { IsTrue result → kind_of program.now.arithmetic p.0 ≡ None }
+{
+    p.0 < program.preds() && program.builtin(p).is_none()
 }
 
 /// Takes the next clause at the last choice, and takes back the bindings that were made after the choice's. The choice
@@ -162,6 +170,9 @@ impl<'p> Search<'p> {
     {
         match goal_start(&mut self.tails, atoms, base, rest)? {
             Some(start) => {
+                if !is_ordinary(self.program, start.atom.pred) {
+                    return Err(AllocError);
+                }
                 let choice = Choice {
                     atom: start.atom,
                     base: start.base,

@@ -1,7 +1,25 @@
 use Rattle.std.proofs.Common.{arith}
 use Rattle.cti_terms.specs.Resolve.{raised}
-use Rattle.ld_resolver.proofs.FirstArgumentLaws.{next_later}
+use Rattle.ld_resolver.proofs.FirstArgumentLaws.{next_later, next_matches}
 use Rattle.ld_resolver.proofs.first_argument.next_match.Goals as goal
+
+pub returns-then-clauses-number : goal.returns-then-clauses-number
+returns-then-clauses-number c = λ k first.
+    let choice = c.args.choice in
+    next_matches c.args.program.now c.args.bindings.now (raised choice.base choice.atom.now) choice.fresh k choice.next c.requires.ordinary first
+
+pub loop-shape-init : goal.loop-shape-init
+loop-shape-init c = record {
+  from_one = c.requires.next;
+  next = λ k first.
+      let choice = c.args.choice in
+      next_matches c.args.program.now c.args.bindings.now (raised choice.base choice.atom.now) choice.fresh k choice.next c.requires.ordinary first;
+}
+
+pub returns-in_default : goal.returns-in_default
+returns-in_default c = λ k first.
+    let choice = c.args.choice in
+    next_matches c.args.program.now c.args.bindings.now (raised choice.base choice.atom.now) choice.fresh k choice.next c.requires.ordinary first
 
 pub loop-shape-preserved : goal.loop-shape-preserved
 loop-shape-preserved c =
@@ -12,5 +30,5 @@ loop-shape-preserved c =
     let after = c.after-number.ensures p c.requires.chain out.0 out.1 in
     record {
       from_one = omega (arith, after.from);
-      next = λ k first. next_later p c.args.bindings.now (raised choice.base choice.atom.now) choice.fresh k number c.after-number.result c.in-Some.shape out.0 (c.loop-shape.invariant.next k first) out.1 out.2 c.in-Some.ensures after;
+      next = λ k first. next_later p c.args.bindings.now (raised choice.base choice.atom.now) choice.fresh k number c.after-number.result c.in-Some.shape out.0 c.requires.ordinary (c.loop-shape.invariant.next k first) out.1 out.2 c.in-Some.ensures after;
     }

@@ -38,13 +38,19 @@ pub returns-in-Ended-clause-stopped : goal.returns-in-Ended-clause-stopped
 returns-in-Ended-clause-stopped c =
     let l = c.loop-answers in
     let e = subst (λ (a : Attempt). IsAttempt l.search a c.attempt.new.self) c.in-Ended.is c.in_ok-attempt.ensures.attempt in
-    ((λ h. cc), λ more. absurd (ended_without_more c.args.program.now c.args.goal.now c.args.budget l.search l.steps l.longest l.answers l.invariant e more))
+    ((λ h. cc), λ w. absurd (ended_without_more c.args.program.now c.args.goal.now c.args.budget l.search l.steps l.longest l.answers l.invariant e w.1))
 
 pub returns-in-Ended-clause-finished : goal.returns-in-Ended-clause-finished
 returns-in-Ended-clause-finished c =
     let l = c.loop-answers in
     let e = subst (λ (a : Attempt). IsAttempt l.search a c.attempt.new.self) c.in-Ended.is c.in_ok-attempt.ensures.attempt in
-    ((λ h more. ended_without_more c.args.program.now c.args.goal.now c.args.budget l.search l.steps l.longest l.answers l.invariant e more), λ no. refl)
+    ((λ h. ((ended_says c.args.program.now c.args.goal.now c.args.budget l.search l.steps l.longest l.answers l.invariant e).fits, λ more. ended_without_more c.args.program.now c.args.goal.now c.args.budget l.search l.steps l.longest l.answers l.invariant e more)), λ no. refl)
+
+pub returns-in-Ended-clause-overflow : goal.returns-in-Ended-clause-overflow
+returns-in-Ended-clause-overflow c =
+    let l = c.loop-answers in
+    let e = subst (λ (a : Attempt). IsAttempt l.search a c.attempt.new.self) c.in-Ended.is c.in_ok-attempt.ensures.attempt in
+    ((λ h. cc), λ w. absurd ((ended_says c.args.program.now c.args.goal.now c.args.budget l.search l.steps l.longest l.answers l.invariant e).fits w))
 
 pub returns-then-steps-budget-clause-answers : goal.returns-then-steps-budget-clause-answers
 returns-then-steps-budget-clause-answers c =
@@ -68,13 +74,19 @@ pub returns-then-steps-budget-clause-stopped : goal.returns-then-steps-budget-cl
 returns-then-steps-budget-clause-stopped c =
     let l = c.loop-answers in
     let node = subst (λ (a : Attempt). IsAttempt l.search a c.attempt.new.self) c.in-Resolved.is c.in_ok-attempt.ensures.attempt in
-    ((λ h. stopped_with_more c.args.program.now c.args.goal.now c.args.budget l.search l.steps l.longest l.answers l.invariant c.if-steps-budget.true _ _ (node.met c.args.goal.now.atoms c.args.budget)), λ more. refl)
+    ((λ h. ((stopped_says c.args.program.now c.args.goal.now c.args.budget l.search l.steps l.longest l.answers l.invariant c.if-steps-budget.true _ _ (node.met c.args.goal.now.atoms c.args.budget)).fits, stopped_with_more c.args.program.now c.args.goal.now c.args.budget l.search l.steps l.longest l.answers l.invariant c.if-steps-budget.true _ _ (node.met c.args.goal.now.atoms c.args.budget))), λ more. refl)
 
 pub returns-then-steps-budget-clause-finished : goal.returns-then-steps-budget-clause-finished
 returns-then-steps-budget-clause-finished c =
     let l = c.loop-answers in
     let node = subst (λ (a : Attempt). IsAttempt l.search a c.attempt.new.self) c.in-Resolved.is c.in_ok-attempt.ensures.attempt in
-    ((λ h. cc), λ no. absurd (no (stopped_with_more c.args.program.now c.args.goal.now c.args.budget l.search l.steps l.longest l.answers l.invariant c.if-steps-budget.true _ _ (node.met c.args.goal.now.atoms c.args.budget))))
+    ((λ h. cc), λ no. absurd (no.1 (stopped_with_more c.args.program.now c.args.goal.now c.args.budget l.search l.steps l.longest l.answers l.invariant c.if-steps-budget.true _ _ (node.met c.args.goal.now.atoms c.args.budget))))
+
+pub returns-then-steps-budget-clause-overflow : goal.returns-then-steps-budget-clause-overflow
+returns-then-steps-budget-clause-overflow c =
+    let l = c.loop-answers in
+    let node = subst (λ (a : Attempt). IsAttempt l.search a c.attempt.new.self) c.in-Resolved.is c.in_ok-attempt.ensures.attempt in
+    ((λ h. cc), λ w. absurd ((stopped_says c.args.program.now c.args.goal.now c.args.budget l.search l.steps l.longest l.answers l.invariant c.if-steps-budget.true _ _ (node.met c.args.goal.now.atoms c.args.budget)).fits w))
 
 pub loop-answers-preserved-then-branch : goal.loop-answers-preserved-then-branch
 loop-answers-preserved-then-branch c =
@@ -153,6 +165,7 @@ loop-answers-preserved-in-Failed c =
       program = c.attempt.ensures.program ∙ l.invariant.program;
       done = (l.invariant.done.0, subst (λ (vs : List Visit). IsDone p g n l.invariant.done.0 vs l.steps l.longest l.answers) (failed.0 g.atoms n) l.invariant.done.1);
       within = l.invariant.within;
+      begins = l.invariant.begins;
       depth = c.in_ok-attempt.ensures.depths l.steps l.invariant.depth;
     }
 

@@ -1,5 +1,6 @@
-use Rattle.std.proofs.Common.{◌≡◌, suc, List, ◌≤◌, [], ◌∷◌, length, reverse, ap, sym, ◌∙◌, subst, arith}
+use Rattle.std.proofs.Common.{◌≡◌, ℕ, None, suc, List, ◌≤◌, [], ◌∷◌, length, reverse, ap, sym, ◌∙◌, subst, arith}
 use Rattle.std.proofs.lemmas.List.{reverse-append}
+use Rattle.cti_terms.specs.Arithmetic.{kind_of}
 use Rattle.cti_terms.specs.Unify.{Binding}
 use Rattle.cti_terms.specs.Resolve.{raised}
 use Rattle.ld_resolver.specs.Chain.{IsNext}
@@ -18,6 +19,17 @@ next_match-next-requires-clause-next c =
     let numbers = (subst (AreNumbered p) was c.requires.numbered).0 in
     let after = c.after-next.ensures p c.requires.chain k (clause_at p.clauses choice.next k numbers.0 c.clause-clause.ensures.there) in
     omega (arith, after.from)
+
+pub next_match-next-requires-clause-ordinary : goal.next_match-next-requires-clause-ordinary
+next_match-next-requires-clause-ordinary c =
+    let p = c.args.program.now in
+    let choice = c.in-Some.choice in
+    let k = c.clause-clause.result.now in
+    let below = reverse c.pop.new.self.items in
+    let was : reverse c.args.choices.now.items ≡ choice ∷ below = ap reverse c.in-Some.ensures.items ∙ reverse-append c.pop.new.self.items (choice ∷ []) in
+    let numbers = (subst (AreNumbered p) was c.requires.numbered).0 in
+    let same = numbers.2 k (clause_at p.clauses choice.next k numbers.0 c.clause-clause.ensures.there) in
+    subst (λ (f : ℕ). kind_of p.arithmetic f ≡ None) (sym same) c.clause-clause.ensures.ordinary
 
 pub returns : goal.returns
 returns c =
