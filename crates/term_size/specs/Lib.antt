@@ -1,4 +1,7 @@
+pub mod AnyNorm
 pub mod Counts
+pub mod ListSize
+pub mod ListSizeLaws
 pub mod Members
 pub mod Norm
 pub mod Occurrences

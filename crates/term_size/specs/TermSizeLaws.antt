@@ -61,11 +61,11 @@ mutual
       omega (arith, rigid_sizes r s t p.0, all_rigid_sizes r s ts p.1)
 
 -- f k * s k and so on, for n variables from k on
-abbrev summed : (ℕ → ℕ) → (ℕ → ℕ) → ℕ → ℕ → ℕ
+abbrev pub summed : (ℕ → ℕ) → (ℕ → ℕ) → ℕ → ℕ → ℕ
 summed f s k zero = 0
 summed f s k (suc n) = f k * s k + summed f s (suc k) n
 
-summed-zero : (s : ℕ → ℕ) (k n : ℕ) → summed (λ _. 0) s k n ≡ 0
+pub summed-zero : (s : ℕ → ℕ) (k n : ℕ) → summed (λ _. 0) s k n ≡ 0
 summed-zero s k zero = refl
 summed-zero s k (suc n) = omega (arith, summed-zero s (suc k) n)
 
@@ -81,7 +81,7 @@ summed-past s y k (suc n) lt =
     let e : (k == y) ≡ false = grind (arith, nat_tests) in
     rw e (omega (arith, h))
 
-summed-one : (s : ℕ → ℕ) (y k n : ℕ) → k ≤ y → y < k + n → summed (λ x. if x == y then 1 else 0) s k n ≡ s y
+pub summed-one : (s : ℕ → ℕ) (y k n : ℕ) → k ≤ y → y < k + n → summed (λ x. if x == y then 1 else 0) s k n ≡ s y
 summed-one s y k zero le lt = absurd (omega (arith, le, lt))
 summed-one s y k (suc n) le lt = go (k == y) refl (summed-one s y (suc k) n) (summed-past s y (suc k) n)
   where
