@@ -1,3 +1,4 @@
+pub mod Ackermann
 pub mod AllPositionsLaws
 pub mod Append
 pub mod AppendChain
@@ -34,9 +35,14 @@ pub mod Refuting
 pub mod RowChecks
 pub mod RowColumns
 pub mod Sets
+pub mod Stuck
 pub mod SystemLaws
 pub mod SystemPoints
 pub mod Totals
+pub mod TurnLists
+pub mod TurnMakes
+pub mod TurnPoints
+pub mod TurnRefutes
 pub mod Values
 pub mod ViewLaws
 pub mod Views

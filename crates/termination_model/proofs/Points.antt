@@ -58,11 +58,11 @@ weigh_offset (m ∷ ms) (w ∷ ws) q zero l = go (q == m) (weigh_offset ms ws q 
     go false rest = omega (arith, ints, rest)
 weigh_offset (m ∷ ms) (w ∷ ws) q (suc x) l = let rest = weigh_offset ms ws q (suc x) (omega arith) in omega (arith, ints, rest)
 
-map_together : (us vs : List ℕ) → map pos (us ++ vs) ≡ map pos us ++ map pos vs
+pub map_together : (us vs : List ℕ) → map pos (us ++ vs) ≡ map pos us ++ map pos vs
 map_together [] vs = refl
 map_together (u ∷ us) vs = ap (λ s. pos u ∷ s) (map_together us vs)
 
-in_columns : (n k j : ℕ) → k ≤ j → j < k + n → In j (columns k n)
+pub in_columns : (n k j : ℕ) → k ≤ j → j < k + n → In j (columns k n)
 in_columns zero k j l m = absurd (omega arith)
 in_columns (suc n) k j l m = go (either k j l) (λ h. in_columns n (suc k) j h (omega arith))
   where
@@ -73,14 +73,14 @@ in_columns (suc n) k j l m = go (either k j l) (λ h. in_columns n (suc k) j h (
     go (inl e) rec = inl e
     go (inr h) rec = inr (rec h)
 
-length_added : (n : ℕ) (xs ys : List ℤ) → length xs ≡ n → length ys ≤ n → length (added xs ys) ≡ n
+pub length_added : (n : ℕ) (xs ys : List ℤ) → length xs ≡ n → length ys ≤ n → length (added xs ys) ≡ n
 length_added n [] [] h k = h
 length_added n [] (y ∷ ys) h k = absurd (omega arith)
 length_added n (x ∷ xs) [] h k = h
 length_added zero (x ∷ xs) (y ∷ ys) h k = absurd (omega arith)
 length_added (suc n) (x ∷ xs) (y ∷ ys) h k = ap suc (length_added n xs ys (omega arith) (omega arith))
 
-length_zeros : (n : ℕ) → length (zeros n) ≡ n
+pub length_zeros : (n : ℕ) → length (zeros n) ≡ n
 length_zeros zero = refl
 length_zeros (suc n) = ap suc (length_zeros n)
 
@@ -89,7 +89,7 @@ module _ (truth : (ℕ → Bool) → Tree → Bool) (expression : ℕ → Tree �
   all_widths w n [] = tt
   all_widths w n (t ∷ ts) = (w n t, all_widths w n ts)
 
-  level_width : HasWidths expression → (n q : ℕ) (ts : List Tree) → length (level_over truth expression n q ts l) ≡ suc n
+  pub level_width : HasWidths expression → (n q : ℕ) (ts : List Tree) → length (level_over truth expression n q ts l) ≡ suc n
   level_width w n q ts = length-substituted n (map (expression n) ts) (pos (l.offset q) ∷ map pos (l.coefficients q)) (all_widths w n ts)
 
   -- the row of a fall has a number for each variable, and the constant
@@ -107,7 +107,7 @@ module _ (truth : (ℕ → Bool) → Tree → Bool) (expression : ℕ → Tree �
   l = mapping_at arity positions members cs os
 
   -- a level's number in a column
-  level_entry : (n q : ℕ) (ts : List Tree) (x : ℕ) → length ts ≤ arity q → length os ≡ length members
+  pub level_entry : (n q : ℕ) (ts : List Tree) (x : ℕ) → length ts ≤ arity q → length os ≡ length members
       → entry (level_over truth expression n q ts l) x ≡ dot (map (offset_share q x) members) (map pos os) +ℤ dot (map (share q (map (expression n) ts) x) positions) (map pos cs)
   level_entry n q ts x few lo =
       let len = length-map ts (expression n) in

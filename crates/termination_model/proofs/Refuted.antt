@@ -49,7 +49,7 @@ dot_order (a ∷ cs) (x ∷ xs) (y ∷ ys) h =
     omega (arith, ints, here, rest)
 
 -- the sum of levels
-abbrev summed : (ℕ → List ℕ) → List Load → ℤ
+abbrev pub summed : (ℕ → List ℕ) → List Load → ℤ
 summed f [] = pos 0
 summed f (h ∷ hs) = dot (map pos (f h.0)) h.1 +ℤ summed f hs
 
@@ -102,7 +102,7 @@ all_below : (hs : List Load) (n : ℕ) → above hs ≤ n → AllByRecursion (λ
 all_below [] n l = tt
 all_below (h ∷ hs) n l = (omega arith, all_below hs n (omega arith))
 
-lighter : (f : ℕ → List ℕ) (hs gs : List Load) → ((q i : ℕ) → 0 < coefficient (f q) i → entry (gather q hs) i ≤ℤ entry (gather q gs) i) → summed f hs ≤ℤ summed f gs
+pub lighter : (f : ℕ → List ℕ) (hs gs : List Load) → ((q i : ℕ) → 0 < coefficient (f q) i → entry (gather q hs) i ≤ℤ entry (gather q gs) i) → summed f hs ≤ℤ summed f gs
 lighter f hs gs h =
     let n = above hs + above gs in
     let o = order f hs gs n h in
@@ -153,7 +153,7 @@ at_infinity n rows row on t w u ht lw lu hw hu =
     (λ k. subst (λ (z : ℤ). pos 0 ≤ℤ z) (dot_along row (t ∷ w) k (0 ∷ u) (ap suc (sym lu)))
     (on (t + k * 0) (along w k u) (omega arith) (omega (arith, length-along w k u)) (rows_along rows t w u k (sym lu) hw hu)))
 
-dot_over : (n : ℕ) (es : List (List ℤ)) (b : ℤ) (row : List ℤ) (x : ℤ) (vs : List ℤ) → dot (substituted n es (b ∷ row)) (x ∷ vs) ≡ dot (b ∷ row) (x ∷ map (λ e. dot e (x ∷ vs)) es)
+pub dot_over : (n : ℕ) (es : List (List ℤ)) (b : ℤ) (row : List ℤ) (x : ℤ) (vs : List ℤ) → dot (substituted n es (b ∷ row)) (x ∷ vs) ≡ dot (b ∷ row) (x ∷ map (λ e. dot e (x ∷ vs)) es)
 unfolding dot
 dot_over n es b row x vs =
     let zeros = dot_zeros n vs in
@@ -182,7 +182,7 @@ some_time (p ∷ ps) (inr h) = omega (arith, some_time ps h)
 abbrev pub weights : Mapping → ℕ → List ℕ
 weights l q = l.offset q ∷ l.coefficients q
 
-from_in : {X : Type 0} (P : X → Type 0) (xs : List X) (x : X) → AllByRecursion P xs → SomeOf (λ y. y ≡ x) xs → P x
+pub from_in : {X : Type 0} (P : X → Type 0) (xs : List X) (x : X) → AllByRecursion P xs → SomeOf (λ y. y ≡ x) xs → P x
 from_in P [] x all i = absurd i
 from_in P (y ∷ xs) x all (inl e) = subst P e all.0
 from_in P (y ∷ xs) x all (inr i) = from_in P xs x all.1 i

@@ -31,7 +31,7 @@ at_place [] x h = absurd h
 at_place (y ∷ ys) x (inl e) = (0, ap Some e)
 at_place (y ∷ ys) x (inr h) = let r = at_place ys x h in (suc r.0, r.1)
 
-length_zeros : (n : ℕ) → length (zeros n) ≡ n
+pub length_zeros : (n : ℕ) → length (zeros n) ≡ n
 length_zeros zero = refl
 length_zeros (suc n) = ap suc (length_zeros n)
 
@@ -40,7 +40,7 @@ length_replicated zero = refl
 length_replicated (suc n) = ap suc (length_replicated n)
 
 -- ---- totals of parts
-total_same : (f g : OwnCall → ℕ → List ℕ → ℤ) → (os : List OwnCall) (vs : List ℕ) → length vs ≡ number_count os
+pub total_same : (f g : OwnCall → ℕ → List ℕ → ℤ) → (os : List OwnCall) (vs : List ℕ) → length vs ≡ number_count os
     → ((o : OwnCall) (t : ℕ) (w : List ℕ) → length w ≡ o.rule.vars → f o t w ≡ g o t w) → total f os vs ≡ total g os vs
 total_same f g [] vs l h = refl
 total_same f g (o ∷ os) [] l h = refl
@@ -76,7 +76,7 @@ entry_dots [] v a = refl
 entry_dots (e ∷ es) v zero = refl
 entry_dots (e ∷ es) v (suc a) = entry_dots es v a
 
-dot_none_over : (v : List ℤ) (ks : List ℕ) → dot v (map (λ x. pos 0) ks) ≡ pos 0
+pub dot_none_over : (v : List ℤ) (ks : List ℕ) → dot v (map (λ x. pos 0) ks) ≡ pos 0
 unfolding dot
 dot_none_over [] ks = refl
 dot_none_over (x ∷ v) [] = refl
@@ -107,7 +107,7 @@ offset_total q m n t w =
     go true e = omega (arith, ints, e)
     go false e = omega (arith, ints, e)
 
-one_total : (n t : ℕ) (w : List ℕ) → dot (map pos (t ∷ w)) (map less_one (columns 0 (suc n))) ≡ neg_ℤ (pos t)
+pub one_total : (n t : ℕ) (w : List ℕ) → dot (map pos (t ∷ w)) (map less_one (columns 0 (suc n))) ≡ neg_ℤ (pos t)
 unfolding dot
 one_total n t w =
     let s = ap (dot (map pos w)) (shifted less_one 0 n) in
@@ -116,7 +116,7 @@ one_total n t w =
 
 module _ (truth : (ℕ → Bool) → Tree → Bool) (expression : ℕ → Tree → List ℤ) (view : List Rule) (positions : List Position) (members : List ℕ) where
   -- the columns of positions, members and constants
-  constant_entry : (b after : ℕ) (o : OwnCall) (x : ℕ) → entry (call_row expression positions members b after o x) 0 ≡ less_one x
+  pub constant_entry : (b after : ℕ) (o : OwnCall) (x : ℕ) → entry (call_row expression positions members b after o x) 0 ≡ less_one x
   constant_entry b after o x = refl
 
   position_entry : (i : ℕ) (p : Position) → slice_get positions i ≡ Some p → (b after : ℕ) (o : OwnCall) (x : ℕ)

@@ -1,3 +1,4 @@
+pub mod Ackermann
 pub mod AllPositions
 pub mod Append
 pub mod AppendChain
@@ -22,9 +23,13 @@ pub mod Replacing
 pub mod Rows
 pub mod Short
 pub mod Sizes
+pub mod Stuck
 pub mod SupportLaws
 pub mod SupportSystem
 pub mod Stated
 pub mod Supports
 pub mod Systems
+pub mod TurnLaws
+pub mod TurnSystem
+pub mod Turns
 pub mod View

@@ -19,6 +19,7 @@ mod sizes;
 mod stated;
 mod supports;
 mod systems;
+mod turns;
 
 pub use choosing::number_sets;
 pub use descent::{a_query_is_bounded, proofs_show, views_serve};
@@ -31,3 +32,4 @@ pub use supports::{
     systems_give_mappings, views_are_ready,
 };
 pub use systems::{add_atom, system};
+pub use turns::{ackermann_descends, stuck_sets_exclude_lists, turns_drop_or_stick, turns_give_lists};
