@@ -24,20 +24,20 @@ to_right a b c d e =
     append_assoc ((a ++ b) ++ c) d e ∙ append_assoc (a ++ b) c (d ++ e) ∙ append_assoc a b (c ++ (d ++ e))
 
 module _ (expression : ℕ → Tree → List ℤ) (o : Recalled) (own : OwnCall) (h : Recalls expression o own) where
-  positions_same : (x : ℕ) (positions : List Position)
+  pub positions_same : (x : ℕ) (positions : List Position)
       → map (λ p. share own.caller.0 (plain_rows own.caller_sizes.list) x (spelled p) -ℤ share own.callee.0 (plain_rows own.callee_sizes.list) x (spelled p)) positions
       ≡ map (λ p. share o.rule.member (head_sizes expression o) x p -ℤ share o.member (call_sizes expression o) x p) (map spelled positions)
   positions_same x positions =
       (λ i. map (λ p. share (h.caller i) (h.caller_sizes i) x (spelled p) -ℤ share (h.callee i) (h.callee_sizes i) x (spelled p)) positions)
       ∙ map_map (λ p. share o.rule.member (head_sizes expression o) x p -ℤ share o.member (call_sizes expression o) x p) spelled positions
 
-  offsets_same : (x : ℕ) (members : List PredId) → map (λ m. offset_share own.caller.0 x m.0 -ℤ offset_share own.callee.0 x m.0) members
+  pub offsets_same : (x : ℕ) (members : List PredId) → map (λ m. offset_share own.caller.0 x m.0 -ℤ offset_share own.callee.0 x m.0) members
       ≡ map (λ m. offset_share o.rule.member x m -ℤ offset_share o.member x m) (map number_of members)
   offsets_same x members =
       (λ i. map (λ m. offset_share (h.caller i) x m.0 -ℤ offset_share (h.callee i) x m.0) members)
       ∙ map_map (λ m. offset_share o.rule.member x m -ℤ offset_share o.member x m) number_of members
 
-  rows_same : (x : ℕ) → map (λ r. neg_ℤ (entry (plain_row r) x)) own.rows.list ≡ map (λ r. neg_ℤ (entry r x)) (rows_before expression o)
+  pub rows_same : (x : ℕ) → map (λ r. neg_ℤ (entry (plain_row r) x)) own.rows.list ≡ map (λ r. neg_ℤ (entry r x)) (rows_before expression o)
   rows_same x = map_map (λ r. neg_ℤ (entry r x)) plain_row own.rows.list ∙ ap (map (λ r. neg_ℤ (entry r x))) h.rows
 
   pub held_row : (positions : List Position) (members : List PredId) (before after x : ℕ)

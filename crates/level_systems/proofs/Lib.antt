@@ -8,6 +8,7 @@ pub mod PairLists
 pub mod RowLengths
 pub mod SoundLaws
 pub mod SystemSteps
+pub mod TurnSteps
 pub mod ValueLaws
 pub mod ViewCalls
 pub mod Zeros

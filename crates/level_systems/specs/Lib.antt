@@ -9,4 +9,5 @@ pub mod Recalled
 pub mod Refuted
 pub mod Searched
 pub mod Subsequences
+pub mod Turned
 pub mod Valued

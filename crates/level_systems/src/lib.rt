@@ -16,6 +16,7 @@ mod position;
 mod reaching;
 mod solving;
 mod support_rows;
+mod turn_rows;
 mod values;
 
 pub use answer::Answer;
@@ -32,4 +33,5 @@ pub use position::Position;
 pub use reaching::point_of;
 pub use solving::solve_by;
 pub use support_rows::support_system;
+pub use turn_rows::turn_system;
 pub use values::level_part;

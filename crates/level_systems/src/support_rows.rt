@@ -57,7 +57,7 @@ fn position_of(own: &OwnCall, x: usize, position: &Position) -> i128
 }
 
 // What the coefficients of positions count in a column of a call's row.
-fn add_positions(
+pub(crate) fn add_positions(
     row: &mut Vec<i128>,
     own: &OwnCall,
     x: usize,
@@ -85,7 +85,7 @@ fn offset_of(own: &OwnCall, x: usize, member: PredId) -> i128
 }
 
 // What the offsets of members count in a column of a call's row.
-fn add_offsets(
+pub(crate) fn add_offsets(
     row: &mut Vec<i128>,
     own: &OwnCall,
     x: usize,
@@ -100,7 +100,7 @@ fn add_offsets(
 }
 
 // The given number of zeros.
-fn add_zeros(row: &mut Vec<i128>, count: usize) -> Result<(), AllocError>
+pub(crate) fn add_zeros(row: &mut Vec<i128>, count: usize) -> Result<(), AllocError>
     ensures { OnOk result (row.new.items ≡ row.old.items ++ zeros count) }
 {
     for _place in 0..count {
@@ -119,7 +119,7 @@ fn negated(row: &Row, x: usize) -> i128
 }
 
 // What the multipliers of the rows before a call count in a column of its row.
-fn add_multipliers(row: &mut Vec<i128>, rows: &[Row], x: usize) -> Result<(), AllocError>
+pub(crate) fn add_multipliers(row: &mut Vec<i128>, rows: &[Row], x: usize) -> Result<(), AllocError>
     requires there { All (λ r. x < length (plain_row r)) rows.now }
     requires fits { All (λ r. fits (entry (plain_row r) x) ≡ true) rows.now }
     ensures { OnOk result (row.new.items ≡ row.old.items ++ map (λ r. neg_ℤ (entry (plain_row r) x)) rows.now) }
@@ -131,7 +131,7 @@ fn add_multipliers(row: &mut Vec<i128>, rows: &[Row], x: usize) -> Result<(), Al
 }
 
 // The 1 by which levels fall, in a column.
-fn less_one(x: usize) -> i128
+pub(crate) fn less_one(x: usize) -> i128
     ensures { result ≡ less_one x }
 {
     if x == 0 { -1 } else { 0 }
@@ -226,7 +226,7 @@ fn count_of(calls: &[OwnCall]) -> Result<usize, AllocError>
 }
 
 // How many unknowns a system has. More than 2^32 have no memory.
-fn width_of(positions: usize, members: usize, count: usize) -> Result<u32, AllocError>
+pub(crate) fn width_of(positions: usize, members: usize, count: usize) -> Result<u32, AllocError>
     ensures { IfOk result (λ n. n ≡ positions + (members + count)) }
 {
     let Some(others) = members.checked_add(count) else {
