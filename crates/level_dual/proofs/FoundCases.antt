@@ -34,6 +34,9 @@ full_set (suc n) lo =
     let more : suc lo + n ≡ lo + suc n = omega arith in
     (omega arith, omega arith, subst (λ (k : ℕ). IsSet (suc lo) k (columns (suc lo) n)) more (full_set n (suc lo)))
 
+full_is_set : (n : ℕ) → IsSet 1 (suc n) (columns 1 n)
+full_is_set n = let more : 1 + n ≡ suc n = omega arith in subst (λ (k : ℕ). IsSet 1 k (columns 1 n)) more (full_set n 1)
+
 length_columns : (k n : ℕ) → length (columns k n) ≡ n
 length_columns k zero = refl
 length_columns k (suc n) = ap suc (length_columns (suc k) n)
@@ -86,6 +89,13 @@ module _ (expression : ℕ → Tree → List ℤ) (p : Listing) (comps : Partiti
   none_undecided [] = inl refl
   none_undecided (x ∷ s) = inl refl
 
+  sets_undecided : (s : List ℕ) → IsSet 1 (suc many) s → (t : List ℕ) → In t (undecided s) → IsSet 1 (suc many) t
+  sets_undecided [] h t i = elim i [ inl e ↦ subst (IsSet 1 (suc many)) e tt | inr none ↦ absurd none ]
+  sets_undecided (x ∷ s) h t i = elim i [ inl e ↦ subst (IsSet 1 (suc many)) e tt | inr (inl e) ↦ subst (IsSet 1 (suc many)) e h | inr (inr none) ↦ absurd none ]
+
+  full_sets : (t : List ℕ) → In t (all ∷ []) → IsSet 1 (suc many) t
+  full_sets t i = elim i [ inl e ↦ subst (IsSet 1 (suc many)) e (full_is_set many) | inr none ↦ absurd none ]
+
   once_undecided : (s : List ℕ) → AreOnce (undecided s)
   once_undecided [] = ((λ i. i), tt)
   once_undecided (x ∷ s) = ((λ i. elim i [ inl e ↦ cc | inr j ↦ j ]), ((λ i. i), tt))
@@ -101,6 +111,7 @@ module _ (expression : ℕ → Tree → List ℤ) (p : Listing) (comps : Partiti
     more = λ _. record { few = omega arith; decreases = λ s i. absurd i; needed = λ s i. absurd i; decided = inr (inr (full_undecided all)) };
     refuted = ((λ h. absurd (h refl)), λ k. absurd (k.1 (full_undecided all)));
     shown = λ r e. cc;
+    sets = sets_undecided all (full_is_set many);
     given_up = λ s i. blown s;
     once = once_undecided all;
   }
@@ -116,6 +127,7 @@ module _ (expression : ℕ → Tree → List ℤ) (p : Listing) (comps : Partiti
     more = λ _. record { few = omega arith; decreases = λ s i. absurd i; needed = λ s i. absurd i; decided = inr (inr (inl refl)) };
     refuted = ((λ h. absurd (h refl)), λ k. absurd (k.1 (inl refl)));
     shown = λ r e. cc;
+    sets = full_sets;
     given_up = λ s i. elim i [ inl e ↦ subst blown_set e blown | inr nothing ↦ absurd nothing ];
     once = ((λ i. i), tt);
   }
@@ -131,6 +143,7 @@ module _ (expression : ℕ → Tree → List ℤ) (p : Listing) (comps : Partiti
     more = λ _. record { few = omega arith; decreases = λ s i. absurd i; needed = λ s i. absurd i; decided = inr (inl (λ e. cc)) };
     refuted = ((λ h. (none, λ i. i)), λ k e. cc);
     shown = λ q e. let same : r ≡ q = cc in subst (IsRefutationOf expression p comps rows c) same is;
+    sets = λ s i. absurd i;
     given_up = λ s i. absurd i;
     once = tt;
   }
@@ -146,6 +159,7 @@ module _ (expression : ℕ → Tree → List ℤ) (p : Listing) (comps : Partiti
     more = λ _. record { few = omega arith; decreases = λ s i. absurd i; needed = λ s i. absurd i; decided = inr (inr (inl refl)) };
     refuted = ((λ h. absurd (h refl)), λ k. absurd (k.1 (inl refl)));
     shown = λ r e. cc;
+    sets = full_sets;
     given_up = λ s i. elim i [ inl e ↦ subst blown_set e blown | inr nothing ↦ absurd nothing ];
     once = ((λ i. i), tt);
   }
@@ -170,10 +184,10 @@ module _ (expression : ℕ → Tree → List ℤ) (p : Listing) (comps : Partiti
   above_more sets more s (t, i, e) = (t, in-left sets more t i, e)
 
   -- the walk's sets, and perhaps one that was given up before
-  pub walked_found : ((s : List ℕ) → has s → IsSet 1 (suc many) s) → IsTrue false ↔ (12 < many) → (w : Walked) → IsAllWalked expression p comps rows c w → (more : List (List ℕ)) → ((t : List ℕ) → In t more → blown_set t) → AreOnce (w.blown ++ more)
+  pub walked_found : ((s : List ℕ) → has s → IsSet 1 (suc many) s) → IsTrue false ↔ (12 < many) → (w : Walked) → IsAllWalked expression p comps rows c w → (more : List (List ℕ)) → ((t : List ℕ) → In t more → all ≡ t) → ((t : List ℕ) → In t more → blown_set t) → AreOnce (w.blown ++ more)
       → ((((s : List ℕ) → has s → ⊥) × (In all (w.blown ++ more) → ⊥)) → ⊥)
       → IsFound expression p comps rows c (record { mappings = w.mappings; refutation = None; blown = w.blown ++ more; large = false })
-  walked_found sets large w h more blown once why = record {
+  walked_found sets large w h more fulls blown once why = record {
     large = large;
     mappings = all_map (IsDecreasing expression p comps rows c) (IsMappingOf expression p rows comps c) (λ m d. d.mapping) w.mappings h.mappings;
     at = all_map (IsDecreasing expression p comps rows c) (λ (m : Mapping). IsAt (positions_in p comps c) (mapping_of m.measures)) (λ m d. d.at) w.mappings h.mappings;
@@ -189,6 +203,7 @@ module _ (expression : ℕ → Tree → List ℤ) (p : Listing) (comps : Partiti
     more = λ e. cc;
     refuted = ((λ k. absurd (k refl)), λ k. absurd (why k));
     shown = λ r e. cc;
+    sets = λ s i. elim (of-append w.blown more s i) [ inl old ↦ up_to_set many many s (in_whole w.blown (chosen_up_to many many) s h.blown_order old) | inr new ↦ subst (IsSet 1 (suc many)) (fulls s new) (full_is_set many) ];
     given_up = λ s i. elim (of-append w.blown more s i) [ inl old ↦ h.given_up s old | inr new ↦ blown s new ];
     once = once;
   }
@@ -205,7 +220,7 @@ module _ (expression : ℕ → Tree → List ℤ) (p : Listing) (comps : Partiti
       → (given_up none : Bool) → (given_up ≡ true → blown_set all) → (given_up ≡ false → ((s : List ℕ) → has s → ⊥) → ⊥) → IsTrue none ↔ (w.mappings ≡ [])
       → (blown : List (List ℕ)) → IsCompleted given_up none all w.blown blown → IsFound expression p comps rows c (record { mappings = w.mappings; refutation = None; blown = blown; large = false })
   completed_found sets large w h given_up none given undone empty blown done =
-      let found = walked_found sets large w h done.more (λ t i. let f = done.full_only t i in subst blown_set f.1 (given f.0)) (subst AreOnce done.is (done.once h.once)) (λ k. why k.0 (λ i. k.1 (subst (In all) done.is i))) in
+      let found = walked_found sets large w h done.more (λ t i. (done.full_only t i).1) (λ t i. let f = done.full_only t i in subst blown_set f.1 (given f.0)) (subst AreOnce done.is (done.once h.once)) (λ k. why k.0 (λ i. k.1 (subst (In all) done.is i))) in
       subst (λ (b : List (List ℕ)). IsFound expression p comps rows c (record { mappings = w.mappings; refutation = None; blown = b; large = false })) (sym done.is) found
     where
       true_of : (b : Bool) → IsTrue b → b ≡ true

@@ -102,6 +102,19 @@ pub set_once : (lo hi : ℕ) (s : List ℕ) → IsSet lo hi s → AreOnce s
 set_once lo hi [] h = tt
 set_once lo hi (y ∷ s) h = ((λ i. let r = at_least (suc y) hi s h.2 y i in omega (arith, r)), set_once (suc y) hi s h.2)
 
+set_lower : (lo low hi : ℕ) (s : List ℕ) → low ≤ lo → IsSet lo hi s → IsSet low hi s
+set_lower lo low hi [] l h = tt
+set_lower lo low hi (y ∷ s) l h = let a = h.0 in (omega (arith, a, l), h.1, h.2)
+
+-- a set without a number is one
+pub without_set : (lo hi i : ℕ) (s : List ℕ) → IsSet lo hi s → IsSet lo hi (without i s)
+without_set lo hi i [] h = tt
+without_set lo hi i (y ∷ s) h = let a = h.0 in go (nat_eq i y) (without_set (suc y) hi i s h.2)
+  where
+    go : (b : Bool) → IsSet (suc y) hi (without i s) → IsSet lo hi (if not b then y ∷ without i s else without i s)
+    go true rec = let a = h.0 in set_lower (suc y) lo hi (without i s) (omega (arith, a)) rec
+    go false rec = (h.0, h.1, rec)
+
 module _ (expression : ℕ → Tree → List ℤ) (p : Listing) (comps : Partition) (rows : ℕ → List (List ℤ)) (c : ℕ) where
   abbrev has : List ℕ → Type 0
   has = Has expression p comps rows c
@@ -158,13 +171,14 @@ module _ (expression : ℕ → Tree → List ℤ) (p : Listing) (comps : Partiti
     }
 
   pub all_tried : (s : List ℕ) (k : ℕ) (blown : List (List ℕ)) → length s ≤ k → AreTried expression p comps rows c s k blown → IsLeftOut expression p comps rows c s (NoneLeft blown)
-  all_tried s k blown l h = ((λ i m. h.tried i (subst (In i) (sym (take_whole s k l)) m)), h.given_up, h.once)
+  all_tried s k blown l h = ((λ i m. h.tried i (subst (In i) (sym (take_whole s k l)) m)), h.given_up, h.once, λ t m. let w = h.tested t m in (w.0, w.2))
 
   -- what is found where no position can be left out
   pub large_found : IsTrue true ↔ (12 < count expression p comps rows c) → (m : Mapping) → IsHadMapping expression p comps rows c m → (blown : List (List ℕ))
       → IsLeftOut expression p comps rows c (support_of (positions_in p comps c) m) (NoneLeft blown)
+      → IsSet 1 (suc (count expression p comps rows c)) (support_of (positions_in p comps c) m)
       → IsFound expression p comps rows c (record { mappings = m ∷ []; refutation = None; blown = blown; large = true })
-  large_found large m had blown left = record {
+  large_found large m had blown left set = record {
     large = large;
     mappings = (had.0.mapping, tt);
     at = (had.0.at, tt);
@@ -181,6 +195,7 @@ module _ (expression : ℕ → Tree → List ℤ) (p : Listing) (comps : Partiti
     };
     refuted = ((λ k. absurd (k refl)), λ k. absurd (k.0 (support_of (positions_in p comps c) m) had.1));
     shown = λ r e. cc;
+    sets = λ t i. let w = left.3 t i in subst (IsSet 1 (suc (count expression p comps rows c))) (sym w.1) (without_set 1 (suc (count expression p comps rows c)) w.0 (support_of (positions_in p comps c) m) set);
     given_up = left.1;
     once = left.2;
   }

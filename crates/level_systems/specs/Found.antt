@@ -2,7 +2,7 @@
 -- What is found of a component's mappings: all minimal supports, or a refutation, or what was given up.
 --
 -- To believe: all of this file.
-use Rattle.std.specs.Prelude.{◌≡◌, ◌≢◌, ◌↔◌, ◌<◌, ◌≤◌, ◌⊎◌, not, nat_eq, ℕ, ℤ, true, false, IsTrue, List, map, filter, length, Option, None, Some, ◌≤ℤ◌, pos, All}
+use Rattle.std.specs.Prelude.{◌≡◌, ◌≢◌, ◌↔◌, ◌<◌, ◌≤◌, ◌⊎◌, not, nat_eq, ℕ, suc, ℤ, true, false, IsTrue, List, map, filter, length, Option, None, Some, ◌≤ℤ◌, pos, All}
 use Rattle.std.specs.List.{AllByRecursion}
 use Rattle.cti_terms.specs.Listing.{Listing}
 use Rattle.cti_terms.specs.Tree.{Tree}
@@ -21,7 +21,7 @@ use Rattle.number_tests.specs.Shape.{IsPairOf}
 pub use Rattle.number_tests.specs.Shape.{PairsAscend}
 use Rattle.number_tests.specs.declared.refutation.Refutation.{Refutation}
 use Rattle.termination_model.specs.ComponentViews.{Has, component_view, members_in, no_truth, positions_in}
-use Rattle.termination_model.specs.Minimal.{IsAbove, IsExcluded, IsMinimal}
+use Rattle.termination_model.specs.Minimal.{IsAbove, IsExcluded, IsMinimal, IsSet}
 use Rattle.termination_model.specs.Modes.{chosen_up_to}
 use Rattle.termination_model.specs.Ready.{arity_in}
 use Rattle.termination_model.specs.Supports.{picked_from}
@@ -99,6 +99,7 @@ module _ (expression : ℕ → Tree → List ℤ) (p : Listing) (comps : Partiti
     -- a refutation exactly where no mapping decreases and the set of all positions was not given up
     pub refuted : (f.refutation ≢ None) ↔ (((s : List ℕ) → had s → ⊥) × (In full f.blown → ⊥))
     pub shown : (r : Refutation) → f.refutation ≡ Some r → IsRefutationOf r
-    -- a set that was given up is blown, and each stands once
+    -- what was given up are sets of positions, which are blown, and each stands once
+    pub sets : (s : List ℕ) → In s f.blown → IsSet 1 (suc count) s
     pub given_up : (s : List ℕ) → In s f.blown → IsBlownSet s
     pub once : AreOnce f.blown

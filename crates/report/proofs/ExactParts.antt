@@ -267,6 +267,7 @@ module _ (expression : ℕ → Tree → List ℤ) (p : Listing) (comps : Partiti
     small = small_is;
     large = large_is;
     refuted = (λ r. is.refuted.0 (refuted_to r), λ h. refuted_from (is.refuted.1 h));
+    sets = is.sets;
     once = is.once;
     given_up = is.given_up;
   }

@@ -10,8 +10,7 @@ use Rattle.cti_terms.specs.Listing.{IsProgram, Listing, numbered}
 use Rattle.cti_terms.specs.Tree.{Tree}
 use Rattle.cti_terms.specs.declared.atom_list.Atom.{Atom}
 use Rattle.cti_terms.specs.declared.clauses.Clause.{Clause}
-use Rattle.level_systems.specs.Found.{IsFound}
-use Rattle.report.specs.Shaped.{HasSecondPoint, IsNaturalPoint, IsOwnPair}
+use Rattle.level_systems.specs.Found.{HasSecondPoint, IsFound, IsNaturalPoint, IsOwnPair}
 use Rattle.level_systems.specs.Mappings.{IsMappingOf, mapping_of, support_of}
 use Rattle.level_systems.specs.declared.found.Found.{Found}
 use Rattle.level_systems.specs.declared.mapping.Mapping.{Mapping}
@@ -80,8 +79,8 @@ second_is n t (Some y) long h below = (h.0, point_is n y long h.1 below, h.2)
 together_is : (comps : Partition) (c a b : ℕ) → IsIn comps c a → IsIn comps c b → is_together comps a b ≡ true
 together_is comps c a b ia ib = (λ i. is_same (ia i) (ib i)) ∙ eq-eqb c c refl
 
-module _ (p : Listing) (comps : Partition) (c q : ℕ) (inside : IsIn comps c q) where
-  pair_is : (x : PairPoint) → IsPairOf p x → IsOwnPair p comps c x → IsPairBelow x → shape.IsPairPoint p comps q x
+module _ (expression : ℕ → Tree → List ℤ) (rows : ℕ → List (List ℤ)) (p : Listing) (comps : Partition) (c q : ℕ) (inside : IsIn comps c q) where
+  pair_is : (x : PairPoint) → IsPairOf p x → IsOwnPair expression p comps rows c x → IsPairBelow x → shape.IsPairPoint p comps q x
   pair_is x is own below =
       let clause = numbered_at p.clauses x.clause is.clause is.first is.there in
       let (b, eb) = there is.clause.body (x.call - 1) (omega (arith, is.call, is.last)) in
@@ -100,7 +99,7 @@ module _ (p : Listing) (comps : Partition) (c q : ℕ) (inside : IsIn comps c q)
         second = second_is (shape.vars_of (numbered p.clauses x.clause)) x.point.t x.at (subst (λ (n : ℕ). IfSome x.at (λ (y : Point). length y.w ≡ n)) (sym vars) is.at) own.second below.1;
       }
 
-  pairs_are : (xs : List PairPoint) → AllByRecursion (IsPairOf p) xs → AllByRecursion (IsOwnPair p comps c) xs → AllByRecursion IsPairBelow xs → AllByRecursion (shape.IsPairPoint p comps q) xs
+  pairs_are : (xs : List PairPoint) → AllByRecursion (IsPairOf p) xs → AllByRecursion (IsOwnPair expression p comps rows c) xs → AllByRecursion IsPairBelow xs → AllByRecursion (shape.IsPairPoint p comps q) xs
   pairs_are [] a b d = tt
   pairs_are (x ∷ xs) a b d = (pair_is x a.0 b.0 d.0, pairs_are xs a.1 b.1 d.1)
 
@@ -151,12 +150,11 @@ module _ (expression : ℕ → Tree → List ℤ) (p : Listing) (comps : Partiti
         let (recursive, first, inside) = led_parts comps q c lead in
         let is = shown_at c q f r lead at er in
         let shown = is.shown r er in
-        let shaped = founds.shaped c f r at (answer_at expression p comps rows found program components founds c q true inside recursive) er in
         let bel = by_places (λ (o : Option Refutation). IfSome o IsRefutationBelow) (refutation_list p comps found) below q (Some r) e in (
           record { recursive = recursive; first = first; none = count_deep expression p comps rows found program components founds c q f inside at recursive ∙ none_found c f r (components.within c q inside) is er },
           some_there (λ (x : PairPoint). pos 1 ≤ℤ x.point.t) r.points shown.sums.positive,
-          shaped.ascend,
-          pairs_are p comps c q inside r.points shown.pairs shaped.own bel,
+          shown.ascend,
+          pairs_are expression (rows_of rows) p comps c q inside r.points shown.pairs shown.own bel,
         )
 
     pub refutations_shape : AreEach (length p.preds) (shape.IsRefutation p comps levels) (refutation_list p comps found)

@@ -28,7 +28,6 @@ use Rattle.report.specs.Exact.{IsExactOf}
 use Rattle.report.specs.ExactModes.{AreCounted}
 use Rattle.report.specs.Levels.{fall_list, level_list, refutation_list}
 use Rattle.report.specs.Ranges.{AreMultipliersBelow, IsPartBelow, IsRefutationBelow}
-use Rattle.report.specs.Shaped.{IsShaped}
 use Rattle.report.specs.Spelled.{mode_lists, spelled_list, spelled_lists}
 use Rattle.report.specs.declared.assembling.Assembled.{Assembled}
 
@@ -36,7 +35,6 @@ use Rattle.report.specs.declared.assembling.Assembled.{Assembled}
 pub record AreFound (expression : ℕ → Tree → List ℤ) (p : Listing) (comps : Partition) (rows : List SizeRows) (found : List Found) : Type 0 where
   pub each : length found ≡ length comps.members
   pub are : (c : ℕ) (f : Found) → slice_get found c ≡ Some f → slice_get comps.recursive c ≡ Some true → IsFound expression p comps (rows_of rows) c f
-  pub shaped : (c : ℕ) (f : Found) (r : Refutation) → slice_get found c ≡ Some f → slice_get comps.recursive c ≡ Some true → f.refutation ≡ Some r → IsShaped p comps c r
 
 -- what the engines give of sets of truth rows
 pub record SetsAreSolved (truth : (ℕ → Bool) → Tree → Bool) (p : Listing) (comps : Partition) (levels : List (List LevelPart)) (first last : List Rows) (grounds : List Diagram) (sets : List (List Diagram)) (lists : List (List Mode)) : Type 0 where

@@ -5,7 +5,7 @@
 -- component has all mappings with minimal supports, or a refutation; and what was given up is noted.
 --
 -- To believe: all of this file, over ChainNotes.antt, SupportNotes.antt, ExactModes.antt and ExactMappings.antt.
-use Rattle.std.specs.Prelude.{◌≡◌, ◌≤◌, ◌<◌, ℕ, ℤ, IsTrue, List, ◌++◌, length, slice_get, Some, ◌⊎◌, ◌↔◌}
+use Rattle.std.specs.Prelude.{◌≡◌, ◌≤◌, ◌<◌, ℕ, suc, ℤ, IsTrue, List, ◌++◌, length, slice_get, Some, ◌⊎◌, ◌↔◌}
 use Rattle.call_components.specs.Partition.{Partition, AreComponents, IsIn}
 use Rattle.certificate.specs.declared.fact.Fact.{Fact}
 use Rattle.cert_structure.specs.Shape.{first_of, is_recursive, items_of}
@@ -24,7 +24,7 @@ use Rattle.term_size.specs.Occurrences.{size_row}
 use Rattle.termination_model.specs.BlownSupports.{IsBlownAt}
 use Rattle.termination_model.specs.ComponentViews.{no_truth, positions_in}
 use Rattle.termination_model.specs.Excluding.{IsAt}
-use Rattle.termination_model.specs.Minimal.{IsExcluded}
+use Rattle.termination_model.specs.Minimal.{IsExcluded, IsSet}
 use Rattle.termination_model.specs.Ready.{arity_in}
 use Rattle.termination_model.specs.Refutation.{Decreases}
 use Rattle.termination_model.specs.Supports.{picked_from}
@@ -58,7 +58,8 @@ module _ (expression : ℕ → Tree → List ℤ) (p : Listing) (comps : Partiti
     pub large : 12 < length (positions_in p comps c) → LargeIsExact c q blown
     -- a refutation stands exactly where no mapping decreases and the full support was not given up
     pub refuted : IsRefuted parts q ↔ (((s : List ℕ) → HasMapping expression p comps parts c s → ⊥) × (In (full c) blown → ⊥))
-    -- each support that was given up stands once, and is blown: elimination is, or a number does not fit in the check of what it finds
+    -- what was given up are sets of positions. Each stands once, and is blown: elimination is, or a number does not fit in the check of what it finds
+    pub sets : (s : List ℕ) → In s blown → IsSet 1 (suc (length (positions_in p comps c))) s
     pub once : AreOnce blown
     pub given_up : (s : List ℕ) → In s blown → IsBlownAt no_truth expression (view expression p comps parts c) (arity_in p) (picked_from 1 (positions_in p comps c) s)
 

@@ -8,6 +8,5 @@ pub mod Generated
 pub mod Levels
 pub mod Ranges
 pub mod Refuted
-pub mod Shaped
 pub mod Spelled
 pub mod SupportNotes

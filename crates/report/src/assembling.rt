@@ -1,18 +1,14 @@
 //! The assembly of a certificate from what the engines give.
 
 ghost use Rattle.std.specs.Prelude.{◌≡◌, ◌<◌, ◌++◌, IfOk, OnOk, Some, length, map, slice_get, true};
-ghost use Rattle.std.specs.List.{AllByRecursion};
 ghost use Rattle.call_components.specs.Partition.{AreComponents};
 ghost use Rattle.cert_structure.specs.Order.{listed};
 ghost use Rattle.level_systems.specs.Found.{IsFound};
-ghost use Rattle.number_tests.specs.Shape.{IsPairOf};
-ghost use Rattle.number_tests.specs.declared.refutation.Refutation.{Refutation as TheRefutation};
 ghost use Rattle.numeric_model.specs.States.{plain_step};
 ghost use Rattle.precond_fixpoint.specs.Solving.{AreLevels};
 ghost use Rattle.report.specs.Assembly.{AreBounded, AreFound, ArePartsOf, HavePreconditions, HaveSets, IsAssembled, KeepsNumbers, with_mappings, with_sizes};
 ghost use Rattle.report.specs.ChainNotes.{chain_notes};
 ghost use Rattle.report.specs.Levels.{given_up};
-ghost use Rattle.report.specs.Shaped.{IsShaped};
 ghost use Rattle.report.specs.SupportNotes.{support_notes};
 ghost use Rattle.term_size.specs.Occurrences.{size_row};
 ghost use Rattle.termination_model.specs.Sizes.{AreSizes, rows_of};
@@ -23,7 +19,6 @@ use crate::copies::{copied_proofs, copied_rows};
 use crate::levels::Mapped;
 use crate::ranges::Bounded;
 use crate::sets::{mode_lists, spelled_list, spelled_lists};
-use crate::shaped::is_shaped;
 use crate::support_notes::Described;
 use bool_diagrams::{Diagram, Table};
 use call_components::Components;
@@ -77,18 +72,6 @@ fn nothing(alloc: Global) -> Found {
     }
 }
 
-/// Whether the refutation of a component has the shape that a certificate asks, if there is one.
-fn has_shape(p: &Program, comps: &Components, c: u32, found: &Found) -> bool
-    requires components { AreComponents p.now comps.now }
-    requires pairs { (r : TheRefutation) → found.now.refutation ≡ Some r → AllByRecursion (IsPairOf p.now) r.points }
-    ensures { result ≡ true → (r : TheRefutation) → found.now.refutation ≡ Some r → IsShaped p.now comps.now c r }
-{
-    match &found.refutation {
-        Some(refutation) => is_shaped(p, comps, c, refutation),
-        None => true,
-    }
-}
-
 /// What is found of a component's mappings: nothing, where it is not recursive.
 fn find(
     alloc: Global,
@@ -100,19 +83,12 @@ fn find(
     requires components { AreComponents p.now comps.now }
     requires inner { c < length comps.now.members }
     requires sizes { AreSizes p.now.preds sizes.now.rows }
-    ensures found { IfOk result (λ f. slice_get comps.now.recursive c ≡ Some true → IsFound size_row p.now comps.now (rows_of sizes.now.rows) c f) }
-    ensures shaped { IfOk result (λ f. slice_get comps.now.recursive c ≡ Some true → (r : TheRefutation) → f.refutation ≡ Some r → IsShaped p.now comps.now c r) }
+    ensures { IfOk result (λ f. slice_get comps.now.recursive c ≡ Some true → IsFound size_row p.now comps.now (rows_of sizes.now.rows) c f) }
 {
     if !comps.recursive(c) {
         return Ok(nothing(alloc));
     }
-    let found = level_dual::mappings(alloc, p, comps, c, &TermSize, sizes)?;
-    if has_shape(p, comps, c, &found) {
-        Ok(found)
-    } else {
-        // The search gives refutations in this shape alone, so this is never reached.
-        Err(AllocError)
-    }
+    level_dual::mappings(alloc, p, comps, c, &TermSize, sizes)
 }
 
 /// What is found of the mappings of each component.

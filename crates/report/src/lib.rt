@@ -16,7 +16,6 @@ mod levels;
 mod named;
 mod ranges;
 mod sets;
-mod shaped;
 mod support_notes;
 
 pub use generating::gen_source;

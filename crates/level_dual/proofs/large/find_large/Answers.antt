@@ -21,10 +21,11 @@ returns-in-None c = λ size truth expression comps rows r h large before.
     let places = positions_in p comps r in
     let sup : c.as_slice-in-loop-mapping.result.now ≡ support_of places m =
     c.as_slice-in-loop-mapping.ensures.value ∙ c.in_ok-support.ensures ∙ ap (λ (ps : List Position). support_of (map spelled ps) m) c.as_slice.ensures.value ∙ ap (λ ps. support_of ps m) h.positions in
+    let set = sets_in size truth expression p comps rows r x h (support_of places m) had.1 in
     let once : AreOnce c.as_slice-in-loop-mapping.result.now =
-    subst AreOnce (sym sup) (set_once 1 (suc (length places)) (support_of places m) (sets_in size truth expression p comps rows r x h (support_of places m) had.1)) in
+    subst AreOnce (sym sup) (set_once 1 (suc (length places)) (support_of places m) set) in
     let left = subst (IsLeftOut expression p comps rows r c.as_slice-in-loop-mapping.result.now) c.in-None.is (c.in_ok-smaller.ensures.left_out size truth expression comps rows r h once) in
-    let found = large_found expression p comps rows r large m had c.in-None.blown (subst (λ (s : List ℕ). IsLeftOut expression p comps rows r s (NoneLeft c.in-None.blown)) sup left) in
+    let found = large_found expression p comps rows r large m had c.in-None.blown (subst (λ (s : List ℕ). IsLeftOut expression p comps rows r s (NoneLeft c.in-None.blown)) sup left) set in
     subst (λ ms. IsFound expression p comps rows r (record { mappings = ms; refutation = None; blown = c.in-None.blown; large = true }))
     (sym (c.in_ok-push-in-None.ensures.ok ∙ ap (λ ms. ms ++ m ∷ []) c.new-mappings.ensures)) found
 

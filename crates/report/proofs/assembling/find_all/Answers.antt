@@ -4,7 +4,6 @@ use Rattle.level_systems.specs.Found.{IsFound}
 use Rattle.level_systems.specs.declared.found.Found.{Found}
 use Rattle.term_size.specs.Occurrences.{size_row}
 use Rattle.termination_model.specs.Sizes.{rows_of}
-use Rattle.report.specs.Shaped.{IsShaped}
 use Rattle.report.proofs.PlaceLaws.{none_listed, pushed}
 use Rattle.report.proofs.assembling.find_all.Goals as goal
 
@@ -12,7 +11,6 @@ pub loop-c-init : goal.loop-c-init
 loop-c-init c = (
   ap length c.new-found.ensures,
   λ i f e r. absurd (none_listed c.new-found.result c.new-found.ensures i f e),
-  λ i f x e r h. absurd (none_listed c.new-found.result c.new-found.ensures i f e),
 )
 
 pub loop-c-preserved : goal.loop-c-preserved
@@ -29,15 +27,9 @@ loop-c-preserved c =
         | inr (last, same) ↦
             let place : i ≡ c.loop-c.c = last ∙ c.loop-c.invariant.0 in
             subst (λ (g : Found). IsFound size_row p comps rows i g) same
-            (subst (λ (n : ℕ). IsFound size_row p comps rows n x) (sym place) (c.in_ok-find.ensures.found (ap (slice_get comps.recursive) (sym place) ∙ r)))
-      ],
-      λ i f y e r h. elim (pushed found x i f (ap (λ (xs : List Found). slice_get xs i) (sym new) ∙ e)) [
-        | inl before ↦ c.loop-c.invariant.2 i f y before r h
-        | inr (last, same) ↦
-            let place : i ≡ c.loop-c.c = last ∙ c.loop-c.invariant.0 in
-            subst (λ (n : ℕ). IsShaped p comps n y) (sym place) (c.in_ok-find.ensures.shaped (ap (slice_get comps.recursive) (sym place) ∙ r) y (ap (λ (g : Found). g.refutation) same ∙ h))
+            (subst (λ (n : ℕ). IsFound size_row p comps rows n x) (sym place) (c.in_ok-find.ensures (ap (slice_get comps.recursive) (sym place) ∙ r)))
       ],
     )
 
 pub returns : goal.returns
-returns c = record { each = let count = c.loop-c.invariant.0 in omega arith; are = c.loop-c.invariant.1; shaped = c.loop-c.invariant.2 }
+returns c = record { each = let count = c.loop-c.invariant.0 in omega arith; are = c.loop-c.invariant.1 }

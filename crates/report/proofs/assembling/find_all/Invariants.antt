@@ -1,8 +1,6 @@
 use Rattle.std.proofs.Common.{◌≡◌, ℕ, Some, length, slice_get, true}
 use Rattle.level_systems.specs.Found.{IsFound}
 use Rattle.level_systems.specs.declared.found.Found.{Found}
-use Rattle.number_tests.specs.declared.refutation.Refutation.{Refutation}
-use Rattle.report.specs.Shaped.{IsShaped}
 use Rattle.term_size.specs.Occurrences.{size_row}
 use Rattle.termination_model.specs.Sizes.{rows_of}
 use Rattle.report.proofs.assembling.find_all.Given as goal
@@ -11,4 +9,3 @@ use Rattle.report.proofs.assembling.find_all.Given as goal
 abbrev pub invariant-loop-c : goal.invariant-loop-c
 invariant-loop-c l =
     (length l.found ≡ l.c) × ((i : ℕ) (f : Found) → slice_get l.found i ≡ Some f → slice_get l.comps.recursive i ≡ Some true → IsFound size_row l.p l.comps (rows_of l.sizes.rows) i f)
-    × ((i : ℕ) (f : Found) (r : Refutation) → slice_get l.found i ≡ Some f → slice_get l.comps.recursive i ≡ Some true → f.refutation ≡ Some r → IsShaped l.p l.comps i r)
