@@ -1,5 +1,5 @@
 -- Components, one more at the end, and what the state after all of them proves.
-use Rattle.std.proofs.Common.{◌≡◌, ℕ, zero, suc, ◌+◌, ◌-◌, ◌<◌, ◌==◌, ℤ, Bool, true, false, inl, inr, List, [], ◌∷◌, ◌++◌, append_assoc, map, length, slice_get, Option, None, Some, refl, ap, sym, subst, ◌∙◌, arith, eqb-true}
+use Rattle.std.proofs.Common.{◌≡◌, ℕ, zero, suc, ◌+◌, ◌-◌, ◌<◌, ◌==◌, nat_le, ℤ, Bool, true, false, inl, inr, List, [], ◌∷◌, ◌++◌, append_assoc, map, length, slice_get, Option, None, Some, refl, ap, sym, subst, ◌∙◌, arith, eqb-true}
 use Rattle.std.specs.Prelude.{All}
 use Rattle.std.specs.List.{flat_map}
 use Rattle.std.proofs.lemmas.Bool.Decides.{nat_tests}
@@ -17,7 +17,7 @@ use Rattle.linear_rows.specs.Replacing.{row_fits}
 use Rattle.linear_rows.specs.Step.{columns}
 use Rattle.linear_rows.specs.declared.multipliers.Multipliers.{Multipliers}
 use Rattle.linear_rows.specs.declared.row.Rows.{Rows}
-use Rattle.linear_rows.proofs.Members.{in-filter, to_All}
+use Rattle.linear_rows.proofs.Members.{in-filter, in-flat_map, to_All}
 use Rattle.termination_model.specs.Chain.{after_passes, after_runs, clauses_of, component_of, counted, is_number, start_rows, ArePasses, AreRuns}
 use Rattle.termination_model.specs.ChainRows.{AreSpoken}
 use Rattle.termination_model.specs.ChainSteps.{Step as PlainStep}
@@ -31,8 +31,8 @@ use Rattle.numeric_model.specs.declared.state.State.{State}
 use Rattle.numeric_model.specs.declared.step.Step.{Step}
 use Rattle.numeric_model.specs.declared.value.Value.{Value}
 use Rattle.numeric_model.specs.Proved.{AreProved, AreShownOver, IsProved}
-use Rattle.numeric_model.specs.Running.{HaveProofs, IsChained, IsRun, rows_in}
-use Rattle.numeric_model.specs.States.{IsState, plain_step}
+use Rattle.numeric_model.specs.Running.{HaveProofs, IsChained, IsRun, paired, rows_in, with_clause, with_clauses}
+use Rattle.numeric_model.specs.States.{IsState, is_from, own_from, plain_step}
 use Rattle.numeric_model.proofs.OwnClauses.{some_at}
 
 abbrev Numbered : Type 0
@@ -107,7 +107,7 @@ module _ (speaks : List ℤ → Bool) (expression : ℕ → Tree → List ℤ) w
 
 module _ {D : Type 0} (width : D → ℕ) (listed : D → List (List ℤ)) (speaks : List ℤ → Bool) (expression : ℕ → Tree → List ℤ) (p : Listing) (comps : Partition) where
   pub chained_none : (s : State D) → rows_in s ≡ start_rows p → s.steps ≡ [] → IsChained width listed speaks expression p comps 0 s
-  chained_none s rows none = record { runs = []; legal = tt; steps_are = ap (map plain_step) none; rows = rows; proved = λ d l. absurd (omega arith) }
+  chained_none s rows none = record { runs = []; legal = tt; steps_are = ap (map plain_step) none; rows = rows; proved = λ d l. absurd (omega arith); fits = λ d q l e. absurd (omega arith) }
 
   module _ (prog : IsProgram p) (are : AreComponents p comps) where
     abbrev own : ℕ → List Numbered
@@ -127,7 +127,58 @@ module _ {D : Type 0} (width : D → ℕ) (listed : D → List (List ℤ)) (spea
         let is : d ≡ c = cc in
         apart is
 
-    module _ (c : ℕ) (old new : State D) (m : IsChained width listed speaks expression p comps c old) (r : IsRun width listed speaks expression (own c) old new) where
+    -- rows that values list fit
+    module _ (spoken : (d : D) → AreSpoken speaks (width d) (listed d)) (fit : (r : List ℤ) → speaks r ≡ true → row_fits r ≡ true) (listing : ℕ → Bool) (s : State D) (state : IsState width listed listing p s) where
+      fits_of : (xs : List (List ℤ)) (n : ℕ) → AreSpoken speaks n xs → All (λ r. row_fits r ≡ true) xs
+      fits_of xs n a = to_All (λ r. row_fits r ≡ true) xs (λ r i. fit r (of_all (λ (x : List ℤ). (length x ≡ suc n) × (speaks x ≡ true)) xs r a i).1)
+
+      pub listed_fit : (q : ℕ) → listing q ≡ true → All (λ r. row_fits r ≡ true) (rows_in s q)
+      listed_fit q mine = go (slice_get s.sizes.rows q) refl
+        where
+          go : (o : Option Rows) → slice_get s.sizes.rows q ≡ o → All (λ r. row_fits r ≡ true) (rows_in s q)
+          go None e = subst (All (λ (r : List ℤ). row_fits r ≡ true)) (sym (ap plain_or_none e)) (All-nil (λ (r : List ℤ). row_fits r ≡ true))
+          go (Some rows) e =
+              let lt = place_below s.sizes.rows q rows e in
+              let each = state.sizes.each in
+              let values = state.each in
+              let v = some_at s.values.items q (omega arith) in
+              kinds v.0 v.1 (kind_of p.arithmetic q) refl
+            where
+              stated_fit : (b : Builtin) → All (λ r. row_fits r ≡ true) (stated_rows b)
+              stated_fit b = to_All (λ r. row_fits r ≡ true) (stated_rows b) (each b)
+                where
+                  each : (b : Builtin) (r : List ℤ) → In r (stated_rows b) → row_fits r ≡ true
+                  each Is r (inl same) = ap row_fits (sym same)
+                  each Is r (inr none) = absurd none
+                  each Equal r i = absurd i
+                  each NotEqual r i = absurd i
+                  each Less r i = absurd i
+                  each AtMost r i = absurd i
+                  each Greater r i = absurd i
+                  each AtLeast r i = absurd i
+
+              kinds : (v : Value D) → slice_get s.values.items q ≡ Some v → (o : Option Builtin) → kind_of p.arithmetic q ≡ o → All (λ r. row_fits r ≡ true) (rows_in s q)
+              kinds v at None none = subst (All (λ (r : List ℤ). row_fits r ≡ true)) ((state.values q v at).rows_are mine none) (fits_of (listed v.of) (width v.of) (spoken v.of))
+              kinds v at (Some b) is = subst (All (λ (r : List ℤ). row_fits r ≡ true)) (sym (state.stated q b mine is)) (stated_fit b)
+
+    module _ (c : ℕ) (old new : State D) (m : IsChained width listed speaks expression p comps c old) (r : IsRun width listed speaks expression (own c) old new)
+        (spoken : (d : D) → AreSpoken speaks (width d) (listed d)) (fit : (r : List ℤ) → speaks r ≡ true → row_fits r ≡ true) (state : IsState width listed (own_from comps c) p new) where
+      from_here : (q : ℕ) → slice_get comps.of q ≡ Some c → own_from comps c q ≡ true
+      from_here q e = ap (is_from c) e ∙ itself c
+        where
+          itself : (n : ℕ) → nat_le n n ≡ true
+          itself n = grind (arith, nat_tests)
+
+      all_fit : (d q : ℕ) → d < suc c → slice_get comps.of q ≡ Some d → All (λ r. row_fits r ≡ true) (rows_in new q)
+      all_fit d q l e = go (d == c) refl
+        where
+          go : (b : Bool) → (d == c) ≡ b → All (λ r. row_fits r ≡ true) (rows_in new q)
+          go true t = listed_fit spoken fit (own_from comps c) new state q (from_here q (e ∙ ap Some (eqb-true d c t)))
+          go false t =
+              let lt : d < c = grind (arith, nat_tests) in
+              let same : rows_in new q ≡ rows_in old q = ap (λ (f : Rowed). f q) r.rows ∙ passes_leave q (rows_in old) (own c) r.passes (not_head p comps prog are (suc d) c q (d, omega arith, e) (omega arith)) in
+              subst (All (λ (r : List ℤ). row_fits r ≡ true)) (sym same) (m.fits d q lt e)
+
       kept : (d : ℕ) → d < c → HaveProofs width listed speaks expression (own d) new
       kept d l k i by at =
           let apart : d ≡ c → ⊥ = λ e. absurd (omega arith) in
@@ -156,13 +207,14 @@ module _ {D : Type 0} (width : D → ℕ) (listed : D → List (List ℤ)) (spea
             ∙ sym (after_runs_more speaks expression (start_rows p) (map own (columns 0 c)) m.runs (own c) r.passes m.legal)
             ∙ ap (λ (kss : List (List Numbered)). after_runs (start_rows p) kss (m.runs ++ r.passes ∷ [])) (sym columns_now);
         proved = all_proved;
+        fits = all_fit;
       }
 
       pub chained_more : IsChained width listed speaks expression p comps (c + 1) new
       chained_more = let e : suc c ≡ c + 1 = omega arith in subst (λ (x : ℕ). IsChained width listed speaks expression p comps x new) e next
 
-    pub last_proved : (s : State D) → IsState width listed p s → IsChained width listed speaks expression p comps (length comps.members) s → AreProved expression (rows_in s) p.clauses s.proofs.items
-    last_proved s state m = proved_all expression (rows_in s) p.clauses s.proofs.items state.proofs (λ j k by at proof. one j k by at proof)
+    pub last_proved : (own' : ℕ → Bool) (s : State D) → IsState width listed own' p s → IsChained width listed speaks expression p comps (length comps.members) s → AreProved expression (rows_in s) p.clauses s.proofs.items
+    last_proved own' s state m = proved_all expression (rows_in s) p.clauses s.proofs.items state.proofs (λ j k by at proof. one j k by at proof)
       where
         one : (j : ℕ) (k : Clause) (by : List Multipliers) → slice_get p.clauses j ≡ Some k → slice_get s.proofs.items j ≡ Some by → IsProved expression (rows_in s) k by
         one j k by at proof =
@@ -179,34 +231,50 @@ module _ {D : Type 0} (width : D → ℕ) (listed : D → List (List ℤ)) (spea
             in_at (x ∷ ks) zero e = inl cc
             in_at (x ∷ ks) (suc i) e = inr (in_at ks i e)
 
-  pub rows_fit : ((d : D) → AreSpoken speaks (width d) (listed d)) → ((r : List ℤ) → speaks r ≡ true → row_fits r ≡ true) → (s : State D) → IsState width listed p s → (q : ℕ) → All (λ r. row_fits r ≡ true) (rows_in s q)
-  rows_fit spoken fit s state q = go (slice_get s.sizes.rows q) refl
+  pub rows_fit : AreComponents p comps → (own' : ℕ → Bool) (s : State D) → IsState width listed own' p s → IsChained width listed speaks expression p comps (length comps.members) s → (q : ℕ) → All (λ r. row_fits r ≡ true) (rows_in s q)
+  rows_fit are own' s state m q = go (slice_get comps.of q) refl
     where
-      fits : (xs : List (List ℤ)) (n : ℕ) → AreSpoken speaks n xs → All (λ r. row_fits r ≡ true) xs
-      fits xs n a = to_All (λ r. row_fits r ≡ true) xs (λ r i. fit r (of_all (λ (x : List ℤ). (length x ≡ suc n) × (speaks x ≡ true)) xs r a i).1)
-
-      go : (o : Option Rows) → slice_get s.sizes.rows q ≡ o → All (λ r. row_fits r ≡ true) (rows_in s q)
-      go None e = subst (All (λ (r : List ℤ). row_fits r ≡ true)) (sym (ap plain_or_none e)) (All-nil (λ (r : List ℤ). row_fits r ≡ true))
-      go (Some rows) e =
+      none : (o : Option Rows) → slice_get s.sizes.rows q ≡ o → slice_get comps.of q ≡ None → All (λ r. row_fits r ≡ true) (rows_in s q)
+      none None e n = subst (All (λ (r : List ℤ). row_fits r ≡ true)) (sym (ap plain_or_none e)) (All-nil (λ (r : List ℤ). row_fits r ≡ true))
+      none (Some rows) e n =
           let lt = place_below s.sizes.rows q rows e in
-          let each = state.sizes.each in
-          let values = state.each in
-          let v = some_at s.values.items q (omega arith) in
-          kinds v.0 v.1 (kind_of p.arithmetic q) refl
-        where
-          stated_fit : (b : Builtin) → All (λ r. row_fits r ≡ true) (stated_rows b)
-          stated_fit b = to_All (λ r. row_fits r ≡ true) (stated_rows b) (each b)
-            where
-              each : (b : Builtin) (r : List ℤ) → In r (stated_rows b) → row_fits r ≡ true
-              each Is r (inl same) = ap row_fits (sym same)
-              each Is r (inr none) = absurd none
-              each Equal r i = absurd i
-              each NotEqual r i = absurd i
-              each Less r i = absurd i
-              each AtMost r i = absurd i
-              each Greater r i = absurd i
-              each AtLeast r i = absurd i
+          let at = some_at comps.of q (omega (arith, state.sizes.each, are.each)) in
+          let f = at.1 in
+          absurd (cc)
 
-          kinds : (v : Value D) → slice_get s.values.items q ≡ Some v → (o : Option Builtin) → kind_of p.arithmetic q ≡ o → All (λ r. row_fits r ≡ true) (rows_in s q)
-          kinds v at None none = subst (All (λ (r : List ℤ). row_fits r ≡ true)) ((state.values q v at).rows_are none) (fits (listed v.of) (width v.of) (spoken v.of))
-          kinds v at (Some b) is = subst (All (λ (r : List ℤ). row_fits r ≡ true)) (sym (state.stated q b is)) (stated_fit b)
+      go : (o : Option ℕ) → slice_get comps.of q ≡ o → All (λ r. row_fits r ≡ true) (rows_in s q)
+      go None e = none (slice_get s.sizes.rows q) refl e
+      go (Some d) e = m.fits d q (are.within d q e) e
+
+-- fewer predicates whose values list their rows
+pub weaker : {D : Type 0} (width : D → ℕ) (listed : D → List (List ℤ)) (own fewer : ℕ → Bool) (p : Listing) (s : State D) → ((q : ℕ) → fewer q ≡ true → own q ≡ true) → IsState width listed own p s → IsState width listed fewer p s
+weaker width listed own fewer p s h state = record {
+  sizes = state.sizes;
+  each = state.each;
+  values = λ q v e. let x = state.values q v e in record { rows_are = λ o none. x.rows_are (h q o) none; arity = x.arity; known = x.known; light = x.light };
+  stated = λ q b o is. state.stated q b (h q o) is;
+  proofs = state.proofs;
+}
+
+pub from_more : (comps : Partition) (c q : ℕ) → own_from comps (c + 1) q ≡ true → own_from comps c q ≡ true
+from_more comps c q = go (slice_get comps.of q)
+  where
+    go : (o : Option ℕ) → is_from (c + 1) o ≡ true → is_from c o ≡ true
+    go None e = e
+    go (Some d) e = grind (arith, nat_tests)
+
+-- the heads of a component's clauses are of it
+pub own_head : (p : Listing) (comps : Partition) → IsProgram p → AreComponents p comps → (c : ℕ) (own : List ℕ) → with_clauses p.clauses own ≡ clauses_of p comps c
+    → (j k : ℕ) (x : Clause) → slice_get own j ≡ Some k → slice_get p.clauses (k - 1) ≡ Some x → own_from comps c x.head.pred.0 ≡ true
+own_head p comps prog are c own same j k x at there =
+    let i : In (k, x) (with_clauses p.clauses own) = in-flat_map (with_clause p.clauses) own k (k, x) (placed_in own j at) (subst (λ (o : Option Clause). In (k, x) (paired k o)) (sym there) (inl refl)) in
+    let own_is = of_own p comps prog are c (k, x) (subst (λ (ks : List Numbered). In (k, x) ks) same i) in
+    ap (is_from c) own_is.1 ∙ itself c
+  where
+    itself : (n : ℕ) → nat_le n n ≡ true
+    itself n = grind (arith, nat_tests)
+
+    placed_in : (xs : List ℕ) (j : ℕ) → slice_get xs j ≡ Some k → In k xs
+    placed_in [] j e = cc
+    placed_in (y ∷ xs) zero e = inl cc
+    placed_in (y ∷ xs) (suc j) e = inr (placed_in xs j e)

@@ -1,3 +1,4 @@
+pub mod Below
 pub mod Bottoms
 pub mod Branches
 pub mod Chaining

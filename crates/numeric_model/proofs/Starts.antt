@@ -17,7 +17,7 @@ use Rattle.numeric_model.specs.declared.filled.Filled.TheVariants.{Bottom}
 use Rattle.numeric_model.specs.declared.state.State.{State}
 use Rattle.numeric_model.specs.declared.value.Value.{Value}
 use Rattle.numeric_model.specs.Filling.{IsFilled, weight}
-use Rattle.numeric_model.specs.States.{AreStarts, AreStatedTo, IsAdded, IsFresh, IsStart, IsState, IsStatedAt, IsValueOf, value_weight}
+use Rattle.numeric_model.specs.States.{AreStarts, AreStatedTo, IsAdded, IsFresh, IsStart, IsState, IsStatedAt, IsValueOf, every, value_weight}
 use Rattle.numeric_model.proofs.Taking.{same_or_other, length-set}
 
 module _ {D : Type 0} (width : D → ℕ) (listed : D → List (List ℤ)) where
@@ -70,7 +70,7 @@ module _ {D : Type 0} (width : D → ℕ) (listed : D → List (List ℤ)) where
   starts_widths (p ∷ ps) (x ∷ rs) (w ∷ vs) a (suc q) r e = starts_widths ps rs vs a.1 q r e
 
   abbrev IsFirst : List Pred → List Rows → ℕ → Value D → Type 0
-  IsFirst ps rs q v = IsValueOf width listed ps None (rows_of rs) q v
+  IsFirst ps rs q v = IsValueOf width listed every ps None (rows_of rs) q v
 
   first_value : (n : ℕ) (rows : Rows) (v : Value D) → IsStart width listed n rows v → IsFilled (width v.of) v.filled (listed v.of) × (value_weight width listed v ≤ 2 ^ 65)
   first_value n rows v s =
@@ -87,7 +87,7 @@ module _ {D : Type 0} (width : D → ℕ) (listed : D → List (List ℤ)) where
   starts_values (p ∷ ps) (x ∷ rs) (w ∷ vs) a zero v e =
       let same : w ≡ v = cc in
       let first = first_value p.arity x w a.0 in
-      subst (IsFirst (p ∷ ps) (x ∷ rs) zero) same (record { rows_are = λ _. a.0.rows_are; arity = sym a.0.value_width; known = first.0; light = first.1 })
+      subst (IsFirst (p ∷ ps) (x ∷ rs) zero) same (record { rows_are = λ o none. a.0.rows_are; arity = sym a.0.value_width; known = first.0; light = first.1 })
   starts_values (p ∷ ps) (x ∷ rs) (w ∷ vs) a (suc q) v e =
       let h = starts_values ps rs vs a.1 q v e in
       record { rows_are = h.rows_are; arity = h.arity; known = h.known; light = h.light }
@@ -99,7 +99,7 @@ module _ {D : Type 0} (width : D → ℕ) (listed : D → List (List ℤ)) where
       record {
         sizes = record { each = counts.0; width = starts_widths p.preds s.sizes.rows s.values.items a };
         each = counts.1;
-        values = λ q v at. let h = starts_values p.preds s.sizes.rows s.values.items a q v at in record { rows_are = λ _. h.rows_are refl; arity = h.arity; known = h.known; light = h.light };
+        values = λ q v at. let h = starts_values p.preds s.sizes.rows s.values.items a q v at in record { rows_are = λ o none. h.rows_are o refl; arity = h.arity; known = h.known; light = h.light };
         stated = λ q b lt is. absurd (omega (arith, lt));
         others = λ q is. starts_rows p.preds s.sizes.rows s.values.items a q;
       }
@@ -124,7 +124,7 @@ module _ {D : Type 0} (width : D → ℕ) (listed : D → List (List ℤ)) where
     each = ap length put.values ∙ h.each;
     values = λ q v at.
         let before = h.values q v (sym (ap (λ (vs : List (Value D)). slice_get vs q) put.values) ∙ at) in
-        record { rows_are = λ none. before.rows_are none ∙ sym (rows_other q (λ same. let f = sym none ∙ ap (kind_of p.arithmetic) same ∙ is in cc)); arity = before.arity; known = before.known; light = before.light };
+        record { rows_are = λ o none. before.rows_are o none ∙ sym (rows_other q (λ same. let f = sym none ∙ ap (kind_of p.arithmetic) same ∙ is in cc)); arity = before.arity; known = before.known; light = before.light };
     stated = λ q b below built. elim (same_or_other q n) [
       | inl same ↦
           let kinds : kind ≡ b = let e = sym is ∙ ap (kind_of p.arithmetic) (sym same) ∙ built in cc in
@@ -157,8 +157,8 @@ module _ {D : Type 0} (width : D → ℕ) (listed : D → List (List ℤ)) where
     below : (q : ℕ) (b : Builtin) → kind_of p.arithmetic q ≡ Some b → q < length p.preds
     below q b is = some_within (λ (d : Pred). d.arity ≡ 2) p.preds q (prog.binary q b is)
 
-    pub start_state : length s.proofs.items ≡ length p.clauses → IsState width listed p s
-    start_state proofs = record { sizes = h.sizes; each = h.each; values = h.values; stated = λ q b is. h.stated q b (below q b is) is; proofs = proofs }
+    pub start_state : length s.proofs.items ≡ length p.clauses → IsState width listed every p s
+    start_state proofs = record { sizes = h.sizes; each = h.each; values = h.values; stated = λ q b o is. h.stated q b (below q b is) is; proofs = proofs }
 
     pub rows_start : rows_of s.sizes.rows ≡ start_rows p
     rows_start = λ i q. at q (kind_of p.arithmetic q) refl i
@@ -174,7 +174,7 @@ module _ {D : Type 0} (width : D → ℕ) (listed : D → List (List ℤ)) where
       record {
         sizes = subst (AreSizes p.preds) (sym rows) h.sizes;
         each = ap length own ∙ h.each;
-        values = λ q v at. subst (λ (rs : List Rows). IsValueOf width listed p.preds (kind_of p.arithmetic q) (rows_of rs) q v) (sym rows) (h.values q v (sym (ap (λ (vs : List (Value D)). slice_get vs q) own) ∙ at));
+        values = λ q v at. subst (λ (rs : List Rows). IsValueOf width listed every p.preds (kind_of p.arithmetic q) (rows_of rs) q v) (sym rows) (h.values q v (sym (ap (λ (vs : List (Value D)). slice_get vs q) own) ∙ at));
         stated = λ q b lt is. ap (λ (rs : List Rows). rows_of rs q) rows ∙ h.stated q b lt is;
         others = λ q is. ap (λ (rs : List Rows). rows_of rs q) rows ∙ h.others q is;
       }

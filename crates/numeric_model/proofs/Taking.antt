@@ -39,7 +39,7 @@ length-set [] i x = refl
 length-set (y ∷ xs) zero x = refl
 length-set (y ∷ xs) (suc i) x = ap suc (length-set xs i x)
 
-rows_set : (rows : List Rows) (q : ℕ) (r : Rows) → q < length rows → (x : ℕ) → rows_of (slice_set rows q r) x ≡ (if q == x then plain_rows r.list else rows_of rows x)
+pub rows_set : (rows : List Rows) (q : ℕ) (r : Rows) → q < length rows → (x : ℕ) → rows_of (slice_set rows q r) x ≡ (if q == x then plain_rows r.list else rows_of rows x)
 rows_set rows q r lt x = go (q == x) refl
   where
     go : (b : Bool) → (q == x) ≡ b → rows_of (slice_set rows q r) x ≡ (if b then plain_rows r.list else rows_of rows x)
@@ -57,7 +57,7 @@ module _ {D : Type 0} (width : D → ℕ) (listed : D → List (List ℤ)) where
   weights_few (x ∷ vs) h = let here = h zero x refl in let more = weights_few vs (λ q v e. h (suc q) v e) in omega arith
 
   -- ---- a clause's head in a state
-  module _ (p : Listing) (s : State D) (state : IsState width listed p s) (k : Clause) (is : IsClause p.preds k) (plain : IsOrdinary p.arithmetic k) where
+  module _ (own : ℕ → Bool) (p : Listing) (s : State D) (state : IsState width listed own p s) (k : Clause) (is : IsClause p.preds k) (plain : IsOrdinary p.arithmetic k) where
     head_within : k.head.pred.0 < length p.preds
     head_within = some_within (λ (x : Pred). x.arity ≡ length k.head.args) p.preds k.head.pred.0 is.head.arity
 
@@ -74,17 +74,17 @@ module _ {D : Type 0} (width : D → ℕ) (listed : D → List (List ℤ)) where
         go None a b = absurd a
         go (Some x) a b = sym a ∙ b
 
-    pub head_rows : (v : Value D) → slice_get s.values.items k.head.pred.0 ≡ Some v → HasRowsOf (rows_in s) k v.filled (width v.of) (listed v.of)
-    head_rows v at =
-        let own = state.values k.head.pred.0 v at in
-        let wide : width v.of ≡ length k.head.args = one_arity k.head.pred.0 (width v.of) (length k.head.args) own.arity is.head.arity in
+    pub head_rows : own k.head.pred.0 ≡ true → (v : Value D) → slice_get s.values.items k.head.pred.0 ≡ Some v → HasRowsOf (rows_in s) k v.filled (width v.of) (listed v.of)
+    head_rows mine v at =
+        let value = state.values k.head.pred.0 v at in
+        let wide : width v.of ≡ length k.head.args = one_arity k.head.pred.0 (width v.of) (length k.head.args) value.arity is.head.arity in
         record {
-          rows_are = own.rows_are plain;
+          rows_are = value.rows_are mine plain;
           width_is = wide;
-          known = subst (λ (n : ℕ). IsFilled n v.filled (listed v.of)) wide own.known;
+          known = subst (λ (n : ℕ). IsFilled n v.filled (listed v.of)) wide value.known;
         }
 
-  module _ (speaks : List ℤ → Bool) (expression : ℕ → Tree → List ℤ) (p : Listing) (pass : ℕ) (old new : State D) (number : ℕ) (k : Clause) (is : IsClause p.preds k) (plain : IsOrdinary p.arithmetic k) (state : IsState width listed p old)
+  module _ (speaks : List ℤ → Bool) (expression : ℕ → Tree → List ℤ) (own : ℕ → Bool) (p : Listing) (pass : ℕ) (old new : State D) (number : ℕ) (k : Clause) (is : IsClause p.preds k) (plain : IsOrdinary p.arithmetic k) (state : IsState width listed own p old) (mine : own k.head.pred.0 ≡ true)
       (noted : Noted D) (v : Value D) (at : slice_get old.values.items k.head.pred.0 ≡ Some v)
       (noting : IsNoted width listed speaks expression pass (rows_in old) k number v.filled noted) (changed : Bool) (accepted : IsAccepted width listed k.head.pred.0 number noted old new changed) where
     abbrev q : ℕ
@@ -100,10 +100,10 @@ module _ {D : Type 0} (width : D → ℕ) (listed : D → List (List ℤ)) where
     now = rows_after listed (rows q) next
 
     placed : q < length old.sizes.rows
-    placed = head_placed p old state k is plain
+    placed = head_placed own p old state k is plain
 
     valued : q < length old.values.items
-    valued = head_valued p old state k is plain
+    valued = head_valued own p old state k is plain
 
     -- the rows of each predicate after the step
     rows_new : (x : ℕ) → rows_in new x ≡ (if q == x then now else rows x)
@@ -145,7 +145,7 @@ module _ {D : Type 0} (width : D → ℕ) (listed : D → List (List ℤ)) where
     none_of P (Some d) h none e = cc
 
     own_listed : listed v.of ≡ rows q
-    own_listed = (state.values q v at).rows_are plain
+    own_listed = (state.values q v at).rows_are mine plain
 
     less : (next : Option D) → IfReplaced width listed q next noted.stepped.filled old new changed → IfNew (λ d. weight noted.stepped.filled (listed d) < weight v.filled (rows q)) next → changed ≡ true
         → weights width listed new.values.items < weights width listed old.values.items
@@ -187,33 +187,33 @@ module _ {D : Type 0} (width : D → ℕ) (listed : D → List (List ℤ)) where
       width = λ x r e. go x r e (same_or_other x q);
     })
       where
-        own : HasArity p.preds q h.1.rows.width × HaveWidth h.1.rows.width h.1.rows.list
-        own = (subst (HasArity p.preds q) (sym (h.1.width_is ∙ sized)) is.head.arity, subst (λ (n : ℕ). HaveWidth n h.1.rows.list) (sym h.1.width_is) h.1.long)
+        arity_is : HasArity p.preds q h.1.rows.width × HaveWidth h.1.rows.width h.1.rows.list
+        arity_is = (subst (HasArity p.preds q) (sym (h.1.width_is ∙ sized)) is.head.arity, subst (λ (n : ℕ). HaveWidth n h.1.rows.list) (sym h.1.width_is) h.1.long)
 
         go : (x : ℕ) (r : Rows) → slice_get (slice_set old.sizes.rows q h.1.rows) x ≡ Some r → (x ≡ q) ⊎ (x ≡ q → ⊥) → HasArity p.preds x r.width × HaveWidth r.width r.list
         go x r e (inl s) =
             let here : slice_get (slice_set old.sizes.rows q h.1.rows) x ≡ Some h.1.rows = ap (slice_get (slice_set old.sizes.rows q h.1.rows)) s ∙ slice_get-set_same old.sizes.rows q h.1.rows placed in
             let same : h.1.rows ≡ r = cc in
-            subst (λ (y : Rows). HasArity p.preds x y.width × HaveWidth y.width y.list) same (subst (λ (y : ℕ). HasArity p.preds y h.1.rows.width × HaveWidth h.1.rows.width h.1.rows.list) (sym s) own)
+            subst (λ (y : Rows). HasArity p.preds x y.width × HaveWidth y.width y.list) same (subst (λ (y : ℕ). HasArity p.preds y h.1.rows.width × HaveWidth h.1.rows.width h.1.rows.list) (sym s) arity_is)
         go x r e (inr apart) = state.sizes.width x r (sym (slice_get-set_other old.sizes.rows q x h.1.rows apart) ∙ e)
 
     values_new : (next : Option D) → IfReplaced width listed q next noted.stepped.filled old new changed → IfNew (λ d. width d ≡ length k.head.args) next
         → IsFilled (length k.head.args) noted.stepped.filled (rows_after listed (rows q) next) → rows_in new q ≡ rows_after listed (rows q) next
-        → (x : ℕ) (w : Value D) → slice_get new.values.items x ≡ Some w → IsValueOf width listed p.preds (kind_of p.arithmetic x) (rows_in new) x w
-    values_new None h sized known own x w e =
-        subst (λ (f : ℕ → List (List ℤ)). IsValueOf width listed p.preds (kind_of p.arithmetic x) f x w) (sym (ap rows_of h.1)) (state.values x w (sym (ap (λ (vs : List (Value D)). slice_get vs x) h.2) ∙ e))
-    values_new (Some d) h sized known own x w e = go (same_or_other x q)
+        → (x : ℕ) (w : Value D) → slice_get new.values.items x ≡ Some w → IsValueOf width listed own p.preds (kind_of p.arithmetic x) (rows_in new) x w
+    values_new None h sized known now_are x w e =
+        subst (λ (f : ℕ → List (List ℤ)). IsValueOf width listed own p.preds (kind_of p.arithmetic x) f x w) (sym (ap rows_of h.1)) (state.values x w (sym (ap (λ (vs : List (Value D)). slice_get vs x) h.2) ∙ e))
+    values_new (Some d) h sized known now_are x w e = go (same_or_other x q)
       where
         there : slice_get (slice_set old.values.items q (record { of = d; filled = noted.stepped.filled })) x ≡ Some w
         there = sym (ap (λ (vs : List (Value D)). slice_get vs x) h.1.values) ∙ e
 
-        go : (x ≡ q) ⊎ (x ≡ q → ⊥) → IsValueOf width listed p.preds (kind_of p.arithmetic x) (rows_in new) x w
+        go : (x ≡ q) ⊎ (x ≡ q → ⊥) → IsValueOf width listed own p.preds (kind_of p.arithmetic x) (rows_in new) x w
         go (inl s) =
             let here : slice_get (slice_set old.values.items q (record { of = d; filled = noted.stepped.filled })) x ≡ Some (record { of = d; filled = noted.stepped.filled }) =
             ap (slice_get (slice_set old.values.items q (record { of = d; filled = noted.stepped.filled }))) s ∙ slice_get-set_same old.values.items q (record { of = d; filled = noted.stepped.filled }) valued in
             let same : record { of = d; filled = noted.stepped.filled } ≡ w = cc in
-            subst (IsValueOf width listed p.preds (kind_of p.arithmetic x) (rows_in new) x) same (subst (λ (y : ℕ). IsValueOf width listed p.preds (kind_of p.arithmetic y) (rows_in new) y (record { of = d; filled = noted.stepped.filled })) (sym s) (record {
-              rows_are = λ _. sym own;
+            subst (IsValueOf width listed own p.preds (kind_of p.arithmetic x) (rows_in new) x) same (subst (λ (y : ℕ). IsValueOf width listed own p.preds (kind_of p.arithmetic y) (rows_in new) y (record { of = d; filled = noted.stepped.filled })) (sym s) (record {
+              rows_are = λ o none. sym now_are;
               arity = subst (HasArity p.preds q) (sym sized) is.head.arity;
               known = subst (λ (n : ℕ). IsFilled n noted.stepped.filled (listed d)) (sym sized) known;
               light = light noted.stepped.filled (listed d) h.1.few;
@@ -222,9 +222,9 @@ module _ {D : Type 0} (width : D → ℕ) (listed : D → List (List ℤ)) where
             let before = state.values x w (sym (slice_get-set_other old.values.items q x (record { of = d; filled = noted.stepped.filled }) apart) ∙ there) in
             let t : (q == x) ≡ false = grind (arith, nat_tests) in
             let rows_same : rows_in new x ≡ rows x = rows_new x ∙ ap (λ (b : Bool). if b then now else rows x) t in
-            record { rows_are = λ none. before.rows_are none ∙ sym rows_same; arity = before.arity; known = before.known; light = before.light }
+            record { rows_are = λ o none. before.rows_are o none ∙ sym rows_same; arity = before.arity; known = before.known; light = before.light }
 
-    pub state_new : IsState width listed p new
+    pub state_new : IsState width listed own p new
     state_new = record {
       sizes = sizes_new next accepted.replaced noting.sized;
       each = counts next accepted.replaced ∙ state.each;
@@ -233,10 +233,10 @@ module _ {D : Type 0} (width : D → ℕ) (listed : D → List (List ℤ)) where
       proofs = ap length accepted.proofs ∙ length-set old.proofs.items (number - 1) noted.stepped.by ∙ state.proofs;
     }
       where
-        stated_new : (x : ℕ) (b : Builtin) → kind_of p.arithmetic x ≡ Some b → rows_in new x ≡ stated_rows b
-        stated_new x b is =
+        stated_new : (x : ℕ) (b : Builtin) → own x ≡ true → kind_of p.arithmetic x ≡ Some b → rows_in new x ≡ stated_rows b
+        stated_new x b o is =
             let apart : (q == x) ≡ false = go (q == x) refl in
-            rows_new x ∙ ap (λ (o : Bool). if o then now else rows x) apart ∙ state.stated x b is
+            rows_new x ∙ ap (λ (t : Bool). if t then now else rows x) apart ∙ state.stated x b o is
           where
             go : (o : Bool) → (q == x) ≡ o → o ≡ false
             go true e = let same = eqb-true q x e in let f = sym plain ∙ ap (kind_of p.arithmetic) same ∙ is in cc

@@ -1,5 +1,6 @@
 pub mod Filling
 pub mod Noting
+pub mod Parts
 pub mod Proved
 pub mod Running
 pub mod States

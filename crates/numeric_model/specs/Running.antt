@@ -1,6 +1,6 @@
 -- Private.
 -- What a step, a pass, and the passes of a component do to the state of a chain.
-use Rattle.std.specs.Prelude.{◌≡◌, ◌≢◌, ℕ, ◌-◌, ◌<◌, ◌≤◌, ℤ, Bool, true, false, List, [], ◌∷◌, ◌++◌, length, map, slice_get, slice_set, Option, None, Some}
+use Rattle.std.specs.Prelude.{All, ◌≡◌, ◌≢◌, ℕ, ◌-◌, ◌<◌, ◌≤◌, ℤ, Bool, true, false, List, [], ◌∷◌, ◌++◌, length, map, slice_get, slice_set, Option, None, Some}
 use Rattle.std.specs.List.{AllByRecursion, flat_map}
 use Rattle.call_components.specs.Partition.{Partition}
 use Rattle.cti_terms.specs.Listing.{Listing}
@@ -8,6 +8,7 @@ use Rattle.cti_terms.specs.Tree.{Tree}
 use Rattle.cti_terms.specs.declared.clauses.Clause.{Clause}
 use Rattle.linear_rows.specs.Members.{In}
 use Rattle.linear_rows.specs.declared.multipliers.Multipliers.{Multipliers}
+use Rattle.linear_rows.specs.Replacing.{row_fits}
 use Rattle.linear_rows.specs.Step.{columns}
 use Rattle.termination_model.specs.Chain.{after, after_pass, after_passes, after_runs, clauses_of, start_rows, AreUnchanged, AreSteps, ArePasses, AreRuns}
 use Rattle.termination_model.specs.ChainSteps.{Step as PlainStep, IsLegalStep}
@@ -95,3 +96,4 @@ module _ {D : Type 0} (width : D → ℕ) (listed : D → List (List ℤ)) (spea
     pub steps_are : map plain_step s.steps ≡ flat_map (flat_map (λ ss. ss)) runs
     pub rows : rows_in s ≡ after_runs (start_rows p) (map (clauses_of p comps) (columns 0 c)) runs
     pub proved : (d : ℕ) → d < c → HaveProofs (clauses_of p comps d) s
+    pub fits : (d q : ℕ) → d < c → slice_get comps.of q ≡ Some d → All (λ r. row_fits r ≡ true) (rows_in s q)

@@ -1,6 +1,7 @@
 -- Private.
 -- The state of a chain, and what a step does to it.
-use Rattle.std.specs.Prelude.{◌≡◌, ℕ, ◌+◌, ◌-◌, ◌^◌, ◌<◌, ◌≤◌, ℤ, Bool, true, false, List, [], ◌∷◌, ◌++◌, length, slice_get, slice_set, Option, None, Some}
+use Rattle.std.specs.Prelude.{◌≡◌, ℕ, ◌+◌, ◌-◌, ◌^◌, ◌<◌, ◌≤◌, ℤ, Bool, true, false, nat_le, List, [], ◌∷◌, ◌++◌, length, slice_get, slice_set, Option, None, Some}
+use Rattle.call_components.specs.Partition.{Partition}
 use Rattle.cti_terms.specs.Arithmetic.{kind_of}
 use Rattle.cti_terms.specs.Listing.{Listing}
 use Rattle.cti_terms.specs.declared.builtins.Builtin.{Builtin}
@@ -20,6 +21,17 @@ use Rattle.numeric_model.specs.declared.step.Step.{Step}
 use Rattle.numeric_model.specs.declared.value.Value.{Value}
 use Rattle.numeric_model.specs.Filling.{IsFilled, weight}
 
+-- whether a predicate is of the component c or of a later one
+abbrev pub is_from : ℕ → Option ℕ → Bool
+is_from c None = false
+is_from c (Some d) = nat_le c d
+
+abbrev pub own_from : Partition → ℕ → ℕ → Bool
+own_from comps c q = is_from c (slice_get comps.of q)
+
+abbrev pub every : ℕ → Bool
+every q = true
+
 -- a step, over plain lists
 abbrev pub plain_step : Step → PlainStep
 plain_step s = record { clause = s.clause; image = plain_rows s.image.list; image_weak = s.image_weak; how = s.how; rows = plain_rows s.rows.list; weak = s.step_weak }
@@ -33,18 +45,18 @@ module _ {D : Type 0} (width : D → ℕ) (listed : D → List (List ℤ)) where
   weights [] = 0
   weights (v ∷ vs) = value_weight v + weights vs
 
-  -- the value of a predicate lists the predicate's rows, unless it is built in
-  pub record IsValueOf (preds : List Pred) (kind : Option Builtin) (rows : ℕ → List (List ℤ)) (q : ℕ) (v : Value D) : Type 0 where
-    pub rows_are : kind ≡ None → listed v.of ≡ rows q
+  -- the value of a predicate, which lists the predicate's rows where it is one of these and not built in
+  pub record IsValueOf (own : ℕ → Bool) (preds : List Pred) (kind : Option Builtin) (rows : ℕ → List (List ℤ)) (q : ℕ) (v : Value D) : Type 0 where
+    pub rows_are : own q ≡ true → kind ≡ None → listed v.of ≡ rows q
     pub arity : HasArity preds q (width v.of)
     pub known : IsFilled (width v.of) v.filled (listed v.of)
     pub light : value_weight v ≤ 2 ^ 65
 
-  pub record IsState (p : Listing) (s : State D) : Type 0 where
+  pub record IsState (own : ℕ → Bool) (p : Listing) (s : State D) : Type 0 where
     pub sizes : AreSizes p.preds s.sizes.rows
     pub each : length s.values.items ≡ length p.preds
-    pub values : (q : ℕ) (v : Value D) → slice_get s.values.items q ≡ Some v → IsValueOf p.preds (kind_of p.arithmetic q) (rows_of s.sizes.rows) q v
-    pub stated : (q : ℕ) (b : Builtin) → kind_of p.arithmetic q ≡ Some b → rows_of s.sizes.rows q ≡ stated_rows b
+    pub values : (q : ℕ) (v : Value D) → slice_get s.values.items q ≡ Some v → IsValueOf own p.preds (kind_of p.arithmetic q) (rows_of s.sizes.rows) q v
+    pub stated : (q : ℕ) (b : Builtin) → own q ≡ true → kind_of p.arithmetic q ≡ Some b → rows_of s.sizes.rows q ≡ stated_rows b
     pub proofs : length s.proofs.items ≡ length p.clauses
 
   -- the rows and the value of a predicate at the start
@@ -81,7 +93,7 @@ module _ {D : Type 0} (width : D → ℕ) (listed : D → List (List ℤ)) where
   pub record AreStatedTo (p : Listing) (n : ℕ) (s : State D) : Type 0 where
     pub sizes : AreSizes p.preds s.sizes.rows
     pub each : length s.values.items ≡ length p.preds
-    pub values : (q : ℕ) (v : Value D) → slice_get s.values.items q ≡ Some v → IsValueOf p.preds (kind_of p.arithmetic q) (rows_of s.sizes.rows) q v
+    pub values : (q : ℕ) (v : Value D) → slice_get s.values.items q ≡ Some v → IsValueOf every p.preds (kind_of p.arithmetic q) (rows_of s.sizes.rows) q v
     pub stated : (q : ℕ) (b : Builtin) → q < n → kind_of p.arithmetic q ≡ Some b → rows_of s.sizes.rows q ≡ stated_rows b
     pub others : (q : ℕ) → kind_of p.arithmetic q ≡ None → rows_of s.sizes.rows q ≡ start_or_none (slice_get p.preds q)
 

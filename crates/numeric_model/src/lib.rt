@@ -8,6 +8,7 @@
 #![tactic(auto)]
 
 mod chain;
+mod component;
 mod filled;
 mod noting;
 mod own_clauses;
@@ -20,6 +21,7 @@ mod stepping;
 mod value;
 
 pub use chain::Chain;
+pub use component::solve_component;
 pub use solving::solve;
 pub use step::Step;
 pub use termination_model::How;

@@ -1,12 +1,13 @@
 // Steps, passes and components.
-ghost use Rattle.std.specs.Prelude.{◌≡◌, ◌≤◌, ◌<◌, ◌-◌, IfOk, OnOk, length, slice_get, Some};
+ghost use Rattle.std.specs.Prelude.{◌≡◌, ◌≤◌, ◌<◌, ◌-◌, ℕ, true, IfOk, OnOk, length, slice_get, Some};
 ghost use Rattle.std.specs.List.{AllByRecursion};
 ghost use Rattle.cti_terms.specs.declared.clauses.Clause.{Clause};
 ghost use Rattle.numeric_model.specs.Running.{IsPassed, IsRun, IsTaken, with_clauses};
-ghost use Rattle.numeric_model.specs.States.{IsState};
+ghost use Rattle.numeric_model.specs.States.{IsState, own_from};
 
 use crate::noting::note_step;
 use crate::state::State;
+use call_components::Components;
 use cti_terms::Program;
 use polyhedra::Domain;
 use std::alloc::{AllocError, Global};
@@ -16,6 +17,8 @@ use term_size::Norm;
 fn run_step<D: Domain, N: Norm>(
     alloc: Global,
     p: &Program,
+    comps: &Components,
+    c: u32,
     norm: &N,
     k: u32,
     pass: u32,
@@ -23,10 +26,11 @@ fn run_step<D: Domain, N: Norm>(
 ) -> Result<bool, AllocError>
     requires first { 1 ≤ k }
     requires last { k ≤ length p.now.clauses }
-    requires state { IsState D.width D.listed p.now state.old }
-    ensures state { OnOk result (IsState D.width D.listed p.now state.new) }
-    ensures taken { IfOk result (λ changed. (c : Clause) → slice_get p.now.clauses (k - 1) ≡ Some c
-        → IsTaken D.width D.listed D.speaks (N.expression norm.now) pass (k, c) state.old state.new changed) }
+    requires head { (x : Clause) → slice_get p.now.clauses (k - 1) ≡ Some x → own_from comps.now c x.head.pred.0 ≡ true }
+    requires state { IsState D.width D.listed (own_from comps.now c) p.now state.old }
+    ensures state { OnOk result (IsState D.width D.listed (own_from comps.now c) p.now state.new) }
+    ensures taken { IfOk result (λ changed. (x : Clause) → slice_get p.now.clauses (k - 1) ≡ Some x
+        → IsTaken D.width D.listed D.speaks (N.expression norm.now) pass (k, x) state.old state.new changed) }
 {
     let pred = p.clause(k).head.pred;
     let value = &state.values[pred.0 as usize];
@@ -47,20 +51,23 @@ fn run_step<D: Domain, N: Norm>(
 fn run_pass<D: Domain, N: Norm>(
     alloc: Global,
     p: &Program,
+    comps: &Components,
+    c: u32,
     norm: &N,
     own: &[u32],
     pass: u32,
     state: &mut State<D>,
 ) -> Result<bool, AllocError>
     requires own { AllByRecursion (λ k. (1 ≤ k) × (k ≤ length p.now.clauses)) own.now }
-    requires state { IsState D.width D.listed p.now state.old }
-    ensures state { OnOk result (IsState D.width D.listed p.now state.new) }
+    requires heads { (j k : ℕ) (x : Clause) → slice_get own.now j ≡ Some k → slice_get p.now.clauses (k - 1) ≡ Some x → own_from comps.now c x.head.pred.0 ≡ true }
+    requires state { IsState D.width D.listed (own_from comps.now c) p.now state.old }
+    ensures state { OnOk result (IsState D.width D.listed (own_from comps.now c) p.now state.new) }
     ensures passed { IfOk result
         (IsPassed D.width D.listed D.speaks (N.expression norm.now) pass (with_clauses p.now.clauses own.now) state.old state.new) }
 {
     let mut changed = false;
     for k in own {
-        let more = run_step(alloc, p, norm, *k, pass, state)?;
+        let more = run_step(alloc, p, comps, c, norm, *k, pass, state)?;
         changed |= more;
     }
     Ok(changed)
@@ -70,18 +77,21 @@ fn run_pass<D: Domain, N: Norm>(
 pub(crate) fn run_component<D: Domain, N: Norm>(
     alloc: Global,
     p: &Program,
+    comps: &Components,
+    c: u32,
     norm: &N,
     own: &[u32],
     state: &mut State<D>,
 ) -> Result<(), AllocError>
     requires own { AllByRecursion (λ k. (1 ≤ k) × (k ≤ length p.now.clauses)) own.now }
-    requires state { IsState D.width D.listed p.now state.old }
-    ensures state { OnOk result (IsState D.width D.listed p.now state.new) }
+    requires heads { (j k : ℕ) (x : Clause) → slice_get own.now j ≡ Some k → slice_get p.now.clauses (k - 1) ≡ Some x → own_from comps.now c x.head.pred.0 ≡ true }
+    requires state { IsState D.width D.listed (own_from comps.now c) p.now state.old }
+    ensures state { OnOk result (IsState D.width D.listed (own_from comps.now c) p.now state.new) }
     ensures run { OnOk result (IsRun D.width D.listed D.speaks (N.expression norm.now) (with_clauses p.now.clauses own.now) state.old state.new) }
 {
     let mut number = 1;
     loop {
-        let changed = run_pass(alloc, p, norm, own, number, state)?;
+        let changed = run_pass(alloc, p, comps, c, norm, own, number, state)?;
         if !changed {
             return Ok(());
         }

@@ -6,7 +6,7 @@ ghost use Rattle.termination_model.specs.Chain.{IsLegalChain};
 ghost use Rattle.termination_model.specs.Sizes.{AreSizes, rows_of};
 ghost use Rattle.numeric_model.specs.Proved.{AreProved};
 ghost use Rattle.numeric_model.specs.Running.{IsChained};
-ghost use Rattle.numeric_model.specs.States.{IsState, plain_step};
+ghost use Rattle.numeric_model.specs.States.{IsState, own_from, plain_step};
 
 use crate::chain::Chain;
 use crate::own_clauses::own_clauses;
@@ -54,14 +54,22 @@ fn run_all<D: Domain, N: Norm>(
     norm: &N,
 ) -> Result<State<D>, AllocError>
     requires { AreComponents p.now comps.now }
-    ensures state { IfOk result (IsState D.width D.listed p.now) }
+    ensures state { IfOk result (IsState D.width D.listed (own_from comps.now (length comps.now.members)) p.now) }
     ensures chained { IfOk result (IsChained D.width D.listed D.speaks (N.expression norm.now) p.now comps.now (length comps.now.members)) }
 {
     let _program = p.clauses();
     let own = own_clauses(alloc, p, comps)?;
     let mut state = State::<D>::start(alloc, p)?;
     for c in 0..comps.count() {
-        run_component(alloc, p, norm, own[c as usize].as_slice(), &mut state)?;
+        run_component(
+            alloc,
+            p,
+            comps,
+            c,
+            norm,
+            own[c as usize].as_slice(),
+            &mut state,
+        )?;
     }
     Ok(state)
 }

@@ -4,7 +4,7 @@ ghost use Rattle.cti_terms.specs.Listing.{IsProgram, Listing};
 ghost use Rattle.linear_rows.specs.declared.row.Rows.{Rows};
 ghost use Rattle.termination_model.specs.Chain.{start_rows};
 ghost use Rattle.termination_model.specs.Sizes.{rows_of};
-ghost use Rattle.numeric_model.specs.States.{AreStatedTo, IfReplaced, IsAccepted, IsAdded, IsFresh, IsState, IsStatedAt};
+ghost use Rattle.numeric_model.specs.States.{AreStatedTo, IfReplaced, IsAccepted, IsAdded, IsFresh, IsState, IsStatedAt, every};
 
 use crate::chain::Chain;
 use crate::filled::Filled;
@@ -45,7 +45,7 @@ impl<D: Drop> Drop for State<D> {
 impl<D: Domain> State<D> {
     /// Built-in predicates have their stated rows, all others are empty, and there are no steps.
     pub(crate) fn start(alloc: Global, p: &Program) -> Result<State<D>, AllocError>
-        ensures state { IfOk result (IsState D.width D.listed p.now) }
+        ensures state { IfOk result (IsState D.width D.listed every p.now) }
         ensures rows { IfOk result (λ s. rows_of s.sizes.rows ≡ start_rows p.now) }
         ensures steps { IfOk result (λ s. s.steps ≡ []) }
     {

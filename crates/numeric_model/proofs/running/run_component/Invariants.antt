@@ -1,12 +1,12 @@
 use Rattle.std.proofs.Common.{◌+◌, ◌-◌, ◌*◌, ◌^◌, suc, length}
-use Rattle.numeric_model.specs.States.{IsState, weights}
+use Rattle.numeric_model.specs.States.{IsState, own_from, weights}
 use Rattle.numeric_model.specs.Running.{with_clauses}
 use Rattle.numeric_model.proofs.Passes.{IsRunning}
 use Rattle.numeric_model.proofs.running.run_component.Given as goal
 
 abbrev pub invariant-loop-changed : goal.invariant-loop-changed
 invariant-loop-changed g l = record {
-  state : IsState g.D.Domain.width g.D.Domain.listed l.p l.state;
+  state : IsState g.D.Domain.width g.D.Domain.listed (own_from l.comps l.c) l.p l.state;
   running : IsRunning g.D.Domain.width g.D.Domain.listed g.D.Domain.speaks (g.N.Norm.expression l.norm) (with_clauses l.p.clauses l.own) l.number l.fn.state l.state;
 }
 

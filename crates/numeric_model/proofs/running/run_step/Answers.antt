@@ -3,7 +3,7 @@ use Rattle.cti_terms.specs.declared.clauses.Clause.{Clause}
 use Rattle.termination_model.proofs.Lists.{at_place, one_element}
 use Rattle.numeric_model.specs.Noting.{HasRowsOf}
 use Rattle.numeric_model.specs.Running.{IsTaken, rows_in}
-use Rattle.numeric_model.specs.States.{IsState, IsAccepted}
+use Rattle.numeric_model.specs.States.{IsState, IsAccepted, own_from}
 use Rattle.numeric_model.proofs.Taking.{taken, state_new, head_placed, head_valued, head_rows}
 use Rattle.numeric_model.proofs.Results.{ok_map, on_ok}
 use Rattle.numeric_model.proofs.running.run_step.Goals as goal
@@ -15,15 +15,17 @@ note_step-requires-clause-old g c = λ k' there.
     let v = c.index-value.result.now in
     let width = g.D.Domain.width in
     let listed = g.D.Domain.listed in
-    let at = at_place s.values.items k.head.pred.0 v (head_valued width listed c.args.p.now s c.requires.state k c.clause.ensures.sound c.clause.ensures.ordinary) c.index-value.ensures in
+    let own = own_from c.args.comps.now c.args.c in
+    let mine = c.requires.head c.clause.result.now c.clause.ensures.there in
+    let at = at_place s.values.items k.head.pred.0 v (head_valued width listed own c.args.p.now s c.requires.state k c.clause.ensures.sound c.clause.ensures.ordinary) c.index-value.ensures in
     subst (λ (x : Clause). HasRowsOf (rows_in s) x v.filled (width v.of) (listed v.of)) (one_element c.args.p.now.clauses (c.args.k - 1) k k' c.clause.ensures.there there)
-    (head_rows width listed c.args.p.now s c.requires.state k c.clause.ensures.sound c.clause.ensures.ordinary v at)
+    (head_rows width listed own c.args.p.now s c.requires.state k c.clause.ensures.sound c.clause.ensures.ordinary mine v at)
 
 pub accept-requires-clause-rows : goal.accept-requires-clause-rows
-accept-requires-clause-rows g c = head_placed g.D.Domain.width g.D.Domain.listed c.args.p.now c.args.state.now c.requires.state c.clause.result.now c.clause.ensures.sound c.clause.ensures.ordinary
+accept-requires-clause-rows g c = head_placed g.D.Domain.width g.D.Domain.listed (own_from c.args.comps.now c.args.c) c.args.p.now c.args.state.now c.requires.state c.clause.result.now c.clause.ensures.sound c.clause.ensures.ordinary
 
 pub accept-requires-clause-values : goal.accept-requires-clause-values
-accept-requires-clause-values g c = head_valued g.D.Domain.width g.D.Domain.listed c.args.p.now c.args.state.now c.requires.state c.clause.result.now c.clause.ensures.sound c.clause.ensures.ordinary
+accept-requires-clause-values g c = head_valued g.D.Domain.width g.D.Domain.listed (own_from c.args.comps.now c.args.c) c.args.p.now c.args.state.now c.requires.state c.clause.result.now c.clause.ensures.sound c.clause.ensures.ordinary
 
 pub returns-clause-state : goal.returns-clause-state
 returns-clause-state g c =
@@ -32,10 +34,12 @@ returns-clause-state g c =
     let v = c.index-value.result.now in
     let width = g.D.Domain.width in
     let listed = g.D.Domain.listed in
+    let own = own_from c.args.comps.now c.args.c in
+    let mine = c.requires.head c.clause.result.now c.clause.ensures.there in
     let e = g.N.Norm.expression c.args.norm.now in
-    let at = at_place s.values.items k.head.pred.0 v (head_valued width listed c.args.p.now s c.requires.state k c.clause.ensures.sound c.clause.ensures.ordinary) c.index-value.ensures in
-    on_ok (IsAccepted width listed k.head.pred.0 c.args.k c.in_ok-noted.noted s c.accept.new.self) (IsState width listed c.args.p.now c.accept.new.self)
-    (λ changed h. state_new width listed g.D.Domain.speaks e c.args.p.now c.args.pass s c.accept.new.self c.args.k k c.clause.ensures.sound c.clause.ensures.ordinary c.requires.state c.in_ok-noted.noted v at
+    let at = at_place s.values.items k.head.pred.0 v (head_valued width listed own c.args.p.now s c.requires.state k c.clause.ensures.sound c.clause.ensures.ordinary) c.index-value.ensures in
+    on_ok (IsAccepted width listed k.head.pred.0 c.args.k c.in_ok-noted.noted s c.accept.new.self) (IsState width listed own c.args.p.now c.accept.new.self)
+    (λ changed h. state_new width listed g.D.Domain.speaks e own c.args.p.now c.args.pass s c.accept.new.self c.args.k k c.clause.ensures.sound c.clause.ensures.ordinary c.requires.state mine c.in_ok-noted.noted v at
     (c.in_ok-noted.ensures k c.clause.ensures.there) changed h)
     c.accept.result c.accept.ensures
 
@@ -46,12 +50,14 @@ returns-clause-taken g c =
     let v = c.index-value.result.now in
     let width = g.D.Domain.width in
     let listed = g.D.Domain.listed in
+    let own = own_from c.args.comps.now c.args.c in
+    let mine = c.requires.head c.clause.result.now c.clause.ensures.there in
     let e = g.N.Norm.expression c.args.norm.now in
-    let at = at_place s.values.items k.head.pred.0 v (head_valued width listed c.args.p.now s c.requires.state k c.clause.ensures.sound c.clause.ensures.ordinary) c.index-value.ensures in
+    let at = at_place s.values.items k.head.pred.0 v (head_valued width listed own c.args.p.now s c.requires.state k c.clause.ensures.sound c.clause.ensures.ordinary) c.index-value.ensures in
     ok_map (IsAccepted width listed k.head.pred.0 c.args.k c.in_ok-noted.noted s c.accept.new.self)
     (λ changed. (x : Clause) → slice_get c.args.p.now.clauses (c.args.k - 1) ≡ Some x → IsTaken width listed g.D.Domain.speaks e c.args.pass (c.args.k, x) s c.accept.new.self changed)
     (λ changed h x there. subst (λ (y : Clause). IsTaken width listed g.D.Domain.speaks e c.args.pass (c.args.k, y) s c.accept.new.self changed)
     (one_element c.args.p.now.clauses (c.args.k - 1) k x c.clause.ensures.there there)
-    (taken width listed g.D.Domain.speaks e c.args.p.now c.args.pass s c.accept.new.self c.args.k k c.clause.ensures.sound c.clause.ensures.ordinary c.requires.state c.in_ok-noted.noted v at
+    (taken width listed g.D.Domain.speaks e own c.args.p.now c.args.pass s c.accept.new.self c.args.k k c.clause.ensures.sound c.clause.ensures.ordinary c.requires.state mine c.in_ok-noted.noted v at
     (c.in_ok-noted.ensures k c.clause.ensures.there) changed h))
     c.accept.result c.accept.ensures
