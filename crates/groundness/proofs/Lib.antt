@@ -1,4 +1,6 @@
+pub mod BegunLaws
 pub mod ClauseLaws
+pub mod ComponentLaws
 pub mod Examples
 pub mod MarkLaws
 pub mod MissingLaws

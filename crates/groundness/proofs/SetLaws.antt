@@ -12,7 +12,7 @@ use Rattle.cti_terms.specs.declared.clauses.Clause.{Clause}
 use Rattle.cti_terms.specs.declared.predicates.Pred.{Pred}
 use Rattle.cti_terms.specs.Listing.{Listing, IsAtom, IsClause, IsProgram}
 use Rattle.cti_terms.specs.Tree.{Tree}
-use Rattle.termination_model.specs.Grounds.{Family, HasArity, IsClosed, IsClosedUnder, IsGround, IsInside, truth_row}
+use Rattle.termination_model.specs.Grounds.{Family, HasArity, IsClosedUnder, IsGround, IsInside, truth_row}
 use Rattle.truth_rows.specs.Ready.{HasAtoms}
 use Rattle.truth_rows.specs.Sets.{AreSets, family_of, has_row}
 use Rattle.groundness.specs.Sets.{AddsOnlyNeeded, Gives}
@@ -68,8 +68,8 @@ module _ (p : Listing) (program : IsProgram p) (trees : List Rows) (sets : List 
         let e = there sets b.pred.0 none (atom_there p program trees sets S k.vars b a) in
         inside b.pred.0 (truth_row truth s.0 b) (family_put p.preds trees sets b.pred.0 (truth_row truth s.0 b) w.0 d w.1 e (w.2 ∙ sym (length-map b.args (truth s.0))) (s.1 j b (place_below k.body j b at) at d e)))))
 
-    pub added_needed : (i : ℕ) → slice_get p.clauses i ≡ Some k → AddsOnlyNeeded truth p (family_of p.preds trees sets) (family_of p.preds T2 (slice_set sets k.head.pred.0 joined))
-    added_needed i at = λ other closed inside r row h.
+    pub added_needed : AddsOnlyNeeded truth k (family_of p.preds trees sets) (family_of p.preds T2 (slice_set sets k.head.pred.0 joined))
+    added_needed = λ other closed inside r row h.
         let f = family_in p.preds T2 (slice_set sets k.head.pred.0 joined) r row h in
         elim (cases_eq r k.head.pred.0) [
           | inl same ↦ here other closed inside r row same f.0 f.1 f.2 f.3 f.4 f.5
@@ -78,7 +78,7 @@ module _ (p : Listing) (program : IsProgram p) (trees : List Rows) (sets : List 
               inside r row (family_put p.preds trees sets r row f.0 f.1 f.2 e f.4 (sym (holds_later trees T2 f.1 (keeps_twice trees T1 T2 K1 K2) (S.known r f.1 e) (values_of row)) ∙ f.5))
         ]
       where
-        here : (other : Family) → IsClosed truth p other → IsInside (family_of p.preds trees sets) other → (r : ℕ) (row : List Bool) → r ≡ k.head.pred.0 → (x : Pred) (d : Diagram) → slice_get p.preds r ≡ Some x → slice_get (slice_set sets k.head.pred.0 joined) r ≡ Some d → x.arity ≡ length row → IsTrue (truth_rows T2 d row) → IsTrue (other r row)
+        here : (other : Family) → IsClosedUnder truth other k → IsInside (family_of p.preds trees sets) other → (r : ℕ) (row : List Bool) → r ≡ k.head.pred.0 → (x : Pred) (d : Diagram) → slice_get p.preds r ≡ Some x → slice_get (slice_set sets k.head.pred.0 joined) r ≡ Some d → x.arity ≡ length row → IsTrue (truth_rows T2 d row) → IsTrue (other r row)
         here other closed inside r row same x d ex ed ar t =
             let f : slice_get (slice_set sets k.head.pred.0 joined) r ≡ Some joined = ap (slice_get (slice_set sets k.head.pred.0 joined)) same ∙ slice_get-set_same sets k.head.pred.0 joined (atom_there p program trees sets S k.vars k.head c.head) in
             let is : d ≡ joined = cc in
@@ -90,7 +90,7 @@ module _ (p : Listing) (program : IsProgram p) (trees : List Rows) (sets : List 
             subst (λ m. IsTrue (other m row)) (sym same)
             (elim (or_cases _ _ (sym (J (values_of row)) ∙ t')) [
               | inl l ↦ inside k.head.pred.0 row (family_put p.preds trees sets k.head.pred.0 row x _ ex' at_q ar (sym (old_now (values_of row)) ∙ l))
-              | inr g ↦ given_inside other (by_places (IsClosedUnder truth other) p.clauses closed.clauses i k at) inside row long ((G (values_of row)).0 g)
+              | inr g ↦ given_inside other closed inside row long ((G (values_of row)).0 g)
             ])
 
     pub added_closed : HaveSameRows T2 (slice_index_or sets k.head.pred.0 none) joined → IsClosedUnder truth (family_of p.preds T2 sets) k

@@ -1,18 +1,19 @@
 -- The sets that a search for the least family begins with: they have the rows of what is built in, and no others.
-use Rattle.std.proofs.Common.{◌≡◌, ℕ, zero, suc, ◌+◌, ◌<◌, ◌&&◌, Bool, true, false, IsTrue, List, [], ◌∷◌, ◌++◌, length, slice_get, Option, None, Some, inl, inr, refl, ap, sym, subst, ◌∙◌, arith}
-use Rattle.std.proofs.lemmas.Bool.{and_parts, cases_eq}
+use Rattle.std.proofs.Common.{◌≡◌, ℕ, zero, suc, ◌<◌, ◌&&◌, Bool, true, IsTrue, List, [], ◌∷◌, ◌++◌, length, slice_get, Option, None, Some, refl, ap, sym, subst, ◌∙◌, arith}
+use Rattle.std.proofs.lemmas.Bool.{and_parts}
 use Rattle.bool_diagrams.specs.declared.diagram.Diagram.{Diagram}
 use Rattle.bool_diagrams.specs.Cubes.{truth_rows, values_of}
-use Rattle.bool_diagrams.specs.Rows.{IsDiagram, ReadsBelow, holds}
+use Rattle.bool_diagrams.specs.Rows.{IsDiagram, ReadsBelow}
 use Rattle.bool_diagrams.specs.Tree.{Tree as Rows}
 use Rattle.cti_terms.specs.Arithmetic.{kind_of}
-use Rattle.cti_terms.specs.Listing.{IsProgram, Listing}
-use Rattle.cti_terms.specs.Tree.{Tree}
+use Rattle.cti_terms.specs.Listing.{Listing}
 use Rattle.cti_terms.specs.declared.builtins.Builtin.{Builtin}
 use Rattle.cti_terms.specs.declared.predicates.Pred.{Pred}
-use Rattle.termination_model.specs.Grounds.{Family, HasArity, HasBuiltins, IsClosed, IsInside}
+use Rattle.termination_model.specs.Grounds.{Family, HasArity, HasBuiltins}
+use Rattle.termination_model.proofs.Lists.{place_below}
 use Rattle.truth_rows.specs.Sets.{AreSets, family_of}
 use Rattle.truth_rows.proofs.SetLaws.{family_in, family_put, some_is}
+use Rattle.groundness.specs.Components.{HaveStartRows}
 use Rattle.groundness.specs.Sets.{AreStarts, set_as}
 
 -- a row of two values that are true
@@ -61,7 +62,7 @@ module _ (p : Listing) (T : List Rows) (sets : List Diagram) (s : AreStarts p T 
     reads = λ q n d at arity. subst (λ (x : Diagram). ReadsBelow T x n) (sym (s.at q d at)) (reads_as q n arity (kind_of p.arithmetic q) refl);
   }
 
-  pub starts_have : HasBuiltins p.arithmetic (family_of p.preds T sets)
+  starts_have : HasBuiltins p.arithmetic (family_of p.preds T sets)
   starts_have q b is =
       let one = some_is (λ (d : Pred). d.arity ≡ 2) (slice_get p.preds q) (s.program.binary q b is) in
       let there = placed (slice_get sets q) refl (within p.preds q one.0 one.1) in
@@ -82,8 +83,9 @@ module _ (p : Listing) (T : List Rows) (sets : List Diagram) (s : AreStarts p T 
       placed None e lt = absurd (outside sets q e (omega (arith, lt, s.each)))
       placed (Some d) e lt = (d, e)
 
-  pub starts_needed : (truth : (ℕ → Bool) → Tree → Bool) (other : Family) → IsClosed truth p other → IsInside (family_of p.preds T sets) other
-  starts_needed truth other closed q row t = go (kind_of p.arithmetic q) refl
+  -- each family that has a built-in predicate's row has its first rows
+  starts_needed : (other : Family) (q : ℕ) (row : List Bool) → ((b : Builtin) → kind_of p.arithmetic q ≡ Some b → IsTrue (other q (true ∷ (true ∷ [])))) → IsTrue (family_of p.preds T sets q row) → IsTrue (other q row)
+  starts_needed other q row has t = go (kind_of p.arithmetic q) refl
     where
       go : (o : Option Builtin) → kind_of p.arithmetic q ≡ o → IsTrue (other q row)
       go None is =
@@ -96,7 +98,16 @@ module _ (p : Listing) (T : List Rows) (sets : List Diagram) (s : AreStarts p T 
           let on = subst (λ (x : Diagram). IsTrue (truth_rows T x row)) (both_there q b is f.1 f.3) f.5 in
           let long : length row ≡ 2 = two q b is (length row) (rw f.2 f.4) in
           let pair = two_true row long (sym (s.on (values_of row)) ∙ on) in
-          subst (λ (xs : List Bool). IsTrue (other q xs)) (sym pair) (closed.builtins q b is)
+          subst (λ (xs : List Bool). IsTrue (other q xs)) (sym pair) (has b is)
+
+  pub starts_begin : (m : ℕ → Bool) → HaveStartRows p.arithmetic m (family_of p.preds T sets)
+  starts_begin m = record {
+    builtins = λ q b is member. starts_have q b is;
+    alone = λ other has q row member t. starts_needed other q row (λ b is. has q b is member) t;
+  }
+
+  pub starts_within : (q : ℕ) (row : List Bool) → IsTrue (family_of p.preds T sets q row) → q < length p.preds
+  starts_within q row t = let f = family_in p.preds T sets q row t in omega (arith, place_below sets q f.1 f.3, s.each)
 
 -- what is read at each place of a list that gains an element
 pub pushed_as : {X : Type 0} (P : ℕ → X → Type 0) (xs : List X) (y : X) (n : ℕ) → length xs ≡ n → ((q : ℕ) (x : X) → slice_get xs q ≡ Some x → P q x) → P n y

@@ -1,3 +1,4 @@
 pub mod Sets
 pub mod Missing
 pub mod Marks
+pub mod Components

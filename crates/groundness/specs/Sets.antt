@@ -10,11 +10,11 @@ use Rattle.cti_terms.specs.declared.clauses.Clause.{Clause}
 use Rattle.cti_terms.specs.Listing.{IsProgram, Listing}
 use Rattle.cti_terms.specs.Tree.{Tree}
 use Rattle.truth_rows.specs.Ready.{HasAtoms, HasTruths}
-use Rattle.termination_model.specs.Grounds.{Family, IsClosed, IsInside}
+use Rattle.termination_model.specs.Grounds.{Family, IsClosedUnder, IsInside}
 
--- whatever closed family has the rows of the first has those of the second
-abbrev pub AddsOnlyNeeded : ((ℕ → Bool) → Tree → Bool) → Listing → Family → Family → Type 0
-AddsOnlyNeeded truth p old new = (other : Family) → IsClosed truth p other → IsInside old other → IsInside new other
+-- whatever family is closed under the clause and has the rows of the first has those of the second
+abbrev pub AddsOnlyNeeded : ((ℕ → Bool) → Tree → Bool) → Clause → Family → Family → Type 0
+AddsOnlyNeeded truth k old new = (other : Family) → IsClosedUnder truth other k → IsInside old other → IsInside new other
 
 -- the clause gives its head this row
 abbrev pub Gives : ((ℕ → Bool) → Tree → Bool) → List Rows → List Diagram → Clause → (ℕ → Bool) → Type 0

@@ -18,4 +18,4 @@ mod solving;
 pub use clause_lists::{ClauseLists, heads, users};
 pub use grounds::Grounds;
 pub use marks::Marks;
-pub use solving::solve;
+pub use solving::{solve, solve_component};

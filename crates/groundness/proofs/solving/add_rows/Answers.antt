@@ -1,4 +1,4 @@
-use Rattle.std.proofs.Common.{◌≡◌, ◌-◌, ap, refl, slice_set, sym, subst, ◌∙◌}
+use Rattle.std.proofs.Common.{◌≡◌, ap, refl, slice_set, sym, subst, ◌∙◌}
 use Rattle.bool_diagrams.proofs.CallerLemmas.{known_later, keeps_twice}
 use Rattle.cti_terms.specs.declared.clauses.Clause.{Clause}
 use Rattle.termination_model.specs.Grounds.{Family, IsClosedUnder}
@@ -7,6 +7,7 @@ use Rattle.truth_rows.proofs.CallerLemmas.{family_later}
 use Rattle.termination_model.proofs.Lists.{there}
 use Rattle.truth_rows.proofs.SetLaws.{none, ready, atom_there}
 use Rattle.groundness.specs.Marks.{IsApart}
+use Rattle.groundness.specs.Sets.{AddsOnlyNeeded}
 use Rattle.groundness.proofs.SetLaws.{added_apart, added_closed, added_inside, added_less, added_needed, added_others, added_sets}
 use Rattle.groundness.proofs.solving.add_rows.Goals as goal
 
@@ -44,7 +45,11 @@ pub returns-clause-sets : goal.returns-clause-sets
 returns-clause-sets g c = added_sets c.args.p.now c.requires.program c.args.table.now c.args.sets.now c.requires.sets (g.N.Norm.truth c.args.norm.now) c.clause_rows.new.table c.or.new.self c.clause_rows.ensures.keeps c.or.ensures.keeps c.clause-clause.result.now c.clause-clause.ensures.sound c.in_ok-given.given c.in_ok-joined.joined c.in_ok-joined.ensures.known c.in_ok-given.ensures.rows c.in_ok-joined.ensures.rows
 
 pub returns-clause-needed : goal.returns-clause-needed
-returns-clause-needed g c = added_needed c.args.p.now c.requires.program c.args.table.now c.args.sets.now c.requires.sets (g.N.Norm.truth c.args.norm.now) c.clause_rows.new.table c.or.new.self c.clause_rows.ensures.keeps c.or.ensures.keeps c.clause-clause.result.now c.clause-clause.ensures.sound c.in_ok-given.given c.in_ok-joined.joined c.in_ok-joined.ensures.known c.in_ok-given.ensures.rows c.in_ok-joined.ensures.rows (c.args.k - 1) c.clause-clause.ensures.there
+returns-clause-needed g c = λ x at.
+    let f = c.clause-clause.ensures.there in
+    let is : c.clause-clause.result.now ≡ x = cc in
+    subst (λ (y : Clause). AddsOnlyNeeded (g.N.Norm.truth c.args.norm.now) y (family_of c.args.p.now.preds c.args.table.now c.args.sets.now) (family_of c.args.p.now.preds c.or.new.self (slice_set c.args.sets.now c.clause-clause.result.now.head.pred.0 c.in_ok-joined.joined))) is
+    (added_needed c.args.p.now c.requires.program c.args.table.now c.args.sets.now c.requires.sets (g.N.Norm.truth c.args.norm.now) c.clause_rows.new.table c.or.new.self c.clause_rows.ensures.keeps c.or.ensures.keeps c.clause-clause.result.now c.clause-clause.ensures.sound c.in_ok-given.given c.in_ok-joined.joined c.in_ok-joined.ensures.known c.in_ok-given.ensures.rows c.in_ok-joined.ensures.rows)
 
 pub returns-clause-less : goal.returns-clause-less
 returns-clause-less g c = λ grew. added_less c.args.p.now c.requires.program c.args.table.now c.args.sets.now c.requires.sets (g.N.Norm.truth c.args.norm.now) c.clause_rows.new.table c.or.new.self c.clause_rows.ensures.keeps c.or.ensures.keeps c.clause-clause.result.now c.clause-clause.ensures.sound c.in_ok-given.given c.in_ok-joined.joined c.in_ok-joined.ensures.known c.in_ok-given.ensures.rows c.in_ok-joined.ensures.rows
@@ -75,3 +80,7 @@ returns-clause-closed g c = λ k at apart.
     subst (IsClosedUnder (g.N.Norm.truth c.args.norm.now) (family_of c.args.p.now.preds c.or.new.self (slice_set c.args.sets.now c.clause-clause.result.now.head.pred.0 c.in_ok-joined.joined))) is
     (added_apart c.args.p.now c.requires.program c.args.table.now c.args.sets.now c.requires.sets (g.N.Norm.truth c.args.norm.now) c.clause_rows.new.table c.or.new.self c.clause_rows.ensures.keeps c.or.ensures.keeps c.clause-clause.result.now c.clause-clause.ensures.sound c.in_ok-given.given c.in_ok-joined.joined c.in_ok-joined.ensures.known c.in_ok-given.ensures.rows c.in_ok-joined.ensures.rows
     (subst (λ (y : Clause). IsApart y y.head.pred.0) (sym is) (apart refl)))
+
+pub returns-then-same-clause-needed : goal.returns-then-same-clause-needed
+returns-then-same-clause-needed g c = λ x at other closed inside q row t.
+    inside q row (ap (λ (f : Family). f q row) (sym (family_later c.args.p.now.preds c.args.table.now c.or.new.self (keeps_twice _ _ _ c.clause_rows.ensures.keeps c.or.ensures.keeps) c.args.sets.now c.requires.sets.known)) ∙ t)
