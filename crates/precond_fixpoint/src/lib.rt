@@ -23,4 +23,4 @@ mod solving;
 
 pub use mode::Mode;
 pub use preconditions::Preconditions;
-pub use solving::solve_levels;
+pub use solving::{solve_component, solve_levels};

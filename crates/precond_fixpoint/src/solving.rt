@@ -152,7 +152,7 @@ fn solve_each<N: Norm>(
         → IsSolved (N.truth setting.now.norm.now) setting.now.program.now setting.now.comps.now (rows_of setting.now table.old setting.now.grounds.now) setting.now.levels.now table.new sets.new c) }
 {
     for c in 0..setting.comps.count() {
-        solve_component(alloc, setting, table, c, marks, pre, sets, allowed)?;
+        solve_in(alloc, setting, table, c, marks, pre, sets, allowed)?;
     }
     Ok(())
 }
@@ -161,7 +161,7 @@ fn solve_each<N: Norm>(
 //
 // `sets` and `allowed` are those of the components that it calls; the places of other predicates stay. `pre` has a set for
 // each predicate, and is used for the members' sets of one mapping at a time.
-fn solve_component<N: Norm>(
+fn solve_in<N: Norm>(
     alloc: Global,
     setting: &Setting<N>,
     table: &mut Table,
@@ -204,4 +204,51 @@ fn solve_component<N: Norm>(
         allowed,
     )?;
     Ok(())
+}
+
+/// Puts into the places of a component's members its greatest preconditions for each of its mappings, and what these allow.
+///
+/// `sets` and `allowed` are those of the components that it calls, `grounds` and `levels` its members' too. The places of
+/// other predicates stay. Out of memory, the table keeps its earlier diagrams.
+pub fn solve_component<N: Norm>(
+    alloc: Global,
+    p: &Program,
+    comps: &Components,
+    c: u32,
+    norm: &N,
+    table: &mut Table,
+    grounds: &[Diagram],
+    levels: &[Sequence<LevelPart>],
+    sets: &mut [Sequence<Diagram>],
+    allowed: &mut [Diagram],
+) -> Result<(), AllocError>
+    requires components { AreComponents p.now comps.now }
+    requires inner { c < length comps.now.members }
+    requires grounds { AreSets p.now.preds table.old grounds.now }
+    requires levels { AreLevels p.now comps.now levels.now }
+    requires sets { AreMappingSets p.now.preds table.old sets.old }
+    requires allowed { AreUnions p.now.preds table.old sets.old allowed.old }
+    ensures keeps { Keeps table.old table.new }
+    ensures sets { OnOk result (AreMappingSets p.now.preds table.new sets.new) }
+    ensures allowed { OnOk result (AreUnions p.now.preds table.new sets.new allowed.new) }
+    ensures solved { OnOk result (IsSolved (N.truth norm.now) p.now comps.now (family_of p.now.preds table.old grounds.now) levels.now table.new sets.new c) }
+    ensures others { OnOk result ((q : ℕ) → (IsIn comps.now c q → ⊥) → slice_get sets.new q ≡ slice_get sets.old q) }
+{
+    let _program = p.preds();
+    let ranks = component_ranks(alloc, p, comps)?;
+    let heads = heads(alloc, p)?;
+    let users = users(alloc, p)?;
+    let setting = Setting {
+        program: p,
+        comps,
+        norm,
+        ranks: &ranks,
+        heads: &heads,
+        users: &users,
+        grounds,
+        levels,
+    };
+    let mut marks = Marks::none(alloc, p.clauses())?;
+    let mut pre = Vec::from_slice(alloc, allowed)?;
+    solve_in(alloc, &setting, table, c, &mut marks, &mut pre, sets, allowed)
 }
