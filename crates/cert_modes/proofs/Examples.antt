@@ -7,6 +7,7 @@ use Rattle.bool_diagrams.specs.declared.cube.Cell.TheVariants.{Zero, One, Any}
 use Rattle.call_components.specs.Partition.{Partition}
 use Rattle.number_tests.specs.declared.level_part.LevelPart.{LevelPart}
 use Rattle.cert_structure.specs.declared.parts.Parts.{Parts}
+use Rattle.cti_terms.specs.Arithmetic.{no_arithmetic}
 use Rattle.cti_terms.specs.Listing.{Listing}
 use Rattle.cti_terms.specs.Tree.{Tree, Variable, Compound, End, More, truth}
 use Rattle.cti_terms.specs.declared.atom_list.Atom.{Atom}
@@ -29,6 +30,7 @@ append = record {
         vars = 4;
       }
       ∷ [];
+  arithmetic = no_arithmetic;
 }
 
 -- one component, which is recursive

@@ -8,6 +8,7 @@ use Rattle.certificate.specs.declared.cell.CertCell.TheVariants as cell
 use Rattle.certificate.specs.declared.pred_text.PredText.{PredText}
 use Rattle.certificate.specs.declared.fact.Fact.{Fact}
 use Rattle.certificate.specs.declared.fact.Fact.TheVariants as fact
+use Rattle.cti_terms.specs.Arithmetic.{no_arithmetic}
 use Rattle.cti_terms.specs.Listing.{Listing, numbered}
 use Rattle.linear_rows.specs.declared.multipliers.Multipliers.{Multipliers}
 use Rattle.linear_rows.specs.declared.row.Row.{Row}
@@ -104,7 +105,7 @@ a_note = refl
 
 -- p/0 without clauses has one mapping, since it does not call itself
 abbrev alone : Listing
-alone = record { preds = record { name = record { 0 = 0 }; arity = 0 } ∷ []; clauses = [] }
+alone = record { preds = record { name = record { 0 = 0 }; arity = 0 } ∷ []; clauses = []; arithmetic = no_arithmetic }
 
 abbrev calls_nothing : Partition
 calls_nothing = record { of = 0 ∷ []; members = (0 ∷ []) ∷ []; recursive = false ∷ [] }

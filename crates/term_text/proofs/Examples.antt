@@ -3,6 +3,7 @@ use Rattle.std.proofs.Common.{◌≡◌, ℕ, List, [], ◌∷◌, ◌++◌, cod
 use Rattle.std.specs.Prelude.{pos, neg_ℤ}
 use Rattle.std.specs.Fmt.{digits}
 use Rattle.cti_terms.specs.Tree.{Tree, Variable, Integer, Compound, End, More}
+use Rattle.cti_terms.specs.Arithmetic.{no_arithmetic}
 use Rattle.cti_terms.specs.Listing.{Listing}
 use Rattle.cti_terms.specs.declared.atom_list.Atom.{Atom}
 use Rattle.ld_resolver.specs.declared.answer.Answer.TheVariants.{Atoms, Large}
@@ -36,7 +37,7 @@ functional_term = refl
 
 -- the lines of a run
 abbrev program : Listing
-program = record { preds = record { name = record { 0 = 0 }; arity = 1 } ∷ []; clauses = [] }
+program = record { preds = record { name = record { 0 = 0 }; arity = 1 } ∷ []; clauses = []; arithmetic = no_arithmetic }
 
 abbrev atom : Tree → Atom
 atom t = record { pred = record { 0 = 0 }; args = t ∷ [] }

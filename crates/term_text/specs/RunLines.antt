@@ -10,7 +10,7 @@ use Rattle.cti_terms.specs.declared.predicates.Pred.{Pred}
 use Rattle.ld_resolver.specs.declared.answer.Answer.{Answer}
 use Rattle.ld_resolver.specs.declared.answer.Answer.TheVariants.{Atoms, Large}
 use Rattle.ld_resolver.specs.declared.running.Ending.{Ending}
-use Rattle.ld_resolver.specs.declared.running.Ending.TheVariants.{Finished, Stopped}
+use Rattle.ld_resolver.specs.declared.running.Ending.TheVariants.{Finished, Overflow, Stopped}
 use Rattle.term_text.specs.Spelling.{name_of, compound, all_spelled}
 
 -- the name of the predicate with this number; past the end it is the first name
@@ -35,6 +35,7 @@ answer_line names preds Large = codes "answer(large).\n"
 abbrev pub ending_word : Ending → List ℕ
 ending_word Finished = codes "finished"
 ending_word Stopped = codes "stopped"
+ending_word Overflow = codes "overflow"
 
 -- the last line
 abbrev pub ran_line : ℕ → ℕ → Ending → List ℕ

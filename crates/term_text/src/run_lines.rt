@@ -116,6 +116,7 @@ fn ending_word(ending: Ending) -> &'static [u8]
     match ending {
         Ending::Finished => b"finished",
         Ending::Stopped => b"stopped",
+        Ending::Overflow => b"overflow",
     }
 }
 
