@@ -44,13 +44,19 @@ module _ (truth : (ℕ → Bool) → Tree → Bool) (p : Listing) (comps : Parti
       λ none.
           let at : (q : ℕ) → PredHolds truth p comps parts q = λ q. subst (MarkTells truth p comps parts q) (none q) (told q) in
           record {
-            closed = from_places (IsClosedUnder truth (modes.grounds_of p parts)) p.clauses (λ k c e. (at c.head.pred.0).closed k c e refl);
+            closed = record {
+              clauses = from_places (IsClosedUnder truth (modes.grounds_of p parts)) p.clauses (λ k c e. (at c.head.pred.0).closed.clauses k c e refl);
+              builtins = λ q b is. (at q).closed.builtin b is;
+            };
             covered = λ m q row. (at q).keeps.covered m row;
             rule = λ m. from_places (KeepsRule truth p comps parts m) p.clauses (λ k c e. (at c.head.pred.0).keeps.rule m k c e refl);
             modes = λ q. (at q).modes;
           },
       λ hold q. none_where q (mark_at marks q) (told q) (record {
-        closed = λ k c e same. by_places (IsClosedUnder truth (modes.grounds_of p parts)) p.clauses hold.closed k c e;
+        closed = record {
+          clauses = λ k c e same. by_places (IsClosedUnder truth (modes.grounds_of p parts)) p.clauses hold.closed.clauses k c e;
+          builtin = λ b is. hold.closed.builtins q b is;
+        };
         keeps = record {
           covered = λ m row. hold.covered m q row;
           rule = λ m k c e same. by_places (KeepsRule truth p comps parts m) p.clauses (hold.rule m) k c e;

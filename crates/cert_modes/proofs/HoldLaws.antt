@@ -24,7 +24,7 @@ use Rattle.cti_terms.specs.declared.predicates.Pred.{Pred}
 use Rattle.termination_model.specs.Descent.{mode_row}
 use Rattle.termination_model.specs.Grounds.{Family, IsClosedUnder}
 use Rattle.termination_model.specs.Rows.{Covers}
-use Rattle.cert_modes.specs.Failing.{Admits, Closes, KeepsRule, OfPred}
+use Rattle.cert_modes.specs.Failing.{Admits, Closes, ClosesIn, KeepsRule, OfPred}
 use Rattle.cert_modes.specs.Modes.{allowed, coefficients_of, grounds_of, naturals, precondition}
 use Rattle.cert_modes.specs.Sets.{AreCovered, AreReady, HaveLevels, KeepsEach, SpellParts, mapping_family}
 use Rattle.cert_modes.specs.declared.sets.Sets.{Sets}
@@ -68,9 +68,9 @@ module _ (truth : (ℕ → Bool) → Tree → Bool) (p : Listing) (program : IsP
         reads = R.preconditions.reads q;
       }
 
-  -- the clauses of a predicate
-  pub closed_at : (q : ℕ) → OfPred p q (IsClosedUnder truth (family_of p.preds T sets.grounds.items)) ↔ Closes truth p comps parts q
-  closed_at q = (λ h. subst (λ (f : Family). OfPred p q (IsClosedUnder truth f)) S.grounds h, λ h. subst (λ (f : Family). OfPred p q (IsClosedUnder truth f)) (sym S.grounds) h)
+  -- the ground rows of a predicate
+  pub closed_at : (q : ℕ) → ClosesIn truth p (family_of p.preds T sets.grounds.items) q ↔ Closes truth p comps parts q
+  closed_at q = (λ h. subst (λ (f : Family). ClosesIn truth p f q) S.grounds h, λ h. subst (λ (f : Family). ClosesIn truth p f q) (sym S.grounds) h)
 
   -- rows that are covered
   pub covered_at : (T2 : List Rows) → Keeps T T2 → (q : ℕ)

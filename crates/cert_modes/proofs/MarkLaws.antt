@@ -40,6 +40,13 @@ pub marked_same : {H K : Type 0} → {r : ModeReason} → {old new : Option Mode
 marked_same (kept h e) iff = kept (iff.0 h) e
 marked_same (marked never e) iff = marked (λ h. never (iff.1 h)) e
 
+-- two tests for one reason, one after the other
+pub marked_both : {H K : Type 0} → {r : ModeReason} → {old mid new : Option ModeReason} → IsMarked H r old mid → IsMarked K r mid new → IsMarked (H × K) r old new
+marked_both (kept h e) (kept k f) = kept (h, k) (f ∙ e)
+marked_both {H = H} {K = K} {r = r} (kept h e) (marked never f) = marked (λ (both : H × K). never both.1) (f ∙ ap (λ (m : Option ModeReason). noted m false r) e)
+marked_both {H = H} {K = K} (marked never e) (kept k f) = marked (λ (both : H × K). never both.0) (f ∙ e)
+marked_both {H = H} {K = K} {r = r} {old = old} (marked never e) (marked other f) = marked (λ (both : H × K). never both.0) (f ∙ ap (λ (m : Option ModeReason). noted m false r) e ∙ twice old r)
+
 module _ (Q : ℕ → ℕ → Type 0) (n pred : ℕ) (r : ModeReason) (old mid new : List (Option ModeReason)) where
   -- one more of the tests, where it holds
   holds_more : (q : ℕ) → Q n q → mark_at new q ≡ mark_at mid q → IsMarked ((j : ℕ) → j < n → Q j q) r (mark_at old q) (mark_at mid q)

@@ -2,14 +2,16 @@
 -- Why the modes of a predicate fail: for the first of three reasons.
 --
 -- To believe: all of this file. Predicates, mappings and clauses are numbered from 0 here.
-use Rattle.std.specs.Prelude.{◌≡◌, ℕ, ◌+◌, ◌<◌, Bool, IsTrue, List, length, slice_get, Some}
+use Rattle.std.specs.Prelude.{◌≡◌, ℕ, ◌+◌, ◌<◌, Bool, true, IsTrue, List, [], ◌∷◌, length, slice_get, Some}
 use Rattle.std.specs.List.{AllByRecursion}
 use Rattle.call_components.specs.Partition.{Partition}
+use Rattle.cti_terms.specs.Arithmetic.{kind_of}
 use Rattle.cti_terms.specs.Listing.{Listing}
 use Rattle.cti_terms.specs.Tree.{Tree}
+use Rattle.cti_terms.specs.declared.builtins.Builtin.{Builtin}
 use Rattle.cti_terms.specs.declared.clauses.Clause.{Clause}
 use Rattle.termination_model.specs.Descent.{mode_row}
-use Rattle.termination_model.specs.Grounds.{IsClosedUnder}
+use Rattle.termination_model.specs.Grounds.{Family, IsClosedUnder}
 use Rattle.termination_model.specs.Rows.{Covers}
 use Rattle.truth_rows.specs.Rules.{KeepsSets}
 use Rattle.std.specs.Io.Iter.{u64_saturate}
@@ -24,10 +26,15 @@ use Rattle.cert_modes.specs.declared.fault.ModeReason.TheVariants as reason
 abbrev pub OfPred : Listing → ℕ → (Clause → Type 0) → Type 0
 OfPred p q P = (k : ℕ) (c : Clause) → slice_get p.clauses k ≡ Some c → c.head.pred.0 ≡ q → P c
 
+-- a family is closed under the clauses of a predicate, and has its row of two rigid arguments where it is built in
+pub record ClosesIn (truth : (ℕ → Bool) → Tree → Bool) (p : Listing) (family : Family) (q : ℕ) : Type 0 where
+  pub clauses : OfPred p q (IsClosedUnder truth family)
+  pub builtin : (b : Builtin) → kind_of p.arithmetic q ≡ Some b → IsTrue (family q (true ∷ (true ∷ [])))
+
 module _ (truth : (ℕ → Bool) → Tree → Bool) (p : Listing) (comps : Partition) (parts : Parts) where
-  -- the ground rows are closed under the clauses of a predicate
+  -- so are the ground rows
   abbrev pub Closes : ℕ → Type 0
-  Closes q = OfPred p q (IsClosedUnder truth (grounds_of p parts))
+  Closes q = ClosesIn truth p (grounds_of p parts) q
 
   -- a clause keeps the rule of preconditions in the mapping of this number
   abbrev pub KeepsRule : ℕ → Clause → Type 0

@@ -7,12 +7,11 @@ use Rattle.bool_diagrams.specs.Cubes.{truth_rows}
 use Rattle.bool_diagrams.specs.declared.diagram.Diagram.{Diagram}
 use Rattle.cert_structure.specs.Shape.{arity_in, items_of}
 use Rattle.number_tests.specs.declared.level_part.LevelPart.{LevelPart}
-use Rattle.cert_modes.specs.Failing.{OfPred}
+use Rattle.cert_modes.specs.Failing.{ClosesIn}
 use Rattle.cert_modes.specs.Marks.{IsMarked, mark_at}
 use Rattle.cert_modes.specs.Sets.{AreCovered, HaveLevels}
 use Rattle.cert_modes.specs.declared.fault.ModeReason.TheVariants as reason
 use Rattle.termination_model.specs.Descent.{mode_row}
-use Rattle.termination_model.specs.Grounds.{IsClosedUnder}
 use Rattle.cert_modes.proofs.CoverLaws.{levels_later}
 use Rattle.cert_modes.proofs.FirstLaws.{tells}
 use Rattle.cert_modes.proofs.HoldLaws.{closed_at, covered_at, levels_of, modes_at, rule_at}
@@ -57,7 +56,7 @@ returns-clause-told g c = λ q.
     let covered = covered_at truth p sound comps c.requires.components parts c.requires.shape first sets ready spell c.mark_open.new.table one q in
     let rule = rule_at truth p sound comps c.requires.components parts c.requires.shape first sets ready spell c.mark_uncovered.new.table two c.as_slice-2.result.now (c.as_slice-2.ensures.value ∙ c.in_ok-ranks.ensures) q in
     let modes = modes_at truth p sound comps c.requires.components parts c.requires.shape first sets ready spell c.mark_broken.new.table three q in
-    let opened = subst (λ (ds : List Diagram). IsMarked (OfPred p q (IsClosedUnder truth (family_of p.preds first ds))) reason.Ground (mark_at c.in_ok-marks.marks q) (mark_at c.mark_open.new.marks q)) c.as_slice.ensures.value (c.in_ok-mark_open.ensures.closed q) in
+    let opened = subst (λ (ds : List Diagram). IsMarked (ClosesIn truth p (family_of p.preds first ds) q) reason.Ground (mark_at c.in_ok-marks.marks q) (mark_at c.mark_open.new.marks q)) c.as_slice.ensures.value (c.in_ok-mark_open.ensures.closed q) in
     let uncovered = subst (λ (ls : List (List LevelPart)). IsMarked (q < length p.preds → AreCovered c.mark_open.new.table (items_of ls q) (items_of sets.preconditions q)) reason.Precondition
     (mark_at c.mark_open.new.marks q) (mark_at c.mark_uncovered.new.marks q)) c.as_slice-levels.ensures
     (subst (λ (ds : List (List Diagram)). IsMarked (q < length p.preds → AreCovered c.mark_open.new.table (items_of c.as_slice-levels.result.now q) (items_of ds q)) reason.Precondition

@@ -1,11 +1,11 @@
 use Rattle.termination_model.proofs.Lists.{one_element, place_below}
-use Rattle.std.proofs.Common.{◌≡◌, ◌↔◌, ◌∙◌, ◌+◌, ◌-◌, ℕ, IsTrue, slice_get, Some, ap, sym, subst, arith}
-use Rattle.truth_rows.proofs.CallerLemmas.{family_later}
+use Rattle.std.proofs.Common.{◌≡◌, ◌↔◌, ◌∙◌, ◌+◌, ◌-◌, ℕ, true, IsTrue, [], ◌∷◌, slice_get, Some, ap, sym, subst, arith}
+use Rattle.truth_rows.proofs.CallerLemmas.{family_later, sets_later}
 use Rattle.truth_rows.specs.Sets.{family_of}
 use Rattle.bool_diagrams.proofs.CallerLemmas.{keeps_twice}
 use Rattle.cti_terms.specs.declared.clauses.Clause.{Clause}
 use Rattle.cert_modes.specs.declared.fault.ModeReason.TheVariants as reason
-use Rattle.cert_modes.proofs.MarkLaws.{at_one, marked_same, note_more}
+use Rattle.cert_modes.proofs.MarkLaws.{at_one, marked_both, marked_same, note_more}
 use Rattle.termination_model.specs.Grounds.{Family, IsClosedUnder}
 use Rattle.cert_modes.proofs.closing.mark_open.Goals as goal
 
@@ -29,10 +29,17 @@ loop-k-preserved g c =
           (λ q other k e same. absurd (other (sym same ∙ ap (λ (x : Clause). x.head.pred.0) (one_element p.clauses n k c.clause.result.now e at)))) c.note.ensures.at c.note.ensures.others;
     }
 
+pub mark_unstated-requires-clause-sets : goal.mark_unstated-requires-clause-sets
+mark_unstated-requires-clause-sets g c = sets_later c.args.p.now.preds c.args.table.now c.loop-k.table c.loop-k.invariant.keeps c.args.sets.now c.requires.sets
+
 pub returns-clause-closed : goal.returns-clause-closed
 returns-clause-closed g c = λ q.
     let p = c.args.p.now in
-    marked_same (c.loop-k.invariant.closed q) (
-      λ h k x e same. h k (omega (arith, place_below p.clauses k x e, c.loop-k-test.false, c.clauses-k-end.ensures.count, c.loop-k.auto.k-end)) x e same,
-      λ h k lt x e same. h k x e same,
+    let later = family_later p.preds c.args.table.now c.loop-k.table c.loop-k.invariant.keeps c.args.sets.now c.requires.sets.known in
+    marked_same (marked_both (c.loop-k.invariant.closed q) (c.mark_unstated.ensures.stated q)) (
+      λ h. record {
+        clauses = λ k x e same. h.0 k (omega (arith, place_below p.clauses k x e, c.loop-k-test.false, c.clauses-k-end.ensures.count, c.loop-k.auto.k-end)) x e same;
+        builtin = λ b is. subst (λ (f : Family). IsTrue (f q (true ∷ (true ∷ [])))) later (h.1 b is);
+      },
+      λ h. (λ k lt x e same. h.clauses k x e same, λ b is. subst (λ (f : Family). IsTrue (f q (true ∷ (true ∷ [])))) (sym later) (h.builtin b is)),
     )
