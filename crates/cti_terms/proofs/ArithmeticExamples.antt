@@ -1,19 +1,18 @@
 -- Worked examples: built-in predicates, evaluated.
 --
 -- Names by number: 0 is `[]`, 1 is `'.'`, 2 is `a`, 3 is `b`, 6 is `+`, 7 is `-`, 8 is `*`. Variables by number: 0 is N.
-use Rattle.std.proofs.Common.{◌≡◌, ℕ, ◌^◌, ◌-◌, ℤ, pos, negsuc, true, false, List, [], ◌∷◌, length, Option, Some, None, refl}
+use Rattle.std.proofs.Common.{◌≡◌, ℕ, ◌^◌, ◌-◌, pos, negsuc, true, false, [], ◌∷◌, length, Some, None, refl}
 use Rattle.cti_terms.specs.Tree.{Tree, Variable, Integer, Compound, trees}
 use Rattle.cti_terms.specs.declared.atom_list.Atom.{Atom}
 use Rattle.cti_terms.specs.declared.builtins.Arith.{Arith}
-use Rattle.cti_terms.specs.declared.builtins.Builtin.{Builtin}
-use Rattle.cti_terms.specs.declared.builtins.Builtin.TheVariants.{Is, Equal, Less}
+use Rattle.cti_terms.specs.declared.builtins.Builtin.TheVariants.{Is, Equal}
 use Rattle.cti_terms.specs.declared.clauses.Clause.{Clause}
 use Rattle.cti_terms.specs.declared.derivation.Goal.{Goal}
-use Rattle.cti_terms.specs.Arithmetic.{Arithmetic, value, has_wide, succeeds, begins_wide}
+use Rattle.cti_terms.specs.Arithmetic.{Arithmetic, value, has_wide}
 use Rattle.cti_terms.specs.Listing.{Listing}
 use Rattle.cti_terms.specs.Derive.{query}
 use Rattle.cti_terms.specs.Nodes.{first_nodes, longest}
-use Rattle.cti_terms.specs.Answers.{answers, visited, visited_nodes, leaves_wide, HasWide}
+use Rattle.cti_terms.specs.Answers.{answers, visited_nodes, leaves_wide, HasWide}
 
 abbrev nil : Tree
 nil = Compound 0 (trees [])

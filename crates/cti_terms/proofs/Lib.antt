@@ -1,6 +1,9 @@
 mod ArithmeticExamples
+pub mod BelowLaws
 pub mod Bounds
 mod Examples
+pub mod Lifting
+pub mod MostGeneral
 pub mod OneAnswer
 pub mod Places
 pub mod ResolveLaws

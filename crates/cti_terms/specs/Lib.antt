@@ -1,10 +1,13 @@
 pub mod Answers
 pub mod Arithmetic
+pub mod Below
 pub mod Codes
 pub mod Coding
 pub mod Derive
+pub mod Lifts
 pub mod Listing
 pub mod ListingCode
+pub mod MostGeneral
 pub mod Nodes
 pub mod Numbers
 pub mod ResolutionStep

@@ -1,11 +1,13 @@
 //! Laws of the definitions. Each is a function that does nothing, and whose clauses are proved.
 
-ghost use Rattle.std.specs.Prelude.{◌≡◌, ◌<◌, ℕ, suc, ◌↔◌, List, [], ◌∷◌, None, Some, length};
+ghost use Rattle.std.specs.Prelude.{◌≡◌, ◌≤◌, ◌<◌, ℕ, suc, ◌↔◌, List, [], ◌∷◌, None, Some, length, map};
 ghost use Rattle.std.specs.List.{AllByRecursion};
 ghost use Rattle.cti_terms.specs.Tree.{Tree, Variable, instance};
 ghost use Rattle.cti_terms.specs.Unify.{Equation, Binding, Unifies, applied};
 ghost use Rattle.cti_terms.specs.UnifyFunction.{unify};
-ghost use Rattle.cti_terms.specs.Resolve.{resolve};
+ghost use Rattle.cti_terms.specs.MostGeneral.{IsMostGeneral, Solves};
+ghost use Rattle.cti_terms.specs.Lifts.{IsGoalOf, IsMoreGeneral, left_after};
+ghost use Rattle.cti_terms.specs.Resolve.{over, resolve};
 ghost use Rattle.cti_terms.specs.ResolutionStep.{Resolves};
 ghost use Rattle.cti_terms.specs.Derive.{query, IsDerivation, Bounded};
 ghost use Rattle.cti_terms.specs.Arithmetic.{kind_of};
@@ -24,6 +26,14 @@ pub fn unification_is_a_function()
     ensures unifies { (es : List Equation) (bs : List Binding) → Unifies es bs
         → AllByRecursion (λ (e : Equation). applied bs e.0 ≡ applied bs e.1) es }
     ensures substitution { (bs : List Binding) (t : Tree) → applied bs t ≡ instance (λ x. applied bs (Variable x)) t }
+{}
+
+/// The unifier is most general, and equations that some substitution solves have one.
+///
+/// So a head that could be unified with an atom is: a goal is not bounded because unification failed too often.
+pub fn the_unifier_is_most_general()
+    ensures found { (es : List Equation) (a : ℕ → Tree) → Solves a es → (bs : List Binding) × (unify es ≡ Some bs) }
+    ensures general { (es : List Equation) (bs : List Binding) → unify es ≡ Some bs → IsMostGeneral es bs }
 {}
 
 /// Resolution is a function of the program, the goal and the clause's number.
@@ -54,4 +64,14 @@ pub fn facts_are_bounded()
     ensures short { (p : Listing) (a : Atom) (n : ℕ) (ks : List ℕ)
         → AllByRecursion IsFact p.clauses → IsDerivation p (query a n) ks → length ks < 2 }
     ensures bounded { (p : Listing) (a : Atom) (n : ℕ) → AllByRecursion IsFact p.clauses → Bounded p (query a n) }
+{}
+
+/// A derivation by clauses from an atom lifts to each more general atom, and what it leaves there is more general too.
+///
+/// The atoms' counters may be any, but that of the more general one is above its variables. A step by a built-in atom does
+/// not lift, since a more general atom may have no value.
+pub fn derivations_lift()
+    ensures { (p : Listing) (a b : Atom) (n m : ℕ) (ks : List ℕ) (h : Goal) → IsProgram p → AllByRecursion (λ (i : ℕ). 1 ≤ i) ks
+        → IsMoreGeneral b a → IsGoalOf p (query b m) → left_after p (query a n) ks ≡ Some h
+        → (l : Goal) × (left_after p (query b m) ks ≡ Some l) × (s : ℕ → Tree) × (h.atoms ≡ map (over (instance s)) l.atoms) }
 {}

@@ -1,8 +1,8 @@
-use Rattle.std.proofs.Common.{◌≡◌, ◌≢◌, ◌++◌, ◌∷◌, [], List, Contains, length, refl, ap, sym, subst, ◌∙◌, arith}
+use Rattle.std.proofs.Common.{◌≡◌, ◌≢◌, ◌++◌, ◌∷◌, [], List, Contains, length, refl, ap, subst, ◌∙◌, arith}
 use Rattle.std.proofs.lemmas.Map.Made.{AllPairs-from_IsDistinct}
 use Rattle.std.specs.List.{AllPairs}
 use Rattle.cti_terms.specs.declared.predicates.Pred.{Pred}
-use Rattle.cti_terms.specs.Listing.{Listing, with_pred, IsProgram}
+use Rattle.cti_terms.specs.Listing.{Listing, with_pred}
 use Rattle.cti_terms.proofs.Wider.{pred_decides, pred_new, program_with_builtin}
 use Rattle.cti_terms.proofs.listing.Program.add_builtin.Goals as goal
 
