@@ -17,3 +17,5 @@ pub mod SolveLemmas
 pub mod SparseLemmas
 pub mod Crowds
 pub mod MarkLemmas
+pub mod SmallLemmas
+pub mod WalkLemmas

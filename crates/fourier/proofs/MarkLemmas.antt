@@ -1,10 +1,13 @@
 -- Marks of rows.
-use Rattle.std.proofs.Common.{◌≡◌, ℕ, zero, suc, ℤ, List, [], ◌∷◌, ◌++◌, Bool, true, false, not, map, take, drop, remove, get_or, length, ◌<◌, refl, sym, ap, ◌∙◌, arith}
+use Rattle.std.proofs.Common.{◌≡◌, ℕ, zero, suc, ℤ, pos, negsuc, List, [], ◌∷◌, ◌++◌, Bool, true, false, not, map, take, drop, remove, get_or, length, ◌<◌, ◌+◌, ◌*◌, ◌%◌, refl, sym, ap, ◌∙◌, arith}
+use Rattle.std.specs.Prelude.{neg_ℤ, unsigned_abs}
 use Rattle.std.proofs.lemmas.Bool.{and_parts}
 use Rattle.std.proofs.lemmas.List.{take-map, drop-map, map-append}
 use Rattle.exact128.specs.Sums.{entry}
 use Rattle.linear_rows.specs.Cleaning.{agree, int_same}
+use Rattle.linear_rows.specs.Equation.{negates}
 use Rattle.linear_rows.proofs.Cleanings.{agree_at}
+use Rattle.linear_rows.proofs.Equations.{negates_at}
 use Rattle.fourier.specs.Marks.{mark_of, mixed}
 
 -- rows that agree have the same mark
@@ -15,6 +18,26 @@ same_mark (suc m) r s h =
     let a = same_mark m r s more in
     let b = agree_at (suc m) r s (suc m) h (omega arith) (omega arith) in
     λ i. mixed (a i) (b i)
+
+abs_neg : (x : ℤ) → unsigned_abs (neg_ℤ x) ≡ unsigned_abs x
+abs_neg (pos zero) = refl
+abs_neg (pos (suc n)) = refl
+abs_neg (negsuc n) = refl
+
+-- and so has a row negated
+pub negated_mark : (m n : ℕ) (r s : List ℤ) → m < n → negates n r s ≡ true → mark_of m s ≡ mark_of m r
+negated_mark zero n r s l h = refl
+negated_mark (suc m) n r s l h =
+    let a = negated_mark m n r s (omega arith) h in
+    let b : unsigned_abs (entry s (suc m)) ≡ unsigned_abs (entry r (suc m)) = ap unsigned_abs (negates_at n r s (suc m) h l) ∙ abs_neg (entry r (suc m)) in
+    λ i. (a i * 1000003 + b i) % 2147483647
+
+-- a mark with one number more
+pub marked_next : (row : List ℤ) (j mark next : ℕ) (x : ℤ) → mark ≡ mark_of j row → x ≡ entry row (j + 1) → next ≡ mixed mark x → next ≡ mark_of (j + 1) row
+marked_next row j mark next x em ex en =
+    let one : j + 1 ≡ suc j = omega arith in
+    let here : x ≡ entry row (suc j) = ex ∙ ap (entry row) one in
+    en ∙ ap (λ m. mixed m x) em ∙ ap (mixed (mark_of j row)) here ∙ ap (λ n. mark_of n row) (sym one)
 
 pub not_false : (b : Bool) → not b ≡ false → b ≡ true
 not_false true h = refl

@@ -1,6 +1,7 @@
 -- Lists of numbers after zeros, a part at a time.
 use Rattle.std.proofs.Common.{◌≡◌, ℕ, zero, suc, ℤ, pos, List, [], ◌∷◌, ◌++◌, ◌+◌, ◌-◌, ◌<◌, ◌≤◌, ◌+ℤ◌, ◌*ℤ◌, Bool, true, false, map, drop, length, get_or, refl, sym, ap, ◌∙◌, arith, append_assoc, length-append}
 use Rattle.std.specs.Prelude.{◌&&◌, unsigned_abs}
+use Rattle.std.specs.Cmp.Derive.{both_true}
 use Rattle.std.proofs.Math.Seq.{drop-cons}
 use Rattle.std.proofs.lemmas.Int.{ints}
 use Rattle.std.proofs.lemmas.List.{append-nil, get_or_default}
@@ -132,27 +133,27 @@ pub entry_past : (parts : List Part) (tail i left : ℕ) (all : ℤ) → length 
 entry_past parts tail i left all h is = sym (ap (λ xs. entry (spread xs tail) left) (drop-all i parts h) ∙ entry-zeros tail left) ∙ is
 
 -- ---- tests of all numbers
-all_zeros : (n : ℕ) → all_of fits (zeros n) ≡ true
-all_zeros zero = refl
-all_zeros (suc n) = all_zeros n
+all_zeros : (t : ℤ → Bool) (n : ℕ) → t (pos 0) ≡ true → all_of t (zeros n) ≡ true
+all_zeros t zero z = refl
+all_zeros t (suc n) z = both_true z (all_zeros t n z)
 
-all_behind : (n : ℕ) (rest : List ℤ) → all_of fits (zeros n ++ rest) ≡ all_of fits rest
-all_behind zero rest = refl
-all_behind (suc n) rest = all_behind n rest
+all_behind : (t : ℤ → Bool) (n : ℕ) (rest : List ℤ) → t (pos 0) ≡ true → all_of t (zeros n ++ rest) ≡ all_of t rest
+all_behind t zero rest z = refl
+all_behind t (suc n) rest z = ap (λ b. b && all_of t (zeros n ++ rest)) z ∙ all_behind t n rest z
 
-fit_here : (parts : List Part) (tail i : ℕ) (x : Part) → i < length parts → x ≡ get_or parts i x → all_of fits (spread (drop i parts) tail) ≡ (fits x.number && all_of fits (spread (drop (suc i) parts) tail))
-fit_here parts tail i x h e = ap (all_of fits) (here_is parts tail i x h e) ∙ all_behind x.zeros (x.number ∷ spread (drop (suc i) parts) tail)
+passes_here : (t : ℤ → Bool) (parts : List Part) (tail i : ℕ) (x : Part) → t (pos 0) ≡ true → i < length parts → x ≡ get_or parts i x → all_of t (spread (drop i parts) tail) ≡ (t x.number && all_of t (spread (drop (suc i) parts) tail))
+passes_here t parts tail i x z h e = ap (all_of t) (here_is parts tail i x h e) ∙ all_behind t x.zeros (x.number ∷ spread (drop (suc i) parts) tail) z
 
-pub fit_goes_on : (parts : List Part) (tail i : ℕ) (x : Part) (all : Bool) → i < length parts → x ≡ get_or parts i x → all_of fits (spread (drop i parts) tail) ≡ all → fits x.number ≡ true → all_of fits (spread (drop (i + 1) parts) tail) ≡ all
-fit_goes_on parts tail i x all h e is t =
+pub test_goes_on : (t : ℤ → Bool) (parts : List Part) (tail i : ℕ) (x : Part) (all : Bool) → t (pos 0) ≡ true → i < length parts → x ≡ get_or parts i x → all_of t (spread (drop i parts) tail) ≡ all → t x.number ≡ true → all_of t (spread (drop (i + 1) parts) tail) ≡ all
+test_goes_on t parts tail i x all z h e is passes =
     let one : i + 1 ≡ suc i = omega arith in
-    rw one (sym (fit_here parts tail i x h e ∙ ap (λ b. b && all_of fits (spread (drop (suc i) parts) tail)) t) ∙ is)
+    rw one (sym (passes_here t parts tail i x z h e ∙ ap (λ b. b && all_of t (spread (drop (suc i) parts) tail)) passes) ∙ is)
 
-pub fit_stops : (parts : List Part) (tail i : ℕ) (x : Part) (all : Bool) → i < length parts → x ≡ get_or parts i x → all_of fits (spread (drop i parts) tail) ≡ all → fits x.number ≡ false → false ≡ all
-fit_stops parts tail i x all h e is t = sym (fit_here parts tail i x h e ∙ ap (λ b. b && all_of fits (spread (drop (suc i) parts) tail)) t) ∙ is
+pub test_stops : (t : ℤ → Bool) (parts : List Part) (tail i : ℕ) (x : Part) (all : Bool) → t (pos 0) ≡ true → i < length parts → x ≡ get_or parts i x → all_of t (spread (drop i parts) tail) ≡ all → t x.number ≡ false → false ≡ all
+test_stops t parts tail i x all z h e is fails = sym (passes_here t parts tail i x z h e ∙ ap (λ b. b && all_of t (spread (drop (suc i) parts) tail)) fails) ∙ is
 
-pub fit_ends : (parts : List Part) (tail i : ℕ) (all : Bool) → length parts ≤ i → all_of fits (spread (drop i parts) tail) ≡ all → true ≡ all
-fit_ends parts tail i all h is = sym (ap (λ xs. all_of fits (spread xs tail)) (drop-all i parts h) ∙ all_zeros tail) ∙ is
+pub test_ends : (t : ℤ → Bool) (parts : List Part) (tail i : ℕ) (all : Bool) → t (pos 0) ≡ true → length parts ≤ i → all_of t (spread (drop i parts) tail) ≡ all → true ≡ all
+test_ends t parts tail i all z h is = sym (ap (λ xs. all_of t (spread xs tail)) (drop-all i parts h) ∙ all_zeros t tail z) ∙ is
 
 -- ---- what the numbers share
 gcd-nothing : (g : ℕ) → gcd 0 g ≡ g

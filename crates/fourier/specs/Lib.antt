@@ -6,3 +6,4 @@ pub mod Exceeding
 pub mod Solves
 pub mod Sparse
 pub mod Marks
+pub mod Small

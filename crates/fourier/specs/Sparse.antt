@@ -1,6 +1,7 @@
 -- Private.
 -- Lists of numbers, most of them 0, as the numbers that are not 0 with the zeros before each.
-use Rattle.std.specs.Prelude.{ℕ, ℤ, List, [], ◌∷◌, ◌++◌, drop}
+use Rattle.std.specs.Prelude.{◌≡◌, ℕ, ◌+◌, ℤ, List, [], ◌∷◌, ◌++◌, drop}
+use Rattle.exact128.specs.Sums.{entry}
 use Rattle.linear_rows.specs.Solving.{zeros}
 use Rattle.fourier.specs.declared.part.Part.{Part}
 use Rattle.fourier.specs.declared.part.Place.{Place}
@@ -23,3 +24,7 @@ from_number (x ∷ xs) tail = x.number ∷ spread xs tail
 -- what a walk has still to see
 abbrev pub rest_at : List Part → ℕ → Place → List ℤ
 rest_at parts tail p = zeros p.before ++ from_number (drop p.index parts) tail
+
+-- a walk stands at this place of the list: what it has still to see is the list from there on, with zeros past its end
+abbrev pub StandsAt : List Part → ℕ → ℕ → Place → Type 0
+StandsAt parts tail at p = (k : ℕ) → entry (rest_at parts tail p) k ≡ entry (spread parts tail) (at + k)

@@ -12,7 +12,7 @@ use std::alloc::{AllocError, Global};
 pub fn lines_of(alloc: Global, rows: &Rows) -> Result<Lines, AllocError>
     ensures { IfOk result (λ lines. lines ≡ plain_rows rows.now.list) }
 {
-    let mut lines = Lines::new(alloc);
+    let mut lines = Lines::marked(alloc, rows.width as usize);
     for i in 0..rows.list.len() {
         let line = line_of(alloc, rows.list.get(i))?;
         lines.push(line)?;

@@ -1,11 +1,12 @@
 // Combinations of two rows in which a column vanishes.
-ghost use Rattle.std.specs.Prelude.{◌≡◌, ◌&&◌, nat_lt, true, false, pos, ◌≤ℤ◌, ◌<ℤ◌, length, map, IfOk, OnOk};
+ghost use Rattle.std.specs.Prelude.{◌≡◌, ◌&&◌, ◌||◌, nat_lt, true, false, pos, ◌≤ℤ◌, ◌<ℤ◌, length, map, IfOk, OnOk};
 ghost use Rattle.exact128.specs.Fits.{Fits};
 ghost use Rattle.exact128.specs.Sums.{entry};
 ghost use Rattle.linear_rows.specs.Elimination.{crossed, crossings, falling};
 ghost use Rattle.linear_rows.specs.Blown.{crossed_fits, crossings_fit, all_of};
 ghost use Rattle.fourier.specs.Adding.{add_row, add_rows, AllFit, AllLong, OneLength};
 ghost use Rattle.fourier.specs.Saying.{FitsUnless};
+ghost use Rattle.fourier.specs.Small.{small};
 
 use crate::cleaning::{MOST_ROWS, add};
 use crate::line::Line;
@@ -17,7 +18,7 @@ use std::alloc::Global;
 
 /// The kept rows with the combinations of each row that rises in column `k` and each that falls there.
 ///
-/// A brief one stops where the kept rows are too many, since then no more are kept.
+/// It stops where the kept rows are too many, since then no more are kept, if it is brief or no number can be too large.
 pub fn cross_rising(
     alloc: Global,
     kept: &mut Lines,
@@ -32,8 +33,9 @@ pub fn cross_rising(
     ensures fits { OnOk result (FitsUnless brief kept.new (crossings_fit k rows.now)) }
     ensures wide { result ≡ Err RowFault.Wide → crossings_fit k rows.now ≡ false }
 {
+    let stops = may_stop(brief, rows);
     for i in 0..rows.len() {
-        if is_crowded(brief, kept) {
+        if is_crowded(stops, kept) {
             return Ok(());
         }
         if is_positive(rows.get(i).entry(k)) {
@@ -46,11 +48,18 @@ pub fn cross_rising(
     Ok(())
 }
 
-// Whether a brief step need not go on.
-fn is_crowded(brief: bool, kept: &Lines) -> bool
-    ensures { result ≡ (brief && nat_lt 4096 (length kept.now)) }
+// Whether a step may stop once too many rows are kept: it is brief, or no number that it forms can be too large.
+fn may_stop(brief: bool, rows: &Lines) -> bool
+    ensures { result ≡ (brief || all_of (all_of small) rows.now) }
 {
-    brief && kept.len() > MOST_ROWS
+    brief || rows.are_small()
+}
+
+// Whether a step that may stop need not go on.
+fn is_crowded(stops: bool, kept: &Lines) -> bool
+    ensures { result ≡ (stops && nat_lt 4096 (length kept.now)) }
+{
+    stops && kept.len() > MOST_ROWS
 }
 
 // The kept rows with the combinations of `r` and the rows that fall in column `k`.

@@ -1,15 +1,15 @@
 // Elimination by an equation, a row that stands among the rows with its negation.
-ghost use Rattle.std.specs.Prelude.{◌≡◌, true, false, pos, ◌≤ℤ◌, ◌<ℤ◌, ◌<◌, length, OnOk, All, slice_index_or, [], not, nat_eq, ◌||◌};
+ghost use Rattle.std.specs.Prelude.{◌≡◌, true, false, pos, ◌≤ℤ◌, ◌<ℤ◌, ◌<◌, length, OnOk, slice_index_or, [], not, nat_eq, ◌||◌};
 ghost use Rattle.exact128.specs.Fits.{Fits};
 ghost use Rattle.exact128.specs.Sums.{entry};
-ghost use Rattle.linear_rows.specs.Equation.{negates, place_of, equation_from, solved_rows};
+ghost use Rattle.linear_rows.specs.Equation.{equation_from, solved_rows};
 ghost use Rattle.linear_rows.specs.Blown.{solved_rows_fit};
 ghost use Rattle.fourier.specs.Adding.{add_rows, add_solved, add_solved_fits, AllFit, OneLength};
 
 use crate::crossing::cross_add;
 use crate::line::Line;
 use crate::lines::Lines;
-use crate::sign::{is_negative, is_positive, opposite};
+use crate::sign::{is_negative, is_positive};
 use linear_rows::RowFault;
 use std::alloc::Global;
 
@@ -20,39 +20,13 @@ pub fn equation(rows: &Lines, k: usize, many: usize) -> Option<(usize, usize)>
 {
     for i in 0..rows.len() {
         if is_positive(rows.get(i).entry(k)) {
-            let j = negation_of(rows, rows.get(i), many);
+            let j = rows.negation_of(i, many);
             if j < rows.len() {
                 return Some((i, j));
             }
         }
     }
     None
-}
-
-// The place of the first row that is `r` negated, or the number of rows.
-fn negation_of(rows: &Lines, r: &Line, many: usize) -> usize
-    requires { All Fits r.now }
-    ensures { result ≡ place_of (λ s. negates many r.now s) rows.now }
-{
-    for j in 0..rows.len() {
-        if negates(r, rows.get(j), many) {
-            return j;
-        }
-    }
-    rows.len()
-}
-
-// Whether `s` is `r` negated in the columns below `many`.
-fn negates(r: &Line, s: &Line, many: usize) -> bool
-    requires { All Fits r.now }
-    ensures { result ≡ negates many r.now s.now }
-{
-    for j in 0..many {
-        if !opposite(r.entry(j), s.entry(j)) {
-            return false;
-        }
-    }
-    true
 }
 
 /// The kept rows with the other rows in which the variable stands, each crossed with the equation at the places `i` and `j`.

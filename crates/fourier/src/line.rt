@@ -2,13 +2,18 @@
 ghost use Rattle.std.specs.Prelude.{◌≡◌, length, ◌<◌, ◌≤◌, ◌^◌, ◌+◌, pos, [], ◌∷◌, ◌++◌, ◌*ℤ◌, ◌+ℤ◌, OnOk, IfOk, SomeIff, All, map, int_div, true, false};
 ghost use Rattle.exact128.specs.Fits.{Fits, fits};
 ghost use Rattle.exact128.specs.Sums.{entry};
-ghost use Rattle.linear_rows.specs.Cleaning.{row_gcd};
+ghost use Rattle.linear_rows.specs.Cleaning.{agree, row_gcd};
+ghost use Rattle.linear_rows.specs.Equation.{negates};
 ghost use Rattle.linear_rows.specs.Blown.{all_of, blend_fits};
 ghost use Rattle.linear_rows.specs.Solving.{zeros};
 ghost use Rattle.fourier.specs.Blending.{blended};
+ghost use Rattle.fourier.specs.Marks.{mark_of};
+ghost use Rattle.fourier.specs.Small.{small};
 ghost use Rattle.fourier.specs.Sparse.{spread};
 
 use crate::part::{Part, place_at, walk};
+use crate::sign::is_small;
+use crate::{comparing, marks};
 use exact128::{divided, fits, gcd, plus, times};
 use linear_rows::RowFault;
 use std::alloc::{AllocError, Global};
@@ -105,11 +110,52 @@ impl Line {
         })
     }
 
+    /// The mark of the columns 1 to `last`.
+    pub fn mark(&self, last: usize) -> u32
+        ensures { result ≡ mark_of last self.now }
+    {
+        marks::mark_of(self.parts.as_slice(), self.tail, last)
+    }
+
+    /// Whether another row has the same numbers in the columns 1 to `last`.
+    pub fn agrees(&self, other: &Line, last: usize) -> bool
+        ensures { result ≡ agree last self.now other.now }
+    {
+        comparing::agree(
+            self.parts.as_slice(),
+            self.tail,
+            other.parts.as_slice(),
+            other.tail,
+            last,
+        )
+    }
+
+    /// Whether another row is this one negated in the columns below `many`.
+    pub fn negates(&self, other: &Line, many: usize) -> bool
+        requires { All Fits self.now }
+        ensures { result ≡ negates many self.now other.now }
+    {
+        comparing::negates(
+            self.parts.as_slice(),
+            self.tail,
+            other.parts.as_slice(),
+            other.tail,
+            many,
+        )
+    }
+
     /// Whether each number fits.
     pub fn fits(&self) -> bool
         ensures { result ≡ all_of fits self.now }
     {
         parts_fit(self.parts.as_slice(), self.tail)
+    }
+
+    /// Whether each number is small.
+    pub fn is_small(&self) -> bool
+        ensures { result ≡ all_of small self.now }
+    {
+        parts_are_small(self.parts.as_slice(), self.tail)
     }
 
     /// The greatest common divisor of the numbers.
@@ -175,6 +221,18 @@ fn parts_fit(parts: &[Part], tail: usize) -> bool
 {
     for i in 0..parts.len() {
         if !fits(parts[i].number) {
+            return false;
+        }
+    }
+    true
+}
+
+// Whether each number is small.
+fn parts_are_small(parts: &[Part], tail: usize) -> bool
+    ensures { result ≡ all_of small (spread parts.now tail) }
+{
+    for i in 0..parts.len() {
+        if !is_small(parts[i].number) {
             return false;
         }
     }

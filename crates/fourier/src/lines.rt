@@ -1,18 +1,19 @@
 // Lists of rows.
 ghost use Rattle.std.specs.Prelude.{◌≡◌, ℕ, length, ◌<◌, ◌≤◌, slice_index_or, [], ◌∷◌, ◌++◌, OnOk, take, drop, suc, true, false};
-ghost use Rattle.linear_rows.specs.Blown.{numbers_fit};
+ghost use Rattle.linear_rows.specs.Blown.{all_of, numbers_fit};
 ghost use Rattle.linear_rows.specs.Cleaning.{agree};
+ghost use Rattle.linear_rows.specs.Equation.{negates, place_of};
 ghost use Rattle.fourier.specs.Adding.{AllFit};
+ghost use Rattle.fourier.specs.Small.{small};
 
 use crate::line::Line;
-use crate::marks::mark_of;
-use crate::sign::same;
 use std::alloc::{AllocError, Global};
 use std::marker::Model;
 
 /// Rows, each seen as the list of its numbers.
 ///
-/// Each row has a mark, so that a row with given coefficients is found without looking into most of the others.
+/// Each row has a mark, so that a row with given coefficients, or with their negations, is found without looking into most
+/// of the others.
 pub struct Lines {
     items: Vec<Line>,
     // The marks of the rows are those of the columns 1 to this one.
@@ -42,13 +43,6 @@ impl Model for Lines {
 }
 
 impl Lines {
-    /// Makes the empty list of rows that are not looked for.
-    pub fn new(alloc: Global) -> Self
-        ensures { result ≡ [] }
-    {
-        Lines::marked(alloc, 0)
-    }
-
     /// Makes the empty list of rows that are looked for by their columns 1 to `last`.
     pub fn marked(alloc: Global, last: usize) -> Self
         ensures { result ≡ [] }
@@ -80,7 +74,7 @@ impl Lines {
         ensures { OnOk result (self.new ≡ self.old ++ row ∷ []) }
     {
         self.marks.reserve(1)?;
-        let mark = mark_of(&row, self.last);
+        let mark = row.mark(self.last);
         self.items.push(row)?;
         self.marks.push(mark)?;
         Ok(())
@@ -101,10 +95,26 @@ impl Lines {
         ensures before { (j : ℕ) → j < result → agree last (slice_index_or self.now j []) row.now ≡ false }
         ensures here { result < length self.now → agree last (slice_index_or self.now result []) row.now ≡ true }
     {
-        let mark = mark_of(row, self.last);
+        let mark = row.mark(self.last);
         for i in 0..self.len() {
-            if (self.last != last || self.marks[i] == mark) && agree(self.get(i), row, last) {
+            if (self.last != last || self.marks[i] == mark) && self.get(i).agrees(row, last) {
                 return i;
+            }
+        }
+        self.len()
+    }
+
+    /// The place of the first row that is the one at place `i` negated in the columns below `many`, or the number of rows.
+    pub fn negation_of(&self, i: usize, many: usize) -> usize
+        requires place { i < length self.now }
+        requires fit { AllFit self.now }
+        ensures { result ≡ place_of (λ s. negates many (slice_index_or self.now i []) s) self.now }
+    {
+        let row = self.get(i);
+        let mark = self.marks[i];
+        for j in 0..self.len() {
+            if (many <= self.last || self.marks[j] == mark) && row.negates(self.get(j), many) {
+                return j;
             }
         }
         self.len()
@@ -122,16 +132,16 @@ impl Lines {
         }
         true
     }
-}
 
-// Whether two rows have the same numbers in the columns 1 to `last`.
-fn agree(r: &Line, s: &Line, last: usize) -> bool
-    ensures { result ≡ agree last r.now s.now }
-{
-    for j in 0..last {
-        if !same(r.entry(j + 1), s.entry(j + 1)) {
-            return false;
+    /// Whether each number is small.
+    pub fn are_small(&self) -> bool
+        ensures { result ≡ all_of (all_of small) self.now }
+    {
+        for i in 0..self.len() {
+            if !self.get(i).is_small() {
+                return false;
+            }
         }
+        true
     }
-    true
 }

@@ -1,24 +1,42 @@
 // Marks of rows: one number for all coefficients of a row.
-ghost use Rattle.std.specs.Prelude.{◌≡◌, ◌<◌, ◌^◌};
-ghost use Rattle.exact128.specs.Fits.{Fits};
+ghost use Rattle.std.specs.Prelude.{◌≡◌, ◌<◌, ◌%◌, unsigned_abs};
 ghost use Rattle.fourier.specs.Marks.{mark_of, mixed};
+ghost use Rattle.fourier.specs.Sparse.{spread};
 
-use crate::line::Line;
+use crate::part::{Part, after_first, next};
+
+// Marks are less than this prime: 2^31 - 1.
+const MODULUS: u64 = 0x7fff_ffff;
+
+/// The mark of a row in the columns 1 to `last`. Rows of different marks have different coefficients there.
+pub fn mark_of(parts: &[Part], tail: usize, last: usize) -> u32
+    ensures { result ≡ mark_of last (spread parts.now tail) }
+{
+    let mut place = after_first(parts, tail);
+    let mut mark = 0;
+    for _j in 0..last {
+        let (number, after) = next(parts, tail, place);
+        mark = mixed(mark, number);
+        place = after;
+    }
+    mark
+}
 
 // A mark with one number more.
 fn mixed(mark: u32, number: i128) -> u32
     ensures { result ≡ mixed mark number }
 {
-    ((mark as u128 * 1_000_003 + number.unsigned_abs()) % 2_147_483_647) as u32
+    ((mark as u64 * 1_000_003 + remainder(number)) % MODULUS) as u32
 }
 
-/// The mark of a row in the columns 1 to `last`. Rows of different marks have different coefficients there.
-pub fn mark_of(row: &Line, last: usize) -> u32
-    ensures { result ≡ mark_of last row.now }
+// What a number leaves, in 64 bits, as most numbers are.
+fn remainder(number: i128) -> u64
+    ensures value { result ≡ unsigned_abs number % 2147483647 }
+    ensures within { result < 2147483647 }
 {
-    let mut mark = 0;
-    for j in 0..last {
-        mark = mixed(mark, row.entry(j + 1));
+    let size = number.unsigned_abs();
+    if size <= u64::MAX as u128 {
+        return size as u64 % MODULUS;
     }
-    mark
+    (size % MODULUS as u128) as u64
 }

@@ -1,6 +1,7 @@
 // Numbers after zeros, and walks over them.
-ghost use Rattle.std.specs.Prelude.{◌≡◌, ◌<◌, ◌≤◌, ◌+◌, ◌∷◌, ◌++◌, length, drop};
-ghost use Rattle.fourier.specs.Sparse.{first_zeros, rest_at};
+ghost use Rattle.std.specs.Prelude.{◌≡◌, ℕ, suc, ◌<◌, ◌≤◌, ◌+◌, ◌∷◌, ◌++◌, length, drop};
+ghost use Rattle.exact128.specs.Sums.{entry};
+ghost use Rattle.fourier.specs.Sparse.{first_zeros, rest_at, StandsAt};
 ghost use Rattle.linear_rows.specs.Solving.{zeros};
 
 /// A number after the given number of zeros.
@@ -48,4 +49,33 @@ pub fn walk(parts: &[Part], tail: usize, place: Place, over: usize) -> (i128, Pl
     }
     let number = parts[place.index].number;
     (number, place_at(parts, tail, place.index + 1))
+}
+
+/// The number where a walk stands, 0 past the end, and the place after it.
+pub fn next(parts: &[Part], tail: usize, place: Place) -> (i128, Place)
+    ensures number { result.0 ≡ entry (rest_at parts.now tail place) 0 }
+    ensures rest { (k : ℕ) → entry (rest_at parts.now tail result.1) k ≡ entry (rest_at parts.now tail place) (suc k) }
+{
+    if place.before > 0 {
+        let before = place.before - 1;
+        return (
+            0,
+            Place {
+                index: place.index,
+                before,
+            },
+        );
+    }
+    if place.index >= parts.len() {
+        return (0, place);
+    }
+    let number = parts[place.index].number;
+    (number, place_at(parts, tail, place.index + 1))
+}
+
+/// Where a walk comes to the number after the first one.
+pub fn after_first(parts: &[Part], tail: usize) -> Place
+    ensures { StandsAt parts.now tail 1 result }
+{
+    next(parts, tail, place_at(parts, tail, 0)).1
 }

@@ -3,6 +3,10 @@ ghost use Rattle.std.specs.Prelude.{◌≡◌, pos, neg_ℤ, int_le};
 ghost use Rattle.exact128.specs.Fits.{Fits};
 ghost use Rattle.linear_rows.specs.Elimination.{is_positive, is_negative, is_zero};
 ghost use Rattle.linear_rows.specs.Cleaning.{int_same};
+ghost use Rattle.fourier.specs.Small.{small};
+
+// One more than the greatest absolute value of a small number: 2^62.
+const SMALL_LIMIT: u128 = 0x4000_0000_0000_0000;
 
 pub fn is_positive(x: i128) -> bool
     ensures { result ≡ is_positive x }
@@ -35,6 +39,13 @@ pub fn opposite(x: i128, y: i128) -> bool
     ensures { result ≡ int_same y (neg_ℤ x) }
 {
     y == -x
+}
+
+/// Whether a number is so small that no sum of two products of such numbers is too large.
+pub fn is_small(x: i128) -> bool
+    ensures { result ≡ small x }
+{
+    x.unsigned_abs() < SMALL_LIMIT
 }
 
 /// Whether `x` is at most `y`.

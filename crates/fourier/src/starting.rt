@@ -16,7 +16,7 @@ pub fn start_rows(alloc: Global, rows: &Rows) -> Result<Lines, AllocError>
 {
     let width = rows.width as usize;
     let many = rows.list.len();
-    let mut lines = Lines::new(alloc);
+    let mut lines = Lines::marked(alloc, width + 1);
     push_floors(alloc, &mut lines, width, many)?;
     lines.push(unit_line(alloc, -1, width + 1, width, many)?)?;
     push_given(alloc, &mut lines, rows)?;

@@ -15,7 +15,8 @@ use std::alloc::Global;
 
 /// The rows that a step leaves, which eliminates column `k`. The columns 1 to `last` are compared.
 ///
-/// A brief step stops once its rows are too many, and then does not look for numbers that do not fit.
+/// A brief step stops once its rows are too many, and then does not look for numbers that do not fit. Another one stops
+/// then only if all numbers of `rows` are small, so that none that it forms can be too large.
 pub fn step(
     alloc: Global,
     rows: &Lines,

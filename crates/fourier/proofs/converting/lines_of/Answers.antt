@@ -1,4 +1,4 @@
-use Rattle.std.proofs.Common.{◌≡◌, ◌∙◌, ◌++◌, ◌∷◌, [], ℕ, zero, suc, ◌+◌, List, take, map, ap, sym, subst, slice_get, Some, arith}
+use Rattle.std.proofs.Common.{◌≡◌, ◌∙◌, ◌++◌, ◌∷◌, [], ℕ, zero, suc, ◌+◌, List, take, ap, sym, slice_get, Some, arith}
 use Rattle.linear_rows.specs.Plain.{plain_row, plain_rows}
 use Rattle.linear_rows.specs.declared.row.Row.{Row}
 use Rattle.fourier.proofs.converting.lines_of.Goals as goal

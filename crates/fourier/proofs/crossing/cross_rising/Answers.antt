@@ -11,7 +11,8 @@ use Rattle.std.specs.Prelude.{nat_lt}
 use Rattle.std.proofs.lemmas.Bool.{ltb-true}
 use Rattle.exact128.proofs.FitsLemmas.{both}
 use Rattle.fourier.proofs.Crowds.{full_all}
-use Rattle.fourier.proofs.StepLemmas.{fits_unless, unless_crowded}
+use Rattle.fourier.proofs.StepLemmas.{fits_unless}
+use Rattle.fourier.proofs.SmallLemmas.{stopped}
 use Rattle.fourier.proofs.Loops.{done_none, done_yes, done_no, done_all, not_all, at_long, fold-flat_map}
 use Rattle.fourier.proofs.crossing.cross_rising.Goals as goal
 use Rattle.fourier.proofs.crossing.cross_rising.Goals.{then-is_positive+in-Ok, else-is_positive}
@@ -61,12 +62,12 @@ returns-in-Err-clause-wide c =
 pub returns-then-is_crowded : goal.returns-then-is_crowded
 unfolding crossings
 returns-then-is_crowded c =
-    let two = both c.args.brief (nat_lt 4096 (length c.loop-i.kept)) (sym c.is_crowded.ensures ∙ c.if-is_crowded.true) in
+    let two = both c.may_stop-stops.result (nat_lt 4096 (length c.loop-i.kept)) (sym c.is_crowded.ensures ∙ c.if-is_crowded.true) in
     let many : 4096 < length c.loop-i.kept = ltb-true 4096 (length c.loop-i.kept) two.1 in
     let all = full_all c.args.last (λ r. map (λ s. crossed c.args.k r s) (falling c.args.k c.args.rows.now)) (λ r. is_positive (entry r c.args.k)) c.args.kept.now c.loop-i.kept c.args.rows.now c.loop-i.i c.loop-i.invariant.kept_is many in
     record {
       kept = all ∙ fold-flat_map (add_row c.args.last) (λ r. map (λ s. crossed c.args.k r s) (falling c.args.k c.args.rows.now)) c.args.kept.now (rising c.args.k c.args.rows.now);
-      fits = unless_crowded c.args.brief c.loop-i.kept (crossings_fit c.args.k c.args.rows.now) two.0 many;
+      fits = stopped c.args.brief c.args.k c.args.rows.now c.loop-i.kept (sym c.may_stop-stops.ensures ∙ two.0) many;
       wide = λ is. cc;
     }
 

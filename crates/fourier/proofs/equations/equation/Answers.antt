@@ -1,4 +1,4 @@
-use Rattle.std.proofs.Common.{rules, ◌≡◌, ◌<◌, ◌≤◌, length, true, false, arith, Bool, sym, ap, ◌∙◌, refl}
+use Rattle.std.proofs.Common.{rules, ◌≡◌, ◌<◌, ◌≤◌, length, true, false, arith, Bool, get_or, [], sym, ap, ◌∙◌, refl}
 use Rattle.std.specs.Int.{w128}
 use Rattle.std.specs.Prelude.{FitsSigned, ◌&&◌}
 use Rattle.std.specs.List.{list_any}
@@ -20,10 +20,10 @@ loop-i-preserved c =
     let lt : c.loop-i.i < length c.args.rows.now = omega arith in
     elim c.if-is_positive.branch [
       | then-is_positive+else-j-len w ↦
-          let same : w.get-then-is_positive.result.now ≡ c.get.result.now = w.get-then-is_positive.ensures ∙ sym c.get.ensures in
-          let over : length c.args.rows.now ≤ place_of (λ s. negates c.args.many w.get-then-is_positive.result.now s) c.args.rows.now = omega (arith, w.negation_of-j.ensures) in
-          let none : list_any (λ s. negates c.args.many w.get-then-is_positive.result.now s) c.args.rows.now ≡ false = none_from_place (λ s. negates c.args.many w.get-then-is_positive.result.now s) c.args.rows.now over in
-          equation_later c.args.many c.args.k c.loop-i.i c.args.rows.now w.get-then-is_positive.result.now lt w.get-then-is_positive.ensures (and_right (is_positive (entry w.get-then-is_positive.result.now c.args.k)) (list_any (λ s. negates c.args.many w.get-then-is_positive.result.now s) c.args.rows.now) none) ∙ c.loop-i.invariant
+          let row = get_or c.args.rows.now c.loop-i.i [] in
+          let over : length c.args.rows.now ≤ place_of (λ s. negates c.args.many row s) c.args.rows.now = omega (arith, w.negation_of-j.ensures) in
+          let none : list_any (λ s. negates c.args.many row s) c.args.rows.now ≡ false = none_from_place (λ s. negates c.args.many row s) c.args.rows.now over in
+          equation_later c.args.many c.args.k c.loop-i.i c.args.rows.now row lt refl (and_right (is_positive (entry row c.args.k)) (list_any (λ s. negates c.args.many row s) c.args.rows.now) none) ∙ c.loop-i.invariant
       | else-is_positive w ↦
           let t : is_positive (entry c.get.result.now c.args.k) ≡ false = cc (e, w.if-is_positive.false) in
           equation_later c.args.many c.args.k c.loop-i.i c.args.rows.now c.get.result.now lt c.get.ensures (and_left (is_positive (entry c.get.result.now c.args.k)) (list_any (λ s. negates c.args.many c.get.result.now s) c.args.rows.now) t) ∙ c.loop-i.invariant
@@ -39,12 +39,13 @@ loop-i-preserved c =
 pub returns-then-j-len : goal.returns-then-j-len
 returns-then-j-len c =
     let f : FitsSigned w128 c.entry.result = search rules in
-    let e = (simp to_z-of_z at c.is_positive.ensures) ∙ ap is_positive (c.entry.ensures ∙ ap (λ r. entry r c.args.k) (c.get.ensures ∙ sym c.get-then-is_positive.ensures)) in
+    let row = get_or c.args.rows.now c.loop-i.i [] in
+    let e = (simp to_z-of_z at c.is_positive.ensures) ∙ ap is_positive (c.entry.ensures ∙ ap (λ r. entry r c.args.k) c.get.ensures) in
     let lt : c.loop-i.i < length c.args.rows.now = omega arith in
-    let t : is_positive (entry c.get-then-is_positive.result.now c.args.k) ≡ true = cc (e, c.if-is_positive.true) in
-    let within : place_of (λ s. negates c.args.many c.get-then-is_positive.result.now s) c.args.rows.now < length c.args.rows.now = omega (arith, c.negation_of-j.ensures) in
-    let any : list_any (λ s. negates c.args.many c.get-then-is_positive.result.now s) c.args.rows.now ≡ true = any_from_place (λ s. negates c.args.many c.get-then-is_positive.result.now s) c.args.rows.now within in
-    sym (equation_here c.args.many c.args.k c.loop-i.i c.negation_of-j.result c.args.rows.now c.get-then-is_positive.result.now lt c.get-then-is_positive.ensures t any c.negation_of-j.ensures) ∙ c.loop-i.invariant
+    let t : is_positive (entry row c.args.k) ≡ true = cc (e, c.if-is_positive.true) in
+    let within : place_of (λ s. negates c.args.many row s) c.args.rows.now < length c.args.rows.now = omega (arith, c.negation_of-j.ensures) in
+    let any : list_any (λ s. negates c.args.many row s) c.args.rows.now ≡ true = any_from_place (λ s. negates c.args.many row s) c.args.rows.now within in
+    sym (equation_here c.args.many c.args.k c.loop-i.i c.negation_of-j.result c.args.rows.now row lt refl t any c.negation_of-j.ensures) ∙ c.loop-i.invariant
 
 pub returns : goal.returns
 returns c = sym (equation_over c.args.many c.args.k c.loop-i.i c.args.rows.now (omega arith)) ∙ c.loop-i.invariant

@@ -12,7 +12,7 @@ returns c =
     let same : length given ≡ length c.args.rows.now.list = length-map c.args.rows.now.list plain_row in
     let many : c.len-many.result ≡ length given = c.len-many.ensures ∙ sym same in
     start_is n given c.push_floors.new.lines c.push.new.self c.push_given.new.lines c.in_ok-unit_line.field-0
-    (c.in_ok-push_floors.ensures ∙ ap (λ l. l ++ floors n 0 (n + 1 + c.len-many.result)) c.new-lines.ensures ∙ ap (λ k. [] ++ floors n 0 (n + 1 + k)) many)
+    (c.in_ok-push_floors.ensures ∙ ap (λ l. l ++ floors n 0 (n + 1 + c.len-many.result)) c.marked-lines.ensures ∙ ap (λ k. [] ++ floors n 0 (n + 1 + k)) many)
     c.in_ok-push.ensures
     (c.in_ok-unit_line.ensures ∙ ap (λ k. negsuc 0 ∷ units (n + 1 + k) n) many)
     (c.in_ok-push_given.ensures ∙ ap (λ k. c.push.new.self ++ carried k 0 given) (sym same))

@@ -1,4 +1,4 @@
-use Rattle.std.proofs.Common.{◌≡◌, ◌∙◌, map, remove, sym, ap}
+use Rattle.std.proofs.Common.{◌∙◌, map, remove, sym, ap}
 use Rattle.fourier.specs.Marks.{mark_of}
 use Rattle.fourier.proofs.MarkLemmas.{removed-map}
 use Rattle.fourier.proofs.lines.Lines.remove.Goals as goal
