@@ -1,10 +1,9 @@
 -- Laws of marks: what waits, how many marks are left, and how much work.
-use Rattle.std.proofs.Common.{◌≡◌, ◌⊎◌, inl, inr, ℕ, zero, suc, ◌+◌, ◌-◌, ◌*◌, ◌<◌, ◌≤◌, Bool, true, false, List, [], ◌∷◌, ◌++◌, length, replicate, slice_get, slice_set, Some, refl, ap, sym, subst, ◌∙◌, arith}
+use Rattle.std.proofs.Common.{◌≡◌, ◌⊎◌, inl, inr, ℕ, zero, suc, ◌+◌, ◌*◌, ◌<◌, ◌≤◌, Bool, true, false, List, [], ◌∷◌, ◌++◌, length, replicate, slice_get, slice_set, Some, refl, ap, sym, subst, ◌∙◌, arith}
 use Rattle.std.proofs.lemmas.Bool.{cases_eq}
-use Rattle.std.proofs.lemmas.List.{length-set, length-replicate}
+use Rattle.std.proofs.lemmas.List.{length-set}
 use Rattle.std.proofs.Math.Nat.{mul-le-mul_right, suc-mul}
 use Rattle.truth_rows.proofs.ListLaws.{set_elsewhere, set_there}
-use Rattle.termination_model.proofs.Lists.{place_below}
 use Rattle.groundness.specs.Marks.{AreWaiting, IsMarked, marks_left}
 
 pub pushed_before : {X : Type 0} → (xs : List X) (x : X) (i : ℕ) (y : X) → slice_get xs i ≡ Some y → slice_get (xs ++ x ∷ []) i ≡ Some y
@@ -85,22 +84,6 @@ waiting_taken marks waiting k lt w =
 
 pub none_marked : (marks : List Bool) → AreWaiting marks [] → (j : ℕ) → IsMarked marks j → ⊥
 none_marked marks w j m = let s = w.all j m in let e = s.1 in cc
-
--- at the start all wait, the first one last
-pub waiting_backwards : (n : ℕ) (numbers : List ℕ) → length numbers ≡ n → ((i : ℕ) → i < n → slice_get numbers i ≡ Some (n - 1 - i)) → AreWaiting (replicate n true) numbers
-waiting_backwards n numbers long at =
-    let wide : length (replicate n true) ≡ n = length-replicate n true in
-    record {
-      within = λ i j e.
-          let lt = place_below numbers i j e in
-          let f = at i (omega arith) in
-          let is : n - 1 - i ≡ j = cc in
-          omega arith;
-      all = λ j m.
-          let lt = place_below (replicate n true) j true m in
-          let f = at (n - 1 - j) (omega arith) in
-          (n - 1 - j, f ∙ ap Some (omega arith));
-    }
 
 not_marked : (n j : ℕ) → IsMarked (replicate n false) j → ⊥
 not_marked zero j m = cc

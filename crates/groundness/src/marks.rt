@@ -27,15 +27,6 @@ impl Model for Marks {
 }
 
 impl Marks {
-    /// The given number of clauses, all with marks. They wait in their order.
-    pub(crate) fn new(alloc: Global, count: u32) -> Result<Marks, AllocError>
-        ensures { IfOk result (λ marks. marks ≡ replicate count true) }
-    {
-        let marked = vec![in alloc; true; count as usize]?;
-        let waiting = backwards(alloc, count)?;
-        Ok(Marks { marked, waiting })
-    }
-
     /// The given number of clauses, none with a mark.
     pub fn none(alloc: Global, count: u32) -> Result<Marks, AllocError>
         ensures { IfOk result (λ marks. marks ≡ replicate count false) }
@@ -43,26 +34,6 @@ impl Marks {
         let marked = vec![in alloc; false; count as usize]?;
         let waiting = Vec::new(alloc);
         Ok(Marks { marked, waiting })
-    }
-
-    /// Lets a clause be the next, if it has a mark when its turn comes.
-    pub(crate) fn prefer(&mut self, clause: u32) -> Result<(), AllocError>
-        requires { clause < length self.old }
-        ensures { self.new ≡ self.old }
-    {
-        self.waiting.push(clause)?;
-        Ok(())
-    }
-
-    /// Lets these clauses be the next, the last of them first.
-    pub(crate) fn prefer_all(&mut self, clauses: &[u32]) -> Result<(), AllocError>
-        requires { (j : ℕ) → Contains clauses.now j → j < length self.old }
-        ensures { self.new ≡ self.old }
-    {
-        for clause in clauses {
-            self.prefer(*clause)?;
-        }
-        Ok(())
     }
 
     /// Marks a clause, which is then the next. One that has a mark keeps its turn.
@@ -101,17 +72,6 @@ impl Marks {
     {
         take_marked(&mut self.marked, &mut self.waiting)
     }
-}
-
-// The given number of numbers, the greatest first.
-fn backwards(alloc: Global, count: u32) -> Result<Vec<u32>, AllocError>
-    ensures { IfOk result (λ numbers. AreWaiting (replicate count true) numbers.items) }
-{
-    let mut numbers = Vec::new(alloc);
-    for k in 0..count {
-        numbers.push(count - 1 - k)?;
-    }
-    Ok(numbers)
 }
 
 // Takes the mark of the last clause that waits and has one.

@@ -250,5 +250,7 @@ pub fn solve_component<N: Norm>(
     };
     let mut marks = Marks::none(alloc, p.clauses())?;
     let mut pre = Vec::from_slice(alloc, allowed)?;
-    solve_in(alloc, &setting, table, c, &mut marks, &mut pre, sets, allowed)
+    solve_in(
+        alloc, &setting, table, c, &mut marks, &mut pre, sets, allowed,
+    )
 }

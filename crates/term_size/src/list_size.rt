@@ -95,11 +95,7 @@ fn end_coefficient(end: Option<u32>, x: u32) -> i128
 }
 
 // For each of the given number of variables whether it is the one at the end.
-fn end_coefficients(
-    alloc: Global,
-    end: Option<u32>,
-    vars: u32,
-) -> Result<Coefficients, AllocError>
+fn end_coefficients(alloc: Global, end: Option<u32>, vars: u32) -> Result<Coefficients, AllocError>
     ensures { IfOk result (λ c. c ≡ ends_from 0 vars end) }
 {
     let mut items = Vec::new(alloc);

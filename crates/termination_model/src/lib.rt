@@ -32,4 +32,6 @@ pub use supports::{
     systems_give_mappings, views_are_ready,
 };
 pub use systems::{add_atom, system};
-pub use turns::{ackermann_descends, stuck_sets_exclude_lists, turns_drop_or_stick, turns_give_lists};
+pub use turns::{
+    ackermann_descends, stuck_sets_exclude_lists, turns_drop_or_stick, turns_give_lists,
+};
