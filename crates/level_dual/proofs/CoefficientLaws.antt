@@ -1,5 +1,5 @@
 -- Coefficients of a mapping by their numbers.
-use Rattle.std.proofs.Common.{◌≡◌, ℕ, zero, suc, ◌+◌, ◌<◌, ◌==◌, ℤ, pos, negsuc, Bool, true, false, if◌then◌else◌, List, [], ◌∷◌, ◌++◌, map, drop, slice_get, Option, None, Some, refl, ap, sym, subst, ◌∙◌, arith, lt-ltb}
+use Rattle.std.proofs.Common.{◌≡◌, ℕ, zero, suc, ℤ, Bool, true, false, if◌then◌else◌, List, [], ◌∷◌, ◌++◌, map, None, Some, refl, ap, sym, ◌∙◌}
 use Rattle.std.specs.Prelude.{nat_lt, unsigned_abs}
 use Rattle.exact128.specs.Sums.{entry}
 use Rattle.number_tests.specs.declared.level_part.LevelPart.{LevelPart}

@@ -1,29 +1,28 @@
 -- Multipliers that refute the system of a set of positions exclude its mappings.
-use Rattle.std.proofs.Common.{◌≡◌, ℕ, zero, suc, ◌+◌, ◌<◌, ◌≤◌, ℤ, pos, Bool, true, List, [], ◌∷◌, ◌++◌, map, filter, take, drop, length, slice_get, Contains, Option, None, Some, inl, inr, ◌⊎◌, refl, ap, sym, subst, ◌∙◌, arith}
-use Rattle.std.specs.Prelude.{All, unsigned_abs}
+use Rattle.std.proofs.Common.{◌≡◌, ℕ, zero, suc, ◌+◌, ℤ, pos, Bool, List, [], ◌∷◌, map, filter, drop, length, slice_get, Option, None, Some, inl, inr, refl, ap, sym, subst, ◌∙◌, arith}
+use Rattle.std.specs.Prelude.{unsigned_abs}
 use Rattle.std.specs.List.{AllByRecursion, list_any}
 use Rattle.std.proofs.lemmas.List.{length-append, length-map}
-use Rattle.cti_terms.specs.Listing.{IsProgram, Listing}
+use Rattle.cti_terms.specs.Listing.{Listing}
 use Rattle.cti_terms.specs.Tree.{Tree}
 use Rattle.call_components.specs.Numbers.{number_of}
-use Rattle.call_components.specs.Partition.{AreComponents, IsIn, Partition}
+use Rattle.call_components.specs.Partition.{IsIn, Partition}
 use Rattle.linear_rows.specs.Members.{In}
 use Rattle.linear_rows.specs.Proves.{Refutes}
 use Rattle.linear_rows.specs.Step.{columns}
 use Rattle.termination_model.specs.BlownSupports.{same_position}
-use Rattle.termination_model.specs.ComponentViews.{Has, component_view, members_in, no_truth, positions_in, rank_in, size_claims}
+use Rattle.termination_model.specs.ComponentViews.{Has, component_view, members_in, no_truth, positions_in}
 use Rattle.termination_model.specs.Excluding.{IsOfMembers, number_count, pairs_at}
 use Rattle.termination_model.specs.Minimal.{IsExcluded}
-use Rattle.termination_model.specs.OwnCalls.{OwnCall as Recalled, Position, members_of, own_calls, rows_before}
-use Rattle.termination_model.specs.Ready.{arity_in, itself, positions_by}
-use Rattle.termination_model.specs.Refutation.{Pair}
+use Rattle.termination_model.specs.OwnCalls.{OwnCall as Recalled, Position, own_calls, rows_before}
+use Rattle.termination_model.specs.Ready.{arity_in, positions_by}
 use Rattle.termination_model.specs.SupportSystem.{call_row, call_rows, row_count, rows_from, support_rows, unknowns}
 use Rattle.termination_model.specs.Supports.{picked_from}
 use Rattle.termination_model.proofs.Having.{picked_in}
-use Rattle.termination_model.proofs.Lists.{indexed, place_below}
-use Rattle.termination_model.proofs.Readiness.{at_of, views_are_ready}
+use Rattle.termination_model.proofs.Lists.{indexed}
+use Rattle.termination_model.proofs.Readiness.{views_are_ready}
 use Rattle.termination_model.proofs.Refuting.{multipliers_refute}
-use Rattle.level_systems.specs.Held.{IsHeld, live_of, pair_of, spelled}
+use Rattle.level_systems.specs.Held.{IsHeld}
 use Rattle.level_systems.specs.Recalled.{count_of}
 use Rattle.level_systems.specs.Searched.{IsComponent}
 use Rattle.level_systems.specs.declared.component.Component.{Component}
@@ -32,7 +31,7 @@ use Rattle.level_systems.proofs.HeldCalls.{all_live, in_calls, lives_in, lives_o
 use Rattle.level_dual.proofs.MemberLaws.{all_members}
 use Rattle.level_dual.proofs.PartLaws.{are_naturals}
 use Rattle.level_systems.proofs.SoundLaws.{in_contains, no_place}
-use Rattle.level_dual.proofs.SearchLaws.{counts, laws, lives, mine}
+use Rattle.level_dual.proofs.SearchLaws.{counts, laws, lives}
 use Rattle.level_dual.proofs.SupportLaws.{in_ordered, position_of, pred_of}
 
 length_columns : (k n : ℕ) → length (columns k n) ≡ n

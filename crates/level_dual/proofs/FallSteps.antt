@@ -1,5 +1,5 @@
 -- The falls, one call after another.
-use Rattle.std.proofs.Common.{◌≡◌, ℕ, zero, suc, ◌+◌, ◌-◌, ◌<◌, ◌≤◌, ◌≤ℤ◌, ℤ, pos, List, [], ◌∷◌, ◌++◌, drop, take, length, Option, None, Some, refl, ap, sym, subst, ◌∙◌, arith}
+use Rattle.std.proofs.Common.{◌≡◌, ℕ, zero, suc, ◌+◌, ◌≤◌, ◌≤ℤ◌, ℤ, pos, List, [], ◌∷◌, drop, length, Option, None, Some, arith}
 use Rattle.std.specs.Prelude.{All}
 use Rattle.linear_rows.specs.declared.multipliers.Multipliers.{Multipliers}
 use Rattle.level_systems.specs.Falling.{values_after}

@@ -114,6 +114,7 @@ module _ (expression : ℕ → Tree → List ℤ) (p : Listing) (comps : Partiti
     sets = sets_undecided all (full_is_set many);
     given_up = λ s i. blown s;
     once = once_undecided all;
+    apart = λ s i above. absurd above.1;
   }
 
   -- no mapping decreases, but the refutation has a number that does not fit
@@ -130,6 +131,7 @@ module _ (expression : ℕ → Tree → List ℤ) (p : Listing) (comps : Partiti
     sets = full_sets;
     given_up = λ s i. elim i [ inl e ↦ subst blown_set e blown | inr nothing ↦ absurd nothing ];
     once = ((λ i. i), tt);
+    apart = λ s i above. absurd above.1;
   }
 
   pub refuted_found : (b : Bool) → IsTrue b ↔ (12 < many) → ((s : List ℕ) → has s → ⊥) → (r : Refutation) → IsRefutationOf expression p comps rows c r
@@ -146,6 +148,7 @@ module _ (expression : ℕ → Tree → List ℤ) (p : Listing) (comps : Partiti
     sets = λ s i. absurd i;
     given_up = λ s i. absurd i;
     once = tt;
+    apart = λ s i. absurd i;
   }
 
   -- all positions are given up in a large component
@@ -162,6 +165,7 @@ module _ (expression : ℕ → Tree → List ℤ) (p : Listing) (comps : Partiti
     sets = full_sets;
     given_up = λ s i. elim i [ inl e ↦ subst blown_set e blown | inr nothing ↦ absurd nothing ];
     once = ((λ i. i), tt);
+    apart = λ s i above. absurd above.1;
   }
 
   -- the same of what the code makes
@@ -184,10 +188,10 @@ module _ (expression : ℕ → Tree → List ℤ) (p : Listing) (comps : Partiti
   above_more sets more s (t, i, e) = (t, in-left sets more t i, e)
 
   -- the walk's sets, and perhaps one that was given up before
-  pub walked_found : ((s : List ℕ) → has s → IsSet 1 (suc many) s) → IsTrue false ↔ (12 < many) → (w : Walked) → IsAllWalked expression p comps rows c w → (more : List (List ℕ)) → ((t : List ℕ) → In t more → all ≡ t) → ((t : List ℕ) → In t more → blown_set t) → AreOnce (w.blown ++ more)
+  pub walked_found : ((s : List ℕ) → has s → IsSet 1 (suc many) s) → IsTrue false ↔ (12 < many) → (w : Walked) → IsAllWalked expression p comps rows c w → (more : List (List ℕ)) → ((t : List ℕ) → In t more → all ≡ t) → ((t : List ℕ) → In t more → blown_set t) → ((t : List ℕ) → In t more → w.mappings ≡ []) → AreOnce (w.blown ++ more)
       → ((((s : List ℕ) → has s → ⊥) × (In all (w.blown ++ more) → ⊥)) → ⊥)
       → IsFound expression p comps rows c (record { mappings = w.mappings; refutation = None; blown = w.blown ++ more; large = false })
-  walked_found sets large w h more fulls blown once why = record {
+  walked_found sets large w h more fulls blown empty once why = record {
     large = large;
     mappings = all_map (IsDecreasing expression p comps rows c) (IsMappingOf expression p rows comps c) (λ m d. d.mapping) w.mappings h.mappings;
     at = all_map (IsDecreasing expression p comps rows c) (λ (m : Mapping). IsAt (positions_in p comps c) (mapping_of m.measures)) (λ m d. d.at) w.mappings h.mappings;
@@ -206,6 +210,10 @@ module _ (expression : ℕ → Tree → List ℤ) (p : Listing) (comps : Partiti
     sets = λ s i. elim (of-append w.blown more s i) [ inl old ↦ up_to_set many many s (in_whole w.blown (chosen_up_to many many) s h.blown_order old) | inr new ↦ subst (IsSet 1 (suc many)) (fulls s new) (full_is_set many) ];
     given_up = λ s i. elim (of-append w.blown more s i) [ inl old ↦ h.given_up s old | inr new ↦ blown s new ];
     once = once;
+    apart = λ s i. elim (of-append w.blown more s i) [
+      | inl old ↦ subst (λ (ss : List (List ℕ)). IsAbove ss s → ⊥) (sym h.supports) (h.apart s old)
+      | inr new ↦ subst (λ (ms : List Mapping). IsAbove (map (support_of (positions_in p comps c)) ms) s → ⊥) (sym (empty s new)) (λ above. absurd above.1)
+    ];
   }
 
   -- where a support was found, not all is excluded
@@ -220,7 +228,7 @@ module _ (expression : ℕ → Tree → List ℤ) (p : Listing) (comps : Partiti
       → (given_up none : Bool) → (given_up ≡ true → blown_set all) → (given_up ≡ false → ((s : List ℕ) → has s → ⊥) → ⊥) → IsTrue none ↔ (w.mappings ≡ [])
       → (blown : List (List ℕ)) → IsCompleted given_up none all w.blown blown → IsFound expression p comps rows c (record { mappings = w.mappings; refutation = None; blown = blown; large = false })
   completed_found sets large w h given_up none given undone empty blown done =
-      let found = walked_found sets large w h done.more (λ t i. (done.full_only t i).1) (λ t i. let f = done.full_only t i in subst blown_set f.1 (given f.0)) (subst AreOnce done.is (done.once h.once)) (λ k. why k.0 (λ i. k.1 (subst (In all) done.is i))) in
+      let found = walked_found sets large w h done.more (λ t i. (done.full_only t i).1) (λ t i. let f = done.full_only t i in subst blown_set f.1 (given f.0)) (λ t i. empty.0 (done.full_only t i).2) (subst AreOnce done.is (done.once h.once)) (λ k. why k.0 (λ i. k.1 (subst (In all) done.is i))) in
       subst (λ (b : List (List ℕ)). IsFound expression p comps rows c (record { mappings = w.mappings; refutation = None; blown = b; large = false })) (sym done.is) found
     where
       true_of : (b : Bool) → IsTrue b → b ≡ true
@@ -274,11 +282,11 @@ not_below all (t ∷ ts) e i = go (is_part all t) refl e i (not_below all ts)
     go false q k (inl s) rec = let self : is_part all t ≡ true = subst (λ u. is_part all u ≡ true) (sym s) (part_self all) in cc
     go false q k (inr j) rec = rec k j
 
-pub pushed_full : (given_up none : Bool) (all : List ℕ) (blown : List (List ℕ)) → given_up ≡ true → list_any (λ t. is_part all t) blown ≡ false → IsCompleted given_up none all blown (blown ++ all ∷ [])
-pushed_full given_up none all blown given e = record {
+pub pushed_full : (given_up none : Bool) (all : List ℕ) (blown : List (List ℕ)) → given_up ≡ true → none ≡ true → list_any (λ t. is_part all t) blown ≡ false → IsCompleted given_up none all blown (blown ++ all ∷ [])
+pushed_full given_up none all blown given empty e = record {
   more = all ∷ [];
   is = refl;
-  full_only = λ t i. elim i [ inl same ↦ (given, same) | inr nothing ↦ absurd nothing ];
+  full_only = λ t i. elim i [ inl same ↦ (given, same, empty) | inr nothing ↦ absurd nothing ];
   once = λ o. once_push blown all o (not_below all blown e);
   there = λ g n. (all, in-right blown (all ∷ []) all (inl refl), part_self all);
 }

@@ -1,8 +1,8 @@
 -- The mapping that a point of a set's system gives is found.
-use Rattle.std.proofs.Common.{◌≡◌, ℕ, zero, suc, ◌+◌, ◌-◌, ◌<◌, ◌≤◌, ◌==◌, ℤ, pos, Bool, true, false, if◌then◌else◌, List, [], ◌∷◌, ◌++◌, map, filter, take, drop, length, slice_get, Option, None, Some, refl, ap, sym, subst, ◌∙◌, arith, eqb-true}
+use Rattle.std.proofs.Common.{◌≡◌, ℕ, ◌+◌, ◌-◌, ◌==◌, ℤ, pos, Bool, true, false, if◌then◌else◌, List, [], ◌∷◌, ◌++◌, map, filter, take, drop, length, slice_get, Some, refl, ap, sym, subst, ◌∙◌, arith, eqb-true}
 use Rattle.std.specs.List.{AllByRecursion, list_any}
 use Rattle.std.proofs.lemmas.List.{length-map}
-use Rattle.cti_terms.specs.Listing.{IsClause, IsProgram, Listing}
+use Rattle.cti_terms.specs.Listing.{IsClause, Listing}
 use Rattle.cti_terms.specs.Tree.{Tree}
 use Rattle.call_components.specs.Numbers.{number_of}
 use Rattle.call_components.specs.Partition.{Partition}
@@ -10,16 +10,14 @@ use Rattle.linear_rows.specs.Rows.{AllHold, IsPoint}
 use Rattle.number_tests.specs.Shape.{IsLevelPart}
 use Rattle.number_tests.specs.declared.level_part.LevelPart.{LevelPart}
 use Rattle.termination_model.specs.BlownSupports.{same_position}
-use Rattle.termination_model.specs.ComponentViews.{members_in, positions_in}
-use Rattle.termination_model.specs.OwnCalls.{Position as Place}
-use Rattle.termination_model.specs.Ready.{arity_in, positions_by}
+use Rattle.termination_model.specs.Ready.{arity_in}
 use Rattle.termination_model.specs.SupportSystem.{support_rows}
 use Rattle.termination_model.specs.Supports.{picked_from}
 use Rattle.termination_model.proofs.Lists.{by_places}
 use Rattle.level_systems.specs.Falling.{AreFallsOf, ShowFalls}
 use Rattle.level_systems.specs.Held.{IsHeld, spelled}
 use Rattle.level_systems.specs.Mappings.{HasMeasures, IsMappingOf, level_in}
-use Rattle.level_systems.specs.Pairs.{call_at, clause_at}
+use Rattle.level_systems.specs.Pairs.{clause_at}
 use Rattle.level_systems.specs.Recalled.{count_of}
 use Rattle.level_systems.specs.Searched.{AreMeasuresAt, IsComponent, IsFoundIn}
 use Rattle.level_systems.specs.declared.component.Component.{Component}
@@ -28,7 +26,7 @@ use Rattle.level_systems.specs.declared.measure.Measure.{Measure}
 use Rattle.level_systems.specs.declared.own_call.OwnCall.{OwnCall}
 use Rattle.level_systems.specs.declared.position.Position.{Position}
 use Rattle.level_systems.proofs.Falls.{falls_are, pairs_are}
-use Rattle.level_dual.proofs.SearchLaws.{drop_mapped, length_drop, length_take, lives, mine, point_found, split_values, take_mapped}
+use Rattle.level_dual.proofs.SearchLaws.{drop_mapped, length_drop, length_take, lives, point_found, split_values, take_mapped}
 use Rattle.level_systems.proofs.SoundLaws.{some_arity}
 
 pub part_of : (P : ℕ → LevelPart → Type 0) (ms : List Measure) (q : ℕ) (l : LevelPart) → AllByRecursion (λ (m : Measure). P m.pred.0 m.part) ms → level_in ms q ≡ Some l → P q l

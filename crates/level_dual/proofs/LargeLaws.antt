@@ -106,6 +106,10 @@ set_lower : (lo low hi : ℕ) (s : List ℕ) → low ≤ lo → IsSet lo hi s �
 set_lower lo low hi [] l h = tt
 set_lower lo low hi (y ∷ s) l h = let a = h.0 in (omega (arith, a, l), h.1, h.2)
 
+-- a set is no part of itself without one of its numbers
+pub not_within : (i : ℕ) (s : List ℕ) → In i s → is_part s (without i s) ≡ true → ⊥
+not_within i s h part = without_not i s (to_part s (without i s) part i h)
+
 -- a set without a number is one
 pub without_set : (lo hi i : ℕ) (s : List ℕ) → IsSet lo hi s → IsSet lo hi (without i s)
 without_set lo hi i [] h = tt
@@ -171,7 +175,7 @@ module _ (expression : ℕ → Tree → List ℤ) (p : Listing) (comps : Partiti
     }
 
   pub all_tried : (s : List ℕ) (k : ℕ) (blown : List (List ℕ)) → length s ≤ k → AreTried expression p comps rows c s k blown → IsLeftOut expression p comps rows c s (NoneLeft blown)
-  all_tried s k blown l h = ((λ i m. h.tried i (subst (In i) (sym (take_whole s k l)) m)), h.given_up, h.once, λ t m. let w = h.tested t m in (w.0, w.2))
+  all_tried s k blown l h = ((λ i m. h.tried i (subst (In i) (sym (take_whole s k l)) m)), h.given_up, h.once, λ t m. let w = h.tested t m in (w.0, w.2, taken_in s k w.0 w.1))
 
   -- what is found where no position can be left out
   pub large_found : IsTrue true ↔ (12 < count expression p comps rows c) → (m : Mapping) → IsHadMapping expression p comps rows c m → (blown : List (List ℕ))
@@ -198,4 +202,8 @@ module _ (expression : ℕ → Tree → List ℤ) (p : Listing) (comps : Partiti
     sets = λ t i. let w = left.3 t i in subst (IsSet 1 (suc (count expression p comps rows c))) (sym w.1) (without_set 1 (suc (count expression p comps rows c)) w.0 (support_of (positions_in p comps c) m) set);
     given_up = left.1;
     once = left.2;
+    apart = λ t i above. elim above.1 [
+      | inl e ↦ let w = left.3 t i in not_within w.0 (support_of (positions_in p comps c) m) (w.2) (subst (λ (u : List ℕ). is_part (support_of (positions_in p comps c) m) u ≡ true) w.1 (subst (λ (u : List ℕ). is_part u t ≡ true) (sym e) above.2))
+      | inr none ↦ absurd none
+    ];
   }

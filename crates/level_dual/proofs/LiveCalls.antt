@@ -14,7 +14,7 @@ use Rattle.linear_rows.specs.Plain.{HaveWidth, plain_row, plain_rows}
 use Rattle.linear_rows.specs.Proves.{Proves}
 use Rattle.linear_rows.specs.Rows.{AreEmpty}
 use Rattle.linear_rows.specs.Showing.{bottom_row}
-use Rattle.linear_rows.specs.Solving.{Solution, coefficients, solution, zeros}
+use Rattle.linear_rows.specs.Solving.{Solution, solution, zeros}
 use Rattle.linear_rows.specs.Solving.Solution.{Blown, Found, Refuted}
 use Rattle.linear_rows.specs.Systems.{at_last, opposite, test_rows}
 use Rattle.linear_rows.specs.declared.multipliers.Multipliers.{Multipliers}

@@ -1,9 +1,7 @@
 -- The members of a recursive component have clauses, and so are the members of its view.
-use Rattle.std.proofs.Common.{◌≡◌, ℕ, ℤ, zero, suc, ◌<◌, ◌==◌, Bool, true, false, List, [], ◌∷◌, map, filter, length, slice_get, slice_index_or, Contains, Some, Any, ◌⊎◌, inl, inr, refl, ap, sym, subst, ◌∙◌, arith, eq-eqb}
-use Rattle.std.specs.List.{AllByRecursion}
-use Rattle.cti_terms.specs.Listing.{IsProgram, Listing}
+use Rattle.std.proofs.Common.{◌≡◌, ℕ, ℤ, ◌==◌, true, List, [], ◌∷◌, filter, length, slice_get, Some, Any, inl, inr, refl, ap, subst, ◌∙◌, arith, eq-eqb}
+use Rattle.cti_terms.specs.Listing.{Listing}
 use Rattle.cti_terms.specs.Tree.{Tree}
-use Rattle.cti_terms.specs.declared.atom_list.Atom.{Atom}
 use Rattle.cti_terms.specs.declared.clauses.Clause.{Clause}
 use Rattle.call_components.specs.Calls.{Calls, Reaches}
 use Rattle.call_components.specs.Calls.Reaches.{itself as here, onward}

@@ -1,29 +1,25 @@
 -- What the search at a set of positions finds.
-use Rattle.std.proofs.Common.{◌≡◌, ℕ, zero, suc, ◌+◌, ◌<◌, ◌≤◌, ℤ, pos, negsuc, Bool, true, List, [], ◌∷◌, ◌++◌, map, filter, take, drop, length, slice_get, slice_index, slice_index_or, Contains, Option, None, Some, inl, inr, ◌⊎◌, refl, ap, sym, subst, ◌∙◌, arith, sum_by}
-use Rattle.std.specs.Prelude.{All, IsSomeAnd}
+use Rattle.std.proofs.Common.{◌≡◌, ℕ, zero, suc, ◌+◌, ◌<◌, ◌≤◌, ℤ, pos, negsuc, Bool, true, List, [], ◌∷◌, ◌++◌, map, filter, take, drop, length, slice_get, slice_index, slice_index_or, Option, None, Some, inl, inr, refl, ap, sym, subst, ◌∙◌, arith}
 use Rattle.std.specs.List.{AllByRecursion, list_any}
 use Rattle.std.specs.List.Sorted.{IsStrictlyIncreasing}
-use Rattle.std.proofs.lemmas.List.{length-append, length-map}
-use Rattle.cti_terms.specs.Listing.{IsProgram, Listing}
+use Rattle.std.proofs.lemmas.List.{length-map}
+use Rattle.cti_terms.specs.Listing.{Listing}
 use Rattle.cti_terms.specs.Tree.{Tree}
 use Rattle.call_components.specs.Numbers.{number_of}
-use Rattle.call_components.specs.Partition.{AreComponents, IsIn, Partition}
+use Rattle.call_components.specs.Partition.{IsIn, Partition}
 use Rattle.linear_rows.specs.Members.{In}
-use Rattle.linear_rows.specs.Plain.{plain_row, plain_rows}
-use Rattle.linear_rows.specs.Proves.{Refutes}
+use Rattle.linear_rows.specs.Plain.{plain_row}
 use Rattle.linear_rows.specs.Rows.{AllHold}
 use Rattle.linear_rows.specs.declared.multipliers.Multipliers.{Multipliers}
-use Rattle.term_size.specs.Norm.{IsNorm}
 use Rattle.termination_model.specs.BlownSupports.{same_position}
 use Rattle.termination_model.specs.Claims.{Mapping as PlainMapping, SomeOf}
 use Rattle.termination_model.specs.ComponentViews.{Has, component_view, members_in, no_truth, positions_in}
 use Rattle.termination_model.specs.Excluding.{IsAt}
-use Rattle.termination_model.specs.Minimal.{IsExcluded}
 use Rattle.termination_model.specs.Modes.{is_part}
-use Rattle.termination_model.specs.OwnCalls.{OwnCall as Recalled, Position, members_of, own_calls, rows_before}
+use Rattle.termination_model.specs.OwnCalls.{OwnCall as Recalled, Position, own_calls, rows_before}
 use Rattle.termination_model.specs.Ready.{Apart, arity_in, positions_by}
 use Rattle.termination_model.specs.Refutation.{Decreases}
-use Rattle.termination_model.specs.SupportSystem.{mapping_at, row_count, support_rows, unknowns}
+use Rattle.termination_model.specs.SupportSystem.{mapping_at, row_count, support_rows}
 use Rattle.termination_model.specs.Supports.{AreDistinct, MappingsFromSystems, picked_from, support_from}
 use Rattle.termination_model.proofs.Having.{decreases, picked_in, systems_give_mappings}
 use Rattle.termination_model.specs.Best.{coefficient}
@@ -35,9 +31,8 @@ use Rattle.linear_rows.proofs.Members.{of-map}
 use Rattle.termination_model.proofs.Lists.{indexed}
 use Rattle.termination_model.proofs.Points.{points_fall}
 use Rattle.termination_model.proofs.Readiness.{own_of, positions_are_distinct}
-use Rattle.level_systems.specs.Falling.{AreFallsOf, ShowFalls}
-use Rattle.level_systems.specs.Held.{IsHeld, live_of, pair_of, spelled, with_live}
-use Rattle.level_systems.specs.Mappings.{HasMeasures, IsMappingOf, level_in, mapping_of, support_of}
+use Rattle.level_systems.specs.Held.{IsHeld, live_of, with_live}
+use Rattle.level_systems.specs.Mappings.{IsMappingOf, mapping_of, support_of}
 use Rattle.level_systems.specs.Recalled.{count_of, with_count}
 use Rattle.level_systems.specs.Searched.{IsComponent, IsFoundIn}
 use Rattle.level_systems.specs.Valued.{IsPartOf}
@@ -45,7 +40,7 @@ use Rattle.level_systems.specs.declared.component.Component.{Component}
 use Rattle.level_systems.specs.declared.mapping.Mapping.{Mapping}
 use Rattle.level_systems.specs.declared.measure.Measure.{Measure}
 use Rattle.level_systems.specs.declared.own_call.OwnCall.{OwnCall}
-use Rattle.level_systems.proofs.HeldCalls.{are_lives, calls_are, lives_few, lives_own, all_live, re, rows_are}
+use Rattle.level_systems.proofs.HeldCalls.{are_lives, calls_are, lives_few, re, rows_are}
 use Rattle.level_dual.proofs.SupportLaws.{mapping_same, of_ordered, offset_same, part_or_none, pred_of, support_same}
 use Rattle.level_systems.proofs.SoundLaws.{inside_member}
 

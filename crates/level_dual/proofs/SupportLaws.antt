@@ -1,19 +1,19 @@
 -- Supports of mappings that are given by parts, and sets of positions in another order.
-use Rattle.std.proofs.Common.{◌≡◌, ℕ, zero, suc, ◌+◌, ◌<◌, ◌==◌, ◌&&◌, ◌||◌, ℤ, pos, Bool, true, false, if◌then◌else◌, List, [], ◌∷◌, ◌++◌, map, filter, length, Option, None, Some, ◌⊎◌, inl, inr, refl, ap, sym, subst, ◌∙◌, arith, nat_lt, eq-eqb, eqb-true}
+use Rattle.std.proofs.Common.{◌≡◌, ℕ, zero, suc, ◌==◌, pos, Bool, true, false, if◌then◌else◌, List, [], ◌∷◌, map, filter, Some, ◌⊎◌, inl, inr, refl, ap, sym, subst, ◌∙◌, nat_lt, eq-eqb, eqb-true}
 use Rattle.std.specs.Prelude.{unsigned_abs}
 use Rattle.std.specs.List.{AllByRecursion, list_any}
 use Rattle.std.proofs.lemmas.Bool.{or_cases, or_left, or_right, and_parts, and_from}
 use Rattle.cti_terms.specs.Listing.{Listing}
 use Rattle.linear_rows.specs.Members.{In}
 use Rattle.linear_rows.specs.Step.{columns}
-use Rattle.linear_rows.proofs.Members.{in-filter, in-left, in-right, of-append, of-filter, of-map}
+use Rattle.linear_rows.proofs.Members.{in-filter, in-left, in-right, of-append, of-filter}
 use Rattle.number_tests.specs.declared.level_part.LevelPart.{LevelPart}
 use Rattle.termination_model.specs.Best.{coefficient}
 use Rattle.termination_model.specs.BlownSupports.{same_position}
 use Rattle.termination_model.specs.Claims.{Mapping}
 use Rattle.termination_model.specs.OwnCalls.{Position}
 use Rattle.termination_model.specs.Ready.{arity_in, positions_by}
-use Rattle.termination_model.specs.Supports.{picked_from, support_from}
+use Rattle.termination_model.specs.Supports.{support_from}
 use Rattle.number_tests.specs.Shape.{IsLevelPart}
 use Rattle.level_systems.specs.Falling.{HasParts}
 use Rattle.level_systems.specs.Mappings.{HasMeasures, natural_coefficients, level_in, mapping_of, natural_offset}

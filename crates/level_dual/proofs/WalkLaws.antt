@@ -9,7 +9,7 @@ use Rattle.call_components.proofs.Lists.{all_append}
 use Rattle.linear_rows.specs.Step.{columns}
 use Rattle.linear_rows.proofs.Members.{of-append}
 use Rattle.termination_model.specs.ComponentViews.{Has, positions_in}
-use Rattle.termination_model.specs.Minimal.{IsExcluded, IsSet}
+use Rattle.termination_model.specs.Minimal.{IsAbove, IsExcluded, IsSet}
 use Rattle.termination_model.specs.Modes.{chosen_up_to, is_part}
 use Rattle.termination_model.proofs.Lists.{map_push}
 use Rattle.termination_model.proofs.Sets.{part_self}
@@ -26,7 +26,7 @@ use Rattle.level_dual.specs.declared.walked.Walked.{Walked}
 use Rattle.level_dual.proofs.SearchLaws.{laws}
 use Rattle.level_dual.proofs.Subsequences.{kept_order, once_push, pushed_order}
 use Rattle.level_dual.proofs.Visits.{give_up_set, none_left, none_right, not_above_of, pass_set, refute_set}
-use Rattle.level_dual.proofs.WalkSteps.{walk_steps}
+use Rattle.level_dual.proofs.WalkSteps.{apart_still, walk_steps}
 
 module _ (size : (ℕ → ℕ) → Tree → ℕ) (truth : (ℕ → Bool) → Tree → Bool) (expression : ℕ → Tree → List ℤ) (p : Listing) (comps : Partition) (rows : ℕ → List (List ℤ)) (c : ℕ) (x : Component)
     (h : IsComponent size truth expression p comps rows c x) where
@@ -61,6 +61,7 @@ module _ (size : (ℕ → ℕ) → Tree → ℕ) (truth : (ℕ → Bool) → Tre
       blown_order = kept_order (chosen_up_to n n) w.blown i s at before.blown_order;
       given_up = before.given_up;
       once = before.once;
+      apart = before.apart;
     }
 
     pub refuted_on : IsExcluded had s → IsWalkedTo expression p comps rows c n (suc i) w
@@ -72,6 +73,7 @@ module _ (size : (ℕ → ℕ) → Tree → ℕ) (truth : (ℕ → Bool) → Tre
       blown_order = kept_order (chosen_up_to n n) w.blown i s at before.blown_order;
       given_up = before.given_up;
       once = before.once;
+      apart = before.apart;
     }
 
     pub given_up_on : passed ≡ false → IsBlownSet expression p comps rows c s → (blown : List (List ℕ)) → blown ≡ w.blown ++ s ∷ [] → IsWalkedTo expression p comps rows c n (suc i) (record { found = w.found; mappings = w.mappings; blown = blown })
@@ -87,6 +89,11 @@ module _ (size : (ℕ → ℕ) → Tree → ℕ) (truth : (ℕ → Bool) → Tre
         | inr (inr none) ↦ absurd none
       ];
       once = once_push w.blown s before.once (λ j. not_above_of s w.blown (none_right (list_any (λ t. is_part t s) w.found) (list_any (λ t. is_part t s) w.blown) fresh) (s, j, part_self s));
+      apart = λ t j. elim (of-append w.blown (s ∷ []) t j) [
+        | inl old ↦ before.apart t old
+        | inr (inl e) ↦ subst (λ (v : List ℕ). IsAbove w.found v → ⊥) e (not_above_of s w.found (none_left (list_any (λ t. is_part t s) w.found) (list_any (λ t. is_part t s) w.blown) fresh))
+        | inr (inr none) ↦ absurd none
+      ];
     })
 
     pub mapped_on : passed ≡ false → (m : Mapping) → IsFoundIn expression p comps rows c s m → (found : List (List ℕ)) (mappings : List Mapping) → found ≡ w.found ++ s ∷ [] → mappings ≡ w.mappings ++ m ∷ []
@@ -105,10 +112,13 @@ module _ (size : (ℕ → ℕ) → Tree → ℕ) (truth : (ℕ → Bool) → Tre
           blown_order = kept_order (chosen_up_to n n) w.blown i s at before.blown_order;
           given_up = before.given_up;
           once = before.once;
+          apart = apart_still n had sets i s u w.found w.blown at before.walked
+              (not_above_of s w.found (none_left (list_any (λ t. is_part t s) w.found) (list_any (λ t. is_part t s) w.blown) fresh))
+              (not_above_of s w.blown (none_right (list_any (λ t. is_part t s) w.found) (list_any (λ t. is_part t s) w.blown) fresh)) is.part is.has before.blown_order before.apart;
         }))
 
   pub none_walked : IsWalkedTo expression p comps rows c n 0 (record { found = []; mappings = []; blown = [] })
-  none_walked = record { walked = record { settled = λ s k. absurd k; minimal = λ s k. absurd k }; supports = refl; mappings = tt; found_order = tt; blown_order = tt; given_up = λ s k. absurd k; once = tt }
+  none_walked = record { walked = record { settled = λ s k. absurd k; minimal = λ s k. absurd k }; supports = refl; mappings = tt; found_order = tt; blown_order = tt; given_up = λ s k. absurd k; once = tt; apart = λ s k. absurd k }
 
   take_all : {X : Type 0} (xs : List X) (k : ℕ) → length xs ≤ k → take k xs ≡ xs
   take_all [] zero l = refl
@@ -128,4 +138,5 @@ module _ (size : (ℕ → ℕ) → Tree → ℕ) (truth : (ℕ → Bool) → Tre
         blown_order = subst (IsSubsequence w.blown) whole at.blown_order;
         given_up = at.given_up;
         once = at.once;
+        apart = at.apart;
       }

@@ -35,7 +35,7 @@ module _ (expression : ℕ → Tree → List ℤ) (p : Listing) (comps : Partiti
   IsLeftOut s (Smaller m) = IsHadMapping m
   IsLeftOut s (NoneLeft blown) =
       ((i : ℕ) → In i s → In (without i s) blown ⊎ IsExcluded (Has expression p comps rows c) (without i s)) × ((t : List ℕ) → In t blown → IsBlownSet expression p comps rows c t) × AreOnce blown
-      × ((t : List ℕ) → In t blown → (i : ℕ) × (t ≡ without i s))
+      × ((t : List ℕ) → In t blown → (i : ℕ) × (t ≡ without i s) × In i s)
 
   -- each of the first k numbers of a set was left out
   pub record AreTried (s : List ℕ) (k : ℕ) (blown : List (List ℕ)) : Type 0 where

@@ -7,6 +7,7 @@ use Rattle.cti_terms.specs.Tree.{Tree}
 use Rattle.call_components.specs.Partition.{Partition}
 use Rattle.termination_model.specs.ComponentViews.{Has, positions_in}
 use Rattle.linear_rows.specs.Members.{In}
+use Rattle.termination_model.specs.Minimal.{IsAbove}
 use Rattle.termination_model.specs.Modes.{chosen_up_to, is_part}
 use Rattle.level_systems.specs.Found.{IsBlownSet}
 use Rattle.level_systems.specs.Mappings.{support_of}
@@ -25,6 +26,7 @@ module _ (expression : ℕ → Tree → List ℤ) (p : Listing) (comps : Partiti
     pub blown_order : IsSubsequence w.blown (take i (chosen_up_to n n))
     pub given_up : (s : List ℕ) → In s w.blown → IsBlownSet expression p comps rows c s
     pub once : AreOnce w.blown
+    pub apart : (s : List ℕ) → In s w.blown → IsAbove w.found s → ⊥
 
   -- after all sets
   pub record IsAllWalked (w : Walked) : Type 0 where
@@ -35,11 +37,12 @@ module _ (expression : ℕ → Tree → List ℤ) (p : Listing) (comps : Partiti
     pub blown_order : IsSubsequence w.blown (chosen_up_to (length (positions_in p comps c)) (length (positions_in p comps c)))
     pub given_up : (s : List ℕ) → In s w.blown → IsBlownSet expression p comps rows c s
     pub once : AreOnce w.blown
+    pub apart : (s : List ℕ) → In s w.blown → IsAbove w.found s → ⊥
 
 -- the sets that were given up, and perhaps the full one, where it was given up and nothing was found
 pub record IsCompleted (given_up none : Bool) (full : List ℕ) (blown sets : List (List ℕ)) : Type 0 where
   pub more : List (List ℕ)
   pub is : sets ≡ blown ++ more
-  pub full_only : (t : List ℕ) → In t more → (given_up ≡ true) × (full ≡ t)
+  pub full_only : (t : List ℕ) → In t more → (given_up ≡ true) × (full ≡ t) × (none ≡ true)
   pub once : AreOnce blown → AreOnce sets
   pub there : given_up ≡ true → none ≡ true → (t : List ℕ) × In t sets × (is_part full t ≡ true)

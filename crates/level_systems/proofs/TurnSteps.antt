@@ -46,14 +46,33 @@ turned_length own positions members earlier later before after x =
     let la : length a ≡ length positions = length-map positions (λ p. share own.caller.0 (plain_rows own.caller_sizes.list) x (spelled p) -ℤ share own.callee.0 (plain_rows own.callee_sizes.list) x (spelled p)) in
     let lb : length b ≡ length members = length-map members (λ m. offset_share own.caller.0 x m.0 -ℤ offset_share own.callee.0 x m.0) in
     let le : length e ≡ length own.rows.list = length-map own.rows.list (λ r. neg_ℤ (entry (plain_row r) x)) in
-    omega (arith, la, lb, le, drops_long earlier later x, length_zeros before, length_zeros after,
-      length-append ((((a ++ b) ++ d) ++ zeros before) ++ e) (zeros after), length-append (((a ++ b) ++ d) ++ zeros before) e,
-      length-append ((a ++ b) ++ d) (zeros before), length-append (a ++ b) d, length-append a b)
+    omega (
+      arith,
+      la,
+      lb,
+      le,
+      drops_long earlier later x,
+      length_zeros before,
+      length_zeros after,
+      length-append ((((a ++ b) ++ d) ++ zeros before) ++ e) (zeros after),
+      length-append (((a ++ b) ++ d) ++ zeros before) e,
+      length-append ((a ++ b) ++ d) (zeros before),
+      length-append (a ++ b) d,
+      length-append a b,
+    )
 
 pub sum_length : (positions members calls count : ℕ) → length (((zeros positions ++ zeros members) ++ ones calls) ++ zeros count) ≡ positions + (members + (calls + count))
 sum_length positions members calls count =
-    omega (arith, length-append ((zeros positions ++ zeros members) ++ ones calls) (zeros count), length-append (zeros positions ++ zeros members) (ones calls),
-      length-append (zeros positions) (zeros members), length_zeros positions, length_zeros members, length_ones calls, length_zeros count)
+    omega (
+      arith,
+      length-append ((zeros positions ++ zeros members) ++ ones calls) (zeros count),
+      length-append (zeros positions ++ zeros members) (ones calls),
+      length-append (zeros positions) (zeros members),
+      length_zeros positions,
+      length_zeros members,
+      length_ones calls,
+      length_zeros count,
+    )
 
 to_right : {X : Type 0} (a b c d : List X) → ((a ++ b) ++ c) ++ d ≡ a ++ (b ++ (c ++ d))
 to_right a b c d = append_assoc (a ++ b) c d ∙ append_assoc a b (c ++ d)

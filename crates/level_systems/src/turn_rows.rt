@@ -18,18 +18,15 @@ ghost use Rattle.termination_model.specs.TurnSystem.{call_turn_rows, drop_entrie
 
 use crate::own_call::OwnCall;
 use crate::position::Position;
-use crate::support_rows::{add_multipliers, add_offsets, add_positions, add_zeros, less_one, width_of};
+use crate::support_rows::{
+    add_multipliers, add_offsets, add_positions, add_zeros, less_one, width_of,
+};
 use cti_terms::PredId;
 use linear_rows::{Numbers, Row, Rows};
 use std::alloc::{AllocError, Global};
 
 // What the drops of calls count in a column of a call's row, with the given number of calls before and after it.
-fn add_drops(
-    row: &mut Vec<i128>,
-    earlier: usize,
-    later: usize,
-    x: usize,
-) -> Result<(), AllocError>
+fn add_drops(row: &mut Vec<i128>, earlier: usize, later: usize, x: usize) -> Result<(), AllocError>
     ensures { OnOk result (row.new.items ≡ row.old.items ++ drop_entries earlier later x) }
 {
     add_zeros(row, earlier)?;
@@ -184,17 +181,21 @@ pub fn turn_system(
     let Some(others) = calls.len().checked_add(count) else {
         return Err(AllocError);
     };
-    let mut system = Rows::new(
-        alloc,
-        width_of(positions.len(), members.len(), others)?,
-    );
+    let mut system = Rows::new(alloc, width_of(positions.len(), members.len(), others)?);
     let mut before = 0;
     let mut earlier = 0;
     for own in calls {
         let rows = own.rows.list.len();
         let later = calls.len() - earlier - 1;
         add_turn(
-            alloc, own, positions, members, earlier, later, before, count - before - rows,
+            alloc,
+            own,
+            positions,
+            members,
+            earlier,
+            later,
+            before,
+            count - before - rows,
             &mut system,
         )?;
         before += rows;

@@ -1,9 +1,8 @@
-use Rattle.std.proofs.Common.{◌≡◌, ◌+◌, ◌≤◌, ◌≤ℤ◌, ◌++◌, ◌∷◌, [], ℕ, ℤ, pos, List, All, drop, length, slice_get, Option, None, Some, refl, ap, sym, subst, ◌∙◌, arith}
-use Rattle.std.specs.List.{AllByRecursion}
+use Rattle.std.proofs.Common.{◌≡◌, ◌+◌, ◌≤◌, ◌≤ℤ◌, ◌++◌, ◌∷◌, [], ℤ, pos, List, All, drop, length, slice_get, Some, refl, ap, sym, subst, ◌∙◌, arith}
 use Rattle.linear_rows.specs.Showing.{AreMultipliers}
 use Rattle.linear_rows.specs.declared.multipliers.Multipliers.{Multipliers}
-use Rattle.termination_model.proofs.Lists.{append_assoc, at_place, by_places}
-use Rattle.level_systems.specs.Falling.{AreFallsOf, HasParts, IsFallIf, IsReady, ShowFalls, ShowsFall, by_of, values_after}
+use Rattle.termination_model.proofs.Lists.{append_assoc, at_place}
+use Rattle.level_systems.specs.Falling.{AreFallsOf, IsFallIf, ShowFalls, ShowsFall, by_of, values_after}
 use Rattle.level_systems.specs.Recalled.{count_of, with_count}
 use Rattle.level_systems.specs.declared.fall.Fall.{Fall}
 use Rattle.level_systems.specs.declared.own_call.OwnCall.{OwnCall}

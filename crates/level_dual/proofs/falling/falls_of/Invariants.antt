@@ -1,4 +1,4 @@
-use Rattle.std.proofs.Common.{◌≡◌, ◌≤◌, ◌≤ℤ◌, ◌++◌, List, All, drop, length, pos}
+use Rattle.std.proofs.Common.{◌≤◌, ◌≤ℤ◌, ◌++◌, List, All, drop, length, pos}
 use Rattle.level_systems.specs.Falling.{AreFallsOf, ShowFalls}
 use Rattle.level_systems.specs.Recalled.{count_of}
 use Rattle.level_systems.specs.declared.fall.Fall.{Fall}

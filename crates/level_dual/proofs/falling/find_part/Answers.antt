@@ -1,5 +1,4 @@
-use Rattle.std.proofs.Common.{◌≡◌, ℕ, ◌==◌, ◌+◌, if◌then◌else◌, Bool, true, false, List, ◌∷◌, drop, length, slice_get, Option, None, Some, refl, ap, sym, subst, ◌∙◌, arith, eq-eqb, eqb-true}
-use Rattle.number_tests.specs.declared.level_part.LevelPart.{LevelPart}
+use Rattle.std.proofs.Common.{◌≡◌, ◌==◌, ◌+◌, if◌then◌else◌, true, false, List, drop, Some, refl, ap, sym, ◌∙◌, arith, eq-eqb}
 use Rattle.termination_model.proofs.Lists.{at_place}
 use Rattle.level_systems.specs.Mappings.{level_in}
 use Rattle.level_systems.specs.declared.measure.Measure.{Measure}

@@ -1,4 +1,4 @@
-use Rattle.std.proofs.Common.{◌≡◌, ◌-◌, List, drop, length, take, ap, sym, ◌∙◌}
+use Rattle.std.proofs.Common.{◌-◌, drop, length, take, ap, sym, ◌∙◌}
 use Rattle.level_systems.proofs.ValueLaws.{rest_whole}
 use Rattle.level_systems.specs.Falling.{values_after}
 use Rattle.level_dual.proofs.falling.values_after.Goals as goal

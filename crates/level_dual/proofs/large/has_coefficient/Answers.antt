@@ -1,4 +1,4 @@
-use Rattle.std.proofs.Common.{rules, ◌≡◌, ℤ, ap, sym, ◌∙◌}
+use Rattle.std.proofs.Common.{rules, ℤ, ap, sym, ◌∙◌}
 use Rattle.std.specs.Int.{w128}
 use Rattle.std.specs.Prelude.{FitsSigned, nat_lt, unsigned_abs}
 use Rattle.std.proofs.lemmas.Int.{to_z-of_z}

@@ -1,4 +1,4 @@
-use Rattle.std.proofs.Common.{◌≡◌, ◌++◌, drop, take}
+use Rattle.std.proofs.Common.{◌≡◌, take}
 use Rattle.level_systems.specs.Found.{without}
 use Rattle.level_dual.proofs.large.without.Given as goal
 

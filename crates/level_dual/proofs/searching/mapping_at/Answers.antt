@@ -1,11 +1,10 @@
-use Rattle.std.proofs.Common.{◌≡◌, ◌-◌, ◌≤ℤ◌, ℕ, ℤ, pos, List, All, drop, length, map, take, Some, ap, sym, subst, ◌∙◌}
+use Rattle.std.proofs.Common.{◌-◌, ◌≤ℤ◌, ℤ, pos, List, All, drop, length, map, take, sym, subst}
 use Rattle.std.specs.List.{AllByRecursion}
 use Rattle.call_components.specs.Numbers.{number_of}
 use Rattle.call_components.proofs.Lists.{all_map}
 use Rattle.level_systems.specs.Falling.{HasParts, IsReady}
 use Rattle.level_systems.specs.Searched.{IsSoundCall}
 use Rattle.level_systems.specs.declared.measure.Measure.{Measure}
-use Rattle.level_systems.specs.declared.own_call.OwnCall.{OwnCall}
 use Rattle.level_dual.proofs.PartLaws.{all_dropped}
 use Rattle.level_dual.proofs.SupportLaws.{has_parts}
 use Rattle.level_systems.proofs.ValueLaws.{rest_whole}

@@ -1,4 +1,4 @@
-use Rattle.std.proofs.Common.{◌≡◌, ◌+◌, ℕ, List, drop, length, map, pos, take}
+use Rattle.std.proofs.Common.{◌≡◌, ℕ, List, drop, length, map, pos, take}
 use Rattle.std.specs.List.{AllByRecursion}
 use Rattle.call_components.specs.Numbers.{number_of}
 use Rattle.number_tests.specs.Shape.{IsLevelPart}

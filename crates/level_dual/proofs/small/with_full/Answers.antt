@@ -15,4 +15,4 @@ pub returns : goal.returns
 returns c =
     let below : list_any (λ t. is_part c.args.full t) c.args.blown ≡ false =
     (λ j. list_any (λ t. is_part (sym c.as_slice-2.ensures j) t) (sym c.as_slice.ensures j)) ∙ sym c.is_below.ensures ∙ c.if-is_below.false in
-    subst (IsCompleted c.args.given_up c.args.none c.args.full c.args.blown) (sym c.in_ok-push.ensures.ok) (pushed_full c.args.given_up c.args.none c.args.full c.args.blown (search rules) below)
+    subst (IsCompleted c.args.given_up c.args.none c.args.full c.args.blown) (sym c.in_ok-push.ensures.ok) (pushed_full c.args.given_up c.args.none c.args.full c.args.blown (search rules) (search rules) below)

@@ -1,4 +1,4 @@
-use Rattle.std.proofs.Common.{◌≡◌, ◌+◌, ◌≤◌, ℕ, suc, List, length, slice_get, Some, ap, sym, subst, ◌∙◌, arith}
+use Rattle.std.proofs.Common.{◌≡◌, ◌+◌, ℕ, suc, List, length, slice_get, Some, ap, sym, subst, ◌∙◌, arith}
 use Rattle.termination_model.specs.Modes.{chosen_up_to}
 use Rattle.termination_model.proofs.Lists.{at_place}
 use Rattle.level_dual.specs.Walked.{IsWalkedTo}
