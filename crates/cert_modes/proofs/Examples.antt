@@ -43,6 +43,7 @@ level coeffs = record { coeffs = map pos coeffs; offset = pos 0 }
 -- these modes, and these preconditions
 abbrev parts : List (List ℕ) → List (List (List Cell)) → Parts
 parts modes preconditions = record {
+  norm = None;
   modes = modes ∷ [];
   rows = [];
   row_proofs = [];

@@ -1,12 +1,15 @@
 -- The fault that reading finds is the first one of the certificate.
 use Rattle.std.proofs.Common.{◌≡◌, ◌≢◌, ℕ, zero, suc, ◌+◌, ◌-◌, ◌<◌, ◌≤◌, ◌⊎◌, inl, inr, Bool, true, false, nat_lt, if◌then◌else◌, List, [], ◌∷◌, ◌++◌, length, slice_get, slice_index_or, Option, Some, None, option_and_then, unwrap_or, Ok, Err, refl, ap, sym, ◌∙◌, subst, arith, eq-eqb, lt-ltb, ltb-true, ltb-false, append_assoc, append-nil, length-append, ap₂, Result}
 use Rattle.std.proofs.lemmas.Bool.{false≢true}
+use Rattle.std.proofs.lemmas.Bool.Decides.{Decides-int_eq}
 use Rattle.std.specs.Prelude.{ℤ, pos}
 use Rattle.std.specs.Ordering.{int_eq}
 use Rattle.std.specs.List.{AllByRecursion, prefix_len}
 use Rattle.call_components.specs.Partition.{Partition, AreComponents}
 use Rattle.certificate.specs.declared.fact.Fact.{Fact}
 use Rattle.certificate.specs.declared.fact.Fact.TheVariants as fact
+use Rattle.certificate.specs.declared.norm.CertNorm.{CertNorm}
+use Rattle.certificate.specs.declared.norm.CertNorm.TheVariants.{Term}
 use Rattle.cti_terms.specs.Listing.{Listing}
 use Rattle.linear_rows.specs.declared.row.Rows.{Rows}
 use Rattle.linear_rows.specs.declared.point.Point.{Point}
@@ -16,21 +19,21 @@ use Rattle.cert_structure.specs.declared.fault.StructureReason.{StructureReason}
 use Rattle.cert_structure.specs.declared.fault.StructureReason.TheVariants as reason
 use Rattle.cert_structure.specs.declared.parts.Parts.{Parts}
 use Rattle.cert_structure.specs.Numbered.{facts_from, EachFrom, AreEach}
-use Rattle.cert_structure.specs.Order.{pred_text, mode_facts, size_facts, proof_facts, ground_facts, level_facts, fall_facts, pre_facts, refuted_facts, refutation_facts, point_facts, at_facts, listed, is_note}
+use Rattle.cert_structure.specs.Order.{pred_text, head_facts, mode_facts, size_facts, proof_facts, ground_facts, level_facts, fall_facts, pre_facts, refuted_facts, refutation_facts, point_facts, at_facts, listed, is_note}
 use Rattle.cert_structure.specs.Shape.{IsPairPoint, PairsAscend, pair_of, arity_in, mappings_of, is_recursive, is_pair, IsLevel, IsRefutation, HaveShape}
 use Rattle.cert_structure.specs.Structure.{IsStructured, AreNotes}
 use Rattle.cert_structure.specs.StructureFault.{HaveOnePlace, content_fault, claimed, IsBeginning, whole, short, IsStructureFault, missing, extra, content}
 use Rattle.cert_structure.specs.StructureFault as place
-use Rattle.cert_structure.specs.Walk.{◌>>=◌, Wrong, Read, result_map, wrong_at, with_first, take_refuted, is_open, read_point, read_points, read_group, read_version, read_each, read_modes, read_rows, read_proofs, read_grounds, read_levels, read_falls, read_pre, read_refutation, read_parts, with_notes, read_whole}
-use Rattle.cert_structure.proofs.KindLemmas.{kind}
+use Rattle.cert_structure.specs.Walk.{◌>>=◌, Wrong, Read, result_map, wrong_at, with_first, take_refuted, is_open, read_point, read_points, read_group, item_of, take_norm, named_norm, by_version, read_head, read_each, read_modes, read_rows, read_proofs, read_grounds, read_levels, read_falls, read_pre, read_refutation, read_parts, with_notes, read_whole}
+use Rattle.cert_structure.proofs.KindLemmas.{kind, IsVersion, split_version, IsNorm, split_norm}
 use Rattle.cert_structure.proofs.SectionLemmas.{err_ok, all_both, all_from, others_from, all_weaker}
 use Rattle.cert_structure.proofs.TakeLemmas.{refuted_given}
 use Rattle.cert_structure.proofs.PointLemmas.{point_given, open_back, refutation_given}
 use Rattle.cert_structure.proofs.ComponentLemmas.{first_le, shape, structure}
 use Rattle.cert_structure.proofs.LevelLemmas.{IsLevels, NoLevel, not_same, levels_sound, levels_back}
 use Rattle.cert_structure.proofs.StructureLemmas.{AreLater, proofs_later, grounds_later, levels_later, falls_later, pre_later, refuted_later, no_level, modes_section, modes_listed, rows_section, rows_listed, proofs_section, proofs_listed, grounds_section, grounds_listed, falls_section, falls_listed, pre_section, pre_listed}
-use Rattle.cert_structure.proofs.WholeLemmas.{noted, version_sound, parts_sound, whole_back}
-use Rattle.cert_structure.proofs.LocalLemmas.{same_err, bound_err, Fails, MayReplace, with_made, same_head, version_split, Modes, Proofs, Grounds, Levels, Falls, Cubes, Refutations, made, from_refutations, from_cubes, from_falls, from_levels, from_grounds, from_proofs, from_rows, from_modes, parts_are, local_parts}
+use Rattle.cert_structure.proofs.WholeLemmas.{noted, head_sound, head_back, parts_sound, whole_back}
+use Rattle.cert_structure.proofs.LocalLemmas.{same_err, bound_err, Fails, MayReplace, with_made, same_head, Modes, Proofs, Grounds, Levels, Falls, Cubes, Refutations, made, from_refutations, from_cubes, from_falls, from_levels, from_grounds, from_proofs, from_rows, from_modes, parts_are, local_parts}
 use Rattle.cert_structure.proofs.EndLemmas.{IsBad, shows_more, Ends, ends_weaker, after_read, levels_fill, levels_ends, AreModes, modes_fill, modes_ends, AreRows, rows_fill, rows_ends, AreProofs, proofs_fill, proofs_ends, AreGrounds, grounds_fill, grounds_ends, AreFalls, falls_fill, falls_ends, AreCubes, cubes_fill, cubes_ends}
 use Rattle.cert_structure.proofs.PointEnds.{HaveClaimed, refutations_ends}
 
@@ -214,31 +217,6 @@ module _ (p : Listing) (names : List (List ℕ)) (comps : Partition) (h : AreCom
       let own : x ≡ xs = all in
       (text ∙ ap (λ z. level_facts p names z ++ t) (sym own), level_shape x xs all count each)
 
-  -- the facts up to the end of a section, and these after them
-  abbrev past_version : List Fact → List Fact
-  past_version l = fact.Cti (pos 1) ∷ l
-
-  abbrev past_modes : Modes → List Fact → List Fact
-  past_modes modes l = past_version (mode_facts p names modes ++ l)
-
-  abbrev past_rows : Modes → List Rows → List Fact → List Fact
-  past_rows modes rows l = past_modes modes (size_facts p names rows ++ l)
-
-  abbrev past_proofs : Modes → List Rows → Proofs → List Fact → List Fact
-  past_proofs modes rows proofs l = past_rows modes rows (proof_facts proofs ++ l)
-
-  abbrev past_grounds : Modes → List Rows → Proofs → Grounds → List Fact → List Fact
-  past_grounds modes rows proofs grounds l = past_proofs modes rows proofs (ground_facts p names grounds ++ l)
-
-  abbrev past_levels : Modes → List Rows → Proofs → Grounds → Levels → List Fact → List Fact
-  past_levels modes rows proofs grounds levels l = past_grounds modes rows proofs grounds (level_facts p names levels ++ l)
-
-  abbrev past_falls : Modes → List Rows → Proofs → Grounds → Levels → Falls → List Fact → List Fact
-  past_falls modes rows proofs grounds levels falls l = past_levels modes rows proofs grounds levels (fall_facts falls ++ l)
-
-  abbrev past_cubes : Modes → List Rows → Proofs → Grounds → Levels → Falls → Cubes → List Fact → List Fact
-  past_cubes modes rows proofs grounds levels falls cubes l = past_falls modes rows proofs grounds levels falls (pre_facts p names cubes ++ l)
-
   -- the facts of a section and of those after it, as few as there may be
   abbrev no_more_refutations : List Fact
   no_more_refutations = refuted_facts p names (nones (length p.preds)) ++ []
@@ -261,148 +239,193 @@ module _ (p : Listing) (names : List (List ℕ)) (comps : Partition) (h : AreCom
   abbrev no_more_rows : List Fact
   no_more_rows = size_facts p names (rows_fill p names).0 ++ no_more_proofs (rows_fill p names).0
 
-  -- with these the facts before them are a certificate
-  begun_refutations : (modes : Modes) (right1 : AreModes p names modes) (rows : List Rows) (right2 : AreRows p names rows) (proofs : Proofs) (right3 : AreProofs p rows proofs) (grounds : Grounds) (right4 : AreGrounds p names grounds) (levels : Levels) (right5 : AreLevels levels) (falls : Falls) (right6 : AreFalls p rows comps levels falls) (cubes : Cubes) (right7 : AreCubes p names levels cubes) → IsBeginning p names comps (past_cubes modes rows proofs grounds levels falls cubes no_more_refutations)
-  begun_refutations modes right1 rows right2 proofs right3 grounds right4 levels right5 falls right6 cubes right7 = whole (made modes rows proofs grounds levels falls cubes (nones (length p.preds))) [] [] (record { modes = right1; rows = right2; row_proofs = right3; grounds = right4; levels = right5; falls = right6; preconditions = right7; refutations = nones_right levels }) tt (append-nil (past_cubes modes rows proofs grounds levels falls cubes no_more_refutations))
+  -- the parts are of this norm
+  module _ (norm : Option CertNorm) where
+    -- the facts up to the end of a section, and these after them
+    abbrev past_head : List Fact → List Fact
+    past_head l = head_facts norm ++ l
 
-  begun_cubes : (modes : Modes) (right1 : AreModes p names modes) (rows : List Rows) (right2 : AreRows p names rows) (proofs : Proofs) (right3 : AreProofs p rows proofs) (grounds : Grounds) (right4 : AreGrounds p names grounds) (levels : Levels) (right5 : AreLevels levels) (falls : Falls) (right6 : AreFalls p rows comps levels falls) → IsBeginning p names comps (past_falls modes rows proofs grounds levels falls (no_more_cubes levels))
-  begun_cubes modes right1 rows right2 proofs right3 grounds right4 levels right5 falls right6 = begun_refutations modes right1 rows right2 proofs right3 grounds right4 levels right5 falls right6 (cubes_fill p names levels).0 (cubes_fill p names levels).1
+    abbrev past_modes : Modes → List Fact → List Fact
+    past_modes modes l = past_head (mode_facts p names modes ++ l)
 
-  begun_falls : (modes : Modes) (right1 : AreModes p names modes) (rows : List Rows) (right2 : AreRows p names rows) (proofs : Proofs) (right3 : AreProofs p rows proofs) (grounds : Grounds) (right4 : AreGrounds p names grounds) (levels : Levels) (right5 : AreLevels levels) → IsBeginning p names comps (past_levels modes rows proofs grounds levels (no_more_falls rows levels))
-  begun_falls modes right1 rows right2 proofs right3 grounds right4 levels right5 = begun_cubes modes right1 rows right2 proofs right3 grounds right4 levels right5 (falls_fill p rows comps levels).0 (falls_fill p rows comps levels).1
+    abbrev past_rows : Modes → List Rows → List Fact → List Fact
+    past_rows modes rows l = past_modes modes (size_facts p names rows ++ l)
 
-  begun_levels : (modes : Modes) (right1 : AreModes p names modes) (rows : List Rows) (right2 : AreRows p names rows) (proofs : Proofs) (right3 : AreProofs p rows proofs) (grounds : Grounds) (right4 : AreGrounds p names grounds) → IsBeginning p names comps (past_grounds modes rows proofs grounds (no_more_levels rows))
-  begun_levels modes right1 rows right2 proofs right3 grounds right4 = begun_falls modes right1 rows right2 proofs right3 grounds right4 levels_some.0 levels_some.1
+    abbrev past_proofs : Modes → List Rows → Proofs → List Fact → List Fact
+    past_proofs modes rows proofs l = past_rows modes rows (proof_facts proofs ++ l)
 
-  begun_grounds : (modes : Modes) (right1 : AreModes p names modes) (rows : List Rows) (right2 : AreRows p names rows) (proofs : Proofs) (right3 : AreProofs p rows proofs) → IsBeginning p names comps (past_proofs modes rows proofs (no_more_grounds rows))
-  begun_grounds modes right1 rows right2 proofs right3 = begun_levels modes right1 rows right2 proofs right3 (grounds_fill p names).0 (grounds_fill p names).1
+    abbrev past_grounds : Modes → List Rows → Proofs → Grounds → List Fact → List Fact
+    past_grounds modes rows proofs grounds l = past_proofs modes rows proofs (ground_facts p names grounds ++ l)
 
-  begun_proofs : (modes : Modes) (right1 : AreModes p names modes) (rows : List Rows) (right2 : AreRows p names rows) → IsBeginning p names comps (past_rows modes rows (no_more_proofs rows))
-  begun_proofs modes right1 rows right2 = begun_grounds modes right1 rows right2 (proofs_fill p rows).0 (proofs_fill p rows).1
+    abbrev past_levels : Modes → List Rows → Proofs → Grounds → Levels → List Fact → List Fact
+    past_levels modes rows proofs grounds levels l = past_grounds modes rows proofs grounds (level_facts p names levels ++ l)
 
-  begun_rows : (modes : Modes) (right1 : AreModes p names modes) → IsBeginning p names comps (past_modes modes (no_more_rows))
-  begun_rows modes right1 = begun_proofs modes right1 (rows_fill p names).0 (rows_fill p names).1
+    abbrev past_falls : Modes → List Rows → Proofs → Grounds → Levels → Falls → List Fact → List Fact
+    past_falls modes rows proofs grounds levels falls l = past_levels modes rows proofs grounds levels (fall_facts falls ++ l)
 
-  -- where reading fails in a section or in one after it
-  fails_in_refutations : (modes : Modes) (right1 : AreModes p names modes) (rows : List Rows) (right2 : AreRows p names rows) (proofs : Proofs) (right3 : AreProofs p rows proofs) (grounds : Grounds) (right4 : AreGrounds p names grounds) (levels : Levels) (right5 : AreLevels levels) (falls : Falls) (right6 : AreFalls p rows comps levels falls) (cubes : Cubes) (right7 : AreCubes p names levels cubes) (s : List Fact) (w : Wrong) → from_refutations p names comps levels (made modes rows proofs grounds levels falls cubes) s ≡ Err w → Ends (λ l. IsBeginning p names comps (past_cubes modes rows proofs grounds levels falls cubes l)) s w
-  fails_in_refutations modes right1 rows right2 proofs right3 grounds right4 levels right5 falls right6 cubes right7 s w e =
-      bound_err (λ x. Ok (made modes rows proofs grounds levels falls cubes x.0, x.1)) (read_each (read_refutation p names comps levels) 0 (length p.preds) s) w e
-      (λ first. ends_weaker _ (λ l. IsBeginning p names comps (past_cubes modes rows proofs grounds levels falls cubes l)) s w (refutations_ends p names comps levels (recursive_pair p comps h) 0 (length p.preds) s w first) (λ l c. cut l c))
-      (λ q read more. err_ok w (made modes rows proofs grounds levels falls cubes q.0, q.1) (sym more))
+    abbrev past_cubes : Modes → List Rows → Proofs → Grounds → Levels → Falls → Cubes → List Fact → List Fact
+    past_cubes modes rows proofs grounds levels falls cubes l = past_falls modes rows proofs grounds levels falls (pre_facts p names cubes ++ l)
+
+    -- with these the facts before them are a certificate
+    begun_refutations : (modes : Modes) (right1 : AreModes p names modes) (rows : List Rows) (right2 : AreRows p names rows) (proofs : Proofs) (right3 : AreProofs p rows proofs) (grounds : Grounds) (right4 : AreGrounds p names grounds) (levels : Levels) (right5 : AreLevels levels) (falls : Falls) (right6 : AreFalls p rows comps levels falls) (cubes : Cubes) (right7 : AreCubes p names levels cubes) → IsBeginning p names comps (past_cubes modes rows proofs grounds levels falls cubes no_more_refutations)
+    begun_refutations modes right1 rows right2 proofs right3 grounds right4 levels right5 falls right6 cubes right7 = whole (made norm modes rows proofs grounds levels falls cubes (nones (length p.preds))) [] [] (record { modes = right1; rows = right2; row_proofs = right3; grounds = right4; levels = right5; falls = right6; preconditions = right7; refutations = nones_right levels }) tt (append-nil (past_cubes modes rows proofs grounds levels falls cubes no_more_refutations))
+
+    begun_cubes : (modes : Modes) (right1 : AreModes p names modes) (rows : List Rows) (right2 : AreRows p names rows) (proofs : Proofs) (right3 : AreProofs p rows proofs) (grounds : Grounds) (right4 : AreGrounds p names grounds) (levels : Levels) (right5 : AreLevels levels) (falls : Falls) (right6 : AreFalls p rows comps levels falls) → IsBeginning p names comps (past_falls modes rows proofs grounds levels falls (no_more_cubes levels))
+    begun_cubes modes right1 rows right2 proofs right3 grounds right4 levels right5 falls right6 = begun_refutations modes right1 rows right2 proofs right3 grounds right4 levels right5 falls right6 (cubes_fill p names levels).0 (cubes_fill p names levels).1
+
+    begun_falls : (modes : Modes) (right1 : AreModes p names modes) (rows : List Rows) (right2 : AreRows p names rows) (proofs : Proofs) (right3 : AreProofs p rows proofs) (grounds : Grounds) (right4 : AreGrounds p names grounds) (levels : Levels) (right5 : AreLevels levels) → IsBeginning p names comps (past_levels modes rows proofs grounds levels (no_more_falls rows levels))
+    begun_falls modes right1 rows right2 proofs right3 grounds right4 levels right5 = begun_cubes modes right1 rows right2 proofs right3 grounds right4 levels right5 (falls_fill p rows comps levels).0 (falls_fill p rows comps levels).1
+
+    begun_levels : (modes : Modes) (right1 : AreModes p names modes) (rows : List Rows) (right2 : AreRows p names rows) (proofs : Proofs) (right3 : AreProofs p rows proofs) (grounds : Grounds) (right4 : AreGrounds p names grounds) → IsBeginning p names comps (past_grounds modes rows proofs grounds (no_more_levels rows))
+    begun_levels modes right1 rows right2 proofs right3 grounds right4 = begun_falls modes right1 rows right2 proofs right3 grounds right4 levels_some.0 levels_some.1
+
+    begun_grounds : (modes : Modes) (right1 : AreModes p names modes) (rows : List Rows) (right2 : AreRows p names rows) (proofs : Proofs) (right3 : AreProofs p rows proofs) → IsBeginning p names comps (past_proofs modes rows proofs (no_more_grounds rows))
+    begun_grounds modes right1 rows right2 proofs right3 = begun_levels modes right1 rows right2 proofs right3 (grounds_fill p names).0 (grounds_fill p names).1
+
+    begun_proofs : (modes : Modes) (right1 : AreModes p names modes) (rows : List Rows) (right2 : AreRows p names rows) → IsBeginning p names comps (past_rows modes rows (no_more_proofs rows))
+    begun_proofs modes right1 rows right2 = begun_grounds modes right1 rows right2 (proofs_fill p rows).0 (proofs_fill p rows).1
+
+    begun_rows : (modes : Modes) (right1 : AreModes p names modes) → IsBeginning p names comps (past_modes modes (no_more_rows))
+    begun_rows modes right1 = begun_proofs modes right1 (rows_fill p names).0 (rows_fill p names).1
+
+    -- where reading fails in a section or in one after it
+    fails_in_refutations : (modes : Modes) (right1 : AreModes p names modes) (rows : List Rows) (right2 : AreRows p names rows) (proofs : Proofs) (right3 : AreProofs p rows proofs) (grounds : Grounds) (right4 : AreGrounds p names grounds) (levels : Levels) (right5 : AreLevels levels) (falls : Falls) (right6 : AreFalls p rows comps levels falls) (cubes : Cubes) (right7 : AreCubes p names levels cubes) (s : List Fact) (w : Wrong) → from_refutations p names comps levels (made norm modes rows proofs grounds levels falls cubes) s ≡ Err w → Ends (λ l. IsBeginning p names comps (past_cubes modes rows proofs grounds levels falls cubes l)) s w
+    fails_in_refutations modes right1 rows right2 proofs right3 grounds right4 levels right5 falls right6 cubes right7 s w e =
+        bound_err (λ x. Ok (made norm modes rows proofs grounds levels falls cubes x.0, x.1)) (read_each (read_refutation p names comps levels) 0 (length p.preds) s) w e
+        (λ first. ends_weaker _ (λ l. IsBeginning p names comps (past_cubes modes rows proofs grounds levels falls cubes l)) s w (refutations_ends p names comps levels (recursive_pair p comps h) 0 (length p.preds) s w first) (λ l c. cut l c))
+        (λ q read more. err_ok w (made norm modes rows proofs grounds levels falls cubes q.0, q.1) (sym more))
+      where
+        cut : (l : List Fact) → HaveClaimed p names comps levels 0 (length p.preds) l → IsBeginning p names comps (past_cubes modes rows proofs grounds levels falls cubes l)
+        cut l c =
+            let number = c.number in
+            let at : c.at ≡ length c.before = omega (arith, number) in
+            short (made norm modes rows proofs grounds levels falls cubes (c.before ++ Some c.own ∷ c.later)) c.before c.later c.own c.count []
+            (record { modes = right1; rows = right2; row_proofs = right3; grounds = right4; levels = right5; falls = right6; preconditions = right7; refutations = record { count = c.all; each = c.each } })
+            refl c.enough
+            (append-nil (past_cubes modes rows proofs grounds levels falls cubes l) ∙ ap (λ z. past_cubes modes rows proofs grounds levels falls cubes z) (c.is ∙ ap (λ n. refuted_facts p names c.before ++ fact.Refuted (pred_text p names n) c.count ∷ facts_from 0 (λ _ x. point_facts x) c.own.points) at))
+
+    fails_in_cubes : (modes : Modes) (right1 : AreModes p names modes) (rows : List Rows) (right2 : AreRows p names rows) (proofs : Proofs) (right3 : AreProofs p rows proofs) (grounds : Grounds) (right4 : AreGrounds p names grounds) (levels : Levels) (right5 : AreLevels levels) (falls : Falls) (right6 : AreFalls p rows comps levels falls) (s : List Fact) (w : Wrong) → from_cubes p names comps levels (made norm modes rows proofs grounds levels falls) s ≡ Err w → Ends (λ l. IsBeginning p names comps (past_falls modes rows proofs grounds levels falls l)) s w
+    fails_in_cubes modes right1 rows right2 proofs right3 grounds right4 levels right5 falls right6 s w e =
+        bound_err (λ x. from_refutations p names comps levels (made norm modes rows proofs grounds levels falls x.0) x.1) (read_each (read_pre p names levels) 0 (length p.preds) s) w e
+        (λ first.
+        let b = cubes_ends p names levels s w first in
+        let (x, is, right) = b.end in
+        ends_with _ (λ l. IsBeginning p names comps (past_falls modes rows proofs grounds levels falls l)) s w b (no_more_refutations) (subst (λ z. IsBeginning p names comps (past_falls modes rows proofs grounds levels falls (z ++ no_more_refutations))) (sym is) (begun_refutations modes right1 rows right2 proofs right3 grounds right4 levels right5 falls right6 x right)))
+        (λ q read more.
+        let (one, right) = pre_section p names levels s q.1 q.0 read in
+        after_read (λ l. IsBeginning p names comps (past_falls modes rows proofs grounds levels falls l)) s (pre_facts p names q.0) q.1 w one (fails_in_refutations modes right1 rows right2 proofs right3 grounds right4 levels right5 falls right6 q.0 right q.1 w more))
+
+    fails_in_falls : (modes : Modes) (right1 : AreModes p names modes) (rows : List Rows) (right2 : AreRows p names rows) (proofs : Proofs) (right3 : AreProofs p rows proofs) (grounds : Grounds) (right4 : AreGrounds p names grounds) (levels : Levels) (right5 : AreLevels levels) (s : List Fact) (w : Wrong) → from_falls p names comps rows levels (made norm modes rows proofs grounds levels) s ≡ Err w → Ends (λ l. IsBeginning p names comps (past_levels modes rows proofs grounds levels l)) s w
+    fails_in_falls modes right1 rows right2 proofs right3 grounds right4 levels right5 s w e =
+        bound_err (λ x. from_cubes p names comps levels (made norm modes rows proofs grounds levels x.0) x.1) (read_each (read_falls p comps rows levels) 0 (length p.clauses) s) w e
+        (λ first.
+        let b = falls_ends p rows comps levels s w first in
+        let (x, is, right) = b.end in
+        ends_with _ (λ l. IsBeginning p names comps (past_levels modes rows proofs grounds levels l)) s w b (no_more_cubes levels) (subst (λ z. IsBeginning p names comps (past_levels modes rows proofs grounds levels (z ++ no_more_cubes levels))) (sym is) (begun_cubes modes right1 rows right2 proofs right3 grounds right4 levels right5 x right)))
+        (λ q read more.
+        let (one, right) = falls_section p rows comps levels s q.1 q.0 read in
+        after_read (λ l. IsBeginning p names comps (past_levels modes rows proofs grounds levels l)) s (fall_facts q.0) q.1 w one (fails_in_cubes modes right1 rows right2 proofs right3 grounds right4 levels right5 q.0 right q.1 w more))
+
+    fails_in_levels : (modes : Modes) (right1 : AreModes p names modes) (rows : List Rows) (right2 : AreRows p names rows) (proofs : Proofs) (right3 : AreProofs p rows proofs) (grounds : Grounds) (right4 : AreGrounds p names grounds) (s : List Fact) (w : Wrong) → from_levels p names comps rows (made norm modes rows proofs grounds) s ≡ Err w → Ends (λ l. IsBeginning p names comps (past_grounds modes rows proofs grounds l)) s w
+    fails_in_levels modes right1 rows right2 proofs right3 grounds right4 s w e =
+        bound_err (λ x. from_falls p names comps rows x.0 (made norm modes rows proofs grounds x.0) x.1) (read_levels p names comps [] 0 (length p.preds) s) w e
+        (λ first.
+        let b = levels_end s w first in
+        let (x, is, right) = b.end in
+        ends_with _ (λ l. IsBeginning p names comps (past_grounds modes rows proofs grounds l)) s w b (no_more_falls rows x) (subst (λ z. IsBeginning p names comps (past_grounds modes rows proofs grounds (z ++ no_more_falls rows x))) (sym is) (begun_falls modes right1 rows right2 proofs right3 grounds right4 x right)))
+        (λ q read more.
+        let (one, right) = levels_read s q.1 q.0 read in
+        after_read (λ l. IsBeginning p names comps (past_grounds modes rows proofs grounds l)) s (level_facts p names q.0) q.1 w one (fails_in_falls modes right1 rows right2 proofs right3 grounds right4 q.0 right q.1 w more))
+
+    fails_in_grounds : (modes : Modes) (right1 : AreModes p names modes) (rows : List Rows) (right2 : AreRows p names rows) (proofs : Proofs) (right3 : AreProofs p rows proofs) (s : List Fact) (w : Wrong) → from_grounds p names comps rows (made norm modes rows proofs) s ≡ Err w → Ends (λ l. IsBeginning p names comps (past_proofs modes rows proofs l)) s w
+    fails_in_grounds modes right1 rows right2 proofs right3 s w e =
+        bound_err (λ x. from_levels p names comps rows (made norm modes rows proofs x.0) x.1) (read_each (read_grounds p names) 0 (length p.preds) s) w e
+        (λ first.
+        let b = grounds_ends p names s w first in
+        let (x, is, right) = b.end in
+        ends_with _ (λ l. IsBeginning p names comps (past_proofs modes rows proofs l)) s w b (no_more_levels rows) (subst (λ z. IsBeginning p names comps (past_proofs modes rows proofs (z ++ no_more_levels rows))) (sym is) (begun_levels modes right1 rows right2 proofs right3 x right)))
+        (λ q read more.
+        let (one, right) = grounds_section p names s q.1 q.0 read in
+        after_read (λ l. IsBeginning p names comps (past_proofs modes rows proofs l)) s (ground_facts p names q.0) q.1 w one (fails_in_levels modes right1 rows right2 proofs right3 q.0 right q.1 w more))
+
+    fails_in_proofs : (modes : Modes) (right1 : AreModes p names modes) (rows : List Rows) (right2 : AreRows p names rows) (s : List Fact) (w : Wrong) → from_proofs p names comps rows (made norm modes rows) s ≡ Err w → Ends (λ l. IsBeginning p names comps (past_rows modes rows l)) s w
+    fails_in_proofs modes right1 rows right2 s w e =
+        bound_err (λ x. from_grounds p names comps rows (made norm modes rows x.0) x.1) (read_each (read_proofs p rows) 0 (length p.clauses) s) w e
+        (λ first.
+        let b = proofs_ends p rows s w first in
+        let (x, is, right) = b.end in
+        ends_with _ (λ l. IsBeginning p names comps (past_rows modes rows l)) s w b (no_more_grounds rows) (subst (λ z. IsBeginning p names comps (past_rows modes rows (z ++ no_more_grounds rows))) (sym is) (begun_grounds modes right1 rows right2 x right)))
+        (λ q read more.
+        let (one, right) = proofs_section p rows s q.1 q.0 read in
+        after_read (λ l. IsBeginning p names comps (past_rows modes rows l)) s (proof_facts q.0) q.1 w one (fails_in_grounds modes right1 rows right2 q.0 right q.1 w more))
+
+    fails_in_rows : (modes : Modes) (right1 : AreModes p names modes) (s : List Fact) (w : Wrong) → from_rows p names comps (made norm modes) s ≡ Err w → Ends (λ l. IsBeginning p names comps (past_modes modes l)) s w
+    fails_in_rows modes right1 s w e =
+        bound_err (λ x. from_proofs p names comps x.0 (made norm modes x.0) x.1) (read_each (read_rows p names) 0 (length p.preds) s) w e
+        (λ first.
+        let b = rows_ends p names s w first in
+        let (x, is, right) = b.end in
+        ends_with _ (λ l. IsBeginning p names comps (past_modes modes l)) s w b (no_more_proofs x) (subst (λ z. IsBeginning p names comps (past_modes modes (z ++ no_more_proofs x))) (sym is) (begun_proofs modes right1 x right)))
+        (λ q read more.
+        let (one, right) = rows_section p names s q.1 q.0 read in
+        after_read (λ l. IsBeginning p names comps (past_modes modes l)) s (size_facts p names q.0) q.1 w one (fails_in_proofs modes right1 q.0 right q.1 w more))
+
+    fails_in_modes : (s : List Fact) (w : Wrong) → from_modes p names comps norm s ≡ Err w → Ends (λ l. IsBeginning p names comps (past_head l)) s w
+    fails_in_modes s w e =
+        bound_err (λ x. from_rows p names comps (made norm x.0) x.1) (read_each (read_modes p names) 0 (length p.preds) s) w e
+        (λ first.
+        let b = modes_ends p names s w first in
+        let (x, is, right) = b.end in
+        ends_with _ (λ l. IsBeginning p names comps (past_head l)) s w b (no_more_rows) (subst (λ z. IsBeginning p names comps (past_head (z ++ no_more_rows))) (sym is) (begun_rows x right)))
+        (λ q read more.
+        let (one, right) = modes_section p names s q.1 q.0 read in
+        after_read (λ l. IsBeginning p names comps (past_head l)) s (mode_facts p names q.0) q.1 w one (fails_in_rows q.0 right q.1 w more))
+
+  -- the facts after the head, as few as there may be
+  abbrev least_facts : List Fact
+  least_facts = mode_facts p names (modes_fill p names).0 ++ no_more_rows
+
+  all_begin : (norm : Option CertNorm) → IsBeginning p names comps (head_facts norm ++ least_facts)
+  all_begin norm = begun_rows norm (modes_fill p names).0 (modes_fill p names).1
+
+  -- a failure in the head
+  norm_ends : (s : List Fact) (w : Wrong) → named_norm s ≡ Err w → Ends (IsBeginning p names comps) (fact.Cti (pos 2) ∷ s) w
+  unfolding take_norm
+  norm_ends [] w e =
+      subst (λ z. Ends (IsBeginning p names comps) (fact.Cti (pos 2) ∷ []) z) (same_err {A = Option CertNorm × List Fact} _ w e)
+      (record { done = fact.Cti (pos 2) ∷ []; stands = []; may = fact.Norm Term ∷ least_facts; split = refl; left = refl; end = all_begin (Some Term); why = refl })
+  norm_ends (f ∷ s) w e = go (split_norm f)
     where
-      cut : (l : List Fact) → HaveClaimed p names comps levels 0 (length p.preds) l → IsBeginning p names comps (past_cubes modes rows proofs grounds levels falls cubes l)
-      cut l c =
-          let number = c.number in
-          let at : c.at ≡ length c.before = omega (arith, number) in
-          short (made modes rows proofs grounds levels falls cubes (c.before ++ Some c.own ∷ c.later)) c.before c.later c.own c.count []
-          (record { modes = right1; rows = right2; row_proofs = right3; grounds = right4; levels = right5; falls = right6; preconditions = right7; refutations = record { count = c.all; each = c.each } })
-          refl c.enough
-          (append-nil (past_cubes modes rows proofs grounds levels falls cubes l) ∙ ap (λ z. past_cubes modes rows proofs grounds levels falls cubes z) (c.is ∙ ap (λ n. refuted_facts p names c.before ++ fact.Refuted (pred_text p names n) c.count ∷ facts_from 0 (λ _ x. point_facts x) c.own.points) at))
+      go : ((i : ℕ) → take_norm i f ≡ Some None) ⊎ IsNorm f → Ends (IsBeginning p names comps) (fact.Cti (pos 2) ∷ f ∷ s) w
+      go (inl none) =
+          let extra = ap (λ z. result_map (λ x. (Some x.0, x.1)) (item_of f s z)) (none 0) in
+          subst (λ z. Ends (IsBeginning p names comps) (fact.Cti (pos 2) ∷ f ∷ s) z) (same_err {A = Option CertNorm × List Fact} _ w (sym extra ∙ e))
+          (record { done = fact.Cti (pos 2) ∷ []; stands = f ∷ s; may = fact.Norm Term ∷ least_facts; split = refl; left = refl; end = all_begin (Some Term); why = (f, s, refl) })
+      go (inr (norm, is)) = err_ok w (Some norm, s) (sym e ∙ ap (λ z. named_norm (z ∷ s)) is)
 
-  fails_in_cubes : (modes : Modes) (right1 : AreModes p names modes) (rows : List Rows) (right2 : AreRows p names rows) (proofs : Proofs) (right3 : AreProofs p rows proofs) (grounds : Grounds) (right4 : AreGrounds p names grounds) (levels : Levels) (right5 : AreLevels levels) (falls : Falls) (right6 : AreFalls p rows comps levels falls) (s : List Fact) (w : Wrong) → from_cubes p names comps levels (made modes rows proofs grounds levels falls) s ≡ Err w → Ends (λ l. IsBeginning p names comps (past_falls modes rows proofs grounds levels falls l)) s w
-  fails_in_cubes modes right1 rows right2 proofs right3 grounds right4 levels right5 falls right6 s w e =
-      bound_err (λ x. from_refutations p names comps levels (made modes rows proofs grounds levels falls x.0) x.1) (read_each (read_pre p names levels) 0 (length p.preds) s) w e
-      (λ first.
-      let b = cubes_ends p names levels s w first in
-      let (x, is, right) = b.end in
-      ends_with _ (λ l. IsBeginning p names comps (past_falls modes rows proofs grounds levels falls l)) s w b (no_more_refutations) (subst (λ z. IsBeginning p names comps (past_falls modes rows proofs grounds levels falls (z ++ no_more_refutations))) (sym is) (begun_refutations modes right1 rows right2 proofs right3 grounds right4 levels right5 falls right6 x right)))
-      (λ q read more.
-      let (one, right) = pre_section p names levels s q.1 q.0 read in
-      after_read (λ l. IsBeginning p names comps (past_falls modes rows proofs grounds levels falls l)) s (pre_facts p names q.0) q.1 w one (fails_in_refutations modes right1 rows right2 proofs right3 grounds right4 levels right5 falls right6 q.0 right q.1 w more))
-
-  fails_in_falls : (modes : Modes) (right1 : AreModes p names modes) (rows : List Rows) (right2 : AreRows p names rows) (proofs : Proofs) (right3 : AreProofs p rows proofs) (grounds : Grounds) (right4 : AreGrounds p names grounds) (levels : Levels) (right5 : AreLevels levels) (s : List Fact) (w : Wrong) → from_falls p names comps rows levels (made modes rows proofs grounds levels) s ≡ Err w → Ends (λ l. IsBeginning p names comps (past_levels modes rows proofs grounds levels l)) s w
-  fails_in_falls modes right1 rows right2 proofs right3 grounds right4 levels right5 s w e =
-      bound_err (λ x. from_cubes p names comps levels (made modes rows proofs grounds levels x.0) x.1) (read_each (read_falls p comps rows levels) 0 (length p.clauses) s) w e
-      (λ first.
-      let b = falls_ends p rows comps levels s w first in
-      let (x, is, right) = b.end in
-      ends_with _ (λ l. IsBeginning p names comps (past_levels modes rows proofs grounds levels l)) s w b (no_more_cubes levels) (subst (λ z. IsBeginning p names comps (past_levels modes rows proofs grounds levels (z ++ no_more_cubes levels))) (sym is) (begun_cubes modes right1 rows right2 proofs right3 grounds right4 levels right5 x right)))
-      (λ q read more.
-      let (one, right) = falls_section p rows comps levels s q.1 q.0 read in
-      after_read (λ l. IsBeginning p names comps (past_levels modes rows proofs grounds levels l)) s (fall_facts q.0) q.1 w one (fails_in_cubes modes right1 rows right2 proofs right3 grounds right4 levels right5 q.0 right q.1 w more))
-
-  fails_in_levels : (modes : Modes) (right1 : AreModes p names modes) (rows : List Rows) (right2 : AreRows p names rows) (proofs : Proofs) (right3 : AreProofs p rows proofs) (grounds : Grounds) (right4 : AreGrounds p names grounds) (s : List Fact) (w : Wrong) → from_levels p names comps rows (made modes rows proofs grounds) s ≡ Err w → Ends (λ l. IsBeginning p names comps (past_grounds modes rows proofs grounds l)) s w
-  fails_in_levels modes right1 rows right2 proofs right3 grounds right4 s w e =
-      bound_err (λ x. from_falls p names comps rows x.0 (made modes rows proofs grounds x.0) x.1) (read_levels p names comps [] 0 (length p.preds) s) w e
-      (λ first.
-      let b = levels_end s w first in
-      let (x, is, right) = b.end in
-      ends_with _ (λ l. IsBeginning p names comps (past_grounds modes rows proofs grounds l)) s w b (no_more_falls rows x) (subst (λ z. IsBeginning p names comps (past_grounds modes rows proofs grounds (z ++ no_more_falls rows x))) (sym is) (begun_falls modes right1 rows right2 proofs right3 grounds right4 x right)))
-      (λ q read more.
-      let (one, right) = levels_read s q.1 q.0 read in
-      after_read (λ l. IsBeginning p names comps (past_grounds modes rows proofs grounds l)) s (level_facts p names q.0) q.1 w one (fails_in_falls modes right1 rows right2 proofs right3 grounds right4 q.0 right q.1 w more))
-
-  fails_in_grounds : (modes : Modes) (right1 : AreModes p names modes) (rows : List Rows) (right2 : AreRows p names rows) (proofs : Proofs) (right3 : AreProofs p rows proofs) (s : List Fact) (w : Wrong) → from_grounds p names comps rows (made modes rows proofs) s ≡ Err w → Ends (λ l. IsBeginning p names comps (past_proofs modes rows proofs l)) s w
-  fails_in_grounds modes right1 rows right2 proofs right3 s w e =
-      bound_err (λ x. from_levels p names comps rows (made modes rows proofs x.0) x.1) (read_each (read_grounds p names) 0 (length p.preds) s) w e
-      (λ first.
-      let b = grounds_ends p names s w first in
-      let (x, is, right) = b.end in
-      ends_with _ (λ l. IsBeginning p names comps (past_proofs modes rows proofs l)) s w b (no_more_levels rows) (subst (λ z. IsBeginning p names comps (past_proofs modes rows proofs (z ++ no_more_levels rows))) (sym is) (begun_levels modes right1 rows right2 proofs right3 x right)))
-      (λ q read more.
-      let (one, right) = grounds_section p names s q.1 q.0 read in
-      after_read (λ l. IsBeginning p names comps (past_proofs modes rows proofs l)) s (ground_facts p names q.0) q.1 w one (fails_in_levels modes right1 rows right2 proofs right3 q.0 right q.1 w more))
-
-  fails_in_proofs : (modes : Modes) (right1 : AreModes p names modes) (rows : List Rows) (right2 : AreRows p names rows) (s : List Fact) (w : Wrong) → from_proofs p names comps rows (made modes rows) s ≡ Err w → Ends (λ l. IsBeginning p names comps (past_rows modes rows l)) s w
-  fails_in_proofs modes right1 rows right2 s w e =
-      bound_err (λ x. from_grounds p names comps rows (made modes rows x.0) x.1) (read_each (read_proofs p rows) 0 (length p.clauses) s) w e
-      (λ first.
-      let b = proofs_ends p rows s w first in
-      let (x, is, right) = b.end in
-      ends_with _ (λ l. IsBeginning p names comps (past_rows modes rows l)) s w b (no_more_grounds rows) (subst (λ z. IsBeginning p names comps (past_rows modes rows (z ++ no_more_grounds rows))) (sym is) (begun_grounds modes right1 rows right2 x right)))
-      (λ q read more.
-      let (one, right) = proofs_section p rows s q.1 q.0 read in
-      after_read (λ l. IsBeginning p names comps (past_rows modes rows l)) s (proof_facts q.0) q.1 w one (fails_in_grounds modes right1 rows right2 q.0 right q.1 w more))
-
-  fails_in_rows : (modes : Modes) (right1 : AreModes p names modes) (s : List Fact) (w : Wrong) → from_rows p names comps (made modes) s ≡ Err w → Ends (λ l. IsBeginning p names comps (past_modes modes l)) s w
-  fails_in_rows modes right1 s w e =
-      bound_err (λ x. from_proofs p names comps x.0 (made modes x.0) x.1) (read_each (read_rows p names) 0 (length p.preds) s) w e
-      (λ first.
-      let b = rows_ends p names s w first in
-      let (x, is, right) = b.end in
-      ends_with _ (λ l. IsBeginning p names comps (past_modes modes l)) s w b (no_more_proofs x) (subst (λ z. IsBeginning p names comps (past_modes modes (z ++ no_more_proofs x))) (sym is) (begun_proofs modes right1 x right)))
-      (λ q read more.
-      let (one, right) = rows_section p names s q.1 q.0 read in
-      after_read (λ l. IsBeginning p names comps (past_modes modes l)) s (size_facts p names q.0) q.1 w one (fails_in_proofs modes right1 q.0 right q.1 w more))
-
-  fails_in_modes : (s : List Fact) (w : Wrong) → from_modes p names comps s ≡ Err w → Ends (λ l. IsBeginning p names comps (past_version l)) s w
-  fails_in_modes s w e =
-      bound_err (λ x. from_rows p names comps (made x.0) x.1) (read_each (read_modes p names) 0 (length p.preds) s) w e
-      (λ first.
-      let b = modes_ends p names s w first in
-      let (x, is, right) = b.end in
-      ends_with _ (λ l. IsBeginning p names comps (past_version l)) s w b (no_more_rows) (subst (λ z. IsBeginning p names comps (past_version (z ++ no_more_rows))) (sym is) (begun_rows x right)))
-      (λ q read more.
-      let (one, right) = modes_section p names s q.1 q.0 read in
-      after_read (λ l. IsBeginning p names comps (past_version l)) s (mode_facts p names q.0) q.1 w one (fails_in_rows q.0 right q.1 w more))
-
-  abbrev all_facts : List Fact
-  all_facts = past_version (mode_facts p names (modes_fill p names).0 ++ no_more_rows)
-
-  all_begin : IsBeginning p names comps all_facts
-  all_begin = begun_rows (modes_fill p names).0 (modes_fill p names).1
-
-  -- a failure in the version
-  number_ends : (v : ℤ) (s : List Fact) (w : Wrong) → read_version (fact.Cti v ∷ s) ≡ Err w → Ends (IsBeginning p names comps) (fact.Cti v ∷ s) w
-  unfolding read_version
-  number_ends v s w e = go (int_eq v (pos 1)) e
+  number_ends : (v : ℤ) (s : List Fact) (w : Wrong) → read_head (fact.Cti v ∷ s) ≡ Err w → Ends (IsBeginning p names comps) (fact.Cti v ∷ s) w
+  unfolding read_head
+  number_ends v s w e = go (int_eq v (pos 1)) (int_eq v (pos 2)) refl e
     where
-      go : (b : Bool) → (if b then Ok s else wrong_at (fact.Cti v ∷ s) reason.Version) ≡ Err w → Ends (IsBeginning p names comps) (fact.Cti v ∷ s) w
-      go true same = err_ok w s (sym same)
-      go false same =
-          subst (λ z. Ends (IsBeginning p names comps) (fact.Cti v ∷ s) z) (same_err {A = List Fact} _ w same)
+      go : (one two : Bool) → int_eq v (pos 2) ≡ two → by_version v one two s ≡ Err w → Ends (IsBeginning p names comps) (fact.Cti v ∷ s) w
+      go true two is same = err_ok w (None, s) (sym same)
+      go false true is same =
+          let number : v ≡ pos 2 = (Decides-int_eq v (pos 2)).0 is in
+          subst (λ z. Ends (IsBeginning p names comps) (fact.Cti z ∷ s) w) (sym number) (norm_ends s w same)
+      go false false is same =
+          subst (λ z. Ends (IsBeginning p names comps) (fact.Cti v ∷ s) z) (same_err {A = Option CertNorm × List Fact} _ w same)
           (record {
             done = [];
             stands = fact.Cti v ∷ s;
-            may = all_facts;
+            may = head_facts None ++ least_facts;
             split = refl;
             left = refl;
-            end = all_begin;
+            end = all_begin None;
             why = record {
               own = fact.Cti v;
               other = fact.Cti (pos 1);
               after = s;
-              more = mode_facts p names (modes_fill p names).0 ++ no_more_rows;
+              more = least_facts;
               first = refl;
               instead = refl;
               place = place.version;
@@ -410,22 +433,23 @@ module _ (p : Listing) (names : List (List ℕ)) (comps : Partition) (h : AreCom
             };
           })
 
-  version_ends : (s : List Fact) (w : Wrong) → read_version s ≡ Err w → Ends (IsBeginning p names comps) s w
-  unfolding read_version
-  version_ends [] w e =
-      subst (λ z. Ends (IsBeginning p names comps) [] z) (same_err {A = List Fact} _ w e) (record { done = []; stands = []; may = all_facts; split = refl; left = refl; end = all_begin; why = refl })
-  version_ends (c ∷ s) w e = go (version_split c)
+  head_ends : (s : List Fact) (w : Wrong) → read_head s ≡ Err w → Ends (IsBeginning p names comps) s w
+  unfolding read_head
+  head_ends [] w e =
+      subst (λ z. Ends (IsBeginning p names comps) [] z) (same_err {A = Option CertNorm × List Fact} _ w e)
+      (record { done = []; stands = []; may = head_facts None ++ least_facts; split = refl; left = refl; end = all_begin None; why = refl })
+  head_ends (c ∷ s) w e = go (split_version c)
     where
-      go : ((s : List Fact) → read_version (c ∷ s) ≡ wrong_at (c ∷ s) reason.Extra) ⊎ ((v : ℤ) × (c ≡ fact.Cti v)) → Ends (IsBeginning p names comps) (c ∷ s) w
+      go : ((s : List Fact) → read_head (c ∷ s) ≡ wrong_at (c ∷ s) reason.Extra) ⊎ IsVersion c → Ends (IsBeginning p names comps) (c ∷ s) w
       go (inl none) =
-          subst (λ z. Ends (IsBeginning p names comps) (c ∷ s) z) (same_err {A = List Fact} _ w (sym (none s) ∙ e))
-          (record { done = []; stands = c ∷ s; may = all_facts; split = refl; left = refl; end = all_begin; why = (c, s, refl) })
-      go (inr (v, is)) = subst (λ z. Ends (IsBeginning p names comps) (z ∷ s) w) (sym is) (number_ends v s w (ap (λ z. read_version (z ∷ s)) (sym is) ∙ e))
+          subst (λ z. Ends (IsBeginning p names comps) (c ∷ s) z) (same_err {A = Option CertNorm × List Fact} _ w (sym (none s) ∙ e))
+          (record { done = []; stands = c ∷ s; may = head_facts None ++ least_facts; split = refl; left = refl; end = all_begin None; why = (c, s, refl) })
+      go (inr (v, is)) = subst (λ z. Ends (IsBeginning p names comps) (z ∷ s) w) (sym is) (number_ends v s w (ap (λ z. read_head (z ∷ s)) (sym is) ∙ e))
 
   parts_ends : (s : List Fact) (w : Wrong) → read_parts p names comps s ≡ Err w → Ends (IsBeginning p names comps) s w
   parts_ends s w e =
-      bound_err (from_modes p names comps) (read_version s) w (sym (parts_are p names comps s) ∙ e) (λ first. version_ends s w first)
-      (λ s0 e0 more. after_read (IsBeginning p names comps) s (fact.Cti (pos 1) ∷ []) s0 w (version_sound s s0 e0) (fails_in_modes s0 w more))
+      bound_err (λ x. from_modes p names comps x.0 x.1) (read_head s) w (sym (parts_are p names comps s) ∙ e) (λ first. head_ends s w first)
+      (λ q read more. after_read (IsBeginning p names comps) s (head_facts q.0) q.1 w (head_sound s q.1 q.0 read) (fails_in_modes q.0 q.1 w more))
 
   -- the notes
   note_stays : {f g : Fact} → HaveOnePlace f g → is_note f ≡ false → is_note g ≡ false
@@ -452,7 +476,7 @@ module _ (p : Listing) (names : List (List ℕ)) (comps : Partition) (h : AreCom
       let e2 = one_more (proof_facts parts.row_proofs) _ s3 u e3 in
       let e1 = one_more (size_facts p names parts.rows) _ s2 u e2 in
       let e0 = one_more (mode_facts p names parts.modes) _ s1 u e1 in
-      ap (λ z. fact.Cti (pos 1) ∷ z) e0
+      one_more (head_facts parts.norm) _ (mode_facts p names parts.modes ++ s1) u e0
 
   -- the first fact that is not a note
   record HasOther (t : List Fact) : Type 0 where
@@ -678,9 +702,8 @@ module _ (p : Listing) (names : List (List ℕ)) (comps : Partition) (h : AreCom
 
     -- what is left after all sections but the refutations
     sections_back : (parts : Parts) (tail : List Fact) → HaveShape p comps parts → AllByRecursion (λ f. 7 < kind f) tail
-        → read_parts p names comps (past_cubes parts.modes parts.rows parts.row_proofs parts.grounds parts.levels parts.falls parts.preconditions tail)
-        ≡ from_refutations p names comps parts.levels (made parts.modes parts.rows parts.row_proofs parts.grounds parts.levels parts.falls parts.preconditions) tail
-    unfolding read_version
+        → read_parts p names comps (past_cubes parts.norm parts.modes parts.rows parts.row_proofs parts.grounds parts.levels parts.falls parts.preconditions tail)
+        ≡ from_refutations p names comps parts.levels (made parts.norm parts.modes parts.rows parts.row_proofs parts.grounds parts.levels parts.falls parts.preconditions) tail
     sections_back parts tail shape late =
         let s6 = pre_facts p names parts.preconditions ++ tail in
         let s5 = fall_facts parts.falls ++ s6 in
@@ -694,16 +717,17 @@ module _ (p : Listing) (names : List (List ℕ)) (comps : Partition) (h : AreCom
         let late4 : (m : ℕ) → m < 5 → AreLater m s4 = λ m few. all_both (λ f. m < kind f) (level_facts p names parts.levels) s5 (levels_later p names m few parts.levels) (late5 m (omega (arith, few))) in
         let late3 : (m : ℕ) → m < 4 → AreLater m s3 = λ m few. all_both (λ f. m < kind f) (ground_facts p names parts.grounds) s4 (grounds_later p names m few parts.grounds) (late4 m (omega (arith, few))) in
         let late2 : (m : ℕ) → m < 3 → AreLater m s2 = λ m few. all_both (λ f. m < kind f) (proof_facts parts.row_proofs) s3 (proofs_later m few parts.row_proofs) (late3 m (omega (arith, few))) in
-        parts_are p names comps (fact.Cti (pos 1) ∷ (mode_facts p names parts.modes ++ s1))
-        ∙ ap (λ z. z >>= λ x. from_rows p names comps (made x.0) x.1) (modes_listed p names parts.modes s1 shape.modes)
-        ∙ ap (λ z. z >>= λ x. from_proofs p names comps x.0 (made parts.modes x.0) x.1) (rows_listed p names apart parts.rows s2 shape.rows (late2 2 (omega arith)))
-        ∙ ap (λ z. z >>= λ x. from_grounds p names comps parts.rows (made parts.modes parts.rows x.0) x.1) (proofs_listed p parts.rows parts.row_proofs s3 shape.row_proofs)
-        ∙ ap (λ z. z >>= λ x. from_levels p names comps parts.rows (made parts.modes parts.rows parts.row_proofs x.0) x.1) (grounds_listed p names apart parts.grounds s4 shape.grounds (late4 4 (omega arith)))
-        ∙ ap (λ z. z >>= λ x. from_falls p names comps parts.rows x.0 (made parts.modes parts.rows parts.row_proofs parts.grounds x.0) x.1)
+        parts_are p names comps (head_facts parts.norm ++ (mode_facts p names parts.modes ++ s1))
+        ∙ ap (λ z. z >>= λ x. from_modes p names comps x.0 x.1) (head_back parts.norm (mode_facts p names parts.modes ++ s1))
+        ∙ ap (λ z. z >>= λ x. from_rows p names comps (made parts.norm x.0) x.1) (modes_listed p names parts.modes s1 shape.modes)
+        ∙ ap (λ z. z >>= λ x. from_proofs p names comps x.0 (made parts.norm parts.modes x.0) x.1) (rows_listed p names apart parts.rows s2 shape.rows (late2 2 (omega arith)))
+        ∙ ap (λ z. z >>= λ x. from_grounds p names comps parts.rows (made parts.norm parts.modes parts.rows x.0) x.1) (proofs_listed p parts.rows parts.row_proofs s3 shape.row_proofs)
+        ∙ ap (λ z. z >>= λ x. from_levels p names comps parts.rows (made parts.norm parts.modes parts.rows parts.row_proofs x.0) x.1) (grounds_listed p names apart parts.grounds s4 shape.grounds (late4 4 (omega arith)))
+        ∙ ap (λ z. z >>= λ x. from_falls p names comps parts.rows x.0 (made parts.norm parts.modes parts.rows parts.row_proofs parts.grounds x.0) x.1)
         (levels_back p names comps (first_le p comps h) apart (length p.preds) [] 0 parts.levels s5 parts.levels refl (omega arith) shape.levels.count refl shape.levels.each
         (λ b. all_weaker (λ f. 5 < kind f) (NoLevel (pred_text p names b)) (λ f late. no_level (pred_text p names b) f late) s5 (late5 5 (omega arith))))
-        ∙ ap (λ z. z >>= λ x. from_cubes p names comps parts.levels (made parts.modes parts.rows parts.row_proofs parts.grounds parts.levels x.0) x.1) (falls_listed p parts.rows comps parts.levels parts.falls s6 shape.falls)
-        ∙ ap (λ z. z >>= λ x. from_refutations p names comps parts.levels (made parts.modes parts.rows parts.row_proofs parts.grounds parts.levels parts.falls x.0) x.1)
+        ∙ ap (λ z. z >>= λ x. from_cubes p names comps parts.levels (made parts.norm parts.modes parts.rows parts.row_proofs parts.grounds parts.levels x.0) x.1) (falls_listed p parts.rows comps parts.levels parts.falls s6 shape.falls)
+        ∙ ap (λ z. z >>= λ x. from_refutations p names comps parts.levels (made parts.norm parts.modes parts.rows parts.row_proofs parts.grounds parts.levels parts.falls x.0) x.1)
         (pre_listed p names parts.levels apart parts.preconditions tail shape.preconditions (late7 7 (omega arith)))
 
     claimed_later : (before : List (Option Refutation)) (r : Refutation) (count : ℕ) → AreLater 7 (refuted_facts p names before ++ fact.Refuted (pred_text p names (length before)) count ∷ facts_from 0 (λ _ x. point_facts x) r.points)
@@ -730,7 +754,7 @@ module _ (p : Listing) (names : List (List ℕ)) (comps : Partition) (h : AreCom
           rest,
           subst (λ z. Quiet (read_whole p names comps z)) (sym is)
               (subst (λ z. Quiet (z >>= with_notes)) (sym (sections_back parts tail shape (claimed_later before r count)))
-              (whole_quiet (read_each (read_refutation p names comps parts.levels) 0 (length p.preds) tail) (made parts.modes parts.rows parts.row_proofs parts.grounds parts.levels parts.falls parts.preconditions) quiet)),
+              (whole_quiet (read_each (read_refutation p names comps parts.levels) 0 (length p.preds) tail) (made parts.norm parts.modes parts.rows parts.row_proofs parts.grounds parts.levels parts.falls parts.preconditions) quiet)),
         )
 
     -- a beginning does not end in a fact at which reading fails

@@ -1,17 +1,20 @@
 -- For each kind of reader: a fact is of its kind, or it takes nothing.
-use Rattle.std.proofs.Common.{◌≡◌, ℕ, ◌⊎◌, inl, inr, List, Some, None, refl}
+use Rattle.std.proofs.Common.{◌≡◌, ℕ, ◌⊎◌, inl, inr, List, ◌∷◌, Some, None, refl}
 use Rattle.std.specs.Prelude.{ℤ}
 use Rattle.call_components.specs.Partition.{Partition}
 use Rattle.certificate.specs.declared.cell.CertCell.{CertCell}
+use Rattle.certificate.specs.declared.norm.CertNorm.{CertNorm}
 use Rattle.certificate.specs.declared.pred_text.PredText.{PredText}
 use Rattle.certificate.specs.declared.fact.Fact.{Fact}
 use Rattle.certificate.specs.declared.fact.Fact.TheVariants as fact
 use Rattle.cti_terms.specs.Listing.{Listing}
-use Rattle.cert_structure.specs.Walk.{take_modes, take_row, take_proof, take_ground, take_level, take_fall, take_pre, take_refuted, take_point, take_second}
+use Rattle.cert_structure.specs.declared.fault.StructureReason.TheVariants as reason
+use Rattle.cert_structure.specs.Walk.{wrong_at, read_head, take_norm, take_modes, take_row, take_proof, take_ground, take_level, take_fall, take_pre, take_refuted, take_point, take_second}
 
 -- the place of a fact's kind in the order of the format
 abbrev pub kind : Fact → ℕ
 kind (fact.Cti version) = 0
+kind (fact.Norm norm) = 0
 kind (fact.Terminates q modes) = 1
 kind (fact.Size q index row) = 2
 kind (fact.By clause index scale list) = 3
@@ -29,12 +32,62 @@ kind (fact.WeakStep step) = 9
 kind (fact.Blown q support) = 9
 kind (fact.Large q positions) = 9
 
+-- the first fact is a version
+abbrev pub IsVersion : Fact → Type 0
+IsVersion f = (version : ℤ) × (f ≡ fact.Cti version)
+
+pub split_version : (f : Fact) → ((s : List Fact) → read_head (f ∷ s) ≡ wrong_at (f ∷ s) reason.Extra) ⊎ IsVersion f
+unfolding read_head
+split_version (fact.Cti version) = inr (version, refl)
+split_version (fact.Norm norm) = inl (λ s. refl)
+split_version (fact.Terminates q modes) = inl (λ s. refl)
+split_version (fact.Size q index row) = inl (λ s. refl)
+split_version (fact.By clause index scale list) = inl (λ s. refl)
+split_version (fact.Grounds q index cells) = inl (λ s. refl)
+split_version (fact.Measure q mapping coeffs offset) = inl (λ s. refl)
+split_version (fact.Falls clause call mapping scale list) = inl (λ s. refl)
+split_version (fact.Pre q mapping index cells) = inl (λ s. refl)
+split_version (fact.Refuted q points) = inl (λ s. refl)
+split_version (fact.Point clause call t w) = inl (λ s. refl)
+split_version (fact.At clause call t w) = inl (λ s. refl)
+split_version (fact.Image step clause q rows) = inl (λ s. refl)
+split_version (fact.Step step q how rows) = inl (λ s. refl)
+split_version (fact.WeakImage step) = inl (λ s. refl)
+split_version (fact.WeakStep step) = inl (λ s. refl)
+split_version (fact.Blown q support) = inl (λ s. refl)
+split_version (fact.Large q positions) = inl (λ s. refl)
+
+abbrev pub IsNorm : Fact → Type 0
+IsNorm f = (norm : CertNorm) × (f ≡ fact.Norm norm)
+
+pub split_norm : (f : Fact) → ((i : ℕ) → take_norm i f ≡ Some None) ⊎ IsNorm f
+unfolding take_norm
+split_norm (fact.Cti version) = inl (λ i. refl)
+split_norm (fact.Norm norm) = inr (norm, refl)
+split_norm (fact.Terminates q modes) = inl (λ i. refl)
+split_norm (fact.Size q index row) = inl (λ i. refl)
+split_norm (fact.By clause index scale list) = inl (λ i. refl)
+split_norm (fact.Grounds q index cells) = inl (λ i. refl)
+split_norm (fact.Measure q mapping coeffs offset) = inl (λ i. refl)
+split_norm (fact.Falls clause call mapping scale list) = inl (λ i. refl)
+split_norm (fact.Pre q mapping index cells) = inl (λ i. refl)
+split_norm (fact.Refuted q points) = inl (λ i. refl)
+split_norm (fact.Point clause call t w) = inl (λ i. refl)
+split_norm (fact.At clause call t w) = inl (λ i. refl)
+split_norm (fact.Image step clause q rows) = inl (λ i. refl)
+split_norm (fact.Step step q how rows) = inl (λ i. refl)
+split_norm (fact.WeakImage step) = inl (λ i. refl)
+split_norm (fact.WeakStep step) = inl (λ i. refl)
+split_norm (fact.Blown q support) = inl (λ i. refl)
+split_norm (fact.Large q positions) = inl (λ i. refl)
+
 abbrev pub IsTerminates : Fact → Type 0
 IsTerminates f = (q : PredText) × (modes : List (List ℕ)) × (f ≡ fact.Terminates q modes)
 
 pub split_modes : (f : Fact) → ((pred : PredText) (i : ℕ) → take_modes pred i f ≡ Some None) ⊎ IsTerminates f
 unfolding take_modes
 split_modes (fact.Cti version) = inl (λ pred i. refl)
+split_modes (fact.Norm norm) = inl (λ pred i. refl)
 split_modes (fact.Terminates q modes) = inr (q, modes, refl)
 split_modes (fact.Size q index row) = inl (λ pred i. refl)
 split_modes (fact.By clause index scale list) = inl (λ pred i. refl)
@@ -58,6 +111,7 @@ IsSize f = (q : PredText) × (index : ℕ) × (row : List ℤ) × (f ≡ fact.Si
 pub split_row : (f : Fact) → ((pred : PredText) (i : ℕ) → take_row pred i f ≡ Some None) ⊎ IsSize f
 unfolding take_row
 split_row (fact.Cti version) = inl (λ pred i. refl)
+split_row (fact.Norm norm) = inl (λ pred i. refl)
 split_row (fact.Terminates q modes) = inl (λ pred i. refl)
 split_row (fact.Size q index row) = inr (q, index, row, refl)
 split_row (fact.By clause index scale list) = inl (λ pred i. refl)
@@ -81,6 +135,7 @@ IsBy f = (clause : ℕ) × (index : ℕ) × (scale : ℤ) × (list : List ℤ) �
 pub split_proof : (f : Fact) → ((k rows i : ℕ) → take_proof k rows i f ≡ Some None) ⊎ IsBy f
 unfolding take_proof
 split_proof (fact.Cti version) = inl (λ k rows i. refl)
+split_proof (fact.Norm norm) = inl (λ k rows i. refl)
 split_proof (fact.Terminates q modes) = inl (λ k rows i. refl)
 split_proof (fact.Size q index row) = inl (λ k rows i. refl)
 split_proof (fact.By clause index scale list) = inr (clause, index, scale, list, refl)
@@ -104,6 +159,7 @@ IsGrounds f = (q : PredText) × (index : ℕ) × (cells : List CertCell) × (f �
 pub split_ground : (f : Fact) → ((pred : PredText) (i : ℕ) → take_ground pred i f ≡ Some None) ⊎ IsGrounds f
 unfolding take_ground
 split_ground (fact.Cti version) = inl (λ pred i. refl)
+split_ground (fact.Norm norm) = inl (λ pred i. refl)
 split_ground (fact.Terminates q modes) = inl (λ pred i. refl)
 split_ground (fact.Size q index row) = inl (λ pred i. refl)
 split_ground (fact.By clause index scale list) = inl (λ pred i. refl)
@@ -127,6 +183,7 @@ IsMeasure f = (q : PredText) × (mapping : ℕ) × (coeffs : List ℤ) × (offse
 pub split_level : (f : Fact) → ((pred : PredText) (i : ℕ) → take_level pred i f ≡ Some None) ⊎ IsMeasure f
 unfolding take_level
 split_level (fact.Cti version) = inl (λ pred i. refl)
+split_level (fact.Norm norm) = inl (λ pred i. refl)
 split_level (fact.Terminates q modes) = inl (λ pred i. refl)
 split_level (fact.Size q index row) = inl (λ pred i. refl)
 split_level (fact.By clause index scale list) = inl (λ pred i. refl)
@@ -150,6 +207,7 @@ IsFalls f = (clause : ℕ) × (call : ℕ) × (mapping : ℕ) × (scale : ℤ) �
 pub split_fall : (f : Fact) → ((k j rows m : ℕ) → take_fall k j rows m f ≡ Some None) ⊎ IsFalls f
 unfolding take_fall
 split_fall (fact.Cti version) = inl (λ k j rows m. refl)
+split_fall (fact.Norm norm) = inl (λ k j rows m. refl)
 split_fall (fact.Terminates q modes) = inl (λ k j rows m. refl)
 split_fall (fact.Size q index row) = inl (λ k j rows m. refl)
 split_fall (fact.By clause index scale list) = inl (λ k j rows m. refl)
@@ -173,6 +231,7 @@ IsPre f = (q : PredText) × (mapping : ℕ) × (index : ℕ) × (cells : List Ce
 pub split_pre : (f : Fact) → ((pred : PredText) (m i : ℕ) → take_pre pred m i f ≡ Some None) ⊎ IsPre f
 unfolding take_pre
 split_pre (fact.Cti version) = inl (λ pred m i. refl)
+split_pre (fact.Norm norm) = inl (λ pred m i. refl)
 split_pre (fact.Terminates q modes) = inl (λ pred m i. refl)
 split_pre (fact.Size q index row) = inl (λ pred m i. refl)
 split_pre (fact.By clause index scale list) = inl (λ pred m i. refl)
@@ -196,6 +255,7 @@ IsRefuted f = (q : PredText) × (points : ℕ) × (f ≡ fact.Refuted q points)
 pub split_refuted : (f : Fact) → ((pred : PredText) (i : ℕ) → take_refuted pred i f ≡ Some None) ⊎ IsRefuted f
 unfolding take_refuted
 split_refuted (fact.Cti version) = inl (λ pred i. refl)
+split_refuted (fact.Norm norm) = inl (λ pred i. refl)
 split_refuted (fact.Terminates q modes) = inl (λ pred i. refl)
 split_refuted (fact.Size q index row) = inl (λ pred i. refl)
 split_refuted (fact.By clause index scale list) = inl (λ pred i. refl)
@@ -219,6 +279,7 @@ IsPoint f = (clause : ℕ) × (call : ℕ) × (t : ℤ) × (w : List ℤ) × (f 
 pub split_point : (f : Fact) → ((p : Listing) (comps : Partition) (a : ℕ) (last : ℕ × ℕ) (i : ℕ) → take_point p comps a last i f ≡ Some None) ⊎ IsPoint f
 unfolding take_point
 split_point (fact.Cti version) = inl (λ p comps a last i. refl)
+split_point (fact.Norm norm) = inl (λ p comps a last i. refl)
 split_point (fact.Terminates q modes) = inl (λ p comps a last i. refl)
 split_point (fact.Size q index row) = inl (λ p comps a last i. refl)
 split_point (fact.By clause index scale list) = inl (λ p comps a last i. refl)
@@ -242,6 +303,7 @@ IsAt f = (clause : ℕ) × (call : ℕ) × (t : ℤ) × (w : List ℤ) × (f ≡
 pub split_second : (f : Fact) → ((pair : ℕ × ℕ) (vars i : ℕ) → take_second pair vars i f ≡ Some None) ⊎ IsAt f
 unfolding take_second
 split_second (fact.Cti version) = inl (λ pair vars i. refl)
+split_second (fact.Norm norm) = inl (λ pair vars i. refl)
 split_second (fact.Terminates q modes) = inl (λ pair vars i. refl)
 split_second (fact.Size q index row) = inl (λ pair vars i. refl)
 split_second (fact.By clause index scale list) = inl (λ pair vars i. refl)

@@ -1,5 +1,5 @@
 -- The first wrong fact depends on the facts up to it alone, and a fact that may not stand at a place may not stand there with other contents.
-use Rattle.std.proofs.Common.{◌≡◌, ℕ, zero, suc, ◌+◌, ◌⊎◌, inl, inr, Bool, true, false, ◌&&◌, ◌==◌, nat_le, map, if◌then◌else◌, List, [], ◌∷◌, ◌++◌, length, Option, Some, None, Result, Ok, Err, refl, ap, sym, ◌∙◌, subst, arith, append_assoc}
+use Rattle.std.proofs.Common.{◌≡◌, ℕ, zero, suc, ◌+◌, ◌⊎◌, inl, inr, Bool, true, false, ◌&&◌, ◌==◌, nat_le, map, if◌then◌else◌, List, [], ◌∷◌, ◌++◌, length, Option, Some, None, Result, Ok, Err, refl, ap, ap₂, sym, ◌∙◌, subst, arith, append_assoc}
 use Rattle.std.specs.Prelude.{ℤ, pos}
 use Rattle.std.specs.Ordering.{int_eq}
 use Rattle.std.specs.List.{list_all}
@@ -8,6 +8,7 @@ use Rattle.call_components.specs.Partition.{Partition}
 use Rattle.certificate.specs.declared.pred_text.PredText.{PredText}
 use Rattle.certificate.specs.declared.fact.Fact.{Fact}
 use Rattle.certificate.specs.declared.fact.Fact.TheVariants as fact
+use Rattle.certificate.specs.declared.norm.CertNorm.{CertNorm}
 use Rattle.cti_terms.specs.declared.atom_list.Atom.{Atom}
 use Rattle.cti_terms.specs.Listing.{Listing, numbered}
 use Rattle.linear_rows.specs.declared.multipliers.Multipliers.{Multipliers}
@@ -23,9 +24,9 @@ use Rattle.cert_structure.specs.Order.{pred_text}
 use Rattle.cert_structure.specs.Shape.{is_pair, arity_in, head_of, body_of, vars_of, rows_of, rows_of_atoms, items_of, is_recursive, first_of, proofs_of_call}
 use Rattle.cert_structure.specs.StructureFault.{HaveOnePlace}
 use Rattle.cert_structure.specs.StructureFault as place
-use Rattle.cert_structure.specs.Walk.{◌>>=◌, Wrong, Read, Taken, result_map, wrong_at, with_first, item_of, go_on, kept, at_place, same_pred, is_mode, is_entry, are_entries, is_amount, are_amounts, is_before, cell_read, pair_end, pair_point, point_read, row_read, multipliers_read, level_read, paired, take_modes, take_row, take_proof, take_ground, take_level, take_fall, take_pre, take_refuted, take_point, take_second, read_next, read_many, read_each, read_second, read_point, read_points, refutation_read, read_group, is_open, read_refutation, read_modes, read_rows, read_proofs, read_grounds, read_level, read_levels, read_call, read_calls, read_falls, read_cubes, read_pre, read_version, read_parts}
+use Rattle.cert_structure.specs.Walk.{◌>>=◌, Wrong, Read, Taken, result_map, wrong_at, with_first, item_of, go_on, kept, at_place, same_pred, is_mode, is_entry, are_entries, is_amount, are_amounts, is_before, cell_read, pair_end, pair_point, point_read, row_read, multipliers_read, level_read, paired, take_modes, take_row, take_proof, take_ground, take_level, take_fall, take_pre, take_refuted, take_point, take_second, read_next, read_many, read_each, read_second, read_point, read_points, refutation_read, read_group, is_open, read_refutation, read_modes, read_rows, read_proofs, read_grounds, read_level, read_levels, read_call, read_calls, read_falls, read_cubes, read_pre, take_norm, named_norm, by_version, read_head, read_sections, read_parts}
+use Rattle.cert_structure.proofs.KindLemmas.{IsVersion, split_version}
 use Rattle.cert_structure.proofs.SectionLemmas.{same_some, same_ok, err_ok, bound, mapped}
-use Rattle.cert_structure.proofs.WholeLemmas.{version_sound}
 
 pub same_err : {A : Type 0} (v w : Wrong) → ◌≡◌ {A = Result A Wrong} (Err v) (Err w) → v ≡ w
 same_err v w e = cc
@@ -489,85 +490,98 @@ local_falls : (p : Listing) (comps : Partition) (rows : List Rows) (levels : Lis
 unfolding read_falls
 local_falls p comps rows levels k = local_calls comps rows levels (head_of p k) k 0 0 (body_of p k)
 
--- the version
-pub version_split : (f : Fact) → ((s : List Fact) → read_version (f ∷ s) ≡ wrong_at (f ∷ s) reason.Extra) ⊎ ((v : ℤ) × (f ≡ fact.Cti v))
-unfolding read_version
-version_split (fact.Cti version) = inr (version, refl)
-version_split (fact.Terminates q modes) = inl (λ s. refl)
-version_split (fact.Size q index row) = inl (λ s. refl)
-version_split (fact.By clause index scale list) = inl (λ s. refl)
-version_split (fact.Grounds q index cells) = inl (λ s. refl)
-version_split (fact.Measure q mapping coeffs offset) = inl (λ s. refl)
-version_split (fact.Falls clause call mapping scale list) = inl (λ s. refl)
-version_split (fact.Pre q mapping index cells) = inl (λ s. refl)
-version_split (fact.Refuted q points) = inl (λ s. refl)
-version_split (fact.Point clause call t w) = inl (λ s. refl)
-version_split (fact.At clause call t w) = inl (λ s. refl)
-version_split (fact.Image step clause q rows) = inl (λ s. refl)
-version_split (fact.Step step q how rows) = inl (λ s. refl)
-version_split (fact.WeakImage step) = inl (λ s. refl)
-version_split (fact.WeakStep step) = inl (λ s. refl)
-version_split (fact.Blown q support) = inl (λ s. refl)
-version_split (fact.Large q positions) = inl (λ s. refl)
+-- the head
+norm_stay : Stays take_norm
+unfolding take_norm
+norm_stay i _ _ (place.norm {m = m}) e = let bad : Some m ≡ None = same_some _ _ e in cc bad
+norm_stay i _ _ h e = e
 
-no_version : (v : ℤ) → (if int_eq v (pos 1) then Ok [] else wrong_at {A = List Fact} (fact.Cti v ∷ []) reason.Version) ≡ wrong_at (fact.Cti v ∷ []) reason.Extra → ⊥
-no_version v e = go (int_eq v (pos 1)) e
-  where
-    go : (b : Bool) → (if b then Ok [] else wrong_at {A = List Fact} (fact.Cti v ∷ []) reason.Version) ≡ wrong_at (fact.Cti v ∷ []) reason.Extra → ⊥
-    go true e = err_ok _ [] (sym e)
-    go false e =
-        let both : (length (fact.Cti v ∷ []), reason.Version) ≡ (length (fact.Cti v ∷ []), reason.Extra) = same_err {A = List Fact} _ _ e in
-        let whys : reason.Version ≡ reason.Extra = ap (λ z. z.1) both in
-        cc whys
+local_norm : IsLocal named_norm
+local_norm = local_map (λ norm. Some norm) (read_next take_norm 0) (local_next take_norm norm_stay 0)
 
-version_stays : {f g : Fact} → HaveOnePlace f g → ((s : List Fact) → read_version (f ∷ s) ≡ wrong_at (f ∷ s) reason.Extra) → (s : List Fact) → read_version (g ∷ s) ≡ wrong_at (g ∷ s) reason.Extra
-unfolding read_version
+no_version : (v : ℤ) (one two : Bool) → by_version v one two [] ≡ wrong_at (fact.Cti v ∷ []) reason.Extra → ⊥
+no_version v true two e = err_ok _ (None, []) (sym e)
+no_version v false true e =
+    let both : (0, reason.Missing) ≡ (1, reason.Extra) = same_err {A = Option CertNorm × List Fact} _ _ e in
+    let whys : reason.Missing ≡ reason.Extra = ap (λ z. z.1) both in
+    cc whys
+no_version v false false e =
+    let both : (1, reason.Version) ≡ (1, reason.Extra) = same_err {A = Option CertNorm × List Fact} _ _ e in
+    let whys : reason.Version ≡ reason.Extra = ap (λ z. z.1) both in
+    cc whys
+
+version_stays : {f g : Fact} → HaveOnePlace f g → ((s : List Fact) → read_head (f ∷ s) ≡ wrong_at (f ∷ s) reason.Extra) → (s : List Fact) → read_head (g ∷ s) ≡ wrong_at (g ∷ s) reason.Extra
+unfolding read_head
 version_stays place.itself h s = h s
-version_stays (place.version {v = v}) h s = absurd (no_version v (h []))
+version_stays (place.version {v = v}) h s = absurd (no_version v (int_eq v (pos 1)) (int_eq v (pos 2)) (h []))
 version_stays _ h s = refl
 
-module _ {B : Type 0} (k : List Fact → Read B) (h : IsLocal k) where
-  version_other : (c : Fact) (s : List Fact) (n : ℕ) (why : StructureReason) → ((s : List Fact) → read_version (c ∷ s) ≡ wrong_at (c ∷ s) reason.Extra) → read_version (c ∷ s) ≡ Err (suc n, why)
-      → Fails (λ s. read_version s >>= k) (c ∷ s) n why
-  version_other c s n why none e =
-      here (λ s. read_version s >>= k) c s reason.Extra n why (ap (λ z. Err z) (same_err {A = List Fact} _ _ (sym (none s) ∙ e))) (λ g v m. ap (λ z. z >>= k) (version_stays m none v))
+version_found : (v : ℤ) (s t : List Fact) (x : Option CertNorm) (f : Fact) → read_head (fact.Cti v ∷ s) ≡ Ok (x, f ∷ t) → After read_head (fact.Cti v ∷ s) x f t
+unfolding read_head
+version_found v s t x f e = go (int_eq v (pos 1)) (int_eq v (pos 2)) refl refl e
+  where
+    go : (one two : Bool) → int_eq v (pos 1) ≡ one → int_eq v (pos 2) ≡ two → by_version v one two s ≡ Ok (x, f ∷ t) → After read_head (fact.Cti v ∷ s) x f t
+    go true two is also same =
+        let both : (None, s) ≡ (x, f ∷ t) = same_ok _ _ same in
+        let first : None ≡ x = ap (λ z. z.0) both in
+        let rest : s ≡ f ∷ t = ap (λ z. z.1) both in
+        record {
+          front = fact.Cti v ∷ [];
+          split = ap (λ z. fact.Cti v ∷ z) rest;
+          again = λ g u m. ap (λ b. by_version v b (int_eq v (pos 2)) (g ∷ u)) is ∙ ap (λ z. Ok (z, g ∷ u)) first;
+        }
+    go false true is also same =
+        let a = local_norm.ok s t x f same in
+        record {
+          front = fact.Cti v ∷ a.front;
+          split = ap (λ z. fact.Cti v ∷ z) a.split;
+          again = λ g u m. ap₂ (λ b c. by_version v b c (a.front ++ g ∷ u)) is also ∙ a.again g u m;
+        }
+    go false false is also same = err_ok _ (x, f ∷ t) same
 
-  version_wrong : (number : ℤ) (s : List Fact) (n : ℕ) (why : StructureReason) → read_version (fact.Cti number ∷ s) ≡ Err (suc n, why) → Fails (λ s. read_version s >>= k) (fact.Cti number ∷ s) n why
-  unfolding read_version
-  version_wrong number s n why e = go (int_eq number (pos 1)) refl e
-    where
-      go : (b : Bool) → int_eq number (pos 1) ≡ b → (if b then Ok s else wrong_at (fact.Cti number ∷ s) reason.Version) ≡ Err (suc n, why) → Fails (λ s. read_version s >>= k) (fact.Cti number ∷ s) n why
-      go true test same = err_ok (suc n, why) s (sym same)
-      go false test same =
-          here (λ s. read_version s >>= k) (fact.Cti number) s reason.Version n why (ap (λ z. Err z) (same_err {A = List Fact} _ _ same))
-          (λ g v m. subst (λ z. (read_version (z ∷ v) >>= k) ≡ Err (suc (length v), reason.Version)) m (ap (λ b. (if b then Ok v else wrong_at (fact.Cti number ∷ v) reason.Version) >>= k) test))
+version_failed : (v : ℤ) (s : List Fact) (n : ℕ) (why : StructureReason) → read_head (fact.Cti v ∷ s) ≡ Err (suc n, why) → Fails read_head (fact.Cti v ∷ s) n why
+unfolding read_head
+version_failed v s n why e = go (int_eq v (pos 1)) (int_eq v (pos 2)) refl refl e
+  where
+    go : (one two : Bool) → int_eq v (pos 1) ≡ one → int_eq v (pos 2) ≡ two → by_version v one two s ≡ Err (suc n, why) → Fails read_head (fact.Cti v ∷ s) n why
+    go true two is also same = err_ok (suc n, why) (None, s) (sym same)
+    go false true is also same =
+        let a = local_norm.err s n why same in
+        record {
+          front = fact.Cti v ∷ a.front;
+          wrong = a.wrong;
+          more = a.more;
+          split = ap (λ z. fact.Cti v ∷ z) a.split;
+          left = a.left;
+          again = λ g u m. ap₂ (λ b c. by_version v b c (a.front ++ g ∷ u)) is also ∙ a.again g u m;
+        }
+    go false false is also same =
+        here read_head (fact.Cti v) s reason.Version n why same
+        (λ g u m. subst (λ z. read_head (z ∷ u) ≡ Err (suc (length u), reason.Version)) m (ap₂ (λ b c. by_version v b c u) is also))
 
-  version_failed : (s : List Fact) (n : ℕ) (why : StructureReason) → read_version s ≡ Err (suc n, why) → Fails (λ s. read_version s >>= k) s n why
-  unfolding read_version
-  version_failed [] n why e =
-      let both : (0, reason.Missing) ≡ (suc n, why) = same_err {A = List Fact} _ _ e in
-      let count : 0 ≡ suc n = ap (λ z. z.0) both in
-      absurd (omega (arith, count))
-  version_failed (c ∷ s) n why e = go (version_split c)
-    where
-      go : ((s : List Fact) → read_version (c ∷ s) ≡ wrong_at (c ∷ s) reason.Extra) ⊎ ((v : ℤ) × (c ≡ fact.Cti v)) → Fails (λ s. read_version s >>= k) (c ∷ s) n why
-      go (inl none) = version_other c s n why none e
-      go (inr (number, is)) =
-          subst (λ z. Fails (λ s. read_version s >>= k) (z ∷ s) n why) (sym is) (version_wrong number s n why (ap (λ z. read_version (z ∷ s)) (sym is) ∙ e))
+head_found : (s t : List Fact) (x : Option CertNorm) (f : Fact) → read_head s ≡ Ok (x, f ∷ t) → After read_head s x f t
+unfolding read_head
+head_found [] t x f e = err_ok _ (x, f ∷ t) e
+head_found (c ∷ s) t x f e = go (split_version c)
+  where
+    go : ((s : List Fact) → read_head (c ∷ s) ≡ wrong_at (c ∷ s) reason.Extra) ⊎ IsVersion c → After read_head (c ∷ s) x f t
+    go (inl none) = err_ok _ (x, f ∷ t) (sym (none s) ∙ e)
+    go (inr (v, is)) = subst (λ z. After read_head (z ∷ s) x f t) (sym is) (version_found v s t x f (ap (λ z. read_head (z ∷ s)) (sym is) ∙ e))
 
-  local_version : IsLocal (λ s. read_version s >>= k)
-  unfolding read_version
-  local_version = record {
-    ok = λ s t y f e.
-        bound k (read_version s) (y, f ∷ t) e λ s0 e0 more.
-        let a = h.ok s0 t y f more in
-        record { front = fact.Cti (pos 1) ∷ a.front; split = version_sound s s0 e0 ∙ ap (λ z. fact.Cti (pos 1) ∷ z) a.split; again = λ g v m. a.again g v m };
-    err = λ s n why e.
-        bound_err k (read_version s) (suc n, why) e (λ first. version_failed s n why first)
-        (λ s0 e0 more.
-        let a = h.err s0 n why more in
-        record { front = fact.Cti (pos 1) ∷ a.front; wrong = a.wrong; more = a.more; split = version_sound s s0 e0 ∙ ap (λ z. fact.Cti (pos 1) ∷ z) a.split; left = a.left; again = λ g v m. a.again g v m });
-  }
+head_failed : (s : List Fact) (n : ℕ) (why : StructureReason) → read_head s ≡ Err (suc n, why) → Fails read_head s n why
+unfolding read_head
+head_failed [] n why e =
+    let both : (0, reason.Missing) ≡ (suc n, why) = same_err {A = Option CertNorm × List Fact} _ _ e in
+    let count : 0 ≡ suc n = ap (λ z. z.0) both in
+    absurd (omega (arith, count))
+head_failed (c ∷ s) n why e = go (split_version c)
+  where
+    go : ((s : List Fact) → read_head (c ∷ s) ≡ wrong_at (c ∷ s) reason.Extra) ⊎ IsVersion c → Fails read_head (c ∷ s) n why
+    go (inl none) = here read_head c s reason.Extra n why (sym (none s) ∙ e) (λ g v m. version_stays m none v)
+    go (inr (v, is)) = subst (λ z. Fails read_head (z ∷ s) n why) (sym is) (version_failed v s n why (ap (λ z. read_head (z ∷ s)) (sym is) ∙ e))
+
+local_head : IsLocal read_head
+local_head = record { ok = head_found; err = head_failed }
 
 -- Reading all parts, section by section: what is read of one is given to a function that makes the parts.
 abbrev pub Modes : Type 0
@@ -591,9 +605,9 @@ Cubes = List (List (List (List Cell)))
 abbrev pub Refutations : Type 0
 Refutations = List (Option Refutation)
 
-abbrev pub made : Modes → List Rows → Proofs → Grounds → Levels → Falls → Cubes → Refutations → Parts
-made modes rows proofs grounds levels falls cubes refutations =
-    record { modes = modes; rows = rows; row_proofs = proofs; grounds = grounds; levels = levels; falls = falls; preconditions = cubes; refutations = refutations }
+abbrev pub made : Option CertNorm → Modes → List Rows → Proofs → Grounds → Levels → Falls → Cubes → Refutations → Parts
+made norm modes rows proofs grounds levels falls cubes refutations =
+    record { norm = norm; modes = modes; rows = rows; row_proofs = proofs; grounds = grounds; levels = levels; falls = falls; preconditions = cubes; refutations = refutations }
 
 module _ (p : Listing) (names : List (List ℕ)) (comps : Partition) where
   abbrev pub from_refutations : Levels → (Refutations → Parts) → List Fact → Read Parts
@@ -617,11 +631,11 @@ module _ (p : Listing) (names : List (List ℕ)) (comps : Partition) where
   abbrev pub from_rows : (List Rows → Proofs → Grounds → Levels → Falls → Cubes → Refutations → Parts) → List Fact → Read Parts
   from_rows make s = read_each (read_rows p names) 0 (length p.preds) s >>= λ x. from_proofs x.0 (make x.0) x.1
 
-  abbrev pub from_modes : List Fact → Read Parts
-  from_modes s = read_each (read_modes p names) 0 (length p.preds) s >>= λ x. from_rows (made x.0) x.1
+  abbrev pub from_modes : Option CertNorm → List Fact → Read Parts
+  from_modes norm s = read_each (read_modes p names) 0 (length p.preds) s >>= λ x. from_rows (made norm x.0) x.1
 
-  pub parts_are : (s : List Fact) → read_parts p names comps s ≡ (read_version s >>= from_modes)
-  unfolding read_parts
+  pub parts_are : (s : List Fact) → read_parts p names comps s ≡ (read_head s >>= λ x. from_modes x.0 x.1)
+  unfolding read_parts read_sections
   parts_are s = refl
 
   local_from_refutations : (levels : Levels) (make : Refutations → Parts) → IsLocal (from_refutations levels make)
@@ -654,10 +668,10 @@ module _ (p : Listing) (names : List (List ℕ)) (comps : Partition) where
   local_from_rows make =
       local_bind (read_each (read_rows p names) 0 (length p.preds)) (λ x. from_proofs x (make x)) (local_each (read_rows p names) (local_rows p names) 0 (length p.preds)) (λ x. local_from_proofs x (make x))
 
-  local_from_modes : IsLocal from_modes
-  local_from_modes =
-      local_bind (read_each (read_modes p names) 0 (length p.preds)) (λ x. from_rows (made x)) (local_each (read_modes p names) (local_modes p names) 0 (length p.preds)) (λ x. local_from_rows (made x))
+  local_from_modes : (norm : Option CertNorm) → IsLocal (from_modes norm)
+  local_from_modes norm =
+      local_bind (read_each (read_modes p names) 0 (length p.preds)) (λ x. from_rows (made norm x)) (local_each (read_modes p names) (local_modes p names) 0 (length p.preds)) (λ x. local_from_rows (made norm x))
 
   pub local_parts : IsLocal (read_parts p names comps)
-  unfolding read_parts
-  local_parts = local_version from_modes local_from_modes
+  unfolding read_parts read_sections
+  local_parts = local_bind read_head from_modes local_head local_from_modes

@@ -68,6 +68,7 @@ refuted_later p names m h refutations =
 
 note_kind : (m : ℕ) → m < 9 → (f : Fact) → IsTrue (is_note f) → m < kind f
 note_kind m h (fact.Cti version) note = absurd (false≢true note)
+note_kind m h (fact.Norm norm) note = absurd (false≢true note)
 note_kind m h (fact.Terminates q modes) note = absurd (false≢true note)
 note_kind m h (fact.Size q index row) note = absurd (false≢true note)
 note_kind m h (fact.By clause index scale list) note = absurd (false≢true note)

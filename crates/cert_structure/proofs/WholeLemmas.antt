@@ -1,54 +1,67 @@
 -- Reading a whole certificate: what is read is its parts, and its parts are read.
-use Rattle.std.proofs.Common.{◌≡◌, ◌≢◌, ℕ, ◌<◌, Bool, true, false, if◌then◌else◌, List, [], ◌∷◌, ◌++◌, length, Result, Ok, Err, ◌-◌, nat_lt, refl, ap, ◌∙◌, subst, arith, le-ltb, ltb-false}
+use Rattle.std.proofs.Common.{◌≡◌, ◌≢◌, ℕ, ◌<◌, ◌⊎◌, inl, inr, Bool, true, false, if◌then◌else◌, List, [], ◌∷◌, ◌++◌, length, Option, Some, None, Result, Ok, Err, ◌-◌, nat_lt, refl, ap, sym, ◌∙◌, subst, arith, le-ltb, ltb-false}
 use Rattle.std.proofs.lemmas.Bool.Decides.{Decides-int_eq}
-use Rattle.std.specs.Prelude.{pos}
+use Rattle.std.specs.Prelude.{ℤ, pos}
 use Rattle.std.specs.Ordering.{int_eq}
 use Rattle.std.specs.List.{prefix_len}
 use Rattle.call_components.specs.Partition.{Partition, AreComponents}
 use Rattle.certificate.specs.declared.fact.Fact.{Fact}
 use Rattle.certificate.specs.declared.fact.Fact.TheVariants as fact
+use Rattle.certificate.specs.declared.norm.CertNorm.{CertNorm}
 use Rattle.cti_terms.specs.Listing.{Listing}
 use Rattle.cert_structure.specs.declared.fault.StructureReason.TheVariants as reason
 use Rattle.cert_structure.specs.declared.parts.Parts.{Parts}
-use Rattle.cert_structure.specs.Order.{pred_text, mode_facts, size_facts, proof_facts, ground_facts, level_facts, fall_facts, pre_facts, refuted_facts, listed, is_note}
+use Rattle.cert_structure.specs.Order.{pred_text, head_facts, mode_facts, size_facts, proof_facts, ground_facts, level_facts, fall_facts, pre_facts, refuted_facts, listed, is_note}
 use Rattle.cert_structure.specs.Shape.{HaveShape}
 use Rattle.cert_structure.specs.Structure.{IsStructured, AreNotes}
-use Rattle.cert_structure.specs.Walk.{◌>>=◌, Wrong, wrong_at, with_notes, read_whole, read_version, read_modes, read_rows, read_proofs, read_grounds, read_levels, read_falls, read_pre, read_refutation, read_each, read_parts}
+use Rattle.cert_structure.specs.Walk.{◌>>=◌, Wrong, wrong_at, item_of, result_map, take_norm, named_norm, by_version, with_notes, read_whole, read_head, read_sections, read_modes, read_rows, read_proofs, read_grounds, read_levels, read_falls, read_pre, read_refutation, read_each, read_parts}
 use Rattle.cert_structure.proofs.LoopLemmas.{are_notes, all_notes}
-use Rattle.cert_structure.proofs.KindLemmas.{kind}
+use Rattle.cert_structure.proofs.KindLemmas.{kind, IsVersion, split_version, IsNorm, split_norm}
 use Rattle.cert_structure.proofs.SectionLemmas.{same_ok, err_ok, bound, all_both, all_weaker}
 use Rattle.cert_structure.proofs.LevelLemmas.{NoLevel, levels_sound, levels_back}
 use Rattle.cert_structure.proofs.StructureLemmas.{AreLater, proofs_later, grounds_later, levels_later, falls_later, pre_later, refuted_later, notes_later, no_level, modes_section, modes_listed, rows_section, rows_listed, proofs_section, proofs_listed, grounds_section, grounds_listed, falls_section, falls_listed, pre_section, pre_listed, refuted_section, refuted_listed}
 use Rattle.cert_structure.proofs.ComponentLemmas.{first_le}
 use Rattle.cert_structure.proofs.PartsLemmas.{all_read}
 
-pub version_sound : (s t : List Fact) → read_version s ≡ Ok t → s ≡ fact.Cti (pos 1) ∷ t
-unfolding read_version
-version_sound [] t e = err_ok _ t e
-version_sound (fact.Cti version ∷ s) t e = go (int_eq version (pos 1)) refl e
+norm_sound : (s t : List Fact) (norm : Option CertNorm) → named_norm s ≡ Ok (norm, t) → fact.Cti (pos 2) ∷ s ≡ head_facts norm ++ t
+unfolding take_norm
+norm_sound [] t norm e = err_ok _ (norm, t) e
+norm_sound (f ∷ s) t norm e = go (split_norm f)
   where
-    go : (b : Bool) → int_eq version (pos 1) ≡ b → (if b then Ok s else wrong_at (fact.Cti version ∷ s) reason.Version) ≡ Ok t → fact.Cti version ∷ s ≡ fact.Cti (pos 1) ∷ t
-    go true one same =
-        let number : version ≡ pos 1 = (Decides-int_eq version (pos 1)).0 one in
-        let rest : s ≡ t = same_ok s t same in
-        rw (number, rest) refl
-    go false one same = err_ok _ t same
-version_sound (fact.Terminates q modes ∷ s) t e = err_ok _ t e
-version_sound (fact.Size q index row ∷ s) t e = err_ok _ t e
-version_sound (fact.By clause index scale list ∷ s) t e = err_ok _ t e
-version_sound (fact.Grounds q index cells ∷ s) t e = err_ok _ t e
-version_sound (fact.Measure q mapping coeffs offset ∷ s) t e = err_ok _ t e
-version_sound (fact.Falls clause call mapping scale list ∷ s) t e = err_ok _ t e
-version_sound (fact.Pre q mapping index cells ∷ s) t e = err_ok _ t e
-version_sound (fact.Refuted q points ∷ s) t e = err_ok _ t e
-version_sound (fact.Point clause call v w ∷ s) t e = err_ok _ t e
-version_sound (fact.At clause call v w ∷ s) t e = err_ok _ t e
-version_sound (fact.Image step clause q rows ∷ s) t e = err_ok _ t e
-version_sound (fact.Step step q how rows ∷ s) t e = err_ok _ t e
-version_sound (fact.WeakImage step ∷ s) t e = err_ok _ t e
-version_sound (fact.WeakStep step ∷ s) t e = err_ok _ t e
-version_sound (fact.Blown q support ∷ s) t e = err_ok _ t e
-version_sound (fact.Large q positions ∷ s) t e = err_ok _ t e
+    go : ((i : ℕ) → take_norm i f ≡ Some None) ⊎ IsNorm f → fact.Cti (pos 2) ∷ f ∷ s ≡ head_facts norm ++ t
+    go (inl none) = err_ok _ (norm, t) (sym (ap (λ z. result_map (λ x. (Some x.0, x.1)) (item_of f s z)) (none 0)) ∙ e)
+    go (inr (own, is)) =
+        let both : (Some own, s) ≡ (norm, t) = same_ok _ _ (ap (λ z. named_norm (z ∷ s)) (sym is) ∙ e) in
+        let first : Some own ≡ norm = ap (λ z. z.0) both in
+        let rest : s ≡ t = ap (λ z. z.1) both in
+        rw (is, ← first, ← rest) refl
+
+-- what is read of a head is its norm, and the norm of a head is read
+pub head_sound : (s t : List Fact) (norm : Option CertNorm) → read_head s ≡ Ok (norm, t) → s ≡ head_facts norm ++ t
+unfolding read_head
+head_sound [] t norm e = err_ok _ (norm, t) e
+head_sound (f ∷ s) t norm e = go (split_version f)
+  where
+    numbered : (v : ℤ) (one two : Bool) → int_eq v (pos 1) ≡ one → int_eq v (pos 2) ≡ two → by_version v one two s ≡ Ok (norm, t) → fact.Cti v ∷ s ≡ head_facts norm ++ t
+    numbered v true two is also same =
+        let number : v ≡ pos 1 = (Decides-int_eq v (pos 1)).0 is in
+        let both : (None, s) ≡ (norm, t) = same_ok _ _ same in
+        let first : None ≡ norm = ap (λ z. z.0) both in
+        let rest : s ≡ t = ap (λ z. z.1) both in
+        rw (number, ← first, ← rest) refl
+    numbered v false true is also same =
+        let number : v ≡ pos 2 = (Decides-int_eq v (pos 2)).0 also in
+        ap (λ z. fact.Cti z ∷ s) number ∙ norm_sound s t norm same
+    numbered v false false is also same = err_ok _ (norm, t) same
+
+    go : ((s : List Fact) → read_head (f ∷ s) ≡ wrong_at (f ∷ s) reason.Extra) ⊎ IsVersion f → f ∷ s ≡ head_facts norm ++ t
+    go (inl none) = err_ok _ (norm, t) (sym (none s) ∙ e)
+    go (inr (v, is)) = ap (λ z. z ∷ s) is ∙ numbered v (int_eq v (pos 1)) (int_eq v (pos 2)) refl refl (ap (λ z. read_head (z ∷ s)) (sym is) ∙ e)
+
+pub head_back : (norm : Option CertNorm) (s : List Fact) → read_head (head_facts norm ++ s) ≡ Ok (norm, s)
+unfolding read_head take_norm
+head_back None s = refl
+head_back (Some norm) s = refl
 
 -- the parts, where the facts after them are notes, as a test says
 abbrev pub noted : Bool → Parts × List Fact → Result Parts Wrong
@@ -59,10 +72,10 @@ module _ (p : Listing) (names : List (List ℕ)) (comps : Partition) (h : AreCom
   IsRead s parts t = (s ≡ listed p names parts t) × HaveShape p comps parts
 
   pub parts_sound : (s t : List Fact) (parts : Parts) → read_parts p names comps s ≡ Ok (parts, t) → (s ≡ listed p names parts t) × HaveShape p comps parts
-  unfolding read_parts
+  unfolding read_parts read_sections
   parts_sound s t parts e =
-      bound _ (read_version s) _ e λ s0 e0 more0.
-      bound _ (read_each (read_modes p names) 0 (length p.preds) s0) _ more0 λ modes e1 more1.
+      bound _ (read_head s) _ e λ head e0 more0.
+      bound _ (read_each (read_modes p names) 0 (length p.preds) head.1) _ more0 λ modes e1 more1.
       bound _ (read_each (read_rows p names) 0 (length p.preds) modes.1) _ more1 λ rows e2 more2.
       bound _ (read_each (read_proofs p rows.0) 0 (length p.clauses) rows.1) _ more2 λ proofs e3 more3.
       bound _ (read_each (read_grounds p names) 0 (length p.preds) proofs.1) _ more3 λ grounds e4 more4.
@@ -70,8 +83,8 @@ module _ (p : Listing) (names : List (List ℕ)) (comps : Partition) (h : AreCom
       bound _ (read_each (read_falls p comps rows.0 levels.0) 0 (length p.clauses) levels.1) _ more5 λ falls e6 more6.
       bound _ (read_each (read_pre p names levels.0) 0 (length p.preds) falls.1) _ more6 λ cubes e7 more7.
       bound _ (read_each (read_refutation p names comps levels.0) 0 (length p.preds) cubes.1) _ more7 λ refutations e8 more8.
-      let whole0 = version_sound s s0 e0 in
-      let (whole1, right1) = modes_section p names s0 modes.1 modes.0 e1 in
+      let whole0 = head_sound s head.1 head.0 e0 in
+      let (whole1, right1) = modes_section p names head.1 modes.1 modes.0 e1 in
       let (whole2, right2) = rows_section p names modes.1 rows.1 rows.0 e2 in
       let (whole3, right3) = proofs_section p rows.0 rows.1 proofs.1 proofs.0 e3 in
       let (whole4, right4) = grounds_section p names proofs.1 grounds.1 grounds.0 e4 in
@@ -80,13 +93,13 @@ module _ (p : Listing) (names : List (List ℕ)) (comps : Partition) (h : AreCom
       let (whole7, right7) = pre_section p names levels.0 falls.1 cubes.1 cubes.0 e7 in
       let (whole8, right8) = refuted_section p names levels.0 comps cubes.1 refutations.1 refutations.0 e8 in
       let own5 : grounds.1 ≡ level_facts p names levels.0 ++ levels.1 = rw all whole5 in
-      let last : (record { modes = modes.0; rows = rows.0; row_proofs = proofs.0; grounds = grounds.0; levels = levels.0; falls = falls.0; preconditions = cubes.0; refutations = refutations.0 }, refutations.1) ≡ (parts, t) = same_ok _ _ more8 in
-      let first : record { modes = modes.0; rows = rows.0; row_proofs = proofs.0; grounds = grounds.0; levels = levels.0; falls = falls.0; preconditions = cubes.0; refutations = refutations.0 } ≡ parts = ap (λ q. q.0) last in
+      let last : (record { norm = head.0; modes = modes.0; rows = rows.0; row_proofs = proofs.0; grounds = grounds.0; levels = levels.0; falls = falls.0; preconditions = cubes.0; refutations = refutations.0 }, refutations.1) ≡ (parts, t) = same_ok _ _ more8 in
+      let first : record { norm = head.0; modes = modes.0; rows = rows.0; row_proofs = proofs.0; grounds = grounds.0; levels = levels.0; falls = falls.0; preconditions = cubes.0; refutations = refutations.0 } ≡ parts = ap (λ q. q.0) last in
       let rest : refutations.1 ≡ t = ap (λ q. q.1) last in
       subst (λ u. IsRead s parts u) rest
       (subst (λ q. IsRead s q refutations.1) first (
         whole0
-            ∙ ap (λ u. fact.Cti (pos 1) ∷ u)
+            ∙ ap (λ u. head_facts head.0 ++ u)
             (whole1
             ∙ ap (λ u. mode_facts p names modes.0 ++ u)
             (whole2
@@ -112,7 +125,7 @@ module _ (p : Listing) (names : List (List ℕ)) (comps : Partition) (h : AreCom
 
   pub parts_back : ((a b : ℕ) → a < b → b < length p.preds → pred_text p names b ≢ pred_text p names a) → (parts : Parts) (notes : List Fact) → HaveShape p comps parts → AreNotes notes
       → read_parts p names comps (listed p names parts notes) ≡ Ok (parts, notes)
-  unfolding read_version
+  unfolding read_parts
   parts_back apart parts notes shape are =
       let s7 = refuted_facts p names parts.refutations ++ notes in
       let s6 = pre_facts p names parts.preconditions ++ s7 in
@@ -128,7 +141,8 @@ module _ (p : Listing) (names : List (List ℕ)) (comps : Partition) (h : AreCom
       let late4 : (m : ℕ) → m < 5 → AreLater m s4 = λ m few. all_both (λ f. m < kind f) (level_facts p names parts.levels) s5 (levels_later p names m few parts.levels) (late5 m (omega (arith, few))) in
       let late3 : (m : ℕ) → m < 4 → AreLater m s3 = λ m few. all_both (λ f. m < kind f) (ground_facts p names parts.grounds) s4 (grounds_later p names m few parts.grounds) (late4 m (omega (arith, few))) in
       let late2 : (m : ℕ) → m < 3 → AreLater m s2 = λ m few. all_both (λ f. m < kind f) (proof_facts parts.row_proofs) s3 (proofs_later m few parts.row_proofs) (late3 m (omega (arith, few))) in
-      all_read p names comps (fact.Cti (pos 1) ∷ s0) s0 (length p.preds) (length p.clauses) refl refl refl
+      ap (λ z. z >>= λ x. read_sections p names comps x.0 x.1) (head_back parts.norm s0)
+      ∙ all_read p names comps parts.norm s0 (length p.preds) (length p.clauses) refl refl
       parts.modes s1 (modes_listed p names parts.modes s1 shape.modes)
       parts.rows parts.rows s2 (rows_listed p names apart parts.rows s2 shape.rows (late2 2 (omega arith))) refl
       parts.row_proofs s3 (proofs_listed p parts.rows parts.row_proofs s3 shape.row_proofs)

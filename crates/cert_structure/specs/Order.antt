@@ -7,6 +7,7 @@ use Rattle.bool_diagrams.specs.declared.cube.Cell.{Cell}
 use Rattle.bool_diagrams.specs.declared.cube.Cell.TheVariants as side
 use Rattle.certificate.specs.declared.cell.CertCell.{CertCell}
 use Rattle.certificate.specs.declared.cell.CertCell.TheVariants as cell
+use Rattle.certificate.specs.declared.norm.CertNorm.{CertNorm}
 use Rattle.certificate.specs.declared.pred_text.PredText.{PredText}
 use Rattle.certificate.specs.declared.fact.Fact.{Fact}
 use Rattle.certificate.specs.declared.fact.Fact.TheVariants as fact
@@ -93,11 +94,16 @@ proof_facts proofs = facts_from 0 (λ k ms. lines_from 0 (by_line k) ms) proofs
 abbrev pub fall_facts : List (List (List Multipliers)) → List Fact
 fall_facts falls = facts_from 0 (λ k calls. facts_from 0 (λ j ms. lines_from 0 (falls_line k j) ms) calls) falls
 
+-- the version of the format, and the norm: version 1 names none, and is of term size
+abbrev pub head_facts : Option CertNorm → List Fact
+head_facts None = fact.Cti (pos 1) ∷ []
+head_facts (Some norm) = fact.Cti (pos 2) ∷ fact.Norm norm ∷ []
+
 -- the facts of the parts, and the notes after them
 abbrev pub listed : Listing → List (List ℕ) → Parts → List Fact → List Fact
 listed p names parts notes =
-    fact.Cti (pos 1)
-    ∷ (mode_facts p names parts.modes
+    head_facts parts.norm
+    ++ (mode_facts p names parts.modes
     ++ (size_facts p names parts.rows
     ++ (proof_facts parts.row_proofs
     ++ (ground_facts p names parts.grounds

@@ -2,7 +2,7 @@
 -- The shape of parts: how many there are, how wide they are, and in which ranges their numbers are.
 --
 -- To believe: all of this file. Predicates, clauses, calls, rows and mappings are numbered from 0 here.
-use Rattle.std.specs.Prelude.{◌≡◌, ◌≢◌, ℕ, ◌≤◌, ◌<◌, ℤ, pos, Bool, false, IsTrue, ◌&&◌, ◌⊎◌, ◌==◌, if◌then◌else◌, List, [], ◌∷◌, take, length, sum_by, Option, None, Some, option_map, option_and_then, unwrap_or, slice_get}
+use Rattle.std.specs.Prelude.{◌≡◌, ◌≢◌, ℕ, ◌≤◌, ◌<◌, ℤ, pos, Bool, false, IsTrue, ◌&&◌, ◌==◌, if◌then◌else◌, List, [], ◌∷◌, take, length, sum_by, Option, None, Some, option_map, option_and_then, unwrap_or, slice_get}
 use Rattle.std.specs.List.{AllByRecursion}
 use Rattle.call_components.specs.Partition.{Partition}
 use Rattle.certificate.specs.Range.{IsAmount, AreAmounts, AreEntries}

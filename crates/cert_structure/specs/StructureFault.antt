@@ -5,6 +5,7 @@
 use Rattle.std.specs.Prelude.{◌≡◌, ℕ, suc, ◌≤◌, ℤ, List, [], ◌∷◌, ◌++◌, length, Option, Some}
 use Rattle.call_components.specs.Partition.{Partition}
 use Rattle.certificate.specs.declared.cell.CertCell.{CertCell}
+use Rattle.certificate.specs.declared.norm.CertNorm.{CertNorm}
 use Rattle.certificate.specs.declared.pred_text.PredText.{PredText}
 use Rattle.certificate.specs.declared.fact.Fact.{Fact}
 use Rattle.certificate.specs.declared.fact.Fact.TheVariants as fact
@@ -24,6 +25,7 @@ use Rattle.cert_structure.specs.Structure.{AreNotes, IsStructured}
 pub data HaveOnePlace : Fact → Fact → Type 0 where
   itself : {f : Fact} → HaveOnePlace f f
   version : {v w : ℤ} → HaveOnePlace (fact.Cti v) (fact.Cti w)
+  norm : {m n : CertNorm} → HaveOnePlace (fact.Norm m) (fact.Norm n)
   modes : {q : PredText} {xs ys : List (List ℕ)} → HaveOnePlace (fact.Terminates q xs) (fact.Terminates q ys)
   row : {q : PredText} {i : ℕ} {xs ys : List ℤ} → HaveOnePlace (fact.Size q i xs) (fact.Size q i ys)
   proof : {k i : ℕ} {s t : ℤ} {xs ys : List ℤ} → HaveOnePlace (fact.By k i s xs) (fact.By k i t ys)

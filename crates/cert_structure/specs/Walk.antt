@@ -10,6 +10,7 @@ use Rattle.bool_diagrams.specs.declared.cube.Cell.TheVariants as side
 use Rattle.call_components.specs.Partition.{Partition}
 use Rattle.certificate.specs.declared.cell.CertCell.{CertCell}
 use Rattle.certificate.specs.declared.cell.CertCell.TheVariants as cell
+use Rattle.certificate.specs.declared.norm.CertNorm.{CertNorm}
 use Rattle.certificate.specs.declared.pred_text.PredText.{PredText}
 use Rattle.certificate.specs.declared.fact.Fact.{Fact}
 use Rattle.certificate.specs.declared.fact.Fact.TheVariants as fact
@@ -65,12 +66,6 @@ abbrev pub AgreesKept : {A : Type 0} → Result A FactFault → Taken A → Type
 AgreesKept (Ok x) o = o ≡ Some (Some x)
 AgreesKept (Err fault.Shape) o = o ≡ None
 AgreesKept (Err fault.Memory) o = Unit {0}
-
--- the code read the facts that are left
-abbrev pub AgreesRest : Result (Bor (List Fact)) Stop → Result (List Fact) Wrong → Type 0
-AgreesRest (Ok s) o = o ≡ Ok s.now
-AgreesRest (Err (stop.Wrong left why)) o = o ≡ Err (left, why)
-AgreesRest (Err stop.Memory) o = Unit {0}
 
 -- the code read the parts, and notes after them
 abbrev pub AgreesWhole : Result Parts Stop → Result Parts Wrong → Type 0
@@ -316,17 +311,27 @@ read_cubes p names a m s = read_many (take_pre (pred_text p names a) m) 0 s
 unfoldable pub read_pre : Listing → List (List ℕ) → List (List LevelPart) → ℕ → List Fact → Read (List (List (List Cell)))
 read_pre p names levels a s = read_each (read_cubes p names a) 0 (length (items_of levels a)) s
 
--- the facts after that of version 1
-unfoldable pub read_version : List Fact → Result (List Fact) Wrong
-read_version [] = wrong_at [] reason.Missing
-read_version (fact.Cti version ∷ s) = if int_eq version (pos 1) then Ok s else wrong_at (fact.Cti version ∷ s) reason.Version
-read_version (f ∷ s) = wrong_at (f ∷ s) reason.Extra
+unfoldable pub take_norm : ℕ → Fact → Taken CertNorm
+take_norm i (fact.Norm norm) = Some (Some norm)
+take_norm i _ = Some None
 
--- all parts, and the notes after them
-unfoldable pub read_parts : Listing → List (List ℕ) → Partition → List Fact → Read Parts
-read_parts p names comps s = do
-  start ← read_version s
-  modes ← read_each (read_modes p names) 0 (length p.preds) start
+abbrev pub named_norm : List Fact → Read (Option CertNorm)
+named_norm s = result_map (λ x. (Some x.0, x.1)) (read_next take_norm 0 s)
+
+-- the norm that follows a version, which is 1 or 2 as the tests say
+abbrev pub by_version : ℤ → Bool → Bool → List Fact → Read (Option CertNorm)
+by_version version one two s = if one then Ok (None, s) else if two then named_norm s else wrong_at (fact.Cti version ∷ s) reason.Version
+
+-- the norm that the facts name in front, and the facts after it
+unfoldable pub read_head : List Fact → Read (Option CertNorm)
+read_head [] = wrong_at [] reason.Missing
+read_head (fact.Cti version ∷ s) = by_version version (int_eq version (pos 1)) (int_eq version (pos 2)) s
+read_head (f ∷ s) = wrong_at (f ∷ s) reason.Extra
+
+-- the parts of this norm, and the notes after them
+unfoldable pub read_sections : Listing → List (List ℕ) → Partition → Option CertNorm → List Fact → Read Parts
+read_sections p names comps norm s = do
+  modes ← read_each (read_modes p names) 0 (length p.preds) s
   rows ← read_each (read_rows p names) 0 (length p.preds) modes.1
   proofs ← read_each (read_proofs p rows.0) 0 (length p.clauses) rows.1
   grounds ← read_each (read_grounds p names) 0 (length p.preds) proofs.1
@@ -334,7 +339,11 @@ read_parts p names comps s = do
   falls ← read_each (read_falls p comps rows.0 levels.0) 0 (length p.clauses) levels.1
   cubes ← read_each (read_pre p names levels.0) 0 (length p.preds) falls.1
   refutations ← read_each (read_refutation p names comps levels.0) 0 (length p.preds) cubes.1
-  Ok (record { modes = modes.0; rows = rows.0; row_proofs = proofs.0; grounds = grounds.0; levels = levels.0; falls = falls.0; preconditions = cubes.0; refutations = refutations.0 }, refutations.1)
+  Ok (record { norm = norm; modes = modes.0; rows = rows.0; row_proofs = proofs.0; grounds = grounds.0; levels = levels.0; falls = falls.0; preconditions = cubes.0; refutations = refutations.0 }, refutations.1)
+
+-- all parts, and the notes after them
+unfoldable pub read_parts : Listing → List (List ℕ) → Partition → List Fact → Read Parts
+read_parts p names comps s = read_head s >>= λ x. read_sections p names comps x.0 x.1
 
 -- the parts, where all of the facts after them are notes
 abbrev pub with_notes : Parts × List Fact → Result Parts Wrong

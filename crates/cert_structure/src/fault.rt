@@ -6,8 +6,8 @@ use thiserror::Error;
 /// What is wrong with the first wrong fact of a certificate.
 #[derive(Clone, Copy, Debug, PartialEq, Eq, Error)]
 pub enum StructureReason {
-    /// The first fact is `cti` with another version than 1.
-    #[error("the version is not 1")]
+    /// The first fact is `cti` with another version than 1 and 2.
+    #[error("the version is neither 1 nor 2")]
     Version,
     /// The facts end where another must come.
     #[error("a fact is missing")]

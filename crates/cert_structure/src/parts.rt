@@ -1,6 +1,9 @@
 //! What a certificate says of a program, sorted by predicates and clauses.
 
+ghost use Rattle.std.specs.Prelude.{◌≡◌};
+
 use bool_diagrams::Cube;
+use certificate::CertNorm;
 use linear_rows::Multipliers;
 use number_tests::{LevelPart, Refutation};
 use sequences::Sequence;
@@ -9,6 +12,9 @@ use termination_model::SizeRows;
 
 /// All that a certificate says of a program, but for its notes.
 pub struct Parts {
+    /// The norm that the certificate names: none in version 1, which is term size.
+    pub norm: Option<CertNorm>,
+
     /// The modes of each predicate, each a list of argument numbers from 1.
     pub modes: Sequence<Sequence<Sequence<u32>>>,
 
@@ -35,9 +41,12 @@ pub struct Parts {
 }
 
 impl Parts {
-    /// No parts of any predicate or clause.
-    pub(crate) fn none(alloc: Global) -> Parts {
+    /// A norm, and no parts of any predicate or clause.
+    pub(crate) fn none(alloc: Global, norm: Option<CertNorm>) -> Parts
+        ensures { result.norm ≡ norm }
+    {
         Parts {
+            norm,
             modes: Sequence::new(alloc),
             rows: SizeRows::from_vec(Vec::new(alloc)),
             row_proofs: Sequence::new(alloc),
@@ -53,6 +62,7 @@ impl Parts {
 impl Drop for Parts {
     fn drop(self) {
         let Parts {
+            norm: _,
             modes: _,
             rows: _,
             row_proofs: _,

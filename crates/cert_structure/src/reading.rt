@@ -12,7 +12,7 @@ ghost use Rattle.cert_structure.specs.Filling.{Fills};
 ghost use Rattle.cert_structure.specs.Order.{is_note, pred_text};
 ghost use Rattle.cert_structure.specs.Structure.{IsStructured, AreNamed};
 ghost use Rattle.cert_structure.specs.StructureFault.{IsFirstWrong, IsStructureFault};
-ghost use Rattle.cert_structure.specs.Walk.{Agrees, AgreesRest, AgreesWhole, read_version, read_parts, read_whole};
+ghost use Rattle.cert_structure.specs.Walk.{Agrees, AgreesWhole, named_norm, read_head, read_sections, read_parts, read_whole};
 
 use crate::calls::Calls;
 use crate::falls::Falls;
@@ -27,20 +27,34 @@ use crate::refutations::Refutations;
 use crate::sizes::{PredRows, Proofs, rows_into};
 use crate::stop::{Stop, wrong};
 use call_components::Components;
-use certificate::{Certificate, Fact};
+use certificate::{CertNorm, Certificate, Fact};
 use cti_terms::{Names, Program};
 use std::alloc::Global;
 
-/// The facts after that of the version, which comes first.
-#[tactic(auto, unfolding(crate::specs::Walk::read_version))]
-fn version(facts: &[Fact]) -> Result<&[Fact], Stop>
-    ensures { AgreesRest result (read_version facts.now) }
+/// The norm of the fact in front, and the facts after it.
+#[tactic(auto, unfolding(crate::specs::Walk::take_norm))]
+fn norm(facts: &[Fact]) -> Result<(Option<CertNorm>, &[Fact]), Stop>
+    ensures { Agrees result (named_norm facts.now) }
+{
+    match facts.split_first() {
+        None => Err(wrong(facts, StructureReason::Missing)),
+        Some((Fact::Norm { norm }, rest)) => Ok((Some(*norm), rest)),
+        Some(_) => Err(wrong(facts, StructureReason::Extra)),
+    }
+}
+
+/// The norm that the facts name in front, and the facts after it: version 1 names none.
+#[tactic(auto, unfolding(crate::specs::Walk::read_head))]
+fn head(facts: &[Fact]) -> Result<(Option<CertNorm>, &[Fact]), Stop>
+    ensures { Agrees result (read_head facts.now) }
 {
     match facts.split_first() {
         None => Err(wrong(facts, StructureReason::Missing)),
         Some((Fact::Cti { version }, rest)) => {
             if *version == 1 {
-                Ok(rest)
+                Ok((None, rest))
+            } else if *version == 2 {
+                norm(rest)
             } else {
                 Err(wrong(facts, StructureReason::Version))
             }
@@ -49,8 +63,8 @@ fn version(facts: &[Fact]) -> Result<&[Fact], Stop>
     }
 }
 
-/// Reads all parts into the place of others, section by section, and gives the notes after them.
-#[tactic(auto, unfolding(crate::specs::Walk::read_parts))]
+/// Reads all parts but the norm into the place of others, section by section, and gives the notes after them.
+#[tactic(auto, unfolding(crate::specs::Walk::read_sections))]
 fn fill<'a, 'f>(
     alloc: Global,
     calls: &'a Calls<'a>,
@@ -58,12 +72,12 @@ fn fill<'a, 'f>(
     parts: &mut Parts,
     facts: &'f [Fact],
 ) -> Result<&'f [Fact], Stop>
-    ensures { Fills result parts.new (read_parts calls.now.p.now names.now calls.now.comps.now facts.now) }
+    ensures { Fills result parts.new
+        (read_sections calls.now.p.now names.now calls.now.comps.now parts.old.norm facts.now) }
 {
     let p = calls.p;
     let (preds, clauses) = (u64::from(p.preds()), u64::from(p.clauses()));
-    let modes = version(facts)?;
-    let sizes = each_into(alloc, &Modes { p, names }, preds, &mut parts.modes, modes)?;
+    let sizes = each_into(alloc, &Modes { p, names }, preds, &mut parts.modes, facts)?;
     let proofs = rows_into(alloc, &PredRows { p, names }, preds, &mut parts.rows, sizes)?;
     let reader = Proofs {
         p,
@@ -94,6 +108,7 @@ fn fill<'a, 'f>(
 }
 
 /// The parts, and the notes after them.
+#[tactic(auto, unfolding(crate::specs::Walk::read_parts))]
 fn parts<'f>(
     alloc: Global,
     calls: &Calls,
@@ -102,8 +117,9 @@ fn parts<'f>(
 ) -> Result<(Parts, &'f [Fact]), Stop>
     ensures { Agrees result (read_parts calls.now.p.now names.now calls.now.comps.now facts.now) }
 {
-    let mut parts = Parts::none(alloc);
-    let rest = fill(alloc, calls, names, &mut parts, facts)?;
+    let (norm, sections) = head(facts)?;
+    let mut parts = Parts::none(alloc, norm);
+    let rest = fill(alloc, calls, names, &mut parts, sections)?;
     Ok((parts, rest))
 }
 

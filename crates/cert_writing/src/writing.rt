@@ -1,7 +1,7 @@
 //! The facts of all parts.
 
 ghost use Rattle.std.specs.Prelude.{◌≡◌, ◌++◌, IfOk, OnOk};
-ghost use Rattle.cert_structure.specs.Order.{listed};
+ghost use Rattle.cert_structure.specs.Order.{head_facts, listed};
 ghost use Rattle.cert_writing.specs.Written.{set_facts, mapping_facts};
 
 use crate::ground_rows::Grounds;
@@ -12,13 +12,23 @@ use crate::refutations::Refutations;
 use crate::size_rows::{Proofs, Sizes};
 use crate::writer::write_each;
 use cert_structure::Parts;
-use certificate::{Certificate, Fact};
+use certificate::{CertNorm, Certificate, Fact};
 use cti_terms::{Names, Program};
 use sequences::Sequence;
 use std::alloc::{AllocError, Global};
 
-/// The version of the certificates that are written.
-const VERSION: i128 = 1;
+/// Puts the version, and the norm that is named, after other facts: version 1 names none.
+fn write_head(norm: Option<CertNorm>, out: &mut Sequence<Fact>) -> Result<(), AllocError>
+    ensures { OnOk result (out.new ≡ out.old ++ head_facts norm) }
+{
+    match norm {
+        None => out.push(Fact::Cti { version: 1 }),
+        Some(norm) => {
+            out.push(Fact::Cti { version: 2 })?;
+            out.push(Fact::Norm { norm })
+        }
+    }
+}
 
 /// Puts the facts of modes, size rows and their proofs, and ground rows after others.
 fn write_sets(
@@ -84,7 +94,7 @@ pub fn facts_of(
     ensures { IfOk result (λ c. c.facts ≡ listed p.now names.now parts.now notes.items) }
 {
     let mut facts = Sequence::new(alloc);
-    facts.push(Fact::Cti { version: VERSION })?;
+    write_head(parts.norm, &mut facts)?;
     write_sets(alloc, p, names, parts, &mut facts)?;
     write_mappings(alloc, p, names, parts, &mut facts)?;
     append(notes, &mut facts)?;

@@ -9,12 +9,13 @@ use Rattle.std.specs.Fmt.{signed_decimal}
 use Rattle.std.specs.Char.{digit_value}
 use Rattle.std.specs.List.{AllByRecursion}
 use Rattle.certificate.specs.Range.{most_32, most_64, most_127, IsPlace, IsIndex, IsEntry}
-use Rattle.certificate.specs.Text.{list_text, cell_text, how_text}
-use Rattle.certificate.specs.Parse.{Read, after, read_natural, read_place, read_index, read_integer, read_cell, read_how, read_until, next_item, read_list}
+use Rattle.certificate.specs.Text.{list_text, cell_text, how_text, norm_text}
+use Rattle.certificate.specs.Parse.{Read, after, read_natural, read_place, read_index, read_integer, read_cell, read_how, read_norm, read_until, next_item, read_list}
 use Rattle.certificate.specs.Shortening.{Shortens, until_step, until_stop, next_shortens}
 use Rattle.certificate.specs.declared.cell.CertCell.{CertCell}
 use Rattle.certificate.specs.declared.cell.CertCell.TheVariants as cell
 use Rattle.certificate.specs.declared.how.CertHow.TheVariants as how
+use Rattle.certificate.specs.declared.norm.CertNorm.TheVariants as norm
 
 -- a comma or a closing parenthesis or bracket: what stands after a part of a fact
 abbrev pub IsMark : ℕ → Type 0
@@ -71,6 +72,11 @@ how_back how.First b s h mark = refl
 how_back how.Join b s h mark = refl
 how_back how.Keep b s h mark = refl
 how_back how.Same b s h mark = refl
+
+pub norm_back : IsReadBack norm_text read_norm (λ n. Unit {0})
+unfolding read_norm
+norm_back norm.Term b s h mark = refl
+norm_back norm.List b s h mark = refl
 
 -- no item begins with a bracket that closes
 digit_not_closed : (ds rest : List ℕ) → IsNumeral 10 ds → after (codes "]") (ds ++ rest) ≡ None

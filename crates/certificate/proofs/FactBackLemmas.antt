@@ -5,14 +5,15 @@ use Rattle.std.specs.Fmt.{signed_decimal}
 use Rattle.std.specs.List.{AllByRecursion}
 use Rattle.certificate.specs.declared.cell.CertCell.{CertCell}
 use Rattle.certificate.specs.declared.how.CertHow.{CertHow}
+use Rattle.certificate.specs.declared.norm.CertNorm.{CertNorm}
 use Rattle.certificate.specs.declared.pred_text.PredText.{PredText}
 use Rattle.certificate.specs.declared.fact.Fact.{Fact}
 use Rattle.certificate.specs.declared.fact.Fact.TheVariants as fact
 use Rattle.certificate.specs.Range.{IsPlace, IsIndex, IsEntry, IsPred, ArePlaces, AreEntries, InRange}
-use Rattle.certificate.specs.Text.{indicator, list_text, numbers_text, positions_text, cell_text, cube_text, how_text, fact_text}
-use Rattle.certificate.specs.Parse.{Read, read_place, read_index, read_integer, read_cell, read_how, read_pred, read_list, read_next, read_last, read_mark, read_other, read_any, HasParts, read_fact, read_cti_fact, read_terminates_fact, read_size_fact, read_by_fact, read_grounds_fact, read_measure_fact, read_falls_fact, read_pre_fact, read_refuted_fact, read_point_fact, read_at_fact, read_image_fact, read_step_fact, read_blown_fact, read_large_fact, read_weak_image_fact, read_weak_step_fact}
+use Rattle.certificate.specs.Text.{indicator, list_text, numbers_text, positions_text, cell_text, cube_text, how_text, norm_text, fact_text}
+use Rattle.certificate.specs.Parse.{Read, read_place, read_index, read_integer, read_cell, read_how, read_norm, read_pred, read_list, read_next, read_last, read_mark, read_other, read_any, HasParts, read_fact, read_cti_fact, read_norm_fact, read_terminates_fact, read_size_fact, read_by_fact, read_grounds_fact, read_measure_fact, read_falls_fact, read_pre_fact, read_refuted_fact, read_point_fact, read_at_fact, read_image_fact, read_step_fact, read_blown_fact, read_large_fact, read_weak_image_fact, read_weak_step_fact}
 use Rattle.certificate.specs.Shortening.{place_shortens, integer_shortens, cell_shortens, list_shortens}
-use Rattle.certificate.proofs.BackLemmas.{IsReadBack, place_back, index_back, entry_back, cell_back, how_back, list_back, place_not_closed, entry_not_closed, cell_not_closed, list_not_closed}
+use Rattle.certificate.proofs.BackLemmas.{IsReadBack, place_back, index_back, entry_back, cell_back, how_back, norm_back, list_back, place_not_closed, entry_not_closed, cell_not_closed, list_not_closed}
 use Rattle.certificate.proofs.NameBackLemmas.{pred_back}
 use Rattle.certificate.proofs.RangeLemmas.{has_parts, amounts_hold}
 
@@ -47,6 +48,11 @@ cti_back : (version : ℤ) (s : List ℕ) → HasParts (fact.Cti version)
     → read_cti_fact (signed_decimal version ++ 41 ∷ 46 ∷ 10 ∷ s) ≡ Some (fact.Cti version, s)
 unfolding read_cti_fact
 cti_back version s h = rw (last_back signed_decimal read_integer IsEntry entry_back version s h) refl
+
+norm_fact_back : (named : CertNorm) (s : List ℕ) → HasParts (fact.Norm named)
+    → read_norm_fact (norm_text named ++ 41 ∷ 46 ∷ 10 ∷ s) ≡ Some (fact.Norm named, s)
+unfolding read_norm_fact
+norm_fact_back named s h = rw (last_back norm_text read_norm (λ n. Unit {0}) norm_back named s h) refl
 
 terminates_back : (pred : PredText) (modes : List (List ℕ)) (s : List ℕ) → HasParts (fact.Terminates pred modes)
     → read_terminates_fact (indicator pred ++ 44 ∷ (list_text positions_text modes ++ 41 ∷ 46 ∷ 10 ∷ s)) ≡ Some (fact.Terminates pred modes, s)
@@ -139,6 +145,9 @@ unfolding read_any read_other
 any_back (fact.Cti version) s h =
     let whole : fact_text (fact.Cti version) ++ s ≡ codes "cti(" ++ (signed_decimal version ++ 41 ∷ 46 ∷ 10 ∷ s) = simp append_assoc in
     ap read_any whole ∙ cti_back version s h
+any_back (fact.Norm named) s h =
+    let whole : fact_text (fact.Norm named) ++ s ≡ codes "norm(" ++ (norm_text named ++ 41 ∷ 46 ∷ 10 ∷ s) = simp append_assoc in
+    ap read_any whole ∙ norm_fact_back named s h
 any_back (fact.Terminates pred modes) s h =
     let whole : fact_text (fact.Terminates pred modes) ++ s ≡ codes "terminates(" ++ (indicator pred ++ 44 ∷ (list_text positions_text modes ++ 41 ∷ 46 ∷ 10 ∷ s)) = simp append_assoc in
     ap read_any whole ∙ terminates_back pred modes s h

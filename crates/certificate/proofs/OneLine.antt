@@ -18,10 +18,12 @@ use Rattle.certificate.specs.declared.cell.CertCell.{CertCell}
 use Rattle.certificate.specs.declared.cell.CertCell.TheVariants as cell
 use Rattle.certificate.specs.declared.how.CertHow.{CertHow}
 use Rattle.certificate.specs.declared.how.CertHow.TheVariants as how
+use Rattle.certificate.specs.declared.norm.CertNorm.{CertNorm}
+use Rattle.certificate.specs.declared.norm.CertNorm.TheVariants as norm
 use Rattle.certificate.specs.declared.fact.Fact.{Fact}
 use Rattle.certificate.specs.declared.fact.Fact.TheVariants as fact
 use Rattle.certificate.specs.Range.{IsPlace, IsIndex, IsEntry, IsPred, ArePlaces, AreEntries, InRange}
-use Rattle.certificate.specs.Text.{indicator, list_text, numbers_text, positions_text, cell_text, cube_text, how_text, fact_text}
+use Rattle.certificate.specs.Text.{indicator, list_text, numbers_text, positions_text, cell_text, cube_text, how_text, norm_text, fact_text}
 use Rattle.certificate.specs.Lines.{lines}
 use Rattle.certificate.specs.Parse.{HasParts}
 use Rattle.certificate.proofs.RangeLemmas.{has_parts}
@@ -91,6 +93,10 @@ how_clean how.First u = refl
 how_clean how.Join u = refl
 how_clean how.Keep u = refl
 how_clean how.Same u = refl
+
+norm_clean : (n : CertNorm) → IsClean (norm_text n)
+norm_clean norm.Term = refl
+norm_clean norm.List = refl
 
 small_clean : (b : ℕ) → is_small b ≡ true → (b == 10) ≡ false
 small_clean b h = grind (arith, nat_tests)
@@ -176,6 +182,9 @@ fact_line : (f : Fact) → HasParts f → IsLine (fact_text f)
 fact_line (fact.Cti version) h =
     closed (codes "cti(" ++ signed_decimal version) (codes ").")
     (both (codes "cti(") (signed_decimal version) refl (entry_clean version h)) refl
+fact_line (fact.Norm named) h =
+    closed (codes "norm(" ++ norm_text named) (codes ").")
+    (both (codes "norm(") (norm_text named) refl (norm_clean named)) refl
 fact_line (fact.Terminates pred modes) h =
     closed (codes "terminates(" ++ indicator pred ++ codes "," ++ list_text positions_text modes) (codes ").")
     (next_clean (codes "terminates(" ++ indicator pred) (list_text positions_text modes) (both (codes "terminates(") (indicator pred) refl (pred_clean pred h.0)) (places_lists_clean modes h.1)) refl

@@ -25,6 +25,7 @@ same_front f g s t h k e =
 
 some_text : (f : Fact) (s : List ℕ) → [] ≢ fact_text f ++ s
 some_text (fact.Cti version) s e = cc
+some_text (fact.Norm named) s e = cc
 some_text (fact.Terminates pred modes) s e = cc
 some_text (fact.Size pred index row) s e = cc
 some_text (fact.By clause index scale multipliers) s e = cc

@@ -15,6 +15,8 @@ use Rattle.certificate.specs.declared.cell.CertCell.{CertCell}
 use Rattle.certificate.specs.declared.cell.CertCell.TheVariants as cell
 use Rattle.certificate.specs.declared.how.CertHow.{CertHow}
 use Rattle.certificate.specs.declared.how.CertHow.TheVariants as how
+use Rattle.certificate.specs.declared.norm.CertNorm.{CertNorm}
+use Rattle.certificate.specs.declared.norm.CertNorm.TheVariants as norm
 use Rattle.certificate.specs.declared.fact.Fact.{Fact}
 use Rattle.certificate.specs.declared.fact.Fact.TheVariants as fact
 use Rattle.certificate.specs.Text.{fact_text}
@@ -176,6 +178,11 @@ read_how s =
     or_else option_map (λ t. (how.Keep, t)) (after (codes "keep") s)
     or_else option_map (λ t. (how.Same, t)) (after (codes "same") s)
 
+unfoldable pub read_norm : List ℕ → Read CertNorm
+read_norm s =
+    option_map (λ t. (norm.Term, t)) (after (codes "term") s)
+    or_else option_map (λ t. (norm.List, t)) (after (codes "list") s)
+
 -- a part and the comma after it
 abbrev pub read_next : {A : Type 0} → (List ℕ → Read A) → List ℕ → Read A
 read_next part s = part s >>= λ p. option_map (λ t. (p.0, t)) (after (codes ",") p.1)
@@ -189,6 +196,11 @@ unfoldable pub read_cti_fact : List ℕ → Read Fact
 read_cti_fact s = do
   version ← read_last read_integer s
   Some (fact.Cti version.0, version.1)
+
+unfoldable pub read_norm_fact : List ℕ → Read Fact
+read_norm_fact s = do
+  named ← read_last read_norm s
+  Some (fact.Norm named.0, named.1)
 
 unfoldable pub read_terminates_fact : List ℕ → Read Fact
 read_terminates_fact s = do
@@ -326,6 +338,7 @@ read_other s =
 unfoldable pub read_any : List ℕ → Read Fact
 read_any s =
     branch (after (codes "cti(") s) read_cti_fact (
+    branch (after (codes "norm(") s) read_norm_fact (
     branch (after (codes "terminates(") s) read_terminates_fact (
     branch (after (codes "size(") s) read_size_fact (
     branch (after (codes "by(") s) read_by_fact (
@@ -333,7 +346,7 @@ read_any s =
     branch (after (codes "measure(") s) read_measure_fact (
     branch (after (codes "falls(") s) read_falls_fact (
     branch (after (codes "pre(") s) read_pre_fact (
-    read_other s))))))))
+    read_other s)))))))))
 
 -- the amounts of the fact are not below 0
 abbrev pub has_amounts : Fact → Bool
@@ -352,6 +365,7 @@ read_fact s = kept has_amounts (read_any s)
 -- the parts of the fact are in range, but amounts may be below 0
 abbrev pub HasParts : Fact → Type 0
 HasParts (fact.Cti version) = IsEntry version
+HasParts (fact.Norm norm) = Unit {0}
 HasParts (fact.Terminates pred modes) = IsPred pred × AllByRecursion ArePlaces modes
 HasParts (fact.Size pred index row) = IsPred pred × IsIndex index × AreEntries row
 HasParts (fact.By clause index scale multipliers) = IsPlace clause × IsIndex index × IsEntry scale × AreEntries multipliers
@@ -372,6 +386,7 @@ HasParts (fact.Large pred positions) = IsPred pred × IsIndex positions
 -- the text of a refutation's fact or of a note
 abbrev pub other_text : Fact → List ℕ
 other_text (fact.Cti version) = []
+other_text (fact.Norm norm) = []
 other_text (fact.Terminates pred modes) = []
 other_text (fact.Size pred index row) = []
 other_text (fact.By clause index scale multipliers) = []

@@ -51,6 +51,7 @@ ArePlaces ns = AllByRecursion IsPlace ns
 -- the names and numbers of the fact are in range
 abbrev pub InRange : Fact → Type 0
 InRange (fact.Cti version) = IsAmount version
+InRange (fact.Norm norm) = Unit {0}
 InRange (fact.Terminates pred modes) = IsPred pred × AllByRecursion ArePlaces modes
 InRange (fact.Size pred index row) = IsPred pred × IsIndex index × AreEntries row
 InRange (fact.By clause index scale multipliers) = IsPlace clause × IsIndex index × IsAmount scale × AreAmounts multipliers

@@ -8,10 +8,11 @@ use Rattle.std.proofs.NetLemmas.Options.{cond_some, and_then_some, map_some}
 use Rattle.std.specs.Prelude.{ℤ, codes, nat_eq}
 use Rattle.std.specs.Net.Reader.{read_number}
 use Rattle.std.specs.Cmp.Lexicographic.{as_long}
-use Rattle.certificate.specs.Parse.{Read, kept, after, read_natural, read_place, read_index, read_integer, read_signed, negated, unsigned, read_cell, repeated, read_until, next_item, read_items, read_list, with_first, read_hexadecimal, read_second, read_code, read_escape, read_byte, word_len, read_plain, read_quoted, read_name, read_pred, read_how, ◌or_else◌}
+use Rattle.certificate.specs.Parse.{Read, kept, after, read_natural, read_place, read_index, read_integer, read_signed, negated, unsigned, read_cell, repeated, read_until, next_item, read_items, read_list, with_first, read_hexadecimal, read_second, read_code, read_escape, read_byte, word_len, read_plain, read_quoted, read_name, read_pred, read_how, read_norm, ◌or_else◌}
 use Rattle.std.specs.Char.{digit_value}
 use Rattle.std.specs.Str.{is_utf8}
 use Rattle.certificate.specs.declared.how.CertHow.TheVariants as how
+use Rattle.certificate.specs.declared.norm.CertNorm.TheVariants as norm
 use Rattle.certificate.specs.declared.cell.CertCell.{CertCell}
 use Rattle.certificate.specs.declared.cell.CertCell.TheVariants as cell
 use Rattle.certificate.specs.Range.{most_32, most_64, most_127}
@@ -289,3 +290,9 @@ how_shortens s t x e =
     (either_shortens s t x (worded how.Join (codes "join") s) _ (worded_shortens how.Join (codes "join") (lit≤ tt) s t x)
     (either_shortens s t x (worded how.Keep (codes "keep") s) _ (worded_shortens how.Keep (codes "keep") (lit≤ tt) s t x)
     (worded_shortens how.Same (codes "same") (lit≤ tt) s t x)))) e
+
+pub norm_shortens : Shortens read_norm
+unfolding read_norm
+norm_shortens s t x e =
+    either_shortens s t x (worded norm.Term (codes "term") s) _ (worded_shortens norm.Term (codes "term") (lit≤ tt) s t x)
+    (worded_shortens norm.List (codes "list") (lit≤ tt) s t x) e

@@ -10,6 +10,8 @@ use Rattle.certificate.specs.declared.cell.CertCell.{CertCell}
 use Rattle.certificate.specs.declared.cell.CertCell.TheVariants as cell
 use Rattle.certificate.specs.declared.how.CertHow.{CertHow}
 use Rattle.certificate.specs.declared.how.CertHow.TheVariants as how
+use Rattle.certificate.specs.declared.norm.CertNorm.{CertNorm}
+use Rattle.certificate.specs.declared.norm.CertNorm.TheVariants as norm
 use Rattle.certificate.specs.declared.fact.Fact.{Fact}
 use Rattle.certificate.specs.declared.fact.Fact.TheVariants as fact
 
@@ -43,9 +45,14 @@ how_text how.Join = codes "join"
 how_text how.Keep = codes "keep"
 how_text how.Same = codes "same"
 
+abbrev pub norm_text : CertNorm → List ℕ
+norm_text norm.Term = codes "term"
+norm_text norm.List = codes "list"
+
 -- the line of a fact
 abbrev pub fact_text : Fact → List ℕ
 fact_text (fact.Cti version) = codes "cti(" ++ signed_decimal version ++ codes ").\n"
+fact_text (fact.Norm named) = codes "norm(" ++ norm_text named ++ codes ").\n"
 fact_text (fact.Terminates pred modes) = codes "terminates(" ++ indicator pred ++ codes "," ++ list_text positions_text modes ++ codes ").\n"
 fact_text (fact.Size pred index row) = codes "size(" ++ indicator pred ++ codes "," ++ decimal index ++ codes "," ++ numbers_text row ++ codes ").\n"
 fact_text (fact.By clause index scale multipliers) =

@@ -2,6 +2,7 @@
 
 use crate::cell::CertCell;
 use crate::how::CertHow;
+use crate::norm::CertNorm;
 use crate::pred_text::PredText;
 use sequences::Sequence;
 
@@ -12,6 +13,10 @@ pub enum Fact {
     /// The version of the format.
     Cti {
         version: i128,
+    },
+    /// The norm of the sizes and of the modes. It stands in certificates of version 2.
+    Norm {
+        norm: CertNorm,
     },
     /// The modes of a predicate, each a list of argument numbers.
     Terminates {
@@ -116,6 +121,7 @@ impl Drop for Fact {
     fn drop(self) {
         match self {
             Fact::Cti { version: _ } => {}
+            Fact::Norm { norm: _ } => {}
             Fact::Terminates { pred: _, modes: _ } => {}
             Fact::Size {
                 pred: _,

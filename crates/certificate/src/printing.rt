@@ -14,6 +14,7 @@ pub fn print_fact(fact: &Fact, out: &mut Vec<u8>) -> Result<(), AllocError>
 {
     match fact {
         Fact::Cti { version } => one(out, b"cti(", version),
+        Fact::Norm { norm } => one(out, b"norm(", norm),
         Fact::Terminates { pred, modes } => two(out, b"terminates(", pred, modes),
         Fact::Size { pred, index, row } => three(out, b"size(", pred, index, row),
         Fact::By {

@@ -3,7 +3,7 @@
 ghost use Rattle.std.specs.Prelude.{◌≡◌, IfOk};
 ghost use Rattle.std.specs.List.{list_all};
 ghost use Rattle.certificate.specs.Range.{InRange, IsIndex};
-ghost use Rattle.certificate.specs.Parse.{Agrees, AgreesText, HasParts, read_next, read_last, read_mark, read_cti_fact, read_terminates_fact, read_size_fact, read_by_fact, read_grounds_fact, read_measure_fact, read_falls_fact, read_pre_fact, read_refuted_fact, read_point_fact, read_at_fact, read_image_fact, read_step_fact, read_blown_fact, read_large_fact, read_weak_image_fact, read_weak_step_fact, read_other, read_any, read_fact, has_amounts, is_amount};
+ghost use Rattle.certificate.specs.Parse.{Agrees, AgreesText, HasParts, read_next, read_last, read_mark, read_cti_fact, read_norm_fact, read_terminates_fact, read_size_fact, read_by_fact, read_grounds_fact, read_measure_fact, read_falls_fact, read_pre_fact, read_refuted_fact, read_point_fact, read_at_fact, read_image_fact, read_step_fact, read_blown_fact, read_large_fact, read_weak_image_fact, read_weak_step_fact, read_other, read_any, read_fact, has_amounts, is_amount};
 
 use crate::fact::Fact;
 use crate::field::Field;
@@ -37,6 +37,15 @@ fn cti(alloc: Global, text: &[u8]) -> Result<(Fact, &[u8]), LineFault>
 {
     let (version, text) = last(alloc, text)?;
     Ok((Fact::Cti { version }, text))
+}
+
+#[tactic(auto, unfolding(crate::specs::Parse::read_norm_fact))]
+fn norm(alloc: Global, text: &[u8]) -> Result<(Fact, &[u8]), LineFault>
+    ensures value { Agrees result (read_norm_fact text.now) }
+    ensures fits { IfOk result (λ p. HasParts p.0) }
+{
+    let (norm, text) = last(alloc, text)?;
+    Ok((Fact::Norm { norm }, text))
 }
 
 #[tactic(auto, unfolding(crate::specs::Parse::read_terminates_fact))]
@@ -282,6 +291,9 @@ fn any(alloc: Global, text: &[u8]) -> Result<(Fact, &[u8]), LineFault>
 {
     if let Some(rest) = text.strip_prefix(b"cti(") {
         return cti(alloc, rest);
+    }
+    if let Some(rest) = text.strip_prefix(b"norm(") {
+        return norm(alloc, rest);
     }
     if let Some(rest) = text.strip_prefix(b"terminates(") {
         return terminates(alloc, rest);

@@ -1,4 +1,4 @@
-use Rattle.std.proofs.Common.{◌≡◌, ◌++◌, take, ap, ◌∙◌}
+use Rattle.std.proofs.Common.{◌++◌, take, ap, ◌∙◌}
 use Rattle.std.proofs.lemmas.List.{append_assoc}
 use Rattle.cert_structure.specs.Numbered.{facts_from}
 use Rattle.cert_writing.proofs.WritingLemmas.{facts_next}
