@@ -52,6 +52,7 @@ module _ (truth : (ℕ → Bool) → Tree → Bool) (expression : ℕ → Tree �
   pub parts_hold : PartsHold truth expression p one parts → PartsHold truth expression p other parts
   parts_hold h = record {
     modes = modes h.modes;
+    stated = h.stated;
     rows = h.rows;
     measures = measures h.measures;
     falls = falls h.falls;

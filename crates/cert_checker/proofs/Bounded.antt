@@ -1,12 +1,12 @@
 -- A valid certificate's claims show that queries end, so that each query that meets one of its modes is bounded.
 --
 -- What holding modes show is a premise here, which the law of `cert_modes` gives.
-use Rattle.std.proofs.Common.{◌≡◌, ◌≢◌, ℕ, zero, suc, ◌+◌, ◌<◌, ◌≤ℤ◌, ℤ, pos, negsuc, List, [], ◌∷◌, All, map, length, slice_get, unwrap_or, unsigned_abs, Option, Some, refl, sym, ap, subst, ◌∙◌, arith}
+use Rattle.std.proofs.Common.{◌≡◌, ◌≢◌, ℕ, zero, suc, ◌+◌, ◌<◌, ◌≤ℤ◌, ℤ, pos, negsuc, Bool, false, List, [], ◌∷◌, All, map, length, slice_get, unwrap_or, unsigned_abs, Option, Some, refl, sym, ap, subst, ◌∙◌, arith}
 use Rattle.std.specs.List.{AllByRecursion, AllPairs}
 use Rattle.std.proofs.lemmas.Option.{slice_get_within}
 use Rattle.cti_terms.specs.Derive.{query, Bounded}
 use Rattle.cti_terms.specs.Listing.{IsProgram, Listing}
-use Rattle.cti_terms.specs.Tree.{size, truth}
+use Rattle.cti_terms.specs.Tree.{Tree}
 use Rattle.cti_terms.specs.declared.atom_list.Atom.{Atom}
 use Rattle.cti_terms.specs.declared.clauses.Clause.{Clause}
 use Rattle.cti_terms.specs.declared.predicates.Pred.{Pred}
@@ -20,8 +20,8 @@ use Rattle.number_tests.specs.declared.level_part.LevelPart.{LevelPart}
 use Rattle.cert_structure.specs.declared.parts.Parts.{Parts}
 use Rattle.cert_modes.specs.Claimed.{ClaimModes, HoldingModesShow, IsMeasure, KeepsRows, ShowModes}
 use Rattle.cert_modes.specs.Modes as holding
-use Rattle.term_size.specs.Occurrences.{size_row}
-use Rattle.term_size.specs.TermSize.{is_a_norm}
+use Rattle.term_size.specs.AnyNorm.{any_is_a_norm, any_row, any_size, any_truth}
+use Rattle.term_size.specs.Norm.{IsNorm}
 use Rattle.termination_model.proofs.Lists.{indexed, there}
 use Rattle.termination_model.proofs.Proved.{shown}
 use Rattle.termination_model.proofs.Query.{modes_end}
@@ -29,19 +29,20 @@ use Rattle.termination_model.specs.Claims.{Admits, Claims, Measure}
 use Rattle.termination_model.specs.Descent.{Meets, mode_row}
 use Rattle.termination_model.specs.Grounds.{Family, HasArity}
 use Rattle.termination_model.specs.Short.{DescendsProved, ServesProved, ShowsProved}
-use Rattle.cert_checker.specs.Bounding.{ModeIsBounded, ModesAreBounded}
+use Rattle.cert_checker.specs.Bounding.{FactIsBounded, ModeIsBounded, ModesAreBounded}
 use Rattle.cert_checker.specs.Claimed.{claims_of, natural_coefficients, mapping_count, mapping_of, measure_of, measures_from, rank_of}
 use Rattle.number_tests.specs.Shape.{IsLevelPart, list_at}
 use Rattle.cert_checker.specs.Shape.{HaveLevels}
+use Rattle.cert_checker.specs.Norms.{norm_in}
 use Rattle.cert_checker.specs.Valid.{IsValid, PartsHold}
 use Rattle.cert_checker.proofs.Claims.{falls, ranked, sizes}
 use Rattle.number_tests.proofs.ColumnLengths.{an_element}
-use Rattle.cert_checker.proofs.PrintedModes.{listed_bounded, meets_row, same_pred}
+use Rattle.cert_checker.proofs.PrintedModes.{listed_bounded, meets_row, rigid_is, same_pred}
 use Rattle.cert_checker.proofs.ShapeLaws.{arity_at, have_falls, have_levels, have_row_proofs, items_are, one_of, some_is}
 
 -- the claims of parts, with the sets of truth rows that they spell
-abbrev claims : Listing → Partition → Parts → Claims
-claims p comps parts = claims_of size truth size_row comps parts (holding.grounds_of p parts) (holding.precondition p parts)
+abbrev claims : ((ℕ → ℕ) → Tree → ℕ) → ((ℕ → Bool) → Tree → Bool) → (ℕ → Tree → List ℤ) → Listing → Partition → Parts → Claims
+claims size truth expression p comps parts = claims_of size truth expression comps parts (holding.grounds_of p parts) (holding.precondition p parts)
 
 measure_length : (parts : Parts) (pre : ℕ → Family) (m n : ℕ) → length (measures_from parts pre m n) ≡ n
 measure_length parts pre m zero = refl
@@ -69,7 +70,8 @@ count_of : (parts : Parts) (ms : List ℕ) (n : ℕ) → 0 < length ms → ((q :
 count_of parts [] n some each = absurd (omega (arith, some))
 count_of parts (q ∷ ms) n some each = each q refl
 
-module _ (p : Listing) (comps : Partition) (parts : Parts) (prog : IsProgram p) (are : AreComponents p comps) (have : shape.HaveShape p comps parts) where
+module _ (size : (ℕ → ℕ) → Tree → ℕ) (truth : (ℕ → Bool) → Tree → Bool) (expression : ℕ → Tree → List ℤ) (norm : IsNorm size truth expression)
+    (p : Listing) (comps : Partition) (parts : Parts) (prog : IsProgram p) (are : AreComponents p comps) (have : shape.HaveShape p comps parts) where
   rank_in : (q r : ℕ) → IsIn comps r q → rank_of comps q ≡ r
   rank_in q r h = indexed comps.of q r (length comps.members) h
 
@@ -77,7 +79,7 @@ module _ (p : Listing) (comps : Partition) (parts : Parts) (prog : IsProgram p) 
   levels = have_levels p comps parts have are
 
   -- a component has as many measures as each member has preconditions
-  measure_count : (q : ℕ) → q < length p.preds → length ((claims p comps parts).measures (rank_of comps q)) ≡ length (shape.items_of parts.preconditions q)
+  measure_count : (q : ℕ) → q < length p.preds → length ((claims size truth expression p comps parts).measures (rank_of comps q)) ≡ length (shape.items_of parts.preconditions q)
   measure_count q lt =
       let (r, hq) = an_element comps.of q (omega (arith, lt, are.each)) in
       let ms = list_at comps.members r in
@@ -97,40 +99,41 @@ module _ (p : Listing) (comps : Partition) (parts : Parts) (prog : IsProgram p) 
       let (d, at) = an_element p.preds q lt in
       part_coefficients d.arity (list_at parts.levels q) m (levels.naturals q d at) ∙ ap (λ (ls : List LevelPart). holding.naturals (slice_get ls m)) (sym (items_are parts.levels q))
 
-  claim_modes : ClaimModes truth p comps parts (claims p comps parts)
+  claim_modes : ClaimModes truth p comps parts (claims size truth expression p comps parts)
   claim_modes = record {
     truth = refl;
     ranks = rank_in;
     grounds = refl;
     each = measure_count;
     measures = λ r m x e.
-        subst (IsMeasure p parts (claims p comps parts) r m) (measure_at parts (holding.precondition p parts) 0 (mapping_count parts (list_at comps.members r)) m m x (omega arith) e)
+        subst (IsMeasure p parts (claims size truth expression p comps parts) r m) (measure_at parts (holding.precondition p parts) 0 (mapping_count parts (list_at comps.members r)) m m x (omega arith) e)
         (record { pre = refl; mapping = mapping_of parts m; single = refl; coefficients = λ q lt in_rank. coefficients_are m q lt });
   }
 
-  module _ (modes_show : HoldingModesShow) (hold : PartsHold truth size_row p comps parts) where
-    shown_modes : ShowModes p parts (claims p comps parts)
-    shown_modes = modes_show truth p comps parts (claims p comps parts) prog are claim_modes hold.modes
+  module _ (modes_show : HoldingModesShow) (hold : PartsHold truth expression p comps parts) where
+    shown_modes : ShowModes p parts (claims size truth expression p comps parts)
+    shown_modes = modes_show truth p comps parts (claims size truth expression p comps parts) prog are claim_modes hold.modes
 
-    shown_claims : ShowsProved p (claims p comps parts)
+    shown_claims : ShowsProved p (claims size truth expression p comps parts)
     shown_claims = record {
-      norm = is_a_norm;
-      ranked = ranked size truth size_row p comps parts (holding.grounds_of p parts) (holding.precondition p parts) prog are;
-      sizes = sizes size truth size_row p comps parts (holding.grounds_of p parts) (holding.precondition p parts) (have_row_proofs p comps parts have) hold.rows;
+      norm = norm;
+      ranked = ranked size truth expression p comps parts (holding.grounds_of p parts) (holding.precondition p parts) prog are;
+      sizes = sizes size truth expression p comps parts (holding.grounds_of p parts) (holding.precondition p parts) (have_row_proofs p comps parts have) hold.rows;
       closed = shown_modes.closed;
+      stated = hold.stated;
       measures = λ r.
-          all_both (KeepsRows p (claims p comps parts) r) (λ (m : Measure). AllByRecursion (λ (k : Clause). rank_of comps k.head.pred.0 ≡ r → DescendsProved (claims p comps parts) m k) p.clauses)
-          (ServesProved p (claims p comps parts) r) (λ m keeps descends. record { covered = keeps.covered; descends = descends; rule = keeps.rule })
-          ((claims p comps parts).measures r) (shown_modes.measures r)
-          (falls size truth size_row p comps parts (holding.grounds_of p parts) (holding.precondition p parts) prog are levels (have_falls p comps parts have are prog) hold.falls r);
+          all_both (KeepsRows p (claims size truth expression p comps parts) r) (λ (m : Measure). AllByRecursion (λ (k : Clause). rank_of comps k.head.pred.0 ≡ r → DescendsProved (claims size truth expression p comps parts) m k) p.clauses)
+          (ServesProved p (claims size truth expression p comps parts) r) (λ m keeps descends. record { covered = keeps.covered; descends = descends; rule = keeps.rule })
+          ((claims size truth expression p comps parts).measures r) (shown_modes.measures r)
+          (falls size truth expression p comps parts (holding.grounds_of p parts) (holding.precondition p parts) prog are levels (have_falls p comps parts have are prog) hold.falls r);
     }
 
     -- each query that meets a mode of its predicate's part is bounded
-    query_ends : (q : ℕ) (mode : List ℕ) → Admits (claims p comps parts) q (mode_row mode 1 (shape.arity_in p q)) → (a : Atom) (n : ℕ) → a.pred.0 ≡ q → HasArity p.preds a.pred.0 (length a.args)
-        → shape.arity_in p q ≡ length a.args → Meets (claims p comps parts) mode a → Bounded p (query a n)
+    query_ends : (q : ℕ) (mode : List ℕ) → Admits (claims size truth expression p comps parts) q (mode_row mode 1 (shape.arity_in p q)) → (a : Atom) (n : ℕ) → a.pred.0 ≡ q → HasArity p.preds a.pred.0 (length a.args)
+        → shape.arity_in p q ≡ length a.args → Meets (claims size truth expression p comps parts) mode a → Bounded p (query a n)
     query_ends q mode admits a n same arity long meets =
-        modes_end p (claims p comps parts) prog (shown p (claims p comps parts) prog shown_claims) a n arity mode
-        (subst (λ (k : ℕ). Admits (claims p comps parts) a.pred.0 (mode_row mode 1 k)) long (subst (λ (k : ℕ). Admits (claims p comps parts) k (mode_row mode 1 (shape.arity_in p q))) (sym same) admits)) meets
+        modes_end p (claims size truth expression p comps parts) prog (shown p (claims size truth expression p comps parts) prog shown_claims) a n arity mode
+        (subst (λ (k : ℕ). Admits (claims size truth expression p comps parts) a.pred.0 (mode_row mode 1 k)) long (subst (λ (k : ℕ). Admits (claims size truth expression p comps parts) k (mode_row mode 1 (shape.arity_in p q))) (sym same) admits)) meets
 
 -- a valid certificate of a program bounds its modes
 pub valid_bounds : HoldingModesShow → (p : Listing) (names : List (List ℕ)) (facts : List Fact) → IsProgram p → AreNamed names p.preds → AllPairs (λ a b. a ≢ b) names
@@ -138,14 +141,18 @@ pub valid_bounds : HoldingModesShow → (p : Listing) (names : List (List ℕ)) 
 valid_bounds modes_show p names facts prog named distinct valid =
     let parts = valid.parts in
     let have = valid.structured.shape in
-    subst (ModesAreBounded p names) (sym valid.structured.is) (listed_bounded p names parts valid.structured.notes valid.structured.are_notes (λ q modes at.
+    let n = norm_in names parts.norm in
+    let rigid : Tree → Bool = any_truth n (λ _. false) in
+    let notes = valid.structured.notes in
+    subst (ModesAreBounded p names) (sym valid.structured.is) (subst (λ (r : Tree → Bool). AllByRecursion (FactIsBounded p names r) (order.listed p names parts notes)) (sym (rigid_is p names parts notes valid.structured.are_notes))
+    (listed_bounded p names parts notes valid.structured.are_notes rigid (λ q modes at.
     let (e, ee) = an_element p.preds q (omega (arith, slice_get_within parts.modes q modes at, have.modes.count)) in
-    let admitted = subst (AllByRecursion (λ mode. Admits (claims p valid.comps parts) q (mode_row mode 1 (shape.arity_in p q)))) (ap (λ (o : Option (List (List ℕ))). unwrap_or o []) at)
-    ((shown_modes p valid.comps parts prog valid.components have modes_show valid.hold).modes q) in
-    all_map (λ mode. Admits (claims p valid.comps parts) q (mode_row mode 1 (shape.arity_in p q))) (ModeIsBounded p names (order.pred_text p names q))
-    (λ mode admits a n is rigid.
+    let admitted = subst (AllByRecursion (λ mode. Admits (claims (any_size n) (any_truth n) (any_row n) p valid.comps parts) q (mode_row mode 1 (shape.arity_in p q)))) (ap (λ (o : Option (List (List ℕ))). unwrap_or o []) at)
+    ((shown_modes (any_size n) (any_truth n) (any_row n) (any_is_a_norm n) p valid.comps parts prog valid.components have modes_show valid.hold).modes q) in
+    all_map (λ mode. Admits (claims (any_size n) (any_truth n) (any_row n) p valid.comps parts) q (mode_row mode 1 (shape.arity_in p q))) (ModeIsBounded p names rigid (order.pred_text p names q))
+    (λ mode admits a counter is named_rigid.
     let same : q ≡ a.pred.0 = same_pred p names prog named distinct a.pred.0 q is.pred e is.there ee is.name is.arity in
     let long : shape.arity_in p q ≡ length a.args = arity_at p q e ee ∙ sym (ap (λ (o : Option Pred). (order.text_or_none names o).arity) ee) ∙ sym is.arguments in
-    query_ends p valid.comps parts prog valid.components have modes_show valid.hold q mode admits a n (sym same)
-    (some_is (λ (d : Pred). d.arity ≡ length a.args) (slice_get p.preds a.pred.0) is.pred is.there (is.arity ∙ sym is.arguments)) long (meets_row mode 1 a.args rigid))
-    modes admitted))
+    query_ends (any_size n) (any_truth n) (any_row n) (any_is_a_norm n) p valid.comps parts prog valid.components have modes_show valid.hold q mode admits a counter (sym same)
+    (some_is (λ (d : Pred). d.arity ≡ length a.args) (slice_get p.preds a.pred.0) is.pred is.there (is.arity ∙ sym is.arguments)) long (meets_row rigid mode 1 a.args named_rigid))
+    modes admitted)))

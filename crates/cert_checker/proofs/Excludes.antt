@@ -50,7 +50,7 @@ take_mapped f zero xs = refl
 take_mapped f (suc j) [] = refl
 take_mapped f (suc j) (x ∷ xs) = ap (λ s. f x ∷ s) (take_mapped f j xs)
 
-all_mapped : {X Y : Type 0} → (f : X → Y) (P : X → Type 0) (Q : Y → Type 0) → ((x : X) → P x → Q (f x)) → (xs : List X) → AllByRecursion P xs → AllByRecursion Q (map f xs)
+pub all_mapped : {X Y : Type 0} → (f : X → Y) (P : X → Type 0) (Q : Y → Type 0) → ((x : X) → P x → Q (f x)) → (xs : List X) → AllByRecursion P xs → AllByRecursion Q (map f xs)
 all_mapped f P Q h [] k = tt
 all_mapped f P Q h (x ∷ xs) k = (h x k.0, all_mapped f P Q h xs k.1)
 

@@ -13,6 +13,7 @@ pub mod LevelFacts
 pub mod MeasureLaws
 pub mod NoFaultLaws
 pub mod NoMapping
+pub mod OneFault
 pub mod Partitions
 pub mod PreconditionMoves
 pub mod PrintedModes
@@ -20,6 +21,7 @@ pub mod RefutationLaws
 pub mod SectionLaws
 pub mod ShapeLaws
 pub mod Stable
+pub mod StatedLaws
 pub mod StructureLaws
 pub mod TestLaws
 pub mod TextLaws

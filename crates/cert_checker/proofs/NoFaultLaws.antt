@@ -12,11 +12,11 @@ use Rattle.cert_structure.specs.Structure.{AreNamed, IsStructured}
 use Rattle.cert_structure.specs.Walk.{Wrong, read_whole}
 use Rattle.cert_structure.specs.declared.parts.Parts.{Parts}
 use Rattle.cti_terms.specs.Listing.{IsProgram, Listing}
-use Rattle.cti_terms.specs.Tree.{truth}
-use Rattle.term_size.specs.Occurrences.{size_row}
+use Rattle.term_size.specs.AnyNorm.{any_row, any_truth}
 use Rattle.termination_model.proofs.Lists.{from_places}
-use Rattle.cert_checker.specs.Fault.{FactFails, IsFault, IsFirstAt, failing_fact, reason_number, wrong_structure}
+use Rattle.cert_checker.specs.Fault.{ClaimFails, IsFault, IsFirstAt, failing_fact, reason_number, wrong_structure}
 use Rattle.cert_checker.specs.Finding.{NoneFails}
+use Rattle.cert_checker.specs.Norms.{norm_in}
 use Rattle.cert_checker.specs.StructureFaults.{structure_reason}
 use Rattle.cert_checker.specs.Valid.{IsValid}
 use Rattle.cert_checker.specs.declared.reason.Reason.{Reason}
@@ -55,7 +55,7 @@ module _ (Fails : Fact → Reason → Type 0) (facts : List Fact) (none : (n : �
 
 module _ (p : Listing) (names : List (List ℕ)) (facts : List Fact) (prog : IsProgram p) (named : AreNamed names p.preds) (distinct : AllPairs (λ a b. a ≢ b) names) where
   -- facts have one list of parts
-  one_parts : (comps : Partition) → AreComponents p comps → (one other : Parts) → IsStructured p names comps one facts → IsStructured p names comps other facts → one ≡ other
+  pub one_parts : (comps : Partition) → AreComponents p comps → (one other : Parts) → IsStructured p names comps one facts → IsStructured p names comps other facts → one ≡ other
   one_parts comps are one other a b = same_ok one other (sym (read one a) ∙ read other b)
     where
       read : (parts : Parts) → IsStructured p names comps parts facts → read_whole p names comps facts ≡ Ok parts
@@ -64,7 +64,7 @@ module _ (p : Listing) (names : List (List ℕ)) (facts : List Fact) (prog : IsP
           (whole_back p names comps are (texts_differ p names prog distinct named) parts s.notes s.shape s.are_notes)
 
   abbrev Fails : Partition → Parts → Fact → Reason → Type 0
-  Fails comps parts = FactFails p names truth size_row comps parts
+  Fails comps parts = ClaimFails p names comps parts
 
   -- a valid certificate has no fault
   valid_faultless : IsValid p names facts → (line : ℕ) (why : Reason) → ¬ IsFault p names facts line why
@@ -73,8 +73,9 @@ module _ (p : Listing) (names : List (List ℕ)) (facts : List Fact) (prog : IsP
   valid_faultless valid line _ (failing_fact why has) =
       let s = structure p valid.comps has.comps valid.components has.components names valid.parts facts valid.structured in
       let same : valid.parts ≡ has.parts = one_parts has.comps has.components valid.parts has.parts s has.structured in
-      let hold = parts_hold truth size_row p valid.comps has.comps valid.components has.components valid.parts valid.hold in
-      let none = holding_unfailing p names has.comps valid.parts prog named distinct has.components s.shape s.notes s.are_notes hold in
+      let n = norm_in names valid.parts.norm in
+      let hold = parts_hold (any_truth n) (any_row n) p valid.comps has.comps valid.components has.components valid.parts valid.hold in
+      let none = holding_unfailing (any_truth n) (any_row n) p names has.comps valid.parts prog named distinct has.components s.shape s.notes s.are_notes hold in
       let first = subst (λ (x : Parts). IsFirstAt (Fails has.comps x) facts (line - 1) why) (sym same) has.first in
       none_first (Fails has.comps valid.parts) facts (line - 1) why (subst (NoneFails (Fails has.comps valid.parts)) (sym s.is) none) first
 
@@ -83,7 +84,8 @@ module _ (p : Listing) (names : List (List ℕ)) (facts : List Fact) (prog : IsP
     structured_valid : (parts : Parts) → IsStructured p names comps parts facts → IsValid p names facts
     structured_valid parts s =
         let none_fails = none_unfailing (Fails comps parts) facts none_first_at in
-        let hold = unfailing_holding p names comps parts prog are s.shape s.notes (subst (NoneFails (Fails comps parts)) s.is none_fails) in
+        let n = norm_in names parts.norm in
+        let hold = unfailing_holding (any_truth n) (any_row n) p names comps parts prog are s.shape s.notes (subst (NoneFails (Fails comps parts)) s.is none_fails) in
         record { comps = comps; components = are; parts = parts; structured = s; hold = hold }
       where
         none_first_at : (n : ℕ) (why : Reason) → ¬ IsFirstAt (Fails comps parts) facts n why

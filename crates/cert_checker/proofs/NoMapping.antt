@@ -4,7 +4,7 @@ use Rattle.std.specs.Prelude.{filter}
 use Rattle.std.specs.List.{AllByRecursion}
 use Rattle.std.proofs.lemmas.Int.{ints}
 use Rattle.std.proofs.lemmas.Bool.{and_parts}
-use Rattle.cti_terms.specs.Tree.{size, truth}
+use Rattle.cti_terms.specs.Tree.{Tree}
 use Rattle.cti_terms.specs.Listing.{IsProgram, Listing, numbered}
 use Rattle.cti_terms.specs.declared.atom_list.Atom.{Atom}
 use Rattle.cti_terms.specs.declared.clauses.Clause.{Clause}
@@ -19,7 +19,7 @@ use Rattle.cert_structure.specs.declared.parts.Parts.{Parts}
 use Rattle.number_tests.specs.declared.refutation.Refutation.{Refutation}
 use Rattle.linear_rows.specs.declared.point.Point.{Point}
 use Rattle.linear_rows.specs.Rows.{HoldsOn}
-use Rattle.term_size.specs.Occurrences.{size_row}
+use Rattle.term_size.specs.AnyNorm.{any_row, any_size, any_truth}
 use Rattle.termination_model.specs.Claims.{Claims, Mapping}
 use Rattle.termination_model.specs.Grounds.{Family}
 use Rattle.termination_model.specs.Refutation.{Decreases}
@@ -34,7 +34,8 @@ use Rattle.cert_checker.proofs.AnyPartition.{parts_hold}
 use Rattle.cert_checker.proofs.Validity.{OneStructure}
 use Rattle.cert_checker.specs.Refutes.{MappingDecreases, RefutedHaveNoMapping}
 use Rattle.number_tests.specs.Refuting.{atom_or_none, call_of, clause_of, clause_or_none}
-use Rattle.cert_checker.specs.Valid.{PartsHold}
+use Rattle.cert_checker.specs.Norms.{norm_in}
+use Rattle.cert_checker.specs.Valid.{ClaimsHold, PartsHold}
 use Rattle.cert_checker.proofs.Excludes.{excluded, in_range, system_same, take_mapped}
 use Rattle.cert_checker.proofs.Partitions.{together_is}
 use Rattle.cert_checker.proofs.ShapeLaws.{have_refutations, numbered_is, one_of}
@@ -110,44 +111,46 @@ place_is : (b : Bool) (q n : ℕ) (f : List Bool → Bool) → (if b then Member
 place_is true q n f e = (refl, let same : q ≡ n = cc in same)
 place_is false q n f e = cc
 
-module _ (p : Listing) (comps : Partition) (parts : Parts) (grounds : Family) (pre : ℕ → Family) (r : ℕ) (inner : r < length comps.members) (l : Mapping) where
+module _ (size : (ℕ → ℕ) → Tree → ℕ) (truth : (ℕ → Bool) → Tree → Bool) (expression : ℕ → Tree → List ℤ) (p : Listing) (comps : Partition) (parts : Parts)
+    (grounds : Family) (pre : ℕ → Family) (r : ℕ) (inner : r < length comps.members) (l : Mapping) where
   abbrev claims : Claims
-  claims = claims_of size truth size_row comps parts grounds pre
+  claims = claims_of size truth expression comps parts grounds pre
 
-  decreases : MappingDecreases size_row p comps (rows_of parts.rows) r l → Decreases truth size_row (view_of p claims r itself) l
+  decreases : MappingDecreases expression p comps (rows_of parts.rows) r l → Decreases truth expression (view_of p claims r itself) l
   decreases d =
       kept_all (λ (k : Clause). rank_of comps k.head.pred.0 == r) (rule_of claims r itself)
       (λ (k : Rule). (j : ℕ) (b : Call) (q : ℕ) → slice_get k.body j ≡ Some b → b.place ≡ Member q
-      → HoldsOn (suc k.vars) (system_of size_row k.vars (take j k.body)) (fall_over truth size_row k q b.args 1 l)) p.clauses (λ i k at passes j b q ej place.
+      → HoldsOn (suc k.vars) (system_of expression k.vars (take j k.body)) (fall_over truth expression k q b.args 1 l)) p.clauses (λ i k at passes j b q ej place.
       let (a, ea, same) = unmapped (view.call_of claims r itself) k.body j b ej in
       let head : IsIn comps r k.head.pred.0 = in_range comps.of k.head.pred.0 (length comps.members) r (eqb-true (rank_of comps k.head.pred.0) r passes) inner in
       let (own, number) = place_is (rank_of comps a.pred.0 == r) a.pred.0 q (upward_union claims a.pred.0) (ap (λ (x : Call). x.place) same ∙ place) in
       let call : IsIn comps r a.pred.0 = in_range comps.of a.pred.0 (length comps.members) r (eqb-true (rank_of comps a.pred.0) r own) inner in
-      let rows : system size_row (rows_of parts.rows) k.vars (take j k.body) ≡ system_of size_row k.vars (take j (map (view.call_of claims r itself) k.body)) =
-      sym (ap (system_of size_row k.vars) (take_mapped (view.call_of claims r itself) j k.body) ∙ system_same size truth size_row p comps parts grounds pre r k.vars (take j k.body)) in
-      subst (λ (rs : List (List ℤ)). HoldsOn (suc k.vars) rs (fall_over truth size_row (rule_of claims r itself k) q b.args 1 l)) rows
-      (subst (λ (x : Call). HoldsOn (suc k.vars) (system size_row (rows_of parts.rows) k.vars (take j k.body)) (fall_over truth size_row (rule_of claims r itself k) q x.args 1 l)) same
-      (subst (λ (n : ℕ). HoldsOn (suc k.vars) (system size_row (rows_of parts.rows) k.vars (take j k.body)) (fall_over truth size_row (rule_of claims r itself k) n a.args 1 l)) number
+      let rows : system expression (rows_of parts.rows) k.vars (take j k.body) ≡ system_of expression k.vars (take j (map (view.call_of claims r itself) k.body)) =
+      sym (ap (system_of expression k.vars) (take_mapped (view.call_of claims r itself) j k.body) ∙ system_same size truth expression p comps parts grounds pre r k.vars (take j k.body)) in
+      subst (λ (rs : List (List ℤ)). HoldsOn (suc k.vars) rs (fall_over truth expression (rule_of claims r itself k) q b.args 1 l)) rows
+      (subst (λ (x : Call). HoldsOn (suc k.vars) (system expression (rows_of parts.rows) k.vars (take j k.body)) (fall_over truth expression (rule_of claims r itself k) q x.args 1 l)) same
+      (subst (λ (n : ℕ). HoldsOn (suc k.vars) (system expression (rows_of parts.rows) k.vars (take j k.body)) (fall_over truth expression (rule_of claims r itself k) n a.args 1 l)) number
       (d i k at head j a ea call))))
 
 nothing : Family
 nothing q row = false
 
 -- no mapping of a component of parts that hold decreases, where it has a refutation
-pub none_of_parts : (p : Listing) (comps : Partition) (parts : Parts) → IsProgram p → AreComponents p comps → shape.HaveShape p comps parts → PartsHold truth size_row p comps parts
-    → (q r : ℕ) (f : Refutation) → slice_get parts.refutations q ≡ Some (Some f) → IsIn comps r q → (l : Mapping) → MappingDecreases size_row p comps (rows_of parts.rows) r l → ⊥
-none_of_parts p comps parts prog are have hold q r f slot isin l d =
+pub none_of_parts : (size : (ℕ → ℕ) → Tree → ℕ) (truth : (ℕ → Bool) → Tree → Bool) (expression : ℕ → Tree → List ℤ) (p : Listing) (comps : Partition) (parts : Parts) → IsProgram p → AreComponents p comps → shape.HaveShape p comps parts → PartsHold truth expression p comps parts
+    → (q r : ℕ) (f : Refutation) → slice_get parts.refutations q ≡ Some (Some f) → IsIn comps r q → (l : Mapping) → MappingDecreases expression p comps (rows_of parts.rows) r l → ⊥
+none_of_parts size truth expression p comps parts prog are have hold q r f slot isin l d =
     let (opens, some, ascend, all) = one_of parts.refutations have.refutations q (Some f) slot in
     let inside = all_map (shape.IsPairPoint p comps q) (IsPairIn comps r p) (pair_in p comps r q isin) f.points all in
-    none_decreases truth size_row (view_of p (claims_of size truth size_row comps parts nothing (λ _. nothing)) r itself)
-    (map (pair_of p (claims_of size truth size_row comps parts nothing (λ _. nothing)) r) f.points) l
-    (excluded size truth size_row p comps parts nothing (λ _. nothing) prog are (have_refutations p comps parts have) hold.refutations q r f slot isin inside)
-    (decreases p comps parts nothing (λ _. nothing) r (are.within r q isin) l d)
+    none_decreases truth expression (view_of p (claims_of size truth expression comps parts nothing (λ _. nothing)) r itself)
+    (map (pair_of p (claims_of size truth expression comps parts nothing (λ _. nothing)) r) f.points) l
+    (excluded size truth expression p comps parts nothing (λ _. nothing) prog are (have_refutations p comps parts have) hold.refutations q r f slot isin inside)
+    (decreases size truth expression p comps parts nothing (λ _. nothing) r (are.within r q isin) l d)
 
 -- whatever partition is taken: a certificate has no other parts than those that hold
 pub refuted_have_none : OneStructure → (p : Listing) (names : List (List ℕ)) (comps : Partition) → IsProgram p → AreComponents p comps → (facts : List Fact) (parts : Parts)
-    → ((own : Parts) → IsStructured p names comps own facts → parts ≡ own) → PartsHold truth size_row p comps parts → RefutedHaveNoMapping p names facts
+    → ((own : Parts) → IsStructured p names comps own facts → parts ≡ own) → ClaimsHold p names comps parts → RefutedHaveNoMapping p names facts
 refuted_have_none one_structure p names comps prog are facts parts only hold others own are_others structured q r f slot isin l d =
     let same : parts ≡ own = only own (one_structure p names others comps own facts are_others are structured) in
-    let held = parts_hold truth size_row p comps others are are_others own (subst (PartsHold truth size_row p comps) same hold) in
-    none_of_parts p others own prog are_others structured.shape held q r f slot isin l d
+    let n = norm_in names own.norm in
+    let held = parts_hold (any_truth n) (any_row n) p comps others are are_others own (subst (ClaimsHold p names comps) same hold) in
+    none_of_parts (any_size n) (any_truth n) (any_row n) p others own prog are_others structured.shape held q r f slot isin l d

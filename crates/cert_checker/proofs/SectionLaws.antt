@@ -6,18 +6,19 @@ use Rattle.call_components.specs.Partition.{Partition}
 use Rattle.certificate.specs.declared.fact.Fact.{Fact}
 use Rattle.certificate.specs.declared.pred_text.PredText.{PredText}
 use Rattle.cert_structure.specs.Numbered.{facts_from, lines_from}
-use Rattle.cert_structure.specs.Order.{at_facts, by_line, fall_facts, falls_line, ground_facts, grounds_line, level_facts, measure_line, point_facts, pre_facts, pre_line, pred_text, proof_facts, refutation_facts, refuted_facts}
+use Rattle.cert_structure.specs.Order.{at_facts, by_line, fall_facts, falls_line, ground_facts, grounds_line, level_facts, measure_line, point_facts, pre_facts, pre_line, pred_text, proof_facts, refutation_facts, refuted_facts, size_facts, size_line}
 use Rattle.cert_structure.specs.declared.parts.Parts.{Parts}
 use Rattle.cti_terms.specs.Listing.{Listing}
 use Rattle.cti_terms.specs.Tree.{Tree}
 use Rattle.bool_diagrams.specs.declared.cube.Cell.{Cell}
 use Rattle.linear_rows.specs.declared.multipliers.Multipliers.{Multipliers}
+use Rattle.linear_rows.specs.declared.row.Rows.{Rows}
 use Rattle.number_tests.specs.declared.level_part.LevelPart.{LevelPart}
 use Rattle.linear_rows.specs.declared.point.Point.{Point}
 use Rattle.number_tests.specs.declared.refutation.Refutation.{Refutation}
 use Rattle.cert_checker.specs.Fault.{FactFails}
-use Rattle.cert_checker.specs.Finding.{ByFails, FallsFail, Finds, MeasuresFail, NoneFails, RefutationsFail}
-use Rattle.cert_checker.specs.Sections.{AreLines, count_all, count_in, number_facts}
+use Rattle.cert_checker.specs.Finding.{ByFails, FallsFail, Finds, MeasuresFail, NoneFails, RefutationsFail, SizesFail}
+use Rattle.cert_checker.specs.Sections.{AreLines, count_all, count_in, number_facts, rows_in}
 use Rattle.cert_checker.specs.declared.fault.Fault.{Fault}
 use Rattle.cert_checker.specs.declared.lines.Lines.{Lines}
 use Rattle.cert_checker.specs.declared.reason.Reason.{Reason}
@@ -32,6 +33,9 @@ all_falls_counted : (falls : List (List (List Multipliers))) → length (fall_fa
 all_falls_counted falls = length_from (λ k mss. facts_from 0 (λ j ms. lines_from 0 (falls_line k j) ms) mss) count_in falls_counted 0 falls
 
 module _ (p : Listing) (names : List (List ℕ)) where
+  sizes_counted : (rows : List Rows) → length (size_facts p names rows) ≡ rows_in rows
+  sizes_counted rows = length_from (λ q r. lines_from 0 (size_line (pred_text p names q)) r.list) (λ (r : Rows). length r.list) (λ q r. length_lines (size_line (pred_text p names q)) 0 r.list) 0 rows
+
   grounds_counted : (grounds : List (List (List Cell))) → length (ground_facts p names grounds) ≡ count_in grounds
   grounds_counted grounds = length_from (λ q cs. lines_from 0 (grounds_line (pred_text p names q)) cs) (λ cs. length cs) (λ q cs. length_lines (grounds_line (pred_text p names q)) 0 cs) 0 grounds
 
@@ -55,6 +59,10 @@ none_in Fails facts none i (x ∷ xs) = all_append (λ f. (why : Reason) → ¬ 
 module _ (truth : (ℕ → Bool) → Tree → Bool) (expression : ℕ → Tree → List ℤ) (p : Listing) (names : List (List ℕ)) (comps : Partition) (parts : Parts) where
   abbrev Whole : Fact → Reason → Type 0
   Whole = FactFails p names truth expression comps parts
+
+  pub sizes_same : AreSame (SizesFail p names) Whole (size_facts p names parts.rows)
+  sizes_same = same_from (SizesFail p names) Whole (λ q r. lines_from 0 (size_line (pred_text p names q)) r.list)
+      (λ q r. same_lines (SizesFail p names) Whole (size_line (pred_text p names q)) 0 r.list (λ i row e why. (λ a. a, λ a. a))) 0 parts.rows
 
   pub by_same : AreSame (ByFails expression p parts.rows) Whole (proof_facts parts.row_proofs)
   by_same = same_from (ByFails expression p parts.rows) Whole (λ k ms. lines_from 0 (by_line k) ms)
@@ -91,7 +99,7 @@ module _ (truth : (ℕ → Bool) → Tree → Bool) (expression : ℕ → Tree �
   pre_hold = none_in Whole (λ q ms. facts_from 0 (λ m cs. lines_from 0 (pre_line (pred_text p names q) m) cs) ms)
       (λ q ms. none_in Whole (λ m cs. lines_from 0 (pre_line (pred_text p names q) m) cs) (λ m cs. none_in Whole (λ i c. pre_line (pred_text p names q) m i c ∷ []) (λ i c. (λ why fails. fails, tt)) 0 cs) 0 ms) 0 parts.preconditions
 
-  -- the sections from the falls on, from the measures on, and all
+  -- the sections from the falls on, from the measures on, from the multipliers of size rows on, and all
   module _ (lines : Lines) (are : AreLines parts lines) where
     abbrev falls_on : List Fact
     falls_on = fall_facts parts.falls ++ (pre_facts p names parts.preconditions ++ refuted_facts p names parts.refutations)
@@ -99,10 +107,21 @@ module _ (truth : (ℕ → Bool) → Tree → Bool) (expression : ℕ → Tree �
     abbrev measures_on : List Fact
     measures_on = level_facts p names parts.levels ++ falls_on
 
-    by_here : (f : Fault) → Finds (ByFails expression p parts.rows) lines.row_proofs (proof_facts parts.row_proofs) (Some f) → Finds Whole lines.row_proofs (number_facts p names parts) (Some f)
+    abbrev proofs_on : List Fact
+    proofs_on = proof_facts parts.row_proofs ++ (ground_facts p names parts.grounds ++ measures_on)
+
+    stated_here : (f : Fault) → Finds (SizesFail p names) lines.sizes (size_facts p names parts.rows) (Some f) → Finds Whole lines.sizes (number_facts p names parts) (Some f)
+    stated_here f found = finds_here Whole lines.sizes (size_facts p names parts.rows) proofs_on f (finds_same (SizesFail p names) Whole (size_facts p names parts.rows) sizes_same lines.sizes (Some f) found)
+
+    stated_next : (o : Option Fault) → NoneFails (SizesFail p names) (size_facts p names parts.rows) → Finds Whole lines.row_proofs proofs_on o → Finds Whole lines.sizes (number_facts p names parts) o
+    stated_next o none found =
+        finds_next Whole lines.sizes lines.row_proofs (size_facts p names parts.rows) proofs_on o (omega (arith, are.row_proofs, sizes_counted p names parts.rows))
+        (finds_same (SizesFail p names) Whole (size_facts p names parts.rows) sizes_same lines.sizes None none) found
+
+    by_here : (f : Fault) → Finds (ByFails expression p parts.rows) lines.row_proofs (proof_facts parts.row_proofs) (Some f) → Finds Whole lines.row_proofs proofs_on (Some f)
     by_here f found = finds_here Whole lines.row_proofs (proof_facts parts.row_proofs) (ground_facts p names parts.grounds ++ measures_on) f (finds_same (ByFails expression p parts.rows) Whole (proof_facts parts.row_proofs) by_same lines.row_proofs (Some f) found)
 
-    by_next : (o : Option Fault) → NoneFails (ByFails expression p parts.rows) (proof_facts parts.row_proofs) → Finds Whole lines.measures measures_on o → Finds Whole lines.row_proofs (number_facts p names parts) o
+    by_next : (o : Option Fault) → NoneFails (ByFails expression p parts.rows) (proof_facts parts.row_proofs) → Finds Whole lines.measures measures_on o → Finds Whole lines.row_proofs proofs_on o
     by_next o none found =
         finds_next Whole lines.row_proofs (u64_saturate (lines.row_proofs + length (proof_facts parts.row_proofs))) (proof_facts parts.row_proofs) (ground_facts p names parts.grounds ++ measures_on) o refl
         (finds_same (ByFails expression p parts.rows) Whole (proof_facts parts.row_proofs) by_same lines.row_proofs None none)
@@ -132,17 +151,21 @@ module _ (truth : (ℕ → Bool) → Tree → Bool) (expression : ℕ → Tree �
         (finds_same (RefutationsFail expression p names comps parts) Whole (refuted_facts p names parts.refutations) refuted_same lines.refutations o found))
 
     -- the fault of the first test that finds one, or none
-    pub first_by : (f : Fault) → Finds (ByFails expression p parts.rows) lines.row_proofs (proof_facts parts.row_proofs) (Some f) → Finds Whole lines.row_proofs (number_facts p names parts) (Some f)
-    first_by = by_here
+    pub first_stated : (f : Fault) → Finds (SizesFail p names) lines.sizes (size_facts p names parts.rows) (Some f) → Finds Whole lines.sizes (number_facts p names parts) (Some f)
+    first_stated = stated_here
 
-    module _ (by_none : NoneFails (ByFails expression p parts.rows) (proof_facts parts.row_proofs)) where
-      pub first_measure : (f : Fault) → Finds (MeasuresFail p names comps) lines.measures (level_facts p names parts.levels) (Some f) → Finds Whole lines.row_proofs (number_facts p names parts) (Some f)
-      first_measure f found = by_next (Some f) by_none (measures_here f found)
+    module _ (stated_none : NoneFails (SizesFail p names) (size_facts p names parts.rows)) where
+      pub first_by : (f : Fault) → Finds (ByFails expression p parts.rows) lines.row_proofs (proof_facts parts.row_proofs) (Some f) → Finds Whole lines.sizes (number_facts p names parts) (Some f)
+      first_by f found = stated_next (Some f) stated_none (by_here f found)
 
-      module _ (measures_none : NoneFails (MeasuresFail p names comps) (level_facts p names parts.levels)) where
-        pub first_fall : (f : Fault) → Finds (FallsFail expression p comps parts) lines.falls (fall_facts parts.falls) (Some f) → Finds Whole lines.row_proofs (number_facts p names parts) (Some f)
-        first_fall f found = by_next (Some f) by_none (measures_next (Some f) measures_none (falls_here f found))
+      module _ (by_none : NoneFails (ByFails expression p parts.rows) (proof_facts parts.row_proofs)) where
+        pub first_measure : (f : Fault) → Finds (MeasuresFail p names comps) lines.measures (level_facts p names parts.levels) (Some f) → Finds Whole lines.sizes (number_facts p names parts) (Some f)
+        first_measure f found = stated_next (Some f) stated_none (by_next (Some f) by_none (measures_here f found))
 
-        pub first_refutation : NoneFails (FallsFail expression p comps parts) (fall_facts parts.falls) → (o : Option Fault)
-            → Finds (RefutationsFail expression p names comps parts) lines.refutations (refuted_facts p names parts.refutations) o → Finds Whole lines.row_proofs (number_facts p names parts) o
-        first_refutation falls_none o found = by_next o by_none (measures_next o measures_none (falls_next o falls_none found))
+        module _ (measures_none : NoneFails (MeasuresFail p names comps) (level_facts p names parts.levels)) where
+          pub first_fall : (f : Fault) → Finds (FallsFail expression p comps parts) lines.falls (fall_facts parts.falls) (Some f) → Finds Whole lines.sizes (number_facts p names parts) (Some f)
+          first_fall f found = stated_next (Some f) stated_none (by_next (Some f) by_none (measures_next (Some f) measures_none (falls_here f found)))
+
+          pub first_refutation : NoneFails (FallsFail expression p comps parts) (fall_facts parts.falls) → (o : Option Fault)
+              → Finds (RefutationsFail expression p names comps parts) lines.refutations (refuted_facts p names parts.refutations) o → Finds Whole lines.sizes (number_facts p names parts) o
+          first_refutation falls_none o found = stated_next o stated_none (by_next o by_none (measures_next o measures_none (falls_next o falls_none found)))

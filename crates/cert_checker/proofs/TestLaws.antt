@@ -148,7 +148,10 @@ stable_covers (c ∷ cs) (b ∷ bs) h = (λ lt. stable_true b (λ no. h (λ all.
 
 module _ (truth : (ℕ → Bool) → Tree → Bool) (p : Listing) (comps : Partition) (parts : Parts) (q : ℕ) where
   stable_closes : IsStable (Closes truth p comps parts q)
-  stable_closes h k c e same v body = stable_true _ (λ no. h (λ closes. no (closes k c e same v body)))
+  stable_closes h = record {
+    clauses = λ k c e same v body. stable_true _ (λ no. h (λ closes. no (closes.clauses k c e same v body)));
+    builtin = λ b is. stable_true _ (λ no. h (λ closes. no (closes.builtin b is)));
+  }
 
   stable_keeps : IsStable (KeepsPreconditions truth p comps parts q)
   stable_keeps h = record {

@@ -3,13 +3,13 @@
 -- That the parts do not depend on the partition is a premise here, which the law of `cert_structure` gives.
 use Rattle.std.proofs.Common.{◌≡◌, ◌↔◌, ℕ, List, sym, subst}
 use Rattle.cti_terms.specs.Listing.{Listing}
-use Rattle.cti_terms.specs.Tree.{truth}
 use Rattle.call_components.specs.Partition.{AreComponents, Partition}
 use Rattle.certificate.specs.declared.fact.Fact.{Fact}
 use Rattle.cert_structure.specs.Structure.{IsStructured}
 use Rattle.cert_structure.specs.declared.parts.Parts.{Parts}
-use Rattle.term_size.specs.Occurrences.{size_row}
-use Rattle.cert_checker.specs.Valid.{IsValid, PartsHold}
+use Rattle.term_size.specs.AnyNorm.{any_row, any_truth}
+use Rattle.cert_checker.specs.Norms.{norm_in}
+use Rattle.cert_checker.specs.Valid.{ClaimsHold, IsValid}
 use Rattle.cert_checker.proofs.AnyPartition.{parts_hold}
 
 abbrev pub OneStructure : Type 0
@@ -22,10 +22,12 @@ module _ (one_structure : OneStructure) (p : Listing) (names : List (List ℕ)) 
   moved valid = one_structure p names valid.comps comps valid.parts facts valid.components are valid.structured
 
   pub decided : (P : Type 0) (parts : Parts) → IsStructured p names comps parts facts → ((own : Parts) → IsStructured p names comps own facts → parts ≡ own)
-      → P ↔ PartsHold truth size_row p comps parts → P ↔ IsValid p names facts
+      → P ↔ ClaimsHold p names comps parts → P ↔ IsValid p names facts
   decided P parts structured only decides = (
     λ none. record { comps = comps; components = are; parts = parts; structured = structured; hold = decides.0 none },
-    λ valid. decides.1 (subst (PartsHold truth size_row p comps) (sym (only valid.parts (moved valid))) (parts_hold truth size_row p valid.comps comps valid.components are valid.parts valid.hold)),
+    λ valid.
+        let n = norm_in names valid.parts.norm in
+        decides.1 (subst (ClaimsHold p names comps) (sym (only valid.parts (moved valid))) (parts_hold (any_truth n) (any_row n) p valid.comps comps valid.components are valid.parts valid.hold)),
   )
 
   -- and without parts it is not valid

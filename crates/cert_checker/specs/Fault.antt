@@ -13,10 +13,13 @@ use Rattle.cert_structure.specs.declared.parts.Parts.{Parts}
 use Rattle.cert_structure.specs.declared.fault.StructureReason.{StructureReason}
 use Rattle.cert_modes.specs.Failing.{ModesFail}
 use Rattle.cert_modes.specs.declared.fault.ModeReason.{ModeReason}
+use Rattle.cti_terms.specs.Arithmetic.{kind_of}
 use Rattle.cti_terms.specs.Listing.{Listing, numbered}
-use Rattle.cti_terms.specs.Tree.{Tree, truth}
+use Rattle.cti_terms.specs.Tree.{Tree}
 use Rattle.cti_terms.specs.declared.atom_list.Atom.{Atom}
+use Rattle.cti_terms.specs.declared.builtins.Builtin.{Builtin}
 use Rattle.cti_terms.specs.declared.clauses.Clause.{Clause}
+use Rattle.linear_rows.specs.Members.{In}
 use Rattle.linear_rows.specs.declared.point.Point.{Point}
 use Rattle.linear_rows.specs.declared.row.Rows.{Rows}
 use Rattle.number_tests.specs.Failing.{MultipliersFail, PointFails, SumsFail}
@@ -26,10 +29,12 @@ use Rattle.number_tests.specs.declared.flaw.Flaw.{Flaw}
 use Rattle.number_tests.specs.declared.flaw.Flaw.TheVariants as flaw
 use Rattle.number_tests.specs.declared.level_part.LevelPart.{LevelPart}
 use Rattle.number_tests.specs.declared.refutation.Refutation.{Refutation}
-use Rattle.term_size.specs.Occurrences.{size_row}
+use Rattle.term_size.specs.AnyNorm.{any_row, any_truth}
 use Rattle.termination_model.specs.Sizes.{rows_of}
+use Rattle.termination_model.specs.Stated.{stated_rows}
 use Rattle.termination_model.specs.Systems.{row_over, short_system}
 use Rattle.cert_checker.specs.ModeFaults.{mode_reason}
+use Rattle.cert_checker.specs.Norms.{norm_in}
 use Rattle.cert_checker.specs.Proved.{IsZero}
 use Rattle.cert_checker.specs.Shape.{AreTogether}
 use Rattle.cert_checker.specs.StructureFaults.{HasStructureFault, structure_reason}
@@ -94,6 +99,15 @@ module _ (p : Listing) (names : List (List ℕ)) where
   abbrev pub IsNamed : PredText → ℕ → Type 0
   IsNamed text q = (q < length p.preds) × (text ≡ pred_text p names q)
 
+  -- a size row of a built-in predicate is none of those that are stated of it
+  pub record RowIsForeign (text : PredText) (row : List ℤ) (why : Reason) : Type 0 where
+    pub q : ℕ
+    pub named : IsNamed text q
+    pub kind : Builtin
+    pub builtin : kind_of p.arithmetic q ≡ Some kind
+    pub foreign : ¬ In row (stated_rows kind)
+    pub why_is : why ≡ reason.SizeRow
+
   -- a mapping of a component that is not recursive is not 0
   pub record MeasureFails (comps : Partition) (text : PredText) (l : LevelPart) (why : Reason) : Type 0 where
     pub q : ℕ
@@ -129,6 +143,7 @@ module _ (p : Listing) (names : List (List ℕ)) where
   -- what a fact of the parts claims does not hold
   abbrev pub FactFails : ((ℕ → Bool) → Tree → Bool) → (ℕ → Tree → List ℤ) → Partition → Parts → Fact → Reason → Type 0
   FactFails truth expression comps parts (fact.Terminates text modes) why = PredFails truth comps parts text why
+  FactFails truth expression comps parts (fact.Size text i row) why = RowIsForeign text row why
   FactFails truth expression comps parts (fact.By k i scale ms) why = RowFails expression p parts.rows k i ms scale why
   FactFails truth expression comps parts (fact.Measure text m coeffs offset) why = MeasureFails comps text (record { coeffs = coeffs; offset = offset }) why
   FactFails truth expression comps parts (fact.Falls k j m scale ms) why = FallFails expression p comps parts.rows parts.levels k j m ms scale why
@@ -136,6 +151,10 @@ module _ (p : Listing) (names : List (List ℕ)) where
   FactFails truth expression comps parts (fact.Point k j t w) why = RowsFailAt expression p parts.rows k j (record { t = t; w = w }) why
   FactFails truth expression comps parts (fact.At k j t w) why = RowsFailAt expression p parts.rows k j (record { t = t; w = w }) why
   FactFails truth expression comps parts _ why = ⊥
+
+-- the same by the norm of the parts
+abbrev pub ClaimFails : Listing → List (List ℕ) → Partition → Parts → Fact → Reason → Type 0
+ClaimFails p names comps parts = FactFails p names (any_truth (norm_in names parts.norm)) (any_row (norm_in names parts.norm)) comps parts
 
 -- the first of the facts that fails, counted from 0, and the smallest reason why
 pub record IsFirstAt (Fails : Fact → Reason → Type 0) (facts : List Fact) (n : ℕ) (why : Reason) : Type 0 where
@@ -152,7 +171,7 @@ pub record IsValueFault (p : Listing) (names : List (List ℕ)) (facts : List Fa
   pub parts : Parts
   pub structured : IsStructured p names comps parts facts
   pub counted : 1 ≤ line
-  pub first : IsFirstAt (FactFails p names truth size_row comps parts) facts (line - 1) why
+  pub first : IsFirstAt (ClaimFails p names comps parts) facts (line - 1) why
 
 -- the first fault of a certificate: its structure is wrong at this line, or else the fact of the line claims what does not hold
 pub data IsFault (p : Listing) (names : List (List ℕ)) (facts : List Fact) (line : ℕ) : Reason → Type 0 where

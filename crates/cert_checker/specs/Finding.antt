@@ -17,15 +17,26 @@ use Rattle.certificate.specs.declared.fact.Fact.TheVariants as fact
 use Rattle.cert_structure.specs.declared.parts.Parts.{Parts}
 use Rattle.cti_terms.specs.Listing.{Listing, numbered}
 use Rattle.cti_terms.specs.Tree.{Tree}
+use Rattle.cti_terms.specs.declared.builtins.Builtin.{Builtin}
+use Rattle.linear_rows.specs.Members.{In}
 use Rattle.linear_rows.specs.declared.row.Rows.{Rows}
 use Rattle.call_components.specs.Partition.{Partition}
-use Rattle.cert_checker.specs.Fault.{FallFails, IsFirstAt, MeasureFails, RefutationFails, RowFails, RowsFailAt, reason_of}
+use Rattle.termination_model.specs.Stated.{stated_rows}
+use Rattle.cert_checker.specs.Fault.{FallFails, IsFirstAt, MeasureFails, RefutationFails, RowFails, RowIsForeign, RowsFailAt, reason_of}
 use Rattle.cert_checker.specs.Proved.{IsZero}
 use Rattle.cert_checker.specs.declared.fault.Fault.{Fault}
 use Rattle.cert_checker.specs.declared.reason.Reason.{Reason}
 use Rattle.cert_checker.specs.declared.reason.Reason.TheVariants as reason
 
 -- the facts of each kind that fail, and no others
+abbrev pub IsForeign : Builtin → Fact → Reason → Type 0
+IsForeign kind (fact.Size text i row) why = (¬ In row (stated_rows kind)) × (why ≡ reason.SizeRow)
+IsForeign kind _ why = ⊥
+
+abbrev pub SizesFail : Listing → List (List ℕ) → Fact → Reason → Type 0
+SizesFail p names (fact.Size text i row) why = RowIsForeign p names text row why
+SizesFail p names _ why = ⊥
+
 abbrev pub ByFails : (ℕ → Tree → List ℤ) → Listing → List Rows → Fact → Reason → Type 0
 ByFails expression p rows (fact.By k i scale ms) why = RowFails expression p rows k i ms scale why
 ByFails expression p rows _ why = ⊥

@@ -4,6 +4,7 @@ pub mod Excluded
 pub mod Fault
 pub mod Finding
 pub mod ModeFaults
+pub mod Norms
 pub mod Proved
 pub mod Refutes
 pub mod Refuting

@@ -13,11 +13,12 @@ use Rattle.cert_structure.specs.Structure.{IsStructured}
 use Rattle.cert_structure.specs.declared.parts.Parts.{Parts}
 use Rattle.number_tests.specs.declared.refutation.Refutation.{Refutation}
 use Rattle.linear_rows.specs.Rows.{HoldsOn}
-use Rattle.term_size.specs.Occurrences.{size_row}
+use Rattle.term_size.specs.AnyNorm.{any_row}
 use Rattle.termination_model.specs.Claims.{Mapping}
 use Rattle.termination_model.specs.Rows.{scaled, added}
 use Rattle.termination_model.specs.Sizes.{rows_of}
 use Rattle.termination_model.specs.Systems.{row_over, system}
+use Rattle.cert_checker.specs.Norms.{norm_in}
 
 module _ (expression : ℕ → Tree → List ℤ) where
   -- the level of an atom, over the given number of variables
@@ -37,4 +38,4 @@ abbrev pub RefutedHaveNoMapping : Listing → List (List ℕ) → List Fact → 
 RefutedHaveNoMapping p names facts =
     (comps : Partition) (parts : Parts) → AreComponents p comps → IsStructured p names comps parts facts
     → (q r : ℕ) (f : Refutation) → slice_get parts.refutations q ≡ Some (Some f) → IsIn comps r q
-    → (l : Mapping) → MappingDecreases size_row p comps (rows_of parts.rows) r l → ⊥
+    → (l : Mapping) → MappingDecreases (any_row (norm_in names parts.norm)) p comps (rows_of parts.rows) r l → ⊥

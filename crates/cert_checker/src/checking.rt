@@ -17,16 +17,17 @@ ghost use Rattle.cert_checker.specs.StructureFaults.{HasStructureFault, structur
 ghost use Rattle.cert_checker.specs.Valid.{IsValid, NumbersHold, PartsHold};
 ghost use Rattle.cert_checker.specs.declared.reason.Reason.{Reason as TheReason};
 ghost use Rattle.cert_checker.specs.declared.verdict.Verdict.TheVariants.{No, Yes};
-ghost use Rattle.cti_terms.specs.Tree.{truth};
-ghost use Rattle.term_size.specs.Occurrences.{size_row};
+ghost use Rattle.term_size.specs.AnyNorm.{any_row, any_truth};
 
 use crate::bounding::valid_certificates_bound_their_modes;
 use crate::fall_faults::fall_fault;
 use crate::fault::Fault;
 use crate::lines::Lines;
 use crate::measure_faults::measure_fault;
+use crate::norms::norm_of;
 use crate::refutation_faults::refutation_fault;
 use crate::size_faults::size_fault;
+use crate::stated_faults::stated_fault;
 use crate::verdict::Verdict;
 use call_components::{Components, components};
 use cert_modes::mode_fault;
@@ -34,35 +35,41 @@ use cert_structure::{Parts, PartsFault, one_structure, one_structure_fault, part
 use certificate::Certificate;
 use cti_terms::{Names, Program};
 use std::alloc::{AllocError, Global};
-use term_size::TermSize;
+use term_size::AnyNorm;
 
 // The first fault of the numbers of a certificate, in the order of its lines: that of the first fact that fails.
 fn number_fault(
     alloc: Global,
     p: &Program,
     comps: &Components,
+    norm: &AnyNorm,
     parts: &Parts,
     lines: Lines,
 ) -> Result<Option<Fault>, AllocError>
     requires components { AreComponents p.now comps.now }
     requires shape { HaveShape p.now comps.now parts.now }
     requires lines { AreLines parts.now lines }
-    ensures hold { IfOk result (λ fault. (fault ≡ None) ↔ NumbersHold size_row p.now comps.now parts.now) }
-    ensures first { IfOk result (λ fault. (names : List (List ℕ)) → AreNamed names p.now.preds → AllPairs (λ a b. a ≢ b) names
-        → Finds (FactFails p.now names truth size_row comps.now parts.now) lines.row_proofs (number_facts p.now names parts.now) fault) }
+    ensures hold { IfOk result (λ fault. (fault ≡ None) ↔ NumbersHold (any_row norm.now) p.now comps.now parts.now) }
+    ensures first { IfOk result (λ fault. (names : List (List ℕ)) → AreNamed names p.now.preds
+        → AllPairs (λ a b. a ≢ b) names
+        → Finds (FactFails p.now names (any_truth norm.now) (any_row norm.now) comps.now parts.now)
+        lines.sizes (number_facts p.now names parts.now) fault) }
 {
     // What every program keeps, its clauses among them.
     p.preds();
-    if let Some(fault) = size_fault(alloc, p, &TermSize, parts, lines.row_proofs)? {
+    if let Some(fault) = stated_fault(p, &parts.rows, lines.sizes) {
+        return Ok(Some(fault));
+    }
+    if let Some(fault) = size_fault(alloc, p, norm, parts, lines.row_proofs)? {
         return Ok(Some(fault));
     }
     if let Some(fault) = measure_fault(p, comps, parts, lines.measures) {
         return Ok(Some(fault));
     }
-    if let Some(fault) = fall_fault(alloc, p, comps, &TermSize, parts, lines.falls)? {
+    if let Some(fault) = fall_fault(alloc, p, comps, norm, parts, lines.falls)? {
         return Ok(Some(fault));
     }
-    let fault = refutation_fault(alloc, p, comps, &TermSize, parts, lines.refutations)?;
+    let fault = refutation_fault(alloc, p, comps, norm, parts, lines.refutations)?;
     Ok(fault)
 }
 
@@ -71,21 +78,25 @@ fn value_fault(
     alloc: Global,
     p: &Program,
     comps: &Components,
+    norm: &AnyNorm,
     parts: &Parts,
 ) -> Result<Option<Fault>, AllocError>
     requires components { AreComponents p.now comps.now }
     requires shape { HaveShape p.now comps.now parts.now }
-    ensures hold { IfOk result (λ fault. (fault ≡ None) ↔ PartsHold truth size_row p.now comps.now parts.now) }
-    ensures first { IfOk result (λ fault. (names : List (List ℕ)) (notes : List TheFact) → AreNamed names p.now.preds → AllPairs (λ a b. a ≢ b) names → AreNotes notes
-        → Finds (FactFails p.now names truth size_row comps.now parts.now) 1 (listed p.now names parts.now notes) fault) }
+    ensures hold { IfOk result (λ fault. (fault ≡ None)
+        ↔ PartsHold (any_truth norm.now) (any_row norm.now) p.now comps.now parts.now) }
+    ensures first { IfOk result (λ fault. (names : List (List ℕ)) (notes : List TheFact)
+        → AreNamed names p.now.preds → AllPairs (λ a b. a ≢ b) names → AreNotes notes
+        → Finds (FactFails p.now names (any_truth norm.now) (any_row norm.now) comps.now parts.now)
+        1 (listed p.now names parts.now notes) fault) }
 {
     // What every program keeps.
     p.preds();
     let lines = Lines::of(parts);
-    let modes = mode_fault(alloc, p, &TermSize, comps, parts, lines.modes)?;
+    let modes = mode_fault(alloc, p, norm, comps, parts, lines.modes)?;
     match modes {
         Some(fault) => Ok(Some(Fault::of_modes(fault))),
-        None => number_fault(alloc, p, comps, parts, lines),
+        None => number_fault(alloc, p, comps, norm, parts, lines),
     }
 }
 
@@ -112,7 +123,10 @@ fn first_fault(
     one_structure();
     one_structure_fault();
     match parts_of(alloc, p, names, &comps, c) {
-        Ok(parts) => value_fault(alloc, p, &comps, &parts),
+        Ok(parts) => {
+            let norm = norm_of(names, parts.norm);
+            value_fault(alloc, p, &comps, &norm, &parts)
+        }
         Err(PartsFault::Wrong { line, reason }) => Ok(Some(Fault::of_structure(line, reason))),
         Err(PartsFault::Memory) => Err(AllocError),
     }
@@ -121,7 +135,7 @@ fn first_fault(
 /// Whether a certificate of a program is valid.
 ///
 /// The names are those that gave the program's. Where the certificate is not valid, the verdict has the line of the first
-/// fault and its reason. Sizes are term sizes.
+/// fault and its reason. Sizes are by the norm that the certificate names.
 ///
 /// Source: the conditions of Mesnard and Neumerkel 2001, with a proof for each size row, mapping and refutation.
 pub fn check(

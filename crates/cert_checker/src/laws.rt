@@ -1,6 +1,6 @@
 //! Laws of the definitions. Each is a function that does nothing, and whose clauses are proved.
 
-ghost use Rattle.std.specs.Prelude.{◌≢◌, ◌↔◌, ℕ, ℤ, Bool, List};
+ghost use Rattle.std.specs.Prelude.{◌≡◌, ◌≢◌, ◌↔◌, ℕ, ℤ, Bool, List};
 ghost use Rattle.std.specs.List.{AllPairs};
 ghost use Rattle.call_components.specs.Partition.{AreComponents, Partition};
 ghost use Rattle.certificate.specs.declared.fact.Fact.{Fact};
@@ -34,4 +34,13 @@ pub fn refutations_are_those_of_views()
 pub fn valid_certificates_have_no_fault()
     ensures { (p : Listing) (names : List (List ℕ)) (facts : List Fact) (comps : Partition) → IsProgram p → AreNamed names p.preds → AllPairs (λ a b. a ≢ b) names → AreComponents p comps
         → IsValid p names facts ↔ ((line : ℕ) (why : Reason) → ¬ IsFault p names facts line why) }
+{}
+
+/// No certificate of a program has two faults: two are of one line and for one reason.
+///
+/// The names are those of the program's predicates, and no two are alike.
+pub fn a_certificate_has_one_fault()
+    ensures { (p : Listing) (names : List (List ℕ)) (facts : List Fact) (line other : ℕ) (why because : Reason)
+        → IsProgram p → AreNamed names p.preds → AllPairs (λ a b. a ≢ b) names
+        → IsFault p names facts line why → IsFault p names facts other because → (line ≡ other) × (why ≡ because) }
 {}

@@ -1,24 +1,31 @@
 //! The lines of a certificate.
 
 ghost use Rattle.std.specs.Io.Iter.{u64_saturate};
-ghost use Rattle.std.specs.Prelude.{◌≡◌, ◌+◌};
+ghost use Rattle.std.specs.Prelude.{◌≡◌, ◌+◌, length, suc};
+ghost use Rattle.cert_structure.specs.Order.{head_facts};
 ghost use Rattle.cert_checker.specs.Sections.{AreLines, count_all, count_in, rows_in};
 
 use cert_structure::Parts;
+use certificate::CertNorm;
 use sequences::Sequence;
 use termination_model::SizeRows;
-
-/// The line of the first mode. That of the version comes before it.
-const MODES: u64 = 2;
 
 /// The first lines of the parts that are tested, counted from 1.
 #[derive(Clone, Copy)]
 pub(crate) struct Lines {
     pub(crate) modes: u64,
+    pub(crate) sizes: u64,
     pub(crate) row_proofs: u64,
     pub(crate) measures: u64,
     pub(crate) falls: u64,
     pub(crate) refutations: u64,
+}
+
+// The line of the first mode. That of the version comes before it, and that of the norm, if there is one.
+fn first_mode(norm: Option<CertNorm>) -> u64
+    ensures { result ≡ suc (length (head_facts norm)) }
+{
+    if norm.is_some() { 3 } else { 2 }
 }
 
 // The line after this many facts.
@@ -66,15 +73,17 @@ impl Lines {
     pub(crate) fn of(parts: &Parts) -> Lines
         ensures { AreLines parts.now result }
     {
-        let rows = after(MODES, parts.modes.len());
-        let row_proofs = after_rows(&parts.rows, rows);
+        let modes = first_mode(parts.norm);
+        let sizes = after(modes, parts.modes.len());
+        let row_proofs = after_rows(&parts.rows, sizes);
         let grounds = after_lists(parts.row_proofs.as_slice(), row_proofs);
         let measures = after_lists(parts.grounds.as_slice(), grounds);
         let falls = after_lists(parts.levels.as_slice(), measures);
         let preconditions = after_all(parts.falls.as_slice(), falls);
         let refutations = after_all(parts.preconditions.as_slice(), preconditions);
         Lines {
-            modes: MODES,
+            modes,
+            sizes,
             row_proofs,
             measures,
             falls,

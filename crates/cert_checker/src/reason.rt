@@ -11,11 +11,11 @@ pub enum Reason {
     Extra,
     /// The fact has a list of a wrong length, or a number out of range.
     Shape,
-    /// Multipliers do not show that a clause keeps a size row.
+    /// Multipliers do not show that a clause keeps a size row, or a built-in predicate has one that is not stated of it.
     SizeRow,
     /// A measure that has to be 0 is not, or multipliers do not show that it falls.
     Measure,
-    /// A clause gives a row that the ground rows lack.
+    /// A clause gives a row that the ground rows lack, or a built-in predicate lacks its stated one.
     Ground,
     /// A precondition breaks its rule.
     Precondition,

@@ -1,11 +1,13 @@
 use Rattle.std.proofs.Common.{refl, subst}
-use Rattle.cti_terms.specs.Tree.{truth}
-use Rattle.cert_structure.specs.Order.{fall_facts, level_facts, proof_facts}
-use Rattle.term_size.specs.Occurrences.{size_row}
-use Rattle.cert_checker.specs.Finding.{ByFails, FallsFail, Finds, MeasuresFail}
-use Rattle.cert_checker.proofs.SectionLaws.{first_by, first_fall, first_measure, first_refutation}
+use Rattle.cert_structure.specs.Order.{fall_facts, level_facts, proof_facts, size_facts}
+use Rattle.term_size.specs.AnyNorm.{any_row, any_truth}
+use Rattle.cert_checker.specs.Finding.{ByFails, FallsFail, Finds, MeasuresFail, SizesFail}
+use Rattle.cert_checker.proofs.SectionLaws.{first_by, first_fall, first_measure, first_refutation, first_stated}
 use Rattle.cert_checker.proofs.ShapeLaws.{are_sizes, have_falls, have_levels, have_refutations, have_row_proofs}
 use Rattle.cert_checker.proofs.checking.number_fault.Goals as goal
+
+pub stated_fault-requires : goal.stated_fault-requires
+stated_fault-requires c = record { sizes = are_sizes c.args.p.now c.args.comps.now c.args.parts.now c.requires.shape }
 
 pub size_fault-requires-clause-sizes : goal.size_fault-requires-clause-sizes
 size_fault-requires-clause-sizes c = are_sizes c.args.p.now c.args.comps.now c.args.parts.now c.requires.shape
@@ -35,9 +37,10 @@ refutation_fault-requires-clause-refutations c = have_refutations c.args.p.now c
 pub returns-clause-hold : goal.returns-clause-hold
 returns-clause-hold c = (
   λ none. record {
-    rows = c.in_ok-fault.ensures.hold.0 c.in_default.is;
+    stated = c.in_default.ensures.hold.0 refl;
+    rows = c.in_ok-fault.ensures.hold.0 c.in_default-2.is;
     measures = c.in_default-measure_fault.ensures.hold.0 refl;
-    falls = c.in_ok-fault-2.ensures.hold.0 c.in_default-2.is;
+    falls = c.in_ok-fault-2.ensures.hold.0 c.in_default-3.is;
     refutations = c.in_ok-fault-3.ensures.hold.0 none;
   },
   λ hold. c.in_ok-fault-3.ensures.hold.1 hold.refutations,
@@ -49,18 +52,8 @@ returns-in-Some-clause-first c = λ names named distinct.
     let comps = c.args.comps.now in
     let parts = c.args.parts.now in
     let lines = c.args.lines in
-    first_by truth size_row p names comps parts lines c.requires.lines c.in-Some.fault
-    (subst (Finds (ByFails size_row p parts.rows) lines.row_proofs (proof_facts parts.row_proofs)) c.in-Some.is c.in_ok-fault.ensures.first)
-
-pub returns-in-Some-measure_fault-clause-first : goal.returns-in-Some-measure_fault-clause-first
-returns-in-Some-measure_fault-clause-first c = λ names named distinct.
-    let p = c.args.p.now in
-    let comps = c.args.comps.now in
-    let parts = c.args.parts.now in
-    let lines = c.args.lines in
-    first_measure truth size_row p names comps parts lines c.requires.lines
-    (subst (Finds (ByFails size_row p parts.rows) lines.row_proofs (proof_facts parts.row_proofs)) c.in_default.is c.in_ok-fault.ensures.first) c.in-Some-measure_fault.fault
-    (subst (Finds (MeasuresFail p names comps) lines.measures (level_facts p names parts.levels)) c.in-Some-measure_fault.is (c.measure_fault.ensures.first names named distinct))
+    first_stated (any_truth c.args.norm.now) (any_row c.args.norm.now) p names comps parts lines c.requires.lines c.in-Some.fault
+    (subst (Finds (SizesFail p names) lines.sizes (size_facts p names parts.rows)) c.in-Some.is (c.stated_fault.ensures.first names named distinct))
 
 pub returns-in-Some-2-clause-first : goal.returns-in-Some-2-clause-first
 returns-in-Some-2-clause-first c = λ names named distinct.
@@ -68,10 +61,29 @@ returns-in-Some-2-clause-first c = λ names named distinct.
     let comps = c.args.comps.now in
     let parts = c.args.parts.now in
     let lines = c.args.lines in
-    first_fall truth size_row p names comps parts lines c.requires.lines
-    (subst (Finds (ByFails size_row p parts.rows) lines.row_proofs (proof_facts parts.row_proofs)) c.in_default.is c.in_ok-fault.ensures.first)
-    (c.in_default-measure_fault.ensures.first names named distinct) c.in-Some-2.fault
-    (subst (Finds (FallsFail size_row p comps parts) lines.falls (fall_facts parts.falls)) c.in-Some-2.is c.in_ok-fault-2.ensures.first)
+    first_by (any_truth c.args.norm.now) (any_row c.args.norm.now) p names comps parts lines c.requires.lines (c.in_default.ensures.first names named distinct) c.in-Some-2.fault
+    (subst (Finds (ByFails (any_row c.args.norm.now) p parts.rows) lines.row_proofs (proof_facts parts.row_proofs)) c.in-Some-2.is c.in_ok-fault.ensures.first)
+
+pub returns-in-Some-measure_fault-clause-first : goal.returns-in-Some-measure_fault-clause-first
+returns-in-Some-measure_fault-clause-first c = λ names named distinct.
+    let p = c.args.p.now in
+    let comps = c.args.comps.now in
+    let parts = c.args.parts.now in
+    let lines = c.args.lines in
+    first_measure (any_truth c.args.norm.now) (any_row c.args.norm.now) p names comps parts lines c.requires.lines (c.in_default.ensures.first names named distinct)
+    (subst (Finds (ByFails (any_row c.args.norm.now) p parts.rows) lines.row_proofs (proof_facts parts.row_proofs)) c.in_default-2.is c.in_ok-fault.ensures.first) c.in-Some-measure_fault.fault
+    (subst (Finds (MeasuresFail p names comps) lines.measures (level_facts p names parts.levels)) c.in-Some-measure_fault.is (c.measure_fault.ensures.first names named distinct))
+
+pub returns-in-Some-3-clause-first : goal.returns-in-Some-3-clause-first
+returns-in-Some-3-clause-first c = λ names named distinct.
+    let p = c.args.p.now in
+    let comps = c.args.comps.now in
+    let parts = c.args.parts.now in
+    let lines = c.args.lines in
+    first_fall (any_truth c.args.norm.now) (any_row c.args.norm.now) p names comps parts lines c.requires.lines (c.in_default.ensures.first names named distinct)
+    (subst (Finds (ByFails (any_row c.args.norm.now) p parts.rows) lines.row_proofs (proof_facts parts.row_proofs)) c.in_default-2.is c.in_ok-fault.ensures.first)
+    (c.in_default-measure_fault.ensures.first names named distinct) c.in-Some-3.fault
+    (subst (Finds (FallsFail (any_row c.args.norm.now) p comps parts) lines.falls (fall_facts parts.falls)) c.in-Some-3.is c.in_ok-fault-2.ensures.first)
 
 pub returns-clause-first : goal.returns-clause-first
 returns-clause-first c = λ names named distinct.
@@ -79,8 +91,8 @@ returns-clause-first c = λ names named distinct.
     let comps = c.args.comps.now in
     let parts = c.args.parts.now in
     let lines = c.args.lines in
-    first_refutation truth size_row p names comps parts lines c.requires.lines
-    (subst (Finds (ByFails size_row p parts.rows) lines.row_proofs (proof_facts parts.row_proofs)) c.in_default.is c.in_ok-fault.ensures.first)
+    first_refutation (any_truth c.args.norm.now) (any_row c.args.norm.now) p names comps parts lines c.requires.lines (c.in_default.ensures.first names named distinct)
+    (subst (Finds (ByFails (any_row c.args.norm.now) p parts.rows) lines.row_proofs (proof_facts parts.row_proofs)) c.in_default-2.is c.in_ok-fault.ensures.first)
     (c.in_default-measure_fault.ensures.first names named distinct)
-    (subst (Finds (FallsFail size_row p comps parts) lines.falls (fall_facts parts.falls)) c.in_default-2.is c.in_ok-fault-2.ensures.first)
+    (subst (Finds (FallsFail (any_row c.args.norm.now) p comps parts) lines.falls (fall_facts parts.falls)) c.in_default-3.is c.in_ok-fault-2.ensures.first)
     c.in_ok-fault-3.fault (c.in_ok-fault-3.ensures.first names named distinct)
