@@ -3,9 +3,11 @@ use Rattle.std.proofs.Common.{◌≡◌, ℕ, suc, ◌++◌, Bool, true, false, 
 use Rattle.std.specs.Prelude.{IfSome}
 use Rattle.std.specs.List.{AllByRecursion, flat_map}
 use Rattle.call_components.specs.Partition.{AreComponents, Partition}
+use Rattle.cert_checker.specs.Norms.{norm_in}
 use Rattle.cert_checker.specs.Proved.{IsZero}
 use Rattle.certificate.specs.declared.fact.Fact.{Fact}
 use Rattle.certificate.specs.declared.fact.Fact.TheVariants as fact
+use Rattle.certificate.specs.declared.norm.CertNorm.{CertNorm}
 use Rattle.cert_structure.specs.Numbered.{AreEach, facts_from}
 use Rattle.cert_structure.specs.Order.{is_note, pred_text}
 use Rattle.cert_structure.specs.Shape as shape
@@ -13,7 +15,6 @@ use Rattle.cert_structure.specs.Shape.{arity_in, body_of, head_of, mappings_of, 
 use Rattle.cert_structure.specs.Structure.{AreNotes}
 use Rattle.cert_structure.specs.declared.parts.Parts.{Parts}
 use Rattle.cti_terms.specs.Listing.{IsProgram, Listing}
-use Rattle.cti_terms.specs.Tree.{truth}
 use Rattle.exact128.specs.Fits.{fits}
 use Rattle.level_systems.specs.declared.found.Found.{Found}
 use Rattle.linear_rows.specs.Blown.{all_of}
@@ -28,8 +29,9 @@ use Rattle.number_tests.specs.declared.refutation.Refutation.{Refutation}
 use Rattle.numeric_model.specs.Proved.{AreProved}
 use Rattle.numeric_model.specs.States.{plain_step}
 use Rattle.numeric_model.specs.declared.step.Step.{Step}
-use Rattle.term_size.specs.Occurrences.{size_row}
-use Rattle.term_size.specs.TermSize.{is_a_norm}
+use Rattle.term_size.specs.AnyNorm.{any_is_a_norm, any_row, any_truth}
+use Rattle.term_size.specs.declared.any_norm.AnyNorm.{AnyNorm}
+use Rattle.termination_model.proofs.ChainKeeping.{chains_state}
 use Rattle.termination_model.specs.Chain.{IsLegalChain}
 use Rattle.termination_model.specs.ChainSteps.{Step as Plain}
 use Rattle.termination_model.specs.ComponentViews.{positions_in}
@@ -41,9 +43,11 @@ use Rattle.report.proofs.ExactParts.{components_are_exact}
 use Rattle.report.proofs.MappingParts.{falls_are_shown, falls_shape, levels_shape, measures_zero}
 use Rattle.report.proofs.RefutedParts.{refutations_are_shown, refutations_shape}
 use Rattle.report.proofs.SetParts.{modes_are_exact, parts_are_counted}
-use Rattle.report.specs.Assembled.{MappingsHold, SizesHold}
+use Rattle.report.specs.Assembled.{MappingsHold, NumbersHold, SizesHold}
 use Rattle.report.specs.Assembly.{AreBounded, AreFound, ArePartsOf, IsAssembled}
 use Rattle.report.specs.ChainNotes.{chain_notes, noted_if, step_notes}
+use Rattle.report.specs.Exact.{ComponentIsExact}
+use Rattle.report.specs.ExactModes.{ModesAreExact}
 use Rattle.report.specs.Levels.{given_up, level_list}
 use Rattle.report.specs.Ranges.{AreMultipliersBelow, IsPartBelow, IsRefutationBelow}
 use Rattle.report.specs.SupportNotes.{blown_at, blown_note, blown_notes, large_at, large_notes, led_by, support_notes}
@@ -96,26 +100,28 @@ module _ (p : Listing) (names : List (List ℕ)) (comps : Partition) (blown : �
       (flat_notes (λ q. large_at p names comps q (led_by comps q)) (λ q. large_is q (led_by comps q)) (columns 0 (length p.preds)))
 
 -- ---- all together
-module _ (p : Listing) (names : List (List ℕ)) (comps : Partition) (sizes : Sizes) (found : List Found) (parts : Parts) (notes : List Fact) (steps : List Step)
+module _ (n : AnyNorm) (named : Option CertNorm) (p : Listing) (names : List (List ℕ)) (comps : Partition) (sizes : Sizes) (found : List Found) (parts : Parts) (notes : List Fact) (steps : List Step)
     (program : IsProgram p) (components : AreComponents p comps)
-    (legal : IsLegalChain (all_of fits) size_row p comps (map plain_step steps) (rows_of sizes.rows))
-    (are_sizes : AreSizes p.preds sizes.rows) (proved : AreProved size_row (rows_of sizes.rows) p.clauses sizes.proofs)
+    (legal : IsLegalChain (all_of fits) (any_row n) p comps (map plain_step steps) (rows_of sizes.rows))
+    (are_sizes : AreSizes p.preds sizes.rows) (proved : AreProved (any_row n) (rows_of sizes.rows) p.clauses sizes.proofs)
     (fit : (q : ℕ) → All (λ r. row_fits r ≡ true) (rows_of sizes.rows q))
-    (founds : AreFound size_row p comps sizes.rows found) (are : ArePartsOf p comps sizes found parts) (bounded : AreBounded parts)
-    (noted : notes ≡ chain_notes p names (map plain_step steps) ++ support_notes p names comps (given_up found)) where
-  founds_here : AreFound size_row p comps parts.rows found
-  founds_here = subst (λ (rows : List Rows). AreFound size_row p comps rows found) (sym are.rows) founds
+    (founds : AreFound (any_row n) p comps sizes.rows found) (are : ArePartsOf n named p comps sizes found parts) (bounded : AreBounded parts)
+    (noted : notes ≡ chain_notes p names (map plain_step steps) ++ support_notes p names comps (given_up found))
+    (force : n ≡ norm_in names named) where
+  founds_here : AreFound (any_row n) p comps parts.rows found
+  founds_here = subst (λ (rows : List Rows). AreFound (any_row n) p comps rows found) (sym are.rows) founds
 
-  sizes_hold : SizesHold size_row p parts.rows parts.row_proofs
+  sizes_hold : SizesHold (any_row n) p parts.rows parts.row_proofs
   sizes_hold =
-      subst (λ (rows : List Rows). SizesHold size_row p rows parts.row_proofs) (sym are.rows)
-      (subst (λ (proofs : List (List Multipliers)). SizesHold size_row p sizes.rows proofs) (sym are.row_proofs)
-      (chain_sizes_hold size_row p sizes.rows sizes.proofs are_sizes fit proved (subst (AllByRecursion (AllByRecursion AreMultipliersBelow)) are.row_proofs bounded.row_proofs)))
+      subst (λ (rows : List Rows). SizesHold (any_row n) p rows parts.row_proofs) (sym are.rows)
+      (subst (λ (proofs : List (List Multipliers)). SizesHold (any_row n) p sizes.rows proofs) (sym are.row_proofs)
+      (chain_sizes_hold (any_row n) p sizes.rows sizes.proofs are_sizes fit proved (subst (AllByRecursion (AllByRecursion AreMultipliersBelow)) are.row_proofs bounded.row_proofs)
+      (λ q b e. chains_state (all_of fits) (any_row n) p comps (map plain_step steps) (rows_of sizes.rows) program legal q b e)))
 
-  mappings_hold : MappingsHold size_row p comps parts
+  mappings_hold : MappingsHold (any_row n) p comps parts
   mappings_hold = record {
     levels = subst (λ (ls : List (List LevelPart)). AreEach (length p.preds) (λ a l. (length l ≡ mappings_of comps ls a) × AllByRecursion (shape.IsLevel (arity_in p a)) l) ls) (sym are.levels)
-        (levels_shape size_row p comps parts.rows found program components founds_here (subst (AllByRecursion (AllByRecursion IsPartBelow)) are.levels bounded.levels));
+        (levels_shape (any_row n) p comps parts.rows found program components founds_here (subst (AllByRecursion (AllByRecursion IsPartBelow)) are.levels bounded.levels));
     falls =
         subst (λ (ls : List (List LevelPart)).
         AreEach (length p.clauses)
@@ -123,35 +129,43 @@ module _ (p : Listing) (names : List (List ℕ)) (comps : Partition) (sizes : Si
         (subst (λ (fs : List (List (List Multipliers))).
         AreEach (length p.clauses)
         (λ k. AreEach (length (body_of p k)) (λ j. AreEach (proofs_of_call comps (level_list p comps found) (head_of p k) (slice_get (body_of p k) j)) (λ _. shape.AreMultipliers (rows_of_atoms parts.rows (take j (body_of p k)))))) fs) (sym are.falls)
-        (falls_shape size_row p comps parts.rows found program components founds_here (subst (AllByRecursion (AllByRecursion (AllByRecursion AreMultipliersBelow))) are.falls bounded.falls)));
+        (falls_shape (any_row n) p comps parts.rows found program components founds_here (subst (AllByRecursion (AllByRecursion (AllByRecursion AreMultipliersBelow))) are.falls bounded.falls)));
     refutations =
         subst (λ (ls : List (List LevelPart)). AreEach (length p.preds) (shape.IsRefutation p comps ls) parts.refutations) (sym are.levels)
         (subst (λ (rs : List (Option Refutation)). AreEach (length p.preds) (shape.IsRefutation p comps (level_list p comps found)) rs) (sym are.refutations)
-        (refutations_shape size_row p comps parts.rows found program components founds_here is_a_norm.width (subst (AllByRecursion (λ (o : Option Refutation). IfSome o IsRefutationBelow)) are.refutations bounded.refutations)));
-    measures_hold = λ c q inside e. subst (λ (ls : List (List LevelPart)). AllByRecursion IsZero (list_at ls q)) (sym are.levels) (measures_zero size_row p comps parts.rows found program components founds_here c q inside e);
+        (refutations_shape (any_row n) p comps parts.rows found program components founds_here (any_is_a_norm n).width (subst (AllByRecursion (λ (o : Option Refutation). IfSome o IsRefutationBelow)) are.refutations bounded.refutations)));
+    measures_hold = λ c q inside e. subst (λ (ls : List (List LevelPart)). AllByRecursion IsZero (list_at ls q)) (sym are.levels) (measures_zero (any_row n) p comps parts.rows found program components founds_here c q inside e);
     falls_hold = λ k x ek j b ej together.
-        subst (λ (ls : List (List LevelPart)). MappingsFall size_row (short_system size_row (rows_of parts.rows) x.vars (take j x.body)) x b (list_at ls x.head.pred.0) (list_at ls b.pred.0) (list_at (list_at parts.falls k) j)) (sym are.levels)
-        (subst (λ (fs : List (List (List Multipliers))). MappingsFall size_row (short_system size_row (rows_of parts.rows) x.vars (take j x.body)) x b (list_at (level_list p comps found) x.head.pred.0) (list_at (level_list p comps found) b.pred.0) (list_at (list_at fs k) j)) (sym are.falls)
-        (falls_are_shown size_row p comps parts.rows found program components founds_here k x ek j b ej together));
+        subst (λ (ls : List (List LevelPart)). MappingsFall (any_row n) (short_system (any_row n) (rows_of parts.rows) x.vars (take j x.body)) x b (list_at ls x.head.pred.0) (list_at ls b.pred.0) (list_at (list_at parts.falls k) j)) (sym are.levels)
+        (subst (λ (fs : List (List (List Multipliers))). MappingsFall (any_row n) (short_system (any_row n) (rows_of parts.rows) x.vars (take j x.body)) x b (list_at (level_list p comps found) x.head.pred.0) (list_at (level_list p comps found) b.pred.0) (list_at (list_at fs k) j)) (sym are.falls)
+        (falls_are_shown (any_row n) p comps parts.rows found program components founds_here k x ek j b ej together));
     refutations_hold = λ q c r members e inside row.
-        refutations_are_shown size_row p comps parts.rows found program components founds_here is_a_norm.width q c r members (ap (λ (rs : List (Option Refutation)). slice_get rs q) (sym are.refutations) ∙ e) inside row;
+        refutations_are_shown (any_row n) p comps parts.rows found program components founds_here (any_is_a_norm n).width q c r members (ap (λ (rs : List (Option Refutation)). slice_get rs q) (sym are.refutations) ∙ e) inside row;
   }
+
+  -- the norm in force is that of the parts
+  here : n ≡ norm_in names parts.norm
+  here = force ∙ ap (norm_in names) (sym are.norm)
 
   pub assembled : IsAssembled p names comps (record { parts = parts; notes = notes })
   assembled =
       let s = are.sets in
       record {
         are_notes = subst AreNotes (sym noted) (notes_append (chain_notes p names (map plain_step steps)) (support_notes p names comps (given_up found)) (steps_are p names 1 (map plain_step steps)) (supports_are p names comps (given_up found)));
-        counted = parts_are_counted truth p comps parts parts.levels s.first s.last s.grounds s.sets s.lists components s.solved s.spelled;
-        numbers = record { sizes = sizes_hold; mappings = mappings_hold };
+        counted = parts_are_counted (any_truth n) p comps parts parts.levels s.first s.last s.grounds s.sets s.lists components s.solved s.spelled;
+        numbers = subst (λ (m : AnyNorm). NumbersHold (any_row m) p comps parts) here (record { sizes = sizes_hold; mappings = mappings_hold });
         exact = record {
-          modes = modes_are_exact truth p comps parts parts.levels s.first s.last s.grounds s.sets s.lists components s.solved s.spelled;
+          modes = subst (λ (m : AnyNorm). ModesAreExact (any_truth m) p comps parts) here
+              (modes_are_exact (any_truth n) p comps parts parts.levels s.first s.last s.grounds s.sets s.lists components s.solved s.spelled);
           blown = given_up found;
-          components = components_are_exact size_row p comps parts found program components founds_here is_a_norm.width are.levels are.refutations;
+          components = λ c q inside recursive first.
+              subst (λ (m : AnyNorm). ComponentIsExact (any_row m) p comps parts c q (given_up found c)) here
+              (components_are_exact (any_row n) p comps parts found program components founds_here (any_is_a_norm n).width are.levels are.refutations c q inside recursive first);
           steps = chain_notes p names (map plain_step steps);
           chain = record {
             steps = map plain_step steps;
-            legal = subst (λ (rows : List Rows). IsLegalChain (all_of fits) size_row p comps (map plain_step steps) (rows_of rows)) (sym are.rows) legal;
+            legal = subst (λ (m : AnyNorm). IsLegalChain (all_of fits) (any_row m) p comps (map plain_step steps) (rows_of parts.rows)) here
+                (subst (λ (rows : List Rows). IsLegalChain (all_of fits) (any_row n) p comps (map plain_step steps) (rows_of rows)) (sym are.rows) legal);
             are = refl;
           };
           are = noted;

@@ -9,13 +9,16 @@ use Rattle.std.proofs.lemmas.List.Sums.{sum_by-cons}
 use Rattle.certificate.specs.Range.{AreAmounts, AreEntries, IsEntry}
 use Rattle.cert_structure.specs.Numbered.{AreEach}
 use Rattle.cert_structure.specs.Shape as shape
+use Rattle.cti_terms.specs.Arithmetic.{kind_of}
 use Rattle.cti_terms.specs.Listing.{Listing}
 use Rattle.cti_terms.specs.Tree.{Tree}
 use Rattle.cti_terms.specs.declared.atom_list.Atom.{Atom}
+use Rattle.cti_terms.specs.declared.builtins.Builtin.{Builtin}
 use Rattle.cti_terms.specs.declared.clauses.Clause.{Clause}
 use Rattle.cti_terms.specs.declared.predicates.Pred.{Pred}
 use Rattle.exact128.specs.Fits.{Fits, fits}
 use Rattle.exact128.proofs.FitsLemmas.{both, of_fits}
+use Rattle.linear_rows.specs.Members.{In}
 use Rattle.linear_rows.specs.Plain.{HaveWidth, plain_row, plain_rows}
 use Rattle.linear_rows.specs.Replacing.{row_fits}
 use Rattle.linear_rows.specs.Showing.{AreMultipliers, Shows}
@@ -28,10 +31,11 @@ use Rattle.numeric_model.specs.Proved.{AreProved, AreShownOver, IsProved}
 use Rattle.termination_model.proofs.Lists.{by_places, indexed, place_below}
 use Rattle.termination_model.specs.Grounds.{HasArity}
 use Rattle.termination_model.specs.Sizes.{AreSizes, plain_or_none, rows_of}
+use Rattle.termination_model.specs.Stated.{stated_rows}
 use Rattle.termination_model.specs.Systems.{row_over, short_row, short_system, system}
 use Rattle.report.specs.Assembled.{SizesHold}
 use Rattle.report.specs.Ranges.{AreBelow, AreMultipliersBelow}
-use Rattle.report.proofs.ModeLaws.{each_from, there}
+use Rattle.report.proofs.ModeLaws.{each_from, each_in, there}
 
 pub are_each : {X : Type 0} (n : ℕ) (P : ℕ → X → Type 0) (xs : List X) → length xs ≡ n → ((i : ℕ) (x : X) → slice_get xs i ≡ Some x → P i x) → AreEach n P xs
 are_each n P xs count h = record {
@@ -144,7 +148,8 @@ clause_body : (p : Listing) (k : ℕ) (c : Clause) → slice_get p.clauses k ≡
 clause_body p k c e = ap (λ (o : Option Clause). unwrap_or (option_map (λ (x : Clause). x.body) o) []) e
 
 module _ (expression : ℕ → Tree → List ℤ) (p : Listing) (rows : List Rows) (proofs : List (List Multipliers)) (sizes : AreSizes p.preds rows) (fit : (q : ℕ) → All (λ r. row_fits r ≡ true) (rows_of rows q))
-    (proved : AreProved expression (rows_of rows) p.clauses proofs) (below : AllByRecursion (AllByRecursion AreMultipliersBelow) proofs) where
+    (proved : AreProved expression (rows_of rows) p.clauses proofs) (below : AllByRecursion (AllByRecursion AreMultipliersBelow) proofs)
+    (ends : (q : ℕ) (b : Builtin) → kind_of p.arithmetic q ≡ Some b → rows_of rows q ≡ stated_rows b) where
   rows_shape : (q : ℕ) (r : Rows) → slice_get rows q ≡ Some r → (r.width ≡ shape.arity_in p q) × AllByRecursion (shape.IsSizeRow (shape.arity_in p q)) r.list
   rows_shape q r e =
       let w = sizes.width q r e in
@@ -181,5 +186,6 @@ module _ (expression : ℕ → Tree → List ℤ) (p : Listing) (rows : List Row
     shape = are_each (length p.preds) (λ q r. (r.width ≡ shape.arity_in p q) × AllByRecursion (shape.IsSizeRow (shape.arity_in p q)) r.list) rows sizes.each rows_shape;
     proofs_shape = are_each (length p.clauses) (λ k. AreEach (shape.rows_of rows (shape.head_of p k)) (λ _. shape.AreMultipliers (shape.rows_of_atoms rows (shape.body_of p k)))) proofs
         (proved_count expression (rows_of rows) p.clauses proofs proved) proof_shape;
+    stated = λ q b e. subst (λ (rs : List (List ℤ)). AllByRecursion (λ r. In r (stated_rows b)) rs) (sym (ends q b e)) (each_in (λ r. In r (stated_rows b)) (stated_rows b) (λ r h. h));
     hold = keeps;
   }

@@ -269,6 +269,7 @@ module _ (expression : ℕ → Tree → List ℤ) (p : Listing) (comps : Partiti
     refuted = (λ r. is.refuted.0 (refuted_to r), λ h. refuted_from (is.refuted.1 h));
     sets = is.sets;
     once = is.once;
+    apart = λ s i m few part. is.apart s i (printed_support expression p comps parts c m, support_in m few, part);
     given_up = is.given_up;
   }
 

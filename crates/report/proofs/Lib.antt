@@ -14,4 +14,5 @@ pub mod PlaceLaws
 pub mod RefutationLaws
 pub mod RefutedParts
 pub mod SetParts
+pub mod UnnotedLaws
 pub mod ValidParts

@@ -8,7 +8,7 @@ use Rattle.std.proofs.lemmas.List.{length-map}
 use Rattle.std.proofs.lemmas.List.Elements.{All-cons, All-nil}
 use Rattle.std.proofs.lemmas.List.Sums.{sum_by-cons}
 use Rattle.call_components.specs.Partition.{AreComponents, IsIn, Partition}
-use Rattle.call_components.proofs.Lists.{any_here, any_there, some_within}
+use Rattle.call_components.proofs.Lists.{some_within}
 use Rattle.cert_checker.specs.Proved.{IsZero}
 use Rattle.cert_checker.specs.Shape.{AreTogether}
 use Rattle.cert_structure.specs.Numbered.{AreEach}

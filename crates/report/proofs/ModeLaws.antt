@@ -12,9 +12,11 @@ use Rattle.call_components.specs.Partition.{Partition, AreComponents, IsIn}
 use Rattle.cert_structure.specs.Numbered.{AreEach, EachFrom}
 use Rattle.cert_structure.specs.Shape.{arity_in, Ascend, HasWidth, is_same, is_together, IsMode, items_of}
 use Rattle.cert_structure.specs.declared.parts.Parts.{Parts}
+use Rattle.cti_terms.specs.Arithmetic.{kind_of}
 use Rattle.cti_terms.specs.Listing.{Listing, IsProgram, IsClause, IsAtom}
 use Rattle.cti_terms.specs.Tree.{Tree}
 use Rattle.cti_terms.specs.declared.atom_list.Atom.{Atom}
+use Rattle.cti_terms.specs.declared.builtins.Builtin.{Builtin}
 use Rattle.cti_terms.specs.declared.clauses.Clause.{Clause}
 use Rattle.cti_terms.specs.declared.predicates.Pred.{Pred}
 use Rattle.truth_rows.specs.Rules.{KeepsSets}
@@ -33,6 +35,10 @@ use Rattle.precond_fixpoint.proofs.Searching.{by_place}
 from_places : {X : Type 0} (P : X → Type 0) (xs : List X) → ((i : ℕ) (x : X) → slice_get xs i ≡ Some x → P x) → AllByRecursion P xs
 from_places P [] h = tt
 from_places P (y ∷ ys) h = (h 0 y refl, from_places P ys (λ i x e. h (suc i) x e))
+
+pub each_in : {X : Type 0} (P : X → Type 0) (xs : List X) → ((x : X) → In x xs → P x) → AllByRecursion P xs
+each_in P [] h = tt
+each_in P (x ∷ xs) h = (h x (inl refl), each_in P xs (λ y i. h y (inr i)))
 
 pub each_from : {X : Type 0} (P : ℕ → X → Type 0) (k : ℕ) (xs : List X) → ((i : ℕ) (x : X) → slice_get xs i ≡ Some x → P (k + i) x) → EachFrom k P xs
 each_from P k [] h = tt
@@ -135,9 +141,18 @@ module _ (truth : (ℕ → Bool) → Tree → Bool) (p : Listing) (program : IsP
   closed_in : (k : Clause) → IsClause p.preds k → IsClosedUnder truth exact.grounds.family k → IsClosedUnder truth (grounds_of p parts) k
   closed_in k is h v body = both_ways _ _ (sym (ground_is k.vars v k.head is.head)) (h v (body_grounds k.vars v k.body is.body body))
 
+  -- a built-in predicate's ground rows have the row of two rigid arguments
+  builtin_row : (q : ℕ) (b : Builtin) → kind_of p.arithmetic q ≡ Some b → IsTrue (grounds_of p parts q (true ∷ (true ∷ [])))
+  builtin_row q b e =
+      both_ways _ _ (sym (spelled_row p q (items_of parts.grounds q) (exact.grounds.family q) (true ∷ (true ∷ [])) (exact.grounds.spelled q) (program.binary q b e)))
+      (exact.grounds.least.closed.builtins q b e)
+
   closed : IsClosed truth p (grounds_of p parts)
-  closed = from_places (IsClosedUnder truth (grounds_of p parts)) p.clauses
-      (λ i k e. closed_in k (by_place (IsClause p.preds) p.clauses program.clauses i k e) (by_place (IsClosedUnder truth exact.grounds.family) p.clauses exact.grounds.least.closed i k e))
+  closed = record {
+    clauses = from_places (IsClosedUnder truth (grounds_of p parts)) p.clauses
+        (λ i k e. closed_in k (by_place (IsClause p.preds) p.clauses program.clauses i k e) (by_place (IsClosedUnder truth exact.grounds.family) p.clauses exact.grounds.least.closed.clauses i k e));
+    builtins = builtin_row;
+  }
 
   -- ---- preconditions
   in_component : (q : ℕ) (d : Pred) → slice_get p.preds q ≡ Some d → (c : ℕ) × IsIn comps c q
@@ -261,10 +276,6 @@ module _ (truth : (ℕ → Bool) → Tree → Bool) (p : Listing) (program : IsP
       let two = of-filter (λ args. set (mode_row args 1 n)) (chosen_up_to n n) mode one.0 in
       let is = up_to_set n n mode two.0 in
       ((mode_ascends 0 (suc n) mode is, mode_below 1 n mode is), two.1)
-
-  each_in : {X : Type 0} (P : X → Type 0) (xs : List X) → ((x : X) → In x xs → P x) → AllByRecursion P xs
-  each_in P [] h = tt
-  each_in P (x ∷ xs) h = (h x (inl refl), each_in P xs (λ y i. h y (inr i)))
 
   modes_at : (q : ℕ) (d : Pred) → slice_get p.preds q ≡ Some d → AllByRecursion (λ mode. IsMode (arity_in p q) mode × IsTrue (allowed p parts q (mode_row mode 1 (arity_in p q)))) (items_of parts.modes q)
   modes_at q d at =

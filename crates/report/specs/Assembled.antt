@@ -10,23 +10,27 @@ use Rattle.cert_structure.specs.Order.{listed}
 use Rattle.cert_structure.specs.Shape.{arity_in, AreMultipliers, body_of, head_of, IsLevel, IsRefutation, IsSizeRow, mappings_of, proofs_of_call, rows_of, rows_of_atoms}
 use Rattle.cert_structure.specs.Structure.{AreNotes}
 use Rattle.cert_structure.specs.declared.parts.Parts.{Parts}
+use Rattle.cert_checker.specs.Norms.{norm_in}
 use Rattle.cert_checker.specs.Proved.{FallsHold, MeasuresAreZero}
 use Rattle.cert_checker.specs.Refuting.{RefutationsHold}
 use Rattle.cert_checker.specs.Valid.{IsValid}
 use Rattle.cti_terms.specs.Listing.{Listing, IsProgram}
-use Rattle.cti_terms.specs.Tree.{Tree, truth}
+use Rattle.cti_terms.specs.Tree.{Tree}
 use Rattle.cti_terms.specs.declared.clauses.Clause.{Clause}
 use Rattle.linear_rows.specs.declared.multipliers.Multipliers.{Multipliers}
 use Rattle.linear_rows.specs.declared.row.Rows.{Rows}
 use Rattle.number_tests.specs.Proved.{RowsAreKept}
 use Rattle.number_tests.specs.Shape.{list_at}
-use Rattle.term_size.specs.Occurrences.{size_row}
+use Rattle.term_size.specs.AnyNorm.{any_row, any_truth}
+use Rattle.termination_model.specs.Sizes.{rows_of as size_rows_of}
+use Rattle.termination_model.specs.Stated.{AreStated}
 use Rattle.report.specs.ExactModes.{AreCounted, ModesAreExact}
 
--- what the model of sizes gives: the shape of its parts, and that its numbers hold
+-- what the model of sizes gives: the shape of its parts, that built-in predicates have their stated rows, and that its numbers hold
 pub record SizesHold (expression : ℕ → Tree → List ℤ) (p : Listing) (rows : List Rows) (proofs : List (List Multipliers)) : Type 0 where
   pub shape : AreEach (length p.preds) (λ a r. (r.width ≡ arity_in p a) × AllByRecursion (IsSizeRow (arity_in p a)) r.list) rows
   pub proofs_shape : AreEach (length p.clauses) (λ k. AreEach (rows_of rows (head_of p k)) (λ _. AreMultipliers (rows_of_atoms rows (body_of p k)))) proofs
+  pub stated : AreStated p.arithmetic (size_rows_of rows)
   pub hold : (k : ℕ) (c : Clause) → slice_get p.clauses k ≡ Some c → RowsAreKept expression rows c (list_at proofs k)
 
 -- what the search for mappings gives
@@ -45,8 +49,9 @@ pub record NumbersHold (expression : ℕ → Tree → List ℤ) (p : Listing) (c
   pub sizes : SizesHold expression p parts.rows parts.row_proofs
   pub mappings : MappingsHold expression p comps parts
 
--- the facts of such parts are a valid certificate, with any notes
+-- the facts of such parts, by the norm that they name, are a valid certificate, with any notes
 abbrev pub PartsAreValid : Type 0
 PartsAreValid = (p : Listing) (names : List (List ℕ)) (comps : Partition) (parts : Parts) (notes : List Fact)
-    → IsProgram p → AreComponents p comps → AreNotes notes → AreCounted p comps parts → NumbersHold size_row p comps parts → ModesAreExact truth p comps parts
+    → IsProgram p → AreComponents p comps → AreNotes notes → AreCounted p comps parts
+    → NumbersHold (any_row (norm_in names parts.norm)) p comps parts → ModesAreExact (any_truth (norm_in names parts.norm)) p comps parts
     → IsValid p names (listed p names parts notes)

@@ -2,25 +2,35 @@
 -- How the parts of a certificate come from what the engines give.
 --
 -- Nothing here has to be believed.
-use Rattle.std.specs.Prelude.{◌≡◌, ◌<◌, ℕ, ℤ, Bool, true, List, length, slice_get, Option, Some, IfSome}
+use Rattle.std.specs.Prelude.{◌≡◌, ◌<◌, ℕ, ℤ, Bool, true, List, All, length, map, slice_get, Option, Some, IfSome}
 use Rattle.std.specs.List.{AllByRecursion}
 use Rattle.bool_diagrams.specs.Tree.{Tree as Rows}
 use Rattle.bool_diagrams.specs.declared.diagram.Diagram.{Diagram}
 use Rattle.call_components.specs.Partition.{Partition}
+use Rattle.cert_checker.specs.Norms.{norm_in}
 use Rattle.cert_structure.specs.Structure.{AreNotes}
 use Rattle.cert_structure.specs.declared.parts.Parts.{Parts}
+use Rattle.certificate.specs.declared.norm.CertNorm.{CertNorm}
 use Rattle.cti_terms.specs.Listing.{Listing}
-use Rattle.cti_terms.specs.Tree.{Tree, truth}
+use Rattle.cti_terms.specs.Tree.{Tree}
 use Rattle.level_systems.specs.Found.{IsFound}
 use Rattle.level_systems.specs.declared.found.Found.{Found}
+use Rattle.exact128.specs.Fits.{fits}
+use Rattle.linear_rows.specs.Blown.{all_of}
+use Rattle.linear_rows.specs.Replacing.{row_fits}
 use Rattle.linear_rows.specs.declared.row.Rows.{Rows as SizeRows}
 use Rattle.number_tests.specs.declared.level_part.LevelPart.{LevelPart}
 use Rattle.number_tests.specs.declared.refutation.Refutation.{Refutation}
+use Rattle.numeric_model.specs.Proved.{AreProved}
+use Rattle.numeric_model.specs.States.{plain_step}
+use Rattle.numeric_model.specs.declared.chain.Chain.{Chain}
 use Rattle.precond_fixpoint.specs.Solving.{AreLevels, AreMappingSets, AreModes, IsSolved, allowed_family}
 use Rattle.precond_fixpoint.specs.declared.mode.Mode.{Mode}
-use Rattle.term_size.specs.Occurrences.{size_row}
+use Rattle.term_size.specs.AnyNorm.{any_row, any_truth}
+use Rattle.term_size.specs.declared.any_norm.AnyNorm.{AnyNorm}
+use Rattle.termination_model.specs.Chain.{IsLegalChain}
 use Rattle.termination_model.specs.Grounds.{IsLeast}
-use Rattle.termination_model.specs.Sizes.{rows_of}
+use Rattle.termination_model.specs.Sizes.{AreSizes, rows_of}
 use Rattle.termination_model.specs.declared.sizes.Sizes.{Sizes}
 use Rattle.truth_rows.specs.Sets.{AreSets, family_of}
 use Rattle.report.specs.Assembled.{NumbersHold}
@@ -30,6 +40,13 @@ use Rattle.report.specs.Levels.{fall_list, level_list, refutation_list}
 use Rattle.report.specs.Ranges.{AreMultipliersBelow, IsPartBelow, IsRefutationBelow}
 use Rattle.report.specs.Spelled.{mode_lists, spelled_list, spelled_lists}
 use Rattle.report.specs.declared.assembling.Assembled.{Assembled}
+
+-- a chain as the model of sizes gives it
+pub record IsSolvedChain (expression : ℕ → Tree → List ℤ) (p : Listing) (comps : Partition) (chain : Chain) : Type 0 where
+  pub legal : IsLegalChain (all_of fits) expression p comps (map plain_step chain.steps) (rows_of chain.sizes.rows)
+  pub sizes : AreSizes p.preds chain.sizes.rows
+  pub proofs : AreProved expression (rows_of chain.sizes.rows) p.clauses chain.sizes.proofs
+  pub fits : (q : ℕ) → All (λ r. row_fits r ≡ true) (rows_of chain.sizes.rows q)
 
 -- what is found of each recursive component
 pub record AreFound (expression : ℕ → Tree → List ℤ) (p : Listing) (comps : Partition) (rows : List SizeRows) (found : List Found) : Type 0 where
@@ -53,7 +70,7 @@ pub record PartsAreSpelled (p : Listing) (parts : Parts) (levels : List (List Le
   pub modes_are : parts.modes ≡ mode_lists lists
 
 -- the parts that sets of truth rows give, of tables that the engines made
-pub record HaveSets (p : Listing) (comps : Partition) (parts : Parts) : Type 0 where
+pub record HaveSets (truth : (ℕ → Bool) → Tree → Bool) (p : Listing) (comps : Partition) (parts : Parts) : Type 0 where
   pub first : List Rows
   pub last : List Rows
   pub grounds : List Diagram
@@ -63,7 +80,7 @@ pub record HaveSets (p : Listing) (comps : Partition) (parts : Parts) : Type 0 w
   pub spelled : PartsAreSpelled p parts parts.levels first last grounds sets lists
 
 -- the parts that preconditions and modes give, above these ground rows of the first table
-pub record HavePreconditions (p : Listing) (comps : Partition) (first last : List Rows) (grounds : List Diagram) (levels : List (List LevelPart)) (parts : Parts) : Type 0 where
+pub record HavePreconditions (truth : (ℕ → Bool) → Tree → Bool) (p : Listing) (comps : Partition) (first last : List Rows) (grounds : List Diagram) (levels : List (List LevelPart)) (parts : Parts) : Type 0 where
   pub sets : List (List Diagram)
   pub lists : List (List Mode)
   pub mapping_sets : AreMappingSets p.preds last sets
@@ -75,6 +92,7 @@ pub record HavePreconditions (p : Listing) (comps : Partition) (first last : Lis
 -- the parts with other size rows, and with other mappings
 abbrev pub with_sizes : Sizes → Parts → Parts
 with_sizes sizes parts = record {
+  norm = parts.norm;
   modes = parts.modes;
   rows = sizes.rows;
   row_proofs = sizes.proofs;
@@ -87,6 +105,7 @@ with_sizes sizes parts = record {
 
 abbrev pub with_mappings : Listing → Partition → List Found → Parts → Parts
 with_mappings p comps found parts = record {
+  norm = parts.norm;
   modes = parts.modes;
   rows = parts.rows;
   row_proofs = parts.row_proofs;
@@ -97,22 +116,24 @@ with_mappings p comps found parts = record {
   refutations = refutation_list p comps found;
 }
 
--- the parts but for those that sets of truth rows give
+-- the norm and the parts but for those that sets of truth rows give
 pub record KeepsNumbers (old new : Parts) : Type 0 where
+  pub norm : new.norm ≡ old.norm
   pub rows : new.rows ≡ old.rows
   pub row_proofs : new.row_proofs ≡ old.row_proofs
   pub levels : new.levels ≡ old.levels
   pub falls : new.falls ≡ old.falls
   pub refutations : new.refutations ≡ old.refutations
 
--- the parts of what the model of sizes and the search for mappings give
-pub record ArePartsOf (p : Listing) (comps : Partition) (sizes : Sizes) (found : List Found) (parts : Parts) : Type 0 where
+-- the parts of what the model of sizes and the search for mappings give, under a norm that is named so
+pub record ArePartsOf (n : AnyNorm) (named : Option CertNorm) (p : Listing) (comps : Partition) (sizes : Sizes) (found : List Found) (parts : Parts) : Type 0 where
+  pub norm : parts.norm ≡ named
   pub rows : parts.rows ≡ sizes.rows
   pub row_proofs : parts.row_proofs ≡ sizes.proofs
   pub levels : parts.levels ≡ level_list p comps found
   pub falls : parts.falls ≡ fall_list p comps found
   pub refutations : parts.refutations ≡ refutation_list p comps found
-  pub sets : HaveSets p comps parts
+  pub sets : HaveSets (any_truth n) p comps parts
 
 -- all numbers are below 2^127
 pub record AreBounded (parts : Parts) : Type 0 where
@@ -125,5 +146,5 @@ pub record AreBounded (parts : Parts) : Type 0 where
 pub record IsAssembled (p : Listing) (names : List (List ℕ)) (comps : Partition) (a : Assembled) : Type 0 where
   pub are_notes : AreNotes a.notes
   pub counted : AreCounted p comps a.parts
-  pub numbers : NumbersHold size_row p comps a.parts
+  pub numbers : NumbersHold (any_row (norm_in names a.parts.norm)) p comps a.parts
   pub exact : IsExactOf p names comps a.parts a.notes

@@ -2,17 +2,19 @@
 -- When a certificate of a program is exact: it says the most that may be said by its method.
 --
 -- Its size rows come from a legal chain, whose steps it notes; its ground rows, preconditions and modes are exact; each
--- component has all mappings with minimal supports, or a refutation; and what was given up is noted.
+-- component has all mappings with minimal supports, or a refutation; and what was given up is noted. All of this is by
+-- the norm that the certificate names.
 --
 -- To believe: all of this file, over ChainNotes.antt, SupportNotes.antt, ExactModes.antt and ExactMappings.antt.
-use Rattle.std.specs.Prelude.{◌≡◌, ◌≤◌, ◌<◌, ℕ, suc, ℤ, IsTrue, List, ◌++◌, length, slice_get, Some, ◌⊎◌, ◌↔◌}
+use Rattle.std.specs.Prelude.{◌≡◌, ◌≤◌, ◌<◌, ℕ, suc, ℤ, true, IsTrue, List, ◌++◌, length, slice_get, Some, ◌⊎◌, ◌↔◌}
 use Rattle.call_components.specs.Partition.{Partition, AreComponents, IsIn}
+use Rattle.cert_checker.specs.Norms.{norm_in}
 use Rattle.certificate.specs.declared.fact.Fact.{Fact}
 use Rattle.cert_structure.specs.Shape.{first_of, is_recursive, items_of}
 use Rattle.cert_structure.specs.Structure.{IsStructured}
 use Rattle.cert_structure.specs.declared.parts.Parts.{Parts}
 use Rattle.cti_terms.specs.Listing.{Listing}
-use Rattle.cti_terms.specs.Tree.{Tree, truth}
+use Rattle.cti_terms.specs.Tree.{Tree}
 use Rattle.exact128.specs.Fits.{fits}
 use Rattle.level_systems.specs.Found.{without}
 use Rattle.level_systems.specs.Subsequences.{AreOnce}
@@ -20,11 +22,12 @@ use Rattle.linear_rows.specs.Members.{In}
 use Rattle.linear_rows.specs.Step.{columns}
 use Rattle.number_tests.specs.declared.refutation.Refutation.{Refutation}
 use Rattle.linear_rows.specs.Blown.{all_of}
-use Rattle.term_size.specs.Occurrences.{size_row}
+use Rattle.term_size.specs.AnyNorm.{any_row, any_truth}
 use Rattle.termination_model.specs.BlownSupports.{IsBlownAt}
 use Rattle.termination_model.specs.ComponentViews.{no_truth, positions_in}
 use Rattle.termination_model.specs.Excluding.{IsAt}
 use Rattle.termination_model.specs.Minimal.{IsExcluded, IsSet}
+use Rattle.termination_model.specs.Modes.{is_part}
 use Rattle.termination_model.specs.Ready.{arity_in}
 use Rattle.termination_model.specs.Refutation.{Decreases}
 use Rattle.termination_model.specs.Supports.{picked_from}
@@ -61,15 +64,17 @@ module _ (expression : ℕ → Tree → List ℤ) (p : Listing) (comps : Partiti
     -- what was given up are sets of positions. Each stands once, and is blown: elimination is, or a number does not fit in the check of what it finds
     pub sets : (s : List ℕ) → In s blown → IsSet 1 (suc (length (positions_in p comps c))) s
     pub once : AreOnce blown
+    -- no such set is above the support of a printed mapping
+    pub apart : (s : List ℕ) → In s blown → (m : ℕ) → m < length (items_of parts.levels q) → is_part (printed_support expression p comps parts c m) s ≡ true → ⊥
     pub given_up : (s : List ℕ) → In s blown → IsBlownAt no_truth expression (view expression p comps parts c) (arity_in p) (picked_from 1 (positions_in p comps c) s)
 
 -- the parts and the notes are exact
 pub record IsExactOf (p : Listing) (names : List (List ℕ)) (comps : Partition) (parts : Parts) (notes : List Fact) : Type 0 where
-  pub modes : ModesAreExact truth p comps parts
+  pub modes : ModesAreExact (any_truth (norm_in names parts.norm)) p comps parts
   pub blown : ℕ → List (List ℕ)
-  pub components : (c q : ℕ) → IsIn comps c q → IsTrue (is_recursive comps q) → first_of comps q ≡ q → ComponentIsExact size_row p comps parts c q (blown c)
+  pub components : (c q : ℕ) → IsIn comps c q → IsTrue (is_recursive comps q) → first_of comps q ≡ q → ComponentIsExact (any_row (norm_in names parts.norm)) p comps parts c q (blown c)
   pub steps : List Fact
-  pub chain : IsChain (all_of fits) size_row p comps names parts.rows steps
+  pub chain : IsChain (all_of fits) (any_row (norm_in names parts.norm)) p comps names parts.rows steps
   pub are : notes ≡ steps ++ support_notes p names comps blown
 
 -- the facts are those of parts that are exact

@@ -6,7 +6,9 @@ pub mod ExactMappings
 pub mod ExactModes
 pub mod Generated
 pub mod Levels
+pub mod OfNorm
 pub mod Ranges
 pub mod Refuted
 pub mod Spelled
 pub mod SupportNotes
+pub mod Unnoted

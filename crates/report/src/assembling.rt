@@ -2,15 +2,17 @@
 
 ghost use Rattle.std.specs.Prelude.{◌≡◌, ◌<◌, ◌++◌, IfOk, OnOk, Some, length, map, slice_get, true};
 ghost use Rattle.call_components.specs.Partition.{AreComponents};
+ghost use Rattle.cert_checker.specs.Norms.{norm_in};
 ghost use Rattle.cert_structure.specs.Order.{listed};
 ghost use Rattle.level_systems.specs.Found.{IsFound};
 ghost use Rattle.numeric_model.specs.States.{plain_step};
 ghost use Rattle.precond_fixpoint.specs.Solving.{AreLevels};
-ghost use Rattle.report.specs.Assembly.{AreBounded, AreFound, ArePartsOf, HavePreconditions, HaveSets, IsAssembled, KeepsNumbers, with_mappings, with_sizes};
+ghost use Rattle.report.specs.Assembly.{AreBounded, AreFound, ArePartsOf, HavePreconditions, HaveSets, IsAssembled, IsSolvedChain, KeepsNumbers, with_mappings, with_sizes};
 ghost use Rattle.report.specs.ChainNotes.{chain_notes};
 ghost use Rattle.report.specs.Levels.{given_up};
+ghost use Rattle.report.specs.OfNorm.{certificate_norm};
 ghost use Rattle.report.specs.SupportNotes.{support_notes};
-ghost use Rattle.term_size.specs.Occurrences.{size_row};
+ghost use Rattle.term_size.specs.AnyNorm.{any_row, any_truth};
 ghost use Rattle.termination_model.specs.Sizes.{AreSizes, rows_of};
 ghost use Rattle.truth_rows.specs.Sets.{AreSets};
 
@@ -22,17 +24,18 @@ use crate::sets::{mode_lists, spelled_list, spelled_lists};
 use crate::support_notes::Described;
 use bool_diagrams::{Diagram, Table};
 use call_components::Components;
+use cert_checker::norm_of;
 use cert_structure::Parts;
 use cert_writing::facts_of;
-use certificate::{Certificate, Fact};
+use certificate::{CertNorm, Certificate, Fact};
 use cti_terms::{Names, Program};
 use level_dual::Found;
-use numeric_model::Step;
+use numeric_model::{Chain, Step};
 use polyhedra::Poly;
 use precond_fixpoint::solve_levels;
 use sequences::Sequence;
 use std::alloc::{AllocError, Global};
-use term_size::TermSize;
+use term_size::{AnyNorm, NormName};
 use termination_model::{SizeRows, Sizes};
 
 /// What a certificate is made of: its parts, and the notes after their facts.
@@ -72,46 +75,12 @@ fn nothing(alloc: Global) -> Found {
     }
 }
 
-/// What is found of a component's mappings: nothing, where it is not recursive.
-fn find(
-    alloc: Global,
-    p: &Program,
-    comps: &Components,
-    c: u32,
-    sizes: &Sizes,
-) -> Result<Found, AllocError>
-    requires components { AreComponents p.now comps.now }
-    requires inner { c < length comps.now.members }
-    requires sizes { AreSizes p.now.preds sizes.now.rows }
-    ensures { IfOk result (λ f. slice_get comps.now.recursive c ≡ Some true → IsFound size_row p.now comps.now (rows_of sizes.now.rows) c f) }
+/// No parts, of a certificate that names its norm so.
+fn no_parts(alloc: Global, norm: Option<CertNorm>) -> Parts
+    ensures { result.norm ≡ norm }
 {
-    if !comps.recursive(c) {
-        return Ok(nothing(alloc));
-    }
-    level_dual::mappings(alloc, p, comps, c, &TermSize, sizes)
-}
-
-/// What is found of the mappings of each component.
-fn find_all(
-    alloc: Global,
-    p: &Program,
-    comps: &Components,
-    sizes: &Sizes,
-) -> Result<Sequence<Found>, AllocError>
-    requires components { AreComponents p.now comps.now }
-    requires sizes { AreSizes p.now.preds sizes.now.rows }
-    ensures { IfOk result (AreFound size_row p.now comps.now sizes.now.rows) }
-{
-    let mut found = Sequence::new(alloc);
-    for c in 0..comps.count() {
-        found.push(find(alloc, p, comps, c, sizes)?)?;
-    }
-    Ok(found)
-}
-
-/// No parts.
-fn no_parts(alloc: Global) -> Parts {
     Parts {
+        norm,
         modes: Sequence::new(alloc),
         rows: SizeRows::new(alloc),
         row_proofs: Sequence::new(alloc),
@@ -151,72 +120,127 @@ fn put_mappings(
     Ok(())
 }
 
-/// Puts in the preconditions for the mappings, and the modes, above these ground rows.
-fn put_preconditions(
-    alloc: Global,
-    p: &Program,
-    comps: &Components,
-    table: &mut Table,
-    grounds: &[Diagram],
-    parts: &mut Parts,
-) -> Result<(), AllocError>
-    requires components { AreComponents p.now comps.now }
-    requires grounds { AreSets p.now.preds table.old grounds.now }
-    requires levels { AreLevels p.now comps.now parts.old.levels }
-    ensures numbers { OnOk result (KeepsNumbers parts.old parts.new) }
-    ensures grounds { OnOk result (parts.new.grounds ≡ parts.old.grounds) }
-    ensures preconditions { OnOk result (HavePreconditions p.now comps.now table.old table.new grounds.now parts.old.levels parts.new) }
-{
-    let pre = solve_levels(
-        alloc,
-        p,
-        comps,
-        &TermSize,
-        table,
-        grounds,
-        parts.levels.as_slice(),
-    )?;
-    parts.preconditions = spelled_lists(alloc, p, table, pre.sets.as_slice())?;
-    parts.modes = mode_lists(alloc, pre.modes.as_slice())?;
-    Ok(())
+/// A program by its components, and the norm of its terms.
+#[derive(Clone, Copy)]
+struct Measured<'a> {
+    p: &'a Program,
+    comps: &'a Components,
+    norm: AnyNorm,
 }
 
-/// Puts in the ground rows, the preconditions for the mappings, and the modes.
-fn put_sets(
-    alloc: Global,
-    p: &Program,
-    comps: &Components,
-    parts: &mut Parts,
-) -> Result<(), AllocError>
-    requires components { AreComponents p.now comps.now }
-    requires levels { AreLevels p.now comps.now parts.old.levels }
-    ensures numbers { OnOk result (KeepsNumbers parts.old parts.new) }
-    ensures sets { OnOk result (HaveSets p.now comps.now parts.new) }
-{
-    let mut table = Table::new(alloc)?;
-    let grounds = groundness::solve(alloc, p, comps, &TermSize, &mut table)?;
-    parts.grounds = spelled_list(alloc, p, &table, grounds.as_slice())?;
-    put_preconditions(alloc, p, comps, &mut table, grounds.as_slice(), parts)
-}
+impl Measured<'_> {
+    /// What is found of a component's mappings: nothing, where it is not recursive.
+    fn find(&self, alloc: Global, c: u32, sizes: &Sizes) -> Result<Found, AllocError>
+        requires components { AreComponents self.now.p.now self.now.comps.now }
+        requires inner { c < length self.now.comps.now.members }
+        requires sizes { AreSizes self.now.p.now.preds sizes.now.rows }
+        ensures { IfOk result (λ f. slice_get self.now.comps.now.recursive c ≡ Some true
+            → IsFound (any_row self.now.norm) self.now.p.now self.now.comps.now (rows_of sizes.now.rows) c f) }
+    {
+        if !self.comps.recursive(c) {
+            return Ok(nothing(alloc));
+        }
+        level_dual::mappings(alloc, self.p, self.comps, c, &self.norm, sizes)
+    }
 
-/// The parts of a certificate, of what the model of sizes and the search for mappings give.
-fn parts_of(
-    alloc: Global,
-    p: &Program,
-    comps: &Components,
-    sizes: &Sizes,
-    found: &[Found],
-) -> Result<Parts, AllocError>
-    requires components { AreComponents p.now comps.now }
-    requires found { AreFound size_row p.now comps.now sizes.now.rows found.now }
-    ensures { IfOk result (ArePartsOf p.now comps.now sizes.now found.now) }
-{
-    let _program = p.preds();
-    let mut parts = no_parts(alloc);
-    put_sizes(alloc, sizes, &mut parts)?;
-    put_mappings(alloc, p, comps, found, &mut parts)?;
-    put_sets(alloc, p, comps, &mut parts)?;
-    Ok(parts)
+    /// What is found of the mappings of each component.
+    fn find_all(&self, alloc: Global, sizes: &Sizes) -> Result<Sequence<Found>, AllocError>
+        requires components { AreComponents self.now.p.now self.now.comps.now }
+        requires sizes { AreSizes self.now.p.now.preds sizes.now.rows }
+        ensures { IfOk result (AreFound (any_row self.now.norm) self.now.p.now self.now.comps.now sizes.now.rows) }
+    {
+        let mut found = Sequence::new(alloc);
+        for c in 0..self.comps.count() {
+            found.push(self.find(alloc, c, sizes)?)?;
+        }
+        Ok(found)
+    }
+
+    /// Puts in the preconditions for the mappings, and the modes, above these ground rows.
+    fn put_preconditions(
+        &self,
+        alloc: Global,
+        table: &mut Table,
+        grounds: &[Diagram],
+        parts: &mut Parts,
+    ) -> Result<(), AllocError>
+        requires components { AreComponents self.now.p.now self.now.comps.now }
+        requires grounds { AreSets self.now.p.now.preds table.old grounds.now }
+        requires levels { AreLevels self.now.p.now self.now.comps.now parts.old.levels }
+        ensures numbers { OnOk result (KeepsNumbers parts.old parts.new) }
+        ensures grounds { OnOk result (parts.new.grounds ≡ parts.old.grounds) }
+        ensures preconditions { OnOk result (HavePreconditions (any_truth self.now.norm) self.now.p.now self.now.comps.now
+            table.old table.new grounds.now parts.old.levels parts.new) }
+    {
+        let pre = solve_levels(
+            alloc,
+            self.p,
+            self.comps,
+            &self.norm,
+            table,
+            grounds,
+            parts.levels.as_slice(),
+        )?;
+        parts.preconditions = spelled_lists(alloc, self.p, table, pre.sets.as_slice())?;
+        parts.modes = mode_lists(alloc, pre.modes.as_slice())?;
+        Ok(())
+    }
+
+    /// Puts in the ground rows, the preconditions for the mappings, and the modes.
+    fn put_sets(&self, alloc: Global, parts: &mut Parts) -> Result<(), AllocError>
+        requires components { AreComponents self.now.p.now self.now.comps.now }
+        requires levels { AreLevels self.now.p.now self.now.comps.now parts.old.levels }
+        ensures numbers { OnOk result (KeepsNumbers parts.old parts.new) }
+        ensures sets { OnOk result (HaveSets (any_truth self.now.norm) self.now.p.now self.now.comps.now parts.new) }
+    {
+        let mut table = Table::new(alloc)?;
+        let grounds = groundness::solve(alloc, self.p, self.comps, &self.norm, &mut table)?;
+        parts.grounds = spelled_list(alloc, self.p, &table, grounds.as_slice())?;
+        self.put_preconditions(alloc, &mut table, grounds.as_slice(), parts)
+    }
+
+    /// The parts of a certificate that names its norm so, of what the model of sizes and the search for mappings give.
+    fn parts_of(
+        &self,
+        alloc: Global,
+        named: Option<CertNorm>,
+        sizes: &Sizes,
+        found: &[Found],
+    ) -> Result<Parts, AllocError>
+        requires components { AreComponents self.now.p.now self.now.comps.now }
+        requires found { AreFound (any_row self.now.norm) self.now.p.now self.now.comps.now sizes.now.rows found.now }
+        ensures { IfOk result (ArePartsOf self.now.norm named self.now.p.now self.now.comps.now sizes.now found.now) }
+    {
+        let _program = self.p.preds();
+        let mut parts = no_parts(alloc, named);
+        put_sizes(alloc, sizes, &mut parts)?;
+        put_mappings(alloc, self.p, self.comps, found, &mut parts)?;
+        self.put_sets(alloc, &mut parts)?;
+        Ok(parts)
+    }
+
+    /// The parts and the notes of a certificate that names its norm so, over the size rows of a chain.
+    fn assembled(
+        &self,
+        alloc: Global,
+        names: &Names,
+        named: Option<CertNorm>,
+        chain: &Chain,
+    ) -> Result<Assembled, AllocError>
+        requires components { AreComponents self.now.p.now self.now.comps.now }
+        requires norm { self.now.norm ≡ norm_in names.now named }
+        requires chain { IsSolvedChain (any_row self.now.norm) self.now.p.now self.now.comps.now chain.now }
+        ensures assembled { IfOk result (IsAssembled self.now.p.now names.now self.now.comps.now) }
+        ensures norm { IfOk result (λ a. a.parts.norm ≡ named) }
+    {
+        let _program = self.p.preds();
+        let found = self.find_all(alloc, &chain.sizes)?;
+        let parts = self.parts_of(alloc, named, &chain.sizes, found.as_slice())?;
+        are_bounded(&parts);
+        let steps = chain.steps.as_slice();
+        let notes = notes_of(alloc, self.p, names, self.comps, steps, found.as_slice())?;
+        Ok(Assembled { parts, notes })
+    }
 }
 
 /// Says that the numbers of parts are below 2^127.
@@ -248,28 +272,31 @@ fn notes_of(
     Ok(notes)
 }
 
-/// The parts and the notes of a program's certificate.
+/// The norm as a certificate names it: not at all where it is term size.
+fn certificate_norm(norm: NormName) -> Option<CertNorm>
+    ensures { result ≡ certificate_norm norm }
+{
+    match norm {
+        NormName::Term => None,
+        NormName::List => Some(CertNorm::List),
+    }
+}
+
+/// The parts and the notes of a program's certificate, by the norm that was asked for.
 pub(crate) fn assemble(
     alloc: Global,
     p: &Program,
     names: &Names,
     comps: &Components,
+    norm: NormName,
 ) -> Result<Assembled, AllocError>
     requires components { AreComponents p.now comps.now }
-    ensures { IfOk result (IsAssembled p.now names.now comps.now) }
+    ensures assembled { IfOk result (IsAssembled p.now names.now comps.now) }
+    ensures norm { IfOk result (λ a. a.parts.norm ≡ certificate_norm norm) }
 {
     let _program = p.preds();
-    let chain = numeric_model::solve::<Poly, TermSize>(alloc, p, comps, &TermSize)?;
-    let found = find_all(alloc, p, comps, &chain.sizes)?;
-    let parts = parts_of(alloc, p, comps, &chain.sizes, found.as_slice())?;
-    are_bounded(&parts);
-    let notes = notes_of(
-        alloc,
-        p,
-        names,
-        comps,
-        chain.steps.as_slice(),
-        found.as_slice(),
-    )?;
-    Ok(Assembled { parts, notes })
+    let named = certificate_norm(norm);
+    let norm = norm_of(names, named);
+    let chain = numeric_model::solve::<Poly, AnyNorm>(alloc, p, comps, &norm)?;
+    Measured { p, comps, norm }.assembled(alloc, names, named, &chain)
 }

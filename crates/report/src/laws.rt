@@ -9,6 +9,7 @@ ghost use Rattle.report.specs.Assembled.{PartsAreValid};
 ghost use Rattle.report.specs.ExactMappings.{BestModes, BestOverMappings};
 ghost use Rattle.report.specs.ExactModes.{ExactModesHold};
 ghost use Rattle.report.specs.Refuted.{RefutationsAreShown};
+ghost use Rattle.report.specs.Unnoted.{UnnotedAreBest};
 
 /// Exact modes hold.
 pub fn exact_modes_hold()
@@ -21,6 +22,12 @@ pub fn exact_modes_are_best()
         → BestOverMappings expression p comps parts truth }
     ensures modes { (truth : (ℕ → Bool) → Tree → Bool) (expression : ℕ → Tree → List ℤ) (p : Listing) (comps : Partition) (parts : Parts)
         → BestModes expression p comps parts truth }
+{}
+
+/// Where no note of an exact certificate says that something of a component was given up, the component's modes are the best over
+/// all its linear mappings.
+pub fn unnoted_modes_are_best()
+    ensures { UnnotedAreBest }
 {}
 
 /// Parts whose numbers hold and whose modes are exact are those of a valid certificate.

@@ -1,6 +1,6 @@
-use Rattle.std.proofs.Common.{◌+◌, ◌++◌, ℕ, List, ap, sym, ◌∙◌, length, subst, ◌≤◌, arith}
-use Rattle.report.specs.Generated.{generated, predicate}
-use Rattle.report.proofs.GeneratedLaws.{one_more, generated_short}
+use Rattle.std.proofs.Common.{◌+◌, ◌++◌, ℕ, List, ap, sym, ◌∙◌}
+use Rattle.report.specs.Generated.{predicate}
+use Rattle.report.proofs.GeneratedLaws.{one_more}
 use Rattle.report.proofs.generating.gen_source.Goals as goal
 
 pub loop-k-preserved : goal.loop-k-preserved
