@@ -10,12 +10,12 @@ use Rattle.cti_terms.specs.Unify.{Binding}
 use Rattle.cti_terms.specs.Answers.{depth_of, greatest_depth}
 use Rattle.cti_terms.proofs.Unifier.{applied_instance}
 use Rattle.cti_terms.proofs.Spelled.{trees_of_left}
-use Rattle.ld_resolver.specs.Raised.{raise}
-use Rattle.ld_resolver.specs.Store.{made, full, all_full}
-use Rattle.ld_resolver.specs.Pending.{weight, args_full}
+use Rattle.unifier.specs.Raised.{raise}
+use Rattle.unifier.specs.Store.{made, full, all_full}
+use Rattle.unifier.specs.Pending.{weight, args_full}
 use Rattle.ld_resolver.specs.Measured.{answered_terms, all_arguments}
-use Rattle.ld_resolver.proofs.BelowLaws.{raised_zero}
-use Rattle.ld_resolver.proofs.PendingLaws.{weight-append}
+use Rattle.unifier.proofs.BelowLaws.{raised_zero}
+use Rattle.unifier.proofs.PendingLaws.{weight-append}
 
 -- arguments raised by nothing
 pub all_raised_zero : (ts : List Tree) → map (instance (raise 0)) ts ≡ ts

@@ -10,10 +10,10 @@ use Rattle.cti_terms.specs.UnifyFunction.{unify}
 use Rattle.cti_terms.specs.Resolve.{over, raised, head_equations, answered, resolve}
 use Rattle.cti_terms.specs.Answers.{answer_by}
 use Rattle.ld_resolver.specs.declared.choices.Choice.{Choice}
-use Rattle.ld_resolver.specs.Store.{made, full}
-use Rattle.ld_resolver.specs.Pending.{Extends, KeepsFree, IsUnified}
+use Rattle.unifier.specs.Store.{made, full}
+use Rattle.unifier.specs.Pending.{Extends, KeepsFree, IsUnified}
 use Rattle.ld_resolver.specs.Tails.{tail_at}
-use Rattle.ld_resolver.specs.Below.{ArgumentsBelow, AtomsBelow, FreeFrom}
+use Rattle.unifier.specs.Below.{ArgumentsBelow, AtomsBelow, FreeFrom}
 use Rattle.ld_resolver.specs.Walk.{Visit, walk}
 use Rattle.ld_resolver.specs.Choices.{kept, goal_of, left, IsChoice, AreChoices}
 use Rattle.ld_resolver.specs.Searches.{AreWithin, attempts_at, goal_with, IsTakenAt}
@@ -95,7 +95,7 @@ module _ (p : Listing) (s taken now : List Binding) (rests rests_now : List (Lis
 
   resolves : (o : Option (List Binding)) → c.atom.now.pred.0 ≡ k.head.pred.0 → unify (head_equations (over (full (kept s c.mark)) (raised c.base c.atom.now)) c.fresh k) ≡ o → resolve p (goal_of s rests c) c.next ≡ option_map (answered (map (over (full (kept s c.mark))) (tail_at rests c.rest)) c.fresh k) o
   resolves o h u =
-      resolve_at p (over (full (kept s c.mark)) (raised c.base c.atom.now)) (map (over (full (kept s c.mark))) (tail_at rests c.rest)) c.fresh c.next k here.0.from_one t.there
+      resolve_at p (over (full (kept s c.mark)) (raised c.base c.atom.now)) (map (over (full (kept s c.mark))) (tail_at rests c.rest)) c.fresh c.next k t.first t.there
       ∙ same_pred (over (full (kept s c.mark)) (raised c.base c.atom.now)) (map (over (full (kept s c.mark))) (tail_at rests c.rest)) c.fresh k h
       ∙ ap (option_map (answered (map (over (full (kept s c.mark))) (tail_at rests c.rest)) c.fresh k)) u
 

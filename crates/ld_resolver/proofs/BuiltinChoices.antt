@@ -9,18 +9,19 @@ use Rattle.cti_terms.specs.declared.builtins.Builtin.{Builtin}
 use Rattle.cti_terms.specs.declared.derivation.Goal.{Goal}
 use Rattle.cti_terms.specs.Listing.{IsProgram, Listing}
 use Rattle.cti_terms.specs.Nodes.{nodes, first_nodes, longest}
-use Rattle.cti_terms.specs.Answers.{answer_by, answer_of, answers, leaves_wide, up_to_wide, visited, visited_nodes, HasWide}
+use Rattle.cti_terms.specs.Answers.{answer_by, answer_of, leaves_wide, up_to_wide, visited}
 use Rattle.cti_terms.specs.Resolve.{over, raised, resolve}
 use Rattle.cti_terms.specs.Unify.{Binding}
 use Rattle.cti_terms.proofs.Bounds.{zero_alone}
 use Rattle.ld_resolver.specs.declared.answer.Answer.{Answer}
 use Rattle.ld_resolver.specs.declared.choices.Choice.{Choice}
-use Rattle.ld_resolver.specs.Store.{made, full}
+use Rattle.ld_resolver.specs.declared.running.Ending.TheVariants.{Overflow}
+use Rattle.unifier.specs.Store.{made, full}
 use Rattle.ld_resolver.specs.Tails.{tail_at}
 use Rattle.ld_resolver.specs.Told.{told}
 use Rattle.ld_resolver.specs.Walk.{Visit, entered, walk_by, walk, visit, most_steps, met_answers}
 use Rattle.ld_resolver.specs.Choices.{kept, goal_of, left}
-use Rattle.ld_resolver.specs.Progress.{IsDone}
+use Rattle.ld_resolver.specs.Progress.{IsDone, HasEnded}
 use Rattle.ld_resolver.proofs.SearchLaws.{met_by_none}
 use Rattle.ld_resolver.proofs.WalkLaws.{walk_nodes, most_visits, met_visits, wide_visits, most_steps-append}
 use Rattle.ld_resolver.proofs.WideLaws.{visited_to}
@@ -82,20 +83,13 @@ any_at f (w ∷ xs) zs x e = ap (λ b. f w || b) (any_at f xs zs x e) ∙ go (f 
     go true = refl
     go false = refl
 
--- what a run says that ends at a wide goal
-pub record SaysWide (p : Listing) (g : Goal) (n steps most : ℕ) (told_now : List Answer) : Type 0 where
-  pub told_all : told_now ≡ map told (answers p g n)
-  pub counted : steps ≡ length (visited_nodes p g n)
-  pub most_of_all : most ≡ longest (visited_nodes p g n)
-  pub wide : HasWide p g n
-
 -- the query itself is wide
-pub begun_wide : (p : Listing) (g : Goal) (n : ℕ) → answer_by g.atoms [] g.atoms ≡ None → begins_wide p.arithmetic g.atoms ≡ true → SaysWide p g n 0 0 []
+pub begun_wide : (p : Listing) (g : Goal) (n : ℕ) → answer_by g.atoms [] g.atoms ≡ None → begins_wide p.arithmetic g.atoms ≡ true → HasEnded p g n Overflow 0 0 []
 begun_wide p g n none w = record {
   told_all = ap (λ (o : Option (List Atom)). map told (cons_option o [])) (sym none) ∙ ap (λ (ns : List (List ℕ)). map told (filter_map (answer_of p g) ns)) (sym all);
   counted = ap (λ (ns : List (List ℕ)). length (drop 1 ns)) (sym all);
   most_of_all = ap (λ (ns : List (List ℕ)). longest (drop 1 ns)) (sym all);
-  wide = any_at (leaves_wide p g) [] (first_nodes p g n) [] w;
+  ended = any_at (leaves_wide p g) [] (first_nodes p g n) [] w;
 }
   where
     all : visited p g n ≡ [] ∷ []
@@ -138,7 +132,7 @@ module _ (p : Listing) (g : Goal) (n : ℕ) (done rest : List Visit) (here : Vis
       ∙ ap (λ (o : Option (List Atom)). filter_map (answer_of p g) ([] ∷ parts.front) ++ cons_option o []) (sym none ∙ sym (ap (λ (v : Visit). v.answer) parts.here))
       ∙ sym (filter_map-append (answer_of p g) ([] ∷ parts.front) (parts.at ∷ []))
 
-  pub ends_wide : SaysWide p g n (steps + 1) (max most here.steps) told_now
+  pub ends_wide : HasEnded p g n Overflow (steps + 1) (max most here.steps) told_now
   ends_wide = record {
     told_all =
         d.told_so_far
@@ -147,5 +141,5 @@ module _ (p : Listing) (g : Goal) (n : ℕ) (done rest : List Visit) (here : Vis
         ∙ ap (λ (ns : List (List ℕ)). map told (filter_map (answer_of p g) ns)) (sym all);
     counted = sym counts ∙ ap (λ (ns : List (List ℕ)). length (drop 1 ns)) (sym all);
     most_of_all = same_most ∙ ap (λ (ns : List (List ℕ)). longest (drop 1 ns)) (sym all);
-    wide = subst (λ (ns : List (List ℕ)). IsTrue (list_any (leaves_wide p g) ([] ∷ ns))) (sym firsts.1) (any_at (leaves_wide p g) ([] ∷ parts.front) firsts.0 parts.at wide_there);
+    ended = subst (λ (ns : List (List ℕ)). IsTrue (list_any (leaves_wide p g) ([] ∷ ns))) (sym firsts.1) (any_at (leaves_wide p g) ([] ∷ parts.front) firsts.0 parts.at wide_there);
   }

@@ -13,18 +13,18 @@ use Rattle.cti_terms.specs.declared.derivation.Goal.{Goal}
 use Rattle.cti_terms.specs.Unify.{Binding, Step, first_step, pairs}
 use Rattle.cti_terms.specs.UnifyFunction.{unify}
 use Rattle.cti_terms.specs.Resolve.{over, raised, head_equations, answered, passed, resolve_by, resolve}
-use Rattle.ld_resolver.specs.declared.raised_term.Met.{Met}
-use Rattle.ld_resolver.specs.declared.raised_term.Shape.{Shape}
-use Rattle.ld_resolver.specs.Raised.{raised_tree, raise}
-use Rattle.ld_resolver.specs.Shapes.{shape_tree, shape_full, IsMet}
-use Rattle.ld_resolver.specs.Store.{full}
-use Rattle.ld_resolver.specs.Pending.{args_full}
+use Rattle.unifier.specs.declared.raised_term.Met.{Met}
+use Rattle.unifier.specs.declared.raised_term.Shape.{Shape}
+use Rattle.unifier.specs.Raised.{raised_tree, raise}
+use Rattle.unifier.specs.Shapes.{shape_tree, shape_full, IsMet}
+use Rattle.unifier.specs.Store.{full}
+use Rattle.unifier.specs.Pending.{args_full}
 use Rattle.ld_resolver.specs.Chain.{IsNext}
 use Rattle.ld_resolver.specs.Choices.{goal_from}
 use Rattle.ld_resolver.specs.FirstArguments.{HasFirst, Clash, IsRuledOut, IsNextMatch}
-use Rattle.ld_resolver.proofs.PendingLaws.{arity-all_full}
+use Rattle.unifier.proofs.PendingLaws.{arity-all_full}
 use Rattle.ld_resolver.proofs.SearchLaws.{another_pred}
-use Rattle.ld_resolver.proofs.UnifySteps.{unify_step}
+use Rattle.unifier.proofs.UnifySteps.{unify_step}
 
 arity-raised : (n : ℕ) (ts : List Term) → arity (all_instances (raise n) (trees_of ts)) ≡ length ts
 arity-raised n [] = refl

@@ -1,5 +1,5 @@
 -- How a run goes on, and what it says when it ends.
-use Rattle.std.proofs.Common.{◌≡◌, ℕ, zero, suc, max, Bool, true, false, ◌||◌, filter_map, drop, ◌+◌, ◌-◌, ◌<◌, ◌≤◌, IsTrue, List, [], ◌∷◌, ◌++◌, map, reverse, take, length, Option, None, Some, append_assoc, append-nil, length-append, refl, ap, sym, ◌∙◌, subst, arith}
+use Rattle.std.proofs.Common.{◌≡◌, ◌↔◌, ℕ, zero, suc, max, Bool, true, false, ◌||◌, filter_map, drop, ◌+◌, ◌-◌, ◌<◌, ◌≤◌, IsTrue, List, [], ◌∷◌, ◌++◌, map, reverse, take, length, Option, None, Some, append_assoc, append-nil, length-append, refl, ap, sym, ◌∙◌, subst, arith}
 use Rattle.std.specs.List.{AllByRecursion, cons_option, list_any}
 use Rattle.std.proofs.lemmas.List.{map-append, length-map}
 use Rattle.std.proofs.lemmas.List.Elements.{filter_map-append}
@@ -14,20 +14,23 @@ use Rattle.cti_terms.specs.Nodes.{nodes, first_nodes, HasMoreNodes, longest}
 use Rattle.cti_terms.specs.Arithmetic.{begins_wide}
 use Rattle.cti_terms.specs.Answers.{answer_by, answer_of, answers, leaves_wide, visited, visited_nodes, HasWide}
 use Rattle.ld_resolver.specs.declared.answer.Answer.{Answer}
+use Rattle.ld_resolver.specs.declared.running.Ending.{Ending}
+use Rattle.ld_resolver.specs.declared.running.Ending.TheVariants.{Finished, Stopped, Overflow}
+use Rattle.ld_resolver.specs.declared.search.Entered.TheVariants.{Empty, Open, Wide}
 use Rattle.ld_resolver.specs.declared.search.Search.{Search}
-use Rattle.ld_resolver.specs.Raised.{raise}
-use Rattle.ld_resolver.specs.Store.{made, full}
+use Rattle.unifier.specs.Raised.{raise}
+use Rattle.unifier.specs.Store.{made, full}
 use Rattle.ld_resolver.specs.Told.{told}
 use Rattle.ld_resolver.specs.Tails.{tail_at}
-use Rattle.ld_resolver.specs.Below.{TermBelow, ArgumentsBelow, AtomsBelow}
+use Rattle.unifier.specs.Below.{TermBelow, ArgumentsBelow, AtomsBelow}
 use Rattle.ld_resolver.specs.Measured.{answered_atoms}
 use Rattle.ld_resolver.specs.Walk.{Visit, visit, walk, most_steps, met_answers}
-use Rattle.cti_terms.specs.declared.clauses.Clause.{Clause}
 use Rattle.ld_resolver.specs.declared.choices.Choice.{Choice}
 use Rattle.ld_resolver.specs.Choices.{left, AreChoices}
 use Rattle.ld_resolver.specs.Searches.{AreWithin, IsSearch, IsNode, IsEntered, goal_with, node_goal, left_of, choices_of, attempts_at, attempts_left}
-use Rattle.ld_resolver.specs.Progress.{scaled, told_after, IsDone, IsUnderWay, to_do}
-use Rattle.ld_resolver.proofs.BelowLaws.{raised_below, raised_zero}
+use Rattle.ld_resolver.specs.Progress.{scaled, told_after, IsDone, IsUnderWay, EndsAs, HasEnded, to_do}
+use Rattle.ld_resolver.proofs.BuiltinChoices.{ends_wide}
+use Rattle.unifier.proofs.BelowLaws.{raised_below, raised_zero}
 use Rattle.ld_resolver.proofs.SearchLaws.{walk_none}
 use Rattle.ld_resolver.proofs.WalkLaws.{walk_nodes, most_visits, met_visits, wide_visits, most_steps-append}
 use Rattle.ld_resolver.proofs.WideLaws.{all_visited}
@@ -175,15 +178,25 @@ module _ (p : Listing) (g : Goal) (n : ℕ) where
 
 -- ---- a run that has ended
 
--- what a run says, with whether there are more nodes
+-- how a run ends says which way it is
+module _ (p : Listing) (g : Goal) (n : ℕ) where
+  pub stopped_is : (e : Ending) → EndsAs p g n e → (e ≡ Stopped) ↔ ((HasWide p g n → ⊥) × HasMoreNodes p g n)
+  stopped_is Finished h = ((λ d. cc), λ w. absurd (h.1 w.1))
+  stopped_is Stopped h = ((λ d. h), λ w. refl)
+  stopped_is Overflow h = ((λ d. cc), λ w. absurd (w.0 h))
+
+  pub finished_is : (e : Ending) → EndsAs p g n e → (e ≡ Finished) ↔ ((HasWide p g n → ⊥) × (HasMoreNodes p g n → ⊥))
+  finished_is Finished h = ((λ d. h), λ w. refl)
+  finished_is Stopped h = ((λ d. cc), λ w. absurd (w.1 h.1))
+  finished_is Overflow h = ((λ d. cc), λ w. absurd (w.0 h))
+
+  pub overflow_is : (e : Ending) → EndsAs p g n e → (e ≡ Overflow) ↔ HasWide p g n
+  overflow_is Finished h = ((λ d. cc), λ w. absurd (h.0 w))
+  overflow_is Stopped h = ((λ d. cc), λ w. absurd (h.0 w))
+  overflow_is Overflow h = ((λ d. h), λ w. refl)
+
 never_wide : IsTrue false → ⊥
 never_wide h = cc
-
-pub record Says (p : Listing) (g : Goal) (n steps most : ℕ) (told_now : List Answer) : Type 0 where
-  pub told_all : told_now ≡ map told (answers p g n)
-  pub counted : steps ≡ length (visited_nodes p g n)
-  pub most_of_all : most ≡ longest (visited_nodes p g n)
-  pub fits : HasWide p g n → ⊥
 
 none_in : (x : Search) (q : List Atom) (n : ℕ) → choices_of x ≡ [] → left_of q n x ≡ []
 none_in x q n e = ap (left x.program.now q n x.bindings x.tails) e
@@ -194,33 +207,33 @@ module _ (p : Listing) (g : Goal) (n : ℕ) (x : Search) (steps most : ℕ) (tol
     done_all : IsDone p g n u.done.0 [] steps most told_now
     done_all = subst (λ (l : List Visit). IsDone p g n u.done.0 l steps most told_now) (none_in x g.atoms n e) u.done.1
 
-    pub ended_says : Says p g n steps most told_now
+    ended_without_more : HasMoreNodes p g n → ⊥
+    ended_without_more = none_left p g n u.done.0 steps most told_now done_all u.within
+
+    pub ended_says : HasEnded p g n Finished steps most told_now
     ended_says =
         let s = seen_all p g n u.done.0 steps most told_now done_all u.within in
         record {
           told_all = told_is p g n u.done.0 [] steps most told_now done_all s u.begins;
           counted = counted_is p g n u.done.0 [] steps most told_now done_all s u.begins;
           most_of_all = most_is p g n u.done.0 [] steps most told_now done_all s u.begins;
-          fits = λ w. never_wide (subst IsTrue (all_fit p g n u.done.0 [] steps most told_now done_all s u.begins) w);
+          ended = (λ w. never_wide (subst IsTrue (all_fit p g n u.done.0 [] steps most told_now done_all s u.begins) w), ended_without_more);
         }
-
-    pub ended_without_more : HasMoreNodes p g n → ⊥
-    ended_without_more = none_left p g n u.done.0 steps most told_now done_all u.within
 
   -- the budget is used up, and one more node was found
   module _ (e : steps ≡ n) (v : Visit) (rest : List Visit) (l : left_of g.atoms n x ≡ v ∷ rest) where
-    pub stopped_says : Says p g n steps most told_now
+    stopped_with_more : HasMoreNodes p g n
+    stopped_with_more = one_left p g n u.done.0 (left_of g.atoms n x) rest v steps most told_now u.done.1 e l
+
+    pub stopped_says : HasEnded p g n Stopped steps most told_now
     stopped_says =
         let s = seen_first p g n u.done.0 (left_of g.atoms n x) steps most told_now u.done.1 e in
         record {
           told_all = told_is p g n u.done.0 (left_of g.atoms n x) steps most told_now u.done.1 s u.begins;
           counted = counted_is p g n u.done.0 (left_of g.atoms n x) steps most told_now u.done.1 s u.begins;
           most_of_all = most_is p g n u.done.0 (left_of g.atoms n x) steps most told_now u.done.1 s u.begins;
-          fits = λ w. never_wide (subst IsTrue (all_fit p g n u.done.0 (left_of g.atoms n x) steps most told_now u.done.1 s u.begins) w);
+          ended = (λ w. never_wide (subst IsTrue (all_fit p g n u.done.0 (left_of g.atoms n x) steps most told_now u.done.1 s u.begins) w), stopped_with_more);
         }
-
-    pub stopped_with_more : HasMoreNodes p g n
-    stopped_with_more = one_left p g n u.done.0 (left_of g.atoms n x) rest v steps most told_now u.done.1 e l
 
 -- ---- the same search
 
@@ -249,7 +262,7 @@ within_more : (d : ℕ) (cs : List Choice) → AreWithin d cs → AreWithin (d +
 within_more d [] h = tt
 within_more d (c ∷ cs) h = (omega (arith, h.0), within_more d cs h.1)
 
-module _ (p : Listing) (g : Goal) (n : ℕ) (old mid new : Search) (c : Choice) (k : Clause) (steps most : ℕ) (told_now : List Answer) (u : IsUnderWay p g n old steps most told_now) (node : IsNode old c k mid) (less : steps < n) (program_mid : mid.program.now ≡ old.program.now) (within_mid : (d : ℕ) → AreWithin d (choices_of old) → AreWithin d (choices_of mid)) where
+module _ (p : Listing) (g : Goal) (n : ℕ) (old mid new : Search) (c : Choice) (body : List Atom) (vars : ℕ) (steps most : ℕ) (told_now : List Answer) (u : IsUnderWay p g n old steps most told_now) (node : IsNode old c body vars mid) (less : steps < n) (program_mid : mid.program.now ≡ old.program.now) (within_mid : (d : ℕ) → AreWithin d (choices_of old) → AreWithin d (choices_of mid)) where
   bound : c.depth ≤ steps
   bound = node.within steps u.depth
 
@@ -260,13 +273,13 @@ module _ (p : Listing) (g : Goal) (n : ℕ) (old mid new : Search) (c : Choice) 
   later = within_more steps (choices_of mid) (within_mid steps u.depth)
 
   abbrev here : Visit
-  here = record { steps = c.depth + 1; answer = answer_by g.atoms (made mid.bindings) (node_goal mid c k).atoms; wide = begins_wide mid.program.now.arithmetic (node_goal mid c k).atoms }
+  here = record { steps = c.depth + 1; answer = answer_by g.atoms (made mid.bindings) (node_goal mid c body vars).atoms; wide = begins_wide mid.program.now.arithmetic (node_goal mid c body vars).atoms }
 
   abbrev below_here : ℕ → List Visit
-  below_here d = walk mid.program.now g.atoms d (made mid.bindings) (c.depth + 1) (node_goal mid c k)
+  below_here d = walk mid.program.now g.atoms d (made mid.bindings) (c.depth + 1) (node_goal mid c body vars)
 
   -- it has atoms
-  pub with_atoms : IsSearch new → new.program.now ≡ mid.program.now → ((d : ℕ) → AreWithin d (choices_of mid) → c.depth + 1 ≤ d → AreWithin d (choices_of new)) → IsEntered mid (c.depth + 1) (node_goal mid c k) true new → IsUnderWay p g n new (steps + 1) (max most (c.depth + 1)) told_now
+  pub with_atoms : IsSearch new → new.program.now ≡ mid.program.now → ((d : ℕ) → AreWithin d (choices_of mid) → c.depth + 1 ≤ d → AreWithin d (choices_of new)) → IsEntered mid (c.depth + 1) (node_goal mid c body vars) Open new → IsUnderWay p g n new (steps + 1) (max most (c.depth + 1)) told_now
   with_atoms is program all e = record {
     search = is;
     program = program ∙ program_mid ∙ u.program;
@@ -283,7 +296,7 @@ module _ (p : Listing) (g : Goal) (n : ℕ) (old mid new : Search) (c : Choice) 
       told_same = sym (append-nil told_now) ∙ ap (λ (o : Option (List Atom)). told_now ++ map told (cons_option o [])) (sym (e.0 g.atoms (made mid.bindings)))
 
   -- it has none, and is an answer
-  pub without_atoms : (last : Search) (a : Answer) → IsSearch new → new.program.now ≡ mid.program.now → new.bindings ≡ mid.bindings → ((d : ℕ) → AreWithin d (choices_of mid) → c.depth + 1 ≤ d → AreWithin d (choices_of new)) → IsEntered mid (c.depth + 1) (node_goal mid c k) false new → SameSearch new last → a ≡ told (answered_atoms new.bindings g.atoms) → IsUnderWay p g n last (steps + 1) (max most (c.depth + 1)) (told_now ++ a ∷ [])
+  pub without_atoms : (last : Search) (a : Answer) → IsSearch new → new.program.now ≡ mid.program.now → new.bindings ≡ mid.bindings → ((d : ℕ) → AreWithin d (choices_of mid) → c.depth + 1 ≤ d → AreWithin d (choices_of new)) → IsEntered mid (c.depth + 1) (node_goal mid c body vars) Empty new → SameSearch new last → a ≡ told (answered_atoms new.bindings g.atoms) → IsUnderWay p g n last (steps + 1) (max most (c.depth + 1)) (told_now ++ a ∷ [])
   without_atoms last a is program bindings all e same is_told = record {
     search = same_is new last same is;
     program = same.program ∙ program ∙ program_mid ∙ u.program;
@@ -297,7 +310,7 @@ module _ (p : Listing) (g : Goal) (n : ℕ) (old mid new : Search) (c : Choice) 
       left_now =
           node.met g.atoms n
           ∙ ap (λ (w : List Visit). here ∷ w)
-          (ap (λ (w : List Visit). w ++ left_of g.atoms n mid) (walk_none mid.program.now g.atoms (n - c.depth) (made mid.bindings) (c.depth + 1) (node_goal mid c k) e.0)
+          (ap (λ (w : List Visit). w ++ left_of g.atoms n mid) (walk_none mid.program.now g.atoms (n - c.depth) (made mid.bindings) (c.depth + 1) (node_goal mid c body vars) e.0)
           ∙ e.1 g.atoms n
           ∙ same_left new last same g.atoms n)
 
@@ -306,8 +319,14 @@ module _ (p : Listing) (g : Goal) (n : ℕ) (old mid new : Search) (c : Choice) 
           ap (λ (b : Answer). told_now ++ b ∷ []) (is_told ∙ ap (λ (s : List Binding). told (answered_atoms s g.atoms)) bindings)
           ∙ ap (λ (l : List Atom). told_now ++ map told (cons_option (answer_by g.atoms (made mid.bindings) l) [])) (sym e.0)
 
+  -- it begins with a wide atom, and the run ends
+  pub ended_wide : IsEntered mid (c.depth + 1) (node_goal mid c body vars) Wide new → HasEnded p g n Overflow (steps + 1) (max most (c.depth + 1)) told_now
+  ended_wide e =
+      ends_wide p g n u.done.0 (below_here (n - c.depth) ++ left_of g.atoms n mid) here steps most told_now
+      (subst (λ (l : List Visit). IsDone p g n u.done.0 l steps most told_now) (node.met g.atoms n) u.done.1) less u.begins (e.0 g.atoms (made mid.bindings)) e.1
+
   -- and less is to be done
-  pub less_to_do : (last : Search) → attempts_left new ≤ attempts_left mid + length mid.program.now.clauses + 1 → attempts_left last ≡ attempts_left new → to_do p n last (steps + 1) < to_do p n old steps
+  pub less_to_do : (last : Search) → attempts_left new ≤ attempts_left mid + length mid.program.now.clauses + 2 → attempts_left last ≡ attempts_left new → to_do p n last (steps + 1) < to_do p n old steps
   less_to_do last attempts same =
       let s = scaled_less n steps (suc (suc (length p.clauses))) less in
       let f = node.fewer in
@@ -329,7 +348,7 @@ module _ (g : Goal) (n : ℕ) (old new : Search) (b : old.bindings ≡ []) (ch :
   none_deep : AreWithin 0 (choices_of new)
   none_deep = all 0 (subst (λ (l : List Choice). AreWithin 0 (reverse l)) (sym ch) tt) (omega arith)
 
-  pub begun_with_atoms : IsEntered old 0 g true new → IsUnderWay old.program.now g n new 0 0 []
+  pub begun_with_atoms : IsEntered old 0 g Open new → IsUnderWay old.program.now g n new 0 0 []
   begun_with_atoms e = record {
     search = is;
     program = program;
@@ -348,7 +367,7 @@ module _ (g : Goal) (n : ℕ) (old new : Search) (b : old.bindings ≡ []) (ch :
     depth = none_deep;
   }
 
-  pub begun_without_atoms : (last : Search) (a : Answer) → IsEntered old 0 g false new → new.bindings ≡ old.bindings → SameSearch new last → a ≡ told (answered_atoms new.bindings g.atoms) → IsUnderWay old.program.now g n last 0 0 (a ∷ [])
+  pub begun_without_atoms : (last : Search) (a : Answer) → IsEntered old 0 g Empty new → new.bindings ≡ old.bindings → SameSearch new last → a ≡ told (answered_atoms new.bindings g.atoms) → IsUnderWay old.program.now g n last 0 0 (a ∷ [])
   begun_without_atoms last a e bindings same is_told = record {
     search = same_is new last same is;
     program = same.program ∙ program;

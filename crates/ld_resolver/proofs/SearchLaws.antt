@@ -9,24 +9,24 @@ use Rattle.cti_terms.specs.declared.clauses.Clause.{Clause}
 use Rattle.cti_terms.specs.declared.derivation.Goal.{Goal}
 use Rattle.cti_terms.specs.Arithmetic.{kind_of, passes_as, is_wide_as, begins_wide}
 use Rattle.cti_terms.specs.declared.builtins.Builtin.{Builtin}
-use Rattle.cti_terms.specs.Listing.{Listing, IsAtom, IsClause, numbered}
+use Rattle.cti_terms.specs.Listing.{Listing, IsAtom, IsClause}
 use Rattle.cti_terms.specs.declared.predicates.Pred.{Pred}
 use Rattle.cti_terms.specs.Unify.{Equation, Binding, applied}
 use Rattle.cti_terms.specs.UnifyFunction.{unify}
 use Rattle.cti_terms.specs.Resolve.{over, raised, head_equations, left_by, answered, passed, resolve_by, resolve_itself, resolve}
 use Rattle.cti_terms.specs.Answers.{answer_by}
 use Rattle.ld_resolver.specs.declared.choices.Choice.{Choice}
-use Rattle.ld_resolver.specs.Raised.{raise}
-use Rattle.ld_resolver.specs.Store.{made, full}
-use Rattle.ld_resolver.specs.Pending.{Extends, KeepsFree}
+use Rattle.unifier.specs.Raised.{raise}
+use Rattle.unifier.specs.Store.{made, full}
+use Rattle.unifier.specs.Pending.{Extends, KeepsFree}
 use Rattle.ld_resolver.specs.Tails.{tail_at}
-use Rattle.ld_resolver.specs.Below.{ArgumentsBelow, AtomsBelow, FreeFrom}
+use Rattle.unifier.specs.Below.{ArgumentsBelow, AtomsBelow, FreeFrom}
 use Rattle.ld_resolver.specs.Walk.{Visit, entered, walk_by, walk}
-use Rattle.ld_resolver.specs.Choices.{kept, goal_from, goal_of, clauses_left, left, IsChoice, Within, AreChoices, GrowsTo}
+use Rattle.ld_resolver.specs.Choices.{kept, goal_from, goal_of, clauses_left, left, GoesByItself, IsChoice, Within, AreChoices, GrowsTo}
 use Rattle.ld_resolver.specs.FirstArguments.{IsNextMatch}
 use Rattle.ld_resolver.specs.Searches.{attempts_at, AreNumbered, AreMarked, goal_with}
-use Rattle.ld_resolver.proofs.StoreLaws.{applied-append, eqb_same}
-use Rattle.ld_resolver.proofs.BelowLaws.{full_raised, applied_below, wider, all_wider, pairs_below, arguments_raised, atoms_over, below_append, not_below}
+use Rattle.unifier.proofs.StoreLaws.{applied-append, eqb_same}
+use Rattle.unifier.proofs.BelowLaws.{full_raised, applied_below, wider, all_wider, pairs_below, arguments_raised, atoms_over, below_append, not_below}
 use Rattle.cti_terms.proofs.UnifyLaws.{AllBelow, unify_finds}
 use Rattle.ld_resolver.proofs.TailLaws.{tail_kept}
 use Rattle.ld_resolver.proofs.ChainLaws.{clause_at}
@@ -89,10 +89,10 @@ stay_choice p s now rests rests_now c e f m r is = record {
   mark = m;
   rest = is.rest;
   counted = r;
-  from_one = is.from_one;
   to_end = is.to_end;
   pred = is.pred;
   free = subst (FreeFrom c.fresh) (sym e) is.free;
+  itself = λ z. subst (λ (b : List Binding). GoesByItself p.arithmetic b c) (sym e) (is.itself z);
   below = subst (λ (g : Goal). AtomsBelow c.fresh g.atoms) (λ i. goal_from (sym e i) c.fresh (raised c.base c.atom.now) (sym f i)) is.below;
 }
 
@@ -124,7 +124,7 @@ choices_grown p s rests now (c ∷ below) g all =
 
 pub are_numbered : (p : Listing) (s : List Binding) (rests : List (List Atom)) (cs : List Choice) → AreChoices p s rests cs → AreNumbered p cs
 are_numbered p s rests [] all = tt
-are_numbered p s rests (c ∷ below) all = ((all.0.from_one, all.0.to_end, all.0.pred), are_numbered p s rests below all.2)
+are_numbered p s rests (c ∷ below) all = ((all.0.to_end, all.0.pred), are_numbered p s rests below all.2)
 
 pub are_marked : (p : Listing) (s : List Binding) (rests : List (List Atom)) (cs : List Choice) → AreChoices p s rests cs → AreMarked (length s) cs
 are_marked p s rests [] all = tt
@@ -194,7 +194,7 @@ args_twice : (s now bs : List Binding) → made now ≡ made s ++ bs → (ts : L
 args_twice s now bs e [] = refl
 args_twice s now bs e (t ∷ ts) = λ i. applied_twice s now bs e t i ∷ args_twice s now bs e ts i
 
-atoms_twice : (s now bs : List Binding) → made now ≡ made s ++ bs → (xs : List Atom) → map (over (full now)) xs ≡ map (over (applied bs)) (map (over (full s)) xs)
+pub atoms_twice : (s now bs : List Binding) → made now ≡ made s ++ bs → (xs : List Atom) → map (over (full now)) xs ≡ map (over (applied bs)) (map (over (full s)) xs)
 atoms_twice s now bs e [] = refl
 atoms_twice s now bs e (a ∷ xs) = λ i. record { pred = a.pred; args = args_twice s now bs e a.args i } ∷ atoms_twice s now bs e xs i
 
@@ -253,11 +253,11 @@ module _ (p : Listing) (s now : List Binding) (rests rests_now : List (List Atom
     mark = all.0.mark;
     rest = all.0.rest;
     counted = all.0.counted;
-    from_one = omega (arith, after.from);
     to_end = after.to_end;
     pred = after.found;
     free = all.0.free;
     below = all.0.below;
+    itself = λ z. absurd (omega (arith, z, after.from));
   }
 
   pub later_choices : AreChoices p now rests_now (after_c ∷ below)
@@ -305,9 +305,9 @@ module _ (p : Listing) (s : List Binding) (rests now : List (List Atom)) (cs : L
       mark = omega (arith, mark);
       rest = omega (arith, within, newest);
       counted = omega (arith, newest);
-      from_one = first.from;
       to_end = first.to_end;
       pred = first.found;
+      itself = λ z. absurd (omega (arith, z, first.from));
       free = subst (FreeFrom c.fresh) (sym all_kept) free;
       below = subst (λ (h : Goal). AtomsBelow c.fresh h.atoms) (sym same_goal) below;
     },

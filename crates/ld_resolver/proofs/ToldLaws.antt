@@ -14,11 +14,11 @@ use Rattle.cti_terms.specs.Resolve.{over}
 use Rattle.cti_terms.specs.Answers.{with_variable, met, all_met, numbered_by}
 use Rattle.cti_terms.proofs.Unifier.{applied_instance}
 use Rattle.cti_terms.proofs.Spelled.{trees_of_left}
-use Rattle.ld_resolver.specs.Raised.{raise}
-use Rattle.ld_resolver.specs.Store.{made, full, all_full}
-use Rattle.ld_resolver.specs.Pending.{args_full}
+use Rattle.unifier.specs.Raised.{raise}
+use Rattle.unifier.specs.Store.{made, full, all_full}
+use Rattle.unifier.specs.Pending.{args_full}
 use Rattle.ld_resolver.specs.Measured.{all_numbered_by, answered_terms, args_numbered, atoms_numbered}
-use Rattle.ld_resolver.proofs.BelowLaws.{raised_zero}
+use Rattle.unifier.proofs.BelowLaws.{raised_zero}
 
 -- variables are added at the end
 met_variable : (xs : List ℕ) (x : ℕ) → (more : List ℕ) × (with_variable xs x ≡ xs ++ more)

@@ -7,9 +7,9 @@ use Rattle.cti_terms.specs.declared.clauses.Clause.{Clause}
 use Rattle.cti_terms.specs.Listing.{Listing, numbered}
 use Rattle.cti_terms.specs.Unify.{Binding, Step, first_step}
 use Rattle.cti_terms.specs.Resolve.{resolve_by, resolve}
-use Rattle.ld_resolver.specs.declared.raised_term.Shape.{Shape}
-use Rattle.ld_resolver.specs.Shapes.{shape_tree, shape_full}
-use Rattle.ld_resolver.specs.Store.{full}
+use Rattle.unifier.specs.declared.raised_term.Shape.{Shape}
+use Rattle.unifier.specs.Shapes.{shape_tree, shape_full}
+use Rattle.unifier.specs.Store.{full}
 use Rattle.ld_resolver.specs.Choices.{goal_from}
 
 -- under the bindings an atom has a first argument of this kind

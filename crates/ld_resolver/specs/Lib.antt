@@ -1,15 +1,8 @@
-pub mod Pending
-pub mod Raised
-pub mod Shapes
-pub mod Slots
-pub mod Store
 pub mod Walk
-pub mod Below
 pub mod Tails
 pub mod Chain
 pub mod Choices
 pub mod FirstArguments
-pub mod Heads
 pub mod Searches
 pub mod Measured
 pub mod Told
@@ -18,5 +11,5 @@ pub mod Progress
 pub mod Runs
 pub mod Order
 pub mod Count
-pub mod Visits
-pub mod Remembered
+pub mod Values
+pub mod BuiltinAtoms

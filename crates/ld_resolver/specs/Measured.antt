@@ -9,8 +9,8 @@ use Rattle.cti_terms.specs.Resolve.{over}
 use Rattle.cti_terms.specs.Answers.{all_written, numbered_by}
 use Rattle.cti_terms.specs.declared.syntax.Term.{Term}
 use Rattle.cti_terms.specs.Spell.{tree_of}
-use Rattle.ld_resolver.specs.Raised.{raise}
-use Rattle.ld_resolver.specs.Store.{full}
+use Rattle.unifier.specs.Raised.{raise}
+use Rattle.unifier.specs.Store.{full}
 
 -- the atoms of a query under the bindings
 abbrev pub answered_atoms : List Binding → List Atom → List Atom

@@ -1,26 +1,28 @@
 -- Private.
 -- The state of a search, and what its steps do to what is left to be met. Nothing here has to be believed.
-use Rattle.std.specs.Prelude.{◌≡◌, ℕ, suc, ◌+◌, ◌-◌, ◌≤◌, ◌<◌, ◌⊎◌, Bool, true, false, List, [], ◌∷◌, ◌++◌, map, reverse, length, slice_get, None, Some}
+use Rattle.std.specs.Prelude.{◌≡◌, ℕ, suc, ◌+◌, ◌-◌, ◌≤◌, ◌<◌, ◌⊎◌, true, false, List, [], ◌∷◌, ◌++◌, map, reverse, length, slice_get, None, Some}
 use Rattle.std.specs.List.{AllByRecursion}
 use Rattle.cti_terms.specs.declared.atom_list.Atom.{Atom}
 use Rattle.cti_terms.specs.declared.clauses.Clause.{Clause as ProgramClause}
 use Rattle.cti_terms.specs.declared.derivation.Goal.{Goal}
 use Rattle.cti_terms.specs.Arithmetic.{begins_wide}
-use Rattle.cti_terms.specs.Listing.{Listing, IsClause, numbered}
+use Rattle.cti_terms.specs.Listing.{Listing, IsProgram, IsClause, numbered}
 use Rattle.cti_terms.specs.Unify.{Binding}
 use Rattle.cti_terms.specs.Resolve.{over, raised}
 use Rattle.cti_terms.specs.Answers.{answer_by}
 use Rattle.ld_resolver.specs.declared.choices.Choice.{Choice}
 use Rattle.ld_resolver.specs.declared.search.Taken.{Taken}
-use Rattle.ld_resolver.specs.declared.search.Taken.TheVariants.{Nothing, Exhausted, Clause}
+use Rattle.ld_resolver.specs.declared.search.Taken.TheVariants.{Nothing, Exhausted, ByItself, Clause}
 use Rattle.ld_resolver.specs.declared.search.Attempt.{Attempt}
 use Rattle.ld_resolver.specs.declared.search.Attempt.TheVariants.{Ended, Failed, Resolved}
+use Rattle.ld_resolver.specs.declared.search.Entered.{Entered}
+use Rattle.ld_resolver.specs.declared.search.Entered.TheVariants.{Empty, Open, Wide}
 use Rattle.ld_resolver.specs.declared.search.Search.{Search}
-use Rattle.ld_resolver.specs.Store.{made, full}
+use Rattle.unifier.specs.Store.{made, full}
 use Rattle.ld_resolver.specs.Tails.{tail_at}
-use Rattle.ld_resolver.specs.Below.{AtomsBelow, FreeFrom}
+use Rattle.unifier.specs.Below.{AtomsBelow, FreeFrom}
 use Rattle.ld_resolver.specs.Walk.{Visit, walk}
-use Rattle.ld_resolver.specs.Choices.{kept, left, AreChoices}
+use Rattle.ld_resolver.specs.Choices.{kept, goal_from, left, AreChoices}
 use Rattle.ld_resolver.specs.FirstArguments.{IsNextMatch}
 
 -- how many attempts are left at choices, with one to see that there are no more
@@ -28,9 +30,9 @@ abbrev pub attempts_at : Listing → List Choice → ℕ
 attempts_at p [] = 0
 attempts_at p (c ∷ below) = (suc (suc (length p.clauses)) - c.next) + attempts_at p below
 
--- each choice has a clause of its predicate that counts from 1, or one past the last
+-- each choice has the number of a clause of its predicate, or one past the last, or 0
 abbrev pub AreNumbered : Listing → List Choice → Type 0
-AreNumbered p = AllByRecursion (λ (c : Choice). (1 ≤ c.next) × (c.next ≤ suc (length p.clauses)) × ((k : ProgramClause) → numbered p.clauses c.next ≡ Some k → c.atom.now.pred.0 ≡ k.head.pred.0))
+AreNumbered p = AllByRecursion (λ (c : Choice). (c.next ≤ suc (length p.clauses)) × ((k : ProgramClause) → numbered p.clauses c.next ≡ Some k → c.atom.now.pred.0 ≡ k.head.pred.0))
 
 -- each choice has at most m bindings
 abbrev pub AreMarked : ℕ → List Choice → Type 0
@@ -51,6 +53,7 @@ pub record IsTakenAt (p : Listing) (s : List Binding) (old : List Choice) (c : C
   pub m : ℕ
   pub was : old ≡ c ∷ below
   pub is : IsPutBack p below (record c { next = m }) new
+  pub first : 1 ≤ c.next
   pub within : c.next ≤ length p.clauses
   pub there : slice_get p.clauses (c.next - 1) ≡ Some k
   pub clause : IsClause p.preds k
@@ -58,10 +61,11 @@ pub record IsTakenAt (p : Listing) (s : List Binding) (old : List Choice) (c : C
   pub back : now ≡ kept s c.mark
   pub next : IsNextMatch p (kept s c.mark) (raised c.base c.atom.now) c.fresh (suc c.next) m
 
--- how a clause is taken at choices, the last one first, and what becomes of the bindings
+-- what is taken at choices, the last one first, and what becomes of the bindings
 abbrev pub IsTaken : Listing → List Binding → List Choice → Taken → List Binding → List Choice → Type 0
 IsTaken p s old Nothing now new = (old ≡ []) × (new ≡ []) × (now ≡ s)
 IsTaken p s old Exhausted now new = (c : Choice) × (old ≡ c ∷ new) × (length p.clauses < c.next) × (now ≡ s)
+IsTaken p s old (ByItself c) now new = IsProgram p × (c.next ≡ 0) × (old ≡ c ∷ new) × (now ≡ kept s c.mark)
 IsTaken p s old (Clause c k) now new = IsTakenAt p s old c k.now now new
 
 -- the choices of a search, the last one first
@@ -83,9 +87,21 @@ attempts_left x = attempts_at x.program.now (choices_of x)
 abbrev pub goal_with : List Binding → List Atom → List Atom → ℕ → Goal
 goal_with s atoms rest n = record { atoms = map (over (full s)) (atoms ++ rest); fresh = n }
 
--- the goal that a clause leaves at a choice
-abbrev pub node_goal : Search → Choice → ProgramClause → Goal
-node_goal x c k = goal_with x.bindings (map (raised c.fresh) k.body) (tail_at x.tails c.rest) (c.fresh + k.vars)
+-- the goal of a choice under all bindings
+abbrev pub goal_at : Search → Choice → Goal
+goal_at x c = goal_from x.bindings c.fresh (raised c.base c.atom.now) (tail_at x.tails c.rest)
+
+-- a choice is of all bindings and all rests
+pub record IsNewest (x : Search) (c : Choice) : Type 0 where
+  pub mark : c.mark ≡ length x.bindings
+  pub rest : c.rest ≤ length x.tails
+  pub rests : c.rests ≡ length x.tails
+  pub free : FreeFrom c.fresh x.bindings
+  pub below : AtomsBelow c.fresh (goal_at x c).atoms
+
+-- the goal that a body with this number of variables leaves at a choice
+abbrev pub node_goal : Search → Choice → List Atom → ℕ → Goal
+node_goal x c body vars = goal_with x.bindings (map (raised c.fresh) body) (tail_at x.tails c.rest) (c.fresh + vars)
 
 -- what is met at the node of this goal, to which l steps and one more lead, and then below it
 abbrev pub met_at : List Atom → ℕ → Search → ℕ → Goal → List Visit
@@ -93,24 +109,25 @@ met_at q n x l h =
     record { steps = l + 1; answer = answer_by q (made x.bindings) h.atoms; wide = begins_wide x.program.now.arithmetic h.atoms }
     ∷ walk x.program.now q (n - l) (made x.bindings) (l + 1) h
 
--- a clause at a choice leaves a node, which the search has not entered yet
-pub record IsNode (old : Search) (c : Choice) (k : ProgramClause) (new : Search) : Type 0 where
-  pub met : (q : List Atom) (n : ℕ) → left_of q n old ≡ met_at q n new c.depth (node_goal new c k) ++ left_of q n new
+-- the body of a clause at a choice leaves a node, which the search has not entered yet; a built-in atom leaves one as an empty body does
+pub record IsNode (old : Search) (c : Choice) (body : List Atom) (vars : ℕ) (new : Search) : Type 0 where
+  pub met : (q : List Atom) (n : ℕ) → left_of q n old ≡ met_at q n new c.depth (node_goal new c body vars) ++ left_of q n new
   pub fewer : attempts_left new < attempts_left old
   pub within : (d : ℕ) → AreWithin d (choices_of old) → c.depth ≤ d
   pub rest : c.rest ≤ length new.tails
-  pub free : FreeFrom (c.fresh + k.vars) new.bindings
-  pub below : AtomsBelow (c.fresh + k.vars) (node_goal new c k).atoms
+  pub free : FreeFrom (c.fresh + vars) new.bindings
+  pub below : AtomsBelow (c.fresh + vars) (node_goal new c body vars).atoms
 
 -- what an attempt does
 abbrev pub IsAttempt : Search → Attempt → Search → Type 0
 IsAttempt old Ended new = choices_of old ≡ []
 IsAttempt old Failed new = ((q : List Atom) (n : ℕ) → left_of q n old ≡ left_of q n new) × (attempts_left new < attempts_left old)
-IsAttempt old (Resolved c k) new = IsNode old c k.now new
+IsAttempt old (Resolved c body vars) new = IsNode old c body.now vars new
 
--- a goal is entered: it has atoms, and is left to be walked, or it has none
-abbrev pub IsEntered : Search → ℕ → Goal → Bool → Search → Type 0
-IsEntered old l h true new = ((q : List Atom) (bs : List Binding) → answer_by q bs h.atoms ≡ None)
+-- a goal is entered: it has no atoms; or it is left to be walked; or its first atom is wide, and the search is of no use any more
+abbrev pub IsEntered : Search → ℕ → Goal → Entered → Search → Type 0
+IsEntered old l h Empty new = (h.atoms ≡ []) × ((q : List Atom) (n : ℕ) → left_of q n old ≡ left_of q n new)
+IsEntered old l h Open new = ((q : List Atom) (bs : List Binding) → answer_by q bs h.atoms ≡ None)
     × ((q : List Atom) (n : ℕ) → walk old.program.now q (suc (n - l)) (made old.bindings) l h ++ left_of q n old ≡ left_of q n new)
     × (begins_wide old.program.now.arithmetic h.atoms ≡ false)
-IsEntered old l h false new = (h.atoms ≡ []) × ((q : List Atom) (n : ℕ) → left_of q n old ≡ left_of q n new)
+IsEntered old l h Wide new = ((q : List Atom) (bs : List Binding) → answer_by q bs h.atoms ≡ None) × (begins_wide old.program.now.arithmetic h.atoms ≡ true)

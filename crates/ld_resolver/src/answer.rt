@@ -7,19 +7,19 @@ ghost use Rattle.cti_terms.specs.Tree.{Tree, trees, all_nodes, nodes_of};
 ghost use Rattle.cti_terms.specs.Spell.{tree_of, trees_of};
 ghost use Rattle.cti_terms.specs.Resolve.{over};
 ghost use Rattle.cti_terms.specs.Answers.{depth_of, greatest_depth, with_variable, met, all_met, numbered_by, numbered_atoms};
-ghost use Rattle.ld_resolver.specs.Raised.{raised_tree};
-ghost use Rattle.ld_resolver.specs.Shapes.{IsMet};
-ghost use Rattle.ld_resolver.specs.Store.{full};
-ghost use Rattle.ld_resolver.specs.Pending.{raw, weight, args_full};
+ghost use Rattle.unifier.specs.Raised.{raised_tree};
+ghost use Rattle.unifier.specs.Shapes.{IsMet};
+ghost use Rattle.unifier.specs.Store.{full};
+ghost use Rattle.unifier.specs.Pending.{raw, weight, args_full};
 ghost use Rattle.ld_resolver.specs.Measured.{all_numbered_by, answered_atoms, answered_terms, all_arguments};
 ghost use Rattle.ld_resolver.specs.Told.{told};
 
-use crate::bindings::Bindings;
-use crate::occurs_check::push_arguments;
-use crate::raised_term::{Met, RaisedTerm, Shape};
 use cti_terms::{Atom, Atoms, MOST_ANSWER_DEPTH, MOST_ANSWER_NODES, Term, Terms};
 use indexmap::IndexSet;
 use std::alloc::{AllocError, Global};
+use unifier::bindings::Bindings;
+use unifier::occurs_check::push_arguments;
+use unifier::raised_term::{Met, RaisedTerm, Shape};
 
 /// An answer: the query's atoms as a derivation leaves them, or that they are too large to be reported.
 #[derive(Drop)]

@@ -1,138 +1,45 @@
-//! Attempts to resolve a goal by a clause.
+//! Attempts to resolve a goal by a built-in atom's value.
 
-ghost use Rattle.std.specs.Prelude.{◌≡◌, ◌≤◌, ◌<◌, ◌+◌, ◌++◌, [], ◌∷◌, IfOk, OnOk, length, map};
-ghost use Rattle.std.specs.List.{AllByRecursion};
-ghost use Rattle.cti_terms.specs.Tree.{is_below};
-ghost use Rattle.cti_terms.specs.Resolve.{over, raised, head_equations};
-ghost use Rattle.ld_resolver.specs.Store.{full, made};
-ghost use Rattle.ld_resolver.specs.Raised.{raised_tree};
-ghost use Rattle.ld_resolver.specs.Pending.{IsUnified, StaysBelow, Extends, KeepsFree};
-ghost use Rattle.ld_resolver.specs.Below.{TermBelow, ArgumentsBelow, FreeFrom};
+ghost use Rattle.std.specs.Prelude.{IfOk, OnOk};
+ghost use Rattle.ld_resolver.specs.BuiltinAtoms.{value_equations, IsInteger};
+ghost use Rattle.ld_resolver.specs.Choices.{value_of, args_of};
+ghost use Rattle.unifier.specs.Store.{made};
+ghost use Rattle.unifier.specs.Pending.{IsUnified, Extends, KeepsFree};
+ghost use Rattle.unifier.specs.Below.{ArgumentsBelow};
 
-use crate::bindings::Bindings;
 use crate::choices::Choice;
-use crate::equal_pairs::EqualPairs;
-use crate::raised_term::RaisedTerm;
-use crate::unification::{Found, push_equations, solve, step};
-use crate::visited::Visited;
-use cti_terms::Clause;
-use std::alloc::{AllocError, Global};
+use std::alloc::AllocError;
+use unifier::bindings::Bindings;
+use unifier::heads::{Stacks, unify_terms};
+use unifier::raised_term::RaisedTerm;
 
-/// Stacks that are used again from one attempt to the next.
-pub struct Stacks<'p> {
-    equations: Vec<(RaisedTerm<'p>, RaisedTerm<'p>)>,
-    pairs: EqualPairs<'p>,
-    pub terms: Vec<RaisedTerm<'p>>,
-    visited: Visited,
-}
-
-impl Drop for Stacks<'_> {
-    fn drop(self) {
-        let Stacks {
-            equations: _,
-            pairs: _,
-            terms: _,
-            visited: _,
-        } = self;
-    }
-}
-
-impl<'p> Stacks<'p> {
-    /// Empty stacks. It takes no memory.
-    pub fn new(alloc: Global) -> Stacks<'p> {
-        Stacks {
-            equations: Vec::new(alloc),
-            pairs: EqualPairs::new(alloc),
-            terms: Vec::new(alloc),
-            visited: Visited::new(alloc),
-        }
-    }
-}
-
-/// Unifies two terms, by bindings that are added. Where it fails, some may have been added.
-///
-/// The left term has variables below the limit alone, and the limit goes up with the bindings.
-#[inline(always)]
-fn unify_terms<'p>(
-    bindings: &mut Bindings<'p>,
-    stacks: &mut Stacks<'p>,
-    left: RaisedTerm<'p>,
-    right: RaisedTerm<'p>,
-    limit: &mut usize,
-) -> Result<bool, AllocError>
-    requires { TermBelow limit.old (full bindings.old (raised_tree left)) }
-    ensures unifier { IfOk result (IsUnified (made bindings.old) ((full bindings.old (raised_tree left.entry), full bindings.old (raised_tree right.entry)) ∷ []) (made bindings.new)) }
-    ensures limit { OnOk result (StaysBelow limit.old bindings.old limit.new bindings.new) }
-    ensures extended { OnOk result (Extends bindings.new bindings.old) }
-    ensures free { OnOk result (KeepsFree ((full bindings.old (raised_tree left.entry), full bindings.old (raised_tree right.entry)) ∷ []) bindings.old bindings.new) }
-{
-    let l = bindings.met(left);
-    let r = bindings.met(right);
-    match step(
-        bindings,
-        l,
-        r,
-        *limit,
-        &mut stacks.terms,
-        &mut stacks.visited,
-    )? {
-        Found::Nothing => Ok(true),
-        Found::Binds(x, term, above) => {
-            *limit = (*limit).max(above);
-            bindings.bind(x, term)?;
-            Ok(true)
-        }
-        Found::Arguments(ts, us) => {
-            stacks.equations.clear();
-            push_equations(&mut stacks.equations, ts, l.term.base, us, r.term.base)?;
-            let solved = solve(
-                bindings,
-                &mut stacks.equations,
-                &mut stacks.pairs,
-                limit,
-                &mut stacks.terms,
-                &mut stacks.visited,
-            )?;
-            Ok(solved)
-        }
-        Found::Clash => Ok(false),
-    }
-}
-
-/// Unifies the first atom of a choice with the head of a clause, whose variables are raised by the choice's counter. The
-/// bindings are the choice's. Only where two compound terms meet are equations put on a stack, and they are solved
-/// before the next argument.
-pub fn unify_head<'p>(
+/// Unifies the first argument of a choice's built-in atom with the choice's value, if it has one. The bindings are the
+/// choice's.
+pub fn unify_value<'p>(
     bindings: &mut Bindings<'p>,
     stacks: &mut Stacks<'p>,
     choice: Choice<'p>,
-    clause: &'p Clause,
 ) -> Result<bool, AllocError>
-    requires free { FreeFrom choice.fresh bindings.old }
-    requires below { ArgumentsBelow choice.fresh (over (full bindings.old) (raised choice.base choice.atom.now)).args }
-    ensures unifier { IfOk result (IsUnified (made bindings.old) (head_equations (over (full bindings.old) (raised choice.entry.base choice.entry.atom.now)) choice.entry.fresh clause.now) (made bindings.new)) }
+    requires below { ArgumentsBelow choice.fresh (args_of bindings.old choice) }
+    requires integer { IsInteger (value_of choice) }
+    ensures unifier { IfOk result (IsUnified (made bindings.old) (value_equations (value_of choice.entry) (args_of bindings.old choice.entry)) (made bindings.new)) }
     ensures extended { OnOk result (Extends bindings.new bindings.old) }
-    ensures free { OnOk result (KeepsFree (head_equations (over (full bindings.old) (raised choice.entry.base choice.entry.atom.now)) choice.entry.fresh clause.now) bindings.old bindings.new) }
+    ensures free { OnOk result (KeepsFree (value_equations (value_of choice.entry) (args_of bindings.old choice.entry)) bindings.old bindings.new) }
 {
-    bindings.reserve(choice.fresh as usize + clause.vars as usize)?;
-    let left = choice.atom.args.as_slice();
-    let right = clause.head.args.as_slice();
-    let count = left.len().min(right.len());
+    let Some(value) = choice.value else {
+        return Ok(true);
+    };
+    let Some(term) = choice.atom.args.as_slice().first() else {
+        return Ok(true);
+    };
+    let left = RaisedTerm {
+        term,
+        base: choice.base,
+    };
+    let right = RaisedTerm {
+        term: value,
+        base: 0,
+    };
     let mut limit = choice.fresh as usize;
-    let mut i = 0;
-    while i < count {
-        let l = RaisedTerm {
-            term: &left[i],
-            base: choice.base,
-        };
-        let r = RaisedTerm {
-            term: &right[i],
-            base: choice.fresh,
-        };
-        if !unify_terms(bindings, stacks, l, r, &mut limit)? {
-            return Ok(false);
-        }
-        i += 1;
-    }
-    Ok(true)
+    unify_terms(bindings, stacks, left, right, &mut limit)
 }

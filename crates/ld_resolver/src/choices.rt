@@ -1,4 +1,4 @@
-//! Goals where a clause is to be chosen.
+//! Goals where a clause is to be chosen, or where a built-in atom comes first.
 
 ghost use Rattle.std.specs.Prelude.{◌≡◌, ◌≤◌, ◌<◌, ◌+◌, ◌++◌, [], ◌∷◌, IfOk, OnOk, length, map};
 ghost use Rattle.cti_terms.specs.Resolve.{raised};
@@ -6,10 +6,10 @@ ghost use Rattle.ld_resolver.specs.Tails.{tail_at};
 ghost use Rattle.ld_resolver.specs.Choices.{IsStart, GrowsTo};
 
 use crate::tails::{Tail, Tails};
-use cti_terms::Atom;
+use cti_terms::{Atom, Term};
 use std::alloc::AllocError;
 
-/// A goal by its first atom, whose variables are raised, and the number of its rest, with the clause to be tried next.
+/// A goal by its first atom, whose variables are raised, and the number of its rest, with what is to be tried next.
 #[derive(Clone, Copy, Drop)]
 pub struct Choice<'p> {
     pub atom: &'p Atom,
@@ -17,8 +17,10 @@ pub struct Choice<'p> {
     pub rest: usize,
     /// The goal's counter.
     pub fresh: u32,
-    /// The number of the clause to be tried next.
+    /// The number of the clause to be tried next, and 0 for a built-in atom.
     pub next: u32,
+    /// The integer that the first argument of a built-in atom has to become, if it has to.
+    pub value: Option<&'p Term>,
     /// How many bindings the goal has.
     pub mark: usize,
     /// How many rests there are with the goal's.

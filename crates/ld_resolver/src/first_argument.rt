@@ -6,16 +6,16 @@ ghost use Rattle.cti_terms.specs.Tree.{Compound, all_instances};
 ghost use Rattle.cti_terms.specs.Spell.{trees_of};
 ghost use Rattle.cti_terms.specs.Unify.{Binding, Step, first_step};
 ghost use Rattle.cti_terms.specs.Resolve.{raised};
-ghost use Rattle.ld_resolver.specs.Raised.{raise};
-ghost use Rattle.ld_resolver.specs.Pending.{args_full};
+ghost use Rattle.unifier.specs.Raised.{raise};
+ghost use Rattle.unifier.specs.Pending.{args_full};
 ghost use Rattle.ld_resolver.specs.Chain.{IsChain, IsNext};
 ghost use Rattle.ld_resolver.specs.FirstArguments.{Clash, HasFirst, IsRuledOut, IsSkipped, IsNextMatch};
 
-use crate::bindings::Bindings;
 use crate::choices::Choice;
 use crate::clause_chain::ClauseChain;
-use crate::raised_term::{RaisedTerm, Shape};
 use cti_terms::{Atom, Clause, Name, Program, Term};
+use unifier::bindings::Bindings;
+use unifier::raised_term::{RaisedTerm, Shape};
 
 /// Whether two compound terms clash, by their names and arities.
 fn compounds_clash(f: Name, left: &[Term], g: Name, right: &[Term]) -> bool

@@ -4,30 +4,27 @@
 //! answers, how many derivations it looked at, and whether there are more. What it answers is proved to be what the
 //! definitions of `cti_terms` say, which substitute in whole goals. The code binds variables in a store instead,
 //! takes bindings back where it chooses another clause, passes over clauses that the first argument rules out, shares
-//! the rests of goals, and unifies no pair of variables over and over.
+//! the rests of goals, and unifies no pair of variables over and over. The value of an expression is found without
+//! recursion, and a run ends where a value does not fit.
 //!
-//! Depends on `cti_terms`, and on `indexmap`, which numbers the variables of an answer in the order of first occurrence and
-//! finds the pairs of variables that were unified.
+//! Depends on `cti_terms`; on `exact128`, which calculates the values of expressions; on `bumpalo`, which keeps them as
+//! terms while a run goes on; and on `indexmap`, which numbers the variables of an answer in the order of first
+//! occurrence and finds the pairs of variables that were unified.
 #![tactic(auto)]
 
 mod answer;
 mod answer_list;
 mod attempts;
-mod bindings;
+mod builtin_atoms;
 mod choices;
 mod clause_chain;
-mod equal_pairs;
 mod first_argument;
 pub mod laws;
-mod occurs_check;
-mod raised_term;
+mod operators;
 mod running;
 mod search;
-mod slot;
-mod slots;
 mod tails;
-mod unification;
-mod visited;
+mod values;
 
 pub use answer::Answer;
 pub use answer_list::Answers;

@@ -6,12 +6,12 @@ ghost use Rattle.cti_terms.specs.Answers.{answers, visited_nodes, HasWide};
 ghost use Rattle.ld_resolver.specs.Chain.{IsChain};
 ghost use Rattle.ld_resolver.specs.Told.{told};
 ghost use Rattle.ld_resolver.specs.Runs.{IsGoalOf};
-ghost use Rattle.ld_resolver.specs.Progress.{IsUnderWay};
+ghost use Rattle.ld_resolver.specs.Progress.{HasBegun, HasAdvanced, IsUnderWay};
 
-use crate::answer::make_answer;
 use crate::answer_list::Answers;
 use crate::clause_chain::ClauseChain;
-use crate::search::{Attempt, Search};
+use crate::search::{Attempt, Entered, Search};
+use bumpalo::Bump;
 use cti_terms::{Goal, Program};
 use std::alloc::{AllocError, Global};
 
@@ -54,26 +54,77 @@ fn counter_after(fresh: u32, vars: u32) -> Result<u32, AllocError>
     }
 }
 
-/// Enters the goal, and gives the answers of the empty derivation.
+/// Enters the query, and adds the answer of the empty derivation if it has one. Whether the run goes on: it does not where
+/// the query is wide.
 fn begin<'p>(
     alloc: Global,
     search: &mut Search<'p>,
     chain: &ClauseChain,
     goal: &'p Goal,
-) -> Result<Answers, AllocError>
+    answers: &mut Answers,
+) -> Result<bool, AllocError>
     requires chain { IsChain search.old.program.now chain.now }
     requires bindings { search.old.bindings ≡ [] }
     requires tails { search.old.tails ≡ [] }
     requires choices { search.old.choices.items ≡ [] }
     requires goal { IsGoalOf search.old.program.now goal.now }
-    ensures { IfOk result (λ answers. (n : ℕ) → IsUnderWay search.old.program.now goal.now n search.new 0 0 answers) }
+    requires answers { answers.old ≡ [] }
+    ensures { IfOk result (λ going. (n : ℕ) → HasBegun search.old.program.now goal.now n search.new answers.new going) }
 {
-    let mut answers = Answers::new(alloc);
-    if search.enter(chain, goal.atoms.as_slice(), 0, 0, goal.fresh, 0)? {
-        return Ok(answers);
+    match search.enter(chain, goal.atoms.as_slice(), 0, 0, goal.fresh, 0)? {
+        Entered::Empty => {
+            answers.push(search.answer(alloc, goal.atoms.as_slice())?)?;
+            Ok(true)
+        }
+        Entered::Open => Ok(true),
+        Entered::Wide => Ok(false),
     }
-    answers.push(search.answer(alloc, goal.atoms.as_slice())?)?;
-    Ok(answers)
+}
+
+/// Goes on by one attempt: looks at the node that it finds, if any, and adds the node's answer if it has one. Whether the
+/// run goes on after it.
+fn advance<'p>(
+    alloc: Global,
+    search: &mut Search<'p>,
+    chain: &ClauseChain,
+    goal: &'p Goal,
+    budget: u64,
+    ran: &mut Ran,
+) -> Result<bool, AllocError>
+    requires chain { IsChain search.old.program.now chain.now }
+    requires under_way { IsUnderWay search.old.program.now goal.now budget search.old ran.old.steps ran.old.longest ran.old.answers }
+    ensures program { search.new.program.now ≡ search.old.program.now }
+    ensures advanced { IfOk result (HasAdvanced search.old.program.now goal.now budget search.old ran.old.steps search.new ran.new) }
+{
+    match search.attempt(chain)? {
+        Attempt::Ended => {
+            ran.ending = Ending::Finished;
+            Ok(false)
+        }
+        Attempt::Failed => Ok(true),
+        Attempt::Resolved(choice, body, vars) => {
+            if ran.steps == budget {
+                ran.ending = Ending::Stopped;
+                return Ok(false);
+            }
+            ran.steps += 1;
+            let depth = choice.depth + 1;
+            ran.longest = ran.longest.max(depth);
+            let fresh = counter_after(choice.fresh, vars)?;
+            match search.enter(chain, body, choice.fresh, choice.rest, fresh, depth)? {
+                Entered::Empty => {
+                    ran.answers
+                        .push(search.answer(alloc, goal.atoms.as_slice())?)?;
+                    Ok(true)
+                }
+                Entered::Open => Ok(true),
+                Entered::Wide => {
+                    ran.ending = Ending::Overflow;
+                    Ok(false)
+                }
+            }
+        }
+    }
 }
 
 /// Runs a query: walks the derivations from a goal in the lexicographic order of their clauses' numbers.
@@ -95,40 +146,20 @@ pub fn run(alloc: Global, program: &Program, goal: &Goal, budget: u64) -> Result
     ensures overflow { IfOk result (λ ran. (ran.ending ≡ Ending.Overflow) ↔ HasWide program.now goal.now budget) }
 {
     let chain = ClauseChain::new(alloc, program)?;
-    let mut search = Search::new(alloc, program);
-    let mut answers = begin(alloc, &mut search, &chain, goal)?;
-    let mut steps = 0;
-    let mut longest = 0;
+    let arena = Bump::new(alloc);
+    let mut search = Search::new(alloc, program, &arena);
+    let mut ran = Ran {
+        answers: Answers::new(alloc),
+        steps: 0,
+        longest: 0,
+        ending: Ending::Overflow,
+    };
+    if !begin(alloc, &mut search, &chain, goal, &mut ran.answers)? {
+        return Ok(ran);
+    }
     loop {
-        match search.attempt(&chain)? {
-            Attempt::Ended => {
-                return Ok(Ran {
-                    answers,
-                    steps,
-                    longest,
-                    ending: Ending::Finished,
-                });
-            }
-            Attempt::Failed => {}
-            Attempt::Resolved(choice, clause) => {
-                if steps == budget {
-                    return Ok(Ran {
-                        answers,
-                        steps,
-                        longest,
-                        ending: Ending::Stopped,
-                    });
-                }
-                steps += 1;
-                let depth = choice.depth + 1;
-                longest = longest.max(depth);
-                let fresh = counter_after(choice.fresh, clause.vars)?;
-                let body = clause.body.as_slice();
-                if search.enter(&chain, body, choice.fresh, choice.rest, fresh, depth)? {
-                    continue;
-                }
-                answers.push(search.answer(alloc, goal.atoms.as_slice())?)?;
-            }
+        if !advance(alloc, &mut search, &chain, goal, budget, &mut ran)? {
+            return Ok(ran);
         }
     }
 }

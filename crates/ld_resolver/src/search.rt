@@ -1,39 +1,54 @@
 //! The search for the nodes of a goal.
 
-ghost use Rattle.std.specs.Prelude.{◌≡◌, ℕ, ◌≤◌, ◌<◌, ◌+◌, ◌++◌, [], ◌∷◌, IfOk, IsTrue, None, OnOk, length, map, reverse};
-ghost use Rattle.cti_terms.specs.Arithmetic.{kind_of};
+ghost use Rattle.std.specs.Prelude.{◌≡◌, ℕ, ◌≤◌, ◌<◌, ◌+◌, ◌++◌, [], ◌∷◌, IfOk, OnOk, length, map, reverse};
 ghost use Rattle.cti_terms.specs.Resolve.{raised};
-ghost use Rattle.ld_resolver.specs.Below.{AtomsBelow, FreeFrom};
+ghost use Rattle.unifier.specs.Below.{AtomsBelow, FreeFrom};
 ghost use Rattle.ld_resolver.specs.Chain.{IsChain};
 ghost use Rattle.ld_resolver.specs.Tails.{tail_at};
 ghost use Rattle.ld_resolver.specs.Told.{told};
 ghost use Rattle.ld_resolver.specs.Measured.{answered_atoms};
-ghost use Rattle.ld_resolver.specs.Searches.{AreMarked, AreNumbered, AreWithin, IsPutBack, IsTaken, IsSearch, IsAttempt, IsEntered, choices_of, attempts_left, goal_with};
+ghost use Rattle.ld_resolver.specs.Searches.{AreMarked, AreNumbered, AreWithin, IsPutBack, IsTaken, IsNewest, IsSearch, IsAttempt, IsEntered, choices_of, attempts_left, goal_at, goal_with};
 
 use crate::answer::{Answer, make_answer};
-use crate::attempts::{Stacks, unify_head};
-use crate::bindings::Bindings;
+use crate::attempts::unify_value;
+use crate::builtin_atoms::{FirstAtom, judge};
 use crate::choices::{Choice, goal_start};
 use crate::clause_chain::ClauseChain;
 use crate::first_argument::next_match;
 use crate::tails::Tails;
-use cti_terms::{Atom, Clause, PredId, Program};
+use crate::values::Calculator;
+use bumpalo::Bump;
+use cti_terms::{Atom, Clause, Program};
 use std::alloc::{AllocError, Global};
+use unifier::bindings::Bindings;
+use unifier::heads::{Stacks, unify_head};
 
-/// What was taken at the last choice: nothing, since there is no choice; no clause, since it had none left and is gone; or a clause.
+/// What was taken at the last choice: nothing, since there is no choice; no clause, since it had none left and is gone;
+/// the choice itself, since its atom is built in; or a clause.
 #[derive(Clone, Copy, Drop)]
 pub enum Taken<'p> {
     Nothing,
     Exhausted,
+    ByItself(Choice<'p>),
     Clause(Choice<'p>, &'p Clause),
 }
 
-/// What an attempt found: the search has ended, no node, or the node of a clause at a choice.
+/// What an attempt found: the search has ended; no node; or the node at a choice of a clause, with its body and its
+/// number of variables. A built-in atom has no clause: its body is empty.
 #[derive(Clone, Copy, Drop)]
 pub enum Attempt<'p> {
     Ended,
     Failed,
-    Resolved(Choice<'p>, &'p Clause),
+    Resolved(Choice<'p>, &'p [Atom], u32),
+}
+
+/// How a goal was entered: it has no atoms; its first atom is still to be resolved; or that atom is built in, and a value
+/// does not fit.
+#[derive(Clone, Copy, Drop)]
+pub enum Entered {
+    Empty,
+    Open,
+    Wide,
 }
 
 /// The state of a search, with stacks of its own in the place of recursion.
@@ -43,6 +58,7 @@ pub struct Search<'p> {
     pub tails: Tails<'p>,
     pub choices: Vec<Choice<'p>>,
     pub stacks: Stacks<'p>,
+    pub calculator: Calculator<'p>,
 }
 
 impl Drop for Search<'_> {
@@ -53,6 +69,7 @@ impl Drop for Search<'_> {
             tails: _,
             choices: _,
             stacks: _,
+            calculator: _,
         } = self;
     }
 }
@@ -71,15 +88,8 @@ fn put_back<'p>(
     Ok(())
 }
 
-/// Whether a predicate is one of the program's and not built in.
-fn is_ordinary(program: &Program, p: PredId) -> bool
-    ensures { IsTrue result → kind_of program.now.arithmetic p.0 ≡ None }
-{
-    p.0 < program.preds() && program.builtin(p).is_none()
-}
-
 /// Takes the next clause at the last choice, and takes back the bindings that were made after the choice's. The choice
-/// goes where no clause is left that can match.
+/// goes where no clause is left that can match, and where its atom is built in.
 fn take_clause<'p>(
     program: &'p Program,
     chain: &ClauseChain,
@@ -98,8 +108,11 @@ fn take_clause<'p>(
     if choice.next > program.clauses() {
         return Ok(Taken::Exhausted);
     }
-    let clause = program.clause(choice.next);
     bindings.undo(choice.mark);
+    if choice.next == 0 {
+        return Ok(Taken::ByItself(choice));
+    }
+    let clause = program.clause(choice.next);
     let next = chain.after(choice.next);
     let next = next_match(program, chain, bindings, Choice { next, ..choice });
     put_back(program, choices, Choice { next, ..choice })?;
@@ -107,8 +120,8 @@ fn take_clause<'p>(
 }
 
 impl<'p> Search<'p> {
-    /// A search without choices. It takes no memory.
-    pub fn new(alloc: Global, program: &'p Program) -> Search<'p>
+    /// A search without choices, with an arena for the values of built-in atoms. It takes no memory.
+    pub fn new(alloc: Global, program: &'p Program, arena: &'p Bump) -> Search<'p>
         ensures program { result.program.now ≡ program.now }
         ensures bindings { result.bindings ≡ [] }
         ensures tails { result.tails ≡ [] }
@@ -120,10 +133,11 @@ impl<'p> Search<'p> {
             tails: Tails::new(alloc),
             choices: Vec::new(alloc),
             stacks: Stacks::new(alloc),
+            calculator: Calculator::new(alloc, arena),
         }
     }
 
-    /// Tries the next clause at the last choice. Rests of goals that were added after the choice are given back.
+    /// Tries what comes next at the last choice. Rests of goals that were added after the choice are given back.
     pub fn attempt(&mut self, chain: &ClauseChain) -> Result<Attempt<'p>, AllocError>
         requires search { IsSearch self.old }
         requires chain { IsChain self.old.program.now chain.now }
@@ -137,8 +151,23 @@ impl<'p> Search<'p> {
             Taken::Exhausted => Ok(Attempt::Failed),
             Taken::Clause(choice, clause) => {
                 self.tails.keep(choice.rests);
-                if unify_head(&mut self.bindings, &mut self.stacks, choice, clause)? {
-                    Ok(Attempt::Resolved(choice, clause))
+                if unify_head(
+                    &mut self.bindings,
+                    &mut self.stacks,
+                    choice.atom,
+                    choice.base,
+                    choice.fresh,
+                    clause,
+                )? {
+                    Ok(Attempt::Resolved(choice, clause.body.as_slice(), clause.vars))
+                } else {
+                    Ok(Attempt::Failed)
+                }
+            }
+            Taken::ByItself(choice) => {
+                self.tails.keep(choice.rests);
+                if unify_value(&mut self.bindings, &mut self.stacks, choice)? {
+                    Ok(Attempt::Resolved(choice, &[], 0))
                 } else {
                     Ok(Attempt::Failed)
                 }
@@ -146,7 +175,48 @@ impl<'p> Search<'p> {
         }
     }
 
-    /// Adds the choice of a goal of this depth: raised atoms, and then a rest. Whether the goal has atoms.
+    /// Adds a choice where its atom has to be resolved: with the first clause that can match, or by itself where it is
+    /// built in and can succeed.
+    fn add(&mut self, chain: &ClauseChain, choice: Choice<'p>) -> Result<Entered, AllocError>
+        requires search { IsSearch self.old }
+        requires chain { IsChain self.old.program.now chain.now }
+        requires newest { IsNewest self.old choice }
+        requires itself { choice.next ≡ 0 }
+        ensures search { OnOk result (IsSearch self.new) }
+        ensures program { self.new.program.now ≡ self.old.program.now }
+        ensures bindings { self.new.bindings ≡ self.old.bindings }
+        ensures entered { IfOk result (λ entered. IsEntered self.old choice.entry.depth (goal_at self.old choice.entry) entered self.new) }
+        ensures attempts { OnOk result (attempts_left self.new ≤ attempts_left self.old + length self.old.program.now.clauses + 2) }
+        ensures depths { OnOk result ((d : ℕ) → AreWithin d (choices_of self.old) → choice.entry.depth ≤ d → AreWithin d (choices_of self.new)) }
+    {
+        match judge(
+            &mut self.calculator,
+            &self.bindings,
+            self.program,
+            choice.atom,
+            choice.base,
+        )? {
+            FirstAtom::Ordinary => {
+                let next = chain.first(choice.atom.pred);
+                let next = next_match(
+                    self.program,
+                    chain,
+                    &self.bindings,
+                    Choice { next, ..choice },
+                );
+                self.choices.push(Choice { next, ..choice })?;
+                Ok(Entered::Open)
+            }
+            FirstAtom::Fails => Ok(Entered::Open),
+            FirstAtom::Wide => Ok(Entered::Wide),
+            FirstAtom::Succeeds(value) => {
+                self.choices.push(Choice { value, ..choice })?;
+                Ok(Entered::Open)
+            }
+        }
+    }
+
+    /// Enters a goal of this depth: raised atoms, and then a rest.
     pub fn enter(
         &mut self,
         chain: &ClauseChain,
@@ -155,7 +225,7 @@ impl<'p> Search<'p> {
         rest: usize,
         fresh: u32,
         depth: u64,
-    ) -> Result<bool, AllocError>
+    ) -> Result<Entered, AllocError>
         requires search { IsSearch self.old }
         requires chain { IsChain self.old.program.now chain.now }
         requires rest { rest ≤ length self.old.tails }
@@ -164,30 +234,26 @@ impl<'p> Search<'p> {
         ensures search { OnOk result (IsSearch self.new) }
         ensures program { self.new.program.now ≡ self.old.program.now }
         ensures bindings { self.new.bindings ≡ self.old.bindings }
-        ensures entered { IfOk result (λ more. IsEntered self.old depth (goal_with self.old.bindings (map (raised base) atoms.now) (tail_at self.old.tails rest) fresh) more self.new) }
-        ensures attempts { OnOk result (attempts_left self.new ≤ attempts_left self.old + length self.old.program.now.clauses + 1) }
+        ensures entered { IfOk result (λ entered. IsEntered self.old depth (goal_with self.old.bindings (map (raised base) atoms.now) (tail_at self.old.tails rest) fresh) entered self.new) }
+        ensures attempts { OnOk result (attempts_left self.new ≤ attempts_left self.old + length self.old.program.now.clauses + 2) }
         ensures depths { OnOk result ((d : ℕ) → AreWithin d (choices_of self.old) → depth ≤ d → AreWithin d (choices_of self.new)) }
     {
         match goal_start(&mut self.tails, atoms, base, rest)? {
             Some(start) => {
-                if !is_ordinary(self.program, start.atom.pred) {
-                    return Err(AllocError);
-                }
                 let choice = Choice {
                     atom: start.atom,
                     base: start.base,
                     rest: start.rest,
                     fresh,
-                    next: chain.first(start.atom.pred),
+                    next: 0,
+                    value: None,
                     mark: self.bindings.len(),
                     rests: self.tails.len(),
                     depth,
                 };
-                let next = next_match(self.program, chain, &self.bindings, choice);
-                self.choices.push(Choice { next, ..choice })?;
-                Ok(true)
+                self.add(chain, choice)
             }
-            None => Ok(false),
+            None => Ok(Entered::Empty),
         }
     }
 

@@ -1,9 +1,9 @@
 use Rattle.std.proofs.Common.{◌≡◌, ℕ, ◌+◌, nat_lt, drop, ap, sym, ◌∙◌, arith}
 use Rattle.cti_terms.specs.Answers.{greatest_depth}
 use Rattle.cti_terms.specs.declared.limits.TheConstants.{MOST_ANSWER_DEPTH}
-use Rattle.ld_resolver.specs.Raised.{raised_tree}
-use Rattle.ld_resolver.specs.Store.{full}
-use Rattle.ld_resolver.specs.Pending.{args_full}
+use Rattle.unifier.specs.Raised.{raised_tree}
+use Rattle.unifier.specs.Store.{full}
+use Rattle.unifier.specs.Pending.{args_full}
 use Rattle.ld_resolver.proofs.AnswerLaws.{deep_below, argument_deep, argument_not_deep}
 use Rattle.ld_resolver.proofs.answer.+is_deep.Goals as goal
 

@@ -5,10 +5,10 @@ use Rattle.cti_terms.specs.Tree.{Tree, Variable, trees, instance, all_nodes}
 use Rattle.cti_terms.specs.declared.syntax.Term.{Term}
 use Rattle.cti_terms.specs.Spell.{tree_of}
 use Rattle.cti_terms.specs.Answers.{met, all_met, numbered_by}
-use Rattle.ld_resolver.specs.Raised.{raise}
-use Rattle.ld_resolver.specs.Shapes.{shape_full}
-use Rattle.ld_resolver.specs.Store.{full}
-use Rattle.ld_resolver.specs.Pending.{args_full}
+use Rattle.unifier.specs.Raised.{raise}
+use Rattle.unifier.specs.Shapes.{shape_full}
+use Rattle.unifier.specs.Store.{full}
+use Rattle.unifier.specs.Pending.{args_full}
 use Rattle.ld_resolver.specs.Measured.{args_numbered, all_numbered_by}
 use Rattle.ld_resolver.proofs.ToldLaws.{tree_of_var, place_stays, met_length, args_first, numbered_first, numbered_trees, told_first}
 use Rattle.ld_resolver.proofs.answer.+told.Goals as goal

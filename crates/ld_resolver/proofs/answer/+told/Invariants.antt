@@ -2,9 +2,9 @@ use Rattle.std.proofs.Common.{◌≡◌, ◌+◌, ◌*◌, ◌<◌, ◌≤◌, �
 use Rattle.cti_terms.specs.Tree.{nodes_of, all_nodes}
 use Rattle.cti_terms.specs.Spell.{tree_of}
 use Rattle.cti_terms.specs.Answers.{all_met}
-use Rattle.ld_resolver.specs.Raised.{raised_tree}
-use Rattle.ld_resolver.specs.Store.{full}
-use Rattle.ld_resolver.specs.Pending.{args_full}
+use Rattle.unifier.specs.Raised.{raised_tree}
+use Rattle.unifier.specs.Store.{full}
+use Rattle.unifier.specs.Pending.{args_full}
 use Rattle.ld_resolver.specs.Measured.{args_numbered}
 use Rattle.ld_resolver.proofs.answer.+told.Given as goal
 

@@ -1,7 +1,7 @@
 use Rattle.std.proofs.Common.{◌≡◌, ◌+◌, nat_lt, drop}
 use Rattle.cti_terms.specs.Answers.{greatest_depth}
 use Rattle.cti_terms.specs.declared.limits.TheConstants.{MOST_ANSWER_DEPTH}
-use Rattle.ld_resolver.specs.Pending.{args_full}
+use Rattle.unifier.specs.Pending.{args_full}
 use Rattle.ld_resolver.proofs.answer.has_deep_argument.Given as goal
 
 abbrev pub invariant-loop-term : goal.invariant-loop-term

@@ -1,13 +1,13 @@
 use Rattle.std.proofs.Common.{◌+◌, ◌++◌, length, ap, sym, ◌∙◌, arith}
 use Rattle.cti_terms.specs.Tree.{all_nodes}
 use Rattle.cti_terms.specs.declared.limits.TheConstants.{MOST_ANSWER_NODES}
-use Rattle.ld_resolver.specs.Raised.{raised_tree}
-use Rattle.ld_resolver.specs.Store.{full}
-use Rattle.ld_resolver.specs.Pending.{raw, weight}
+use Rattle.unifier.specs.Raised.{raised_tree}
+use Rattle.unifier.specs.Store.{full}
+use Rattle.unifier.specs.Pending.{raw, weight}
 use Rattle.ld_resolver.specs.Measured.{answered_terms, all_arguments}
 use Rattle.ld_resolver.proofs.AnswerLaws.{nodes_of_query, lt_true}
 use Rattle.cti_terms.proofs.UnifyLaws.{nodes_positive}
-use Rattle.ld_resolver.proofs.PendingLaws.{weight_last}
+use Rattle.unifier.proofs.PendingLaws.{weight_last}
 use Rattle.ld_resolver.proofs.answer.has_many_nodes.Goals as goal
 
 pub returns-then-nodes : goal.returns-then-nodes

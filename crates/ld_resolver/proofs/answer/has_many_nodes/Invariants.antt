@@ -1,7 +1,7 @@
 use Rattle.std.proofs.Common.{◌≡◌, ◌≤◌, ◌+◌}
 use Rattle.cti_terms.specs.Tree.{all_nodes}
 use Rattle.cti_terms.specs.declared.limits.TheConstants.{MOST_ANSWER_NODES}
-use Rattle.ld_resolver.specs.Pending.{raw, weight}
+use Rattle.unifier.specs.Pending.{raw, weight}
 use Rattle.ld_resolver.specs.Measured.{answered_terms}
 use Rattle.ld_resolver.proofs.answer.has_many_nodes.Given as goal
 

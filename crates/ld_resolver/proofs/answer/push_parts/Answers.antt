@@ -1,10 +1,10 @@
 use Rattle.std.proofs.Common.{map, ap, ◌∙◌, arith}
 use Rattle.cti_terms.specs.Tree.{instance, nodes_of}
 use Rattle.cti_terms.specs.Spell.{tree_of}
-use Rattle.ld_resolver.specs.Raised.{raise}
-use Rattle.ld_resolver.specs.Shapes.{shape_full}
-use Rattle.ld_resolver.specs.Pending.{raw, weight}
-use Rattle.ld_resolver.proofs.PendingLaws.{weight-append, weight-arguments}
+use Rattle.unifier.specs.Raised.{raise}
+use Rattle.unifier.specs.Shapes.{shape_full}
+use Rattle.unifier.specs.Pending.{raw, weight}
+use Rattle.unifier.proofs.PendingLaws.{weight-append, weight-arguments}
 use Rattle.ld_resolver.proofs.answer.push_parts.Goals as goal
 
 pub returns-in_ok-push_arguments-in-Compound : goal.returns-in_ok-push_arguments-in-Compound

@@ -2,8 +2,8 @@ use Rattle.std.proofs.Common.{◌+◌, List, ◌∷◌, ◌++◌, map, drop, app
 use Rattle.std.proofs.lemmas.List.{at_drop_more}
 use Rattle.cti_terms.specs.Tree.{Tree, instance}
 use Rattle.cti_terms.specs.declared.atom_list.Atom.{Atom}
-use Rattle.ld_resolver.specs.Raised.{raise}
-use Rattle.ld_resolver.specs.Pending.{raw}
+use Rattle.unifier.specs.Raised.{raise}
+use Rattle.unifier.specs.Pending.{raw}
 use Rattle.ld_resolver.specs.Measured.{all_arguments}
 use Rattle.ld_resolver.proofs.AnswerLaws.{all_raised_zero}
 use Rattle.ld_resolver.proofs.answer.push_query.Goals as goal

@@ -1,5 +1,5 @@
 use Rattle.std.proofs.Common.{◌≡◌, ◌++◌, drop}
-use Rattle.ld_resolver.specs.Pending.{raw}
+use Rattle.unifier.specs.Pending.{raw}
 use Rattle.ld_resolver.specs.Measured.{all_arguments}
 use Rattle.ld_resolver.proofs.answer.push_query.Given as goal
 

@@ -3,8 +3,8 @@ use Rattle.cti_terms.specs.Tree.{Tree, trees, all_nodes}
 use Rattle.cti_terms.specs.Spell.{tree_of}
 use Rattle.cti_terms.specs.Answers.{all_met, numbered_by}
 use Rattle.cti_terms.proofs.Spelled.{trees_injective}
-use Rattle.ld_resolver.specs.Store.{full}
-use Rattle.ld_resolver.specs.Pending.{args_full}
+use Rattle.unifier.specs.Store.{full}
+use Rattle.unifier.specs.Pending.{args_full}
 use Rattle.ld_resolver.specs.Measured.{all_numbered_by}
 use Rattle.ld_resolver.proofs.ToldLaws.{query_args, all_numbered_trees}
 use Rattle.ld_resolver.proofs.answer.told_atom.Goals as goal

@@ -3,7 +3,7 @@ use Rattle.cti_terms.specs.Tree.{trees, all_nodes}
 use Rattle.cti_terms.specs.declared.atom_list.Atom.{Atom}
 use Rattle.cti_terms.specs.Resolve.{over}
 use Rattle.cti_terms.specs.Answers.{all_met}
-use Rattle.ld_resolver.specs.Store.{full}
+use Rattle.unifier.specs.Store.{full}
 use Rattle.ld_resolver.specs.Measured.{answered_terms, atoms_numbered}
 use Rattle.ld_resolver.proofs.ToldLaws.{all_met_length, terms_first, atoms_first, told_atom_first}
 use Rattle.ld_resolver.proofs.answer.told_query.Goals as goal

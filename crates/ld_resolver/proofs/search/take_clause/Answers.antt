@@ -16,8 +16,9 @@ next_match-next-requires-clause-next c =
     let k = c.clause-clause.result.now in
     let below = reverse c.pop.new.self.items in
     let was : reverse c.args.choices.now.items ≡ choice ∷ below = ap reverse c.in-Some.ensures.items ∙ reverse-append c.pop.new.self.items (choice ∷ []) in
+    let first : 1 ≤ choice.next = omega (arith, c.if-choice-eq0.false) in
     let numbers = (subst (AreNumbered p) was c.requires.numbered).0 in
-    let after = c.after-next.ensures p c.requires.chain k (clause_at p.clauses choice.next k numbers.0 c.clause-clause.ensures.there) in
+    let after = c.after-next.ensures p c.requires.chain k (clause_at p.clauses choice.next k first c.clause-clause.ensures.there) in
     omega (arith, after.from)
 
 pub next_match-next-requires-clause-ordinary : goal.next_match-next-requires-clause-ordinary
@@ -27,8 +28,9 @@ next_match-next-requires-clause-ordinary c =
     let k = c.clause-clause.result.now in
     let below = reverse c.pop.new.self.items in
     let was : reverse c.args.choices.now.items ≡ choice ∷ below = ap reverse c.in-Some.ensures.items ∙ reverse-append c.pop.new.self.items (choice ∷ []) in
+    let first : 1 ≤ choice.next = omega (arith, c.if-choice-eq0.false) in
     let numbers = (subst (AreNumbered p) was c.requires.numbered).0 in
-    let same = numbers.2 k (clause_at p.clauses choice.next k numbers.0 c.clause-clause.ensures.there) in
+    let same = numbers.1 k (clause_at p.clauses choice.next k first c.clause-clause.ensures.there) in
     subst (λ (f : ℕ). kind_of p.arithmetic f ≡ None) (sym same) c.clause-clause.ensures.ordinary
 
 pub returns : goal.returns
@@ -38,15 +40,17 @@ returns c =
     let k = c.clause-clause.result.now in
     let below = reverse c.pop.new.self.items in
     let was : reverse c.args.choices.now.items ≡ choice ∷ below = ap reverse c.in-Some.ensures.items ∙ reverse-append c.pop.new.self.items (choice ∷ []) in
+    let first : 1 ≤ choice.next = omega (arith, c.if-choice-eq0.false) in
     let numbers = (subst (AreNumbered p) was c.requires.numbered).0 in
     let within : choice.next ≤ length p.clauses = omega (arith, c.if-choice-clauses.false, c.clauses.ensures.count) in
-    let there = clause_at p.clauses choice.next k numbers.0 c.clause-clause.ensures.there in
-    let same = numbers.2 k there in
+    let there = clause_at p.clauses choice.next k first c.clause-clause.ensures.there in
+    let same = numbers.1 k there in
     record {
       below = below;
       m = c.next_match-next.result;
       was = was;
       is = c.in_ok-put_back.ensures;
+      first = first;
       within = within;
       there = c.clause-clause.ensures.there;
       clause = c.clause-clause.ensures.sound;

@@ -1,2 +1,0 @@
-use Rattle.ld_resolver.proofs.SlotLaws.{slot_here}
-use Rattle.ld_resolver.proofs.slots.Slots.get.Goals as goal

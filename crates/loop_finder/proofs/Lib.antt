@@ -1,0 +1,9 @@
+pub mod CopyLaws
+pub mod FindLaws
+pub mod GoesOn
+pub mod LookLaws
+pub mod MatchLaws
+pub mod MatchesLaws
+pub mod PathLaws
+pub mod SearchLaws
+pub mod StepLaws

@@ -1,0 +1,9 @@
+pub mod ClauseNodes
+pub mod Copies
+pub mod Finding
+pub mod Looked
+pub mod Looking
+pub mod Loop
+pub mod Matches
+pub mod Matching
+pub mod Paths

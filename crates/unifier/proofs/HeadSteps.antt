@@ -1,0 +1,123 @@
+-- Arguments of a goal are unified with those of a head, one pair after the other.
+use Rattle.std.proofs.Common.{◌≡◌, ℕ, min, ◌+◌, ◌<◌, ◌≤◌, Bool, true, false, ◌||◌, true≢false, inl, inr, List, [], ◌∷◌, ◌++◌, length, drop, get_or, None, Some, option_map, append_assoc, append-nil, refl, ap, sym, ◌∙◌, subst, arith}
+use Rattle.std.proofs.lemmas.Bool.{or_left, or_cases}
+use Rattle.cti_terms.specs.Tree.{Tree, instance, all_instances}
+use Rattle.cti_terms.specs.declared.syntax.Term.{Term}
+use Rattle.cti_terms.specs.Spell.{tree_of, trees_of}
+use Rattle.cti_terms.specs.Unify.{Equation, Binding, Split, first_step, occurs, pairs}
+use Rattle.cti_terms.specs.UnifyFunction.{unify, occurs_in}
+use Rattle.cti_terms.proofs.UnifyLaws.{unify_finds}
+use Rattle.unifier.specs.Raised.{raise}
+use Rattle.unifier.specs.Store.{made, full}
+use Rattle.unifier.specs.Below.{TermBelow, LeftBelow}
+use Rattle.unifier.specs.Pending.{under_bindings, waiting_from, IsUnified, StaysBelow, Extends, KeepsFree}
+use Rattle.unifier.specs.Heads.{IsUnifiedTo}
+use Rattle.unifier.proofs.BelowLaws.{left_bound, left_wider}
+use Rattle.unifier.proofs.PendingLaws.{under_more, pairs_ended, pairs_pushed}
+use Rattle.unifier.proofs.UnifySteps.{occur_split, option_map_same}
+use Rattle.unifier.proofs.SequelLaws.{after_all, under_later, option_map_both, unify_then, unify_fails, occur_after}
+
+-- ---- one pair
+
+-- a binding to a term of variables below a number, where the limit goes up to it
+pub bound_below : (s : List Binding) (x : ℕ) (w : Tree) (limit more now : ℕ) → limit ≤ now → more ≤ now → TermBelow more (full s w) → StaysBelow limit s now ((x, w) ∷ s)
+bound_below s x w limit more now l m b es h =
+    subst (LeftBelow now) (sym (under_more s (x, w) es))
+    (left_bound now x (full s w) (under_bindings s es) (λ y o. let k = b y o in omega (arith, k, m)) (left_wider limit now (under_bindings s es) l h))
+
+-- a variable that does not occur in a pair stays free where the pairs of arguments in its place are solved
+pub split_free : (s now : List Binding) (t u : Tree) (qs : List Equation) → first_step t u ≡ Split qs → KeepsFree (qs ++ []) s now → KeepsFree ((t, u) ∷ []) s now
+split_free s now t u qs h keeps y gone free = keeps y (go (occurs_in y (qs ++ [])) refl) free
+  where
+    go : (b : Bool) → occurs_in y (qs ++ []) ≡ b → occurs_in y (qs ++ []) ≡ false
+    go true e = absurd (true≢false (sym (occur_split t u qs [] h y e) ∙ gone))
+    go false e = e
+
+-- equations with the same unifier
+pub unified_same : (before now : List Binding) (es fs : List Equation) (b : Bool) → unify fs ≡ unify es → IsUnified before es now b → IsUnified before fs now b
+unified_same before now es fs true e u = (u.0, e ∙ u.1, u.2)
+unified_same before now es fs false e u = e ∙ u
+
+-- ---- all pairs
+
+pub pair_at : (s : List Binding) (n m i : ℕ) (ts us : List Term) (t u : Term) → i < length ts → i < length us → t ≡ get_or ts i t → u ≡ get_or us i u → waiting_from s n m ts us i ≡ (full s (instance (raise n) (tree_of t)), full s (instance (raise m) (tree_of u))) ∷ waiting_from s n m ts us (i + 1)
+pair_at s n m i ts us t u h k e d =
+    ap (under_bindings s)
+    (sym (append-nil (pairs (all_instances (raise n) (trees_of (drop i ts))) (all_instances (raise m) (trees_of (drop i us)))))
+    ∙ pairs_pushed n m i ts us t u [] h k e d
+    ∙ ap (λ (l : List Equation). (instance (raise n) (tree_of t), instance (raise m) (tree_of u)) ∷ l) (append-nil (pairs (all_instances (raise n) (trees_of (drop (i + 1) ts))) (all_instances (raise m) (trees_of (drop (i + 1) us))))))
+
+pub none_at : (s : List Binding) (n m i : ℕ) (ts us : List Term) → i ≡ min (length ts) (length us) → waiting_from s n m ts us i ≡ []
+none_at s n m i ts us e =
+    ap (under_bindings s)
+    (sym (append-nil (pairs (all_instances (raise n) (trees_of (drop i ts))) (all_instances (raise m) (trees_of (drop i us)))))
+    ∙ sym (pairs_ended i n m ts us [] e))
+
+-- no pair is unified yet
+pub none_unified : (s : List Binding) (n m : ℕ) (ts us : List Term) (limit : ℕ) → LeftBelow limit (waiting_from s n m ts us 0) → IsUnifiedTo s n m ts us 0 limit s
+none_unified s n m ts us limit h = record {
+  so_far = ([], sym (append-nil (made s)), option_map_same (unify (waiting_from s n m ts us 0)));
+  left = h;
+  inside = λ y o. o;
+  free = λ y gone free. free;
+  extended = ([], refl);
+}
+
+module _ (before now : List Binding) (n m : ℕ) (ts us : List Term) (i limit : ℕ) (so : IsUnifiedTo before n m ts us i limit now) where
+  abbrev first : List Equation
+  first = waiting_from before n m ts us 0
+
+  -- all are
+  pub all_unified : i ≡ min (length ts) (length us) → IsUnified (made before) first (made now) true
+  all_unified e =
+      let bs = so.so_far.0 in
+      (bs, so.so_far.2 ∙ ap (λ (es : List Equation). option_map (λ cs. bs ++ cs) (unify es)) (none_at now n m i ts us e) ∙ ap Some (append-nil bs), so.so_far.1)
+
+  module _ (t u : Tree) (e : waiting_from now n m ts us i ≡ (t, u) ∷ waiting_from now n m ts us (i + 1)) where
+    abbrev rest : List Equation
+    rest = waiting_from now n m ts us (i + 1)
+
+    pub pair_below : TermBelow limit t
+    pair_below = (subst (LeftBelow limit) e so.left).0
+
+    pair_absent : (y : ℕ) → occurs_in y first ≡ false → occurs_in y ((t, u) ∷ []) ≡ false
+    pair_absent y gone = go (occurs_in y ((t, u) ∷ [])) refl
+      where
+        go : (b : Bool) → occurs_in y ((t, u) ∷ []) ≡ b → occurs_in y ((t, u) ∷ []) ≡ false
+        go true o =
+            let here : (occurs y t || occurs y u) ≡ true = elim (or_cases (occurs y t || occurs y u) false o) [ inl k ↦ k | inr k ↦ cc ] in
+            absurd (true≢false (sym (so.inside y (subst (λ (es : List Equation). occurs_in y es ≡ true) (sym e) (or_left (occurs y t || occurs y u) (occurs_in y rest) here))) ∙ gone))
+        go false o = o
+
+    -- the next pair has no unifier
+    pub pair_fails : unify ((t, u) ∷ []) ≡ None → unify first ≡ None
+    pair_fails h = so.so_far.2 ∙ ap (option_map (λ cs. so.so_far.0 ++ cs)) (ap unify e ∙ unify_fails ((t, u) ∷ []) rest h)
+
+    module _ (new : List Binding) (extended : Extends new now) (free : KeepsFree ((t, u) ∷ []) now new) where
+      pub pair_extended : Extends new before
+      pair_extended = (extended.0 ++ so.extended.0, extended.1 ∙ ap (λ (l : List Binding). extended.0 ++ l) so.extended.1 ∙ sym (append_assoc extended.0 so.extended.0 before))
+
+      pub pair_free : KeepsFree first before new
+      pair_free y gone is_free = free y (pair_absent y gone) (so.free y gone is_free)
+
+      -- it has one
+      pub pair_unified : (limit_now : ℕ) → IsUnified (made now) ((t, u) ∷ []) (made new) true → StaysBelow limit now limit_now new → IsUnifiedTo before n m ts us (i + 1) limit_now new
+      pair_unified limit_now unified stays =
+          let bs = so.so_far.0 in
+          let cs = unified.0 in
+          let raw = pairs (all_instances (raise n) (trees_of (drop (i + 1) ts))) (all_instances (raise m) (trees_of (drop (i + 1) us))) in
+          let later : waiting_from new n m ts us (i + 1) ≡ after_all cs rest = under_later now new cs raw unified.2 in
+          record {
+            so_far = (
+              bs ++ cs,
+              unified.2 ∙ ap (λ (l : List Binding). l ++ cs) so.so_far.1 ∙ append_assoc (made before) bs cs,
+              so.so_far.2
+                  ∙ ap (option_map (λ ds. bs ++ ds)) (ap unify e ∙ unify_then ((t, u) ∷ []) rest cs unified.1 ∙ ap (λ (es : List Equation). option_map (λ ds. cs ++ ds) (unify es)) (sym later))
+                  ∙ option_map_both bs cs (unify (waiting_from new n m ts us (i + 1))),
+            );
+            left = stays raw (subst (LeftBelow limit) e so.left).1;
+            inside = λ y o. so.inside y (subst (λ (es : List Equation). occurs_in y es ≡ true) (sym e)
+                (occur_after (unify_finds ((t, u) ∷ []) cs unified.1) rest y (subst (λ (es : List Equation). occurs_in y es ≡ true) later o)));
+            free = pair_free;
+            extended = pair_extended;
+          }

@@ -1,0 +1,12 @@
+pub mod BelowLaws
+pub mod ConstantLaws
+pub mod CoverLaws
+pub mod HeadLaws
+pub mod HeadSteps
+pub mod PendingLaws
+pub mod RememberedLaws
+pub mod SequelLaws
+pub mod SlotLaws
+pub mod StoreLaws
+pub mod UnifySteps
+pub mod VisitLaws

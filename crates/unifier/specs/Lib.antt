@@ -1,0 +1,9 @@
+pub mod Below
+pub mod Heads
+pub mod Pending
+pub mod Raised
+pub mod Remembered
+pub mod Shapes
+pub mod Slots
+pub mod Store
+pub mod Visits

@@ -1,0 +1,138 @@
+//! Unification of an atom with the head of a clause.
+
+ghost use Rattle.std.specs.Prelude.{◌≡◌, ◌≤◌, ◌<◌, ◌+◌, ◌++◌, [], ◌∷◌, IfOk, OnOk, length, map};
+ghost use Rattle.std.specs.List.{AllByRecursion};
+ghost use Rattle.cti_terms.specs.Tree.{is_below};
+ghost use Rattle.cti_terms.specs.Resolve.{over, raised, head_equations};
+ghost use Rattle.unifier.specs.Store.{full, made};
+ghost use Rattle.unifier.specs.Raised.{raised_tree};
+ghost use Rattle.unifier.specs.Pending.{IsUnified, StaysBelow, Extends, KeepsFree};
+ghost use Rattle.unifier.specs.Below.{TermBelow, ArgumentsBelow, FreeFrom};
+
+use crate::bindings::Bindings;
+use crate::equal_pairs::EqualPairs;
+use crate::raised_term::RaisedTerm;
+use crate::unification::{Found, push_equations, solve, step};
+use crate::visited::Visited;
+use cti_terms::{Atom, Clause};
+use std::alloc::{AllocError, Global};
+
+/// Stacks that are used again from one attempt to the next.
+pub struct Stacks<'p> {
+    equations: Vec<(RaisedTerm<'p>, RaisedTerm<'p>)>,
+    pairs: EqualPairs<'p>,
+    pub terms: Vec<RaisedTerm<'p>>,
+    visited: Visited,
+}
+
+impl Drop for Stacks<'_> {
+    fn drop(self) {
+        let Stacks {
+            equations: _,
+            pairs: _,
+            terms: _,
+            visited: _,
+        } = self;
+    }
+}
+
+impl<'p> Stacks<'p> {
+    /// Empty stacks. It takes no memory.
+    pub fn new(alloc: Global) -> Stacks<'p> {
+        Stacks {
+            equations: Vec::new(alloc),
+            pairs: EqualPairs::new(alloc),
+            terms: Vec::new(alloc),
+            visited: Visited::new(alloc),
+        }
+    }
+}
+
+/// Unifies two terms, by bindings that are added. Where it fails, some may have been added.
+///
+/// The left term has variables below the limit alone, and the limit goes up with the bindings.
+#[inline(always)]
+pub fn unify_terms<'p>(
+    bindings: &mut Bindings<'p>,
+    stacks: &mut Stacks<'p>,
+    left: RaisedTerm<'p>,
+    right: RaisedTerm<'p>,
+    limit: &mut usize,
+) -> Result<bool, AllocError>
+    requires { TermBelow limit.old (full bindings.old (raised_tree left)) }
+    ensures unifier { IfOk result (IsUnified (made bindings.old) ((full bindings.old (raised_tree left.entry), full bindings.old (raised_tree right.entry)) ∷ []) (made bindings.new)) }
+    ensures limit { OnOk result (StaysBelow limit.old bindings.old limit.new bindings.new) }
+    ensures extended { OnOk result (Extends bindings.new bindings.old) }
+    ensures free { OnOk result (KeepsFree ((full bindings.old (raised_tree left.entry), full bindings.old (raised_tree right.entry)) ∷ []) bindings.old bindings.new) }
+{
+    let l = bindings.met(left);
+    let r = bindings.met(right);
+    match step(
+        bindings,
+        l,
+        r,
+        *limit,
+        &mut stacks.terms,
+        &mut stacks.visited,
+    )? {
+        Found::Nothing => Ok(true),
+        Found::Binds(x, term, above) => {
+            *limit = (*limit).max(above);
+            bindings.bind(x, term)?;
+            Ok(true)
+        }
+        Found::Arguments(ts, us) => {
+            stacks.equations.clear();
+            push_equations(&mut stacks.equations, ts, l.term.base, us, r.term.base)?;
+            let solved = solve(
+                bindings,
+                &mut stacks.equations,
+                &mut stacks.pairs,
+                limit,
+                &mut stacks.terms,
+                &mut stacks.visited,
+            )?;
+            Ok(solved)
+        }
+        Found::Clash => Ok(false),
+    }
+}
+
+/// Unifies an atom, whose variables are raised by its base, with the head of a clause, whose variables are raised by a goal's
+/// counter. Only where two compound terms meet are equations put on a stack, and they are solved before the next argument.
+pub fn unify_head<'p>(
+    bindings: &mut Bindings<'p>,
+    stacks: &mut Stacks<'p>,
+    atom: &'p Atom,
+    base: u32,
+    fresh: u32,
+    clause: &'p Clause,
+) -> Result<bool, AllocError>
+    requires free { FreeFrom fresh bindings.old }
+    requires below { ArgumentsBelow fresh (over (full bindings.old) (raised base atom.now)).args }
+    ensures unifier { IfOk result (IsUnified (made bindings.old) (head_equations (over (full bindings.old) (raised base atom.now)) fresh clause.now) (made bindings.new)) }
+    ensures extended { OnOk result (Extends bindings.new bindings.old) }
+    ensures free { OnOk result (KeepsFree (head_equations (over (full bindings.old) (raised base atom.now)) fresh clause.now) bindings.old bindings.new) }
+{
+    bindings.reserve(fresh as usize + clause.vars as usize)?;
+    let left = atom.args.as_slice();
+    let right = clause.head.args.as_slice();
+    let count = left.len().min(right.len());
+    let mut limit = fresh as usize;
+    let mut i = 0;
+    while i < count {
+        let l = RaisedTerm {
+            term: &left[i],
+            base,
+        };
+        let r = RaisedTerm {
+            term: &right[i],
+            base: fresh,
+        };
+        if !unify_terms(bindings, stacks, l, r, &mut limit)? {
+            return Ok(false);
+        }
+        i += 1;
+    }
+    Ok(true)
+}
