@@ -1,9 +1,9 @@
 -- Lemmas on terms with their variables numbered anew.
-use Rattle.std.proofs.Common.{◌≡◌, ℕ, ◌+◌, ◌<◌, List, [], ◌∷◌, ◌++◌, length, map, drop, get_or, nat_eq, refl, ap, sym, ◌∙◌, append_assoc, append-nil, arith, zero, suc, sum_by, Vec, Global}
+use Rattle.std.proofs.Common.{◌≡◌, ℕ, ◌+◌, ◌<◌, List, [], ◌∷◌, ◌++◌, length, map, drop, get_or, nat_eq, refl, ap, sym, ◌∙◌, append_assoc, arith, zero, suc, sum_by, Vec, Global}
 use Rattle.std.proofs.lemmas.List.Sums.{sum_by-cons, sum_by-append}
 use Rattle.std.specs.List.{position_or_len}
 use Rattle.std.proofs.lemmas.List.{at_drop_more}
-use Rattle.cti_terms.specs.Tree.{Tree as Term, Trees as Terms, Variable, Compound, End, More, instance, all_instances, trees, nodes_of, all_nodes}
+use Rattle.cti_terms.specs.Tree.{Tree as Term, Variable, Compound, More, instance, all_instances, trees, nodes_of, all_nodes}
 use Rattle.cti_terms.specs.Spell.{tree_of as cti_tree}
 use Rattle.cti_terms.specs.declared.naming.Name.{Name}
 use Rattle.cti_terms.specs.declared.syntax.Term.{Term as CodeTerm}

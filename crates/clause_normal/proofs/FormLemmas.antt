@@ -1,22 +1,21 @@
 -- Lemmas on what the term of a clause is.
-use Rattle.std.proofs.Common.{◌≡◌, ℕ, ◌+◌, ◌<◌, ◌≤◌, Bool, true, false, IsTrue, nat_lt, List, [], ◌∷◌, ◌++◌, length, map, Option, Some, None, refl, ap, sym, ◌∙◌, subst, arith, append-nil, if◌then◌else◌, Vec, Global, Bor}
+use Rattle.std.proofs.Common.{◌≡◌, ℕ, ◌<◌, Bool, List, [], ◌∷◌, ◌++◌, length, map, ap, sym, ◌∙◌, arith, append-nil, if◌then◌else◌, Vec, Global}
 use Rattle.std.proofs.lemmas.Bool.Decides.{nat_tests}
 use Rattle.cti_terms.specs.declared.naming.Name.{Name}
-use Rattle.prolog_grammar.specs.Placed.{Tree, tree, Shape, Var, Int, Fun, Trees, no_trees, more_trees}
+use Rattle.prolog_grammar.specs.Placed.{Tree, tree, Fun}
 use Rattle.prolog_terms.specs.declared.term.ReadTerm.{ReadTerm}
 use Rattle.prolog_terms.specs.declared.term.ReadShape.TheVariants as shape
-use Rattle.prolog_terms.specs.Clauses.{row, list_of, arity, nodes}
+use Rattle.prolog_terms.specs.Clauses.{row, list_of, nodes}
 use Rattle.prolog_reader.specs.Names.{name_text}
 use Rattle.prolog_terms.specs.Terms.{tree_of}
 use Rattle.prolog_reader.proofs.ViewLemmas.{tree_of_fun, arity_terms, list_of_row}
-use Rattle.clause_normal.specs.declared.fault.NormKind.{NormKind}
 use Rattle.clause_normal.specs.declared.fault.NormKind.TheVariants as kind
 use Rattle.clause_normal.specs.declared.words.Neck.{Neck}
 use Rattle.clause_normal.specs.declared.words.Neck.TheVariants as neck
-use Rattle.clause_normal.specs.Words.{neck_of, is_silent, is_reserved}
+use Rattle.clause_normal.specs.Words.{neck_of, is_silent}
 use Rattle.clause_normal.specs.Terms.{occurrences, list_variables}
-use Rattle.clause_normal.specs.NormalForm.{Form, skipped, refused, clause, Fault, is_silent_goal, named_form, form_of, named_head_fault, head_fault, head_call}
-use Rattle.clause_normal.specs.Rules.{Call, named}
+use Rattle.clause_normal.specs.NormalForm.{skipped, refused, is_silent_goal, named_form, form_of, named_head_fault, head_fault, head_call}
+use Rattle.clause_normal.specs.Rules.{named}
 use Rattle.clause_normal.specs.Views.{plain_of}
 use Rattle.clause_normal.proofs.PartLemmas.{plain_list_row}
 use Rattle.clause_normal.proofs.TermLemmas.{occurrences_fun}

@@ -1,5 +1,5 @@
 -- What the names of known terms mean stays where names are added.
-use Rattle.std.proofs.Common.{◌≡◌, ℕ, ◌+◌, ◌<◌, Bool, true, false, IsTrue, ◌&&◌, ◌||◌, nat_lt, List, [], ◌∷◌, ◌++◌, length, Option, Some, None, Result, Ok, Err, if◌then◌else◌, refl, ap, sym, ◌∙◌, arith}
+use Rattle.std.proofs.Common.{◌≡◌, ℕ, ◌<◌, Bool, true, false, IsTrue, nat_lt, List, [], ◌∷◌, ◌++◌, length, Option, Result, Ok, Err, if◌then◌else◌, refl, ap, ◌∙◌}
 use Rattle.std.specs.List.{AllByRecursion}
 use Rattle.std.proofs.lemmas.Bool.{and_parts, ltb-true}
 use Rattle.std.proofs.Math.ListN.{get_or-append}
@@ -16,7 +16,7 @@ use Rattle.clause_normal.specs.Words.{connective_of, is_silent, neck_of}
 use Rattle.clause_normal.specs.Rules.{Rule, rules, after}
 use Rattle.clause_normal.specs.NormalForm.{Fault, Form, Made, skipped, refused, clause, first_of, goals_fault, variables_fault, named_head_fault, head_fault, head_call, is_silent_goal, named_form, form_of, made_or_fault, with_form, with_clause, and_next, normal_rules}
 use Rattle.clause_normal.specs.Terms.{plain_list, occurrences}
-use Rattle.clause_normal.specs.Bodies.{Goal, Goals, Body, of_goals, one_goal, named_goal, atom_goal, named_body, body_of, shape_body, argument_bodies}
+use Rattle.clause_normal.specs.Bodies.{Goal, Body, of_goals, one_goal, named_goal, atom_goal, named_body, body_of, shape_body, argument_bodies}
 
 module _ (names later : List (List ℕ)) (ext : Extends names later) where
   -- the text of a known name

@@ -10,6 +10,7 @@ pub mod FitLemmas
 pub mod CopyLemmas
 pub mod Later
 pub mod NumberingLemmas
+pub mod KindLemmas
 pub mod FormLemmas
 pub mod OutcomeLemmas
 pub mod QueryLemmas

@@ -13,6 +13,11 @@ use Rattle.cti_terms.specs.declared.predicates.Pred.{Pred}
 use Rattle.prolog_reader.specs.Names.{Extends}
 use Rattle.prolog_reader.proofs.NameLemmas.{Placed, placed}
 use Rattle.clause_normal.specs.Terms.{variables, all_variables, list_variables, is_among, with_number, with_numbers, renumbered}
+use Rattle.clause_normal.specs.declared.rule.Call.{Call as CodeCall}
+use Rattle.clause_normal.specs.declared.rule.Functor.{Functor as CodeFunctor}
+use Rattle.clause_normal.specs.declared.rule.Functor.TheVariants as functor
+use Rattle.clause_normal.specs.declared.rule.Rule.{Rule as CodeRule}
+use Rattle.clause_normal.specs.RuleViews.{FunctorIsFit, CallIsFit, RuleIsFit}
 use Rattle.clause_normal.specs.Rules.{Call}
 use Rattle.clause_normal.specs.Numbering.{call_variables, atoms_after, pred_of, is_equality, equality_clause, with_equality_clause, with_equality, HasArity}
 use Rattle.clause_normal.proofs.ListLemmas.{all_append, all_front, all_back}
@@ -24,6 +29,17 @@ all_weaker P Q f (x ∷ xs) h = (f x h.0, all_weaker P Q f xs h.1)
 -- later names are at least as many
 pub extends_more : (names later : List (List ℕ)) → Extends names later → length names ≤ length later
 extends_more names later ext = omega (arith, ap length ext.1, length-append names ext.0)
+
+-- a clause of known names is one of more
+functor_later : (n m : ℕ) (f : CodeFunctor) → n ≤ m → FunctorIsFit n f → FunctorIsFit m f
+functor_later n m (functor.Named f) le h = omega (arith, h, le)
+functor_later n m (functor.Chosen k) le h = tt
+
+call_later : (n m : ℕ) (c : CodeCall) → n ≤ m → CallIsFit n c → CallIsFit m c
+call_later n m c le h = (h.0, functor_later n m c.functor le h.1)
+
+pub rule_later : (n m : ℕ) (r : CodeRule) → n ≤ m → RuleIsFit n r → RuleIsFit m r
+rule_later n m r le h = record { head = call_later n m r.head le h.head; body = all_weaker (CallIsFit n) (CallIsFit m) (λ c k. call_later n m c le k) r.body.items h.body }
 
 -- what holds of predicates and of one more
 pub all_with_pred : (P : Pred → Type 0) (preds : List Pred) (p : Pred) → AllByRecursion P preds → P p → AllByRecursion P (with_pred preds p)
@@ -120,7 +136,7 @@ module _ (order : List ℕ) where
   )
 
 -- which stays where predicates stay at their places
-some_within : (preds : List Pred) (i : ℕ) (P : Pred → Type 0) → IsSomeAnd (slice_get preds i) P → i < length preds
+pub some_within : (preds : List Pred) (i : ℕ) (P : Pred → Type 0) → IsSomeAnd (slice_get preds i) P → i < length preds
 some_within [] i P h = absurd h
 some_within (p ∷ ps) zero P h = omega arith
 some_within (p ∷ ps) (suc i) P h = omega (arith, some_within ps i P h)

@@ -1,5 +1,5 @@
 -- Lemmas on what a clause leads to: the clauses that are made, or its first fault.
-use Rattle.std.proofs.Common.{◌≡◌, ℕ, ◌<◌, ◌≤◌, ◌+◌, Bool, true, false, nat_lt, List, [], ◌∷◌, ◌++◌, length, map, Option, Some, None, Ok, Err, refl, ap, sym, ◌∙◌, if◌then◌else◌}
+use Rattle.std.proofs.Common.{◌≡◌, ℕ, Bool, true, false, nat_lt, List, length, map, Option, Some, None, Ok, Err, refl, ap, ◌∙◌, if◌then◌else◌}
 use Rattle.std.proofs.lemmas.List.{length-map}
 use Rattle.clause_normal.specs.declared.fault.NormKind.TheVariants as kind
 use Rattle.clause_normal.specs.declared.rule.Rule.{Rule as CodeRule}

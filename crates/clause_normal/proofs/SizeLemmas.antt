@@ -23,7 +23,7 @@ use Rattle.clause_normal.specs.Words.{is_impure, is_choice_name, connective_of, 
 use Rattle.clause_normal.specs.Terms.{plain_list, occurrences}
 use Rattle.clause_normal.specs.Bodies.{Goal, Goals, Branches, call, choice, bad, no_goals, more_goals, no_branches, more_branches, one_goal, joined, joined_branches, arguments, Body, of_goals, named_goal, atom_goal, choice_goal, disjunction, named_body, body_of, shape_body, argument_bodies}
 use Rattle.clause_normal.specs.Rules.{Functor, named, chosen, Call, Rule, choice_call, choices_at, choices, inner, inner_at, call_at, calls, below, below_at, branch_rules, rules, after}
-use Rattle.clause_normal.specs.Numbering.{pred_of, with_calls, with_rule, with_rules}
+use Rattle.clause_normal.specs.Numbering.{empty_program, operation_texts, pred_of, with_calls, with_rule, with_rules}
 use Rattle.clause_normal.specs.NormalForm.{Fault, head_call, Form, skipped, refused, clause, is_silent_goal, named_form, form_of, clause_fault, Made, made_or_fault, with_form, with_clause, and_next, normal_rules, program_of, normal_form}
 use Rattle.clause_normal.specs.ChoiceNames.{functor_texts, call_texts, rule_texts, made_texts, program_names}
 
@@ -284,11 +284,11 @@ rule_texts_few (r ∷ rs) =
     let k = call_texts_few (r.head ∷ r.body) in
     omega (arith, l, k, length-append (call_texts (r.head ∷ r.body)) (rule_texts rs))
 
-made_texts_few : (most : ℕ) (r : Result (List Rule) Fault) → RulesFew most r → length (made_texts r) ≤ most
-made_texts_few most (Ok rs) h = let l = rule_texts_few rs in omega (arith, l, h)
+made_texts_few : (most : ℕ) (r : Result (List Rule) Fault) → RulesFew most r → length (made_texts r) ≤ most + 3
+made_texts_few most (Ok rs) h = let l = rule_texts_few rs in omega (arith, l, h, length-append operation_texts (rule_texts rs))
 made_texts_few most (Err f) h = omega arith
 
-pub program_names_few : (names : List (List ℕ)) (cs : List Clause) → all_of cs ≤ 2097152 → length (program_names names cs) ≤ length names + 4194304
+pub program_names_few : (names : List (List ℕ)) (cs : List Clause) → all_of cs ≤ 2097152 → length (program_names names cs) ≤ length names + 4194307
 program_names_few names cs le =
     let l = names_few names (made_texts (normal_rules names [] 1 cs)) in
     let k = made_texts_few 4194304 (normal_rules names [] 1 cs) (rules_few names [] 1 cs 4194304 (omega (arith, le))) in
@@ -314,7 +314,7 @@ with_rules_few names p (r ∷ rs) =
 
 program_few : (names : List (List ℕ)) (most : ℕ) (r : Result (List Rule) Fault) (p : Listing) → RulesFew most r → program_of names r ≡ Ok p → length p.preds ≤ most
 program_few names most (Ok rs) p h e =
-    let l = with_rules_few names (record { preds = []; clauses = [] }) rs in
+    let l = with_rules_few names (empty_program names) rs in
     let same = ap (λ (x : Result Listing Fault). preds_of x) e in
     omega (arith, l, h, same)
   where

@@ -1,9 +1,8 @@
 -- Lemmas on terms of the code and their variables.
-use Rattle.std.proofs.Common.{◌≡◌, ℕ, ℤ, ◌+◌, ◌*◌, ◌<◌, ◌≤◌, suc, List, [], ◌∷◌, ◌++◌, length, map, refl, ap, sym, ◌∙◌, append_assoc, append-nil, arith, IsTrue, Vec, Global, Bor}
+use Rattle.std.proofs.Common.{◌≡◌, ℕ, ℤ, ◌+◌, ◌*◌, ◌<◌, suc, List, [], ◌∷◌, ◌++◌, map, refl, ap, sym, ◌∙◌, append_assoc, append-nil, arith, IsTrue, Vec, Global, Bor}
 use Rattle.std.specs.List.{AllByRecursion}
 use Rattle.std.proofs.lemmas.Bool.{and_parts, ltb-true}
 use Rattle.clause_normal.proofs.ListLemmas.{all_append}
-use Rattle.cti_terms.specs.Tree.{Tree as Term}
 use Rattle.cti_terms.specs.declared.naming.Name.{Name}
 use Rattle.prolog_grammar.specs.Placed.{Tree, tree, Shape, Var, Int, Fun, Trees, no_trees, more_trees}
 use Rattle.prolog_terms.specs.declared.term.ReadTerm.{ReadTerm}
@@ -11,7 +10,7 @@ use Rattle.prolog_terms.specs.declared.term.ReadShape.TheVariants as shape
 use Rattle.prolog_terms.specs.Clauses.{row, nodes, all_nodes, is_below, shape_below, all_below}
 use Rattle.prolog_terms.specs.Terms.{tree_of}
 use Rattle.prolog_reader.proofs.ViewLemmas.{tree_of_fun, tree_of_var, tree_of_int}
-use Rattle.clause_normal.specs.Terms.{plain, plain_shape, variables, plain_terms, occurrences, list_variables, all_variables}
+use Rattle.clause_normal.specs.Terms.{plain_shape, variables, plain_terms, occurrences, list_variables, all_variables}
 use Rattle.clause_normal.specs.Views.{plain_of}
 use Rattle.clause_normal.specs.Stacks.{stack_variables, stack_work, list_work}
 

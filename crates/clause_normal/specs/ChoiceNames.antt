@@ -1,12 +1,13 @@
 -- To believe, for reading.
--- The names that the normal form adds: those of the disjunctions' predicates, in the order in which they are called.
+-- The names that the normal form adds: those of arithmetic operations, and after them those of the disjunctions' predicates, in the
+-- order in which they are called.
 --
 -- To believe: all of this file, and in prolog_reader `with_names`.
 use Rattle.std.specs.Prelude.{ℕ, List, [], ◌∷◌, ◌++◌, Result, Ok, Err}
 use Rattle.prolog_terms.specs.Clauses.{Clause}
 use Rattle.prolog_reader.specs.Naming.{with_names}
 use Rattle.clause_normal.specs.NormalForm.{Fault, normal_rules}
-use Rattle.clause_normal.specs.Numbering.{choice_text}
+use Rattle.clause_normal.specs.Numbering.{choice_text, operation_texts}
 use Rattle.clause_normal.specs.Rules.{Functor, named, chosen, Call, Rule}
 
 -- what is called has a name, or gets this one
@@ -23,7 +24,7 @@ rule_texts [] = []
 rule_texts (r ∷ rs) = call_texts (r.head ∷ r.body) ++ rule_texts rs
 
 abbrev pub made_texts : Result (List Rule) Fault → List (List ℕ)
-made_texts (Ok rs) = rule_texts rs
+made_texts (Ok rs) = operation_texts ++ rule_texts rs
 made_texts (Err f) = []
 
 -- the names of the program of a text's clauses, after those by which the text was read

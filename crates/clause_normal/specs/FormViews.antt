@@ -1,6 +1,6 @@
 -- Private.
 -- What the term of a clause is, in the code. Nothing here has to be believed.
-use Rattle.std.specs.Prelude.{◌≡◌, ◌<◌, ◌≤◌, ◌+◌, ℕ, List, ◌++◌, Some, None, Result, Ok, Err, length}
+use Rattle.std.specs.Prelude.{◌≡◌, ◌<◌, ℕ, List, ◌++◌, Some, None, Result, Ok, Err, length}
 use Rattle.prolog_terms.specs.declared.term.ReadTerm.{ReadTerm}
 use Rattle.prolog_terms.specs.Clauses.{nodes}
 use Rattle.prolog_terms.specs.Terms.{tree_of}

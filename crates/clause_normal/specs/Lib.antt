@@ -3,6 +3,7 @@ pub mod Terms
 pub mod Bodies
 pub mod Rules
 pub mod Numbering
+pub mod Kinds
 pub mod NormalForm
 pub mod ChoiceNames
 pub mod Views

@@ -20,7 +20,7 @@ use Rattle.clause_normal.specs.declared.words.Neck.{Neck}
 use Rattle.clause_normal.specs.declared.words.Neck.TheVariants as neck
 use Rattle.clause_normal.specs.Bodies.{Goal, Goals, Branches, call, choice, bad, no_goals, more_goals, no_branches, more_branches, body_of}
 use Rattle.clause_normal.specs.Rules.{named, Call, Rule, rules, after}
-use Rattle.clause_normal.specs.Numbering.{with_rules, with_equality}
+use Rattle.clause_normal.specs.Numbering.{empty_program, with_rules, with_equality}
 
 -- a kind of fault and its place
 abbrev pub Fault : Type 0
@@ -131,7 +131,7 @@ normal_rules names made n (c ∷ cs) = and_next (with_clause names made n c) (λ
 
 -- the program of clauses
 abbrev pub program_of : List (List ℕ) → Result (List Rule) Fault → Result Listing Fault
-program_of names (Ok rs) = Ok (with_equality names (with_rules names (record { preds = []; clauses = [] }) rs))
+program_of names (Ok rs) = Ok (with_equality names (with_rules names (empty_program names) rs))
 program_of names (Err f) = Err f
 
 -- the program of a text's clauses, or the first fault; names are numbers among these

@@ -21,7 +21,7 @@ use Rattle.clause_normal.specs.Terms.{occurrences, firsts}
 use Rattle.clause_normal.specs.Rules.{named, Call}
 use Rattle.clause_normal.specs.Bodies.{Goal, call, choice, bad, atom_goal}
 use Rattle.clause_normal.specs.NormalForm.{Fault, first_of, variables_fault}
-use Rattle.clause_normal.specs.Numbering.{is_equality, with_equality_clause, with_calls, atoms_after, call_variables}
+use Rattle.clause_normal.specs.Numbering.{arithmetic_of, is_equality, with_equality_clause, with_calls, atoms_after, call_variables}
 
 -- the goals of a conjunction of a name that means that, with these goals of its arguments
 abbrev pub named_goals : List (List ℕ) → Tree → Connective → List (List Goal) → List Goal
@@ -71,7 +71,7 @@ new_equality names earlier preds = if is_some (position (is_equality names) earl
 abbrev pub with_query : List (List ℕ) → Listing → List Call → Listing
 with_query names p cs =
     let preds = with_calls names p.preds cs in
-    record { preds = preds; clauses = with_equality_clause (new_equality names p.preds preds) p.clauses }
+    record { preds = preds; clauses = with_equality_clause (new_equality names p.preds preds) p.clauses; arithmetic = arithmetic_of names preds }
 
 -- the goal of these calls, with variables numbered by first occurrence
 abbrev pub query_goal : List (List ℕ) → Listing → List Call → Query

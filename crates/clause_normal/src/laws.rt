@@ -26,7 +26,7 @@ pub fn faults_stand_in_their_texts()
 /// The reader's clauses have at most 2,097,152 nodes together.
 pub fn few_names_and_predicates()
     ensures names { (names : List (List ℕ)) (clauses : List Clause) → sum_by (λ (c : Clause). nodes c.term) clauses ≤ 2097152
-        → length (program_names names clauses) ≤ length names + 4194304 }
+        → length (program_names names clauses) ≤ length names + 4194307 }
     ensures preds { (names : List (List ℕ)) (clauses : List Clause) (p : Listing) → sum_by (λ (c : Clause). nodes c.term) clauses ≤ 2097152 → normal_form names clauses ≡ Ok p
         → length p.preds ≤ 4194304 }
 {}

@@ -16,6 +16,7 @@ mod level;
 mod limits;
 mod making;
 mod numbering;
+mod operations;
 mod order;
 mod outline;
 mod outlining;

@@ -1,13 +1,14 @@
 //! Clauses as clauses of a program: predicates and variables get their numbers.
 
-ghost use Rattle.std.specs.Prelude.{◌≡◌, ◌<◌, ◌≤◌, ◌+◌, ◌++◌, ◌∷◌, ℕ, List, length, map, slice_get, sum_by, IfOk, OnOk};
-ghost use Rattle.std.specs.List.{AllByRecursion};
-ghost use Rattle.cti_terms.specs.Listing.{with_pred, atom_nodes};
+ghost use Rattle.std.specs.Prelude.{◌≡◌, ◌<◌, ◌≤◌, ◌+◌, ◌-◌, ◌^◌, ◌++◌, ◌∷◌, ℕ, List, Some, None, length, map, slice_get, sum_by, IfOk, OnOk, OnErr, IsSomeAnd};
+ghost use Rattle.std.specs.List.{AllByRecursion, position_or_len};
+ghost use Rattle.cti_terms.specs.Listing.{is_pred, with_pred, atom_nodes};
 ghost use Rattle.cti_terms.specs.declared.predicates.Pred.{Pred as ThePred};
-ghost use Rattle.prolog_reader.specs.Names.{Extends};
+ghost use Rattle.prolog_reader.specs.Names.{Extends, name_text};
 ghost use Rattle.prolog_reader.specs.Naming.{with_names};
 ghost use Rattle.clause_normal.specs.ChoiceNames.{functor_texts, call_texts};
-ghost use Rattle.clause_normal.specs.Numbering.{name_number, pred_of, atom_after, atoms_after, with_calls, call_variables, with_rule, HasArity};
+ghost use Rattle.clause_normal.specs.Numbering.{name_number, pred_of, kind_of_pred, arithmetic_of, atom_after, atoms_after, with_calls, call_variables, with_rule, HasArity};
+ghost use Rattle.clause_normal.specs.Kinds.{functor_text, with_kind, IsOrdinaryCall, HasOrdinary};
 ghost use Rattle.clause_normal.specs.RuleViews.{functor_of, args_of, call_of, rule_of, IsNamed, CallIsFit, FunctorIsFit, RuleIsFit};
 ghost use Rattle.clause_normal.specs.declared.rule.Call.{Call as TheCall};
 ghost use Rattle.clause_normal.specs.Terms.{list_variables};
@@ -16,8 +17,10 @@ use crate::copying::copied_args;
 use crate::order::firsts;
 use crate::rule::{Args, Call, Functor, Rule};
 use crate::variables::add_variables;
+use crate::words::{builtin_of, text_of};
 use cti_terms::{
-    Atom, Atoms, Clause, MOST_ATOMS, MOST_CLAUSES, MOST_NODES, MOST_VARIABLES, Name, Names, Program,
+    Atom, Atoms, Builtin, Clause, MOST_ATOMS, MOST_CLAUSES, MOST_NODES, MOST_VARIABLES, Name,
+    Names, PredId, Program,
 };
 use std::alloc::{AllocError, Global};
 
@@ -26,6 +29,7 @@ fn functor_name(alloc: Global, names: &mut Names, functor: Functor) -> Result<Na
     ensures kept { Extends names.old names.new }
     ensures number { IfOk result (λ n. (later : List (List ℕ)) → Extends names.new later → name_number later (functor_of functor) ≡ n.0) }
     ensures known { IfOk result (λ n. FunctorIsFit (length names.old) functor → n.0 < length names.new) }
+    ensures text { IfOk result (λ n. FunctorIsFit (length names.old) functor → name_text names.new n.0 ≡ functor_text names.old (functor_of functor)) }
     ensures named { IsNamed functor → names.new ≡ names.old }
     ensures added { OnOk result (names.new ≡ with_names names.old (functor_texts (functor_of functor))) }
 {
@@ -39,6 +43,48 @@ fn functor_name(alloc: Global, names: &mut Names, functor: Functor) -> Result<Na
             let name = names.intern(text.as_bytes())?;
             Ok(name)
         }
+    }
+}
+
+/// The predicate of a name with two arguments, which is in the program then, built in with this kind.
+fn add_builtin(program: &mut Program, name: Name, kind: Builtin) -> Result<PredId, AllocError>
+    requires room { length program.old.preds < 2 ^ 32 - 1 }
+    ensures number { IfOk result (λ p. p.0 ≡ position_or_len (is_pred name.0 2) program.old.preds) }
+    ensures preds { OnOk result (program.new.preds ≡ with_pred program.old.preds (record { name = name; arity = 2 })) }
+    ensures found { IfOk result (λ p. slice_get program.new.preds p.0 ≡ Some (record { name = name; arity = 2 })) }
+    ensures clauses { program.new.clauses ≡ program.old.clauses }
+    ensures arithmetic { OnOk result (program.new.arithmetic ≡ with_kind program.old.arithmetic program.old.preds (record { name = name; arity = 2 }) (Some kind)) }
+    ensures err { OnErr result (program.new ≡ program.old) }
+{
+    match program.find(name, 2) {
+        Some(pred) => Ok(pred),
+        None => {
+            let pred = program.add_builtin(name, kind)?;
+            Ok(pred)
+        }
+    }
+}
+
+/// The predicate of a name and arity, which is in the program then, built in where they say so.
+fn add_pred(
+    program: &mut Program,
+    names: &Names,
+    name: Name,
+    arity: u32,
+) -> Result<PredId, AllocError>
+    requires name { name.0 < length names.now }
+    requires small { arity ≤ 12 }
+    requires room { length program.old.preds < 2 ^ 32 - 1 }
+    ensures number { IfOk result (λ p. p.0 ≡ position_or_len (is_pred name.0 arity) program.old.preds) }
+    ensures preds { OnOk result (program.new.preds ≡ with_pred program.old.preds (record { name = name; arity = arity })) }
+    ensures found { IfOk result (λ p. slice_get program.new.preds p.0 ≡ Some (record { name = name; arity = arity })) }
+    ensures clauses { program.new.clauses ≡ program.old.clauses }
+    ensures arithmetic { OnOk result (program.new.arithmetic ≡ with_kind program.old.arithmetic program.old.preds (record { name = name; arity = arity }) (kind_of_pred names.now (record { name = name; arity = arity }))) }
+    ensures err { OnErr result (program.new ≡ program.old) }
+{
+    match builtin_of(text_of(names, name), arity as usize) {
+        Some(kind) => add_builtin(program, name, kind),
+        None => program.add_pred(name, arity),
     }
 }
 
@@ -67,13 +113,15 @@ fn add_atom(
     ensures atom { IfOk result (λ a. (later : List (List ℕ)) → Extends names.new later → a ≡ atom_after later order.now program.old.preds (call_of call.now)) }
     ensures preds { OnOk result ((later : List (List ℕ)) → Extends names.new later → program.new.preds ≡ with_pred program.old.preds (pred_of later (call_of call.now))) }
     ensures clauses { program.new.clauses ≡ program.old.clauses }
+    ensures arithmetic { (later : List (List ℕ)) → Extends names.new later → program.old.arithmetic ≡ arithmetic_of later program.old.preds → program.new.arithmetic ≡ arithmetic_of later program.new.preds }
     ensures nodes { IfOk result (λ a. left.old ≡ left.new + atom_nodes a) }
 
     // Earlier predicates keep their places, and the atom has as many arguments as its predicate.
     ensures still { (i : ℕ) → i < length program.old.preds → slice_get program.new.preds i ≡ slice_get program.old.preds i }
     ensures more { length program.old.preds ≤ length program.new.preds }
     ensures arity { IfOk result (HasArity program.new.preds) }
-    ensures known { OnOk result (AllByRecursion (λ (p : ThePred). p.name.0 < length names.old) program.old.preds → AllByRecursion (λ (p : ThePred). p.name.0 < length names.new) program.new.preds) }
+    ensures ordinary { IfOk result (λ a. IsOrdinaryCall names.old (call_of call.now) → HasOrdinary names.new program.new.preds a) }
+    ensures known { AllByRecursion (λ (p : ThePred). p.name.0 < length names.old) program.old.preds → AllByRecursion (λ (p : ThePred). p.name.0 < length names.new) program.new.preds }
     ensures named { IsNamed call.now.functor → names.new ≡ names.old }
     ensures added { OnOk result (names.new ≡ with_names names.old (functor_texts (call_of call.now).functor)) }
 {
@@ -81,7 +129,7 @@ fn add_atom(
     if program.preds() == u32::MAX {
         return Err(AllocError);
     }
-    let pred = program.add_pred(name, arity_of(&call.args) as u32)?;
+    let pred = add_pred(program, names, name, arity_of(&call.args) as u32)?;
     let args = copied_args(alloc, &call.args, order, left)?;
     Ok(Atom { pred, args })
 }
@@ -134,6 +182,7 @@ pub(crate) fn add_atoms(
     ensures atoms { IfOk result (λ xs. (later : List (List ℕ)) → Extends names.new later → xs ≡ atoms_after later order.now program.old.preds (map call_of calls.now)) }
     ensures preds { OnOk result ((later : List (List ℕ)) → Extends names.new later → program.new.preds ≡ with_calls later program.old.preds (map call_of calls.now)) }
     ensures clauses { program.new.clauses ≡ program.old.clauses }
+    ensures arithmetic { (later : List (List ℕ)) → Extends names.new later → program.old.arithmetic ≡ arithmetic_of later program.old.preds → program.new.arithmetic ≡ arithmetic_of later program.new.preds }
     ensures nodes { IfOk result (λ xs. left.old ≡ left.new + sum_by atom_nodes xs) }
     ensures count { IfOk result (λ xs. length xs ≡ length calls.now) }
 
@@ -141,7 +190,7 @@ pub(crate) fn add_atoms(
     ensures more { length program.old.preds ≤ length program.new.preds }
     ensures still { (i : ℕ) → i < length program.old.preds → slice_get program.new.preds i ≡ slice_get program.old.preds i }
     ensures arity { IfOk result (λ xs. AllByRecursion (HasArity program.new.preds) xs) }
-    ensures known { OnOk result (AllByRecursion (λ (p : ThePred). p.name.0 < length names.old) program.old.preds → AllByRecursion (λ (p : ThePred). p.name.0 < length names.new) program.new.preds) }
+    ensures known { AllByRecursion (λ (p : ThePred). p.name.0 < length names.old) program.old.preds → AllByRecursion (λ (p : ThePred). p.name.0 < length names.new) program.new.preds }
     ensures named { AllByRecursion (λ (c : TheCall). IsNamed c.functor) calls.now → names.new ≡ names.old }
     ensures added { OnOk result (names.new ≡ with_names names.old (call_texts (map call_of calls.now))) }
 {
@@ -162,7 +211,10 @@ pub(crate) fn add_rule(
 ) -> Result<(), AllocError>
     requires room { length program.old.clauses < MOST_CLAUSES }
     requires fit { RuleIsFit (length names.old) rule.now }
+    requires arithmetic { (later : List (List ℕ)) → Extends names.old later → program.old.arithmetic ≡ arithmetic_of later program.old.preds }
+    requires ordinary { IsOrdinaryCall names.old (call_of rule.now.head) }
     ensures kept { Extends names.old names.new }
+    ensures arithmetic { OnOk result ((later : List (List ℕ)) → Extends names.new later → program.new.arithmetic ≡ arithmetic_of later program.new.preds) }
     ensures count { OnOk result (length program.new.clauses ≡ length program.old.clauses + 1) }
     ensures program { OnOk result ((later : List (List ℕ)) → Extends names.new later → program.new ≡ with_rule later program.old (rule_of rule.now)) }
     ensures added { OnOk result (names.new ≡ with_names names.old (call_texts ((rule_of rule.now).head ∷ (rule_of rule.now).body))) }

@@ -8,7 +8,7 @@ ghost use Rattle.prolog_reader.specs.Fit.{IsQueryFit};
 ghost use Rattle.prolog_terms.specs.Clauses.{is_known};
 ghost use Rattle.prolog_terms.specs.Terms.{tree_of, clause_of};
 ghost use Rattle.clause_normal.specs.Faults.{AnswersFault, IfFault};
-ghost use Rattle.clause_normal.specs.Numbering.{is_equality, call_variables, with_equality_clause};
+ghost use Rattle.clause_normal.specs.Numbering.{arithmetic_of, is_equality, call_variables, with_equality_clause};
 ghost use Rattle.clause_normal.specs.Query.{query_goals, query_call, bad_goal, query_fault, query_calls, query_form, AnswersQuery};
 ghost use Rattle.clause_normal.specs.RuleViews.{args_of, call_of, CallIsFit, IsNamed};
 ghost use Rattle.clause_normal.specs.declared.rule.Call.{Call as TheCall};
@@ -139,7 +139,9 @@ fn add_new_equality(
 ) -> Result<(), AllocError>
     requires room { known ≡ false → length program.old.clauses < MOST_CLAUSES }
     requires names { AllByRecursion (λ (q : ThePred). q.name.0 < length names.now) program.old.preds }
+    requires arithmetic { program.old.arithmetic ≡ arithmetic_of names.now program.old.preds }
     ensures preds { program.new.preds ≡ program.old.preds }
+    ensures arithmetic { program.new.arithmetic ≡ program.old.arithmetic }
     ensures clauses { OnOk result (program.new.clauses ≡ with_equality_clause (if known then None else position (is_equality names.now) program.old.preds) program.old.clauses) }
     ensures err { OnErr result (program.new ≡ program.old) }
 {
@@ -169,15 +171,19 @@ pub fn normal_query(
     requires preds { length program.old.preds ≤ 4292870143 }
     requires clauses { position (is_equality names.old) program.old.preds ≡ None → length program.old.clauses < 16385 }
 
+    // What is built in is what the names say, before and after.
+    requires arithmetic { program.old.arithmetic ≡ arithmetic_of names.old program.old.preds }
+    ensures arithmetic { program.new.arithmetic ≡ arithmetic_of names.new program.new.preds }
+
     // Exactly the goal of the definition with the program that it needs, or exactly its fault.
     ensures exact { AnswersQuery (query_form names.old program.old (clause_of query.now)) program.new result }
 
     // The goal is one of that program: each variable is below its counter.
     ensures goal { IfOk result (λ g. AllByRecursion (IsAtom program.new.preds g.fresh) g.atoms) }
 
-    // No name is added, and the names of the predicates stay known.
+    // No name is added, and the names of the predicates stay known, also after an error.
     ensures names { names.new ≡ names.old }
-    ensures known { OnOk result (AllByRecursion (λ (q : ThePred). q.name.0 < length names.new) program.new.preds) }
+    ensures known { AllByRecursion (λ (q : ThePred). q.name.0 < length names.new) program.new.preds }
 
     // After a fault the program is unchanged, and always its earlier predicates and clauses are.
     ensures fault { IfErr result (λ e. IfFault e (λ _. program.new ≡ program.old)) }

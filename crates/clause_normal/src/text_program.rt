@@ -1,6 +1,6 @@
 //! The program of a text.
 
-ghost use Rattle.std.specs.Prelude.{◌≡◌, ◌<◌, ◌≤◌, ◌+◌, [], ℕ, List, None, Ok, Err, length, map, position, option_map, IfOk, IfErr, OnOk, OnErr, MatchResult};
+ghost use Rattle.std.specs.Prelude.{◌≡◌, ◌<◌, ◌≤◌, ◌+◌, ◌-◌, ◌^◌, ◌++◌, [], ℕ, List, None, Ok, Err, length, map, position, option_map, IfOk, IfErr, OnOk, OnErr, MatchResult};
 ghost use Rattle.std.specs.List.{AllByRecursion};
 ghost use Rattle.cti_terms.specs.Listing.{IsProgram};
 ghost use Rattle.cti_terms.specs.declared.predicates.Pred.{Pred as ThePred};
@@ -10,12 +10,15 @@ ghost use Rattle.prolog_reader.specs.Naming.{with_names};
 ghost use Rattle.clause_normal.specs.ChoiceNames.{rule_texts, program_names};
 ghost use Rattle.clause_normal.specs.Faults.{IfFault};
 ghost use Rattle.clause_normal.specs.NormalForm.{normal_form};
-ghost use Rattle.clause_normal.specs.Numbering.{is_equality, with_equality, with_rules, equality_clause};
+ghost use Rattle.clause_normal.specs.Numbering.{arithmetic_of, empty_program, operation_texts, is_equality, with_equality, with_rules, equality_clause};
 ghost use Rattle.clause_normal.specs.RuleViews.{rule_of, RuleIsFit};
+ghost use Rattle.clause_normal.specs.Kinds.{IsOrdinaryCall};
+ghost use Rattle.clause_normal.specs.Rules.{Rule as TheRule};
 
 use crate::clauses::text_rules;
 use crate::fault::NormFault;
 use crate::numbering::add_rule;
+use crate::operations::empty_program;
 use crate::rule::Rule;
 use crate::words::text_of;
 use cti_terms::{Atom, Atoms, Clause, MOST_CLAUSES, Names, Pred, PredId, Program, Term, Terms};
@@ -26,13 +29,16 @@ use std::alloc::{AllocError, Global};
 fn program_of(alloc: Global, names: &mut Names, rules: &[Rule]) -> Result<Program, AllocError>
     requires few { length rules.now ≤ 16384 }
     requires fit { AllByRecursion (RuleIsFit (length names.old)) rules.now }
+    requires ordinary { AllByRecursion (λ (r : TheRule). IsOrdinaryCall names.old r.head) (map rule_of rules.now) }
+    requires room { length names.old < 2 ^ 32 - 3 }
     ensures kept { Extends names.old names.new }
-    ensures program { IfOk result (λ p. (later : List (List ℕ)) → Extends names.new later → p ≡ with_rules later (record { preds = []; clauses = [] }) (map rule_of rules.now)) }
-    ensures added { OnOk result (names.new ≡ with_names names.old (rule_texts (map rule_of rules.now))) }
+    ensures program { IfOk result (λ p. (later : List (List ℕ)) → Extends names.new later → p ≡ with_rules later (empty_program later) (map rule_of rules.now)) }
+    ensures added { OnOk result (names.new ≡ with_names names.old (operation_texts ++ rule_texts (map rule_of rules.now))) }
+    ensures arithmetic { IfOk result (λ p. (later : List (List ℕ)) → Extends names.new later → p.arithmetic ≡ arithmetic_of later p.preds) }
     ensures room { IfOk result (λ p. length p.clauses ≤ 16384) }
     ensures known { IfOk result (λ p. AllByRecursion (λ (q : ThePred). q.name.0 < length names.new) p.preds) }
 {
-    let mut program = Program::new(alloc);
+    let mut program = empty_program(alloc, names)?;
     'rules: for rule in rules {
         add_rule(alloc, &mut program, names, rule)?;
     }
@@ -82,6 +88,7 @@ pub(crate) fn add_equality(
 ) -> Result<(), AllocError>
     requires room { length program.old.clauses < MOST_CLAUSES }
     requires known { AllByRecursion (λ (q : ThePred). q.name.0 < length names.now) program.old.preds }
+    requires arithmetic { program.old.arithmetic ≡ arithmetic_of names.now program.old.preds }
     ensures program { OnOk result (program.new ≡ with_equality names.now program.old) }
     ensures err { OnErr result (program.new ≡ program.old) }
 {
@@ -113,6 +120,9 @@ pub fn normal(alloc: Global, text: &ReadText, names: &mut Names) -> Result<Progr
     ensures kept { Extends names.old names.new }
     ensures known { IfOk result (λ p. AllByRecursion (λ (q : ThePred). q.name.0 < length names.new) p.preds) }
     ensures sound { IfOk result IsProgram }
+
+    // What is built in is what these names say, and later ones too.
+    ensures arithmetic { IfOk result (λ p. (later : List (List ℕ)) → Extends names.new later → p.arithmetic ≡ arithmetic_of later p.preds) }
 
     // There is room for one clause more where =/2 is not a predicate of the program.
     ensures room { IfOk result (λ p. position (is_equality names.new) p.preds ≡ None → length p.clauses < 16385) }

@@ -3,12 +3,12 @@
 ghost use Rattle.std.specs.Prelude.{◌≡◌, ◌<◌, ◌&&◌, ◌==◌, length};
 ghost use Rattle.std.specs.List.{list_any};
 ghost use Rattle.prolog_reader.specs.Names.{name_text};
-ghost use Rattle.clause_normal.specs.Words.{same, is_impure, is_choice_name, is_reserved, connective_of, neck_of, is_silent};
+ghost use Rattle.clause_normal.specs.Words.{same, is_impure, builtin_named, builtin_of, is_choice_name, is_reserved, connective_of, neck_of, is_silent};
 
-use cti_terms::{Name, Names};
+use cti_terms::{Builtin, Name, Names};
 
 /// The names of what is not a pure resolution, and of what has a meaning in a clause, each with its number of arguments.
-pub(crate) const IMPURE: [(&str, usize); 93] = [
+pub(crate) const IMPURE: [(&str, usize); 86] = [
     ("!", 0),
     (",", 2),
     (";", 2),
@@ -50,13 +50,6 @@ pub(crate) const IMPURE: [(&str, usize); 93] = [
     ("arg", 3),
     ("=..", 2),
     ("copy_term", 2),
-    ("is", 2),
-    ("=:=", 2),
-    ("=\\=", 2),
-    ("<", 2),
-    ("=<", 2),
-    (">", 2),
-    (">=", 2),
     ("clause", 2),
     ("current_predicate", 1),
     ("asserta", 1),
@@ -130,6 +123,41 @@ pub(crate) fn is_impure(text: &[u8], arity: usize) -> bool
     is_in(&IMPURE, text, arity)
 }
 
+/// What the predicate of this name and two arguments does, if it is built in.
+#[tactic(auto, unfolding(crate::specs::Words::builtin_named))]
+fn builtin_named(text: &[u8]) -> Option<Builtin>
+    ensures { result ≡ builtin_named text.now }
+{
+    if text == b"is".as_slice() {
+        Some(Builtin::Is)
+    } else if text == b"=:=".as_slice() {
+        Some(Builtin::Equal)
+    } else if text == b"=\\=".as_slice() {
+        Some(Builtin::NotEqual)
+    } else if text == b"<".as_slice() {
+        Some(Builtin::Less)
+    } else if text == b"=<".as_slice() {
+        Some(Builtin::AtMost)
+    } else if text == b">".as_slice() {
+        Some(Builtin::Greater)
+    } else if text == b">=".as_slice() {
+        Some(Builtin::AtLeast)
+    } else {
+        None
+    }
+}
+
+/// What the predicate of this name and arity does, if it is built in.
+pub(crate) fn builtin_of(text: &[u8], arity: usize) -> Option<Builtin>
+    ensures { result ≡ builtin_of text.now arity }
+{
+    if arity == 2 {
+        builtin_named(text)
+    } else {
+        None
+    }
+}
+
 /// Whether a name is kept for the predicates of disjunctions.
 pub(crate) fn is_choice_name(text: &[u8]) -> bool
     ensures { result ≡ is_choice_name text.now }
@@ -142,6 +170,7 @@ pub(crate) fn is_reserved(text: &[u8], arity: usize) -> bool
     ensures { result ≡ is_reserved text.now arity }
 {
     is_impure(text, arity)
+        || builtin_of(text, arity).is_some()
         || is_choice_name(text)
         || (text == b"true".as_slice() && arity == 0)
         || (text == b"fail".as_slice() && arity == 0)

@@ -44,6 +44,9 @@ fn faults_come_with_the_first_place(rt: HostRuntime) {
         ("true.", NormKind::BadHead, 0),
         ("a. fail :- a.", NormKind::BadHead, 3),
         ("X = X.", NormKind::BadHead, 0),
+        ("X is Y.", NormKind::BadHead, 0),
+        ("a. X >= Y :- a.", NormKind::BadHead, 3),
+        ("p(X,Y) :- X is Y, X == Y.", NormKind::NotPure, 18),
         ("(a :- b) :- c.", NormKind::BadHead, 0),
         ("'$orx'(a,a,a,a,a,a,a,a,a,a,a,a,a).", NormKind::BadHead, 0),
         ("p(a,b,c,d,e,f,g,h,i,j,k,l,m).", NormKind::Arity, 0),
@@ -79,6 +82,8 @@ fn texts_without_a_fault(rt: HostRuntime) {
         "?-(a,b). :-(a,b,c). :- . -->(a).",
         "'.'(a) :- call(a,b,c,d,e,f,g,h,i).",
         "p :- true, fail, ( true ; a = b ).",
+        "p(X,Y) :- X is Y+1, X =:= Y, X =\\= Y, ( X < Y ; X =< Y ; X > Y ; X >= Y ).",
+        "is(X) :- <(X,X,X).",
     ] {
         assert_eq!(rt; fault(rt.alloc(), text), None, "{text}");
     }
@@ -150,6 +155,10 @@ fn programs_of_texts(rt: HostRuntime) -> Result<(), Fail> {
             "mem/2 $or1/3 =/2 0,1:3 1,2:3 1,0:3 2:1 ",
         ),
         (
+            "len([],0). len([_|T],N) :- len(T,M), N is M+1, M < N.",
+            "len/2 is/2 </2 0:0 0,0,1,2:4 ",
+        ),
+        (
             "p(X) :- ( q(X,Y) ; r(Z) ), fail.",
             "p/1 $or1/1 fail/0 q/2 r/1 0,1,2:1 1,3:2 1,4:2 ",
         ),
@@ -169,15 +178,18 @@ fn programs_of_texts(rt: HostRuntime) -> Result<(), Fail> {
     Ok(())
 }
 
-/// The goal of a query without a program: its predicates, the predicates of its atoms and how many variables it has, or its fault.
+/// The goal of a query of the empty program: its predicates, the predicates of its atoms and how many variables it has, or its fault.
 fn query_of(alloc: Global, text: &str) -> Result<String, Fail> {
     let mut names = Names::new(alloc);
-    let mut program = Program::new(alloc);
-    let ops = read_text(alloc, b"", &mut names)?.ops;
+    let read = read_text(alloc, b"", &mut names)?;
     if names.count() > 1_000_000 {
         return Ok(String::new(alloc));
     }
-    let query = read_query(alloc, text.as_bytes(), &mut names, &ops)?;
+    let mut program = normal(alloc, &read, &mut names)?;
+    if names.count() > 1_000_000 || program.preds() > 0 || program.clauses() > 0 {
+        return Ok(String::new(alloc));
+    }
+    let query = read_query(alloc, text.as_bytes(), &mut names, &read.ops)?;
     if names.count() > 1_000_000 {
         return Ok(String::new(alloc));
     }
@@ -203,6 +215,7 @@ fn goals_of_queries(rt: HostRuntime) -> Result<(), Fail> {
         ("app(X,Y,[a]).", "app/3 ,0:2"),
         ("p(X), true, (q(Y,X), fail).", "p/1 q/2 fail/0 ,0,1,2:2"),
         ("p, X = Y, X = a.", "p/0 =/2 1:1 ,0,1,1:2"),
+        ("X is 1+2, X > 2, X is 3.", "is/2 >/2 ,0,1,0:1"),
         ("p, (q ; r), X.", "Fault { kind: NotPure, at: 3 } 0"),
         ("p, X, !.", "Fault { kind: NotPure, at: 3 } 0"),
         (

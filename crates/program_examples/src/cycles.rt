@@ -1,4 +1,5 @@
-ghost use Rattle.std.specs.Prelude.{◌≡◌, IfSome, []};
+ghost use Rattle.std.specs.Prelude.{◌≡◌, IfOk, IfSome, []};
+ghost use Rattle.cti_terms.specs.Arithmetic.{no_arithmetic};
 ghost use Rattle.cti_terms.specs.Listing.{IsAtom};
 
 use call_components::components;
@@ -7,7 +8,9 @@ use std::alloc::{AllocError, Global};
 use std::test::Fail;
 
 /// A program with this many predicates without arguments, and no clause.
-fn propositions(alloc: Global, preds: u32) -> Result<Program, AllocError> {
+fn propositions(alloc: Global, preds: u32) -> Result<Program, AllocError>
+    ensures { IfOk result (λ p. p.arithmetic ≡ no_arithmetic) }
+{
     let mut program = Program::new(alloc);
     for name in 0..preds.min(100) {
         if program.preds() < 100 {
@@ -33,7 +36,10 @@ fn atom(alloc: Global, program: &Program, pred: u32) -> Option<Atom>
 }
 
 /// Adds the clause of this head whose body calls these predicates, all without arguments.
-fn add_rule(alloc: Global, program: &mut Program, head: u32, callees: &[u32]) -> Result<(), Fail> {
+fn add_rule(alloc: Global, program: &mut Program, head: u32, callees: &[u32]) -> Result<(), Fail>
+    requires { program.old.arithmetic ≡ no_arithmetic }
+    ensures { program.new.arithmetic ≡ no_arithmetic }
+{
     let head = atom(alloc, program, head).ok_or("no such head")?;
     let mut body = Atoms::new(alloc);
     for callee in callees {
@@ -64,7 +70,7 @@ fn recursive_ones(alloc: Global, program: &Program) -> Result<Vec<bool>, AllocEr
 /// A program with this many predicates, and for each rule the clause of its head that calls its callees.
 fn program_of(alloc: Global, preds: u32, rules: &[(u32, &[u32])]) -> Result<Program, Fail> {
     let mut program = propositions(alloc, preds)?;
-    for (head, callees) in rules {
+    'rules: for (head, callees) in rules {
         add_rule(alloc, &mut program, *head, callees)?;
     }
     Ok(program)

@@ -35,6 +35,8 @@ pub fn program_of(alloc: Global, text: &str) -> Option<Sample>
     if names.count() > 1_000_000 {
         return None;
     }
-    let program = normal(alloc, &text, &mut names).ok()?;
+    let Ok(program) = normal(alloc, &text, &mut names) else {
+        return None;
+    };
     Some(Sample { names, program })
 }

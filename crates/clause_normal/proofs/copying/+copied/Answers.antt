@@ -1,4 +1,4 @@
-use Rattle.std.proofs.Common.{◌≡◌, ◌∙◌, ◌+◌, ◌++◌, List, map, drop, ap, sym, arith, append-nil}
+use Rattle.std.proofs.Common.{◌∙◌, ◌++◌, List, map, ap, sym, arith, append-nil}
 use Rattle.std.proofs.lemmas.List.{drop_all}
 use Rattle.cti_terms.specs.Tree.{Tree, all_nodes, trees}
 use Rattle.cti_terms.specs.Spell.{tree_of}

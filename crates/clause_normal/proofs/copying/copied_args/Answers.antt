@@ -1,4 +1,4 @@
-use Rattle.std.proofs.Common.{◌≡◌, ◌∙◌, ◌+◌, ◌++◌, ◌∷◌, [], ℕ, List, map, drop, get_or, nat_eq, ap, sym, refl, arith, append-nil, sum_by}
+use Rattle.std.proofs.Common.{◌≡◌, ◌∙◌, ◌++◌, ◌∷◌, [], ℕ, List, map, get_or, nat_eq, ap, sym, arith, append-nil, sum_by}
 use Rattle.std.specs.List.{position_or_len}
 use Rattle.std.proofs.lemmas.List.{drop_all}
 use Rattle.cti_terms.specs.Tree.{Tree, Variable, nodes_of}

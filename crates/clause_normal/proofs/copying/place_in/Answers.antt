@@ -1,4 +1,4 @@
-use Rattle.std.proofs.Common.{◌≡◌, nat_eq, arith, sym}
+use Rattle.std.proofs.Common.{nat_eq}
 use Rattle.prolog_reader.proofs.NameLemmas.{found_place, no_place}
 use Rattle.clause_normal.proofs.copying.place_in.Goals as goal
 

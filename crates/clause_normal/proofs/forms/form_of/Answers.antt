@@ -1,11 +1,8 @@
-use Rattle.std.proofs.Common.{◌≡◌, ◌∙◌, ℕ, List, length, map, sym, ap, refl, arith, true, false}
+use Rattle.std.proofs.Common.{◌≡◌, length, refl, arith}
 use Rattle.prolog_reader.specs.Names.{name_text}
-use Rattle.prolog_terms.specs.Terms.{tree_of}
-use Rattle.prolog_terms.specs.declared.term.ReadTerm.{ReadTerm}
 use Rattle.clause_normal.specs.declared.words.Neck.TheVariants as neck
 use Rattle.clause_normal.specs.Words.{neck_of}
-use Rattle.clause_normal.specs.NormalForm.{named_form}
-use Rattle.clause_normal.proofs.FormLemmas.{one_of_directive, two_of_implies, form_at, form_directive, occurrences_two, second_smaller}
+use Rattle.clause_normal.proofs.FormLemmas.{one_of_directive, two_of_implies, form_at}
 use Rattle.clause_normal.proofs.forms.form_of.Goals as goal
 
 pub only-goal-requires : goal.only-goal-requires

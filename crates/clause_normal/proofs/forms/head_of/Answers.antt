@@ -1,10 +1,10 @@
-use Rattle.std.proofs.Common.{◌≡◌, ◌≤◌, ◌∙◌, ℕ, List, None, length, map, sym, ap, arith, subst}
+use Rattle.std.proofs.Common.{◌≡◌, ◌≤◌, ◌∙◌, ℕ, List, None, length, map, sym, ap, arith}
 use Rattle.std.proofs.lemmas.List.{length-map}
 use Rattle.prolog_reader.specs.Names.{name_text}
 use Rattle.prolog_terms.specs.Terms.{tree_of}
 use Rattle.prolog_terms.specs.declared.term.ReadTerm.{ReadTerm}
 use Rattle.clause_normal.specs.NormalForm.{named_head_fault, head_fault, head_call}
-use Rattle.clause_normal.specs.Rules.{Call, named}
+use Rattle.clause_normal.specs.Rules.{named}
 use Rattle.clause_normal.specs.Views.{plain_of}
 use Rattle.clause_normal.proofs.FormLemmas.{head_fault_fun, head_call_fun}
 use Rattle.clause_normal.proofs.PartLemmas.{name_known}

@@ -45,6 +45,7 @@ calls-preserved c =
           ap (λ (ps : List Pred). with_calls later ps rest) (add.preds later ext) ∙ ap (with_calls later old) (sym left)
           ∙ inv.preds later (extends_trans c.calls.names c.add_atom.new.names later add.kept ext);
       clauses = add.clauses ∙ inv.clauses;
+      arithmetic = λ later ext h. add.arithmetic later ext (inv.arithmetic later (extends_trans c.calls.names c.add_atom.new.names later add.kept ext) h);
       nodes = omega (arith, inv.nodes, add.nodes, ap (λ (xs : List Atom). sum_by atom_nodes xs) pushed, sum_by-append atom_nodes c.calls.atoms (atom ∷ []), sum_by-cons atom_nodes atom []);
       added =
           ap (λ (n : List (List ℕ)). with_names n (call_texts rest)) add.added ∙ sym (names_more c.calls.names (functor_texts (call_of it).functor) (call_texts rest))

@@ -5,7 +5,7 @@ use Rattle.cti_terms.specs.declared.predicates.Pred.{Pred}
 use Rattle.prolog_reader.specs.Names.{Extends}
 use Rattle.prolog_reader.specs.Naming.{with_names}
 use Rattle.clause_normal.specs.ChoiceNames.{call_texts}
-use Rattle.clause_normal.specs.Numbering.{atoms_after, with_calls, HasArity}
+use Rattle.clause_normal.specs.Numbering.{arithmetic_of, atoms_after, with_calls, HasArity}
 use Rattle.clause_normal.specs.RuleViews.{call_of, IsNamed}
 use Rattle.clause_normal.specs.declared.rule.Call.{Call}
 use Rattle.clause_normal.proofs.numbering.add_atoms.Given as goal
@@ -18,6 +18,7 @@ invariant-calls l =
       atoms : (later : List (List ℕ)) → Extends l.names later → l.atoms ++ atoms_after later l.order l.program.preds left ≡ atoms_after later l.order l.fn.program.preds (map call_of l.calls);
       preds : (later : List (List ℕ)) → Extends l.names later → with_calls later l.program.preds left ≡ with_calls later l.fn.program.preds (map call_of l.calls);
       clauses : l.program.clauses ≡ l.fn.program.clauses;
+      arithmetic : (later : List (List ℕ)) → Extends l.names later → l.fn.program.arithmetic ≡ arithmetic_of later l.fn.program.preds → l.program.arithmetic ≡ arithmetic_of later l.program.preds;
       nodes : l.fn.left ≡ l.left + sum_by atom_nodes l.atoms;
       added : with_names l.names (call_texts left) ≡ with_names l.fn.names (call_texts (map call_of l.calls));
       named : AllByRecursion (λ (c : Call). IsNamed c.functor) l.calls → l.names ≡ l.fn.names;

@@ -1,5 +1,6 @@
 use Rattle.std.proofs.Common.{◌≡◌, ◌∙◌, ◌++◌, ◌∷◌, [], ℕ, true, IsTrue, List, length, map, sym, ap, subst, arith}
 use Rattle.std.specs.List.{AllByRecursion}
+use Rattle.cti_terms.specs.Arithmetic.{Arithmetic, kind_of}
 use Rattle.cti_terms.specs.Listing.{with_pred, IsAtom}
 use Rattle.cti_terms.specs.Tree.{Tree as Term, is_below}
 use Rattle.cti_terms.specs.declared.atom_list.Atom.{Atom}
@@ -8,11 +9,12 @@ use Rattle.cti_terms.specs.declared.predicates.Pred.{Pred}
 use Rattle.prolog_reader.specs.Names.{Extends}
 use Rattle.prolog_reader.proofs.NameLemmas.{extends_trans, extends_self}
 use Rattle.clause_normal.specs.declared.rule.Call.{Call as CodeCall}
-use Rattle.clause_normal.specs.Numbering.{atom_after, atoms_after, with_calls, pred_of, order_of, call_variables}
+use Rattle.clause_normal.specs.Numbering.{arithmetic_of, atom_after, atoms_after, with_calls, pred_of, order_of, call_variables}
 use Rattle.clause_normal.specs.RuleViews.{call_of, rule_of}
 use Rattle.clause_normal.specs.Terms.{firsts, is_among, list_variables}
 use Rattle.clause_normal.proofs.ListLemmas.{all_front, all_back}
 use Rattle.clause_normal.proofs.NumberingLemmas.{all_among, list_below, atoms_below, are_atoms, arity_still}
+use Rattle.clause_normal.proofs.KindLemmas.{ordinary_none, ordinary_still}
 use Rattle.prolog_reader.specs.Naming.{with_names}
 use Rattle.clause_normal.specs.ChoiceNames.{functor_texts, call_texts}
 use Rattle.prolog_reader.proofs.NamingLemmas.{names_then}
@@ -73,6 +75,21 @@ add_clause-requires-clause-sound c =
       short = omega (arith, c.in_ok-body.ensures.count, c.deref-3.ensures.len, c.len.ensures, c.if-len.false);
     }
 
+-- what is built in, whatever names come later
+arithmetic_is : (c : goal.After-len-2) (later : List (List ℕ)) → Extends c.add_atoms.new.names later → c.add_atoms.new.program.arithmetic ≡ arithmetic_of later c.add_atoms.new.program.preds
+arithmetic_is c later ext =
+    let after_head = extends_trans c.add_atom.new.names c.add_atoms.new.names later c.in_ok-body.ensures.kept ext in
+    let before = extends_trans c.args.names.now c.add_atom.new.names later c.in_ok-head.ensures.kept after_head in
+    c.in_ok-body.ensures.arithmetic later ext (c.in_ok-head.ensures.arithmetic later after_head (c.requires.arithmetic later before))
+
+pub add_clause-requires-clause-ordinary : goal.add_clause-requires-clause-ordinary
+add_clause-requires-clause-ordinary c =
+    let names = c.add_atoms.new.names in
+    let preds = c.add_atoms.new.program.preds in
+    let q = c.in_ok-head.head.pred.0 in
+    let there = ordinary_still c.add_atom.new.names names c.add_atom.new.program.preds preds c.in_ok-body.ensures.kept c.in_ok-body.ensures.still c.in_ok-head.head (c.in_ok-head.ensures.ordinary c.requires.ordinary) in
+    ap (λ (ar : Arithmetic). kind_of ar q) (arithmetic_is c names (extends_self names)) ∙ ordinary_none names q preds there
+
 -- the same at the end
 order_is_after : (c : goal.After-drop-variables-2) → c.in-Some.order.items ≡ order_of (rule_of c.args.rule.now)
 order_is_after c = let h = rw c.in-Some.is at c.in_ok-order.ensures in h.0 ∙ ap firsts (c.deref.ensures.value ∙ c.in_ok-variables.ensures)
@@ -99,6 +116,16 @@ body_is_after c later ext =
     ∙ ap (λ (ps : List Pred). atoms_after later (order_of r) ps (map call_of c.deref-3.result.now)) (preds_are_after c later ext)
     ∙ ap (λ (cs : List CodeCall). atoms_after later (order_of r) (with_pred c.args.program.now.preds (pred_of later (call_of c.args.rule.now.head))) (map call_of cs)) c.deref-3.ensures.value
 
+arithmetic_is_after : (c : goal.After-drop-variables-2) (later : List (List ℕ)) → Extends c.add_atoms.new.names later → c.add_clause.new.self.arithmetic ≡ arithmetic_of later c.add_clause.new.self.preds
+arithmetic_is_after c later ext =
+    let after_head = extends_trans c.add_atom.new.names c.add_atoms.new.names later c.in_ok-body.ensures.kept ext in
+    let before = extends_trans c.args.names.now c.add_atom.new.names later c.in_ok-head.ensures.kept after_head in
+    c.in_ok-add_clause.ensures.arithmetic ∙ c.in_ok-body.ensures.arithmetic later ext (c.in_ok-head.ensures.arithmetic later after_head (c.requires.arithmetic later before))
+    ∙ ap (arithmetic_of later) (sym c.in_ok-add_clause.ensures.preds)
+
+pub returns-clause-arithmetic : goal.returns-clause-arithmetic
+returns-clause-arithmetic c = arithmetic_is_after c
+
 pub returns-clause-program : goal.returns-clause-program
 returns-clause-program c = λ later ext.
     let r = rule_of c.args.rule.now in
@@ -116,7 +143,9 @@ returns-clause-program c = λ later ext.
     ∙ ap (λ (cs : List CodeCall). with_calls later (with_pred old.preds (pred_of later r.head)) (map call_of cs)) c.deref-3.ensures.value in
     let clauses : c.add_clause.new.self.clauses ≡ old.clauses ++ made ∷ [] =
     c.in_ok-add_clause.ensures.clauses ∙ ap (λ (cs : List Clause). cs ++ clause ∷ []) (c.in_ok-body.ensures.clauses ∙ c.in_ok-head.ensures.clauses) ∙ ap (λ (k : Clause). old.clauses ++ k ∷ []) same in
-    λ i. record { preds = preds i; clauses = clauses i }
+    let arithmetic : c.add_clause.new.self.arithmetic ≡ arithmetic_of later (with_calls later old.preds (r.head ∷ r.body)) =
+    arithmetic_is_after c later ext ∙ ap (arithmetic_of later) preds in
+    λ i. record { preds = preds i; clauses = clauses i; arithmetic = arithmetic i }
 
 pub returns-clause-added : goal.returns-clause-added
 returns-clause-added c =

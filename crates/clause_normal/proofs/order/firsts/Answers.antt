@@ -1,5 +1,5 @@
-use Rattle.std.proofs.Common.{◌≡◌, ◌<◌, ◌∙◌, ℕ, false, true, length, get_or, List, sym, ap, arith}
-use Rattle.clause_normal.specs.Terms.{firsts, is_among}
+use Rattle.std.proofs.Common.{◌≡◌, ◌∙◌, ℕ, false, length, get_or, List, sym, ap, arith}
+use Rattle.clause_normal.specs.Terms.{is_among}
 use Rattle.clause_normal.proofs.OrderLemmas.{more_numbers}
 use Rattle.clause_normal.proofs.order.firsts.Goals as goal
 

@@ -13,7 +13,7 @@ use Rattle.prolog_reader.proofs.ViewLemmas.{tree_of_parts}
 use Rattle.clause_normal.specs.declared.part.Item.{Item}
 use Rattle.clause_normal.specs.declared.rule.Call.{Call as CodeCall}
 use Rattle.clause_normal.specs.NormalForm.{variables_fault}
-use Rattle.clause_normal.specs.Numbering.{is_equality, with_equality_clause, atoms_after, with_calls, call_variables}
+use Rattle.clause_normal.specs.Numbering.{arithmetic_of, is_equality, with_equality_clause, atoms_after, with_calls, call_variables}
 use Rattle.clause_normal.specs.Query.{query_goals, query_fault, query_calls, query_form, with_query, query_goal, new_equality}
 use Rattle.clause_normal.specs.RuleViews.{call_of, CallIsFit, IsNamed}
 use Rattle.clause_normal.specs.Terms.{occurrences, firsts}
@@ -55,6 +55,23 @@ add_atoms-requires-clause-fit c =
     let items = subst (λ (is : List Item). AllByRecursion (ItemIsFit n) is) (sym c.deref-3.ensures.value) c.in_ok-items.ensures.fit in
     subst (λ (cs : List CodeCall). AllByRecursion (CallIsFit n) cs) (sym c.deref-6.ensures.value) (c.in_ok-calls.ensures.fit n items)
 
+pub add_new_equality-requires-clause-arithmetic : goal.add_new_equality-requires-clause-arithmetic
+add_new_equality-requires-clause-arithmetic c =
+    let p = c.args.program.now in
+    let named = subst (λ (cs : List CodeCall). AllByRecursion (λ (k : CodeCall). IsNamed k.functor) cs) (sym c.deref-6.ensures.value) c.in_ok-calls.ensures.named in
+    let same : c.add_atoms.new.names ≡ c.args.names.now = c.in_ok-atoms.ensures.named named in
+    let there : p.arithmetic ≡ arithmetic_of c.add_atoms.new.names p.preds = c.requires.arithmetic ∙ ap (λ (ns : List (List ℕ)). arithmetic_of ns p.preds) (sym same) in
+    c.in_ok-atoms.ensures.arithmetic c.add_atoms.new.names (extends_self c.add_atoms.new.names) there
+
+pub returns-clause-arithmetic : goal.returns-clause-arithmetic
+returns-clause-arithmetic c =
+    let p = c.args.program.now in
+    let later = c.add_atoms.new.names in
+    let named = subst (λ (cs : List CodeCall). AllByRecursion (λ (k : CodeCall). IsNamed k.functor) cs) (sym c.deref-6.ensures.value) c.in_ok-calls.ensures.named in
+    let same : later ≡ c.args.names.now = c.in_ok-atoms.ensures.named named in
+    let there : p.arithmetic ≡ arithmetic_of later p.preds = c.requires.arithmetic ∙ ap (λ (ns : List (List ℕ)). arithmetic_of ns p.preds) (sym same) in
+    c.in_ok-add_new_equality.ensures.arithmetic ∙ c.in_ok-atoms.ensures.arithmetic later (extends_self later) there ∙ ap (arithmetic_of later) (sym c.in_ok-add_new_equality.ensures.preds)
+
 pub returns-clause-exact : goal.returns-clause-exact
 returns-clause-exact c =
     let names = c.args.names.now in
@@ -85,7 +102,10 @@ returns-clause-exact c =
     c.in_ok-add_new_equality.ensures.clauses
     ∙ (λ i. with_equality_clause (if known i then None else position (is_equality (same i)) (preds i)) (c.in_ok-atoms.ensures.clauses i)) in
     let all : c.add_new_equality.new.program.preds ≡ with_calls names p.preds cs = c.in_ok-add_new_equality.ensures.preds ∙ preds in
-    let listing : c.add_new_equality.new.program ≡ with_query names p cs = λ i. record { preds = all i; clauses = clauses i } in
+    let there : p.arithmetic ≡ arithmetic_of c.add_atoms.new.names p.preds = c.requires.arithmetic ∙ ap (λ (ns : List (List ℕ)). arithmetic_of ns p.preds) (sym same) in
+    let arithmetic : c.add_new_equality.new.program.arithmetic ≡ arithmetic_of names (with_calls names p.preds cs) =
+    c.in_ok-add_new_equality.ensures.arithmetic ∙ c.in_ok-atoms.ensures.arithmetic c.add_atoms.new.names (extends_self c.add_atoms.new.names) there ∙ (λ i. arithmetic_of (same i) (preds i)) in
+    let listing : c.add_new_equality.new.program ≡ with_query names p cs = λ i. record { preds = all i; clauses = clauses i; arithmetic = arithmetic i } in
     let fresh : c.len.result ≡ length (firsts (call_variables cs)) = omega (arith, c.len.ensures, c.in-Some.order.ok.0, ap (λ (xs : List ℕ). length xs) order) in
     let made : Query = record { atoms = c.in_ok-atoms.atoms; fresh = c.len.result } in
     let query : made ≡ query_goal names p cs = λ i. record { atoms = atoms i; fresh = fresh i } in

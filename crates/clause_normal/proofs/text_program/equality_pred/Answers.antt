@@ -1,4 +1,4 @@
-use Rattle.std.proofs.Common.{◌≡◌, ◌<◌, ◌∙◌, length, sym, ap, arith}
+use Rattle.std.proofs.Common.{◌<◌, ◌∙◌, length, sym, arith}
 use Rattle.cti_terms.specs.declared.predicates.Pred.{Pred}
 use Rattle.clause_normal.specs.Numbering.{is_equality}
 use Rattle.clause_normal.proofs.ListLemmas.{all_get, place_found, place_next, place_none}

@@ -1,4 +1,4 @@
-use Rattle.std.proofs.Common.{◌≡◌, ◌∙◌, ◌++◌, [], ◌∷◌, ℕ, List, sym, ap, append_assoc}
+use Rattle.std.proofs.Common.{◌∙◌, ◌++◌, [], ◌∷◌, ℕ, List, sym, ap, append_assoc}
 use Rattle.clause_normal.specs.Stacks.{stack_variables}
 use Rattle.clause_normal.proofs.TermLemmas.{step_none, step_var, step_int, step_fun}
 use Rattle.clause_normal.proofs.variables.add_variables.Goals as goal

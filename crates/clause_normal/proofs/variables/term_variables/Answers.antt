@@ -1,4 +1,4 @@
-use Rattle.std.proofs.Common.{◌≡◌, ◌<◌, ◌∙◌, ◌++◌, ℕ, [], List, map, ap, sym, subst, append-nil}
+use Rattle.std.proofs.Common.{◌≡◌, ◌<◌, ◌∙◌, ℕ, List, map, ap, sym, subst, append-nil}
 use Rattle.std.specs.List.{AllByRecursion}
 use Rattle.prolog_terms.specs.declared.term.ReadTerm.{ReadTerm}
 use Rattle.prolog_terms.specs.Terms.{tree_of}
