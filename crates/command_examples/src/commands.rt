@@ -244,18 +244,16 @@ fn a_real_file(rt: HostRuntime) -> Result<(), Fail> {
 #[test]
 fn a_real_writer(rt: HostRuntime) -> Result<(), Fail> {
     let alloc = rt.alloc();
-    let mut sink = RealSink {
-        inner: Vec::new(alloc),
-        faults: 0,
-    };
+    let mut sink = RealSink::new(Vec::new(alloc));
     assert_eq!(rt; sink.write(b"p(a)."), Ok(5));
     assert_eq!(rt; sink.write(b""), Ok(0));
     assert_eq!(rt; sink.inner.as_slice(), b"p(a).".as_slice());
+    assert_eq!(rt; sink.head(), b"p(a).".as_slice());
+    assert_eq!(rt; sink.write(&[b'x'; 100]), Ok(100));
+    assert_eq!(rt; sink.head().len(), 64);
+    assert_eq!(rt; sink.taken(), 105);
     let mut buffer = [0u8; 1];
-    let mut short = RealSink {
-        inner: buffer.as_mut_slice(),
-        faults: 0,
-    };
+    let mut short = RealSink::new(buffer.as_mut_slice());
     assert_eq!(rt; short.write(b"pq"), Ok(1));
     assert_eq!(rt; short.write(b"q"), Err(SinkFault::Failed));
     assert_eq!(rt; short.faults, 1);

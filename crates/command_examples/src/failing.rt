@@ -1,13 +1,13 @@
-//! Failing files and sinks: each load and each write of a command fails in turn; and what is tried again in the adapters.
+//! Failing files and sinks: each load and each write of a command fails in turn; and an interrupted write, which is tried again.
 
 use crate::commands::{APPEND, sink};
 use crate::texts::APPEND as CERTIFICATE;
 use cti_top::{Status, command};
-use outside::{LoadFault, MemFiles, RealSink, Sink, read_limited};
+use outside::{MemFiles, RealSink, Sink};
 use std::alloc::{AllocError, Global};
 use std::collections::BTreeMap;
 use std::io;
-use std::io::{ErrorKind, Read, Write};
+use std::io::{ErrorKind, Write};
 use std::test::Fail;
 
 /// The most writes that fail in turn.
@@ -103,28 +103,20 @@ fn loads_and_writes_that_fail(rt: HostRuntime) -> Result<(), Fail> {
     Ok(())
 }
 
-/// A reader and writer whose first call is interrupted.
+/// A writer whose first call is interrupted.
 #[derive(Drop)]
 struct Interrupted {
     bytes: Vec<u8>,
     is_called: bool,
 }
 
-impl Interrupted {
-    /// Interrupts the first call.
-    fn call(&mut self) -> io::Result<()> {
+impl Write for Interrupted {
+    fn write(&mut self, bytes: &[u8]) -> io::Result<usize> {
         if self.is_called {
-            return Ok(());
+            return self.bytes.write(bytes);
         }
         self.is_called = true;
         Err(io::Error::from(ErrorKind::Interrupted))
-    }
-}
-
-impl Write for Interrupted {
-    fn write(&mut self, bytes: &[u8]) -> io::Result<usize> {
-        self.call()?;
-        self.bytes.write(bytes)
     }
 
     fn flush(&mut self) -> io::Result<()> {
@@ -132,35 +124,14 @@ impl Write for Interrupted {
     }
 }
 
-impl Read for Interrupted {
-    fn read(&mut self, buffer: &mut [u8]) -> io::Result<usize> {
-        self.call()?;
-        let count = self.bytes.len().min(buffer.len());
-        buffer[..count].copy_from_slice(&self.bytes[..count]);
-        self.bytes.clear();
-        Ok(count)
-    }
-}
-
 #[test]
-fn interrupted_calls_are_tried_again(rt: HostRuntime) -> Result<(), Fail> {
-    let alloc = rt.alloc();
-    let mut sink = RealSink {
-        inner: Interrupted {
-            bytes: Vec::new(alloc),
-            is_called: false,
-        },
-        faults: 0,
-    };
+fn an_interrupted_write_is_tried_again(rt: HostRuntime) -> Result<(), Fail> {
+    let mut sink = RealSink::new(Interrupted {
+        bytes: Vec::new(rt.alloc()),
+        is_called: false,
+    });
     assert_eq!(rt; sink.write(b"p(a)."), Ok(5));
     assert_eq!(rt; sink.faults, 0);
-    sink.inner.is_called = false;
-    let bytes = read_limited(alloc, &mut sink.inner, 5);
-    assert_eq!(rt; bytes.as_deref(), Ok(b"p(a).".as_slice()));
-    sink.inner.bytes.extend_from_slice(b"p(a).")?;
-    assert_eq!(rt;
-        read_limited(alloc, &mut sink.inner, 4).err(),
-        Some(LoadFault::TooLong)
-    );
+    assert_eq!(rt; sink.inner.bytes.as_slice(), b"p(a).".as_slice());
     Ok(())
 }

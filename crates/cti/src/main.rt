@@ -3,7 +3,7 @@
 #![tactic(auto)]
 
 use cti_top::{RealFiles, RealSink, Status, command};
-use messages::{Ending, HeadWriter, explain};
+use messages::{Ending, explain};
 use std::alloc::{AllocError, Global};
 use std::io::Write;
 use std::process::ExitCode;
@@ -45,16 +45,13 @@ fn run(rt: &HostRuntime, alloc: Global) -> Result<Status, AllocError> {
         runtime: rt,
         faults: 0,
     };
-    let mut out = RealSink {
-        inner: HeadWriter::new(rt.stdout()),
-        faults: 0,
-    };
+    let mut out = RealSink::new(rt.stdout());
     let status = command(alloc, &texts, &mut files, &mut out);
     let ending = Ending {
         status: status.number(),
         words: &texts,
-        output: out.inner.kept(),
-        written: out.inner.taken(),
+        output: out.head(),
+        written: out.taken(),
     };
     // The answer is written, and stands, if there is no memory for the message.
     let _ = tell(rt, ending);

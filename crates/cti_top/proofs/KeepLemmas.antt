@@ -26,7 +26,7 @@ never_rises rose = omega (arith, rose)
 
 -- nor does that of a file that the words name
 pub no_file_rises : (ask : Ask) → FileRose ask (λ name. 0) (λ name. 0) → ⊥
-no_file_rises (infer file) rose = never_rises rose
+no_file_rises (infer file norm) rose = never_rises rose
 no_file_rises (check file certificate) (inl rose) = never_rises rose
 no_file_rises (check file certificate) (inr rose) = never_rises rose
 no_file_rises (run file query steps) rose = never_rises rose

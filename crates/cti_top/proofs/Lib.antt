@@ -1,4 +1,5 @@
 pub mod WordLemmas
+pub mod StepWords
 pub mod KeepLemmas
 pub mod ModeLemmas
 pub mod PlaceLemmas
@@ -11,4 +12,5 @@ pub mod CheckLemmas
 pub mod OutcomeLemmas
 pub mod MeetsLemmas
 pub mod OneAnswer
+pub mod OneCertificate
 pub mod RefusedLemmas

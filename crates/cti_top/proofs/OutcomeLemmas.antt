@@ -3,6 +3,7 @@ use Rattle.std.proofs.Common.{◌≡◌, ℕ, ◌≤◌, ◌<◌, List, [], leng
 use Rattle.std.proofs.lemmas.Option.{none-some, same_Some}
 use Rattle.outside.specs.Told.{Map, TellsAt, TellsMore, Takes}
 use Rattle.cti_top.specs.Words.{Ask, infer, check, run, gen, Origin, file, generated, origin, asks}
+use Rattle.term_size.specs.declared.any_norm.NormName.{NormName}
 use Rattle.cti_top.specs.Programs.{IsRefused}
 use Rattle.report.specs.Generated.{generated as generated_text}
 use Rattle.certificate.specs.Reading.{IsTextOf}
@@ -22,7 +23,7 @@ use Rattle.cti_top.specs.Answers.{AnswersCertificate, AnswersProgram, AnswersReq
 use Rattle.cti_top.specs.Answers as answers
 use Rattle.cti_top.specs.Outcome.{most_bytes, TellsText, TellsLong, IsAnswer, usage, inferred, summed, ran, checked, program_too_long, program_refused, query_refused, certificate_too_long, certificate_refused, Outcome, HasFile, HasText, IsDoneOrMemory, IsRanOrMemory, IsCheckedOrMemory}
 use Rattle.cti_top.specs.declared.status.Status.{Status}
-use Rattle.cti_top.specs.declared.status.Status.TheVariants.{Done, No, Usage, Refused, FileFault, OutFault, Memory, Stopped}
+use Rattle.cti_top.specs.declared.status.Status.TheVariants.{Done, No, Usage, Refused, FileFault, OutFault, Memory, Stopped, Overflow}
 
 -- a verdict is written with its status
 done_or_no : {p : Listing} {names : List (List ℕ)} {facts : List Fact} {status : Status} {text : List ℕ} → IsVerdictOn p names facts status text → (status ≡ Done) ⊎ (status ≡ No)
@@ -43,7 +44,7 @@ memory_unlike (inr e) = cc
 
 pub not_file : (told : Map) (words : List (List ℕ)) (text : List ℕ) → IsAnswer told words FileFault text → ⊥
 not_file told words text (usage n s e) = cc
-not_file told words text (inferred f b a t m s) = cc
+not_file told words text (inferred f b r a t m s) = cc
 not_file told words text (summed n a m s) = cc
 not_file told words text (ran f q n b a t r) = elim r.ran.ends [ ]
 not_file told words text (program_too_long k a m s e) = cc
@@ -55,7 +56,7 @@ not_file told words text (certificate_refused f c b d k l a t i u r s e) = cc
 
 not_out : (told : Map) (words : List (List ℕ)) (text : List ℕ) → IsAnswer told words OutFault text → ⊥
 not_out told words text (usage n s e) = cc
-not_out told words text (inferred f b a t m s) = cc
+not_out told words text (inferred f b r a t m s) = cc
 not_out told words text (summed n a m s) = cc
 not_out told words text (ran f q n b a t r) = elim r.ran.ends [ ]
 not_out told words text (program_too_long k a m s e) = cc
@@ -67,7 +68,7 @@ not_out told words text (certificate_refused f c b d k l a t i u r s e) = cc
 
 not_memory : (told : Map) (words : List (List ℕ)) (text : List ℕ) → IsAnswer told words Memory text → ⊥
 not_memory told words text (usage n s e) = cc
-not_memory told words text (inferred f b a t m s) = cc
+not_memory told words text (inferred f b r a t m s) = cc
 not_memory told words text (summed n a m s) = cc
 not_memory told words text (ran f q n b a t r) = elim r.ran.ends [ ]
 not_memory told words text (program_too_long k a m s e) = cc
@@ -85,6 +86,7 @@ outcome_of told words before after No text a t = (text, a, t)
 outcome_of told words before after Usage text a t = (text, a, t)
 outcome_of told words before after Refused text a t = (text, a, t)
 outcome_of told words before after Stopped text a t = (text, a, t)
+outcome_of told words before after Overflow text a t = (text, a, t)
 outcome_of told words before after FileFault text a t = absurd (not_file told words text a)
 outcome_of told words before after OutFault text a t = absurd (not_out told words text a)
 outcome_of told words before after Memory text a t = absurd (not_memory told words text a)
@@ -113,17 +115,17 @@ long_text told (file f) (file name) bytes e h short m = let same : f ≡ name = 
 long_text told (file f) (generated n) bytes e h short m = cc
 long_text told (generated n) k bytes e h short m = m
 
-pub infer_or_run : (name f q : List ℕ) (n : ℕ) → infer name ≡ run f q n → ⊥
-infer_or_run name f q n e = cc
+pub infer_or_run : (name : List ℕ) (norm : NormName) (f q : List ℕ) (n : ℕ) → infer name norm ≡ run f q n → ⊥
+infer_or_run name norm f q n e = cc
 
-infer_or_check : (name f c : List ℕ) → infer name ≡ check f c → ⊥
-infer_or_check name f c e = cc
+infer_or_check : (name : List ℕ) (norm : NormName) (f c : List ℕ) → infer name norm ≡ check f c → ⊥
+infer_or_check name norm f c e = cc
 
 pub check_or_run : (name c f q : List ℕ) (n : ℕ) → check name c ≡ run f q n → ⊥
 check_or_run name c f q n e = cc
 
-pub gen_or_infer : (n : ℕ) (f : List ℕ) → gen n ≡ infer f → ⊥
-gen_or_infer n f e = cc
+pub gen_or_infer : (n : ℕ) (f : List ℕ) (norm : NormName) → gen n ≡ infer f norm → ⊥
+gen_or_infer n f norm e = cc
 
 pub gen_or_check : (n : ℕ) (f c : List ℕ) → gen n ≡ check f c → ⊥
 gen_or_check n f c e = cc
@@ -147,26 +149,26 @@ module _ (told : Map) (words : List (List ℕ)) (ask : Ask) (bytes : List ℕ) (
       none kind at (rw same at r)
 
 -- a file without a fault is answered
-pub done_or_memory : (told : Map) (words : List (List ℕ)) (status : Status) (text name bytes : List ℕ) → IsAnswer told words status text → asks words ≡ Some (infer name)
+pub done_or_memory : (told : Map) (words : List (List ℕ)) (status : Status) (text name bytes : List ℕ) (norm : NormName) → IsAnswer told words status text → asks words ≡ Some (infer name norm)
     → HasFile told name bytes → length bytes ≤ most_bytes → ((kind at : ℕ) → IsRefused bytes kind at → ⊥) → IsDoneOrMemory status
-done_or_memory told words status text name bytes (usage n s e) asked has short none = absurd (none-some _ (sym n ∙ asked))
-done_or_memory told words status text name bytes (inferred f b a t m s) asked has short none = inl s
-done_or_memory told words status text name bytes (summed n a m s) asked has short none = inl s
-done_or_memory told words status text name bytes (ran f q n b a t r) asked has short none = absurd (infer_or_run name f q n (one_ask words _ _ asked a))
-done_or_memory told words status text name bytes (checked f c b d k a t i u h) asked has short none = absurd (infer_or_check name f c (one_ask words _ _ asked a))
-done_or_memory told words status text name bytes (program_too_long k a m s e) asked has short none = absurd (no_long told words (infer name) bytes asked has k a m short)
-done_or_memory told words status text name bytes (program_refused k b kind at a t r s e) asked has short none =
-    absurd (no_refusal told words (infer name) bytes asked has k b kind at a t r none)
-done_or_memory told words status text name bytes (query_refused f q n b kind at a t r s e) asked has short none = absurd (infer_or_run name f q n (one_ask words _ _ asked a))
-done_or_memory told words status text name bytes (certificate_too_long f c b k a t i m s e) asked has short none = absurd (infer_or_check name f c (one_ask words _ _ asked a))
-done_or_memory told words status text name bytes (certificate_refused f c b d k l a t i u r s e) asked has short none =
-    absurd (infer_or_check name f c (one_ask words _ _ asked a))
+done_or_memory told words status text name bytes norm (usage n s e) asked has short none = absurd (none-some _ (sym n ∙ asked))
+done_or_memory told words status text name bytes norm (inferred f b r a t m s) asked has short none = inl s
+done_or_memory told words status text name bytes norm (summed n a m s) asked has short none = inl s
+done_or_memory told words status text name bytes norm (ran f q n b a t r) asked has short none = absurd (infer_or_run name norm f q n (one_ask words _ _ asked a))
+done_or_memory told words status text name bytes norm (checked f c b d k a t i u h) asked has short none = absurd (infer_or_check name norm f c (one_ask words _ _ asked a))
+done_or_memory told words status text name bytes norm (program_too_long k a m s e) asked has short none = absurd (no_long told words (infer name norm) bytes asked has k a m short)
+done_or_memory told words status text name bytes norm (program_refused k b kind at a t r s e) asked has short none =
+    absurd (no_refusal told words (infer name norm) bytes asked has k b kind at a t r none)
+done_or_memory told words status text name bytes norm (query_refused f q n b kind at a t r s e) asked has short none = absurd (infer_or_run name norm f q n (one_ask words _ _ asked a))
+done_or_memory told words status text name bytes norm (certificate_too_long f c b k a t i m s e) asked has short none = absurd (infer_or_check name norm f c (one_ask words _ _ asked a))
+done_or_memory told words status text name bytes norm (certificate_refused f c b d k l a t i u r s e) asked has short none =
+    absurd (infer_or_check name norm f c (one_ask words _ _ asked a))
 
 -- a generated program without a fault is answered
 pub summed_or_memory : (told : Map) (words : List (List ℕ)) (status : Status) (text : List ℕ) (n : ℕ) → IsAnswer told words status text → asks words ≡ Some (gen n)
     → length (generated_text n) ≤ most_bytes → ((kind at : ℕ) → IsRefused (generated_text n) kind at → ⊥) → IsDoneOrMemory status
 summed_or_memory told words status text n (usage none s e) asked short no_fault = absurd (none-some _ (sym none ∙ asked))
-summed_or_memory told words status text n (inferred f b a t m s) asked short no_fault = inl s
+summed_or_memory told words status text n (inferred f b r a t m s) asked short no_fault = inl s
 summed_or_memory told words status text n (summed m a h s) asked short no_fault = inl s
 summed_or_memory told words status text n (ran f q k b a t r) asked short no_fault = absurd (gen_or_run n f q k (one_ask words _ _ asked a))
 summed_or_memory told words status text n (checked f c b d k a t i u h) asked short no_fault = absurd (gen_or_check n f c (one_ask words _ _ asked a))
@@ -177,20 +179,17 @@ summed_or_memory told words status text n (query_refused f q k b kind at a t r s
 summed_or_memory told words status text n (certificate_too_long f c b k a t i m s e) asked short no_fault = absurd (gen_or_check n f c (one_ask words _ _ asked a))
 summed_or_memory told words status text n (certificate_refused f c b d k l a t i u r s e) asked short no_fault = absurd (gen_or_check n f c (one_ask words _ _ asked a))
 
--- a run ends as it was asked, or is stopped
-done_or_stopped : {p : Listing} {g : Goal} {n : ℕ} {e : Ending} (status : Status) → Ends p g n status e → (status ≡ Done) ⊎ (status ≡ Stopped)
-done_or_stopped status h = elim h as (λ s e _. (s ≡ Done) ⊎ (s ≡ Stopped)) [
-  | runs.more m ↦ inr refl
-  | runs.no_more m ↦ inl refl
+-- a run ends as it was asked, is stopped, or meets a value that is too large
+ended : {p : Listing} {g : Goal} {n : ℕ} {e : Ending} (status : Status) → Ends p g n status e → IsRanOrMemory status
+ended status h = elim h as (λ s e _. IsRanOrMemory s) [
+  | runs.wide w ↦ inr (inr (inl refl))
+  | runs.more w m ↦ inr (inl refl)
+  | runs.no_more w m ↦ inl refl
 ]
-
-ended : (status : Status) → (status ≡ Done) ⊎ (status ≡ Stopped) → IsRanOrMemory status
-ended status (inl h) = inl h
-ended status (inr h) = inr (inl h)
 
 -- the name of the program's file
 abbrev pub name_of : Ask → List ℕ
-name_of (infer f) = f
+name_of (infer f norm) = f
 name_of (check f c) = f
 name_of (run f q n) = f
 name_of (gen n) = []
@@ -198,7 +197,7 @@ name_of (gen n) = []
 -- the query that was asked, or the name of the certificate
 abbrev pub query_of : Ask → List ℕ
 query_of (gen n) = []
-query_of (infer f) = f
+query_of (infer f norm) = f
 query_of (check f c) = c
 query_of (run f q n) = q
 
@@ -207,9 +206,9 @@ pub ran_or_memory : (told : Map) (words : List (List ℕ)) (status : Status) (te
     → asks words ≡ Some (run name query steps) → HasFile told name bytes → length bytes ≤ most_bytes → ((kind at : ℕ) → IsRefused bytes kind at → ⊥)
     → ((kind at : ℕ) → IsRefusedQuery bytes query kind at → ⊥) → IsRanOrMemory status
 ran_or_memory told words status text name query bytes steps (usage n s e) asked has short none no_fault = absurd (none-some _ (sym n ∙ asked))
-ran_or_memory told words status text name query bytes steps (inferred f b a t m s) asked has short none no_fault = inl s
+ran_or_memory told words status text name query bytes steps (inferred f b r a t m s) asked has short none no_fault = inl s
 ran_or_memory told words status text name query bytes steps (summed n a m s) asked has short none no_fault = inl s
-ran_or_memory told words status text name query bytes steps (ran f q n b a t r) asked has short none no_fault = ended status (done_or_stopped status r.ran.ends)
+ran_or_memory told words status text name query bytes steps (ran f q n b a t r) asked has short none no_fault = ended status r.ran.ends
 ran_or_memory told words status text name query bytes steps (checked f c b d k a t i u h) asked has short none no_fault = absurd (check_or_run f c name query steps (one_ask words _ _ a asked))
 ran_or_memory told words status text name query bytes steps (program_too_long k a m s e) asked has short none no_fault =
     absurd (no_long told words (run name query steps) bytes asked has k a m short)
@@ -234,7 +233,7 @@ pub checked_or_memory : (told : Map) (words : List (List ℕ)) (status : Status)
     → asks words ≡ Some (check name certificate) → HasFile told name bytes → length bytes ≤ most_bytes → ((kind at : ℕ) → IsRefused bytes kind at → ⊥)
     → HasFile told certificate certified → IsTextOf c certified → IsCheckedOrMemory status
 checked_or_memory told words status text name certificate bytes certified c (usage n s e) asked has short none held is = absurd (none-some _ (sym n ∙ asked))
-checked_or_memory told words status text name certificate bytes certified c (inferred f b a t m s) asked has short none held is = inl s
+checked_or_memory told words status text name certificate bytes certified c (inferred f b r a t m s) asked has short none held is = inl s
 checked_or_memory told words status text name certificate bytes certified c (summed n a m s) asked has short none held is = inl s
 checked_or_memory told words status text name certificate bytes certified c (ran f q n b a t r) asked has short none held is =
     absurd (check_or_run name certificate f q n (one_ask words _ _ asked a))
@@ -262,7 +261,7 @@ certified told words f name bytes known status text a t i (answers.long m h) = c
 -- the answer to the bytes of the program
 answered : (told : Map) (words : List (List ℕ)) (ask : Ask) (bytes : List ℕ) (status : Status) (text : List ℕ) → asks words ≡ Some ask → TellsText told (origin ask) bytes
     → AnswersProgram told bytes ask status text → IsAnswer told words status text
-answered told words (infer f) bytes status text a t (inl (s, m)) = inferred f bytes a t m s
+answered told words (infer f norm) bytes status text a t (inl (s, m)) = inferred f bytes norm a t m s
 answered told words (check f name) bytes status text a t (inl (known, i, h)) = certified told words f name bytes known status text a t i h
 answered told words (run f query n) bytes status text a t (inl (inl r)) = ran f query n bytes a t r
 answered told words (run f query n) bytes status text a t (inl (inr (kind, at, r, h))) = query_refused f query n bytes kind at a t r h.status h.line

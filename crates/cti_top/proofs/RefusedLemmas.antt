@@ -24,8 +24,8 @@ module _ (told : Map) (words : List (List ℕ)) (status : Status) (text : List �
   pub refused_answer : (ask : Ask) (bytes : List ℕ) (kind at : ℕ) → IsAnswer told words status text → asks words ≡ Some ask → HasText told (origin ask) bytes → IsRefused bytes kind at
       → status ≡ Refused
   refused_answer ask bytes kind at (usage n s e) asked has r = absurd (none-some _ (sym n ∙ asked))
-  refused_answer ask bytes kind at (inferred f b a t m s) asked has r =
-      absurd (none_known ask (infer f) bytes b kind at (record { names = m.names; program = m.program; table = m.table }) asked a has t r m.is)
+  refused_answer ask bytes kind at (inferred f b n a t m s) asked has r =
+      absurd (none_known ask (infer f n) bytes b kind at (record { names = m.names; program = m.program; table = m.table }) asked a has t r m.is)
   refused_answer ask bytes kind at (summed n a m s) asked has r =
       let i = m.inferred in
       absurd (none_known ask (gen n) bytes (generated n) kind at (record { names = i.names; program = i.program; table = i.table }) asked a has refl r i.is)
@@ -40,7 +40,7 @@ module _ (told : Map) (words : List (List ℕ)) (status : Status) (text : List �
   pub query_refused_answer : (name query bytes : List ℕ) (steps kind at : ℕ) → IsAnswer told words status text → asks words ≡ Some (run name query steps) → HasFile told name bytes
       → IsRefusedQuery bytes query kind at → status ≡ Refused
   query_refused_answer name query bytes steps kind at (usage n s e) asked has r = absurd (none-some _ (sym n ∙ asked))
-  query_refused_answer name query bytes steps kind at (inferred f b a t m s) asked has r = absurd (infer_or_run f name query steps (one_ask words _ _ a asked))
+  query_refused_answer name query bytes steps kind at (inferred f b n a t m s) asked has r = absurd (infer_or_run f n name query steps (one_ask words _ _ a asked))
   query_refused_answer name query bytes steps kind at (summed n a m s) asked has r = absurd (gen_or_run n name query steps (one_ask words _ _ a asked))
   query_refused_answer name query bytes steps kind at (ran f q n b a t m) asked has r =
       let one = one_ask words _ _ a asked in

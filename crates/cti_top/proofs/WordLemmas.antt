@@ -1,12 +1,13 @@
 -- Words that the command line takes.
 use Rattle.std.proofs.Common.{ℕ, nat_eq, codes, option_map, ◌≡◌, Bool, true, false, List, [], ◌∷◌, Option, Some, refl, is_some}
+use Rattle.term_size.specs.declared.any_norm.NormName.TheVariants as norm
 use Rattle.clap.specs.Words.{Kinds, Text, fault_of, first_of, subcommand_of}
 use Rattle.clap.specs.Kinds.{check_kinds, or_else}
 use Rattle.clap.specs.Faults.{defaults_fault, level_fault, settle_fault, walk_fault}
 use Rattle.clap.specs.Simple.{Shape, built}
 use Rattle.clap.specs.Walk.{Held, Names, settled, walk, walk_from}
 use Rattle.clap.proofs.OnLiterals.{clap_on_literals}
-use Rattle.cti_top.specs.Words.{command_line, asks, infer, check, run, gen, predicates_in}
+use Rattle.cti_top.specs.Words.{command_line, asks, infer, check, run, gen, norm_in, predicates_in}
 
 or_else_nil : (a b : Kinds) → or_else a b ≡ [] → (a ≡ []) × (b ≡ [])
 or_else_nil [] b h = (refl, h)
@@ -52,9 +53,15 @@ unfolding clap_on_literals
 run_taken c d cs ds h k = simp (h, k)
 
 -- what these words ask for
-pub infer_asks : (c : ℕ) (cs : List ℕ) → nat_eq c 45 ≡ false → asks (codes "infer" ∷ (c ∷ cs) ∷ []) ≡ Some (infer (c ∷ cs))
+pub infer_asks : (c : ℕ) (cs : List ℕ) → nat_eq c 45 ≡ false → asks (codes "infer" ∷ (c ∷ cs) ∷ []) ≡ Some (infer (c ∷ cs) norm.Term)
 unfolding clap_on_literals
 infer_asks c cs h = simp h
+
+-- the same with a norm
+pub norm_asks : (c d : ℕ) (cs ds : List ℕ) → nat_eq c 45 ≡ false → nat_eq d 45 ≡ false
+    → asks (codes "infer" ∷ (c ∷ cs) ∷ codes "--norm" ∷ (d ∷ ds) ∷ []) ≡ option_map (infer (c ∷ cs)) (norm_in (d ∷ ds))
+unfolding clap_on_literals
+norm_asks c d cs ds h k = simp (h, k)
 
 pub check_asks : (c d : ℕ) (cs ds : List ℕ) → nat_eq c 45 ≡ false → nat_eq d 45 ≡ false → asks (codes "check" ∷ (c ∷ cs) ∷ (d ∷ ds) ∷ []) ≡ Some (check (c ∷ cs) (d ∷ ds))
 unfolding clap_on_literals

@@ -24,7 +24,7 @@ use Rattle.cti_top.specs.declared.request.Origin.TheVariants as its
 use Rattle.cti_top.specs.declared.refusal.Subject.{Subject}
 use Rattle.cti_top.specs.declared.refusal.Subject.TheVariants.{Program, Certificate, Query}
 use Rattle.cti_top.specs.declared.status.Status.{Status}
-use Rattle.cti_top.specs.declared.status.Status.TheVariants.{Done, No, Refused, Stopped}
+use Rattle.cti_top.specs.declared.status.Status.TheVariants.{Done, No, Refused, Stopped, Overflow}
 use Rattle.ld_resolver.specs.declared.running.Ending.{Ending}
 use Rattle.ld_resolver.specs.declared.running.Ending.TheVariants as ending
 
@@ -32,6 +32,7 @@ use Rattle.ld_resolver.specs.declared.running.Ending.TheVariants as ending
 abbrev pub status_of : Ending → Status
 status_of ending.Finished = Done
 status_of ending.Stopped = Stopped
+status_of ending.Overflow = Overflow
 
 -- the status that goes with a verdict
 abbrev pub verdict_status : Verdict → Status
@@ -40,7 +41,7 @@ verdict_status (verdict.No line reason) = No
 
 -- a request, by its texts
 abbrev pub ask_of : Request → Ask
-ask_of (request.Infer file) = infer file.now
+ask_of (request.Infer file norm) = infer file.now norm
 ask_of (request.Check file certificate) = check file.now certificate.now
 ask_of (request.Run file query steps) = run file.now query.now steps
 ask_of (request.Generate count) = gen count
@@ -86,7 +87,7 @@ pub data AnswersCertificate (told : Map) (known : Known) (name : List ℕ) (stat
 
 -- what is asked for of the program that these bytes are
 abbrev pub AnswersAsk : Map → List ℕ → Ask → Status → List ℕ → Type 0
-AnswersAsk told bytes (infer file) status text = (status ≡ Done) × IsInferred bytes text
+AnswersAsk told bytes (infer file norm) status text = (status ≡ Done) × IsInferred norm bytes text
 AnswersAsk told bytes (check file certificate) status text = (known : Known) × IsKnown bytes known × AnswersCertificate told known certificate status text
 AnswersAsk told bytes (run file query steps) status text = AnswersQuery bytes query steps status text
 AnswersAsk told bytes (gen n) status text = (status ≡ Done) × IsSummary bytes n text

@@ -6,11 +6,11 @@
 --
 -- To believe: all of this file, over the program of a text, `IsTextOf` and `IsFirstWrong` of certificate, and `ModesAreBounded` of
 -- cert_checker; `IsValid` and `IsFault` of cert_checker only where a Yes is to mean more than that queries end, and a No what is wrong.
-use Rattle.std.specs.Prelude.{◌≡◌, ℕ, List}
+use Rattle.std.specs.Prelude.{◌≡◌, ◌≤◌, ℕ, List, length}
 use Rattle.certificate.specs.declared.certificate.Certificate.{Certificate}
 use Rattle.certificate.specs.declared.fact.Fact.{Fact}
 use Rattle.certificate.specs.Lines.{IsFirstWrong}
-use Rattle.certificate.specs.Reading.{IsTextOf}
+use Rattle.certificate.specs.Reading.{IsTextOf, most_bytes}
 use Rattle.cert_checker.specs.Bounding.{ModesAreBounded}
 use Rattle.cert_checker.specs.Fault.{IsFault}
 use Rattle.cert_checker.specs.Valid.{IsValid}
@@ -33,7 +33,8 @@ pub record IsCheckOf (known : Known) (certified : List ℕ) (status : Status) (t
   pub is : IsTextOf certificate certified
   pub verdict : IsVerdictOn known.program known.names certificate.facts status text
 
--- the text is not that of a certificate, and this is its first line that is not a fact
+-- the text is within its limit and not that of a certificate, and this is its first line that is not a fact
 pub record IsRefusedCertificate (certified : List ℕ) (line : ℕ) : Type 0 where
+  pub short : length certified ≤ most_bytes
   pub first : IsFirstWrong certified line
   pub none : (c : Certificate) → IsTextOf c certified → ⊥

@@ -8,6 +8,7 @@ use Rattle.cti_top.specs.Words.{Ask, infer, check, run, gen, Origin, file, gener
 use Rattle.cti_top.specs.Places.{line_of, column_of}
 use Rattle.cti_top.specs.Refusal.{refusal_line}
 use Rattle.cti_top.specs.Programs.{IsRefused}
+use Rattle.term_size.specs.declared.any_norm.NormName.{NormName}
 use Rattle.cti_top.specs.Inferred.{IsInferred}
 use Rattle.cti_top.specs.Summary.{IsSummary}
 use Rattle.report.specs.Generated.{generated as generated_text}
@@ -18,7 +19,7 @@ use Rattle.certificate.specs.Reading.{most_bytes as most_certificate_bytes}
 use Rattle.outside.specs.Causes.{Rose}
 use Rattle.cti_top.specs.declared.refusal.Subject.TheVariants.{Program, Certificate, Query}
 use Rattle.cti_top.specs.declared.status.Status.{Status}
-use Rattle.cti_top.specs.declared.status.Status.TheVariants.{Done, No, Usage, Refused, FileFault, OutFault, Memory, Stopped}
+use Rattle.cti_top.specs.declared.status.Status.TheVariants.{Done, No, Usage, Refused, FileFault, OutFault, Memory, Stopped, Overflow}
 
 -- the most bytes that a program has
 abbrev pub most_bytes : ℕ
@@ -39,7 +40,8 @@ TellsLong told (generated n) = ⊥
 -- query is refused. Where the store shows its map, the bytes are those at the file's name.
 pub data IsAnswer (told : Map) (words : List (List ℕ)) (status : Status) (text : List ℕ) : Type 0 where
   usage : asks words ≡ None → status ≡ Usage → text ≡ usage_lines → IsAnswer told words status text
-  inferred : (name bytes : List ℕ) → asks words ≡ Some (infer name) → TellsAt told name bytes → IsInferred bytes text → status ≡ Done → IsAnswer told words status text
+  inferred : (name bytes : List ℕ) (norm : NormName) → asks words ≡ Some (infer name norm) → TellsAt told name bytes → IsInferred norm bytes text → status ≡ Done
+      → IsAnswer told words status text
   summed : (n : ℕ) → asks words ≡ Some (gen n) → IsSummary (generated_text n) n text → status ≡ Done → IsAnswer told words status text
   ran : (name query : List ℕ) (steps : ℕ) (bytes : List ℕ) → asks words ≡ Some (run name query steps) → TellsAt told name bytes → IsRunOf bytes query steps status text
       → IsAnswer told words status text
@@ -79,9 +81,9 @@ HasText told (generated n) bytes = bytes ≡ generated_text n
 abbrev pub IsDoneOrMemory : Status → Type 0
 IsDoneOrMemory status = (status ≡ Done) ⊎ (status ≡ Memory)
 
--- the same of a query, whose search may have been stopped
+-- the same of a query, whose search may have been stopped or have met a value that is too large
 abbrev pub IsRanOrMemory : Status → Type 0
-IsRanOrMemory status = (status ≡ Done) ⊎ (status ≡ Stopped) ⊎ (status ≡ Memory)
+IsRanOrMemory status = (status ≡ Done) ⊎ (status ≡ Stopped) ⊎ (status ≡ Overflow) ⊎ (status ≡ Memory)
 
 -- the same of a certificate, which may not be valid
 abbrev pub IsCheckedOrMemory : Status → Type 0
@@ -93,7 +95,7 @@ IsRefusedOrMemory status = (status ≡ Refused) ⊎ (status ≡ Memory)
 
 -- the count of the program's file rose, or that of the certificate's
 abbrev pub FileRose : Ask → (List ℕ → ℕ) → (List ℕ → ℕ) → Type 0
-FileRose (infer name) before after = Rose (before name) (after name)
+FileRose (infer name norm) before after = Rose (before name) (after name)
 FileRose (check name certificate) before after = Rose (before name) (after name) ⊎ Rose (before certificate) (after certificate)
 FileRose (run name query steps) before after = Rose (before name) (after name)
 FileRose (gen n) before after = ⊥

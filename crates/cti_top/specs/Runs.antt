@@ -1,12 +1,12 @@
 -- To believe, for the command.
 -- What is printed for a query: its answers among the nodes looked at, how many nodes there were, and whether there are more.
 --
--- To believe: all of this file, over the goal of a query, `run_lines` of term_text, `told` of ld_resolver, and `answers`, `first_nodes`,
--- `longest` and `HasMoreNodes` of cti_terms.
-use Rattle.std.specs.Prelude.{◌≡◌, ℕ, List, map, length}
+-- To believe: all of this file, over the goal of a query, `run_lines` of term_text, `told` of ld_resolver, and `answers`,
+-- `visited_nodes`, `longest`, `HasWide` and `HasMoreNodes` of cti_terms.
+use Rattle.std.specs.Prelude.{◌≡◌, ◌⊎◌, ℕ, List, map, length}
 use Rattle.cti_terms.specs.Listing.{Listing}
-use Rattle.cti_terms.specs.Answers.{answers}
-use Rattle.cti_terms.specs.Nodes.{first_nodes, HasMoreNodes, longest}
+use Rattle.cti_terms.specs.Answers.{answers, visited_nodes, HasWide}
+use Rattle.cti_terms.specs.Nodes.{HasMoreNodes, longest}
 use Rattle.cti_terms.specs.declared.derivation.Goal.{Goal}
 use Rattle.ld_resolver.specs.Told.{told}
 use Rattle.ld_resolver.specs.declared.running.Ending.{Ending}
@@ -15,23 +15,24 @@ use Rattle.term_text.specs.RunLines.{run_lines}
 use Rattle.cti_top.specs.Programs.{IsProgramOf}
 use Rattle.cti_top.specs.Queries.{Known, IsQueryOf, IsQueryRefused}
 use Rattle.cti_top.specs.declared.status.Status.{Status}
-use Rattle.cti_top.specs.declared.status.Status.TheVariants.{Done, Stopped}
+use Rattle.cti_top.specs.declared.status.Status.TheVariants.{Done, Stopped, Overflow}
 
--- a goal has more than n nodes, or it has not
+-- the empty derivation or one of the first n nodes leaves a wide goal; or none does, and a goal has more than n nodes, or it has not
 pub data Ends (p : Listing) (g : Goal) (n : ℕ) : Status → Ending → Type 0 where
-  more : HasMoreNodes p g n → Ends p g n Stopped ending.Stopped
-  no_more : ¬ HasMoreNodes p g n → Ends p g n Done ending.Finished
+  wide : HasWide p g n → Ends p g n Overflow ending.Overflow
+  more : ¬ HasWide p g n → HasMoreNodes p g n → Ends p g n Stopped ending.Stopped
+  no_more : ¬ HasWide p g n → ¬ HasMoreNodes p g n → Ends p g n Done ending.Finished
 
 -- the text is what is printed for a goal of a program and n nodes, with this status
 pub record IsTextOfRun (names : List (List ℕ)) (p : Listing) (g : Goal) (n : ℕ) (status : Status) (text : List ℕ) : Type 0 where
   pub ending : Ending
   pub ends : Ends p g n status ending
-  pub printed : text ≡ run_lines names p (map told (answers p g n)) (length (first_nodes p g n)) (longest (first_nodes p g n)) ending
+  pub printed : text ≡ run_lines names p (map told (answers p g n)) (length (visited_nodes p g n)) (longest (visited_nodes p g n)) ending
 
--- a goal has no more than n nodes, and what is printed for it and n nodes goes with the status Done
+-- a goal has no more than n nodes, and what is printed for it and n nodes goes with the status Done or Overflow
 pub record IsFinished (p : Listing) (g : Goal) (n : ℕ) : Type 0 where
   pub enough : ¬ HasMoreNodes p g n
-  pub done : (names : List (List ℕ)) (status : Status) (text : List ℕ) → IsTextOfRun names p g n status text → status ≡ Done
+  pub done : (names : List (List ℕ)) (status : Status) (text : List ℕ) → IsTextOfRun names p g n status text → (status ≡ Done) ⊎ (status ≡ Overflow)
 
 -- the bytes are the text of this program
 abbrev pub IsKnown : List ℕ → Known → Type 0

@@ -1,11 +1,12 @@
 -- To believe, for the command.
--- What is printed for a generated program: how many predicates, clauses and modes there are.
+-- What is printed for a generated program: how many predicates, clauses and modes there are, by term size.
 --
 -- To believe: all of this file, over what is printed for a program's bytes.
 use Rattle.std.specs.Prelude.{◌≡◌, ℕ, List, ◌++◌, length, codes, decimal}
 use Rattle.std.specs.List.{sum_by}
 use Rattle.certificate.specs.declared.fact.Fact.{Fact}
 use Rattle.certificate.specs.declared.fact.Fact.TheVariants as fact
+use Rattle.term_size.specs.declared.any_norm.NormName.TheVariants as norm
 use Rattle.cti_top.specs.Inferred.{IsInferred}
 use Rattle.cti_top.specs.Refusal.{field}
 
@@ -25,5 +26,5 @@ summary_line n clauses modes = codes "generated(" ++ decimal n ++ field clauses 
 -- the text sums up the certificate that is printed for a program's bytes, where there are n predicates
 pub record IsSummary (bytes : List ℕ) (n : ℕ) (text : List ℕ) : Type 0 where
   pub certificate : List ℕ
-  pub inferred : IsInferred bytes certificate
+  pub inferred : IsInferred norm.Term bytes certificate
   pub printed : text ≡ summary_line n (length inferred.program.clauses) (mode_count inferred.facts)

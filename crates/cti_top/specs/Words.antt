@@ -10,6 +10,8 @@ use Rattle.std.specs.Char.{is_digit}
 use Rattle.std.specs.List.{list_all}
 use Rattle.std.specs.Str.{bytes_eq}
 use Rattle.std.specs.Str.Parse.{digits_value}
+use Rattle.term_size.specs.declared.any_norm.NormName.{NormName}
+use Rattle.term_size.specs.declared.any_norm.NormName.TheVariants as norm
 use Rattle.clap.specs.Words.{App, Kinds, Row, Rule, Text, Shape, fault_of, subcommand_of, first_of, new_app, new_rule, with_rule, with_subcommand}
 use Rattle.clap.specs.Simple.{on_top}
 
@@ -17,17 +19,17 @@ use Rattle.clap.specs.Simple.{on_top}
 abbrev pub required_word : Text → Rule
 required_word id = record (new_rule id) { required = true }
 
--- infer FILE
+-- an option with one value
+abbrev pub option : Text → Rule
+option id = record (new_rule id) { long = Some id }
+
+-- infer FILE --norm NORM
 abbrev pub infer_command : App
-infer_command = with_rule (new_app (codes "infer")) (required_word (codes "file"))
+infer_command = with_rule (with_rule (new_app (codes "infer")) (required_word (codes "file"))) (option (codes "norm"))
 
 -- check FILE CERT
 abbrev pub check_command : App
 check_command = with_rule (with_rule (new_app (codes "check")) (required_word (codes "file"))) (required_word (codes "certificate"))
-
--- an option with one value
-abbrev pub option : Text → Rule
-option id = record (new_rule id) { long = Some id }
 
 -- run FILE QUERY --steps N
 abbrev pub run_command : App
@@ -53,10 +55,10 @@ top_command = on_top settings (new_app (codes "cti"))
 abbrev pub command_line : App
 command_line = with_subcommand (with_subcommand (with_subcommand (with_subcommand top_command infer_command.top) check_command.top) run_command.top) gen_command.top
 
--- what is asked for, by its texts: the modes of a file's program, the check of a file's certificate of it, a query of it with a number of nodes, or
+-- what is asked for, by its texts: the modes of a file's program by a norm, the check of a file's certificate of it, a query of it with a number of nodes, or
 -- how many modes the generated program of this many predicates has
 pub data Ask : Type 0 where
-  infer : Text → Ask
+  infer : Text → NormName → Ask
   check : Text → Text → Ask
   run : Text → Text → ℕ → Ask
   gen : ℕ → Ask
@@ -68,7 +70,7 @@ pub data Origin : Type 0 where
 
 -- where the text of the program comes from that is asked about
 abbrev pub origin : Ask → Origin
-origin (infer name) = file name
+origin (infer name norm) = file name
 origin (check name certificate) = file name
 origin (run name query steps) = file name
 origin (gen n) = generated n
@@ -86,14 +88,23 @@ number_in digits greatest text =
 abbrev pub steps_in : Text → Option ℕ
 steps_in text = number_in 7 1000000 text
 
--- the number of predicates that a text asks for: one to three digits, from 1 to 300
+-- the number of predicates that a text asks for: one to seven digits, from 1 to 300
 abbrev pub predicates_in : Text → Option ℕ
-predicates_in text = number_in 3 300 text
+predicates_in text = number_in 7 300 text
 
 -- the same of an option's value, which is 100,000 where it is absent
 abbrev pub steps_of : Option Text → Option ℕ
 steps_of None = Some 100000
 steps_of (Some text) = steps_in text
+
+-- the norm that a text names
+abbrev pub norm_in : Text → Option NormName
+norm_in text = if bytes_eq text (codes "term") then Some norm.Term else if bytes_eq text (codes "list") then Some norm.List else None
+
+-- the same of an option's value, which is term size where it is absent
+abbrev pub norm_of : Option Text → Option NormName
+norm_of None = Some norm.Term
+norm_of (Some text) = norm_in text
 
 -- the word of this name, which is always given
 abbrev pub given : Text → List Row → Text
@@ -103,7 +114,7 @@ given id rows = unwrap_or (first_of id rows) []
 abbrev pub ask_by : Text → List Row → Option Ask
 ask_by name rows =
     if bytes_eq name (codes "gen") then option_map gen (predicates_in (given (codes "count") rows))
-    else if bytes_eq name (codes "infer") then Some (infer (given (codes "file") rows))
+    else if bytes_eq name (codes "infer") then option_map (infer (given (codes "file") rows)) (norm_of (first_of (codes "norm") rows))
     else if bytes_eq name (codes "check") then Some (check (given (codes "file") rows) (given (codes "certificate") rows))
     else option_map (run (given (codes "file") rows) (given (codes "query") rows)) (steps_of (first_of (codes "steps") rows))
 
@@ -118,4 +129,4 @@ asks words = ask_if (fault_of command_line words) (subcommand_of command_line wo
 
 -- one line for each command
 abbrev pub usage_lines : List ℕ
-usage_lines = codes "usage: cti infer FILE\n" ++ codes "usage: cti check FILE CERT\n" ++ codes "usage: cti run FILE QUERY --steps N\n" ++ codes "usage: cti gen N\n"
+usage_lines = codes "usage: cti infer FILE --norm NORM\n" ++ codes "usage: cti check FILE CERT\n" ++ codes "usage: cti run FILE QUERY --steps N\n" ++ codes "usage: cti gen N\n"

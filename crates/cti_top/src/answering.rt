@@ -6,7 +6,7 @@ ghost use Rattle.cti_terms.specs.declared.predicates.Pred.{Pred as ThePred};
 ghost use Rattle.clause_normal.specs.Numbering.{is_equality};
 ghost use Rattle.cti_top.specs.Words.{Ask, asks, origin, usage_lines};
 ghost use Rattle.report.specs.Generated.{generated};
-ghost use Rattle.cti_top.specs.Known.{known_of};
+ghost use Rattle.cti_top.specs.Known.{known_of, NamesBuiltins};
 ghost use Rattle.cti_top.specs.Runs.{IsKnown};
 ghost use Rattle.cti_top.specs.Outcome.{FileRose, IsAnswer, TellsLong, TellsText};
 ghost use Rattle.outside.specs.Told.{Keeps};
@@ -36,13 +36,14 @@ fn answer_program<F: Files>(
 ) -> Result<Answer, Status>
     requires known { AllByRecursion (λ (q : ThePred). q.name.0 < length source.names) source.program.preds }
     requires room { position (is_equality source.names) source.program.preds ≡ None → length source.program.clauses < 16385 }
+    requires arithmetic { NamesBuiltins source.names source.program }
     ensures answered { IfOk result (λ a. (bytes : List ℕ) → IsKnown bytes (known_of source) → AnswersAsk (F.told files.old) bytes (ask_of request.entry) a.status a.text.items) }
     ensures file_fault { IsErrOf result Status.FileFault → FileRose (ask_of request.entry) (F.faults files.old) (F.faults files.new) }
     ensures others { IfErr result (λ e. (e ≡ Status.FileFault) ⊎ (e ≡ Status.Memory)) }
     ensures kept { Keeps (F.told files.old) (F.told files.new) (F.faults files.old) (F.faults files.new) }
 {
     match request {
-        Request::Infer(_) => Ok(infer_of(alloc, &source)?),
+        Request::Infer(_, norm) => Ok(infer_of(alloc, &source, norm)?),
         Request::Check(_, certificate) => check_of(alloc, &source, certificate, files),
         Request::Run(_, query, steps) => Ok(run_of(alloc, source, query.as_bytes(), steps)?),
         Request::Generate(predicates) => Ok(gen_of(alloc, &source, predicates)?),

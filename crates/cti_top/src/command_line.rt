@@ -54,11 +54,12 @@ fn top<'a>(alloc: Global) -> Command<'a>
         .subcommand_required(true)
 }
 
-/// `infer FILE`
+/// `infer FILE --norm NORM`
 fn infer<'a>(alloc: Global) -> Result<Command<'a>, AllocError>
     ensures { IfOk result (IsCommandLine infer_command) }
 {
-    with_argument(Command::new(alloc, "infer"), word(alloc, "file"))
+    let infer = with_argument(Command::new(alloc, "infer"), word(alloc, "file"))?;
+    with_argument(infer, option(alloc, "norm"))
 }
 
 /// `check FILE CERT`

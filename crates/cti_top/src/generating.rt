@@ -15,6 +15,7 @@ use certificate::Fact;
 use itoa::Buffer;
 use report::infer;
 use std::alloc::{AllocError, Global};
+use term_size::NormName;
 
 /// How many modes a fact prints.
 fn modes_in(fact: &Fact) -> usize
@@ -68,7 +69,7 @@ pub fn gen_of(alloc: Global, source: &Source, predicates: u32) -> Result<Answer,
     ensures { IfOk result (λ a. (a.status ≡ Status.Done)
         × ((bytes : List ℕ) → IsProgramOf bytes source.now.names source.now.program (table_of source.now.ops) → IsSummary bytes predicates a.text.items)) }
 {
-    let certificate = infer(alloc, &source.program, &source.names)?;
+    let certificate = infer(alloc, &source.program, &source.names, NormName::Term)?;
     let modes = mode_count(certificate.facts.as_slice());
     Ok(Answer {
         status: Status::Done,

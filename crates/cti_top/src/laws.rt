@@ -1,8 +1,10 @@
 //! What a valid certificate says of the runs of queries, and that a text has one answer. They are functions that do nothing, and whose
 //! clauses are proved.
 
-ghost use Rattle.std.specs.Prelude.{◌≡◌, ◌≢◌, ◌≤◌, ◌⊎◌, ℕ, List, [], ◌∷◌, Some, codes, false, nat_eq, length};
+ghost use Rattle.std.specs.Prelude.{◌≡◌, ◌≢◌, ◌≤◌, ◌<◌, ◌⊎◌, ℕ, List, [], ◌∷◌, Some, codes, false, nat_eq, length, option_map};
 ghost use Rattle.std.specs.List.{AllPairs};
+ghost use Rattle.certificate.specs.Reading.{IsTextOf, most_bytes};
+ghost use Rattle.certificate.specs.declared.certificate.Certificate.{Certificate as TheCertificate};
 ghost use Rattle.certificate.specs.declared.fact.Fact.{Fact};
 ghost use Rattle.cert_structure.specs.Structure.{AreNamed};
 ghost use Rattle.cert_checker.specs.Valid.{IsValid};
@@ -11,17 +13,19 @@ ghost use Rattle.cti_terms.specs.Listing.{IsProgram, Listing};
 ghost use Rattle.cti_terms.specs.declared.atom_list.Atom.{Atom};
 ghost use Rattle.cti_terms.specs.declared.derivation.Goal.{Goal};
 ghost use Rattle.ld_resolver.specs.Count.{HasNodes};
+ghost use Rattle.term_size.specs.declared.any_norm.NormName.TheVariants as norm;
+ghost use Rattle.cti_top.specs.Checks.{IsRefusedCertificate};
 ghost use Rattle.cti_top.specs.Meets.{MeetsMode};
 ghost use Rattle.cti_top.specs.Programs.{IsRefused};
 ghost use Rattle.cti_top.specs.Queries.{Known, IsQueryOf, IsQueryRefused};
 ghost use Rattle.cti_top.specs.Runs.{IsFinished, IsKnown};
-ghost use Rattle.cti_top.specs.Words.{asks, infer, check, run};
+ghost use Rattle.cti_top.specs.Words.{asks, infer, check, norm_in, run};
 
 use cert_checker::valid_certificates_bound_their_modes;
 use ld_resolver::laws::{a_budget_of_all_nodes_finishes, bounded_goals_have_finitely_many_nodes};
 
 /// Where a certificate of a program is valid, each query that meets one of its modes has some number of nodes, and its run with a budget of
-/// at least that number is finished: there are no more nodes, and the status is Done.
+/// at least that number is not stopped: there are no more nodes, and the status is Done, or Overflow where a value is too large.
 ///
 /// The names are those of the program's predicates, and no two are alike.
 pub fn valid_certificates_bound_their_nodes()
@@ -34,9 +38,11 @@ pub fn valid_certificates_bound_their_nodes()
     a_budget_of_all_nodes_finishes();
 }
 
-/// What words ask for where files and the query are not empty and do not begin with a dash.
+/// What words ask for where files, the query and the norm are not empty and do not begin with a dash.
 pub fn plain_words_ask()
-    ensures infer { (c : ℕ) (cs : List ℕ) → nat_eq c 45 ≡ false → asks (codes "infer" ∷ (c ∷ cs) ∷ []) ≡ Some (infer (c ∷ cs)) }
+    ensures infer { (c : ℕ) (cs : List ℕ) → nat_eq c 45 ≡ false → asks (codes "infer" ∷ (c ∷ cs) ∷ []) ≡ Some (infer (c ∷ cs) norm.Term) }
+    ensures norm { (c d : ℕ) (cs ds : List ℕ) → nat_eq c 45 ≡ false → nat_eq d 45 ≡ false
+        → asks (codes "infer" ∷ (c ∷ cs) ∷ codes "--norm" ∷ (d ∷ ds) ∷ []) ≡ option_map (infer (c ∷ cs)) (norm_in (d ∷ ds)) }
     ensures check { (c d : ℕ) (cs ds : List ℕ) → nat_eq c 45 ≡ false → nat_eq d 45 ≡ false
         → asks (codes "check" ∷ (c ∷ cs) ∷ (d ∷ ds) ∷ []) ≡ Some (check (c ∷ cs) (d ∷ ds)) }
     ensures run { (c d : ℕ) (cs ds : List ℕ) → nat_eq c 45 ≡ false → nat_eq d 45 ≡ false
@@ -59,6 +65,14 @@ pub fn a_text_has_one_answer()
         → (kind ≡ other) × (at ≡ place) }
     ensures query_apart { (known : Known) (query : List ℕ) (names : List (List ℕ)) (p : Listing) (g : Goal) (kind at : ℕ) → IsQueryOf known query names p g
         → IsQueryRefused known query kind at → ⊥ }
+{}
+
+/// A text within the limit is that of one certificate at most, or it is refused, at one line; and never both. A longer one is neither.
+pub fn a_certificate_has_one_answer()
+    ensures certificate { (text : List ℕ) (c d : TheCertificate) → IsTextOf c text → IsTextOf d text → c ≡ d }
+    ensures refused { (text : List ℕ) (line other : ℕ) → IsRefusedCertificate text line → IsRefusedCertificate text other → line ≡ other }
+    ensures apart { (text : List ℕ) (c : TheCertificate) (line : ℕ) → IsTextOf c text → IsRefusedCertificate text line → ⊥ }
+    ensures long { (text : List ℕ) → most_bytes < length text → ((c : TheCertificate) → IsTextOf c text → ⊥) × ((line : ℕ) → IsRefusedCertificate text line → ⊥) }
 {}
 
 /// The place of a refusal is one of the text, or its end.

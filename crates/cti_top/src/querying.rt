@@ -6,7 +6,7 @@ ghost use Rattle.cti_terms.specs.declared.predicates.Pred.{Pred as ThePred};
 ghost use Rattle.clause_normal.specs.Numbering.{is_equality};
 ghost use Rattle.ld_resolver.specs.Runs.{IsGoalOf};
 ghost use Rattle.cti_top.specs.Queries.{IsQueryOf};
-ghost use Rattle.cti_top.specs.Known.{known_of};
+ghost use Rattle.cti_top.specs.Known.{known_of, NamesBuiltins};
 ghost use Rattle.cti_top.specs.Faults.{IsQueryFault};
 
 use crate::source::{Source, SourceFault, TOO_LONG, normal_fault, read_fault};
@@ -22,6 +22,7 @@ const MOST_KNOWN: u32 = 4_290_000_000;
 pub fn query_in(alloc: Global, source: &mut Source, query: &[u8]) -> Result<Goal, SourceFault>
     requires known { AllByRecursion (λ (q : ThePred). q.name.0 < length source.old.names) source.old.program.preds }
     requires room { position (is_equality source.old.names) source.old.program.preds ≡ None → length source.old.program.clauses < 16385 }
+    requires arithmetic { NamesBuiltins source.old.names source.old.program }
     ensures query { IfOk result (λ g. IsQueryOf (known_of source.old) query.now source.new.names source.new.program g) }
     ensures goal { IfOk result (λ g. IsGoalOf source.new.program g) }
     ensures refused { IfErr result (λ fault. IsQueryFault (known_of source.old) query.now fault) }

@@ -2,14 +2,16 @@
 
 ghost use Rattle.std.specs.Prelude.{◌≡◌, ◌≢◌, codes, map, [], Some, None, option_map, IfOk, IfErr, IfSome, IfNone, IsErrOf};
 ghost use Rattle.clap.specs.Words.{fault_of, first_of, found_of, rows_of, subcommand_of, subcommand_rows_of};
-ghost use Rattle.cti_top.specs.Words.{asks, ask_by, command_line, gen as asked_gen, given, origin, predicates_in, usage_lines};
+ghost use Rattle.cti_top.specs.Words.{asks, ask_by, command_line, gen as asked_gen, given, infer as asked_infer, norm_of, origin, predicates_in, usage_lines};
 ghost use Rattle.cti_top.specs.Answers.{ask_of, origin_of, IsInRange};
 
 use crate::command_line::command_line;
+use crate::norms::norm_of;
 use crate::steps::{predicates_in, steps_of};
 use clap::ArgMatches;
 use clap::error::ErrorKind;
 use std::alloc::{AllocError, Global};
+use term_size::NormName;
 
 /// Why the words are not a command.
 #[derive(Clone, Copy, PartialEq, Eq)]
@@ -23,8 +25,8 @@ pub enum Refusal {
 /// What the words ask for.
 #[derive(Clone, Copy)]
 pub enum Request<'a> {
-    /// The modes of the program in a file.
-    Infer(&'a str),
+    /// The modes of the program in a file, by this norm.
+    Infer(&'a str, NormName),
     /// The check of the certificate in the second file, for the program in the first.
     Check(&'a str, &'a str),
     /// A run of a query of the program in a file, and how many nodes are looked at.
@@ -48,7 +50,7 @@ impl<'a> Request<'a> {
         ensures { origin_of result ≡ origin (ask_of self.entry) }
     {
         match self {
-            Request::Infer(file) => Origin::File(file),
+            Request::Infer(file, _) => Origin::File(file),
             Request::Check(file, _) => Origin::File(file),
             Request::Run(file, _, _) => Origin::File(file),
             Request::Generate(count) => Origin::Generated(count),
@@ -111,6 +113,20 @@ fn generation<'a>(matches: &ArgMatches<'a>) -> Result<Request<'a>, Refusal>
     }
 }
 
+/// What `infer` asks for by its words, or why it is not a command.
+fn inference<'a>(matches: &ArgMatches<'a>) -> Result<Request<'a>, Refusal>
+    ensures asked { IfOk result (λ r. option_map (asked_infer (given (codes "file") (rows_of (found_of matches.now))))
+        (norm_of (first_of (codes "norm") (rows_of (found_of matches.now)))) ≡ Some (ask_of r)) }
+    ensures usage { IfErr result (λ e. (e ≡ Refusal.Usage) × (option_map (asked_infer (given (codes "file") (rows_of (found_of matches.now))))
+        (norm_of (first_of (codes "norm") (rows_of (found_of matches.now)))) ≡ None)) }
+    ensures range { IfOk result (λ r. IsInRange (origin (ask_of r))) }
+{
+    match norm_of(value(matches, "norm")) {
+        Some(norm) => Ok(Request::Infer(word(matches, "file"), norm)),
+        None => Err(Refusal::Usage),
+    }
+}
+
 /// What a command asks for by its arguments, or why it is not a command.
 fn request_by<'a>(name: &str, given: &ArgMatches<'a>) -> Result<Request<'a>, Refusal>
     ensures asked { IfOk result (λ r. ask_by name.now (rows_of (found_of given.now)) ≡ Some (ask_of r)) }
@@ -120,10 +136,10 @@ fn request_by<'a>(name: &str, given: &ArgMatches<'a>) -> Result<Request<'a>, Ref
     if name == "gen" {
         return generation(given);
     }
-    let file = word(given, "file");
     if name == "infer" {
-        return Ok(Request::Infer(file));
+        return inference(given);
     }
+    let file = word(given, "file");
     if name == "check" {
         return Ok(Request::Check(file, word(given, "certificate")));
     }
@@ -151,7 +167,7 @@ pub fn request_in<'a>(alloc: Global, words: &'a [&'a str]) -> Result<Request<'a>
 pub fn usage_text(alloc: Global) -> Result<Vec<u8>, AllocError>
     ensures { IfOk result (λ text. text.items ≡ usage_lines) }
 {
-    let mut text = Vec::from_slice(alloc, b"usage: cti infer FILE\n")?;
+    let mut text = Vec::from_slice(alloc, b"usage: cti infer FILE --norm NORM\n")?;
     text.extend_from_slice(b"usage: cti check FILE CERT\n")?;
     text.extend_from_slice(b"usage: cti run FILE QUERY --steps N\n")?;
     text.extend_from_slice(b"usage: cti gen N\n")?;

@@ -6,7 +6,7 @@ ghost use Rattle.cti_terms.specs.declared.predicates.Pred.{Pred as ThePred};
 ghost use Rattle.clause_normal.specs.Numbering.{is_equality};
 ghost use Rattle.ld_resolver.specs.Runs.{IsGoalOf};
 ghost use Rattle.cti_top.specs.Answers.{AnswersQuery, status_of};
-ghost use Rattle.cti_top.specs.Known.{known_of};
+ghost use Rattle.cti_top.specs.Known.{known_of, NamesBuiltins};
 ghost use Rattle.cti_top.specs.Runs.{IsKnown, IsTextOfRun};
 
 use crate::answer::{Answer, refused};
@@ -26,6 +26,7 @@ fn status_of(ending: Ending) -> Status
     match ending {
         Ending::Finished => Status::Done,
         Ending::Stopped => Status::Stopped,
+        Ending::Overflow => Status::Overflow,
     }
 }
 
@@ -50,6 +51,7 @@ pub fn run_of(
 ) -> Result<Answer, AllocError>
     requires known { AllByRecursion (λ (q : ThePred). q.name.0 < length source.names) source.program.preds }
     requires room { position (is_equality source.names) source.program.preds ≡ None → length source.program.clauses < 16385 }
+    requires arithmetic { NamesBuiltins source.names source.program }
     ensures { IfOk result (λ a. (bytes : List ℕ) → IsKnown bytes (known_of source) → AnswersQuery bytes query.now steps a.status a.text.items) }
 {
     match query_in(alloc, &mut source, query) {

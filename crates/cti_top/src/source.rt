@@ -8,6 +8,7 @@ ghost use Rattle.prolog_reader.specs.Meanings.{table_of};
 ghost use Rattle.clause_normal.specs.Numbering.{is_equality};
 ghost use Rattle.cti_top.specs.Refusal.{lexical_number, read_number, normal_number};
 ghost use Rattle.cti_top.specs.Programs.{IsProgramOf};
+ghost use Rattle.cti_top.specs.Known.{NamesBuiltins};
 ghost use Rattle.cti_top.specs.Faults.{IsProgramFault, read_fault, normal_fault};
 
 use clause_normal::{NormFault, NormKind, normal};
@@ -109,6 +110,7 @@ pub fn program_in(alloc: Global, bytes: &[u8]) -> Result<Source, SourceFault>
     ensures known { IfOk result (λ s. AllByRecursion (λ (q : ThePred). q.name.0 < length s.names) s.program.preds) }
     ensures sound { IfOk result (λ s. IsProgram s.program) }
     ensures room { IfOk result (λ s. position (is_equality s.names) s.program.preds ≡ None → length s.program.clauses < 16385) }
+    ensures arithmetic { IfOk result (λ s. NamesBuiltins s.names s.program) }
     ensures refused { IfErr result (λ fault. IsProgramFault bytes.now fault) }
 {
     let mut names = Names::new(alloc);

@@ -24,10 +24,13 @@ pub enum Status {
     Memory,
     /// The query has more nodes than were asked for; the answers among those were written.
     Stopped,
+    /// A value in an integer test was too large, where the search ended; the answers before it were written. It comes only where a
+    /// program or a query has integer tests.
+    Overflow,
 }
 
 impl Status {
-    /// The number with which the process ends, from 0 to 7.
+    /// The number with which the process ends, from 0 to 8.
     pub fn number(self) -> u8
         ensures { result ≡ number_of self }
     {
@@ -40,6 +43,7 @@ impl Status {
             Status::OutFault => 5,
             Status::Memory => 6,
             Status::Stopped => 7,
+            Status::Overflow => 8,
         }
     }
 }

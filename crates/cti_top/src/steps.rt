@@ -9,14 +9,11 @@ const USUAL_STEPS: u64 = 100_000;
 /// The most nodes that the words may ask for.
 const MOST_STEPS: u64 = 1_000_000;
 
-/// The most digits that say so.
-const STEPS_DIGITS: usize = 7;
-
 /// The most predicates that the words may ask for.
 const MOST_PREDICATES: u64 = 300;
 
-/// The most digits that say so.
-const PREDICATES_DIGITS: usize = 3;
+/// The most digits of a number in words.
+const MOST_DIGITS: usize = 7;
 
 /// The number that a text spells with at most `digits` decimal digits, where it is from 1 to the greatest.
 fn number_in(text: &[u8], digits: usize, greatest: u64) -> Option<u64>
@@ -48,17 +45,17 @@ pub fn steps_of(text: Option<&str>) -> Option<u64>
     ensures { result ≡ steps_of (option_map (λ s. s.now) text.entry) }
 {
     match text {
-        Some(text) => number_in(text.as_bytes(), STEPS_DIGITS, MOST_STEPS),
+        Some(text) => number_in(text.as_bytes(), MOST_DIGITS, MOST_STEPS),
         None => Some(USUAL_STEPS),
     }
 }
 
-/// The number of predicates that a text asks for: one to three digits, from 1 to 300.
+/// The number of predicates that a text asks for: one to seven digits, from 1 to 300.
 pub fn predicates_in(text: &str) -> Option<u32>
     ensures number { result ≡ predicates_in text.now }
     ensures range { IfSome result (λ n. (1 ≤ n) × (n ≤ 300)) }
 {
-    match number_in(text.as_bytes(), PREDICATES_DIGITS, MOST_PREDICATES) {
+    match number_in(text.as_bytes(), MOST_DIGITS, MOST_PREDICATES) {
         Some(count) => Some(count as u32),
         None => None,
     }

@@ -10,6 +10,7 @@ ghost use Rattle.cti_top.specs.Outcome.{FileRose, HasFile, HasText, IsCheckedOrM
 ghost use Rattle.cti_top.specs.Queries.{IsQueryOf, Known};
 ghost use Rattle.cti_top.specs.Runs.{IsKnown, IsRefusedQuery};
 ghost use Rattle.outside.specs.Told.{Keeps};
+ghost use Rattle.term_size.specs.declared.any_norm.NormName.{NormName};
 ghost use Rattle.report.specs.Generated.{generated};
 ghost use Rattle.cti_terms.specs.Listing.{Listing};
 ghost use Rattle.cti_terms.specs.declared.derivation.Goal.{Goal};
@@ -21,8 +22,8 @@ use std::alloc::Global;
 
 /// Carries out the command that the words after the program's name ask for.
 ///
-/// `infer FILE` reads the program of a file and writes the certificate of its modes: exactly the minimal ones for the size rows, ground
-/// rows and mappings that it shows, and each query that meets one of them ends. `check FILE CERT` reads a certificate of the program
+/// `infer FILE --norm NORM` reads the program of a file and writes the certificate of its modes by the norm `term` or `list`, and else
+/// `term`: exactly the minimal ones for the size rows, ground rows and mappings that it shows, and each query that meets one of them ends. `check FILE CERT` reads a certificate of the program
 /// too, and writes `yes.` where it is valid, and `no(Line,Reason).` where it is not. `run FILE QUERY
 /// --steps N` reads a query of the program too, and writes its answers among the empty derivation and the first N others, then how
 /// many there were, the length of the longest, and whether there are more. N is from 1 to 1,000,000, and else 100,000. `gen N` makes a
@@ -47,7 +48,7 @@ pub fn command<F: Files, S: Sink>(
     ensures later { S.faults out.old ≤ S.faults out.new }
 
     // A file that is visible to contracts and is a program is answered, unless memory runs out or a count of faults rises.
-    ensures complete { (name bytes : List ℕ) (known : Known) → asks (map (λ w. w.now) words.entry.now) ≡ Some (infer name) → HasFile (F.told files.old) name bytes → IsKnown bytes known
+    ensures complete { (name bytes : List ℕ) (norm : NormName) (known : Known) → asks (map (λ w. w.now) words.entry.now) ≡ Some (infer name norm) → HasFile (F.told files.old) name bytes → IsKnown bytes known
         → (Rose (F.faults files.old name) (F.faults files.new name) → ⊥) → (Rose (S.faults out.old) (S.faults out.new) → ⊥) → IsDoneOrMemory result }
 
     // The same of a certificate's text within its limit: it is checked.
@@ -56,7 +57,7 @@ pub fn command<F: Files, S: Sink>(
         → (Rose (F.faults files.old name) (F.faults files.new name) → ⊥) → (Rose (F.faults files.old certificate) (F.faults files.new certificate) → ⊥)
         → (Rose (S.faults out.old) (S.faults out.new) → ⊥) → IsCheckedOrMemory result }
 
-    // The same of a query that is a goal of the program: it is run, and its search may be stopped.
+    // The same of a query that is a goal of the program: it is run, and its search may be stopped, or meet a value that is too large.
     ensures complete_run { (name query bytes : List ℕ) (steps : ℕ) (known : Known) (names : List (List ℕ)) (program : Listing) (goal : Goal)
         → asks (map (λ w. w.now) words.entry.now) ≡ Some (run name query steps) → HasFile (F.told files.old) name bytes → IsKnown bytes known → IsQueryOf known query names program goal
         → (Rose (F.faults files.old name) (F.faults files.new name) → ⊥) → (Rose (S.faults out.old) (S.faults out.new) → ⊥) → IsRanOrMemory result }

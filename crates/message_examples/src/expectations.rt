@@ -1,8 +1,7 @@
 //! What is said where a clause cannot go on, and lines that are shown in part.
 
-use messages::{Ending, FileCause, HeadWriter, Subject, Trouble, expected_at, message};
+use messages::{Ending, FileCause, Subject, Trouble, expected_at, message};
 use std::alloc::{AllocError, Global};
-use std::io::Write;
 use std::test::Fail;
 
 /// Whether this is what was expected at a line and a column of a program's text.
@@ -122,17 +121,5 @@ fn long_lines_are_cut(rt: HostRuntime) -> Result<(), Fail> {
     };
     let said = message(alloc, trouble, &text)?;
     assert_eq!(rt; said.iter().filter(|byte| **byte == b'x').count(), 200);
-    Ok(())
-}
-
-#[test]
-fn the_beginning_is_kept(rt: HostRuntime) -> Result<(), Fail> {
-    let alloc = rt.alloc();
-    let mut head = HeadWriter::new(Vec::new(alloc));
-    head.write_all(b"cti(1).\n")?;
-    assert_eq!(rt; head.kept(), b"cti(1).\n".as_slice());
-    head.write_all(&[b'x'; 100])?;
-    assert_eq!(rt; head.kept().len(), 64);
-    assert_eq!(rt; head.taken(), 108);
     Ok(())
 }

@@ -62,7 +62,7 @@ fn kinds_of_refusal(rt: HostRuntime) -> Result<(), Fail> {
 fn reasons_of_a_no(rt: HostRuntime) -> Result<(), Fail> {
     let alloc = rt.alloc();
     for (number, sentence) in [
-        (1, "the version is not 1"),
+        (1, "the version is neither 1 nor 2"),
         (2, "a fact is missing here"),
         (3, "this fact may not stand here"),
         (

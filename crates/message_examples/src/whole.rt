@@ -34,7 +34,7 @@ fn messages_with_their_lines(rt: HostRuntime) -> Result<(), Fail> {
             "a.pl:2:9: error: this is not a goal of a pure program
     p(X) :- !, q(X).
             ^
-  help: leave out cut, negation, if-then-else, call/N, arithmetic, input and output, and grammar rules
+  help: leave out cut, negation, if-then-else, call/N, input and output, and grammar rules
 ",
         ),
         (
@@ -77,7 +77,7 @@ fn messages_with_their_lines(rt: HostRuntime) -> Result<(), Fail> {
             "query:1:3: error: this is not a goal of a pure program
     p,!
       ^
-  help: leave out cut, negation, if-then-else, call/N, arithmetic, input and output, and grammar rules
+  help: leave out cut, negation, if-then-else, call/N, input and output, and grammar rules
 ",
         ),
         (

@@ -25,7 +25,11 @@ fn faults_of_words(rt: HostRuntime) -> Result<(), Fail> {
         (&["run", "a.pl", "p", "q"], "`q` is one word too many"),
         (&["gen"], "`cti gen` needs the word N"),
         (&["gen", "301"], "`301` is not a number of predicates"),
-        (&["gen", "0001"], "`0001` is not a number of predicates"),
+        (&["gen", "0301"], "`0301` is not a number of predicates"),
+        (
+            &["gen", "00000001"],
+            "`00000001` is not a number of predicates",
+        ),
         (&["gen", "5", "6"], "`6` is one word too many"),
         (
             &["infer", "-v", "a.pl"],
@@ -34,6 +38,20 @@ fn faults_of_words(rt: HostRuntime) -> Result<(), Fail> {
         (
             &["check", "a.pl", "a.cert", "--steps", "5"],
             "`--steps` is not an option of this command",
+        ),
+        (
+            &["gen", "5", "--norm", "list"],
+            "`--norm` is not an option of this command",
+        ),
+        (
+            &["infer", "a.pl", "--norm", "depth"],
+            "`depth` is not a norm",
+        ),
+        (&["infer", "a.pl", "--norm=List"], "`List` is not a norm"),
+        (&["infer", "a.pl", "--norm"], "--norm needs term or list"),
+        (
+            &["infer", "a.pl", "--norm", "list", "--norm=list"],
+            "--norm stands twice",
         ),
         (&["run", "a.pl", "p", "--steps"], "--steps needs a number"),
         (
@@ -62,6 +80,8 @@ fn faults_of_words(rt: HostRuntime) -> Result<(), Fail> {
 fn words_are_told_apart(rt: HostRuntime) {
     for (words, file, second) in [
         (["infer", "a.pl"].as_slice(), "a.pl", ""),
+        (&["infer", "--norm", "list", "a.pl"], "a.pl", ""),
+        (&["infer", "a.pl", "--norm=term"], "a.pl", ""),
         (&["infer", "--", "-a.pl"], "-a.pl", ""),
         (&["check", "a.pl", "a.cert"], "a.pl", "a.cert"),
         (&["run", "--steps", "5", "a.pl", "p"], "a.pl", "p"),

@@ -14,6 +14,8 @@ const OUT_FAULT: u8 = 5;
 
 const MEMORY: u8 = 6;
 
+const OVERFLOW: u8 = 8;
+
 /// How a call of the command ended.
 #[derive(Clone, Copy)]
 pub struct Ending<'a> {
@@ -43,6 +45,7 @@ impl<'a> Ending<'a> {
             REFUSED => Trouble::refused(words, output),
             OUT_FAULT => Some(Trouble::Output(self.written)),
             MEMORY => Some(Trouble::Memory),
+            OVERFLOW => Some(Trouble::Overflow),
             _ => None,
         }
     }

@@ -1,17 +1,17 @@
 //! What `cti` says on standard error: a sentence for each kind of refusal, each reason of a No and each fault of words, with the
 //! place, the line of the text, and what to do.
 //!
-//! The answer on standard output is made elsewhere, and its beginning is read here as any reader would read it: `HeadWriter` keeps it,
-//! `Ending` says how the call ended, and `explain` makes the message. It depends on `thiserror`.
+//! The answer on standard output is made elsewhere, and its beginning is read here as any reader would read it: `Ending` says how the
+//! call ended, and `explain` makes the message. It depends on `thiserror`.
 #![tactic(auto)]
 
 mod command;
+mod command_option;
 mod ending;
 mod excerpt;
 mod expected;
 mod explaining;
 mod file_cause;
-mod head_writer;
 mod no_reason;
 mod place;
 mod refusal_kind;
@@ -23,12 +23,12 @@ mod word_fault;
 mod words;
 
 pub use command::Command;
+pub use command_option::CommandOption;
 pub use ending::Ending;
 pub use excerpt::{push_excerpt, push_shown};
 pub use expected::{Expected, expected_at};
 pub use explaining::{explain, text_again};
 pub use file_cause::FileCause;
-pub use head_writer::HeadWriter;
 pub use no_reason::NoReason;
 pub use place::Place;
 pub use refusal_kind::RefusalKind;

@@ -5,7 +5,7 @@ use thiserror::Error;
 /// What of a fact does not hold, in the order of the reasons' numbers.
 #[derive(Clone, Copy, Debug, PartialEq, Eq, Error)]
 pub enum NoReason {
-    #[error("the version is not 1")]
+    #[error("the version is neither 1 nor 2")]
     Version,
     #[error("a fact is missing here")]
     Missing,
@@ -51,7 +51,7 @@ impl NoReason {
     /// What to do about it.
     pub fn advice(self) -> &'static str {
         match self {
-            NoReason::Version => "this program checks certificates of version 1",
+            NoReason::Version => "this program checks certificates of the versions 1 and 2",
             NoReason::Missing =>
                 "the facts end too early, or the certificate is of another program",
             NoReason::Extra => {

@@ -83,7 +83,7 @@ impl RefusalKind {
             }
             RefusalKind::ManyVariables => "split the clause in two",
             RefusalKind::NotPure => {
-                "leave out cut, negation, if-then-else, call/N, arithmetic, input and output, and grammar rules"
+                "leave out cut, negation, if-then-else, call/N, input and output, and grammar rules"
             }
             RefusalKind::BadHead => {
                 "a head is a name, or a name with arguments, that is not one of Prolog's own: choose another name"

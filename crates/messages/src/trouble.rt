@@ -24,6 +24,8 @@ pub enum Trouble<'a> {
     Output(u64),
     #[error("cti: error: out of memory")]
     Memory,
+    #[error("cti: error: the search ended at a goal with a value above 2^127 - 1")]
+    Overflow,
 }
 
 impl<'a> Trouble<'a> {
@@ -75,6 +77,9 @@ impl<'a> Trouble<'a> {
                 "the answer was cut short: free space on the disk, or let the reader of the pipe read to the end"
             }
             Trouble::Memory => "nothing was written: allow more memory, or split the program",
+            Trouble::Overflow => {
+                "the answers before it were written: it is the first goal of the last step that is counted, so look there with --steps"
+            }
         }
     }
 }

@@ -1,6 +1,7 @@
 //! Faults of the words of a command line.
 
 use crate::command::Command;
+use crate::command_option::CommandOption;
 use thiserror::Error;
 
 /// Why the words are not a command.
@@ -16,14 +17,16 @@ pub enum WordFault<'a> {
     Missing(Command, &'static str),
     #[error("`{0}` is one word too many")]
     Extra(&'a str),
-    #[error("--steps needs a number")]
-    NoSteps,
+    #[error("{0} needs {1}")]
+    NoValue(CommandOption, &'static str),
     #[error("`{0}` is not a number of steps")]
     BadSteps(&'a str),
+    #[error("`{0}` is not a norm")]
+    BadNorm(&'a str),
     #[error("`{0}` is not a number of predicates")]
     BadCount(&'a str),
-    #[error("--steps stands twice")]
-    TwoSteps,
+    #[error("{0} stands twice")]
+    Twice(CommandOption),
     #[error("these words are not a command")]
     Other,
 }
@@ -36,14 +39,17 @@ impl WordFault<'_> {
                 "the commands are infer, check, run and gen"
             }
             WordFault::UnknownOption(_) => {
-                "only run has an option, --steps; write -- before a word that begins with -"
+                "infer has the option --norm, and run has --steps; write -- before a word that begins with -"
             }
             WordFault::Extra(_) => "put a query or a name with spaces in quotes",
-            WordFault::NoSteps | WordFault::BadSteps(_) => {
+            WordFault::NoValue(CommandOption::Steps, _) | WordFault::BadSteps(_) => {
                 "write --steps and a number from 1 to 1000000"
             }
-            WordFault::BadCount(_) => "write a number from 1 to 300, of at most three digits",
-            WordFault::TwoSteps => "leave one of them out",
+            WordFault::NoValue(CommandOption::Norm, _) | WordFault::BadNorm(_) => {
+                "--norm takes term or list"
+            }
+            WordFault::BadCount(_) => "write a number from 1 to 300",
+            WordFault::Twice(_) => "leave one of them out",
             WordFault::Missing(..) | WordFault::Other => { "the usage has a line for each command" }
         }
     }

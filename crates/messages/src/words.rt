@@ -1,15 +1,19 @@
 //! The words of a command line, sorted by what they are.
 
 use crate::command::Command;
+use crate::command_option::CommandOption;
 use crate::word_fault::WordFault;
+
+/// The most digits of a number.
+const MOST_DIGITS: usize = 7;
 
 /// What the next word is.
 #[derive(Clone, Copy, PartialEq, Eq)]
 enum Next {
     /// A plain word or an option.
     Any,
-    /// The number of `--steps`.
-    Steps,
+    /// The value of this option.
+    Value(CommandOption),
     /// A plain word, however it begins.
     Plain,
 }
@@ -20,7 +24,8 @@ pub struct Words<'a> {
     command: Option<Command>,
     file: Option<&'a str>,
     second: Option<&'a str>,
-    steps: Option<&'a str>,
+    /// The option that was given.
+    option: Option<CommandOption>,
     next: Next,
     /// The first fault that was seen.
     fault: Option<WordFault<'a>>,
@@ -45,7 +50,7 @@ impl<'a> Words<'a> {
             command: first.and_then(Command::of),
             file: None,
             second: None,
-            steps: None,
+            option: None,
             next: Next::Any,
             fault: command_fault(first),
         };
@@ -80,8 +85,8 @@ impl<'a> Words<'a> {
         if let Some(fault) = self.fault {
             return fault;
         }
-        if self.next == Next::Steps {
-            return WordFault::NoSteps;
+        if let Next::Value(option) = self.next {
+            return WordFault::NoValue(option, option.value());
         }
         let Some(command) = self.command else {
             return WordFault::NoCommand;
@@ -98,7 +103,7 @@ impl<'a> Words<'a> {
     /// Takes the next word.
     fn take(&mut self, word: &'a str) {
         match self.next {
-            Next::Steps => self.take_steps(word),
+            Next::Value(option) => self.take_value(option, word),
             Next::Any if word == "--" => self.next = Next::Plain,
             Next::Any if word.len() > 1 && word.starts_with('-') => self.take_option(word),
             _ => self.take_plain(word),
@@ -107,28 +112,29 @@ impl<'a> Words<'a> {
 
     /// Takes a word that begins with `-`.
     fn take_option(&mut self, word: &'a str) {
-        if self.command != Some(Command::Run) {
-            self.blame(WordFault::UnknownOption(word));
-        } else if word == "--steps" {
-            self.next = Next::Steps;
-        } else if let Some(number) = word.strip_prefix("--steps=") {
-            self.take_steps(number);
+        let Some(option) = CommandOption::of(self.command) else {
+            return self.blame(WordFault::UnknownOption(word));
+        };
+        if word == option.name() {
+            self.next = Next::Value(option);
+        } else if let Some(value) = option.value_in(word) {
+            self.take_value(option, value);
         } else {
             self.blame(WordFault::UnknownOption(word));
         }
     }
 
-    /// Takes the number of `--steps`.
-    fn take_steps(&mut self, word: &'a str) {
+    /// Takes the value of an option.
+    fn take_value(&mut self, option: CommandOption, word: &'a str) {
         self.next = Next::Any;
-        if self.steps.is_some() {
-            self.blame(WordFault::TwoSteps);
+        if self.option.is_some() {
+            self.blame(WordFault::Twice(option));
         } else if word.is_empty() || word.starts_with('-') {
-            self.blame(WordFault::NoSteps);
-        } else if !is_number_up_to(word, 7, 1_000_000) {
-            self.blame(WordFault::BadSteps(word));
+            self.blame(WordFault::NoValue(option, option.value()));
+        } else if let Some(fault) = value_fault(option, word) {
+            self.blame(fault);
         }
-        self.steps = Some(word);
+        self.option = Some(option);
     }
 
     /// Takes a word that is not an option.
@@ -145,7 +151,7 @@ impl<'a> Words<'a> {
 
     /// Takes the first word after the command.
     fn take_first(&mut self, word: &'a str) {
-        if self.command == Some(Command::Gen) && !is_number_up_to(word, 3, 300) {
+        if self.command == Some(Command::Gen) && !is_number_up_to(word, 300) {
             self.blame(WordFault::BadCount(word));
         }
         self.file = Some(word);
@@ -159,9 +165,20 @@ impl<'a> Words<'a> {
     }
 }
 
-/// Whether a word is a number from 1 to the greatest, of at most the given number of digits.
-fn is_number_up_to(word: &str, digits: usize, greatest: u32) -> bool {
-    let is_short = word.len() <= digits && word.bytes().all(|byte| byte.is_ascii_digit());
+/// The fault of an option's value.
+fn value_fault<'a>(option: CommandOption, word: &'a str) -> Option<WordFault<'a>> {
+    match option {
+        CommandOption::Steps if !is_number_up_to(word, 1_000_000) => {
+            Some(WordFault::BadSteps(word))
+        }
+        CommandOption::Norm if word != "term" && word != "list" => Some(WordFault::BadNorm(word)),
+        _ => None,
+    }
+}
+
+/// Whether a word is a number from 1 to the greatest, of at most seven digits.
+fn is_number_up_to(word: &str, greatest: u32) -> bool {
+    let is_short = word.len() <= MOST_DIGITS && word.bytes().all(|byte| byte.is_ascii_digit());
     match word.parse::<u32>() {
         Ok(number) => is_short && number >= 1 && number <= greatest,
         Err(_) => false,

@@ -17,7 +17,7 @@ mod writing;
 pub use files::{Files, LoadFault};
 pub use memory_files::MemFiles;
 pub use memory_sink::MemSink;
-pub use real_files::{RealFiles, read_limited};
+pub use real_files::RealFiles;
 pub use real_sink::RealSink;
 pub use sink::{Sink, SinkFault};
 pub use sure_files::SureFiles;

@@ -1,6 +1,6 @@
 //! Files in memory.
 
-ghost use Rattle.std.specs.Prelude.{◌≡◌, ◌≤◌, ℕ, List, Some, false, nat_eq, vec_len, IfOk, IsErrOf};
+ghost use Rattle.std.specs.Prelude.{◌≡◌, ◌≤◌, ◌⊎◌, ℕ, List, Some, None, true, false, nat_eq, vec_len, IfOk, IsErrOf};
 ghost use Rattle.std.specs.List.{list_any};
 ghost use Rattle.outside.specs.Causes.{Rose};
 ghost use Rattle.outside.specs.Counted.{one_more};
@@ -56,10 +56,12 @@ impl Files for MemFiles {
         ensures calm { (IsErrOf result Failed → ⊥) → (n : List ℕ) → self.new.faults ≡ self.old.faults }
         ensures stays { Some (held self.new.files) ≡ Some (held self.old.files) }
 
-        // A load counts as a call, and as a fault where it fails; it fails where its number is listed.
+        // A load counts as a call, and as a fault where it fails; it fails exactly where its number is listed or the name is not there.
         ensures calls { self.new.calls ≡ one_more self.old.calls }
         ensures faults { IsErrOf result Failed → self.new.faults ≡ one_more self.old.faults }
         ensures fails { (IsErrOf result Failed → ⊥) → list_any (nat_eq self.new.calls) self.old.fails.items ≡ false }
+        ensures failed { IsErrOf result Failed
+            → (list_any (nat_eq self.new.calls) self.old.fails.items ≡ true) ⊎ (held self.old.files name.now ≡ None) }
         ensures same { (self.new.files ≡ self.old.files) × (self.new.fails ≡ self.old.fails) }
     {
         self.calls = self.calls.saturating_add(1);

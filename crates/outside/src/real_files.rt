@@ -19,7 +19,7 @@ pub struct RealFiles<R: rt::Files + Drop> {
 }
 
 /// The bytes of a reader to its end, where they are at most `most`. A read that was interrupted is tried again.
-pub fn read_limited<R: Read>(alloc: Global, source: &mut R, most: u64) -> Result<Vec<u8>, LoadFault>
+fn read_limited<R: Read>(alloc: Global, source: &mut R, most: u64) -> Result<Vec<u8>, LoadFault>
     ensures { IfOk result (λ v. vec_len v ≤ most) }
 {
     let mut bytes = Vec::new(alloc);

@@ -19,7 +19,14 @@ fn is_connective(text: &[u8], arity: usize) -> bool {
 
 /// Whether a name of the given arity is always known, and needs no clause.
 fn is_known(text: &[u8], arity: usize) -> bool {
-    matches!((text, arity), (b"true" | b"fail", 0) | (b"=", 2))
+    matches!(
+        (text, arity),
+        (b"true" | b"fail", 0)
+            | (
+                b"=" | b"is" | b"=:=" | b"=\\=" | b"<" | b"=<" | b">" | b">=",
+                2
+            )
+    )
 }
 
 /// Adds the calls of a body, in the order of the text.

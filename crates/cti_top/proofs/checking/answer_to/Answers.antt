@@ -11,5 +11,5 @@ returns-in-Err-NotAFact c =
     let r = c.in-Err-NotAFact in
     let first = (r.ensures.line r.line (ap Err r.field-0-is)).1 in
     if_ok c.not_a_fact.result
-    (λ a h. inr (r.line, record { first = first; none = λ d is. line_or_memory r.line (sym r.field-0-is ∙ r.ensures.only d is) }, record { status = h.0; printed = h.1 }))
+    (λ a h. inr (r.line, record { short = c.requires.short; first = first; none = λ d is. line_or_memory r.line (sym r.field-0-is ∙ r.ensures.only d is) }, record { status = h.0; printed = h.1 }))
     c.not_a_fact.ensures

@@ -21,6 +21,7 @@ returns c =
           is = is;
           facts = certificate.certificate.facts;
           printed = refl;
+          of_norm = certificate.ensures.norm;
           valid = certificate.ensures.valid;
           exact = certificate.ensures.exact;
           bounded = certificate.ensures.bounded;

@@ -14,6 +14,7 @@ returns c =
         is = is;
         facts = certificate.certificate.facts;
         printed = c.in_ok-print.ensures;
+        of_norm = certificate.ensures.norm;
         valid = certificate.ensures.valid;
         exact = certificate.ensures.exact;
         bounded = certificate.ensures.bounded;

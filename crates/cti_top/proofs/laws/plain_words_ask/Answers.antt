@@ -1,8 +1,11 @@
-use Rattle.cti_top.proofs.WordLemmas.{infer_asks, check_asks, run_asks}
+use Rattle.cti_top.proofs.WordLemmas.{infer_asks, norm_asks, check_asks, run_asks}
 use Rattle.cti_top.proofs.laws.plain_words_ask.Goals as goal
 
 pub returns-clause-infer : goal.returns-clause-infer
 returns-clause-infer c = infer_asks
+
+pub returns-clause-norm : goal.returns-clause-norm
+returns-clause-norm c = norm_asks
 
 pub returns-clause-check : goal.returns-clause-check
 returns-clause-check c = check_asks

@@ -17,6 +17,9 @@ returns-in-Err-clause-refused c =
 pub normal_query-goal-requires-clause-known : goal.normal_query-goal-requires-clause-known
 normal_query-goal-requires-clause-known c = known_later c.args.source.now.names c.read_query.new.names c.args.source.now.program.preds c.in-Ok.ensures.kept c.requires.known
 
+pub normal_query-goal-requires-clause-arithmetic : goal.normal_query-goal-requires-clause-arithmetic
+normal_query-goal-requires-clause-arithmetic c = c.requires.arithmetic c.read_query.new.names c.in-Ok.ensures.kept
+
 pub normal_query-goal-requires-clause-clauses : goal.normal_query-goal-requires-clause-clauses
 normal_query-goal-requires-clause-clauses c none =
     c.requires.room (sym (same_equality c.args.source.now.names c.read_query.new.names c.args.source.now.program.preds c.in-Ok.ensures.kept c.requires.known) ∙ none)

@@ -13,6 +13,6 @@ returns c =
     let h = c.in_ok-ran.ensures in
     record {
       ending = ran.ending;
-      ends = subst (λ (s : Status). Ends source.program g c.args.steps s ran.ending) (sym c.status_of.ensures) (ends_as source.program g c.args.steps ran.ending h.stopped h.finished);
+      ends = subst (λ (s : Status). Ends source.program g c.args.steps s ran.ending) (sym c.status_of.ensures) (ends_as source.program g c.args.steps ran.ending h.stopped h.finished h.overflow);
       printed = c.in_ok-run_text.ensures ∙ (λ i. run_lines source.names source.program (h.answers i) (h.steps i) (h.longest i) ran.ending);
     }

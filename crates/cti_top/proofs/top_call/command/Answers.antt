@@ -19,8 +19,8 @@ returns-in-Ok-write_text-clause-file_fault g c e =
     absurd (not_file told words text (subst (λ (s : Status). IsAnswer told words s text) e c.in-Ok.ensures.answered))
 
 pub returns-in-Ok-write_text-clause-complete : goal.returns-in-Ok-write_text-clause-complete
-returns-in-Ok-write_text-clause-complete g c name bytes known asked has is calm still =
-    done_or_memory (g.F.Files.told c.args.files.now) (map (λ w. w.now) c.args.words.now) c.in-Ok.answer.status c.in-Ok.answer.text.items name bytes c.in-Ok.ensures.answered asked has (is_short bytes known is) (none_refused bytes known is)
+returns-in-Ok-write_text-clause-complete g c name bytes norm known asked has is calm still =
+    done_or_memory (g.F.Files.told c.args.files.now) (map (λ w. w.now) c.args.words.now) c.in-Ok.answer.status c.in-Ok.answer.text.items name bytes norm c.in-Ok.ensures.answered asked has (is_short bytes known is) (none_refused bytes known is)
 
 pub returns-in-Ok-write_text-clause-complete_check : goal.returns-in-Ok-write_text-clause-complete_check
 returns-in-Ok-write_text-clause-complete_check g c name certificate bytes certified known d asked has is held written calm calm_too still =
