@@ -7,7 +7,15 @@ _cti() {
         return
     fi
     case $command in
-    infer) [ "$COMP_CWORD" -eq 2 ] && mapfile -t COMPREPLY < <(compgen -f -- "$word") ;;
+    infer)
+        if [ "${COMP_WORDS[COMP_CWORD - 1]}" = --norm ]; then
+            mapfile -t COMPREPLY < <(compgen -W "term list" -- "$word")
+        elif [[ $word = -* ]] || { [ "$COMP_CWORD" -eq 3 ] && [[ ${COMP_WORDS[2]} != -* ]]; }; then
+            mapfile -t COMPREPLY < <(compgen -W "--norm" -- "$word")
+        else
+            mapfile -t COMPREPLY < <(compgen -f -- "$word")
+        fi
+        ;;
     check) [ "$COMP_CWORD" -le 3 ] && mapfile -t COMPREPLY < <(compgen -f -- "$word") ;;
     run)
         if [ "$COMP_CWORD" -eq 2 ]; then

@@ -6,3 +6,4 @@ complete -c cti -n __fish_use_subcommand -f -a gen -d 'Infer a generated program
 complete -c cti -n '__fish_seen_subcommand_from gen' -f
 complete -c cti -n '__fish_seen_subcommand_from infer check run' -F
 complete -c cti -n '__fish_seen_subcommand_from run' -l steps -x -d 'Look at so many derivations'
+complete -c cti -n '__fish_seen_subcommand_from infer' -l norm -x -a 'term list' -d 'Measure terms so'

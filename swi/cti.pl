@@ -1,4 +1,4 @@
-:- module(cti, [cti_modes/2, cti_check/2, cti_certificate/2]).
+:- module(cti, [cti_modes/2, cti_modes/3, cti_check/2, cti_certificate/2, cti_certificate/3]).
 
 /** <module> The modes of pure programs, by the program cti
 
@@ -10,25 +10,43 @@ path. Where cti gives no answer, each predicate throws
 with its exit status and what it says on standard error.
 */
 
+:- use_module(library(error)).
+:- use_module(library(lists)).
+:- use_module(library(option)).
 :- use_module(library(process)).
 
 %!  cti_modes(+File, -Modes) is det.
+%!  cti_modes(+File, -Modes, +Options) is det.
 %
 %   Modes is a list of Name/Arity-Sets, one for each predicate of the
 %   program in File. Sets is a list of lists of argument numbers: every
 %   query in which the arguments of one of the lists are ground ends.
+%
+%   Options is a list that may have norm(Norm), with Norm term or list;
+%   term is the norm without it. With list the arguments do not have to be
+%   ground: each may be any term but a variable and a list that ends in
+%   one.
 
 cti_modes(File, Modes) :-
-    cti_certificate(File, Facts),
+    cti_modes(File, Modes, []).
+
+cti_modes(File, Modes, Options) :-
+    cti_certificate(File, Facts, Options),
     findall(Predicate-Sets, member(terminates(Predicate, Sets), Facts), Modes).
 
 %!  cti_certificate(+File, -Facts) is det.
+%!  cti_certificate(+File, -Facts, +Options) is det.
 %
-%   Facts is the certificate that cti infers, as a list of terms.
+%   Facts is the certificate that cti infers, as a list of terms. Options
+%   are those of cti_modes/3.
 
 cti_certificate(File, Facts) :-
+    cti_certificate(File, Facts, []).
+
+cti_certificate(File, Facts, Options) :-
     absolute_path(File, Path),
-    run_cti([infer, file(Path)], Status, Facts, Message),
+    norm_words(Options, Words),
+    run_cti([infer, file(Path)|Words], Status, Facts, Message),
     (   Status == 0
     ->  true
     ;   throw(error(cti_error(Status, Message), _))
@@ -49,6 +67,12 @@ cti_check(File, Certificate) :-
     ->  fail
     ;   throw(error(cti_error(Status, Message), _))
     ).
+
+norm_words(Options, ['--norm', Norm]) :-
+    option(norm(Norm), Options),
+    !,
+    must_be(oneof([term, list]), Norm).
+norm_words(_, []).
 
 absolute_path(File, Path) :-
     absolute_file_name(File, Path, []).

@@ -13,6 +13,19 @@ test(modes, Modes == [app/3-[[1],[3]]]) :-
 test(no_mode, Modes == [tc/2-[], edge/2-[[]]]) :-
     cti_modes('examples/closure.pl', Modes).
 
+test(list_norm, Modes == [seats/1-[[]], (=)/2-[[]], beside/3-[[3]], member/2-[[2]], next/3-[[3]]]) :-
+    cti_modes('examples/seats.pl', Modes, [norm(list)]).
+
+test(term_norm, Modes == [app/3-[[1],[3]]]) :-
+    cti_modes('examples/append.pl', Modes, [norm(term)]).
+
+test(no_norm, error(_)) :-
+    cti_modes('examples/append.pl', _, [norm(depth)]).
+
+test(facts_of_a_norm, Facts == [cti(2), norm(list)]) :-
+    cti_certificate('examples/append.pl', [First, Second|_], [norm(list)]),
+    Facts = [First, Second].
+
 test(facts, Fact == cti(1)) :-
     cti_certificate('examples/append.pl', [Fact|_]).
 
