@@ -1,3 +1,4 @@
+-- Private.
 -- The clauses of one program in another: the same but for the numbers of their predicates.
 --
 -- Names are the same numbers in both programs, so terms are the same.

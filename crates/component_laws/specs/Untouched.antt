@@ -1,3 +1,4 @@
+-- Private.
 -- Which predicates stay as they are between two programs, and how their components stand in both.
 --
 -- A predicate is known by its name and arity. It is untouched where some set of predicates has it, is closed under calls in both programs,

@@ -1,4 +1,4 @@
--- To believe, for a Yes.
+-- Private.
 -- Most general unifiers.
 --
 -- A substitution solves equations where it makes both sides of each the same. The bindings that unification finds

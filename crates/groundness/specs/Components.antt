@@ -1,4 +1,4 @@
--- To believe, for the modes.
+-- Private.
 -- The least family, component by component.
 --
 -- To believe: `is_member`, `HasMembersBuiltins`, `IsLeastOver`. To move to termination_model, beside `IsLeast`.

@@ -1,3 +1,4 @@
+-- Private.
 -- To believe, for a loop.
 -- The derivations of a goal by clauses alone, in the order in which a search meets them.
 --

@@ -1,4 +1,4 @@
--- To believe, for the modes.
+-- Private.
 -- The run of a component: its part of a legal chain.
 --
 -- To believe: `starting`, `IsRunOf`. To move to termination_model, beside `IsLegalChain`.

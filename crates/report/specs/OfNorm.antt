@@ -1,4 +1,4 @@
--- To believe, for the modes.
+-- To believe, for the command.
 -- How the facts of a certificate begin, by the norm that was asked for: with version 1 for term size, and with version 2
 -- and the norm's name for list size.
 --

@@ -1,4 +1,4 @@
--- To believe, for the modes.
+-- To believe, for a Yes.
 -- The norm in force, term size or list size, and the name of a list's cells.
 --
 -- To believe: all of this file but `any_is_a_norm`.

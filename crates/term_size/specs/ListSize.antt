@@ -1,4 +1,4 @@
--- To believe, for the modes.
+-- To believe, for a Yes.
 -- List size: the number of a list's cells. A term that is no cell counts 0, and is rigid whatever its arguments are.
 --
 -- The cell's name is given, by its number; where there is none, no term is a cell.
