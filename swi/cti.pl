@@ -1,4 +1,9 @@
-:- module(cti, [cti_modes/2, cti_check/2, cti_certificate/2]).
+:- module(cti,
+          [ cti_modes/2,                % +File, -Modes
+            cti_check/2,                % +File, +Certificate
+            cti_certificate/2,          % +File, -Facts
+            cti_infer/3                 % +File, +Certificate, +Options
+          ]).
 
 /** <module> The modes of pure programs, by the program cti
 
@@ -10,7 +15,9 @@ path. Where cti gives no answer, each predicate throws
 with its exit status and what it says on standard error.
 */
 
+:- use_module(library(option)).
 :- use_module(library(process)).
+:- use_module(library(readutil)).
 
 %!  cti_modes(+File, -Modes) is det.
 %
@@ -48,6 +55,49 @@ cti_check(File, Certificate) :-
     ;   Status == 1
     ->  fail
     ;   throw(error(cti_error(Status, Message), _))
+    ).
+
+%!  cti_infer(+File, +Certificate, +Options) is det.
+%
+%   Writes the certificate that cti infers of File to the file Certificate.
+%   Options:
+%
+%     - norm(+Norm)
+%       The sizes that are taken, where the program cti has more than one
+%       (`cti infer --norm Norm`).
+%     - timeout(+Seconds)
+%       Ends the program after so long. Then Status in the error is `timeout`.
+
+cti_infer(File, Certificate, Options) :-
+    absolute_path(File, Path),
+    absolute_path(Certificate, CertificatePath),
+    option(timeout(Timeout), Options, infinite),
+    (   option(norm(Norm), Options)
+    ->  Words = [infer, '--norm', Norm, file(Path)]
+    ;   Words = [infer, file(Path)]
+    ),
+    program(Program),
+    tmp_file(cti, Messages),
+    setup_call_cleanup(
+        ( open(CertificatePath, write, Out), open(Messages, write, Err) ),
+        ( process_create(Program, Words, [stdout(stream(Out)), stderr(stream(Err)), process(Process)]),
+          ended(Process, Timeout, Status) ),
+        ( close(Out), close(Err) )),
+    (   Status == 0
+    ->  true
+    ;   read_file_to_string(Messages, Message, []),
+        throw(error(cti_error(Status, Message), _))
+    ).
+
+ended(Process, Timeout, Status) :-
+    process_wait(Process, Ended, [timeout(Timeout)]),
+    (   Ended = exit(Status)
+    ->  true
+    ;   Ended == timeout
+    ->  process_kill(Process, 9),
+        process_wait(Process, _),
+        Status = timeout
+    ;   Status = Ended
     ).
 
 absolute_path(File, Path) :-
