@@ -136,8 +136,12 @@ answer(Source, Program, Names, Facts, Graph, Components, Predicates, Assumptions
     numbered_notes(Notes, 1, Assumptions, Source),
     recursion(Components, Graph, Kinds),
     given_up(Facts, Names, GivenUp),
-    Known = known{program:Program, modes:Modes, graph:Graph, lines:Lines, given_up:GivenUp, module:Source.module,
-                  components:Components},
+    findall(Key-Clauses, member(predicate(Key, Clauses, _), Program), ClausesOf0),
+    list_to_assoc(ClausesOf0, ClausesOf),
+    findall(Key-Component, ( member(Component, Components), member(Key, Component) ), ComponentOf0),
+    list_to_assoc(ComponentOf0, ComponentOf),
+    Known = known{program:Program, clauses:ClausesOf, modes:Modes, given_up:GivenUp, module:Source.module,
+                  components:ComponentOf},
     findall(predicate(Shown, Line, Sets, Reason, Numbers, Kind),
             ( member(Key, Own),
               shown(Key, Source.module, Shown),
@@ -245,7 +249,18 @@ numbered_notes([place(Key, Line, Doubt)|Notes], Number, [assumption(Number, Line
     numbered_notes(Notes, Next, Assumptions, Source).
 
 numbers_of(Relied, Notes, Numbers) :-
-    findall(Number, ( nth1(Number, Notes, Note), ord_memberchk(Note, Relied) ), Numbers).
+    numbers_of(Notes, Relied, 1, Numbers).
+
+%   Both lists are ordered, and the second has members of the first.
+
+numbers_of(_, [], _, []) :- !.
+numbers_of([Note|Notes], [Relied|More], Number, Numbers) :-
+    Next is Number + 1,
+    (   Note == Relied
+    ->  Numbers = [Number|Others],
+        numbers_of(Notes, More, Next, Others)
+    ;   numbers_of(Notes, [Relied|More], Next, Numbers)
+    ).
 
 %   Which predicates are recursive, or call one that is.
 
@@ -287,7 +302,7 @@ with_value([Key|Keys], Value, Assoc0, Assoc) :-
 
 reason([_|_], _, _, none) :- !.
 reason([], Key, Known, Reason) :-
-    component_of(Key, Known.components, Component),
+    get_assoc(Key, Known.components, Component),
     (   member(Member, Component),
         get_assoc(Member, Known.given_up, Given)
     ->  given_reason(Given, Known, Reason)
@@ -313,14 +328,9 @@ shown_callee(Key, Known, Shown) :-
     named_key(Key, Named),
     shown(Named, Known.module, Shown).
 
-component_of(Key, Components, Component) :-
-    member(Component, Components),
-    memberchk(Key, Component),
-    !.
-
 outside_call(Component, Known, Line, Callee, Sets) :-
-    member(predicate(Key, Clauses, _), Known.program),
-    memberchk(Key, Component),
+    member(Key, Component),
+    get_assoc(Key, Known.clauses, Clauses),
     member(clause(_, Goals, Line), Clauses),
     member(call(Callee, _), Goals),
     Callee \== fail,

@@ -82,11 +82,54 @@ bounded(Pure, Key, Number, Clauses) -->
     bounded(Pure, Key, Number, _, Clauses).
 
 bounded([], _, Number, Number, []) --> [].
+bounded([pure(Args, Body, Line)|Pure], Key, Number0, Number, Clauses) -->
+    { wide_disjunction(Args, Body, Bodies) },
+    !,
+    { findall(pure(Args, One, Line), member(One, Bodies), Pure1),
+      append(Pure1, Pure, Pure2) },
+    bounded(Pure2, Key, Number0, Number, Clauses).
 bounded([pure(Args0, Body, Line)|Pure], Key, Number0, Number, [Clause|Clauses]) -->
     { packed(Args0, Args) },
     flat(Body, Args, Key, Line, Number0, Number1, Goals),
     short(Args, Goals, Key, Line, Number1, Number2, Clause),
     bounded(Pure, Key, Number2, Number, Clauses).
+
+%   wide_disjunction(+Args, +Body, -Bodies): a disjunction that shares more
+%   than 12 variables with the rest is distributed, where it is among the
+%   goals of the clause and has at most eight branches: Bodies has the body
+%   with each of its branches.
+
+wide_disjunction(Args, Body, Bodies) :-
+    conjuncts(Body, Goals, []),
+    append(Before, [Disjunction|After], Goals),
+    Disjunction = (_ ; _),
+    term_variables(Disjunction, Inside),
+    term_variables(Args-Before-After, Outside),
+    both_have(Inside, Outside, Shared),
+    most_arguments(Most),
+    length(Shared, N),
+    N > Most,
+    alternatives(Disjunction, Branches),
+    length(Branches, Count),
+    Count =< 8,
+    !,
+    with_branches(Branches, Before, After, Bodies).
+
+with_branches([], _, _, []).
+with_branches([Branch|Branches], Before, After, [Body|Bodies]) :-
+    append(Before, [Branch|After], Goals),
+    conjunction(Goals, Body),
+    with_branches(Branches, Before, After, Bodies).
+
+conjuncts((A, B), Goals, Rest) :-
+    !,
+    conjuncts(A, Goals, More),
+    conjuncts(B, More, Rest).
+conjuncts(Goal, [Goal|Rest], Rest).
+
+conjunction([Goal], Goal) :- !.
+conjunction([Goal|Goals], (Goal, Body)) :-
+    conjunction(Goals, Body).
 
 %   From the 12th on, arguments are put together in one term.
 

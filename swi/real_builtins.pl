@@ -270,8 +270,7 @@ quiet(date, [parse_time/2, parse_time/3, date_time_value/3]).
 quiet(listing, [portray_clause/1, portray_clause/2, listing/0, listing/1]).
 quiet(ansi_term, [ansi_format/3]).
 quiet(terms, [term_size/2, variant/2, subsumes_chk/2, cyclic_term/1, acyclic_term/1]).
-quiet(system, Quiet) :-
-    findall(N/A, ( hooks(N/A, _), \+ risk(N/A, _) ), Quiet).
+quiet(system, [format/1, format/2, format/3]).
 
 %!  risk(+PI, -Risk) is semidet.
 %

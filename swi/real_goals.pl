@@ -171,7 +171,7 @@ goal(G, Context, true) -->
     note(Context, goal).
 goal(closure(M, G), Context, P) -->
     !,
-    goal_in(M, G, Context, P).
+    goal(M:G, Context, P).
 goal(M:G, Context, P) -->
     !,
     (   { atom(M), nonvar(G) }
@@ -327,21 +327,49 @@ import_where(imported(Path, Module:PI), Where) :-
     ).
 
 %   import_of(+Source, +PI, -Import): what a directive of the file imports by
-%   that name: imported(Path, Module:PI), or imported(Path, none:PI).
+%   that name: imported(Path, Module:PI), or imported(Path, none:PI). Where
+%   there are several, one from outside SWI-Prolog's library is taken, which
+%   is assumed to end; else one that is imported by its name.
 
-import_of(Source, PI, imported(Path, Found)) :-
-    member(import(Path, Header, Selection), Source.imports),
-    imports(Path, Header, Selection, PI, Found),
-    !.
+import_of(Source, PI, Import) :-
+    findall(Selection-imported(Path, Found),
+            ( member(import(Path, Header, Selection), Source.imports),
+              imports(Path, Header, Selection, PI, [Source.path], Found) ),
+            Imports),
+    (   member(_-Import, Imports),
+        Import = imported(Path, _),
+        \+ is_library_file(Path)
+    ->  true
+    ;   member(Selection-Import, Imports),
+        is_list(Selection)
+    ->  true
+    ;   Imports = [_-Import|_]
+    ).
 
-imports(_, header(Module, Exports), Selection, PI, Module:Real) :-
+%   imports(+Path, +Header, +Selection, +PI, +Visited, -Found)
+
+imports(Path, header(Module, Exports), Selection, PI, Visited, Found) :-
     Module \== none,
     !,
-    selected(Selection, Exports, PI, Real).
-imports(Path, header(none, _), _, PI, none:PI) :-
+    (   selected(Selection, Exports, PI, Real)
+    ->  Found = Module:Real
+    ;   \+ is_library_file(Path),
+        \+ memberchk(Path, Visited),
+        plain_file(Path, Source),
+        member(import(Path1, Header1, Selection1), Source.reexports),
+        imports(Path1, Header1, Selection1, PI, [Path|Visited], Found)
+    ->  true
+    ).
+imports(Path, header(none, _), _, PI, Visited, none:PI) :-
     (   atom(Path), exists_file(Path)
-    ->  plain_file(Path, Source),
-        is_defined(Source, Source.module:PI)
+    ->  \+ memberchk(Path, Visited),
+        plain_file(Path, Source),
+        (   is_defined(Source, Source.module:PI)
+        ->  true
+        ;   member(import(Path1, Header1, Selection1), Source.imports),
+            imports(Path1, Header1, Selection1, PI, [Path|Visited], _)
+        ->  true
+        )
     ;   Path \= library(_)
     ).
 
@@ -487,7 +515,7 @@ result(X, P0, P) :-
     ).
 
 between_goal(L, H, X, Context, P) -->
-    (   { memberchk(H, [inf, infinite]) }
+    (   { H == inf ; H == infinite }
     ->  covering((prelude(repeat), result(X)), Context, P)
     ;   covering((result(L), result(H), result(X)), Context, P),
         (   { nonvar(H)
@@ -629,53 +657,39 @@ with_arguments(C, Xs, G) :-
     G =.. L.
 
 %   A lambda expression of library(yall) is copied for each call, but for
-%   the variables before /. So all others are new ones.
+%   the variables in braces. So all others are new ones.
 
-lambda_term(Free/Lambda) :-
-    nonvar(Lambda),
-    ( Free = {_} ; Free = _ ),
-    lambda_term(Lambda),
-    !.
 lambda_term(_>>_).
+lambda_term(Free/_) :-
+    nonvar(Free),
+    memberchk(Free, [{}, {_}]).
 
-lambda(Lambda0, Xs, M, Context, P) -->
-    { copied_lambda(Lambda0, Params, Body),
-      applied_parameters(Params, Xs, Rest, Unifiers) },
+lambda(Lambda, Xs, M, Context, P) -->
+    { copied_lambda(Lambda, Parameters, Body),
+      applied_parameters(Parameters, Xs, Rest, Unifiers),
+      pure_unifiers(Unifiers, P0) },
     !,
-    { pure_unifiers(Unifiers, P0) },
     (   { Rest == [] }
-    ->  goal_in_closure(M, Body, Context, P1)
+    ->  goal(closure(M, Body), Context, P1)
     ;   applied(closure(M, Body), Rest, Context, P1)
     ),
     { both(P0, P1, P) }.
 lambda(_, _, _, Context, true) -->
     note(Context, goal).
 
-goal_in_closure(_, Body, Context, true) -->
-    { var(Body) },
-    !,
-    note(Context, goal).
-goal_in_closure(M, Body, Context, P) -->
-    goal_in(M, Body, Context, P).
+copied_lambda(Parameters0>>Body0, Parameters, Body) :-
+    nonvar(Parameters0),
+    (   Parameters0 = Free/_
+    ->  copy_term_nat(Free+Parameters0+Body0, Free+(_/Parameters)+Body)
+    ;   copy_term_nat(Parameters0+Body0, Parameters+Body)
+    ),
+    is_list(Parameters).
+copied_lambda(Free/Body0, [], Body) :-
+    copy_term_nat(Free+Body0, Free+Body).
 
-copied_lambda(Lambda0, Params, Body) :-
-    (   Lambda0 = Free/(_>>_)
-    ->  copy_term_nat(Lambda0, Copy),
-        Copy = Free/(Params>>Body)
-    ;   Lambda0 = _>>_,
-        copy_term_nat(Lambda0, Params>>Body)
-    ).
-
-applied_parameters(Params, Xs, Xs, []) :-
-    Params == [],
-    !.
-applied_parameters(Params, [X|Xs], Rest, [A = X|Unifiers]) :-
-    nonvar(Params),
-    Params = [A|As],
+applied_parameters([], Xs, Xs, []) :- !.
+applied_parameters([A|As], [X|Xs], Rest, [A = X|Unifiers]) :-
     applied_parameters(As, Xs, Rest, Unifiers).
-applied_parameters(Params, [], [], []) :-
-    is_list(Params),
-    Params == [].
 
 pure_unifiers([], true).
 pure_unifiers([A = B|Unifiers], P) :-

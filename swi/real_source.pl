@@ -23,6 +23,7 @@ A predicate is Module:Name/Arity. A source is a dict:
 | tabled      | Predicate-Kind, where Kind is `plain` or `moded`            |
 | meta        | Predicate-Head for each declaration of meta_predicate       |
 | imports     | import(Path,Header,Selection), in order                     |
+| reexports   | those of them that it exports again                         |
 | arithmetic  | Name/Arity of the file's own functions in arithmetic        |
 | expansions  | expansion(Kind,Pattern): what the file rewrites when loaded |
 | doubts      | doubt(Line,Doubt): what was not understood of the file      |
@@ -154,18 +155,28 @@ clause_parts('==>'(H, B), Module0, Module, Head, Body) :-
     !,
     dcg_translate_rule('==>'(H, B), Clause),
     clause_parts(Clause, Module0, Module, Head, Body).
-clause_parts((H :- Body), Module0, Module, Head, Body) :-
+clause_parts((H :- B), Module0, Module, Head, Body) :-
     !,
-    plain_head(H, Module0, Module, Head).
-clause_parts((H0 => B), Module0, Module, Head, Body) :-
+    plain_head(H, Module0, Module, Head),
+    body_in(Module0, Module, B, Body).
+clause_parts((H0 => B0), Module0, Module, Head, Body) :-
     !,
     (   nonvar(H0), H0 = (H, Guard)
-    ->  Body = (Guard, B)
-    ;   H = H0, Body = B
+    ->  B = (Guard, B0)
+    ;   H = H0, B = B0
     ),
-    plain_head(H, Module0, Module, Head).
+    plain_head(H, Module0, Module, Head),
+    body_in(Module0, Module, B, Body).
 clause_parts(H, Module0, Module, Head, true) :-
     plain_head(H, Module0, Module, Head).
+
+%   The body of a clause of another module runs in the module of the text.
+
+body_in(Module0, Module, Body0, Body) :-
+    (   Module0 == Module
+    ->  Body = Body0
+    ;   Body = Module0:Body0
+    ).
 
 plain_head(H, _, _, _) :-
     var(H),
@@ -288,10 +299,14 @@ obeyed(_:op(P, T, N), _, _, State, State, Rest, Rest) :-
     declare_operators([op(P, T, N)], State.scratch).
 obeyed(op(P, T, N), _, _, State, State, Rest, Rest) :-
     declare_operators([op(P, T, N)], State.scratch).
-obeyed(set_prolog_flag(Flag, Value), _, _, State0, State, Rest, Rest) :-
+obeyed(set_prolog_flag(Flag, Value), Line, _, State0, State, Items, Rest) :-
     memberchk(Flag, [double_quotes, back_quotes]),
     atom(Value),
-    State = State0.put(Flag, Value).
+    State = State0.put(Flag, Value),
+    (   memberchk(maybe, State.conditions)
+    ->  Items = [doubt(Line, unread)|Rest]
+    ;   Items = Rest
+    ).
 obeyed(encoding(Encoding), _, In, State, State, Rest, Rest) :-
     set_stream(In, encoding(Encoding)).
 obeyed(expects_dialect(Dialect), Line, _, State, State, Items, Rest) :-
@@ -315,7 +330,12 @@ obeyed(end_tests(_), _, _, State0, State, Rest, Rest) :-
 obeyed(Directive, Line, _, State0, State, Items, Rest) :-
     loading(Directive, Spec, Selection),
     !,
-    imported(Spec, Selection, Line, State0, Items, Rest),
+    imported(Spec, Selection, Line, State0, Items, Rest0),
+    (   functor(Directive, reexport, _)
+    ->  findall(reexport(F, H, S), between_items(Items, Rest0, import(F, H, S)), Again),
+        append(Again, Rest, Rest0)
+    ;   Rest0 = Rest
+    ),
     (   Spec == library(chr)
     ->  State = State0.put(chr, yes)
     ;   State = State0
@@ -394,6 +414,17 @@ declared_item(dynamic, Predicate, dynamic(Predicate)).
 declared_item(multifile, Predicate, multifile(Predicate)).
 declared_item(tabled, Predicate, tabled(Predicate, plain)).
 declared_item(arithmetic, _:PI, arithmetic(PI)).
+
+
+%   between_items(+Items, +Rest, ?Item): Item is in Items and before Rest,
+%   the list's open end.
+
+between_items(Items, Rest, Item) :-
+    Items \== Rest,
+    Items = [First|More],
+    (   Item = First
+    ;   between_items(More, Rest, Item)
+    ).
 
 
 %   Loading of other files: what a module exports is read from its head.
@@ -500,6 +531,7 @@ source_of(Path, Items, Source) :-
     collected(P-H, member(meta(P, H), Items), Meta),
     collected(F, member(arithmetic(F), Items), Arithmetic),
     findall(import(F, H, S), member(import(F, H, S), Items), Imports),
+    findall(import(F, H, S), member(reexport(F, H, S), Items), Reexports),
     findall(expansion(K, T), expansion_of(Pairs0, Module, K, T), Expansions),
     findall(doubt(L, D), member(doubt(L, D), Items), Doubts0),
     findall(doubt(L, D), rewritten_clause(Items, Expansions, L, D), Doubts1),
@@ -508,7 +540,8 @@ source_of(Path, Items, Source) :-
     append(Doubts0, Doubts1, Doubts),
     Source = source{path:Path, module:Module, exports:Exports, clauses:Clauses, dynamic:Dynamic,
                     multifile:Multifile, conditional:Conditional, tabled:Tabled, meta:Meta,
-                    imports:Imports, arithmetic:Arithmetic, expansions:Expansions,
+                    imports:Imports, reexports:Reexports, arithmetic:Arithmetic,
+                    expansions:Expansions,
                     doubts:Doubts, adds:Adds}.
 
 collected(Template, Goal, Set) :-
