@@ -125,9 +125,20 @@ sink_goal(chars(_, _), true).
 
 sorted_by(P, L, S, ( find((prelude(member(X, L)), prelude(member(Y, L)), goal(call(P, _, X, Y)))), prelude(sort(L, S)) )).
 
+phrase_goal(Body, _, _, _) :-
+    var(Body),
+    !,
+    fail.
+phrase_goal(closure(M, Body), List, End, R) :-
+    !,
+    phrase_goal(M:Body, List, End, R).
+phrase_goal(M:Body, List, End, goal(M:phrase(Body, List, End))) :-
+    !,
+    atom(M),
+    nonvar(Body).
 phrase_goal(Body, List, End, (List = S0, End = S, goal(Goal))) :-
-    nonvar(Body),
-    catch(dcg_translate_rule((x --> Body), (x(S0, S) :- Goal)), _, fail).
+    catch(dcg_translate_rule((x --> Body), (x(S0, S) :- Goal)), _, fail),
+    \+ ( nonvar(Goal), functor(Goal, phrase, _) ).
 
 without_hats(G, G) :-
     var(G),

@@ -117,6 +117,10 @@ test(apply) :-
     is_open("p(X) :- apply(p, [X]).\n", p/1).
 test(phrase) :-
     is_open("p(X) :- phrase(r, X).\nr --> r, [a].\nr --> [].\n", p/1).
+test(phrase_in_a_module) :-
+    is_open("p(X) :- phrase(user:r, X).\nr --> r, [a].\nr --> [].\n", p/1).
+test(closure_of_a_grammar) :-
+    is_open(":- use_module(library(dcg/high_order)).\np(X) :- phrase(sequence(r, _), X).\nr(a) --> r(a).\n", p/1).
 test(grammar, Sets == [[1]]) :-
     said("s --> [].\ns --> \"ab\", s.\n", s/2, Sets, []).
 test(pushback) :-
