@@ -244,10 +244,15 @@ rewritten_goal(G, Context) -->
     ;   []
     ).
 
-%   Variables that hold numbers after a goal.
+%   Variables that hold numbers after a goal, whose name no file can take.
 
 numbers_after(G, Context0, Context) :-
-    (   nonvar(G), number_result(G, V), var(V)
+    (   nonvar(G), number_result(G, V), var(V), is_protected(G)
+    ->  Context = Context0.put(numbers, [V|Context0.numbers])
+    ;   nonvar(G), G = must_be(Type, V), var(V),
+        memberchk(Type, [integer, nonneg, positive_integer]),
+        resolved(G, Context0, Where),
+        memberchk(Where, [library(error), library(error, _)])
     ->  Context = Context0.put(numbers, [V|Context0.numbers])
     ;   Context = Context0
     ).
@@ -256,10 +261,7 @@ number_result(V is _, V).
 number_result(integer(V), V).
 number_result(length(_, V), V).
 number_result(atom_length(_, V), V).
-number_result(string_length(_, V), V).
 number_result(functor(_, _, V), V).
-number_result(must_be(Type, V), V) :-
-    memberchk(Type, [integer, nonneg, positive_integer]).
 
 %   A goal in another module.
 
@@ -704,37 +706,61 @@ pure_unifiers([A = B|Unifiers], P) :-
 
 call_of(Predicate, Source, G, Context, P) -->
     { G =.. [_|Args],
-      known_closures(Predicate, Source, Args, Context, Closures),
+      meta_specs(Predicate, Source, Args, Specs),
+      maplist(known_closure(Context), Specs, Args, Closures),
       memberchk(closure(_, _), Closures),
       may_specialise(Predicate, Source, Closures) },
     !,
-    { copy_term_nat(Closures-x, Numbered-x),
+    { copy_term_nat(Closures, Numbered),
       term_variables(Closures, Variables),
       numbervars(Numbered, 0, _),
-      Key = special(Predicate, Numbered),
-      other_arguments(Closures, Args, Others),
+      other_arguments(Closures, Specs, Args, Others),
       append(Others, Variables, Args1),
       maplist(pure_term, Args1, Pure),
+      Key = special(Predicate, Numbered),
       P = call(Key, Pure) },
     [need(Key)].
-call_of(Predicate, _, G, _, call(Predicate, Pure)) -->
-    { G =.. [_|Args],
+call_of(Predicate, Source, G, _, call(Predicate, Pure)) -->
+    { G =.. [_|Args0],
+      meta_specs(Predicate, Source, Args0, Specs),
+      maplist(passed_argument, Specs, Args0, Args),
       maplist(pure_term, Args, Pure) },
     [need(Predicate)].
 
-other_arguments([], [], []).
-other_arguments([-|Cs], [A|As], [A|Bs]) :-
-    !,
-    other_arguments(Cs, As, Bs).
-other_arguments([_|Cs], [_|As], Bs) :-
-    other_arguments(Cs, As, Bs).
-
-known_closures(Predicate, Source, Args, Context, Closures) :-
+meta_specs(Predicate, Source, Args, Specs) :-
     (   memberchk(Predicate-Meta, Source.meta)
     ->  Meta =.. [_|Specs]
     ;   same_length(Args, Specs)
-    ),
-    maplist(known_closure(Context), Specs, Args, Closures).
+    ).
+
+%   An argument that meta_predicate declares arrives with its module. Where
+%   that is not known before the call, it arrives as anything.
+
+passed_argument(Spec, Arg, Passed) :-
+    (   is_meta(Spec)
+    ->  (   var(Arg)
+        ->  true
+        ;   ( Arg = _:_ ; Arg = closure(_, _) )
+        ->  Passed = Arg
+        ;   Passed = c:Arg
+        )
+    ;   Passed = Arg
+    ).
+
+is_meta(Spec) :-
+    nonvar(Spec),
+    (   integer(Spec)
+    ->  true
+    ;   memberchk(Spec, [:, ^, //])
+    ).
+
+other_arguments([], [], [], []).
+other_arguments([-|Cs], [Spec|Specs], [A|As], [B|Bs]) :-
+    !,
+    passed_argument(Spec, A, B),
+    other_arguments(Cs, Specs, As, Bs).
+other_arguments([_|Cs], [_|Specs], [_|As], Bs) :-
+    other_arguments(Cs, Specs, As, Bs).
 
 known_closure(Context, Spec, Arg, Closure) :-
     (   nonvar(Arg),

@@ -49,13 +49,13 @@ read_source(File, Source) :-
     source_of(Path, Items, Source).
 
 read_path(Path, Scratch, Items) :-
-    State = state{path:Path, module:user, file_module:user, scratch:Scratch,
-                  double_quotes:codes, back_quotes:codes, conditions:[], chr:no},
-    read_text(Path, State.put(double_quotes, string), Items, []).
+    State0 = state{path:Path, module:user, file_module:user, scratch:Scratch,
+                  double_quotes:string, back_quotes:codes, conditions:[], chr:no},
+    read_text(Path, State0, _, Items, []).
 
-read_text(Path, State, Items, Rest) :-
+read_text(Path, State0, State, Items, Rest) :-
     setup_call_cleanup(open(Path, read, In, [encoding(utf8), bom(true)]),
-                       ( skip_interpreter(In), read_items(In, State, Items, Rest) ),
+                       ( skip_interpreter(In), read_items(In, State0, State, Items, Rest) ),
                        close(In)).
 
 skip_interpreter(In) :-
@@ -64,12 +64,12 @@ skip_interpreter(In) :-
     ;   true
     ).
 
-read_items(In, State0, Items, Rest) :-
+read_items(In, State0, State, Items, Rest) :-
     read_one(In, State0, Term, Line),
     (   Term == end_of_file
-    ->  Items = Rest
-    ;   item(Term, Line, In, State0, State, Items, More),
-        read_items(In, State, More, Rest)
+    ->  State = State0, Items = Rest
+    ;   item(Term, Line, In, State0, State1, Items, More),
+        read_items(In, State1, State, More, Rest)
     ).
 
 read_one(In, State, Term, Line) :-
@@ -278,7 +278,8 @@ directive((A, B), Line, In, State0, State, Items, Rest) :-
     !,
     directive(A, Line, In, State0, State1, Items, More),
     directive(B, Line, In, State1, State, More, Rest).
-directive(Directive, Line, In, State0, State, [directive(Line, State0.module, Directive)|Items], Rest) :-
+directive(Directive, Line, In, State0, State,
+          [directive(Line, State0.module, Directive), raw(Line, (:- Directive))|Items], Rest) :-
     (   obeyed(Directive, Line, In, State0, State, Items, Rest)
     ->  true
     ;   State = State0, Items = Rest
@@ -314,10 +315,11 @@ obeyed(expects_dialect(Dialect), Line, _, State, State, Items, Rest) :-
     ->  Items = Rest
     ;   Items = [doubt(Line, dialect(Dialect))|Rest]
     ).
-obeyed(include(Spec), Line, _, State, State, Items, Rest) :-
-    (   catch(relative_file(Spec, State.path, Path), _, fail)
-    ->  read_text(Path, State, Items, Rest)
-    ;   Items = [doubt(Line, include(Spec))|Rest]
+obeyed(include(Spec), Line, _, State0, State, Items, Rest) :-
+    (   catch(relative_file(Spec, State0.path, Path), _, fail)
+    ->  read_text(Path, State0, State, Items, Rest)
+    ;   State = State0,
+        Items = [doubt(Line, include(Spec))|Rest]
     ).
 obeyed(begin_tests(Name), _, _, State0, State, Rest, Rest) :-
     atom(Name),

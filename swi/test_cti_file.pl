@@ -100,6 +100,12 @@ test(closure_in_include) :-
     is_open("p(X) :- include(p2, [X], _).\np2(X) :- p(X).\n", p/1).
 test(closure_in_own_predicate) :-
     is_open(":- meta_predicate each(1, ?).\neach(_, []).\neach(G, [H|T]) :- call(G, H), each(G, T).\np(X) :- each(p, [X]).\n", p/1).
+test(qualified_argument) :-
+    is_open(":- meta_predicate p(0).\np(_:G) :- r(G).\nr(G) :- r(G).\nq(X) :- p(foo), X = a.\n", q/1).
+test(qualified_variable) :-
+    is_open(":- meta_predicate p(:).\np(_:G) :- r(G).\nr(G) :- r(G).\nq(X) :- p(X), X = a.\n", q/1).
+test(context_of_a_call) :-
+    is_open("p(X) :- @(p(X), user).\n", p/1).
 test(closure_in_predsort) :-
     is_open("p(X) :- predsort(p2, [X, X], _).\np2(<, X, _) :- p(X).\n", p/1).
 test(lambda) :-
@@ -240,6 +246,13 @@ test(included_file) :-
     format(string(Text), ":- include('~w').\nq(X) :- p(X).\n", [File]),
     is_open(Text, q/1),
     delete_file(File).
+test(flags_of_an_included_file) :-
+    tmp_file(included, Base),
+    file_name_extension(Base, pl, File),
+    setup_call_cleanup(open(File, write, Out), write(Out, ":- set_prolog_flag(double_quotes, codes).\n"), close(Out)),
+    format(string(Text), ":- include('~w').\np(X) :- X = \"ab\", q(X).\nq([_|_]) :- q([a]).\nq(a).\n", [File]),
+    is_open(Text, p/1),
+    delete_file(File).
 
 :- end_tests(covered).
 
@@ -297,6 +310,8 @@ test(upper_bound) :-
     is_assumed("p(H) :- between(1, H, _), fail.\n", p/1, bound).
 test(computed_bound, Doubts == []) :-
     said("p(H) :- N is H + 1, between(1, N, _), fail.\n", p/1, [[]], Doubts).
+test(own_must_be) :-
+    is_assumed("must_be(_, _).\np(H) :- must_be(integer, H), between(1, H, _), fail.\n", p/1, bound).
 test(bound_in_a_branch) :-
     is_assumed("p(H) :- ( a = b -> H is 3 ; true ), between(1, H, _), fail.\n", p/1, bound).
 test(text) :-
@@ -309,6 +324,8 @@ test(goal_expansion) :-
     is_assumed("goal_expansion(q(X), p(X)).\np(X) :- q(X).\nq(_).\n", p/1, rewritten).
 test(term_expansion) :-
     is_assumed("term_expansion(p(X), (p(X) :- p(X))).\np(_).\n", p/1, rewritten).
+test(directive_expansion) :-
+    is_assumed("term_expansion((:- d(X)), (p(X) :- p(X))).\np(_).\n:- d(_).\n", p/1, rewritten).
 test(multifile) :-
     is_assumed(":- multifile q/1.\nq(a).\np(X) :- q(X).\n", p/1, multifile).
 test(undecided_condition) :-

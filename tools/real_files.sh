@@ -1,9 +1,9 @@
 #!/bin/sh
 # real_files.sh ROWS FILE..: runs swi/cti-file over real Prolog files, one process at a time and at most 15 s each, and writes a row for each
-# to the file ROWS; real_files_table.pl makes the table of them. CTI names the program cti.
+# to the file ROWS; real_files_table makes the table of them. CTI names the program cti.
 #
 #     CTI=bin/cti tools/real_files.sh /tmp/rows $(find /usr/lib/swi-prolog/library -name '*.pl' | sort)
-#     swipl tools/real_files_table.pl /tmp/rows
+#     tools/real_files_table /tmp/rows
 rows=$1; shift
 here=$(dirname "$0")
 : > "$rows"
