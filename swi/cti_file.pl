@@ -24,6 +24,7 @@ module is not proved; what cti says of the pure program is.
 :- use_module(cti).
 :- use_module(components).
 :- use_module(pure_program).
+:- use_module(real_builtins, [is_read_library/1]).
 :- use_module(real_source).
 
 %!  cti_file_modes(+File, -Modes, -Assumptions) is det.
@@ -131,7 +132,11 @@ answer(Source, Program, Names, Facts, Graph, Components, Predicates, Assumptions
     modes_by_key(Names, Facts, Modes),
     first_lines(Program, Lines),
     notes_below(Program, Source, Components, Graph, Below),
-    findall(Note, ( member(Key, Own), get_assoc(Key, Below, Notes), member(Note, Notes) ), Notes0),
+    findall(Note,
+            (   member(Key, Own), get_assoc(Key, Below, Notes), member(Note, Notes)
+            ;   member(doubt(Line, Doubt), Source.doubts), Note = place(file, Line, Doubt)
+            ),
+            Notes0),
     sort(Notes0, Notes),
     numbered_notes(Notes, 1, Assumptions, Source),
     recursion(Components, Graph, Kinds),
@@ -240,6 +245,7 @@ named_key(part(Key, _), Named) :-
 named_key(special(Key, _), Named) :-
     !,
     named_key(Key, Named).
+named_key(prelude(PI), system:PI) :- !.
 named_key(Key, Key).
 
 numbered_notes([], _, [], _).
@@ -412,10 +418,11 @@ print_answer(Answer) :-
         file_base_name(Answer.file, Base),
         forall(member(Assumption, Answer.assumptions), print_assumption(Assumption, Base))
     ),
-    format("~nNot proved by cti: that the pure program covers the file (docs/real-files.md).~n").
+    format("~nAlways assumed: no cyclic terms, and no attributed variables in the query. Not proved: that the pure program~n\
+covers the file. See docs/real-files.md.~n").
 
 print_predicate(predicate(Predicate, Line, Sets, Reason, Numbers, _)) :-
-    format("~w ~|~t~d~6+  ~q~t~36+", [line, Line, Predicate]),
+    format("~w~t~14|~q~t~48|", [Line, Predicate]),
     (   Sets == []
     ->  reason_text(Reason, Text),
         format(" no mode: ~w", [Text])
@@ -440,20 +447,28 @@ print_numbers(Numbers, Sets) :-
 
 print_assumption(assumption(Number, Line, Predicate, Doubt), Base) :-
     assumption_text(Doubt, Text),
+    place_text(Line, Predicate, Base, Place),
     (   Predicate == file
-    ->  format("~t~d~4|  ~w:~d: ~s~n", [Number, Base, Line, Text])
-    ;   Predicate = Module:_/_, is_library_module(Module)
-    ->  format("~t~d~4|  library ~w:~d: ~q: ~s~n", [Number, Module, Line, Predicate, Text])
-    ;   format("~t~d~4|  ~w:~d: ~q: ~s~n", [Number, Base, Line, Predicate, Text])
+    ->  format("~t~d~4|  ~w: ~s~n", [Number, Place, Text])
+    ;   format("~t~d~4|  ~w: ~q: ~s~n", [Number, Place, Predicate, Text])
+    ).
+
+place_text(Line, Predicate, Base, Place) :-
+    (   Line = _:_
+    ->  Place = Line
+    ;   Predicate = Module:_/_,
+        is_library_module(Module)
+    ->  format(atom(Place), "library ~w:~w", [Module, Line])
+    ;   Place = Base:Line
     ).
 
 is_library_module(Module) :-
-    real_builtins:is_read_library(Module).
+    is_read_library(Module).
 
 %   reason_text(+Reason, -Text)
 
 reason_text(nothing_falls(Calls), Text) :-
-    findall(One, ( member(call(Line, Predicate), Calls), format(atom(One), "~q in line ~d", [Predicate, Line]) ), Texts),
+    findall(One, ( member(call(Line, Predicate), Calls), format(atom(One), "~q in line ~w", [Predicate, Line]) ), Texts),
     atomic_list_concat(Texts, ', ', Where),
     (   Calls = [_]
     ->  format(string(Text), "no weighted sum of its arguments' sizes gets smaller at the call of ~w", [Where])
@@ -463,9 +478,9 @@ reason_text(large(Count), Text) :-
     format(string(Text), "the predicates of its recursion have ~d arguments, more than 12: the search was cut short", [Count]).
 reason_text(blown, "the search was given up: its numbers or lists grew too large").
 reason_text(calls(Line, Predicate), Text) :-
-    format(string(Text), "line ~d calls ~q, which has none", [Line, Predicate]).
+    format(string(Text), "line ~w calls ~q, which has none", [Line, Predicate]).
 reason_text(needs(Line, Predicate, Sets), Text) :-
-    format(string(Text), "line ~d calls ~q, which needs ~w ground, and nothing makes sure of that", [Line, Predicate, Sets]).
+    format(string(Text), "line ~w calls ~q, which needs ~w ground, and nothing makes sure of that", [Line, Predicate, Sets]).
 reason_text(unknown, "no ground arguments make sure that its calls end").
 
 %!  assumption_text(+Doubt, -Text:string) is det.

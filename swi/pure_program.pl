@@ -282,9 +282,9 @@ named(predicate(Key, Clauses, _), Names, [Key-Name/Arity|Names]) :-
     key_name(Key, Names, Name),
     key_arity(Key, Clauses, Arity).
 
-key_name(prelude:Name/_, _, Pure) :-
+key_name(prelude(Name/_), _, Pure) :-
     !,
-    atom_concat('prelude:', Name, Pure).
+    atom_concat('prelude ', Name, Pure).
 key_name(part(_, _), Names, Pure) :-
     !,
     numbered('part ', Names, Pure).

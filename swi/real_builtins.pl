@@ -129,7 +129,7 @@ phrase_goal(Body, _, _, _) :-
     var(Body),
     !,
     fail.
-phrase_goal(closure(M, Body), List, End, R) :-
+phrase_goal('$closure'(M, Body), List, End, R) :-
     !,
     phrase_goal(M:Body, List, End, R).
 phrase_goal(M:Body, List, End, goal(M:phrase(Body, List, End))) :-

@@ -13,7 +13,7 @@ A key names a predicate of the pure program:
   - Module:Name/Arity, a predicate of the file or of a library that is read;
   - special(Module:Name/Arity, Closures): the same with known closures,
     one for each argument, or `-` where the argument stays one;
-  - prelude:Name/Arity, one of the predicates at the end of this file.
+  - prelude(Name/Arity), one of the predicates at the end of this file.
 
 What was found on the way is a list of need(Key) and note(Line, Doubt).
 docs/real-files.md says for each doubt what is assumed.
@@ -33,7 +33,7 @@ docs/real-files.md says for each doubt what is assumed.
 
 %!  predicate_clauses(+Main:dict, +Key, -Clauses, -Found) is det.
 
-predicate_clauses(_, prelude:Name/Arity, Clauses, Found) :-
+predicate_clauses(_, prelude(Name/Arity), Clauses, Found) :-
     !,
     findall(pure(Args, Body, 0),
             ( prelude(Head, Body), functor(Head, Name, Arity), Head =.. [_|Args] ),
@@ -102,7 +102,8 @@ pure_clauses([clause(Line, Head, Body)|Real], Main, Source, Module:PI, [pure(Arg
 
 %   Predicates with known closures: the clauses with the closures in the
 %   heads' variables, whose arguments are the others' and the closures'
-%   variables. A closure that waits for arguments is closure(Module, Term).
+%   variables. A closure that waits for arguments is '$closure'(Module, Term),
+%   which real_source lets stand in no file.
 
 special_clauses([], _, _, _, _, []) --> [].
 special_clauses([Real|Rest], Closures, Main, Source, Predicate, [pure(Args, Pure, Line)|Clauses]) -->
@@ -169,7 +170,7 @@ goal(G, Context, true) -->
     { var(G) },
     !,
     note(Context, goal).
-goal(closure(M, G), Context, P) -->
+goal('$closure'(M, G), Context, P) -->
     !,
     goal(M:G, Context, P).
 goal(M:G, Context, P) -->
@@ -204,8 +205,12 @@ goal((A -> B), Context, P) -->
 goal((A *-> B), Context, P) -->
     !,
     goal((A, B), Context, P).
-goal(@(G, _), Context, P) -->
+goal(@(G, M), Context, P) -->
     !,
+    (   { M == Context.module }
+    ->  []
+    ;   note(Context, goal)              % its closures are of another module
+    ),
     goal(G, Context, P).
 goal(G, Context, P) -->
     rewritten_goal(G, Context),
@@ -308,7 +313,9 @@ own_module(Context, M) :-
 own_module(Context, M) :-
     atom_concat(plunit_, _, Context.module),
     M = Context.main.module.
-own_module(_, user).
+own_module(Context, user) :-
+    sees_imports(Context),
+    Context.source == Context.main.
 
 sees_imports(Context) :-
     (   Context.module == Context.source.module
@@ -611,11 +618,11 @@ covering(find(R), Context, P) -->
       ->  P = true
       ;   either(P1, true, P)
       ) }.
-covering(prelude(G), _, call(prelude:Name/Arity, Pure)) -->
+covering(prelude(G), _, call(prelude(Name/Arity), Pure)) -->
     { functor(G, Name, Arity),
       G =.. [_|Args],
       maplist(pure_term, Args, Pure) },
-    [need(prelude:Name/Arity)].
+    [need(prelude(Name/Arity))].
 
 
 %   applied(+Closure, +Arguments, +Context, -Pure)//: call/N.
@@ -624,7 +631,7 @@ applied(C, _, Context, true) -->
     { var(C) },
     !,
     note(Context, goal).
-applied(closure(M, C), Xs, Context, P) -->
+applied('$closure'(M, C), Xs, Context, P) -->
     !,
     { qualified(M, C, Closure) },
     applied(Closure, Xs, Context, P).
@@ -672,8 +679,8 @@ lambda(Lambda, Xs, M, Context, P) -->
       pure_unifiers(Unifiers, P0) },
     !,
     (   { Rest == [] }
-    ->  goal(closure(M, Body), Context, P1)
-    ;   applied(closure(M, Body), Rest, Context, P1)
+    ->  goal('$closure'(M, Body), Context, P1)
+    ;   applied('$closure'(M, Body), Rest, Context, P1)
     ),
     { both(P0, P1, P) }.
 lambda(_, _, _, Context, true) -->
@@ -708,7 +715,7 @@ call_of(Predicate, Source, G, Context, P) -->
     { G =.. [_|Args],
       meta_specs(Predicate, Source, Args, Specs),
       maplist(known_closure(Context), Specs, Args, Closures),
-      memberchk(closure(_, _), Closures),
+      memberchk('$closure'(_, _), Closures),
       may_specialise(Predicate, Source, Closures) },
     !,
     { copy_term_nat(Closures, Numbered),
@@ -740,7 +747,7 @@ passed_argument(Spec, Arg, Passed) :-
     (   is_meta(Spec)
     ->  (   var(Arg)
         ->  true
-        ;   ( Arg = _:_ ; Arg = closure(_, _) )
+        ;   ( Arg = _:_ ; Arg = '$closure'(_, _) )
         ->  Passed = Arg
         ;   Passed = c:Arg
         )
@@ -764,14 +771,15 @@ other_arguments([_|Cs], [_|Specs], [_|As], Bs) :-
 
 known_closure(Context, Spec, Arg, Closure) :-
     (   nonvar(Arg),
-        Arg = closure(_, _)
+        Arg = '$closure'(_, C),
+        small_closure(C)
     ->  Closure = Arg
     ;   nonvar(Spec),
         ( integer(Spec) ; Spec == (//) ),
         nonvar(Arg),
         strip_closure(Arg, Context.module, M, C),
         small_closure(C)
-    ->  Closure = closure(M, C)
+    ->  Closure = '$closure'(M, C)
     ;   Closure = (-)
     ).
 
@@ -780,15 +788,19 @@ strip_closure(Arg, M0, M, C) :-
     ->  atom(M1),
         nonvar(Arg1),
         strip_closure(Arg1, M1, M, C)
-    ;   Arg = closure(M, C)
+    ;   Arg = '$closure'(M, C)
     ->  true
     ;   callable(Arg),
         M = M0, C = Arg
     ).
 
+%   Closures within closures may grow from call to call, so there is a limit.
+
 small_closure(C) :-
     term_size(C, Size),
     Size =< 200,
+    occurrences_of_term('$closure'(_, _), C, Within),
+    Within =< 1,
     \+ ( sub_term(Sub, C), nonvar(Sub), Sub = '$VAR'(_) ).
 
 may_specialise(Predicate, Source, Closures) :-
@@ -800,7 +812,7 @@ may_specialise(Predicate, Source, Closures) :-
     forall(member(clause(_, Head, _), Real), takes_closures(Closures, Head)).
 
 takes_closures(Closures, Head) :-
-    forall(nth1(I, Closures, closure(_, _)),
+    forall(nth1(I, Closures, '$closure'(_, _)),
            ( arg(I, Head, Argument), var(Argument) )).
 
 
@@ -816,7 +828,7 @@ pure_term([], _, []) :- !.
 pure_term(Term, _, c) :-
     atomic(Term),
     !.
-pure_term(closure(M, Term), Depth, Pure) :-
+pure_term('$closure'(M, Term), Depth, Pure) :-
     !,
     pure_term(M:Term, Depth, Pure).
 pure_term(_, 0, _) :- !.
@@ -842,18 +854,18 @@ pure_name(Name, Pure) :-
 %   prelude(Head, Body): pure predicates for some that are built in.
 
 prelude(length([], c), true).
-prelude(length([_|T], c), call(prelude:length/2, [T, c])).
+prelude(length([_|T], c), call(prelude(length/2), [T, c])).
 prelude(member(X, [X|_]), true).
-prelude(member(X, [_|T]), call(prelude:member/2, [X, T])).
+prelude(member(X, [_|T]), call(prelude(member/2), [X, T])).
 prelude(nth(c, [X|_], X), true).
-prelude(nth(c, [_|T], X), call(prelude:nth/3, [c, T, X])).
+prelude(nth(c, [_|T], X), call(prelude(nth/3), [c, T, X])).
 prelude(repeat, true).
-prelude(repeat, call(prelude:repeat/0, [])).
+prelude(repeat, call(prelude(repeat/0), [])).
 prelude(atomic(c), true).
 prelude(atomic([]), true).
 prelude(sort([], []), true).
-prelude(sort([H|T], S), ( call(prelude:sort/2, [T, R]), ( R = S ; call(prelude:insert/3, [H, R, S]) ) )).
+prelude(sort([H|T], S), ( call(prelude(sort/2), [T, R]), ( R = S ; call(prelude(insert/3), [H, R, S]) ) )).
 prelude(permute([], []), true).
-prelude(permute([H|T], S), ( call(prelude:permute/2, [T, R]), call(prelude:insert/3, [H, R, S]) )).
+prelude(permute([H|T], S), ( call(prelude(permute/2), [T, R]), call(prelude(insert/3), [H, R, S]) )).
 prelude(insert(X, L, [X|L]), true).
-prelude(insert(X, [Y|L], [Y|R]), call(prelude:insert/3, [X, L, R])).
+prelude(insert(X, [Y|L], [Y|R]), call(prelude(insert/3), [X, L, R])).

@@ -17,6 +17,7 @@ A predicate is Module:Name/Arity. A source is a dict:
 | module      | its module, `user` where it has none                        |
 | exports     | Name/Arity for each predicate that it exports               |
 | clauses     | an assoc of each predicate's list of clause(Line,Head,Body) |
+|             | where Line is File:Line in an included file                 |
 | dynamic     | the predicates whose clauses come and go                    |
 | multifile   | the predicates that other files add to                      |
 | conditional | those with a clause below an `:- if` that is not decided     |
@@ -50,7 +51,7 @@ read_source(File, Source) :-
 
 read_path(Path, Scratch, Items) :-
     State0 = state{path:Path, module:user, file_module:user, scratch:Scratch,
-                  double_quotes:string, back_quotes:codes, conditions:[], chr:no},
+                  double_quotes:string, back_quotes:codes, conditions:[], chr:no, included:no},
     read_text(Path, State0, _, Items, []).
 
 read_text(Path, State0, State, Items, Rest) :-
@@ -78,9 +79,13 @@ read_one(In, State, Term, Line) :-
                term_position(Position)],
     line_count(In, Before),
     catch(( read_term(In, Term, Options),
-            stream_position_data(line_count, Position, Line) ),
+            stream_position_data(line_count, Position, Line0) ),
           error(syntax_error(_), _),
-          ( Term = '$unread', Line = Before )).
+          ( Term = '$unread', Line0 = Before )),
+    (   State.included == no
+    ->  Line = Line0
+    ;   Line = State.included:Line0
+    ).
 
 
 %   item(+Term, +Line, +In, +State0, -State, -Items, ?Rest)
@@ -131,13 +136,20 @@ plain_clause(Term0, Module0, Module, Head, Body) :-
     without_functions(Term0, Term),
     clause_parts(Term, Module0, Module, Head, Body).
 
+%   Functional notation is expanded. '$closure'/2 is kept for real_goals.
+
 without_functions(Term0, Term) :-
-    (   sub_term(Sub, Term0),
-        compound(Sub),
-        compound_name_arity(Sub, '.', 2)
+    (   has_compound(Term0, '.')
     ->  expand_term(Term0, Term)
     ;   Term = Term0
-    ).
+    ),
+    \+ has_compound(Term, '$closure').
+
+has_compound(Term, Name) :-
+    sub_term(Sub, Term),
+    compound(Sub),
+    compound_name_arity(Sub, Name, 2),
+    !.
 
 clause_parts(Term, _, _, _, _) :-
     var(Term),
@@ -257,6 +269,7 @@ value(current_predicate(Name/Arity), yes) :-
     predicate_property(system:Goal, built_in).
 value(exists_source(Spec), Value) :-
     ground(Spec),
+    Spec = library(_),
     holds(exists_source(Spec), Value).
 
 opposite(yes, no).
@@ -317,7 +330,9 @@ obeyed(expects_dialect(Dialect), Line, _, State, State, Items, Rest) :-
     ).
 obeyed(include(Spec), Line, _, State0, State, Items, Rest) :-
     (   catch(relative_file(Spec, State0.path, Path), _, fail)
-    ->  read_text(Path, State0, State, Items, Rest)
+    ->  file_base_name(Path, Base),
+        read_text(Path, State0.put(included, Base), State1, Items, Rest),
+        State = State1.put(included, State0.included)
     ;   State = State0,
         Items = [doubt(Line, include(Spec))|Rest]
     ).

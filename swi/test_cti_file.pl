@@ -31,6 +31,20 @@ is_open(Text, Predicate) :-
     said(Text, Predicate, Sets, _),
     Sets == [].
 
+is_assumed_or_open(Text, Predicate) :-
+    setup(Text, File),
+    catch(cti_file_modes(File, Modes, Assumptions), _, true),
+    delete_file(File),
+    (   memberchk(Predicate-[], Modes)
+    ->  true
+    ;   Assumptions \== []
+    ).
+
+setup(Text, File) :-
+    tmp_file(real, Base),
+    file_name_extension(Base, pl, File),
+    setup_call_cleanup(open(File, write, Out, [encoding(utf8)]), write(Out, Text), close(Out)).
+
 %   is_assumed(+Text, +Predicate, +Doubt): what is promised stands on Doubt.
 
 is_assumed(Text, Predicate, Doubt) :-
@@ -210,6 +224,14 @@ test(operators_of_a_library) :-
     memberchk(external(clpfd:(#>)/2), Doubts).
 test(tests_of_a_unit) :-
     is_open(":- begin_tests(u).\ntest(a) :- p(a).\n:- end_tests(u).\np(X) :- p(X).\n", plunit_u:test/1).
+test(closure_in_data) :-
+    is_assumed_or_open("p(X) :- q('$closure'(user, r), X).\nq(C, X) :- C = '$closure'(_, _), q(C, X).\n", p/1).
+test(own_closure) :-
+    is_open("closure(X, Y) :- closure(X, Y).\np(X) :- closure(user, true), X = a.\n", p/1).
+test(module_named_prelude) :-
+    is_open(":- module(prelude, []).\nlength(X, Y, Z) :- length(X, Y, Z).\nnth(X, Y, Z) :- nth(X, Y, Z).\np(X) :- nth(X, X, X).\n", p/1).
+test(system_and_not_user) :-
+    is_open("between(_, _, _).\np(X) :- system:between(1, inf, X).\n", p/1).
 test(many_arguments, Sets == [[1]]) :-
     said("p([], _, _, _, _, _, _, _, _, _, _, _, _, _).\np([_|T], A, B, C, D, E, F, G, H, I, J, K, L, M) :- p(T, A, B, C, D, E, F, G, H, I, J, K, L, M).\n",
          p/14, Sets, []).
@@ -296,6 +318,12 @@ test(module_that_exports_again) :-
 test(renamed_import) :-
     is_assumed(":- use_module(library(ugraphs), [vertices/2 as foo]).\n:- use_module(nowhere, [r/2 as append]).\np(X) :- append(X, X).\n",
                p/1, external(none:append/2)).
+test(module_that_is_not_there) :-
+    is_assumed("bar(_).\np(X) :- foo:bar(X).\n", p/1, external(foo:bar/1)).
+test(context_of_closures) :-
+    is_assumed("q(_).\np(X) :- @(maplist(q, [X]), other).\n", p/1, goal).
+test(closures_that_grow) :-
+    is_assumed(":- meta_predicate p(0, ?).\np(G, X) :- p((G, G), X).\np(G, _) :- call(G).\nq(X) :- p(true, X), X = a.\n:- meta_predicate r(0).\nr(G) :- call(G).\nr(G) :- r(s(G)).\ns(_).\nt(X) :- r(s(X)).\n", r/1, goal).
 test(in_place) :-
     is_assumed("p(L) :- L = [_|T], setarg(2, T, [a, b, c]), p(T).\n", p/1, risk(place, setarg/3)).
 test(in_place_by_a_callee) :-
