@@ -799,8 +799,9 @@ strip_closure(Arg, M0, M, C) :-
 small_closure(C) :-
     term_size(C, Size),
     Size =< 200,
-    occurrences_of_term('$closure'(_, _), C, Within),
-    Within =< 1,
+    findall(x, ( sub_term(Sub, C), nonvar(Sub), Sub = '$closure'(_, _) ), Within),
+    length(Within, Count),
+    Count =< 1,
     \+ ( sub_term(Sub, C), nonvar(Sub), Sub = '$VAR'(_) ).
 
 may_specialise(Predicate, Source, Closures) :-
