@@ -302,8 +302,8 @@ with_value([Key|Keys], Value, Assoc0, Assoc) :-
 %     - large(Count): its component has too many arguments for the search
 %     - blown: the search was given up
 %     - calls(Line, Predicate): it calls one without modes
-%     - needs(Line, Predicate, Sets): it calls one whose modes ask for more
-%       than is known at the call
+%     - needs(Calls): each call(Line, Predicate, Sets) is of a predicate that
+%       needs ground arguments, and not all of them are sure to have these
 %     - unknown
 
 reason([_|_], _, _, none) :- !.
@@ -314,10 +314,14 @@ reason([], Key, Known, Reason) :-
     ->  given_reason(Given, Known, Reason)
     ;   outside_call(Component, Known, Line, Callee, [])
     ->  callee_reason(Callee, Line, Known, Reason)
-    ;   outside_call(Component, Known, Line, Callee, Sets),
-        \+ memberchk([], Sets)
-    ->  shown_callee(Callee, Known, Shown),
-        Reason = needs(Line, Shown, Sets)
+    ;   findall(call(Line, Shown, Sets),
+                ( outside_call(Component, Known, Line, Callee, Sets),
+                  \+ memberchk([], Sets),
+                  shown_callee(Callee, Known, Shown) ),
+                Calls0),
+        sort(Calls0, Calls),
+        Calls \== []
+    ->  Reason = needs(Calls)
     ;   Reason = unknown
     ).
 
@@ -479,8 +483,12 @@ reason_text(large(Count), Text) :-
 reason_text(blown, "the search was given up: its numbers or lists grew too large").
 reason_text(calls(Line, Predicate), Text) :-
     format(string(Text), "line ~w calls ~q, which has none", [Line, Predicate]).
-reason_text(needs(Line, Predicate, Sets), Text) :-
-    format(string(Text), "line ~w calls ~q, which needs ~w ground, and nothing makes sure of that", [Line, Predicate, Sets]).
+reason_text(needs(Calls), Text) :-
+    findall(One,
+            ( member(call(Line, Predicate, Sets), Calls), format(atom(One), "~q ~w in line ~w", [Predicate, Sets, Line]) ),
+            Texts),
+    atomic_list_concat(Texts, ', ', All),
+    format(string(Text), "what these calls need ground is not sure to be: ~w", [All]).
 reason_text(unknown, "no ground arguments make sure that its calls end").
 
 %!  assumption_text(+Doubt, -Text:string) is det.

@@ -46,6 +46,7 @@ rewritten(time, call_with_time_limit(_, G), goal(G)).
 rewritten(time, call_with_time_limit(_, G, _), goal(G)).
 rewritten(sort, predsort(P, L, S), R) :- sorted_by(P, L, S, R).
 rewritten(lists, list_to_set(L, S), prelude(sort(L, S))).
+rewritten(lists, memberchk(X, L), prelude(member(X, L))).
 rewritten(lists, nth0(I, L, X), prelude(nth(I, L, X))).
 rewritten(lists, nth1(I, L, X), prelude(nth(I, L, X))).
 rewritten(ordsets, list_to_ord_set(L, S), prelude(sort(L, S))).

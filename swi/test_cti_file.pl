@@ -187,6 +187,8 @@ test(library_predicate, Sets == [[1, 2]]) :-
     said("p(X, Y, Z) :- subtract(X, Y, Z).\n", p/3, Sets, []).
 test(library_predicate_alone) :-
     is_open("p(X) :- append(_, X, _).\n", p/1).
+test(memberchk, Sets == [[2]]) :-
+    said(":- use_module(library(lists)).\np(X, L) :- memberchk(X, L).\n", p/2, Sets, []).
 test(nth, Sets == [[2]]) :-
     said("p(I, L, X) :- nth0(I, L, X).\n", p/3, Sets, []).
 test(length_of_unknown_list) :-
@@ -385,7 +387,7 @@ test(reason, Reason == nothing_falls([call(1, p/1)])) :-
     reason_of("p(X) :- p(X).\n", p/1, Reason).
 test(reason_of_a_caller, Reason == calls(2, p/1)) :-
     reason_of("p(X) :- p(X).\nq(X) :- ( a = b ; p(X) ).\n", q/1, Reason).
-test(reason_of_need, Reason == needs(2, p/1, [[1]])) :-
+test(reason_of_need, Reason == needs([call(2, p/1, [[1]])])) :-
     reason_of("p([_|T]) :- p(T).\nq(X) :- p(_), X = a.\n", q/1, Reason).
 test(kept, Count == 2) :-
     tmp_file(kept, Directory),
