@@ -24,7 +24,7 @@ module is not proved; what cti says of the pure program is.
 :- use_module(cti).
 :- use_module(components).
 :- use_module(pure_program).
-:- use_module(real_builtins, [is_read_library/1]).
+:- use_module(real_builtins, [is_protected/1, is_read_library/1]).
 :- use_module(real_source).
 
 %!  cti_file_modes(+File, -Modes, -Assumptions) is det.
@@ -164,10 +164,18 @@ by_line(Order, A, B) :-
     B = predicate(NameB, LineB, _, _, _, _),
     compare(Order, LineA-NameA, LineB-NameB).
 
+%   Clauses of predicates that no file can define are refused when it is
+%   loaded.
+
 own_keys(Source, Own) :-
     assoc_to_keys(Source.clauses, Keys),
-    append([Keys, Source.dynamic], All),
+    append([Keys, Source.dynamic], All0),
+    exclude(refused, All0, All),
     sort(All, Own).
+
+refused(_:Name/Arity) :-
+    functor(Goal, Name, Arity),
+    is_protected(Goal).
 
 shown(Module:PI, Module, PI) :- !.
 shown(Key, _, Key).

@@ -293,29 +293,31 @@ resolved(G, Context, Where) :-
     ;   own_module(Context, M),
         is_defined(Context.source, M:PI)
     ->  Where = own(M:PI)
-    ;   sees_imports(Context),
-        import_of(Context.source, PI, Import)
-    ->  import_where(Import, Where)
-    ;   predicate_property(system:G, built_in)
+    ;   Context.module == system
     ->  Where = builtin
     ;   \+ knows_module(Context)
     ->  Where = unknown(Context.module:PI)
+    ;   sees_imports(Context),
+        import_of(Context.source, PI, Import)
+    ->  import_where(Import, Where)
+    ;   Context.source == Context.main,
+        is_defined(Context.source, user:PI)
+    ->  Where = own(user:PI)
+    ;   predicate_property(system:G, built_in)
+    ->  Where = builtin
     ;   index(PI, Module)
     ->  Where = library(Module)
     ;   Where = unknown(PI)
     ).
 
-%   Where the clauses of a call may be: its module, the module of the file
-%   for a unit of tests, and user, from which modules inherit.
+%   Where the clauses of a call may be: its module, and the module of the file
+%   for a unit of tests. From user, modules inherit what they do not import.
 
 own_module(Context, M) :-
     M = Context.module.
 own_module(Context, M) :-
     atom_concat(plunit_, _, Context.module),
     M = Context.main.module.
-own_module(Context, user) :-
-    sees_imports(Context),
-    Context.source == Context.main.
 
 sees_imports(Context) :-
     (   Context.module == Context.source.module
@@ -326,7 +328,7 @@ sees_imports(Context) :-
 knows_module(Context) :-
     (   sees_imports(Context)
     ->  true
-    ;   memberchk(Context.module, [user, system])
+    ;   Context.module == user
     ).
 
 import_where(imported(Path, Module:PI), Where) :-

@@ -234,6 +234,13 @@ test(module_named_prelude) :-
     is_open(":- module(prelude, []).\nlength(X, Y, Z) :- length(X, Y, Z).\nnth(X, Y, Z) :- nth(X, Y, Z).\np(X) :- nth(X, X, X).\n", p/1).
 test(system_and_not_user) :-
     is_open("between(_, _, _).\np(X) :- system:between(1, inf, X).\n", p/1).
+test(import_before_user, Sets == [[1]]) :-
+    said(":- module(m, []).\n:- use_module(library(lists)).\nuser:append(_, _, _).\np(X) :- append(_, [a], X).\n", p/1, Sets, []).
+test(user_before_system) :-
+    is_open(":- module(m, []).\nuser:between(X, Y, Z) :- user:between(X, Y, Z).\np(X) :- between(1, 2, X).\n", p/1).
+test(refused_clauses) :-
+    is_open("repeat.\np(X) :- repeat, X = a.\n", p/1),
+    \+ said("repeat.\np(X) :- repeat, X = a.\n", repeat/0, _, _).
 test(many_arguments, Sets == [[1]]) :-
     said("p([], _, _, _, _, _, _, _, _, _, _, _, _, _).\np([_|T], A, B, C, D, E, F, G, H, I, J, K, L, M) :- p(T, A, B, C, D, E, F, G, H, I, J, K, L, M).\n",
          p/14, Sets, []).
@@ -322,6 +329,8 @@ test(renamed_import) :-
                p/1, external(none:append/2)).
 test(module_that_is_not_there) :-
     is_assumed("bar(_).\np(X) :- foo:bar(X).\n", p/1, external(foo:bar/1)).
+test(module_that_may_define_it) :-
+    is_assumed("p(X) :- foo:between(1, 2, X).\n", p/1, external(foo:between/3)).
 test(context_of_closures) :-
     is_assumed("q(_).\np(X) :- @(maplist(q, [X]), other).\n", p/1, goal).
 test(closures_that_grow) :-
