@@ -320,26 +320,37 @@ reason([], Key, Known, Reason) :-
     (   member(Member, Component),
         get_assoc(Member, Known.given_up, Given)
     ->  given_reason(Given, Known, Reason)
-    ;   outside_call(Component, Known, Line, Callee, [])
-    ->  callee_reason(Callee, Line, Known, Reason)
-    ;   findall(call(Line, Shown, Sets),
-                ( outside_call(Component, Known, Line, Callee, Sets),
-                  \+ memberchk([], Sets),
-                  shown_callee(Callee, Known, Shown) ),
-                Calls0),
-        sort(Calls0, Calls),
-        Calls \== []
-    ->  Reason = needs(Calls)
-    ;   Reason = unknown
+    ;   with_parts(Component, Known, Inside),
+        (   outside_call(Inside, Known, Line, Callee, [])
+        ->  shown_callee(Callee, Known, Shown),
+            Reason = calls(Line, Shown)
+        ;   needing_calls(Inside, Known, Calls),
+            Calls \== []
+        ->  Reason = needs(Calls)
+        ;   Reason = unknown
+        )
     ).
 
-%   A part or a predicate with closures is not the reader's: what it calls is.
+needing_calls(Inside, Known, Calls) :-
+    findall(call(Line, Shown, Sets),
+            ( outside_call(Inside, Known, Line, Callee, Sets),
+              \+ memberchk([], Sets),
+              shown_callee(Callee, Known, Shown) ),
+            Calls0),
+    sort(Calls0, Calls).
 
-callee_reason(Callee, Line, Known, Reason) :-
-    (   Callee = part(_, _)
-    ->  reason([], Callee, Known, Reason)
-    ;   shown_callee(Callee, Known, Shown),
-        Reason = calls(Line, Shown)
+%   with_parts(+Keys, +Known, -Inside): the keys, and the parts of clauses that
+%   they call, which are not the reader's.
+
+with_parts(Keys, Known, Inside) :-
+    findall(Part,
+            ( outside_call(Keys, Known, _, Part, _), Part = part(_, _) ),
+            Parts0),
+    sort(Parts0, Parts),
+    (   Parts == []
+    ->  Inside = Keys
+    ;   append(Keys, Parts, More),
+        with_parts(More, Known, Inside)
     ).
 
 shown_callee(Key, Known, Shown) :-
