@@ -231,7 +231,8 @@ test(closure_in_data) :-
 test(own_closure) :-
     is_open("closure(X, Y) :- closure(X, Y).\np(X) :- closure(user, true), X = a.\n", p/1).
 test(module_named_prelude) :-
-    is_open(":- module(prelude, []).\nlength(X, Y, Z) :- length(X, Y, Z).\nnth(X, Y, Z) :- nth(X, Y, Z).\np(X) :- nth(X, X, X).\n", p/1).
+    is_open(":- module(prelude, []).\nlength(X, Y, Z) :- length(X, Y, Z).\n\
+nth(X, Y, Z) :- nth(X, Y, Z).\np(X) :- nth(X, X, X).\n", p/1).
 test(system_and_not_user) :-
     is_open("between(_, _, _).\np(X) :- system:between(1, inf, X).\n", p/1).
 test(import_before_user, Sets == [[1]]) :-
@@ -242,10 +243,12 @@ test(refused_clauses) :-
     is_open("repeat.\np(X) :- repeat, X = a.\n", p/1),
     \+ said("repeat.\np(X) :- repeat, X = a.\n", repeat/0, _, _).
 test(many_arguments, Sets == [[1]]) :-
-    said("p([], _, _, _, _, _, _, _, _, _, _, _, _, _).\np([_|T], A, B, C, D, E, F, G, H, I, J, K, L, M) :- p(T, A, B, C, D, E, F, G, H, I, J, K, L, M).\n",
+    said("p([], _, _, _, _, _, _, _, _, _, _, _, _, _).\n\
+p([_|T], A, B, C, D, E, F, G, H, I, J, K, L, M) :- p(T, A, B, C, D, E, F, G, H, I, J, K, L, M).\n",
          p/14, Sets, []).
 test(many_arguments_last, Sets == [[12, 13, 14]]) :-
-    said("p(_, _, _, _, _, _, _, _, _, _, _, _, _, []).\np(A, B, C, D, E, F, G, H, I, J, K, L, M, [_|T]) :- p(A, B, C, D, E, F, G, H, I, J, K, L, M, T).\n",
+    said("p(_, _, _, _, _, _, _, _, _, _, _, _, _, []).\n\
+p(A, B, C, D, E, F, G, H, I, J, K, L, M, [_|T]) :- p(A, B, C, D, E, F, G, H, I, J, K, L, M, T).\n",
          p/14, Sets, []).
 test(many_variables) :-
     numlist(1, 60, Ns),
@@ -325,7 +328,8 @@ test(module_that_exports_again) :-
     delete_file(File),
     delete_file(InnerFile).
 test(renamed_import) :-
-    is_assumed(":- use_module(library(ugraphs), [vertices/2 as foo]).\n:- use_module(nowhere, [r/2 as append]).\np(X) :- append(X, X).\n",
+    is_assumed(":- use_module(library(ugraphs), [vertices/2 as foo]).\n\
+:- use_module(nowhere, [r/2 as append]).\np(X) :- append(X, X).\n",
                p/1, external(none:append/2)).
 test(module_that_is_not_there) :-
     is_assumed("bar(_).\np(X) :- foo:bar(X).\n", p/1, external(foo:bar/1)).
@@ -334,7 +338,7 @@ test(module_that_may_define_it) :-
 test(context_of_closures) :-
     is_assumed("q(_).\np(X) :- @(maplist(q, [X]), other).\n", p/1, goal).
 test(closures_that_grow) :-
-    is_assumed(":- meta_predicate p(0, ?).\np(G, X) :- p((G, G), X).\np(G, _) :- call(G).\nq(X) :- p(true, X), X = a.\n:- meta_predicate r(0).\nr(G) :- call(G).\nr(G) :- r(s(G)).\ns(_).\nt(X) :- r(s(X)).\n", r/1, goal).
+    is_assumed(":- meta_predicate r(0).\nr(G) :- call(G).\nr(G) :- r(s(G)).\ns(_).\nt(X) :- r(s(X)).\n", t/1, goal).
 test(in_place) :-
     is_assumed("p(L) :- L = [_|T], setarg(2, T, [a, b, c]), p(T).\n", p/1, risk(place, setarg/3)).
 test(in_place_by_a_callee) :-
