@@ -549,6 +549,11 @@ format_text(format(Text, _), Text).
 format_text(format(_, Text, _), Text).
 format_text(debug(_, Text, _), Text).
 format_text(ansi_format(_, Text, _), Text).
+format_text(print_message(_, Message), Text) :-
+    (   var(Message)
+    ->  true
+    ;   Message = format(Text, _)
+    ).
 
 plain_text(Text) :-
     (   atom(Text)

@@ -361,6 +361,10 @@ test(text) :-
     is_assumed("p(X) :- format(X, [p(X)]).\n", p/1, text).
 test(text_that_runs) :-
     is_assumed("p(X) :- format(\"~@\", [p(X)]).\n", p/1, text).
+test(message_that_runs) :-
+    is_assumed("p(X) :- print_message(error, format(\"~@\", [p(X)])).\n", p/1, text).
+test(unknown_message) :-
+    is_assumed("p(X) :- M = format(\"~@\", [p(X)]), print_message(error, M).\n", p/1, text).
 test(own_function) :-
     is_assumed(":- use_module(library(arithmetic)).\n:- arithmetic_function(f/1).\nf(X, Y) :- Y is f(X).\n", f/2, function).
 test(goal_expansion) :-
