@@ -1,6 +1,6 @@
 # `make` proves the crates, builds bin/cti and shows it at work; `make JOBS=2` proves on two processors; `make check` passes every proof,
-# wrong edit and test; `make install` copies the program, its manual page and the completions of three shells, and `make uninstall` removes
-# them.
+# wrong edit and test; `make install` copies the program, its manual page, the completions of three shells and the converter of real files,
+# and `make uninstall` removes them.
 PREFIX ?= /usr/local
 JOBS ?= $(shell nproc)
 SHARE = $(DESTDIR)$(PREFIX)/share
@@ -8,6 +8,9 @@ MANUAL = $(SHARE)/man/man1/cti.1
 BASH_COMPLETION = $(SHARE)/bash-completion/completions/cti
 ZSH_COMPLETION = $(SHARE)/zsh/site-functions/_cti
 FISH_COMPLETION = $(SHARE)/fish/vendor_completions.d/cti.fish
+FILE_MANUAL = $(SHARE)/man/man1/cti-file.1
+CONVERTER = $(SHARE)/cti/swi
+CONVERTER_FILES = components.pl cti.pl cti_file.pl pure_program.pl real_builtins.pl real_goals.pl real_source.pl
 
 bin/cti: $(shell find crates -name '*.rt' -o -name '*.antt' | grep -v /out/) crates.txt
 	@echo "Every function is proved before the program is built: about half an hour on four processors the first time, and only"
@@ -27,9 +30,16 @@ install: bin/cti
 	install -D -m 644 completions/cti.bash $(BASH_COMPLETION)
 	install -D -m 644 completions/_cti $(ZSH_COMPLETION)
 	install -D -m 644 completions/cti.fish $(FISH_COMPLETION)
+	for it in $(CONVERTER_FILES); do install -D -m 644 swi/$$it $(CONVERTER)/$$it || exit 1; done
+	install -D -m 755 swi/cti-file $(CONVERTER)/cti-file
+	printf '#!/bin/sh\nexec $(PREFIX)/share/cti/swi/cti-file "$$@"\n' > $(DESTDIR)$(PREFIX)/bin/cti-file
+	chmod 755 $(DESTDIR)$(PREFIX)/bin/cti-file
+	install -D -m 644 man/cti-file.1 $(FILE_MANUAL)
 
 uninstall:
 	rm -f $(DESTDIR)$(PREFIX)/bin/cti $(MANUAL) $(BASH_COMPLETION) $(ZSH_COMPLETION) $(FISH_COMPLETION)
+	rm -f $(DESTDIR)$(PREFIX)/bin/cti-file $(FILE_MANUAL)
+	rm -rf $(SHARE)/cti
 
 clean:
 	rm -rf bin crates/*/out

@@ -1,4 +1,11 @@
-:- module(cti, [cti_modes/2, cti_modes/3, cti_check/2, cti_certificate/2, cti_certificate/3]).
+:- module(cti,
+          [ cti_modes/2,                % +File, -Modes
+            cti_modes/3,                % +File, -Modes, +Options
+            cti_check/2,                % +File, +Certificate
+            cti_certificate/2,          % +File, -Facts
+            cti_certificate/3,          % +File, -Facts, +Options
+            cti_infer/3                 % +File, +Certificate, +Options
+          ]).
 
 /** <module> The modes of pure programs, by the program cti
 
@@ -14,6 +21,7 @@ with its exit status and what it says on standard error.
 :- use_module(library(lists)).
 :- use_module(library(option)).
 :- use_module(library(process)).
+:- use_module(library(readutil)).
 
 %!  cti_modes(+File, -Modes) is det.
 %!  cti_modes(+File, -Modes, +Options) is det.
@@ -73,6 +81,46 @@ norm_words(Options, ['--norm', Norm]) :-
     !,
     must_be(oneof([term, list]), Norm).
 norm_words(_, []).
+
+%!  cti_infer(+File, +Certificate, +Options) is det.
+%
+%   Writes the certificate that cti infers of File to the file Certificate.
+%   Options:
+%
+%     - norm(+Norm)
+%       What the size of a term is: `term`, as without the option, or `list`.
+%     - timeout(+Seconds)
+%       Ends the program after so long. Then Status in the error is `timeout`.
+
+cti_infer(File, Certificate, Options) :-
+    absolute_path(File, Path),
+    absolute_path(Certificate, CertificatePath),
+    option(timeout(Timeout), Options, infinite),
+    norm_words(Options, Norm),
+    append([infer|Norm], [file(Path)], Words),
+    program(Program),
+    tmp_file(cti, Messages),
+    setup_call_cleanup(
+        ( open(CertificatePath, write, Out), open(Messages, write, Err) ),
+        ( process_create(Program, Words, [stdout(stream(Out)), stderr(stream(Err)), process(Process)]),
+          ended(Process, Timeout, Status) ),
+        ( close(Out), close(Err) )),
+    (   Status == 0
+    ->  true
+    ;   read_file_to_string(Messages, Message, []),
+        throw(error(cti_error(Status, Message), _))
+    ).
+
+ended(Process, Timeout, Status) :-
+    process_wait(Process, Ended, [timeout(Timeout)]),
+    (   Ended = exit(Status)
+    ->  true
+    ;   Ended == timeout
+    ->  process_kill(Process, 9),
+        process_wait(Process, _),
+        Status = timeout
+    ;   Status = Ended
+    ).
 
 absolute_path(File, Path) :-
     absolute_file_name(File, Path, []).

@@ -41,4 +41,14 @@ test(refused_certificate, error(cti_error(3, _))) :-
 test(missing_file, error(cti_error(4, _))) :-
     cti_modes('examples/missing.pl', _).
 
+test(infer_to_a_file) :-
+    tmp_file(cert, Certificate),
+    cti_infer('examples/append.pl', Certificate, [timeout(30)]),
+    cti_check('examples/append.pl', Certificate),
+    delete_file(Certificate).
+
+test(infer_with_a_fault, error(cti_error(4, _))) :-
+    tmp_file(cert, Certificate),
+    cti_infer('examples/missing.pl', Certificate, []).
+
 :- end_tests(cti).

@@ -1,0 +1,436 @@
+:- module(pure_program,
+          [ covering_program/2,         % +Source, -Program
+            write_program/3,            % +Program, +File, -Names
+            program_graph/2             % +Program, -Graph
+          ]).
+
+/** <module> The pure program that covers a real file
+
+covering_program/2 follows the calls of a file's predicates and makes the
+clauses that cti reads. A program is a list of predicate(Key, Clauses, Notes)
+where
+
+  - each clause is clause(Args, Goals, Line), at most 12 arguments and 48
+    variables, Goals a list of `A = B` and call(Key, Args);
+  - Notes are note(Line, Doubt).
+
+Disjunctions, and what is too much for one clause, become predicates with
+keys part(Key, Number).
+*/
+
+:- use_module(library(apply)).
+:- use_module(library(assoc)).
+:- use_module(library(lists)).
+:- use_module(library(pairs)).
+:- use_module(real_goals).
+
+most_arguments(12).
+most_variables(48).
+most_shared(36).
+
+%!  covering_program(+Source:dict, -Program) is det.
+
+covering_program(Source, Program) :-
+    assoc_to_keys(Source.clauses, Keys0),
+    append([Keys0, Source.dynamic, Source.multifile], Keys1),
+    sort(Keys1, Keys),
+    empty_assoc(Seen),
+    cover(Keys, Source, Seen, Program, []).
+
+cover([], _, _, Program, Program).
+cover([Key|Keys], Source, Seen0, Program0, Program) :-
+    (   get_assoc(Key, Seen0, _)
+    ->  cover(Keys, Source, Seen0, Program0, Program)
+    ;   put_assoc(Key, Seen0, seen, Seen),
+        predicate_clauses(Source, Key, Pure0, Found),
+        findall(Need, member(need(Need), Found), Needs0),
+        sort(Needs0, Needs),
+        findall(note(Line, Doubt), member(note(Line, Doubt), Found), Notes0),
+        sort(Notes0, Notes),
+        distinct_clauses(Pure0, Pure),
+        phrase(bounded(Pure, Key, 1, Clauses), Parts),
+        Program0 = [predicate(Key, Clauses, Notes)|Program1],
+        append(Parts, Program2, Program1),
+        append(Keys, Needs, More),
+        cover(More, Source, Seen, Program2, Program)
+    ).
+
+%   Clauses that are variants of each other are one. Facts are many where a
+%   file is a table.
+
+distinct_clauses(Clauses, Distinct) :-
+    empty_assoc(Seen),
+    distinct_clauses(Clauses, Seen, Distinct).
+
+distinct_clauses([], _, []).
+distinct_clauses([Clause|Clauses], Seen0, Distinct) :-
+    Clause = pure(Args, Body, _),
+    copy_term(Args-Body, Numbered),
+    numbervars(Numbered, 0, _),
+    (   get_assoc(Numbered, Seen0, _)
+    ->  distinct_clauses(Clauses, Seen0, Distinct)
+    ;   put_assoc(Numbered, Seen0, seen, Seen),
+        Distinct = [Clause|Rest],
+        distinct_clauses(Clauses, Seen, Rest)
+    ).
+
+
+%   bounded(+Pure, +Key, +Number, -Clauses)// makes clauses within the limits,
+%   and emits the predicates of their parts, which are numbered from Number.
+
+bounded(Pure, Key, Number, Clauses) -->
+    bounded(Pure, Key, Number, _, Clauses).
+
+bounded([], _, Number, Number, []) --> [].
+bounded([pure(Args, Body, Line)|Pure], Key, Number0, Number, Clauses) -->
+    { wide_disjunction(Args, Body, Bodies) },
+    !,
+    { findall(pure(Args, One, Line), member(One, Bodies), Pure1),
+      append(Pure1, Pure, Pure2) },
+    bounded(Pure2, Key, Number0, Number, Clauses).
+bounded([pure(Args0, Body, Line)|Pure], Key, Number0, Number, [Clause|Clauses]) -->
+    { packed(Args0, Args) },
+    flat(Body, Args, Key, Line, Number0, Number1, Goals),
+    short(Args, Goals, Key, Line, Number1, Number2, Clause),
+    bounded(Pure, Key, Number2, Number, Clauses).
+
+%   wide_disjunction(+Args, +Body, -Bodies): a disjunction that shares more
+%   than 12 variables with the rest is distributed, where it is among the
+%   goals of the clause and has at most eight branches: Bodies has the body
+%   with each of its branches.
+
+wide_disjunction(Args, Body, Bodies) :-
+    conjuncts(Body, Goals, []),
+    append(Before, [Disjunction|After], Goals),
+    Disjunction = (_ ; _),
+    term_variables(Disjunction, Inside),
+    term_variables(Args-Before-After, Outside),
+    both_have(Inside, Outside, Shared),
+    most_arguments(Most),
+    length(Shared, N),
+    N > Most,
+    alternatives(Disjunction, Branches),
+    length(Branches, Count),
+    Count =< 8,
+    !,
+    with_branches(Branches, Before, After, Bodies).
+
+with_branches([], _, _, []).
+with_branches([Branch|Branches], Before, After, [Body|Bodies]) :-
+    append(Before, [Branch|After], Goals),
+    conjunction(Goals, Body),
+    with_branches(Branches, Before, After, Bodies).
+
+conjuncts((A, B), Goals, Rest) :-
+    !,
+    conjuncts(A, Goals, More),
+    conjuncts(B, More, Rest).
+conjuncts(Goal, [Goal|Rest], Rest).
+
+conjunction([Goal], Goal) :- !.
+conjunction([Goal|Goals], (Goal, Body)) :-
+    conjunction(Goals, Body).
+
+%   From the 12th on, arguments are put together in one term.
+
+packed(Args, Packed) :-
+    most_arguments(Most),
+    length(Args, Arity),
+    (   Arity =< Most
+    ->  Packed = Args
+    ;   Kept is Most - 1,
+        length(First, Kept),
+        append(First, Others, Args),
+        Term =.. [arguments|Others],
+        append(First, [Term], Packed)
+    ).
+
+%   flat(+Body, +Outside, +Key, +Line, +Number0, -Number, -Goals)//: Outside
+%   has the variables that occur elsewhere in the clause.
+
+flat((A, B), Outside, Key, Line, Number0, Number, Goals) -->
+    !,
+    flat(A, Outside-B, Key, Line, Number0, Number1, GoalsA),
+    flat(B, Outside-A, Key, Line, Number1, Number, GoalsB),
+    { append(GoalsA, GoalsB, Goals) }.
+flat((A ; B), Outside, Key, Line, Number0, Number, [call(Part, Args)]) -->
+    !,
+    { Part = part(Key, Number0),
+      Number1 is Number0 + 1,
+      shared(A-B, Outside, Shared),
+      packed(Shared, Args),
+      alternatives((A ; B), Bodies),
+      findall(pure(Shared, Body, Line), member(Body, Bodies), Pure0),
+      distinct_clauses(Pure0, Pure) },
+    bounded(Pure, Key, Number1, Number, Clauses),
+    [predicate(Part, Clauses, [])].
+flat(true, _, _, _, Number, Number, []) --> !.
+flat(fail, _, _, _, Number, Number, [call(fail, [])]) --> !.
+flat(A = B, _, _, _, Number, Number, [A = B]) --> !.
+flat(call(Key, Args0), _, _, _, Number, Number, [call(Key, Args)]) -->
+    { packed(Args0, Args) }.
+
+alternatives(Body, Bodies) :-
+    (   Body = (A ; B)
+    ->  alternatives(A, As),
+        alternatives(B, Bs),
+        append(As, Bs, Bodies)
+    ;   Bodies = [Body]
+    ).
+
+%   At most 36 variables are shared with a part; the part has new ones in the
+%   place of others, which covers more.
+
+shared(Inside, Outside, Shared) :-
+    term_variables(Inside, VsInside),
+    term_variables(Outside, VsOutside),
+    both_have(VsInside, VsOutside, Shared0),
+    most_shared(Most),
+    length(Shared0, N),
+    (   N =< Most
+    ->  Shared = Shared0
+    ;   length(Shared, Most),
+        append(Shared, _, Shared0)
+    ).
+
+both_have(As, Bs, Both) :-
+    sort(Bs, Sorted),
+    include({Sorted}/[V]>>( member(W, Sorted), V == W -> true ), As, Both).
+
+%   short(+Args, +Goals, +Key, +Line, +Number0, -Number, -Clause)//: a clause
+%   with too many variables goes on in a part, after as many goals as fit.
+
+short(Args, Goals, _, Line, Number, Number, clause(Args, Goals, Line)) -->
+    { few_variables(Args-Goals) },
+    !.
+short(Args0, Goals0, Key, Line, Number0, Number, clause(Args, Goals, Line)) -->
+    { widened_arguments(Args0, Args1),
+      maplist(widened_goal, Goals0, Goals1),
+      fitting(Goals1, Args1, Now, Later) },
+    (   { Later == [] }
+    ->  { Args = Args1, Goals = Now, Number = Number0 }
+    ;   { Args = Args1,
+          Part = part(Key, Number0),
+          Number1 is Number0 + 1,
+          shared(Later, Args1-Now, Shared),
+          packed(Shared, PartArgs),
+          append(Now, [call(Part, PartArgs)], Goals) },
+        short(PartArgs, Later, Key, Line, Number1, Number, Clause),
+        [predicate(Part, [Clause], [])]
+    ).
+
+few_variables(Term) :-
+    term_variables(Term, Variables),
+    length(Variables, N),
+    most_variables(Most),
+    N =< Most.
+
+fitting([], _, [], []).
+fitting([Goal|Goals], Before, Now, Later) :-
+    (   few_variables(Before-Goal)
+    ->  Now = [Goal|Now1],
+        fitting(Goals, Before-Goal, Now1, Later)
+    ;   Now = [],
+        Later = [Goal|Goals]
+    ).
+
+%   What has more variables than a clause can have beside others is a variable.
+
+widened_arguments(Args0, Args) :-
+    (   few_shared(Args0)
+    ->  Args = Args0
+    ;   maplist(widened, Args0, Args)
+    ).
+
+widened(Term0, Term) :-
+    term_variables(Term0, Variables),
+    (   Variables = [_, _, _, _|_]
+    ->  true
+    ;   Term = Term0
+    ).
+
+widened_goal(call(Key, Args0), call(Key, Args)) :-
+    widened_arguments(Args0, Args).
+widened_goal(A = B, Goal) :-
+    (   few_shared(A-B)
+    ->  Goal = (A = B)
+    ;   Goal = ([] = [])
+    ).
+
+few_shared(Term) :-
+    term_variables(Term, Variables),
+    length(Variables, N),
+    most_shared(Most),
+    N =< Most.
+
+
+%!  write_program(+Program, +File, -Names) is det.
+%
+%   Writes Program as a text that cti reads. Names is a list of
+%   Key-Name/Arity, with the names and the arities that the text has.
+
+write_program(Program, File, Names) :-
+    foldl(named, Program, [], Reversed),
+    reverse(Reversed, Names),
+    list_to_assoc(Names, ByKey),
+    setup_call_cleanup(open(File, write, Out, [encoding(utf8)]),
+                       forall(member(predicate(Key, Clauses, _), Program),
+                              forall(member(Clause, Clauses), write_clause(Out, ByKey, Key, Clause))),
+                       close(Out)).
+
+named(predicate(Key, Clauses, _), Names, [Key-Name/Arity|Names]) :-
+    key_name(Key, Names, Name),
+    key_arity(Key, Clauses, Arity).
+
+key_name(prelude(Name/_), _, Pure) :-
+    !,
+    atom_concat('prelude ', Name, Pure).
+key_name(part(_, _), Names, Pure) :-
+    !,
+    numbered('part ', Names, Pure).
+key_name(special(_:Name/_, _), Names, Pure) :-
+    !,
+    atomic_list_concat(['special ', Name, ' '], Prefix),
+    numbered(Prefix, Names, Pure).
+key_name(Module:Name/_, _, Pure) :-
+    atomic_list_concat([Module, ':', Name], Pure).
+
+numbered(Prefix, Names, Name) :-
+    length(Names, Number),
+    atom_concat(Prefix, Number, Name).
+
+key_arity(_, [clause(Args, _, _)|_], Arity) :-
+    !,
+    length(Args, Arity).
+key_arity(_:_/Arity0, [], Arity) :-
+    !,
+    most_arguments(Most),
+    Arity is min(Arity0, Most).
+key_arity(special(_, Closures), [], Arity) :-
+    include(==(-), Closures, Others),
+    length(Others, Arity).
+
+write_clause(Out, Names, Key, clause(Args, Goals, _)) :-
+    \+ \+ ( numbervars(Args-Goals, 0, _, [singletons(true)]),
+            write_atom(Out, Names, Key, Args),
+            write_goals(Goals, Out, Names),
+            format(Out, '.~n', []) ).
+
+write_goals([], _, _).
+write_goals([Goal|Goals], Out, Names) :-
+    format(Out, ' :- ', []),
+    write_goal(Goal, Out, Names),
+    forall(member(Other, Goals),
+           ( format(Out, ', ', []), write_goal(Other, Out, Names) )).
+
+write_goal(A = B, Out, _) :-
+    write_pure(Out, A),
+    format(Out, ' = ', []),
+    write_pure(Out, B).
+write_goal(call(fail, []), Out, _) :-
+    format(Out, 'fail', []).
+write_goal(call(Key, Args), Out, Names) :-
+    Key \== fail,
+    write_atom(Out, Names, Key, Args).
+
+write_atom(Out, Names, Key, Args) :-
+    get_assoc(Key, Names, Name/_),
+    write_name(Out, Name),
+    write_arguments(Args, Out).
+
+write_arguments([], _).
+write_arguments([Arg|Args], Out) :-
+    format(Out, '(', []),
+    write_pure(Out, Arg),
+    forall(member(Other, Args),
+           ( format(Out, ',', []), write_pure(Out, Other) )),
+    format(Out, ')', []).
+
+write_pure(Out, '$VAR'(N)) :-
+    !,
+    (   N == '_'
+    ->  format(Out, '_', [])
+    ;   format(Out, 'X~d', [N])
+    ).
+write_pure(Out, [H|T]) :-
+    !,
+    format(Out, '[', []),
+    write_pure(Out, H),
+    write_tail(T, Out).
+write_pure(Out, Term) :-
+    atom(Term),
+    !,
+    write_name(Out, Term).
+write_pure(Out, []) :-
+    !,
+    format(Out, '[]', []).
+write_pure(Out, Term) :-
+    compound_name_arguments(Term, Name, Args),
+    write_name(Out, Name),
+    write_arguments(Args, Out).
+
+write_tail([], Out) :-
+    !,
+    format(Out, ']', []).
+write_tail([H|T], Out) :-
+    !,
+    format(Out, ',', []),
+    write_pure(Out, H),
+    write_tail(T, Out).
+write_tail(T, Out) :-
+    format(Out, '|', []),
+    write_pure(Out, T),
+    format(Out, ']', []).
+
+%   A name that is not plain stands in quotes. No plain name of a term is one
+%   that cti keeps, since only predicates' names are kept, which have a colon.
+
+write_name(Out, Name) :-
+    atom_codes(Name, Codes),
+    (   Codes = [First|Others],
+        between(0'a, 0'z, First),
+        forall(member(Code, Others), plain_code(Code))
+    ->  format(Out, '~s', [Codes])
+    ;   format(Out, '\'', []),
+        forall(member(Code, Codes), write_code(Code, Out)),
+        format(Out, '\'', [])
+    ).
+
+plain_code(Code) :-
+    (   between(0'a, 0'z, Code)
+    ;   between(0'A, 0'Z, Code)
+    ;   between(0'0, 0'9, Code)
+    ;   Code == 0'_
+    ),
+    !.
+
+write_code(0'', Out) :-
+    !,
+    format(Out, '\\\'', []).
+write_code(0'\\, Out) :-
+    !,
+    format(Out, '\\\\', []).
+write_code(Code, Out) :-
+    (   ( Code < 32 ; Code == 127 )
+    ->  format(Out, '\\x~16r\\', [Code])
+    ;   put_char_code(Out, Code)
+    ).
+
+put_char_code(Out, Code) :-
+    char_code(Char, Code),
+    put_char(Out, Char).
+
+
+%!  program_graph(+Program, -Graph) is det.
+%
+%   Graph is an assoc of each key's list of calls.
+
+program_graph(Program, Graph) :-
+    findall(Key-Calls,
+            ( member(predicate(Key, Clauses, _), Program),
+              findall(Callee,
+                      ( member(clause(_, Goals, _), Clauses), member(call(Callee, _), Goals), Callee \== fail ),
+                      Calls0),
+              sort(Calls0, Calls) ),
+            Pairs),
+    list_to_assoc(Pairs, Graph).

@@ -1,0 +1,353 @@
+:- module(real_builtins,
+          [ is_protected/1,             % +Goal
+            rewritten/3,                % +Where, +Goal, -Goal
+            never_succeeds/2,           % +Where, +Goal
+            results/3,                  % +Where, +Goal, -Results
+            is_quiet/2,                 % +Where, +Goal
+            risk/2,                     % +Name/Arity, -Risk
+            hooks/2,                    % +Name/Arity, -Hooks
+            is_read_library/1           % ?Module
+          ]).
+
+/** <module> What is said of SWI-Prolog's own predicates
+
+Where is `system` for what is built in, and else the module of SWI-Prolog's
+library that exports the predicate. docs/real-files.md has the table with
+the argument for each group.
+*/
+
+%!  is_protected(+Goal) is semidet.
+%
+%   No file can define a predicate with Goal's name and arity.
+
+is_protected(Goal) :-
+    predicate_property(system:Goal, iso),
+    !.
+is_protected(Goal) :-
+    functor(Goal, Name, Arity),
+    memberchk(Name/Arity, [(',')/2, (;)/2, (->)/2, (*->)/2, '|'/2, (\+)/1, !/0, (:)/2]).
+
+%!  rewritten(+Where, +Goal, -Covering) is semidet.
+%
+%   Covering has, for each answer of Goal, an answer that is as general, and
+%   makes each call that Goal makes, with arguments as general. It is built
+%   by (,)/2, (;)/2, true and (=)/2 of
+%
+%     - goal(G): a goal of the file;
+%     - find(R): the search of all answers of R, none of which stays;
+%     - prelude(G): a goal of real_goals' own predicates;
+%     - result(X): X is atomic, and not [].
+
+rewritten(system, G, R) :- rewritten_system(G, R).
+rewritten(aggregate, G, R) :- rewritten_aggregate(G, R).
+rewritten(solution_sequences, G, R) :- rewritten_sequence(G, R).
+rewritten(prolog_debug, assertion(G), find(goal(G))).
+rewritten(time, call_with_time_limit(_, G), goal(G)).
+rewritten(time, call_with_time_limit(_, G, _), goal(G)).
+rewritten(sort, predsort(P, L, S), R) :- sorted_by(P, L, S, R).
+rewritten(lists, list_to_set(L, S), prelude(sort(L, S))).
+rewritten(lists, memberchk(X, L), prelude(member(X, L))).
+rewritten(lists, nth0(I, L, X), prelude(nth(I, L, X))).
+rewritten(lists, nth1(I, L, X), prelude(nth(I, L, X))).
+rewritten(ordsets, list_to_ord_set(L, S), prelude(sort(L, S))).
+rewritten(apply, forall(A, B), find(goal((A, B)))).
+
+rewritten_system(not(G), find(goal(G))).
+rewritten_system(\+ G, find(goal(G))).
+rewritten_system(forall(A, B), find(goal((A, B)))).
+rewritten_system(once(G), goal(G)).
+rewritten_system(ignore(G), (goal(G) ; true)).
+rewritten_system(call(G), goal(G)).
+rewritten_system(apply(G, Xs), goal(R)) :-
+    is_list(Xs),
+    R =.. [call, G|Xs].
+rewritten_system(catch(G, _, R), (goal(G) ; goal(R))).
+rewritten_system(catch_with_backtrace(G, _, R), (goal(G) ; goal(R))).
+rewritten_system(call_cleanup(G, C), ( find(goal(C)), goal(G) )).
+rewritten_system(call_cleanup(G, _, C), ( find(goal(C)), goal(G) )).
+rewritten_system(setup_call_cleanup(S, G, C), ( goal(S), find(goal(C)), goal(G) )).
+rewritten_system(setup_call_catcher_cleanup(S, G, _, C), ( goal(S), find(goal(C)), goal(G) )).
+rewritten_system(findall(_, G, _), find(goal(G))).
+rewritten_system(findall(_, G, _, _), find(goal(G))).
+rewritten_system(findnsols(_, _, G, _), find(goal(G))).
+rewritten_system(findnsols(_, _, G, _, _), find(goal(G))).
+rewritten_system(bagof(_, G, _), find(goal(R))) :- without_hats(G, R).
+rewritten_system(setof(_, G, _), find(goal(R))) :- without_hats(G, R).
+rewritten_system(with_output_to(Sink, G), ( goal(G), R )) :- sink(Sink, R).
+rewritten_system(with_mutex(_, G), goal(G)).
+rewritten_system(with_tty_raw(G), goal(G)).
+rewritten_system(notrace(G), goal(G)).
+rewritten_system(sig_atomic(G), goal(G)).
+rewritten_system(thread_idle(G, _), goal(G)).
+rewritten_system(snapshot(G), goal(G)).
+rewritten_system(transaction(G), goal(G)).
+rewritten_system(call_residue_vars(G, _), goal(G)).
+rewritten_system(call_with_depth_limit(G, _, _), (goal(G) ; true)).
+rewritten_system(call_with_inference_limit(G, _, _), (goal(G) ; true)).
+rewritten_system(thread_create(G, _), find(goal(G))).
+rewritten_system(thread_create(G, _, _), find(goal(G))).
+rewritten_system(msort(L, S), prelude(permute(L, S))).
+rewritten_system(keysort(L, S), prelude(permute(L, S))).
+rewritten_system(sort(L, S), prelude(sort(L, S))).
+rewritten_system(sort(_, _, L, S), prelude(sort(L, S))).
+rewritten_system(predsort(P, L, S), R) :- sorted_by(P, L, S, R).
+rewritten_system(memberchk(X, L), prelude(member(X, L))).
+rewritten_system(length(L, N), R) :-
+    (   integer(N), N >= 0, N =< 100
+    ->  length(Vs, N),
+        R = (L = Vs)
+    ;   R = prelude(length(L, N))
+    ).
+rewritten_system(repeat, prelude(repeat)).
+rewritten_system(A = B, A = B).
+rewritten_system(unify_with_occurs_check(A, B), A = B).
+rewritten_system(A == B, A = B).
+rewritten_system(same_term(A, B), A = B).
+rewritten_system(atomic(X), prelude(atomic(X))).
+rewritten_system(phrase(B, L), R) :- phrase_goal(B, L, [], R).
+rewritten_system(phrase(B, L, E), R) :- phrase_goal(B, L, E, R).
+rewritten_system(call_dcg(B, L, E), R) :- phrase_goal(B, L, E, R).
+rewritten_system(format(Sink, Text, Arguments), ( goal(system:format(Text, Arguments)), R )) :-
+    nonvar(Sink),
+    sink_goal(Sink, R).
+
+sink(Sink, R) :-
+    (   nonvar(Sink), sink_goal(Sink, R0)
+    ->  R = R0
+    ;   R = true
+    ).
+
+sink_goal(atom(X), result(X)).
+sink_goal(string(X), result(X)).
+sink_goal(codes(_), true).
+sink_goal(codes(_, _), true).
+sink_goal(chars(_), true).
+sink_goal(chars(_, _), true).
+
+sorted_by(P, L, S, ( find((prelude(member(X, L)), prelude(member(Y, L)), goal(call(P, _, X, Y)))), prelude(sort(L, S)) )).
+
+phrase_goal(Body, _, _, _) :-
+    var(Body),
+    !,
+    fail.
+phrase_goal('$closure'(M, Body), List, End, R) :-
+    !,
+    phrase_goal(M:Body, List, End, R).
+phrase_goal(M:Body, List, End, goal(M:phrase(Body, List, End))) :-
+    !,
+    atom(M),
+    nonvar(Body).
+phrase_goal(Body, List, End, (List = S0, End = S, goal(Goal))) :-
+    catch(dcg_translate_rule((x --> Body), (x(S0, S) :- Goal)), _, fail),
+    \+ ( nonvar(Goal), functor(Goal, phrase, _) ).
+
+without_hats(G, G) :-
+    var(G),
+    !.
+without_hats(_^G, R) :-
+    !,
+    without_hats(G, R).
+without_hats(M:G0, R) :-
+    nonvar(G0),
+    G0 = _^_,
+    !,
+    without_hats(G0, G),
+    R = M:G.
+without_hats(G, G).
+
+rewritten_aggregate(aggregate_all(Count, G, C), ( find(goal(G)), result(C) )) :-
+    Count == count,
+    !.
+rewritten_aggregate(aggregate_all(_, G, _), find(goal(R))) :- without_hats(G, R).
+rewritten_aggregate(aggregate_all(_, _, G, _), find(goal(R))) :- without_hats(G, R).
+rewritten_aggregate(aggregate(_, G, _), find(goal(R))) :- without_hats(G, R).
+rewritten_aggregate(aggregate(_, _, G, _), find(goal(R))) :- without_hats(G, R).
+rewritten_aggregate(foreach(A, B), find(goal((A, B)))).
+
+rewritten_sequence(limit(_, G), goal(G)).
+rewritten_sequence(offset(_, G), goal(G)).
+rewritten_sequence(call_nth(G, N), ( goal(G), result(N) )).
+rewritten_sequence(order_by(_, G), goal(G)).
+rewritten_sequence(distinct(G), goal(G)).
+rewritten_sequence(distinct(_, G), goal(G)).
+rewritten_sequence(reduced(G), goal(G)).
+rewritten_sequence(reduced(_, _, G), goal(G)).
+
+%!  never_succeeds(+Where, +Goal) is semidet.
+
+never_succeeds(system, Goal) :-
+    functor(Goal, Name, Arity),
+    memberchk(Name/Arity, [fail/0, false/0, halt/0, halt/1, throw/1, abort/0, prolog_abort/0, thread_exit/1]).
+never_succeeds(error, Goal) :-
+    functor(Goal, Name, Arity),
+    memberchk(Name/Arity,
+              [ type_error/2, domain_error/2, existence_error/2, existence_error/3, permission_error/3,
+                instantiation_error/1, uninstantiation_error/1, representation_error/1, syntax_error/1,
+                resource_error/1 ]).
+
+%!  results(+Where, +Goal, -Results) is semidet.
+%
+%   Results are the arguments that are atomic and not [] in each answer.
+
+results(Where, Goal, Results) :-
+    functor(Goal, Name, Arity),
+    (   Where == system
+    ->  result_places(Name, Arity, Places)
+    ;   library_places(Where, Name, Arity, Places)
+    ),
+    !,
+    places(Places, Goal, Results).
+
+places([], _, []).
+places([I|Is], Goal, [X|Xs]) :-
+    arg(I, Goal, X),
+    places(Is, Goal, Xs).
+
+result_places(Name, 1, [1]) :-
+    memberchk(Name, [atom, integer, float, number, string, rational, get_time, get_char, peek_char, get_code, peek_code,
+                     get_byte, peek_byte, is_stream, thread_self, current_input, current_output]).
+result_places(Name, 2, [1]) :-
+    memberchk(Name, [is, atom_codes, atom_chars, number_codes, number_chars, number_string]).
+result_places(Name, 2, [2]) :-
+    memberchk(Name, [get_char, peek_char, get_code, peek_code, get_byte, peek_byte, atomic_list_concat, string_length,
+                     atom_length, atom_number, upcase_atom, downcase_atom, string_upper, string_lower,
+                     line_count, line_position, character_count, byte_count, file_base_name, file_directory_name,
+                     getenv, size_file, time_file, working_directory, variant_sha1, variant_hash]).
+result_places(Name, 2, [1, 2]) :-
+    memberchk(Name, [succ, char_code]).
+result_places(plus, 3, [1, 2, 3]).
+result_places(Name, 3, [3]) :-
+    memberchk(Name, [atom_concat, string_concat, atomic_list_concat, get_string_code]).
+result_places(open, 3, [3]).
+result_places(open, 4, [3]).
+result_places(functor, 3, [3]).
+result_places(compound_name_arity, 3, [3]).
+result_places(Name, 5, [2, 3, 4, 5]) :-
+    memberchk(Name, [sub_atom, sub_string]).
+result_places(arg, 3, [1]).
+result_places(compare, 3, [1]).
+result_places(read_string, 3, [3]).
+result_places(read_string, 5, [4, 5]).
+result_places(flag, 3, [2]).
+result_places(divmod, 4, [1, 2, 3, 4]).
+result_places(nth_integer_root_and_remainder, 4, [1, 2, 3, 4]).
+
+library_places(readutil, read_line_to_string, 2, [2]).
+library_places(readutil, read_stream_to_string, 2, [2]).
+library_places(random, random, 1, [1]).
+library_places(random, random_between, 3, [1, 2, 3]).
+library_places(random, random, 3, [1, 2, 3]).
+library_places(gensym, gensym, 2, [2]).
+library_places(backcomp, concat_atom, 2, [2]).
+library_places(backcomp, concat_atom, 3, [3]).
+library_places(lists, numlist, 3, [1, 2]).
+
+%!  is_quiet(+Where, +Goal) is semidet.
+%
+%   Goal's predicate ends, calls no predicate of the file, changes no term in
+%   place and leaves no goal waiting; what it binds is left out.
+
+is_quiet(system, Goal) :-
+    functor(Goal, Name, Arity),
+    \+ risk(Name/Arity, _),
+    \+ sub_atom(Name, 0, _, _, $),
+    predicate_property(system:Goal, built_in),
+    \+ predicate_property(system:Goal, transparent),
+    !.
+is_quiet(Where, Goal) :-
+    functor(Goal, Name, Arity),
+    quiet(Where, Names),
+    memberchk(Name/Arity, Names),
+    !.
+
+quiet(system,
+      [ assert/1, assert/2, asserta/1, asserta/2, assertz/1, assertz/2, retract/1, retractall/1, clause/2, clause/3,
+        nth_clause/3, abolish/1, abolish/2, at_halt/1, context_module/1, current_format_predicate/2, current_op/3,
+        current_predicate/1, current_predicate/2, current_table/2, op/3, predicate_property/2, set_module/1,
+        source_file/2, strip_module/3, write_term/2, write_term/3, (dynamic)/1, (dynamic)/2, (discontiguous)/1,
+        (multifile)/1, (public)/1, (volatile)/1, export/1, import/1, prolog_frame_attribute/3, dwim_predicate/2,
+        abolish_table_subgoals/1, '$skip_list'/3, '$set_source_module'/1, '$set_source_module'/2,
+        '$current_source_module'/1, '$current_typein_module'/1, '$seek_list'/4, '$btree_find_node'/5 ]).
+quiet(error, [must_be/2, is_of_type/2, is_list_or_partial/1]).
+quiet(prolog_debug, [debug/1, nodebug/1, debugging/1, debugging/2, debug_message_context/1]).
+quiet(gensym, [gensym/2, reset_gensym/1, reset_gensym/0]).
+quiet(readutil,
+      [ read_line_to_string/2, read_line_to_codes/2, read_line_to_codes/3, read_stream_to_codes/2, read_stream_to_codes/3,
+        read_term_from_atom/3, read_file_to_codes/3, read_file_to_string/3, read_file_to_terms/3 ]).
+quiet(random, [random/1, random_between/3, random/3, set_random/1, random_member/2, random_permutation/2]).
+quiet(lists, [numlist/3]).
+quiet(backcomp, [concat_atom/2, concat_atom/3]).
+quiet(dif, [dif/2]).
+quiet(date, [parse_time/2, parse_time/3, date_time_value/3]).
+quiet(listing, [portray_clause/1, portray_clause/2, listing/0, listing/1]).
+quiet(ansi_term, [ansi_format/3]).
+quiet(terms, [term_size/2, variant/2, subsumes_chk/2, cyclic_term/1, acyclic_term/1]).
+quiet(system, [format/1, format/2, format/3]).
+
+%!  risk(+PI, -Risk) is semidet.
+%
+%   Why a built-in predicate is assumed to behave, and not covered.
+
+risk(PI, place) :-
+    memberchk(PI, [setarg/3, nb_setarg/3, nb_linkarg/3, nb_linkval/2, b_set_dict/3, nb_set_dict/3, nb_link_dict/3]).
+risk(PI, waits) :-
+    memberchk(PI, [freeze/2, put_attr/3, put_attrs/2, when/2]).
+risk(PI, runs) :-
+    memberchk(PI,
+              [ call_continuation/1, shift/1, shift_for_copy/1, reset/3, engine_next/2, engine_next_reified/2,
+                engine_post/2, engine_post/3, engine_yield/1, engine_fetch/1, prolog/0, break/0, '<meta-call>'/1, tabled_call/1,
+                expand_goal/2, expand_goal/4, expand_term/2, expand_term/4, compile_aux_clauses/1, copy_predicate_clauses/2,
+                unload_file/1, initialize/0, '.'/3, start_subsumptive_tabling/3, prolog_alert_signal/2, format_predicate/2,
+                thread_signal/2, profiler/2, read_term_with_history/2, wait_for_input/3, prolog_interrupt/0,
+                copy_term/3, copy_term/4, undo/1, transaction/2, transaction/3, transaction_updates/1, thread_get_message/1,
+                thread_get_message/2, thread_get_message/3, get/3, get_dict/5, message_queue_create/3, tnot/1 ]).
+
+%!  hooks(+PI, -Hooks) is semidet.
+%
+%   Hooks are Module:Name/Arity of what a file may define for the built-in
+%   predicate PI to call.
+
+hooks(PI, Hooks) :-
+    hooks_of(Kinds, PIs),
+    memberchk(PI, PIs),
+    !,
+    findall(Hook, ( member(Kind, Kinds), hook(Kind, Hook) ), Hooks).
+
+hooks_of([print], [print/1, print/2, write_term/2, write_term/3, format/1, format/2, format/3, portray_clause/1, portray_clause/2,
+                   listing/1, listing/0, writeln/1, writeln/2]).
+hooks_of([print, message], [print_message/2, print_message_lines/3, message_to_string/2, debug/3, assertion_failed/2]).
+hooks_of([files], [absolute_file_name/2, absolute_file_name/3, exists_source/1, exists_source/2, expand_file_search_path/2]).
+hooks_of([type], [must_be/2, is_of_type/2]).
+
+hook(print, user:portray/1).
+hook(message, prolog:message/3).
+hook(message, prolog:error_message/3).
+hook(message, prolog:message_context/3).
+hook(message, prolog:message_location/3).
+hook(message, prolog:deprecated/3).
+hook(message, prolog:message_prefix_hook/2).
+hook(message, user:message_hook/3).
+hook(message, user:message_property/2).
+hook(message, user:generate_message_hook/3).
+hook(files, user:file_search_path/2).
+hook(files, user:prolog_file_type/2).
+hook(files, user:prolog_load_file/2).
+hook(type, error:has_type/2).
+
+%!  is_read_library(?Module) is nondet.
+%
+%   Modules of SWI-Prolog's library whose clauses are read as the file's are.
+
+is_read_library(lists).
+is_read_library(apply).
+is_read_library(pairs).
+is_read_library(assoc).
+is_read_library(ordsets).
+is_read_library(option).
+is_read_library(occurs).
+is_read_library(ugraphs).
+is_read_library(dcg_basics).
+is_read_library(dcg_high_order).
+is_read_library(rbtrees).
+is_read_library(heaps).
+is_read_library(terms).

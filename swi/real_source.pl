@@ -1,0 +1,670 @@
+:- module(real_source,
+          [ read_source/2,              % +File, -Source
+            module_header/4,            % +Spec, +Path, -ModulePath, -Header
+            source_clauses/3,           % +Source, +Predicate, -Clauses
+            is_defined/2                % +Source, +Predicate
+          ]).
+
+/** <module> A real Prolog file, read and not loaded
+
+read_source/2 reads a file with SWI-Prolog's own reader, with the operators,
+the flags, the conditional compilation, the grammar rules and the included
+files that it has, and runs nothing of it.
+
+A predicate is Module:Name/Arity. A source is a dict:
+
+| path        | the file                                                    |
+| module      | its module, `user` where it has none                        |
+| exports     | Name/Arity for each predicate that it exports               |
+| clauses     | an assoc of each predicate's list of clause(Line,Head,Body) |
+|             | where Line is File:Line in an included file                 |
+| dynamic     | the predicates whose clauses come and go                    |
+| multifile   | the predicates that other files add to                      |
+| conditional | those with a clause below an `:- if` that is not decided     |
+| tabled      | Predicate-Kind, where Kind is `plain` or `moded`            |
+| meta        | Predicate-Head for each declaration of meta_predicate       |
+| imports     | import(Path,Header,Selection), in order                     |
+| reexports   | those of them that it exports again                         |
+| arithmetic  | Name/Arity of the file's own functions in arithmetic        |
+| expansions  | expansion(Kind,Pattern): what the file rewrites when loaded |
+| doubts      | doubt(Line,Doubt): what was not understood of the file      |
+*/
+
+:- use_module(library(apply)).
+:- use_module(library(assoc)).
+:- use_module(library(gensym)).
+:- use_module(library(lists)).
+:- use_module(library(occurs)).
+:- use_module(library(pairs)).
+
+:- dynamic kept_header/2.
+
+%!  read_source(+File, -Source:dict) is det.
+%
+%   Throws what open/4 throws where File cannot be read.
+
+read_source(File, Source) :-
+    absolute_file_name(File, Path, [access(read), file_type(prolog)]),
+    gensym('real source ', Scratch),        % a module of its own for the operators
+    read_path(Path, Scratch, Items),
+    source_of(Path, Items, Source).
+
+read_path(Path, Scratch, Items) :-
+    State0 = state{path:Path, module:user, file_module:user, scratch:Scratch,
+                  double_quotes:string, back_quotes:codes, conditions:[], chr:no, included:no},
+    read_text(Path, State0, _, Items, []).
+
+read_text(Path, State0, State, Items, Rest) :-
+    setup_call_cleanup(open(Path, read, In, [encoding(utf8), bom(true)]),
+                       ( skip_interpreter(In), read_items(In, State0, State, Items, Rest) ),
+                       close(In)).
+
+skip_interpreter(In) :-
+    (   peek_string(In, 2, "#!")
+    ->  skip(In, 0'\n)
+    ;   true
+    ).
+
+read_items(In, State0, State, Items, Rest) :-
+    read_one(In, State0, Term, Line),
+    (   Term == end_of_file
+    ->  State = State0, Items = Rest
+    ;   item(Term, Line, In, State0, State1, Items, More),
+        read_items(In, State1, State, More, Rest)
+    ).
+
+read_one(In, State, Term, Line) :-
+    Options = [module(State.scratch), double_quotes(State.double_quotes),
+               back_quotes(State.back_quotes), syntax_errors(error),
+               term_position(Position)],
+    line_count(In, Before),
+    catch(( read_term(In, Term, Options),
+            stream_position_data(line_count, Position, Line0) ),
+          error(syntax_error(_), _),
+          ( Term = '$unread', Line0 = Before )),
+    (   State.included == no
+    ->  Line = Line0
+    ;   Line = State.included:Line0
+    ).
+
+
+%   item(+Term, +Line, +In, +State0, -State, -Items, ?Rest)
+%
+%   Directives of conditional compilation are obeyed everywhere, all other
+%   terms where the conditions around them are not known to be false.
+
+item((:- Directive), Line, _, State0, State, Items, Items) :-
+    nonvar(Directive),
+    conditional(Directive, Line, State0, State),
+    !.
+item(_, _, _, State, State, Items, Items) :-
+    memberchk(no, State.conditions),
+    !.
+item('$unread', Line, _, State, State, [doubt(Line, unread)|Items], Items) :- !.
+item((:- Directive), Line, In, State0, State, Items, Rest) :-
+    !,
+    directive(Directive, Line, In, State0, State, Items, Rest).
+item((?- Directive), Line, In, State0, State, Items, Rest) :-
+    !,
+    directive(Directive, Line, In, State0, State, Items, Rest).
+item(Term, Line, _, State, State, [doubt(Line, chr)|Items], Items) :-
+    State.chr == yes,
+    chr_rule(Term),
+    !.
+item(Term, Line, _, State, State, [raw(Line, Term)|Items], Rest) :-
+    (   catch(plain_clause(Term, State.module, Module, Head, Body), _, fail)
+    ->  functor(Head, Name, Arity),
+        Predicate = Module:Name/Arity,
+        Items = [clause(Predicate, Line, Head, Body)|More],
+        (   memberchk(maybe, State.conditions)
+        ->  More = [conditional(Predicate)|Rest]
+        ;   More = Rest
+        )
+    ;   Items = [doubt(Line, unread)|Rest]
+    ).
+
+chr_rule('==>'(_, _)).
+chr_rule('<=>'(_, _)).
+chr_rule('@'(_, _)).
+chr_rule(pragma(_, _)).
+
+%   plain_clause(+Term, +Module0, -Module, -Head, -Body): a clause of any
+%   form as head and body. A rule with => matches its head, which is
+%   unification with an instance.
+
+plain_clause(Term0, Module0, Module, Head, Body) :-
+    without_functions(Term0, Term),
+    clause_parts(Term, Module0, Module, Head, Body).
+
+%   Functional notation is expanded. '$closure'/2 is kept for real_goals.
+
+without_functions(Term0, Term) :-
+    (   has_compound(Term0, '.')
+    ->  expand_term(Term0, Term)
+    ;   Term = Term0
+    ),
+    \+ has_compound(Term, '$closure').
+
+has_compound(Term, Name) :-
+    sub_term(Sub, Term),
+    compound(Sub),
+    compound_name_arity(Sub, Name, 2),
+    !.
+
+clause_parts(Term, _, _, _, _) :-
+    var(Term),
+    !,
+    fail.
+clause_parts(M:Term, _, Module, Head, Body) :-
+    !,
+    atom(M),
+    clause_parts(Term, M, Module, Head, Body).
+clause_parts((H --> B), Module0, Module, Head, Body) :-
+    !,
+    dcg_translate_rule((H --> B), Clause),
+    clause_parts(Clause, Module0, Module, Head, Body).
+clause_parts('==>'(H, B), Module0, Module, Head, Body) :-
+    !,
+    dcg_translate_rule('==>'(H, B), Clause),
+    clause_parts(Clause, Module0, Module, Head, Body).
+clause_parts((H :- B), Module0, Module, Head, Body) :-
+    !,
+    plain_head(H, Module0, Module, Head),
+    body_in(Module0, Module, B, Body).
+clause_parts((H0 => B0), Module0, Module, Head, Body) :-
+    !,
+    (   nonvar(H0), H0 = (H, Guard)
+    ->  B = (Guard, B0)
+    ;   H = H0, B = B0
+    ),
+    plain_head(H, Module0, Module, Head),
+    body_in(Module0, Module, B, Body).
+clause_parts(H, Module0, Module, Head, true) :-
+    plain_head(H, Module0, Module, Head).
+
+%   The body of a clause of another module runs in the module of the text.
+
+body_in(Module0, Module, Body0, Body) :-
+    (   Module0 == Module
+    ->  Body = Body0
+    ;   Body = Module0:Body0
+    ).
+
+plain_head(H, _, _, _) :-
+    var(H),
+    !,
+    fail.
+plain_head(M:H, _, Module, Head) :-
+    !,
+    atom(M),
+    plain_head(H, M, Module, Head).
+plain_head(H, Module, Module, H) :-
+    callable(H).
+
+
+%   Conditional compilation. A condition is `yes`, `no`, or `maybe` where it
+%   depends on more than the installed system; then both of its branches are
+%   taken. `done` marks what follows a branch that was taken.
+
+conditional(if(Condition), _, State0, State) :-
+    decided(Condition, Value),
+    State = State0.put(conditions, [Value|State0.conditions]).
+conditional(elif(Condition), _, State0, State) :-
+    State0.conditions = [Value0|Values],
+    (   Value0 == no, \+ memberchk(no, Values)
+    ->  decided(Condition, Value)
+    ;   after_branch(Value0, Value)
+    ),
+    State = State0.put(conditions, [Value|Values]).
+conditional(else, _, State0, State) :-
+    State0.conditions = [Value0|Values],
+    (   Value0 == no
+    ->  Value = yes
+    ;   after_branch(Value0, Value)
+    ),
+    State = State0.put(conditions, [Value|Values]).
+conditional(endif, _, State0, State) :-
+    State0.conditions = [_|Values],
+    State = State0.put(conditions, Values).
+
+after_branch(maybe, maybe).
+after_branch(yes, no).
+after_branch(no, no).
+
+decided(Condition, Value) :-
+    (   value(Condition, Known)
+    ->  Value = Known
+    ;   Value = maybe
+    ).
+
+value(Condition, _) :-
+    var(Condition),
+    !,
+    fail.
+value(true, yes).
+value(fail, no).
+value(false, no).
+value(\+ Condition, Value) :-
+    value(Condition, Opposite),
+    opposite(Opposite, Value).
+value((A, B), Value) :-
+    value(A, ValueA),
+    (   ValueA == no
+    ->  Value = no
+    ;   value(B, Value)
+    ).
+value((A ; B), Value) :-
+    value(A, ValueA),
+    (   ValueA == yes
+    ->  Value = yes
+    ;   value(B, Value)
+    ).
+value(current_prolog_flag(Flag, Wanted), Value) :-
+    atom(Flag),
+    holds(current_prolog_flag(Flag, Wanted), Value).
+value(current_predicate(Name/Arity), yes) :-
+    atom(Name),
+    integer(Arity),
+    functor(Goal, Name, Arity),
+    predicate_property(system:Goal, built_in).
+value(exists_source(Spec), Value) :-
+    ground(Spec),
+    Spec = library(_),
+    holds(exists_source(Spec), Value).
+
+opposite(yes, no).
+opposite(no, yes).
+
+holds(Goal, Value) :-
+    (   catch(\+ \+ Goal, _, fail)
+    ->  Value = yes
+    ;   Value = no
+    ).
+
+
+%   directive(+Directive, +Line, +In, +State0, -State, -Items, ?Rest)
+
+directive(Directive, Line, _, State, State, [doubt(Line, unread)|Items], Items) :-
+    var(Directive),
+    !.
+directive((A, B), Line, In, State0, State, Items, Rest) :-
+    !,
+    directive(A, Line, In, State0, State1, Items, More),
+    directive(B, Line, In, State1, State, More, Rest).
+directive(Directive, Line, In, State0, State,
+          [directive(Line, State0.module, Directive), raw(Line, (:- Directive))|Items], Rest) :-
+    (   obeyed(Directive, Line, In, State0, State, Items, Rest)
+    ->  true
+    ;   State = State0, Items = Rest
+    ).
+
+obeyed(module(Module, Exports), _, _, State0, State, [module(Module, Exports)|Rest], Rest) :-
+    atom(Module),
+    declare_operators(Exports, State0.scratch),
+    State = State0.put(_{module:Module, file_module:Module}).
+obeyed(module(Module, Exports, _), Line, In, State0, State, Items, Rest) :-
+    obeyed(module(Module, Exports), Line, In, State0, State, Items, Rest).
+obeyed('$set_source_module'(Module), _, _, State0, State, Rest, Rest) :-
+    atom(Module),
+    State = State0.put(_{module:Module, file_module:Module}).
+obeyed('$set_source_module'(_, Module), Line, In, State0, State, Items, Rest) :-
+    obeyed('$set_source_module'(Module), Line, In, State0, State, Items, Rest).
+obeyed(_:op(P, T, N), _, _, State, State, Rest, Rest) :-
+    declare_operators([op(P, T, N)], State.scratch).
+obeyed(op(P, T, N), _, _, State, State, Rest, Rest) :-
+    declare_operators([op(P, T, N)], State.scratch).
+obeyed(set_prolog_flag(Flag, Value), Line, _, State0, State, Items, Rest) :-
+    memberchk(Flag, [double_quotes, back_quotes]),
+    atom(Value),
+    State = State0.put(Flag, Value),
+    (   memberchk(maybe, State.conditions)
+    ->  Items = [doubt(Line, unread)|Rest]
+    ;   Items = Rest
+    ).
+obeyed(encoding(Encoding), _, In, State, State, Rest, Rest) :-
+    set_stream(In, encoding(Encoding)).
+obeyed(expects_dialect(Dialect), Line, _, State, State, Items, Rest) :-
+    (   Dialect == swi
+    ->  Items = Rest
+    ;   Items = [doubt(Line, dialect(Dialect))|Rest]
+    ).
+obeyed(include(Spec), Line, _, State0, State, Items, Rest) :-
+    (   catch(relative_file(Spec, State0.path, Path), _, fail)
+    ->  file_base_name(Path, Base),
+        read_text(Path, State0.put(included, Base), State1, Items, Rest),
+        State = State1.put(included, State0.included)
+    ;   State = State0,
+        Items = [doubt(Line, include(Spec))|Rest]
+    ).
+obeyed(begin_tests(Name), _, _, State0, State, Rest, Rest) :-
+    atom(Name),
+    atom_concat(plunit_, Name, Module),
+    State = State0.put(module, Module).
+obeyed(begin_tests(Name, _), Line, In, State0, State, Items, Rest) :-
+    obeyed(begin_tests(Name), Line, In, State0, State, Items, Rest).
+obeyed(end_tests(_), _, _, State0, State, Rest, Rest) :-
+    State = State0.put(module, State0.file_module).
+obeyed(Directive, Line, _, State0, State, Items, Rest) :-
+    loading(Directive, Spec, Selection),
+    !,
+    imported(Spec, Selection, Line, State0, Items, Rest0),
+    (   functor(Directive, reexport, _)
+    ->  findall(reexport(F, H, S), between_items(Items, Rest0, import(F, H, S)), Again),
+        append(Again, Rest, Rest0)
+    ;   Rest0 = Rest
+    ),
+    (   Spec == library(chr)
+    ->  State = State0.put(chr, yes)
+    ;   State = State0
+    ).
+obeyed(Directive, _, _, State, State, Items, Rest) :-
+    declaration(Directive, Kind, Specs),
+    findall(Item, declared(Kind, Specs, State.module, Item), Declared),
+    append(Declared, Rest, Items).
+
+declare_operators(Exports, Scratch) :-
+    forall(( member(op(P, T, N), Exports), ground(op(P, T, N)) ),
+           ( strip_module(N, _, Names), catch(op(P, T, Scratch:Names), _, true) )).
+
+declaration(dynamic(Specs), dynamic, Specs).
+declaration(dynamic(Specs, _), dynamic, Specs).
+declaration(thread_local(Specs), dynamic, Specs).
+declaration(multifile(Specs), multifile, Specs).
+declaration(table(Specs), tabled, Specs).
+declaration(meta_predicate(Specs), meta, Specs).
+declaration(arithmetic_function(Specs), arithmetic, Specs).
+
+declared(Kind, Specs, _, _) :-
+    var(Specs),
+    !,
+    Kind == none.
+declared(Kind, (A, B), Module, Item) :-
+    !,
+    (   declared(Kind, A, Module, Item)
+    ;   declared(Kind, B, Module, Item)
+    ).
+declared(_, [], _, _) :-
+    !,
+    fail.
+declared(Kind, [A|B], Module, Item) :-
+    !,
+    (   declared(Kind, A, Module, Item)
+    ;   declared(Kind, B, Module, Item)
+    ).
+declared(tabled, as(Spec, Options), Module, tabled(Predicate, Kind)) :-
+    !,
+    declared(tabled, Spec, Module, tabled(Predicate, Kind0)),
+    (   nonvar(Options), Options == variant
+    ->  Kind = Kind0
+    ;   Kind = moded
+    ).
+declared(Kind, as(Spec, _), Module, Item) :-
+    !,
+    declared(Kind, Spec, Module, Item).
+declared(Kind, M:Spec, _, Item) :-
+    !,
+    atom(M),
+    declared(Kind, Spec, M, Item).
+declared(meta, Head, Module, meta(Module:Name/Arity, Head)) :-
+    !,
+    callable(Head),
+    functor(Head, Name, Arity).
+declared(Kind, Name//Arity0, Module, Item) :-
+    !,
+    integer(Arity0),
+    Arity is Arity0 + 2,
+    declared(Kind, Name/Arity, Module, Item).
+declared(Kind, Name/Arity, Module, Item) :-
+    atom(Name),
+    integer(Arity),
+    !,
+    declared_item(Kind, Module:Name/Arity, Item).
+declared(tabled, Head, Module, tabled(Module:Name/Arity, Kind)) :-
+    callable(Head),
+    functor(Head, Name, Arity),
+    (   arg(_, Head, Argument), nonvar(Argument)
+    ->  Kind = moded
+    ;   Kind = plain
+    ).
+
+declared_item(dynamic, Predicate, dynamic(Predicate)).
+declared_item(multifile, Predicate, multifile(Predicate)).
+declared_item(tabled, Predicate, tabled(Predicate, plain)).
+declared_item(arithmetic, _:PI, arithmetic(PI)).
+
+
+%   between_items(+Items, +Rest, ?Item): Item is in Items and before Rest,
+%   the list's open end.
+
+between_items(Items, Rest, Item) :-
+    Items \== Rest,
+    Items = [First|More],
+    (   Item = First
+    ;   between_items(More, Rest, Item)
+    ).
+
+
+%   Loading of other files: what a module exports is read from its head.
+
+loading(use_module(Spec), Spec, all).
+loading(use_module(Spec, Selection), Spec, Selection).
+loading(autoload(Spec), Spec, all).
+loading(autoload(Spec, Selection), Spec, Selection).
+loading(reexport(Spec), Spec, all).
+loading(reexport(Spec, Selection), Spec, Selection).
+loading(ensure_loaded(Spec), Spec, all).
+loading(consult(Spec), Spec, all).
+loading(load_files(Spec), Spec, all).
+loading(load_files(Spec, _), Spec, all).
+loading([Spec|Specs], [Spec|Specs], all).
+
+imported(Spec, _, Line, _, [doubt(Line, loads(Spec))|Rest], Rest) :-
+    \+ ground(Spec),
+    !.
+imported([], _, _, _, Rest, Rest) :- !.
+imported([Spec|Specs], Selection, Line, State, Items, Rest) :-
+    !,
+    imported(Spec, Selection, Line, State, Items, More),
+    imported(Specs, Selection, Line, State, More, Rest).
+imported(_:Spec, Selection, Line, State, Items, Rest) :-
+    !,
+    imported(Spec, Selection, Line, State, Items, Rest).
+imported(Spec, Selection, _, State, [import(Path, Header, Selection)|Rest], Rest) :-
+    module_header(Spec, State.path, Path, Header),
+    !,
+    header(_, Exports) = Header,
+    declare_operators(Exports, State.scratch).
+imported(Spec, Selection, _, _, [import(Spec, header(none, []), Selection)|Rest], Rest).
+
+%!  module_header(+Spec, +From, -Path, -Header) is semidet.
+%
+%   Header is header(Module, Exports) of the module file that Spec names,
+%   seen from the file From. It is kept: a file does not change meanwhile.
+
+module_header(Spec, From, Path, Header) :-
+    catch(relative_file(Spec, From, Path), _, fail),
+    (   kept_header(Path, Kept)
+    ->  Header = Kept
+    ;   read_header(Path, Header),
+        assertz(kept_header(Path, Header))
+    ).
+
+relative_file(Spec, From, Path) :-
+    absolute_file_name(Spec, Path,
+                       [ file_type(prolog), access(read), relative_to(From),
+                         file_errors(fail) ]).
+
+read_header(Path, Header) :-
+    setup_call_cleanup(open(Path, read, In, [encoding(utf8), bom(true)]),
+                       ( skip_interpreter(In), first_module(In, Header) ),
+                       close(In)).
+
+first_module(In, Header) :-
+    catch(read_term(In, Term, [module(real_source)]), _, Term = end_of_file),
+    (   nonvar(Term), Term = (:- Directive), head_of(Directive, Header)
+    ->  true
+    ;   nonvar(Term), Term = (:- Directive), before_module(Directive, In)
+    ->  first_module(In, Header)
+    ;   Header = header(none, [])
+    ).
+
+head_of(Directive, header(Module, Exports)) :-
+    nonvar(Directive),
+    (   Directive = module(Module, Exports)
+    ;   Directive = module(Module, Exports, _)
+    ),
+    atom(Module),
+    is_list(Exports),
+    !.
+
+before_module(Directive, In) :-
+    nonvar(Directive),
+    (   Directive = encoding(Encoding)
+    ->  set_stream(In, encoding(Encoding))
+    ;   memberchk(Directive, [if(_), set_prolog_flag(_, _)])
+    ).
+
+
+%   The source of the items.
+
+source_of(Path, Items, Source) :-
+    (   memberchk(module(Module, Exports0), Items)
+    ->  convlist(exported, Exports0, Exports)
+    ;   Module = user, Exports = []
+    ),
+    findall(P-clause(L, H, B), member(clause(P, L, H, B), Items), Pairs0),
+    asserted(Items, Module, Asserted),
+    findall(P-clause(L, H, B), member(asserts(P, L, H, B), Asserted), Pairs1),
+    append(Pairs0, Pairs1, Pairs),
+    keysort(Pairs, Sorted),
+    group_pairs_by_key(Sorted, Groups),
+    list_to_assoc(Groups, Clauses),
+    collected(P, member(dynamic(P), Items), Dynamic0),
+    collected(P, member(dynamic(P), Asserted), Dynamic1),
+    ord_union_(Dynamic0, Dynamic1, Dynamic),
+    collected(P, member(multifile(P), Items), Multifile),
+    collected(P, member(conditional(P), Items), Conditional),
+    collected(P-K, member(tabled(P, K), Items), Tabled),
+    collected(P-H, member(meta(P, H), Items), Meta),
+    collected(F, member(arithmetic(F), Items), Arithmetic),
+    findall(import(F, H, S), member(import(F, H, S), Items), Imports),
+    findall(import(F, H, S), member(reexport(F, H, S), Items), Reexports),
+    findall(expansion(K, T), expansion_of(Pairs0, Module, K, T), Expansions),
+    findall(doubt(L, D), member(doubt(L, D), Items), Doubts0),
+    findall(doubt(L, D), rewritten_clause(Items, Expansions, L, D), Doubts1),
+    findall(doubt(L, asserts), member(unknown_assert(L), Asserted), Adds0),
+    sort(Adds0, Adds),
+    append(Doubts0, Doubts1, Doubts),
+    Source = source{path:Path, module:Module, exports:Exports, clauses:Clauses, dynamic:Dynamic,
+                    multifile:Multifile, conditional:Conditional, tabled:Tabled, meta:Meta,
+                    imports:Imports, reexports:Reexports, arithmetic:Arithmetic,
+                    expansions:Expansions,
+                    doubts:Doubts, adds:Adds}.
+
+collected(Template, Goal, Set) :-
+    findall(Template, Goal, List),
+    sort(List, Set).
+
+ord_union_(A, B, Union) :-
+    append(A, B, Both),
+    sort(Both, Union).
+
+exported(Name/Arity, Name/Arity) :-
+    atom(Name),
+    integer(Arity).
+exported(Name//Arity0, Name/Arity) :-
+    atom(Name),
+    integer(Arity0),
+    Arity is Arity0 + 2.
+
+%   What a file rewrites when it is loaded: the first arguments of its own
+%   term_expansion and goal_expansion.
+
+expansion_of(Pairs, Module, Kind, Pattern) :-
+    member((M:Name/_)-clause(_, Head, _), Pairs),
+    memberchk(M, [user, system, Module]),
+    expansion_kind(Name, Kind),
+    arg(1, Head, Pattern0),
+    (   nonvar(Pattern0), Pattern0 = _:Pattern1
+    ->  Pattern = Pattern1
+    ;   Pattern = Pattern0
+    ).
+
+expansion_kind(term_expansion, term).
+expansion_kind(goal_expansion, goal).
+
+rewritten_clause(Items, Expansions, Line, rewritten) :-
+    member(raw(Line, Term), Items),
+    \+ expansion_clause(Term),
+    member(expansion(term, Pattern), Expansions),
+    \+ Term \= Pattern.
+
+expansion_clause(Term) :-
+    catch(plain_clause(Term, user, _, Head, _), _, fail),
+    functor(Head, Name, _),
+    expansion_kind(Name, _).
+
+
+%   Clauses that the file's own goals add: asserts(Predicate,Line,Head,Body)
+%   for a rule, dynamic(Predicate), and unknown_assert(Line) where a clause
+%   that is added is not known.
+
+asserted(Items, Module, Asserted) :-
+    findall(Found, asserted_in(Items, Module, Found), Asserted).
+
+asserted_in(Items, _, Found) :-
+    member(clause(M:_, Line, _, Body), Items),
+    asserted_by(Body, M, Line, Found).
+asserted_in(Items, _, Found) :-
+    member(directive(Line, M, Goal), Items),
+    asserted_by(Goal, M, Line, Found).
+
+asserted_by(Body, Module, Line, Found) :-
+    sub_term(Goal, Body),
+    nonvar(Goal),
+    (   atom(Goal)
+    ->  adds_name(Goal),
+        Found = unknown_assert(Line)
+    ;   compound(Goal),
+        compound_name_arguments(Goal, Name, [Clause|More]),
+        (   adds_name(Name)
+        ->  (   more_fits(More), catch(clause_parts(Clause, Module, M, Head, B), _, fail)
+            ->  functor(Head, N, A),
+                (   Found = dynamic(M:N/A)
+                ;   B \== true,
+                    Found = asserts(M:N/A, Line, Head, B)
+                )
+            ;   Found = unknown_assert(Line)
+            )
+        ;   Name == (dynamic),
+            declared(dynamic, Clause, Module, Found)
+        )
+    ).
+
+adds_name(assert).
+adds_name(asserta).
+adds_name(assertz).
+
+more_fits([]).
+more_fits([_]).
+
+
+%!  source_clauses(+Source, +Predicate, -Clauses) is det.
+
+source_clauses(Source, Predicate, Clauses) :-
+    (   get_assoc(Predicate, Source.clauses, Found)
+    ->  Clauses = Found
+    ;   Clauses = []
+    ).
+
+%!  is_defined(+Source, +Predicate) is semidet.
+%
+%   Predicate has clauses in Source, or is declared to have them.
+
+is_defined(Source, Predicate) :-
+    (   get_assoc(Predicate, Source.clauses, _)
+    ->  true
+    ;   memberchk(Predicate, Source.dynamic)
+    ->  true
+    ;   memberchk(Predicate, Source.multifile)
+    ).
