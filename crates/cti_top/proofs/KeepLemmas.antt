@@ -2,8 +2,8 @@
 use Rattle.std.proofs.Common.{◌≡◌, ℕ, ◌≤◌, List, inl, inr, refl, ◌∙◌, arith}
 use Rattle.outside.specs.Told.{Map, Keeps}
 use Rattle.outside.specs.Causes.{Rose}
-use Rattle.cti_top.specs.Outcome.{FileRose}
-use Rattle.cti_top.specs.Words.{Ask, infer, check, run, gen}
+use Rattle.cti_top.specs.Outcome.{CertificateRose, FileRose, OriginRose}
+use Rattle.cti_top.specs.Words.{Ask, infer, check, run, gen, Origin, file, generated, origin}
 
 -- a store that no call has touched
 pub untouched : (told : Map) (faults : List ℕ → ℕ) → Keeps told told faults faults
@@ -25,9 +25,30 @@ pub never_rises : Rose 0 0 → ⊥
 never_rises rose = omega (arith, rose)
 
 -- nor does that of a file that the words name
-pub no_file_rises : (ask : Ask) → FileRose ask (λ name. 0) (λ name. 0) → ⊥
-no_file_rises (infer file norm) rose = never_rises rose
-no_file_rises (check file certificate) (inl rose) = never_rises rose
-no_file_rises (check file certificate) (inr rose) = never_rises rose
-no_file_rises (run file query steps) rose = never_rises rose
-no_file_rises (gen n) rose = rose
+no_origin_rises : (o : Origin) → OriginRose o (λ name. 0) (λ name. 0) → ⊥
+no_origin_rises (file name) rose = never_rises rose
+no_origin_rises (generated n) rose = rose
+
+no_certificate_rises : (ask : Ask) → CertificateRose ask (λ name. 0) (λ name. 0) → ⊥
+no_certificate_rises (infer f norm) rose = rose
+no_certificate_rises (check f certificate) rose = never_rises rose
+no_certificate_rises (run f query steps) rose = rose
+no_certificate_rises (gen n) rose = rose
+
+pub no_file_rises : (told : Map) (ask : Ask) → FileRose told ask (λ name. 0) (λ name. 0) → ⊥
+no_file_rises told ask (inl rose) = no_origin_rises (origin ask) rose
+no_file_rises told ask (inr (bytes, known, tells, is, rose)) = no_certificate_rises ask rose
+
+-- a certificate's count that rose after calls that did not change it
+pub certificate_rose : (ask : Ask) (before between after : List ℕ → ℕ) → ((name : List ℕ) → between name ≡ before name) → CertificateRose ask between after → CertificateRose ask before after
+certificate_rose (infer f norm) before between after calm rose = rose
+certificate_rose (check f certificate) before between after calm rose = rw (calm certificate) at rose
+certificate_rose (run f query steps) before between after calm rose = rose
+certificate_rose (gen n) before between after calm rose = rose
+
+-- the certificate's count rises only where a certificate is asked for
+pub none_asked : (ask : Ask) (before after : List ℕ → ℕ) → ((name certificate : List ℕ) → ask ≡ check name certificate → ⊥) → CertificateRose ask before after → ⊥
+none_asked (infer f norm) before after none rose = rose
+none_asked (check f certificate) before after none rose = none f certificate refl
+none_asked (run f query steps) before after none rose = rose
+none_asked (gen n) before after none rose = rose

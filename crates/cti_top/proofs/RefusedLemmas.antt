@@ -1,19 +1,19 @@
 -- A text that is refused is answered by its refusal, and so is a query.
-use Rattle.std.proofs.Common.{◌≡◌, ℕ, List, Some, refl, ap, sym, ◌∙◌, subst}
+use Rattle.std.proofs.Common.{◌≡◌, ◌⊎◌, ℕ, List, Some, inl, inr, refl, ap, sym, ◌∙◌, subst}
 use Rattle.std.proofs.lemmas.Option.{none-some}
 use Rattle.outside.specs.Told.{Map}
-use Rattle.cti_top.specs.Words.{Ask, infer, check, run, gen, origin, asks}
+use Rattle.cti_top.specs.Words.{Ask, infer, check, run, gen, Origin, origin, asks}
 use Rattle.cti_top.specs.Programs.{IsRefused}
 use Rattle.report.specs.Generated.{generated}
 use Rattle.cti_top.specs.Queries.{Known}
 use Rattle.cti_top.specs.Runs.{IsKnown, IsRefusedQuery}
-use Rattle.cti_top.specs.Outcome.{TellsText, HasFile, HasText, IsAnswer, usage, inferred, summed, ran, checked, program_too_long, program_refused, query_refused, certificate_too_long, certificate_refused}
+use Rattle.cti_top.specs.Outcome.{TellsText, FileRose, OriginRose, HasFile, HasText, IsAnswer, IsRefusedOrMemory, usage, inferred, summed, ran, checked, program_too_long, program_refused, query_refused, certificate_too_long, certificate_refused}
 use Rattle.cti_top.specs.declared.status.Status.{Status}
-use Rattle.cti_top.specs.declared.status.Status.TheVariants.{Refused}
+use Rattle.cti_top.specs.declared.status.Status.TheVariants.{FileFault, Memory, Refused}
 use Rattle.cti_top.proofs.OneAnswer.{none_refused, no_query_refused}
 use Rattle.cti_top.proofs.OutcomeLemmas.{same_bytes, same_text, one_ask, name_of, query_of, infer_or_run, check_or_run, gen_or_run}
 
-module _ (told : Map) (words : List (List ℕ)) (status : Status) (text : List ℕ) where
+module _ (told : Map) (words : List (List ℕ)) where
   -- no program stands in a file that is refused
   none_known : (ask k : Ask) (bytes b : List ℕ) (kind at : ℕ) (known : Known) → asks words ≡ Some ask → asks words ≡ Some k → HasText told (origin ask) bytes
       → TellsText told (origin k) b → IsRefused bytes kind at → IsKnown b known → ⊥
@@ -21,16 +21,31 @@ module _ (told : Map) (words : List (List ℕ)) (status : Status) (text : List �
       let same = same_text told (origin k) (origin ask) b bytes (ap origin (one_ask words k ask a asked)) has t in
       none_refused bytes known (subst (λ (x : List ℕ). IsKnown x known) same is) kind at r
 
+  -- so no count of a file rises there, but that of the program's
+  none_rose : (ask k : Ask) (bytes : List ℕ) (kind at : ℕ) (before after : List ℕ → ℕ) → asks words ≡ Some ask → HasText told (origin ask) bytes → IsRefused bytes kind at
+      → (OriginRose (origin ask) before after → ⊥) → asks words ≡ Some k → FileRose told k before after → ⊥
+  none_rose ask k bytes kind at before after asked has r calm a (inl rose) =
+      calm (subst (λ (o : Origin). OriginRose o before after) (ap origin (one_ask words k ask a asked)) rose)
+  none_rose ask k bytes kind at before after asked has r calm a (inr (b, known, tells, is, rose)) = none_known ask k bytes b kind at known asked a has tells r is
+
+  pub refused_or_memory : (status : Status) (ask : Ask) (bytes : List ℕ) (kind at : ℕ) (before after : List ℕ → ℕ) → asks words ≡ Some ask → HasText told (origin ask) bytes
+      → IsRefused bytes kind at → (OriginRose (origin ask) before after → ⊥) → (status ≡ FileFault → (k : Ask) × (asks words ≡ Some k) × FileRose told k before after)
+      → (status ≡ FileFault) ⊎ (status ≡ Memory) → IsRefusedOrMemory status
+  refused_or_memory status ask bytes kind at before after asked has r calm fault (inl e) =
+      absurd (none_rose ask (fault e).0 bytes kind at before after asked has r calm (fault e).1 (fault e).2)
+  refused_or_memory status ask bytes kind at before after asked has r calm fault (inr e) = inr e
+
+module _ (told : Map) (words : List (List ℕ)) (status : Status) (text : List ℕ) where
   pub refused_answer : (ask : Ask) (bytes : List ℕ) (kind at : ℕ) → IsAnswer told words status text → asks words ≡ Some ask → HasText told (origin ask) bytes → IsRefused bytes kind at
       → status ≡ Refused
   refused_answer ask bytes kind at (usage n s e) asked has r = absurd (none-some _ (sym n ∙ asked))
   refused_answer ask bytes kind at (inferred f b n a t m s) asked has r =
-      absurd (none_known ask (infer f n) bytes b kind at (record { names = m.names; program = m.program; table = m.table }) asked a has t r m.is)
+      absurd (none_known told words ask (infer f n) bytes b kind at (record { names = m.names; program = m.program; table = m.table }) asked a has t r m.is)
   refused_answer ask bytes kind at (summed n a m s) asked has r =
       let i = m.inferred in
-      absurd (none_known ask (gen n) bytes (generated n) kind at (record { names = i.names; program = i.program; table = i.table }) asked a has refl r i.is)
-  refused_answer ask bytes kind at (ran f q n b a t m) asked has r = absurd (none_known ask (run f q n) bytes b kind at m.known asked a has t r m.is)
-  refused_answer ask bytes kind at (checked f c b d k a t i u h) asked has r = absurd (none_known ask (check f c) bytes b kind at k asked a has t r i)
+      absurd (none_known told words ask (gen n) bytes (generated n) kind at (record { names = i.names; program = i.program; table = i.table }) asked a has refl r i.is)
+  refused_answer ask bytes kind at (ran f q n b a t m) asked has r = absurd (none_known told words ask (run f q n) bytes b kind at m.known asked a has t r m.is)
+  refused_answer ask bytes kind at (checked f c b d k a t i u h) asked has r = absurd (none_known told words ask (check f c) bytes b kind at k asked a has t r i)
   refused_answer ask bytes kind at (program_too_long k a m s e) asked has r = s
   refused_answer ask bytes kind at (program_refused k b kind' at' a t q s e) asked has r = s
   refused_answer ask bytes kind at (query_refused f q n b kind' at' a t m s e) asked has r = s

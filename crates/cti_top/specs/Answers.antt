@@ -10,7 +10,6 @@ use Rattle.outside.specs.Told.{Map, TellsAt, TellsMore}
 use Rattle.cti_top.specs.Checks.{IsCheckOf, IsRefusedCertificate}
 use Rattle.cti_top.specs.Queries.{Known}
 use Rattle.cti_top.specs.Outcome.{TellsText, TellsLong}
-use Rattle.outside.specs.Causes.{Rose}
 use Rattle.cti_top.specs.Places.{line_of, column_of}
 use Rattle.cti_top.specs.Refusal.{refusal_line}
 use Rattle.cti_top.specs.Programs.{IsRefused}
@@ -55,11 +54,6 @@ origin_of (its.Generated count) = words.generated count
 abbrev pub IsInRange : Origin → Type 0
 IsInRange (words.file name) = Unit {0}
 IsInRange (words.generated n) = (1 ≤ n) × (n ≤ 300)
-
--- the count of the program's file rose
-abbrev pub OriginRose : Origin → (List ℕ → ℕ) → (List ℕ → ℕ) → Type 0
-OriginRose (words.file name) before after = Rose (before name) (after name)
-OriginRose (words.generated n) before after = ⊥
 
 -- the answer that refuses a text for a fault of this kind at this byte
 pub record RefusesAt (subject : Subject) (text : List ℕ) (kind at : ℕ) (s : Status) (written : List ℕ) : Type 0 where

@@ -93,9 +93,20 @@ IsCheckedOrMemory status = (status ≡ Done) ⊎ (status ≡ No) ⊎ (status ≡
 abbrev pub IsRefusedOrMemory : Status → Type 0
 IsRefusedOrMemory status = (status ≡ Refused) ⊎ (status ≡ Memory)
 
--- the count of the program's file rose, or that of the certificate's
-abbrev pub FileRose : Ask → (List ℕ → ℕ) → (List ℕ → ℕ) → Type 0
-FileRose (infer name norm) before after = Rose (before name) (after name)
-FileRose (check name certificate) before after = Rose (before name) (after name) ⊎ Rose (before certificate) (after certificate)
-FileRose (run name query steps) before after = Rose (before name) (after name)
-FileRose (gen n) before after = ⊥
+-- the count of the program's file rose; a generated text has none
+abbrev pub OriginRose : Origin → (List ℕ → ℕ) → (List ℕ → ℕ) → Type 0
+OriginRose (file name) before after = Rose (before name) (after name)
+OriginRose (generated n) before after = ⊥
+
+-- the count of the certificate's file rose, where one is asked for
+abbrev pub CertificateRose : Ask → (List ℕ → ℕ) → (List ℕ → ℕ) → Type 0
+CertificateRose (infer name norm) before after = ⊥
+CertificateRose (check name certificate) before after = Rose (before certificate) (after certificate)
+CertificateRose (run name query steps) before after = ⊥
+CertificateRose (gen n) before after = ⊥
+
+-- the count of the program's file rose, or that of the certificate's, which is loaded only where the program is read
+abbrev pub FileRose : Map → Ask → (List ℕ → ℕ) → (List ℕ → ℕ) → Type 0
+FileRose told ask before after =
+    OriginRose (origin ask) before after
+    ⊎ ((bytes : List ℕ) × (known : Known) × TellsText told (origin ask) bytes × IsKnown bytes known × CertificateRose ask before after)

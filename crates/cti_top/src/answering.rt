@@ -6,11 +6,12 @@ ghost use Rattle.cti_terms.specs.declared.predicates.Pred.{Pred as ThePred};
 ghost use Rattle.clause_normal.specs.Numbering.{is_equality};
 ghost use Rattle.cti_top.specs.Words.{Ask, asks, origin, usage_lines};
 ghost use Rattle.report.specs.Generated.{generated};
+ghost use Rattle.cti_top.specs.Queries.{Known};
 ghost use Rattle.cti_top.specs.Known.{known_of, NamesBuiltins};
 ghost use Rattle.cti_top.specs.Runs.{IsKnown};
-ghost use Rattle.cti_top.specs.Outcome.{FileRose, IsAnswer, TellsLong, TellsText};
+ghost use Rattle.cti_top.specs.Outcome.{CertificateRose, FileRose, IsAnswer, OriginRose, TellsLong, TellsText};
 ghost use Rattle.outside.specs.Told.{Keeps};
-ghost use Rattle.cti_top.specs.Answers.{ask_of, origin_of, AnswersAsk, AnswersProgram, AnswersRequest, IsInRange, OriginRose};
+ghost use Rattle.cti_top.specs.Answers.{ask_of, origin_of, AnswersAsk, AnswersProgram, AnswersRequest, IsInRange};
 
 use crate::answer::{Answer, refused, too_long};
 use crate::checking::check_of;
@@ -38,7 +39,7 @@ fn answer_program<F: Files>(
     requires room { position (is_equality source.names) source.program.preds ≡ None → length source.program.clauses < 16385 }
     requires arithmetic { NamesBuiltins source.names source.program }
     ensures answered { IfOk result (λ a. (bytes : List ℕ) → IsKnown bytes (known_of source) → AnswersAsk (F.told files.old) bytes (ask_of request.entry) a.status a.text.items) }
-    ensures file_fault { IsErrOf result Status.FileFault → FileRose (ask_of request.entry) (F.faults files.old) (F.faults files.new) }
+    ensures file_fault { IsErrOf result Status.FileFault → CertificateRose (ask_of request.entry) (F.faults files.old) (F.faults files.new) }
     ensures others { IfErr result (λ e. (e ≡ Status.FileFault) ⊎ (e ≡ Status.Memory)) }
     ensures kept { Keeps (F.told files.old) (F.told files.new) (F.faults files.old) (F.faults files.new) }
 {
@@ -60,7 +61,7 @@ fn answer_text<F: Files>(
 ) -> Result<Answer, Status>
     requires short { length bytes.now ≤ 1048576 }
     ensures answered { IfOk result (λ a. AnswersProgram (F.told files.old) bytes.now (ask_of request.entry) a.status a.text.items) }
-    ensures file_fault { IsErrOf result Status.FileFault → FileRose (ask_of request.entry) (F.faults files.old) (F.faults files.new) }
+    ensures file_fault { IsErrOf result Status.FileFault → (known : Known) × IsKnown bytes.now known × CertificateRose (ask_of request.entry) (F.faults files.old) (F.faults files.new) }
     ensures others { IfErr result (λ e. (e ≡ Status.FileFault) ⊎ (e ≡ Status.Memory)) }
     ensures kept { Keeps (F.told files.old) (F.told files.new) (F.faults files.old) (F.faults files.new) }
 {
@@ -113,7 +114,7 @@ fn answer_request<F: Files>(
 ) -> Result<Answer, Status>
     requires { IsInRange (origin (ask_of request)) }
     ensures answered { IfOk result (λ a. AnswersRequest (F.told files.old) (ask_of request.entry) a.status a.text.items) }
-    ensures file_fault { IsErrOf result Status.FileFault → FileRose (ask_of request.entry) (F.faults files.old) (F.faults files.new) }
+    ensures file_fault { IsErrOf result Status.FileFault → FileRose (F.told files.old) (ask_of request.entry) (F.faults files.old) (F.faults files.new) }
     ensures others { IfErr result (λ e. (e ≡ Status.FileFault) ⊎ (e ≡ Status.Memory)) }
     ensures kept { Keeps (F.told files.old) (F.told files.new) (F.faults files.old) (F.faults files.new) }
 {
@@ -144,7 +145,7 @@ pub fn answer_words<F: Files>(
 ) -> Result<Answer, Status>
     ensures answered { IfOk result (λ a. IsAnswer (F.told files.old) (map (λ w. w.now) words.entry.now) a.status a.text.items) }
     ensures file_fault { IsErrOf result Status.FileFault
-        → (ask : Ask) × (asks (map (λ w. w.now) words.entry.now) ≡ Some ask) × FileRose ask (F.faults files.old) (F.faults files.new) }
+        → (ask : Ask) × (asks (map (λ w. w.now) words.entry.now) ≡ Some ask) × FileRose (F.told files.old) ask (F.faults files.old) (F.faults files.new) }
     ensures others { IfErr result (λ e. (e ≡ Status.FileFault) ⊎ (e ≡ Status.Memory)) }
     ensures kept { Keeps (F.told files.old) (F.told files.new) (F.faults files.old) (F.faults files.new) }
 {

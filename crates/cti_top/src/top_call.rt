@@ -6,7 +6,7 @@ ghost use Rattle.certificate.specs.declared.certificate.Certificate.{Certificate
 ghost use Rattle.outside.specs.Causes.{Rose};
 ghost use Rattle.cti_top.specs.Words.{Ask, asks, check, gen, infer, origin, run};
 ghost use Rattle.cti_top.specs.Programs.{IsRefused};
-ghost use Rattle.cti_top.specs.Outcome.{FileRose, HasFile, HasText, IsCheckedOrMemory, IsDoneOrMemory, IsRanOrMemory, IsRefusedOrMemory, Outcome};
+ghost use Rattle.cti_top.specs.Outcome.{FileRose, HasFile, HasText, IsCheckedOrMemory, IsDoneOrMemory, IsRanOrMemory, IsRefusedOrMemory, OriginRose, Outcome};
 ghost use Rattle.cti_top.specs.Queries.{IsQueryOf, Known};
 ghost use Rattle.cti_top.specs.Runs.{IsKnown, IsRefusedQuery};
 ghost use Rattle.outside.specs.Told.{Keeps};
@@ -38,9 +38,10 @@ pub fn command<F: Files, S: Sink>(
 ) -> Status
     ensures outcome { Outcome (F.told files.old) (map (λ w. w.now) words.entry.now) (S.taken out.old) (S.taken out.new) result }
 
-    // A fault of a file comes only from a failed load of a file that the words name, and one of the sink only from a failed write.
+    // A fault of a file comes only from a failed load of a file that the words name, of the certificate's only where the program is read;
+    // and one of the sink only from a failed write.
     ensures file_fault { result ≡ Status.FileFault
-        → (ask : Ask) × (asks (map (λ w. w.now) words.entry.now) ≡ Some ask) × FileRose ask (F.faults files.old) (F.faults files.new) }
+        → (ask : Ask) × (asks (map (λ w. w.now) words.entry.now) ≡ Some ask) × FileRose (F.told files.old) ask (F.faults files.old) (F.faults files.new) }
     ensures out_fault { result ≡ Status.OutFault → Rose (S.faults out.old) (S.faults out.new) }
 
     // The store keeps its map, and no count of faults falls.
@@ -68,7 +69,7 @@ pub fn command<F: Files, S: Sink>(
 
     // A text that is refused is answered by its refusal, in the same way, and so is a query.
     ensures complete_refused { (ask : Ask) (bytes : List ℕ) (kind at : ℕ) → asks (map (λ w. w.now) words.entry.now) ≡ Some ask → HasText (F.told files.old) (origin ask) bytes
-        → IsRefused bytes kind at → (FileRose ask (F.faults files.old) (F.faults files.new) → ⊥) → (Rose (S.faults out.old) (S.faults out.new) → ⊥) → IsRefusedOrMemory result }
+        → IsRefused bytes kind at → (OriginRose (origin ask) (F.faults files.old) (F.faults files.new) → ⊥) → (Rose (S.faults out.old) (S.faults out.new) → ⊥) → IsRefusedOrMemory result }
     ensures complete_query_refused { (name query bytes : List ℕ) (steps kind at : ℕ) → asks (map (λ w. w.now) words.entry.now) ≡ Some (run name query steps)
         → HasFile (F.told files.old) name bytes → IsRefusedQuery bytes query kind at
         → (Rose (F.faults files.old name) (F.faults files.new name) → ⊥) → (Rose (S.faults out.old) (S.faults out.new) → ⊥) → IsRefusedOrMemory result }

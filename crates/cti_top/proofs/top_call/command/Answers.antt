@@ -1,9 +1,9 @@
-use Rattle.std.proofs.Common.{map, subst, inl}
+use Rattle.std.proofs.Common.{map, subst, inl, ap, Err}
 use Rattle.report.specs.Generated.{generated}
 use Rattle.cti_top.specs.Outcome.{IsAnswer}
 use Rattle.cti_top.specs.declared.status.Status.{Status}
 use Rattle.cti_top.proofs.OneAnswer.{is_short, none_refused, no_query_refused}
-use Rattle.cti_top.proofs.RefusedLemmas.{refused_answer, query_refused_answer}
+use Rattle.cti_top.proofs.RefusedLemmas.{refused_answer, refused_or_memory, query_refused_answer}
 use Rattle.cti_top.proofs.OutcomeLemmas.{not_file, outcome_of, done_or_memory, summed_or_memory, ran_or_memory, checked_or_memory}
 use Rattle.cti_top.proofs.top_call.command.Goals as goal
 
@@ -45,3 +45,7 @@ returns-in-Ok-write_text-clause-complete_refused g c ask bytes kind at asked has
 pub returns-in-Ok-write_text-clause-complete_query_refused : goal.returns-in-Ok-write_text-clause-complete_query_refused
 returns-in-Ok-write_text-clause-complete_query_refused g c name query bytes steps kind at asked has refused calm still =
     inl (query_refused_answer (g.F.Files.told c.args.files.now) (map (λ w. w.now) c.args.words.now) c.in-Ok.answer.status c.in-Ok.answer.text.items name query bytes steps kind at c.in-Ok.ensures.answered asked has refused)
+
+pub returns-clause-complete_refused : goal.returns-clause-complete_refused
+returns-clause-complete_refused g c ask bytes kind at asked has refused calm still =
+    refused_or_memory (g.F.Files.told c.args.files.now) (map (λ w. w.now) c.args.words.now) c.in-Err.status ask bytes kind at _ _ asked has refused calm (λ e. c.in-Err.ensures.file_fault (ap Err e)) c.in-Err.ensures.others
