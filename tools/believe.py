@@ -8,7 +8,8 @@ usage: tools/believe.py            a count of lines for each rank, and the files
 The ranks, each without those before: *for a Yes* (queries that meet a printed mode end), *for the modes* (the printed modes are exactly
 the minimal ones), *for reading* (which program or query a text is, or where its fault is), *for the command* (all else that `command`
 promises: statuses, words, valid certificates, runs), *procedures* (definitions that follow an algorithm, since they decide whose numbers do
-not fit). All else in specs/ is private: a contract between functions, which the check has read.
+not fit), *for a loop* (what is found of loops, and that unification is complete; no command promises it). All else in specs/ is private: a
+contract between functions, which the check has read.
 """
 import re
 import sys
@@ -21,6 +22,7 @@ YES = [("cert_checker", "Bounding", ["ModesAreBounded"])]
 READING = [("cti_top", "Programs", ["IsProgramOf", "IsProgramRefusal"]), ("cti_top", "Queries", None), ("cti_top", "Places", None)]
 MODES = [("report", "Exact", ["IsExact"]), ("certificate", "Text", ["text_of"])]
 COMMAND = [("cti_top", "Outcome", None)]
+LOOP = [("loop_finder", "Finding", ["IsLooked"]), ("loop_finder", "Loop", ["GoesOn"]), ("cti_terms", "MostGeneral", None)]
 PROCEDURES = {
     "linear_rows": {"Elimination", "Equation", "Cleaning", "Step", "Blown", "Solving", "Systems", "Irredundant"},
     "termination_model": {"BlownSupports", "SupportSystem", "ChainSteps", "Replacing", "Systems"},
@@ -94,6 +96,7 @@ MARKS = {
     "for reading": "-- To believe, for reading.",
     "for the command": "-- To believe, for the command.",
     "procedures": "-- A procedure, to believe for who is blown.",
+    "for a loop": "-- To believe, for a loop.",
     "private": "-- Private.",
 }
 
@@ -104,7 +107,7 @@ def mark(specs, ranks):
         path = top / "crates" / crate / "specs" / f"{module}.antt"
         rank = next((title for title, found in ranks if any(key == (crate, module) for key, _ in found)), "private")
         lines = path.read_text().split("\n")
-        if lines[0] in MARKS.values():
+        while lines[0] in MARKS.values():
             del lines[0]
         path.write_text("\n".join([MARKS[rank]] + lines))
 
@@ -121,9 +124,10 @@ def main():
     reading = specs.closure(READING, follows_an_algorithm) - yes - modes
     command = specs.closure(COMMAND, follows_an_algorithm) - yes - modes - reading
     procedures = specs.closure(COMMAND) - yes - modes - reading - command
-    ranks = [("for a Yes", yes), ("for the modes", modes), ("for reading", reading), ("for the command", command), ("procedures", procedures)]
+    loop = specs.closure(LOOP) - yes - modes - reading - command - procedures
+    ranks = [("for a Yes", yes), ("for the modes", modes), ("for reading", reading), ("for the command", command), ("procedures", procedures), ("for a loop", loop)]
     everything = {(key, name) for key, names in specs.files.items() for name in names}
-    ranks.append(("private", everything - yes - modes - reading - command - procedures))
+    ranks.append(("private", everything - yes - modes - reading - command - procedures - loop))
     if "--mark" in sys.argv:
         mark(specs, ranks)
         return

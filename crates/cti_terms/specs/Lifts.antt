@@ -1,4 +1,4 @@
--- Private.
+-- To believe, for a loop.
 -- More general atoms, and the goals that derivations leave.
 use Rattle.std.specs.Prelude.{◌≡◌, ℕ, List, [], ◌∷◌, Option, Some, option_and_then}
 use Rattle.std.specs.List.{AllByRecursion}

@@ -1,4 +1,4 @@
--- Private.
+-- To believe, for a loop.
 -- Most general unifiers.
 --
 -- A substitution solves equations where it makes both sides of each the same. The bindings that unification finds

@@ -1,4 +1,3 @@
--- Private.
 -- To believe, for a loop.
 -- Loops: derivations that come back to an atom that is more general than one that they passed.
 --
