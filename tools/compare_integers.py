@@ -51,7 +51,7 @@ def told_by_swi(file):
 
 def told_by_cti(cti, empty, goal):
     """The same of `cti`, or nothing where a value does not fit."""
-    ran = subprocess.run([cti, "run", empty, goal], capture_output=True, text=True)
+    ran = subprocess.run([cti, "run", "--", empty, goal], capture_output=True, text=True)
     lines = ran.stdout.split("\n")
     if ran.returncode == 8:
         return None
