@@ -16,14 +16,15 @@ use Rattle.termination_model.specs.Best.{coefficient}
 use Rattle.termination_model.specs.Claims.{Mapping}
 use Rattle.termination_model.specs.Modes.{is_part}
 use Rattle.termination_model.specs.Refutation.{Pair, Decreases}
-use Rattle.termination_model.specs.View.{Place, Member, Lower, Call, Rule, system_of, level_over, fall_over}
+use Rattle.termination_model.specs.View.{Member, Call, Rule, system_of, level_over, fall_over}
 use Rattle.termination_model.specs.Excluding.{IsAt, IsOfMembers, IsRefutationAt}
-use Rattle.termination_model.specs.OwnCalls.{OwnCall, Position, own_call, own_calls_from, own_calls, rows_before}
+use Rattle.termination_model.specs.OwnCalls.{OwnCall, Position, own_calls_from, own_calls, rows_before}
 use Rattle.termination_model.specs.SupportLaws.{AreFalls, HasFew, HasWidths}
 use Rattle.termination_model.specs.SupportSystem.{value_of_position, value_of_member, mapping_at}
 use Rattle.termination_model.specs.Supports.{support_from, picked_from, AreDistinct, HasSupport, AreLives, MappingsFromSystems, SystemsGiveMappings}
 use Rattle.termination_model.specs.Minimal.{IsSet, IsExcluded}
 use Rattle.termination_model.proofs.Excludes.{excludes_at}
+use Rattle.termination_model.proofs.OwnCallsThere.{call_there}
 use Rattle.termination_model.proofs.Points.{fall_width}
 use Rattle.termination_model.proofs.Sets.{Part, to_part, of_part, set_lower, any_in, in_any}
 
@@ -128,23 +129,6 @@ module _ (truth : (ℕ → Bool) → Tree → Bool) (expression : ℕ → Tree �
   abbrev FallsAt : Rule → Type 0
   FallsAt k = (j : ℕ) (b : Call) (q : ℕ) → slice_get k.body j ≡ Some b → b.place ≡ Member q
       → HoldsOn (suc k.vars) (system_of expression k.vars (take j k.body)) (fall_over truth expression k q b.args 1 l)
-
-  one_call : (k : Rule) (n : ℕ) (b : Call) (x : Place) (q : ℕ) → x ≡ Member q → In (record { rule = k; place = n; call = b; member = q }) (own_call k n b x)
-  one_call k n b (Member r) q e = let same : r ≡ q = cc in inl (λ i. record { rule = k; place = n; call = b; member = same i })
-  one_call k n b (Lower f) q e = cc
-
-  call_there : (k : Rule) (n : ℕ) (bs : List Call) (j : ℕ) (b : Call) (q : ℕ) → slice_get bs j ≡ Some b → b.place ≡ Member q
-      → In (record { rule = k; place = n + j; call = b; member = q }) (own_calls_from k n bs)
-  call_there k n [] j b q at e = cc
-  call_there k n (x ∷ bs) zero b q at e =
-      let same : x ≡ b = cc in
-      let here : n + 0 ≡ n = omega arith in
-      in-left (own_call k n x x.place) (own_calls_from k (suc n) bs) (record { rule = k; place = n + 0; call = b; member = q })
-      (rw here (subst (λ (y : Call). In (record { rule = k; place = n; call = b; member = q }) (own_call k n y y.place)) (sym same) (one_call k n b b.place q e)))
-  call_there k n (x ∷ bs) (suc j) b q at e =
-      let more : n + suc j ≡ suc n + j = omega arith in
-      in-right (own_call k n x x.place) (own_calls_from k (suc n) bs) (record { rule = k; place = n + suc j; call = b; member = q })
-      (rw more (call_there k (suc n) bs j b q at e))
 
   pub decreases : (view : List Rule) → ((o : OwnCall) → In o (own_calls view) → Falls o) → Decreases truth expression view l
   decreases [] h = tt

@@ -26,6 +26,7 @@ pub mod Lists
 pub mod Loop
 pub mod Naturals
 pub mod Order
+pub mod OwnCallsThere
 pub mod Points
 pub mod Proved
 pub mod Query
