@@ -6,7 +6,7 @@
 -- after the first atom there, no atom is resolved. After the cycle the first atom is more general than before it. So
 -- the cycle's clauses can be gone through again, and over again.
 --
--- To believe: `IsLoop`, `GoesOn`.
+-- To believe: all of this file.
 use Rattle.std.specs.Prelude.{◌≡◌, ◌≢◌, ℕ, ◌≤◌, List, [], ◌∷◌, ◌++◌, length, Some, IsSomeAnd}
 use Rattle.std.specs.List.{AllByRecursion}
 use Rattle.cti_terms.specs.declared.atom_list.Atom.{Atom}

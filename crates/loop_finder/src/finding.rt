@@ -66,6 +66,9 @@ fn loop_of(alloc: Global, numbers: &[u32], start: usize) -> Result<Looked, Alloc
 /// Looks for a loop among the derivations from a goal of at most `depth` steps, in lexicographic order, and at no more than
 /// the first 100,000 of them.
 ///
+/// Besides where there is no memory, it is out of memory where a goal that is made has more than 100,000 nodes of terms or
+/// 4,000 levels of them, and where the search has gone over 100,000,000 nodes.
+///
 /// Source: derivations that come back to a more general atom, as in Payet and Mesnard 2006.
 pub fn find(alloc: Global, program: &Program, goal: &Goal, depth: u32) -> Result<Looked, AllocError>
     requires goal { IsGoalOf program.now goal.now }
