@@ -10,11 +10,12 @@ ghost use Rattle.unifier.specs.Below.{ArgumentsBelow};
 use crate::choices::Choice;
 use std::alloc::AllocError;
 use unifier::bindings::Bindings;
-use unifier::heads::{Stacks, unify_terms};
+use unifier::heads::{Stacks, unify_integer};
 use unifier::raised_term::RaisedTerm;
 
 /// Unifies the first argument of a choice's built-in atom with the choice's value, if it has one. The bindings are the
-/// choice's.
+/// choice's. Built-in atoms are rare, so it is not compiled into the search.
+#[inline(never)]
 pub fn unify_value<'p>(
     bindings: &mut Bindings<'p>,
     stacks: &mut Stacks<'p>,
@@ -40,6 +41,5 @@ pub fn unify_value<'p>(
         term: value,
         base: 0,
     };
-    let mut limit = choice.fresh as usize;
-    unify_terms(bindings, stacks, left, right, &mut limit)
+    unify_integer(bindings, stacks, left, right, choice.fresh as usize)
 }

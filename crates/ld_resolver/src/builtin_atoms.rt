@@ -87,7 +87,8 @@ fn assigned<'p>(calculator: &Calculator<'p>, right: Value) -> Result<FirstAtom<'
     }
 }
 
-/// What a built-in predicate of this kind does at raised arguments.
+/// What a built-in predicate of this kind does at raised arguments. It is rare, so that it is not compiled into `judge`.
+#[inline(never)]
 fn judge_as<'p>(
     calculator: &mut Calculator<'p>,
     bindings: &Bindings<'p>,

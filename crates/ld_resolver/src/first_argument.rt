@@ -70,7 +70,8 @@ fn first_shape<'p>(bindings: &Bindings<'p>, atom: &'p Atom, base: u32) -> Option
 }
 
 /// The number of the first clause, from the choice's next one on, whose first argument can match the goal's. One past
-/// the last clause stands for none.
+/// the last clause stands for none. It ends at once after a last clause, so it is compiled into its callers.
+#[inline(always)]
 pub fn next_match<'p>(
     program: &Program,
     chain: &ClauseChain,

@@ -56,6 +56,7 @@ fn counter_after(fresh: u32, vars: u32) -> Result<u32, AllocError>
 
 /// Enters the query, and adds the answer of the empty derivation if it has one. Whether the run goes on: it does not where
 /// the query is wide.
+#[inline(never)]
 fn begin<'p>(
     alloc: Global,
     search: &mut Search<'p>,
@@ -132,6 +133,7 @@ fn advance<'p>(
 /// The empty derivation and the first `budget` others are looked at, and whether there is one more.
 ///
 /// Source: SLD-resolution with the leftmost atom selected, depth first, with the occurs check.
+#[inline(never)]
 pub fn run(alloc: Global, program: &Program, goal: &Goal, budget: u64) -> Result<Ran, AllocError>
     requires { IsGoalOf program.now goal.now }
 

@@ -216,7 +216,8 @@ impl<'p> Search<'p> {
         }
     }
 
-    /// Enters a goal of this depth: raised atoms, and then a rest.
+    /// Enters a goal of this depth: raised atoms, and then a rest. It is compiled into the loop of a run.
+    #[inline(always)]
     pub fn enter(
         &mut self,
         chain: &ClauseChain,

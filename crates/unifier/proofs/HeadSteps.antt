@@ -1,10 +1,11 @@
 -- Arguments of a goal are unified with those of a head, one pair after the other.
-use Rattle.std.proofs.Common.{◌≡◌, ℕ, min, ◌+◌, ◌<◌, ◌≤◌, Bool, true, false, ◌||◌, true≢false, inl, inr, List, [], ◌∷◌, ◌++◌, length, drop, get_or, None, Some, option_map, append_assoc, append-nil, refl, ap, sym, ◌∙◌, subst, arith}
+use Rattle.std.proofs.Common.{◌≡◌, ℕ, ℤ, min, ◌+◌, ◌<◌, ◌≤◌, Bool, true, false, ◌||◌, if◌then◌else◌, true≢false, inl, inr, List, [], ◌∷◌, ◌++◌, length, drop, get_or, None, Some, option_map, append_assoc, append-nil, refl, ap, sym, ◌∙◌, subst, arith}
+use Rattle.std.specs.Ordering.{int_eq}
 use Rattle.std.proofs.lemmas.Bool.{or_left, or_cases}
-use Rattle.cti_terms.specs.Tree.{Tree, instance, all_instances}
+use Rattle.cti_terms.specs.Tree.{Tree, Variable, Integer, Compound, instance, all_instances}
 use Rattle.cti_terms.specs.declared.syntax.Term.{Term}
 use Rattle.cti_terms.specs.Spell.{tree_of, trees_of}
-use Rattle.cti_terms.specs.Unify.{Equation, Binding, Split, first_step, occurs, pairs}
+use Rattle.cti_terms.specs.Unify.{Equation, Binding, Dropped, Split, Failed, first_step, occurs, pairs}
 use Rattle.cti_terms.specs.UnifyFunction.{unify, occurs_in}
 use Rattle.cti_terms.proofs.UnifyLaws.{unify_finds}
 use Rattle.unifier.specs.Raised.{raise}
@@ -32,6 +33,16 @@ split_free s now t u qs h keeps y gone free = keeps y (go (occurs_in y (qs ++ []
     go : (b : Bool) → occurs_in y (qs ++ []) ≡ b → occurs_in y (qs ++ []) ≡ false
     go true e = absurd (true≢false (sym (occur_split t u qs [] h y e) ∙ gone))
     go false e = e
+
+-- an integer asks for no equations of arguments
+pub never_split : (t : Tree) (n : ℤ) (qs : List Equation) → first_step t (Integer n) ≡ Split qs → ⊥
+never_split (Variable x) n qs h = cc
+never_split (Integer m) n qs h = go (int_eq m n) h
+  where
+    go : (b : Bool) → (if b then Dropped else Failed) ≡ Split qs → ⊥
+    go true e = cc
+    go false e = cc
+never_split (Compound f ts) n qs h = cc
 
 -- equations with the same unifier
 pub unified_same : (before now : List Binding) (es fs : List Equation) (b : Bool) → unify fs ≡ unify es → IsUnified before es now b → IsUnified before fs now b

@@ -5,6 +5,7 @@ ghost use Rattle.std.specs.List.{AllByRecursion};
 ghost use Rattle.cti_terms.specs.Tree.{is_below};
 ghost use Rattle.cti_terms.specs.Resolve.{over, raised, head_equations};
 ghost use Rattle.unifier.specs.Store.{full, made};
+ghost use Rattle.unifier.specs.Heads.{IsIntegerTree};
 ghost use Rattle.unifier.specs.Raised.{raised_tree};
 ghost use Rattle.unifier.specs.Pending.{IsUnified, StaysBelow, Extends, KeepsFree};
 ghost use Rattle.unifier.specs.Below.{TermBelow, ArgumentsBelow, FreeFrom};
@@ -94,6 +95,42 @@ pub fn unify_terms<'p>(
             )?;
             Ok(solved)
         }
+        Found::Clash => Ok(false),
+    }
+}
+
+/// Unifies a term, which has variables below the limit alone, with an integer, by a binding that is added if one is needed.
+///
+/// No equations of arguments come up. So `solve` is called from `unify_head` alone, and compiled into it.
+pub fn unify_integer<'p>(
+    bindings: &mut Bindings<'p>,
+    stacks: &mut Stacks<'p>,
+    left: RaisedTerm<'p>,
+    right: RaisedTerm<'p>,
+    limit: usize,
+) -> Result<bool, AllocError>
+    requires below { TermBelow limit (full bindings.old (raised_tree left)) }
+    requires integer { IsIntegerTree (raised_tree right) }
+    ensures unifier { IfOk result (IsUnified (made bindings.old) ((full bindings.old (raised_tree left.entry), full bindings.old (raised_tree right.entry)) ∷ []) (made bindings.new)) }
+    ensures extended { OnOk result (Extends bindings.new bindings.old) }
+    ensures free { OnOk result (KeepsFree ((full bindings.old (raised_tree left.entry), full bindings.old (raised_tree right.entry)) ∷ []) bindings.old bindings.new) }
+{
+    let l = bindings.met(left);
+    let r = bindings.met(right);
+    match step(
+        bindings,
+        l,
+        r,
+        limit,
+        &mut stacks.terms,
+        &mut stacks.visited,
+    )? {
+        Found::Nothing => Ok(true),
+        Found::Binds(x, term, _) => {
+            bindings.bind(x, term)?;
+            Ok(true)
+        }
+        Found::Arguments(_, _) => Ok(false),
         Found::Clash => Ok(false),
     }
 }
