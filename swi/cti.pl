@@ -4,7 +4,13 @@
             cti_check/2,                % +File, +Certificate
             cti_certificate/2,          % +File, -Facts
             cti_certificate/3,          % +File, -Facts, +Options
-            cti_infer/3                 % +File, +Certificate, +Options
+            cti_infer/3,                % +File, +Certificate, +Options
+            cti_loop/3,                 % +File, +Query, -Answer
+            cti_loop/4,                 % +File, +Query, -Answer, +Options
+            cti_why/2,                  % +File, -Notes
+            cti_why/3,                  % +File, -Notes, +Options
+            cti_assertions/2,           % +File, -Assertions
+            cti_lost/4                  % +File, +Modes, -Lost, +Options
           ]).
 
 /** <module> The modes of pure programs, by the program cti
@@ -17,6 +23,7 @@ path. Where cti gives no answer, each predicate throws
 with its exit status and what it says on standard error.
 */
 
+:- use_module(library(apply)).
 :- use_module(library(error)).
 :- use_module(library(lists)).
 :- use_module(library(option)).
@@ -121,6 +128,113 @@ ended(Process, Timeout, Status) :-
         Status = timeout
     ;   Status = Ended
     ).
+
+%!  cti_why(+File, -Notes) is det.
+%!  cti_why(+File, -Notes, +Options) is det.
+%
+%   Notes is a list of note(Line, Column, Sentence), one for each note that
+%   cti writes about a predicate without a mode, with Sentence a string.
+%   Options are those of cti_modes/3.
+
+cti_why(File, Notes) :-
+    cti_why(File, Notes, []).
+
+cti_why(File, Notes, Options) :-
+    absolute_path(File, Path),
+    norm_words(Options, Words),
+    run_cti([infer, file(Path)|Words], Status, _, Message),
+    (   Status == 0
+    ->  split_string(Message, "\n", "", Lines),
+        convlist(note_in(Path), Lines, Notes)
+    ;   throw(error(cti_error(Status, Message), _))
+    ).
+
+note_in(Path, Text, note(Line, Column, Sentence)) :-
+    string_concat(Path, ":", Start),
+    string_concat(Start, Place, Text),
+    split_string(Place, ":", " ", [LineText, ColumnText, "note"|Rest]),
+    number_string(Line, LineText),
+    number_string(Column, ColumnText),
+    atomic_list_concat(Rest, ': ', Joined),
+    atom_string(Joined, Sentence).
+
+%!  cti_assertions(+File, -Assertions) is det.
+%
+%   Assertions is a list of terms (:- pred Head), one for each mode, in the
+%   form of Ciao's assertions: an argument of Head is + where the mode names
+%   it, and ? elsewhere.
+
+cti_assertions(File, Assertions) :-
+    cti_modes(File, Modes),
+    findall((:- pred(Head)),
+            ( member((Name/Arity)-Sets, Modes),
+              member(Set, Sets),
+              numlist_to(Arity, Positions),
+              maplist(marked(Set), Positions, Marks),
+              Head =.. [Name|Marks] ),
+            Assertions).
+
+numlist_to(0, []) :- !.
+numlist_to(Last, Positions) :-
+    numlist(1, Last, Positions).
+
+marked(Set, Position, Mark) :-
+    (   memberchk(Position, Set)
+    ->  Mark = (+)
+    ;   Mark = (?)
+    ).
+
+%!  cti_lost(+File, +Modes, -Lost, +Options) is det.
+%
+%   Modes is a list as of cti_modes/2. Lost has of each predicate those of
+%   its sets that are no longer modes of the program in File: none of the
+%   modes that cti infers is a part of them. Predicates that have lost no
+%   set are left out, so that [] says that all modes still hold. Options
+%   are those of cti_modes/3.
+
+cti_lost(File, Modes, Lost, Options) :-
+    cti_modes(File, Inferred, Options),
+    findall(Predicate-Sets,
+            ( member(Predicate-Wanted, Modes),
+              exclude(is_mode(Inferred, Predicate), Wanted, Sets),
+              Sets \== [] ),
+            Lost).
+
+is_mode(Inferred, Predicate, Set) :-
+    memberchk(Predicate-Sets, Inferred),
+    member(Mode, Sets),
+    subset(Mode, Set),
+    !.
+
+%!  cti_loop(+File, +Query, -Answer) is det.
+%!  cti_loop(+File, +Query, -Answer, +Options) is det.
+%
+%   Looks for a loop of Query, which is text, by the program in File.
+%   Answer is loop(Before, Cycle), two lists of numbers of clauses, where
+%   one was found, and then Query never ends; or no_loop(N), where there is
+%   none in its N derivations; or stopped(100000), where there are more.
+%
+%   Options is a list that may have depth(D): a derivation has at most D
+%   clauses, from 1 to 12. Without it that is 8.
+
+cti_loop(File, Query, Answer) :-
+    cti_loop(File, Query, Answer, []).
+
+cti_loop(File, Query, Answer, Options) :-
+    absolute_path(File, Path),
+    depth_words(Options, Depth),
+    append([loop|Depth], ['--', file(Path), Query], Words),
+    run_cti(Words, Status, Facts, Message),
+    (   memberchk(Status, [0, 1, 7])
+    ->  Facts = [Answer]
+    ;   throw(error(cti_error(Status, Message), _))
+    ).
+
+depth_words(Options, ['--depth', Depth]) :-
+    option(depth(Depth), Options),
+    !,
+    must_be(between(1, 12), Depth).
+depth_words(_, []).
 
 absolute_path(File, Path) :-
     absolute_file_name(File, Path, []).

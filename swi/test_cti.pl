@@ -51,4 +51,25 @@ test(infer_with_a_fault, error(cti_error(4, _))) :-
     tmp_file(cert, Certificate),
     cti_infer('examples/missing.pl', Certificate, []).
 
+test(loop, Answer == loop([],[2])) :-
+    cti_loop('examples/append.pl', 'app(X,[c],Z)', Answer).
+
+test(no_loop, Answer == no_loop(2)) :-
+    cti_loop('examples/append.pl', "app([a],Y,Z)", Answer, [depth(12)]).
+
+test(no_depth, error(type_error(_, _))) :-
+    cti_loop('examples/append.pl', 'app(X,Y,Z)', _, [depth(13)]).
+
+test(refused_query, error(cti_error(3, _))) :-
+    cti_loop('examples/append.pl', '-', _).
+
+test(assertions, Assertions == [(:- pred(app(+,?,?))), (:- pred(app(?,?,+)))]) :-
+    cti_assertions('examples/append.pl', Assertions).
+
+test(modes_hold, Lost == []) :-
+    cti_lost('examples/append.pl', [app/3-[[1],[1,2],[3]]], Lost, []).
+
+test(modes_are_lost, Lost == [app/3-[[2]], gone/1-[[]]]) :-
+    cti_lost('examples/append.pl', [app/3-[[1],[2]], gone/1-[[]]], Lost, []).
+
 :- end_tests(cti).
