@@ -3,7 +3,7 @@ _cti() {
     local word=${COMP_WORDS[COMP_CWORD]} command=${COMP_WORDS[1]}
     COMPREPLY=()
     if [ "$COMP_CWORD" -eq 1 ]; then
-        mapfile -t COMPREPLY < <(compgen -W "infer check run gen" -- "$word")
+        mapfile -t COMPREPLY < <(compgen -W "infer check run gen loop" -- "$word")
         return
     fi
     case $command in
@@ -22,6 +22,15 @@ _cti() {
             mapfile -t COMPREPLY < <(compgen -f -- "$word")
         else
             mapfile -t COMPREPLY < <(compgen -W "--steps" -- "$word")
+        fi
+        ;;
+    loop)
+        if [ "$COMP_CWORD" -eq 2 ]; then
+            mapfile -t COMPREPLY < <(compgen -f -- "$word")
+        elif [ "${COMP_WORDS[COMP_CWORD - 1]}" = --depth ]; then
+            mapfile -t COMPREPLY < <(compgen -W "1 2 3 4 5 6 7 8 9 10 11 12" -- "$word")
+        else
+            mapfile -t COMPREPLY < <(compgen -W "--depth" -- "$word")
         fi
         ;;
     esac

@@ -1,5 +1,5 @@
 pub mod WordLemmas
-pub mod StepWords
+pub mod QueryWords
 pub mod KeepLemmas
 pub mod ModeLemmas
 pub mod PlaceLemmas
@@ -8,6 +8,7 @@ pub mod QueryLemmas
 pub mod StepLemmas
 pub mod RunLemmas
 pub mod AnswerLemmas
+pub mod LoopLemmas
 pub mod CheckLemmas
 pub mod OutcomeLemmas
 pub mod MeetsLemmas

@@ -1,8 +1,8 @@
 -- What the status of the top call says.
-use Rattle.std.proofs.Common.{◌≡◌, ℕ, ◌≤◌, ◌<◌, List, [], length, subst, Option, Some, None, ◌⊎◌, refl, ap, sym, ◌∙◌, inl, inr, arith}
+use Rattle.std.proofs.Common.{◌≡◌, ℕ, ◌≤◌, ◌<◌, List, [], length, subst, Option, Some, None, ◌⊎◌, refl, ap, sym, ◌∙◌, inl, inr, arith, nat_eq, false}
 use Rattle.std.proofs.lemmas.Option.{none-some, same_Some}
 use Rattle.outside.specs.Told.{Map, TellsAt, TellsMore, Takes}
-use Rattle.cti_top.specs.Words.{Ask, infer, check, run, gen, Origin, file, generated, origin, asks}
+use Rattle.cti_top.specs.Words.{Ask, infer, check, run, gen, loop, Origin, file, generated, origin, query_of, asks}
 use Rattle.term_size.specs.declared.any_norm.NormName.{NormName}
 use Rattle.cti_top.specs.Programs.{IsRefused}
 use Rattle.report.specs.Generated.{generated as generated_text}
@@ -16,12 +16,14 @@ use Rattle.cti_top.specs.Queries.{Known}
 use Rattle.certificate.specs.declared.fact.Fact.{Fact}
 use Rattle.cti_top.specs.Runs.{Ends, IsKnown, IsRunOf, IsRefusedQuery}
 use Rattle.cti_top.specs.Runs as runs
+use Rattle.cti_top.specs.Loops.{IsTextOfLoop, IsLoopSearchOf}
+use Rattle.cti_top.specs.Loops as loops
 use Rattle.cti_terms.specs.Listing.{Listing}
 use Rattle.cti_terms.specs.declared.derivation.Goal.{Goal}
 use Rattle.ld_resolver.specs.declared.running.Ending.{Ending}
 use Rattle.cti_top.specs.Answers.{AnswersCertificate, AnswersProgram, AnswersRequest}
 use Rattle.cti_top.specs.Answers as answers
-use Rattle.cti_top.specs.Outcome.{most_bytes, TellsText, TellsLong, IsAnswer, usage, inferred, summed, ran, checked, program_too_long, program_refused, query_refused, certificate_too_long, certificate_refused, Outcome, HasFile, HasText, IsDoneOrMemory, IsRanOrMemory, IsCheckedOrMemory}
+use Rattle.cti_top.specs.Outcome.{most_bytes, TellsText, TellsLong, IsAnswer, usage, inferred, summed, ran, looped, checked, program_too_long, program_refused, query_refused, certificate_too_long, certificate_refused, Outcome, HasFile, HasText, IsDoneOrMemory, IsRanOrMemory, IsLoopedOrMemory, IsCheckedOrMemory}
 use Rattle.cti_top.specs.declared.status.Status.{Status}
 use Rattle.cti_top.specs.declared.status.Status.TheVariants.{Done, No, Usage, Refused, FileFault, OutFault, Memory, Stopped, Overflow}
 
@@ -42,14 +44,36 @@ memory_unlike : (Memory ≡ Done) ⊎ (Memory ≡ No) → ⊥
 memory_unlike (inl e) = cc
 memory_unlike (inr e) = cc
 
+-- and so is what was found of a loop
+looked_as : {p : Listing} {g : Goal} {d : ℕ} {status : Status} {text : List ℕ} → IsTextOfLoop p g d status text → (status ≡ Done) ⊎ (status ≡ No) ⊎ (status ≡ Stopped)
+looked_as (loops.found before cycle l on unbounded s e) = inl s
+looked_as (loops.none n w s e) = inr (inl s)
+looked_as (loops.more m s e) = inr (inr s)
+
+file_unlike_looked : (FileFault ≡ Done) ⊎ (FileFault ≡ No) ⊎ (FileFault ≡ Stopped) → ⊥
+file_unlike_looked (inl e) = cc
+file_unlike_looked (inr (inl e)) = cc
+file_unlike_looked (inr (inr e)) = cc
+
+out_unlike_looked : (OutFault ≡ Done) ⊎ (OutFault ≡ No) ⊎ (OutFault ≡ Stopped) → ⊥
+out_unlike_looked (inl e) = cc
+out_unlike_looked (inr (inl e)) = cc
+out_unlike_looked (inr (inr e)) = cc
+
+memory_unlike_looked : (Memory ≡ Done) ⊎ (Memory ≡ No) ⊎ (Memory ≡ Stopped) → ⊥
+memory_unlike_looked (inl e) = cc
+memory_unlike_looked (inr (inl e)) = cc
+memory_unlike_looked (inr (inr e)) = cc
+
 pub not_file : (told : Map) (words : List (List ℕ)) (text : List ℕ) → IsAnswer told words FileFault text → ⊥
 not_file told words text (usage n s e) = cc
 not_file told words text (inferred f b r a t m s) = cc
 not_file told words text (summed n a m s) = cc
 not_file told words text (ran f q n b a t r) = elim r.ran.ends [ ]
+not_file told words text (looped f q d b a t r) = file_unlike_looked (looked_as r.looked)
 not_file told words text (program_too_long k a m s e) = cc
 not_file told words text (program_refused k b kind at a t r s e) = cc
-not_file told words text (query_refused f q n b kind at a t r s e) = cc
+not_file told words text (query_refused k q b kind at a w t r s e) = cc
 not_file told words text (checked f c b d k a t i u h) = file_unlike (done_or_no h.verdict)
 not_file told words text (certificate_too_long f c b k a t i m s e) = cc
 not_file told words text (certificate_refused f c b d k l a t i u r s e) = cc
@@ -59,9 +83,10 @@ not_out told words text (usage n s e) = cc
 not_out told words text (inferred f b r a t m s) = cc
 not_out told words text (summed n a m s) = cc
 not_out told words text (ran f q n b a t r) = elim r.ran.ends [ ]
+not_out told words text (looped f q d b a t r) = out_unlike_looked (looked_as r.looked)
 not_out told words text (program_too_long k a m s e) = cc
 not_out told words text (program_refused k b kind at a t r s e) = cc
-not_out told words text (query_refused f q n b kind at a t r s e) = cc
+not_out told words text (query_refused k q b kind at a w t r s e) = cc
 not_out told words text (checked f c b d k a t i u h) = out_unlike (done_or_no h.verdict)
 not_out told words text (certificate_too_long f c b k a t i m s e) = cc
 not_out told words text (certificate_refused f c b d k l a t i u r s e) = cc
@@ -71,9 +96,10 @@ not_memory told words text (usage n s e) = cc
 not_memory told words text (inferred f b r a t m s) = cc
 not_memory told words text (summed n a m s) = cc
 not_memory told words text (ran f q n b a t r) = elim r.ran.ends [ ]
+not_memory told words text (looped f q d b a t r) = memory_unlike_looked (looked_as r.looked)
 not_memory told words text (program_too_long k a m s e) = cc
 not_memory told words text (program_refused k b kind at a t r s e) = cc
-not_memory told words text (query_refused f q n b kind at a t r s e) = cc
+not_memory told words text (query_refused k q b kind at a w t r s e) = cc
 not_memory told words text (checked f c b d k a t i u h) = memory_unlike (done_or_no h.verdict)
 not_memory told words text (certificate_too_long f c b k a t i m s e) = cc
 not_memory told words text (certificate_refused f c b d k l a t i u r s e) = cc
@@ -115,27 +141,32 @@ long_text told (file f) (file name) bytes e h short m = let same : f ≡ name = 
 long_text told (file f) (generated n) bytes e h short m = cc
 long_text told (generated n) k bytes e h short m = m
 
-pub infer_or_run : (name : List ℕ) (norm : NormName) (f q : List ℕ) (n : ℕ) → infer name norm ≡ run f q n → ⊥
-infer_or_run name norm f q n e = cc
+-- which command it is
+abbrev command_of : Ask → ℕ
+command_of (infer f norm) = 0
+command_of (check f c) = 1
+command_of (run f q n) = 2
+command_of (gen n) = 3
+command_of (loop f q d) = 4
 
-infer_or_check : (name : List ℕ) (norm : NormName) (f c : List ℕ) → infer name norm ≡ check f c → ⊥
-infer_or_check name norm f c e = cc
-
-pub check_or_run : (name c f q : List ℕ) (n : ℕ) → check name c ≡ run f q n → ⊥
-check_or_run name c f q n e = cc
-
-pub gen_or_infer : (n : ℕ) (f : List ℕ) (norm : NormName) → gen n ≡ infer f norm → ⊥
-gen_or_infer n f norm e = cc
-
-pub gen_or_check : (n : ℕ) (f c : List ℕ) → gen n ≡ check f c → ⊥
-gen_or_check n f c e = cc
-
-pub gen_or_run : (m : ℕ) (f q : List ℕ) (n : ℕ) → gen m ≡ run f q n → ⊥
-gen_or_run m f q n e = cc
+no_other : (x : Ask) → nat_eq (command_of x) (command_of x) ≡ false → ⊥
+no_other (infer f norm) e = cc
+no_other (check f c) e = cc
+no_other (run f q n) e = cc
+no_other (gen n) e = cc
+no_other (loop f q d) e = cc
 
 -- what is asked for is asked for once
 pub one_ask : (words : List (List ℕ)) (x y : Ask) → asks words ≡ Some x → asks words ≡ Some y → x ≡ y
 one_ask words x y a b = same_Some _ _ (sym a ∙ b)
+
+-- and not by two commands
+pub unlike : (words : List (List ℕ)) (x y : Ask) → asks words ≡ Some x → asks words ≡ Some y → nat_eq (command_of x) (command_of y) ≡ false → ⊥
+unlike words x y a b e = no_other x (subst (λ (z : Ask). nat_eq (command_of x) (command_of z) ≡ false) (sym (one_ask words x y a b)) e)
+
+-- nor is there a query where there is none
+pub no_query : (words : List (List ℕ)) (x y : Ask) (q : List ℕ) → asks words ≡ Some x → asks words ≡ Some y → query_of y ≡ Some q → query_of x ≡ None → ⊥
+no_query words x y q a b w n = none-some _ (sym n ∙ ap query_of (one_ask words x y a b) ∙ w)
 
 -- the program's text has no fault
 module _ (told : Map) (words : List (List ℕ)) (ask : Ask) (bytes : List ℕ) (asked : asks words ≡ Some ask) (has : HasText told (origin ask) bytes) where
@@ -154,15 +185,16 @@ pub done_or_memory : (told : Map) (words : List (List ℕ)) (status : Status) (t
 done_or_memory told words status text name bytes norm (usage n s e) asked has short none = absurd (none-some _ (sym n ∙ asked))
 done_or_memory told words status text name bytes norm (inferred f b r a t m s) asked has short none = inl s
 done_or_memory told words status text name bytes norm (summed n a m s) asked has short none = inl s
-done_or_memory told words status text name bytes norm (ran f q n b a t r) asked has short none = absurd (infer_or_run name norm f q n (one_ask words _ _ asked a))
-done_or_memory told words status text name bytes norm (checked f c b d k a t i u h) asked has short none = absurd (infer_or_check name norm f c (one_ask words _ _ asked a))
+done_or_memory told words status text name bytes norm (ran f q n b a t r) asked has short none = absurd (unlike words _ _ asked a refl)
+done_or_memory told words status text name bytes norm (checked f c b d k a t i u h) asked has short none = absurd (unlike words _ _ asked a refl)
 done_or_memory told words status text name bytes norm (program_too_long k a m s e) asked has short none = absurd (no_long told words (infer name norm) bytes asked has k a m short)
 done_or_memory told words status text name bytes norm (program_refused k b kind at a t r s e) asked has short none =
     absurd (no_refusal told words (infer name norm) bytes asked has k b kind at a t r none)
-done_or_memory told words status text name bytes norm (query_refused f q n b kind at a t r s e) asked has short none = absurd (infer_or_run name norm f q n (one_ask words _ _ asked a))
-done_or_memory told words status text name bytes norm (certificate_too_long f c b k a t i m s e) asked has short none = absurd (infer_or_check name norm f c (one_ask words _ _ asked a))
+done_or_memory told words status text name bytes norm (looped f q d b a t r) asked has short none = absurd (unlike words _ _ asked a refl)
+done_or_memory told words status text name bytes norm (query_refused k q b kind at a w t r s e) asked has short none = absurd (no_query words _ k q asked a w refl)
+done_or_memory told words status text name bytes norm (certificate_too_long f c b k a t i m s e) asked has short none = absurd (unlike words _ _ asked a refl)
 done_or_memory told words status text name bytes norm (certificate_refused f c b d k l a t i u r s e) asked has short none =
-    absurd (infer_or_check name norm f c (one_ask words _ _ asked a))
+    absurd (unlike words _ _ asked a refl)
 
 -- a generated program without a fault is answered
 pub summed_or_memory : (told : Map) (words : List (List ℕ)) (status : Status) (text : List ℕ) (n : ℕ) → IsAnswer told words status text → asks words ≡ Some (gen n)
@@ -170,14 +202,15 @@ pub summed_or_memory : (told : Map) (words : List (List ℕ)) (status : Status) 
 summed_or_memory told words status text n (usage none s e) asked short no_fault = absurd (none-some _ (sym none ∙ asked))
 summed_or_memory told words status text n (inferred f b r a t m s) asked short no_fault = inl s
 summed_or_memory told words status text n (summed m a h s) asked short no_fault = inl s
-summed_or_memory told words status text n (ran f q k b a t r) asked short no_fault = absurd (gen_or_run n f q k (one_ask words _ _ asked a))
-summed_or_memory told words status text n (checked f c b d k a t i u h) asked short no_fault = absurd (gen_or_check n f c (one_ask words _ _ asked a))
+summed_or_memory told words status text n (ran f q k b a t r) asked short no_fault = absurd (unlike words _ _ asked a refl)
+summed_or_memory told words status text n (checked f c b d k a t i u h) asked short no_fault = absurd (unlike words _ _ asked a refl)
 summed_or_memory told words status text n (program_too_long k a m s e) asked short no_fault = absurd (no_long told words (gen n) (generated_text n) asked refl k a m short)
 summed_or_memory told words status text n (program_refused k b kind at a t r s e) asked short no_fault =
     absurd (no_refusal told words (gen n) (generated_text n) asked refl k b kind at a t r no_fault)
-summed_or_memory told words status text n (query_refused f q k b kind at a t r s e) asked short no_fault = absurd (gen_or_run n f q k (one_ask words _ _ asked a))
-summed_or_memory told words status text n (certificate_too_long f c b k a t i m s e) asked short no_fault = absurd (gen_or_check n f c (one_ask words _ _ asked a))
-summed_or_memory told words status text n (certificate_refused f c b d k l a t i u r s e) asked short no_fault = absurd (gen_or_check n f c (one_ask words _ _ asked a))
+summed_or_memory told words status text n (looped f q d b a t r) asked short no_fault = absurd (unlike words _ _ asked a refl)
+summed_or_memory told words status text n (query_refused k q b kind at a w t r s e) asked short no_fault = absurd (no_query words _ k q asked a w refl)
+summed_or_memory told words status text n (certificate_too_long f c b k a t i m s e) asked short no_fault = absurd (unlike words _ _ asked a refl)
+summed_or_memory told words status text n (certificate_refused f c b d k l a t i u r s e) asked short no_fault = absurd (unlike words _ _ asked a refl)
 
 -- a run ends as it was asked, is stopped, or meets a value that is too large
 ended : {p : Listing} {g : Goal} {n : ℕ} {e : Ending} (status : Status) → Ends p g n status e → IsRanOrMemory status
@@ -187,19 +220,31 @@ ended status h = elim h as (λ s e _. IsRanOrMemory s) [
   | runs.no_more w m ↦ inl refl
 ]
 
--- the name of the program's file
-abbrev pub name_of : Ask → List ℕ
-name_of (infer f norm) = f
-name_of (check f c) = f
-name_of (run f q n) = f
-name_of (gen n) = []
+-- the name of the certificate's file
+abbrev certificate_of : Ask → List ℕ
+certificate_of (check f c) = c
+certificate_of ask = []
 
--- the query that was asked, or the name of the certificate
-abbrev pub query_of : Ask → List ℕ
-query_of (gen n) = []
-query_of (infer f norm) = f
-query_of (check f c) = c
-query_of (run f q n) = q
+-- one query of one program
+module _ (told : Map) (words : List (List ℕ)) (ask k : Ask) (asked : asks words ≡ Some ask) (a : asks words ≡ Some k) where
+  pub one_text : (bytes b : List ℕ) → HasText told (origin ask) bytes → TellsText told (origin k) b → b ≡ bytes
+  one_text bytes b has t = same_text told (origin k) (origin ask) b bytes (ap origin (one_ask words k ask a asked)) has t
+
+  pub one_query : (query q : List ℕ) → query_of ask ≡ Some query → query_of k ≡ Some q → q ≡ query
+  one_query query q v w = same_Some _ _ (sym w ∙ ap query_of (one_ask words k ask a asked) ∙ v)
+
+  -- the query has no fault
+  no_query_fault : (query q bytes b : List ℕ) (kind at : ℕ) → query_of ask ≡ Some query → query_of k ≡ Some q → HasText told (origin ask) bytes
+      → TellsText told (origin k) b → IsRefusedQuery b q kind at → ((kind at : ℕ) → IsRefusedQuery bytes query kind at → ⊥) → ⊥
+  no_query_fault query q bytes b kind at v w has t r none =
+      let same = one_text bytes b has t in
+      let same_query = one_query query q v w in
+      none kind at (rw (same, same_query) at r)
+
+or_memory : (status : Status) → (status ≡ Done) ⊎ (status ≡ No) ⊎ (status ≡ Stopped) → IsLoopedOrMemory status
+or_memory status (inl h) = inl h
+or_memory status (inr (inl h)) = inr (inl h)
+or_memory status (inr (inr h)) = inr (inr (inl h))
 
 -- a query without a fault is answered, where its file has none
 pub ran_or_memory : (told : Map) (words : List (List ℕ)) (status : Status) (text name query bytes : List ℕ) (steps : ℕ) → IsAnswer told words status text
@@ -209,20 +254,39 @@ ran_or_memory told words status text name query bytes steps (usage n s e) asked 
 ran_or_memory told words status text name query bytes steps (inferred f b r a t m s) asked has short none no_fault = inl s
 ran_or_memory told words status text name query bytes steps (summed n a m s) asked has short none no_fault = inl s
 ran_or_memory told words status text name query bytes steps (ran f q n b a t r) asked has short none no_fault = ended status r.ran.ends
-ran_or_memory told words status text name query bytes steps (checked f c b d k a t i u h) asked has short none no_fault = absurd (check_or_run f c name query steps (one_ask words _ _ a asked))
+ran_or_memory told words status text name query bytes steps (checked f c b d k a t i u h) asked has short none no_fault = absurd (unlike words _ _ a asked refl)
 ran_or_memory told words status text name query bytes steps (program_too_long k a m s e) asked has short none no_fault =
     absurd (no_long told words (run name query steps) bytes asked has k a m short)
 ran_or_memory told words status text name query bytes steps (program_refused k b kind at a t r s e) asked has short none no_fault =
     absurd (no_refusal told words (run name query steps) bytes asked has k b kind at a t r none)
-ran_or_memory told words status text name query bytes steps (query_refused f q n b kind at a t r s e) asked has short none no_fault =
-    let one = one_ask words _ _ a asked in
-    let same = same_bytes told f name b bytes (ap name_of one) has t in
-    let same_query : q ≡ query = ap query_of one in
-    absurd (no_fault kind at (rw (same, same_query) at r))
+ran_or_memory told words status text name query bytes steps (looped f q d b a t r) asked has short none no_fault = absurd (unlike words _ _ asked a refl)
+ran_or_memory told words status text name query bytes steps (query_refused k q b kind at a w t r s e) asked has short none no_fault =
+    absurd (no_query_fault told words (run name query steps) k asked a query q bytes b kind at refl w has t r no_fault)
 ran_or_memory told words status text name query bytes steps (certificate_too_long f c b k a t i m s e) asked has short none no_fault =
-    absurd (check_or_run f c name query steps (one_ask words _ _ a asked))
+    absurd (unlike words _ _ a asked refl)
 ran_or_memory told words status text name query bytes steps (certificate_refused f c b d k l a t i u r s e) asked has short none no_fault =
-    absurd (check_or_run f c name query steps (one_ask words _ _ a asked))
+    absurd (unlike words _ _ a asked refl)
+
+-- and so is one whose loops are looked for
+pub looped_or_memory : (told : Map) (words : List (List ℕ)) (status : Status) (text name query bytes : List ℕ) (depth : ℕ) → IsAnswer told words status text
+    → asks words ≡ Some (loop name query depth) → HasFile told name bytes → length bytes ≤ most_bytes → ((kind at : ℕ) → IsRefused bytes kind at → ⊥)
+    → ((kind at : ℕ) → IsRefusedQuery bytes query kind at → ⊥) → IsLoopedOrMemory status
+looped_or_memory told words status text name query bytes depth (usage n s e) asked has short none no_fault = absurd (none-some _ (sym n ∙ asked))
+looped_or_memory told words status text name query bytes depth (inferred f b r a t m s) asked has short none no_fault = inl s
+looped_or_memory told words status text name query bytes depth (summed n a m s) asked has short none no_fault = inl s
+looped_or_memory told words status text name query bytes depth (ran f q n b a t r) asked has short none no_fault = absurd (unlike words _ _ asked a refl)
+looped_or_memory told words status text name query bytes depth (looped f q d b a t r) asked has short none no_fault = or_memory status (looked_as r.looked)
+looped_or_memory told words status text name query bytes depth (checked f c b d k a t i u h) asked has short none no_fault = absurd (unlike words _ _ asked a refl)
+looped_or_memory told words status text name query bytes depth (program_too_long k a m s e) asked has short none no_fault =
+    absurd (no_long told words (loop name query depth) bytes asked has k a m short)
+looped_or_memory told words status text name query bytes depth (program_refused k b kind at a t r s e) asked has short none no_fault =
+    absurd (no_refusal told words (loop name query depth) bytes asked has k b kind at a t r none)
+looped_or_memory told words status text name query bytes depth (query_refused k q b kind at a w t r s e) asked has short none no_fault =
+    absurd (no_query_fault told words (loop name query depth) k asked a query q bytes b kind at refl w has t r no_fault)
+looped_or_memory told words status text name query bytes depth (certificate_too_long f c b k a t i m s e) asked has short none no_fault =
+    absurd (unlike words _ _ asked a refl)
+looped_or_memory told words status text name query bytes depth (certificate_refused f c b d k l a t i u r s e) asked has short none no_fault =
+    absurd (unlike words _ _ asked a refl)
 
 yes_or_no : (status : Status) → (status ≡ Done) ⊎ (status ≡ No) → IsCheckedOrMemory status
 yes_or_no status (inl h) = inl h
@@ -236,18 +300,19 @@ checked_or_memory told words status text name certificate bytes certified c (usa
 checked_or_memory told words status text name certificate bytes certified c (inferred f b r a t m s) asked has short none held is = inl s
 checked_or_memory told words status text name certificate bytes certified c (summed n a m s) asked has short none held is = inl s
 checked_or_memory told words status text name certificate bytes certified c (ran f q n b a t r) asked has short none held is =
-    absurd (check_or_run name certificate f q n (one_ask words _ _ asked a))
+    absurd (unlike words _ _ asked a refl)
 checked_or_memory told words status text name certificate bytes certified c (checked f d b e k a t i u h) asked has short none held is = yes_or_no status (done_or_no h.verdict)
 checked_or_memory told words status text name certificate bytes certified c (program_too_long k a m s e) asked has short none held is =
     absurd (no_long told words (check name certificate) bytes asked has k a m short)
 checked_or_memory told words status text name certificate bytes certified c (program_refused k b kind at a t r s e) asked has short none held is =
     absurd (no_refusal told words (check name certificate) bytes asked has k b kind at a t r none)
-checked_or_memory told words status text name certificate bytes certified c (query_refused f q n b kind at a t r s e) asked has short none held is =
-    absurd (check_or_run name certificate f q n (one_ask words _ _ asked a))
+checked_or_memory told words status text name certificate bytes certified c (looped f q d b a t r) asked has short none held is = absurd (unlike words _ _ asked a refl)
+checked_or_memory told words status text name certificate bytes certified c (query_refused k q b kind at a w t r s e) asked has short none held is =
+    absurd (no_query words _ k q asked a w refl)
 checked_or_memory told words status text name certificate bytes certified c (certificate_too_long f d b k a t i m s e) asked has short none held is =
-    absurd (long_or_short told most_certificate_bytes d certificate certified (ap query_of (one_ask words _ _ a asked)) held is.short m)
+    absurd (long_or_short told most_certificate_bytes d certificate certified (ap certificate_of (one_ask words _ _ a asked)) held is.short m)
 checked_or_memory told words status text name certificate bytes certified c (certificate_refused f d b e k l a t i u r s o) asked has short none held is =
-    let same = same_bytes told d certificate e certified (ap query_of (one_ask words _ _ a asked)) held u in
+    let same = same_bytes told d certificate e certified (ap certificate_of (one_ask words _ _ a asked)) held u in
     absurd (r.none c (rw same is))
 
 -- the answer to a certificate, whose program was read
@@ -264,7 +329,9 @@ answered : (told : Map) (words : List (List ℕ)) (ask : Ask) (bytes : List ℕ)
 answered told words (infer f norm) bytes status text a t (inl (s, m)) = inferred f bytes norm a t m s
 answered told words (check f name) bytes status text a t (inl (known, i, h)) = certified told words f name bytes known status text a t i h
 answered told words (run f query n) bytes status text a t (inl (inl r)) = ran f query n bytes a t r
-answered told words (run f query n) bytes status text a t (inl (inr (kind, at, r, h))) = query_refused f query n bytes kind at a t r h.status h.line
+answered told words (run f query n) bytes status text a t (inl (inr (kind, at, r, h))) = query_refused (run f query n) query bytes kind at a refl t r h.status h.line
+answered told words (loop f query d) bytes status text a t (inl (inl r)) = looped f query d bytes a t r
+answered told words (loop f query d) bytes status text a t (inl (inr (kind, at, r, h))) = query_refused (loop f query d) query bytes kind at a refl t r h.status h.line
 answered told words (gen n) bytes status text a t (inl (s, m)) = summed n a (subst (λ (b : List ℕ). IsSummary b n text) t m) s
 answered told words ask bytes status text a t (inr (kind, at, r, h)) = program_refused ask bytes kind at a t r h.status h.line
 

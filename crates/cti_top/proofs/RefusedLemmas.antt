@@ -2,16 +2,18 @@
 use Rattle.std.proofs.Common.{◌≡◌, ◌⊎◌, ℕ, List, Some, inl, inr, refl, ap, sym, ◌∙◌, subst}
 use Rattle.std.proofs.lemmas.Option.{none-some}
 use Rattle.outside.specs.Told.{Map}
-use Rattle.cti_top.specs.Words.{Ask, infer, check, run, gen, Origin, origin, asks}
+use Rattle.cti_top.specs.Words.{Ask, infer, check, run, gen, loop, Origin, origin, query_of, asks}
 use Rattle.cti_top.specs.Programs.{IsRefused}
 use Rattle.report.specs.Generated.{generated}
-use Rattle.cti_top.specs.Queries.{Known}
+use Rattle.cti_terms.specs.Listing.{Listing}
+use Rattle.cti_terms.specs.declared.derivation.Goal.{Goal}
+use Rattle.cti_top.specs.Queries.{Known, IsQueryOf}
 use Rattle.cti_top.specs.Runs.{IsKnown, IsRefusedQuery}
-use Rattle.cti_top.specs.Outcome.{TellsText, FileRose, OriginRose, HasFile, HasText, IsAnswer, IsRefusedOrMemory, usage, inferred, summed, ran, checked, program_too_long, program_refused, query_refused, certificate_too_long, certificate_refused}
+use Rattle.cti_top.specs.Outcome.{TellsText, FileRose, OriginRose, HasText, IsAnswer, IsRefusedOrMemory, usage, inferred, summed, ran, looped, checked, program_too_long, program_refused, query_refused, certificate_too_long, certificate_refused}
 use Rattle.cti_top.specs.declared.status.Status.{Status}
 use Rattle.cti_top.specs.declared.status.Status.TheVariants.{FileFault, Memory, Refused}
 use Rattle.cti_top.proofs.OneAnswer.{none_refused, no_query_refused}
-use Rattle.cti_top.proofs.OutcomeLemmas.{same_bytes, same_text, one_ask, name_of, query_of, infer_or_run, check_or_run, gen_or_run}
+use Rattle.cti_top.proofs.OutcomeLemmas.{same_text, one_ask, one_text, one_query, no_query}
 
 module _ (told : Map) (words : List (List ℕ)) where
   -- no program stands in a file that is refused
@@ -45,26 +47,35 @@ module _ (told : Map) (words : List (List ℕ)) (status : Status) (text : List �
       let i = m.inferred in
       absurd (none_known told words ask (gen n) bytes (generated n) kind at (record { names = i.names; program = i.program; table = i.table }) asked a has refl r i.is)
   refused_answer ask bytes kind at (ran f q n b a t m) asked has r = absurd (none_known told words ask (run f q n) bytes b kind at m.known asked a has t r m.is)
+  refused_answer ask bytes kind at (looped f q d b a t m) asked has r = absurd (none_known told words ask (loop f q d) bytes b kind at m.known asked a has t r m.is)
   refused_answer ask bytes kind at (checked f c b d k a t i u h) asked has r = absurd (none_known told words ask (check f c) bytes b kind at k asked a has t r i)
   refused_answer ask bytes kind at (program_too_long k a m s e) asked has r = s
   refused_answer ask bytes kind at (program_refused k b kind' at' a t q s e) asked has r = s
-  refused_answer ask bytes kind at (query_refused f q n b kind' at' a t m s e) asked has r = s
+  refused_answer ask bytes kind at (query_refused k q b kind' at' a w t m s e) asked has r = s
   refused_answer ask bytes kind at (certificate_too_long f c b k a t i m s e) asked has r = s
   refused_answer ask bytes kind at (certificate_refused f c b d k l a t i u q s e) asked has r = s
 
-  pub query_refused_answer : (name query bytes : List ℕ) (steps kind at : ℕ) → IsAnswer told words status text → asks words ≡ Some (run name query steps) → HasFile told name bytes
-      → IsRefusedQuery bytes query kind at → status ≡ Refused
-  query_refused_answer name query bytes steps kind at (usage n s e) asked has r = absurd (none-some _ (sym n ∙ asked))
-  query_refused_answer name query bytes steps kind at (inferred f b n a t m s) asked has r = absurd (infer_or_run f n name query steps (one_ask words _ _ a asked))
-  query_refused_answer name query bytes steps kind at (summed n a m s) asked has r = absurd (gen_or_run n name query steps (one_ask words _ _ a asked))
-  query_refused_answer name query bytes steps kind at (ran f q n b a t m) asked has r =
-      let one = one_ask words _ _ a asked in
-      let same = same_bytes told f name b bytes (ap name_of one) has t in
-      let same_query : q ≡ query = ap query_of one in
-      absurd (no_query_refused b q m.known m.names m.program m.goal m.is m.asked kind at (rw (same, same_query) r))
-  query_refused_answer name query bytes steps kind at (checked f c b d k a t i u h) asked has r = absurd (check_or_run f c name query steps (one_ask words _ _ a asked))
-  query_refused_answer name query bytes steps kind at (program_too_long k a m s e) asked has r = s
-  query_refused_answer name query bytes steps kind at (program_refused k b kind' at' a t q s e) asked has r = s
-  query_refused_answer name query bytes steps kind at (query_refused f q n b kind' at' a t m s e) asked has r = s
-  query_refused_answer name query bytes steps kind at (certificate_too_long f c b k a t i m s e) asked has r = s
-  query_refused_answer name query bytes steps kind at (certificate_refused f c b d k l a t i u q s e) asked has r = s
+  -- no goal is the query that is refused
+  no_goal : (ask k : Ask) (query q bytes b : List ℕ) (kind at : ℕ) (known : Known) (names : List (List ℕ)) (p : Listing) (g : Goal) → asks words ≡ Some ask → asks words ≡ Some k
+      → query_of ask ≡ Some query → query_of k ≡ Some q → HasText told (origin ask) bytes → TellsText told (origin k) b → IsRefusedQuery bytes query kind at
+      → IsKnown b known → IsQueryOf known q names p g → ⊥
+  no_goal ask k query q bytes b kind at known names p g asked a v w has t r is goal =
+      let same = one_text told words ask k asked a bytes b has t in
+      let same_query = one_query told words ask k asked a query q v w in
+      no_query_refused b q known names p g is goal kind at (rw (same, same_query) r)
+
+  pub query_refused_answer : (ask : Ask) (query bytes : List ℕ) (kind at : ℕ) → IsAnswer told words status text → asks words ≡ Some ask → query_of ask ≡ Some query
+      → HasText told (origin ask) bytes → IsRefusedQuery bytes query kind at → status ≡ Refused
+  query_refused_answer ask query bytes kind at (usage n s e) asked v has r = absurd (none-some _ (sym n ∙ asked))
+  query_refused_answer ask query bytes kind at (inferred f b n a t m s) asked v has r = absurd (no_query words (infer f n) ask query a asked v refl)
+  query_refused_answer ask query bytes kind at (summed n a m s) asked v has r = absurd (no_query words (gen n) ask query a asked v refl)
+  query_refused_answer ask query bytes kind at (ran f q n b a t m) asked v has r =
+      absurd (no_goal ask (run f q n) query q bytes b kind at m.known m.names m.program m.goal asked a v refl has t r m.is m.asked)
+  query_refused_answer ask query bytes kind at (looped f q d b a t m) asked v has r =
+      absurd (no_goal ask (loop f q d) query q bytes b kind at m.known m.names m.program m.goal asked a v refl has t r m.is m.asked)
+  query_refused_answer ask query bytes kind at (checked f c b d k a t i u h) asked v has r = absurd (no_query words (check f c) ask query a asked v refl)
+  query_refused_answer ask query bytes kind at (program_too_long k a m s e) asked v has r = s
+  query_refused_answer ask query bytes kind at (program_refused k b kind' at' a t q s e) asked v has r = s
+  query_refused_answer ask query bytes kind at (query_refused k q b kind' at' a w t m s e) asked v has r = s
+  query_refused_answer ask query bytes kind at (certificate_too_long f c b k a t i m s e) asked v has r = s
+  query_refused_answer ask query bytes kind at (certificate_refused f c b d k l a t i u q s e) asked v has r = s

@@ -1,13 +1,13 @@
 -- Words that the command line takes.
-use Rattle.std.proofs.Common.{ℕ, nat_eq, codes, option_map, ◌≡◌, Bool, true, false, List, [], ◌∷◌, Option, Some, refl, is_some}
+use Rattle.std.proofs.Common.{ℕ, nat_eq, codes, option_map, ◌≡◌, Bool, true, false, List, [], ◌∷◌, Option, Some, None, refl, is_some}
 use Rattle.term_size.specs.declared.any_norm.NormName.TheVariants as norm
-use Rattle.clap.specs.Words.{Kinds, Text, fault_of, first_of, subcommand_of}
+use Rattle.clap.specs.Words.{Kinds, Row, Text, fault_of, subcommand_of}
 use Rattle.clap.specs.Kinds.{check_kinds, or_else}
 use Rattle.clap.specs.Faults.{defaults_fault, level_fault, settle_fault, walk_fault}
 use Rattle.clap.specs.Simple.{Shape, built}
 use Rattle.clap.specs.Walk.{Held, Names, settled, walk, walk_from}
 use Rattle.clap.proofs.OnLiterals.{clap_on_literals}
-use Rattle.cti_top.specs.Words.{command_line, asks, infer, check, run, gen, norm_in, predicates_in}
+use Rattle.cti_top.specs.Words.{command_line, ask_if, asks, infer, check, run, gen, loop, norm_in, predicates_in}
 
 or_else_nil : (a b : Kinds) → or_else a b ≡ [] → (a ≡ []) × (b ≡ [])
 or_else_nil [] b h = (refl, h)
@@ -33,24 +33,10 @@ level_needs s names h words false below needs none =
 pub is_entered : (words : List Text) → fault_of command_line words ≡ [] → is_some (subcommand_of command_line words) ≡ true
 is_entered words h = level_needs (built command_line).top _ _ _ _ _ refl h
 
--- a file's name that does not begin with a dash is taken
-pub infer_taken : (c : ℕ) (cs : List ℕ) → nat_eq c 45 ≡ false → fault_of command_line (codes "infer" ∷ (c ∷ cs) ∷ []) ≡ []
-unfolding clap_on_literals
-infer_taken c cs h = simp h
-
-pub infer_rows : (c : ℕ) (cs : List ℕ) → nat_eq c 45 ≡ false → option_map {U = Text × Option Text} (λ p. (p.0, first_of (codes "file") p.1)) (subcommand_of command_line (codes "infer" ∷ (c ∷ cs) ∷ [])) ≡ Some (codes "infer", Some (c ∷ cs))
-unfolding clap_on_literals
-infer_rows c cs h = simp h
-
--- two files' names that do not begin with a dash are taken
-pub check_taken : (c d : ℕ) (cs ds : List ℕ) → nat_eq c 45 ≡ false → nat_eq d 45 ≡ false → fault_of command_line (codes "check" ∷ (c ∷ cs) ∷ (d ∷ ds) ∷ []) ≡ []
-unfolding clap_on_literals
-check_taken c d cs ds h k = simp (h, k)
-
--- a file and a query that do not begin with a dash are taken
-pub run_taken : (c d : ℕ) (cs ds : List ℕ) → nat_eq c 45 ≡ false → nat_eq d 45 ≡ false → fault_of command_line (codes "run" ∷ (c ∷ cs) ∷ (d ∷ ds) ∷ []) ≡ []
-unfolding clap_on_literals
-run_taken c d cs ds h k = simp (h, k)
+-- words with a fault ask for nothing
+pub none_asked : (kinds : Kinds) (subcommand : Option (Text × List Row)) → (kinds ≡ [] → ⊥) → ask_if kinds subcommand ≡ None
+none_asked [] subcommand h = absurd (h refl)
+none_asked (k ∷ ks) subcommand h = refl
 
 -- what these words ask for
 pub infer_asks : (c : ℕ) (cs : List ℕ) → nat_eq c 45 ≡ false → asks (codes "infer" ∷ (c ∷ cs) ∷ []) ≡ Some (infer (c ∷ cs) norm.Term)
@@ -70,6 +56,10 @@ check_asks c d cs ds h k = simp (h, k)
 pub run_asks : (c d : ℕ) (cs ds : List ℕ) → nat_eq c 45 ≡ false → nat_eq d 45 ≡ false → asks (codes "run" ∷ (c ∷ cs) ∷ (d ∷ ds) ∷ []) ≡ Some (run (c ∷ cs) (d ∷ ds) 100000)
 unfolding clap_on_literals
 run_asks c d cs ds h k = simp (h, k)
+
+pub loop_asks : (c d : ℕ) (cs ds : List ℕ) → nat_eq c 45 ≡ false → nat_eq d 45 ≡ false → asks (codes "loop" ∷ (c ∷ cs) ∷ (d ∷ ds) ∷ []) ≡ Some (loop (c ∷ cs) (d ∷ ds) 8)
+unfolding clap_on_literals
+loop_asks c d cs ds h k = simp (h, k)
 
 -- a word after gen that does not begin with a dash
 pub gen_asks : (c : ℕ) (cs : List ℕ) → nat_eq c 45 ≡ false → asks (codes "gen" ∷ (c ∷ cs) ∷ []) ≡ option_map gen (predicates_in (c ∷ cs))

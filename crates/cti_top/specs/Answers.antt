@@ -4,7 +4,7 @@ use Rattle.std.specs.Prelude.{ℕ, ◌≡◌, ◌≤◌, ◌⊎◌, List}
 use Rattle.cert_checker.specs.declared.verdict.Verdict.{Verdict}
 use Rattle.cert_checker.specs.declared.verdict.Verdict.TheVariants as verdict
 use Rattle.certificate.specs.Reading.{most_bytes}
-use Rattle.cti_top.specs.Words.{Ask, infer, check, run, gen, Origin, origin}
+use Rattle.cti_top.specs.Words.{Ask, infer, check, run, gen, loop, Origin, origin}
 use Rattle.cti_top.specs.Words as words
 use Rattle.outside.specs.Told.{Map, TellsAt, TellsMore}
 use Rattle.cti_top.specs.Checks.{IsCheckOf, IsRefusedCertificate}
@@ -16,6 +16,9 @@ use Rattle.cti_top.specs.Programs.{IsRefused}
 use Rattle.cti_top.specs.Inferred.{IsInferred}
 use Rattle.cti_top.specs.Summary.{IsSummary}
 use Rattle.cti_top.specs.Runs.{IsKnown, IsRunOf, IsRefusedQuery}
+use Rattle.cti_top.specs.Loops.{IsLoopSearchOf, loop_line, no_loop_line, stopped_line}
+use Rattle.loop_finder.specs.declared.finding.Looked.{Looked}
+use Rattle.loop_finder.specs.declared.finding.Looked.TheVariants as looked
 use Rattle.cti_top.specs.declared.request.Request.{Request}
 use Rattle.cti_top.specs.declared.request.Request.TheVariants as request
 use Rattle.cti_top.specs.declared.request.Origin.{Origin as ItsOrigin}
@@ -44,6 +47,7 @@ ask_of (request.Infer file norm) = infer file.now norm
 ask_of (request.Check file certificate) = check file.now certificate.now
 ask_of (request.Run file query steps) = run file.now query.now steps
 ask_of (request.Generate count) = gen count
+ask_of (request.Loop file query depth) = loop file.now query.now depth
 
 -- an origin, by its text
 abbrev pub origin_of : ItsOrigin → Origin
@@ -55,15 +59,41 @@ abbrev pub IsInRange : Origin → Type 0
 IsInRange (words.file name) = Unit {0}
 IsInRange (words.generated n) = (1 ≤ n) × (n ≤ 300)
 
+-- the numbers of what is asked for are in range
+abbrev pub IsAskInRange : Ask → Type 0
+IsAskInRange (infer name norm) = Unit {0}
+IsAskInRange (check name certificate) = Unit {0}
+IsAskInRange (run name query steps) = Unit {0}
+IsAskInRange (gen n) = (1 ≤ n) × (n ≤ 300)
+IsAskInRange (loop name query depth) = (1 ≤ depth) × (depth ≤ 12)
+
+-- the status and the line of what was found where a loop was looked for
+abbrev pub looked_status : Looked → Status
+looked_status (looked.Loop before cycle) = Done
+looked_status (looked.NoLoop steps) = No
+looked_status looked.Stopped = Stopped
+
+abbrev pub looked_line : Looked → List ℕ
+looked_line (looked.Loop before cycle) = loop_line before.items cycle.items
+looked_line (looked.NoLoop steps) = no_loop_line steps
+looked_line looked.Stopped = stopped_line
+
 -- the answer that refuses a text for a fault of this kind at this byte
 pub record RefusesAt (subject : Subject) (text : List ℕ) (kind at : ℕ) (s : Status) (written : List ℕ) : Type 0 where
   pub status : s ≡ Refused
   pub line : written ≡ refusal_line subject (line_of text at) (column_of text at) kind
 
+-- the answer that refuses a query of the program that these bytes are
+abbrev pub RefusesQuery : List ℕ → List ℕ → Status → List ℕ → Type 0
+RefusesQuery bytes query status text = (kind : ℕ) × (at : ℕ) × IsRefusedQuery bytes query kind at × RefusesAt Query query kind at status text
+
 -- the answer to a query of the program that these bytes are: what is printed for it, or why it is refused
 abbrev pub AnswersQuery : List ℕ → List ℕ → ℕ → Status → List ℕ → Type 0
-AnswersQuery bytes query n status text =
-    IsRunOf bytes query n status text ⊎ ((kind : ℕ) × (at : ℕ) × IsRefusedQuery bytes query kind at × RefusesAt Query query kind at status text)
+AnswersQuery bytes query n status text = IsRunOf bytes query n status text ⊎ RefusesQuery bytes query status text
+
+-- the same where a loop of it is looked for
+abbrev pub AnswersLoop : List ℕ → List ℕ → ℕ → Status → List ℕ → Type 0
+AnswersLoop bytes query d status text = IsLoopSearchOf bytes query d status text ⊎ RefusesQuery bytes query status text
 
 -- the text is this line, which refuses what was read
 pub record Refuses (subject : Subject) (line column kind : ℕ) (s : Status) (written : List ℕ) : Type 0 where
@@ -85,6 +115,7 @@ AnswersAsk told bytes (infer file norm) status text = (status ≡ Done) × IsInf
 AnswersAsk told bytes (check file certificate) status text = (known : Known) × IsKnown bytes known × AnswersCertificate told known certificate status text
 AnswersAsk told bytes (run file query steps) status text = AnswersQuery bytes query steps status text
 AnswersAsk told bytes (gen n) status text = (status ≡ Done) × IsSummary bytes n text
+AnswersAsk told bytes (loop file query depth) status text = AnswersLoop bytes query depth status text
 
 -- the same, or why the program is refused
 abbrev pub AnswersProgram : Map → List ℕ → Ask → Status → List ℕ → Type 0

@@ -4,7 +4,7 @@
 -- To believe: all of this file.
 use Rattle.std.specs.Prelude.{ℕ, ◌≡◌, ◌⊎◌, List, Option, Some, None}
 use Rattle.outside.specs.Told.{Map, TellsAt, TellsMore, Takes, TakesPart}
-use Rattle.cti_top.specs.Words.{Ask, infer, check, run, gen, Origin, file, generated, origin, asks, usage_lines}
+use Rattle.cti_top.specs.Words.{Ask, infer, check, run, gen, loop, Origin, file, generated, origin, query_of, asks, usage_lines}
 use Rattle.cti_top.specs.Places.{line_of, column_of}
 use Rattle.cti_top.specs.Refusal.{refusal_line}
 use Rattle.cti_top.specs.Programs.{IsRefused}
@@ -15,6 +15,7 @@ use Rattle.report.specs.Generated.{generated as generated_text}
 use Rattle.cti_top.specs.Checks.{IsCheckOf, IsRefusedCertificate}
 use Rattle.cti_top.specs.Queries.{Known}
 use Rattle.cti_top.specs.Runs.{IsKnown, IsRunOf, IsRefusedQuery}
+use Rattle.cti_top.specs.Loops.{IsLoopSearchOf}
 use Rattle.certificate.specs.Reading.{most_bytes as most_certificate_bytes}
 use Rattle.outside.specs.Causes.{Rose}
 use Rattle.cti_top.specs.declared.refusal.Subject.TheVariants.{Program, Certificate, Query}
@@ -36,8 +37,8 @@ TellsLong told (file name) = TellsMore told name most_bytes
 TellsLong told (generated n) = ⊥
 
 -- The answer to the words: the usage exactly where they ask for nothing; the modes of the program that they name; the check of their
--- certificate; the run of their query; how many modes their generated program has; or why the program's text, the certificate's or the
--- query is refused. Where the store shows its map, the bytes are those at the file's name.
+-- certificate; the run of their query, or a loop of it; how many modes their generated program has; or why the program's text, the
+-- certificate's or the query is refused. Where the store shows its map, the bytes are those at the file's name.
 pub data IsAnswer (told : Map) (words : List (List ℕ)) (status : Status) (text : List ℕ) : Type 0 where
   usage : asks words ≡ None → status ≡ Usage → text ≡ usage_lines → IsAnswer told words status text
   inferred : (name bytes : List ℕ) (norm : NormName) → asks words ≡ Some (infer name norm) → TellsAt told name bytes → IsInferred norm bytes text → status ≡ Done
@@ -45,13 +46,15 @@ pub data IsAnswer (told : Map) (words : List (List ℕ)) (status : Status) (text
   summed : (n : ℕ) → asks words ≡ Some (gen n) → IsSummary (generated_text n) n text → status ≡ Done → IsAnswer told words status text
   ran : (name query : List ℕ) (steps : ℕ) (bytes : List ℕ) → asks words ≡ Some (run name query steps) → TellsAt told name bytes → IsRunOf bytes query steps status text
       → IsAnswer told words status text
+  looped : (name query : List ℕ) (depth : ℕ) (bytes : List ℕ) → asks words ≡ Some (loop name query depth) → TellsAt told name bytes
+      → IsLoopSearchOf bytes query depth status text → IsAnswer told words status text
   checked : (name certificate bytes certified : List ℕ) (known : Known) → asks words ≡ Some (check name certificate) → TellsAt told name bytes → IsKnown bytes known
       → TellsAt told certificate certified → IsCheckOf known certified status text → IsAnswer told words status text
   program_too_long : (ask : Ask) → asks words ≡ Some ask → TellsLong told (origin ask) → status ≡ Refused
       → text ≡ refusal_line Program 1 1 8 → IsAnswer told words status text
   program_refused : (ask : Ask) (bytes : List ℕ) (kind at : ℕ) → asks words ≡ Some ask → TellsText told (origin ask) bytes → IsRefused bytes kind at → status ≡ Refused
       → text ≡ refusal_line Program (line_of bytes at) (column_of bytes at) kind → IsAnswer told words status text
-  query_refused : (name query : List ℕ) (steps : ℕ) (bytes : List ℕ) (kind at : ℕ) → asks words ≡ Some (run name query steps) → TellsAt told name bytes
+  query_refused : (ask : Ask) (query bytes : List ℕ) (kind at : ℕ) → asks words ≡ Some ask → query_of ask ≡ Some query → TellsText told (origin ask) bytes
       → IsRefusedQuery bytes query kind at → status ≡ Refused → text ≡ refusal_line Query (line_of query at) (column_of query at) kind
       → IsAnswer told words status text
   certificate_too_long : (name certificate bytes : List ℕ) (known : Known) → asks words ≡ Some (check name certificate) → TellsAt told name bytes → IsKnown bytes known
@@ -85,6 +88,10 @@ IsDoneOrMemory status = (status ≡ Done) ⊎ (status ≡ Memory)
 abbrev pub IsRanOrMemory : Status → Type 0
 IsRanOrMemory status = (status ≡ Done) ⊎ (status ≡ Stopped) ⊎ (status ≡ Overflow) ⊎ (status ≡ Memory)
 
+-- the same of a loop that is looked for: there may be none, or more derivations than are looked at
+abbrev pub IsLoopedOrMemory : Status → Type 0
+IsLoopedOrMemory status = (status ≡ Done) ⊎ (status ≡ No) ⊎ (status ≡ Stopped) ⊎ (status ≡ Memory)
+
 -- the same of a certificate, which may not be valid
 abbrev pub IsCheckedOrMemory : Status → Type 0
 IsCheckedOrMemory status = (status ≡ Done) ⊎ (status ≡ No) ⊎ (status ≡ Memory)
@@ -104,6 +111,7 @@ CertificateRose (infer name norm) before after = ⊥
 CertificateRose (check name certificate) before after = Rose (before certificate) (after certificate)
 CertificateRose (run name query steps) before after = ⊥
 CertificateRose (gen n) before after = ⊥
+CertificateRose (loop name query depth) before after = ⊥
 
 -- the count of the program's file rose, or that of the certificate's, which is loaded only where the program is read
 abbrev pub FileRose : Map → Ask → (List ℕ → ℕ) → (List ℕ → ℕ) → Type 0

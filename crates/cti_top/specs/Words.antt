@@ -39,6 +39,10 @@ run_command = with_rule (with_rule (with_rule (new_app (codes "run")) (required_
 abbrev pub gen_command : App
 gen_command = with_rule (new_app (codes "gen")) (required_word (codes "count"))
 
+-- loop FILE QUERY --depth D
+abbrev pub loop_command : App
+loop_command = with_rule (with_rule (with_rule (new_app (codes "loop")) (required_word (codes "file"))) (required_word (codes "query"))) (option (codes "depth"))
+
 -- no words of help, no program's name, and a subcommand has to be given
 abbrev pub settings : Shape → Shape
 settings s = record s {
@@ -53,15 +57,19 @@ top_command = on_top settings (new_app (codes "cti"))
 
 -- the command line
 abbrev pub command_line : App
-command_line = with_subcommand (with_subcommand (with_subcommand (with_subcommand top_command infer_command.top) check_command.top) run_command.top) gen_command.top
+command_line =
+    with_subcommand (with_subcommand (with_subcommand (with_subcommand (with_subcommand top_command infer_command.top) check_command.top) run_command.top) gen_command.top)
+    loop_command.top
 
--- what is asked for, by its texts: the modes of a file's program by a norm, the check of a file's certificate of it, a query of it with a number of nodes, or
--- how many modes the generated program of this many predicates has
+-- what is asked for, by its texts: the modes of a file's program by a norm, the check of a file's certificate of it, a query of it with a
+-- number of nodes, how many modes the generated program of this many predicates has, or a loop of a query of a file's program among its
+-- derivations of so many steps
 pub data Ask : Type 0 where
   infer : Text → NormName → Ask
   check : Text → Text → Ask
   run : Text → Text → ℕ → Ask
   gen : ℕ → Ask
+  loop : Text → Text → ℕ → Ask
 
 -- where the text of a program comes from: it is that of a file, or it is generated
 pub data Origin : Type 0 where
@@ -74,6 +82,7 @@ origin (infer name norm) = file name
 origin (check name certificate) = file name
 origin (run name query steps) = file name
 origin (gen n) = generated n
+origin (loop name query depth) = file name
 
 -- at most the given number of decimal digits, and at least one
 abbrev pub is_short_number : ℕ → Text → Bool
@@ -97,6 +106,21 @@ abbrev pub steps_of : Option Text → Option ℕ
 steps_of None = Some 100000
 steps_of (Some text) = steps_in text
 
+-- the number of steps that a text asks for: one or two digits, from 1 to 12
+abbrev pub depth_in : Text → Option ℕ
+depth_in text = number_in 2 12 text
+
+-- the same of an option's value, which is 8 where it is absent
+abbrev pub depth_of : Option Text → Option ℕ
+depth_of None = Some 8
+depth_of (Some text) = depth_in text
+
+-- the query of what is asked for, where it has one
+abbrev pub query_of : Ask → Option Text
+query_of (run name query steps) = Some query
+query_of (loop name query depth) = Some query
+query_of ask = None
+
 -- the norm that a text names
 abbrev pub norm_in : Text → Option NormName
 norm_in text = if bytes_eq text (codes "term") then Some norm.Term else if bytes_eq text (codes "list") then Some norm.List else None
@@ -116,6 +140,8 @@ ask_by name rows =
     if bytes_eq name (codes "gen") then option_map gen (predicates_in (given (codes "count") rows))
     else if bytes_eq name (codes "infer") then option_map (infer (given (codes "file") rows)) (norm_of (first_of (codes "norm") rows))
     else if bytes_eq name (codes "check") then Some (check (given (codes "file") rows) (given (codes "certificate") rows))
+    else if bytes_eq name (codes "loop") then
+    option_map (loop (given (codes "file") rows) (given (codes "query") rows)) (depth_of (first_of (codes "depth") rows))
     else option_map (run (given (codes "file") rows) (given (codes "query") rows)) (steps_of (first_of (codes "steps") rows))
 
 -- what words without a fault ask for
@@ -129,4 +155,6 @@ asks words = ask_if (fault_of command_line words) (subcommand_of command_line wo
 
 -- one line for each command
 abbrev pub usage_lines : List ℕ
-usage_lines = codes "usage: cti infer FILE --norm NORM\n" ++ codes "usage: cti check FILE CERT\n" ++ codes "usage: cti run FILE QUERY --steps N\n" ++ codes "usage: cti gen N\n"
+usage_lines =
+    codes "usage: cti infer FILE --norm NORM\n" ++ codes "usage: cti check FILE CERT\n" ++ codes "usage: cti run FILE QUERY --steps N\n"
+    ++ codes "usage: cti gen N\n" ++ codes "usage: cti loop FILE QUERY --depth D\n"

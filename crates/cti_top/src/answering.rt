@@ -11,12 +11,13 @@ ghost use Rattle.cti_top.specs.Known.{known_of, NamesBuiltins};
 ghost use Rattle.cti_top.specs.Runs.{IsKnown};
 ghost use Rattle.cti_top.specs.Outcome.{CertificateRose, FileRose, IsAnswer, OriginRose, TellsLong, TellsText};
 ghost use Rattle.outside.specs.Told.{Keeps};
-ghost use Rattle.cti_top.specs.Answers.{ask_of, origin_of, AnswersAsk, AnswersProgram, AnswersRequest, IsInRange};
+ghost use Rattle.cti_top.specs.Answers.{ask_of, origin_of, AnswersAsk, AnswersProgram, AnswersRequest, IsAskInRange, IsInRange};
 
 use crate::answer::{Answer, refused, too_long};
 use crate::checking::check_of;
 use crate::generating::gen_of;
 use crate::inferring::infer_of;
+use crate::looping::loop_of;
 use crate::refusal::Subject;
 use crate::request::{Origin, Refusal, Request, request_in, usage_text};
 use crate::running::run_of;
@@ -38,6 +39,7 @@ fn answer_program<F: Files>(
     requires known { AllByRecursion (λ (q : ThePred). q.name.0 < length source.names) source.program.preds }
     requires room { position (is_equality source.names) source.program.preds ≡ None → length source.program.clauses < 16385 }
     requires arithmetic { NamesBuiltins source.names source.program }
+    requires range { IsAskInRange (ask_of request) }
     ensures answered { IfOk result (λ a. (bytes : List ℕ) → IsKnown bytes (known_of source) → AnswersAsk (F.told files.old) bytes (ask_of request.entry) a.status a.text.items) }
     ensures file_fault { IsErrOf result Status.FileFault → CertificateRose (ask_of request.entry) (F.faults files.old) (F.faults files.new) }
     ensures others { IfErr result (λ e. (e ≡ Status.FileFault) ⊎ (e ≡ Status.Memory)) }
@@ -48,6 +50,7 @@ fn answer_program<F: Files>(
         Request::Check(_, certificate) => check_of(alloc, &source, certificate, files),
         Request::Run(_, query, steps) => Ok(run_of(alloc, source, query.as_bytes(), steps)?),
         Request::Generate(predicates) => Ok(gen_of(alloc, &source, predicates)?),
+        Request::Loop(_, query, depth) => Ok(loop_of(alloc, source, query.as_bytes(), depth)?),
     }
 }
 
@@ -60,6 +63,7 @@ fn answer_text<F: Files>(
     files: &mut F,
 ) -> Result<Answer, Status>
     requires short { length bytes.now ≤ 1048576 }
+    requires range { IsAskInRange (ask_of request) }
     ensures answered { IfOk result (λ a. AnswersProgram (F.told files.old) bytes.now (ask_of request.entry) a.status a.text.items) }
     ensures file_fault { IsErrOf result Status.FileFault → (known : Known) × IsKnown bytes.now known × CertificateRose (ask_of request.entry) (F.faults files.old) (F.faults files.new) }
     ensures others { IfErr result (λ e. (e ≡ Status.FileFault) ⊎ (e ≡ Status.Memory)) }
@@ -112,7 +116,7 @@ fn answer_request<F: Files>(
     request: Request,
     files: &mut F,
 ) -> Result<Answer, Status>
-    requires { IsInRange (origin (ask_of request)) }
+    requires { IsAskInRange (ask_of request) }
     ensures answered { IfOk result (λ a. AnswersRequest (F.told files.old) (ask_of request.entry) a.status a.text.items) }
     ensures file_fault { IsErrOf result Status.FileFault → FileRose (F.told files.old) (ask_of request.entry) (F.faults files.old) (F.faults files.new) }
     ensures others { IfErr result (λ e. (e ≡ Status.FileFault) ⊎ (e ≡ Status.Memory)) }

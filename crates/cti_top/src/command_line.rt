@@ -1,7 +1,7 @@
 //! The command line, part by part, as `clap` reads it.
 
 ghost use Rattle.std.specs.Prelude.{◌≡◌, IfOk, false, codes};
-ghost use Rattle.cti_top.specs.Words.{command_line, top_command, infer_command, check_command, run_command, gen_command, required_word, option};
+ghost use Rattle.cti_top.specs.Words.{command_line, top_command, infer_command, check_command, run_command, gen_command, loop_command, required_word, option};
 ghost use Rattle.cti_top.specs.CommandLine.{IsCommandLine};
 ghost use Rattle.clap.specs.declared.Command.TheViews.{out-Command};
 ghost use Rattle.clap.specs.Words.{app_of, rule_of, with_rule, with_subcommand};
@@ -86,6 +86,15 @@ fn generate<'a>(alloc: Global) -> Result<Command<'a>, AllocError>
     with_argument(Command::new(alloc, "gen"), word(alloc, "count"))
 }
 
+/// `loop FILE QUERY --depth D`
+fn find_loop<'a>(alloc: Global) -> Result<Command<'a>, AllocError>
+    ensures { IfOk result (IsCommandLine loop_command) }
+{
+    let find_loop = with_argument(Command::new(alloc, "loop"), word(alloc, "file"))?;
+    let find_loop = with_argument(find_loop, word(alloc, "query"))?;
+    with_argument(find_loop, option(alloc, "depth"))
+}
+
 /// The command line of `infer` and `check`.
 fn first_commands<'a>(alloc: Global) -> Result<Command<'a>, AllocError>
     ensures { IfOk result (IsCommandLine (with_subcommand (with_subcommand top_command infer_command.top) check_command.top)) }
@@ -94,10 +103,18 @@ fn first_commands<'a>(alloc: Global) -> Result<Command<'a>, AllocError>
     with_command(command, check(alloc)?)
 }
 
+/// The command line of `infer`, `check`, `run` and `gen`.
+fn more_commands<'a>(alloc: Global) -> Result<Command<'a>, AllocError>
+    ensures { IfOk result (IsCommandLine (with_subcommand (with_subcommand
+        (with_subcommand (with_subcommand top_command infer_command.top) check_command.top) run_command.top) gen_command.top)) }
+{
+    let command = with_command(first_commands(alloc)?, run(alloc)?)?;
+    with_command(command, generate(alloc)?)
+}
+
 /// The command line, with no words read.
 pub fn command_line<'a>(alloc: Global) -> Result<Command<'a>, AllocError>
     ensures { IfOk result (IsCommandLine command_line) }
 {
-    let command = with_command(first_commands(alloc)?, run(alloc)?)?;
-    with_command(command, generate(alloc)?)
+    with_command(more_commands(alloc)?, find_loop(alloc)?)
 }

@@ -2,12 +2,12 @@
 
 ghost use Rattle.std.specs.Prelude.{◌≡◌, ◌≢◌, codes, map, [], Some, None, option_map, IfOk, IfErr, IfSome, IfNone, IsErrOf};
 ghost use Rattle.clap.specs.Words.{fault_of, first_of, found_of, rows_of, subcommand_of, subcommand_rows_of};
-ghost use Rattle.cti_top.specs.Words.{asks, ask_by, command_line, gen as asked_gen, given, infer as asked_infer, norm_of, origin, predicates_in, usage_lines};
-ghost use Rattle.cti_top.specs.Answers.{ask_of, origin_of, IsInRange};
+ghost use Rattle.cti_top.specs.Words.{asks, ask_by, command_line, depth_of, gen as asked_gen, given, infer as asked_infer, loop as asked_loop, norm_of, origin, predicates_in, usage_lines};
+ghost use Rattle.cti_top.specs.Answers.{ask_of, origin_of, IsAskInRange};
 
 use crate::command_line::command_line;
 use crate::norms::norm_of;
-use crate::steps::{predicates_in, steps_of};
+use crate::steps::{depth_of, predicates_in, steps_of};
 use clap::ArgMatches;
 use clap::error::ErrorKind;
 use std::alloc::{AllocError, Global};
@@ -33,6 +33,8 @@ pub enum Request<'a> {
     Run(&'a str, &'a str, u64),
     /// How many modes the generated program of this many predicates has.
     Generate(u32),
+    /// A loop of a query of the program in a file, and how many steps the derivations have that are looked at.
+    Loop(&'a str, &'a str, u32),
 }
 
 /// Where the text of a program comes from.
@@ -54,6 +56,7 @@ impl<'a> Request<'a> {
             Request::Check(file, _) => Origin::File(file),
             Request::Run(file, _, _) => Origin::File(file),
             Request::Generate(count) => Origin::Generated(count),
+            Request::Loop(file, _, _) => Origin::File(file),
         }
     }
 }
@@ -105,7 +108,7 @@ fn word<'a>(matches: &ArgMatches<'a>, id: &str) -> &'a str
 fn generation<'a>(matches: &ArgMatches<'a>) -> Result<Request<'a>, Refusal>
     ensures asked { IfOk result (λ r. option_map asked_gen (predicates_in (given (codes "count") (rows_of (found_of matches.now)))) ≡ Some (ask_of r)) }
     ensures usage { IfErr result (λ e. (e ≡ Refusal.Usage) × (option_map asked_gen (predicates_in (given (codes "count") (rows_of (found_of matches.now)))) ≡ None)) }
-    ensures range { IfOk result (λ r. IsInRange (origin (ask_of r))) }
+    ensures range { IfOk result (λ r. IsAskInRange (ask_of r)) }
 {
     match predicates_in(word(matches, "count")) {
         Some(count) => Ok(Request::Generate(count)),
@@ -119,10 +122,24 @@ fn inference<'a>(matches: &ArgMatches<'a>) -> Result<Request<'a>, Refusal>
         (norm_of (first_of (codes "norm") (rows_of (found_of matches.now)))) ≡ Some (ask_of r)) }
     ensures usage { IfErr result (λ e. (e ≡ Refusal.Usage) × (option_map (asked_infer (given (codes "file") (rows_of (found_of matches.now))))
         (norm_of (first_of (codes "norm") (rows_of (found_of matches.now)))) ≡ None)) }
-    ensures range { IfOk result (λ r. IsInRange (origin (ask_of r))) }
+    ensures range { IfOk result (λ r. IsAskInRange (ask_of r)) }
 {
     match norm_of(value(matches, "norm")) {
         Some(norm) => Ok(Request::Infer(word(matches, "file"), norm)),
+        None => Err(Refusal::Usage),
+    }
+}
+
+/// What `loop` asks for by its words, or why it is not a command.
+fn loop_search<'a>(matches: &ArgMatches<'a>) -> Result<Request<'a>, Refusal>
+    ensures asked { IfOk result (λ r. option_map (asked_loop (given (codes "file") (rows_of (found_of matches.now)))
+        (given (codes "query") (rows_of (found_of matches.now)))) (depth_of (first_of (codes "depth") (rows_of (found_of matches.now)))) ≡ Some (ask_of r)) }
+    ensures usage { IfErr result (λ e. (e ≡ Refusal.Usage) × (option_map (asked_loop (given (codes "file") (rows_of (found_of matches.now)))
+        (given (codes "query") (rows_of (found_of matches.now)))) (depth_of (first_of (codes "depth") (rows_of (found_of matches.now)))) ≡ None)) }
+    ensures range { IfOk result (λ r. IsAskInRange (ask_of r)) }
+{
+    match depth_of(value(matches, "depth")) {
+        Some(depth) => Ok(Request::Loop(word(matches, "file"), word(matches, "query"), depth)),
         None => Err(Refusal::Usage),
     }
 }
@@ -131,13 +148,16 @@ fn inference<'a>(matches: &ArgMatches<'a>) -> Result<Request<'a>, Refusal>
 fn request_by<'a>(name: &str, given: &ArgMatches<'a>) -> Result<Request<'a>, Refusal>
     ensures asked { IfOk result (λ r. ask_by name.now (rows_of (found_of given.now)) ≡ Some (ask_of r)) }
     ensures usage { IfErr result (λ e. (e ≡ Refusal.Usage) × (ask_by name.now (rows_of (found_of given.now)) ≡ None)) }
-    ensures range { IfOk result (λ r. IsInRange (origin (ask_of r))) }
+    ensures range { IfOk result (λ r. IsAskInRange (ask_of r)) }
 {
     if name == "gen" {
         return generation(given);
     }
     if name == "infer" {
         return inference(given);
+    }
+    if name == "loop" {
+        return loop_search(given);
     }
     let file = word(given, "file");
     if name == "check" {
@@ -150,11 +170,11 @@ fn request_by<'a>(name: &str, given: &ArgMatches<'a>) -> Result<Request<'a>, Ref
 }
 
 /// What the words ask for, or why they are not a command.
-#[tactic(auto, using(crate::proofs::WordLemmas::is_entered))]
+#[tactic(auto, using(crate::proofs::WordLemmas::is_entered, crate::proofs::WordLemmas::none_asked))]
 pub fn request_in<'a>(alloc: Global, words: &'a [&'a str]) -> Result<Request<'a>, Refusal>
     ensures asked { IfOk result (λ r. asks (map (λ w. w.now) words.entry.now) ≡ Some (ask_of r)) }
     ensures usage { IsErrOf result Refusal.Usage → asks (map (λ w. w.now) words.entry.now) ≡ None }
-    ensures range { IfOk result (λ r. IsInRange (origin (ask_of r))) }
+    ensures range { IfOk result (λ r. IsAskInRange (ask_of r)) }
 {
     let matches = matches_of(alloc, words)?;
     match entered(&matches) {
@@ -171,5 +191,6 @@ pub fn usage_text(alloc: Global) -> Result<Vec<u8>, AllocError>
     text.extend_from_slice(b"usage: cti check FILE CERT\n")?;
     text.extend_from_slice(b"usage: cti run FILE QUERY --steps N\n")?;
     text.extend_from_slice(b"usage: cti gen N\n")?;
+    text.extend_from_slice(b"usage: cti loop FILE QUERY --depth D\n")?;
     Ok(text)
 }

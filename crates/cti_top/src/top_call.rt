@@ -4,9 +4,9 @@ ghost use Rattle.std.specs.Prelude.{◌≡◌, ◌≤◌, List, ℕ, map, Some};
 ghost use Rattle.certificate.specs.Reading.{IsTextOf};
 ghost use Rattle.certificate.specs.declared.certificate.Certificate.{Certificate as TheCertificate};
 ghost use Rattle.outside.specs.Causes.{Rose};
-ghost use Rattle.cti_top.specs.Words.{Ask, asks, check, gen, infer, origin, run};
+ghost use Rattle.cti_top.specs.Words.{Ask, asks, check, gen, infer, loop, origin, query_of, run};
 ghost use Rattle.cti_top.specs.Programs.{IsRefused};
-ghost use Rattle.cti_top.specs.Outcome.{FileRose, HasFile, HasText, IsCheckedOrMemory, IsDoneOrMemory, IsRanOrMemory, IsRefusedOrMemory, OriginRose, Outcome};
+ghost use Rattle.cti_top.specs.Outcome.{FileRose, HasFile, HasText, IsCheckedOrMemory, IsDoneOrMemory, IsLoopedOrMemory, IsRanOrMemory, IsRefusedOrMemory, OriginRose, Outcome};
 ghost use Rattle.cti_top.specs.Queries.{IsQueryOf, Known};
 ghost use Rattle.cti_top.specs.Runs.{IsKnown, IsRefusedQuery};
 ghost use Rattle.outside.specs.Told.{Keeps};
@@ -27,8 +27,11 @@ use std::alloc::Global;
 /// too, and writes `yes.` where it is valid, and `no(Line,Reason).` where it is not. `run FILE QUERY
 /// --steps N` reads a query of the program too, and writes its answers among the empty derivation and the first N others, then how
 /// many there were, the length of the longest, and whether there are more. N is from 1 to 1,000,000, and else 100,000. `gen N` makes a
-/// program of N predicates, from 1 to 300, and writes how many clauses it has, and how many modes `infer` would print for it. The
-/// answer is complete, and all memory is taken, before the first byte is written.
+/// program of N predicates, from 1 to 300, and writes how many clauses it has, and how many modes `infer` would print for it.
+/// `loop FILE QUERY --depth D` reads a query as `run` does, and looks at its derivations of at most D clauses, from 1 to 12, and else 8,
+/// but at no more than 100,000. It writes `loop(Before,Cycle).`, the clauses of the first that comes back to an atom that is more general
+/// than one that it passed, so that the query has derivations of every length; or `no_loop(N).` where none of all N does; or
+/// `stopped(100000).` where there are more. The answer is complete, and all memory is taken, before the first byte is written.
 #[tactic(auto, using(crate::proofs::KeepLemmas::untouched, crate::proofs::KeepLemmas::loaded))]
 pub fn command<F: Files, S: Sink>(
     alloc: Global,
@@ -63,6 +66,13 @@ pub fn command<F: Files, S: Sink>(
         → asks (map (λ w. w.now) words.entry.now) ≡ Some (run name query steps) → HasFile (F.told files.old) name bytes → IsKnown bytes known → IsQueryOf known query names program goal
         → (Rose (F.faults files.old name) (F.faults files.new name) → ⊥) → (Rose (S.faults out.old) (S.faults out.new) → ⊥) → IsRanOrMemory result }
 
+    // The same where a loop of a query is looked for.
+    ensures complete_loop { (name query bytes : List ℕ) (depth : ℕ) (known : Known) (names : List (List ℕ)) (program : Listing) (goal : Goal)
+        → asks (map (λ w. w.now) words.entry.now) ≡ Some (loop name query depth) → HasFile (F.told files.old) name bytes
+        → IsKnown bytes known → IsQueryOf known query names program goal
+        → (Rose (F.faults files.old name) (F.faults files.new name) → ⊥) → (Rose (S.faults out.old) (S.faults out.new) → ⊥)
+        → IsLoopedOrMemory result }
+
     // The same of a generated text that is a program, for which no file is loaded.
     ensures complete_gen { (n : ℕ) (known : Known) → asks (map (λ w. w.now) words.entry.now) ≡ Some (gen n) → IsKnown (generated n) known
         → (Rose (S.faults out.old) (S.faults out.new) → ⊥) → IsDoneOrMemory result }
@@ -70,9 +80,10 @@ pub fn command<F: Files, S: Sink>(
     // A text that is refused is answered by its refusal, in the same way, and so is a query.
     ensures complete_refused { (ask : Ask) (bytes : List ℕ) (kind at : ℕ) → asks (map (λ w. w.now) words.entry.now) ≡ Some ask → HasText (F.told files.old) (origin ask) bytes
         → IsRefused bytes kind at → (OriginRose (origin ask) (F.faults files.old) (F.faults files.new) → ⊥) → (Rose (S.faults out.old) (S.faults out.new) → ⊥) → IsRefusedOrMemory result }
-    ensures complete_query_refused { (name query bytes : List ℕ) (steps kind at : ℕ) → asks (map (λ w. w.now) words.entry.now) ≡ Some (run name query steps)
-        → HasFile (F.told files.old) name bytes → IsRefusedQuery bytes query kind at
-        → (Rose (F.faults files.old name) (F.faults files.new name) → ⊥) → (Rose (S.faults out.old) (S.faults out.new) → ⊥) → IsRefusedOrMemory result }
+    ensures complete_query_refused { (ask : Ask) (query bytes : List ℕ) (kind at : ℕ) → asks (map (λ w. w.now) words.entry.now) ≡ Some ask
+        → query_of ask ≡ Some query → HasText (F.told files.old) (origin ask) bytes → IsRefusedQuery bytes query kind at
+        → (OriginRose (origin ask) (F.faults files.old) (F.faults files.new) → ⊥) → (Rose (S.faults out.old) (S.faults out.new) → ⊥)
+        → IsRefusedOrMemory result }
 {
     match answer_words(alloc, words, files) {
         Ok(answer) => match write_text(&answer.text, out) {

@@ -1,4 +1,4 @@
--- Private.
+-- To believe, for a loop.
 -- The derivations of a goal by clauses alone, in the order in which a search meets them.
 --
 -- As the nodes of a goal, but without steps by built-in atoms: a derivation through one need not lift to a more general

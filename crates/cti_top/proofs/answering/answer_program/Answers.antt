@@ -1,5 +1,5 @@
 use Rattle.std.proofs.Common.{ℕ, List, sym, subst}
-use Rattle.cti_top.specs.Answers.{ask_of, AnswersAsk, AnswersQuery}
+use Rattle.cti_top.specs.Answers.{ask_of, AnswersAsk, AnswersLoop, AnswersQuery}
 use Rattle.cti_top.specs.Known.{known_of}
 use Rattle.cti_top.specs.declared.request.Request.{Request}
 use Rattle.cti_top.proofs.AnswerLemmas.{if_ok}
@@ -18,3 +18,10 @@ returns-in_ok-run_of-in-Run-clause-answered g c = λ bytes is.
     let a = c.in_ok-run_of-in-Run.field-0 in
     subst (λ (r : Request). AnswersAsk told bytes (ask_of r) a.status a.text.items) (sym c.in-Run.is)
     (subst (λ (q : List ℕ). AnswersQuery bytes q c.in-Run.steps a.status a.text.items) c.as_bytes.ensures.value (c.in_ok-run_of-in-Run.ensures bytes is))
+
+pub returns-in_ok-loop_of-in-Loop-clause-answered : goal.returns-in_ok-loop_of-in-Loop-clause-answered
+returns-in_ok-loop_of-in-Loop-clause-answered g c = λ bytes is.
+    let told = g.F.Files.told c.args.files.now in
+    let a = c.in_ok-loop_of-in-Loop.field-0 in
+    subst (λ (r : Request). AnswersAsk told bytes (ask_of r) a.status a.text.items) (sym c.in-Loop.is)
+    (subst (λ (q : List ℕ). AnswersLoop bytes q c.in-Loop.depth a.status a.text.items) c.as_bytes-in-Loop.ensures.value (c.in_ok-loop_of-in-Loop.ensures bytes is))

@@ -4,7 +4,7 @@ use Rattle.cti_top.specs.Outcome.{IsAnswer}
 use Rattle.cti_top.specs.declared.status.Status.{Status}
 use Rattle.cti_top.proofs.OneAnswer.{is_short, none_refused, no_query_refused}
 use Rattle.cti_top.proofs.RefusedLemmas.{refused_answer, refused_or_memory, query_refused_answer}
-use Rattle.cti_top.proofs.OutcomeLemmas.{not_file, outcome_of, done_or_memory, summed_or_memory, ran_or_memory, checked_or_memory}
+use Rattle.cti_top.proofs.OutcomeLemmas.{not_file, outcome_of, done_or_memory, summed_or_memory, ran_or_memory, looped_or_memory, checked_or_memory}
 use Rattle.cti_top.proofs.top_call.command.Goals as goal
 
 pub returns-in-Ok-write_text-clause-outcome : goal.returns-in-Ok-write_text-clause-outcome
@@ -31,6 +31,11 @@ returns-in-Ok-write_text-clause-complete_run g c name query bytes steps known na
     ran_or_memory (g.F.Files.told c.args.files.now) (map (λ w. w.now) c.args.words.now) c.in-Ok.answer.status c.in-Ok.answer.text.items name query bytes steps c.in-Ok.ensures.answered asked has (is_short bytes known is) (none_refused bytes known is)
     (no_query_refused bytes query known names program goal is as_goal)
 
+pub returns-in-Ok-write_text-clause-complete_loop : goal.returns-in-Ok-write_text-clause-complete_loop
+returns-in-Ok-write_text-clause-complete_loop g c name query bytes depth known names program goal asked has is as_goal calm still =
+    looped_or_memory (g.F.Files.told c.args.files.now) (map (λ w. w.now) c.args.words.now) c.in-Ok.answer.status c.in-Ok.answer.text.items name query bytes depth c.in-Ok.ensures.answered asked has (is_short bytes known is) (none_refused bytes known is)
+    (no_query_refused bytes query known names program goal is as_goal)
+
 pub returns-in-Ok-write_text-clause-complete_gen : goal.returns-in-Ok-write_text-clause-complete_gen
 returns-in-Ok-write_text-clause-complete_gen g c n known asked is still =
     summed_or_memory (g.F.Files.told c.args.files.now) (map (λ w. w.now) c.args.words.now) c.in-Ok.answer.status c.in-Ok.answer.text.items n c.in-Ok.ensures.answered asked (is_short (generated n) known is) (none_refused (generated n) known is)
@@ -43,8 +48,8 @@ returns-in-Ok-write_text-clause-complete_refused g c ask bytes kind at asked has
     inl (refused_answer (g.F.Files.told c.args.files.now) (map (λ w. w.now) c.args.words.now) c.in-Ok.answer.status c.in-Ok.answer.text.items ask bytes kind at c.in-Ok.ensures.answered asked has refused)
 
 pub returns-in-Ok-write_text-clause-complete_query_refused : goal.returns-in-Ok-write_text-clause-complete_query_refused
-returns-in-Ok-write_text-clause-complete_query_refused g c name query bytes steps kind at asked has refused calm still =
-    inl (query_refused_answer (g.F.Files.told c.args.files.now) (map (λ w. w.now) c.args.words.now) c.in-Ok.answer.status c.in-Ok.answer.text.items name query bytes steps kind at c.in-Ok.ensures.answered asked has refused)
+returns-in-Ok-write_text-clause-complete_query_refused g c ask query bytes kind at asked with_query has refused calm still =
+    inl (query_refused_answer (g.F.Files.told c.args.files.now) (map (λ w. w.now) c.args.words.now) c.in-Ok.answer.status c.in-Ok.answer.text.items ask query bytes kind at c.in-Ok.ensures.answered asked with_query has refused)
 
 pub returns-clause-complete_refused : goal.returns-clause-complete_refused
 returns-clause-complete_refused g c ask bytes kind at asked has refused calm still =
