@@ -70,6 +70,25 @@ fn faults_of_words(rt: HostRuntime) -> Result<(), Fail> {
             &["run", "a.pl", "p", "--steps", "1", "--steps", "2"],
             "--steps stands twice",
         ),
+        (&["loop"], "`cti loop` needs the word FILE"),
+        (&["loop", "a.pl"], "`cti loop` needs the word QUERY"),
+        (&["loop", "a.pl", "p", "--depth"], "--depth needs a number"),
+        (
+            &["loop", "a.pl", "p", "--depth", "13"],
+            "`13` is not a depth",
+        ),
+        (
+            &["loop", "a.pl", "p", "--depth=008"],
+            "`008` is not a depth",
+        ),
+        (
+            &["loop", "a.pl", "p", "--depth", "8", "--depth", "9"],
+            "--depth stands twice",
+        ),
+        (
+            &["loop", "a.pl", "p", "--steps", "9"],
+            "`--steps` is not an option of this command",
+        ),
     ] {
         assert!(rt; is_fault(alloc, words, sentence)?, "{sentence}");
     }
@@ -87,6 +106,7 @@ fn words_are_told_apart(rt: HostRuntime) {
         (&["run", "--steps", "5", "a.pl", "p"], "a.pl", "p"),
         (&["run", "a.pl", "--steps=5", "p"], "a.pl", "p"),
         (&["run", "a.pl", "--", "-p"], "a.pl", "-p"),
+        (&["loop", "--depth", "08", "a.pl", "p"], "a.pl", "p"),
     ] {
         let words = Words::of(words);
         assert_eq!(rt; words.file(), file);

@@ -9,7 +9,7 @@ use crate::word_fault::WordFault;
 use crate::words::Words;
 use thiserror::Error;
 
-/// Why a call did not do what was asked for. It is shown as the first line of the message.
+/// Why a call did not do what was asked for, or what its answer does not say. It is shown as the first line of the message.
 #[derive(Clone, Copy, Debug, PartialEq, Eq, Error)]
 pub enum Trouble<'a> {
     #[error("{1}: error: {2}")]
@@ -26,6 +26,12 @@ pub enum Trouble<'a> {
     Memory,
     #[error("cti: error: the search ended at a goal with a value above 2^127 - 1")]
     Overflow,
+    #[error("cti: note: no loop was found, which does not say that the query ends")]
+    NoLoop,
+    #[error("cti: note: the first 100,000 derivations have no loop, and there are more")]
+    ManyDerivations,
+    #[error("cti: error: out of memory, or the terms of the derivations grew too large")]
+    LoopMemory,
 }
 
 impl<'a> Trouble<'a> {
@@ -79,6 +85,15 @@ impl<'a> Trouble<'a> {
             Trouble::Memory => "nothing was written: allow more memory, or split the program",
             Trouble::Overflow => {
                 "the answers before it were written: it is the first goal of the last step that is counted, so look there with --steps"
+            }
+            Trouble::NoLoop => {
+                "a greater --depth, up to 12, looks further; `cti run` with --steps 20 shows how the search goes"
+            }
+            Trouble::ManyDerivations => {
+                "give a smaller --depth, or a query with fewer answers; `cti run` with --steps 20 shows how the search goes"
+            }
+            Trouble::LoopMemory => {
+                "nothing was written: give a smaller --depth, or a query with smaller terms"
             }
         }
     }

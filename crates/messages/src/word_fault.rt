@@ -23,6 +23,8 @@ pub enum WordFault<'a> {
     BadSteps(&'a str),
     #[error("`{0}` is not a norm")]
     BadNorm(&'a str),
+    #[error("`{0}` is not a depth")]
+    BadDepth(&'a str),
     #[error("`{0}` is not a number of predicates")]
     BadCount(&'a str),
     #[error("{0} stands twice")]
@@ -36,10 +38,10 @@ impl WordFault<'_> {
     pub fn advice(self) -> &'static str {
         match self {
             WordFault::NoCommand | WordFault::UnknownCommand(_) => {
-                "the commands are infer, check, run and gen"
+                "the commands are infer, check, run, gen and loop"
             }
             WordFault::UnknownOption(_) => {
-                "infer has the option --norm, and run has --steps; write -- before a word that begins with -"
+                "infer has the option --norm, run has --steps and loop has --depth; write -- before a word that begins with -"
             }
             WordFault::Extra(_) => "put a query or a name with spaces in quotes",
             WordFault::NoValue(CommandOption::Steps, _) | WordFault::BadSteps(_) => {
@@ -47,6 +49,9 @@ impl WordFault<'_> {
             }
             WordFault::NoValue(CommandOption::Norm, _) | WordFault::BadNorm(_) => {
                 "--norm takes term or list"
+            }
+            WordFault::NoValue(CommandOption::Depth, _) | WordFault::BadDepth(_) => {
+                "--depth takes a number from 1 to 12"
             }
             WordFault::BadCount(_) => "write a number from 1 to 300",
             WordFault::Twice(_) => "leave one of them out",

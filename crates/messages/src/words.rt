@@ -4,8 +4,10 @@ use crate::command::Command;
 use crate::command_option::CommandOption;
 use crate::word_fault::WordFault;
 
-/// The most digits of a number.
+/// The most digits of a number of steps or of predicates, and of a depth.
 const MOST_DIGITS: usize = 7;
+
+const MOST_DEPTH_DIGITS: usize = 2;
 
 /// What the next word is.
 #[derive(Clone, Copy, PartialEq, Eq)]
@@ -70,6 +72,11 @@ impl<'a> Words<'a> {
         self.second.unwrap_or("")
     }
 
+    /// Whether a loop is looked for.
+    pub fn looks_for_loop(self) -> bool {
+        self.command == Some(Command::Loop)
+    }
+
     /// Whether the second word is a file's name.
     pub fn has_certificate(self) -> bool {
         self.command == Some(Command::Check)
@@ -77,7 +84,7 @@ impl<'a> Words<'a> {
 
     /// Whether the second word is a query.
     pub fn has_query(self) -> bool {
-        self.command == Some(Command::Run)
+        matches!(self.command, Some(Command::Run | Command::Loop))
     }
 
     /// What is wrong with the words, which are not a command.
@@ -151,7 +158,7 @@ impl<'a> Words<'a> {
 
     /// Takes the first word after the command.
     fn take_first(&mut self, word: &'a str) {
-        if self.command == Some(Command::Gen) && !is_number_up_to(word, 300) {
+        if self.command == Some(Command::Gen) && !is_number_up_to(word, MOST_DIGITS, 300) {
             self.blame(WordFault::BadCount(word));
         }
         self.file = Some(word);
@@ -168,17 +175,20 @@ impl<'a> Words<'a> {
 /// The fault of an option's value.
 fn value_fault<'a>(option: CommandOption, word: &'a str) -> Option<WordFault<'a>> {
     match option {
-        CommandOption::Steps if !is_number_up_to(word, 1_000_000) => {
+        CommandOption::Steps if !is_number_up_to(word, MOST_DIGITS, 1_000_000) => {
             Some(WordFault::BadSteps(word))
+        }
+        CommandOption::Depth if !is_number_up_to(word, MOST_DEPTH_DIGITS, 12) => {
+            Some(WordFault::BadDepth(word))
         }
         CommandOption::Norm if word != "term" && word != "list" => Some(WordFault::BadNorm(word)),
         _ => None,
     }
 }
 
-/// Whether a word is a number from 1 to the greatest, of at most seven digits.
-fn is_number_up_to(word: &str, greatest: u32) -> bool {
-    let is_short = word.len() <= MOST_DIGITS && word.bytes().all(|byte| byte.is_ascii_digit());
+/// Whether a word is a number from 1 to the greatest, of at most so many digits.
+fn is_number_up_to(word: &str, digits: usize, greatest: u32) -> bool {
+    let is_short = word.len() <= digits && word.bytes().all(|byte| byte.is_ascii_digit());
     match word.parse::<u32>() {
         Ok(number) => is_short && number >= 1 && number <= greatest,
         Err(_) => false,
