@@ -4,6 +4,8 @@
 #[cfg(test)]
 mod expectations;
 #[cfg(test)]
+mod mistakes_shown;
+#[cfg(test)]
 mod sentences;
 #[cfg(test)]
 mod warned;

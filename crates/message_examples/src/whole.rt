@@ -1,6 +1,6 @@
 //! Whole messages.
 
-use messages::{Ending, message};
+use messages::{Ending, Texts, message};
 use std::alloc::{AllocError, Global};
 use std::test::Fail;
 
@@ -20,7 +20,11 @@ fn is_said(
     let Some(trouble) = ending.trouble() else {
         return Ok(wanted.is_empty());
     };
-    let said = message(alloc, trouble, text.as_bytes())?;
+    let texts = Texts {
+        told: text.as_bytes(),
+        program: text.as_bytes(),
+    };
+    let said = message(alloc, trouble, texts)?;
     Ok(said.as_slice() == wanted.as_bytes())
 }
 
@@ -34,7 +38,7 @@ fn messages_with_their_lines(rt: HostRuntime) -> Result<(), Fail> {
             "a.pl:2:9: error: this is not a goal of a pure program
     p(X) :- !, q(X).
             ^
-  help: leave out cut, negation, if-then-else, call/N, input and output, and grammar rules
+  help: leave the cut out: modes without it hold with it
 ",
         ),
         (
@@ -141,7 +145,11 @@ fn is_said_of_loop(
     let Some(trouble) = ending.trouble() else {
         return Ok(wanted.is_empty());
     };
-    let said = message(alloc, trouble, b"p(X)")?;
+    let texts = Texts {
+        told: b"p(X)",
+        program: b"",
+    };
+    let said = message(alloc, trouble, texts)?;
     Ok(said.as_slice() == wanted.as_bytes())
 }
 

@@ -17,7 +17,10 @@ fn faults_of_words(rt: HostRuntime) -> Result<(), Fail> {
     for (words, sentence) in [
         ([].as_slice(), "a command is missing"),
         (&["infr", "a.pl"], "`infr` is not a command"),
-        (&["--help"], "`--help` is not a command"),
+        (
+            &["append.pl"],
+            "a command comes first: `cti infer append.pl`",
+        ),
         (&["infer"], "`cti infer` needs the word FILE"),
         (&["check", "a.pl"], "`cti check` needs the word CERT"),
         (&["run", "a.pl"], "`cti run` needs the word QUERY"),

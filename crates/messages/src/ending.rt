@@ -48,7 +48,7 @@ impl<'a> Ending<'a> {
         let output = std::str::from_utf8(self.output).unwrap_or("");
         match self.status {
             NO => Trouble::not_valid(words, output),
-            USAGE => Some(Trouble::Words(words.fault())),
+            USAGE => Some(usage_trouble(words)),
             REFUSED => Trouble::refused(words, output),
             OUT_FAULT => Some(Trouble::Output(self.written)),
             MEMORY => Some(Trouble::Memory),
@@ -65,5 +65,13 @@ fn loop_trouble<'a>(status: u8) -> Option<Trouble<'a>> {
         MEMORY => Some(Trouble::LoopMemory),
         STOPPED => Some(Trouble::ManyDerivations),
         _ => None,
+    }
+}
+
+/// What words that are not a command have to say.
+fn usage_trouble(words: Words<'_>) -> Trouble<'_> {
+    match words.asked() {
+        Some(asked) => Trouble::Asked(asked),
+        None => Trouble::Words(words.fault()),
     }
 }

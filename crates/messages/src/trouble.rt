@@ -1,5 +1,6 @@
 //! What a call has to say, in one line.
 
+use crate::asked::Asked;
 use crate::file_cause::FileCause;
 use crate::no_reason::NoReason;
 use crate::place::Place;
@@ -18,6 +19,8 @@ pub enum Trouble<'a> {
     NotValid(Place<'a>, NoReason),
     #[error("cti: error: {0}")]
     Words(WordFault<'a>),
+    #[error("cti: what is asked is answered")]
+    Asked(Asked),
     #[error("{0}: error: {1}")]
     File(&'a str, FileCause),
     #[error("cti: error: standard output failed after {0} bytes")]
@@ -78,6 +81,8 @@ impl<'a> Trouble<'a> {
             Trouble::Refused(_, _, kind) => kind.advice(),
             Trouble::NotValid(_, reason) => reason.advice(),
             Trouble::Words(fault) => fault.advice(),
+            Trouble::Asked(_) => "",
+            Trouble::File("-", FileCause::Missing) => "standard input is /dev/stdin",
             Trouble::File(_, cause) => cause.advice(),
             Trouble::Output(_) => {
                 "the answer was cut short: free space on the disk, or let the reader of the pipe read to the end"

@@ -11,6 +11,8 @@ pub enum WordFault<'a> {
     NoCommand,
     #[error("`{0}` is not a command")]
     UnknownCommand(&'a str),
+    #[error("a command comes first: `cti infer {0}`")]
+    FileFirst(&'a str),
     #[error("`{0}` is not an option of this command")]
     UnknownOption(&'a str),
     #[error("`cti {0}` needs the word {1}")]
@@ -37,7 +39,7 @@ impl WordFault<'_> {
     /// What to do about it.
     pub fn advice(self) -> &'static str {
         match self {
-            WordFault::NoCommand | WordFault::UnknownCommand(_) => {
+            WordFault::NoCommand | WordFault::UnknownCommand(_) | WordFault::FileFirst(_) => {
                 "the commands are infer, check, run, gen and loop"
             }
             WordFault::UnknownOption(_) => {

@@ -1,5 +1,6 @@
 //! The words of a command line, sorted by what they are.
 
+use crate::asked::Asked;
 use crate::command::Command;
 use crate::command_option::CommandOption;
 use crate::word_fault::WordFault;
@@ -29,6 +30,8 @@ pub struct Words<'a> {
     /// The option that was given.
     option: Option<CommandOption>,
     next: Next,
+    /// What is asked about the program itself.
+    asked: Option<Asked>,
     /// The first fault that was seen.
     fault: Option<WordFault<'a>>,
 }
@@ -40,6 +43,7 @@ fn command_fault<'a>(word: Option<&'a str>) -> Option<WordFault<'a>> {
     };
     match Command::of(word) {
         Some(_) => None,
+        None if word.ends_with(".pl") => Some(WordFault::FileFirst(word)),
         None => Some(WordFault::UnknownCommand(word)),
     }
 }
@@ -54,6 +58,7 @@ impl<'a> Words<'a> {
             second: None,
             option: None,
             next: Next::Any,
+            asked: first.and_then(Asked::of),
             fault: command_fault(first),
         };
         for word in words.get(1..).unwrap_or(&[]) {
@@ -70,6 +75,16 @@ impl<'a> Words<'a> {
     /// The file that has the certificate, or the query.
     pub fn second(self) -> &'a str {
         self.second.unwrap_or("")
+    }
+
+    /// What is asked about the program itself.
+    pub fn asked(self) -> Option<Asked> {
+        self.asked
+    }
+
+    /// Whether the modes are inferred of a file's program.
+    pub fn infers(self) -> bool {
+        self.command == Some(Command::Infer)
     }
 
     /// Whether a loop is looked for.
@@ -119,6 +134,9 @@ impl<'a> Words<'a> {
 
     /// Takes a word that begins with `-`.
     fn take_option(&mut self, word: &'a str) {
+        if self.command.is_some() && self.asked.is_none() {
+            self.asked = Asked::of_option(word);
+        }
         let Some(option) = CommandOption::of(self.command) else {
             return self.blame(WordFault::UnknownOption(word));
         };
