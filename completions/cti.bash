@@ -3,7 +3,7 @@ _cti() {
     local word=${COMP_WORDS[COMP_CWORD]} command=${COMP_WORDS[1]}
     COMPREPLY=()
     if [ "$COMP_CWORD" -eq 1 ]; then
-        mapfile -t COMPREPLY < <(compgen -W "infer check run gen" -- "$word")
+        mapfile -t COMPREPLY < <(compgen -W "infer check run gen loop" -- "$word")
         return
     fi
     case $command in
@@ -17,11 +17,16 @@ _cti() {
         fi
         ;;
     check) [ "$COMP_CWORD" -le 3 ] && mapfile -t COMPREPLY < <(compgen -f -- "$word") ;;
-    run)
-        if [ "$COMP_CWORD" -eq 2 ]; then
+    run | loop)
+        local option=--steps first=2
+        [ "$command" = loop ] && option=--depth
+        [ "${COMP_WORDS[2]}" = "$option" ] && first=4
+        if [ "${COMP_WORDS[COMP_CWORD - 1]}" = "$option" ]; then
+            return
+        elif [ "$COMP_CWORD" -eq "$first" ] && [[ $word != -* ]]; then
             mapfile -t COMPREPLY < <(compgen -f -- "$word")
-        else
-            mapfile -t COMPREPLY < <(compgen -W "--steps" -- "$word")
+        elif [[ " ${COMP_WORDS[*]:2:COMP_CWORD-2} " != *" $option "* ]]; then
+            mapfile -t COMPREPLY < <(compgen -W "$option" -- "$word")
         fi
         ;;
     esac
