@@ -6,6 +6,8 @@ mod expectations;
 #[cfg(test)]
 mod mistakes_shown;
 #[cfg(test)]
+mod noted;
+#[cfg(test)]
 mod sentences;
 #[cfg(test)]
 mod warned;
