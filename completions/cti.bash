@@ -17,20 +17,16 @@ _cti() {
         fi
         ;;
     check) [ "$COMP_CWORD" -le 3 ] && mapfile -t COMPREPLY < <(compgen -f -- "$word") ;;
-    run)
-        if [ "$COMP_CWORD" -eq 2 ]; then
+    run | loop)
+        local option=--steps first=2
+        [ "$command" = loop ] && option=--depth
+        [ "${COMP_WORDS[2]}" = "$option" ] && first=4
+        if [ "${COMP_WORDS[COMP_CWORD - 1]}" = "$option" ]; then
+            return
+        elif [ "$COMP_CWORD" -eq "$first" ] && [[ $word != -* ]]; then
             mapfile -t COMPREPLY < <(compgen -f -- "$word")
-        else
-            mapfile -t COMPREPLY < <(compgen -W "--steps" -- "$word")
-        fi
-        ;;
-    loop)
-        if [ "$COMP_CWORD" -eq 2 ]; then
-            mapfile -t COMPREPLY < <(compgen -f -- "$word")
-        elif [ "${COMP_WORDS[COMP_CWORD - 1]}" = --depth ]; then
-            mapfile -t COMPREPLY < <(compgen -W "1 2 3 4 5 6 7 8 9 10 11 12" -- "$word")
-        else
-            mapfile -t COMPREPLY < <(compgen -W "--depth" -- "$word")
+        elif [[ " ${COMP_WORDS[*]:2:COMP_CWORD-2} " != *" $option "* ]]; then
+            mapfile -t COMPREPLY < <(compgen -W "$option" -- "$word")
         fi
         ;;
     esac

@@ -3,9 +3,9 @@ complete -c cti -n __fish_use_subcommand -f -a infer -d 'Find the modes of a pro
 complete -c cti -n __fish_use_subcommand -f -a check -d 'Check a certificate of a program'
 complete -c cti -n __fish_use_subcommand -f -a run -d 'Run a query of a program'
 complete -c cti -n __fish_use_subcommand -f -a gen -d 'Infer a generated program'
-complete -c cti -n __fish_use_subcommand -f -a loop -d 'Find a loop of a query of a program'
+complete -c cti -n __fish_use_subcommand -f -a loop -d 'Look for a loop of a query'
 complete -c cti -n '__fish_seen_subcommand_from gen' -f
 complete -c cti -n '__fish_seen_subcommand_from infer check run loop' -F
 complete -c cti -n '__fish_seen_subcommand_from run' -l steps -x -d 'Look at so many derivations'
 complete -c cti -n '__fish_seen_subcommand_from infer' -l norm -x -a 'term list' -d 'Measure terms so'
-complete -c cti -n '__fish_seen_subcommand_from loop' -l depth -x -a '1 2 3 4 5 6 7 8 9 10 11 12' -d 'Look at derivations of so many steps'
+complete -c cti -n '__fish_seen_subcommand_from loop' -l depth -x -d 'Look at derivations of so many clauses'

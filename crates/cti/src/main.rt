@@ -2,8 +2,12 @@
 //! status's number.
 #![tactic(auto)]
 
+mod keeping;
+
 use cti_top::{RealFiles, RealSink, Status, command};
+use keeping::Keeping;
 use messages::{Ending, explain};
+use mode_notes::call_notes;
 use std::alloc::{AllocError, Global};
 use std::io::Write;
 use std::process::ExitCode;
@@ -25,12 +29,15 @@ fn words(rt: &HostRuntime, alloc: Global) -> Result<Vec<String>, AllocError> {
     }
 }
 
-/// Writes the message about a call and the warnings about its texts on standard error. Where this fails, nobody reads it.
-fn tell(rt: &HostRuntime, ending: Ending<'_>) -> Result<(), AllocError> {
+/// Writes the message about a call, the warnings about its texts and the notes about the modes that it wrote on standard error.
+/// Where this fails, nobody reads it.
+fn tell(rt: &HostRuntime, ending: Ending<'_>, text: &[u8]) -> Result<(), AllocError> {
     let message = explain(rt, ending)?;
     let _ = rt.stderr().write_all(&message);
     let warnings = warn(rt, ending)?;
     let _ = rt.stderr().write_all(&warnings);
+    let notes = call_notes(rt, ending, text)?;
+    let _ = rt.stderr().write_all(&notes);
     Ok(())
 }
 
@@ -45,7 +52,8 @@ fn run(rt: &HostRuntime, alloc: Global) -> Result<Status, AllocError> {
         runtime: rt,
         faults: 0,
     };
-    let mut out = RealSink::new(rt.stdout());
+    let infers = texts.first() == Some(&"infer");
+    let mut out = RealSink::new(Keeping::new(alloc, rt.stdout(), infers));
     let status = command(alloc, &texts, &mut files, &mut out);
     let ending = Ending {
         status: status.number(),
@@ -54,7 +62,7 @@ fn run(rt: &HostRuntime, alloc: Global) -> Result<Status, AllocError> {
         written: out.taken(),
     };
     // The answer is written, and stands, if there is no memory for the message.
-    let _ = tell(rt, ending);
+    let _ = tell(rt, ending, out.inner.text());
     Ok(status)
 }
 

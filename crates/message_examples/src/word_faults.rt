@@ -17,7 +17,10 @@ fn faults_of_words(rt: HostRuntime) -> Result<(), Fail> {
     for (words, sentence) in [
         ([].as_slice(), "a command is missing"),
         (&["infr", "a.pl"], "`infr` is not a command"),
-        (&["--help"], "`--help` is not a command"),
+        (
+            &["append.pl"],
+            "a command comes first: `cti infer append.pl`",
+        ),
         (&["infer"], "`cti infer` needs the word FILE"),
         (&["check", "a.pl"], "`cti check` needs the word CERT"),
         (&["run", "a.pl"], "`cti run` needs the word QUERY"),
@@ -70,6 +73,25 @@ fn faults_of_words(rt: HostRuntime) -> Result<(), Fail> {
             &["run", "a.pl", "p", "--steps", "1", "--steps", "2"],
             "--steps stands twice",
         ),
+        (&["loop"], "`cti loop` needs the word FILE"),
+        (&["loop", "a.pl"], "`cti loop` needs the word QUERY"),
+        (&["loop", "a.pl", "p", "--depth"], "--depth needs a number"),
+        (
+            &["loop", "a.pl", "p", "--depth", "13"],
+            "`13` is not a depth",
+        ),
+        (
+            &["loop", "a.pl", "p", "--depth=008"],
+            "`008` is not a depth",
+        ),
+        (
+            &["loop", "a.pl", "p", "--depth", "8", "--depth", "9"],
+            "--depth stands twice",
+        ),
+        (
+            &["loop", "a.pl", "p", "--steps", "9"],
+            "`--steps` is not an option of this command",
+        ),
     ] {
         assert!(rt; is_fault(alloc, words, sentence)?, "{sentence}");
     }
@@ -87,6 +109,7 @@ fn words_are_told_apart(rt: HostRuntime) {
         (&["run", "--steps", "5", "a.pl", "p"], "a.pl", "p"),
         (&["run", "a.pl", "--steps=5", "p"], "a.pl", "p"),
         (&["run", "a.pl", "--", "-p"], "a.pl", "-p"),
+        (&["loop", "--depth", "08", "a.pl", "p"], "a.pl", "p"),
     ] {
         let words = Words::of(words);
         assert_eq!(rt; words.file(), file);

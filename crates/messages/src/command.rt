@@ -9,6 +9,7 @@ pub enum Command {
     Check,
     Run,
     Gen,
+    Loop,
 }
 
 impl Command {
@@ -19,6 +20,7 @@ impl Command {
             "check" => Some(Command::Check),
             "run" => Some(Command::Run),
             "gen" => Some(Command::Gen),
+            "loop" => Some(Command::Loop),
             _ => None,
         }
     }
@@ -30,6 +32,7 @@ impl Command {
             Command::Check => "check",
             Command::Run => "run",
             Command::Gen => "gen",
+            Command::Loop => "loop",
         }
     }
 
@@ -46,7 +49,7 @@ impl Command {
         match self {
             Command::Infer | Command::Gen => None,
             Command::Check => Some("CERT"),
-            Command::Run => Some("QUERY"),
+            Command::Run | Command::Loop => Some("QUERY"),
         }
     }
 }

@@ -10,6 +10,8 @@ pub enum CommandOption {
     Steps,
     /// The norm that the modes are found by.
     Norm,
+    /// The most clauses of a derivation that is looked at.
+    Depth,
 }
 
 impl CommandOption {
@@ -18,6 +20,7 @@ impl CommandOption {
         match command {
             Some(Command::Infer) => Some(CommandOption::Norm),
             Some(Command::Run) => Some(CommandOption::Steps),
+            Some(Command::Loop) => Some(CommandOption::Depth),
             _ => None,
         }
     }
@@ -27,13 +30,14 @@ impl CommandOption {
         match self {
             CommandOption::Steps => "--steps",
             CommandOption::Norm => "--norm",
+            CommandOption::Depth => "--depth",
         }
     }
 
     /// What its value is.
     pub fn value(self) -> &'static str {
         match self {
-            CommandOption::Steps => "a number",
+            CommandOption::Steps | CommandOption::Depth => "a number",
             CommandOption::Norm => "term or list",
         }
     }

@@ -14,6 +14,8 @@ const OUT_FAULT: u8 = 5;
 
 const MEMORY: u8 = 6;
 
+const STOPPED: u8 = 7;
+
 const OVERFLOW: u8 = 8;
 
 /// How a call of the command ended.
@@ -38,15 +40,38 @@ impl<'a> Ending<'a> {
     /// What the call has to say, as far as no file has to be looked at for it.
     pub fn trouble(self) -> Option<Trouble<'a>> {
         let words = self.told_words();
+        if words.looks_for_loop()
+            && let Some(trouble) = loop_trouble(self.status)
+        {
+            return Some(trouble);
+        }
         let output = std::str::from_utf8(self.output).unwrap_or("");
         match self.status {
             NO => Trouble::not_valid(words, output),
-            USAGE => Some(Trouble::Words(words.fault())),
+            USAGE => Some(usage_trouble(words)),
             REFUSED => Trouble::refused(words, output),
             OUT_FAULT => Some(Trouble::Output(self.written)),
             MEMORY => Some(Trouble::Memory),
             OVERFLOW => Some(Trouble::Overflow),
             _ => None,
         }
+    }
+}
+
+/// What `loop` has to say where no loop was found.
+fn loop_trouble<'a>(status: u8) -> Option<Trouble<'a>> {
+    match status {
+        NO => Some(Trouble::NoLoop),
+        MEMORY => Some(Trouble::LoopMemory),
+        STOPPED => Some(Trouble::ManyDerivations),
+        _ => None,
+    }
+}
+
+/// What words that are not a command have to say.
+fn usage_trouble(words: Words<'_>) -> Trouble<'_> {
+    match words.asked() {
+        Some(asked) => Trouble::Asked(asked),
+        None => Trouble::Words(words.fault()),
     }
 }

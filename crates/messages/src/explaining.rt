@@ -3,6 +3,7 @@
 use crate::ending::Ending;
 use crate::file_cause::FileCause;
 use crate::telling::message;
+use crate::texts::Texts;
 use crate::told::Subject;
 use crate::trouble::Trouble;
 use crate::words::Words;
@@ -61,20 +62,42 @@ fn file_trouble<'a, R: Files>(rt: &R, words: Words<'a>) -> Trouble<'a> {
     Trouble::File(words.file(), FileCause::Failed)
 }
 
+/// The message about a trouble of a text.
+fn text_message<R: Files + AllocGlobal>(
+    rt: &R,
+    words: Words<'_>,
+    trouble: Trouble<'_>,
+    name: &str,
+) -> Result<Vec<u8>, AllocError> {
+    let program = text_again(rt, words.file());
+    if let Trouble::Refused(Subject::Query, ..) = trouble {
+        let texts = Texts {
+            told: words.second().as_bytes(),
+            program: &program,
+        };
+        return message(rt.alloc(), trouble, texts);
+    }
+    let told = text_again(rt, name);
+    let texts = Texts {
+        told: &told,
+        program: &program,
+    };
+    message(rt.alloc(), trouble, texts)
+}
+
 /// The message about a call that ended so, which is empty where there is nothing to say.
 pub fn explain<R: Files + AllocGlobal>(rt: &R, ending: Ending<'_>) -> Result<Vec<u8>, AllocError> {
     let words = ending.told_words();
-    if ending.status == FILE_FAULT {
-        return message(rt.alloc(), file_trouble(rt, words), b"");
-    }
-    let Some(trouble) = ending.trouble() else {
+    let trouble = if ending.status == FILE_FAULT {
+        Some(file_trouble(rt, words))
+    } else {
+        ending.trouble()
+    };
+    let Some(trouble) = trouble else {
         return Ok(Vec::new(rt.alloc()));
     };
-    if let Trouble::Refused(Subject::Query, ..) = trouble {
-        return message(rt.alloc(), trouble, words.second().as_bytes());
-    }
     match trouble.place() {
-        Some(place) => message(rt.alloc(), trouble, &text_again(rt, place.name)),
-        None => message(rt.alloc(), trouble, b""),
+        Some(place) => text_message(rt, words, trouble, place.name),
+        None => message(rt.alloc(), trouble, Texts::none()),
     }
 }

@@ -2,9 +2,12 @@
 //! place, the line of the text, and what to do.
 //!
 //! The answer on standard output is made elsewhere, and its beginning is read here as any reader would read it: `Ending` says how the
-//! call ended, and `explain` makes the message. It depends on `thiserror`.
+//! call ended, and `explain` makes the message. It depends on `mistakes`, for what a text shows
+//! about a mistake, and on `thiserror`.
 #![tactic(auto)]
 
+mod advising;
+mod asked;
 mod command;
 mod command_option;
 mod ending;
@@ -17,22 +20,25 @@ mod place;
 mod refusal_kind;
 mod scan;
 mod telling;
+mod texts;
 mod told;
 mod trouble;
 mod word_fault;
 mod words;
 
+pub use asked::Asked;
 pub use command::Command;
 pub use command_option::CommandOption;
 pub use ending::Ending;
 pub use excerpt::{push_excerpt, push_shown};
-pub use expected::{Expected, expected_at};
+pub use expected::{Expected, Stop, expected_at};
 pub use explaining::{explain, text_again};
 pub use file_cause::FileCause;
 pub use no_reason::NoReason;
 pub use place::Place;
 pub use refusal_kind::RefusalKind;
-pub use telling::message;
+pub use telling::{message, push_help};
+pub use texts::Texts;
 pub use told::{Subject, ToldNo, ToldRefusal};
 pub use trouble::Trouble;
 pub use word_fault::WordFault;

@@ -36,6 +36,43 @@ pub struct Scan {
     before: u8,
     /// Whether the byte before is a dot that stands alone.
     is_dot: bool,
+    /// What was seen of the clause under way, outside brackets.
+    pub clause: ClauseScan,
+}
+
+/// What was seen of a clause, outside brackets.
+#[derive(Clone, Copy)]
+pub struct ClauseScan {
+    /// Whether its neck was there.
+    pub has_neck: bool,
+    /// Whether a line ended after its last comma, and before the next token.
+    pub ends_line: bool,
+    /// Whether its last token is a comma.
+    is_comma: bool,
+}
+
+impl ClauseScan {
+    /// Before a first byte.
+    fn new() -> ClauseScan {
+        ClauseScan {
+            has_neck: false,
+            ends_line: false,
+            is_comma: false,
+        }
+    }
+
+    /// Takes the next byte outside brackets, comments and quotes.
+    fn take(&mut self, byte: u8, before: u8) {
+        if byte == b'\n' {
+            self.ends_line = self.ends_line || self.is_comma;
+        } else if byte == b',' {
+            self.is_comma = true;
+            self.ends_line = false;
+        } else if byte != b'%' && !byte.is_ascii_whitespace() {
+            self.is_comma = false;
+        }
+        self.has_neck = self.has_neck || (byte == b'-' && before == b':');
+    }
 }
 
 /// Whether a byte is one of the symbols that operators consist of.
@@ -53,6 +90,7 @@ impl Scan {
             mode: Mode::Code,
             before: b' ',
             is_dot: false,
+            clause: ClauseScan::new(),
         }
     }
 
@@ -62,7 +100,10 @@ impl Scan {
         self.before = byte;
         match self.mode {
             Mode::Code => return self.take_code(byte, before),
-            Mode::LineComment if byte == b'\n' => self.mode = Mode::Code,
+            Mode::LineComment if byte == b'\n' => {
+                self.mode = Mode::Code;
+                self.clause.take(byte, before);
+            }
             Mode::BlockComment if byte == b'/' && before == b'*' => self.mode = Mode::Code,
             // The byte after a backslash is a part of the escape.
             Mode::Quoted(_) if before == b'\\' => self.before = b' ',
@@ -78,6 +119,10 @@ impl Scan {
         if self.is_dot && (byte == b'%' || byte.is_ascii_whitespace()) {
             self.open.clear();
             self.last = Last::Opening;
+            self.clause = ClauseScan::new();
+        }
+        if self.open.is_empty() {
+            self.clause.take(byte, before);
         }
         self.is_dot = byte == b'.' && !is_symbol(before);
         match byte {

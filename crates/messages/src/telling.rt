@@ -1,10 +1,8 @@
 //! The text for standard error.
 
+use crate::advising::shown_advice;
 use crate::excerpt::{push_excerpt, push_shown};
-use crate::expected::expected_at;
-use crate::place::Place;
-use crate::refusal_kind::RefusalKind;
-use crate::told::Subject;
+use crate::texts::Texts;
 use crate::trouble::Trouble;
 use std::alloc::{AllocError, Global};
 
@@ -17,38 +15,30 @@ fn push_head(alloc: Global, message: &mut Vec<u8>, trouble: Trouble<'_>) -> Resu
 }
 
 /// Adds the line that says what to do.
-fn push_help(message: &mut Vec<u8>, advice: &str) -> Result<(), AllocError> {
+pub fn push_help(message: &mut Vec<u8>, advice: &str) -> Result<(), AllocError> {
     message.extend_from_slice(b"  help: ")?;
-    message.extend_from_slice(advice.as_bytes())?;
+    push_shown(message, advice.as_bytes())?;
     message.push(b'\n')?;
     Ok(())
 }
 
-/// Adds the line that says what was expected at a place of a text.
-fn push_expected(
+/// The message: what is wrong and where, the line of the text, and what to do. It is the help alone where this was asked for.
+pub fn message(
     alloc: Global,
-    message: &mut Vec<u8>,
-    subject: Subject,
-    place: Place<'_>,
-    text: &[u8],
-) -> Result<(), AllocError> {
-    let expected = expected_at(alloc, subject, text, place.line, place.column)?;
-    let advice = format!(in alloc; "{expected}")?;
-    push_help(message, &advice)
-}
-
-/// The message: what is wrong and where, the line of the text, and what to do. The text may be empty, where it cannot be read again.
-pub fn message(alloc: Global, trouble: Trouble<'_>, text: &[u8]) -> Result<Vec<u8>, AllocError> {
+    trouble: Trouble<'_>,
+    texts: Texts<'_>,
+) -> Result<Vec<u8>, AllocError> {
+    if let Trouble::Asked(asked) = trouble {
+        return Vec::from_slice(alloc, asked.text().as_bytes());
+    }
     let mut message = Vec::new(alloc);
     push_head(alloc, &mut message, trouble)?;
     if let Some(place) = trouble.place() {
-        push_excerpt(&mut message, text, place)?;
+        push_excerpt(&mut message, texts.told, place)?;
     }
-    match trouble {
-        Trouble::Refused(subject, place, RefusalKind::Unexpected) if !text.is_empty() => {
-            push_expected(alloc, &mut message, subject, place, text)?;
-        }
-        _ => push_help(&mut message, trouble.advice())?,
+    match shown_advice(alloc, trouble, texts)? {
+        Some(advice) => push_help(&mut message, &format!(in alloc; "{advice}")?)?,
+        None => push_help(&mut message, trouble.advice())?,
     }
     Ok(message)
 }

@@ -1,5 +1,6 @@
 //! What a call has to say, in one line.
 
+use crate::asked::Asked;
 use crate::file_cause::FileCause;
 use crate::no_reason::NoReason;
 use crate::place::Place;
@@ -9,7 +10,7 @@ use crate::word_fault::WordFault;
 use crate::words::Words;
 use thiserror::Error;
 
-/// Why a call did not do what was asked for. It is shown as the first line of the message.
+/// Why a call did not do what was asked for, or what its answer does not say. It is shown as the first line of the message.
 #[derive(Clone, Copy, Debug, PartialEq, Eq, Error)]
 pub enum Trouble<'a> {
     #[error("{1}: error: {2}")]
@@ -18,6 +19,8 @@ pub enum Trouble<'a> {
     NotValid(Place<'a>, NoReason),
     #[error("cti: error: {0}")]
     Words(WordFault<'a>),
+    #[error("cti: what is asked is answered")]
+    Asked(Asked),
     #[error("{0}: error: {1}")]
     File(&'a str, FileCause),
     #[error("cti: error: standard output failed after {0} bytes")]
@@ -26,6 +29,12 @@ pub enum Trouble<'a> {
     Memory,
     #[error("cti: error: the search ended at a goal with a value above 2^127 - 1")]
     Overflow,
+    #[error("cti: note: no loop was found, which does not say that the query ends")]
+    NoLoop,
+    #[error("cti: note: the first 100,000 derivations have no loop, and there are more")]
+    ManyDerivations,
+    #[error("cti: error: out of memory, or the terms of the derivations grew too large")]
+    LoopMemory,
 }
 
 impl<'a> Trouble<'a> {
@@ -72,6 +81,8 @@ impl<'a> Trouble<'a> {
             Trouble::Refused(_, _, kind) => kind.advice(),
             Trouble::NotValid(_, reason) => reason.advice(),
             Trouble::Words(fault) => fault.advice(),
+            Trouble::Asked(_) => "",
+            Trouble::File("-", FileCause::Missing) => "standard input is /dev/stdin",
             Trouble::File(_, cause) => cause.advice(),
             Trouble::Output(_) => {
                 "the answer was cut short: free space on the disk, or let the reader of the pipe read to the end"
@@ -79,6 +90,15 @@ impl<'a> Trouble<'a> {
             Trouble::Memory => "nothing was written: allow more memory, or split the program",
             Trouble::Overflow => {
                 "the answers before it were written: it is the first goal of the last step that is counted, so look there with --steps"
+            }
+            Trouble::NoLoop => {
+                "a greater --depth, up to 12, looks further; `cti run` with --steps 20 shows how the search goes"
+            }
+            Trouble::ManyDerivations => {
+                "give a smaller --depth, or a query with fewer answers; `cti run` with --steps 20 shows how the search goes"
+            }
+            Trouble::LoopMemory => {
+                "nothing was written: give a smaller --depth, or a query with smaller terms"
             }
         }
     }

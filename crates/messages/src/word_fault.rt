@@ -11,6 +11,8 @@ pub enum WordFault<'a> {
     NoCommand,
     #[error("`{0}` is not a command")]
     UnknownCommand(&'a str),
+    #[error("a command comes first: `cti infer {0}`")]
+    FileFirst(&'a str),
     #[error("`{0}` is not an option of this command")]
     UnknownOption(&'a str),
     #[error("`cti {0}` needs the word {1}")]
@@ -23,6 +25,8 @@ pub enum WordFault<'a> {
     BadSteps(&'a str),
     #[error("`{0}` is not a norm")]
     BadNorm(&'a str),
+    #[error("`{0}` is not a depth")]
+    BadDepth(&'a str),
     #[error("`{0}` is not a number of predicates")]
     BadCount(&'a str),
     #[error("{0} stands twice")]
@@ -35,11 +39,11 @@ impl WordFault<'_> {
     /// What to do about it.
     pub fn advice(self) -> &'static str {
         match self {
-            WordFault::NoCommand | WordFault::UnknownCommand(_) => {
-                "the commands are infer, check, run and gen"
+            WordFault::NoCommand | WordFault::UnknownCommand(_) | WordFault::FileFirst(_) => {
+                "the commands are infer, check, run, gen and loop"
             }
             WordFault::UnknownOption(_) => {
-                "infer has the option --norm, and run has --steps; write -- before a word that begins with -"
+                "infer has the option --norm, run has --steps and loop has --depth; write -- before a word that begins with -"
             }
             WordFault::Extra(_) => "put a query or a name with spaces in quotes",
             WordFault::NoValue(CommandOption::Steps, _) | WordFault::BadSteps(_) => {
@@ -47,6 +51,9 @@ impl WordFault<'_> {
             }
             WordFault::NoValue(CommandOption::Norm, _) | WordFault::BadNorm(_) => {
                 "--norm takes term or list"
+            }
+            WordFault::NoValue(CommandOption::Depth, _) | WordFault::BadDepth(_) => {
+                "--depth takes a number from 1 to 12"
             }
             WordFault::BadCount(_) => "write a number from 1 to 300",
             WordFault::Twice(_) => "leave one of them out",

@@ -1,11 +1,14 @@
 //! The words of a command line, sorted by what they are.
 
+use crate::asked::Asked;
 use crate::command::Command;
 use crate::command_option::CommandOption;
 use crate::word_fault::WordFault;
 
-/// The most digits of a number.
+/// The most digits of a number of steps or of predicates, and of a depth.
 const MOST_DIGITS: usize = 7;
+
+const MOST_DEPTH_DIGITS: usize = 2;
 
 /// What the next word is.
 #[derive(Clone, Copy, PartialEq, Eq)]
@@ -27,6 +30,8 @@ pub struct Words<'a> {
     /// The option that was given.
     option: Option<CommandOption>,
     next: Next,
+    /// What is asked about the program itself.
+    asked: Option<Asked>,
     /// The first fault that was seen.
     fault: Option<WordFault<'a>>,
 }
@@ -38,6 +43,7 @@ fn command_fault<'a>(word: Option<&'a str>) -> Option<WordFault<'a>> {
     };
     match Command::of(word) {
         Some(_) => None,
+        None if word.ends_with(".pl") => Some(WordFault::FileFirst(word)),
         None => Some(WordFault::UnknownCommand(word)),
     }
 }
@@ -52,6 +58,7 @@ impl<'a> Words<'a> {
             second: None,
             option: None,
             next: Next::Any,
+            asked: first.and_then(Asked::of),
             fault: command_fault(first),
         };
         for word in words.get(1..).unwrap_or(&[]) {
@@ -70,6 +77,21 @@ impl<'a> Words<'a> {
         self.second.unwrap_or("")
     }
 
+    /// What is asked about the program itself.
+    pub fn asked(self) -> Option<Asked> {
+        self.asked
+    }
+
+    /// Whether the modes are inferred of a file's program.
+    pub fn infers(self) -> bool {
+        self.command == Some(Command::Infer)
+    }
+
+    /// Whether a loop is looked for.
+    pub fn looks_for_loop(self) -> bool {
+        self.command == Some(Command::Loop)
+    }
+
     /// Whether the second word is a file's name.
     pub fn has_certificate(self) -> bool {
         self.command == Some(Command::Check)
@@ -77,7 +99,7 @@ impl<'a> Words<'a> {
 
     /// Whether the second word is a query.
     pub fn has_query(self) -> bool {
-        self.command == Some(Command::Run)
+        matches!(self.command, Some(Command::Run | Command::Loop))
     }
 
     /// What is wrong with the words, which are not a command.
@@ -112,6 +134,9 @@ impl<'a> Words<'a> {
 
     /// Takes a word that begins with `-`.
     fn take_option(&mut self, word: &'a str) {
+        if self.command.is_some() && self.asked.is_none() {
+            self.asked = Asked::of_option(word);
+        }
         let Some(option) = CommandOption::of(self.command) else {
             return self.blame(WordFault::UnknownOption(word));
         };
@@ -151,7 +176,7 @@ impl<'a> Words<'a> {
 
     /// Takes the first word after the command.
     fn take_first(&mut self, word: &'a str) {
-        if self.command == Some(Command::Gen) && !is_number_up_to(word, 300) {
+        if self.command == Some(Command::Gen) && !is_number_up_to(word, MOST_DIGITS, 300) {
             self.blame(WordFault::BadCount(word));
         }
         self.file = Some(word);
@@ -168,17 +193,20 @@ impl<'a> Words<'a> {
 /// The fault of an option's value.
 fn value_fault<'a>(option: CommandOption, word: &'a str) -> Option<WordFault<'a>> {
     match option {
-        CommandOption::Steps if !is_number_up_to(word, 1_000_000) => {
+        CommandOption::Steps if !is_number_up_to(word, MOST_DIGITS, 1_000_000) => {
             Some(WordFault::BadSteps(word))
+        }
+        CommandOption::Depth if !is_number_up_to(word, MOST_DEPTH_DIGITS, 12) => {
+            Some(WordFault::BadDepth(word))
         }
         CommandOption::Norm if word != "term" && word != "list" => Some(WordFault::BadNorm(word)),
         _ => None,
     }
 }
 
-/// Whether a word is a number from 1 to the greatest, of at most seven digits.
-fn is_number_up_to(word: &str, greatest: u32) -> bool {
-    let is_short = word.len() <= MOST_DIGITS && word.bytes().all(|byte| byte.is_ascii_digit());
+/// Whether a word is a number from 1 to the greatest, of at most so many digits.
+fn is_number_up_to(word: &str, digits: usize, greatest: u32) -> bool {
+    let is_short = word.len() <= digits && word.bytes().all(|byte| byte.is_ascii_digit());
     match word.parse::<u32>() {
         Ok(number) => is_short && number >= 1 && number <= greatest,
         Err(_) => false,

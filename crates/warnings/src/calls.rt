@@ -10,6 +10,8 @@ use std::alloc::AllocError;
 pub(crate) struct Call {
     pub(crate) at: u32,
     pub(crate) pred: Pred,
+    /// The predicate whose clause it stands in.
+    pub(crate) caller: Option<Pred>,
 }
 
 /// Whether a name of the given arity joins two bodies.
@@ -29,21 +31,23 @@ fn is_known(text: &[u8], arity: usize) -> bool {
     )
 }
 
-/// Adds the calls of a body, in the order of the text.
+/// Adds the calls of a body of this predicate's, in the order of the text.
 pub(crate) fn push_calls(
     body: &ReadTerm,
     names: &Names,
+    caller: Option<Pred>,
     calls: &mut Vec<Call>,
 ) -> Result<(), AllocError> {
     match &body.shape {
         ReadShape::Fun(name, args) if is_connective(text_of(names, *name), args.len()) => {
             for part in args {
-                push_calls(part, names, calls)?;
+                push_calls(part, names, caller, calls)?;
             }
         }
         ReadShape::Fun(name, args) if !is_known(text_of(names, *name), args.len()) => {
             let pred = pred_of(*name, args);
-            calls.push(Call { at: body.at, pred })?;
+            let at = body.at;
+            calls.push(Call { at, pred, caller })?;
         }
         _ => {}
     }

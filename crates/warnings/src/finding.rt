@@ -1,6 +1,7 @@
 //! The warnings about the clauses of a text.
 
 use crate::calls::{Call, push_calls};
+use crate::findings::Findings;
 use crate::parts::{body_of, head_of, pred_in};
 use crate::singletons::push_singletons;
 use crate::warning::Warning;
@@ -29,7 +30,8 @@ fn calls_in(alloc: Global, names: &Names, clauses: &[ReadClause]) -> Result<Vec<
     let mut calls = Vec::new(alloc);
     for clause in clauses {
         if let Some(body) = body_of(names, &clause.term) {
-            push_calls(body, names, &mut calls)?;
+            let caller = head_of(names, &clause.term).and_then(pred_in);
+            push_calls(body, names, caller, &mut calls)?;
         }
     }
     Ok(calls)
@@ -37,14 +39,14 @@ fn calls_in(alloc: Global, names: &Names, clauses: &[ReadClause]) -> Result<Vec<
 
 /// The warning about a call of a predicate that has no clause.
 fn warning_of(call: Call, defined: &IndexSet<Pred>) -> Warning {
-    let Call { at, pred } = call;
+    let Call { at, pred, caller } = call;
     match defined.iter().find(|other| other.name == pred.name) {
         Some(other) => Warning::OtherArity {
             at,
             pred,
             arity: other.arity,
         },
-        None => Warning::NoClause { at, pred },
+        None => Warning::NoClause { at, pred, caller },
     }
 }
 
@@ -83,13 +85,16 @@ pub(crate) fn warnings_in(
     text: &[u8],
     names: &Names,
     clauses: &[ReadClause],
-) -> Result<Vec<Warning>, AllocError> {
-    let mut warnings = undefined_in(alloc, names, clauses)?;
+) -> Result<Findings, AllocError> {
+    let mut findings = Findings {
+        warnings: undefined_in(alloc, names, clauses)?,
+        places: Vec::new(alloc),
+    };
     for clause in clauses {
-        push_singletons(alloc, text, clause, &mut warnings)?;
+        push_singletons(alloc, text, clause, &mut findings)?;
     }
-    warnings.sort_by_key(|warning| warning.at())?;
-    Ok(warnings)
+    findings.warnings.sort_by_key(|warning| warning.at())?;
+    Ok(findings)
 }
 
 /// The warnings about a query of a program whose clauses define these predicates.
@@ -98,10 +103,13 @@ pub(crate) fn query_warnings_in(
     names: &Names,
     query: &ReadClause,
     defined: &IndexSet<Pred>,
-) -> Result<Vec<Warning>, AllocError> {
+) -> Result<Findings, AllocError> {
     let mut calls = Vec::new(alloc);
-    push_calls(&query.term, names, &mut calls)?;
+    push_calls(&query.term, names, None, &mut calls)?;
     let mut warnings = Vec::new(alloc);
     push_undefined(alloc, &calls, defined, &mut warnings)?;
-    Ok(warnings)
+    Ok(Findings {
+        warnings,
+        places: Vec::new(alloc),
+    })
 }

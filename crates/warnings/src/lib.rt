@@ -7,6 +7,7 @@
 
 mod calls;
 mod finding;
+mod findings;
 mod libraries;
 mod parts;
 mod sentence;
@@ -14,5 +15,6 @@ mod singletons;
 mod telling;
 mod warning;
 
+pub use parts::{body_of, head_of, text_of};
 pub use sentence::Sentence;
 pub use telling::{program_warnings, query_warnings, warn};

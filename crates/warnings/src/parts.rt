@@ -6,7 +6,7 @@ use cti_terms::{Name, Names, Pred};
 use prolog_reader::{ReadShape, ReadTerm};
 
 /// The text of a name.
-pub(crate) fn text_of(names: &Names, name: Name) -> &[u8] {
+pub fn text_of(names: &Names, name: Name) -> &[u8] {
     if name.0 < names.count() {
         names.text(name)
     } else {
@@ -47,7 +47,7 @@ pub(crate) fn pred_in(term: &ReadTerm) -> Option<Pred> {
 }
 
 /// The head of a clause, which a directive has not.
-pub(crate) fn head_of<'a>(names: &Names, clause: &'a ReadTerm) -> Option<&'a ReadTerm> {
+pub fn head_of<'a>(names: &Names, clause: &'a ReadTerm) -> Option<&'a ReadTerm> {
     if is_of(names, clause, b":-", 1) {
         return None;
     }
@@ -58,7 +58,7 @@ pub(crate) fn head_of<'a>(names: &Names, clause: &'a ReadTerm) -> Option<&'a Rea
 }
 
 /// The body of a clause, which a fact has not.
-pub(crate) fn body_of<'a>(names: &Names, clause: &'a ReadTerm) -> Option<&'a ReadTerm> {
+pub fn body_of<'a>(names: &Names, clause: &'a ReadTerm) -> Option<&'a ReadTerm> {
     if is_of(names, clause, b":-", 2) {
         return args_of(clause).last();
     }

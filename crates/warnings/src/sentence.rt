@@ -5,8 +5,16 @@ use thiserror::Error;
 /// A warning as it is said.
 #[derive(Clone, Copy, Debug, PartialEq, Eq, Error)]
 pub enum Sentence<'a> {
-    #[error("`{name}/{arity}` is called and has no clause: every call of it fails")]
+    #[error("`{name}/{arity}` is called and has no clause: here it always fails, so the modes of `{caller}/{inputs}` and of its callers say nothing of a program that has it")]
     NoClause {
+        name: &'a str,
+        arity: u32,
+        /// The predicate whose clause calls it, and how many arguments that has.
+        caller: &'a str,
+        inputs: u32,
+    },
+    #[error("`{name}/{arity}` is called and has no clause: here it always fails")]
+    NoClauseInQuery {
         name: &'a str,
         arity: u32,
     },
@@ -16,11 +24,8 @@ pub enum Sentence<'a> {
         arity: u32,
         other: u32,
     },
-    #[error("`{name}/{arity}` is called and has no clause: libraries are not read, so add its clauses")]
-    Library {
-        name: &'a str,
-        arity: u32,
-    },
-    #[error("the variable `{0}` occurs only once: write `_` if it is meant")]
+    #[error("the variable {0} occurs only once: write `_` if it is meant")]
     Singleton(&'a str),
+    #[error("the variables {0} occur only once: write `_` for each that is meant")]
+    Singletons(&'a str),
 }

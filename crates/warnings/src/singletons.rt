@@ -1,5 +1,6 @@
 //! Variables that occur only once in a clause.
 
+use crate::findings::Findings;
 use crate::warning::Warning;
 use prolog_reader::{ReadClause, ReadShape, ReadTerm};
 use std::alloc::{AllocError, Global};
@@ -39,20 +40,33 @@ fn is_named(text: &[u8], at: u32) -> bool {
     }
 }
 
-/// Adds a warning for each variable that occurs only once in a clause of a text.
+/// Adds a warning of the variables that occur only once in a clause of a text.
 pub(crate) fn push_singletons(
     alloc: Global,
     text: &[u8],
     clause: &ReadClause,
-    warnings: &mut Vec<Warning>,
+    findings: &mut Findings,
 ) -> Result<(), AllocError> {
     let none = Occurrences { times: 0, at: 0 };
     let mut counts = vec![in alloc; none; clause.vars as usize]?;
     count_variables(&clause.term, counts.as_mut_slice());
+    let start = findings.places.len();
     for count in &counts {
         if count.times == 1 && is_named(text, count.at) {
-            warnings.push(Warning::Singleton { at: count.at })?;
+            findings.places.push(count.at)?;
         }
     }
+    push_named(findings, start)
+}
+
+/// Adds a warning of the variables whose places stand from one of them on, if there are any.
+fn push_named(findings: &mut Findings, start: usize) -> Result<(), AllocError> {
+    let Some(at) = findings.places.get(start).copied() else {
+        return Ok(());
+    };
+    let count = findings.places.len().saturating_sub(start);
+    findings
+        .warnings
+        .push(Warning::Singletons { at, start, count })?;
     Ok(())
 }

@@ -1,12 +1,13 @@
 //! The text of the warnings.
 
 use crate::finding::{defined_in, query_warnings_in, warnings_in};
-use crate::libraries::is_library;
+use crate::findings::Findings;
+use crate::libraries::library_of;
 use crate::parts::text_of;
 use crate::sentence::Sentence;
 use crate::warning::Warning;
-use cti_terms::{Name, Names};
-use messages::{Ending, Place, push_excerpt, push_shown, text_again};
+use cti_terms::{Name, Names, Pred};
+use messages::{Ending, Place, push_excerpt, push_help, push_shown, text_again};
 use prolog_reader::{read_query, read_text};
 use std::alloc::{AllocError, Global};
 use std::rt::Files;
@@ -39,56 +40,117 @@ fn variable_at(text: &[u8], at: u32) -> &str {
     std::str::from_utf8(word).unwrap_or("?")
 }
 
-/// A warning as it is said.
-fn sentence_of<'a>(text: &'a [u8], names: &'a Names, warning: Warning) -> Sentence<'a> {
-    match warning {
-        Warning::NoClause { pred, .. } => {
-            let name = str_of(names, pred.name);
-            let arity = pred.arity;
-            if is_library(name, arity) {
-                Sentence::Library { name, arity }
-            } else {
-                Sentence::NoClause { name, arity }
-            }
+/// The variables at some places, as they are said.
+fn variables_at(alloc: Global, text: &[u8], places: &[u32]) -> Result<String, AllocError> {
+    let mut said = String::new(alloc);
+    for (count, at) in places.iter().enumerate() {
+        if count > 0 {
+            said.push_str(", ")?;
         }
+        said.push_str("`")?;
+        said.push_str(variable_at(text, *at))?;
+        said.push_str("`")?;
+    }
+    Ok(said)
+}
+
+/// A call of a predicate without clauses, as it is said.
+fn missing<'a>(names: &'a Names, pred: Pred, caller: Option<Pred>) -> Sentence<'a> {
+    let name = str_of(names, pred.name);
+    let arity = pred.arity;
+    match caller {
+        Some(caller) => Sentence::NoClause {
+            name,
+            arity,
+            caller: str_of(names, caller.name),
+            inputs: caller.arity,
+        },
+        None => Sentence::NoClauseInQuery { name, arity },
+    }
+}
+
+/// A warning about calls as it is said, or one of the named variables, which are so many.
+fn sentence_of<'a>(
+    names: &'a Names,
+    warning: Warning,
+    variables: &'a str,
+    count: usize,
+) -> Sentence<'a> {
+    match warning {
+        Warning::NoClause { pred, caller, .. } => missing(names, pred, caller),
         Warning::OtherArity { pred, arity, .. } => Sentence::OtherArity {
             name: str_of(names, pred.name),
             arity: pred.arity,
             other: arity,
         },
-        Warning::Singleton { at } => Sentence::Singleton(variable_at(text, at)),
+        Warning::Singletons { .. } if count == 1 => Sentence::Singleton(variables),
+        Warning::Singletons { .. } => Sentence::Singletons(variables),
     }
+}
+
+/// What to do about a warning, where its sentence does not say it.
+fn advice_of(names: &Names, warning: Warning) -> Option<&'static str> {
+    match warning {
+        Warning::NoClause { pred, .. } => {
+            let library = library_of(str_of(names, pred.name), pred.arity);
+            Some(library.advice())
+        }
+        _ => None,
+    }
+}
+
+/// A text that is warned about, and its names.
+#[derive(Clone, Copy)]
+struct Named<'n, 't, 'p> {
+    name: &'n str,
+    text: &'t [u8],
+    names: &'p Names,
 }
 
 /// Adds a warning, with its line.
 fn push_warning(
     alloc: Global,
     message: &mut Vec<u8>,
-    place: Place<'_>,
-    sentence: Sentence<'_>,
-    text: &[u8],
+    named: Named<'_, '_, '_>,
+    warning: Warning,
+    places: &[u32],
 ) -> Result<(), AllocError> {
+    let place = Place::of(named.name, named.text, warning.at());
+    let variables = variables_at(alloc, named.text, places)?;
+    let sentence = sentence_of(named.names, warning, &variables, places.len());
     let head = format!(in alloc; "{place}: warning: {sentence}")?;
     push_shown(message, head.as_bytes())?;
     message.push(b'\n')?;
-    push_excerpt(message, text, place)
+    push_excerpt(message, named.text, place)?;
+    match advice_of(named.names, warning) {
+        Some(advice) => push_help(message, advice),
+        None => Ok(()),
+    }
+}
+
+/// The places of the variables that a warning names.
+fn named_places(places: &[u32], warning: Warning) -> &[u32] {
+    match warning {
+        Warning::Singletons { start, count, .. } => {
+            let rest = places.get(start..).unwrap_or(&[]);
+            rest.get(..count).unwrap_or(rest)
+        }
+        _ => &[],
+    }
 }
 
 /// The text of the warnings about a named text, and of how many more there are.
 fn told(
     alloc: Global,
-    name: &str,
-    text: &[u8],
-    names: &Names,
-    warnings: &[Warning],
+    named: Named<'_, '_, '_>,
+    findings: &Findings,
 ) -> Result<Vec<u8>, AllocError> {
     let mut message = Vec::new(alloc);
-    for warning in warnings.iter().take(MOST_WARNINGS) {
-        let place = Place::of(name, text, warning.at());
-        let sentence = sentence_of(text, names, *warning);
-        push_warning(alloc, &mut message, place, sentence, text)?;
+    for warning in findings.warnings.iter().take(MOST_WARNINGS) {
+        let places = named_places(&findings.places, *warning);
+        push_warning(alloc, &mut message, named, *warning, places)?;
     }
-    push_more(alloc, &mut message, warnings.len())?;
+    push_more(alloc, &mut message, findings.warnings.len())?;
     Ok(message)
 }
 
@@ -108,8 +170,13 @@ pub fn program_warnings(alloc: Global, name: &str, text: &[u8]) -> Result<Vec<u8
     let Ok(read) = read_text(alloc, text, &mut names) else {
         return Ok(Vec::new(alloc));
     };
-    let warnings = warnings_in(alloc, text, &names, read.clauses.as_slice())?;
-    told(alloc, name, text, &names, &warnings)
+    let findings = warnings_in(alloc, text, &names, read.clauses.as_slice())?;
+    let named = Named {
+        name,
+        text,
+        names: &names,
+    };
+    told(alloc, named, &findings)
 }
 
 /// The text of the warnings about a query of a program, in the same way.
@@ -125,8 +192,13 @@ pub fn query_warnings(alloc: Global, text: &[u8], query: &[u8]) -> Result<Vec<u8
     let Ok(asked) = read_query(alloc, query, &mut names, &read.ops) else {
         return Ok(Vec::new(alloc));
     };
-    let warnings = query_warnings_in(alloc, &names, &asked, &defined)?;
-    told(alloc, "query", query, &names, &warnings)
+    let findings = query_warnings_in(alloc, &names, &asked, &defined)?;
+    let named = Named {
+        name: "query",
+        text: query,
+        names: &names,
+    };
+    told(alloc, named, &findings)
 }
 
 /// The warnings about the program and the query of a call that answered.

@@ -5,12 +5,24 @@ use cti_terms::Pred;
 /// What is warned of, and the place of its first byte.
 #[derive(Clone, Copy)]
 pub(crate) enum Warning {
-    /// A predicate that has no clause is called.
-    NoClause { at: u32, pred: Pred },
+    /// A predicate that has no clause is called, in a clause of another one or in a query.
+    NoClause {
+        at: u32,
+        pred: Pred,
+        caller: Option<Pred>,
+    },
     /// The same, of a predicate whose name another one with clauses has.
-    OtherArity { at: u32, pred: Pred, arity: u32 },
-    /// A variable occurs only once in its clause.
-    Singleton { at: u32 },
+    OtherArity {
+        at: u32,
+        pred: Pred,
+        arity: u32,
+    },
+    /// Variables occur only once in their clause: so many of the findings' places, from this one on.
+    Singletons {
+        at: u32,
+        start: usize,
+        count: usize,
+    },
 }
 
 impl Warning {
@@ -19,7 +31,7 @@ impl Warning {
         match self {
             Warning::NoClause { at, .. }
             | Warning::OtherArity { at, .. }
-            | Warning::Singleton { at } => at,
+            | Warning::Singletons { at, .. } => at,
         }
     }
 }

@@ -1,0 +1,109 @@
+//! What to do about a trouble, as far as the texts show it.
+
+use crate::excerpt::line_of;
+use crate::expected::{Expected, Stop, expected_at, offset_of};
+use crate::no_reason::NoReason;
+use crate::place::Place;
+use crate::refusal_kind::RefusalKind;
+use crate::texts::Texts;
+use crate::told::Subject;
+use crate::trouble::Trouble;
+use mistakes::{
+    Mistake, argument_mistake, byte_mistake, goal_mistake, head_mistake, is_certificate,
+    line_mistake, mode_mistake, program_mistake, query_in_file, variable_mistake,
+};
+use std::alloc::{AllocError, Global};
+
+/// What was expected where the text of a refusal cannot go on.
+fn syntax_advice<'a>(
+    alloc: Global,
+    subject: Subject,
+    place: Place<'_>,
+    texts: Texts<'a>,
+) -> Result<Expected<'a>, AllocError> {
+    expected_at(
+        alloc,
+        Stop {
+            subject,
+            text: texts.told,
+            line: place.line,
+            column: place.column,
+            operators: texts.program,
+        },
+    )
+}
+
+/// The mistake that a refused line of a certificate shows.
+fn fact_mistake<'a>(place: Place<'_>, texts: Texts<'a>) -> Option<Mistake<'a>> {
+    if is_certificate(texts.program) && !is_certificate(texts.told) {
+        return Some(Mistake::Exchanged);
+    }
+    let line = line_of(texts.told, place.line)?;
+    let is_last = line_of(texts.told, place.line.saturating_add(1)).is_none();
+    line_mistake(line, is_last)
+}
+
+/// The mistake that a refused text shows, but for one of its syntax.
+fn refusal_mistake<'a>(
+    alloc: Global,
+    subject: Subject,
+    place: Place<'a>,
+    kind: RefusalKind,
+    texts: Texts<'a>,
+) -> Result<Option<Mistake<'a>>, AllocError> {
+    let text = texts.told;
+    let at = offset_of(text, place.line, place.column);
+    Ok(match kind {
+        RefusalKind::BadByte => byte_mistake(text.get(at..).unwrap_or(&[])),
+        RefusalKind::Arity => argument_mistake(text, at),
+        RefusalKind::ManyVariables => variable_mistake(alloc, text, at)?,
+        RefusalKind::NotPure => goal_mistake(text, at, subject == Subject::Query),
+        RefusalKind::BadHead => head_mistake(text, at),
+        RefusalKind::Directive => query_in_file(place.name, text, at),
+        RefusalKind::NotAFact => fact_mistake(place, texts),
+        _ => None,
+    })
+}
+
+/// The mistake that a certificate shows which is not valid.
+fn certificate_mistake<'a>(
+    place: Place<'_>,
+    reason: NoReason,
+    texts: Texts<'a>,
+) -> Option<Mistake<'a>> {
+    if !matches!(
+        reason,
+        NoReason::Missing | NoReason::Extra | NoReason::Shape
+    ) {
+        return None;
+    }
+    if let Some(mistake) = program_mistake(texts.program, texts.told) {
+        return Some(mistake);
+    }
+    match reason {
+        NoReason::Shape => mode_mistake(line_of(texts.told, place.line)?),
+        _ => None,
+    }
+}
+
+/// What the texts show about a trouble, as a sentence that says what to do.
+pub(crate) fn shown_advice<'a>(
+    alloc: Global,
+    trouble: Trouble<'a>,
+    texts: Texts<'a>,
+) -> Result<Option<Expected<'a>>, AllocError> {
+    let mistake = match trouble {
+        Trouble::Refused(Subject::Program | Subject::Certificate, ..) if texts.told.is_empty() => {
+            None
+        }
+        Trouble::Refused(subject, place, RefusalKind::Unexpected) => {
+            return Ok(Some(syntax_advice(alloc, subject, place, texts)?));
+        }
+        Trouble::Refused(subject, place, kind) => {
+            refusal_mistake(alloc, subject, place, kind, texts)?
+        }
+        Trouble::NotValid(place, reason) => certificate_mistake(place, reason, texts),
+        _ => None,
+    };
+    Ok(mistake.map(Expected::Mistake))
+}

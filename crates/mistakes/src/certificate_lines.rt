@@ -1,0 +1,122 @@
+//! Lines of certificates that are not facts, or not as they have to be.
+
+use crate::mistake::Mistake;
+use crate::mode_numbers::ModeNumbers;
+
+/// The facts whose numbers are never negative.
+const NATURAL: [&[u8]; 9] = [
+    b"cti(",
+    b"by(",
+    b"falls(",
+    b"measure(",
+    b"none(",
+    b"point(",
+    b"at(",
+    b"blown(",
+    b"large(",
+];
+
+/// What follows the name and the arity of a fact's predicate: names may have any byte.
+fn after_name(line: &[u8]) -> &[u8] {
+    line.rsplit(|byte| *byte == b'/').next().unwrap_or(line)
+}
+
+/// Whether a minus sign stands in a text.
+fn has_minus(text: &[u8]) -> bool {
+    text.contains(&b'-')
+}
+
+/// What a line of a certificate shows that is not a fact.
+pub fn line_mistake<'a>(line: &[u8], is_unended: bool) -> Option<Mistake<'a>> {
+    if line.ends_with(b"\r") {
+        Some(Mistake::CarriageReturn)
+    } else if line.is_empty() {
+        Some(Mistake::EmptyLine)
+    } else if NATURAL.iter().any(|name| line.starts_with(name)) && has_minus(after_name(line)) {
+        Some(Mistake::Negative)
+    } else if is_unended && line.ends_with(b").") {
+        Some(Mistake::NoNewline)
+    } else {
+        None
+    }
+}
+
+/// A list of modes, read byte by byte.
+#[derive(Clone, Copy)]
+struct ModeReader {
+    numbers: ModeNumbers,
+    /// The number before.
+    before: usize,
+    /// The number under way.
+    number: usize,
+    /// Whether each number was above the one before.
+    ascends: bool,
+    /// Whether each number was one from 1 to 12.
+    is_whole: bool,
+}
+
+impl ModeReader {
+    /// Before a mode.
+    fn new() -> ModeReader {
+        ModeReader {
+            numbers: ModeNumbers::none(),
+            before: 0,
+            number: 0,
+            ascends: true,
+            is_whole: true,
+        }
+    }
+
+    /// Takes a digit.
+    fn take_digit(&mut self, byte: u8) {
+        let digit = usize::from(byte.saturating_sub(b'0'));
+        self.number = self.number.saturating_mul(10).saturating_add(digit);
+    }
+
+    /// Takes the end of a number.
+    fn end_number(&mut self) {
+        self.is_whole = self.numbers.add(self.number) && self.is_whole;
+        self.ascends = self.ascends && self.number > self.before;
+        self.before = self.number;
+        self.number = 0;
+    }
+
+    /// The mode, where its numbers are in range and do not ascend.
+    fn unordered(self) -> Option<ModeNumbers> {
+        if self.is_whole && !self.ascends {
+            Some(self.numbers)
+        } else {
+            None
+        }
+    }
+}
+
+/// The first mode of a `terminates` line whose numbers do not ascend.
+fn unordered_mode(modes: &[u8]) -> Option<ModeNumbers> {
+    let mut reader = ModeReader::new();
+    for byte in modes {
+        match *byte {
+            b'0'..=b'9' => reader.take_digit(*byte),
+            b'[' => reader = ModeReader::new(),
+            b',' | b']' => reader.end_number(),
+            _ => return None,
+        }
+        if *byte == b']'
+            && let Some(numbers) = reader.unordered()
+        {
+            return Some(numbers);
+        }
+    }
+    None
+}
+
+/// What a line of a certificate shows that has modes.
+pub fn mode_mistake<'a>(line: &[u8]) -> Option<Mistake<'a>> {
+    if !line.starts_with(b"terminates(") {
+        return None;
+    }
+    let modes = after_name(line);
+    let start = modes.iter().position(|byte| *byte == b'[')?;
+    let numbers = unordered_mode(modes.get(start..)?)?;
+    Some(Mistake::ModeOrder(numbers))
+}

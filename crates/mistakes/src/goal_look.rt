@@ -1,0 +1,123 @@
+//! What stands from the first token of a goal on.
+
+use crate::word_reader::{Word, WordReader};
+use prolog_tokens::TokenKind;
+
+/// What was seen from the first token of a goal on, outside its brackets.
+#[derive(Clone, Copy)]
+pub(crate) struct GoalLook<'a> {
+    pub(crate) first: Option<Word<'a>>,
+    pub(crate) second: Option<Word<'a>>,
+    depth: u32,
+    /// Whether no comma and no branch has come yet.
+    is_first_goal: bool,
+    pub(crate) has_branch: bool,
+    /// Whether an arrow comes before a branch.
+    pub(crate) has_arrow: bool,
+    /// Whether there is the arrow of a grammar rule.
+    pub(crate) has_grammar_arrow: bool,
+    /// Whether the first goal compares terms.
+    pub(crate) has_test: bool,
+}
+
+/// Whether a name compares terms, and binds nothing.
+fn is_test(name: &[u8]) -> bool {
+    matches!(
+        name,
+        b"\\=" | b"==" | b"\\==" | b"@<" | b"@=<" | b"@>" | b"@>="
+    )
+}
+
+impl<'a> GoalLook<'a> {
+    /// Looks at the tokens from a place on, up to the end of the clause or of the brackets that the place is in.
+    pub(crate) fn of(text: &'a [u8], at: usize) -> GoalLook<'a> {
+        let mut look = GoalLook {
+            first: None,
+            second: None,
+            depth: 0,
+            is_first_goal: true,
+            has_branch: false,
+            has_arrow: false,
+            has_grammar_arrow: false,
+            has_test: false,
+        };
+        let mut reader = WordReader::new(text, at);
+        for _ in 0..reader.most() {
+            match reader.next() {
+                Some(word) if look.take(word) => {}
+                _ => break,
+            }
+        }
+        look
+    }
+
+    /// Whether the first token is the whole goal.
+    pub(crate) fn is_alone(&self) -> bool {
+        match self.second {
+            Some(word) => {
+                word.closes()
+                    || matches!(word.kind, TokenKind::End | TokenKind::Comma)
+                    || word.text == b";".as_slice()
+            }
+            None => true,
+        }
+    }
+
+    /// Whether the first token has arguments.
+    pub(crate) fn has_arguments(&self) -> bool {
+        match (self.first, self.second) {
+            (Some(first), Some(second)) => second.opens_arguments(first),
+            _ => false,
+        }
+    }
+
+    /// Takes the next token, and answers whether there is more to look at.
+    fn take(&mut self, word: Word<'a>) -> bool {
+        // The parentheses around a goal begin it.
+        if self.first.is_none() && word.kind == TokenKind::Paren {
+            return true;
+        }
+        if self.first.is_none() {
+            self.first = Some(word);
+        } else if self.second.is_none() {
+            self.second = Some(word);
+        }
+        if word.opens() {
+            self.depth = self.depth.saturating_add(1);
+        } else if word.closes() {
+            let is_inside = self.depth > 0;
+            self.depth = self.depth.saturating_sub(1);
+            return is_inside;
+        } else if self.depth == 0 {
+            return self.take_outside(word);
+        }
+        true
+    }
+
+    /// Takes a token outside brackets.
+    fn take_outside(&mut self, word: Word<'a>) -> bool {
+        match word.kind {
+            TokenKind::End => return false,
+            TokenKind::Comma => self.is_first_goal = false,
+            TokenKind::Name => self.take_name(word.text),
+            _ => {}
+        }
+        true
+    }
+
+    /// Takes a name outside brackets.
+    fn take_name(&mut self, name: &[u8]) {
+        match name {
+            b";" => {
+                self.has_branch = true;
+                self.is_first_goal = false;
+            }
+            b"->" => {
+                self.has_arrow = self.has_arrow || !self.has_branch;
+                self.is_first_goal = false;
+            }
+            b"-->" => self.has_grammar_arrow = true,
+            _ => self.has_test = self.has_test || (self.is_first_goal && is_test(name)),
+        }
+    }
+}

@@ -1,0 +1,144 @@
+//! What a certificate's facts say of components.
+
+use crate::listed::Listed;
+use crate::table::Table;
+use certificate::{CertNorm, Certificate, Fact, PredText};
+use std::alloc::{AllocError, Global};
+
+/// What the facts say of a component.
+#[derive(Clone, Copy, PartialEq, Eq)]
+pub(crate) enum Cause {
+    /// Nothing.
+    None,
+    /// A measure falls at each recursive call.
+    Measure,
+    /// No measure falls at so many pairs, the first of which is this fact.
+    Refuted { start: usize, points: u64 },
+    /// It has so many argument positions, more than 12.
+    Large(u64),
+    /// The search was given up.
+    Blown,
+}
+
+/// What a certificate says of the predicates and the components of a program.
+pub(crate) struct Causes {
+    pub(crate) norm: CertNorm,
+    /// The place of each predicate's `terminates` among the facts.
+    terminates: Vec<usize>,
+    /// By component.
+    causes: Vec<Cause>,
+    /// How many points the refutation has that the next point begins.
+    points: u64,
+    /// How many predicates were looked for by their texts.
+    looked: usize,
+}
+
+/// How many predicates are looked for by their texts at most.
+const MOST_LOOKED: usize = 100;
+
+impl Drop for Causes {
+    fn drop(self) {
+        let Causes {
+            norm: _,
+            terminates: _,
+            causes: _,
+            points: _,
+            looked: _,
+        } = self;
+    }
+}
+
+impl Causes {
+    /// What the facts say.
+    pub(crate) fn of(
+        alloc: Global,
+        listed: &Listed,
+        certificate: &Certificate,
+    ) -> Result<Causes, AllocError> {
+        let mut causes = Causes {
+            norm: CertNorm::Term,
+            terminates: Vec::new(alloc),
+            causes: vec![in alloc; Cause::None; listed.table.preds.len()]?,
+            points: 0,
+            looked: 0,
+        };
+        for (place, fact) in certificate.facts.as_slice().iter().enumerate() {
+            causes.take(listed, place, fact)?;
+        }
+        Ok(causes)
+    }
+
+    /// Takes a fact.
+    fn take(&mut self, listed: &Listed, place: usize, fact: &Fact) -> Result<(), AllocError> {
+        match fact {
+            Fact::Norm { norm } => self.norm = *norm,
+            Fact::Terminates { .. } => self.terminates.push(place)?,
+            Fact::Falls { clause, .. } => self.note_clause(&listed.table, *clause, Cause::Measure),
+            Fact::Refuted { points, .. } => self.points = *points,
+            Fact::Point { clause, .. } if self.points > 0 => {
+                let points = self.points;
+                self.points = 0;
+                self.note_clause(
+                    &listed.table,
+                    *clause,
+                    Cause::Refuted {
+                        start: place,
+                        points,
+                    },
+                );
+            }
+            Fact::Large { pred, positions } => {
+                self.note_named(listed, pred, Cause::Large(*positions));
+            }
+            Fact::Blown { pred, .. } => self.note_named(listed, pred, Cause::Blown),
+            _ => {}
+        }
+        Ok(())
+    }
+
+    /// Notes what is said of the component of a predicate that has this text.
+    fn note_named(&mut self, listed: &Listed, text: &PredText, cause: Cause) {
+        if self.looked < MOST_LOOKED {
+            self.looked += 1;
+            let found = listed.pred_of(text.name.as_slice(), text.arity);
+            self.note_found(&listed.table, found, cause);
+        }
+    }
+
+    /// Notes what is said of the component of a clause's head.
+    fn note_clause(&mut self, table: &Table, clause: u32, cause: Cause) {
+        if let Some(row) = table.clause(clause) {
+            self.note_found(table, Some(row.head), cause);
+        }
+    }
+
+    /// Notes what is said of the component of a predicate, where nothing was said before.
+    fn note_found(&mut self, table: &Table, pred: Option<u32>, cause: Cause) {
+        let Some(pred) = pred else {
+            return;
+        };
+        if let Some(known) = self.causes.get_mut(table.component_of(pred) as usize)
+            && *known == Cause::None
+        {
+            *known = cause;
+        }
+    }
+
+    /// What is said of the component of a predicate.
+    pub(crate) fn of_component(&self, component: u32) -> Cause {
+        self.causes
+            .get(component as usize)
+            .copied()
+            .unwrap_or(Cause::None)
+    }
+
+    /// Whether each predicate has its modes.
+    pub(crate) fn are_of(&self, table: &Table) -> bool {
+        self.terminates.len() == table.preds.len()
+    }
+
+    /// The place among the facts of a predicate's `terminates`.
+    pub(crate) fn terminates(&self, pred: u32) -> Option<usize> {
+        self.terminates.get(pred as usize).copied()
+    }
+}

@@ -1,0 +1,21 @@
+//! Why predicates have no mode: notes for people, made from a certificate that was printed and from the text of its program.
+//!
+//! `call_notes` reads both again. Nothing that is answered depends on what it says, and it says no more than the facts do: the calls
+//! that a refutation names, what was given up, which call needs what no query gives it. It depends on `certificate` for the facts, on
+//! `prolog_reader`, `clause_normal`, `call_components` and `cti_terms` for the program, on `warnings` for clauses with places, on
+//! `messages` for the form, and on `thiserror`.
+#![tactic(auto)]
+
+mod cause;
+mod finding_causes;
+mod listed;
+mod note;
+mod noting;
+mod places;
+mod reading;
+mod showing;
+mod table;
+mod telling;
+
+pub use note::Note;
+pub use telling::{call_notes, norm_note, program_notes};

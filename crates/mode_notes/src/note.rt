@@ -1,0 +1,60 @@
+//! The sentences of the notes.
+
+use thiserror::Error;
+
+/// Why a predicate has no mode, as it is said. Predicates stand as `NAME/ARITY` in back quotes, or as a disjunction.
+#[derive(Clone, Copy, Debug, PartialEq, Eq, Error)]
+pub enum Note<'a> {
+    #[error("{0} has no mode: nothing known of its arguments gets smaller from this clause's head to this call")]
+    OneCall(&'a str),
+    #[error("{pred} has no mode: no single weighted sum of sizes falls at all of these calls: {places}")]
+    Calls {
+        pred: &'a str,
+        places: &'a str,
+    },
+    #[error("{pred} has no mode: its recursive group has {positions} arguments, more than 12, so that only one measure was looked for")]
+    Large {
+        pred: &'a str,
+        positions: u64,
+    },
+    #[error("{0} has no mode: the search for a measure was given up, since a number or a list grew too large")]
+    Blown(&'a str),
+    #[error("{pred} has no mode: it calls {callee}, which has none")]
+    Callee {
+        pred: &'a str,
+        callee: &'a str,
+    },
+    #[error("{pred} has no mode: {callee} at this call needs {needs} {known}, and no {known} arguments of a query make sure of that")]
+    Needs {
+        pred: &'a str,
+        callee: &'a str,
+        needs: &'a str,
+        known: &'a str,
+    },
+    #[error("{pred} has no mode: no {known} arguments of a query are enough for all the calls of its clauses")]
+    Unmet {
+        pred: &'a str,
+        known: &'a str,
+    },
+    #[error("{0} has no mode: no measure was found")]
+    Unknown(&'a str),
+}
+
+impl Note<'_> {
+    /// What to do, where the sentence about loops does not say it.
+    pub(crate) fn advice(self) -> &'static str {
+        match self {
+            Note::OneCall(_) => "give the call something that gets smaller",
+            Note::Calls { .. } => {
+                "let one argument, or one sum of arguments, get smaller at each of them"
+            }
+            Note::Large { .. } => "put arguments that belong together into one term",
+            Note::Blown(_) => "split the predicate, or give it fewer arguments",
+            Note::Callee { .. } => "the note about that one says why",
+            Note::Needs { .. } | Note::Unmet { .. } => {
+                "call something before it that makes the argument known, or give the clause's head one more argument"
+            }
+            Note::Unknown(_) => "split the predicate, or give it fewer arguments",
+        }
+    }
+}

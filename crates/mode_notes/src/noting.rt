@@ -1,0 +1,152 @@
+//! The text of the notes.
+
+use crate::finding_causes::{Case, View, Why};
+use crate::note::Note;
+use crate::showing::{Source, calls_shown, needs_shown};
+use certificate::CertNorm;
+use messages::{push_excerpt, push_help, push_shown};
+use std::alloc::{AllocError, Global};
+
+/// How many notes are written at most.
+const MOST_NOTES: u64 = 20;
+
+/// Adds a note at a place, or about the whole file, with its line.
+fn push_note(
+    alloc: Global,
+    message: &mut Vec<u8>,
+    source: Source<'_, '_, '_>,
+    at: Option<u32>,
+    note: Note<'_>,
+) -> Result<(), AllocError> {
+    let place = match at {
+        Some(at) => source.place(at),
+        None => source.place(0),
+    };
+    let head = format!(in alloc; "{place}: note: {note}")?;
+    push_shown(message, head.as_bytes())?;
+    message.push(b'\n')?;
+    push_excerpt(message, source.text, place)
+}
+
+/// Adds what to do about a call at which nothing gets smaller.
+fn push_loop_help(
+    alloc: Global,
+    message: &mut Vec<u8>,
+    source: Source<'_, '_, '_>,
+    pred: u32,
+) -> Result<(), AllocError> {
+    let Some(query) = source.query(alloc, pred)? else {
+        return push_help(message, "give the call something that gets smaller");
+    };
+    let file = source.name;
+    let advice = format!(in alloc;
+        "give the call something that gets smaller; `cti loop {file} '{query}'` may show that it goes on"
+    )?;
+    push_help(message, &advice)
+}
+
+/// What a mode asks of arguments.
+fn known_word(norm: CertNorm) -> &'static str {
+    match norm {
+        CertNorm::Term => "ground",
+        CertNorm::List => "rigid",
+    }
+}
+
+/// The predicate that a case speaks of besides, and what is said of calls or arguments.
+fn parts_of(
+    alloc: Global,
+    source: Source<'_, '_, '_>,
+    view: View<'_, '_, '_>,
+    why: Why,
+) -> Result<(String, String), AllocError> {
+    match why {
+        Why::Callee(callee) => Ok((source.shown(alloc, callee)?, String::new(alloc))),
+        Why::Needs(callee) => {
+            let needs = needs_shown(alloc, view, callee)?;
+            Ok((source.shown(alloc, callee)?, needs))
+        }
+        Why::Calls { start, points } => {
+            let places = calls_shown(alloc, source, view, start, points)?;
+            Ok((String::new(alloc), places))
+        }
+        _ => Ok((String::new(alloc), String::new(alloc))),
+    }
+}
+
+/// A case as a note.
+fn note_of<'a>(
+    why: Why,
+    norm: CertNorm,
+    pred: &'a str,
+    callee: &'a str,
+    said: &'a str,
+) -> Note<'a> {
+    let known = known_word(norm);
+    match why {
+        Why::OneCall => Note::OneCall(pred),
+        Why::Calls { .. } => Note::Calls { pred, places: said },
+        Why::Large(positions) => Note::Large { pred, positions },
+        Why::Blown => Note::Blown(pred),
+        Why::Callee(_) => Note::Callee { pred, callee },
+        Why::Needs(_) => Note::Needs {
+            pred,
+            callee,
+            needs: said,
+            known,
+        },
+        Why::Unmet => Note::Unmet { pred, known },
+        Why::Unknown => Note::Unknown(pred),
+    }
+}
+
+/// Adds the note about a predicate.
+fn push_case(
+    alloc: Global,
+    message: &mut Vec<u8>,
+    source: Source<'_, '_, '_>,
+    view: View<'_, '_, '_>,
+    pred: u32,
+) -> Result<(), AllocError> {
+    let Case { why, at } = view.case_of(pred);
+    let shown = source.shown(alloc, pred)?;
+    let (callee, said) = parts_of(alloc, source, view, why)?;
+    let note = note_of(why, view.causes.norm, &shown, &callee, &said);
+    push_note(alloc, message, source, at, note)?;
+    match note {
+        Note::OneCall(_) => push_loop_help(alloc, message, source, pred),
+        _ => push_help(message, note.advice()),
+    }
+}
+
+/// The notes about the predicates without a mode, one for each component that has one.
+pub(crate) fn notes(
+    alloc: Global,
+    source: Source<'_, '_, '_>,
+    view: View<'_, '_, '_>,
+) -> Result<Vec<u8>, AllocError> {
+    let mut message = Vec::new(alloc);
+    let mut told = vec![in alloc; false; view.listed.table.preds.len()]?;
+    let mut count = 0u64;
+    let mut pred = 0u32;
+    for _ in &view.listed.table.preds {
+        let component = view.listed.table.component_of(pred) as usize;
+        let is_new = told.get(component) == Some(&false);
+        if is_new && view.modes_of(pred).is_empty() {
+            if let Some(place) = told.get_mut(component) {
+                *place = true;
+            }
+            count = count.saturating_add(1);
+            if count <= MOST_NOTES {
+                push_case(alloc, &mut message, source, view, pred)?;
+            }
+        }
+        pred = pred.saturating_add(1);
+    }
+    if count > MOST_NOTES {
+        let more = count.saturating_sub(MOST_NOTES);
+        let line = format!(in alloc; "cti: {more} more notes\n")?;
+        message.extend_from_slice(line.as_bytes())?;
+    }
+    Ok(message)
+}

@@ -1,0 +1,110 @@
+//! A program as lists of numbers.
+
+use call_components::{Components, components};
+use cti_terms::{Pred, PredId, Program};
+use std::alloc::{AllocError, Global};
+
+/// A clause: its head's predicate, and which of the table's calls are its own.
+#[derive(Clone, Copy)]
+pub(crate) struct ClauseRow {
+    pub(crate) head: u32,
+    start: usize,
+    count: usize,
+}
+
+/// A program: its predicates, its clauses, and which component a predicate is in.
+pub(crate) struct Table {
+    pub(crate) preds: Vec<Pred>,
+    /// The component of each predicate.
+    component: Vec<u32>,
+    pub(crate) clauses: Vec<ClauseRow>,
+    /// The predicates of the calls of all clauses.
+    calls: Vec<u32>,
+    /// Whether each component is recursive.
+    recursive: Vec<bool>,
+}
+
+impl Drop for Table {
+    fn drop(self) {
+        let Table {
+            preds: _,
+            component: _,
+            clauses: _,
+            calls: _,
+            recursive: _,
+        } = self;
+    }
+}
+
+impl Table {
+    /// The table of a program.
+    pub(crate) fn of(alloc: Global, program: &Program) -> Result<Table, AllocError> {
+        let mut table = Table {
+            preds: Vec::new(alloc),
+            component: Vec::new(alloc),
+            clauses: Vec::new(alloc),
+            calls: Vec::new(alloc),
+            recursive: Vec::new(alloc),
+        };
+        for number in 0..program.preds() {
+            table.preds.push(*program.pred(PredId(number)))?;
+            table.component.push(0)?;
+        }
+        table.add_clauses(program)?;
+        let components = components(alloc, program)?;
+        table.note_components(&components)?;
+        Ok(table)
+    }
+
+    /// Adds the clauses of a program.
+    fn add_clauses(&mut self, program: &Program) -> Result<(), AllocError> {
+        for number in 0..program.clauses() {
+            let clause = program.clause(number + 1);
+            let start = self.calls.len();
+            for atom in clause.body.as_slice() {
+                self.calls.push(atom.pred.0)?;
+            }
+            self.clauses.push(ClauseRow {
+                head: clause.head.pred.0,
+                start,
+                count: self.calls.len().saturating_sub(start),
+            })?;
+        }
+        Ok(())
+    }
+
+    /// Notes the components of the predicates.
+    fn note_components(&mut self, components: &Components) -> Result<(), AllocError> {
+        for number in 0..components.count() {
+            self.recursive.push(components.recursive(number))?;
+            for member in components.members(number) {
+                if let Some(place) = self.component.get_mut(member.0 as usize) {
+                    *place = number;
+                }
+            }
+        }
+        Ok(())
+    }
+
+    /// Whether a component is recursive.
+    pub(crate) fn is_recursive(&self, component: u32) -> bool {
+        self.recursive.get(component as usize) == Some(&true)
+    }
+
+    /// The component of a predicate.
+    pub(crate) fn component_of(&self, pred: u32) -> u32 {
+        self.component.get(pred as usize).copied().unwrap_or(0)
+    }
+
+    /// The clause of a number, which counts from 1.
+    pub(crate) fn clause(&self, number: u32) -> Option<ClauseRow> {
+        let place = number.checked_sub(1)?;
+        self.clauses.get(place as usize).copied()
+    }
+
+    /// The predicates of a clause's calls.
+    pub(crate) fn calls_of(&self, clause: ClauseRow) -> &[u32] {
+        let rest = self.calls.get(clause.start..).unwrap_or(&[]);
+        rest.get(..clause.count).unwrap_or(rest)
+    }
+}
