@@ -1,5 +1,5 @@
 -- Reading the proofs for calls: what is read is listed so, and what is listed so is read.
-use Rattle.std.proofs.Common.{◌≡◌, ℕ, zero, suc, ◌+◌, ◌<◌, ◌≤◌, Bool, true, false, ◌&&◌, if◌then◌else◌, nat_le, List, [], ◌∷◌, ◌++◌, length, take, slice_get, Some, None, Ok, refl, ap, sym, ◌∙◌, subst, arith, eq-eqb, ne_eqb, le-leb, leb-true, append_assoc}
+use Rattle.std.proofs.Common.{◌≡◌, ℕ, suc, ◌+◌, ◌<◌, Bool, true, false, ◌&&◌, if◌then◌else◌, nat_le, List, [], ◌∷◌, ◌++◌, length, take, slice_get, Some, None, Ok, refl, ap, sym, ◌∙◌, arith, eq-eqb, ne_eqb, le-leb, leb-true, append_assoc}
 use Rattle.std.proofs.lemmas.Bool.{and_parts}
 use Rattle.std.specs.List.{AllByRecursion}
 use Rattle.call_components.specs.Partition.{Partition}
@@ -8,7 +8,7 @@ use Rattle.cert_structure.proofs.LevelLemmas.{place_behind, front, one_longer, r
 use Rattle.cti_terms.specs.declared.atom_list.Atom.{Atom}
 use Rattle.fact_reading.specs.declared.stop.Reason.TheVariants as reason
 use Rattle.fact_reading.specs.Numbered.{facts_from, lines_from, EachFrom}
-use Rattle.fact_reading.specs.Walk.{◌>>=◌, Read, result_map, wrong_at, with_first, read_each, read_many}
+use Rattle.fact_reading.specs.Walk.{Read, result_map, wrong_at, with_first, read_many}
 use Rattle.fact_reading.proofs.SectionLemmas.{same_ok, err_ok, bound, mapped, all_both, all_from, all_weaker, many_sound, many_back, each_sound, each_back}
 use Rattle.linear_rows.specs.declared.multipliers.Multipliers.{Multipliers}
 use Rattle.linear_rows.specs.declared.row.Rows.{Rows}

@@ -9,3 +9,4 @@ pub mod StructureLemmas
 pub mod WholeLemmas
 pub mod WritingLemmas
 pub mod ComponentLemmas
+pub mod FlatLemmas

@@ -1,17 +1,16 @@
 -- Reading the lists of predicates: what is read is listed so, and what is listed so is read.
-use Rattle.std.proofs.Common.{◌≡◌, ◌≢◌, ℕ, zero, suc, ◌+◌, ◌<◌, ◌≤◌, ◌⊎◌, inl, inr, Bool, true, false, ◌==◌, if◌then◌else◌, List, [], ◌∷◌, ◌++◌, map, length, slice_get, unwrap_or, Some, None, Ok, refl, ap, ap₂, sym, ◌∙◌, subst, arith, eqb-true, eq-eqb, ne_eqb, append_assoc, append-nil}
+use Rattle.std.proofs.Common.{◌≡◌, ◌≢◌, ℕ, zero, suc, ◌+◌, ◌<◌, ◌≤◌, ◌⊎◌, inl, inr, Bool, true, false, ◌==◌, if◌then◌else◌, List, [], ◌∷◌, ◌++◌, map, length, unwrap_or, Some, None, Ok, refl, ap, ap₂, sym, ◌∙◌, subst, arith, eqb-true, eq-eqb, ne_eqb, append_assoc, append-nil}
 use Rattle.std.proofs.lemmas.Bool.{false≢true}
 use Rattle.std.specs.List.{AllByRecursion}
 use Rattle.call_components.specs.Partition.{Partition}
 use Rattle.cert_structure.specs.Order.{pred_text}
 use Rattle.cert_structure.specs.Shape.{arity_in, items_of, is_recursive, first_of, IsLevel}
-use Rattle.cert_structure.specs.Walk.{same_pred}
 use Rattle.cert_structure.proofs.LevelLemmas.{arity_text, not_same, place_behind, place_before, one_longer}
 use Rattle.cert_structure.proofs.TakeLemmas.{same_itself}
 use Rattle.certificate.specs.declared.pred_text.PredText.{PredText}
 use Rattle.cti_terms.specs.Listing.{Listing}
 use Rattle.fact_reading.specs.Numbered.{facts_from, lines_from, EachFrom}
-use Rattle.fact_reading.specs.Walk.{◌>>=◌, Read, result_map, with_first, read_each, read_next, read_many}
+use Rattle.fact_reading.specs.Walk.{with_first, read_each, read_next, read_many}
 use Rattle.fact_reading.proofs.SectionLemmas.{same_ok, bound, mapped, all_both, all_from, others_from, all_weaker, each_weaker, each_all, all_each, counted_sound, counted_back, many_sound, many_back, each_sound, each_back}
 use Rattle.number_tests.specs.declared.level_part.LevelPart.{LevelPart}
 use Rattle.lex_certificate.specs.declared.fact.LexFact.{LexFact}

@@ -3,7 +3,7 @@ use Rattle.std.proofs.Common.{◌≡◌, ◌≢◌, ℕ, zero, suc, ◌≤◌, �
 use Rattle.std.proofs.lemmas.Bool.{false≢true, and_parts}
 use Rattle.std.proofs.lemmas.Bool.Decides.{Decides-int_eq}
 use Rattle.std.proofs.lemmas.Option.{none-some}
-use Rattle.std.specs.Prelude.{ℤ, pos, IsTrue}
+use Rattle.std.specs.Prelude.{ℤ, pos}
 use Rattle.std.specs.Ordering.{int_eq}
 use Rattle.std.specs.List.{AllByRecursion}
 use Rattle.call_components.specs.Partition.{Partition}
@@ -13,15 +13,14 @@ use Rattle.cert_structure.specs.Walk.{is_amount, are_amounts, is_before, point_r
 use Rattle.cert_structure.proofs.PointLemmas.{before_is}
 use Rattle.cert_structure.proofs.TakeLemmas.{other_taken, placed, kept_is, amount_is, amount_back, amounts_are, amounts_back}
 use Rattle.cti_terms.specs.Listing.{Listing, numbered}
-use Rattle.fact_reading.specs.Numbered.{facts_from, lines_from}
-use Rattle.fact_reading.specs.Walk.{Taken, Read, result_map, with_first, read_next}
+use Rattle.fact_reading.specs.Numbered.{lines_from}
+use Rattle.fact_reading.specs.Walk.{Taken, result_map, with_first, read_next}
 use Rattle.fact_reading.proofs.SectionLemmas.{same_some, same_ok, err_ok, bound, mapped, IsTaken, IsBack, next_sound, next_back}
 use Rattle.linear_rows.specs.declared.point.Point.{Point}
 use Rattle.number_tests.specs.declared.level_part.LevelPart.{LevelPart}
 use Rattle.number_tests.specs.declared.pair_point.PairPoint.{PairPoint}
 use Rattle.number_tests.specs.declared.refutation.Refutation.{Refutation}
 use Rattle.lex_certificate.specs.declared.fact.LexFact.{LexFact}
-use Rattle.lex_certificate.specs.declared.fact.LexFact.TheVariants as lex
 use Rattle.lex_certificate.specs.Order.{point_line, stuck_lines}
 use Rattle.lex_certificate.specs.Shape.{IsStuckPoint, IsOpen, IsStuckSet}
 use Rattle.lex_certificate.specs.Walk.{stuck_point, stuck_read, take_point, take_refuted, read_points, set_read, read_set, is_open, read_stuck}

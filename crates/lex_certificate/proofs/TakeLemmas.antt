@@ -1,5 +1,5 @@
 -- Each reader of one fact takes the line of what it gives, and gives what a line shows.
-use Rattle.std.proofs.Common.{◌≡◌, ℕ, suc, ◌≤◌, ◌⊎◌, inl, inr, Bool, true, ◌&&◌, ◌==◌, nat_lt, nat_le, List, [], ◌∷◌, map, length, Some, None, refl, ap, ap₂, sym, ◌∙◌, arith, eqb-true, eq-eqb, le-leb, leb-true, lt-ltb, ltb-true}
+use Rattle.std.proofs.Common.{◌≡◌, ℕ, suc, ◌≤◌, ◌⊎◌, inl, inr, true, ◌&&◌, ◌==◌, nat_lt, nat_le, List, [], ◌∷◌, map, length, Some, None, refl, ap, ap₂, sym, ◌∙◌, arith, eqb-true, eq-eqb, le-leb, leb-true, lt-ltb, ltb-true}
 use Rattle.std.proofs.lemmas.Bool.{and_parts}
 use Rattle.std.proofs.lemmas.Bool.Decides.{Decides-int_eq}
 use Rattle.std.proofs.lemmas.Int.{ints}
@@ -10,7 +10,7 @@ use Rattle.bool_diagrams.specs.declared.cube.Cell.{Cell}
 use Rattle.bool_diagrams.specs.declared.cube.Cell.TheVariants as side
 use Rattle.cert_structure.specs.Order.{cell_of}
 use Rattle.cert_structure.specs.Shape.{Ascend, IsMode, IsSizeRow, AreMultipliers, HasWidth, IsLevel}
-use Rattle.cert_structure.specs.Walk.{at_place, kept, same_pred, is_amount, is_entry, are_amounts, are_entries, is_mode, cell_read, row_read, multipliers_read, cube_read, level_read}
+use Rattle.cert_structure.specs.Walk.{kept, same_pred, is_amount, is_entry, are_amounts, are_entries, is_mode, cell_read, row_read, multipliers_read, cube_read, level_read}
 use Rattle.cert_structure.proofs.TakeLemmas.{other_taken, placed, kept_is, same_is, same_itself, amount_is, amount_back, amounts_are, amounts_back, entries_are}
 use Rattle.certificate.specs.declared.cell.CertCell.{CertCell}
 use Rattle.certificate.specs.declared.cell.CertCell.TheVariants as cell

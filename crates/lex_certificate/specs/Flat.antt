@@ -2,7 +2,7 @@
 -- Lists as mappings: what preconditions and modes see of a list is where some measure of it has a positive coefficient.
 --
 -- To believe: all of this file, where preconditions and modes of lists are spoken of.
-use Rattle.std.specs.Prelude.{ℕ, ℤ, pos, None, ◌||◌, if◌then◌else◌, List, [], ◌∷◌, map}
+use Rattle.std.specs.Prelude.{ℤ, pos, None, ◌||◌, if◌then◌else◌, List, [], ◌∷◌, map}
 use Rattle.cert_structure.specs.declared.parts.Parts.{Parts}
 use Rattle.number_tests.specs.Levels.{is_positive}
 use Rattle.number_tests.specs.declared.level_part.LevelPart.{LevelPart}

@@ -2,7 +2,7 @@
 -- The shape of parts: how many there are, how wide they are, and in which ranges their numbers are.
 --
 -- To believe: all of this file. Predicates, clauses, calls, rows, lists and measures are numbered from 0 here.
-use Rattle.std.specs.Prelude.{◌≡◌, ◌≢◌, ℕ, ◌≤◌, ℤ, pos, IsTrue, if◌then◌else◌, List, [], ◌∷◌, map, take, length, Option, None, Some, slice_get}
+use Rattle.std.specs.Prelude.{◌≡◌, ◌≢◌, ℕ, ◌≤◌, pos, IsTrue, if◌then◌else◌, List, [], ◌∷◌, map, take, length, Option, None, Some, slice_get}
 use Rattle.std.specs.List.{AllByRecursion}
 use Rattle.call_components.specs.Partition.{Partition}
 use Rattle.fact_reading.specs.Numbered.{AreEach}

@@ -144,7 +144,8 @@ impl Drops<'_> {
         body: &[Atom],
         facts: &'f [LexFact],
     ) -> Result<(Sequence<Sequence<Sequence<Multipliers>>>, &'f [LexFact]), Stop>
-        ensures { Agrees result (read_calls self.now.calls.comps.now self.now.rows.now self.now.lists.now head clause 0 0 body.now facts.now) }
+        ensures { Agrees result
+            (read_calls self.now.calls.comps.now self.now.rows.now self.now.lists.now head clause 0 0 body.now facts.now) }
     {
         let mut proofs = Sequence::new(alloc);
         let mut rest = facts;

@@ -121,7 +121,8 @@ struct ListsLike<'a> {
 impl Reader<LexFact> for ListsLike<'_> {
     type Item = Sequence<LevelPart>;
 
-    ghost reads = { λ r list facts. read_each (read_next (take_level (named r.pred) list)) 0 (length (items_of r.like.now list)) facts };
+    ghost reads = { λ r list facts.
+        read_each (read_next (take_level (named r.pred) list)) 0 (length (items_of r.like.now list)) facts };
 
     fn read<'f>(
         &self,
@@ -184,7 +185,8 @@ fn levels<'f>(
     names: &Names,
     facts: &'f [LexFact],
 ) -> Result<(Sequence<Sequence<Sequence<LevelPart>>>, &'f [LexFact]), Stop>
-    ensures { Agrees result (read_levels calls.now.p.now names.now calls.now.comps.now [] 0 (length calls.now.p.now.preds) facts.now) }
+    ensures { Agrees result
+        (read_levels calls.now.p.now names.now calls.now.comps.now [] 0 (length calls.now.p.now.preds) facts.now) }
 {
     let mut lists = Sequence::new(alloc);
     let mut rest = facts;
@@ -204,7 +206,8 @@ pub(crate) fn levels_into<'f>(
     place: &mut Sequence<Sequence<Sequence<LevelPart>>>,
     facts: &'f [LexFact],
 ) -> Result<&'f [LexFact], Stop>
-    ensures { Fills result place.new (read_levels calls.now.p.now names.now calls.now.comps.now [] 0 (length calls.now.p.now.preds) facts.now) }
+    ensures { Fills result place.new
+        (read_levels calls.now.p.now names.now calls.now.comps.now [] 0 (length calls.now.p.now.preds) facts.now) }
 {
     let (read, rest) = levels(alloc, calls, names, facts)?;
     *place = read;

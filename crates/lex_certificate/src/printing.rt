@@ -114,7 +114,8 @@ fn one<A: Field>(out: &mut Vec<u8>, before: &[u8], a: &A) -> Result<(), AllocErr
 
 /// Appends a line with two parts.
 fn two<A: Field, B: Field>(out: &mut Vec<u8>, before: &[u8], a: &A, b: &B) -> Result<(), AllocError>
-    ensures { OnOk result (out.new.items ≡ out.old.items ++ before.now ++ A.shown a.now ++ codes "," ++ B.shown b.now ++ codes ").\n") }
+    ensures { OnOk result (out.new.items ≡ out.old.items ++ before.now ++ A.shown a.now
+        ++ codes "," ++ B.shown b.now ++ codes ").\n") }
 {
     field(out, before, a)?;
     one(out, b",", b)
@@ -128,7 +129,8 @@ fn three<A: Field, B: Field, C: Field>(
     b: &B,
     c: &C,
 ) -> Result<(), AllocError>
-    ensures { OnOk result (out.new.items ≡ out.old.items ++ before.now ++ A.shown a.now ++ codes "," ++ B.shown b.now ++ codes "," ++ C.shown c.now ++ codes ").\n") }
+    ensures { OnOk result (out.new.items ≡ out.old.items ++ before.now ++ A.shown a.now
+        ++ codes "," ++ B.shown b.now ++ codes "," ++ C.shown c.now ++ codes ").\n") }
 {
     field(out, before, a)?;
     two(out, b",", b, c)
@@ -143,7 +145,8 @@ fn four<A: Field, B: Field, C: Field, D: Field>(
     c: &C,
     d: &D,
 ) -> Result<(), AllocError>
-    ensures { OnOk result (out.new.items ≡ out.old.items ++ before.now ++ A.shown a.now ++ codes "," ++ B.shown b.now ++ codes "," ++ C.shown c.now ++ codes "," ++ D.shown d.now ++ codes ").\n") }
+    ensures { OnOk result (out.new.items ≡ out.old.items ++ before.now ++ A.shown a.now
+        ++ codes "," ++ B.shown b.now ++ codes "," ++ C.shown c.now ++ codes "," ++ D.shown d.now ++ codes ").\n") }
 {
     field(out, before, a)?;
     three(out, b",", b, c, d)

@@ -181,7 +181,8 @@ pub fn parts_of(
     ensures found { IfOk result (λ found. IfSome found (λ parts. IsStructured p.now names.now comps.now parts c.now.facts)) }
 
     // The parts of a certificate are found, unless memory runs out; so it has no others.
-    ensures only { (parts : TheParts) → IsStructured p.now names.now comps.now parts c.now.facts → IfOk result (λ found. found ≡ Some parts) }
+    ensures only { (parts : TheParts) → IsStructured p.now names.now comps.now parts c.now.facts
+        → IfOk result (λ found. found ≡ Some parts) }
 {
     told_apart(p, names);
     let calls = Calls { p, comps };
@@ -192,13 +193,14 @@ pub fn parts_of(
 ///
 /// The names are those of the program's predicates, and no two are alike.
 pub fn one_reading()
-    ensures { (p : Listing) (names : List (List ℕ)) (one other : Partition) (facts : List TheFact) (a b : TheParts) → IsProgram p → AreNamed names p.preds
-        → AllPairs (λ x y. x ≢ y) names → AreComponents p one → AreComponents p other
+    ensures { (p : Listing) (names : List (List ℕ)) (one other : Partition) (facts : List TheFact) (a b : TheParts)
+        → IsProgram p → AreNamed names p.preds → AllPairs (λ x y. x ≢ y) names → AreComponents p one → AreComponents p other
         → IsStructured p names one a facts → IsStructured p names other b facts → a ≡ b }
 {}
 
 /// What parts a certificate has does not depend on how the components are numbered.
 pub fn one_structure()
-    ensures { (p : Listing) (names : List (List ℕ)) (one other : Partition) (parts : TheParts) (facts : List TheFact) → AreComponents p one → AreComponents p other
+    ensures { (p : Listing) (names : List (List ℕ)) (one other : Partition) (parts : TheParts) (facts : List TheFact)
+        → AreComponents p one → AreComponents p other
         → IsStructured p names one parts facts → IsStructured p names other parts facts }
 {}

@@ -169,7 +169,8 @@ pub(crate) struct DropsOf {
 impl Writer for DropsOf {
     type Item = Sequence<Sequence<Multipliers>>;
 
-    ghost facts = { λ w j lists. facts_from 0 (λ m ms. lines_from 0 (λ i x. lex.Drops w.clause (suc j) (suc m) (suc i) x.scale x.list) ms) lists };
+    ghost facts = { λ w j lists.
+        facts_from 0 (λ m ms. lines_from 0 (λ i x. lex.Drops w.clause (suc j) (suc m) (suc i) x.scale x.list) ms) lists };
 
     fn write(
         &self,

@@ -1,4 +1,4 @@
-use Rattle.std.proofs.Common.{◌≡◌, ◌∙◌, Some, ap}
+use Rattle.std.proofs.Common.{◌∙◌, ap}
 use Rattle.lex_certificate.specs.Walk.{read_whole}
 use Rattle.lex_certificate.proofs.WholeLemmas.{found_parts, found_all, whole_back}
 use Rattle.lex_certificate.proofs.reading.parts_of.Goals as goal
