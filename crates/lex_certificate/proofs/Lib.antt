@@ -1,0 +1,12 @@
+pub mod LoopLemmas
+pub mod PartsLemmas
+pub mod KindLemmas
+pub mod TakeLemmas
+pub mod StuckLemmas
+pub mod ListLemmas
+pub mod DropLemmas
+pub mod StructureLemmas
+pub mod WholeLemmas
+pub mod WritingLemmas
+pub mod ComponentLemmas
+pub mod FlatLemmas

@@ -1,0 +1,18 @@
+use Rattle.std.proofs.Common.{◌∙◌, sym, arith, ◌+◌, ◌-◌}
+use Rattle.fact_reading.proofs.LoopLemmas.{part_err}
+use Rattle.lex_certificate.proofs.LoopLemmas.{points_end, points_err, points_more}
+use Rattle.lex_certificate.proofs.stuck.points.Goals as goal
+
+pub returns-in_err-point : goal.returns-in_err-point
+returns-in_err-point c =
+    part_err c.from_residual.result _ _ _ c.from_residual.ensures c.in_err-point.ensures λ w bad.
+    sym c.loop.invariant ∙ points_err _ _ _ c.loop.points _ _ _ (c.args.count - (c.loop.counter + 1)) w (omega arith) bad
+
+pub loop-preserved : goal.loop-preserved
+loop-preserved c =
+    rw c.in_ok-push.ensures.ok
+    (points_more _ _ _ c.loop.points (c.loop.last.clause, c.loop.last.call) (c.args.count - c.loop.counter) _ (c.args.count - (c.loop.counter + 1)) _ _ (omega arith) c.in_ok-point.ensures
+    ∙ c.loop.invariant)
+
+pub returns : goal.returns
+returns c = sym c.loop.invariant ∙ points_end _ _ _ c.loop.points _ _ _ (omega arith)

@@ -1,0 +1,10 @@
+use Rattle.std.proofs.Common.{◌≡◌, ◌-◌}
+use Rattle.fact_reading.specs.Walk.{with_all}
+use Rattle.lex_certificate.specs.Walk.{read_points}
+use Rattle.lex_certificate.proofs.stuck.points.Given as goal
+
+-- what is read in all is the points so far and what is read of the rest
+abbrev pub invariant-loop : goal.invariant-loop
+invariant-loop l =
+    with_all l.points (read_points l.calls.p.now l.calls.comps.now l.pred (l.last.clause, l.last.call) (l.count - l.counter) l.rest)
+    ≡ read_points l.calls.p.now l.calls.comps.now l.pred (0, 0) l.count l.facts

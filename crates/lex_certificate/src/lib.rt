@@ -1,0 +1,40 @@
+//! Certificates of lists of level mappings: their facts, their text, and what they claim of a program.
+//!
+//! A certificate is a list of facts. `print` writes their lines, `parts_of` sorts them by predicates and clauses, and
+//! `facts_of` lists the facts of such parts. What parts a certificate has is `IsStructured` of `specs/Structure.antt`.
+//! `flat_levels` has one mapping for each list, positive where some measure of it is. Whether what a certificate claims is
+//! true is not asked here.
+#![tactic(auto)]
+
+mod calls;
+mod clauses;
+mod cubes;
+mod drops;
+mod fact;
+mod field;
+mod flat;
+mod grounds;
+mod list_certificate;
+mod lists;
+mod modes;
+mod named;
+mod numbers;
+mod pair;
+mod parts;
+mod preconditions;
+mod printing;
+mod reading;
+mod sizes;
+mod stuck;
+mod writer;
+mod writing;
+mod written_fields;
+mod written_lists;
+mod written_sets;
+
+pub use fact::LexFact;
+pub use flat::{flat_levels, union_part};
+pub use list_certificate::LexCertificate;
+pub use parts::LexParts;
+pub use reading::{one_reading, one_structure, parts_of};
+pub use writing::facts_of;

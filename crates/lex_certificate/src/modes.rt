@@ -1,0 +1,92 @@
+//! The modes of predicates.
+
+ghost use Rattle.std.specs.Prelude.{◌≡◌};
+ghost use Rattle.std.specs.List.{list_all};
+ghost use Rattle.cert_structure.specs.Walk.{named, is_mode};
+ghost use Rattle.lex_certificate.specs.Walk.{read_modes, take_modes};
+
+use crate::fact::LexFact;
+use crate::named::is_pred;
+use cert_structure::{Named, copied_modes};
+use cti_terms::{Names, Program};
+use fact_reading::{FactFault, Kind, Reader, Stop, first_item};
+use sequences::Sequence;
+use std::alloc::Global;
+
+/// Whether a mode has argument numbers from 1 to the arity, in ascending order.
+fn is_mode(arity: u32, mode: &[u32]) -> bool
+    ensures { result ≡ is_mode arity 0 mode.now }
+{
+    let mut last = 0;
+    for argument in mode {
+        if *argument <= last || *argument > arity {
+            return false;
+        }
+        last = *argument;
+    }
+    true
+}
+
+/// Whether each mode has argument numbers from 1 to the arity, in ascending order.
+fn are_modes(arity: u32, modes: &[Sequence<u32>]) -> bool
+    ensures { result ≡ list_all (is_mode arity 0) modes.now }
+{
+    modes.iter().all(|mode| is_mode(arity, mode.as_slice()))
+}
+
+/// The facts of a predicate's modes.
+#[derive(Drop)]
+struct ModesFact<'a> {
+    pred: Named<'a>,
+}
+
+impl Kind<LexFact> for ModesFact<'_> {
+    type Item = Sequence<Sequence<u32>>;
+
+    ghost takes = { λ r number fact. take_modes (named r.pred) number fact };
+
+    #[tactic(auto, unfolding(crate::specs::Walk::take_modes))]
+    fn take(
+        &self,
+        alloc: Global,
+        _number: u64,
+        fact: &LexFact,
+    ) -> Result<Option<Sequence<Sequence<u32>>>, FactFault> {
+        let LexFact::Terminates { pred, modes } = fact else {
+            return Ok(None);
+        };
+        if !is_pred(&self.pred, pred) {
+            return Ok(None);
+        }
+        if !are_modes(self.pred.arity, modes.as_slice()) {
+            return Err(FactFault::Shape);
+        }
+        Ok(Some(copied_modes(alloc, modes.as_slice())?))
+    }
+}
+
+/// The modes of each predicate.
+#[derive(Drop)]
+pub(crate) struct Modes<'a> {
+    pub(crate) p: &'a Program,
+    pub(crate) names: &'a Names,
+}
+
+impl Reader<LexFact> for Modes<'_> {
+    type Item = Sequence<Sequence<u32>>;
+
+    ghost reads = { λ r number facts. read_modes r.p.now r.names.now number facts };
+
+    #[tactic(auto, unfolding(crate::specs::Walk::read_modes))]
+    fn read<'f>(
+        &self,
+        alloc: Global,
+        number: u64,
+        facts: &'f [LexFact],
+    ) -> Result<(Sequence<Sequence<u32>>, &'f [LexFact]), Stop> {
+        let fact = ModesFact {
+            pred: Named::new(self.p, self.names, number),
+        };
+        first_item(alloc, &fact, 0, facts)
+    }
+}

@@ -1,0 +1,107 @@
+//! The cubes of preconditions.
+
+ghost use Rattle.std.specs.Prelude.{◌≡◌};
+ghost use Rattle.cert_structure.specs.Walk.{named};
+ghost use Rattle.lex_certificate.specs.Walk.{take_pre, read_cubes, read_pre};
+
+use crate::cubes::cube;
+use crate::fact::LexFact;
+use crate::lists::count_of;
+use crate::named::{is_number, is_pred};
+use bool_diagrams::Cube;
+use cert_structure::Named;
+use cti_terms::{Names, Program};
+use fact_reading::{FactFault, Kind, Reader, Stop, each, many};
+use number_tests::LevelPart;
+use sequences::Sequence;
+use std::alloc::Global;
+
+/// The facts of a predicate's precondition for a list.
+#[derive(Drop)]
+struct PreFact<'a> {
+    pred: Named<'a>,
+    list: u64,
+}
+
+impl Kind<LexFact> for PreFact<'_> {
+    type Item = Cube;
+
+    ghost takes = { λ r number fact. take_pre (named r.pred) r.list number fact };
+
+    #[tactic(auto, unfolding(crate::specs::Walk::take_pre))]
+    fn take(&self, alloc: Global, number: u64, fact: &LexFact) -> Result<Option<Cube>, FactFault> {
+        let LexFact::Pre {
+            pred,
+            list,
+            index,
+            cube: cells,
+        } = fact
+        else {
+            return Ok(None);
+        };
+        if !is_pred(&self.pred, pred)
+            || !is_number(u64::from(*list), self.list)
+            || !is_number(*index, number)
+        {
+            return Ok(None);
+        }
+        Ok(Some(cube(alloc, self.pred.arity, cells.as_slice())?))
+    }
+}
+
+/// The preconditions of a predicate, one for each list.
+#[derive(Drop)]
+struct PredCubes<'a> {
+    p: &'a Program,
+    names: &'a Names,
+    pred: u64,
+}
+
+impl Reader<LexFact> for PredCubes<'_> {
+    type Item = Sequence<Cube>;
+
+    ghost reads = { λ r number facts. read_cubes r.p.now r.names.now r.pred number facts };
+
+    #[tactic(auto, unfolding(crate::specs::Walk::read_cubes))]
+    fn read<'f>(
+        &self,
+        alloc: Global,
+        number: u64,
+        facts: &'f [LexFact],
+    ) -> Result<(Sequence<Cube>, &'f [LexFact]), Stop> {
+        let kind = PreFact {
+            pred: Named::new(self.p, self.names, self.pred),
+            list: number,
+        };
+        many(alloc, &kind, facts)
+    }
+}
+
+/// The preconditions of each predicate.
+#[derive(Drop)]
+pub(crate) struct Preconditions<'a> {
+    pub(crate) p: &'a Program,
+    pub(crate) names: &'a Names,
+    pub(crate) lists: &'a [Sequence<Sequence<LevelPart>>],
+}
+
+impl Reader<LexFact> for Preconditions<'_> {
+    type Item = Sequence<Sequence<Cube>>;
+
+    ghost reads = { λ r number facts. read_pre r.p.now r.names.now r.lists.now number facts };
+
+    #[tactic(auto, unfolding(crate::specs::Walk::read_pre))]
+    fn read<'f>(
+        &self,
+        alloc: Global,
+        number: u64,
+        facts: &'f [LexFact],
+    ) -> Result<(Sequence<Sequence<Cube>>, &'f [LexFact]), Stop> {
+        let cubes = PredCubes {
+            p: self.p,
+            names: self.names,
+            pred: number,
+        };
+        each(alloc, &cubes, count_of(self.lists, number), facts)
+    }
+}

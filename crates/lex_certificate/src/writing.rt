@@ -1,0 +1,106 @@
+//! The facts of all parts.
+
+ghost use Rattle.std.specs.Prelude.{◌≡◌, ◌++◌, IfOk, OnOk};
+ghost use Rattle.lex_certificate.specs.Order.{listed};
+ghost use Rattle.lex_certificate.specs.Written.{set_facts, list_facts};
+
+use crate::fact::LexFact;
+use crate::list_certificate::LexCertificate;
+use crate::parts::LexParts;
+use crate::writer::write_each;
+use crate::written_lists::{WrittenDrops, WrittenLists, WrittenPres, WrittenSets};
+use crate::written_sets::{WrittenGrounds, WrittenModes, WrittenProofs, WrittenSizes};
+use cti_terms::{Names, Program};
+use sequences::Sequence;
+use std::alloc::{AllocError, Global};
+
+/// Puts the facts of modes, size rows and their proofs, and ground rows after others.
+fn write_sets(
+    alloc: Global,
+    p: &Program,
+    names: &Names,
+    parts: &LexParts,
+    out: &mut Sequence<LexFact>,
+) -> Result<(), AllocError>
+    ensures { OnOk result (out.new ≡ out.old ++ set_facts p.now names.now parts.now) }
+{
+    write_each(
+        alloc,
+        &WrittenModes { p, names },
+        parts.modes.as_slice(),
+        out,
+    )?;
+    write_each(
+        alloc,
+        &WrittenSizes { p, names },
+        parts.rows.as_slice(),
+        out,
+    )?;
+    write_each(alloc, &WrittenProofs {}, parts.row_proofs.as_slice(), out)?;
+    write_each(
+        alloc,
+        &WrittenGrounds { p, names },
+        parts.grounds.as_slice(),
+        out,
+    )
+}
+
+/// Puts the facts of lists, their drops and preconditions, and stuck sets after others.
+fn write_lists(
+    alloc: Global,
+    p: &Program,
+    names: &Names,
+    parts: &LexParts,
+    out: &mut Sequence<LexFact>,
+) -> Result<(), AllocError>
+    ensures { OnOk result (out.new ≡ out.old ++ list_facts p.now names.now parts.now) }
+{
+    write_each(
+        alloc,
+        &WrittenLists { p, names },
+        parts.lists.as_slice(),
+        out,
+    )?;
+    write_each(alloc, &WrittenDrops {}, parts.drops.as_slice(), out)?;
+    write_each(
+        alloc,
+        &WrittenPres { p, names },
+        parts.preconditions.as_slice(),
+        out,
+    )?;
+    write_each(
+        alloc,
+        &WrittenSets { p, names },
+        parts.stuck.as_slice(),
+        out,
+    )
+}
+
+/// Puts facts after others.
+fn append(facts: Vec<LexFact>, out: &mut Sequence<LexFact>) -> Result<(), AllocError>
+    ensures { OnOk result (out.new ≡ out.old ++ facts.items) }
+{
+    for fact in facts {
+        out.push(fact)?;
+    }
+    Ok(())
+}
+
+/// The certificate of parts, with notes after their facts: `parts_of` finds these parts in it, where they have the shape
+/// of the program.
+pub fn facts_of(
+    alloc: Global,
+    p: &Program,
+    names: &Names,
+    parts: &LexParts,
+    notes: Vec<LexFact>,
+) -> Result<LexCertificate, AllocError>
+    ensures { IfOk result (λ c. c.facts ≡ listed p.now names.now parts.now notes.items) }
+{
+    let mut facts = Sequence::new(alloc);
+    facts.push(LexFact::Ctilex { version: 1 })?;
+    write_sets(alloc, p, names, parts, &mut facts)?;
+    write_lists(alloc, p, names, parts, &mut facts)?;
+    append(notes, &mut facts)?;
+    Ok(LexCertificate { facts })
+}
