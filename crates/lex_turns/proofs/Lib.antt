@@ -1,0 +1,11 @@
+pub mod Courses
+pub mod DropLaws
+pub mod DropSteps
+pub mod DropsShown
+pub mod NoneWithin
+pub mod Places
+pub mod PositionsAt
+pub mod StuckWithin
+pub mod TrackedCalls
+pub mod TurnMaking
+pub mod TurnRefutes

@@ -1,0 +1,8 @@
+pub mod Coursing
+pub mod Descending
+pub mod Drops
+pub mod Found
+pub mod Testing
+pub mod Tracking
+pub mod Turning
+pub mod Zeros

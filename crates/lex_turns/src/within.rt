@@ -1,0 +1,14 @@
+//! What the search for a list at a set of positions finds.
+
+use crate::measure_list::MeasureList;
+
+/// What the search for a list of mappings at a set of positions finds.
+#[derive(Drop)]
+pub enum Within {
+    /// A list that descends, whose mappings are positive at these positions alone.
+    List(MeasureList),
+    /// That there is none.
+    Nothing,
+    /// Neither: the search is given up.
+    GivenUp,
+}
