@@ -157,12 +157,12 @@ fn mistakes_in_programs(rt: HostRuntime) -> Result<(), Fail> {
         (
             "refused(program,1,11,11).\n",
             "p(X,Y) :- X \\== Y, q.",
-            "leave the test out: modes without it hold with it",
+            "leave it out: modes without it hold with it",
         ),
         (
             "refused(program,1,9,11).\n",
             "p(X) :- var(X), q.",
-            "leave the test out: modes without it hold with it",
+            "leave it out: modes without it hold with it",
         ),
         (
             "refused(program,1,9,11).\n",

@@ -36,7 +36,7 @@ pub enum Mistake<'a> {
     Negation,
     #[error("write `(G,fail ; true)` for `findall(T,G,L)` and its like: their lists stay unknown")]
     AllSolutions,
-    #[error("leave the test out: modes without it hold with it")]
+    #[error("leave it out: modes without it hold with it")]
     Test,
     #[error("leave it out: what is written does not change whether a query ends")]
     Output,
