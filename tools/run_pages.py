@@ -3,9 +3,9 @@
 
 Usage: tools/run_pages.py [PROGRAM]     (PROGRAM is bin/cti where none is named)
 
-A command is a line of a block that begins with `$ `, up to the next one; the lines after it are its output, standard error included. A line
-`..` there stands for any lines. `$ cat FILE` of a file that is not there shows the file, and makes it. The commands of a page run one after
-the other in one folder, beside the examples. Those of `cti-file` are run where SWI-Prolog is installed. What differs is printed, and then
+A command is a line of a block that begins with `$ `, up to the next one; the lines after it are its output, with standard error or without.
+A line `..` there stands for any lines, and standard error may stand before the output or behind it. `$ cat FILE` of a file that is not there shows the file, and makes it. The commands of a page run one after
+the other in one folder, beside the examples. Those of `cti-file` are left to swi/test_cti_file.pl, since their files stand in the page's text. What differs is printed, and then
 the status is 1.
 """
 import os
@@ -59,16 +59,15 @@ class Folder:
         bin_folder = self.at / ".bin"
         bin_folder.mkdir()
         (bin_folder / "cti").symlink_to(program)
-        (bin_folder / "cti-file").symlink_to(top / "swi" / "cti-file")
         for path in (top / "examples").iterdir():
             (self.at / "examples").mkdir(exist_ok=True)
             shutil.copy(path, self.at / "examples")
             shutil.copy(path, self.at)
         self.seen = dict(os.environ, PATH=f"{bin_folder}:{os.environ['PATH']}", CTI=str(program))
 
-    def run(self, command):
+    def run(self, command, errors):
         done = subprocess.run(["bash", "-c", command], cwd=self.at, env=self.seen, stdin=subprocess.DEVNULL, stdout=subprocess.PIPE,
-                              stderr=subprocess.STDOUT, timeout=SECONDS)
+                              stderr=errors, timeout=SECONDS)
         return done.stdout.decode().split("\n")[:-1]
 
 
@@ -81,12 +80,14 @@ def page_faults(path, program):
             if words[0] == "cat" and len(words) == 2 and shown and not (words[1].startswith("examples/")):
                 (folder.at / words[1]).write_text("\n".join(shown) + "\n")
                 continue
-            if words[0] == "cti-file" and not shutil.which("swipl"):
+            if words[0] == "cti-file":
                 continue
             count += 1
-            printed = folder.run(command)
-            if not fits(shown, printed):
-                faults.append("\n".join([f"{path.name}: $ {command}", *(f"  shown:   {line}" for line in shown), *(f"  printed: {line}" for line in printed[:40])]))
+            printed = folder.run(command, subprocess.DEVNULL)
+            with_errors = folder.run(command, subprocess.STDOUT)
+            errors = folder.run(f"{{ {command}; }} 2>&1 >/dev/null", subprocess.DEVNULL)
+            if not any(fits(shown, lines) for lines in [printed, with_errors, printed + errors]):
+                faults.append("\n".join([f"{path.name}: $ {command}", *(f"  shown:   {line}" for line in shown), *(f"  printed: {line}" for line in with_errors[:40])]))
     shutil.rmtree(folder.at)
     return faults, count
 
