@@ -61,7 +61,7 @@ test(no_depth, error(type_error(_, _))) :-
     cti_loop('examples/append.pl', 'app(X,Y,Z)', _, [depth(13)]).
 
 test(refused_query, error(cti_error(3, _))) :-
-    cti_loop('examples/append.pl', '-', _).
+    cti_loop('examples/append.pl', 'p ; q', _).
 
 test(assertions, Assertions == [(:- pred(app(+,?,?))), (:- pred(app(?,?,+)))]) :-
     cti_assertions('examples/append.pl', Assertions).
