@@ -1,6 +1,6 @@
 #!/usr/bin/env bash
-# Times `cti loop` where it looks at 100,000 derivations, or copies much, outside the gate: a ring of arguments that grow, a transitive
-# closure of a graph in twelve layers, the ways to append lists to a list, and goals with an atom of 20,001 arguments' worth of terms.
+# Times `cti loop` where it looks at many derivations, or copies much, outside the gate: 100,000 of a ring of arguments that grow, 100,000 of a transitive
+# closure of a graph in twelve layers, the 556 ways to append lists to a list, and goals with an atom of 20,001 arguments' worth of terms.
 # Usage: bench/loop.sh [PROGRAM]     (PROGRAM is bin/cti where none is named)
 set -eu
 cd "$(dirname "$0")/.."
@@ -14,7 +14,7 @@ from pathlib import Path
 
 folder = Path(sys.argv[1])
 ring = "".join(f"p(X,Y,Z) :- p(Y,Z,{name}(X)).\n" for name in "stu")
-layers = [[f"n{layer}_{node}" for node in range(3)] for layer in range(13)]
+layers = [[f"n{layer}_{node}" for node in range(4)] for layer in range(13)]
 edges = "".join(f"e({one},{other}).\n" for above, below in zip(layers, layers[1:]) for one in above for other in below)
 closure = "tc(X,Y) :- e(X,Y).\ntc(X,Y) :- e(X,Z), tc(Z,Y).\n" + edges
 append = "app([],L,L).\napp([H|T],L,[H|R]) :- app(T,L,R).\n"
