@@ -1,5 +1,4 @@
 pub mod Courses
-pub mod DropLaws
 pub mod DropSteps
 pub mod DropsShown
 pub mod NoneWithin

@@ -1,6 +1,5 @@
 pub mod Coursing
 pub mod Descending
-pub mod Drops
 pub mod Found
 pub mod Testing
 pub mod Tracking

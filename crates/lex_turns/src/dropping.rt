@@ -5,13 +5,13 @@ ghost use Rattle.std.specs.List.{AllByRecursion};
 ghost use Rattle.level_systems.specs.Falling.{HasParts, IsReady};
 ghost use Rattle.level_systems.specs.Mappings.{level_in};
 ghost use Rattle.level_systems.specs.Turned.{all_rows, held_of};
-ghost use Rattle.lex_turns.specs.Drops.{fall_number};
+ghost use Rattle.level_drops.specs.Drops.{fall_number};
 ghost use Rattle.lex_turns.specs.Testing.{AreDropsIf, EmptyFall, IsDropIf, ShowsDrop, SomeFalls, Tells, first_by};
 ghost use Rattle.linear_rows.specs.Plain.{HaveWidth};
 ghost use Rattle.linear_rows.specs.Showing.{AreMultipliers};
 
-use crate::weights::weigh_drop;
 use cti_terms::PredId;
+use level_drops::weigh_drop;
 use level_systems::{Measure, OwnCall};
 use linear_rows::{Multipliers, Numbers};
 use number_tests::{LevelPart, fall_flaw};

@@ -17,7 +17,6 @@ mod searching;
 mod tracking;
 mod turn;
 mod turning;
-mod weights;
 mod within;
 mod zeros;
 

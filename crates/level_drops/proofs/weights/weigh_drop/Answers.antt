@@ -1,10 +1,10 @@
 use Rattle.std.proofs.Common.{rules, ◌≡◌, ◌≤ℤ◌, ◌-ℤ◌, ◌∷◌, ◌++◌, [], List, ℤ, pos, neg_ℤ, get_or, slice_get, Some, sym, subst, ap, ◌∙◌, arith, FitsSigned, length}
 use Rattle.std.specs.Int.{w128}
 use Rattle.std.proofs.lemmas.Int.{ints, to_z-of_z}
-use Rattle.lex_turns.specs.Drops.{fall_number}
+use Rattle.level_drops.specs.Drops.{fall_number}
 use Rattle.termination_model.proofs.Lists.{there}
 use Rattle.number_tests.proofs.TargetLists.{negation_fits, weights_more}
-use Rattle.lex_turns.proofs.weights.weigh_drop.Goals as goal
+use Rattle.level_drops.proofs.weights.weigh_drop.Goals as goal
 
 pub overflow_sub-coefficient : goal.overflow_sub-coefficient
 overflow_sub-coefficient c =

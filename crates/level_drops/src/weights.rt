@@ -1,7 +1,7 @@
 //! What counts of a drop.
 
 ghost use Rattle.std.specs.Prelude.{◌≡◌, ◌≤ℤ◌, ◌-ℤ◌, All, IfOk, neg_ℤ, pos};
-ghost use Rattle.lex_turns.specs.Drops.{drop_weights, fall_number};
+ghost use Rattle.level_drops.specs.Drops.{drop_weights, fall_number};
 
 use linear_rows::Numbers;
 use number_tests::LevelPart;
@@ -21,7 +21,7 @@ fn offset_weight(call: &LevelPart, falls: bool) -> i128
 
 /// What counts of a drop: the head's offset and coefficients, and the call's with the other sign, and 1 less where the
 /// levels fall.
-pub(crate) fn weigh_drop(
+pub fn weigh_drop(
     alloc: Global,
     head: &LevelPart,
     call: &LevelPart,
