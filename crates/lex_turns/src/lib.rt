@@ -12,7 +12,9 @@ mod call_drops;
 mod course;
 mod dropping;
 mod finding;
+mod found_lists;
 mod measure_list;
+mod search;
 mod searching;
 mod tracking;
 mod turn;
@@ -22,5 +24,7 @@ mod zeros;
 
 pub use call_drops::CallDrops;
 pub use finding::search_within;
+pub use found_lists::FoundLists;
 pub use measure_list::MeasureList;
+pub use search::search;
 pub use within::Within;

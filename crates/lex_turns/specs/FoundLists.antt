@@ -1,0 +1,137 @@
+-- To believe, for the modes.
+-- What is found of a component's lists: one for each minimal support of a list that descends, or a stuck set, or what was
+-- given up.
+--
+-- The support of a list is the set of positions at which some mapping of it has a positive coefficient. A mapping that
+-- decreases is a list of one.
+--
+-- To believe: all of this file, over `ListDescends` of `termination_model` and Descending.antt.
+use Rattle.std.specs.Prelude.{◌≡◌, ◌≢◌, ◌↔◌, ◌⊎◌, ◌-◌, ◌<◌, ◌≤◌, nat_lt, ℕ, suc, ℤ, Bool, true, false, IsTrue, if◌then◌else◌, List, [], ◌∷◌, map, take, length, slice_get, Option, None, Some}
+use Rattle.std.specs.List.{AllByRecursion, list_any}
+use Rattle.call_components.specs.Partition.{Partition}
+use Rattle.cti_terms.specs.Listing.{Listing}
+use Rattle.cti_terms.specs.Tree.{Tree}
+use Rattle.cti_terms.specs.declared.clauses.Clause.{Clause}
+use Rattle.linear_rows.specs.Members.{In}
+use Rattle.linear_rows.specs.Rows.{AreEmpty}
+use Rattle.number_tests.specs.declared.pair_point.PairPoint.{PairPoint}
+use Rattle.number_tests.specs.declared.refutation.Refutation.{Refutation}
+use Rattle.termination_model.specs.Best.{coefficient}
+use Rattle.termination_model.specs.Claims.{Mapping, SomeOf}
+use Rattle.termination_model.specs.ComponentViews.{component_view, members_in, no_truth, positions_in}
+use Rattle.termination_model.specs.Excluding.{IsAt}
+use Rattle.termination_model.specs.Minimal.{IsAbove, IsExcluded, IsMinimal, IsSet}
+use Rattle.termination_model.specs.Modes.{chosen_up_to}
+use Rattle.termination_model.specs.OwnCalls.{Position}
+use Rattle.termination_model.specs.Ready.{arity_in}
+use Rattle.termination_model.specs.Stuck.{ListDescends}
+use Rattle.termination_model.specs.Systems.{short_system}
+use Rattle.level_systems.specs.Found.{IsBlownSet, IsRefutationOf, count, full, had, without}
+use Rattle.level_systems.specs.Mappings.{HasMeasures, mapping_of}
+use Rattle.level_systems.specs.Pairs.{pairs_of}
+use Rattle.level_systems.specs.Subsequences.{AreOnce, IsSubsequence}
+use Rattle.level_systems.specs.declared.measure.Measure.{Measure}
+use Rattle.lex_turns.specs.Descending.{HasPlace, IsGivenUp, positions_at}
+use Rattle.lex_turns.specs.declared.call_drops.CallDrops.{CallDrops}
+use Rattle.lex_turns.specs.declared.found_lists.FoundLists.{FoundLists}
+use Rattle.lex_turns.specs.declared.measure_list.MeasureList.{MeasureList}
+
+-- some mapping of a list has a positive coefficient at the position
+abbrev pub is_used : Position → List Mapping → Bool
+is_used r ls = list_any (λ (l : Mapping). nat_lt 0 (coefficient (l.coefficients r.0) r.1)) ls
+
+-- the numbers of the positions that a list uses, the first of these having the number i
+abbrev pub list_support_from : ℕ → List Position → List Mapping → List ℕ
+list_support_from i [] ls = []
+list_support_from i (r ∷ rs) ls = if is_used r ls then i ∷ list_support_from (suc i) rs ls else list_support_from (suc i) rs ls
+
+-- the mappings of a list that was found
+abbrev pub mappings_of : MeasureList → List Mapping
+mappings_of l = map mapping_of l.measures
+
+abbrev pub support_of_list : List Position → MeasureList → List ℕ
+support_of_list positions l = list_support_from 1 positions (mappings_of l)
+
+-- a list of two mappings or more
+abbrev pub IsLong : MeasureList → Type 0
+IsLong l = 2 ≤ length l.measures
+
+module _ (expression : ℕ → Tree → List ℤ) (p : Listing) (comps : Partition) (rows : ℕ → List (List ℤ)) (c : ℕ) where
+  -- a list of mappings of the component that descends has exactly this support
+  pub record HasList (s : List ℕ) : Type 0 where
+    pub list : List Mapping
+    pub some : 1 ≤ length list
+    pub at : AllByRecursion (IsAt (positions_in p comps c)) list
+    pub descends : ListDescends no_truth expression (component_view expression p comps rows c) list
+    pub is : list_support_from 1 (positions_in p comps c) list ≡ s
+
+  -- the size rows of the atoms before the call of a pair hold somewhere
+  abbrev pub IsReached : ℕ × ℕ → Type 0
+  IsReached pair = (k : Clause) → slice_get p.clauses (pair.0 - 1) ≡ Some k → AreEmpty (suc k.vars) (short_system expression rows k.vars (take (pair.1 - 1) k.body)) → ⊥
+
+  -- in a list of two or more each mapping is the place of some pair that is reached
+  abbrev pub AreNeeded : MeasureList → Type 0
+  AreNeeded l = IsLong l → (i : ℕ) → i < length l.measures
+      → SomeOf (λ (d : CallDrops). (length d.by ≡ suc i) × IsReached (d.clause, d.call)) l.drops
+
+  -- a list that descends: parts for each member in each of its mappings, and the place of each pair, in order
+  pub record IsDescendingList (l : MeasureList) : Type 0 where
+    pub some : 1 ≤ length l.measures
+    pub measures : AllByRecursion (HasMeasures p (members_in comps c)) l.measures
+    pub pairs : map (λ (d : CallDrops). (d.clause, d.call)) l.drops ≡ pairs_of p comps c
+    pub places : AllByRecursion (λ (d : CallDrops). HasPlace expression p rows l.measures (d.clause, d.call) d.by) l.drops
+    pub needed : AreNeeded l
+    pub at : AllByRecursion (IsAt (positions_in p comps c)) (mappings_of l)
+    pub descends : ListDescends no_truth expression (component_view expression p comps rows c) (mappings_of l)
+
+  abbrev pub supports : FoundLists → List (List ℕ)
+  supports f = map (support_of_list (positions_in p comps c)) f.lists
+
+  -- the search for a list at a set of positions is given up
+  abbrev pub IsGivenUpAt : List ℕ → Type 0
+  IsGivenUpAt s = IsGivenUp expression (component_view expression p comps rows c) (arity_in p) (positions_at expression p comps rows c s)
+
+  -- a stuck set that the check of a certificate accepts: a refutation without directions
+  pub record IsStuckSetOf (r : Refutation) : Type 0 where
+    pub some : 1 ≤ length r.points
+    pub refutes : IsRefutationOf expression p comps rows c r
+    pub single : AllByRecursion (λ (x : PairPoint). x.at ≡ None) r.points
+
+  -- up to 12 positions: one list for each minimal support, in order; each list that descends has one of them within its
+  -- support, unless that is above one that was given up; and a list is of one mapping where one decreases with its support
+  pub record AreSmallLists (f : FoundLists) : Type 0 where
+    pub minimal : (s : List ℕ) → In s (supports f) → IsMinimal HasList s
+    pub within : (s : List ℕ) → HasList s → IsAbove (supports f) s ⊎ IsAbove f.blown s
+    pub order : IsSubsequence (supports f) (chosen_up_to (count expression p comps rows c) (count expression p comps rows c))
+    pub single : AllByRecursion (λ (l : MeasureList). IsLong l
+        → IsBlownSet expression p comps rows c (support_of_list (positions_in p comps c) l) ⊎ (had expression p comps rows c (support_of_list (positions_in p comps c) l) → ⊥)) f.lists
+    pub given_up : (s : List ℕ) → In s f.blown → IsGivenUpAt s
+
+  -- none of the positions of a list can be left out, but where the search without it was given up
+  abbrev pub IsWithoutSpare : List (List ℕ) → MeasureList → Type 0
+  IsWithoutSpare blown l = (i : ℕ) → In i (support_of_list (positions_in p comps c) l)
+      → In (without i (support_of_list (positions_in p comps c) l)) blown
+      ⊎ (IsExcluded (had expression p comps rows c) (without i (support_of_list (positions_in p comps c) l))
+      × (IsLong l → IsExcluded HasList (without i (support_of_list (positions_in p comps c) l))))
+
+  -- more: one list at most, of one mapping where some mapping decreases; or a stuck set; or all positions were given up
+  pub record AreLargeLists (f : FoundLists) : Type 0 where
+    pub few : length f.lists ≤ 1
+    pub single : AllByRecursion (λ (l : MeasureList). IsLong l
+        → IsBlownSet expression p comps rows c (full expression p comps rows c) ⊎ ((s : List ℕ) → had expression p comps rows c s → ⊥)) f.lists
+    pub spare : AllByRecursion (IsWithoutSpare f.blown) f.lists
+    pub decided : (1 ≤ length f.lists) ⊎ (f.refutation ≢ None) ⊎ In (full expression p comps rows c) f.blown
+    pub given_up : (s : List ℕ) → In s f.blown → IsGivenUpAt s ⊎ IsBlownSet expression p comps rows c s
+
+  pub record AreFoundLists (f : FoundLists) : Type 0 where
+    pub large : IsTrue f.large ↔ (12 < count expression p comps rows c)
+    pub lists : AllByRecursion IsDescendingList f.lists
+    pub small : f.large ≡ false → AreSmallLists f
+    pub more : f.large ≡ true → AreLargeLists f
+    -- a stuck set exactly where no list descends and the set of all positions was not given up
+    pub stuck : (f.refutation ≢ None) ↔ (((s : List ℕ) → HasList s → ⊥) × (In (full expression p comps rows c) f.blown → ⊥))
+    pub shown : (r : Refutation) → f.refutation ≡ Some r → IsStuckSetOf r
+    -- what was given up are sets of positions, above no support that was found, and each stands once
+    pub sets : (s : List ℕ) → In s f.blown → IsSet 1 (suc (count expression p comps rows c)) s
+    pub once : AreOnce f.blown
+    pub apart : (s : List ℕ) → In s f.blown → IsAbove (supports f) s → ⊥
