@@ -3,7 +3,9 @@ pub mod DropSteps
 pub mod DropsShown
 pub mod NoneWithin
 pub mod Places
+pub mod PlainPoints
 pub mod PositionsAt
+pub mod StickingLaws
 pub mod StuckWithin
 pub mod TrackedCalls
 pub mod TurnMaking

@@ -2,6 +2,7 @@ pub mod Coursing
 pub mod Descending
 pub mod Found
 pub mod FoundLists
+pub mod Sticking
 pub mod Testing
 pub mod Tracking
 pub mod Turning
