@@ -13,9 +13,11 @@ pub mod ListsFound
 pub mod MappingLists
 pub mod NoneWithin
 pub mod Places
+pub mod PlainPoints
 pub mod PositionsAt
 pub mod SingleLists
 pub mod SparePositions
+pub mod StickingLaws
 pub mod StuckWithin
 pub mod TrackedCalls
 pub mod TurnMaking
