@@ -100,3 +100,10 @@ module _ (size : (ℕ → ℕ) → Tree → ℕ) (truth : (ℕ → Bool) → Tre
     λ yes m i head call by eh ec eb. subst (λ (z : List ℤ). IsShown rows z by) (target m i (drop_at i (length (list_at proofs m))) head call eh) (decides.0 yes m i head call by eh ec eb),
     λ all. decides.1 (λ m i head call by eh ec eb. subst (λ (z : List ℤ). IsShown rows z by) (sym (target m i (drop_at i (length (list_at proofs m))) head call eh)) (all m i head call by eh ec eb)),
   )
+
+nothing_at : {X : Type 0} (i : ℕ) (x : X) → slice_get [] i ≡ Some x → ⊥
+nothing_at i x e = cc
+
+-- past the end there are no multipliers
+pub shown_past : (rs columns : List (List ℤ)) (hs cs : List LevelPart) (mss : List (List Multipliers)) (m : ℕ) → length mss ≤ m → AreShown rs columns hs cs (list_at mss m)
+shown_past rs columns hs cs mss m le i head call by eh ec eb = absurd (nothing_at i by (subst (λ (ms : List Multipliers). slice_get ms i ≡ Some by) (list_past mss m le) eb))
