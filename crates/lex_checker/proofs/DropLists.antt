@@ -1,8 +1,8 @@
 -- The lists and multipliers at a call, and what the tests of its drops decide.
-use Rattle.std.proofs.Common.{◌≡◌, ◌↔◌, ℕ, zero, suc, ◌<◌, ◌≤◌, ◌-ℤ◌, ◌≤ℤ◌, inl, inr, ℤ, pos, neg_ℤ, Bool, List, [], ◌∷◌, ◌++◌, All, map, take, length, slice_get, IsSomeAnd, Option, Some, None, refl, sym, ap, subst, ◌∙◌, arith}
+use Rattle.std.proofs.Common.{◌≡◌, ◌↔◌, ℕ, ◌≤◌, ◌-ℤ◌, inl, inr, ℤ, pos, neg_ℤ, Bool, List, [], ◌∷◌, map, take, length, slice_get, IsSomeAnd, Option, Some, None, refl, sym, ap, subst, ◌∙◌, arith}
 use Rattle.std.specs.List.{AllByRecursion}
 use Rattle.std.proofs.lemmas.Bool.{cases_lt}
-use Rattle.std.proofs.lemmas.List.{length-append, length-map}
+use Rattle.std.proofs.lemmas.List.{length-append}
 use Rattle.call_components.specs.Partition.{Partition}
 use Rattle.cert_checker.proofs.ShapeLaws.{list_past}
 use Rattle.cert_checker.specs.Shape.{AreTogether}
@@ -18,7 +18,7 @@ use Rattle.linear_rows.specs.Showing.{AreMultipliers, IsShown}
 use Rattle.linear_rows.specs.declared.multipliers.Multipliers.{Multipliers}
 use Rattle.number_tests.proofs.CallFacts.{can_weigh}
 use Rattle.number_tests.specs.Shape.{IsLevelPart, list_at, row_count}
-use Rattle.number_tests.specs.Targets.{AreFallColumns, CanBeWeighed, fall_weights}
+use Rattle.number_tests.specs.Targets.{AreFallColumns, fall_weights}
 use Rattle.number_tests.specs.declared.level_part.LevelPart.{LevelPart}
 use Rattle.term_size.specs.Norm.{IsNorm}
 use Rattle.termination_model.proofs.Lists.{by_places}

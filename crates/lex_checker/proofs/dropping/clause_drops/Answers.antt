@@ -1,4 +1,4 @@
-use Rattle.std.proofs.Common.{◌≡◌, ◌↔◌, ◌-◌, ◌<◌, ℕ, ℤ, IsTrue, true, List, take, length, slice_get, Some, refl, sym, ap, subst, ◌∙◌, arith, below_more}
+use Rattle.std.proofs.Common.{◌≡◌, ◌↔◌, ◌-◌, ℕ, ℤ, IsTrue, List, take, length, slice_get, Some, refl, sym, ap, subst, ◌∙◌, arith, below_more}
 use Rattle.cert_checker.specs.Shape.{AreTogether}
 use Rattle.cti_terms.specs.Listing.{IsAtom}
 use Rattle.cti_terms.specs.declared.atom_list.Atom.{Atom}

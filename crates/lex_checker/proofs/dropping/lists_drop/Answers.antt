@@ -1,4 +1,4 @@
-use Rattle.std.proofs.Common.{◌≡◌, ◌↔◌, ℕ, IsTrue, inl, inr, List, length, refl, sym, subst, ◌∙◌, arith, below_more}
+use Rattle.std.proofs.Common.{◌↔◌, ℕ, IsTrue, inl, inr, List, length, refl, sym, subst, ◌∙◌, arith, below_more}
 use Rattle.std.proofs.lemmas.Bool.{cases_lt}
 use Rattle.linear_rows.specs.Plain.{plain_rows}
 use Rattle.linear_rows.specs.declared.multipliers.Multipliers.{Multipliers}

@@ -1,10 +1,10 @@
-use Rattle.std.proofs.Common.{◌≡◌, ◌+◌, ◌==◌, ℕ, suc, length, slice_get, Some, None, refl, subst, arith, below_more}
+use Rattle.std.proofs.Common.{◌≡◌, ◌+◌, ◌==◌, ℕ, suc, length, slice_get, Some, refl, subst, arith, below_more}
 use Rattle.level_drops.specs.Drops.{drop_weights, fall_number}
 use Rattle.linear_rows.specs.Plain.{plain_rows}
-use Rattle.linear_rows.specs.Showing.{AreMultipliers, IsShown}
+use Rattle.linear_rows.specs.Showing.{IsShown}
 use Rattle.linear_rows.specs.declared.multipliers.Multipliers.{Multipliers}
 use Rattle.number_tests.specs.declared.level_part.LevelPart.{LevelPart}
-use Rattle.termination_model.proofs.Lists.{at_place, by_places, one_element, place_below}
+use Rattle.termination_model.proofs.Lists.{at_place, one_element, place_below}
 use Rattle.termination_model.specs.Replacing.{IsRowIfFits, over_columns}
 use Rattle.lex_checker.specs.Proved.{drop_at}
 use Rattle.lex_checker.proofs.Flags.{no_fault, none_of}
