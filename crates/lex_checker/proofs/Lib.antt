@@ -1,0 +1,10 @@
+pub mod AnyPartition
+pub mod Bounded
+pub mod Descending
+pub mod DropLists
+pub mod Flags
+pub mod NoList
+pub mod Printed
+pub mod Shapes
+pub mod Unions
+pub mod Validity
