@@ -24,14 +24,7 @@ use Rattle.number_tests.specs.Shape.{list_at}
 use Rattle.term_size.specs.AnyNorm.{any_row, any_truth}
 use Rattle.termination_model.specs.Sizes.{rows_of as size_rows_of}
 use Rattle.termination_model.specs.Stated.{AreStated}
-use Rattle.report.specs.ExactModes.{AreCounted, ModesAreExact}
-
--- what the model of sizes gives: the shape of its parts, that built-in predicates have their stated rows, and that its numbers hold
-pub record SizesHold (expression : ℕ → Tree → List ℤ) (p : Listing) (rows : List Rows) (proofs : List (List Multipliers)) : Type 0 where
-  pub shape : AreEach (length p.preds) (λ a r. (r.width ≡ arity_in p a) × AllByRecursion (IsSizeRow (arity_in p a)) r.list) rows
-  pub proofs_shape : AreEach (length p.clauses) (λ k. AreEach (rows_of rows (head_of p k)) (λ _. AreMultipliers (rows_of_atoms rows (body_of p k)))) proofs
-  pub stated : AreStated p.arithmetic (size_rows_of rows)
-  pub hold : (k : ℕ) (c : Clause) → slice_get p.clauses k ≡ Some c → RowsAreKept expression rows c (list_at proofs k)
+use Rattle.cert_assembly.specs.ExactModes.{AreCounted, ModesAreExact}
 
 -- what the search for mappings gives
 pub record MappingsHold (expression : ℕ → Tree → List ℤ) (p : Listing) (comps : Partition) (parts : Parts) : Type 0 where

@@ -16,15 +16,7 @@ use Rattle.linear_rows.specs.Step.{columns}
 use Rattle.linear_rows.specs.declared.multipliers.Multipliers.{Multipliers}
 use Rattle.number_tests.specs.declared.level_part.LevelPart.{LevelPart}
 use Rattle.number_tests.specs.declared.refutation.Refutation.{Refutation}
-use Rattle.report.specs.SupportNotes.{led_by}
-
--- a part of zeros
-abbrev pub zero_part : ℕ → LevelPart
-zero_part n = record { coeffs = zeros n; offset = pos 0 }
-
-abbrev pub part_or_zero : ℕ → Option LevelPart → LevelPart
-part_or_zero n None = zero_part n
-part_or_zero n (Some part) = part
+use Rattle.cert_assembly.specs.Leading.{led_by}
 
 -- the multipliers of a call, if a mapping has them
 abbrev pub fall_in : List Fall → ℕ → ℕ → Option Multipliers

@@ -23,10 +23,6 @@ abbrev pub arguments_of : Listing → List ℕ → ℕ → List ℕ → List (Li
 arguments_of p s i [] = []
 arguments_of p s i (q ∷ qs) = arguments_in s i 1 (arity_in p q) ∷ arguments_of p s (i + arity_in p q) qs
 
--- the recursive component that a predicate is the first member of
-abbrev pub led_by : Partition → ℕ → Option ℕ
-led_by comps q = if is_recursive comps q && (first_of comps q == q) then slice_get comps.of q else None
-
 -- the notes of all components, by their first members
 module _ (p : Listing) (names : List (List ℕ)) (comps : Partition) where
   -- a support of the component c, whose first member is q, was given up
