@@ -16,7 +16,7 @@ use Rattle.number_tests.proofs.ColumnLengths.{an_element}
 use Rattle.cert_checker.proofs.Partitions.{is_together_same, members_move, moved, recursion_moves, together_moves}
 
 module _ (truth : (ℕ → Bool) → Tree → Bool) (expression : ℕ → Tree → List ℤ) (p : Listing) (one other : Partition) (a : AreComponents p one) (b : AreComponents p other) (parts : Parts) where
-  modes : ModesHold truth p one parts → ModesHold truth p other parts
+  pub modes : ModesHold truth p one parts → ModesHold truth p other parts
   modes h = record {
     closed = h.closed;
     covered = h.covered;
@@ -36,7 +36,7 @@ module _ (truth : (ℕ → Bool) → Tree → Bool) (expression : ℕ → Tree �
   falls : FallsHold expression p one parts → FallsHold expression p other parts
   falls h k c at j call ej together = h k c at j call ej (together_moves p other one b a c.head.pred.0 call.pred.0 together)
 
-  refutations : RefutationsHold expression p one parts → RefutationsHold expression p other parts
+  pub refutations : RefutationsHold expression p one parts → RefutationsHold expression p other parts
   refutations h q d r ns at eq en =
       let (c, hq) = moved p other one b a d q eq in
       let (ms, em) = an_element one.members c (a.within c q hq) in

@@ -28,6 +28,7 @@ use Rattle.termination_model.proofs.Query.{modes_end}
 use Rattle.termination_model.specs.Claims.{Admits, Claims, Measure}
 use Rattle.termination_model.specs.Descent.{Meets, mode_row}
 use Rattle.termination_model.specs.Grounds.{Family, HasArity}
+use Rattle.termination_model.specs.Rows.{Covers}
 use Rattle.termination_model.specs.Short.{DescendsProved, ServesProved, ShowsProved}
 use Rattle.cert_checker.specs.Bounding.{FactIsBounded, ModeIsBounded, ModesAreBounded}
 use Rattle.cert_checker.specs.Claimed.{claims_of, natural_coefficients, mapping_count, mapping_of, measure_of, measures_from, rank_of}
@@ -53,11 +54,11 @@ measure_at parts pre k zero i m x at e = cc
 measure_at parts pre k (suc n) zero m x at e = let here : m ≡ k = omega (arith, at) in let same : measure_of parts pre k ≡ x = cc in ap (measure_of parts pre) here ∙ same
 measure_at parts pre k (suc n) (suc i) m x at e = measure_at parts pre (suc k) n i m x (omega (arith, at)) e
 
-natural_is : (z : ℤ) → pos 0 ≤ℤ z → unsigned_abs z ≡ holding.natural z
+pub natural_is : (z : ℤ) → pos 0 ≤ℤ z → unsigned_abs z ≡ holding.natural z
 natural_is (pos n) h = refl
 natural_is (negsuc n) h = absurd (omega (arith, h))
 
-naturals_are : (xs : List ℤ) → All (λ x. pos 0 ≤ℤ x) xs → map unsigned_abs xs ≡ map holding.natural xs
+pub naturals_are : (xs : List ℤ) → All (λ x. pos 0 ≤ℤ x) xs → map unsigned_abs xs ≡ map holding.natural xs
 naturals_are [] h = refl
 naturals_are (x ∷ xs) h = λ i. natural_is x (h 0 x (omega arith)) i ∷ naturals_are xs (λ k d lt. h (suc k) d (omega (arith, lt))) i
 
@@ -107,7 +108,7 @@ module _ (size : (ℕ → ℕ) → Tree → ℕ) (truth : (ℕ → Bool) → Tre
     each = measure_count;
     measures = λ r m x e.
         subst (IsMeasure p parts (claims size truth expression p comps parts) r m) (measure_at parts (holding.precondition p parts) 0 (mapping_count parts (list_at comps.members r)) m m x (omega arith) e)
-        (record { pre = refl; mapping = mapping_of parts m; single = refl; coefficients = λ q lt in_rank. coefficients_are m q lt });
+        (record { pre = refl; covers = λ q bs lt in_rank h. (subst (λ cs. Covers cs bs) (sym (coefficients_are m q lt)) h, tt) });
   }
 
   module _ (modes_show : HoldingModesShow) (hold : PartsHold truth expression p comps parts) where

@@ -49,23 +49,23 @@ natural : (n : ℕ) (x : Point) → shape.IsPoint n x → IsNatural x
 natural n x is = record { t = is.1.0; w = amounts_are x.w is.2 }
 
 -- some t is positive
-positive : (z : ℤ) → pos 0 ≤ℤ z → (z ≡ pos 0 → ⊥) → pos 1 ≤ℤ z
+pub positive : (z : ℤ) → pos 0 ≤ℤ z → (z ≡ pos 0 → ⊥) → pos 1 ≤ℤ z
 positive (pos zero) h other = absurd (other refl)
 positive (pos (suc n)) h other = omega (arith, ints)
 positive (negsuc n) h other = absurd (omega (arith, ints, h))
 
 module _ (p : Listing) (comps : Partition) where
-  call_in : (a : ℕ) (o : Option Atom) → IsTrue (shape.is_own_call comps a o) → (b : Atom) × (o ≡ Some b) × IsTrue (shape.is_together comps a b.pred.0)
+  pub call_in : (a : ℕ) (o : Option Atom) → IsTrue (shape.is_own_call comps a o) → (b : Atom) × (o ≡ Some b) × IsTrue (shape.is_together comps a b.pred.0)
   call_in a None h = cc
   call_in a (Some b) h = (b, refl, h)
 
-  clause_in : (a call : ℕ) (o : Option Clause) → IsTrue (shape.is_own_clause comps a call o)
+  pub clause_in : (a call : ℕ) (o : Option Clause) → IsTrue (shape.is_own_clause comps a call o)
       → (c : Clause) × (o ≡ Some c) × IsTrue (shape.is_together comps a c.head.pred.0) × IsTrue (shape.is_own_call comps a (numbered c.body call))
   clause_in a call None h = cc
   clause_in a call (Some c) h =
       let (x, y) = and_parts (shape.is_together comps a c.head.pred.0) (shape.is_own_call comps a (numbered c.body call)) h in (c, refl, x, y)
 
-  same_component : (r q x : ℕ) → IsIn comps r q → IsTrue (shape.is_together comps q x) → IsIn comps r x
+  pub same_component : (r q x : ℕ) → IsIn comps r q → IsTrue (shape.is_together comps q x) → IsIn comps r x
   same_component r q x isin h =
       let (c, hq, hx) = together_is comps q x h in
       let same : Some c ≡ Some r = sym hq ∙ isin in hx ∙ same
@@ -94,7 +94,7 @@ module _ (p : Listing) (comps : Partition) where
       }
 
 -- what each element that passes a test has, the mapped ones have
-kept_all : {X Y : Type 0} → (t : X → Bool) (g : X → Y) (Q : Y → Type 0) (xs : List X) → ((i : ℕ) (x : X) → slice_get xs i ≡ Some x → t x ≡ true → Q (g x)) → AllByRecursion Q (map g (filter t xs))
+pub kept_all : {X Y : Type 0} → (t : X → Bool) (g : X → Y) (Q : Y → Type 0) (xs : List X) → ((i : ℕ) (x : X) → slice_get xs i ≡ Some x → t x ≡ true → Q (g x)) → AllByRecursion Q (map g (filter t xs))
 kept_all t g Q [] h = tt
 kept_all t g Q (x ∷ xs) h = go (t x) refl (kept_all t g Q xs (λ i y e. h (suc i) y e))
   where
@@ -102,12 +102,12 @@ kept_all t g Q (x ∷ xs) h = go (t x) refl (kept_all t g Q xs (λ i y e. h (suc
     go true e rest = (h 0 x refl e, rest)
     go false e rest = rest
 
-unmapped : {X Y : Type 0} → (g : X → Y) (xs : List X) (j : ℕ) (y : Y) → slice_get (map g xs) j ≡ Some y → (x : X) × (slice_get xs j ≡ Some x) × (g x ≡ y)
+pub unmapped : {X Y : Type 0} → (g : X → Y) (xs : List X) (j : ℕ) (y : Y) → slice_get (map g xs) j ≡ Some y → (x : X) × (slice_get xs j ≡ Some x) × (g x ≡ y)
 unmapped g [] j y e = cc
 unmapped g (x ∷ xs) zero y e = (x, refl, let same : g x ≡ y = cc in same)
 unmapped g (x ∷ xs) (suc j) y e = unmapped g xs j y e
 
-place_is : (b : Bool) (q n : ℕ) (f : List Bool → Bool) → (if b then Member q else Lower f) ≡ Member n → (b ≡ true) × (q ≡ n)
+pub place_is : (b : Bool) (q n : ℕ) (f : List Bool → Bool) → (if b then Member q else Lower f) ≡ Member n → (b ≡ true) × (q ≡ n)
 place_is true q n f e = (refl, let same : q ≡ n = cc in same)
 place_is false q n f e = cc
 
@@ -132,7 +132,7 @@ module _ (size : (ℕ → ℕ) → Tree → ℕ) (truth : (ℕ → Bool) → Tre
       (subst (λ (n : ℕ). HoldsOn (suc k.vars) (system expression (rows_of parts.rows) k.vars (take j k.body)) (fall_over truth expression (rule_of claims r itself k) n a.args 1 l)) number
       (d i k at head j a ea call))))
 
-nothing : Family
+pub nothing : Family
 nothing q row = false
 
 -- no mapping of a component of parts that hold decreases, where it has a refutation

@@ -39,14 +39,14 @@ each_at P i (y ∷ xs) h (suc k) n x at e = each_at P (suc i) xs h.1 k n x (omeg
 pub one_of : {X : Type 0} {n : ℕ} {P : ℕ → X → Type 0} (xs : List X) → AreEach n P xs → (k : ℕ) (x : X) → slice_get xs k ≡ Some x → P k x
 one_of {P = P} xs are k x e = each_at P 0 xs are.each k k x (omega arith) e
 
-each_in : {X : Type 0} {n : ℕ} {P : ℕ → X → Type 0} (Q : X → Type 0) → ((i : ℕ) (x : X) → P i x → Q x) → (xs : List X) → AreEach n P xs → AllByRecursion Q xs
+pub each_in : {X : Type 0} {n : ℕ} {P : ℕ → X → Type 0} (Q : X → Type 0) → ((i : ℕ) (x : X) → P i x → Q x) → (xs : List X) → AreEach n P xs → AllByRecursion Q xs
 each_in Q f xs are = from_places Q xs (λ i x e. f i x (one_of xs are i x e))
 
 -- the list at a place
-list_there : {X : Type 0} → (xss : List (List X)) (n k : ℕ) → length xss ≡ n → k < n → slice_get xss k ≡ Some (list_at xss k)
+pub list_there : {X : Type 0} → (xss : List (List X)) (n k : ℕ) → length xss ≡ n → k < n → slice_get xss k ≡ Some (list_at xss k)
 list_there xss n k same lt = there xss k [] (omega (arith, same, lt))
 
-list_past : {X : Type 0} → (xss : List (List X)) (k : ℕ) → length xss ≤ k → list_at xss k ≡ []
+pub list_past : {X : Type 0} → (xss : List (List X)) (k : ℕ) → length xss ≤ k → list_at xss k ≡ []
 list_past [] k le = refl
 list_past (x ∷ xss) zero le = absurd (omega (arith, le))
 list_past (x ∷ xss) (suc k) le = list_past xss k (omega (arith, le))
@@ -61,15 +61,15 @@ plain_count : (o : Option Rows) → unwrap_or (option_map (λ (r : Rows). length
 plain_count None = refl
 plain_count (Some r) = sym (length-map r.list plain_row)
 
-row_counts : (rows : List Rows) (q : ℕ) → shape.rows_of rows q ≡ length (rows_of rows q)
+pub row_counts : (rows : List Rows) (q : ℕ) → shape.rows_of rows q ≡ length (rows_of rows q)
 row_counts rows q = plain_count (slice_get rows q)
 
-atom_row_counts : (rows : List Rows) (bs : List Atom) → shape.rows_of_atoms rows bs ≡ row_count (rows_of rows) bs
+pub atom_row_counts : (rows : List Rows) (bs : List Atom) → shape.rows_of_atoms rows bs ≡ row_count (rows_of rows) bs
 atom_row_counts rows [] = refl
 atom_row_counts rows (b ∷ bs) = omega (arith, sum_by-cons (λ (x : Atom). shape.rows_of rows x.pred.0) b bs, row_counts rows b.pred.0, atom_row_counts rows bs)
 
 -- natural numbers
-amounts_are : (xs : List ℤ) → AreAmounts xs → All (λ x. pos 0 ≤ℤ x) xs
+pub amounts_are : (xs : List ℤ) → AreAmounts xs → All (λ x. pos 0 ≤ℤ x) xs
 amounts_are [] h k d lt = absurd (omega (arith, lt))
 amounts_are (x ∷ xs) h zero d lt = h.0.0
 amounts_are (x ∷ xs) h (suc k) d lt = amounts_are xs h.1 k d (omega (arith, lt))
@@ -79,16 +79,16 @@ widths_are m n same [] h k d lt = absurd (omega (arith, lt))
 widths_are m n same (r ∷ rows) h zero d lt = h.0.0 ∙ same
 widths_are m n same (r ∷ rows) h (suc k) d lt = widths_are m n same rows h.1 k d (omega (arith, lt))
 
-multipliers_are : (m n : ℕ) → m ≡ n → (by : Multipliers) → shape.AreMultipliers m by → AreMultipliers n by
+pub multipliers_are : (m n : ℕ) → m ≡ n → (by : Multipliers) → shape.AreMultipliers m by → AreMultipliers n by
 multipliers_are m n same by (each, scale, list) = record { each = each ∙ same; naturals = amounts_are by.list list; scale = scale.0 }
 
-level_is : (m n : ℕ) → m ≡ n → (l : LevelPart) → shape.IsLevel m l → IsLevelPart n l
+pub level_is : (m n : ℕ) → m ≡ n → (l : LevelPart) → shape.IsLevel m l → IsLevelPart n l
 level_is m n same l (each, coeffs, offset) = record { each = each ∙ same; naturals = amounts_are l.coeffs coeffs; offset = offset.0 }
 
 pub some_is : {X : Type 0} → (P : X → Type 0) (o : Option X) (x : X) → o ≡ Some x → P x → IsSomeAnd o P
 some_is P o x e h = subst (λ q. IsSomeAnd q P) (sym e) h
 
-is_true : (b : Bool) → IsTrue b → b ≡ true
+pub is_true : (b : Bool) → IsTrue b → b ≡ true
 is_true b h = h
 
 and_right : (b c : Bool) → IsTrue (b && c) → IsTrue c
@@ -105,35 +105,49 @@ module _ (p : Listing) where
   pub arity_at : (q : ℕ) (d : Pred) → slice_get p.preds q ≡ Some d → shape.arity_in p q ≡ d.arity
   arity_at q d e = ap (λ (o : Option Pred). unwrap_or (option_map (λ (x : Pred). x.arity) o) 0) e
 
-  head_at : (k : ℕ) (c : Clause) → slice_get p.clauses k ≡ Some c → shape.head_of p k ≡ c.head.pred.0
+  pub head_at : (k : ℕ) (c : Clause) → slice_get p.clauses k ≡ Some c → shape.head_of p k ≡ c.head.pred.0
   head_at k c e = ap (λ (o : Option Clause). unwrap_or (option_map (λ (x : Clause). x.head.pred.0) o) 0) e
 
-  body_at : (k : ℕ) (c : Clause) → slice_get p.clauses k ≡ Some c → shape.body_of p k ≡ c.body
+  pub body_at : (k : ℕ) (c : Clause) → slice_get p.clauses k ≡ Some c → shape.body_of p k ≡ c.body
   body_at k c e = ap (λ (o : Option Clause). unwrap_or (option_map (λ (x : Clause). x.body) o) []) e
+
+  -- size rows of each predicate, and a proof for each of a clause's head
+  abbrev pub AreRowsOf : List Rows → Type 0
+  AreRowsOf rows = AreEach (length p.preds) (λ a r. (r.width ≡ shape.arity_in p a) × AllByRecursion (shape.IsSizeRow (shape.arity_in p a)) r.list) rows
+
+  abbrev pub AreProofsOf : List Rows → List (List Multipliers) → Type 0
+  AreProofsOf rows proofs =
+      AreEach (length p.clauses) (λ k. AreEach (shape.rows_of rows (shape.head_of p k)) (λ _. shape.AreMultipliers (shape.rows_of_atoms rows (shape.body_of p k)))) proofs
+
+  pub sizes_of : (rows : List Rows) → AreRowsOf rows → AreSizes p.preds rows
+  sizes_of rows have = record {
+    each = have.count;
+    width = λ q r e.
+        let (wide, own) = one_of rows have q r e in
+        let (d, at) = an_element p.preds q (omega (arith, slice_get_within rows q r e, have.count)) in
+        (some_is (λ (x : Pred). x.arity ≡ r.width) (slice_get p.preds q) d at (sym (wide ∙ arity_at q d at)), widths_are (shape.arity_in p q) r.width (sym wide) r.list own);
+  }
+
+  pub row_proofs_of : (parts : Parts) → AreProofsOf parts.rows parts.row_proofs → HaveRowProofs p parts
+  row_proofs_of parts have = record {
+    each = have.count;
+    rows = λ k c e. (clause_proofs k c e).count ∙ ap (shape.rows_of parts.rows) (head_at k c e) ∙ row_counts parts.rows c.head.pred.0;
+    multipliers = λ k c e.
+        each_in (AreMultipliers (row_count (rows_of parts.rows) c.body))
+        (λ i. multipliers_are (shape.rows_of_atoms parts.rows (shape.body_of p k)) (row_count (rows_of parts.rows) c.body) (ap (shape.rows_of_atoms parts.rows) (body_at k c e) ∙ atom_row_counts parts.rows c.body))
+        (list_at parts.row_proofs k) (clause_proofs k c e);
+  }
+    where
+      clause_proofs : (k : ℕ) (c : Clause) → slice_get p.clauses k ≡ Some c
+          → AreEach (shape.rows_of parts.rows (shape.head_of p k)) (λ _. shape.AreMultipliers (shape.rows_of_atoms parts.rows (shape.body_of p k))) (list_at parts.row_proofs k)
+      clause_proofs k c e = one_of parts.row_proofs have k (list_at parts.row_proofs k) (list_there parts.row_proofs (length p.clauses) k have.count (slice_get_within p.clauses k c e))
 
   module _ (comps : Partition) (parts : Parts) (have : shape.HaveShape p comps parts) where
     pub are_sizes : AreSizes p.preds parts.rows
-    are_sizes = record {
-      each = have.rows.count;
-      width = λ q r e.
-          let (wide, rows) = one_of parts.rows have.rows q r e in
-          let (d, at) = an_element p.preds q (omega (arith, slice_get_within parts.rows q r e, have.rows.count)) in
-          (some_is (λ (x : Pred). x.arity ≡ r.width) (slice_get p.preds q) d at (sym (wide ∙ arity_at q d at)), widths_are (shape.arity_in p q) r.width (sym wide) r.list rows);
-    }
-
-    clause_proofs : (k : ℕ) (c : Clause) → slice_get p.clauses k ≡ Some c
-        → AreEach (shape.rows_of parts.rows (shape.head_of p k)) (λ _. shape.AreMultipliers (shape.rows_of_atoms parts.rows (shape.body_of p k))) (list_at parts.row_proofs k)
-    clause_proofs k c e = one_of parts.row_proofs have.row_proofs k (list_at parts.row_proofs k) (list_there parts.row_proofs (length p.clauses) k have.row_proofs.count (slice_get_within p.clauses k c e))
+    are_sizes = sizes_of parts.rows have.rows
 
     pub have_row_proofs : HaveRowProofs p parts
-    have_row_proofs = record {
-      each = have.row_proofs.count;
-      rows = λ k c e. (clause_proofs k c e).count ∙ ap (shape.rows_of parts.rows) (head_at k c e) ∙ row_counts parts.rows c.head.pred.0;
-      multipliers = λ k c e.
-          each_in (AreMultipliers (row_count (rows_of parts.rows) c.body))
-          (λ i. multipliers_are (shape.rows_of_atoms parts.rows (shape.body_of p k)) (row_count (rows_of parts.rows) c.body) (ap (shape.rows_of_atoms parts.rows) (body_at k c e) ∙ atom_row_counts parts.rows c.body))
-          (list_at parts.row_proofs k) (clause_proofs k c e);
-    }
+    have_row_proofs = row_proofs_of parts have.row_proofs
 
     pub have_refutations : HaveRefutations p parts
     have_refutations = record {

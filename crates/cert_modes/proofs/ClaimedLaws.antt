@@ -55,7 +55,7 @@ module _ (truth : (ℕ → Bool) → Tree → Bool) (p : Listing) (comps : Parti
       let in_m = (λ k. sym i.pre k q bs) ∙ t in
       let w = row_of (slice_get p.preds q) bs (and_parts (is_row (slice_get p.preds q) bs) (covered (items_of (items_of parts.preconditions q) m) bs) in_m).0 in
       let lt = place_below p.preds q w.0 w.1 in
-      subst (AllByRecursion (λ (l : Mapping). Covers (l.coefficients q) bs)) (sym i.single) (subst (λ cs. Covers cs bs) (sym (i.coefficients q lt rank)) (hold.covered m q bs in_m), tt)
+      i.covers q bs lt rank (hold.covered m q bs in_m)
 
   rule_of : (r m : ℕ) (x : Measure) → IsMeasure p parts c r m x → (k : Clause) → IsClause p.preds k
       → KeepsSets truth (precondition p parts m) (allowed p parts) (grounds_of p parts) (λ q. is_together comps q k.head.pred.0) k → KeepsRule c x k

@@ -14,7 +14,8 @@ use Rattle.bool_diagrams.specs.Tree.{Tree as Rows}
 use Rattle.bool_diagrams.specs.declared.diagram.Diagram.{Diagram}
 use Rattle.call_components.specs.Partition.{AreComponents, Partition}
 use Rattle.cert_structure.specs.Numbered.{AreEach}
-use Rattle.cert_structure.specs.Shape.{HaveShape, IsLevel, HasWidth, arity_in, is_same, is_together, items_of, mappings_of}
+use Rattle.cert_structure.specs.Shape.{HasWidth, arity_in, is_same, is_together, items_of}
+use Rattle.cert_modes.specs.Shaped.{HaveSets, IsWide}
 use Rattle.cert_structure.specs.declared.parts.Parts.{Parts}
 use Rattle.cti_terms.specs.Listing.{IsAtom, IsClause, IsProgram, Listing}
 use Rattle.cti_terms.specs.Tree.{Tree}
@@ -48,7 +49,7 @@ mode_length mode i (suc n) = ap suc (mode_length mode (suc i) n)
 pub together_is : (comps : Partition) (q r : ℕ) → q < length comps.of → r < length comps.of → same_rank comps.of q r ≡ is_together comps q r
 together_is comps q r lt less = sym ((λ i. is_same (there comps.of q 0 lt i) (slice_get comps.of r)) ∙ (λ i. is_same (Some (slice_index_or comps.of q 0)) (there comps.of r 0 less i)))
 
-module _ (truth : (ℕ → Bool) → Tree → Bool) (p : Listing) (program : IsProgram p) (comps : Partition) (components : AreComponents p comps) (parts : Parts) (shape : HaveShape p comps parts)
+module _ (truth : (ℕ → Bool) → Tree → Bool) (p : Listing) (program : IsProgram p) (comps : Partition) (components : AreComponents p comps) (parts : Parts) (shape : HaveSets p parts)
     (T : List Rows) (sets : Sets) (R : AreReady p T sets) (S : SpellParts p parts T sets) where
   -- the mappings of a predicate
   pub levels_of : (q : ℕ) → q < length p.preds → HaveLevels T (arity_in p q) (items_of parts.levels q) (items_of sets.preconditions q)
@@ -57,13 +58,13 @@ module _ (truth : (ℕ → Bool) → Tree → Bool) (p : Listing) (program : IsP
       let few = arity_few p program q _ at in
       let wide = arity_at p q _ at in
       let l = there parts.levels q [] (omega (arith, lt, shape.levels.count)) in
-      let own = each_at (length p.preds) (λ a ls. (length ls ≡ mappings_of comps parts.levels a) × AllByRecursion (IsLevel (arity_in p a)) ls) parts.levels shape.levels q _ l in
+      let own = each_at (length p.preds) (λ a. AllByRecursion (IsWide (arity_in p a))) parts.levels shape.levels q _ l in
       let c = there parts.preconditions q [] (omega (arith, lt, shape.preconditions.count)) in
       let cubes = each_at (length p.preds) (λ a. AreEach (length (items_of parts.levels a)) (λ _. AllByRecursion (HasWidth (arity_in p a)))) parts.preconditions shape.preconditions q _ c in
       record {
         few = omega (arith, few, wide);
         each = S.each q ∙ ap length (items_at parts.preconditions q _ c) ∙ cubes.count;
-        wide = λ m level e. (by_places (IsLevel (arity_in p q)) (slice_index_or parts.levels q []) own.1 m level (ap (λ ls. slice_get ls m) (sym (items_at parts.levels q _ l)) ∙ e)).0;
+        wide = λ m level e. by_places (IsWide (arity_in p q)) (slice_index_or parts.levels q []) own m level (ap (λ ls. slice_get ls m) (sym (items_at parts.levels q _ l)) ∙ e);
         known = R.preconditions.known q;
         reads = R.preconditions.reads q;
       }
@@ -165,7 +166,7 @@ module _ (truth : (ℕ → Bool) → Tree → Bool) (p : Listing) (program : IsP
             from_places (λ mode. IsTrue (allowed p parts q (mode_row mode 1 (arity_in p q)))) (items_of parts.modes q) (λ j mode e.
             sym (same _ f mode) ∙ by_places (λ mode. IsTrue (truth_rows T2 (slice_index_or sets.allowed.items q none) (mode_row mode 1 (arity_in p q)))) (items_of parts.modes q) all j mode e)
         | inr ge ↦
-            let e = nothing_at parts.modes q (λ lt. omega (arith, lt, ge, shape.modes.count)) in
+            let e = nothing_at parts.modes q (λ lt. omega (arith, lt, ge, shape.modes)) in
             let empty : items_of parts.modes q ≡ [] = ap (λ o. unwrap_or o []) e in
             subst (AllByRecursion (λ mode. IsTrue (allowed p parts q (mode_row mode 1 (arity_in p q))))) (sym empty) tt
       ]

@@ -6,4 +6,5 @@ pub mod HoldLaws
 pub mod MarkLaws
 pub mod PlaceLaws
 pub mod RuleLaws
+pub mod ShapedLaws
 pub mod SpellLaws

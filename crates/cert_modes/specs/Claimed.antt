@@ -2,7 +2,7 @@
 -- What holding modes give to claims that say what the parts of a certificate say.
 --
 -- To believe: nothing, where only `Bounded` is wanted.
-use Rattle.std.specs.Prelude.{◌≡◌, ◌<◌, ℕ, Bool, [], ◌∷◌, length, slice_get, Some}
+use Rattle.std.specs.Prelude.{◌≡◌, ◌<◌, ℕ, Bool, List, length, slice_get, Some}
 use Rattle.std.specs.List.{AllByRecursion}
 use Rattle.call_components.specs.Partition.{AreComponents, IsIn, Partition}
 use Rattle.cert_structure.specs.Shape.{arity_in, items_of}
@@ -13,14 +13,14 @@ use Rattle.cti_terms.specs.declared.clauses.Clause.{Clause}
 use Rattle.termination_model.specs.Claims.{Admits, Claims, IsCovered, KeepsRule, Mapping, Measure}
 use Rattle.termination_model.specs.Descent.{mode_row}
 use Rattle.termination_model.specs.Grounds.{IsClosed}
+use Rattle.termination_model.specs.Rows.{Covers}
 use Rattle.cert_modes.specs.Modes.{ModesHold, coefficients_of, grounds_of, precondition}
 
--- a measure of a single mapping, with the coefficients of the parts' mapping of this number in the component r, and with its precondition
+-- a measure with the precondition of this number, whose mappings are positive at most where the parts' mapping of this
+-- number is
 pub record IsMeasure (p : Listing) (parts : Parts) (c : Claims) (r m : ℕ) (x : Measure) : Type 0 where
   pub pre : x.pre ≡ precondition p parts m
-  pub mapping : Mapping
-  pub single : x.mappings ≡ mapping ∷ []
-  pub coefficients : (q : ℕ) → q < length p.preds → c.rank q ≡ r → mapping.coefficients q ≡ coefficients_of parts.levels m q
+  pub covers : (q : ℕ) (bs : List Bool) → q < length p.preds → c.rank q ≡ r → Covers (coefficients_of parts.levels m q) bs → AllByRecursion (λ (l : Mapping). Covers (l.coefficients q) bs) x.mappings
 
 -- the claims' truth, ranks, ground rows and measures are those of the parts
 pub record ClaimModes (rigid : (ℕ → Bool) → Tree → Bool) (p : Listing) (comps : Partition) (parts : Parts) (c : Claims) : Type 0 where

@@ -3,3 +3,4 @@ pub mod Failing
 pub mod Marks
 pub mod Modes
 pub mod Sets
+pub mod Shaped

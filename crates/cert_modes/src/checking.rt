@@ -2,11 +2,11 @@
 
 ghost use Rattle.std.specs.Prelude.{◌≡◌, ◌↔◌, ℕ, None, IfOk, IfSome, length};
 ghost use Rattle.call_components.specs.Partition.{AreComponents};
-ghost use Rattle.cert_structure.specs.Shape.{HaveShape};
 ghost use Rattle.cert_modes.specs.Failing.{IsFirstPred};
 ghost use Rattle.cert_modes.specs.Marks.{MarkTells, mark_at};
 ghost use Rattle.cert_modes.specs.Modes.{ModesHold};
 ghost use Rattle.cert_modes.specs.Sets.{AreReady, SpellParts};
+ghost use Rattle.cert_modes.specs.Shaped.{HaveSets};
 
 use crate::admitting::mark_refused;
 use crate::closing::mark_open;
@@ -37,7 +37,7 @@ pub fn mode_fault<N: Norm>(
     line: u64,
 ) -> Result<Option<ModeFault>, AllocError>
     requires components { AreComponents p.now comps.now }
-    requires shape { HaveShape p.now comps.now parts.now }
+    requires shape { HaveSets p.now parts.now }
     ensures hold { IfOk result (λ fault. (fault ≡ None) ↔ ModesHold (N.truth norm.now) p.now comps.now parts.now) }
     ensures first { IfOk result (λ fault. IfSome fault (IsFirstPred (N.truth norm.now) p.now comps.now parts.now line)) }
 {
@@ -58,7 +58,7 @@ fn marks_of<N: Norm>(
     sets: &Sets,
 ) -> Result<Marks, AllocError>
     requires components { AreComponents p.now comps.now }
-    requires shape { HaveShape p.now comps.now parts.now }
+    requires shape { HaveSets p.now parts.now }
     requires ready { AreReady p.now table.old sets.now }
     requires spell { SpellParts p.now parts.now table.old sets.now }
     ensures each { IfOk result (λ marks. length marks ≡ length p.now.preds) }

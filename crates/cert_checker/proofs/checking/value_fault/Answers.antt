@@ -6,6 +6,7 @@ use Rattle.cert_structure.specs.Structure.{AreNamed, AreNotes}
 use Rattle.term_size.specs.AnyNorm.{any_row, any_truth}
 use Rattle.cert_modes.specs.Failing.{IsFirstPred}
 use Rattle.cert_modes.specs.declared.fault.ModeFault.{ModeFault}
+use Rattle.cert_modes.proofs.ShapedLaws.{shapes_have_sets}
 use Rattle.number_tests.proofs.CallFacts.{if_ok_more}
 use Rattle.cert_checker.specs.Fault.{FactFails}
 use Rattle.cert_checker.specs.Finding.{Finds}
@@ -14,6 +15,9 @@ use Rattle.cert_checker.proofs.ValueLaws.{mode_first, number_first}
 use Rattle.cert_checker.specs.Valid.{NumbersHold, PartsHold}
 use Rattle.cert_checker.specs.declared.fault.Fault.{Fault}
 use Rattle.cert_checker.proofs.checking.value_fault.Goals as goal
+
+pub mode_fault-requires-clause-shape : goal.mode_fault-requires-clause-shape
+mode_fault-requires-clause-shape c = shapes_have_sets c.args.p.now c.args.comps.now c.args.parts.now c.requires.shape
 
 pub returns-in-Some-clause-hold : goal.returns-in-Some-clause-hold
 returns-in-Some-clause-hold c = (λ none. cc, λ hold. let none = c.in_ok-modes.ensures.hold.1 hold.modes in let some = c.in-Some.is in cc)

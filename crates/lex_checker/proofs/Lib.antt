@@ -1,0 +1,9 @@
+pub mod AnyPartition
+pub mod Bounded
+pub mod Descending
+pub mod DropLists
+pub mod NoList
+pub mod Printed
+pub mod Shapes
+pub mod Unions
+pub mod Validity
