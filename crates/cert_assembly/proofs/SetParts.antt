@@ -21,7 +21,7 @@ use Rattle.number_tests.specs.Levels as parted
 use Rattle.number_tests.specs.declared.level_part.LevelPart.{LevelPart}
 use Rattle.precond_fixpoint.specs.Greatest.{IsGreatestIn}
 use Rattle.precond_fixpoint.specs.Solving as solving
-use Rattle.precond_fixpoint.specs.Solving.{AreLevels, AreMappingSets, AreModes, IsSolved, allowed_family, arguments_of, is_at, pre_family}
+use Rattle.precond_fixpoint.specs.Solving.{allowed_family, arguments_of, is_at, pre_family}
 use Rattle.precond_fixpoint.specs.declared.mode.Mode.{Mode}
 use Rattle.termination_model.proofs.Lists.{mapped_place, place_below}
 use Rattle.termination_model.specs.Grounds.{Family}

@@ -1,11 +1,9 @@
 -- The parts that mappings give have their shape, and their numbers hold.
-use Rattle.std.proofs.Common.{◌≡◌, ℕ, zero, suc, ◌+◌, ◌-◌, ◌<◌, ◌≤ℤ◌, ◌==◌, ◌&&◌, ℤ, pos, Bool, true, false, if◌then◌else◌, List, [], ◌∷◌, ◌++◌, length, map, take, slice_get, slice_index_or, Any, Contains, Some, None, Option, inl, inr, refl, ap, sym, subst, ◌∙◌, arith, eq-eqb, eqb-true}
-use Rattle.std.specs.Prelude.{All, option_and_then, option_map, unwrap_or}
+use Rattle.std.proofs.Common.{◌≡◌, ℕ, zero, suc, ◌+◌, ◌-◌, ◌<◌, ◌==◌, ◌&&◌, ℤ, Bool, true, false, if◌then◌else◌, List, [], ◌∷◌, length, map, take, slice_get, Any, Some, Option, inl, inr, refl, ap, sym, subst, ◌∙◌, arith, eq-eqb, eqb-true}
+use Rattle.std.specs.Prelude.{option_and_then, option_map, unwrap_or}
 use Rattle.std.specs.List.{AllByRecursion}
 use Rattle.std.proofs.lemmas.Bool.{and_parts}
-use Rattle.std.proofs.lemmas.Int.{ints}
 use Rattle.std.proofs.lemmas.List.{length-map}
-use Rattle.std.proofs.lemmas.List.Elements.{All-cons, All-nil}
 use Rattle.std.proofs.lemmas.List.Sums.{sum_by-cons}
 use Rattle.call_components.specs.Partition.{AreComponents, IsIn, Partition}
 use Rattle.call_components.proofs.Lists.{some_within}
@@ -21,14 +19,12 @@ use Rattle.cti_terms.specs.declared.clauses.Clause.{Clause}
 use Rattle.cti_terms.specs.declared.predicates.Pred.{Pred}
 use Rattle.level_systems.specs.Found.{IsFound}
 use Rattle.level_systems.specs.Mappings.{IsFall, IsMappingOf, level_in}
-use Rattle.level_systems.specs.Pairs.{calls_from, pairs_from, pairs_of}
+use Rattle.level_systems.specs.Pairs.{calls_from, pairs_of}
 use Rattle.level_systems.specs.declared.fall.Fall.{Fall}
 use Rattle.level_systems.specs.declared.found.Found.{Found}
 use Rattle.level_systems.specs.declared.mapping.Mapping.{Mapping}
-use Rattle.level_systems.specs.declared.measure.Measure.{Measure}
 use Rattle.linear_rows.specs.Members.{In}
 use Rattle.linear_rows.specs.Showing.{AreMultipliers, IsShown}
-use Rattle.linear_rows.specs.Solving.{zeros}
 use Rattle.linear_rows.specs.declared.multipliers.Multipliers.{Multipliers}
 use Rattle.linear_rows.specs.declared.row.Rows.{Rows}
 use Rattle.number_tests.specs.Proved.{MappingsFall, fall_of}
@@ -39,7 +35,7 @@ use Rattle.termination_model.proofs.Lists.{by_places, indexed, place_below}
 use Rattle.termination_model.specs.ComponentViews.{members_in, rank_in}
 use Rattle.termination_model.specs.Sizes.{rows_of}
 use Rattle.termination_model.specs.Systems.{short_system}
-use Rattle.cert_assembly.proofs.ChainParts.{amounts_of, are_each, multipliers_of, row_count_is}
+use Rattle.cert_assembly.proofs.ChainParts.{are_each, multipliers_of, row_count_is}
 use Rattle.cert_assembly.proofs.ModeLaws.{there}
 use Rattle.cert_assembly.proofs.PartShapes.{all_mapped, all_weaker, all_in, unmapped, in_contains, list_is, zeros_zero, zero_is, part_is, level_is, measured, measure_there, in_calls, in_pairs, together_in}
 use Rattle.cert_assembly.proofs.SetParts.{listed_at, mapped_at, mapped_count}

@@ -7,7 +7,6 @@ use Rattle.std.proofs.lemmas.List.{length-map}
 use Rattle.call_components.specs.Numbers.{number_of}
 use Rattle.call_components.specs.Partition.{Partition}
 use Rattle.cert_structure.specs.Order.{pred_text}
-use Rattle.certificate.specs.declared.fact.Fact.{Fact}
 use Rattle.certificate.specs.declared.fact.Fact.TheVariants as fact
 use Rattle.cti_terms.specs.Listing.{Listing}
 use Rattle.cti_terms.specs.declared.predicates.Pred.{Pred}

@@ -1,16 +1,15 @@
 -- The refutations that are found are those of a certificate.
-use Rattle.std.proofs.Common.{◌≡◌, ◌≢◌, ℕ, zero, suc, ◌-◌, ◌<◌, ◌≤◌, ◌≤ℤ◌, ◌==◌, ◌&&◌, ℤ, pos, Bool, true, false, if◌then◌else◌, List, [], ◌∷◌, length, slice_get, Some, None, Option, refl, ap, sym, subst, ◌∙◌, arith, eq-eqb, eqb-true}
+use Rattle.std.proofs.Common.{◌≡◌, ℕ, ◌-◌, ◌<◌, ◌≤◌, ◌≤ℤ◌, ◌&&◌, ℤ, pos, true, List, [], ◌∷◌, length, slice_get, Some, None, Option, refl, ap, sym, subst, ◌∙◌, arith}
 use Rattle.std.specs.Prelude.{IfSome, option_map, unwrap_or}
 use Rattle.std.specs.List.{AllByRecursion}
 use Rattle.call_components.specs.Partition.{AreComponents, IsIn, Partition}
 use Rattle.cert_structure.specs.Numbered.{AreEach}
 use Rattle.cert_structure.specs.Shape as shape
-use Rattle.cert_structure.specs.Shape.{first_of, is_recursive, is_same, is_together, items_of}
 use Rattle.cti_terms.specs.Listing.{IsProgram, Listing, numbered}
 use Rattle.cti_terms.specs.Tree.{Tree}
 use Rattle.cti_terms.specs.declared.atom_list.Atom.{Atom}
 use Rattle.cti_terms.specs.declared.clauses.Clause.{Clause}
-use Rattle.level_systems.specs.Found.{HasSecondPoint, IsFound, IsNaturalPoint, IsOwnPair}
+use Rattle.level_systems.specs.Found.{HasSecondPoint, IsFound, IsOwnPair}
 use Rattle.level_systems.specs.Mappings.{IsMappingOf, mapping_of, support_of}
 use Rattle.level_systems.specs.declared.found.Found.{Found}
 use Rattle.level_systems.specs.declared.mapping.Mapping.{Mapping}
@@ -22,12 +21,11 @@ use Rattle.number_tests.specs.declared.level_part.LevelPart.{LevelPart}
 use Rattle.number_tests.specs.declared.pair_point.PairPoint.{PairPoint}
 use Rattle.number_tests.specs.declared.refutation.Refutation.{Refutation}
 use Rattle.termination_model.proofs.Lists.{by_places, indexed, place_below}
-use Rattle.termination_model.specs.Claims.{SomeOf}
 use Rattle.termination_model.specs.ComponentViews.{Has, members_in, positions_in}
 use Rattle.termination_model.specs.Sizes.{rows_of}
 use Rattle.termination_model.specs.SupportLaws.{HasWidths}
 use Rattle.report.proofs.Decreasing.{mapping_at, mapping_decreases}
-use Rattle.cert_assembly.proofs.ChainParts.{amounts_of, are_each}
+use Rattle.cert_assembly.proofs.ChainParts.{are_each}
 use Rattle.report.proofs.MappingParts.{count_deep, answer_at}
 use Rattle.cert_assembly.proofs.ModeLaws.{there}
 use Rattle.cert_assembly.proofs.PartShapes.{led_parts, is_some, some_there, numbered_at, point_is, together_is}

@@ -2,10 +2,8 @@
 -- How the parts of a certificate come from what the engines give.
 --
 -- Nothing here has to be believed.
-use Rattle.std.specs.Prelude.{◌≡◌, ◌<◌, ℕ, ℤ, Bool, true, List, All, length, map, slice_get, Option, Some, IfSome}
+use Rattle.std.specs.Prelude.{◌≡◌, ℕ, ℤ, true, List, length, slice_get, Option, Some, IfSome}
 use Rattle.std.specs.List.{AllByRecursion}
-use Rattle.bool_diagrams.specs.Tree.{Tree as Rows}
-use Rattle.bool_diagrams.specs.declared.diagram.Diagram.{Diagram}
 use Rattle.call_components.specs.Partition.{Partition}
 use Rattle.cert_checker.specs.Norms.{norm_in}
 use Rattle.cert_structure.specs.Structure.{AreNotes}
@@ -15,30 +13,18 @@ use Rattle.cti_terms.specs.Listing.{Listing}
 use Rattle.cti_terms.specs.Tree.{Tree}
 use Rattle.level_systems.specs.Found.{IsFound}
 use Rattle.level_systems.specs.declared.found.Found.{Found}
-use Rattle.exact128.specs.Fits.{fits}
-use Rattle.linear_rows.specs.Blown.{all_of}
-use Rattle.linear_rows.specs.Replacing.{row_fits}
 use Rattle.linear_rows.specs.declared.row.Rows.{Rows as SizeRows}
-use Rattle.number_tests.specs.declared.level_part.LevelPart.{LevelPart}
 use Rattle.number_tests.specs.declared.refutation.Refutation.{Refutation}
-use Rattle.numeric_model.specs.Proved.{AreProved}
-use Rattle.numeric_model.specs.States.{plain_step}
-use Rattle.numeric_model.specs.declared.chain.Chain.{Chain}
-use Rattle.precond_fixpoint.specs.Solving.{AreLevels, AreMappingSets, AreModes, IsSolved, allowed_family}
-use Rattle.precond_fixpoint.specs.declared.mode.Mode.{Mode}
 use Rattle.term_size.specs.AnyNorm.{any_row, any_truth}
 use Rattle.term_size.specs.declared.any_norm.AnyNorm.{AnyNorm}
-use Rattle.termination_model.specs.Chain.{IsLegalChain}
-use Rattle.termination_model.specs.Grounds.{IsLeast}
-use Rattle.termination_model.specs.Sizes.{AreSizes, rows_of}
+use Rattle.termination_model.specs.Sizes.{rows_of}
 use Rattle.termination_model.specs.declared.sizes.Sizes.{Sizes}
-use Rattle.truth_rows.specs.Sets.{AreSets, family_of}
 use Rattle.report.specs.Assembled.{NumbersHold}
 use Rattle.report.specs.Exact.{IsExactOf}
+use Rattle.cert_assembly.specs.Assembly.{HaveSets}
 use Rattle.cert_assembly.specs.ExactModes.{AreCounted}
 use Rattle.report.specs.Levels.{fall_list, level_list, refutation_list}
 use Rattle.cert_assembly.specs.Ranges.{AreMultipliersBelow, IsPartBelow, IsRefutationBelow}
-use Rattle.cert_assembly.specs.Spelled.{mode_lists, spelled_list, spelled_lists}
 use Rattle.report.specs.declared.assembling.Assembled.{Assembled}
 
 -- what is found of each recursive component

@@ -4,6 +4,7 @@
 -- Nothing here has to be believed.
 use Rattle.std.specs.Prelude.{◌==◌, ◌&&◌, ℕ, suc, pos, if◌then◌else◌, List, [], ◌∷◌, length, map, slice_get, Option, None, Some, option_map, unwrap_or}
 use Rattle.call_components.specs.Partition.{Partition}
+use Rattle.cert_assembly.specs.Parted.{part_or_zero, zero_part}
 use Rattle.cert_structure.specs.Shape.{arity_in, head_of, body_of, is_own_call, is_recursive}
 use Rattle.cti_terms.specs.Listing.{Listing}
 use Rattle.cti_terms.specs.declared.atom_list.Atom.{Atom}

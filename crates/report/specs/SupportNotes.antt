@@ -2,11 +2,12 @@
 -- The notes of components: the supports that were given up, and which components have many argument positions.
 --
 -- To believe: all of this file.
-use Rattle.std.specs.Prelude.{◌+◌, ◌==◌, ◌&&◌, ℕ, zero, suc, if◌then◌else◌, List, [], ◌∷◌, ◌++◌, map, length, nat_eq, nat_lt, slice_get, Option, None, Some}
+use Rattle.std.specs.Prelude.{◌+◌, ℕ, zero, suc, if◌then◌else◌, List, [], ◌∷◌, ◌++◌, map, length, nat_eq, nat_lt, Option, None, Some}
 use Rattle.std.specs.List.{flat_map, list_any}
 use Rattle.call_components.specs.Partition.{Partition}
+use Rattle.cert_assembly.specs.Leading.{led_by}
 use Rattle.cert_structure.specs.Order.{pred_text}
-use Rattle.cert_structure.specs.Shape.{arity_in, first_of, is_recursive}
+use Rattle.cert_structure.specs.Shape.{arity_in}
 use Rattle.certificate.specs.declared.fact.Fact.{Fact}
 use Rattle.certificate.specs.declared.fact.Fact.TheVariants as fact
 use Rattle.cti_terms.specs.Listing.{Listing}

@@ -6,17 +6,14 @@ ghost use Rattle.cert_checker.specs.Norms.{norm_in};
 ghost use Rattle.cert_structure.specs.Order.{listed};
 ghost use Rattle.level_systems.specs.Found.{IsFound};
 ghost use Rattle.numeric_model.specs.States.{plain_step};
-ghost use Rattle.precond_fixpoint.specs.Solving.{AreLevels};
 ghost use Rattle.report.specs.Assembly.{AreBounded, AreFound, ArePartsOf, IsAssembled, with_mappings};
-ghost use Rattle.cert_assembly.specs.Assembly.{HavePreconditions, HaveSets, KeepsNumbers};
-ghost use Rattle.cert_assembly.specs.Sizing.{IsSolvedChain, with_sizes};
+ghost use Rattle.cert_assembly.specs.Sizing.{IsSolvedChain};
 ghost use Rattle.cert_assembly.specs.ChainNotes.{chain_notes};
 ghost use Rattle.report.specs.Levels.{given_up};
 ghost use Rattle.report.specs.OfNorm.{certificate_norm};
 ghost use Rattle.report.specs.SupportNotes.{support_notes};
-ghost use Rattle.term_size.specs.AnyNorm.{any_row, any_truth};
+ghost use Rattle.term_size.specs.AnyNorm.{any_row};
 ghost use Rattle.termination_model.specs.Sizes.{AreSizes, rows_of};
-ghost use Rattle.truth_rows.specs.Sets.{AreSets};
 
 use crate::levels::Mapped;
 use crate::support_notes::Described;
@@ -160,7 +157,7 @@ fn parts_of(
 }
 
 /// The parts and the notes of a certificate that names its norm so, over the size rows of a chain.
-fn assembled(
+fn assembled_over(
     alloc: Global,
     measured: &Measured,
     names: &Names,
@@ -244,5 +241,5 @@ pub(crate) fn assemble(
     let named = certificate_norm(norm);
     let norm = norm_of(names, named);
     let chain = numeric_model::solve::<Poly, AnyNorm>(alloc, p, comps, &norm)?;
-    assembled(alloc, &Measured { p, comps, norm }, names, named, &chain)
+    assembled_over(alloc, &Measured { p, comps, norm }, names, named, &chain)
 }

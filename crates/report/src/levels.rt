@@ -1,8 +1,8 @@
 //! The parts of a certificate that the mappings of components give.
 
-ghost use Rattle.std.specs.Prelude.{◌≡◌, ◌<◌, ◌≤◌, ◌+◌, ℕ, suc, IfOk, Some, length, map, slice_get};
+ghost use Rattle.std.specs.Prelude.{◌≡◌, ◌<◌, ◌+◌, IfOk, Some, length, map};
 ghost use Rattle.call_components.specs.Partition.{AreComponents};
-ghost use Rattle.cert_structure.specs.Shape.{arity_in, body_of, head_of};
+ghost use Rattle.cert_structure.specs.Shape.{arity_in, body_of};
 ghost use Rattle.level_systems.specs.Mappings.{level_in};
 ghost use Rattle.report.specs.Levels.{by_or_none, fall_in, fall_list, falls_at, falls_from, level_list, levels_at, mappings_at, refutation_list, refutation_of};
 ghost use Rattle.cert_assembly.specs.Parted.{part_or_zero, zero_part};

@@ -6,7 +6,7 @@ use Rattle.report.specs.Assembly.{ArePartsOf}
 use Rattle.cert_assembly.specs.ChainNotes.{chain_notes}
 use Rattle.report.specs.Levels.{given_up}
 use Rattle.report.specs.SupportNotes.{support_notes}
-use Rattle.report.proofs.assembling.assembled.Goals as goal
+use Rattle.report.proofs.assembling.assembled_over.Goals as goal
 
 pub returns-clause-assembled : goal.returns-clause-assembled
 returns-clause-assembled c =
