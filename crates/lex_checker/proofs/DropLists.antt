@@ -72,8 +72,8 @@ module _ (p : Listing) (comps : Partition) (parts : LexParts) (lists : HaveLists
     lists_at = record {
       head_parts = list_parts c.vars c.head sound.head;
       call_parts = list_parts c.vars b (by_places (IsAtom p.preds c.vars) c.body sound.body j b ej);
-      heads = few;
-      calls = λ m. omega (arith, few m, length_at heads (list_at parts.lists b.pred.0) m (lists.members c.head.pred.0 b.pred.0 together));
+      few_heads = few;
+      few_calls = λ m. omega (arith, few m, length_at heads (list_at parts.lists b.pred.0) m (lists.members c.head.pred.0 b.pred.0 together));
       multipliers = multipliers;
     }
 
@@ -83,8 +83,8 @@ module _ (size : (ℕ → ℕ) → Tree → ℕ) (truth : (ℕ → Bool) → Tre
     (heads calls : List (List LevelPart)) (proofs : List (List Multipliers)) (lists : AreListsAt n c b heads calls proofs) where
   pub can_drop : (m : ℕ) → CanDrop n columns (list_at heads m) (list_at calls m) (list_at proofs m)
   can_drop m = record {
-    heads = lists.heads m;
-    calls = lists.calls m;
+    few_heads = lists.few_heads m;
+    few_calls = lists.few_calls m;
     multipliers = lists.multipliers m;
     weighed = can_weigh c b columns (list_at heads m) (list_at calls m) (all_at (IsLevelPart (length c.head.args)) heads m lists.head_parts) (all_at (IsLevelPart (length b.args)) calls m lists.call_parts) expression are;
   }

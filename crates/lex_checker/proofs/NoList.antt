@@ -28,7 +28,7 @@ use Rattle.termination_model.specs.Refutation.{IsRefutation, Pair}
 use Rattle.termination_model.specs.Sizes.{rows_of}
 use Rattle.termination_model.specs.Stuck.{IsStuck, ListDescends}
 use Rattle.termination_model.specs.Systems.{system}
-use Rattle.termination_model.specs.View.{Call, FallsOver, Rule, rule_of, system_of, upward_union, view_of}
+use Rattle.termination_model.specs.View.{Call, FallsOver, Member, Rule, rule_of, system_of, upward_union, view_of}
 use Rattle.termination_model.specs.View as view
 use Rattle.lex_checker.specs.NoList.{DropsAt, ListDrops, StuckComponentsHaveNoList, StuckHaveNoList}
 use Rattle.lex_checker.specs.Valid.{IsValid, PartsHold}

@@ -48,14 +48,14 @@ pub record HaveDrops (p : Listing) (comps : Partition) (parts : LexParts) : Type
 pub record AreListsAt (rows : ℕ) (c : Clause) (b : Atom) (heads calls : List (List LevelPart)) (proofs : List (List Multipliers)) : Type 0 where
   pub head_parts : AllByRecursion (AllByRecursion (IsLevelPart (length c.head.args))) heads
   pub call_parts : AllByRecursion (AllByRecursion (IsLevelPart (length b.args))) calls
-  pub heads : (m : ℕ) → length (list_at proofs m) ≤ length (list_at heads m)
-  pub calls : (m : ℕ) → length (list_at proofs m) ≤ length (list_at calls m)
+  pub few_heads : (m : ℕ) → length (list_at proofs m) ≤ length (list_at heads m)
+  pub few_calls : (m : ℕ) → length (list_at proofs m) ≤ length (list_at calls m)
   pub multipliers : (m : ℕ) → AllByRecursion (AreMultipliers rows) (list_at proofs m)
 
 -- parts of a head and of a call for each of these multipliers, which are of so many rows
 pub record CanDrop (rows : ℕ) (columns : List (List ℤ)) (heads calls : List LevelPart) (ms : List Multipliers) : Type 0 where
-  pub heads : length ms ≤ length heads
-  pub calls : length ms ≤ length calls
+  pub few_heads : length ms ≤ length heads
+  pub few_calls : length ms ≤ length calls
   pub multipliers : AllByRecursion (AreMultipliers rows) ms
   pub weighed : (i : ℕ) (head call : LevelPart) → slice_get heads i ≡ Some head → slice_get calls i ≡ Some call → CanBeWeighed columns head call
 
