@@ -38,19 +38,21 @@ use Rattle.termination_model.specs.ComponentViews.{positions_in}
 use Rattle.termination_model.specs.Sizes.{AreSizes, rows_of}
 use Rattle.termination_model.specs.Systems.{short_system}
 use Rattle.termination_model.specs.declared.sizes.Sizes.{Sizes}
-use Rattle.report.proofs.ChainParts.{chain_sizes_hold}
+use Rattle.cert_assembly.proofs.ChainParts.{chain_sizes_hold}
 use Rattle.report.proofs.ExactParts.{components_are_exact}
 use Rattle.report.proofs.MappingParts.{falls_are_shown, falls_shape, levels_shape, measures_zero}
 use Rattle.report.proofs.RefutedParts.{refutations_are_shown, refutations_shape}
-use Rattle.report.proofs.SetParts.{modes_are_exact, parts_are_counted}
-use Rattle.report.specs.Assembled.{MappingsHold, NumbersHold, SizesHold}
+use Rattle.cert_assembly.proofs.SetParts.{modes_are_exact, parts_are_counted}
+use Rattle.report.specs.Assembled.{MappingsHold, NumbersHold}
+use Rattle.cert_assembly.specs.Sizing.{SizesHold}
 use Rattle.report.specs.Assembly.{AreBounded, AreFound, ArePartsOf, IsAssembled}
-use Rattle.report.specs.ChainNotes.{chain_notes, noted_if, step_notes}
+use Rattle.cert_assembly.specs.ChainNotes.{chain_notes, noted_if, step_notes}
 use Rattle.report.specs.Exact.{ComponentIsExact}
-use Rattle.report.specs.ExactModes.{ModesAreExact}
+use Rattle.cert_assembly.specs.ExactModes.{ModesAreExact}
 use Rattle.report.specs.Levels.{given_up, level_list}
-use Rattle.report.specs.Ranges.{AreMultipliersBelow, IsPartBelow, IsRefutationBelow}
-use Rattle.report.specs.SupportNotes.{blown_at, blown_note, blown_notes, large_at, large_notes, led_by, support_notes}
+use Rattle.cert_assembly.specs.Ranges.{AreMultipliersBelow, IsPartBelow, IsRefutationBelow}
+use Rattle.report.specs.SupportNotes.{blown_at, blown_note, blown_notes, large_at, large_notes, support_notes}
+use Rattle.cert_assembly.specs.Leading.{led_by}
 
 abbrev IsNote : Fact → Type 0
 IsNote f = IsTrue (is_note f)

@@ -29,10 +29,10 @@ use Rattle.termination_model.proofs.Having.{support_set}
 use Rattle.termination_model.proofs.Sets.{Part, to_part, within}
 use Rattle.precond_fixpoint.specs.Greatest.{KeepsIn, IsInsideIn, Solved, SomeSolved, IsWithinIn}
 use Rattle.precond_fixpoint.proofs.Searching.{larger_inside}
-use Rattle.report.specs.ExactModes.{is_member, PreIsGreatest, ModesAreExact, AreCounted}
+use Rattle.cert_assembly.specs.ExactModes.{is_member, PreIsGreatest, ModesAreExact, AreCounted}
 use Rattle.termination_model.specs.ComponentViews.{positions_in}
 use Rattle.report.specs.ExactMappings.{mapping_in, printed_support, HasMapping, MappingsAreExact, BestOverMappings, admitted_by, IsSolvedMapping, HaveEachSupport, BestModes}
-use Rattle.report.proofs.ModeLaws.{item_is, place_below, there, pre, pre_row, member_is}
+use Rattle.cert_assembly.proofs.ModeLaws.{item_is, place_below, there, pre, pre_row, member_is}
 use Rattle.precond_fixpoint.proofs.Searching.{upper_length}
 
 -- a number of a set that has one more number before it

@@ -37,10 +37,11 @@ use Rattle.termination_model.specs.SupportLaws.{HasWidths}
 use Rattle.termination_model.specs.Systems.{row_over, short_row, short_system, system}
 use Rattle.termination_model.specs.View.{Call, Lower, Member, Rule, fall_over, rule_of, system_of, upward_union}
 use Rattle.termination_model.specs.View as view
-use Rattle.report.proofs.MappingParts.{level_there, measured, own_fall, unmapped}
+use Rattle.cert_assembly.proofs.PartShapes.{measured, unmapped}
+use Rattle.report.proofs.MappingParts.{level_there, own_fall}
 use Rattle.report.specs.Assembly.{AreFound}
 use Rattle.termination_model.proofs.Proved.{short_all, length-added}
-use Rattle.report.proofs.MappingParts.{in_left, in_right}
+use Rattle.cert_assembly.proofs.PartShapes.{in_left, in_right}
 
 shown_holds : (n : ℕ) (rows : List (List ℤ)) (target ms : List ℤ) (scale : ℕ) → length target ≡ n → All (λ m. pos 0 ≤ℤ m) ms → Proves (map short_row rows) ms target (pos scale) → HoldsOn n rows target
 shown_holds n rows target ms zero len nonneg h t w ht hw hr =

@@ -32,16 +32,19 @@ use Rattle.termination_model.specs.SupportLaws.{HasWidths}
 use Rattle.report.proofs.Decreasing.{level_member, mapping_at, mapping_decreases}
 use Rattle.termination_model.specs.Supports.{support_from}
 use Rattle.level_systems.specs.Subsequences.{IsSubsequence}
-use Rattle.report.proofs.MappingParts.{answer_at, count_deep, found_at, level_there, levels_deep, levels_is, list_is, measured, member_below, recursive_at, unmapped}
-use Rattle.report.proofs.ModeLaws.{there}
-use Rattle.report.proofs.RefutedParts.{led_parts, leads, refuted_at}
-use Rattle.report.proofs.SetParts.{mapped_at}
+use Rattle.cert_assembly.proofs.PartShapes.{list_is, measured, unmapped}
+use Rattle.report.proofs.MappingParts.{answer_at, count_deep, found_at, level_there, levels_deep, levels_is, member_below, recursive_at}
+use Rattle.cert_assembly.proofs.ModeLaws.{there}
+use Rattle.cert_assembly.proofs.PartShapes.{led_parts, leads}
+use Rattle.report.proofs.RefutedParts.{refuted_at}
+use Rattle.cert_assembly.proofs.SetParts.{mapped_at}
 use Rattle.report.specs.Exact.{ComponentIsExact, IsRefuted, LargeIsExact}
 use Rattle.report.specs.ExactMappings.{MappingsAreExact, mapping_in, printed_support, view}
-use Rattle.report.specs.ExactModes.{is_member}
+use Rattle.cert_assembly.specs.ExactModes.{is_member}
 use Rattle.report.specs.Assembly.{AreFound}
-use Rattle.report.specs.Levels.{given_up, level_list, part_or_zero, refutation_list, refutation_of}
-use Rattle.report.specs.SupportNotes.{led_by}
+use Rattle.report.specs.Levels.{given_up, level_list, refutation_list, refutation_of}
+use Rattle.cert_assembly.specs.Parted.{part_or_zero}
+use Rattle.cert_assembly.specs.Leading.{led_by}
 
 -- ---- lists
 in_mapped : {X Y : Type 0} (g : X → Y) (xs : List X) (i : ℕ) (x : X) → slice_get xs i ≡ Some x → In (g x) (map g xs)

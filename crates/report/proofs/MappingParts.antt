@@ -1,11 +1,9 @@
 -- The parts that mappings give have their shape, and their numbers hold.
-use Rattle.std.proofs.Common.{◌≡◌, ℕ, zero, suc, ◌+◌, ◌-◌, ◌<◌, ◌≤ℤ◌, ◌==◌, ◌&&◌, ℤ, pos, Bool, true, false, if◌then◌else◌, List, [], ◌∷◌, ◌++◌, length, map, take, slice_get, slice_index_or, Any, Contains, Some, None, Option, inl, inr, refl, ap, sym, subst, ◌∙◌, arith, eq-eqb, eqb-true}
-use Rattle.std.specs.Prelude.{All, option_and_then, option_map, unwrap_or}
+use Rattle.std.proofs.Common.{◌≡◌, ℕ, zero, suc, ◌+◌, ◌-◌, ◌<◌, ◌==◌, ◌&&◌, ℤ, Bool, true, false, if◌then◌else◌, List, [], ◌∷◌, length, map, take, slice_get, Any, Some, Option, inl, inr, refl, ap, sym, subst, ◌∙◌, arith, eq-eqb, eqb-true}
+use Rattle.std.specs.Prelude.{option_and_then, option_map, unwrap_or}
 use Rattle.std.specs.List.{AllByRecursion}
 use Rattle.std.proofs.lemmas.Bool.{and_parts}
-use Rattle.std.proofs.lemmas.Int.{ints}
 use Rattle.std.proofs.lemmas.List.{length-map}
-use Rattle.std.proofs.lemmas.List.Elements.{All-cons, All-nil}
 use Rattle.std.proofs.lemmas.List.Sums.{sum_by-cons}
 use Rattle.call_components.specs.Partition.{AreComponents, IsIn, Partition}
 use Rattle.call_components.proofs.Lists.{some_within}
@@ -21,14 +19,12 @@ use Rattle.cti_terms.specs.declared.clauses.Clause.{Clause}
 use Rattle.cti_terms.specs.declared.predicates.Pred.{Pred}
 use Rattle.level_systems.specs.Found.{IsFound}
 use Rattle.level_systems.specs.Mappings.{IsFall, IsMappingOf, level_in}
-use Rattle.level_systems.specs.Pairs.{calls_from, pairs_from, pairs_of}
+use Rattle.level_systems.specs.Pairs.{calls_from, pairs_of}
 use Rattle.level_systems.specs.declared.fall.Fall.{Fall}
 use Rattle.level_systems.specs.declared.found.Found.{Found}
 use Rattle.level_systems.specs.declared.mapping.Mapping.{Mapping}
-use Rattle.level_systems.specs.declared.measure.Measure.{Measure}
 use Rattle.linear_rows.specs.Members.{In}
 use Rattle.linear_rows.specs.Showing.{AreMultipliers, IsShown}
-use Rattle.linear_rows.specs.Solving.{zeros}
 use Rattle.linear_rows.specs.declared.multipliers.Multipliers.{Multipliers}
 use Rattle.linear_rows.specs.declared.row.Rows.{Rows}
 use Rattle.number_tests.specs.Proved.{MappingsFall, fall_of}
@@ -39,103 +35,15 @@ use Rattle.termination_model.proofs.Lists.{by_places, indexed, place_below}
 use Rattle.termination_model.specs.ComponentViews.{members_in, rank_in}
 use Rattle.termination_model.specs.Sizes.{rows_of}
 use Rattle.termination_model.specs.Systems.{short_system}
-use Rattle.report.proofs.ChainParts.{amounts_of, are_each, multipliers_of, row_count_is}
-use Rattle.report.proofs.ModeLaws.{there}
-use Rattle.report.proofs.SetParts.{listed_at, mapped_at, mapped_count}
+use Rattle.cert_assembly.proofs.ChainParts.{are_each, multipliers_of, row_count_is}
+use Rattle.cert_assembly.proofs.ModeLaws.{there}
+use Rattle.cert_assembly.proofs.PartShapes.{all_mapped, all_weaker, all_in, unmapped, in_contains, list_is, zeros_zero, zero_is, part_is, level_is, measured, measure_there, in_calls, in_pairs, together_in}
+use Rattle.cert_assembly.proofs.SetParts.{listed_at, mapped_at, mapped_count}
 use Rattle.report.specs.Assembly.{AreFound}
-use Rattle.report.specs.Levels.{by_or_none, fall_in, fall_list, falls_at, falls_from, level_list, levels_at, mappings_at, mappings_of_component, part_or_zero, zero_part}
-use Rattle.report.specs.Ranges.{AreMultipliersBelow, IsPartBelow}
+use Rattle.report.specs.Levels.{by_or_none, fall_in, fall_list, falls_at, falls_from, level_list, levels_at, mappings_at, mappings_of_component}
+use Rattle.cert_assembly.specs.Parted.{part_or_zero, zero_part}
+use Rattle.cert_assembly.specs.Ranges.{AreMultipliersBelow, IsPartBelow}
 use Rattle.cert_checker.proofs.Claims.{any_at}
-
--- ---- lists
-all_mapped : {X Y : Type 0} (P : Y → Type 0) (g : X → Y) (xs : List X) → AllByRecursion (λ x. P (g x)) xs → AllByRecursion P (map g xs)
-all_mapped P g [] h = tt
-all_mapped P g (x ∷ xs) h = (h.0, all_mapped P g xs h.1)
-
-all_weaker : {X : Type 0} (P Q : X → Type 0) → ((x : X) → P x → Q x) → (xs : List X) → AllByRecursion P xs → AllByRecursion Q xs
-all_weaker P Q f [] h = tt
-all_weaker P Q f (x ∷ xs) h = (f x h.0, all_weaker P Q f xs h.1)
-
-pub all_in : {X : Type 0} (P : X → Type 0) (xs : List X) (x : X) → AllByRecursion P xs → In x xs → P x
-all_in P [] x h i = absurd i
-all_in P (y ∷ ys) x h (inl e) = subst P e h.0
-all_in P (y ∷ ys) x h (inr i) = all_in P ys x h.1 i
-
-pub unmapped : {X Y : Type 0} (g : X → Y) (xs : List X) (j : ℕ) (y : Y) → slice_get (map g xs) j ≡ Some y → (x : X) × (slice_get xs j ≡ Some x) × (g x ≡ y)
-unmapped g [] j y e = cc
-unmapped g (x ∷ xs) zero y e = (x, refl, let same : g x ≡ y = cc in same)
-unmapped g (x ∷ xs) (suc j) y e = unmapped g xs j y e
-
-pub in_left : {X : Type 0} (x : X) (xs ys : List X) → In x xs → In x (xs ++ ys)
-in_left x [] ys h = absurd h
-in_left x (y ∷ xs) ys (inl e) = inl e
-in_left x (y ∷ xs) ys (inr h) = inr (in_left x xs ys h)
-
-pub in_right : {X : Type 0} (x : X) (xs ys : List X) → In x ys → In x (xs ++ ys)
-in_right x [] ys h = h
-in_right x (y ∷ xs) ys h = inr (in_right x xs ys h)
-
-in_if : {X : Type 0} (x : X) (b : Bool) (xs ys : List X) → b ≡ true → In x xs → In x (if b then xs else ys)
-in_if x true xs ys e h = h
-in_if x false xs ys e h = cc
-
-in_contains : (xs : List ℕ) (q : ℕ) → Contains xs q → In q xs
-in_contains xs q (k, less, e) = go xs k less e
-  where
-    go : (xs : List ℕ) (k : ℕ) → k < length xs → slice_index_or xs k q ≡ q → In q xs
-    go [] k less e = absurd (omega arith)
-    go (x ∷ xs) zero less e = inl e
-    go (x ∷ xs) (suc k) less e = inr (go xs k (omega arith) e)
-
-pub list_is : {X : Type 0} (xss : List (List X)) (k : ℕ) → items_of xss k ≡ list_at xss k
-list_is [] k = refl
-list_is (x ∷ xss) zero = refl
-list_is (x ∷ xss) (suc k) = list_is xss k
-
--- ---- parts
-zeros_long : (n : ℕ) → length (zeros n) ≡ n
-zeros_long zero = refl
-zeros_long (suc n) = ap suc (zeros_long n)
-
-zeros_natural : (n : ℕ) → All (λ x. pos 0 ≤ℤ x) (zeros n)
-zeros_natural zero = All-nil (λ x. pos 0 ≤ℤ x)
-zeros_natural (suc n) = All-cons (λ x. pos 0 ≤ℤ x) (pos 0) (zeros n) (omega (arith, ints)) (zeros_natural n)
-
-zeros_zero : (n : ℕ) → AllByRecursion (λ (a : ℤ). a ≡ pos 0) (zeros n)
-zeros_zero zero = tt
-zeros_zero (suc n) = (refl, zeros_zero n)
-
-zero_is : (n : ℕ) → IsLevelPart n (zero_part n)
-zero_is n = record { each = zeros_long n; naturals = zeros_natural n; offset = omega (arith, ints) }
-
-part_is : (n : ℕ) (o : Option LevelPart) → ((l : LevelPart) → o ≡ Some l → IsLevelPart n l) → IsLevelPart n (part_or_zero n o)
-part_is n None h = zero_is n
-part_is n (Some l) h = h l refl
-
-level_is : (n : ℕ) (l : LevelPart) → IsLevelPart n l → IsPartBelow l → shape.IsLevel n l
-level_is n l is below = (is.each, amounts_of l.coeffs is.naturals below.1, (is.offset, below.0))
-
-module _ (P : ℕ → LevelPart → Type 0) where
-  pub measured : (ms : List Measure) (q : ℕ) (l : LevelPart) → AllByRecursion (λ (m : Measure). P m.pred.0 m.part) ms → level_in ms q ≡ Some l → P q l
-  measured [] q l h e = cc
-  measured (m ∷ ms) q l h e = go (m.pred.0 == q) refl e (λ f. measured ms q l h.1 f)
-    where
-      go : (b : Bool) → (m.pred.0 == q) ≡ b → (if b then Some m.part else level_in ms q) ≡ Some l → (level_in ms q ≡ Some l → P q l) → P q l
-      go true t f later =
-          let same : m.part ≡ l = cc in
-          subst (λ (x : ℕ). P x l) (eqb-true m.pred.0 q t) (subst (P m.pred.0) same h.0)
-      go false t f later = later f
-
--- a measure for each member
-measure_there : (ms : List Measure) (q : ℕ) → In q (map (λ (m : Measure). m.pred.0) ms) → (l : LevelPart) × (level_in ms q ≡ Some l)
-measure_there [] q h = absurd h
-measure_there (m ∷ ms) q h = go (m.pred.0 == q) refl h (λ i. measure_there ms q i)
-  where
-    go : (b : Bool) → (m.pred.0 == q) ≡ b → In q (m.pred.0 ∷ map (λ (m : Measure). m.pred.0) ms) → (In q (map (λ (m : Measure). m.pred.0) ms) → (l : LevelPart) × (level_in ms q ≡ Some l))
-        → (l : LevelPart) × ((if b then Some m.part else level_in ms q) ≡ Some l)
-    go true t i later = (m.part, refl)
-    go false t (inl e) later = let yes = eq-eqb m.pred.0 q e in cc
-    go false t (inr i) later = later i
 
 -- ---- falls
 fall_there : (fs : List Fall) (k j : ℕ) → In {X = ℕ × ℕ} (k, j) (map (λ (f : Fall). (f.clause, f.call)) fs) → (f : Fall) × In f fs × (fall_in fs k j ≡ Some f.by) × (f.clause ≡ k) × (f.call ≡ j)
@@ -152,33 +60,6 @@ fall_there (f ∷ fs) k j h = go ((f.clause == k) && (f.call == j)) refl h (λ i
     go false t (inl e) later = let same = yes (ap (λ (x : ℕ × ℕ). x.0) e) (ap (λ (x : ℕ × ℕ). x.1) e) in cc
     go false t (inr i) later = let r = later i in (r.0, inr r.1, r.2, r.3, r.4)
 
--- ---- pairs
-module _ (comps : Partition) (c : ℕ) where
-  in_calls : (k i : ℕ) (bs : List Atom) (j : ℕ) (b : Atom) → slice_get bs j ≡ Some b → (rank_in comps b.pred.0 == c) ≡ true → In (k, suc (i + j)) (calls_from comps c k i bs)
-  in_calls k i [] j b e r = cc
-  in_calls k i (x ∷ xs) zero b e r =
-      let same : x ≡ b = cc in
-      let here : i ≡ i + 0 = omega arith in
-      in_left (k, suc (i + 0)) (if rank_in comps x.pred.0 == c then (k, suc i) ∷ [] else []) (calls_from comps c k (suc i) xs)
-      (in_if (k, suc (i + 0)) (rank_in comps x.pred.0 == c) ((k, suc i) ∷ []) [] (ap (λ (a : Atom). rank_in comps a.pred.0 == c) same ∙ r) (inl (ap (λ n. (k, suc n)) here)))
-  in_calls k i (x ∷ xs) (suc j) b e r =
-      let next : suc i + j ≡ i + suc j = omega arith in
-      in_right (k, suc (i + suc j)) (if rank_in comps x.pred.0 == c then (k, suc i) ∷ [] else []) (calls_from comps c k (suc i) xs)
-      (subst (λ n. In {X = ℕ × ℕ} (k, suc n) (calls_from comps c k (suc i) xs)) next (in_calls k (suc i) xs j b e r))
-
-  in_pairs : (n : ℕ) (xs : List Clause) (i : ℕ) (x : Clause) (y : ℕ × ℕ) → slice_get xs i ≡ Some x → (rank_in comps x.head.pred.0 == c) ≡ true → In y (calls_from comps c (suc (n + i)) 0 x.body) → In y (pairs_from comps c n xs)
-  in_pairs n [] i x y e r h = cc
-  in_pairs n (z ∷ zs) zero x y e r h =
-      let same : z ≡ x = cc in
-      let here : n + 0 ≡ n = omega arith in
-      in_left y (if rank_in comps z.head.pred.0 == c then calls_from comps c (suc n) 0 z.body else []) (pairs_from comps c (suc n) zs)
-      (in_if y (rank_in comps z.head.pred.0 == c) (calls_from comps c (suc n) 0 z.body) [] (ap (λ (a : Clause). rank_in comps a.head.pred.0 == c) same ∙ r)
-      (subst (λ (a : Clause). In y (calls_from comps c (suc n) 0 a.body)) (sym same) (subst (λ m. In y (calls_from comps c (suc m) 0 x.body)) here h)))
-  in_pairs n (z ∷ zs) (suc i) x y e r h =
-      let next : n + suc i ≡ suc n + i = omega arith in
-      in_right y (if rank_in comps z.head.pred.0 == c then calls_from comps c (suc n) 0 z.body else []) (pairs_from comps c (suc n) zs)
-      (in_pairs (suc n) zs i x y e r (subst (λ m. In y (calls_from comps c (suc m) 0 x.body)) next h))
-
 -- ---- falls by calls
 falls_count : (p : Listing) (comps : Partition) (found : List Found) (k i : ℕ) (bs : List Atom) → length (falls_from p comps found k i bs) ≡ length bs
 falls_count p comps found k i [] = refl
@@ -193,13 +74,6 @@ falls_there p comps found k i (x ∷ bs) zero b e =
 falls_there p comps found k i (x ∷ bs) (suc j) b e =
     let next : suc i + j ≡ i + suc j = omega arith in
     falls_there p comps found k (suc i) bs j b e ∙ ap (λ n. Some (falls_at p comps found k n (Some b))) next
-
-together_in : (comps : Partition) (a b c : ℕ) → IsIn comps c a → is_together comps a b ≡ true → IsIn comps c b
-together_in comps a b c inside e = go (slice_get comps.of b) refl (subst (λ (o : Option ℕ). is_same o (slice_get comps.of b) ≡ true) inside e)
-  where
-    go : (o : Option ℕ) → slice_get comps.of b ≡ o → is_same (Some c) o ≡ true → slice_get comps.of b ≡ Some c
-    go None h k = cc
-    go (Some d) h k = h ∙ ap Some (sym (eqb-true c d k))
 
 module _ (expression : ℕ → Tree → List ℤ) (p : Listing) (comps : Partition) (rows : List Rows) (found : List Found)
     (program : IsProgram p) (components : AreComponents p comps) (founds : AreFound expression p comps rows found) where

@@ -1,51 +1,22 @@
--- Lists of notes, item by item.
+-- The arguments and positions of notes, item by item.
 use Rattle.std.proofs.Common.{◌≡◌, ℕ, zero, suc, ◌+◌, ◌-◌, ◌<◌, ◌≤◌, true, false, if◌then◌else◌, List, [], ◌∷◌, ◌++◌, drop, length, map, nat_eq, nat_lt, slice_get, Some, refl, ap, sym, ◌∙◌, arith, length-append}
 use Rattle.std.specs.Prelude.{option_map, unwrap_or}
-use Rattle.std.specs.List.{flat_map, list_any}
+use Rattle.std.specs.List.{list_any}
 use Rattle.std.proofs.lemmas.Bool.Decides.{nat_tests}
 use Rattle.std.proofs.lemmas.List.{length-map}
 use Rattle.call_components.specs.Numbers.{number_of}
 use Rattle.call_components.specs.Partition.{Partition}
 use Rattle.cert_structure.specs.Order.{pred_text}
-use Rattle.certificate.specs.declared.fact.Fact.{Fact}
 use Rattle.certificate.specs.declared.fact.Fact.TheVariants as fact
 use Rattle.cti_terms.specs.Listing.{Listing}
 use Rattle.cti_terms.specs.declared.predicates.Pred.{Pred}
 use Rattle.cti_terms.specs.declared.predicates.PredId.{PredId}
-use Rattle.cert_structure.specs.Numbered.{facts_from}
 use Rattle.linear_rows.specs.Step.{columns}
-use Rattle.termination_model.proofs.Lists.{append_assoc, indexed}
+use Rattle.termination_model.proofs.Lists.{indexed}
 use Rattle.termination_model.specs.ComponentViews.{positions_in}
 use Rattle.termination_model.specs.Ready.{arity_in, positions_by}
 use Rattle.report.specs.SupportNotes.{arguments_in, large_at}
 use Rattle.level_systems.proofs.PairLists.{drop_at}
-
-pub append_none : {X : Type 0} (xs : List X) → xs ++ [] ≡ xs
-append_none [] = refl
-append_none (x ∷ xs) = ap (λ s. x ∷ s) (append_none xs)
-
--- what is added stands in front of what is still to come
-pub added : {X : Type 0} (old new add rest ahead all : List X) → new ≡ old ++ add → ahead ≡ add ++ rest → old ++ ahead ≡ all → new ++ rest ≡ all
-added old new add rest ahead all is next before = ap (λ s. s ++ rest) is ∙ append_assoc old add rest ∙ ap (λ s. old ++ s) (sym next) ∙ before
-
--- at the end nothing is to come
-pub ended : {X : Type 0} (old ahead all : List X) → ahead ≡ [] → old ++ ahead ≡ all → old ≡ all
-ended old ahead all none before = sym (append_none old) ∙ ap (λ s. old ++ s) (sym none) ∙ before
-
-pub facts_step : {A B : Type 0} (f : ℕ → B → List Fact) (g : A → B) (xs : List A) (i : ℕ) (x : A) → slice_get xs i ≡ Some x
-    → facts_from (i + 1) f (map g (drop i xs)) ≡ f (i + 1) (g x) ++ facts_from ((i + 1) + 1) f (map g (drop (i + 1) xs))
-facts_step f g xs i x at =
-    let next : suc (i + 1) ≡ (i + 1) + 1 = omega arith in
-    ap (λ ys. facts_from (i + 1) f (map g ys)) (drop_at xs i x at) ∙ ap (λ n. f (i + 1) (g x) ++ facts_from n f (map g (drop (i + 1) xs))) next
-
-pub columns_step : {X : Type 0} (f : ℕ → List X) (q n : ℕ) → q < n → flat_map f (columns q (n - q)) ≡ f q ++ flat_map f (columns (q + 1) (n - (q + 1)))
-columns_step f q n less =
-    let rest : n - q ≡ suc (n - (q + 1)) = omega arith in
-    let next : suc q ≡ q + 1 = omega arith in
-    ap (λ k. flat_map f (columns q k)) rest ∙ ap (λ k. f q ++ flat_map f (columns k (n - (q + 1)))) next
-
-pub columns_end : {X : Type 0} (f : ℕ → List X) (q n : ℕ) → n ≤ q → flat_map f (columns q (n - q)) ≡ []
-columns_end f q n le = let none : n - q ≡ 0 = omega arith in ap (λ k. flat_map f (columns q k)) none
 
 pub arguments_step : (s : List ℕ) (first a n : ℕ) → a < n
     → arguments_in s (first + a) (a + 1) (n - a) ≡ (if list_any (λ x. nat_eq (first + a) x) s then (a + 1) ∷ [] else []) ++ arguments_in s (first + (a + 1)) ((a + 1) + 1) (n - (a + 1))

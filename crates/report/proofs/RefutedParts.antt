@@ -1,16 +1,15 @@
 -- The refutations that are found are those of a certificate.
-use Rattle.std.proofs.Common.{◌≡◌, ◌≢◌, ℕ, zero, suc, ◌-◌, ◌<◌, ◌≤◌, ◌≤ℤ◌, ◌==◌, ◌&&◌, ℤ, pos, Bool, true, false, if◌then◌else◌, List, [], ◌∷◌, length, slice_get, Some, None, Option, refl, ap, sym, subst, ◌∙◌, arith, eq-eqb, eqb-true}
+use Rattle.std.proofs.Common.{◌≡◌, ℕ, ◌-◌, ◌<◌, ◌≤◌, ◌≤ℤ◌, ◌&&◌, ℤ, pos, true, List, [], ◌∷◌, length, slice_get, Some, None, Option, refl, ap, sym, subst, ◌∙◌, arith}
 use Rattle.std.specs.Prelude.{IfSome, option_map, unwrap_or}
 use Rattle.std.specs.List.{AllByRecursion}
 use Rattle.call_components.specs.Partition.{AreComponents, IsIn, Partition}
 use Rattle.cert_structure.specs.Numbered.{AreEach}
 use Rattle.cert_structure.specs.Shape as shape
-use Rattle.cert_structure.specs.Shape.{first_of, is_recursive, is_same, is_together, items_of}
 use Rattle.cti_terms.specs.Listing.{IsProgram, Listing, numbered}
 use Rattle.cti_terms.specs.Tree.{Tree}
 use Rattle.cti_terms.specs.declared.atom_list.Atom.{Atom}
 use Rattle.cti_terms.specs.declared.clauses.Clause.{Clause}
-use Rattle.level_systems.specs.Found.{HasSecondPoint, IsFound, IsNaturalPoint, IsOwnPair}
+use Rattle.level_systems.specs.Found.{HasSecondPoint, IsFound, IsOwnPair}
 use Rattle.level_systems.specs.Mappings.{IsMappingOf, mapping_of, support_of}
 use Rattle.level_systems.specs.declared.found.Found.{Found}
 use Rattle.level_systems.specs.declared.mapping.Mapping.{Mapping}
@@ -22,32 +21,19 @@ use Rattle.number_tests.specs.declared.level_part.LevelPart.{LevelPart}
 use Rattle.number_tests.specs.declared.pair_point.PairPoint.{PairPoint}
 use Rattle.number_tests.specs.declared.refutation.Refutation.{Refutation}
 use Rattle.termination_model.proofs.Lists.{by_places, indexed, place_below}
-use Rattle.termination_model.specs.Claims.{SomeOf}
 use Rattle.termination_model.specs.ComponentViews.{Has, members_in, positions_in}
 use Rattle.termination_model.specs.Sizes.{rows_of}
 use Rattle.termination_model.specs.SupportLaws.{HasWidths}
 use Rattle.report.proofs.Decreasing.{mapping_at, mapping_decreases}
-use Rattle.report.proofs.ChainParts.{amounts_of, are_each}
+use Rattle.cert_assembly.proofs.ChainParts.{are_each}
 use Rattle.report.proofs.MappingParts.{count_deep, answer_at}
-use Rattle.report.proofs.ModeLaws.{there}
-use Rattle.report.proofs.SetParts.{mapped_at, mapped_count}
+use Rattle.cert_assembly.proofs.ModeLaws.{there}
+use Rattle.cert_assembly.proofs.PartShapes.{led_parts, is_some, some_there, numbered_at, point_is, together_is}
+use Rattle.cert_assembly.proofs.SetParts.{mapped_at, mapped_count}
 use Rattle.report.specs.Assembly.{AreFound}
 use Rattle.report.specs.Levels.{level_list, refutation_list, refutation_of}
-use Rattle.report.specs.Ranges.{IsPairBelow, IsPointBelow, IsRefutationBelow}
-use Rattle.report.specs.SupportNotes.{led_by}
-
--- the component that a predicate leads
-pub led_parts : (comps : Partition) (q c : ℕ) → led_by comps q ≡ Some c → (is_recursive comps q ≡ true) × (first_of comps q ≡ q) × IsIn comps c q
-led_parts comps q c e = go (is_recursive comps q) refl (first_of comps q == q) refl e
-  where
-    go : (a : Bool) → is_recursive comps q ≡ a → (b : Bool) → (first_of comps q == q) ≡ b → (if a && b then slice_get comps.of q else None) ≡ Some c
-        → (is_recursive comps q ≡ true) × (first_of comps q ≡ q) × IsIn comps c q
-    go true ea true eb h = (ea, eqb-true (first_of comps q) q eb, h)
-    go true ea false eb h = cc
-    go false ea b eb h = cc
-
-pub leads : (comps : Partition) (q c : ℕ) → is_recursive comps q ≡ true → first_of comps q ≡ q → IsIn comps c q → led_by comps q ≡ Some c
-leads comps q c a b inside = let same = eq-eqb (first_of comps q) q b in (λ i. if a i && same i then slice_get comps.of q else None) ∙ inside
+use Rattle.cert_assembly.specs.Ranges.{IsPairBelow, IsPointBelow, IsRefutationBelow}
+use Rattle.cert_assembly.specs.Leading.{led_by}
 
 -- what a refutation is of
 pub refutation_there : (found : List Found) (o : Option ℕ) (r : Refutation) → refutation_of found o ≡ Some r → (c : ℕ) × (f : Found) × (o ≡ Some c) × (slice_get found c ≡ Some f) × (f.refutation ≡ Some r)
@@ -58,26 +44,9 @@ refutation_there found (Some c) r e = go (slice_get found c) refl e
     go None h k = cc
     go (Some f) h k = (c, f, refl, h, k)
 
-is_some : {X : Type 0} (o : Option X) (x : X) → o ≡ Some x → o ≢ None
-is_some o x e n = cc
-
-some_there : {X : Type 0} (P : X → Type 0) (xs : List X) → SomeOf P xs → 1 ≤ length xs
-some_there P [] h = absurd h
-some_there P (x ∷ xs) h = omega arith
-
-numbered_at : {X : Type 0} (xs : List X) (n : ℕ) (x : X) → 1 ≤ n → slice_get xs (n - 1) ≡ Some x → numbered xs n ≡ Some x
-numbered_at xs zero x l e = absurd (omega arith)
-numbered_at xs (suc n) x l e = let back : suc n - 1 ≡ n = omega arith in ap (slice_get xs) (sym back) ∙ e
-
-point_is : (n : ℕ) (x : Point) → length x.w ≡ n → IsNaturalPoint x → IsPointBelow x → shape.IsPoint n x
-point_is n x long natural below = (long, (natural.0, below.0), amounts_of x.w natural.1 below.1)
-
 second_is : (n : ℕ) (t : ℤ) (o : Option Point) → IfSome o (λ (y : Point). length y.w ≡ n) → HasSecondPoint t o → IfSome o IsPointBelow → shape.HasSecond n t o
 second_is n t None long h below = h
 second_is n t (Some y) long h below = (h.0, point_is n y long h.1 below, h.2)
-
-together_is : (comps : Partition) (c a b : ℕ) → IsIn comps c a → IsIn comps c b → is_together comps a b ≡ true
-together_is comps c a b ia ib = (λ i. is_same (ia i) (ib i)) ∙ eq-eqb c c refl
 
 module _ (expression : ℕ → Tree → List ℤ) (rows : ℕ → List (List ℤ)) (p : Listing) (comps : Partition) (c q : ℕ) (inside : IsIn comps c q) where
   pair_is : (x : PairPoint) → IsPairOf p x → IsOwnPair expression p comps rows c x → IsPairBelow x → shape.IsPairPoint p comps q x

@@ -1,5 +1,5 @@
 -- A component of which no note says that something was given up has its best modes.
-use Rattle.std.proofs.Common.{◌≡◌, ℕ, ◌<◌, ◌≤◌, ℤ, Bool, true, false, IsTrue, if◌then◌else◌, List, [], ◌∷◌, ◌++◌, ◌⊎◌, inl, inr, length, map, nat_lt, slice_get, Some, Option, refl, ap, sym, subst, ◌∙◌, arith}
+use Rattle.std.proofs.Common.{◌≡◌, ℕ, ◌<◌, ◌≤◌, ℤ, Bool, true, false, IsTrue, if◌then◌else◌, List, [], ◌∷◌, ◌⊎◌, inl, inr, length, map, nat_lt, slice_get, Some, Option, refl, ap, sym, subst, ◌∙◌, arith}
 use Rattle.std.specs.List.{AllByRecursion}
 use Rattle.std.proofs.lemmas.Bool.Decides.{nat_tests}
 use Rattle.call_components.specs.Partition.{AreComponents, IsIn, Partition}
@@ -25,13 +25,14 @@ use Rattle.termination_model.specs.ComponentViews.{members_in, positions_in}
 use Rattle.termination_model.specs.Modes.{chosen_up_to, modes}
 use Rattle.report.specs.Exact.{IsExact}
 use Rattle.report.specs.ExactMappings.{admitted_by, HaveEachSupport, IsSolvedMapping, MappingsAreExact, printed_support}
-use Rattle.report.specs.ExactModes.{AreCounted}
-use Rattle.report.specs.SupportNotes.{arguments_of, blown_at, blown_note, blown_notes, large_at, large_notes, led_by, support_notes}
+use Rattle.cert_assembly.specs.ExactModes.{AreCounted}
+use Rattle.report.specs.SupportNotes.{arguments_of, blown_at, blown_note, blown_notes, large_at, large_notes, support_notes}
+use Rattle.cert_assembly.specs.Leading.{led_by}
 use Rattle.report.specs.Unnoted.{IsUnnoted, UnnotedAreBest}
 use Rattle.report.proofs.BestLaws.{best_modes_are_printed}
-use Rattle.report.proofs.ModeLaws.{item_is, place_below, there}
-use Rattle.report.proofs.RefutedParts.{leads}
-use Rattle.report.proofs.SetParts.{below_or, listed_past}
+use Rattle.cert_assembly.proofs.ModeLaws.{item_is, place_below, there}
+use Rattle.cert_assembly.proofs.PartShapes.{leads}
+use Rattle.cert_assembly.proofs.SetParts.{below_or, listed_past}
 
 -- ---- how many lists parts have
 module _ (p : Listing) (comps : Partition) (parts : Parts) (components : AreComponents p comps) (have : HaveShape p comps parts) where

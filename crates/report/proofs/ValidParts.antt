@@ -7,9 +7,9 @@ use Rattle.cert_structure.specs.declared.parts.Parts.{Parts}
 use Rattle.cti_terms.specs.Listing.{IsProgram, Listing}
 use Rattle.term_size.specs.AnyNorm.{any_row, any_truth}
 use Rattle.term_size.specs.declared.any_norm.AnyNorm.{AnyNorm}
-use Rattle.report.proofs.ModeLaws.{exact_modes_hold}
+use Rattle.cert_assembly.proofs.ModeLaws.{exact_modes_hold}
 use Rattle.report.specs.Assembled.{NumbersHold, PartsAreValid}
-use Rattle.report.specs.ExactModes.{AreCounted, ModesAreExact}
+use Rattle.cert_assembly.specs.ExactModes.{AreCounted, ModesAreExact}
 
 pub parts_have_shape : (n : AnyNorm) (p : Listing) (comps : Partition) (parts : Parts) → IsProgram p → AreComponents p comps → AreCounted p comps parts → NumbersHold (any_row n) p comps parts → ModesAreExact (any_truth n) p comps parts → HaveShape p comps parts
 parts_have_shape n p comps parts program components counted numbers exact =

@@ -1,13 +1,13 @@
 -- Private.
 -- How a valid certificate is put together: the parts that the engines give have their shape, their numbers hold, and
 -- their modes are exact.
-use Rattle.std.specs.Prelude.{◌≡◌, ℕ, ℤ, List, length, take, slice_get, Some}
+use Rattle.std.specs.Prelude.{◌≡◌, ℕ, ℤ, List, length, take, slice_get}
 use Rattle.std.specs.List.{AllByRecursion}
 use Rattle.call_components.specs.Partition.{Partition, AreComponents}
 use Rattle.certificate.specs.declared.fact.Fact.{Fact}
 use Rattle.cert_structure.specs.Numbered.{AreEach}
 use Rattle.cert_structure.specs.Order.{listed}
-use Rattle.cert_structure.specs.Shape.{arity_in, AreMultipliers, body_of, head_of, IsLevel, IsRefutation, IsSizeRow, mappings_of, proofs_of_call, rows_of, rows_of_atoms}
+use Rattle.cert_structure.specs.Shape.{arity_in, AreMultipliers, body_of, head_of, IsLevel, IsRefutation, mappings_of, proofs_of_call, rows_of_atoms}
 use Rattle.cert_structure.specs.Structure.{AreNotes}
 use Rattle.cert_structure.specs.declared.parts.Parts.{Parts}
 use Rattle.cert_checker.specs.Norms.{norm_in}
@@ -16,22 +16,9 @@ use Rattle.cert_checker.specs.Refuting.{RefutationsHold}
 use Rattle.cert_checker.specs.Valid.{IsValid}
 use Rattle.cti_terms.specs.Listing.{Listing, IsProgram}
 use Rattle.cti_terms.specs.Tree.{Tree}
-use Rattle.cti_terms.specs.declared.clauses.Clause.{Clause}
-use Rattle.linear_rows.specs.declared.multipliers.Multipliers.{Multipliers}
-use Rattle.linear_rows.specs.declared.row.Rows.{Rows}
-use Rattle.number_tests.specs.Proved.{RowsAreKept}
-use Rattle.number_tests.specs.Shape.{list_at}
 use Rattle.term_size.specs.AnyNorm.{any_row, any_truth}
-use Rattle.termination_model.specs.Sizes.{rows_of as size_rows_of}
-use Rattle.termination_model.specs.Stated.{AreStated}
-use Rattle.report.specs.ExactModes.{AreCounted, ModesAreExact}
-
--- what the model of sizes gives: the shape of its parts, that built-in predicates have their stated rows, and that its numbers hold
-pub record SizesHold (expression : ℕ → Tree → List ℤ) (p : Listing) (rows : List Rows) (proofs : List (List Multipliers)) : Type 0 where
-  pub shape : AreEach (length p.preds) (λ a r. (r.width ≡ arity_in p a) × AllByRecursion (IsSizeRow (arity_in p a)) r.list) rows
-  pub proofs_shape : AreEach (length p.clauses) (λ k. AreEach (rows_of rows (head_of p k)) (λ _. AreMultipliers (rows_of_atoms rows (body_of p k)))) proofs
-  pub stated : AreStated p.arithmetic (size_rows_of rows)
-  pub hold : (k : ℕ) (c : Clause) → slice_get p.clauses k ≡ Some c → RowsAreKept expression rows c (list_at proofs k)
+use Rattle.cert_assembly.specs.Sizing.{SizesHold}
+use Rattle.cert_assembly.specs.ExactModes.{AreCounted, ModesAreExact}
 
 -- what the search for mappings gives
 pub record MappingsHold (expression : ℕ → Tree → List ℤ) (p : Listing) (comps : Partition) (parts : Parts) : Type 0 where

@@ -31,9 +31,9 @@ use Rattle.termination_model.specs.Modes.{is_part}
 use Rattle.termination_model.specs.Ready.{arity_in}
 use Rattle.termination_model.specs.Refutation.{Decreases}
 use Rattle.termination_model.specs.Supports.{picked_from}
-use Rattle.report.specs.ChainNotes.{IsChain}
+use Rattle.cert_assembly.specs.ChainNotes.{IsChain}
 use Rattle.report.specs.ExactMappings.{HasMapping, MappingsAreExact, mapping_in, printed_support, view}
-use Rattle.report.specs.ExactModes.{ModesAreExact}
+use Rattle.cert_assembly.specs.ExactModes.{ModesAreExact}
 use Rattle.report.specs.SupportNotes.{support_notes}
 
 -- a predicate has a refutation

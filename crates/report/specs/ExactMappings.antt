@@ -28,7 +28,7 @@ use Rattle.termination_model.specs.Sizes.{rows_of}
 use Rattle.termination_model.specs.Supports.{support_from}
 use Rattle.termination_model.specs.View.{Rule, all_upper}
 use Rattle.precond_fixpoint.specs.Greatest.{KeepsIn, IsGreatestIn, Solved, SomeSolved}
-use Rattle.report.specs.ExactModes.{is_member, ModesAreExact, AreCounted}
+use Rattle.cert_assembly.specs.ExactModes.{is_member, ModesAreExact, AreCounted}
 
 module _ (expression : ℕ → Tree → List ℤ) (p : Listing) (comps : Partition) (parts : Parts) where
   -- the component c, as its mappings see it

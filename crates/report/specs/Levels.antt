@@ -4,6 +4,7 @@
 -- Nothing here has to be believed.
 use Rattle.std.specs.Prelude.{◌==◌, ◌&&◌, ℕ, suc, pos, if◌then◌else◌, List, [], ◌∷◌, length, map, slice_get, Option, None, Some, option_map, unwrap_or}
 use Rattle.call_components.specs.Partition.{Partition}
+use Rattle.cert_assembly.specs.Parted.{part_or_zero, zero_part}
 use Rattle.cert_structure.specs.Shape.{arity_in, head_of, body_of, is_own_call, is_recursive}
 use Rattle.cti_terms.specs.Listing.{Listing}
 use Rattle.cti_terms.specs.declared.atom_list.Atom.{Atom}
@@ -16,15 +17,7 @@ use Rattle.linear_rows.specs.Step.{columns}
 use Rattle.linear_rows.specs.declared.multipliers.Multipliers.{Multipliers}
 use Rattle.number_tests.specs.declared.level_part.LevelPart.{LevelPart}
 use Rattle.number_tests.specs.declared.refutation.Refutation.{Refutation}
-use Rattle.report.specs.SupportNotes.{led_by}
-
--- a part of zeros
-abbrev pub zero_part : ℕ → LevelPart
-zero_part n = record { coeffs = zeros n; offset = pos 0 }
-
-abbrev pub part_or_zero : ℕ → Option LevelPart → LevelPart
-part_or_zero n None = zero_part n
-part_or_zero n (Some part) = part
+use Rattle.cert_assembly.specs.Leading.{led_by}
 
 -- the multipliers of a call, if a mapping has them
 abbrev pub fall_in : List Fall → ℕ → ℕ → Option Multipliers

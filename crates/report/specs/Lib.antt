@@ -1,14 +1,10 @@
 pub mod Assembled
 pub mod Assembly
-pub mod ChainNotes
 pub mod Exact
 pub mod ExactMappings
-pub mod ExactModes
 pub mod Generated
 pub mod Levels
 pub mod OfNorm
-pub mod Ranges
 pub mod Refuted
-pub mod Spelled
 pub mod SupportNotes
 pub mod Unnoted

@@ -2,11 +2,12 @@
 -- The notes of components: the supports that were given up, and which components have many argument positions.
 --
 -- To believe: all of this file.
-use Rattle.std.specs.Prelude.{◌+◌, ◌==◌, ◌&&◌, ℕ, zero, suc, if◌then◌else◌, List, [], ◌∷◌, ◌++◌, map, length, nat_eq, nat_lt, slice_get, Option, None, Some}
+use Rattle.std.specs.Prelude.{◌+◌, ℕ, zero, suc, if◌then◌else◌, List, [], ◌∷◌, ◌++◌, map, length, nat_eq, nat_lt, Option, None, Some}
 use Rattle.std.specs.List.{flat_map, list_any}
 use Rattle.call_components.specs.Partition.{Partition}
+use Rattle.cert_assembly.specs.Leading.{led_by}
 use Rattle.cert_structure.specs.Order.{pred_text}
-use Rattle.cert_structure.specs.Shape.{arity_in, first_of, is_recursive}
+use Rattle.cert_structure.specs.Shape.{arity_in}
 use Rattle.certificate.specs.declared.fact.Fact.{Fact}
 use Rattle.certificate.specs.declared.fact.Fact.TheVariants as fact
 use Rattle.cti_terms.specs.Listing.{Listing}
@@ -22,10 +23,6 @@ arguments_in s i a (suc n) = (if list_any (λ x. nat_eq i x) s then a ∷ [] els
 abbrev pub arguments_of : Listing → List ℕ → ℕ → List ℕ → List (List ℕ)
 arguments_of p s i [] = []
 arguments_of p s i (q ∷ qs) = arguments_in s i 1 (arity_in p q) ∷ arguments_of p s (i + arity_in p q) qs
-
--- the recursive component that a predicate is the first member of
-abbrev pub led_by : Partition → ℕ → Option ℕ
-led_by comps q = if is_recursive comps q && (first_of comps q == q) then slice_get comps.of q else None
 
 -- the notes of all components, by their first members
 module _ (p : Listing) (names : List (List ℕ)) (comps : Partition) where

@@ -6,24 +6,19 @@ ghost use Rattle.cert_checker.specs.Norms.{norm_in};
 ghost use Rattle.cert_structure.specs.Order.{listed};
 ghost use Rattle.level_systems.specs.Found.{IsFound};
 ghost use Rattle.numeric_model.specs.States.{plain_step};
-ghost use Rattle.precond_fixpoint.specs.Solving.{AreLevels};
-ghost use Rattle.report.specs.Assembly.{AreBounded, AreFound, ArePartsOf, HavePreconditions, HaveSets, IsAssembled, IsSolvedChain, KeepsNumbers, with_mappings, with_sizes};
-ghost use Rattle.report.specs.ChainNotes.{chain_notes};
+ghost use Rattle.report.specs.Assembly.{AreBounded, AreFound, ArePartsOf, IsAssembled, with_mappings};
+ghost use Rattle.cert_assembly.specs.Sizing.{IsSolvedChain};
+ghost use Rattle.cert_assembly.specs.ChainNotes.{chain_notes};
 ghost use Rattle.report.specs.Levels.{given_up};
 ghost use Rattle.report.specs.OfNorm.{certificate_norm};
 ghost use Rattle.report.specs.SupportNotes.{support_notes};
-ghost use Rattle.term_size.specs.AnyNorm.{any_row, any_truth};
+ghost use Rattle.term_size.specs.AnyNorm.{any_row};
 ghost use Rattle.termination_model.specs.Sizes.{AreSizes, rows_of};
-ghost use Rattle.truth_rows.specs.Sets.{AreSets};
 
-use crate::chain_notes::note_chain;
-use crate::copies::{copied_proofs, copied_rows};
 use crate::levels::Mapped;
-use crate::ranges::Bounded;
-use crate::sets::{mode_lists, spelled_list, spelled_lists};
 use crate::support_notes::Described;
-use bool_diagrams::{Diagram, Table};
 use call_components::Components;
+use cert_assembly::{Bounded, Measured, note_chain, put_sizes};
 use cert_checker::norm_of;
 use cert_structure::Parts;
 use cert_writing::facts_of;
@@ -32,7 +27,6 @@ use cti_terms::{Names, Program};
 use level_dual::Found;
 use numeric_model::{Chain, Step};
 use polyhedra::Poly;
-use precond_fixpoint::solve_levels;
 use sequences::Sequence;
 use std::alloc::{AllocError, Global};
 use term_size::{AnyNorm, NormName};
@@ -92,15 +86,6 @@ fn no_parts(alloc: Global, norm: Option<CertNorm>) -> Parts
     }
 }
 
-/// Puts in the size rows and their proofs.
-fn put_sizes(alloc: Global, sizes: &Sizes, parts: &mut Parts) -> Result<(), AllocError>
-    ensures { OnOk result (parts.new ≡ with_sizes sizes.now parts.old) }
-{
-    parts.rows = copied_rows(alloc, &sizes.rows)?;
-    parts.row_proofs = copied_proofs(alloc, sizes.proofs.as_slice())?;
-    Ok(())
-}
-
 /// Puts in the mappings, their falls and the refutations.
 fn put_mappings(
     alloc: Global,
@@ -120,127 +105,85 @@ fn put_mappings(
     Ok(())
 }
 
-/// A program by its components, and the norm of its terms.
-#[derive(Clone, Copy)]
-struct Measured<'a> {
-    p: &'a Program,
-    comps: &'a Components,
-    norm: AnyNorm,
+/// What is found of a component's mappings: nothing, where it is not recursive.
+fn find(alloc: Global, measured: &Measured, c: u32, sizes: &Sizes) -> Result<Found, AllocError>
+    requires components { AreComponents measured.now.p.now measured.now.comps.now }
+    requires inner { c < length measured.now.comps.now.members }
+    requires sizes { AreSizes measured.now.p.now.preds sizes.now.rows }
+    ensures { IfOk result (λ f. slice_get measured.now.comps.now.recursive c ≡ Some true
+        → IsFound (any_row measured.now.norm) measured.now.p.now measured.now.comps.now (rows_of sizes.now.rows) c f) }
+{
+    if !measured.comps.recursive(c) {
+        return Ok(nothing(alloc));
+    }
+    level_dual::mappings(alloc, measured.p, measured.comps, c, &measured.norm, sizes)
 }
 
-impl Measured<'_> {
-    /// What is found of a component's mappings: nothing, where it is not recursive.
-    fn find(&self, alloc: Global, c: u32, sizes: &Sizes) -> Result<Found, AllocError>
-        requires components { AreComponents self.now.p.now self.now.comps.now }
-        requires inner { c < length self.now.comps.now.members }
-        requires sizes { AreSizes self.now.p.now.preds sizes.now.rows }
-        ensures { IfOk result (λ f. slice_get self.now.comps.now.recursive c ≡ Some true
-            → IsFound (any_row self.now.norm) self.now.p.now self.now.comps.now (rows_of sizes.now.rows) c f) }
-    {
-        if !self.comps.recursive(c) {
-            return Ok(nothing(alloc));
-        }
-        level_dual::mappings(alloc, self.p, self.comps, c, &self.norm, sizes)
+/// What is found of the mappings of each component.
+fn find_all(
+    alloc: Global,
+    measured: &Measured,
+    sizes: &Sizes,
+) -> Result<Sequence<Found>, AllocError>
+    requires components { AreComponents measured.now.p.now measured.now.comps.now }
+    requires sizes { AreSizes measured.now.p.now.preds sizes.now.rows }
+    ensures { IfOk result (AreFound (any_row measured.now.norm) measured.now.p.now measured.now.comps.now sizes.now.rows) }
+{
+    let mut found = Sequence::new(alloc);
+    for c in 0..measured.comps.count() {
+        found.push(find(alloc, measured, c, sizes)?)?;
     }
+    Ok(found)
+}
 
-    /// What is found of the mappings of each component.
-    fn find_all(&self, alloc: Global, sizes: &Sizes) -> Result<Sequence<Found>, AllocError>
-        requires components { AreComponents self.now.p.now self.now.comps.now }
-        requires sizes { AreSizes self.now.p.now.preds sizes.now.rows }
-        ensures { IfOk result (AreFound (any_row self.now.norm) self.now.p.now self.now.comps.now sizes.now.rows) }
-    {
-        let mut found = Sequence::new(alloc);
-        for c in 0..self.comps.count() {
-            found.push(self.find(alloc, c, sizes)?)?;
-        }
-        Ok(found)
-    }
+/// The parts of a certificate that names its norm so, of what the model of sizes and the search for mappings give.
+fn parts_of(
+    alloc: Global,
+    measured: &Measured,
+    named: Option<CertNorm>,
+    sizes: &Sizes,
+    found: &[Found],
+) -> Result<Parts, AllocError>
+    requires components { AreComponents measured.now.p.now measured.now.comps.now }
+    requires found { AreFound (any_row measured.now.norm) measured.now.p.now measured.now.comps.now sizes.now.rows found.now }
+    ensures { IfOk result (ArePartsOf measured.now.norm named measured.now.p.now measured.now.comps.now sizes.now found.now) }
+{
+    let _program = measured.p.preds();
+    let mut parts = no_parts(alloc, named);
+    put_sizes(alloc, sizes, &mut parts)?;
+    put_mappings(alloc, measured.p, measured.comps, found, &mut parts)?;
+    measured.put_sets(alloc, &mut parts)?;
+    Ok(parts)
+}
 
-    /// Puts in the preconditions for the mappings, and the modes, above these ground rows.
-    fn put_preconditions(
-        &self,
-        alloc: Global,
-        table: &mut Table,
-        grounds: &[Diagram],
-        parts: &mut Parts,
-    ) -> Result<(), AllocError>
-        requires components { AreComponents self.now.p.now self.now.comps.now }
-        requires grounds { AreSets self.now.p.now.preds table.old grounds.now }
-        requires levels { AreLevels self.now.p.now self.now.comps.now parts.old.levels }
-        ensures numbers { OnOk result (KeepsNumbers parts.old parts.new) }
-        ensures grounds { OnOk result (parts.new.grounds ≡ parts.old.grounds) }
-        ensures preconditions { OnOk result (HavePreconditions (any_truth self.now.norm) self.now.p.now self.now.comps.now
-            table.old table.new grounds.now parts.old.levels parts.new) }
-    {
-        let pre = solve_levels(
-            alloc,
-            self.p,
-            self.comps,
-            &self.norm,
-            table,
-            grounds,
-            parts.levels.as_slice(),
-        )?;
-        parts.preconditions = spelled_lists(alloc, self.p, table, pre.sets.as_slice())?;
-        parts.modes = mode_lists(alloc, pre.modes.as_slice())?;
-        Ok(())
-    }
-
-    /// Puts in the ground rows, the preconditions for the mappings, and the modes.
-    fn put_sets(&self, alloc: Global, parts: &mut Parts) -> Result<(), AllocError>
-        requires components { AreComponents self.now.p.now self.now.comps.now }
-        requires levels { AreLevels self.now.p.now self.now.comps.now parts.old.levels }
-        ensures numbers { OnOk result (KeepsNumbers parts.old parts.new) }
-        ensures sets { OnOk result (HaveSets (any_truth self.now.norm) self.now.p.now self.now.comps.now parts.new) }
-    {
-        let mut table = Table::new(alloc)?;
-        let grounds = groundness::solve(alloc, self.p, self.comps, &self.norm, &mut table)?;
-        parts.grounds = spelled_list(alloc, self.p, &table, grounds.as_slice())?;
-        self.put_preconditions(alloc, &mut table, grounds.as_slice(), parts)
-    }
-
-    /// The parts of a certificate that names its norm so, of what the model of sizes and the search for mappings give.
-    fn parts_of(
-        &self,
-        alloc: Global,
-        named: Option<CertNorm>,
-        sizes: &Sizes,
-        found: &[Found],
-    ) -> Result<Parts, AllocError>
-        requires components { AreComponents self.now.p.now self.now.comps.now }
-        requires found { AreFound (any_row self.now.norm) self.now.p.now self.now.comps.now sizes.now.rows found.now }
-        ensures { IfOk result (ArePartsOf self.now.norm named self.now.p.now self.now.comps.now sizes.now found.now) }
-    {
-        let _program = self.p.preds();
-        let mut parts = no_parts(alloc, named);
-        put_sizes(alloc, sizes, &mut parts)?;
-        put_mappings(alloc, self.p, self.comps, found, &mut parts)?;
-        self.put_sets(alloc, &mut parts)?;
-        Ok(parts)
-    }
-
-    /// The parts and the notes of a certificate that names its norm so, over the size rows of a chain.
-    fn assembled(
-        &self,
-        alloc: Global,
-        names: &Names,
-        named: Option<CertNorm>,
-        chain: &Chain,
-    ) -> Result<Assembled, AllocError>
-        requires components { AreComponents self.now.p.now self.now.comps.now }
-        requires norm { self.now.norm ≡ norm_in names.now named }
-        requires chain { IsSolvedChain (any_row self.now.norm) self.now.p.now self.now.comps.now chain.now }
-        ensures assembled { IfOk result (IsAssembled self.now.p.now names.now self.now.comps.now) }
-        ensures norm { IfOk result (λ a. a.parts.norm ≡ named) }
-    {
-        let _program = self.p.preds();
-        let found = self.find_all(alloc, &chain.sizes)?;
-        let parts = self.parts_of(alloc, named, &chain.sizes, found.as_slice())?;
-        are_bounded(&parts);
-        let steps = chain.steps.as_slice();
-        let notes = notes_of(alloc, self.p, names, self.comps, steps, found.as_slice())?;
-        Ok(Assembled { parts, notes })
-    }
+/// The parts and the notes of a certificate that names its norm so, over the size rows of a chain.
+fn assembled_over(
+    alloc: Global,
+    measured: &Measured,
+    names: &Names,
+    named: Option<CertNorm>,
+    chain: &Chain,
+) -> Result<Assembled, AllocError>
+    requires components { AreComponents measured.now.p.now measured.now.comps.now }
+    requires norm { measured.now.norm ≡ norm_in names.now named }
+    requires chain { IsSolvedChain (any_row measured.now.norm) measured.now.p.now measured.now.comps.now chain.now }
+    ensures assembled { IfOk result (IsAssembled measured.now.p.now names.now measured.now.comps.now) }
+    ensures norm { IfOk result (λ a. a.parts.norm ≡ named) }
+{
+    let _program = measured.p.preds();
+    let found = find_all(alloc, measured, &chain.sizes)?;
+    let parts = parts_of(alloc, measured, named, &chain.sizes, found.as_slice())?;
+    are_bounded(&parts);
+    let steps = chain.steps.as_slice();
+    let notes = notes_of(
+        alloc,
+        measured.p,
+        names,
+        measured.comps,
+        steps,
+        found.as_slice(),
+    )?;
+    Ok(Assembled { parts, notes })
 }
 
 /// Says that the numbers of parts are below 2^127.
@@ -298,5 +241,5 @@ pub(crate) fn assemble(
     let named = certificate_norm(norm);
     let norm = norm_of(names, named);
     let chain = numeric_model::solve::<Poly, AnyNorm>(alloc, p, comps, &norm)?;
-    Measured { p, comps, norm }.assembled(alloc, names, named, &chain)
+    assembled_over(alloc, &Measured { p, comps, norm }, names, named, &chain)
 }

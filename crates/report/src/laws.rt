@@ -7,7 +7,7 @@ ghost use Rattle.cti_terms.specs.Listing.{Listing};
 ghost use Rattle.cti_terms.specs.Tree.{Tree};
 ghost use Rattle.report.specs.Assembled.{PartsAreValid};
 ghost use Rattle.report.specs.ExactMappings.{BestModes, BestOverMappings};
-ghost use Rattle.report.specs.ExactModes.{ExactModesHold};
+ghost use Rattle.cert_assembly.specs.ExactModes.{ExactModesHold};
 ghost use Rattle.report.specs.Refuted.{RefutationsAreShown};
 ghost use Rattle.report.specs.Unnoted.{UnnotedAreBest};
 

@@ -1,49 +1,21 @@
 //! The parts of a certificate that the mappings of components give.
 
-ghost use Rattle.std.specs.Prelude.{◌≡◌, ◌<◌, ◌≤◌, ◌+◌, ℕ, suc, IfOk, Some, length, map, slice_get};
+ghost use Rattle.std.specs.Prelude.{◌≡◌, ◌<◌, ◌+◌, IfOk, Some, length, map};
 ghost use Rattle.call_components.specs.Partition.{AreComponents};
-ghost use Rattle.cert_structure.specs.Shape.{arity_in, body_of, head_of};
+ghost use Rattle.cert_structure.specs.Shape.{arity_in, body_of};
 ghost use Rattle.level_systems.specs.Mappings.{level_in};
-ghost use Rattle.report.specs.Levels.{by_or_none, fall_in, fall_list, falls_at, falls_from, level_list, levels_at, mappings_at, part_or_zero, refutation_list, refutation_of, zero_part};
-ghost use Rattle.report.specs.SupportNotes.{led_by};
+ghost use Rattle.report.specs.Levels.{by_or_none, fall_in, fall_list, falls_at, falls_from, level_list, levels_at, mappings_at, refutation_list, refutation_of};
+ghost use Rattle.cert_assembly.specs.Parted.{part_or_zero, zero_part};
+ghost use Rattle.cert_assembly.specs.Leading.{led_by};
 
-use crate::copies::{copied_multipliers, copied_part, copied_refutation};
-use crate::leading::led_by;
 use call_components::Components;
+use cert_assembly::{copied_multipliers, copied_refutation, led_by, part_of, zero_part};
 use cti_terms::{Atom, PredId, Program};
 use level_dual::{Found, Mapping};
-use linear_rows::{Multipliers, Numbers, zeros};
+use linear_rows::{Multipliers, Numbers};
 use number_tests::{LevelPart, Refutation};
 use sequences::Sequence;
 use std::alloc::{AllocError, Global};
-
-/// A part with the given number of coefficients of 0, and an offset of 0.
-fn zero_part(alloc: Global, width: u32) -> Result<LevelPart, AllocError>
-    ensures { IfOk result (λ part. part ≡ zero_part width) }
-{
-    Ok(LevelPart {
-        coeffs: zeros(alloc, width as usize)?,
-        offset: 0,
-    })
-}
-
-/// The part of a predicate in a mapping; zeros, where it has none.
-fn part_of(
-    alloc: Global,
-    p: &Program,
-    mapping: &Mapping,
-    q: PredId,
-) -> Result<LevelPart, AllocError>
-    requires { q.0 < length p.now.preds }
-    ensures { IfOk result (λ part. part ≡ part_or_zero (arity_in p.now q.0) (level_in mapping.now.measures q.0)) }
-{
-    for measure in mapping.measures.as_slice() {
-        if measure.pred.0 == q.0 {
-            return copied_part(alloc, &measure.part);
-        }
-    }
-    zero_part(alloc, p.pred(q).arity)
-}
 
 /// The multipliers of a call in a mapping; none, where it has none. Clauses and calls count from 1.
 fn fall_of(
@@ -77,7 +49,7 @@ fn parts_of(
 {
     let mut parts = Sequence::new(alloc);
     for mapping in mappings {
-        parts.push(part_of(alloc, p, mapping, q)?)?;
+        parts.push(part_of(alloc, p, mapping.measures.as_slice(), q)?)?;
     }
     Ok(parts)
 }

@@ -6,16 +6,10 @@
 #![tactic(auto)]
 
 mod assembling;
-mod chain_notes;
-mod copies;
 mod generating;
 mod inferring;
 pub mod laws;
-mod leading;
 mod levels;
-mod named;
-mod ranges;
-mod sets;
 mod support_notes;
 
 pub use generating::gen_source;

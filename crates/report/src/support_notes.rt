@@ -1,19 +1,18 @@
 //! The notes of components: supports that were given up, and components with many argument positions.
 
-ghost use Rattle.std.specs.Prelude.{◌≡◌, ◌<◌, ◌≤◌, ◌+◌, ◌*◌, ◌^◌, ◌∷◌, ◌++◌, [], ℕ, Some, IfOk, IfSome, OnOk, nat_eq, nat_lt, option_map, length, map, slice_get, if◌then◌else◌};
+ghost use Rattle.std.specs.Prelude.{◌≡◌, ◌<◌, ◌+◌, ◌*◌, ◌^◌, ◌∷◌, ◌++◌, [], Some, IfOk, OnOk, nat_eq, length, map, if◌then◌else◌};
 ghost use Rattle.std.specs.List.{AllByRecursion, list_any};
 ghost use Rattle.call_components.specs.Numbers.{number_of};
 ghost use Rattle.call_components.specs.Partition.{AreComponents};
 ghost use Rattle.certificate.specs.declared.fact.Fact.TheVariants as fact;
 ghost use Rattle.cert_structure.specs.Order.{pred_text};
 ghost use Rattle.report.specs.Levels.{given_up};
-ghost use Rattle.report.specs.SupportNotes.{arguments_in, arguments_of, blown_at, blown_note, blown_notes, large_at, large_notes, led_by, support_notes};
-ghost use Rattle.termination_model.specs.ComponentViews.{members_in, positions_in};
+ghost use Rattle.report.specs.SupportNotes.{arguments_in, arguments_of, blown_at, blown_note, blown_notes, large_at, large_notes, support_notes};
+ghost use Rattle.cert_assembly.specs.Leading.{led_by};
 ghost use Rattle.termination_model.specs.Ready.{arity_in, positions_by};
 
-use crate::leading::led_by;
-use crate::named::pred_text;
 use call_components::Components;
+use cert_assembly::{led_by, pred_text};
 use certificate::Fact;
 use cti_terms::{Names, PredId, Program};
 use level_dual::Found;

@@ -1,7 +1,7 @@
 use Rattle.std.proofs.Common.{◌≡◌, map, take}
 use Rattle.cert_structure.specs.Shape.{arity_in}
 use Rattle.level_systems.specs.Mappings.{level_in}
-use Rattle.report.specs.Levels.{part_or_zero}
+use Rattle.cert_assembly.specs.Parted.{part_or_zero}
 use Rattle.report.proofs.levels.parts_of.Given as goal
 
 abbrev pub invariant-loop-mapping : goal.invariant-loop-mapping

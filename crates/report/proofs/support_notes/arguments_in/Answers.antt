@@ -1,7 +1,8 @@
 use Rattle.std.proofs.Common.{◌≡◌, ◌+◌, ◌-◌, ◌++◌, ◌∷◌, [], ℕ, Bool, if◌then◌else◌, ap, ◌∙◌, nat_eq}
 use Rattle.std.specs.List.{list_any}
 use Rattle.report.specs.SupportNotes.{arguments_in}
-use Rattle.report.proofs.NoteLaws.{added, arguments_step}
+use Rattle.cert_assembly.proofs.NoteLaws.{added}
+use Rattle.report.proofs.NoteLaws.{arguments_step}
 use Rattle.report.proofs.support_notes.arguments_in.Goals as goal
 
 pub loop-a-preserved : goal.loop-a-preserved

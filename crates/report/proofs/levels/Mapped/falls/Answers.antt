@@ -2,8 +2,8 @@ use Rattle.std.proofs.Common.{◌+◌, ◌-◌, ◌++◌, ◌∷◌, [], ℕ, ar
 use Rattle.linear_rows.specs.Step.{columns}
 use Rattle.cert_structure.specs.Shape.{body_of}
 use Rattle.report.specs.Levels.{falls_from}
-use Rattle.report.proofs.NoteLaws.{added}
-use Rattle.report.proofs.PartLaws.{mapped_step}
+use Rattle.cert_assembly.proofs.NoteLaws.{added}
+use Rattle.cert_assembly.proofs.PartLaws.{mapped_step}
 use Rattle.report.proofs.levels.Mapped.falls.Goals as goal
 
 pub loop-clause-preserved : goal.loop-clause-preserved

@@ -1,8 +1,8 @@
 use Rattle.std.proofs.Common.{◌+◌, ◌-◌, ◌++◌, ◌∷◌, [], arith, ap, ◌∙◌, length, map}
 use Rattle.linear_rows.specs.Step.{columns}
 use Rattle.report.specs.Levels.{levels_at}
-use Rattle.report.proofs.NoteLaws.{added}
-use Rattle.report.proofs.PartLaws.{mapped_step}
+use Rattle.cert_assembly.proofs.NoteLaws.{added}
+use Rattle.cert_assembly.proofs.PartLaws.{mapped_step}
 use Rattle.report.proofs.levels.Mapped.levels.Goals as goal
 
 pub loop-q-preserved : goal.loop-q-preserved

@@ -1,9 +1,9 @@
 use Rattle.std.proofs.Common.{◌+◌, ◌-◌, ◌++◌, ◌∷◌, [], ℕ, arith, ap, ◌∙◌, length, map}
 use Rattle.linear_rows.specs.Step.{columns}
 use Rattle.report.specs.Levels.{refutation_of}
-use Rattle.report.specs.SupportNotes.{led_by}
-use Rattle.report.proofs.NoteLaws.{added}
-use Rattle.report.proofs.PartLaws.{mapped_step}
+use Rattle.cert_assembly.specs.Leading.{led_by}
+use Rattle.cert_assembly.proofs.NoteLaws.{added}
+use Rattle.cert_assembly.proofs.PartLaws.{mapped_step}
 use Rattle.report.proofs.levels.Mapped.refutations.Goals as goal
 
 pub loop-q-preserved : goal.loop-q-preserved

@@ -1,7 +1,7 @@
 use Rattle.std.proofs.Common.{◌≡◌, ◌-◌, ◌++◌, length, map}
 use Rattle.linear_rows.specs.Step.{columns}
 use Rattle.report.specs.Levels.{refutation_list, refutation_of}
-use Rattle.report.specs.SupportNotes.{led_by}
+use Rattle.cert_assembly.specs.Leading.{led_by}
 use Rattle.report.proofs.levels.Mapped.refutations.Given as goal
 
 abbrev pub invariant-loop-q : goal.invariant-loop-q

@@ -5,7 +5,7 @@ use Rattle.certificate.specs.declared.fact.Fact.TheVariants as fact
 use Rattle.termination_model.proofs.Lists.{indexed}
 use Rattle.termination_model.specs.ComponentViews.{members_in}
 use Rattle.report.specs.SupportNotes.{arguments_of}
-use Rattle.report.proofs.MemberLaws.{members_few, members_within}
+use Rattle.cert_assembly.proofs.MemberLaws.{members_few, members_within}
 use Rattle.report.proofs.support_notes.Described.blown_note.Goals as goal
 
 pub arguments_of-requires-clause-members : goal.arguments_of-requires-clause-members

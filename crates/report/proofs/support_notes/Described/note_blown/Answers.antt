@@ -3,8 +3,9 @@ use Rattle.std.specs.List.{flat_map}
 use Rattle.certificate.specs.declared.fact.Fact.{Fact}
 use Rattle.linear_rows.specs.Step.{columns}
 use Rattle.report.specs.Levels.{given_up}
-use Rattle.report.specs.SupportNotes.{blown_at, led_by}
-use Rattle.report.proofs.NoteLaws.{added, columns_end, columns_step, ended}
+use Rattle.report.specs.SupportNotes.{blown_at}
+use Rattle.cert_assembly.specs.Leading.{led_by}
+use Rattle.cert_assembly.proofs.NoteLaws.{added, columns_end, columns_step, ended}
 use Rattle.report.proofs.support_notes.Described.note_blown.Goals as goal
 
 pub loop-q-preserved : goal.loop-q-preserved

@@ -2,7 +2,8 @@ use Rattle.std.proofs.Common.{◌≡◌, ◌-◌, ◌++◌, length}
 use Rattle.std.specs.List.{flat_map}
 use Rattle.linear_rows.specs.Step.{columns}
 use Rattle.report.specs.Levels.{given_up}
-use Rattle.report.specs.SupportNotes.{blown_at, blown_notes, led_by}
+use Rattle.report.specs.SupportNotes.{blown_at, blown_notes}
+use Rattle.cert_assembly.specs.Leading.{led_by}
 use Rattle.report.proofs.support_notes.Described.note_blown.Given as goal
 
 abbrev pub invariant-loop-q : goal.invariant-loop-q

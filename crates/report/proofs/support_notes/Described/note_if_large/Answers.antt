@@ -5,8 +5,9 @@ use Rattle.call_components.specs.Numbers.{number_of}
 use Rattle.certificate.specs.declared.fact.Fact.{Fact}
 use Rattle.certificate.specs.declared.fact.Fact.TheVariants as fact
 use Rattle.cert_structure.specs.Order.{pred_text}
-use Rattle.report.proofs.NoteLaws.{append_none, few_positions, many_positions, position_count}
-use Rattle.report.proofs.MemberLaws.{members_few, members_within}
+use Rattle.cert_assembly.proofs.NoteLaws.{append_none}
+use Rattle.report.proofs.NoteLaws.{few_positions, many_positions, position_count}
+use Rattle.cert_assembly.proofs.MemberLaws.{members_few, members_within}
 use Rattle.report.proofs.support_notes.Described.note_if_large.Goals as goal
 
 pub positions_count-positions-requires-clause-members : goal.positions_count-positions-requires-clause-members

@@ -2,8 +2,9 @@ use Rattle.std.proofs.Common.{◌+◌, ◌-◌, ℕ, List, arith, length}
 use Rattle.std.specs.List.{flat_map}
 use Rattle.certificate.specs.declared.fact.Fact.{Fact}
 use Rattle.linear_rows.specs.Step.{columns}
-use Rattle.report.specs.SupportNotes.{large_at, led_by}
-use Rattle.report.proofs.NoteLaws.{added, columns_end, columns_step, ended}
+use Rattle.report.specs.SupportNotes.{large_at}
+use Rattle.cert_assembly.specs.Leading.{led_by}
+use Rattle.cert_assembly.proofs.NoteLaws.{added, columns_end, columns_step, ended}
 use Rattle.report.proofs.support_notes.Described.note_large.Goals as goal
 
 pub loop-q-preserved : goal.loop-q-preserved

@@ -1,7 +1,8 @@
 use Rattle.std.proofs.Common.{◌≡◌, ◌-◌, ◌++◌, length}
 use Rattle.std.specs.List.{flat_map}
 use Rattle.linear_rows.specs.Step.{columns}
-use Rattle.report.specs.SupportNotes.{large_at, large_notes, led_by}
+use Rattle.report.specs.SupportNotes.{large_at, large_notes}
+use Rattle.cert_assembly.specs.Leading.{led_by}
 use Rattle.report.proofs.support_notes.Described.note_large.Given as goal
 
 abbrev pub invariant-loop-q : goal.invariant-loop-q

@@ -1,0 +1,139 @@
+//! The notes of a chain.
+
+ghost use Rattle.std.specs.Prelude.{◌≡◌, ◌+◌, ◌-◌, ◌<◌, ◌++◌, IfOk, OnOk, map};
+ghost use Rattle.certificate.specs.declared.fact.Fact.TheVariants as fact;
+ghost use Rattle.cert_structure.specs.Order.{pred_text};
+ghost use Rattle.cert_structure.specs.Shape.{head_of};
+ghost use Rattle.linear_rows.specs.Plain.{plain_row, plain_rows};
+ghost use Rattle.numeric_model.specs.States.{plain_step};
+ghost use Rattle.cert_assembly.specs.ChainNotes.{chain_notes, how_noted, noted_if, step_notes};
+
+use crate::named::pred_text;
+use certificate::{CertHow, Fact};
+use cti_terms::{Names, PredId, Program};
+use linear_rows::{Row, Rows};
+use numeric_model::{How, Step};
+use sequences::Sequence;
+use std::alloc::{AllocError, Global};
+
+/// The predicate of a clause's head; 0 where there is no clause.
+fn head_of(p: &Program, clause: u32) -> PredId
+    ensures { result.0 ≡ head_of p.now (clause - 1) }
+{
+    let number = if clause == 0 { 1 } else { clause };
+    if number <= p.clauses() {
+        p.clause(number).head.pred
+    } else {
+        PredId(0)
+    }
+}
+
+/// A row's numbers, the constant first.
+fn row_numbers(alloc: Global, row: &Row) -> Result<Sequence<i128>, AllocError>
+    ensures { IfOk result (λ numbers. numbers ≡ plain_row row.now) }
+{
+    let mut numbers = Vec::new(alloc);
+    numbers.push(row.constant)?;
+    numbers.extend_from_slice(row.coeffs.as_slice())?;
+    Ok(Sequence::from_vec(numbers))
+}
+
+/// The numbers of rows.
+fn numbers_of(alloc: Global, rows: &Rows) -> Result<Sequence<Sequence<i128>>, AllocError>
+    ensures { IfOk result (λ numbers. numbers ≡ plain_rows rows.now.list) }
+{
+    let mut numbers = Sequence::new(alloc);
+    for row in rows.list.as_slice() {
+        numbers.push(row_numbers(alloc, row)?)?;
+    }
+    Ok(numbers)
+}
+
+/// What a step did, for a fact.
+fn how_noted(how: How) -> CertHow
+    ensures { result ≡ how_noted how }
+{
+    match how {
+        How::None => CertHow::None,
+        How::First => CertHow::First,
+        How::Join => CertHow::Join,
+        How::Keep => CertHow::Keep,
+        How::Same => CertHow::Same,
+    }
+}
+
+/// The note of a step's image.
+fn image_note(
+    alloc: Global,
+    p: &Program,
+    names: &Names,
+    number: u64,
+    step: &Step,
+) -> Result<Fact, AllocError>
+    ensures { IfOk result (λ note. note ≡ fact.Image number step.now.clause (pred_text p.now names.now (head_of p.now (step.now.clause - 1))) (plain_rows step.now.image.list)) }
+{
+    Ok(Fact::Image {
+        step: number,
+        clause: step.clause,
+        pred: pred_text(alloc, p, names, head_of(p, step.clause))?,
+        rows: numbers_of(alloc, &step.image)?,
+    })
+}
+
+/// The note of the rows after a step.
+fn rows_note(
+    alloc: Global,
+    p: &Program,
+    names: &Names,
+    number: u64,
+    step: &Step,
+) -> Result<Fact, AllocError>
+    ensures { IfOk result (λ note. note ≡ fact.Step number (pred_text p.now names.now (head_of p.now (step.now.clause - 1))) (how_noted step.now.how) (plain_rows step.now.rows.list)) }
+{
+    Ok(Fact::Step {
+        step: number,
+        pred: pred_text(alloc, p, names, head_of(p, step.clause))?,
+        how: how_noted(step.how),
+        rows: numbers_of(alloc, &step.rows)?,
+    })
+}
+
+/// Puts a note after others, where it is wanted.
+fn note_if(wanted: bool, note: Fact, out: &mut Sequence<Fact>) -> Result<(), AllocError>
+    ensures { OnOk result (out.new ≡ out.old ++ noted_if wanted note) }
+{
+    if wanted { out.push(note) } else { Ok(()) }
+}
+
+/// Puts the notes of a step after others.
+fn note_step(
+    alloc: Global,
+    p: &Program,
+    names: &Names,
+    number: u64,
+    step: &Step,
+    out: &mut Sequence<Fact>,
+) -> Result<(), AllocError>
+    ensures { OnOk result (out.new ≡ out.old ++ step_notes p.now names.now number (plain_step step.now)) }
+{
+    out.push(image_note(alloc, p, names, number, step)?)?;
+    out.push(rows_note(alloc, p, names, number, step)?)?;
+    note_if(step.image_weak, Fact::WeakImage { step: number }, out)?;
+    note_if(step.step_weak, Fact::WeakStep { step: number }, out)
+}
+
+/// Puts the notes of a chain after others.
+pub fn note_chain(
+    alloc: Global,
+    p: &Program,
+    names: &Names,
+    steps: &[Step],
+    out: &mut Sequence<Fact>,
+) -> Result<(), AllocError>
+    ensures { OnOk result (out.new ≡ out.old ++ chain_notes p.now names.now (map plain_step steps.now)) }
+{
+    for (index, step) in steps.iter().enumerate() {
+        note_step(alloc, p, names, index as u64 + 1, step, out)?;
+    }
+    Ok(())
+}

@@ -1,0 +1,110 @@
+//! Copies of numbers.
+
+ghost use Rattle.std.specs.Prelude.{◌≡◌, IfOk};
+
+use linear_rows::{Multipliers, Point};
+use number_tests::{LevelPart, PairPoint, Refutation};
+use sequences::Sequence;
+use std::alloc::{AllocError, Global};
+use termination_model::SizeRows;
+
+/// The same multipliers once more.
+pub fn copied_multipliers(alloc: Global, by: &Multipliers) -> Result<Multipliers, AllocError>
+    ensures { IfOk result (λ copy. copy ≡ by.now) }
+{
+    Ok(Multipliers {
+        scale: by.scale,
+        list: by.list.copy(alloc)?,
+    })
+}
+
+/// The same part once more.
+pub fn copied_part(alloc: Global, part: &LevelPart) -> Result<LevelPart, AllocError>
+    ensures { IfOk result (λ copy. copy ≡ part.now) }
+{
+    Ok(LevelPart {
+        coeffs: part.coeffs.copy(alloc)?,
+        offset: part.offset,
+    })
+}
+
+// The same point once more.
+fn copied_point(alloc: Global, point: &Point) -> Result<Point, AllocError>
+    ensures { IfOk result (λ copy. copy ≡ point.now) }
+{
+    Ok(Point {
+        t: point.t,
+        w: point.w.copy(alloc)?,
+    })
+}
+
+// The same second point once more, if there is one.
+fn copied_second(alloc: Global, at: &Option<Point>) -> Result<Option<Point>, AllocError>
+    ensures { IfOk result (λ copy. copy ≡ at.now) }
+{
+    match at {
+        Some(point) => Ok(Some(copied_point(alloc, point)?)),
+        None => Ok(None),
+    }
+}
+
+// The same pair with its points once more.
+fn copied_pair(alloc: Global, pair: &PairPoint) -> Result<PairPoint, AllocError>
+    ensures { IfOk result (λ copy. copy ≡ pair.now) }
+{
+    let point = copied_point(alloc, &pair.point)?;
+    let at = copied_second(alloc, &pair.at)?;
+    Ok(PairPoint {
+        clause: pair.clause,
+        call: pair.call,
+        point,
+        at,
+    })
+}
+
+/// The same refutation once more.
+pub fn copied_refutation(alloc: Global, refutation: &Refutation) -> Result<Refutation, AllocError>
+    ensures { IfOk result (λ copy. copy ≡ refutation.now) }
+{
+    let mut points = Sequence::new(alloc);
+    for pair in refutation.points.as_slice() {
+        points.push(copied_pair(alloc, pair)?)?;
+    }
+    Ok(Refutation { points })
+}
+
+/// The same size rows once more.
+pub fn copied_rows(alloc: Global, rows: &SizeRows) -> Result<SizeRows, AllocError>
+    ensures { IfOk result (λ copy. copy ≡ rows.now) }
+{
+    let mut copy = SizeRows::new(alloc);
+    for own in rows.as_slice() {
+        copy.push(own.copy(alloc)?)?;
+    }
+    Ok(copy)
+}
+
+/// The same list of multipliers once more.
+pub fn copied_list(alloc: Global, list: &[Multipliers]) -> Result<Sequence<Multipliers>, AllocError>
+    ensures { IfOk result (λ copy. copy ≡ list.now) }
+{
+    let mut copy = Sequence::new(alloc);
+    for by in list {
+        copy.push(copied_multipliers(alloc, by)?)?;
+    }
+    Ok(copy)
+}
+
+/// The same multipliers of clauses once more.
+pub fn copied_proofs(
+    alloc: Global,
+    proofs: &[Sequence<Multipliers>],
+) -> Result<Sequence<Sequence<Multipliers>>, AllocError>
+    ensures { IfOk result (λ copy. copy ≡ proofs.now) }
+{
+    let mut copy = Sequence::new(alloc);
+    for list in proofs {
+        copy.push(copied_list(alloc, list.as_slice())?)?;
+    }
+    Ok(copy)
+}

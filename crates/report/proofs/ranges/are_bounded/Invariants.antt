@@ -1,6 +1,0 @@
-use Rattle.std.proofs.Common.{◌≡◌, ◌<◌, ℕ, ℤ, Some, slice_get}
-use Rattle.report.specs.Ranges.{IsBelow}
-use Rattle.report.proofs.ranges.are_bounded.Given as goal
-
-abbrev pub invariant-loop-number : goal.invariant-loop-number
-invariant-loop-number l = (i : ℕ) (x : ℤ) → i < l.number-index → slice_get l.numbers i ≡ Some x → IsBelow x
