@@ -48,6 +48,7 @@ pub fn push_arguments<'p>(
 /// variable is looked into once, and one that is bound to a constant not at all.
 ///
 /// The stack and the visited variables may be any, and are used up.
+#[inline(never)]
 pub fn occurs_in<'p>(
     bindings: &Bindings<'p>,
     variable: usize,

@@ -84,7 +84,9 @@ fn open_arguments<'p>(
     Ok(())
 }
 
-/// What a free variable and a compound term under the bindings ask for.
+/// What a free variable and a compound term under the bindings ask for. It is compiled into its callers, since what it finds
+/// is then kept in registers.
+#[inline(always)]
 fn bound_or_clash<'p>(
     bindings: &Bindings<'p>,
     variable: usize,
@@ -105,6 +107,7 @@ fn bound_or_clash<'p>(
 }
 
 /// The same of a term all of whose variables are below a limit: one from the limit on does not occur in it.
+#[inline(always)]
 fn apart_or_bound<'p>(
     bindings: &Bindings<'p>,
     variable: usize,
