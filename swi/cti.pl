@@ -5,6 +5,7 @@
             cti_certificate/2,          % +File, -Facts
             cti_certificate/3,          % +File, -Facts, +Options
             cti_infer/3,                % +File, +Certificate, +Options
+            cti_lex/2,                  % +File, -Modes
             cti_loop/3,                 % +File, +Query, -Answer
             cti_loop/4,                 % +File, +Query, -Answer, +Options
             cti_why/2,                  % +File, -Notes
@@ -205,6 +206,20 @@ is_mode(Inferred, Predicate, Set) :-
     member(Mode, Sets),
     subset(Mode, Set),
     !.
+
+%!  cti_lex(+File, -Modes) is det.
+%
+%   Modes is a list as of cti_modes/2, by lists of level mappings that are
+%   compared in lexicographic order. It has the modes of some predicates
+%   that have none by single mappings.
+
+cti_lex(File, Modes) :-
+    absolute_path(File, Path),
+    run_cti([lex, '--', file(Path)], Status, Facts, Message),
+    (   Status =:= 0
+    ->  findall(Predicate-Sets, member(terminates(Predicate, Sets), Facts), Modes)
+    ;   throw(error(cti_error(Status, Message), _))
+    ).
 
 %!  cti_loop(+File, +Query, -Answer) is det.
 %!  cti_loop(+File, +Query, -Answer, +Options) is det.

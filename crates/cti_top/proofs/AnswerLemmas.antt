@@ -1,7 +1,7 @@
 -- What is so of each answer, and of what is asked for.
 use Rattle.std.specs.Prelude.{Result, Ok, Err, IfOk, ◌≡◌}
 use Rattle.std.proofs.Common.{subst, sym}
-use Rattle.cti_top.specs.Words.{Ask, infer, check, run, gen, loop, Origin, origin}
+use Rattle.cti_top.specs.Words.{Ask, infer, check, run, gen, lex, loop, Origin, origin}
 use Rattle.cti_top.specs.Answers.{IsAskInRange, IsInRange}
 
 -- what is so of each answer
@@ -15,6 +15,7 @@ origin_ranged (infer name norm) h = h
 origin_ranged (check name certificate) h = h
 origin_ranged (run name query steps) h = h
 origin_ranged (gen n) h = h
+origin_ranged (lex name) h = h
 origin_ranged (loop name query depth) h = tt
 
 pub in_range : (ask : Ask) (o : Origin) → o ≡ origin ask → IsAskInRange ask → IsInRange o

@@ -2,7 +2,7 @@
 use Rattle.std.proofs.Common.{◌≡◌, ℕ, ◌≤◌, ◌<◌, List, [], length, subst, Option, Some, None, ◌⊎◌, refl, ap, sym, ◌∙◌, inl, inr, arith, nat_eq, false}
 use Rattle.std.proofs.lemmas.Option.{none-some, same_Some}
 use Rattle.outside.specs.Told.{Map, TellsAt, TellsMore, Takes}
-use Rattle.cti_top.specs.Words.{Ask, infer, check, run, gen, loop, Origin, file, generated, origin, query_of, asks}
+use Rattle.cti_top.specs.Words.{Ask, infer, check, run, gen, lex, loop, Origin, file, generated, origin, query_of, asks}
 use Rattle.term_size.specs.declared.any_norm.NormName.{NormName}
 use Rattle.cti_top.specs.Programs.{IsRefused}
 use Rattle.report.specs.Generated.{generated as generated_text}
@@ -23,7 +23,7 @@ use Rattle.cti_terms.specs.declared.derivation.Goal.{Goal}
 use Rattle.ld_resolver.specs.declared.running.Ending.{Ending}
 use Rattle.cti_top.specs.Answers.{AnswersCertificate, AnswersProgram, AnswersRequest}
 use Rattle.cti_top.specs.Answers as answers
-use Rattle.cti_top.specs.Outcome.{most_bytes, TellsText, TellsLong, IsAnswer, usage, inferred, summed, ran, looped, checked, program_too_long, program_refused, query_refused, certificate_too_long, certificate_refused, Outcome, HasFile, HasText, IsDoneOrMemory, IsRanOrMemory, IsLoopedOrMemory, IsCheckedOrMemory}
+use Rattle.cti_top.specs.Outcome.{most_bytes, TellsText, TellsLong, IsAnswer, usage, inferred, lexed, summed, ran, looped, checked, program_too_long, program_refused, query_refused, certificate_too_long, certificate_refused, Outcome, HasFile, HasText, IsDoneOrMemory, IsRanOrMemory, IsLoopedOrMemory, IsCheckedOrMemory}
 use Rattle.cti_top.specs.declared.status.Status.{Status}
 use Rattle.cti_top.specs.declared.status.Status.TheVariants.{Done, No, Usage, Refused, FileFault, OutFault, Memory, Stopped, Overflow}
 
@@ -68,6 +68,7 @@ memory_unlike_looked (inr (inr e)) = cc
 pub not_file : (told : Map) (words : List (List ℕ)) (text : List ℕ) → IsAnswer told words FileFault text → ⊥
 not_file told words text (usage n s e) = cc
 not_file told words text (inferred f b r a t m s) = cc
+not_file told words text (lexed f b a t m s) = cc
 not_file told words text (summed n a m s) = cc
 not_file told words text (ran f q n b a t r) = elim r.ran.ends [ ]
 not_file told words text (looped f q d b a t r) = file_unlike_looked (looked_as r.looked)
@@ -81,6 +82,7 @@ not_file told words text (certificate_refused f c b d k l a t i u r s e) = cc
 not_out : (told : Map) (words : List (List ℕ)) (text : List ℕ) → IsAnswer told words OutFault text → ⊥
 not_out told words text (usage n s e) = cc
 not_out told words text (inferred f b r a t m s) = cc
+not_out told words text (lexed f b a t m s) = cc
 not_out told words text (summed n a m s) = cc
 not_out told words text (ran f q n b a t r) = elim r.ran.ends [ ]
 not_out told words text (looped f q d b a t r) = out_unlike_looked (looked_as r.looked)
@@ -94,6 +96,7 @@ not_out told words text (certificate_refused f c b d k l a t i u r s e) = cc
 not_memory : (told : Map) (words : List (List ℕ)) (text : List ℕ) → IsAnswer told words Memory text → ⊥
 not_memory told words text (usage n s e) = cc
 not_memory told words text (inferred f b r a t m s) = cc
+not_memory told words text (lexed f b a t m s) = cc
 not_memory told words text (summed n a m s) = cc
 not_memory told words text (ran f q n b a t r) = elim r.ran.ends [ ]
 not_memory told words text (looped f q d b a t r) = memory_unlike_looked (looked_as r.looked)
@@ -148,6 +151,7 @@ command_of (check f c) = 1
 command_of (run f q n) = 2
 command_of (gen n) = 3
 command_of (loop f q d) = 4
+command_of (lex f) = 5
 
 no_other : (x : Ask) → nat_eq (command_of x) (command_of x) ≡ false → ⊥
 no_other (infer f norm) e = cc
@@ -155,6 +159,7 @@ no_other (check f c) e = cc
 no_other (run f q n) e = cc
 no_other (gen n) e = cc
 no_other (loop f q d) e = cc
+no_other (lex f) e = cc
 
 -- what is asked for is asked for once
 pub one_ask : (words : List (List ℕ)) (x y : Ask) → asks words ≡ Some x → asks words ≡ Some y → x ≡ y
@@ -184,6 +189,7 @@ pub done_or_memory : (told : Map) (words : List (List ℕ)) (status : Status) (t
     → HasFile told name bytes → length bytes ≤ most_bytes → ((kind at : ℕ) → IsRefused bytes kind at → ⊥) → IsDoneOrMemory status
 done_or_memory told words status text name bytes norm (usage n s e) asked has short none = absurd (none-some _ (sym n ∙ asked))
 done_or_memory told words status text name bytes norm (inferred f b r a t m s) asked has short none = inl s
+done_or_memory told words status text name bytes norm (lexed f b a t m s) asked has short none = inl s
 done_or_memory told words status text name bytes norm (summed n a m s) asked has short none = inl s
 done_or_memory told words status text name bytes norm (ran f q n b a t r) asked has short none = absurd (unlike words _ _ asked a refl)
 done_or_memory told words status text name bytes norm (checked f c b d k a t i u h) asked has short none = absurd (unlike words _ _ asked a refl)
@@ -196,11 +202,30 @@ done_or_memory told words status text name bytes norm (certificate_too_long f c 
 done_or_memory told words status text name bytes norm (certificate_refused f c b d k l a t i u r s e) asked has short none =
     absurd (unlike words _ _ asked a refl)
 
+-- and so is one for which lists of mappings are searched
+pub lexed_or_memory : (told : Map) (words : List (List ℕ)) (status : Status) (text name bytes : List ℕ) → IsAnswer told words status text → asks words ≡ Some (lex name)
+    → HasFile told name bytes → length bytes ≤ most_bytes → ((kind at : ℕ) → IsRefused bytes kind at → ⊥) → IsDoneOrMemory status
+lexed_or_memory told words status text name bytes (usage n s e) asked has short none = absurd (none-some _ (sym n ∙ asked))
+lexed_or_memory told words status text name bytes (inferred f b r a t m s) asked has short none = inl s
+lexed_or_memory told words status text name bytes (lexed f b a t m s) asked has short none = inl s
+lexed_or_memory told words status text name bytes (summed n a m s) asked has short none = inl s
+lexed_or_memory told words status text name bytes (ran f q n b a t r) asked has short none = absurd (unlike words _ _ asked a refl)
+lexed_or_memory told words status text name bytes (checked f c b d k a t i u h) asked has short none = absurd (unlike words _ _ asked a refl)
+lexed_or_memory told words status text name bytes (program_too_long k a m s e) asked has short none = absurd (no_long told words (lex name) bytes asked has k a m short)
+lexed_or_memory told words status text name bytes (program_refused k b kind at a t r s e) asked has short none =
+    absurd (no_refusal told words (lex name) bytes asked has k b kind at a t r none)
+lexed_or_memory told words status text name bytes (looped f q d b a t r) asked has short none = absurd (unlike words _ _ asked a refl)
+lexed_or_memory told words status text name bytes (query_refused k q b kind at a w t r s e) asked has short none = absurd (no_query words _ k q asked a w refl)
+lexed_or_memory told words status text name bytes (certificate_too_long f c b k a t i m s e) asked has short none = absurd (unlike words _ _ asked a refl)
+lexed_or_memory told words status text name bytes (certificate_refused f c b d k l a t i u r s e) asked has short none =
+    absurd (unlike words _ _ asked a refl)
+
 -- a generated program without a fault is answered
 pub summed_or_memory : (told : Map) (words : List (List ℕ)) (status : Status) (text : List ℕ) (n : ℕ) → IsAnswer told words status text → asks words ≡ Some (gen n)
     → length (generated_text n) ≤ most_bytes → ((kind at : ℕ) → IsRefused (generated_text n) kind at → ⊥) → IsDoneOrMemory status
 summed_or_memory told words status text n (usage none s e) asked short no_fault = absurd (none-some _ (sym none ∙ asked))
 summed_or_memory told words status text n (inferred f b r a t m s) asked short no_fault = inl s
+summed_or_memory told words status text n (lexed f b a t m s) asked short no_fault = inl s
 summed_or_memory told words status text n (summed m a h s) asked short no_fault = inl s
 summed_or_memory told words status text n (ran f q k b a t r) asked short no_fault = absurd (unlike words _ _ asked a refl)
 summed_or_memory told words status text n (checked f c b d k a t i u h) asked short no_fault = absurd (unlike words _ _ asked a refl)
@@ -252,6 +277,7 @@ pub ran_or_memory : (told : Map) (words : List (List ℕ)) (status : Status) (te
     → ((kind at : ℕ) → IsRefusedQuery bytes query kind at → ⊥) → IsRanOrMemory status
 ran_or_memory told words status text name query bytes steps (usage n s e) asked has short none no_fault = absurd (none-some _ (sym n ∙ asked))
 ran_or_memory told words status text name query bytes steps (inferred f b r a t m s) asked has short none no_fault = inl s
+ran_or_memory told words status text name query bytes steps (lexed f b a t m s) asked has short none no_fault = inl s
 ran_or_memory told words status text name query bytes steps (summed n a m s) asked has short none no_fault = inl s
 ran_or_memory told words status text name query bytes steps (ran f q n b a t r) asked has short none no_fault = ended status r.ran.ends
 ran_or_memory told words status text name query bytes steps (checked f c b d k a t i u h) asked has short none no_fault = absurd (unlike words _ _ a asked refl)
@@ -273,6 +299,7 @@ pub looped_or_memory : (told : Map) (words : List (List ℕ)) (status : Status) 
     → ((kind at : ℕ) → IsRefusedQuery bytes query kind at → ⊥) → IsLoopedOrMemory status
 looped_or_memory told words status text name query bytes depth (usage n s e) asked has short none no_fault = absurd (none-some _ (sym n ∙ asked))
 looped_or_memory told words status text name query bytes depth (inferred f b r a t m s) asked has short none no_fault = inl s
+looped_or_memory told words status text name query bytes depth (lexed f b a t m s) asked has short none no_fault = inl s
 looped_or_memory told words status text name query bytes depth (summed n a m s) asked has short none no_fault = inl s
 looped_or_memory told words status text name query bytes depth (ran f q n b a t r) asked has short none no_fault = absurd (unlike words _ _ asked a refl)
 looped_or_memory told words status text name query bytes depth (looped f q d b a t r) asked has short none no_fault = or_memory status (looked_as r.looked)
@@ -298,6 +325,7 @@ pub checked_or_memory : (told : Map) (words : List (List ℕ)) (status : Status)
     → HasFile told certificate certified → IsTextOf c certified → IsCheckedOrMemory status
 checked_or_memory told words status text name certificate bytes certified c (usage n s e) asked has short none held is = absurd (none-some _ (sym n ∙ asked))
 checked_or_memory told words status text name certificate bytes certified c (inferred f b r a t m s) asked has short none held is = inl s
+checked_or_memory told words status text name certificate bytes certified c (lexed f b a t m s) asked has short none held is = inl s
 checked_or_memory told words status text name certificate bytes certified c (summed n a m s) asked has short none held is = inl s
 checked_or_memory told words status text name certificate bytes certified c (ran f q n b a t r) asked has short none held is =
     absurd (unlike words _ _ asked a refl)
@@ -332,6 +360,7 @@ answered told words (run f query n) bytes status text a t (inl (inl r)) = ran f 
 answered told words (run f query n) bytes status text a t (inl (inr (kind, at, r, h))) = query_refused (run f query n) query bytes kind at a refl t r h.status h.line
 answered told words (loop f query d) bytes status text a t (inl (inl r)) = looped f query d bytes a t r
 answered told words (loop f query d) bytes status text a t (inl (inr (kind, at, r, h))) = query_refused (loop f query d) query bytes kind at a refl t r h.status h.line
+answered told words (lex f) bytes status text a t (inl (s, m)) = lexed f bytes a t m s
 answered told words (gen n) bytes status text a t (inl (s, m)) = summed n a (subst (λ (b : List ℕ). IsSummary b n text) t m) s
 answered told words ask bytes status text a t (inr (kind, at, r, h)) = program_refused ask bytes kind at a t r h.status h.line
 

@@ -2,14 +2,14 @@
 use Rattle.std.proofs.Common.{◌≡◌, ◌⊎◌, ℕ, List, Some, inl, inr, refl, ap, sym, ◌∙◌, subst}
 use Rattle.std.proofs.lemmas.Option.{none-some}
 use Rattle.outside.specs.Told.{Map}
-use Rattle.cti_top.specs.Words.{Ask, infer, check, run, gen, loop, Origin, origin, query_of, asks}
+use Rattle.cti_top.specs.Words.{Ask, infer, check, run, gen, lex, loop, Origin, origin, query_of, asks}
 use Rattle.cti_top.specs.Programs.{IsRefused}
 use Rattle.report.specs.Generated.{generated}
 use Rattle.cti_terms.specs.Listing.{Listing}
 use Rattle.cti_terms.specs.declared.derivation.Goal.{Goal}
 use Rattle.cti_top.specs.Queries.{Known, IsQueryOf}
 use Rattle.cti_top.specs.Runs.{IsKnown, IsRefusedQuery}
-use Rattle.cti_top.specs.Outcome.{TellsText, FileRose, OriginRose, HasText, IsAnswer, IsRefusedOrMemory, usage, inferred, summed, ran, looped, checked, program_too_long, program_refused, query_refused, certificate_too_long, certificate_refused}
+use Rattle.cti_top.specs.Outcome.{TellsText, FileRose, OriginRose, HasText, IsAnswer, IsRefusedOrMemory, usage, inferred, lexed, summed, ran, looped, checked, program_too_long, program_refused, query_refused, certificate_too_long, certificate_refused}
 use Rattle.cti_top.specs.declared.status.Status.{Status}
 use Rattle.cti_top.specs.declared.status.Status.TheVariants.{FileFault, Memory, Refused}
 use Rattle.cti_top.proofs.OneAnswer.{none_refused, no_query_refused}
@@ -43,6 +43,8 @@ module _ (told : Map) (words : List (List ℕ)) (status : Status) (text : List �
   refused_answer ask bytes kind at (usage n s e) asked has r = absurd (none-some _ (sym n ∙ asked))
   refused_answer ask bytes kind at (inferred f b n a t m s) asked has r =
       absurd (none_known told words ask (infer f n) bytes b kind at (record { names = m.names; program = m.program; table = m.table }) asked a has t r m.is)
+  refused_answer ask bytes kind at (lexed f b a t m s) asked has r =
+      absurd (none_known told words ask (lex f) bytes b kind at (record { names = m.names; program = m.program; table = m.table }) asked a has t r m.is)
   refused_answer ask bytes kind at (summed n a m s) asked has r =
       let i = m.inferred in
       absurd (none_known told words ask (gen n) bytes (generated n) kind at (record { names = i.names; program = i.program; table = i.table }) asked a has refl r i.is)
@@ -68,6 +70,7 @@ module _ (told : Map) (words : List (List ℕ)) (status : Status) (text : List �
       → HasText told (origin ask) bytes → IsRefusedQuery bytes query kind at → status ≡ Refused
   query_refused_answer ask query bytes kind at (usage n s e) asked v has r = absurd (none-some _ (sym n ∙ asked))
   query_refused_answer ask query bytes kind at (inferred f b n a t m s) asked v has r = absurd (no_query words (infer f n) ask query a asked v refl)
+  query_refused_answer ask query bytes kind at (lexed f b a t m s) asked v has r = absurd (no_query words (lex f) ask query a asked v refl)
   query_refused_answer ask query bytes kind at (summed n a m s) asked v has r = absurd (no_query words (gen n) ask query a asked v refl)
   query_refused_answer ask query bytes kind at (ran f q n b a t m) asked v has r =
       absurd (no_goal ask (run f q n) query q bytes b kind at m.known m.names m.program m.goal asked a v refl has t r m.is m.asked)

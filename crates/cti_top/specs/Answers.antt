@@ -4,7 +4,7 @@ use Rattle.std.specs.Prelude.{ℕ, ◌≡◌, ◌≤◌, ◌⊎◌, List}
 use Rattle.cert_checker.specs.declared.verdict.Verdict.{Verdict}
 use Rattle.cert_checker.specs.declared.verdict.Verdict.TheVariants as verdict
 use Rattle.certificate.specs.Reading.{most_bytes}
-use Rattle.cti_top.specs.Words.{Ask, infer, check, run, gen, loop, Origin, origin}
+use Rattle.cti_top.specs.Words.{Ask, infer, check, run, gen, lex, loop, Origin, origin}
 use Rattle.cti_top.specs.Words as words
 use Rattle.outside.specs.Told.{Map, TellsAt, TellsMore}
 use Rattle.cti_top.specs.Checks.{IsCheckOf, IsRefusedCertificate}
@@ -14,6 +14,7 @@ use Rattle.cti_top.specs.Places.{line_of, column_of}
 use Rattle.cti_top.specs.Refusal.{refusal_line}
 use Rattle.cti_top.specs.Programs.{IsRefused}
 use Rattle.cti_top.specs.Inferred.{IsInferred}
+use Rattle.cti_top.specs.Lexed.{IsLexed}
 use Rattle.cti_top.specs.Summary.{IsSummary}
 use Rattle.cti_top.specs.Runs.{IsKnown, IsRunOf, IsRefusedQuery}
 use Rattle.cti_top.specs.Loops.{IsLoopSearchOf, loop_line, no_loop_line, stopped_line}
@@ -47,6 +48,7 @@ ask_of (request.Infer file norm) = infer file.now norm
 ask_of (request.Check file certificate) = check file.now certificate.now
 ask_of (request.Run file query steps) = run file.now query.now steps
 ask_of (request.Generate count) = gen count
+ask_of (request.Lex file) = lex file.now
 ask_of (request.Loop file query depth) = loop file.now query.now depth
 
 -- an origin, by its text
@@ -65,6 +67,7 @@ IsAskInRange (infer name norm) = Unit {0}
 IsAskInRange (check name certificate) = Unit {0}
 IsAskInRange (run name query steps) = Unit {0}
 IsAskInRange (gen n) = (1 ≤ n) × (n ≤ 300)
+IsAskInRange (lex name) = Unit {0}
 IsAskInRange (loop name query depth) = (1 ≤ depth) × (depth ≤ 12)
 
 -- the status and the line of what was found where a loop was looked for
@@ -115,6 +118,7 @@ AnswersAsk told bytes (infer file norm) status text = (status ≡ Done) × IsInf
 AnswersAsk told bytes (check file certificate) status text = (known : Known) × IsKnown bytes known × AnswersCertificate told known certificate status text
 AnswersAsk told bytes (run file query steps) status text = AnswersQuery bytes query steps status text
 AnswersAsk told bytes (gen n) status text = (status ≡ Done) × IsSummary bytes n text
+AnswersAsk told bytes (lex file) status text = (status ≡ Done) × IsLexed bytes text
 AnswersAsk told bytes (loop file query depth) status text = AnswersLoop bytes query depth status text
 
 -- the same, or why the program is refused

@@ -8,6 +8,7 @@ pub mod Inferred
 pub mod Summary
 pub mod Queries
 pub mod Runs
+pub mod Lexed
 pub mod Loops
 pub mod Verdicts
 pub mod Checks

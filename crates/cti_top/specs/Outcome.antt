@@ -4,12 +4,13 @@
 -- To believe: all of this file.
 use Rattle.std.specs.Prelude.{ℕ, ◌≡◌, ◌⊎◌, List, Option, Some, None}
 use Rattle.outside.specs.Told.{Map, TellsAt, TellsMore, Takes, TakesPart}
-use Rattle.cti_top.specs.Words.{Ask, infer, check, run, gen, loop, Origin, file, generated, origin, query_of, asks, usage_lines}
+use Rattle.cti_top.specs.Words.{Ask, infer, check, run, gen, lex, loop, Origin, file, generated, origin, query_of, asks, usage_lines}
 use Rattle.cti_top.specs.Places.{line_of, column_of}
 use Rattle.cti_top.specs.Refusal.{refusal_line}
 use Rattle.cti_top.specs.Programs.{IsRefused}
 use Rattle.term_size.specs.declared.any_norm.NormName.{NormName}
 use Rattle.cti_top.specs.Inferred.{IsInferred}
+use Rattle.cti_top.specs.Lexed.{IsLexed}
 use Rattle.cti_top.specs.Summary.{IsSummary}
 use Rattle.report.specs.Generated.{generated as generated_text}
 use Rattle.cti_top.specs.Checks.{IsCheckOf, IsRefusedCertificate}
@@ -36,14 +37,15 @@ abbrev pub TellsLong : Map → Origin → Type 0
 TellsLong told (file name) = TellsMore told name most_bytes
 TellsLong told (generated n) = ⊥
 
--- The answer to the words: the usage exactly where they ask for nothing; the modes of the program that they name; the check of their
--- certificate; the run of their query, or a loop of it; how many modes their generated program has; or why the program's text, the
--- certificate's or the query is refused. Where the store shows its map, the bytes are those at the file's name.
+-- The answer to the words: the usage exactly where they ask for nothing; the modes of the program that they name, or its modes by lists of
+-- mappings; the check of their certificate; the run of their query, or a loop of it; how many modes their generated program has; or why
+-- the program's text, the certificate's or the query is refused. Where the store shows its map, the bytes are those at the file's name.
 pub data IsAnswer (told : Map) (words : List (List ℕ)) (status : Status) (text : List ℕ) : Type 0 where
   usage : asks words ≡ None → status ≡ Usage → text ≡ usage_lines → IsAnswer told words status text
   inferred : (name bytes : List ℕ) (norm : NormName) → asks words ≡ Some (infer name norm) → TellsAt told name bytes → IsInferred norm bytes text → status ≡ Done
       → IsAnswer told words status text
   summed : (n : ℕ) → asks words ≡ Some (gen n) → IsSummary (generated_text n) n text → status ≡ Done → IsAnswer told words status text
+  lexed : (name bytes : List ℕ) → asks words ≡ Some (lex name) → TellsAt told name bytes → IsLexed bytes text → status ≡ Done → IsAnswer told words status text
   ran : (name query : List ℕ) (steps : ℕ) (bytes : List ℕ) → asks words ≡ Some (run name query steps) → TellsAt told name bytes → IsRunOf bytes query steps status text
       → IsAnswer told words status text
   looped : (name query : List ℕ) (depth : ℕ) (bytes : List ℕ) → asks words ≡ Some (loop name query depth) → TellsAt told name bytes
@@ -111,6 +113,7 @@ CertificateRose (infer name norm) before after = ⊥
 CertificateRose (check name certificate) before after = Rose (before certificate) (after certificate)
 CertificateRose (run name query steps) before after = ⊥
 CertificateRose (gen n) before after = ⊥
+CertificateRose (lex name) before after = ⊥
 CertificateRose (loop name query depth) before after = ⊥
 
 -- the count of the program's file rose, or that of the certificate's, which is loaded only where the program is read

@@ -39,6 +39,10 @@ run_command = with_rule (with_rule (with_rule (new_app (codes "run")) (required_
 abbrev pub gen_command : App
 gen_command = with_rule (new_app (codes "gen")) (required_word (codes "count"))
 
+-- lex FILE
+abbrev pub lex_command : App
+lex_command = with_rule (new_app (codes "lex")) (required_word (codes "file"))
+
 -- loop FILE QUERY --depth D
 abbrev pub loop_command : App
 loop_command = with_rule (with_rule (with_rule (new_app (codes "loop")) (required_word (codes "file"))) (required_word (codes "query"))) (option (codes "depth"))
@@ -58,17 +62,19 @@ top_command = on_top settings (new_app (codes "cti"))
 -- the command line
 abbrev pub command_line : App
 command_line =
-    with_subcommand (with_subcommand (with_subcommand (with_subcommand (with_subcommand top_command infer_command.top) check_command.top) run_command.top) gen_command.top)
-    loop_command.top
+    with_subcommand (with_subcommand
+    (with_subcommand (with_subcommand (with_subcommand (with_subcommand top_command infer_command.top) check_command.top) run_command.top) gen_command.top)
+    lex_command.top) loop_command.top
 
 -- what is asked for, by its texts: the modes of a file's program by a norm, the check of a file's certificate of it, a query of it with a
--- number of nodes, how many modes the generated program of this many predicates has, or a loop of a query of a file's program among its
--- derivations of so many steps
+-- number of nodes, how many modes the generated program of this many predicates has, the modes of a file's program by lists of mappings, or
+-- a loop of a query of a file's program among its derivations of so many steps
 pub data Ask : Type 0 where
   infer : Text → NormName → Ask
   check : Text → Text → Ask
   run : Text → Text → ℕ → Ask
   gen : ℕ → Ask
+  lex : Text → Ask
   loop : Text → Text → ℕ → Ask
 
 -- where the text of a program comes from: it is that of a file, or it is generated
@@ -82,6 +88,7 @@ origin (infer name norm) = file name
 origin (check name certificate) = file name
 origin (run name query steps) = file name
 origin (gen n) = generated n
+origin (lex name) = file name
 origin (loop name query depth) = file name
 
 -- at most the given number of decimal digits, and at least one
@@ -140,6 +147,7 @@ ask_by name rows =
     if bytes_eq name (codes "gen") then option_map gen (predicates_in (given (codes "count") rows))
     else if bytes_eq name (codes "infer") then option_map (infer (given (codes "file") rows)) (norm_of (first_of (codes "norm") rows))
     else if bytes_eq name (codes "check") then Some (check (given (codes "file") rows) (given (codes "certificate") rows))
+    else if bytes_eq name (codes "lex") then Some (lex (given (codes "file") rows))
     else if bytes_eq name (codes "loop") then
     option_map (loop (given (codes "file") rows) (given (codes "query") rows)) (depth_of (first_of (codes "depth") rows))
     else option_map (run (given (codes "file") rows) (given (codes "query") rows)) (steps_of (first_of (codes "steps") rows))
@@ -157,4 +165,4 @@ asks words = ask_if (fault_of command_line words) (subcommand_of command_line wo
 abbrev pub usage_lines : List ℕ
 usage_lines =
     codes "usage: cti infer FILE --norm NORM\n" ++ codes "usage: cti check FILE CERT\n" ++ codes "usage: cti run FILE QUERY --steps N\n"
-    ++ codes "usage: cti gen N\n" ++ codes "usage: cti loop FILE QUERY --depth D\n"
+    ++ codes "usage: cti gen N\n" ++ codes "usage: cti lex FILE\n" ++ codes "usage: cti loop FILE QUERY --depth D\n"

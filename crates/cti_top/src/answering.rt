@@ -17,6 +17,7 @@ use crate::answer::{Answer, refused, too_long};
 use crate::checking::check_of;
 use crate::generating::gen_of;
 use crate::inferring::infer_of;
+use crate::lexing::lex_of;
 use crate::looping::loop_of;
 use crate::refusal::Subject;
 use crate::request::{Origin, Refusal, Request, request_in, usage_text};
@@ -50,6 +51,7 @@ fn answer_program<F: Files>(
         Request::Check(_, certificate) => check_of(alloc, &source, certificate, files),
         Request::Run(_, query, steps) => Ok(run_of(alloc, source, query.as_bytes(), steps)?),
         Request::Generate(predicates) => Ok(gen_of(alloc, &source, predicates)?),
+        Request::Lex(_) => Ok(lex_of(alloc, &source)?),
         Request::Loop(_, query, depth) => Ok(loop_of(alloc, source, query.as_bytes(), depth)?),
     }
 }

@@ -1,7 +1,7 @@
 //! The command line, part by part, as `clap` reads it.
 
 ghost use Rattle.std.specs.Prelude.{◌≡◌, IfOk, false, codes};
-ghost use Rattle.cti_top.specs.Words.{command_line, top_command, infer_command, check_command, run_command, gen_command, loop_command, required_word, option};
+ghost use Rattle.cti_top.specs.Words.{command_line, top_command, infer_command, check_command, run_command, gen_command, lex_command, loop_command, required_word, option};
 ghost use Rattle.cti_top.specs.CommandLine.{IsCommandLine};
 ghost use Rattle.clap.specs.declared.Command.TheViews.{out-Command};
 ghost use Rattle.clap.specs.Words.{app_of, rule_of, with_rule, with_subcommand};
@@ -86,6 +86,13 @@ fn generate<'a>(alloc: Global) -> Result<Command<'a>, AllocError>
     with_argument(Command::new(alloc, "gen"), word(alloc, "count"))
 }
 
+/// `lex FILE`
+fn lex<'a>(alloc: Global) -> Result<Command<'a>, AllocError>
+    ensures { IfOk result (IsCommandLine lex_command) }
+{
+    with_argument(Command::new(alloc, "lex"), word(alloc, "file"))
+}
+
 /// `loop FILE QUERY --depth D`
 fn find_loop<'a>(alloc: Global) -> Result<Command<'a>, AllocError>
     ensures { IfOk result (IsCommandLine loop_command) }
@@ -116,5 +123,6 @@ fn more_commands<'a>(alloc: Global) -> Result<Command<'a>, AllocError>
 pub fn command_line<'a>(alloc: Global) -> Result<Command<'a>, AllocError>
     ensures { IfOk result (IsCommandLine command_line) }
 {
-    with_command(more_commands(alloc)?, find_loop(alloc)?)
+    let command = with_command(more_commands(alloc)?, lex(alloc)?)?;
+    with_command(command, find_loop(alloc)?)
 }

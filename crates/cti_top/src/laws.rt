@@ -19,7 +19,7 @@ ghost use Rattle.cti_top.specs.Meets.{MeetsMode};
 ghost use Rattle.cti_top.specs.Programs.{IsRefused};
 ghost use Rattle.cti_top.specs.Queries.{Known, IsQueryOf, IsQueryRefused};
 ghost use Rattle.cti_top.specs.Runs.{IsFinished, IsKnown};
-ghost use Rattle.cti_top.specs.Words.{asks, infer, check, loop, norm_in, run};
+ghost use Rattle.cti_top.specs.Words.{asks, infer, check, lex, loop, norm_in, run};
 
 use cert_checker::valid_certificates_bound_their_modes;
 use ld_resolver::laws::{a_budget_of_all_nodes_finishes, bounded_goals_have_finitely_many_nodes};
@@ -47,6 +47,7 @@ pub fn plain_words_ask()
         → asks (codes "check" ∷ (c ∷ cs) ∷ (d ∷ ds) ∷ []) ≡ Some (check (c ∷ cs) (d ∷ ds)) }
     ensures run { (c d : ℕ) (cs ds : List ℕ) → nat_eq c 45 ≡ false → nat_eq d 45 ≡ false
         → asks (codes "run" ∷ (c ∷ cs) ∷ (d ∷ ds) ∷ []) ≡ Some (run (c ∷ cs) (d ∷ ds) 100000) }
+    ensures lex { (c : ℕ) (cs : List ℕ) → nat_eq c 45 ≡ false → asks (codes "lex" ∷ (c ∷ cs) ∷ []) ≡ Some (lex (c ∷ cs)) }
     ensures find_loop { (c d : ℕ) (cs ds : List ℕ) → nat_eq c 45 ≡ false → nat_eq d 45 ≡ false
         → asks (codes "loop" ∷ (c ∷ cs) ∷ (d ∷ ds) ∷ []) ≡ Some (loop (c ∷ cs) (d ∷ ds) 8) }
 {}

@@ -8,6 +8,7 @@ mod command_line;
 mod generating;
 mod inferring;
 pub mod laws;
+mod lexing;
 mod looping;
 mod norms;
 pub mod number_laws;

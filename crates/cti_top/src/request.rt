@@ -33,6 +33,8 @@ pub enum Request<'a> {
     Run(&'a str, &'a str, u64),
     /// How many modes the generated program of this many predicates has.
     Generate(u32),
+    /// The modes of the program in a file, by lists of mappings.
+    Lex(&'a str),
     /// A loop of a query of the program in a file, and how many steps the derivations have that are looked at.
     Loop(&'a str, &'a str, u32),
 }
@@ -56,6 +58,7 @@ impl<'a> Request<'a> {
             Request::Check(file, _) => Origin::File(file),
             Request::Run(file, _, _) => Origin::File(file),
             Request::Generate(count) => Origin::Generated(count),
+            Request::Lex(file) => Origin::File(file),
             Request::Loop(file, _, _) => Origin::File(file),
         }
     }
@@ -163,6 +166,9 @@ fn request_by<'a>(name: &str, given: &ArgMatches<'a>) -> Result<Request<'a>, Ref
     if name == "check" {
         return Ok(Request::Check(file, word(given, "certificate")));
     }
+    if name == "lex" {
+        return Ok(Request::Lex(file));
+    }
     match steps_of(value(given, "steps")) {
         Some(steps) => Ok(Request::Run(file, word(given, "query"), steps)),
         None => Err(Refusal::Usage),
@@ -191,6 +197,7 @@ pub fn usage_text(alloc: Global) -> Result<Vec<u8>, AllocError>
     text.extend_from_slice(b"usage: cti check FILE CERT\n")?;
     text.extend_from_slice(b"usage: cti run FILE QUERY --steps N\n")?;
     text.extend_from_slice(b"usage: cti gen N\n")?;
+    text.extend_from_slice(b"usage: cti lex FILE\n")?;
     text.extend_from_slice(b"usage: cti loop FILE QUERY --depth D\n")?;
     Ok(text)
 }

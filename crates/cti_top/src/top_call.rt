@@ -4,7 +4,7 @@ ghost use Rattle.std.specs.Prelude.{◌≡◌, ◌≤◌, List, ℕ, map, Some};
 ghost use Rattle.certificate.specs.Reading.{IsTextOf};
 ghost use Rattle.certificate.specs.declared.certificate.Certificate.{Certificate as TheCertificate};
 ghost use Rattle.outside.specs.Causes.{Rose};
-ghost use Rattle.cti_top.specs.Words.{Ask, asks, check, gen, infer, loop, origin, query_of, run};
+ghost use Rattle.cti_top.specs.Words.{Ask, asks, check, gen, infer, lex, loop, origin, query_of, run};
 ghost use Rattle.cti_top.specs.Programs.{IsRefused};
 ghost use Rattle.cti_top.specs.Outcome.{FileRose, HasFile, HasText, IsCheckedOrMemory, IsDoneOrMemory, IsLoopedOrMemory, IsRanOrMemory, IsRefusedOrMemory, OriginRose, Outcome};
 ghost use Rattle.cti_top.specs.Queries.{IsQueryOf, Known};
@@ -28,7 +28,8 @@ use std::alloc::Global;
 /// --steps N` reads a query of the program too, and writes its answers among the empty derivation and the first N others, then how
 /// many there were, the length of the longest, and whether there are more. N is from 1 to 1,000,000, and else 100,000. `gen N` makes a
 /// program of N predicates, from 1 to 300, and writes how many clauses it has, and how many modes `infer` would print for it.
-/// `loop FILE QUERY --depth D` reads a query as `run` does, and looks at its derivations of at most D clauses, from 1 to 12, and else 8,
+/// `lex FILE` writes the certificate of the program's modes by lists of mappings that descend in lexicographic order, one list for each
+/// minimal support. `loop FILE QUERY --depth D` reads a query as `run` does, and looks at its derivations of at most D clauses, from 1 to 12, and else 8,
 /// but at no more than 100,000. It writes `loop(Before,Cycle).`, the clauses of the first that comes back to an atom that is more general
 /// than one that it passed, so that the query has derivations of every length; or `no_loop(N).` where none of all N does; or
 /// `stopped(100000).` where there are more. The answer is complete, and all memory is taken, before the first byte is written.
@@ -53,6 +54,11 @@ pub fn command<F: Files, S: Sink>(
 
     // A file that is visible to contracts and is a program is answered, unless memory runs out or a count of faults rises.
     ensures complete { (name bytes : List ℕ) (norm : NormName) (known : Known) → asks (map (λ w. w.now) words.entry.now) ≡ Some (infer name norm) → HasFile (F.told files.old) name bytes → IsKnown bytes known
+        → (Rose (F.faults files.old name) (F.faults files.new name) → ⊥) → (Rose (S.faults out.old) (S.faults out.new) → ⊥) → IsDoneOrMemory result }
+
+    // The same where lists of mappings are searched.
+    ensures complete_lex { (name bytes : List ℕ) (known : Known) → asks (map (λ w. w.now) words.entry.now) ≡ Some (lex name)
+        → HasFile (F.told files.old) name bytes → IsKnown bytes known
         → (Rose (F.faults files.old name) (F.faults files.new name) → ⊥) → (Rose (S.faults out.old) (S.faults out.new) → ⊥) → IsDoneOrMemory result }
 
     // The same of a certificate's text within its limit: it is checked.

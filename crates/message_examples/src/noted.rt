@@ -34,7 +34,16 @@ fn notes_about_modes(rt: HostRuntime) -> Result<(), Fail> {
             "a.pl:1:14: note: `p/2` has no mode: no single weighted sum of sizes falls at all of these calls: 1:14, 2:14
     p(s(X),Y) :- p(X,s(Y)).
                  ^
-  help: let one argument, or one sum of arguments, get smaller at each of them
+  help: let one argument, or one sum of arguments, get smaller at each of them; `cti lex` finds no mode here either
+",
+        ),
+        (
+            "p(s(X),Y) :- p(X,s(Y)).\np(X,s(Y)) :- p(s(X),Y).\n",
+            "cti(1).\nterminates(p/2,[]).\nnone(p/2,2).\npoint(1,1,0,[1,0]).\nat(1,1,1,[0,0]).\npoint(2,1,1,[0,0]).\n",
+            "a.pl:1:14: note: `p/2` has no mode: no single weighted sum of sizes falls at all of these calls: 1:14, 2:14
+    p(s(X),Y) :- p(X,s(Y)).
+                 ^
+  help: try `cti lex`, which compares several sums in turn; or let one argument, or one sum of arguments, get smaller at each of them
 ",
         ),
         (

@@ -14,6 +14,7 @@ const HELP: &str = "cti finds and checks which queries of a pure logic program e
   cti check FILE CERT             check a certificate of the program
   cti run FILE QUERY --steps N    run a query, and look at N derivations, usually 100000
   cti gen N                       infer a program that is made, of N predicates
+  cti lex FILE                    find the modes by lists of measures, where infer has none
   cti loop FILE QUERY --depth D   look for a loop of at most D clauses, usually 8
 
 Exit status: 0 done, or the certificate is valid; 1 it is not valid, or no loop was

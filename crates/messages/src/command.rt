@@ -9,6 +9,7 @@ pub enum Command {
     Check,
     Run,
     Gen,
+    Lex,
     Loop,
 }
 
@@ -20,6 +21,7 @@ impl Command {
             "check" => Some(Command::Check),
             "run" => Some(Command::Run),
             "gen" => Some(Command::Gen),
+            "lex" => Some(Command::Lex),
             "loop" => Some(Command::Loop),
             _ => None,
         }
@@ -32,6 +34,7 @@ impl Command {
             Command::Check => "check",
             Command::Run => "run",
             Command::Gen => "gen",
+            Command::Lex => "lex",
             Command::Loop => "loop",
         }
     }
@@ -47,7 +50,7 @@ impl Command {
     /// What its second word is, in the usage.
     pub fn second(self) -> Option<&'static str> {
         match self {
-            Command::Infer | Command::Gen => None,
+            Command::Infer | Command::Gen | Command::Lex => None,
             Command::Check => Some("CERT"),
             Command::Run | Command::Loop => Some("QUERY"),
         }

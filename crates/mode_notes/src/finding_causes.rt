@@ -21,6 +21,8 @@ pub(crate) enum Why {
     OneCall,
     /// Nothing falls at all of so many calls, the first of which is this fact.
     Calls { start: usize, points: u64 },
+    /// The same, and no order of measures does.
+    Stuck { start: usize, points: u64 },
     Large(u64),
     Blown,
     /// It calls this predicate, which has no mode.
@@ -142,6 +144,37 @@ impl<'f> View<'_, '_, 'f> {
         self.listed.places.call(*clause, *call, count)
     }
 
+    /// Whether so many points from a fact on are all of calls at which some values are kept, so that no order of measures
+    /// falls at them either.
+    fn are_stuck(self, start: usize, points: u64) -> bool {
+        let rest = self.facts.get(start..).unwrap_or(&[]);
+        let mut left = points;
+        for fact in rest {
+            if left == 0 {
+                return true;
+            }
+            let Fact::Point { t, .. } = fact else {
+                return false;
+            };
+            if *t < 1 {
+                return false;
+            }
+            left = left.saturating_sub(1);
+        }
+        left == 0
+    }
+
+    /// Why nothing falls at so many calls, the first of which is this fact.
+    fn refuted_case(self, start: usize, points: u64) -> Why {
+        if points == 1 {
+            return Why::OneCall;
+        }
+        if self.are_stuck(start, points) {
+            return Why::Stuck { start, points };
+        }
+        Why::Calls { start, points }
+    }
+
     /// The case of a predicate whose component has a measure, or needs none, and yet no mode.
     fn unmet_case(self, pred: u32, has_measure: bool) -> Case {
         let component = self.listed.table.component_of(pred);
@@ -177,11 +210,7 @@ impl<'f> View<'_, '_, 'f> {
         let at = self.first_clause(pred);
         match cause {
             Cause::Refuted { start, points } => Case {
-                why: if points == 1 {
-                    Why::OneCall
-                } else {
-                    Why::Calls { start, points }
-                },
+                why: self.refuted_case(start, points),
                 at: self.point_place(start),
             },
             Cause::Large(positions) => Case {

@@ -12,6 +12,11 @@ pub enum Note<'a> {
         pred: &'a str,
         places: &'a str,
     },
+    #[error("{pred} has no mode: no single weighted sum of sizes falls at all of these calls: {places}")]
+    Stuck {
+        pred: &'a str,
+        places: &'a str,
+    },
     #[error("{pred} has no mode: its recursive group has {positions} arguments, more than 12, so that only one measure was looked for")]
     Large {
         pred: &'a str,
@@ -46,7 +51,10 @@ impl Note<'_> {
         match self {
             Note::OneCall(_) => "give the call something that gets smaller",
             Note::Calls { .. } => {
-                "let one argument, or one sum of arguments, get smaller at each of them"
+                "try `cti lex`, which compares several sums in turn; or let one argument, or one sum of arguments, get smaller at each of them"
+            }
+            Note::Stuck { .. } => {
+                "let one argument, or one sum of arguments, get smaller at each of them; `cti lex` finds no mode here either"
             }
             Note::Large { .. } => "put arguments that belong together into one term",
             Note::Blown(_) => "split the predicate, or give it fewer arguments",

@@ -66,7 +66,7 @@ fn parts_of(
             let needs = needs_shown(alloc, view, callee)?;
             Ok((source.shown(alloc, callee)?, needs))
         }
-        Why::Calls { start, points } => {
+        Why::Calls { start, points } | Why::Stuck { start, points } => {
             let places = calls_shown(alloc, source, view, start, points)?;
             Ok((String::new(alloc), places))
         }
@@ -86,6 +86,7 @@ fn note_of<'a>(
     match why {
         Why::OneCall => Note::OneCall(pred),
         Why::Calls { .. } => Note::Calls { pred, places: said },
+        Why::Stuck { .. } => Note::Stuck { pred, places: said },
         Why::Large(positions) => Note::Large { pred, positions },
         Why::Blown => Note::Blown(pred),
         Why::Callee(_) => Note::Callee { pred, callee },

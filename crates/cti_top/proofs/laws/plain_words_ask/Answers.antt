@@ -1,4 +1,4 @@
-use Rattle.cti_top.proofs.WordLemmas.{infer_asks, norm_asks, check_asks, run_asks, loop_asks}
+use Rattle.cti_top.proofs.WordLemmas.{infer_asks, norm_asks, check_asks, run_asks, lex_asks, loop_asks}
 use Rattle.cti_top.proofs.laws.plain_words_ask.Goals as goal
 
 pub returns-clause-infer : goal.returns-clause-infer
@@ -12,6 +12,9 @@ returns-clause-check c = check_asks
 
 pub returns-clause-run : goal.returns-clause-run
 returns-clause-run c = run_asks
+
+pub returns-clause-lex : goal.returns-clause-lex
+returns-clause-lex c = lex_asks
 
 pub returns-clause-find_loop : goal.returns-clause-find_loop
 returns-clause-find_loop c = loop_asks

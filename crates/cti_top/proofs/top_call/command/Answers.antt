@@ -4,7 +4,7 @@ use Rattle.cti_top.specs.Outcome.{IsAnswer}
 use Rattle.cti_top.specs.declared.status.Status.{Status}
 use Rattle.cti_top.proofs.OneAnswer.{is_short, none_refused, no_query_refused}
 use Rattle.cti_top.proofs.RefusedLemmas.{refused_answer, refused_or_memory, query_refused_answer}
-use Rattle.cti_top.proofs.OutcomeLemmas.{not_file, outcome_of, done_or_memory, summed_or_memory, ran_or_memory, looped_or_memory, checked_or_memory}
+use Rattle.cti_top.proofs.OutcomeLemmas.{not_file, outcome_of, done_or_memory, lexed_or_memory, summed_or_memory, ran_or_memory, looped_or_memory, checked_or_memory}
 use Rattle.cti_top.proofs.top_call.command.Goals as goal
 
 pub returns-in-Ok-write_text-clause-outcome : goal.returns-in-Ok-write_text-clause-outcome
@@ -21,6 +21,10 @@ returns-in-Ok-write_text-clause-file_fault g c e =
 pub returns-in-Ok-write_text-clause-complete : goal.returns-in-Ok-write_text-clause-complete
 returns-in-Ok-write_text-clause-complete g c name bytes norm known asked has is calm still =
     done_or_memory (g.F.Files.told c.args.files.now) (map (λ w. w.now) c.args.words.now) c.in-Ok.answer.status c.in-Ok.answer.text.items name bytes norm c.in-Ok.ensures.answered asked has (is_short bytes known is) (none_refused bytes known is)
+
+pub returns-in-Ok-write_text-clause-complete_lex : goal.returns-in-Ok-write_text-clause-complete_lex
+returns-in-Ok-write_text-clause-complete_lex g c name bytes known asked has is calm still =
+    lexed_or_memory (g.F.Files.told c.args.files.now) (map (λ w. w.now) c.args.words.now) c.in-Ok.answer.status c.in-Ok.answer.text.items name bytes c.in-Ok.ensures.answered asked has (is_short bytes known is) (none_refused bytes known is)
 
 pub returns-in-Ok-write_text-clause-complete_check : goal.returns-in-Ok-write_text-clause-complete_check
 returns-in-Ok-write_text-clause-complete_check g c name certificate bytes certified known d asked has is held written calm calm_too still =
