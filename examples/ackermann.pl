@@ -1,5 +1,6 @@
 % Ackermann's function. It ends where two numbers are known, but no one weighted sum of its
-% arguments falls at every call, so no mode is found.
+% arguments falls at every call, so `cti infer` finds no mode. `cti lex` compares two of them
+% one after the other, and finds ack/3  [1,2]
 %
 % Modes:
 % ack/3  none
