@@ -1,6 +1,5 @@
 -- Holding modes, in the words of claims.
 use Rattle.std.proofs.Common.{◌≡◌, inl, inr, ℕ, ◌<◌, ◌==◌, Bool, true, false, ◌&&◌, IsTrue, List, length, slice_get, slice_index_or, Some, refl, ap, sym, subst, ◌∙◌, arith}
-use Rattle.std.specs.List.{AllByRecursion}
 use Rattle.std.proofs.lemmas.Bool.{and_parts, cases_lt}
 use Rattle.truth_rows.proofs.ClaimLaws.{all_upper_same, rule_from_sets, union_is}
 use Rattle.termination_model.proofs.Lists.{by_places, from_places, place_below, there}
@@ -13,10 +12,9 @@ use Rattle.cti_terms.specs.Listing.{IsAtom, IsClause, IsProgram, Listing}
 use Rattle.cti_terms.specs.Tree.{Tree}
 use Rattle.cti_terms.specs.declared.atom_list.Atom.{Atom}
 use Rattle.cti_terms.specs.declared.clauses.Clause.{Clause}
-use Rattle.termination_model.specs.Claims.{Admits, Claims, IsCovered, KeepsRule, Mapping, Measure}
+use Rattle.termination_model.specs.Claims.{Admits, Claims, IsCovered, KeepsRule, Measure}
 use Rattle.termination_model.specs.Descent.{mode_row}
 use Rattle.termination_model.specs.Grounds.{Family, IsClosed, truth_row}
-use Rattle.termination_model.specs.Rows.{Covers}
 use Rattle.termination_model.specs.View.{all_upper, upward_union}
 use Rattle.cert_modes.specs.Claimed.{ClaimModes, HoldingModesShow, IsMeasure, KeepsRows, ShowModes}
 use Rattle.cert_modes.specs.Modes.{ModesHold, allowed, cube_row, grounds_of, is_row, precondition}

@@ -4,7 +4,7 @@ use Rattle.std.specs.List.{AllByRecursion}
 use Rattle.cert_structure.specs.Numbered.{EachFrom}
 use Rattle.cert_structure.specs.Shape.{IsLevel, arity_in, mappings_of}
 use Rattle.number_tests.specs.declared.level_part.LevelPart.{LevelPart}
-use Rattle.cert_modes.specs.Shaped.{HaveSets, IsWide, ShapesHaveSets}
+use Rattle.cert_modes.specs.Shaped.{IsWide, ShapesHaveSets}
 
 each_weaker : {A : Type 0} (P Q : ℕ → A → Type 0) → ((i : ℕ) (x : A) → P i x → Q i x) → (i : ℕ) (xs : List A) → EachFrom i P xs → EachFrom i Q xs
 each_weaker P Q h i [] k = tt
