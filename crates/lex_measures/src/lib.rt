@@ -8,7 +8,11 @@
 //! `lex_certificate`, which writes the facts.
 #![tactic(auto)]
 
+mod assembling;
 mod inferring;
+mod notes;
+mod places;
+mod printed;
 
 pub use inferring::infer;
 pub use lex_certificate::{LexCertificate, LexFact};
