@@ -1,8 +1,7 @@
 -- Where a certificate's drops hold, the lists of its claims descend.
-use Rattle.std.proofs.Common.{◌≡◌, ℕ, zero, suc, ◌+◌, ◌<◌, ◌≤◌, ◌==◌, ◌≤ℤ◌, ℤ, pos, negsuc, Bool, true, false, if◌then◌else◌, List, [], ◌∷◌, All, map, take, length, slice_get, unsigned_abs, Option, Some, None, refl, sym, ap, subst, ◌∙◌, arith}
+use Rattle.std.proofs.Common.{◌≡◌, ℕ, zero, suc, ◌+◌, ◌<◌, ◌≤◌, ◌==◌, ℤ, pos, negsuc, Bool, true, false, List, [], ◌∷◌, map, take, length, slice_get, unsigned_abs, Option, Some, refl, sym, ap, subst, ◌∙◌, arith}
 use Rattle.std.specs.List.{AllByRecursion}
 use Rattle.std.proofs.lemmas.Bool.Decides.{nat_tests}
-use Rattle.std.proofs.lemmas.Int.{ints}
 use Rattle.std.proofs.lemmas.List.{length-map}
 use Rattle.cti_terms.specs.Tree.{Tree}
 use Rattle.cti_terms.specs.Listing.{Listing, IsAtom, IsClause, IsProgram}
@@ -24,7 +23,7 @@ use Rattle.number_tests.specs.Levels.{natural_coefficients, natural_offset}
 use Rattle.number_tests.specs.Proved.{level_of}
 use Rattle.number_tests.specs.Shape.{IsLevelPart, list_at, row_count}
 use Rattle.number_tests.specs.declared.level_part.LevelPart.{LevelPart}
-use Rattle.termination_model.specs.Claims.{Claims, Mapping, Measure, fall_row}
+use Rattle.termination_model.specs.Claims.{Claims, Measure, fall_row}
 use Rattle.termination_model.specs.Grounds.{Family}
 use Rattle.termination_model.specs.Rows.{scaled, added}
 use Rattle.termination_model.specs.Short.{Provable, FallsProved, DescendsProved}

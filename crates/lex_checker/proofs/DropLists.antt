@@ -1,8 +1,8 @@
 -- The lists and multipliers at a call, and what the tests of its drops decide.
-use Rattle.std.proofs.Common.{◌≡◌, ◌↔◌, ℕ, zero, suc, ◌<◌, ◌≤◌, ◌-ℤ◌, ◌≤ℤ◌, inl, inr, ℤ, pos, neg_ℤ, Bool, List, [], ◌∷◌, ◌++◌, All, map, take, length, slice_get, IsSomeAnd, Option, Some, None, refl, sym, ap, subst, ◌∙◌, arith}
+use Rattle.std.proofs.Common.{◌≡◌, ◌↔◌, ℕ, ◌≤◌, ◌-ℤ◌, inl, inr, ℤ, pos, neg_ℤ, Bool, List, [], ◌∷◌, map, take, length, slice_get, IsSomeAnd, Option, Some, None, refl, sym, ap, subst, ◌∙◌, arith}
 use Rattle.std.specs.List.{AllByRecursion}
 use Rattle.std.proofs.lemmas.Bool.{cases_lt}
-use Rattle.std.proofs.lemmas.List.{length-append, length-map}
+use Rattle.std.proofs.lemmas.List.{length-append}
 use Rattle.call_components.specs.Partition.{Partition}
 use Rattle.cert_checker.proofs.ShapeLaws.{list_past}
 use Rattle.cert_checker.specs.Shape.{AreTogether}
@@ -18,7 +18,7 @@ use Rattle.linear_rows.specs.Showing.{AreMultipliers, IsShown}
 use Rattle.linear_rows.specs.declared.multipliers.Multipliers.{Multipliers}
 use Rattle.number_tests.proofs.CallFacts.{can_weigh}
 use Rattle.number_tests.specs.Shape.{IsLevelPart, list_at, row_count}
-use Rattle.number_tests.specs.Targets.{AreFallColumns, CanBeWeighed, fall_weights}
+use Rattle.number_tests.specs.Targets.{AreFallColumns, fall_weights}
 use Rattle.number_tests.specs.declared.level_part.LevelPart.{LevelPart}
 use Rattle.term_size.specs.Norm.{IsNorm}
 use Rattle.termination_model.proofs.Lists.{by_places}
@@ -100,3 +100,10 @@ module _ (size : (ℕ → ℕ) → Tree → ℕ) (truth : (ℕ → Bool) → Tre
     λ yes m i head call by eh ec eb. subst (λ (z : List ℤ). IsShown rows z by) (target m i (drop_at i (length (list_at proofs m))) head call eh) (decides.0 yes m i head call by eh ec eb),
     λ all. decides.1 (λ m i head call by eh ec eb. subst (λ (z : List ℤ). IsShown rows z by) (sym (target m i (drop_at i (length (list_at proofs m))) head call eh)) (all m i head call by eh ec eb)),
   )
+
+nothing_at : {X : Type 0} (i : ℕ) (x : X) → slice_get [] i ≡ Some x → ⊥
+nothing_at i x e = cc
+
+-- past the end there are no multipliers
+pub shown_past : (rs columns : List (List ℤ)) (hs cs : List LevelPart) (mss : List (List Multipliers)) (m : ℕ) → length mss ≤ m → AreShown rs columns hs cs (list_at mss m)
+shown_past rs columns hs cs mss m le i head call by eh ec eb = absurd (nothing_at i by (subst (λ (ms : List Multipliers). slice_get ms i ≡ Some by) (list_past mss m le) eb))

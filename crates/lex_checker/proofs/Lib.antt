@@ -2,6 +2,7 @@ pub mod AnyPartition
 pub mod Bounded
 pub mod Descending
 pub mod DropLists
+pub mod Flags
 pub mod NoList
 pub mod Printed
 pub mod Shapes

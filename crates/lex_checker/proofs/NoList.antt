@@ -1,6 +1,6 @@
 -- Where a certificate of lists is valid, no list of a component with a stuck set drops.
-use Rattle.std.proofs.Common.{◌≡◌, ◌≢◌, ℕ, zero, suc, ◌-◌, ◌<◌, ◌≤◌, ◌==◌, inl, ℤ, Bool, IsTrue, List, [], ◌∷◌, map, take, length, slice_get, Some, sym, ap, subst, ◌∙◌, arith, eqb-true}
-use Rattle.std.specs.List.{AllByRecursion, AllPairs}
+use Rattle.std.proofs.Common.{◌≡◌, ◌≢◌, ℕ, zero, suc, ◌-◌, ◌<◌, ◌≤◌, ◌==◌, inl, ℤ, List, [], ◌∷◌, map, take, length, slice_get, Some, sym, ap, subst, ◌∙◌, arith, eqb-true}
+use Rattle.std.specs.List.{AllPairs}
 use Rattle.std.proofs.lemmas.Int.{ints}
 use Rattle.std.proofs.lemmas.List.{length-map}
 use Rattle.call_components.proofs.Lists.{all_map}

@@ -3,7 +3,6 @@ use Rattle.std.proofs.Common.{◌≡◌, ℕ, zero, suc, ◌-◌, ◌<◌, ◌�
 use Rattle.std.specs.List.{AllByRecursion}
 use Rattle.std.proofs.lemmas.List.{length-map}
 use Rattle.std.proofs.lemmas.Option.{slice_get_cases, slice_get_within}
-use Rattle.bool_diagrams.specs.declared.cube.Cell.{Cell}
 use Rattle.call_components.proofs.Lists.{all_map}
 use Rattle.call_components.specs.Partition.{AreComponents, IsIn, Partition}
 use Rattle.cert_checker.proofs.NoMapping.{call_in, clause_in}
@@ -19,7 +18,7 @@ use Rattle.cti_terms.specs.declared.clauses.Clause.{Clause}
 use Rattle.cti_terms.specs.declared.predicates.Pred.{Pred}
 use Rattle.fact_reading.specs.Numbered.{AreEach, EachFrom}
 use Rattle.lex_certificate.specs.Flat.{flat, union_part, united, united_coefficients}
-use Rattle.lex_certificate.specs.Shape.{ArePlaces, HaveShape, IsPlace, IsStuckPoint, IsStuckSet, lengths_of, lists_of_call}
+use Rattle.lex_certificate.specs.Shape.{ArePlaces, HaveShape, IsPlace, IsStuckPoint, lengths_of, lists_of_call}
 use Rattle.lex_certificate.specs.declared.parts.LexParts.{LexParts}
 use Rattle.linear_rows.specs.Showing.{AreMultipliers}
 use Rattle.linear_rows.specs.declared.multipliers.Multipliers.{Multipliers}
@@ -29,7 +28,6 @@ use Rattle.number_tests.proofs.Sized.{some_below}
 use Rattle.number_tests.specs.Shape.{IsLevelPart, IsPairOf, list_at, row_count}
 use Rattle.number_tests.specs.declared.level_part.LevelPart.{LevelPart}
 use Rattle.number_tests.specs.declared.pair_point.PairPoint.{PairPoint}
-use Rattle.number_tests.specs.declared.refutation.Refutation.{Refutation}
 use Rattle.termination_model.proofs.Lists.{by_places, there}
 use Rattle.termination_model.specs.Sizes.{AreSizes, rows_of}
 use Rattle.lex_checker.specs.Shape.{CanBeTested, HaveDrops, HaveLists, HavePlace}

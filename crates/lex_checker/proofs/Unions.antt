@@ -1,6 +1,5 @@
 -- The union of a list's measures is positive where one of them is.
-use Rattle.std.proofs.Common.{◌≡◌, ℕ, zero, suc, ◌<◌, ◌≤ℤ◌, ℤ, pos, negsuc, Bool, true, false, ◌||◌, if◌then◌else◌, nat_lt, List, [], ◌∷◌, All, map, length, slice_get, unsigned_abs, Option, Some, None, refl, sym, ap, subst, ◌∙◌, arith}
-use Rattle.std.specs.Prelude.{option_map}
+use Rattle.std.proofs.Common.{◌≡◌, ℕ, zero, suc, ◌<◌, ℤ, pos, Bool, true, false, ◌||◌, if◌then◌else◌, nat_lt, List, [], ◌∷◌, map, slice_get, refl, sym, subst, arith}
 use Rattle.std.specs.List.{AllByRecursion}
 use Rattle.std.proofs.lemmas.Bool.Decides.{nat_tests}
 use Rattle.cert_checker.proofs.Bounded.{naturals_are}
@@ -10,7 +9,7 @@ use Rattle.number_tests.specs.Shape.{IsLevelPart, list_at}
 use Rattle.number_tests.specs.declared.level_part.LevelPart.{LevelPart}
 use Rattle.termination_model.specs.Claims.{Mapping}
 use Rattle.termination_model.specs.Rows.{Covers}
-use Rattle.lex_checker.specs.Claimed.{mapping_of, mappings_from}
+use Rattle.lex_checker.specs.Claimed.{mappings_from}
 use Rattle.lex_certificate.specs.Flat.{flat, union_part, united, united_coefficients}
 use Rattle.lex_certificate.specs.declared.parts.LexParts.{LexParts}
 

@@ -2,7 +2,7 @@
 --
 -- That the facts have no other parts, and that these do not depend on the partition, are premises here, which the laws of
 -- `lex_certificate` give.
-use Rattle.std.proofs.Common.{◌≡◌, ◌≢◌, ◌↔◌, ℕ, Bool, false, IsTrue, List, Option, None, Some, Result, Ok, Err, IfOk, sym, subst, ◌∙◌}
+use Rattle.std.proofs.Common.{◌≡◌, ◌≢◌, ◌↔◌, ℕ, false, IsTrue, List, sym, subst}
 use Rattle.std.specs.List.{AllPairs}
 use Rattle.call_components.specs.Partition.{AreComponents, Partition}
 use Rattle.cert_structure.specs.Structure.{AreNamed}

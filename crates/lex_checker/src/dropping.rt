@@ -25,7 +25,8 @@ use std::alloc::{AllocError, Global};
 use term_size::Norm;
 use termination_model::replaced;
 
-/// The row that has to be shown of a measure: its level at the head, less that at the call, and 1 less where it is to fall.
+/// The row that has to be shown of a measure: its level at the head, less that at the call, and 1 less where it is to
+/// fall.
 ///
 /// The columns are those of the head's arguments and of the call's. There is no row where a number of it does not fit.
 fn drop_row(
@@ -37,7 +38,8 @@ fn drop_row(
 ) -> Result<Option<Row>, AllocError>
     requires weighed { CanBeWeighed columns.now head.now call.now }
     requires some { 1 ≤ length columns.now }
-    ensures { IfOk result (IsRowIfFits (over_columns columns.now (drop_weights (fall_number falls) head.now call.now))) }
+    ensures { IfOk result (IsRowIfFits
+        (over_columns columns.now (drop_weights (fall_number falls) head.now call.now))) }
 {
     let weights = weigh_drop(alloc, head, call, falls)?;
     replaced(alloc, weights.as_slice(), columns)
@@ -55,7 +57,8 @@ fn measures_drop(
     requires parts { CanDrop (length rows.now.list) columns.now heads.now calls.now proofs.now }
     requires width { HaveWidth rows.now.width rows.now.list }
     requires count { length columns.now ≡ rows.now.width + 1 }
-    ensures { IfOk result (λ yes. IsTrue yes ↔ AreShown (plain_rows rows.now.list) columns.now heads.now calls.now proofs.now) }
+    ensures { IfOk result (λ yes. IsTrue yes
+        ↔ AreShown (plain_rows rows.now.list) columns.now heads.now calls.now proofs.now) }
 {
     for i in 0..proofs.len() {
         let falls = i + 1 == proofs.len();
@@ -76,11 +79,12 @@ fn lists_drop(
     calls: &[Sequence<LevelPart>],
     proofs: &[Sequence<Multipliers>],
 ) -> Result<bool, AllocError>
-    requires parts { (m : ℕ) → CanDrop (length rows.now.list) columns.now (list_at heads.now m) (list_at calls.now m) (list_at proofs.now m) }
+    requires parts { (m : ℕ) → CanDrop (length rows.now.list) columns.now
+        (list_at heads.now m) (list_at calls.now m) (list_at proofs.now m) }
     requires width { HaveWidth rows.now.width rows.now.list }
     requires count { length columns.now ≡ rows.now.width + 1 }
-    ensures { IfOk result (λ yes. IsTrue yes
-        ↔ ((m : ℕ) → AreShown (plain_rows rows.now.list) columns.now (list_at heads.now m) (list_at calls.now m) (list_at proofs.now m))) }
+    ensures { IfOk result (λ yes. IsTrue yes ↔ ((m : ℕ) → AreShown (plain_rows rows.now.list) columns.now
+        (list_at heads.now m) (list_at calls.now m) (list_at proofs.now m))) }
 {
     for m in 0..proofs.len() {
         let (own, other) = (items_at(heads, m), items_at(calls, m));
@@ -106,8 +110,9 @@ fn call_drops<N: Norm>(
     requires call { IsSizedAtom parts.now.rows clause.now.vars call.now }
     requires lists { AreListsAt (length system.now.rows.list) clause.now call.now
         (list_at parts.now.lists clause.now.head.pred.0) (list_at parts.now.lists call.now.pred.0) proofs.now }
-    ensures { IfOk result (λ yes. IsTrue yes ↔ ((m : ℕ) → MeasuresDrop (N.expression norm.now) (plain_rows system.now.rows.list)
-        clause.now call.now (list_at (list_at parts.now.lists clause.now.head.pred.0) m)
+    ensures { IfOk result (λ yes. IsTrue yes ↔ ((m : ℕ) → MeasuresDrop (N.expression norm.now)
+        (plain_rows system.now.rows.list) clause.now call.now
+        (list_at (list_at parts.now.lists clause.now.head.pred.0) m)
         (list_at (list_at parts.now.lists call.now.pred.0) m) (list_at proofs.now m))) }
 {
     let columns = fall_columns(alloc, norm, system, call)?;
@@ -170,7 +175,8 @@ fn clause_drops<N: Norm>(
 
 /// Whether the lists drop from each clause's head to each call of its own component.
 ///
-/// At each call, and for each list, the measures up to the call's place are tested over the rows of the atoms before it.
+/// At each call, and for each list, the measures up to the call's place are tested over the rows of the atoms before
+/// the call.
 pub(crate) fn drops_hold<N: Norm>(
     alloc: Global,
     p: &Program,

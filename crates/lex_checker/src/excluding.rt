@@ -10,8 +10,8 @@ ghost use Rattle.lex_checker.specs.Valid.{IsValid};
 
 use lex_certificate::one_reading;
 
-/// Where a certificate of lists is valid, no list of mappings drops at each call of a component that has a stuck set, for
-/// the size rows of the certificate.
+/// Where a certificate of lists is valid, no list of mappings drops at each call of a component that has a stuck set,
+/// for the size rows of the certificate.
 ///
 /// The names are those of the program's predicates, and no two are alike.
 pub fn stuck_components_have_no_list()

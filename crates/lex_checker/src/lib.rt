@@ -1,12 +1,12 @@
 //! The check of a certificate of lists of level mappings.
 //!
-//! It proves that size rows are kept and that the measures of each list drop at each call by multipliers of rows, and that
-//! no list drops by points. `check` is true exactly where a certificate is valid, as `IsValid` of `specs/Valid.antt` says;
-//! `ModesAreBounded` of `specs/Bounding.antt` is what that means for queries, and `StuckComponentsHaveNoList` of
-//! `specs/NoList.antt` what it means for components with stuck sets.
+//! A certificate proves by multipliers of rows that size rows are kept and that the measures of each list drop at each
+//! call, and by points that no list drops. `check` is true exactly where a certificate is valid, as `IsValid` of
+//! `specs/Valid.antt` says; `ModesAreBounded` of `specs/Bounding.antt` is what that means for queries, and
+//! `StuckComponentsHaveNoList` of `specs/NoList.antt` what it means for components with stuck sets.
 //!
-//! Depends on `lex_certificate`, which gives the parts of a certificate, and on `cert_checker` and `cert_modes`, whose tests
-//! are those of lists as well, but for the drops.
+//! Depends on `lex_certificate`, which gives the parts of a certificate, and on `cert_checker` and `cert_modes`, whose
+//! tests serve lists as well, but for the drops.
 #![tactic(auto)]
 
 mod bounding;
