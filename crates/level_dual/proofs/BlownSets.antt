@@ -45,7 +45,7 @@ use Rattle.level_systems.proofs.ViewCalls.{calls_are_pairs, system_same, take_ma
 
 -- where some call is given up, every set is blown
 module _ (expression : ℕ → Tree → List ℤ) (p : Listing) (comps : Partition) (rows : ℕ → List (List ℤ)) (c : ℕ) where
-  before_same : (x : ℕ × ℕ) → rows_before expression (recalled_at expression p rows comps c x) ≡ system expression rows (clause_at p x.0).vars (take (x.1 - 1) (clause_at p x.0).body)
+  pub before_same : (x : ℕ × ℕ) → rows_before expression (recalled_at expression p rows comps c x) ≡ system expression rows (clause_at p x.0).vars (take (x.1 - 1) (clause_at p x.0).body)
   before_same x =
       let k = clause_at p x.0 in
       ap (view.system_of expression k.vars) (take_map (view.call_of (size_claims expression p comps rows) c itself) (x.1 - 1) k.body) ∙ system_same expression p comps rows c k.vars (take (x.1 - 1) k.body)

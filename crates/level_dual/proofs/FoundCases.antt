@@ -34,7 +34,7 @@ full_set (suc n) lo =
     let more : suc lo + n ≡ lo + suc n = omega arith in
     (omega arith, omega arith, subst (λ (k : ℕ). IsSet (suc lo) k (columns (suc lo) n)) more (full_set n (suc lo)))
 
-full_is_set : (n : ℕ) → IsSet 1 (suc n) (columns 1 n)
+pub full_is_set : (n : ℕ) → IsSet 1 (suc n) (columns 1 n)
 full_is_set n = let more : 1 + n ≡ suc n = omega arith in subst (λ (k : ℕ). IsSet 1 k (columns 1 n)) more (full_set n 1)
 
 length_columns : (k n : ℕ) → length (columns k n) ≡ n
@@ -81,22 +81,22 @@ module _ (expression : ℕ → Tree → List ℤ) (p : Listing) (comps : Partiti
   abbrev has : List ℕ → Type 0
   has = had expression p comps rows c
 
-  full_undecided : (s : List ℕ) → In s (undecided s)
+  pub full_undecided : (s : List ℕ) → In s (undecided s)
   full_undecided [] = inl refl
   full_undecided (x ∷ s) = inr (inl refl)
 
-  none_undecided : (s : List ℕ) → In [] (undecided s)
+  pub none_undecided : (s : List ℕ) → In [] (undecided s)
   none_undecided [] = inl refl
   none_undecided (x ∷ s) = inl refl
 
-  sets_undecided : (s : List ℕ) → IsSet 1 (suc many) s → (t : List ℕ) → In t (undecided s) → IsSet 1 (suc many) t
+  pub sets_undecided : (s : List ℕ) → IsSet 1 (suc many) s → (t : List ℕ) → In t (undecided s) → IsSet 1 (suc many) t
   sets_undecided [] h t i = elim i [ inl e ↦ subst (IsSet 1 (suc many)) e tt | inr none ↦ absurd none ]
   sets_undecided (x ∷ s) h t i = elim i [ inl e ↦ subst (IsSet 1 (suc many)) e tt | inr (inl e) ↦ subst (IsSet 1 (suc many)) e h | inr (inr none) ↦ absurd none ]
 
   full_sets : (t : List ℕ) → In t (all ∷ []) → IsSet 1 (suc many) t
   full_sets t i = elim i [ inl e ↦ subst (IsSet 1 (suc many)) e (full_is_set many) | inr none ↦ absurd none ]
 
-  once_undecided : (s : List ℕ) → AreOnce (undecided s)
+  pub once_undecided : (s : List ℕ) → AreOnce (undecided s)
   once_undecided [] = ((λ i. i), tt)
   once_undecided (x ∷ s) = ((λ i. elim i [ inl e ↦ cc | inr j ↦ j ]), ((λ i. i), tt))
 
@@ -184,7 +184,7 @@ module _ (expression : ℕ → Tree → List ℤ) (p : Listing) (comps : Partiti
       subst (IsFound expression p comps rows c) (sym is)
       (subst (λ (t : List ℕ). IsFound expression p comps rows c (record { mappings = []; refutation = None; blown = t ∷ []; large = true })) (sym e) (given_up_found large (subst blown_set e blown)))
 
-  above_more : (sets more : List (List ℕ)) (s : List ℕ) → IsAbove sets s → IsAbove (sets ++ more) s
+  pub above_more : (sets more : List (List ℕ)) (s : List ℕ) → IsAbove sets s → IsAbove (sets ++ more) s
   above_more sets more s (t, i, e) = (t, in-left sets more t i, e)
 
   -- the walk's sets, and perhaps one that was given up before

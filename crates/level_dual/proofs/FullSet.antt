@@ -87,7 +87,7 @@ module _ (size : (ℕ → ℕ) → Tree → ℕ) (truth : (ℕ → Bool) → Tre
       ap (λ (n : ℕ). picked_from 1 (positions_in p comps c) (columns 1 n)) many ∙ all_are_picked (positions_in p comps c)
 
   -- all positions in the order of the clauses
-  order_same : in_order no_truth expression view (arity_in p) all ≡ map spelled x.order.items
+  pub order_same : in_order no_truth expression view (arity_in p) all ≡ map spelled x.order.items
   order_same =
       let order = positions_by (arity_in p) (members_of view) in
       filter_all (λ r. list_any (same_position r) all) order (λ r i.

@@ -75,19 +75,19 @@ place_in [] k x e = cc
 place_in (y ∷ xs) zero x e = inl cc
 place_in (y ∷ xs) (suc k) x e = inr (place_in xs k x e)
 
-taken_in : {X : Type 0} (xs : List X) (k : ℕ) (x : X) → In x (take k xs) → In x xs
+pub taken_in : {X : Type 0} (xs : List X) (k : ℕ) (x : X) → In x (take k xs) → In x xs
 taken_in xs zero x i = absurd i
 taken_in [] (suc k) x i = absurd i
 taken_in (y ∷ xs) (suc k) x (inl e) = inl e
 taken_in (y ∷ xs) (suc k) x (inr i) = inr (taken_in xs k x i)
 
-not_before : {X : Type 0} (xs : List X) (k : ℕ) (x : X) → AreOnce xs → slice_get xs k ≡ Some x → In x (take k xs) → ⊥
+pub not_before : {X : Type 0} (xs : List X) (k : ℕ) (x : X) → AreOnce xs → slice_get xs k ≡ Some x → In x (take k xs) → ⊥
 not_before xs zero x o e i = i
 not_before [] (suc k) x o e i = i
 not_before (y ∷ xs) (suc k) x o e (inl s) = o.0 (subst (λ z. In z xs) (sym s) (place_in xs k x e))
 not_before (y ∷ xs) (suc k) x o e (inr i) = not_before xs k x o.1 e i
 
-take_whole : {X : Type 0} (xs : List X) (n : ℕ) → length xs ≤ n → take n xs ≡ xs
+pub take_whole : {X : Type 0} (xs : List X) (n : ℕ) → length xs ≤ n → take n xs ≡ xs
 take_whole [] zero h = refl
 take_whole [] (suc n) h = refl
 take_whole (x ∷ xs) zero h = absurd (omega arith)

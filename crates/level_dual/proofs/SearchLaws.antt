@@ -152,7 +152,7 @@ module _ (size : (ℕ → ℕ) → Tree → ℕ) (truth : (ℕ → Bool) → Tre
       systems_give_mappings no_truth expression (component_view expression p comps rows c) (positions_in p comps c) mine (arity_in p) lives (λ n t. h.norm.width n t) distinct
       (are_lives expression p comps rows c x.calls.items h.pairs h.held)
 
-  members_there : (o : Recalled) → In o (own_calls (component_view expression p comps rows c)) → In o.rule.member (members_in comps c) × In o.member (members_in comps c)
+  pub members_there : (o : Recalled) → In o (own_calls (component_view expression p comps rows c)) → In o.rule.member (members_in comps c) × In o.member (members_in comps c)
   members_there o i =
       let w = of-map (re expression p comps rows c) x.calls.items o (subst (In o) (calls_are expression p comps rows c x.calls.items h.pairs h.held) i) in
       let own : OwnCall = w.0 in

@@ -27,22 +27,22 @@ use termination_model::Sizes;
 /// The most positions of a component all of whose supports are looked at.
 const MOST_POSITIONS: usize = 12;
 
-// Whether there are more positions than are looked at in all supports.
-fn is_large(positions: &[Position]) -> bool
+/// Whether there are more positions than are looked at in all supports.
+pub fn is_large(positions: &[Position]) -> bool
     ensures { IsTrue result ↔ (12 < length positions.now) }
 {
     positions.len() > MOST_POSITIONS
 }
 
-// How many positions there are.
-fn count_of(positions: &[Position]) -> usize
+/// How many positions there are.
+pub fn count_of(positions: &[Position]) -> usize
     ensures { result ≡ length positions.now }
 {
     positions.len()
 }
 
-// The numbers of the given number of positions, from 1 on. 2^32 and more have no memory.
-fn all_numbers(alloc: Global, count: usize) -> Result<Sequence<u32>, AllocError>
+/// The numbers of the given number of positions, from 1 on. 2^32 and more have no memory.
+pub fn all_numbers(alloc: Global, count: usize) -> Result<Sequence<u32>, AllocError>
     ensures numbers { IfOk result (λ numbers. numbers ≡ columns 1 count) }
     ensures few { IfOk result (λ numbers. count + 1 < 2 ^ 32) }
 {
@@ -60,8 +60,8 @@ fn all_numbers(alloc: Global, count: usize) -> Result<Sequence<u32>, AllocError>
     Ok(Sequence::from_vec(numbers))
 }
 
-// A list of one set.
-fn one_set(alloc: Global, set: Sequence<u32>) -> Result<Sequence<Sequence<u32>>, AllocError>
+/// A list of one set.
+pub fn one_set(alloc: Global, set: Sequence<u32>) -> Result<Sequence<Sequence<u32>>, AllocError>
     ensures { IfOk result (λ sets. sets ≡ set ∷ []) }
 {
     let mut sets = Sequence::new(alloc);

@@ -19,8 +19,8 @@ use level_systems::{Answer, Component, Found, Mapping, Measure, Position};
 use sequences::Sequence;
 use std::alloc::{AllocError, Global};
 
-// Whether a mapping has a positive coefficient at a position.
-fn has_coefficient(measures: &[Measure], position: Position) -> bool
+/// Whether a mapping has a positive coefficient at a position.
+pub fn has_coefficient(measures: &[Measure], position: Position) -> bool
     ensures { result ≡ has_coefficient measures.now (spelled position) }
 {
     let Some(part) = find_part(measures, position.pred) else {
@@ -47,8 +47,8 @@ fn support_of(
     Ok(support)
 }
 
-// The set without a number.
-fn without(alloc: Global, set: &[u32], number: u32) -> Result<Sequence<u32>, AllocError>
+/// The set without a number.
+pub fn without(alloc: Global, set: &[u32], number: u32) -> Result<Sequence<u32>, AllocError>
     ensures { IfOk result (λ rest. rest ≡ without number set.now) }
 {
     let mut rest = Vec::new(alloc);
@@ -136,7 +136,7 @@ fn leave_out(
 }
 
 /// A mapping none of whose positions can be left out, from one whose positions perhaps can.
-pub(crate) fn find_large(
+pub fn find_large(
     alloc: Global,
     p: &Program,
     component: &Component,

@@ -214,8 +214,8 @@ fn is_after(clause: u32, call: u32, x: &PairPoint) -> bool
     call < x.call
 }
 
-// Whether pairs ascend, each with the points that it needs.
-fn are_formed(points: &[PairPoint]) -> bool
+/// Whether pairs ascend, each with the points that it needs.
+pub fn are_formed(points: &[PairPoint]) -> bool
     ensures { IsTrue result ↔ (PairsAscend (0, 0) points.now × AllByRecursion HasPoints points.now) }
 {
     let mut clause = 0;

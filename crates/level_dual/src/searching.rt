@@ -157,7 +157,7 @@ fn search_by(
 /// Searches for a mapping at a set of positions, whose numbers count from 1.
 ///
 /// The system is solved by pivots first. Where the numbers of what these find do not fit, elimination solves it again.
-pub(crate) fn search(
+pub fn search(
     alloc: Global,
     p: &Program,
     component: &Component,

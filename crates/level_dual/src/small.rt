@@ -16,8 +16,8 @@ use level_systems::{Component, Found};
 use sequences::Sequence;
 use std::alloc::{AllocError, Global};
 
-// Whether some set has all numbers of a set.
-fn is_below(sets: &[Sequence<u32>], set: &[u32]) -> bool
+/// Whether some set has all numbers of a set.
+pub fn is_below(sets: &[Sequence<u32>], set: &[u32]) -> bool
     ensures { result ≡ list_any (λ t. is_part set.now t) sets.now }
 {
     for other in sets {
@@ -28,9 +28,9 @@ fn is_below(sets: &[Sequence<u32>], set: &[u32]) -> bool
     false
 }
 
-// The sets that were given up, and that of all positions, where this was given up and nothing was found, unless one of
-// the sets is that.
-fn with_full(
+/// The sets that were given up, and that of all positions, where this was given up and nothing was found, unless one of
+/// the sets is that.
+pub fn with_full(
     alloc: Global,
     blown: Sequence<Sequence<u32>>,
     full: Sequence<u32>,

@@ -16,7 +16,7 @@ use std::alloc::{AllocError, Global};
 use termination_model::number_sets;
 
 /// Whether each number of the first list is in the second.
-pub(crate) fn is_part(xs: &[u32], ys: &[u32]) -> bool
+pub fn is_part(xs: &[u32], ys: &[u32]) -> bool
     ensures { result ≡ is_part xs.now ys.now }
 {
     for x in xs {
@@ -27,8 +27,8 @@ pub(crate) fn is_part(xs: &[u32], ys: &[u32]) -> bool
     true
 }
 
-// Whether some set of a list is part of a set.
-fn is_above(sets: &[Sequence<u32>], set: &[u32]) -> bool
+/// Whether some set of a list is part of a set.
+pub fn is_above(sets: &[Sequence<u32>], set: &[u32]) -> bool
     ensures { result ≡ list_any (λ t. is_part t set.now) sets.now }
 {
     for other in sets {
@@ -47,7 +47,7 @@ fn is_passed(walked: &Walked, set: &[u32]) -> bool
 }
 
 /// The same numbers once more.
-pub(crate) fn copied(alloc: Global, set: &[u32]) -> Result<Sequence<u32>, AllocError>
+pub fn copied(alloc: Global, set: &[u32]) -> Result<Sequence<u32>, AllocError>
     ensures { IfOk result (λ copy. copy ≡ set.now) }
 {
     Ok(Sequence::from_vec(Vec::from_slice(alloc, set)?))

@@ -1,7 +1,7 @@
 -- The course of a search: its start, one turn more, and its ends.
 use Rattle.std.proofs.Common.{◌≡◌, ◌==◌, ◌<◌, ◌≤◌, ℕ, zero, suc, ℤ, Bool, true, false, List, [], ◌∷◌, ◌++◌, map, drop, length, Option, None, Some, inl, inr, refl, ap, sym, subst, ◌∙◌, arith}
 use Rattle.std.specs.List.{AllByRecursion}
-use Rattle.std.proofs.lemmas.List.{length-map}
+use Rattle.std.proofs.lemmas.List.{length-append, length-map}
 use Rattle.call_components.specs.Numbers.{number_of}
 use Rattle.call_components.specs.Partition.{Partition}
 use Rattle.cti_terms.specs.Listing.{Listing}
@@ -29,7 +29,9 @@ use Rattle.level_systems.specs.declared.own_call.OwnCall.{OwnCall}
 use Rattle.level_systems.specs.declared.position.Position.{Position}
 use Rattle.level_systems.proofs.HeldCalls.{all_in, calls_are, re, rows_are, shown_empty}
 use Rattle.level_dual.proofs.FoundLaws.{wide_heads}
-use Rattle.lex_turns.specs.Coursing.{IsAdvanced, IsCourse, is_none, remaining_of}
+use Rattle.lex_turns.specs.Coursing.{IsAdvanced, IsCourse, KeepReached, SomeLeft, is_none, remaining_of}
+use Rattle.lex_turns.specs.FoundLists.{AreNeeded}
+use Rattle.lex_turns.proofs.Leaving.{first_reached, left_needed, more_left, more_reached}
 use Rattle.lex_turns.specs.Descending.{AreMeasuresOf, AreReached, HasPlace, IsGivenUp, IsListAt, IsMeasureOf, IsTurnBlown, is_first}
 use Rattle.lex_turns.specs.Descending.IsGivenUp.{turned, zero as zero_fails}
 use Rattle.lex_turns.specs.Descending.AreMeasuresAt.{turned as measured_turned, zero as measured_zero}
@@ -120,6 +122,8 @@ start_course p x at course eg ed em =
         left = ap (recalled expression p comps rows c x at) (sym (first_kept owns) ∙ ap (kept owns) (sym eg));
         measures = subst (λ (mss : List (List Measure)). AreMeasuresOf p (members_in comps c) (map spelled at) (map number_of x.by_clauses.items) [] mss) (sym em) tt;
       };
+      reached = subst (KeepReached owns) (sym eg) (first_reached owns);
+      leave = λ i less. let none = ap length em in absurd (omega (arith, less, none));
     }
 
 -- ---- one turn more
@@ -156,6 +160,11 @@ more_course p x at old new m first ready course moved firsts made turn =
             measures = subst (λ (mss : List (List Measure)). AreMeasuresOf p (members_in comps c) ps qs (before.turns ++ now.turn ∷ []) mss) (sym moved.measures)
                 (measures_more p (members_in comps c) ps qs before.turns old.measures now.turn m.measures before.measures now.measures);
           };
+      reached = subst (KeepReached owns) (sym moved.gone) (more_reached owns gs m.falls course.reached);
+      leave = λ i less.
+          let many = ap length moved.measures ∙ length-append old.measures (m.measures ∷ []) in
+          subst (λ (fs : List Bool). SomeLeft i owns fs new.drops.items) (sym moved.gone) (subst (λ (ds : List CallDrops). SomeLeft i owns (after_falls gs m.falls) ds) (sym moved.drops)
+          (more_left old.measures owns gs m.falls m.values old.drops.items course.tracked course.reached long made.some course.leave i (omega (arith, less, many))));
     }
 
 pub fewer_stay : (gs fs : List Bool) → length fs ≡ staying gs → SomeFalls fs → staying (after_falls gs fs) < staying gs
@@ -248,7 +257,7 @@ module _ (size : (ℕ → ℕ) → Tree → ℕ) (truth : (ℕ → Bool) → Tre
         )
 
     pub list_at : (course : Course) (l : MeasureList) → IsCourse p x at course → remaining_of x course ≡ [] → (ms : List Measure) (mss : List (List Measure)) → course.measures ≡ ms ∷ mss → l.measures ≡ course.measures → l.drops ≡ course.drops.items
-        → IsListAt expression p comps rows c (map spelled at) l
+        → IsListAt expression p comps rows c (map spelled at) l × AreNeeded expression p comps rows c l
     list_at course l is_course none ms mss em el ed =
         let told = is_course.turns size truth expression comps rows c h in
         let us = told.turns in
@@ -260,16 +269,20 @@ module _ (size : (ℕ → ℕ) → Tree → ℕ) (truth : (ℕ → Bool) → Tre
         subst (AreMeasuresOf p (members_in comps c) (map spelled at) (map number_of x.by_clauses.items) us) em told.measures in
         let tracked : AreTracked (ms ∷ mss) owns gs l.drops =
         subst (λ (ds : List CallDrops). AreTracked (ms ∷ mss) owns gs ds) (sym ed) (subst (λ (ns : List (List Measure)). AreTracked ns owns gs course.drops.items) em is_course.tracked) in
-        let held = h.held in
-        record {
-          measures = measured_turned lives us reached (told_at us told.are) (told.left ∙ ap (map own) none) (some_turns (map spelled at) (map number_of x.by_clauses.items) (members_in comps c) us ms mss measures)
-              (subst (λ (ns : List (List Measure)). AreMeasuresOf p (members_in comps c) (map spelled at) (members_of view) us ns) (sym whole)
-              (subst (λ (qs : List ℕ). AreMeasuresOf p (members_in comps c) (map spelled at) qs us (ms ∷ mss)) h.by_clauses measures));
-          pairs = pairs_are ms mss owns gs l.drops tracked none ∙ h.pairs;
-          places = subst (λ (ns : List (List Measure)). AllByRecursion (λ (d : CallDrops). HasPlace expression p rows ns (d.clause, d.call) d.by) l.drops) (sym whole)
-              (places_are size truth expression h.norm p rows ms mss owns gs l.drops held
-              (all_in _ owns (λ y i. wide_at (map spelled at) (map number_of x.by_clauses.items) us (ms ∷ mss) measures y (from_in (IsHeld expression p rows) owns held y i))) tracked none);
-        }
+        let held = h.held in (
+          record {
+            measures = measured_turned lives us reached (told_at us told.are) (told.left ∙ ap (map own) none) (some_turns (map spelled at) (map number_of x.by_clauses.items) (members_in comps c) us ms mss measures)
+                (subst (λ (ns : List (List Measure)). AreMeasuresOf p (members_in comps c) (map spelled at) (members_of view) us ns) (sym whole)
+                (subst (λ (qs : List ℕ). AreMeasuresOf p (members_in comps c) (map spelled at) qs us (ms ∷ mss)) h.by_clauses measures));
+            pairs = pairs_are ms mss owns gs l.drops tracked none ∙ h.pairs;
+            places = subst (λ (ns : List (List Measure)). AllByRecursion (λ (d : CallDrops). HasPlace expression p rows ns (d.clause, d.call) d.by) l.drops) (sym whole)
+                (places_are size truth expression h.norm p rows ms mss owns gs l.drops held
+                (all_in _ owns (λ y i. wide_at (map spelled at) (map number_of x.by_clauses.items) us (ms ∷ mss) measures y (from_in (IsHeld expression p rows) owns held y i))) tracked none);
+          },
+          (λ long i less.
+              left_needed size truth expression h.norm p comps rows c (ms ∷ mss) i owns gs l.drops held tracked
+              (subst (SomeLeft i owns gs) (sym ed) (is_course.leave i (subst (λ (ns : List (List Measure)). i < length ns) el less)))),
+        )
 
     no_turns : (ps : List Place) (qs names : List ℕ) (us : List Turn) → AreMeasuresOf p names ps qs us [] → us ≡ []
     no_turns ps qs names [] are = refl
@@ -295,17 +308,19 @@ module _ (size : (ℕ → ℕ) → Tree → ℕ) (truth : (ℕ → Bool) → Tre
         (subst (λ (os : List Recalled). AllByRecursion (λ (o : Recalled). row_fits (fall_over no_truth expression o.rule o.member o.call.args 1 l) ≡ true) os) (calls_are expression p comps rows c x.calls.items h.pairs h.held) fit)))
 
     pub zero_list_at : (course : Course) (l : MeasureList) → IsCourse p x at course → course.measures ≡ [] → remaining_of x course ≡ [] → AllByRecursion IsReady x.calls.items → (ms : List Measure) → AreZeros p (map number_of x.members.items) ms
-        → EmptyFall ms x.calls.items → l.measures ≡ ms ∷ [] → l.drops ≡ course.drops.items → IsListAt expression p comps rows c (map spelled at) l
+        → EmptyFall ms x.calls.items → l.measures ≡ ms ∷ [] → l.drops ≡ course.drops.items → IsListAt expression p comps rows c (map spelled at) l × AreNeeded expression p comps rows c l
     zero_list_at course l is_course em none ready ms zeros falls el ed =
         let owns = x.calls.items in
         let gs = course.gone.items in
         let first : AreTracked [] owns gs l.drops = subst (λ (ds : List CallDrops). AreTracked [] owns gs ds) (sym ed) (subst (λ (ns : List (List Measure)). AreTracked ns owns gs course.drops.items) em is_course.tracked) in
         let tracked = zero_tracked ms owns gs l.drops ready first none falls in
         let shaped = zero_shaped p (map number_of x.members.items) ms zeros in
-        let wide = wide_heads size truth expression p comps rows c x h ms shaped owns h.held in
-        record {
-          measures = measured_zero ms (zero_reached course is_course em none) el (subst (λ (names : List ℕ). HasMeasures p names ms) h.members shaped) zeros.parts;
-          pairs = pairs_are ms [] owns gs l.drops tracked none ∙ h.pairs;
-          places = subst (λ (ns : List (List Measure)). AllByRecursion (λ (d : CallDrops). HasPlace expression p rows ns (d.clause, d.call) d.by) l.drops) (sym el)
-              (places_are size truth expression h.norm p rows ms [] owns gs l.drops h.held (all_map _ _ (λ y w. (w, tt)) owns wide) tracked none);
-        }
+        let wide = wide_heads size truth expression p comps rows c x h ms shaped owns h.held in (
+          record {
+            measures = measured_zero ms (zero_reached course is_course em none) el (subst (λ (names : List ℕ). HasMeasures p names ms) h.members shaped) zeros.parts;
+            pairs = pairs_are ms [] owns gs l.drops tracked none ∙ h.pairs;
+            places = subst (λ (ns : List (List Measure)). AllByRecursion (λ (d : CallDrops). HasPlace expression p rows ns (d.clause, d.call) d.by) l.drops) (sym el)
+                (places_are size truth expression h.norm p rows ms [] owns gs l.drops h.held (all_map _ _ (λ y w. (w, tt)) owns wide) tracked none);
+          },
+          (λ long i less. let one = ap length el in absurd (omega (arith, long, one))),
+        )

@@ -61,7 +61,7 @@ pub record HasLast (n : ℕ) (xs : List ℕ) : Type 0 where
   pub is : xs ≡ front ++ last ∷ []
   pub long : length front ≡ n
 
-split_last : (n : ℕ) (xs : List ℕ) → length xs ≡ n + 1 → HasLast n xs
+pub split_last : (n : ℕ) (xs : List ℕ) → length xs ≡ n + 1 → HasLast n xs
 split_last n [] e = absurd (omega (arith, e))
 split_last zero (x ∷ []) e = record { front = []; last = x; is = refl; long = refl }
 split_last zero (x ∷ (y ∷ xs)) e = absurd (omega (arith, e))

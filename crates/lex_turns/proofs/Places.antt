@@ -63,7 +63,7 @@ module _ (size : (ℕ → ℕ) → Tree → ℕ) (truth : (ℕ → Bool) → Tre
   abbrev pub IsWide : List Measure → OwnCall → Type 0
   IsWide ms own = (head : LevelPart) → level_in ms (clause_at p own.clause).head.pred.0 ≡ Some head → length head.coeffs ≡ length (clause_at p own.clause).head.args
 
-  rows_same : (own : OwnCall) → (h : IsHeld expression p rows own)
+  pub rows_same : (own : OwnCall) → (h : IsHeld expression p rows own)
       → plain_rows own.rows.list ≡ short_system expression rows (clause_at p own.clause).vars (take (own.call - 1) (clause_at p own.clause).body)
   rows_same own h =
       let rs = system expression rows (clause_at p own.clause).vars (take (own.call - 1) (clause_at p own.clause).body) in

@@ -1,6 +1,6 @@
 -- Private.
 -- The course of a search as the code keeps it. Nothing here has to be believed.
-use Rattle.std.specs.Prelude.{◌≡◌, ◌<◌, ◌≤◌, ◌++◌, ℕ, ℤ, Bool, true, false, List, [], ◌∷◌, length, map}
+use Rattle.std.specs.Prelude.{◌≡◌, ◌⊎◌, ◌<◌, ◌≤◌, ◌++◌, ℕ, suc, ℤ, Bool, true, false, List, [], ◌∷◌, length, map, None}
 use Rattle.call_components.specs.Numbers.{number_of}
 use Rattle.call_components.specs.Partition.{Partition}
 use Rattle.cti_terms.specs.Listing.{Listing}
@@ -16,7 +16,9 @@ use Rattle.level_systems.specs.declared.measure.Measure.{Measure}
 use Rattle.level_systems.specs.declared.own_call.OwnCall.{OwnCall}
 use Rattle.level_systems.specs.declared.position.Position.{Position}
 use Rattle.lex_turns.specs.Descending.{IsGivenUp, IsListAt, IsTurnBlown}
+use Rattle.lex_turns.specs.FoundLists.{AreNeeded}
 use Rattle.lex_turns.specs.Tracking.{AreTracked, HasTurns, after_drops, after_falls, kept, recalled, staying}
+use Rattle.lex_turns.specs.declared.call_drops.CallDrops.{CallDrops}
 use Rattle.lex_turns.specs.declared.course.Course.{Course}
 use Rattle.lex_turns.specs.declared.course.Ended.{Ended}
 use Rattle.lex_turns.specs.declared.course.Ended.TheVariants as ended
@@ -33,12 +35,35 @@ abbrev pub is_none : {X : Type 0} → List X → Bool
 is_none [] = true
 is_none (x ∷ xs) = false
 
+-- the calls that are not gone can be reached
+abbrev pub KeepReached : List OwnCall → List Bool → Type 0
+KeepReached [] gs = Unit {0}
+KeepReached (own ∷ owns) [] = Unit {0}
+KeepReached (own ∷ owns) (true ∷ gs) = KeepReached owns gs
+KeepReached (own ∷ owns) (false ∷ gs) = (own.empty ≡ None) × KeepReached owns gs
+
+-- some call that can be reached left in the turn of this number, from 0 on
+abbrev pub SomeLeft : ℕ → List OwnCall → List Bool → List CallDrops → Type 0
+SomeLeft i [] gs ds = ⊥
+SomeLeft i (own ∷ owns) [] ds = ⊥
+SomeLeft i (own ∷ owns) (g ∷ gs) [] = ⊥
+SomeLeft i (own ∷ owns) (true ∷ gs) (d ∷ ds) = ((own.empty ≡ None) × (length d.by ≡ suc i)) ⊎ SomeLeft i owns gs ds
+SomeLeft i (own ∷ owns) (false ∷ gs) (d ∷ ds) = SomeLeft i owns gs ds
+
 -- each call has its drops, and turns have left the calls that remain
 pub record IsCourse (p : Listing) (x : Component) (at : List Position) (course : Course) : Type 0 where
   pub gone : length course.gone.items ≡ length x.calls.items
   pub drops : length course.drops.items ≡ length x.calls.items
   pub tracked : AreTracked course.measures x.calls.items course.gone.items course.drops.items
   pub turns : ForComponent p x (λ expression comps rows c. HasTurns expression p comps rows c x at course.measures (remaining_of x course))
+  pub reached : KeepReached x.calls.items course.gone.items
+  pub leave : (i : ℕ) → i < length course.measures → SomeLeft i x.calls.items course.gone.items course.drops.items
+
+-- where a search stops, each call is gone or not
+abbrev pub HasGone : Component → Ended → Type 0
+HasGone x (ended.List l) = Unit {0}
+HasGone x (ended.Refuted gone) = length gone.items ≡ length x.calls.items
+HasGone x ended.GivenUp = Unit {0}
 
 -- a turn was added
 pub record IsAdvanced (x : Component) (m : Made) (old new : Course) : Type 0 where
@@ -73,6 +98,6 @@ module _ (expression : ℕ → Tree → List ℤ) (p : Listing) (comps : Partiti
     pub refuted : IsRefuted expression p comps rows c x at (kept x.calls.items gone)
 
   abbrev pub IsEnded : Ended → Type 0
-  IsEnded (ended.List l) = IsListAt expression p comps rows c (map spelled at) l
+  IsEnded (ended.List l) = IsListAt expression p comps rows c (map spelled at) l × AreNeeded expression p comps rows c l
   IsEnded (ended.Refuted gone) = IsStopped gone.items
   IsEnded ended.GivenUp = IsGivenUp expression (component_view expression p comps rows c) (arity_in p) (map spelled at)

@@ -17,16 +17,16 @@ use Rattle.linear_rows.specs.Members.{In}
 use Rattle.linear_rows.specs.Rows.{AreEmpty}
 use Rattle.linear_rows.specs.Showing.{AreMultipliers, IsShown, bottom_row}
 use Rattle.linear_rows.specs.Solving.{Solution, solution}
-use Rattle.linear_rows.specs.Solving.Solution.{Blown, Found}
+use Rattle.linear_rows.specs.Solving.Solution.{Blown, Found, Refuted}
 use Rattle.linear_rows.specs.declared.multipliers.Multipliers.{Multipliers}
 use Rattle.number_tests.specs.Shape.{row_count}
 use Rattle.number_tests.specs.declared.level_part.LevelPart.{LevelPart}
-use Rattle.termination_model.specs.BlownSupports.{in_order}
+use Rattle.termination_model.specs.BlownSupports.{CheckFits, in_order}
 use Rattle.termination_model.specs.Claims.{Mapping}
 use Rattle.termination_model.specs.ComponentViews.{component_view, members_in, no_truth, positions_in}
-use Rattle.termination_model.specs.Excluding.{IsAt, IsLive}
+use Rattle.termination_model.specs.Excluding.{IsAt, IsLive, pairs_at}
 use Rattle.termination_model.specs.OwnCalls.{OwnCall, Position, members_of, own_calls, rows_before}
-use Rattle.termination_model.specs.Ready.{arity_in}
+use Rattle.termination_model.specs.Ready.{arity_in, positions_by}
 use Rattle.termination_model.specs.Stuck.{ListDescends}
 use Rattle.termination_model.specs.Supports.{picked_from}
 use Rattle.termination_model.specs.SupportSystem.{mapping_at}
@@ -82,7 +82,7 @@ module _ (expression : ℕ → Tree → List ℤ) (view : List Rule) (arity : �
   turn_solution rest = solution (turn_unknowns expression positions (members_of view) rest) (turn_rows expression positions (members_of view) rest)
 
   -- a turn cannot be made for the calls that remain: the solving is blown, or a number does not fit in the check of the
-  -- mapping's drops
+  -- mapping's drops, or of a stuck set
   pub data IsTurnBlown (first : Bool) (rest : List OwnCall) : Type 0 where
     solving : (step : ℕ) (wide : Bool) → turn_solution rest ≡ Blown step wide → IsTurnBlown first rest
     mapping : (t : ℤ) (u : Turn) → turn_solution rest ≡ Found t (map pos (u.coefficients ++ (u.offsets ++ (u.drops ++ u.multipliers))))
@@ -90,6 +90,9 @@ module _ (expression : ℕ → Tree → List ℤ) (view : List Rule) (arity : �
         → (DropsFit no_truth expression view arity (mapping_by arity positions (members_of view) u) rest u.drops u.multipliers
         → (first ≡ true → EmptyFit no_truth expression view arity (mapping_by arity positions (members_of view) u)) → ⊥)
         → IsTurnBlown first rest
+    -- no turn can be made at all positions, and a number does not fit in the check of the stuck set that shows it
+    sticking : (vs : List ℕ) (s : ℕ) → ((r : Position) → In r (positions_by arity (members_of view)) → In r positions)
+        → turn_solution rest ≡ Refuted (map pos (vs ++ s ∷ [])) → (CheckFits no_truth expression view arity (pairs_at rest vs) → ⊥) → IsTurnBlown first rest
 
   abbrev pub is_first : List Turn → Bool
   is_first [] = true

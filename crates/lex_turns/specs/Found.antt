@@ -1,19 +1,55 @@
--- To believe, for the modes.
--- What the search for a list that descends answers at a set of positions.
---
--- To believe: all of this file.
-use Rattle.std.specs.Prelude.{ℕ, ℤ, List}
+-- Private.
+-- What the search for a list at a set of positions answers. Nothing here has to be believed.
+use Rattle.std.specs.Prelude.{◌≡◌, ◌⊎◌, ℕ, ℤ, true, List}
 use Rattle.call_components.specs.Partition.{Partition}
 use Rattle.cti_terms.specs.Listing.{Listing}
 use Rattle.cti_terms.specs.Tree.{Tree}
-use Rattle.termination_model.specs.ComponentViews.{component_view}
-use Rattle.termination_model.specs.Ready.{arity_in}
-use Rattle.lex_turns.specs.Descending.{IsGivenUp, IsListAt, NoneDescends, positions_at}
+use Rattle.termination_model.specs.ComponentViews.{positions_in}
+use Rattle.linear_rows.specs.Members.{In}
+use Rattle.termination_model.specs.Minimal.{IsExcluded}
+use Rattle.termination_model.specs.Modes.{is_part}
+use Rattle.level_systems.specs.Found.{IsBlownSet, had}
+use Rattle.level_systems.specs.declared.component.Component.{Component}
+use Rattle.level_systems.specs.declared.position.Position.{Position}
+use Rattle.lex_turns.specs.Coursing.{IsStopped}
+use Rattle.lex_turns.specs.FoundLists.{HasList, IsDescendingList, IsGivenUpAt, IsLong, support_of_list}
+use Rattle.lex_turns.specs.declared.course.Ended.{Ended}
+use Rattle.lex_turns.specs.declared.course.Ended.TheVariants as ended
+use Rattle.lex_turns.specs.declared.measure_list.MeasureList.{MeasureList}
 use Rattle.lex_turns.specs.declared.within.Within.{Within}
 use Rattle.lex_turns.specs.declared.within.Within.TheVariants as within
 
 module _ (expression : ℕ → Tree → List ℤ) (p : Listing) (comps : Partition) (rows : ℕ → List (List ℤ)) (c : ℕ) where
+  -- a list that descends, whose support is part of a set
+  pub record IsListIn (s : List ℕ) (l : MeasureList) : Type 0 where
+    pub list : IsDescendingList expression p comps rows c l
+    pub part : is_part (support_of_list (positions_in p comps c) l) s ≡ true
+    pub has : HasList expression p comps rows c (support_of_list (positions_in p comps c) l)
+
+  -- no list that descends has a support that is part of a set
+  abbrev pub IsVoid : List ℕ → Type 0
+  IsVoid s = IsExcluded (HasList expression p comps rows c) s
+
+  abbrev pub AreVoid : List (List ℕ) → Type 0
+  AreVoid sets = (s : List ℕ) → In s sets → IsVoid s
+
   abbrev pub IsWithin : List ℕ → Within → Type 0
-  IsWithin s (within.List l) = IsListAt expression p comps rows c (positions_at expression p comps rows c s) l
-  IsWithin s within.Nothing = NoneDescends expression p comps rows c s
-  IsWithin s within.GivenUp = IsGivenUp expression (component_view expression p comps rows c) (arity_in p) (positions_at expression p comps rows c s)
+  IsWithin s (within.List l) = IsListIn s l
+  IsWithin s within.Nothing = IsVoid s
+  IsWithin s within.GivenUp = IsGivenUpAt expression p comps rows c s
+
+  -- the same, with the calls for which no turn can be made
+  abbrev pub IsEndedAt : Component → List Position → List ℕ → Ended → Type 0
+  IsEndedAt x at s (ended.List l) = IsListIn s l
+  IsEndedAt x at s (ended.Refuted gone) = IsStopped expression p comps rows c x at gone.items × IsVoid s
+  IsEndedAt x at s ended.GivenUp = IsGivenUpAt expression p comps rows c s
+
+  -- no mapping decreases at a set, or that is not known, since the set's system is blown
+  abbrev pub IsUnmapped : List ℕ → Type 0
+  IsUnmapped s = IsBlownSet expression p comps rows c s ⊎ IsExcluded (had expression p comps rows c) s
+
+  -- a long list is found only where no mapping is
+  abbrev pub IsChosen : List ℕ → Within → Type 0
+  IsChosen s (within.List l) = IsLong l → IsUnmapped s
+  IsChosen s within.Nothing = Unit {0}
+  IsChosen s within.GivenUp = Unit {0}

@@ -1,8 +1,13 @@
 pub mod Coursing
+pub mod Deciding
 pub mod Descending
 pub mod Found
 pub mod FoundLists
+pub mod Large
+pub mod Single
+pub mod Sticking
 pub mod Testing
 pub mod Tracking
 pub mod Turning
+pub mod Walked
 pub mod Zeros

@@ -9,22 +9,28 @@
 #![tactic(auto)]
 
 mod call_drops;
+mod copies;
 mod course;
+mod deciding;
 mod dropping;
 mod finding;
 mod found_lists;
+mod large;
+mod lists;
 mod measure_list;
-mod search;
 mod searching;
+mod single;
+mod small;
+mod stuck;
 mod tracking;
 mod turn;
 mod turning;
+mod walked;
+mod walking;
 mod within;
 mod zeros;
 
 pub use call_drops::CallDrops;
-pub use finding::search_within;
 pub use found_lists::FoundLists;
+pub use lists::search;
 pub use measure_list::MeasureList;
-pub use search::search;
-pub use within::Within;

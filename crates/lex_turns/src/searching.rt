@@ -7,7 +7,7 @@ ghost use Rattle.level_systems.specs.Held.{spelled};
 ghost use Rattle.level_systems.specs.Mappings.{HasMeasures};
 ghost use Rattle.level_systems.specs.Searched.{IsSound};
 ghost use Rattle.level_systems.specs.declared.position.Position.{Position};
-ghost use Rattle.lex_turns.specs.Coursing.{IsAdvanced, IsCourse, IsEnded, IsNext, remaining_of};
+ghost use Rattle.lex_turns.specs.Coursing.{HasGone, IsAdvanced, IsCourse, IsEnded, IsNext, remaining_of};
 ghost use Rattle.lex_turns.specs.Tracking.{kept, staying};
 ghost use Rattle.level_systems.specs.Turned.{all_rows};
 ghost use Rattle.termination_model.specs.Supports.{AreDistinct};
@@ -111,7 +111,8 @@ fn zero_list(
     requires sound { IsSound p.now component.now }
     requires measures { course.measures ≡ [] }
     requires none { remaining_of component.now course ≡ [] }
-    ensures { IfOk result (λ ended. (at : List Position) → IsCourse p.now component.now at course → ForComponent p.now component.now (λ expression comps rows c.
+    ensures gone { IfOk result (HasGone component.now) }
+    ensures ended { IfOk result (λ ended. (at : List Position) → IsCourse p.now component.now at course → ForComponent p.now component.now (λ expression comps rows c.
         IsEnded expression p.now comps rows c component.now at ended)) }
 {
     let measures = zero_measures(alloc, p, component.members.as_slice())?;
@@ -140,7 +141,8 @@ fn list_of(
 ) -> Result<Ended, AllocError>
     requires sound { IsSound p.now component.now }
     requires none { remaining_of component.now course ≡ [] }
-    ensures { IfOk result (λ ended. (at : List Position) → IsCourse p.now component.now at course → ForComponent p.now component.now (λ expression comps rows c.
+    ensures gone { IfOk result (HasGone component.now) }
+    ensures ended { IfOk result (λ ended. (at : List Position) → IsCourse p.now component.now at course → ForComponent p.now component.now (λ expression comps rows c.
         IsEnded expression p.now comps rows c component.now at ended)) }
 {
     if course.measures.is_empty() {
@@ -166,7 +168,8 @@ pub(crate) fn take_turns(
 ) -> Result<Ended, AllocError>
     requires sound { IsSound p.now component.now }
     requires distinct { AreDistinct (map spelled at.now) }
-    ensures { IfOk result (λ ended. ForComponent p.now component.now (λ expression comps rows c.
+    ensures gone { IfOk result (HasGone component.now) }
+    ensures ended { IfOk result (λ ended. ForComponent p.now component.now (λ expression comps rows c.
         IsEnded expression p.now comps rows c component.now at.now ended)) }
 {
     let mut course = start(alloc, p, component)?;

@@ -109,8 +109,8 @@ fn made_at(
     }))
 }
 
-// The system of a turn.
-fn system_of(
+/// The system of a turn.
+pub(crate) fn system_of(
     alloc: Global,
     p: &Program,
     component: &Component,

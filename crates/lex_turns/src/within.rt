@@ -4,7 +4,7 @@ use crate::measure_list::MeasureList;
 
 /// What the search for a list of mappings at a set of positions finds.
 #[derive(Drop)]
-pub enum Within {
+pub(crate) enum Within {
     /// A list that descends, whose mappings are positive at these positions alone.
     List(MeasureList),
     /// That there is none.

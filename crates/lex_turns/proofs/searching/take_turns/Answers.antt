@@ -3,8 +3,8 @@ use Rattle.lex_turns.specs.Coursing.{IsNext, remaining_of}
 use Rattle.lex_turns.proofs.Courses.{blown_given_up}
 use Rattle.lex_turns.proofs.searching.take_turns.Goals as goal
 
-pub returns-in-Blown : goal.returns-in-Blown
-returns-in-Blown c = λ size truth expression comps rows r h.
+pub returns-in-Blown-clause-ended : goal.returns-in-Blown-clause-ended
+returns-in-Blown-clause-ended c = λ size truth expression comps rows r h.
     let x = c.args.component.now in
     let p = c.args.p.now in
     let at = c.args.at.now in

@@ -26,8 +26,8 @@ empty_fall-requires-clause-ready c =
     let x = c.args.component.now in
     subst (AllByRecursion IsReady) (sym c.as_slice-2.ensures.value) (ready_among c.args.p.now x c.requires.sound x.calls.items (all_among x.calls.items))
 
-pub returns-then-not-branch : goal.returns-then-not-branch
-returns-then-not-branch c = λ at is size truth expression comps rows r h.
+pub returns-then-not-branch-clause-ended : goal.returns-then-not-branch-clause-ended
+returns-then-not-branch-clause-ended c = λ at is size truth expression comps rows r h.
     let x = c.args.component.now in
     let p = c.args.p.now in
     let ms = c.in_ok-measures.measures in
@@ -36,8 +36,8 @@ returns-then-not-branch c = λ at is size truth expression comps rows r h.
     zero_given_up size truth expression p comps rows r x h at c.args.course is c.requires.measures c.requires.none ms zeros
     (λ falls. fails (subst (λ (os : List OwnCall). EmptyFall c.as_slice-3.result.now os) (sym c.as_slice-2.ensures.value) (subst (λ (ns : List Measure). EmptyFall ns x.calls.items) (sym c.as_slice-3.ensures) falls)))
 
-pub returns : goal.returns
-returns c = λ at is size truth expression comps rows r h.
+pub returns-clause-ended : goal.returns-clause-ended
+returns-clause-ended c = λ at is size truth expression comps rows r h.
     let x = c.args.component.now in
     let p = c.args.p.now in
     let ms = c.in_ok-measures.measures in

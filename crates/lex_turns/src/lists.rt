@@ -5,9 +5,12 @@ ghost use Rattle.call_components.specs.Partition.{AreComponents};
 ghost use Rattle.lex_turns.specs.FoundLists.{AreFoundLists};
 ghost use Rattle.termination_model.specs.Sizes.{AreSizes, rows_of};
 
+use crate::deciding::{find, nothing_decided};
 use crate::found_lists::FoundLists;
 use call_components::Components;
 use cti_terms::Program;
+use level_dual::{all_numbers, count_of, is_large};
+use level_systems::{collect, component_positions};
 use std::alloc::{AllocError, Global};
 use term_size::Norm;
 use termination_model::Sizes;
@@ -35,5 +38,12 @@ pub fn search<N: Norm>(
     requires sizes { AreSizes p.now.preds sizes.now.rows }
     ensures { IfOk result (AreFoundLists (N.expression norm.now) p.now comps.now (rows_of sizes.now.rows) c) }
 {
-    Err(AllocError)
+    let positions = component_positions(alloc, p, comps, c)?;
+    let large = is_large(positions.as_slice());
+    let full = all_numbers(alloc, count_of(positions.as_slice()))?;
+    let Some(component) = collect(alloc, p, comps, c, norm, sizes, positions)? else {
+        return nothing_decided(alloc, full, large);
+    };
+    let found = find(alloc, p, norm, sizes, &component, full)?;
+    Ok(found)
 }

@@ -1,0 +1,194 @@
+-- What is found of lists, case by case.
+use Rattle.std.proofs.Common.{◌≡◌, ◌↔◌, ◌⊎◌, inl, inr, ℕ, zero, suc, ◌<◌, ◌≤◌, ◌≢◌, ℤ, Bool, true, false, IsTrue, List, [], ◌∷◌, ◌++◌, map, length, Option, None, Some, refl, ap, sym, subst, ◌∙◌, arith}
+use Rattle.std.specs.Prelude.{IfSome}
+use Rattle.std.specs.List.{AllByRecursion}
+use Rattle.cti_terms.specs.Listing.{Listing}
+use Rattle.cti_terms.specs.Tree.{Tree}
+use Rattle.call_components.specs.Partition.{Partition}
+use Rattle.linear_rows.specs.Members.{In}
+use Rattle.linear_rows.proofs.Members.{in-left, of-append}
+use Rattle.number_tests.specs.declared.refutation.Refutation.{Refutation}
+use Rattle.termination_model.specs.ComponentViews.{positions_in}
+use Rattle.termination_model.specs.Minimal.{IsAbove, IsExcluded, IsSet}
+use Rattle.termination_model.specs.Modes.{chosen_up_to, is_part}
+use Rattle.termination_model.proofs.Sets.{up_to_set}
+use Rattle.level_systems.specs.Found.{IsBlownSet, IsFound, count, full, had, without}
+use Rattle.level_systems.specs.Mappings.{mapping_of, support_of}
+use Rattle.level_systems.specs.Subsequences.{AreOnce, IsSubsequence}
+use Rattle.level_systems.specs.declared.found.Found.{Found}
+use Rattle.level_systems.specs.declared.mapping.Mapping.{Mapping}
+use Rattle.level_dual.specs.Cases.{undecided}
+use Rattle.level_dual.specs.Walked.{IsCompleted}
+use Rattle.level_dual.proofs.FoundCases.{above_more, all_full, full_is_set, full_undecided, none_undecided, once_undecided, part_full, sets_undecided}
+use Rattle.level_dual.proofs.LargeLaws.{not_within, without_set}
+use Rattle.level_dual.proofs.Subsequences.{in_whole}
+use Rattle.level_dual.proofs.WalkSteps.{walk_steps}
+use Rattle.lex_turns.specs.Deciding.{IsNotFound}
+use Rattle.lex_turns.specs.Found.{IsUnmapped, IsVoid}
+use Rattle.lex_turns.specs.FoundLists.{AreFoundLists, HasList, IsDescendingList, IsGivenUpAt, IsLong, IsStuckSetOf, IsWithoutSpare, support_of_list, supports}
+use Rattle.lex_turns.specs.Large.{IsHadList, IsLeftOut}
+use Rattle.lex_turns.specs.Walked.{IsAllWalked, own_support}
+use Rattle.lex_turns.specs.declared.found_lists.FoundLists.{FoundLists}
+use Rattle.lex_turns.specs.declared.large.LeftOut.TheVariants.{None as NoneLeft}
+use Rattle.lex_turns.specs.declared.measure_list.MeasureList.{MeasureList}
+use Rattle.lex_turns.specs.declared.walked.Walked.{Walked}
+use Rattle.lex_turns.proofs.ListSupports.{list_had, list_sets, void_had}
+
+true_of : (b : Bool) → IsTrue b → b ≡ true
+true_of true t = refl
+true_of false t = cc
+
+both : (b : Bool) → b ≡ true → b ≡ false → ⊥
+both b e f = cc
+
+module _ (expression : ℕ → Tree → List ℤ) (p : Listing) (comps : Partition) (rows : ℕ → List (List ℤ)) (c : ℕ) where
+  abbrev all : List ℕ
+  all = full expression p comps rows c
+
+  abbrev many : ℕ
+  many = count expression p comps rows c
+
+  abbrev given_up_at : List ℕ → Type 0
+  given_up_at = IsGivenUpAt expression p comps rows c
+
+  abbrev has : List ℕ → Type 0
+  has = HasList expression p comps rows c
+
+  abbrev are_found : FoundLists → Type 0
+  are_found = AreFoundLists expression p comps rows c
+
+  full_sets : (t : List ℕ) → In t (all ∷ []) → IsSet 1 (suc many) t
+  full_sets t i = elim i [ inl e ↦ subst (IsSet 1 (suc many)) e (full_is_set many) | inr none ↦ absurd none ]
+
+  -- each support is part of the set of all positions
+  pub none_at_all : IsVoid expression p comps rows c all → (s : List ℕ) → has s → ⊥
+  none_at_all void s k = void s (part_full many s (list_sets expression p comps rows c s k)) k
+
+  -- nothing is decided
+  undecided_lists : (b : Bool) → IsTrue b ↔ (12 < many) → ((s : List ℕ) → given_up_at s) → are_found (record { lists = []; refutation = None; blown = undecided all; large = b })
+  undecided_lists b large given = record {
+    large = large;
+    lists = tt;
+    small = λ _. record { minimal = λ s i. absurd i; within = λ s h. inr ([], none_undecided expression p comps rows c all, refl); order = tt; single = tt; given_up = λ s i. given s };
+    more = λ _. record { few = omega arith; single = tt; spare = tt; decided = inr (inr (full_undecided expression p comps rows c all)); given_up = λ s i. inl (given s) };
+    stuck = ((λ h. absurd (h refl)), λ k. absurd (k.1 (full_undecided expression p comps rows c all)));
+    shown = λ r e. cc;
+    sets = sets_undecided expression p comps rows c all (full_is_set many);
+    once = once_undecided expression p comps rows c all;
+    apart = λ s i above. absurd above.1;
+  }
+
+  pub undecided_are : (b : Bool) → IsTrue b ↔ (12 < many) → ((s : List ℕ) → given_up_at s) → (s : List ℕ) → s ≡ all → (f : FoundLists) → f ≡ record { lists = []; refutation = None; blown = undecided s; large = b } → are_found f
+  undecided_are b large given s e f is =
+      subst are_found (sym is) (subst (λ (t : List ℕ). are_found (record { lists = []; refutation = None; blown = undecided t; large = b })) (sym e) (undecided_lists b large given))
+
+  -- no list descends, but the stuck set has a number that does not fit; or the search at all positions is given up in a
+  -- large component
+  wide_lists : (b : Bool) → IsTrue b ↔ (12 < many) → (b ≡ true) ⊎ ((s : List ℕ) → has s → ⊥) → given_up_at all → are_found (record { lists = []; refutation = None; blown = all ∷ []; large = b })
+  wide_lists b large why given = record {
+    large = large;
+    lists = tt;
+    small = λ few. record { minimal = λ s i. absurd i; within = λ s h. absurd (elim why [ inl same ↦ both b same few | inr none ↦ none s h ]); order = tt; single = tt; given_up = λ s i. given_one s i };
+    more = λ _. record { few = omega arith; single = tt; spare = tt; decided = inr (inr (inl refl)); given_up = λ s i. inl (given_one s i) };
+    stuck = ((λ h. absurd (h refl)), λ k. absurd (k.1 (inl refl)));
+    shown = λ r e. cc;
+    sets = full_sets;
+    once = ((λ i. i), tt);
+    apart = λ s i above. absurd above.1;
+  }
+    where
+      given_one : (s : List ℕ) → In s (all ∷ []) → given_up_at s
+      given_one s i = elim i [ inl e ↦ subst given_up_at e given | inr none ↦ absurd none ]
+
+  stuck_lists : (b : Bool) → IsTrue b ↔ (12 < many) → ((s : List ℕ) → has s → ⊥) → (r : Refutation) → IsStuckSetOf expression p comps rows c r → are_found (record { lists = []; refutation = Some r; blown = []; large = b })
+  stuck_lists b large none r is = record {
+    large = large;
+    lists = tt;
+    small = λ _. record { minimal = λ s i. absurd i; within = λ s h. absurd (none s h); order = tt; single = tt; given_up = λ s i. absurd i };
+    more = λ _. record { few = omega arith; single = tt; spare = tt; decided = inr (inl (λ e. cc)); given_up = λ s i. absurd i };
+    stuck = ((λ h. (none, λ i. i)), λ k e. cc);
+    shown = λ q e. let same : r ≡ q = cc in subst (IsStuckSetOf expression p comps rows c) same is;
+    sets = λ s i. absurd i;
+    once = tt;
+    apart = λ s i. absurd i;
+  }
+
+  -- the same of what the code makes
+  pub given_up_are : (b : Bool) → IsTrue b ↔ (12 < many) → (b ≡ true) ⊎ ((s : List ℕ) → has s → ⊥) → (s : List ℕ) → s ≡ all → given_up_at s → (f : FoundLists) → IsNotFound s b None f → are_found f
+  given_up_are b large why s e given f is =
+      subst are_found (sym is) (subst (λ (t : List ℕ). are_found (record { lists = []; refutation = None; blown = t ∷ []; large = b })) (sym e) (wide_lists b large why (subst given_up_at e given)))
+
+  pub stuck_are : (b : Bool) → IsTrue b ↔ (12 < many) → ((s : List ℕ) → has s → ⊥) → (s : List ℕ) (r : Refutation) → IsStuckSetOf expression p comps rows c r → (f : FoundLists) → IsNotFound s b (Some r) f → are_found f
+  stuck_are b large none s r stuck f is = subst are_found (sym is) (stuck_lists b large none r stuck)
+
+  -- the walk's sets, and perhaps one that was given up before
+  walked_lists : IsTrue false ↔ (12 < many) → (w : Walked) → IsAllWalked expression p comps rows c w → (more : List (List ℕ)) → ((t : List ℕ) → In t more → all ≡ t) → ((t : List ℕ) → In t more → given_up_at t) → ((t : List ℕ) → In t more → w.lists ≡ [])
+      → AreOnce (w.blown ++ more) → (((s : List ℕ) → has s → ⊥) → (In all (w.blown ++ more) → ⊥) → ⊥) → are_found (record { lists = w.lists; refutation = None; blown = w.blown ++ more; large = false })
+  walked_lists large w h more fulls given empty once why = record {
+    large = large;
+    lists = h.lists;
+    small = λ _. record {
+      minimal = λ s i. h.walked.minimal s (subst (In s) h.supports i);
+      within = λ s k. elim ((walk_steps many has (list_sets expression p comps rows c)).within w.found w.blown h.walked s k) [
+        | inl a ↦ inl (subst (λ (ss : List (List ℕ)). IsAbove ss s) (sym h.supports) a)
+        | inr b ↦ inr (above_more expression p comps rows c w.blown more s b)
+      ];
+      order = subst (λ (ss : List (List ℕ)). IsSubsequence ss (chosen_up_to many many)) (sym h.supports) h.found_order;
+      single = h.single;
+      given_up = λ s i. elim (of-append w.blown more s i) [ inl old ↦ h.given_up s old | inr new ↦ given s new ];
+    };
+    more = λ e. cc;
+    stuck = ((λ k. absurd (k refl)), λ k. absurd (why k.0 k.1));
+    shown = λ r e. cc;
+    sets = λ s i. elim (of-append w.blown more s i) [ inl old ↦ up_to_set many many s (in_whole w.blown (chosen_up_to many many) s h.blown_order old) | inr new ↦ subst (IsSet 1 (suc many)) (fulls s new) (full_is_set many) ];
+    once = once;
+    apart = λ s i. elim (of-append w.blown more s i) [
+      | inl old ↦ subst (λ (ss : List (List ℕ)). IsAbove ss s → ⊥) (sym h.supports) (h.apart s old)
+      | inr new ↦ subst (λ (ls : List MeasureList). IsAbove (map (own_support expression p comps rows c) ls) s → ⊥) (sym (empty s new)) (λ above. absurd above.1)
+    ];
+  }
+
+  -- where a support was found, not all is excluded
+  found_had : (w : Walked) → IsAllWalked expression p comps rows c w → (l : MeasureList) (ls : List MeasureList) → w.lists ≡ l ∷ ls → ((s : List ℕ) → has s → ⊥) → ⊥
+  found_had w h l ls e none =
+      let s = own_support expression p comps rows c l in
+      let there : In s w.found = subst (In s) h.supports (subst (λ (xs : List MeasureList). In s (map (own_support expression p comps rows c) xs)) (sym e) (inl refl)) in
+      let minimal = h.walked.minimal s there in
+      none s minimal.had
+
+  -- the walk's sets, with all positions among them where these were given up and nothing was found
+  pub completed_lists : IsTrue false ↔ (12 < many) → (w : Walked) → IsAllWalked expression p comps rows c w
+      → (given_up none : Bool) → (given_up ≡ true → given_up_at all) → (given_up ≡ false → ((s : List ℕ) → has s → ⊥) → ⊥) → IsTrue none ↔ (w.lists ≡ [])
+      → (blown : List (List ℕ)) → IsCompleted given_up none all w.blown blown → are_found (record { lists = w.lists; refutation = None; blown = blown; large = false })
+  completed_lists large w h given_up none given undone empty blown done =
+      let found = walked_lists large w h done.more (λ t i. (done.full_only t i).1) (λ t i. let f = done.full_only t i in subst given_up_at f.1 (given f.0)) (λ t i. empty.0 (done.full_only t i).2) (subst AreOnce done.is (done.once h.once))
+      (λ none_had out. why none_had (λ i. out (subst (In all) done.is i))) in
+      subst (λ (b : List (List ℕ)). are_found (record { lists = w.lists; refutation = None; blown = b; large = false })) (sym done.is) found
+    where
+      is_full : (t : List ℕ) → In t blown → is_part all t ≡ true → all ≡ t
+      is_full t i e = elim (of-append w.blown done.more t (subst (In t) done.is i)) [
+        | inl old ↦ all_full many t (up_to_set many many t (in_whole w.blown (chosen_up_to many many) t h.blown_order old)) e
+        | inr new ↦ (done.full_only t new).1
+      ]
+
+      there : given_up ≡ true → none ≡ true → In all blown
+      there g n =
+          let w = done.there g n in
+          subst (λ (t : List ℕ). In t blown) (sym (is_full w.0 w.1 w.2)) w.1
+
+      of_lists : (ls : List MeasureList) → w.lists ≡ ls → given_up ≡ true → ((s : List ℕ) → has s → ⊥) → (In all blown → ⊥) → ⊥
+      of_lists [] e g none_had out = out (there g (true_of none (empty.1 e)))
+      of_lists (l ∷ ls) e g none_had out = found_had w h l ls e none_had
+
+      of_given : (b : Bool) → given_up ≡ b → ((s : List ℕ) → has s → ⊥) → (In all blown → ⊥) → ⊥
+      of_given true e none_had out = of_lists w.lists refl e none_had out
+      of_given false e none_had out = undone e none_had
+
+      why : ((s : List ℕ) → has s → ⊥) → (In all blown → ⊥) → ⊥
+      why none_had out = of_given given_up refl none_had out
+
+  -- no list descends: a stuck set, or the set of all positions as given up
+  pub not_found_are : (b : Bool) → IsTrue b ↔ (12 < many) → IsVoid expression p comps rows c all → (s : List ℕ) → s ≡ all → (o : Option Refutation) → IfSome o (IsStuckSetOf expression p comps rows c)
+      → (o ≡ None → given_up_at all) → (f : FoundLists) → IsNotFound s b o f → are_found f
+  not_found_are b large void s e (Some r) stuck given f is = stuck_are b large (none_at_all void) s r stuck f is
+  not_found_are b large void s e None stuck given f is = given_up_are b large (inr (none_at_all void)) s e (subst given_up_at (sym e) (given refl)) f is

@@ -1,0 +1,100 @@
+-- What is found of mappings in a large component, as lists of one.
+use Rattle.std.proofs.Common.{◌≡◌, ◌↔◌, ◌⊎◌, inl, inr, ℕ, suc, ◌<◌, ◌≤◌, ◌≢◌, ℤ, Bool, true, false, IsTrue, List, [], ◌∷◌, map, length, Option, None, Some, refl, ap, sym, subst, ◌∙◌, arith}
+use Rattle.std.specs.List.{AllByRecursion}
+use Rattle.std.proofs.lemmas.List.{length-map}
+use Rattle.cti_terms.specs.Listing.{Listing}
+use Rattle.cti_terms.specs.Tree.{Tree}
+use Rattle.call_components.specs.Partition.{Partition}
+use Rattle.linear_rows.specs.Members.{In}
+use Rattle.termination_model.specs.ComponentViews.{component_view, no_truth, positions_in}
+use Rattle.termination_model.specs.Excluding.{IsAt}
+use Rattle.termination_model.specs.Minimal.{IsAbove, IsExcluded}
+use Rattle.termination_model.specs.Refutation.{Decreases}
+use Rattle.level_systems.specs.Found.{IsFound, count, full, had, without}
+use Rattle.level_systems.specs.Mappings.{IsMappingOf, mapping_of, support_of}
+use Rattle.level_systems.specs.declared.found.Found.{Found}
+use Rattle.level_systems.specs.declared.mapping.Mapping.{Mapping}
+use Rattle.lex_turns.specs.FoundLists.{AreFoundLists, IsDescendingList, IsLong, IsWithoutSpare, support_of_list}
+use Rattle.lex_turns.specs.Single.{one_list}
+use Rattle.lex_turns.specs.declared.found_lists.FoundLists.{FoundLists}
+use Rattle.lex_turns.specs.declared.measure_list.MeasureList.{MeasureList}
+use Rattle.lex_turns.proofs.ListSupports.{list_had}
+use Rattle.lex_turns.proofs.SingleLists.{one_list_is, one_short, one_support_of}
+
+both : (b : Bool) → IsTrue b → b ≡ false → ⊥
+both true t e = cc
+both false t e = cc
+
+true_of : (b : Bool) → IsTrue b → b ≡ true
+true_of true t = refl
+true_of false t = cc
+
+module _ (expression : ℕ → Tree → List ℤ) (p : Listing) (comps : Partition) (rows : ℕ → List (List ℤ)) (c : ℕ) where
+  abbrev has : List ℕ → Type 0
+  has = had expression p comps rows c
+
+  abbrev own : Mapping → List ℕ
+  own m = support_of (positions_in p comps c) m
+
+  all_lists : (ms : List Mapping) → AllByRecursion (IsMappingOf expression p rows comps c) ms → AllByRecursion (λ (m : Mapping). IsAt (positions_in p comps c) (mapping_of m.measures)) ms
+      → AllByRecursion (λ (m : Mapping). Decreases no_truth expression (component_view expression p comps rows c) (mapping_of m.measures)) ms → AllByRecursion (IsDescendingList expression p comps rows c) (map one_list ms)
+  all_lists [] is at falls = tt
+  all_lists (m ∷ ms) is at falls = (one_list_is expression p comps rows c m (record { mapping = is.0; at = at.0; falling = falls.0 }), all_lists ms is.1 at.1 falls.1)
+
+  all_short : (P : MeasureList → Type 0) (ms : List Mapping) → AllByRecursion (λ (l : MeasureList). IsLong l → P l) (map one_list ms)
+  all_short P [] = tt
+  all_short P (m ∷ ms) = ((λ long. absurd (one_short m long)), all_short P ms)
+
+  supports_same : (ms : List Mapping) → map (support_of_list (positions_in p comps c)) (map one_list ms) ≡ map own ms
+  supports_same [] = refl
+  supports_same (m ∷ ms) = let rest = supports_same ms in λ i. one_support_of expression p comps rows c m i ∷ rest i
+
+  all_spare : (blown : List (List ℕ)) (ms : List Mapping) → ((s : List ℕ) → In s (map own ms) → (i : ℕ) → In i s → In (without i s) blown ⊎ IsExcluded has (without i s))
+      → AllByRecursion (IsWithoutSpare expression p comps rows c blown) (map one_list ms)
+  all_spare blown [] needed = tt
+  all_spare blown (m ∷ ms) needed = (spare, all_spare blown ms (λ s i. needed s (inr i)))
+    where
+      spare : IsWithoutSpare expression p comps rows c blown (one_list m)
+      spare i there =
+          let same = one_support_of expression p comps rows c m in
+          let s = support_of_list (positions_in p comps c) (one_list m) in
+          elim (subst (λ (z : List ℕ). In (without i z) blown ⊎ IsExcluded has (without i z)) (sym same) (needed (own m) (inl refl) i (subst (In i) same there))) [
+            | inl b ↦ inl b
+            | inr e ↦ inr (e, λ long. absurd (one_short m long))
+          ]
+
+  -- what is found of mappings is what is found of lists, where some mapping decreases
+  pub mapped_found : 12 < count expression p comps rows c → (s : List ℕ) → has s → (f : Found) → IsFound expression p comps rows c f
+      → AreFoundLists expression p comps rows c (record { lists = map one_list f.mappings; refutation = None; blown = f.blown; large = f.large })
+  mapped_found many s had_one f is =
+      let large = is.large in
+      let yes : f.large ≡ true = true_of f.large (large.1 many) in
+      let more = is.more yes in
+      record {
+        large = is.large;
+        lists = all_lists f.mappings is.mappings is.at is.falling;
+        small = λ no. absurd (both f.large (large.1 many) no);
+        more = λ _. record {
+          few = let n = length-map f.mappings one_list in let l = more.few in omega (arith, n, l);
+          single = all_short _ f.mappings;
+          spare = all_spare f.blown f.mappings more.needed;
+          decided = elim more.decided [
+            | inl l ↦ let n = length-map f.mappings one_list in inl (omega (arith, n, l))
+            | inr (inl r) ↦ absurd ((is.refuted.0 r).0 s had_one)
+            | inr (inr b) ↦ inr (inr b)
+          ];
+          given_up = λ t i. inr (is.given_up t i);
+        };
+        stuck = ((λ k. absurd (k refl)), λ k. absurd (k.0 s (list_had expression p comps rows c s had_one)));
+        shown = λ r e. cc;
+        sets = is.sets;
+        once = is.once;
+        apart = λ t i. subst (λ (ss : List (List ℕ)). IsAbove ss t → ⊥) (sym (supports_same f.mappings)) (is.apart t i);
+      }
+
+-- what holds is told by true
+pub true_is : {P : Type 0} → P → IsTrue true ↔ P
+true_is p = ((λ t. p), λ q. refl)
+
+pub is_true : (b : Bool) → b ≡ true → IsTrue b
+is_true b e = e

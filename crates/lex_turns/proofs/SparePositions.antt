@@ -1,0 +1,132 @@
+-- Supports of lists in a large component, without one position after another.
+use Rattle.std.proofs.Common.{◌≡◌, ◌↔◌, ◌⊎◌, inl, inr, ℕ, suc, ◌+◌, ◌<◌, ◌≤◌, ◌≢◌, ℤ, Bool, true, false, IsTrue, List, [], ◌∷◌, ◌++◌, map, take, slice_get, length, Option, None, Some, refl, ap, sym, subst, ◌∙◌, arith}
+use Rattle.std.specs.List.{AllByRecursion}
+use Rattle.cti_terms.specs.Listing.{Listing}
+use Rattle.cti_terms.specs.Tree.{Tree}
+use Rattle.call_components.specs.Partition.{Partition}
+use Rattle.linear_rows.specs.Members.{In}
+use Rattle.linear_rows.proofs.Members.{in-left, in-right, of-append}
+use Rattle.termination_model.specs.ComponentViews.{positions_in}
+use Rattle.termination_model.specs.Minimal.{IsAbove, IsExcluded, IsSet}
+use Rattle.termination_model.specs.Modes.{is_part}
+use Rattle.termination_model.proofs.Lists.{taken_more}
+use Rattle.level_systems.specs.Found.{IsBlownSet, IsFound, count, full, had, without}
+use Rattle.level_systems.specs.Mappings.{IsMappingOf, mapping_of, support_of}
+use Rattle.level_systems.specs.Subsequences.{AreOnce}
+use Rattle.level_systems.specs.declared.found.Found.{Found}
+use Rattle.level_systems.specs.declared.mapping.Mapping.{Mapping}
+use Rattle.level_dual.proofs.FoundCases.{part_full}
+use Rattle.level_dual.proofs.LargeLaws.{not_before, not_within, place_in, take_whole, taken_in, without_in, without_not, without_set}
+use Rattle.level_dual.proofs.Subsequences.{once_push}
+use Rattle.lex_turns.specs.Found.{IsUnmapped, IsVoid}
+use Rattle.lex_turns.specs.FoundLists.{AreFoundLists, HasList, IsDescendingList, IsGivenUpAt, IsLong, IsWithoutSpare}
+use Rattle.lex_turns.specs.Large.{AreTried, IsHadList, IsLeftOut, IsTried}
+use Rattle.lex_turns.specs.Single.{one_list}
+use Rattle.lex_turns.specs.Walked.{own_support}
+use Rattle.lex_turns.specs.declared.found_lists.FoundLists.{FoundLists}
+use Rattle.lex_turns.specs.declared.large.LeftOut.TheVariants.{None as NoneLeft}
+use Rattle.lex_turns.specs.declared.measure_list.MeasureList.{MeasureList}
+use Rattle.lex_turns.proofs.ListSupports.{list_had, list_sets, one_support, void_had}
+use Rattle.lex_turns.proofs.SingleLists.{one_short}
+
+module _ (expression : ℕ → Tree → List ℤ) (p : Listing) (comps : Partition) (rows : ℕ → List (List ℤ)) (c : ℕ) where
+  abbrev void : List ℕ → Type 0
+  void = IsVoid expression p comps rows c
+
+  abbrev given_up_at : List ℕ → Type 0
+  given_up_at = IsGivenUpAt expression p comps rows c
+
+  abbrev tried_to : List ℕ → ℕ → List (List ℕ) → Type 0
+  tried_to = AreTried expression p comps rows c
+
+  abbrev all : List ℕ
+  all = full expression p comps rows c
+
+  abbrev many : ℕ
+  many = count expression p comps rows c
+
+  pub none_tried : (s : List ℕ) → tried_to s 0 []
+  none_tried s = record { tried = λ i k. absurd k; tested = λ t k. absurd k; given_up = λ t k. absurd k; once = tt }
+
+  module _ (s : List ℕ) (k i : ℕ) (at : slice_get s k ≡ Some i) (blown : List (List ℕ)) (h : tried_to s k blown) where
+    one_more : (j : ℕ) → In j (take (k + 1) s) → In j (take k s) ⊎ (i ≡ j)
+    one_more j m = elim (of-append (take k s) (i ∷ []) j (subst (In j) (taken_more s k i at) m)) [
+      | inl old ↦ inl old
+      | inr new ↦ elim new [ inl e ↦ inr e | inr none ↦ absurd none ]
+    ]
+
+    old_more : (j : ℕ) → In j (take k s) → In j (take (k + 1) s)
+    old_more j m = subst (In j) (sym (taken_more s k i at)) (in-left (take k s) (i ∷ []) j m)
+
+    new_more : In i (take (k + 1) s)
+    new_more = subst (In i) (sym (taken_more s k i at)) (in-right (take k s) (i ∷ []) i (inl refl))
+
+    pub void_too : void (without i s) → tried_to s (k + 1) blown
+    void_too e = record {
+      tried = λ j m. elim (one_more j m) [
+        | inl old ↦ h.tried j old
+        | inr same ↦ inr (subst (λ (n : ℕ). void (without n s)) same e)
+      ];
+      tested = λ t m. let w = h.tested t m in (w.0, old_more w.0 w.1, w.2);
+      given_up = h.given_up;
+      once = h.once;
+    }
+
+    not_yet : AreOnce s → In (without i s) blown → ⊥
+    not_yet once m =
+        let w = h.tested (without i s) m in
+        let differ : w.0 ≡ i → ⊥ = λ e. not_before s k i once at (subst (λ n. In n (take k s)) e w.1) in
+        without_not i s (subst (In i) (sym w.2) (without_in w.0 s i (place_in s k i at) differ))
+
+    pub given_up_too : AreOnce s → given_up_at (without i s) → tried_to s (k + 1) (blown ++ without i s ∷ [])
+    given_up_too once here = record {
+      tried = λ j m. elim (one_more j m) [
+        | inl old ↦ elim (h.tried j old) [ inl b ↦ inl (in-left blown (without i s ∷ []) (without j s) b) | inr e ↦ inr e ]
+        | inr same ↦ inl (in-right blown (without i s ∷ []) (without j s) (inl (ap (λ n. without n s) same)))
+      ];
+      tested = λ t m. elim (of-append blown (without i s ∷ []) t m) [
+        | inl old ↦ let w = h.tested t old in (w.0, old_more w.0 w.1, w.2)
+        | inr new ↦ elim new [ inl e ↦ (i, new_more, sym e) | inr none ↦ absurd none ]
+      ];
+      given_up = λ t m. elim (of-append blown (without i s ∷ []) t m) [
+        | inl old ↦ h.given_up t old
+        | inr (inl e) ↦ subst given_up_at e here
+        | inr (inr none) ↦ absurd none
+      ];
+      once = once_push blown (without i s) h.once (not_yet once);
+    }
+
+  pub all_tried : (s : List ℕ) (k : ℕ) (blown : List (List ℕ)) → length s ≤ k → tried_to s k blown → IsLeftOut expression p comps rows c s (NoneLeft blown)
+  all_tried s k blown l h = ((λ i m. h.tried i (subst (In i) (sym (take_whole s k l)) m)), h.given_up, h.once, λ t m. let w = h.tested t m in (w.0, w.2, taken_in s k w.0 w.1))
+
+  -- no mapping is known where none is found at all positions
+  unmapped_all : IsUnmapped expression p comps rows c all → IsBlownSet expression p comps rows c all ⊎ ((s : List ℕ) → had expression p comps rows c s → ⊥)
+  unmapped_all (inl blown) = inl blown
+  unmapped_all (inr excluded) = inr (λ s k. excluded s (part_full many s (list_sets expression p comps rows c s (list_had expression p comps rows c s k))) k)
+
+  -- what is found where no position of a list can be left out
+  pub spare_found : IsTrue true ↔ (12 < many) → IsUnmapped expression p comps rows c all → (l : MeasureList) → IsHadList expression p comps rows c l → (blown : List (List ℕ))
+      → IsLeftOut expression p comps rows c (own_support expression p comps rows c l) (NoneLeft blown) → AreFoundLists expression p comps rows c (record { lists = l ∷ []; refutation = None; blown = blown; large = true })
+  spare_found large unmapped l had_list blown left =
+      let s = own_support expression p comps rows c l in
+      let set = list_sets expression p comps rows c s had_list.1 in
+      record {
+        large = large;
+        lists = (had_list.0, tt);
+        small = λ e. cc;
+        more = λ _. record {
+          few = omega arith;
+          single = ((λ long. unmapped_all unmapped), tt);
+          spare = ((λ i m. elim (left.0 i m) [ inl b ↦ inl b | inr v ↦ inr (void_had expression p comps rows c (without i s) v, λ long. v) ]), tt);
+          decided = inl (omega arith);
+          given_up = λ t i. inl (left.1 t i);
+        };
+        stuck = ((λ k. absurd (k refl)), λ k. absurd (k.0 s had_list.1));
+        shown = λ r e. cc;
+        sets = λ t i. let w = left.3 t i in subst (IsSet 1 (suc many)) (sym w.1) (without_set 1 (suc many) w.0 s set);
+        once = left.2;
+        apart = λ t i above. elim above.1 [
+          | inl e ↦ let w = left.3 t i in not_within w.0 s w.2 (subst (λ (u : List ℕ). is_part s u ≡ true) w.1 (subst (λ (u : List ℕ). is_part u t ≡ true) (sym e) above.2))
+          | inr none ↦ absurd none
+        ];
+      }

@@ -1,0 +1,28 @@
+use Rattle.std.proofs.Common.{inl, inr, subst, ◌∙◌}
+use Rattle.termination_model.specs.Sizes.{rows_of}
+use Rattle.level_systems.specs.Searched.{IsAnswer}
+use Rattle.level_dual.proofs.Results.{if_ok}
+use Rattle.lex_turns.specs.Found.{IsUnmapped}
+use Rattle.lex_turns.proofs.deciding.find.Goals as goal
+
+pub returns-in-Refuted : goal.returns-in-Refuted
+returns-in-Refuted g c =
+    let e = g.N.Norm.expression c.args.norm.now in
+    let size = g.N.Norm.size c.args.norm.now in
+    let truth = g.N.Norm.truth c.args.norm.now in
+    let p = c.args.p.now in
+    let rows = rows_of c.args.sizes.now.rows in
+    if_ok c.by_turns.result (λ f is. λ comps r h.
+    let answer = subst (IsAnswer e p comps rows r c.as_slice.result.now) c.in-Refuted.is (c.in_ok-mapping.ensures size truth e comps rows r h) in
+    is comps r h (subst (IsUnmapped e p comps rows r) c.as_slice.ensures (inr answer))) c.by_turns.ensures
+
+pub returns-in-Blown : goal.returns-in-Blown
+returns-in-Blown g c =
+    let e = g.N.Norm.expression c.args.norm.now in
+    let size = g.N.Norm.size c.args.norm.now in
+    let truth = g.N.Norm.truth c.args.norm.now in
+    let p = c.args.p.now in
+    let rows = rows_of c.args.sizes.now.rows in
+    if_ok c.by_turns-in-Blown.result (λ f is. λ comps r h.
+    let answer = subst (IsAnswer e p comps rows r c.as_slice.result.now) c.in-Blown.is (c.in_ok-mapping.ensures size truth e comps rows r h) in
+    is comps r h (subst (IsUnmapped e p comps rows r) c.as_slice.ensures (inl answer))) c.by_turns-in-Blown.ensures

@@ -1,0 +1,12 @@
+use Rattle.std.proofs.Common.{ℕ, ℤ, Bool, List}
+use Rattle.call_components.specs.Partition.{Partition}
+use Rattle.cti_terms.specs.Tree.{Tree}
+use Rattle.level_systems.specs.Searched.{IsComponent}
+use Rattle.level_systems.specs.Subsequences.{AreOnce}
+use Rattle.lex_turns.specs.Large.{AreTried}
+use Rattle.lex_turns.proofs.large.leave_out.Given as goal
+
+abbrev pub invariant-loop-number : goal.invariant-loop-number
+invariant-loop-number l =
+    (size : (ℕ → ℕ) → Tree → ℕ) (truth : (ℕ → Bool) → Tree → Bool) (expression : ℕ → Tree → List ℤ) (comps : Partition) (rows : ℕ → List (List ℤ)) (c : ℕ)
+    → IsComponent size truth expression l.p comps rows c l.component → AreOnce l.support → AreTried expression l.p comps rows c l.support l.number-index l.blown

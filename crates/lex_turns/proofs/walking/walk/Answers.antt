@@ -1,0 +1,31 @@
+use Rattle.std.proofs.Common.{◌≡◌, ◌+◌, ℕ, suc, List, length, slice_get, take, Some, ap, sym, subst, ◌∙◌, arith}
+use Rattle.termination_model.specs.Modes.{chosen_up_to}
+use Rattle.termination_model.proofs.Lists.{at_place}
+use Rattle.lex_turns.specs.Found.{AreVoid}
+use Rattle.lex_turns.specs.Walked.{IsWalkedTo}
+use Rattle.lex_turns.proofs.ListWalk.{all_walked}
+use Rattle.lex_turns.proofs.walking.walk.Goals as goal
+
+pub loop-set-preserved : goal.loop-set-preserved
+loop-set-preserved c = λ size truth expression comps rows r h.
+    let x = c.args.component.now in
+    let p = c.args.p.now in
+    let n = length x.positions.items in
+    let i = c.loop-set.set-index in
+    let items = c.as_slice-set-items.result.now in
+    let order : items ≡ chosen_up_to n n = c.as_slice-set-items.ensures ∙ c.in_ok-sets.ensures ∙ (λ j. chosen_up_to (c.requires.last j) (c.requires.last j)) in
+    let at : slice_get items i ≡ Some c.set-item.result = at_place items i c.set-item.result c.loop-set-test.true c.set-item.is in
+    let there : slice_get (chosen_up_to n n) i ≡ Some c.as_slice-in-loop-set.result.now = subst (λ (xs : List (List ℕ)). slice_get xs i ≡ Some c.set-item.result) order at ∙ ap (λ (s : List ℕ). Some s) (sym c.as_slice-in-loop-set.ensures) in
+    let void = subst (AreVoid expression p comps rows r) (sym c.as_slice.ensures) (c.in_ok-void.ensures size truth expression comps rows r h) in
+    let next = c.in_ok-visit.ensures size truth expression comps rows r h i there void (c.loop-set.invariant size truth expression comps rows r h) in
+    let more : suc i ≡ i + 1 = omega arith in
+    subst (λ (k : ℕ). IsWalkedTo expression p comps rows r (take k (chosen_up_to n n)) c.visit.new.walked) more next
+
+pub returns : goal.returns
+returns c = λ size truth expression comps rows r h.
+    let x = c.args.component.now in
+    let n = length x.positions.items in
+    let items = c.as_slice-set-items.result.now in
+    let order : items ≡ chosen_up_to n n = c.as_slice-set-items.ensures ∙ c.in_ok-sets.ensures ∙ (λ j. chosen_up_to (c.requires.last j) (c.requires.last j)) in
+    let long : length items ≡ length (chosen_up_to n n) = ap length order in
+    all_walked size truth expression c.args.p.now comps rows r x h c.loop-set.set-index c.loop-set.walked (omega (arith, long, c.loop-set-test.false)) (c.loop-set.invariant size truth expression comps rows r h)

@@ -1,0 +1,50 @@
+//! Copies of mappings and sets.
+
+ghost use Rattle.std.specs.Prelude.{◌≡◌, IfOk};
+
+use level_dual::copied;
+use level_systems::Measure;
+use number_tests::LevelPart;
+use sequences::Sequence;
+use std::alloc::{AllocError, Global};
+
+// The same part once more.
+fn copied_measure(alloc: Global, measure: &Measure) -> Result<Measure, AllocError>
+    ensures { IfOk result (λ copy. copy ≡ measure.now) }
+{
+    Ok(Measure {
+        pred: measure.pred,
+        part: LevelPart {
+            coeffs: measure.part.coeffs.copy(alloc)?,
+            offset: measure.part.offset,
+        },
+    })
+}
+
+/// The same mapping once more.
+pub(crate) fn copied_measures(
+    alloc: Global,
+    measures: &[Measure],
+) -> Result<Sequence<Measure>, AllocError>
+    ensures { IfOk result (λ copy. copy ≡ measures.now) }
+{
+    let mut copies = Sequence::new(alloc);
+    for measure in measures {
+        copies.push(copied_measure(alloc, measure)?)?;
+    }
+    Ok(copies)
+}
+
+/// The same sets once more.
+pub(crate) fn copied_sets(
+    alloc: Global,
+    sets: &[Sequence<u32>],
+) -> Result<Sequence<Sequence<u32>>, AllocError>
+    ensures { IfOk result (λ copy. copy ≡ sets.now) }
+{
+    let mut copies = Sequence::new(alloc);
+    for set in sets {
+        copies.push(copied(alloc, set.as_slice())?)?;
+    }
+    Ok(copies)
+}
