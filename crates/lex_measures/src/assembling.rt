@@ -78,7 +78,8 @@ fn find(alloc: Global, measured: &Measured, c: u32, sizes: &Sizes) -> Result<Fou
     requires inner { c < length measured.now.comps.now.members }
     requires sizes { AreSizes measured.now.p.now.preds sizes.now.rows }
     ensures { IfOk result (λ f. slice_get measured.now.comps.now.recursive c ≡ Some true
-        → AreFoundLists (any_row measured.now.norm) measured.now.p.now measured.now.comps.now (rows_of sizes.now.rows) c f) }
+        → AreFoundLists (any_row measured.now.norm) measured.now.p.now measured.now.comps.now
+        (rows_of sizes.now.rows) c f) }
 {
     if !measured.comps.recursive(c) {
         return Ok(nothing(alloc));
@@ -94,7 +95,8 @@ fn find_all(
 ) -> Result<Sequence<FoundLists>, AllocError>
     requires components { AreComponents measured.now.p.now measured.now.comps.now }
     requires sizes { AreSizes measured.now.p.now.preds sizes.now.rows }
-    ensures { IfOk result (AreFound (any_row measured.now.norm) measured.now.p.now measured.now.comps.now sizes.now.rows) }
+    ensures { IfOk result (AreFound (any_row measured.now.norm) measured.now.p.now measured.now.comps.now
+        sizes.now.rows) }
 {
     let mut found = Sequence::new(alloc);
     for c in 0..measured.comps.count() {
@@ -137,7 +139,8 @@ fn flat_of(
 ) -> Result<Parts, AllocError>
     requires components { AreComponents measured.now.p.now measured.now.comps.now }
     requires levels { AreLevels measured.now.p.now measured.now.comps.now (map (map union_part) lists.now) }
-    ensures { IfOk result (IsFlatOf (any_truth measured.now.norm) measured.now.p.now measured.now.comps.now sizes.now lists.now stuck) }
+    ensures { IfOk result (IsFlatOf (any_truth measured.now.norm) measured.now.p.now measured.now.comps.now
+        sizes.now lists.now stuck) }
 {
     let mut parts = with_levels(alloc, flat_levels(alloc, lists)?, stuck);
     put_sizes(alloc, sizes, &mut parts)?;
@@ -174,8 +177,10 @@ fn parts_of(
     found: &[FoundLists],
 ) -> Result<LexParts, AllocError>
     requires components { AreComponents measured.now.p.now measured.now.comps.now }
-    requires found { AreFound (any_row measured.now.norm) measured.now.p.now measured.now.comps.now sizes.now.rows found.now }
-    ensures { IfOk result (ArePartsOf (any_truth measured.now.norm) measured.now.p.now measured.now.comps.now sizes.now found.now) }
+    requires found { AreFound (any_row measured.now.norm) measured.now.p.now measured.now.comps.now
+        sizes.now.rows found.now }
+    ensures { IfOk result (ArePartsOf (any_truth measured.now.norm) measured.now.p.now measured.now.comps.now
+        sizes.now found.now) }
 {
     let _program = measured.p.preds();
     let printed = Printed {
@@ -209,7 +214,8 @@ fn notes_of(
 ) -> Result<Sequence<LexFact>, AllocError>
     requires components { AreComponents described.now.p.now described.now.comps.now }
     requires each { length found.now ≡ length described.now.comps.now.members }
-    ensures { IfOk result (λ notes. notes ≡ flat_map noted (chain_notes described.now.p.now described.now.names.now (map plain_step steps.now))
+    ensures { IfOk result (λ notes. notes
+        ≡ flat_map noted (chain_notes described.now.p.now described.now.names.now (map plain_step steps.now))
         ++ component_notes described.now.p.now described.now.names.now described.now.comps.now (found_of found.now)) }
 {
     let mut chain = Sequence::new(alloc);

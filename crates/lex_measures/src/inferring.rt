@@ -22,8 +22,8 @@ pub fn infer(alloc: Global, p: &Program, names: &Names) -> Result<LexCertificate
     // What the certificate claims holds.
     ensures valid { IfOk result (λ c. IsValid p.now names.now c.facts) }
 
-    // It claims the most that its method may: exactly the minimal modes for its size rows, ground rows and lists, and these
-    // are all that the search gives.
+    // It claims the most that its method may: exactly the minimal modes for its size rows, ground rows and lists, and
+    // these are all that the search gives.
     ensures exact { IfOk result (λ c. IsExact p.now names.now c.facts) }
 
     // So each query that meets one of its modes has bounded derivations.

@@ -1,4 +1,4 @@
-//! Inference of a certificate of lists of level mappings, with all the modes that its size models, ground rows and lists
+//! Inference of a certificate of lists of level mappings, with all the modes that its size rows, ground rows and lists
 //! give.
 //!
 //! What makes such a certificate exact is `IsExact` of `specs/Exact.antt`; what makes it valid, `IsValid` of

@@ -5,7 +5,8 @@ ghost use Rattle.call_components.specs.Partition.{AreComponents};
 ghost use Rattle.cert_assembly.specs.Leading.{led_by};
 ghost use Rattle.cert_assembly.specs.Parted.{zero_part};
 ghost use Rattle.cert_structure.specs.Shape.{body_of};
-ghost use Rattle.lex_measures.specs.Lists.{drops_at, drops_from, lists_at, printed_at, printed_drops, printed_lists, printed_stuck, stuck_of};
+ghost use Rattle.lex_measures.specs.Lists.{drops_at, drops_from, lists_at, printed_at, printed_drops};
+ghost use Rattle.lex_measures.specs.Lists.{printed_lists, printed_stuck, stuck_of};
 
 use crate::places::{lists_of, places_of};
 use call_components::Components;
@@ -104,7 +105,8 @@ impl Printed<'_> {
         requires clause { clause < length self.now.p.now.clauses }
         requires place { place < 4294967295 }
         requires call { call.now.pred.0 < length self.now.p.now.preds }
-        ensures { IfOk result (λ drops. drops ≡ drops_at self.now.p.now self.now.comps.now self.now.found.now clause place (Some call.now)) }
+        ensures { IfOk result (λ drops. drops
+            ≡ drops_at self.now.p.now self.now.comps.now self.now.found.now clause place (Some call.now)) }
     {
         let _program = self.p.clauses();
         let head = self.p.clause(clause + 1).head.pred;
@@ -124,7 +126,8 @@ impl Printed<'_> {
         requires components { AreComponents self.now.p.now self.now.comps.now }
         requires each { length self.now.found.now ≡ length self.now.comps.now.members }
         requires clause { clause < length self.now.p.now.clauses }
-        ensures { IfOk result (λ drops. drops ≡ drops_from self.now.p.now self.now.comps.now self.now.found.now clause 0 (body_of self.now.p.now clause)) }
+        ensures { IfOk result (λ drops. drops
+            ≡ drops_from self.now.p.now self.now.comps.now self.now.found.now clause 0 (body_of self.now.p.now clause)) }
     {
         let _program = self.p.clauses();
         let body = self.p.clause(clause + 1).body.as_slice();
