@@ -1,4 +1,4 @@
-//! Inference of a certificate of lists of level mappings, with all the modes that its size models, ground rows and lists
+//! Inference of a certificate of lists of level mappings, with all the modes that its size rows, ground rows and lists
 //! give.
 //!
 //! What makes such a certificate exact is `IsExact` of `specs/Exact.antt`; what makes it valid, `IsValid` of
@@ -8,7 +8,11 @@
 //! `lex_certificate`, which writes the facts.
 #![tactic(auto)]
 
+mod assembling;
 mod inferring;
+mod notes;
+mod places;
+mod printed;
 
 pub use inferring::infer;
 pub use lex_certificate::{LexCertificate, LexFact};

@@ -1,0 +1,10 @@
+pub mod AssembledLists
+pub mod ComponentLaws
+pub mod DropParts
+pub mod DropShapes
+pub mod FlatParts
+pub mod FoundExact
+pub mod Inferred
+pub mod ListParts
+pub mod PlaceParts
+pub mod StuckParts
