@@ -1,2 +1,0 @@
-pub mod ListParts
-pub mod ListsHold
