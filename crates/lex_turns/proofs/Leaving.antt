@@ -42,6 +42,14 @@ more_reached (own ∷ owns) (false ∷ gs) [] h = (h.0, more_reached owns gs [] 
 more_reached (own ∷ owns) (false ∷ gs) (true ∷ fs) h = more_reached owns gs fs h.1
 more_reached (own ∷ owns) (false ∷ gs) (false ∷ fs) h = (h.0, more_reached owns gs fs h.1)
 
+pub push_reached : (owns : List OwnCall) (gs : List Bool) (own : OwnCall) (g : Bool) → length gs ≡ length owns → KeepReached owns gs → (g ≡ false → own.empty ≡ None) → KeepReached (owns ++ own ∷ []) (gs ++ g ∷ [])
+push_reached [] [] own true e h f = tt
+push_reached [] [] own false e h f = (f refl, tt)
+push_reached [] (g ∷ gs) own g' e h f = absurd (omega (arith, e))
+push_reached (y ∷ owns) [] own g e h f = absurd (omega (arith, e))
+push_reached (y ∷ owns) (true ∷ gs) own g e h f = push_reached owns gs own g (omega (arith, e)) h f
+push_reached (y ∷ owns) (false ∷ gs) own g e h f = (h.0, push_reached owns gs own g (omega (arith, e)) h.1 f)
+
 -- ---- in each turn some call leaves
 still_left : (i : ℕ) (owns : List OwnCall) (gs fs : List Bool) (values : List ℤ) (ds : List CallDrops) → SomeLeft i owns gs ds → SomeLeft i owns (after_falls gs fs) (after_drops owns gs values ds)
 still_left i [] gs fs values ds h = absurd h

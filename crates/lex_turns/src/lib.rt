@@ -18,15 +18,18 @@ mod found_lists;
 mod large;
 mod lists;
 mod measure_list;
+mod needing;
 mod searching;
 mod single;
 mod small;
+mod sparing;
 mod stuck;
 mod tracking;
 mod turn;
 mod turning;
 mod walked;
 mod walking;
+mod whole;
 mod within;
 mod zeros;
 
