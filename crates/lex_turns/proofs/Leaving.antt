@@ -1,5 +1,5 @@
 -- Which calls left, turn by turn.
-use Rattle.std.proofs.Common.{◌≡◌, ◌⊎◌, ◌-◌, inl, inr, ℕ, zero, suc, ◌<◌, ◌≤◌, ℤ, Bool, true, false, List, [], ◌∷◌, ◌++◌, map, drop, take, length, slice_get, Option, None, Some, refl, ap, sym, subst, ◌∙◌, arith}
+use Rattle.std.proofs.Common.{◌≡◌, ◌⊎◌, ◌-◌, inl, inr, ℕ, zero, suc, ◌<◌, ℤ, Bool, true, false, List, [], ◌∷◌, ◌++◌, map, drop, take, length, Option, None, Some, refl, ap, sym, subst, arith}
 use Rattle.std.specs.Prelude.{is_some}
 use Rattle.std.specs.List.{AllByRecursion}
 use Rattle.std.proofs.lemmas.List.{length-append}
@@ -21,7 +21,7 @@ use Rattle.level_systems.specs.declared.own_call.OwnCall.{OwnCall}
 use Rattle.lex_turns.specs.Coursing.{KeepReached, SomeLeft}
 use Rattle.lex_turns.specs.FoundLists.{IsReached}
 use Rattle.lex_turns.specs.Testing.{SomeFalls, first_by}
-use Rattle.lex_turns.specs.Tracking.{AreTracked, ShowStays, after_drops, after_falls, gone_first, staying, with_by}
+use Rattle.lex_turns.specs.Tracking.{AreTracked, ShowStays, after_drops, after_falls, gone_first, staying}
 use Rattle.lex_turns.specs.declared.call_drops.CallDrops.{CallDrops}
 use Rattle.lex_turns.proofs.Places.{rows_same}
 

@@ -1,5 +1,5 @@
 -- Turns that values give, wherever these come from.
-use Rattle.std.proofs.Common.{◌≡◌, ◌≤◌, ◌≤ℤ◌, ◌+◌, ℕ, ℤ, pos, Bool, List, length, map, Option, None, Some}
+use Rattle.std.proofs.Common.{◌≡◌, ◌≤◌, ◌≤ℤ◌, ◌+◌, ℤ, pos, Bool, List, length, Option, None, Some}
 use Rattle.std.specs.Prelude.{All, IfSome}
 use Rattle.cti_terms.specs.Listing.{Listing}
 use Rattle.level_dual.specs.Components.{ForComponent}

@@ -102,7 +102,8 @@ pub(crate) fn find_large(
     requires sound { IsSound p.now component.now }
     requires small { length component.now.positions.items < 2 ^ 32 }
     ensures { IfOk result (λ f. ForComponent p.now component.now (λ expression comps rows c.
-        IsTrue true ↔ (12 < count expression p.now comps rows c) → IsUnmapped expression p.now comps rows c (full expression p.now comps rows c)
+        IsTrue true ↔ (12 < count expression p.now comps rows c)
+        → IsUnmapped expression p.now comps rows c (full expression p.now comps rows c)
         → IsHadList expression p.now comps rows c list → AreFoundLists expression p.now comps rows c f)) }
 {
     let mut list = list;

@@ -145,8 +145,8 @@ fn is_needed(
     sticks(alloc, p, component, at.as_slice(), gone)
 }
 
-/// Searches by turns at a set, which is the support of a list without the position of this number, unless it is seen that
-/// no list descends there.
+/// Searches by turns at a set, which is the support of a list without the position of this number, unless it is seen
+/// that no list descends there.
 pub(crate) fn search_without(
     alloc: Global,
     p: &Program,

@@ -46,7 +46,8 @@ fn whole_system(
 ) -> Result<Rows, AllocError>
     requires sound { IsSound p.now component.now }
     requires among { AreAmong component.now.calls.items (held_of round.now.rest.now) }
-    ensures width { IfOk result (λ system. system.width ≡ length round.now.at.now + (length component.now.by_clauses.items + (length round.now.rest.now + all_rows (held_of round.now.rest.now)))) }
+    ensures width { IfOk result (λ system. system.width ≡ length round.now.at.now +
+        (length component.now.by_clauses.items + (length round.now.rest.now + all_rows (held_of round.now.rest.now)))) }
     ensures widths { IfOk result (λ system. HaveWidth system.width system.list) }
 {
     let mut system = system_of(alloc, p, component, round)?;
@@ -95,7 +96,8 @@ pub(crate) fn long_turn(
     requires some { 1 ≤ length round.now.rest.now }
     ensures made { IfOk result (IsMadeStep component.now (held_of round.now.rest.now) round.now.first) }
     ensures step { IfOk result (λ step. ForComponent p.now component.now (λ expression comps rows c.
-        IsStep expression p.now comps rows c component.now round.now.at.now (held_of round.now.rest.now) round.now.first step)) }
+        IsStep expression p.now comps rows c component.now round.now.at.now
+        (held_of round.now.rest.now) round.now.first step)) }
 {
     if !round.first {
         if let Some(made) = whole_turn(alloc, p, component, round)? {

@@ -1,4 +1,4 @@
-use Rattle.std.proofs.Common.{◌≡◌, ◌+◌, ◌≤◌, ◌++◌, ◌∷◌, [], ℕ, suc, true, List, length, map, slice_get, get_or, Some, ap, sym, subst, ◌∙◌, arith}
+use Rattle.std.proofs.Common.{◌≡◌, ◌+◌, ◌≤◌, ◌++◌, ◌∷◌, [], suc, true, List, length, map, slice_get, get_or, Some, ap, sym, subst, ◌∙◌, arith}
 use Rattle.termination_model.specs.ComponentViews.{positions_in}
 use Rattle.termination_model.specs.Modes.{is_part}
 use Rattle.termination_model.proofs.Lists.{there}
