@@ -1,5 +1,5 @@
 -- The ends of a search, at the positions of a set.
-use Rattle.std.proofs.Common.{◌≡◌, ℕ, ℤ, Bool, List, map, sym, subst}
+use Rattle.std.proofs.Common.{◌≡◌, ℕ, ℤ, Bool, List, map, subst}
 use Rattle.call_components.specs.Partition.{Partition}
 use Rattle.cti_terms.specs.Listing.{Listing}
 use Rattle.cti_terms.specs.Tree.{Tree}

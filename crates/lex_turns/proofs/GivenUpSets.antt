@@ -1,5 +1,5 @@
 -- Where some call is given up, so is the search at each set.
-use Rattle.std.proofs.Common.{◌≡◌, ℕ, ◌-◌, ℤ, List, take, inl, inr, sym, subst, ap, ◌∙◌}
+use Rattle.std.proofs.Common.{ℕ, ℤ, List, inl, inr, sym, subst}
 use Rattle.cti_terms.specs.Listing.{Listing}
 use Rattle.cti_terms.specs.Tree.{Tree}
 use Rattle.call_components.specs.Partition.{Partition}
@@ -10,7 +10,6 @@ use Rattle.linear_rows.proofs.Members.{in-map}
 use Rattle.termination_model.specs.ComponentViews.{component_view}
 use Rattle.termination_model.specs.OwnCalls.{own_calls}
 use Rattle.level_systems.specs.Collected.{SomeGivenUp}
-use Rattle.level_systems.specs.Found.{IsBlownSet}
 use Rattle.level_systems.specs.Pairs.{clause_at, pairs_of}
 use Rattle.level_systems.specs.Held.{recalled_at}
 use Rattle.level_systems.proofs.ViewCalls.{calls_are_pairs}

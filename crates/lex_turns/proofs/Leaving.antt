@@ -1,5 +1,5 @@
 -- Which calls left, turn by turn.
-use Rattle.std.proofs.Common.{◌≡◌, ◌⊎◌, ◌-◌, inl, inr, ℕ, zero, suc, ◌<◌, ◌≤◌, ℤ, Bool, true, false, List, [], ◌∷◌, ◌++◌, map, drop, take, length, slice_get, Option, None, Some, refl, ap, sym, subst, ◌∙◌, arith}
+use Rattle.std.proofs.Common.{◌≡◌, ◌⊎◌, ◌-◌, inl, inr, ℕ, zero, suc, ◌<◌, ℤ, Bool, true, false, List, [], ◌∷◌, ◌++◌, map, drop, take, length, Option, None, Some, refl, ap, sym, subst, arith}
 use Rattle.std.specs.Prelude.{is_some}
 use Rattle.std.specs.List.{AllByRecursion}
 use Rattle.std.proofs.lemmas.List.{length-append}
@@ -21,7 +21,7 @@ use Rattle.level_systems.specs.declared.own_call.OwnCall.{OwnCall}
 use Rattle.lex_turns.specs.Coursing.{KeepReached, SomeLeft}
 use Rattle.lex_turns.specs.FoundLists.{IsReached}
 use Rattle.lex_turns.specs.Testing.{SomeFalls, first_by}
-use Rattle.lex_turns.specs.Tracking.{AreTracked, ShowStays, after_drops, after_falls, gone_first, staying, with_by}
+use Rattle.lex_turns.specs.Tracking.{AreTracked, ShowStays, after_drops, after_falls, gone_first, staying}
 use Rattle.lex_turns.specs.declared.call_drops.CallDrops.{CallDrops}
 use Rattle.lex_turns.proofs.Places.{rows_same}
 
@@ -41,6 +41,14 @@ more_reached (own ∷ owns) (true ∷ gs) fs h = more_reached owns gs fs h
 more_reached (own ∷ owns) (false ∷ gs) [] h = (h.0, more_reached owns gs [] h.1)
 more_reached (own ∷ owns) (false ∷ gs) (true ∷ fs) h = more_reached owns gs fs h.1
 more_reached (own ∷ owns) (false ∷ gs) (false ∷ fs) h = (h.0, more_reached owns gs fs h.1)
+
+pub push_reached : (owns : List OwnCall) (gs : List Bool) (own : OwnCall) (g : Bool) → length gs ≡ length owns → KeepReached owns gs → (g ≡ false → own.empty ≡ None) → KeepReached (owns ++ own ∷ []) (gs ++ g ∷ [])
+push_reached [] [] own true e h f = tt
+push_reached [] [] own false e h f = (f refl, tt)
+push_reached [] (g ∷ gs) own g' e h f = absurd (omega (arith, e))
+push_reached (y ∷ owns) [] own g e h f = absurd (omega (arith, e))
+push_reached (y ∷ owns) (true ∷ gs) own g e h f = push_reached owns gs own g (omega (arith, e)) h f
+push_reached (y ∷ owns) (false ∷ gs) own g e h f = (h.0, push_reached owns gs own g (omega (arith, e)) h.1 f)
 
 -- ---- in each turn some call leaves
 still_left : (i : ℕ) (owns : List OwnCall) (gs fs : List Bool) (values : List ℤ) (ds : List CallDrops) → SomeLeft i owns gs ds → SomeLeft i owns (after_falls gs fs) (after_drops owns gs values ds)

@@ -11,6 +11,7 @@ pub mod ListSupports
 pub mod ListWalk
 pub mod ListsFound
 pub mod MappingLists
+pub mod NoneAmong
 pub mod NoneWithin
 pub mod Places
 pub mod PlainPoints
@@ -22,3 +23,4 @@ pub mod StuckWithin
 pub mod TrackedCalls
 pub mod TurnMaking
 pub mod TurnRefutes
+pub mod WholeTurns

@@ -1,38 +1,30 @@
 -- What is found of lists, case by case.
-use Rattle.std.proofs.Common.{◌≡◌, ◌↔◌, ◌⊎◌, inl, inr, ℕ, zero, suc, ◌<◌, ◌≤◌, ◌≢◌, ℤ, Bool, true, false, IsTrue, List, [], ◌∷◌, ◌++◌, map, length, Option, None, Some, refl, ap, sym, subst, ◌∙◌, arith}
+use Rattle.std.proofs.Common.{◌≡◌, ◌↔◌, ◌⊎◌, inl, inr, ℕ, suc, ◌<◌, ℤ, Bool, true, false, IsTrue, List, [], ◌∷◌, ◌++◌, map, Option, None, Some, refl, sym, subst, arith}
 use Rattle.std.specs.Prelude.{IfSome}
-use Rattle.std.specs.List.{AllByRecursion}
 use Rattle.cti_terms.specs.Listing.{Listing}
 use Rattle.cti_terms.specs.Tree.{Tree}
 use Rattle.call_components.specs.Partition.{Partition}
 use Rattle.linear_rows.specs.Members.{In}
-use Rattle.linear_rows.proofs.Members.{in-left, of-append}
+use Rattle.linear_rows.proofs.Members.{of-append}
 use Rattle.number_tests.specs.declared.refutation.Refutation.{Refutation}
-use Rattle.termination_model.specs.ComponentViews.{positions_in}
-use Rattle.termination_model.specs.Minimal.{IsAbove, IsExcluded, IsSet}
+use Rattle.termination_model.specs.Minimal.{IsAbove, IsSet}
 use Rattle.termination_model.specs.Modes.{chosen_up_to, is_part}
 use Rattle.termination_model.proofs.Sets.{up_to_set}
-use Rattle.level_systems.specs.Found.{IsBlownSet, IsFound, count, full, had, without}
-use Rattle.level_systems.specs.Mappings.{mapping_of, support_of}
+use Rattle.level_systems.specs.Found.{count, full}
 use Rattle.level_systems.specs.Subsequences.{AreOnce, IsSubsequence}
-use Rattle.level_systems.specs.declared.found.Found.{Found}
-use Rattle.level_systems.specs.declared.mapping.Mapping.{Mapping}
 use Rattle.level_dual.specs.Cases.{undecided}
 use Rattle.level_dual.specs.Walked.{IsCompleted}
 use Rattle.level_dual.proofs.FoundCases.{above_more, all_full, full_is_set, full_undecided, none_undecided, once_undecided, part_full, sets_undecided}
-use Rattle.level_dual.proofs.LargeLaws.{not_within, without_set}
 use Rattle.level_dual.proofs.Subsequences.{in_whole}
 use Rattle.level_dual.proofs.WalkSteps.{walk_steps}
 use Rattle.lex_turns.specs.Deciding.{IsNotFound}
-use Rattle.lex_turns.specs.Found.{IsUnmapped, IsVoid}
-use Rattle.lex_turns.specs.FoundLists.{AreFoundLists, HasList, IsDescendingList, IsGivenUpAt, IsLong, IsStuckSetOf, IsWithoutSpare, support_of_list, supports}
-use Rattle.lex_turns.specs.Large.{IsHadList, IsLeftOut}
+use Rattle.lex_turns.specs.Found.{IsVoid}
+use Rattle.lex_turns.specs.FoundLists.{AreFoundLists, HasList, IsGivenUpAt, IsStuckSetOf}
 use Rattle.lex_turns.specs.Walked.{IsAllWalked, own_support}
 use Rattle.lex_turns.specs.declared.found_lists.FoundLists.{FoundLists}
-use Rattle.lex_turns.specs.declared.large.LeftOut.TheVariants.{None as NoneLeft}
 use Rattle.lex_turns.specs.declared.measure_list.MeasureList.{MeasureList}
 use Rattle.lex_turns.specs.declared.walked.Walked.{Walked}
-use Rattle.lex_turns.proofs.ListSupports.{list_had, list_sets, void_had}
+use Rattle.lex_turns.proofs.ListSupports.{list_sets}
 
 true_of : (b : Bool) → IsTrue b → b ≡ true
 true_of true t = refl

@@ -1,30 +1,28 @@
 -- The walk after one more set of positions.
-use Rattle.std.proofs.Common.{◌≡◌, ◌↔◌, IsTrue, ℕ, zero, suc, ◌<◌, ◌≤◌, ◌||◌, inl, inr, ℤ, Bool, true, false, List, [], ◌∷◌, ◌++◌, map, take, slice_get, length, Some, refl, ap, sym, subst, ◌∙◌, arith}
-use Rattle.std.specs.List.{AllByRecursion, list_any}
+use Rattle.std.proofs.Common.{◌≡◌, ◌↔◌, IsTrue, ℕ, zero, suc, ◌<◌, ◌≤◌, ◌||◌, inl, inr, ℤ, Bool, true, false, List, [], ◌∷◌, ◌++◌, take, slice_get, length, Some, refl, ap, sym, subst, ◌∙◌, arith}
+use Rattle.std.specs.List.{list_any}
 use Rattle.std.proofs.lemmas.List.{length-map}
 use Rattle.cti_terms.specs.Listing.{Listing}
 use Rattle.cti_terms.specs.Tree.{Tree}
 use Rattle.call_components.specs.Partition.{Partition}
 use Rattle.call_components.proofs.Lists.{all_append}
-use Rattle.linear_rows.specs.Members.{In}
 use Rattle.linear_rows.specs.Step.{columns}
 use Rattle.linear_rows.proofs.Members.{of-append}
 use Rattle.termination_model.specs.ComponentViews.{positions_in}
-use Rattle.termination_model.specs.Minimal.{IsAbove, IsExcluded, IsSet}
+use Rattle.termination_model.specs.Minimal.{IsAbove, IsSet}
 use Rattle.termination_model.specs.Modes.{chosen_up_to, is_part}
 use Rattle.termination_model.proofs.Lists.{map_push}
 use Rattle.termination_model.proofs.Sets.{part_self, part_trans}
-use Rattle.level_systems.specs.Found.{IsBlownSet, count, had}
+use Rattle.level_systems.specs.Found.{IsBlownSet, count}
 use Rattle.level_systems.specs.Held.{spelled}
 use Rattle.level_systems.specs.Searched.{IsComponent}
-use Rattle.level_systems.specs.Subsequences.{IsSubsequence}
 use Rattle.level_systems.specs.declared.component.Component.{Component}
 use Rattle.level_systems.specs.declared.position.Position.{Position}
 use Rattle.level_dual.proofs.FoundCases.{below_there}
 use Rattle.level_dual.proofs.Subsequences.{kept_order, once_push, pushed_order}
 use Rattle.level_dual.proofs.Visits.{give_up_set, none_left, none_right, not_above_of, pass_set, refute_set}
 use Rattle.level_dual.proofs.WalkSteps.{apart_still, walk_steps}
-use Rattle.lex_turns.specs.Found.{AreVoid, IsChosen, IsListIn, IsUnmapped, IsVoid}
+use Rattle.lex_turns.specs.Found.{AreVoid, IsListIn, IsUnmapped, IsVoid}
 use Rattle.lex_turns.specs.FoundLists.{HasList, IsDescendingList, IsGivenUpAt, IsLong}
 use Rattle.lex_turns.specs.Walked.{IsAllWalked, IsSingle, IsWalkedTo, own_support}
 use Rattle.lex_turns.specs.declared.measure_list.MeasureList.{MeasureList}

@@ -1,5 +1,5 @@
 -- The list that turns at the positions of a set give is found: it descends, and its support is part of the set.
-use Rattle.std.proofs.Common.{◌≡◌, ◌⊎◌, inl, inr, ◌+◌, ◌<◌, ◌≤◌, ℕ, zero, suc, ℤ, pos, negsuc, Bool, true, List, [], ◌∷◌, map, take, length, slice_get, Some, refl, ap, sym, subst, ◌∙◌, arith}
+use Rattle.std.proofs.Common.{◌≡◌, ◌⊎◌, inl, inr, ◌+◌, ◌<◌, ◌≤◌, ℕ, zero, suc, ℤ, pos, negsuc, Bool, List, [], ◌∷◌, map, take, length, slice_get, Some, refl, ap, sym, subst, arith}
 use Rattle.std.specs.List.{AllByRecursion}
 use Rattle.std.proofs.lemmas.List.{length-map}
 use Rattle.cti_terms.specs.Listing.{Listing}
@@ -10,7 +10,7 @@ use Rattle.linear_rows.specs.Members.{In}
 use Rattle.linear_rows.proofs.Members.{in-left, in-right}
 use Rattle.linear_rows.specs.Rows.{AreEmpty, HoldsOn}
 use Rattle.termination_model.specs.Best.{coefficient}
-use Rattle.termination_model.specs.Claims.{Mapping, SomeOf}
+use Rattle.termination_model.specs.Claims.{Mapping}
 use Rattle.termination_model.specs.ComponentViews.{component_view, members_in, no_truth, positions_in, size_claims}
 use Rattle.termination_model.specs.Excluding.{IsAt}
 use Rattle.termination_model.specs.OwnCalls.{OwnCall as Recalled, Position, members_of, own_calls, own_calls_from, rows_before}
@@ -19,9 +19,9 @@ use Rattle.termination_model.specs.Rows.{added, scaled}
 use Rattle.termination_model.specs.Stuck.{ListDescends}
 use Rattle.termination_model.specs.SupportLaws.{HasFew}
 use Rattle.termination_model.specs.SupportSystem.{mapping_at}
-use Rattle.termination_model.specs.Supports.{AreLives, picked_from}
+use Rattle.termination_model.specs.Supports.{picked_from}
 use Rattle.termination_model.specs.Systems.{row_over}
-use Rattle.termination_model.specs.Turns.{AreTurns, Turn, mapping_by, remaining}
+use Rattle.termination_model.specs.Turns.{Turn, mapping_by}
 use Rattle.termination_model.specs.View.{Call, FallsOver, Member, Rule, fall_over, system_of}
 use Rattle.termination_model.proofs.Having.{picked_in}
 use Rattle.termination_model.proofs.OwnCallsThere.{call_there}
@@ -36,10 +36,10 @@ use Rattle.level_systems.specs.declared.measure.Measure.{Measure}
 use Rattle.level_systems.proofs.HeldCalls.{all_in}
 use Rattle.level_dual.proofs.SearchLaws.{distinct, laws, members_there}
 use Rattle.level_dual.proofs.SupportLaws.{mapping_same, of_ordered, offset_same, part_or_none}
-use Rattle.lex_turns.specs.Descending.{AreMeasuresAt, AreMeasuresOf, AreReached, IsListAt, IsMeasureOf, positions_at}
+use Rattle.lex_turns.specs.Descending.{AreMeasuresAt, AreMeasuresOf, AreReached, IsListAt, positions_at}
 use Rattle.lex_turns.specs.Descending.AreMeasuresAt.{turned, zero as measured_zero}
 use Rattle.lex_turns.specs.Found.{IsListIn}
-use Rattle.lex_turns.specs.FoundLists.{AreNeeded, HasList, IsDescendingList, mappings_of}
+use Rattle.lex_turns.specs.FoundLists.{AreNeeded, mappings_of}
 use Rattle.lex_turns.specs.declared.measure_list.MeasureList.{MeasureList}
 use Rattle.lex_turns.proofs.ListSupports.{part_of_set}
 

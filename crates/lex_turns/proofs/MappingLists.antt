@@ -1,5 +1,5 @@
 -- What is found of mappings in a large component, as lists of one.
-use Rattle.std.proofs.Common.{◌≡◌, ◌↔◌, ◌⊎◌, inl, inr, ℕ, suc, ◌<◌, ◌≤◌, ◌≢◌, ℤ, Bool, true, false, IsTrue, List, [], ◌∷◌, map, length, Option, None, Some, refl, ap, sym, subst, ◌∙◌, arith}
+use Rattle.std.proofs.Common.{◌≡◌, ◌↔◌, ◌⊎◌, inl, inr, ℕ, ◌<◌, ℤ, Bool, true, false, IsTrue, List, [], ◌∷◌, map, None, refl, sym, subst, arith}
 use Rattle.std.specs.List.{AllByRecursion}
 use Rattle.std.proofs.lemmas.List.{length-map}
 use Rattle.cti_terms.specs.Listing.{Listing}
@@ -10,13 +10,12 @@ use Rattle.termination_model.specs.ComponentViews.{component_view, no_truth, pos
 use Rattle.termination_model.specs.Excluding.{IsAt}
 use Rattle.termination_model.specs.Minimal.{IsAbove, IsExcluded}
 use Rattle.termination_model.specs.Refutation.{Decreases}
-use Rattle.level_systems.specs.Found.{IsFound, count, full, had, without}
+use Rattle.level_systems.specs.Found.{IsFound, count, had, without}
 use Rattle.level_systems.specs.Mappings.{IsMappingOf, mapping_of, support_of}
 use Rattle.level_systems.specs.declared.found.Found.{Found}
 use Rattle.level_systems.specs.declared.mapping.Mapping.{Mapping}
 use Rattle.lex_turns.specs.FoundLists.{AreFoundLists, IsDescendingList, IsLong, IsWithoutSpare, support_of_list}
 use Rattle.lex_turns.specs.Single.{one_list}
-use Rattle.lex_turns.specs.declared.found_lists.FoundLists.{FoundLists}
 use Rattle.lex_turns.specs.declared.measure_list.MeasureList.{MeasureList}
 use Rattle.lex_turns.proofs.ListSupports.{list_had}
 use Rattle.lex_turns.proofs.SingleLists.{one_list_is, one_short, one_support_of}

@@ -88,7 +88,7 @@ module _ (size : (ℕ → ℕ) → Tree → ℕ) (truth : (ℕ → Bool) → Tre
       go None e = absurd (no_place comps.members c e h.inner)
       go (Some ms) e = (h.components.members c ms e q).0 (in_contains ms q (subst (In q) (indexed comps.members c ms [] e) i))
 
-  within : (s : List ℕ) (y : Place) → In y (picked_from 1 (positions_in p comps c) s) → In y (positions_at expression p comps rows c s)
+  pub within : (s : List ℕ) (y : Place) → In y (picked_from 1 (positions_in p comps c) s) → In y (positions_at expression p comps rows c s)
   within s y i =
       let there = picked_in (positions_in p comps c) 1 s y i in
       let (member, argument) = pred_of (arity_in p) (members_in comps c) y there in

@@ -3,11 +3,9 @@ use Rattle.std.proofs.Common.{◌≡◌, ℕ, zero, suc, ◌+◌, ◌≤◌, ℤ
 use Rattle.std.specs.Borrow.{Bor}
 use Rattle.std.specs.Prelude.{IfSome}
 use Rattle.std.specs.List.{AllByRecursion}
-use Rattle.std.proofs.lemmas.List.{length-map}
 use Rattle.call_components.specs.Partition.{Partition}
 use Rattle.cti_terms.specs.Listing.{Listing}
 use Rattle.cti_terms.specs.Tree.{Tree}
-use Rattle.linear_rows.specs.Members.{In}
 use Rattle.linear_rows.specs.declared.point.Point.{Point}
 use Rattle.number_tests.specs.declared.pair_point.PairPoint.{PairPoint}
 use Rattle.termination_model.proofs.Lists.{append_assoc}
@@ -16,13 +14,13 @@ use Rattle.termination_model.specs.OwnCalls.{OwnCall as Recalled}
 use Rattle.termination_model.specs.Refutation.{Pair}
 use Rattle.level_systems.proofs.PairLists.{drop_at}
 use Rattle.level_systems.specs.Held.{IsHeld}
-use Rattle.level_systems.specs.Refuted.{IsOfCalls, IsPointAt}
+use Rattle.level_systems.specs.Refuted.{IsOfCalls}
 use Rattle.level_systems.specs.Turned.{held_of}
 use Rattle.level_systems.specs.declared.own_call.OwnCall.{OwnCall}
 use Rattle.level_systems.proofs.HeldCalls.{re}
 use Rattle.level_dual.proofs.RefuteLaws.{none_left}
 use Rattle.level_dual.proofs.SearchLaws.{drop_mapped, length_drop, take_mapped}
-use Rattle.level_dual.proofs.SpelledPoints.{IsSecond, Stand, point_at, vars_of}
+use Rattle.level_dual.proofs.SpelledPoints.{Stand, point_at, vars_of}
 use Rattle.lex_turns.specs.Sticking.{AreLong, ArePlain, IsPlain}
 
 -- ---- lists

@@ -1,5 +1,5 @@
 -- A mapping that decreases is a list of one.
-use Rattle.std.proofs.Common.{◌≡◌, ◌≤◌, ℕ, suc, ℤ, true, List, [], ◌∷◌, map, length, refl, ap, sym, subst, ◌∙◌, arith}
+use Rattle.std.proofs.Common.{◌≡◌, ℕ, ℤ, true, List, [], ◌∷◌, map, refl, ap, sym, subst, ◌∙◌, arith}
 use Rattle.std.specs.List.{AllByRecursion}
 use Rattle.call_components.specs.Partition.{Partition}
 use Rattle.cti_terms.specs.Listing.{Listing}
@@ -13,7 +13,7 @@ use Rattle.level_systems.specs.declared.mapping.Mapping.{Mapping}
 use Rattle.level_systems.specs.declared.measure.Measure.{Measure}
 use Rattle.lex_turns.specs.Descending.{HasPlace}
 use Rattle.lex_turns.specs.Found.{IsListIn}
-use Rattle.lex_turns.specs.FoundLists.{HasList, IsDescendingList, IsLong, support_of_list}
+use Rattle.lex_turns.specs.FoundLists.{IsDescendingList, IsLong, support_of_list}
 use Rattle.lex_turns.specs.Single.{drop_of_fall, one_list}
 use Rattle.lex_turns.specs.declared.call_drops.CallDrops.{CallDrops}
 use Rattle.lex_turns.proofs.ListSupports.{one_descends, one_support}

@@ -1,33 +1,25 @@
 -- Supports of lists in a large component, without one position after another.
-use Rattle.std.proofs.Common.{◌≡◌, ◌↔◌, ◌⊎◌, inl, inr, ℕ, suc, ◌+◌, ◌<◌, ◌≤◌, ◌≢◌, ℤ, Bool, true, false, IsTrue, List, [], ◌∷◌, ◌++◌, map, take, slice_get, length, Option, None, Some, refl, ap, sym, subst, ◌∙◌, arith}
-use Rattle.std.specs.List.{AllByRecursion}
+use Rattle.std.proofs.Common.{◌≡◌, ◌↔◌, ◌⊎◌, inl, inr, ℕ, suc, ◌+◌, ◌<◌, ◌≤◌, ℤ, true, IsTrue, List, [], ◌∷◌, ◌++◌, take, slice_get, length, None, Some, refl, ap, sym, subst, arith}
 use Rattle.cti_terms.specs.Listing.{Listing}
 use Rattle.cti_terms.specs.Tree.{Tree}
 use Rattle.call_components.specs.Partition.{Partition}
 use Rattle.linear_rows.specs.Members.{In}
 use Rattle.linear_rows.proofs.Members.{in-left, in-right, of-append}
-use Rattle.termination_model.specs.ComponentViews.{positions_in}
-use Rattle.termination_model.specs.Minimal.{IsAbove, IsExcluded, IsSet}
+use Rattle.termination_model.specs.Minimal.{IsSet}
 use Rattle.termination_model.specs.Modes.{is_part}
 use Rattle.termination_model.proofs.Lists.{taken_more}
-use Rattle.level_systems.specs.Found.{IsBlownSet, IsFound, count, full, had, without}
-use Rattle.level_systems.specs.Mappings.{IsMappingOf, mapping_of, support_of}
+use Rattle.level_systems.specs.Found.{IsBlownSet, count, full, had, without}
 use Rattle.level_systems.specs.Subsequences.{AreOnce}
-use Rattle.level_systems.specs.declared.found.Found.{Found}
-use Rattle.level_systems.specs.declared.mapping.Mapping.{Mapping}
 use Rattle.level_dual.proofs.FoundCases.{part_full}
 use Rattle.level_dual.proofs.LargeLaws.{not_before, not_within, place_in, take_whole, taken_in, without_in, without_not, without_set}
 use Rattle.level_dual.proofs.Subsequences.{once_push}
 use Rattle.lex_turns.specs.Found.{IsUnmapped, IsVoid}
-use Rattle.lex_turns.specs.FoundLists.{AreFoundLists, HasList, IsDescendingList, IsGivenUpAt, IsLong, IsWithoutSpare}
-use Rattle.lex_turns.specs.Large.{AreTried, IsHadList, IsLeftOut, IsTried}
-use Rattle.lex_turns.specs.Single.{one_list}
+use Rattle.lex_turns.specs.FoundLists.{AreFoundLists, IsGivenUpAt}
+use Rattle.lex_turns.specs.Large.{AreTried, IsHadList, IsLeftOut}
 use Rattle.lex_turns.specs.Walked.{own_support}
-use Rattle.lex_turns.specs.declared.found_lists.FoundLists.{FoundLists}
 use Rattle.lex_turns.specs.declared.large.LeftOut.TheVariants.{None as NoneLeft}
 use Rattle.lex_turns.specs.declared.measure_list.MeasureList.{MeasureList}
-use Rattle.lex_turns.proofs.ListSupports.{list_had, list_sets, one_support, void_had}
-use Rattle.lex_turns.proofs.SingleLists.{one_short}
+use Rattle.lex_turns.proofs.ListSupports.{list_had, list_sets, void_had}
 
 module _ (expression : ℕ → Tree → List ℤ) (p : Listing) (comps : Partition) (rows : ℕ → List (List ℤ)) (c : ℕ) where
   abbrev void : List ℕ → Type 0

@@ -1,6 +1,6 @@
 -- The check of a certificate accepts the points that elimination's multipliers spell, where its numbers fit. So where it
 -- accepts none, a number does not fit.
-use Rattle.std.proofs.Common.{◌≡◌, ℕ, ◌+◌, ◌≤◌, ℤ, pos, ◌≤ℤ◌, Bool, true, false, List, [], ◌∷◌, ◌++◌, map, take, length, Option, None, Some, inl, inr, refl, ap, sym, subst, ◌∙◌, arith}
+use Rattle.std.proofs.Common.{◌≡◌, ℕ, ◌+◌, ◌≤◌, ℤ, pos, ◌≤ℤ◌, Bool, true, false, List, [], ◌∷◌, ◌++◌, map, length, Option, None, Some, inl, ap, sym, subst, ◌∙◌, arith}
 use Rattle.std.specs.Prelude.{IfSome, unsigned_abs}
 use Rattle.std.specs.List.{AllByRecursion}
 use Rattle.std.proofs.lemmas.List.{length-append, length-map}
@@ -35,14 +35,13 @@ use Rattle.termination_model.specs.Ready.{arity_in, positions_by}
 use Rattle.termination_model.specs.Refutation.{IsRefutation, Load, Pair, call_load, gather, head_load}
 use Rattle.termination_model.specs.TurnSystem.{sum_row, turn_rows, turn_rows_from, turn_unknowns}
 use Rattle.termination_model.specs.View.{Rule}
-use Rattle.level_systems.specs.Found.{IsRefutationOf, PairsAscend}
+use Rattle.level_systems.specs.Found.{PairsAscend}
 use Rattle.level_systems.specs.Held.{IsHeld, pair_of, spelled}
-use Rattle.level_systems.specs.Refuted.{HasPoints}
 use Rattle.level_systems.specs.Searched.{IsComponent}
 use Rattle.level_systems.specs.declared.component.Component.{Component}
 use Rattle.level_systems.specs.declared.own_call.OwnCall.{OwnCall}
 use Rattle.level_systems.specs.declared.position.Position.{Position}
-use Rattle.level_systems.proofs.HeldCalls.{all_in, re, shown_empty}
+use Rattle.level_systems.proofs.HeldCalls.{all_in, re}
 use Rattle.level_dual.proofs.AcceptedPoints.{stand_good}
 use Rattle.level_dual.proofs.Ascending.{AscendFrom, ascend_lower, pairs_ascend}
 use Rattle.level_dual.proofs.Loads.{gathers_same, sums_fit}

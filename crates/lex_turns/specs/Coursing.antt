@@ -89,6 +89,13 @@ IsNext p x at old new next.Done = remaining_of x new ≡ []
 IsNext p x at old new next.Refuted = (1 ≤ length (remaining_of x new)) × ForComponent p x (λ expression comps rows c. IsRefuted expression p comps rows c x at (remaining_of x new))
 IsNext p x at old new next.Blown = (1 ≤ length (remaining_of x new)) × ForComponent p x (λ expression comps rows c. IsBlown expression p comps rows c x at (is_none new.measures) (remaining_of x new))
 
+-- how a search for calls that stick goes on from those that are gone now
+abbrev pub IsLess : Listing → Component → List Position → List Bool → List Bool → Next → Type 0
+IsLess p x at old new next.More = staying new < staying old
+IsLess p x at old new next.Done = Unit {0}
+IsLess p x at old new next.Refuted = (1 ≤ length (kept x.calls.items new)) × ForComponent p x (λ expression comps rows c. IsRefuted expression p comps rows c x at (kept x.calls.items new))
+IsLess p x at old new next.Blown = Unit {0}
+
 module _ (expression : ℕ → Tree → List ℤ) (p : Listing) (comps : Partition) (rows : ℕ → List (List ℤ)) (c : ℕ) (x : Component) (at : List Position) where
   -- some turns leave calls for which none can be made
   pub record IsStopped (gone : List Bool) : Type 0 where

@@ -6,7 +6,7 @@
 -- decreases is a list of one.
 --
 -- To believe: all of this file, over `ListDescends` of `termination_model` and Descending.antt.
-use Rattle.std.specs.Prelude.{◌≡◌, ◌≢◌, ◌↔◌, ◌⊎◌, ◌-◌, ◌<◌, ◌≤◌, nat_lt, ℕ, suc, ℤ, Bool, true, false, IsTrue, if◌then◌else◌, List, [], ◌∷◌, map, take, length, slice_get, Option, None, Some}
+use Rattle.std.specs.Prelude.{◌≡◌, ◌≢◌, ◌↔◌, ◌⊎◌, ◌-◌, ◌<◌, ◌≤◌, nat_lt, ℕ, suc, ℤ, Bool, true, false, IsTrue, if◌then◌else◌, List, [], ◌∷◌, map, take, length, slice_get, None, Some}
 use Rattle.std.specs.List.{AllByRecursion, list_any}
 use Rattle.call_components.specs.Partition.{Partition}
 use Rattle.cti_terms.specs.Listing.{Listing}
@@ -30,7 +30,6 @@ use Rattle.level_systems.specs.Found.{IsBlownSet, IsRefutationOf, count, full, h
 use Rattle.level_systems.specs.Mappings.{HasMeasures, mapping_of}
 use Rattle.level_systems.specs.Pairs.{pairs_of}
 use Rattle.level_systems.specs.Subsequences.{AreOnce, IsSubsequence}
-use Rattle.level_systems.specs.declared.measure.Measure.{Measure}
 use Rattle.lex_turns.specs.Descending.{HasPlace, IsGivenUp, positions_at}
 use Rattle.lex_turns.specs.declared.call_drops.CallDrops.{CallDrops}
 use Rattle.lex_turns.specs.declared.found_lists.FoundLists.{FoundLists}

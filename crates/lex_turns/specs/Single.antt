@@ -1,6 +1,6 @@
 -- Private.
 -- A mapping that decreases as a list of one. Nothing here has to be believed.
-use Rattle.std.specs.Prelude.{List, [], ◌∷◌, map}
+use Rattle.std.specs.Prelude.{[], ◌∷◌, map}
 use Rattle.level_systems.specs.declared.fall.Fall.{Fall}
 use Rattle.level_systems.specs.declared.mapping.Mapping.{Mapping}
 use Rattle.lex_turns.specs.declared.call_drops.CallDrops.{CallDrops}

@@ -1,6 +1,6 @@
 -- Private.
 -- The points that multipliers against a turn's system spell, as the code makes them. Nothing here has to be believed.
-use Rattle.std.specs.Prelude.{◌≡◌, ◌≤◌, ℕ, suc, ℤ, Bool, List, [], ◌∷◌, drop, length, take, IfSome, map, Option, None, Some}
+use Rattle.std.specs.Prelude.{◌≡◌, ◌≤◌, ℕ, suc, ℤ, Bool, List, [], ◌∷◌, drop, length, take, map, Option, None, Some}
 use Rattle.std.specs.List.{AllByRecursion}
 use Rattle.call_components.specs.Numbers.{number_of}
 use Rattle.call_components.specs.Partition.{Partition}

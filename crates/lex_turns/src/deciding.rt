@@ -96,7 +96,8 @@ fn of_large_mapping(
     requires sound { IsSound p.now component.now }
     requires few { length component.now.positions.items < 2 ^ 32 }
     ensures { IfOk result (λ f. ForComponent p.now component.now (λ expression comps rows c. (s : List ℕ)
-        → 12 < length component.now.positions.items → IsFoundIn expression p.now comps rows c s mapping → AreFoundLists expression p.now comps rows c f)) }
+        → 12 < length component.now.positions.items → IsFoundIn expression p.now comps rows c s mapping
+        → AreFoundLists expression p.now comps rows c f)) }
 {
     let found = level_dual::find_large(alloc, p, component, mapping)?;
     let lists = lists_of(alloc, found.mappings.as_slice())?;
@@ -141,7 +142,8 @@ fn of_list(
     requires full { full ≡ columns 1 (length component.now.positions.items) }
     requires few { length component.now.positions.items + 1 < 2 ^ 32 }
     ensures { IfOk result (λ f. ForComponent p.now component.now (λ expression comps rows c.
-        IsUnmapped expression p.now comps rows c full → IsListIn expression p.now comps rows c full list → AreFoundLists expression p.now comps rows c f)) }
+        IsUnmapped expression p.now comps rows c full → IsListIn expression p.now comps rows c full list
+        → AreFoundLists expression p.now comps rows c f)) }
 {
     if is_large(component.positions.as_slice()) {
         return find_large(alloc, p, component, list);
@@ -160,7 +162,8 @@ fn of_given_up(
     requires full { full ≡ columns 1 (length component.now.positions.items) }
     requires few { length component.now.positions.items + 1 < 2 ^ 32 }
     ensures { IfOk result (λ f. ForComponent p.now component.now (λ expression comps rows c.
-        IsUnmapped expression p.now comps rows c full → IsGivenUpAt expression p.now comps rows c full → AreFoundLists expression p.now comps rows c f)) }
+        IsUnmapped expression p.now comps rows c full → IsGivenUpAt expression p.now comps rows c full
+        → AreFoundLists expression p.now comps rows c f)) }
 {
     if is_large(component.positions.as_slice()) {
         return not_found(alloc, full, true, None);
@@ -179,11 +182,15 @@ fn by_turns<N: Norm>(
 ) -> Result<FoundLists, AllocError>
     requires sound { IsSound p.now component.now }
     requires sizes { AreSizes p.now.preds sizes.now.rows }
-    requires held { AllByRecursion (IsHeld (N.expression norm.now) p.now (rows_of sizes.now.rows)) component.now.calls.items }
+    requires held { AllByRecursion (IsHeld (N.expression norm.now) p.now
+        (rows_of sizes.now.rows)) component.now.calls.items }
     requires full { full ≡ columns 1 (length component.now.positions.items) }
     requires few { length component.now.positions.items + 1 < 2 ^ 32 }
-    ensures { IfOk result (λ f. (comps : Partition) (c : ℕ) → IsComponent (N.size norm.now) (N.truth norm.now) (N.expression norm.now) p.now comps (rows_of sizes.now.rows) c component.now
-        → IsUnmapped (N.expression norm.now) p.now comps (rows_of sizes.now.rows) c full → AreFoundLists (N.expression norm.now) p.now comps (rows_of sizes.now.rows) c f) }
+    ensures { IfOk result (λ f. (comps : Partition) (c : ℕ)
+        → IsComponent (N.size norm.now) (N.truth norm.now) (N.expression norm.now) p.now comps
+        (rows_of sizes.now.rows) c component.now
+        → IsUnmapped (N.expression norm.now) p.now comps (rows_of sizes.now.rows) c full
+        → AreFoundLists (N.expression norm.now) p.now comps (rows_of sizes.now.rows) c f) }
 {
     let at = positions_at(alloc, component, full.as_slice())?;
     match take_turns(alloc, p, component, at.as_slice())? {
@@ -212,10 +219,13 @@ pub(crate) fn find<N: Norm>(
 ) -> Result<FoundLists, AllocError>
     requires sound { IsSound p.now component.now }
     requires sizes { AreSizes p.now.preds sizes.now.rows }
-    requires held { AllByRecursion (IsHeld (N.expression norm.now) p.now (rows_of sizes.now.rows)) component.now.calls.items }
+    requires held { AllByRecursion (IsHeld (N.expression norm.now) p.now
+        (rows_of sizes.now.rows)) component.now.calls.items }
     requires full { full ≡ columns 1 (length component.now.positions.items) }
     requires few { length component.now.positions.items + 1 < 2 ^ 32 }
-    ensures { IfOk result (λ f. (comps : Partition) (c : ℕ) → IsComponent (N.size norm.now) (N.truth norm.now) (N.expression norm.now) p.now comps (rows_of sizes.now.rows) c component.now
+    ensures { IfOk result (λ f. (comps : Partition) (c : ℕ)
+        → IsComponent (N.size norm.now) (N.truth norm.now) (N.expression norm.now) p.now comps
+        (rows_of sizes.now.rows) c component.now
         → AreFoundLists (N.expression norm.now) p.now comps (rows_of sizes.now.rows) c f) }
 {
     match level_dual::search(alloc, p, component, full.as_slice())? {

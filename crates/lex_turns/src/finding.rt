@@ -23,18 +23,19 @@ pub(crate) fn positions_at(
     component: &Component,
     set: &[u32],
 ) -> Result<Vec<Position>, AllocError>
-    ensures { IfOk result (λ at. map spelled at.items ≡ filter (λ r. list_any (same_position r) (picked_from 1 (map spelled component.now.positions.items) set.now)) (map spelled component.now.order.items)) }
+    ensures { IfOk result (λ at. map spelled at.items ≡ filter (λ r. list_any (same_position r) (picked_from 1
+        (map spelled component.now.positions.items) set.now)) (map spelled component.now.order.items)) }
 {
     let at = picked(alloc, component.positions.as_slice(), set)?;
     in_order(alloc, component.order.as_slice(), at.as_slice())
 }
 
-/// Searches by turns for a list of mappings that descends and whose coefficients are positive at a set of positions alone.
-/// The numbers of positions count from 1.
+/// Searches by turns for a list of mappings that descends and whose coefficients are positive at a set of positions
+/// alone. The numbers of positions count from 1.
 ///
 /// In each turn a mapping is found that rises at none of the calls that remain, and those at which it falls leave. Its
-/// drops are tested as the check of a certificate tests them. Where the numbers that pivots find do not fit, elimination
-/// solves the turn's system again.
+/// drops are tested as the check of a certificate tests them. Where the numbers that pivots find do not fit,
+/// elimination solves the turn's system again.
 ///
 /// Source: lexicographic ranking by linear programs, as in Alias, Darte, Feautrier and Gonnord 2010.
 pub(crate) fn search_within(

@@ -10,9 +10,9 @@ ghost use Rattle.lex_turns.specs.Found.{IsUnmapped};
 ghost use Rattle.lex_turns.specs.FoundLists.{AreFoundLists, is_used, mappings_of, support_of_list};
 ghost use Rattle.lex_turns.specs.Large.{IsHadList, IsLeftOut, IsShorterThan};
 
-use crate::finding::search_within;
 use crate::found_lists::FoundLists;
 use crate::measure_list::MeasureList;
+use crate::needing::search_without;
 use crate::within::Within;
 use cti_terms::Program;
 use level_dual::{has_coefficient, without};
@@ -64,6 +64,7 @@ fn leave_out(
     alloc: Global,
     p: &Program,
     component: &Component,
+    list: &MeasureList,
     support: &[u32],
 ) -> Result<LeftOut, AllocError>
     requires sound { IsSound p.now component.now }
@@ -75,12 +76,12 @@ fn leave_out(
     let mut blown = Sequence::new(alloc);
     for number in support {
         let set = without(alloc, support, *number)?;
-        match search_within(alloc, p, component, set.as_slice())? {
-            Within::List(list) => {
+        match search_without(alloc, p, component, list, set.as_slice(), *number)? {
+            Within::List(other) => {
                 // The support of a list at this set is smaller. It is tested, since the caller's loop ends by that.
-                let smaller = support_of(alloc, component.positions.as_slice(), &list)?;
+                let smaller = support_of(alloc, component.positions.as_slice(), &other)?;
                 if smaller.len() < support.len() {
-                    return Ok(LeftOut::Smaller(list));
+                    return Ok(LeftOut::Smaller(other));
                 }
                 blown.push(set)?;
             }
@@ -101,13 +102,14 @@ pub(crate) fn find_large(
     requires sound { IsSound p.now component.now }
     requires small { length component.now.positions.items < 2 ^ 32 }
     ensures { IfOk result (λ f. ForComponent p.now component.now (λ expression comps rows c.
-        IsTrue true ↔ (12 < count expression p.now comps rows c) → IsUnmapped expression p.now comps rows c (full expression p.now comps rows c)
+        IsTrue true ↔ (12 < count expression p.now comps rows c)
+        → IsUnmapped expression p.now comps rows c (full expression p.now comps rows c)
         → IsHadList expression p.now comps rows c list → AreFoundLists expression p.now comps rows c f)) }
 {
     let mut list = list;
     loop {
         let support = support_of(alloc, component.positions.as_slice(), &list)?;
-        match leave_out(alloc, p, component, support.as_slice())? {
+        match leave_out(alloc, p, component, &list, support.as_slice())? {
             LeftOut::Smaller(smaller) => list = smaller,
             LeftOut::None(blown) => {
                 let mut lists = Sequence::new(alloc);

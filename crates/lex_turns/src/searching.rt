@@ -17,7 +17,7 @@ use crate::dropping::empty_fall;
 use crate::measure_list::MeasureList;
 use crate::tracking::{add_drops, after_falls, drops_first, gone_first, kept};
 use crate::turn::{Made, Round, Step};
-use crate::turning::turn;
+use crate::whole::long_turn;
 use crate::zeros::zero_measures;
 use cti_terms::Program;
 use level_systems::{Component, Position};
@@ -91,7 +91,7 @@ fn go_on(
         rest: rest.as_slice(),
         first: course.measures.is_empty(),
     };
-    match turn(alloc, p, component, &round)? {
+    match long_turn(alloc, p, component, &round)? {
         Step::Made(made) => {
             advance(alloc, component, made, course)?;
             Ok(Next::More)

@@ -16,8 +16,8 @@ use level_systems::Component;
 use sequences::Sequence;
 use std::alloc::{AllocError, Global};
 
-/// The lists with minimal supports. Where the search at all positions was given up, and no list is found, the set of all
-/// positions is among the sets that were given up.
+/// The lists with minimal supports. Where the search at all positions was given up, and no list is found, the set of
+/// all positions is among the sets that were given up.
 pub(crate) fn find_small(
     alloc: Global,
     p: &Program,
@@ -29,8 +29,10 @@ pub(crate) fn find_small(
     requires full { full ≡ columns 1 (length component.now.positions.items) }
     requires small { length component.now.positions.items + 1 < 2 ^ 32 }
     ensures { IfOk result (λ f. ForComponent p.now component.now (λ expression comps rows c.
-        IsTrue false ↔ (12 < count expression p.now comps rows c) → (given_up ≡ true → IsGivenUpAt expression p.now comps rows c full)
-        → (given_up ≡ false → ((s : List ℕ) → HasList expression p.now comps rows c s → ⊥) → ⊥) → AreFoundLists expression p.now comps rows c f)) }
+        IsTrue false ↔ (12 < count expression p.now comps rows c) → (given_up ≡ true
+        → IsGivenUpAt expression p.now comps rows c full)
+        → (given_up ≡ false → ((s : List ℕ) → HasList expression p.now comps rows c s → ⊥) → ⊥)
+        → AreFoundLists expression p.now comps rows c f)) }
 {
     let last = component.positions.len() as u32;
     let walked = walk(alloc, p, component, full.as_slice(), last)?;

@@ -73,8 +73,8 @@ fn empty_falls(
     empty_fall(alloc, component.calls.as_slice(), measures)
 }
 
-// The turn that a point of its system gives, where its drops are shown in numbers that fit.
-fn made_at(
+/// The turn that a point of its system gives, where its drops are shown in numbers that fit.
+pub(crate) fn made_at(
     alloc: Global,
     p: &Program,
     component: &Component,

@@ -21,7 +21,8 @@ use termination_model::number_sets;
 
 // Whether a set is above one that was found, or above one that was given up.
 fn is_passed(walked: &Walked, set: &[u32]) -> bool
-    ensures { result ≡ (list_any (λ t. is_part t set.now) walked.now.found || list_any (λ t. is_part t set.now) walked.now.blown) }
+    ensures { result ≡ (list_any (λ t. is_part t set.now) walked.now.found || list_any
+        (λ t. is_part t set.now) walked.now.blown) }
 {
     is_above(walked.found.as_slice(), set) || is_above(walked.blown.as_slice(), set)
 }
@@ -49,7 +50,8 @@ fn void_sets(
     Ok(sets)
 }
 
-// Searches at one more set, unless it is above one that was found or given up, or part of one at which no list descends.
+// Searches at one more set, unless it is above one that was found or given up, or part of one at which no list
+// descends.
 fn visit(
     alloc: Global,
     p: &Program,
@@ -60,10 +62,13 @@ fn visit(
 ) -> Result<(), AllocError>
     requires sound { IsSound p.now component.now }
     ensures { IfOk result (λ done. ForComponent p.now component.now (λ expression comps rows c.
-        (i : ℕ) → slice_get (chosen_up_to (length component.now.positions.items) (length component.now.positions.items)) i ≡ Some set.now
+        (i : ℕ) → slice_get (chosen_up_to (length component.now.positions.items)
+        (length component.now.positions.items)) i ≡ Some set.now
         → AreVoid expression p.now comps rows c void.now
-        → IsWalkedTo expression p.now comps rows c (take i (chosen_up_to (length component.now.positions.items) (length component.now.positions.items))) walked.old
-        → IsWalkedTo expression p.now comps rows c (take (suc i) (chosen_up_to (length component.now.positions.items) (length component.now.positions.items))) walked.new)) }
+        → IsWalkedTo expression p.now comps rows c (take i (chosen_up_to (length component.now.positions.items)
+        (length component.now.positions.items))) walked.old
+        → IsWalkedTo expression p.now comps rows c (take (suc i) (chosen_up_to
+        (length component.now.positions.items) (length component.now.positions.items))) walked.new)) }
 {
     if is_passed(walked, set) {
         return Ok(());

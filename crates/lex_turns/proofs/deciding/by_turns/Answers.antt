@@ -1,5 +1,4 @@
-use Rattle.std.proofs.Common.{◌≡◌, ◌↔◌, ◌<◌, ℕ, List, None, Some, IsTrue, Bool, inr, refl, length, filter, map, ap, sym, subst, ◌∙◌}
-use Rattle.std.specs.Prelude.{IfSome}
+use Rattle.std.proofs.Common.{◌≡◌, List, None, Bool, refl, length, map, ap, sym, subst, ◌∙◌}
 use Rattle.std.specs.List.{list_any}
 use Rattle.termination_model.specs.BlownSupports.{same_position}
 use Rattle.termination_model.specs.Sizes.{rows_of}

@@ -1,4 +1,4 @@
-use Rattle.std.proofs.Common.{inl, inr, subst, ◌∙◌}
+use Rattle.std.proofs.Common.{inl, inr, subst}
 use Rattle.termination_model.specs.Sizes.{rows_of}
 use Rattle.level_systems.specs.Searched.{IsAnswer}
 use Rattle.level_dual.proofs.Results.{if_ok}

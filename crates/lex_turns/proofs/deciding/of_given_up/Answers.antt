@@ -1,4 +1,4 @@
-use Rattle.std.proofs.Common.{◌≡◌, List, ℕ, true, false, inl, refl, ap, sym, subst, ◌∙◌}
+use Rattle.std.proofs.Common.{true, false, inl, refl, ◌∙◌}
 use Rattle.level_dual.proofs.Results.{if_ok}
 use Rattle.lex_turns.proofs.ListCases.{given_up_are}
 use Rattle.lex_turns.proofs.ListWalk.{full_same, large_told}

@@ -1,4 +1,4 @@
-use Rattle.std.proofs.Common.{◌≡◌, List, ℕ, true, false, ap, sym, subst, ◌∙◌}
+use Rattle.std.proofs.Common.{true, false, subst, ◌∙◌}
 use Rattle.termination_model.specs.ComponentViews.{positions_in}
 use Rattle.level_dual.proofs.Results.{if_ok}
 use Rattle.lex_turns.specs.Found.{IsUnmapped}

@@ -1,4 +1,4 @@
-use Rattle.std.proofs.Common.{◌≡◌, ◌<◌, List, ℕ, length, true, false, ap, sym, subst, ◌∙◌}
+use Rattle.std.proofs.Common.{◌<◌, length, false, subst}
 use Rattle.termination_model.specs.ComponentViews.{positions_in}
 use Rattle.level_systems.specs.Mappings.{support_of}
 use Rattle.level_dual.proofs.Results.{if_ok}

@@ -4,7 +4,7 @@ use Rattle.level_dual.proofs.Results.{if_ok}
 use Rattle.lex_turns.specs.Found.{IsListIn}
 use Rattle.lex_turns.specs.declared.within.Within.{Within}
 use Rattle.lex_turns.proofs.Choosing.{all_chosen}
-use Rattle.lex_turns.proofs.SingleLists.{one_found, one_short}
+use Rattle.lex_turns.proofs.SingleLists.{one_found}
 use Rattle.lex_turns.proofs.finding.find_at.Goals as goal
 
 pub returns-in_ok-list_of_one-in-Mapping-clause-within :

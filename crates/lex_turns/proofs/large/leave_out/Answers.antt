@@ -1,4 +1,4 @@
-use Rattle.std.proofs.Common.{◌≡◌, ◌+◌, ◌≤◌, ◌++◌, ◌∷◌, [], ℕ, suc, true, List, length, map, slice_get, get_or, Some, ap, sym, subst, ◌∙◌, arith}
+use Rattle.std.proofs.Common.{◌≡◌, ◌+◌, ◌≤◌, ◌++◌, ◌∷◌, [], suc, true, List, length, map, slice_get, get_or, Some, ap, sym, subst, ◌∙◌, arith}
 use Rattle.termination_model.specs.ComponentViews.{positions_in}
 use Rattle.termination_model.specs.Modes.{is_part}
 use Rattle.termination_model.proofs.Lists.{there}
@@ -24,14 +24,14 @@ loop-number-preserved c = λ size truth expression comps rows r h once.
     let i = get_or s k 0 in
     let at : slice_get s k ≡ Some i = there s k 0 c.loop-number-test.true in
     let before = c.loop-number.invariant size truth expression comps rows r h once in
-    let answer = c.in_ok-list.ensures size truth expression comps rows r h in
+    let answer = c.in_ok-other.ensures size truth expression comps rows r h in
     let set : c.in_ok-set.set ≡ without i s = c.in_ok-set.ensures in
     let slice : c.as_slice.result.now ≡ without i s = c.as_slice.ensures ∙ set in
     elim c.match-branch-3.branch [
       | in-List+in_ok-smaller-in-List+else-len-support+in_ok-push-in-List w ↦
           subst (AreTried expression p comps rows r s (k + 1)) (sym (w.blown-is ∙ w.in_ok-push-in-List.ensures.ok ∙ ap (λ t. c.loop-number.blown ++ t ∷ []) set))
           (given_up_too expression p comps rows r s k i at c.loop-number.blown before once (absurd (
-          let l : MeasureList = w.in-List.list in
+          let l : MeasureList = w.in-List.other in
           let u = support_of_list (positions_in p comps r) l in
           let found = subst (IsWithin expression p comps rows r c.as_slice.result.now) w.in-List.is answer in
           let same : w.in_ok-smaller-in-List.smaller.items ≡ u =

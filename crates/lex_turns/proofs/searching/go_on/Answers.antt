@@ -13,8 +13,8 @@ use Rattle.lex_turns.proofs.TrackedCalls.{kept_among, kept_count}
 use Rattle.lex_turns.proofs.TurnMaking.{all_among, drops_long, ready_among}
 use Rattle.lex_turns.proofs.searching.go_on.Goals as goal
 
-pub turn-requires-clause-among : goal.turn-requires-clause-among
-turn-requires-clause-among c =
+pub long_turn-requires-clause-among : goal.long_turn-requires-clause-among
+long_turn-requires-clause-among c =
     let calls = c.args.component.now.calls.items in
     let gone = c.args.course.now.gone.items in
     let rest_is : held_of c.as_slice-3.result.now ≡ kept calls gone = ap held_of c.as_slice-3.ensures.value ∙ c.in_ok-rest.ensures ∙ (λ i. kept (c.as_slice.ensures.value i) (c.as_slice-2.ensures.value i)) in

@@ -1,6 +1,5 @@
-use Rattle.std.proofs.Common.{◌≡◌, ◌+◌, ◌++◌, suc, ℤ, List, drop, slice_get, Some, sym, subst, arith}
+use Rattle.std.proofs.Common.{◌≡◌, ◌+◌, suc, ℤ, List, drop, slice_get, Some, sym, subst, arith}
 use Rattle.std.specs.Borrow.{Bor}
-use Rattle.number_tests.specs.declared.pair_point.PairPoint.{PairPoint}
 use Rattle.termination_model.proofs.Lists.{at_place}
 use Rattle.level_systems.specs.Turned.{held_of}
 use Rattle.level_systems.specs.declared.own_call.OwnCall.{OwnCall}

@@ -1,7 +1,6 @@
-use Rattle.std.proofs.Common.{◌≡◌, ◌+◌, ℕ, ℤ, List, Ok, Err, Some, length, map, ap, sym, subst, ◌∙◌, arith}
+use Rattle.std.proofs.Common.{◌≡◌, ◌+◌, ℕ, ℤ, List, Ok, Err, length, sym, subst, ◌∙◌}
 use Rattle.std.specs.Borrow.{Bor}
 use Rattle.std.proofs.lemmas.List.{length-map}
-use Rattle.call_components.specs.Numbers.{number_of}
 use Rattle.fourier.specs.Solves.{Decides, Spells}
 use Rattle.fourier.specs.declared.fault.ElimFault.{ElimFault}
 use Rattle.fourier.specs.declared.solved.Solved.{Solved}
@@ -9,12 +8,11 @@ use Rattle.linear_rows.specs.Plain.{plain_rows}
 use Rattle.linear_rows.specs.Proves.{Refutes}
 use Rattle.linear_rows.specs.Rows.{IsPoint}
 use Rattle.linear_rows.specs.Solving.{solution}
-use Rattle.linear_rows.specs.Solving.Solution.{Blown, Found, Refuted}
-use Rattle.level_systems.specs.Held.{spelled}
+use Rattle.linear_rows.specs.Solving.Solution.{Blown, Refuted}
 use Rattle.level_systems.specs.Turned.{all_rows, held_of}
 use Rattle.level_systems.specs.declared.own_call.OwnCall.{OwnCall}
 use Rattle.level_dual.proofs.Results.{if_ok}
-use Rattle.lex_turns.specs.Sticking.{ArePlainIf, AreRefutingIf, lines_of, unknowns_of}
+use Rattle.lex_turns.specs.Sticking.{ArePlainIf, lines_of, unknowns_of}
 use Rattle.lex_turns.specs.Sticking.IsUnrefuted.{blown, found}
 use Rattle.lex_turns.proofs.StickingLaws.{refuting_if}
 use Rattle.lex_turns.proofs.TurnMaking.{width_is}

@@ -1,10 +1,8 @@
-use Rattle.std.proofs.Common.{◌≡◌, ◌≤◌, List, Bool, Option, None, length, map, ap, sym, subst, ◌∙◌, arith}
+use Rattle.std.proofs.Common.{◌≡◌, List, map, ap, sym, subst, ◌∙◌, arith}
 use Rattle.std.specs.Borrow.{Bor}
 use Rattle.std.specs.Prelude.{IfSome}
-use Rattle.std.specs.List.{AllByRecursion}
 use Rattle.std.proofs.lemmas.List.{length-map}
 use Rattle.call_components.specs.Numbers.{number_of}
-use Rattle.number_tests.specs.declared.pair_point.PairPoint.{PairPoint}
 use Rattle.number_tests.specs.declared.refutation.Refutation.{Refutation}
 use Rattle.termination_model.specs.ComponentViews.{members_in}
 use Rattle.termination_model.specs.Sizes.{rows_of}

@@ -1,4 +1,4 @@
-use Rattle.std.proofs.Common.{◌≡◌, List, Bool, ap, sym, subst, refl, ◌∙◌}
+use Rattle.std.proofs.Common.{◌≡◌, List, ap, sym, subst, refl, ◌∙◌}
 use Rattle.std.specs.Borrow.{Bor}
 use Rattle.termination_model.specs.Sizes.{rows_of}
 use Rattle.level_systems.specs.Turned.{held_of}

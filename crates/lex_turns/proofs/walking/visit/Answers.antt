@@ -1,6 +1,4 @@
-use Rattle.std.proofs.Common.{◌≡◌, ◌++◌, ◌∷◌, [], true, List, ℕ, sym, subst, ◌∙◌}
-use Rattle.std.specs.List.{list_any}
-use Rattle.termination_model.specs.Modes.{is_part}
+use Rattle.std.proofs.Common.{◌++◌, ◌∷◌, [], sym, subst, ◌∙◌}
 use Rattle.lex_turns.specs.Found.{IsChosen, IsWithin}
 use Rattle.lex_turns.proofs.ListWalk.{below_void, given_up_on, listed_on, passed_on, void_on}
 use Rattle.lex_turns.proofs.walking.visit.Goals as goal
