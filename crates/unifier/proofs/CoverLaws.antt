@@ -8,12 +8,11 @@ use Rattle.cti_terms.specs.declared.syntax.Term.{Term}
 use Rattle.cti_terms.specs.Spell.{tree_of, trees_of}
 use Rattle.cti_terms.specs.Unify.{Binding, occurs, occurs_among}
 use Rattle.cti_terms.proofs.Unifier.{applied_instance}
-use Rattle.unifier.specs.declared.raised_term.RaisedTerm.{RaisedTerm}
-use Rattle.unifier.specs.Raised.{raise, raised_tree}
+use Rattle.unifier.specs.Raised.{raise}
 use Rattle.unifier.specs.Store.{made, full, all_full, one_more, chain, chain_of}
-use Rattle.unifier.specs.Pending.{raw, weight, occurs_left}
-use Rattle.unifier.specs.Visits.{is_among, rank, OccursBelow, IsCovered, IsWanted, last_chain, remaining}
-use Rattle.unifier.proofs.PendingLaws.{or_second_true, occurs_left-append, weight-append, raw_more}
+use Rattle.unifier.specs.Pending.{occurs_left}
+use Rattle.unifier.specs.Visits.{is_among, rank, OccursBelow, IsCovered, IsWanted}
+use Rattle.unifier.proofs.PendingLaws.{or_second_true, occurs_left-append}
 use Rattle.unifier.proofs.VisitLaws.{off}
 
 -- ---- numbers that fall
@@ -41,66 +40,25 @@ chain_of_le s (Variable x) = chain_le s x
 chain_of_le s (Integer n) = omega arith
 chain_of_le s (Compound f ts) = omega arith
 
-last_chain_le : (s : List Binding) (ts : List Tree) → last_chain s ts ≤ length s
-last_chain_le s [] = omega arith
-last_chain_le s (t ∷ []) = chain_of_le s t
-last_chain_le s (t ∷ u ∷ ts) = last_chain_le s (u ∷ ts)
-
-last_chain-append : (s : List Binding) (ts : List Tree) (t : Tree) → last_chain s (ts ++ t ∷ []) ≡ chain_of s t
-last_chain-append s [] t = refl
-last_chain-append s (u ∷ []) t = refl
-last_chain-append s (u ∷ v ∷ ts) t = last_chain-append s (v ∷ ts) t
-
-nodes_pos : (t : Tree) → 0 < nodes_of t
-nodes_pos (Variable x) = omega arith
-nodes_pos (Integer n) = omega arith
-nodes_pos (Compound f ts) = omega arith
-
--- a stack of less weight has less to come
-pub weight_falls : (s : List Binding) (ts us : List Tree) → weight s ts < weight s us → remaining s ts < remaining s us
-weight_falls s ts us h = rank_less (weight s ts) (weight s us) (last_chain s ts) (last_chain s us) (length s) h (last_chain_le s ts)
-
--- a term was left out
-pub popped_falls : (s : List Binding) (ts old : List Tree) (t : Tree) → old ≡ ts ++ t ∷ [] → remaining s ts < remaining s old
-popped_falls s ts old t e = weight_falls s ts old (omega (arith, ap (weight s) e, weight-append s ts (t ∷ []), nodes_pos (full s t)))
-
--- the term of a bound variable is in its place
-pub bound_falls : (s : List Binding) (ts old new : List Tree) (y : ℕ) (t : Tree) → old ≡ ts ++ Variable y ∷ [] → new ≡ ts ++ t ∷ [] → full s t ≡ full s (Variable y) → chain_of s t < chain s y → remaining s new < remaining s old
-bound_falls s ts old new y t e d same less =
-    let w : weight s new ≡ weight s old =
-    ap (weight s) d
-    ∙ weight-append s ts (t ∷ [])
-    ∙ ap (λ u. weight s ts + (nodes_of u + 0)) same
-    ∙ sym (weight-append s ts (Variable y ∷ []))
-    ∙ sym (ap (weight s) e) in
-    let p = ap (λ n. n * suc (length s)) w in
-    let a : last_chain s new ≡ chain_of s t = ap (last_chain s) d ∙ last_chain-append s ts t in
-    let b : last_chain s old ≡ chain s y = ap (last_chain s) e ∙ last_chain-append s ts (Variable y) in
-    omega (arith, p, a, b, less)
-
 pub left_bound : (s : List Binding) (x : ℕ) (ts : List Tree) (y : ℕ) (t : Tree) → full s t ≡ full s (Variable y) → occurs_left s x (ts ++ t ∷ []) ≡ occurs_left s x (ts ++ Variable y ∷ [])
 left_bound s x ts y t same =
     occurs_left-append s x ts (t ∷ [])
     ∙ ap (λ u. occurs_left s x ts || (occurs x u || false)) same
     ∙ sym (occurs_left-append s x ts (Variable y ∷ []))
 
--- the last term on a stack
-pub raw_last : (old rest : List RaisedTerm) (r : RaisedTerm) (t : Tree) → old ≡ rest ++ r ∷ [] → raised_tree r ≡ t → raw old ≡ raw rest ++ t ∷ []
-raw_last old rest r t e h = ap raw e ∙ raw_more rest r ∙ ap (λ u. raw rest ++ u ∷ []) h
-
 -- ---- terms below a number
 
 module _ (s : List Binding) (x : ℕ) where
-  below_left : (n : ℕ) (ts us : List Tree) → OccursBelow s x n ts → OccursBelow s x n (ts ++ us)
+  pub below_left : (n : ℕ) (ts us : List Tree) → OccursBelow s x n ts → OccursBelow s x n (ts ++ us)
   below_left n [] us h = absurd h
   below_left n (t ∷ ts) us (inl h) = inl h
   below_left n (t ∷ ts) us (inr h) = inr (below_left n ts us h)
 
-  below_right : (n : ℕ) (ts us : List Tree) → OccursBelow s x n us → OccursBelow s x n (ts ++ us)
+  pub below_right : (n : ℕ) (ts us : List Tree) → OccursBelow s x n us → OccursBelow s x n (ts ++ us)
   below_right n [] us h = h
   below_right n (t ∷ ts) us h = inr (below_right n ts us h)
 
-  below_last : (n : ℕ) (ts : List Tree) (t : Tree) → OccursBelow s x n (ts ++ t ∷ []) → OccursBelow s x n ts ⊎ ((rank s t < n) × (occurs x (full s t) ≡ true))
+  pub below_last : (n : ℕ) (ts : List Tree) (t : Tree) → OccursBelow s x n (ts ++ t ∷ []) → OccursBelow s x n ts ⊎ ((rank s t < n) × (occurs x (full s t) ≡ true))
   below_last n [] t (inl h) = inr h
   below_last n [] t (inr h) = absurd h
   below_last n (u ∷ ts) t (inl h) = inl (inl h)
@@ -130,7 +88,7 @@ module _ (s : List Binding) (x : ℕ) where
 
   -- ---- visited variables
 
-  kept : (old new : List Tree) → ((n : ℕ) → OccursBelow s x n old → OccursBelow s x n new) → (ys : List ℕ) → AllByRecursion (IsCovered s x old) ys → AllByRecursion (IsCovered s x new) ys
+  pub kept : (old new : List Tree) → ((n : ℕ) → OccursBelow s x n old → OccursBelow s x n new) → (ys : List ℕ) → AllByRecursion (IsCovered s x old) ys → AllByRecursion (IsCovered s x new) ys
   kept old new go [] h = tt
   kept old new go (y ∷ ys) h = (λ o. go (rank s (Variable y)) (h.0 o), kept old new go ys h.1)
 

@@ -3,6 +3,7 @@ pub mod ConstantLaws
 pub mod CoverLaws
 pub mod HeadLaws
 pub mod HeadSteps
+pub mod LeadLaws
 pub mod PendingLaws
 pub mod RememberedLaws
 pub mod SequelLaws

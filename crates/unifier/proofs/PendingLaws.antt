@@ -50,11 +50,11 @@ or_assoc : (b c d : Bool) → (b || (c || d)) ≡ ((b || c) || d)
 or_assoc true c d = refl
 or_assoc false c d = refl
 
-or_none : (b : Bool) → (b || false) ≡ b
+pub or_none : (b : Bool) → (b || false) ≡ b
 or_none true = refl
 or_none false = refl
 
-or_comm : (b c : Bool) → (b || c) ≡ (c || b)
+pub or_comm : (b c : Bool) → (b || c) ≡ (c || b)
 or_comm true true = refl
 or_comm true false = refl
 or_comm false true = refl
@@ -83,13 +83,6 @@ weight_last s old rest r u e h =
     let all = ap (λ l. weight s (raw l)) e ∙ ap (weight s) (raw_more rest r) ∙ weight-append s (raw rest) (raised_tree r ∷ []) in
     omega (arith, all, last)
 
-pub occurs_last : (s : List Binding) (x : ℕ) (old rest : List RaisedTerm) (r : RaisedTerm) (u : Tree) → old ≡ rest ++ r ∷ [] → full s (raised_tree r) ≡ u → occurs_left s x (raw old) ≡ (occurs_left s x (raw rest) || occurs x u)
-occurs_last s x old rest r u e h =
-    ap (λ l. occurs_left s x (raw l)) e
-    ∙ ap (occurs_left s x) (raw_more rest r)
-    ∙ occurs_left-append s x (raw rest) (raised_tree r ∷ [])
-    ∙ ap (λ b. occurs_left s x (raw rest) || b) (or_none (occurs x (full s (raised_tree r))) ∙ ap (occurs x) h)
-
 pub or_second_true : (b c : Bool) → c ≡ true → (b || c) ≡ true
 or_second_true true c h = refl
 or_second_true false c h = h
@@ -100,21 +93,6 @@ or_second_false false c h = h
 
 pub eqb_off : (x y : ℕ) → (x ≡ y → ⊥) → (x == y) ≡ false
 eqb_off x y h = grind (arith, nat_tests)
-
--- after arguments were put on the stack
-pub weight_pushed : (s : List Binding) (n f : ℕ) (old rest : List RaisedTerm) (r : RaisedTerm) (args : List Term) (new : List RaisedTerm) → old ≡ rest ++ r ∷ [] → full s (raised_tree r) ≡ Compound f (all_full s (all_instances (raise n) (trees_of args))) → raw new ≡ raw rest ++ map (instance (raise n)) (map tree_of args) → weight s (raw new) < weight s (raw old)
-weight_pushed s n f old rest r args new e h p =
-    let before = weight_last s old rest r (Compound f (all_full s (all_instances (raise n) (trees_of args)))) e h in
-    let after = ap (weight s) p ∙ weight-append s (raw rest) (map (instance (raise n)) (map tree_of args)) in
-    let same = weight-arguments s n (map tree_of args) in
-    omega (arith, before, after, same)
-
-pub occurs_pushed : (s : List Binding) (x n f : ℕ) (old rest : List RaisedTerm) (r : RaisedTerm) (args : List Term) (new : List RaisedTerm) → old ≡ rest ++ r ∷ [] → full s (raised_tree r) ≡ Compound f (all_full s (all_instances (raise n) (trees_of args))) → raw new ≡ raw rest ++ map (instance (raise n)) (map tree_of args) → occurs_left s x (raw new) ≡ occurs_left s x (raw old)
-occurs_pushed s x n f old rest r args new e h p =
-    ap (occurs_left s x) p
-    ∙ occurs_left-append s x (raw rest) (map (instance (raise n)) (map tree_of args))
-    ∙ ap (λ b. occurs_left s x (raw rest) || b) (occurs_left-arguments s x n (map tree_of args))
-    ∙ sym (occurs_last s x old rest r (Compound f (all_full s (all_instances (raise n) (trees_of args)))) e h)
 
 -- ---- equations
 

@@ -1,10 +1,15 @@
 -- Private.
 -- Variables that a check has visited, and what is still to come of their terms. Nothing here has to be believed.
-use Rattle.std.specs.Prelude.{◌≡◌, ℕ, suc, ◌+◌, ◌*◌, ◌<◌, ◌≤◌, Bool, true, false, ◌||◌, ◌==◌, ◌⊎◌, List, [], ◌∷◌, ◌++◌, length, get_or}
-use Rattle.cti_terms.specs.Tree.{Tree, Variable, nodes_of}
+use Rattle.std.specs.Prelude.{◌≡◌, ℕ, suc, ◌+◌, ◌*◌, ◌<◌, ◌≤◌, Bool, true, false, ◌||◌, ◌==◌, ◌⊎◌, List, [], ◌∷◌, ◌++◌, map, length, get_or, Option, Some, None}
+use Rattle.std.specs.List.{AllByRecursion}
+use Rattle.cti_terms.specs.Tree.{Tree, Variable, Compound, all_instances, nodes_of}
+use Rattle.cti_terms.specs.Spell.{trees_of}
 use Rattle.cti_terms.specs.Unify.{Binding, occurs}
-use Rattle.unifier.specs.Store.{full, chain_of}
-use Rattle.unifier.specs.Pending.{weight}
+use Rattle.unifier.specs.declared.raised_term.RaisedTerm.{RaisedTerm}
+use Rattle.unifier.specs.declared.occurs_check.Arguments.{Arguments}
+use Rattle.unifier.specs.Raised.{raise, raised_tree}
+use Rattle.unifier.specs.Store.{full, chain_of, IsOpen}
+use Rattle.unifier.specs.Pending.{occurs_left}
 use Rattle.unifier.specs.Below.{TermBelow}
 use Rattle.unifier.specs.declared.occurs_check.Occurrence.{Occurrence}
 use Rattle.unifier.specs.declared.occurs_check.Occurrence.TheVariants.{Found, Below}
@@ -40,15 +45,22 @@ OccursBelow s x n (t ∷ ts) = ((rank s t < n) × (occurs x (full s t) ≡ true)
 abbrev pub IsCovered : List Binding → ℕ → List Tree → ℕ → Type 0
 IsCovered s x ts y = occurs x (full s (Variable y)) ≡ true → OccursBelow s x (rank s (Variable y)) ts
 
--- the number of the last term
-abbrev pub last_chain : List Binding → List Tree → ℕ
-last_chain s [] = 0
-last_chain s (t ∷ []) = chain_of s t
-last_chain s (t ∷ u ∷ ts) = last_chain s (u ∷ ts)
+-- arguments as one term
+abbrev pub arguments_tree : Arguments → Tree
+arguments_tree a = Compound 0 (all_instances (raise a.base) (trees_of a.args.now))
 
--- a number that falls from a stack to the next one
-abbrev pub remaining : List Binding → List Tree → ℕ
-remaining s ts = weight s ts * suc (length s) + last_chain s ts
+-- arguments on a stack
+abbrev pub raw_arguments : List Arguments → List Tree
+raw_arguments = map arguments_tree
+
+-- where the visited variables are covered by terms, they still are by other terms, in which x occurs as before
+abbrev pub Leads : List Binding → ℕ → List Tree → List ℕ → List Tree → List ℕ → Type 0
+Leads s x ts ys us zs = AllByRecursion (IsCovered s x ts) ys → (occurs_left s x us ≡ occurs_left s x ts) × AllByRecursion (IsCovered s x us) zs
+
+-- a term comes in the place of another one, and is not a bound variable, or none need come
+abbrev pub IsReached : List Binding → List ℕ → Tree → Option RaisedTerm → List ℕ → Type 0
+IsReached s ys t None zs = (ts : List Tree) (x : ℕ) → Leads s x (ts ++ t ∷ []) ys ts zs
+IsReached s ys t (Some r) zs = IsOpen s (raised_tree r) × (full s (raised_tree r) ≡ full s t) × ((ts : List Tree) (x : ℕ) → Leads s x (ts ++ t ∷ []) ys (ts ++ raised_tree r ∷ []) zs)
 
 -- this variable, and those from a number on
 abbrev pub IsWanted : ℕ → ℕ → ℕ → Type 0
@@ -58,3 +70,8 @@ IsWanted variable above x = (x ≡ variable) ⊎ (above ≤ x)
 abbrev pub IsOccurrence : ℕ → Tree → Occurrence → Type 0
 IsOccurrence x t Found = occurs x t ≡ true
 IsOccurrence x t (Below m) = (occurs x t ≡ false) × TermBelow m t
+
+-- a variable occurs in a term, or else what is put on a stack comes in the term's place, for the variables that are wanted
+abbrev pub IsLookedAt : List Binding → ℕ → Tree → List ℕ → List Tree → Bool → ℕ → List ℕ → List Tree → Type 0
+IsLookedAt s v t ys ts true above zs us = occurs v (full s t) ≡ true
+IsLookedAt s v t ys ts false above zs us = (more : List Tree) (x : ℕ) → IsWanted v above x → Leads s x ((more ++ ts) ++ t ∷ []) ys (more ++ us) zs

@@ -12,6 +12,7 @@ ghost use Rattle.unifier.specs.Below.{TermBelow, ArgumentsBelow, FreeFrom};
 
 use crate::bindings::Bindings;
 use crate::equal_pairs::EqualPairs;
+use crate::occurs_check::Arguments;
 use crate::raised_term::RaisedTerm;
 use crate::unification::{Found, push_equations, solve, step};
 use crate::visited::Visited;
@@ -22,6 +23,7 @@ use std::alloc::{AllocError, Global};
 pub struct Stacks<'p> {
     equations: Vec<(RaisedTerm<'p>, RaisedTerm<'p>)>,
     pairs: EqualPairs<'p>,
+    arguments: Vec<Arguments<'p>>,
     pub terms: Vec<RaisedTerm<'p>>,
     visited: Visited,
 }
@@ -31,6 +33,7 @@ impl Drop for Stacks<'_> {
         let Stacks {
             equations: _,
             pairs: _,
+            arguments: _,
             terms: _,
             visited: _,
         } = self;
@@ -43,6 +46,7 @@ impl<'p> Stacks<'p> {
         Stacks {
             equations: Vec::new(alloc),
             pairs: EqualPairs::new(alloc),
+            arguments: Vec::new(alloc),
             terms: Vec::new(alloc),
             visited: Visited::new(alloc),
         }
@@ -73,7 +77,7 @@ pub fn unify_terms<'p>(
         l,
         r,
         *limit,
-        &mut stacks.terms,
+        &mut stacks.arguments,
         &mut stacks.visited,
     )? {
         Found::Nothing => Ok(true),
@@ -90,7 +94,7 @@ pub fn unify_terms<'p>(
                 &mut stacks.equations,
                 &mut stacks.pairs,
                 limit,
-                &mut stacks.terms,
+                &mut stacks.arguments,
                 &mut stacks.visited,
             )?;
             Ok(solved)
@@ -122,7 +126,7 @@ pub fn unify_integer<'p>(
         l,
         r,
         limit,
-        &mut stacks.terms,
+        &mut stacks.arguments,
         &mut stacks.visited,
     )? {
         Found::Nothing => Ok(true),

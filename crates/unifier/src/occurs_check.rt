@@ -1,12 +1,12 @@
 //! Whether a variable occurs in a term under the bindings.
 
-ghost use Rattle.std.specs.Prelude.{◌≡◌, ◌≤◌, ◌<◌, ◌^◌, ◌++◌, IfOk, OnOk, map};
-ghost use Rattle.cti_terms.specs.Tree.{instance};
+ghost use Rattle.std.specs.Prelude.{◌≡◌, ℕ, ◌≤◌, ◌<◌, ◌+◌, ◌^◌, ◌++◌, IfOk, OnOk, map};
+ghost use Rattle.cti_terms.specs.Tree.{instance, nodes_of};
 ghost use Rattle.cti_terms.specs.Spell.{tree_of};
 ghost use Rattle.unifier.specs.Raised.{raise, raised_tree};
 ghost use Rattle.unifier.specs.Store.{full};
-ghost use Rattle.unifier.specs.Pending.{raw};
-ghost use Rattle.unifier.specs.Visits.{IsOccurrence};
+ghost use Rattle.unifier.specs.Pending.{raw, weight};
+ghost use Rattle.unifier.specs.Visits.{IsOccurrence, IsReached, IsLookedAt, arguments_tree, raw_arguments};
 
 use crate::bindings::Bindings;
 use crate::raised_term::{RaisedTerm, Shape};
@@ -19,6 +19,13 @@ use std::alloc::AllocError;
 pub enum Occurrence {
     Found,
     Below(usize),
+}
+
+/// Arguments that are still to be looked at, with the number by which their variables are raised.
+#[derive(Clone, Copy, Drop)]
+pub struct Arguments<'p> {
+    pub args: &'p [Term],
+    pub base: u32,
 }
 
 /// A number above these variables.
@@ -44,8 +51,104 @@ pub fn push_arguments<'p>(
     Ok(())
 }
 
+/// The term that is not a bound variable and stands for this one, unless it is a constant that a variable is bound to, or
+/// a variable on the way to it was visited. The variables on the way are visited.
+#[inline(always)]
+fn reached<'p>(
+    bindings: &Bindings<'p>,
+    term: RaisedTerm<'p>,
+    visited: &mut Visited,
+) -> Result<Option<RaisedTerm<'p>>, AllocError>
+    ensures { IfOk result (λ end. IsReached bindings.now visited.old (raised_tree term.entry) end visited.new) }
+{
+    let mut now = term;
+    loop {
+        match now.shape() {
+            Shape::Variable(other) => match bindings.value(other) {
+                Some(bound) => {
+                    if bound.is_constant() {
+                        return Ok(None);
+                    }
+                    if !visited.visit(other)? {
+                        return Ok(None);
+                    }
+                    now = bound;
+                }
+                None => return Ok(Some(now)),
+            },
+            _ => return Ok(Some(now)),
+        }
+    }
+}
+
+/// Whether a free variable is what a term is bound to. Else the term's arguments are put on the stack, or the number goes
+/// above its variable.
+#[inline(always)]
+fn look<'p>(
+    bindings: &Bindings<'p>,
+    variable: usize,
+    term: RaisedTerm<'p>,
+    above: &mut usize,
+    stack: &mut Vec<Arguments<'p>>,
+    visited: &mut Visited,
+) -> Result<bool, AllocError>
+    ensures above { OnOk result (above.old ≤ above.new) }
+    ensures looked { IfOk result (λ found. IsLookedAt bindings.now variable (raised_tree term.entry) visited.old (raw_arguments stack.old.items) found above.new visited.new (raw_arguments stack.new.items)) }
+    ensures weight { OnOk result (weight bindings.now (raw_arguments stack.new.items) ≤ weight bindings.now (raw_arguments stack.old.items) + nodes_of (full bindings.now (raised_tree term.entry))) }
+{
+    let Some(end) = reached(bindings, term, visited)? else {
+        return Ok(false);
+    };
+    match end.shape() {
+        Shape::Variable(other) => {
+            if variable == other {
+                return Ok(true);
+            }
+            *above = past(*above, other);
+        }
+        Shape::Integer(_) => {}
+        Shape::Compound(_, args) => {
+            if !args.is_empty() {
+                let base = end.base;
+                stack.push(Arguments { args, base })?;
+            }
+        }
+    }
+    Ok(false)
+}
+
+/// Looks at each of these arguments. Whether a free variable is what one of them is bound to.
+fn look_at_all<'p>(
+    bindings: &Bindings<'p>,
+    variable: usize,
+    next: Arguments<'p>,
+    above: &mut usize,
+    stack: &mut Vec<Arguments<'p>>,
+    visited: &mut Visited,
+) -> Result<bool, AllocError>
+    ensures above { OnOk result (above.old ≤ above.new) }
+    ensures looked { IfOk result (λ found. IsLookedAt bindings.now variable (arguments_tree next.entry) visited.old (raw_arguments stack.old.items) found above.new visited.new (raw_arguments stack.new.items)) }
+    ensures weight { OnOk result (weight bindings.now (raw_arguments stack.new.items) < weight bindings.now (raw_arguments stack.old.items) + nodes_of (full bindings.now (arguments_tree next.entry))) }
+{
+    let base = next.base;
+    for term in next.args {
+        if look(
+            bindings,
+            variable,
+            RaisedTerm { term, base },
+            above,
+            stack,
+            visited,
+        )? {
+            return Ok(true);
+        }
+    }
+    Ok(false)
+}
+
 /// Whether a free variable occurs in a term under the bindings, or else a number above all that occur. Each bound
-/// variable is looked into once, and one that is bound to a constant not at all.
+/// variable is looked into once, and one that is bound to a constant not at all. Only arguments of compound terms are put
+/// on the stack.
 ///
 /// The stack and the visited variables may be any, and are used up.
 #[inline(never)]
@@ -53,35 +156,20 @@ pub fn occurs_in<'p>(
     bindings: &Bindings<'p>,
     variable: usize,
     term: RaisedTerm<'p>,
-    stack: &mut Vec<RaisedTerm<'p>>,
+    stack: &mut Vec<Arguments<'p>>,
     visited: &mut Visited,
 ) -> Result<Occurrence, AllocError>
     ensures { IfOk result (IsOccurrence variable (full bindings.now (raised_tree term.entry))) }
 {
     stack.clear();
     visited.clear();
-    stack.push(term)?;
     let mut above = 0;
+    if look(bindings, variable, term, &mut above, stack, visited)? {
+        return Ok(Occurrence::Found);
+    }
     while let Some(next) = stack.pop() {
-        match next.shape() {
-            Shape::Variable(other) => match bindings.value(other) {
-                Some(bound) => {
-                    if bound.is_constant() {
-                        continue;
-                    }
-                    if visited.visit(other)? {
-                        stack.push(bound)?;
-                    }
-                }
-                None => {
-                    if variable == other {
-                        return Ok(Occurrence::Found);
-                    }
-                    above = past(above, other);
-                }
-            },
-            Shape::Integer(_) => {}
-            Shape::Compound(_, args) => push_arguments(stack, args, next.base)?,
+        if look_at_all(bindings, variable, next, &mut above, stack, visited)? {
+            return Ok(Occurrence::Found);
         }
     }
     Ok(Occurrence::Below(above))

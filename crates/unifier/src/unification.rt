@@ -14,7 +14,7 @@ ghost use Rattle.unifier.specs.Remembered.{Entails, above, AreRemembered, AreRem
 
 use crate::bindings::Bindings;
 use crate::equal_pairs::EqualPairs;
-use crate::occurs_check::{Occurrence, occurs_in};
+use crate::occurs_check::{Arguments, Occurrence, occurs_in};
 use crate::raised_term::{Met, RaisedTerm, Shape};
 use crate::visited::Visited;
 use cti_terms::{Name, Term};
@@ -91,7 +91,7 @@ fn bound_or_clash<'p>(
     bindings: &Bindings<'p>,
     variable: usize,
     term: RaisedTerm<'p>,
-    stack: &mut Vec<RaisedTerm<'p>>,
+    stack: &mut Vec<Arguments<'p>>,
     visited: &mut Visited,
 ) -> Result<Found<'p>, AllocError>
     requires small { variable < 2 ^ 33 }
@@ -113,7 +113,7 @@ fn apart_or_bound<'p>(
     variable: usize,
     term: RaisedTerm<'p>,
     limit: usize,
-    stack: &mut Vec<RaisedTerm<'p>>,
+    stack: &mut Vec<Arguments<'p>>,
     visited: &mut Visited,
 ) -> Result<Found<'p>, AllocError>
     requires below { TermBelow limit (full bindings.now (raised_tree term)) }
@@ -169,7 +169,7 @@ pub fn step<'p>(
     left: Met<'p>,
     right: Met<'p>,
     limit: usize,
-    stack: &mut Vec<RaisedTerm<'p>>,
+    stack: &mut Vec<Arguments<'p>>,
     visited: &mut Visited,
 ) -> Result<Found<'p>, AllocError>
     requires below { TermBelow limit (full bindings.now (raised_tree left.term)) }
@@ -201,7 +201,7 @@ fn next_binding<'p>(
     equations: &mut Vec<(RaisedTerm<'p>, RaisedTerm<'p>)>,
     pairs: &mut EqualPairs<'p>,
     limit: usize,
-    stack: &mut Vec<RaisedTerm<'p>>,
+    stack: &mut Vec<Arguments<'p>>,
     visited: &mut Visited,
 ) -> Result<Next<'p>, AllocError>
     requires left { LeftBelow limit (waiting bindings.now equations.old.items) }
@@ -246,7 +246,7 @@ pub fn solve<'p>(
     equations: &mut Vec<(RaisedTerm<'p>, RaisedTerm<'p>)>,
     pairs: &mut EqualPairs<'p>,
     limit: &mut usize,
-    stack: &mut Vec<RaisedTerm<'p>>,
+    stack: &mut Vec<Arguments<'p>>,
     visited: &mut Visited,
 ) -> Result<bool, AllocError>
     requires { LeftBelow limit.old (waiting bindings.old equations.old.items) }
