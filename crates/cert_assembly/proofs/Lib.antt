@@ -1,3 +1,4 @@
+pub mod BestModes
 pub mod ChainParts
 pub mod MemberLaws
 pub mod ModeLaws

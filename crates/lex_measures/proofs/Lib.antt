@@ -1,4 +1,5 @@
 pub mod AssembledLists
+pub mod BestLists
 pub mod ComponentLaws
 pub mod DropParts
 pub mod DropShapes

@@ -1,3 +1,4 @@
 pub mod Assembly
 pub mod Exact
 pub mod Lists
+pub mod Unnoted

@@ -10,6 +10,7 @@
 
 mod assembling;
 mod inferring;
+pub mod laws;
 mod notes;
 mod places;
 mod printed;
