@@ -62,6 +62,11 @@ modes_same n f g h =
 upper_true : (f : List Bool → Bool) (row : List Bool) → all_upper f row ≡ true → (us : List Bool) → IsUpper us row → f us ≡ true
 upper_true f row h us u = upper_all f row us h u
 
+pub some_weaker : (P Q : Solved → Type 0) → ((n : Solved) → P n → Q n) → (ns : List Solved) → SomeSolved P ns → SomeSolved Q ns
+some_weaker P Q f [] h = absurd h
+some_weaker P Q f (n ∷ ns) (inl h) = inl (f n h)
+some_weaker P Q f (n ∷ ns) (inr h) = inr (some_weaker P Q f ns h)
+
 -- what mappings with their rows admit together
 abbrev pub admitted : List Solved → ℕ → List Bool → Bool
 admitted ns q row = list_any (λ (n : Solved). all_upper (n.1 q) row) ns

@@ -1,15 +1,15 @@
 -- A component of which no note says that the search for lists was given up has its best modes.
-use Rattle.std.proofs.Common.{◌≡◌, ◌≢◌, ◌↔◌, ℕ, zero, suc, ◌+◌, ◌<◌, ◌≤◌, ◌||◌, ℤ, pos, Bool, true, false, IsTrue, if◌then◌else◌, List, [], ◌∷◌, ◌⊎◌, inl, inr, length, map, nat_lt, slice_get, Some, None, Option, refl, ap, sym, subst, ◌∙◌, arith}
+use Rattle.std.proofs.Common.{◌≡◌, ℕ, zero, suc, ◌+◌, ◌<◌, ◌≤◌, ◌||◌, ℤ, pos, Bool, true, false, IsTrue, if◌then◌else◌, List, [], ◌∷◌, ◌⊎◌, inl, inr, length, map, nat_lt, slice_get, Some, Option, refl, ap, sym, subst, ◌∙◌, arith}
 use Rattle.std.specs.List.{AllByRecursion, flat_map}
 use Rattle.std.proofs.lemmas.Bool.Decides.{nat_tests}
 use Rattle.std.proofs.lemmas.Bool.{or_cases, or_left, or_right}
 use Rattle.std.proofs.lemmas.List.{length-map}
 use Rattle.call_components.specs.Partition.{AreComponents, IsIn, Partition}
-use Rattle.cert_assembly.proofs.BestModes.{Covers, IsCovered, Keeps, best_modes}
+use Rattle.cert_assembly.proofs.BestModes.{Covers, IsCovered, Keeps, best_modes, some_weaker}
 use Rattle.cert_assembly.proofs.ModeLaws.{item_is, of_member, there}
 use Rattle.cert_assembly.proofs.PartShapes.{all_weaker, leads, list_is, measured, unmapped}
 use Rattle.cert_assembly.proofs.SetParts.{below_or, listed_past}
-use Rattle.cert_assembly.specs.ExactModes.{AreCounted, ModesAreExact, is_member}
+use Rattle.cert_assembly.specs.ExactModes.{AreCounted, is_member}
 use Rattle.cert_assembly.specs.Leading.{led_by}
 use Rattle.cert_checker.proofs.Bounded.{naturals_are}
 use Rattle.cert_structure.specs.Order.{pred_text}
@@ -254,11 +254,6 @@ place_in_list : {X : Type 0} (xs : List X) (i : ℕ) (x : X) → slice_get xs i 
 place_in_list [] i x e = cc
 place_in_list (y ∷ xs) zero x e = inl (let same : y ≡ x = cc in same)
 place_in_list (y ∷ xs) (suc i) x e = inr (place_in_list xs i x e)
-
-some_weaker : (P Q : Solved → Type 0) → ((n : Solved) → P n → Q n) → (ns : List Solved) → SomeSolved P ns → SomeSolved Q ns
-some_weaker P Q f [] h = absurd h
-some_weaker P Q f (n ∷ ns) (inl h) = inl (f n h)
-some_weaker P Q f (n ∷ ns) (inr h) = inr (some_weaker P Q f ns h)
 
 -- ---- all together
 module _ (p : Listing) (names : List (List ℕ)) (facts : List LexFact) (program : IsProgram p) (exact : IsExact p names facts) (c q : ℕ) (inside : IsIn exact.comps c q) (recursive : IsTrue (is_recursive exact.comps q))
