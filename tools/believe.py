@@ -8,8 +8,8 @@ usage: tools/believe.py            a count of lines for each rank, and the files
 The ranks, each without those before: *for a Yes* (queries that meet a printed mode end), *for the modes* (the printed modes are exactly
 the minimal ones), *for reading* (which program or query a text is, or where its fault is), *for the command* (all else that `command`
 promises: statuses, words, valid certificates, runs), *procedures* (definitions that follow an algorithm, since they decide whose numbers do
-not fit), *for a loop* (what `loop` prints, and that unification is complete). All else in specs/ is private: a contract between
-functions, which the check has read.
+not fit), *for the modes by lists* (what `lex` prints), *for a loop* (what `loop` prints, and that unification is complete). All else in
+specs/ is private: a contract between functions, which the check has read.
 """
 import re
 import sys
@@ -21,6 +21,7 @@ top = Path(__file__).resolve().parent.parent
 YES = [("cert_checker", "Bounding", ["ModesAreBounded"])]
 READING = [("cti_top", "Programs", ["IsProgramOf", "IsProgramRefusal"]), ("cti_top", "Queries", None), ("cti_top", "Places", None)]
 MODES = [("report", "Exact", ["IsExact"]), ("certificate", "Text", ["text_of"])]
+LISTS = [("cti_top", "Lexed", None)]
 COMMAND = [("cti_top", "Outcome", None)]
 LOOP = [("cti_top", "Loops", None), ("loop_finder", "Finding", ["IsLooked"]), ("loop_finder", "Loop", ["GoesOn"]), ("cti_terms", "MostGeneral", None)]
 PROCEDURES = {
@@ -94,6 +95,7 @@ MARKS = {
     "for a Yes": "-- To believe, for a Yes.",
     "for the modes": "-- To believe, for the modes.",
     "for reading": "-- To believe, for reading.",
+    "for the modes by lists": "-- To believe, for the modes by lists of mappings.",
     "for the command": "-- To believe, for the command.",
     "procedures": "-- A procedure, to believe for who is blown.",
     "for a loop": "-- To believe, for a loop.",
@@ -122,13 +124,16 @@ def main():
     yes = specs.closure(YES, follows_an_algorithm)
     modes = specs.closure(MODES, follows_an_algorithm) - yes
     reading = specs.closure(READING, follows_an_algorithm) - yes - modes
-    of_a_loop = lambda key: key == LOOP[0][:2]
-    command = specs.closure(COMMAND, lambda key: of_a_loop(key) or follows_an_algorithm(key)) - yes - modes - reading
-    procedures = specs.closure(COMMAND, of_a_loop) - yes - modes - reading - command
-    loop = specs.closure(LOOP) - yes - modes - reading - command - procedures
-    ranks = [("for a Yes", yes), ("for the modes", modes), ("for reading", reading), ("for the command", command), ("procedures", procedures), ("for a loop", loop)]
+    apart = lambda key: key in (LISTS[0][:2], LOOP[0][:2])
+    known = yes | modes | reading
+    command = specs.closure(COMMAND, lambda key: apart(key) or follows_an_algorithm(key)) - known
+    procedures = specs.closure(COMMAND, apart) - known - command
+    lists = specs.closure(LISTS) - known - command - procedures
+    loop = specs.closure(LOOP) - known - command - procedures - lists
+    ranks = [("for a Yes", yes), ("for the modes", modes), ("for reading", reading), ("for the command", command)]
+    ranks += [("procedures", procedures), ("for the modes by lists", lists), ("for a loop", loop)]
     everything = {(key, name) for key, names in specs.files.items() for name in names}
-    ranks.append(("private", everything - yes - modes - reading - command - procedures - loop))
+    ranks.append(("private", everything - known - command - procedures - lists - loop))
     if "--mark" in sys.argv:
         mark(specs, ranks)
         return
