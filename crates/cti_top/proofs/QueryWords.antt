@@ -31,7 +31,7 @@ dashed looks = codes "--depth"
 -- the subcommand, as it is built
 abbrev shape : Asker → Shape
 shape runs = unwrap_or (slice_get (built command_line).subs 2) (new_shape [])
-shape looks = unwrap_or (slice_get (built command_line).subs 4) (new_shape [])
+shape looks = unwrap_or (slice_get (built command_line).subs 5) (new_shape [])
 
 -- what is asked for
 abbrev asked : Asker → Text → Text → Text → Option Ask
