@@ -152,12 +152,13 @@ cti_why(File, Notes, Options) :-
 
 note_in(Path, Text, note(Line, Column, Sentence)) :-
     string_concat(Path, ":", Start),
-    string_concat(Start, Place, Text),
-    split_string(Place, ":", " ", [LineText, ColumnText, "note"|Rest]),
+    string_concat(Start, Rest, Text),
+    once(sub_string(Rest, Before, _, After, ": note: ")),
+    sub_string(Rest, 0, Before, _, Place),
+    split_string(Place, ":", "", [LineText, ColumnText]),
     number_string(Line, LineText),
     number_string(Column, ColumnText),
-    atomic_list_concat(Rest, ': ', Joined),
-    atom_string(Joined, Sentence).
+    sub_string(Rest, _, After, 0, Sentence).
 
 %!  cti_assertions(+File, -Assertions) is det.
 %
@@ -191,10 +192,14 @@ marked(Set, Position, Mark) :-
 %   its sets that are no longer modes of the program in File: none of the
 %   modes that cti infers is a part of them. Predicates that have lost no
 %   set are left out, so that [] says that all modes still hold. Options
-%   are those of cti_modes/3.
+%   are those of cti_modes/3, and lex(true), with which the modes of
+%   cti_lex/2 are taken in place of those that cti infers.
 
 cti_lost(File, Modes, Lost, Options) :-
-    cti_modes(File, Inferred, Options),
+    (   option(lex(true), Options)
+    ->  cti_lex(File, Inferred)
+    ;   cti_modes(File, Inferred, Options)
+    ),
     findall(Predicate-Sets,
             ( member(Predicate-Wanted, Modes),
               exclude(is_mode(Inferred, Predicate), Wanted, Sets),

@@ -63,6 +63,36 @@ test(no_depth, error(type_error(_, _))) :-
 test(refused_query, error(cti_error(3, _))) :-
     cti_loop('examples/append.pl', 'p ; q', _).
 
+test(lex, Modes == [ack/3-[[1,2]]]) :-
+    cti_lex('examples/ackermann.pl', Modes).
+
+test(lex_where_one_mapping_is_enough, Modes == [app/3-[[1],[3]]]) :-
+    cti_lex('examples/append.pl', Modes).
+
+test(lex_of_a_missing_file, error(cti_error(4, _))) :-
+    cti_lex('examples/missing.pl', _).
+
+test(lex_of_no_program, error(cti_error(3, _))) :-
+    cti_lex('README.md', _).
+
+test(why, Line-Column == 9-12) :-
+    cti_why('examples/closure.pl', [note(Line, Column, Sentence)]),
+    sub_string(Sentence, 0, _, _, "`tc/2` has no mode: ").
+
+test(why_where_there_are_modes, Notes == []) :-
+    cti_why('examples/append.pl', Notes).
+
+test(why_names_the_calls) :-
+    cti_why('examples/ackermann.pl', [note(10, 21, Sentence)]),
+    sub_string(Sentence, _, _, 0, " calls: 10:21, 10:36"),
+    !.
+
+test(why_by_list_size, Predicates == ["plus/3", "times/3", "fact/2"]) :-
+    cti_why('examples/numbers.pl', Notes, [norm(list)]),
+    findall(Predicate,
+            ( member(note(_, _, Sentence), Notes), split_string(Sentence, "`", "", [_, Predicate|_]) ),
+            Predicates).
+
 test(assertions, Assertions == [(:- pred(app(+,?,?))), (:- pred(app(?,?,+)))]) :-
     cti_assertions('examples/append.pl', Assertions).
 
@@ -71,5 +101,11 @@ test(modes_hold, Lost == []) :-
 
 test(modes_are_lost, Lost == [app/3-[[2]], gone/1-[[]]]) :-
     cti_lost('examples/append.pl', [app/3-[[1],[2]], gone/1-[[]]], Lost, []).
+
+test(modes_by_lists_hold, Lost == []) :-
+    cti_lost('examples/ackermann.pl', [ack/3-[[1,2],[1,2,3]]], Lost, [lex(true)]).
+
+test(modes_by_lists_are_lost_without, Lost == [ack/3-[[1,2]]]) :-
+    cti_lost('examples/ackermann.pl', [ack/3-[[1,2]]], Lost, []).
 
 :- end_tests(cti).

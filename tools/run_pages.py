@@ -5,8 +5,8 @@ Usage: tools/run_pages.py [PROGRAM]     (PROGRAM is bin/cti where none is named)
 
 A command is a line of a block that begins with `$ `, up to the next one; the lines after it are its output, with standard error or without.
 A line `..` there stands for any lines, and standard error may stand before the output or behind it. `$ cat FILE` of a file that is not there shows the file, and makes it. The commands of a page run one after
-the other in one folder, beside the examples. Those of `cti-file` are left to swi/test_cti_file.pl, since their files stand in the page's text. What differs is printed, and then
-the status is 1.
+the other in one folder, beside the examples. Those of `cti-file` are left to swi/test_cti_file.pl, since their files stand in the page's text. Where SWI-Prolog is installed,
+the queries of a block, lines that begin with `?- `, are asked at the top of the repository, and `true.` may be left out of their answers. What differs is printed, and then the status is 1.
 """
 import os
 import re
@@ -71,10 +71,29 @@ class Folder:
         return done.stdout.decode().split("\n")[:-1]
 
 
+def answers(lines):
+    return [line.rstrip() for line in lines if line.strip() not in ("", "true.")]
+
+
+def query_faults(path, program, block):
+    """What SWI-Prolog answers otherwise to the queries of a block, and how many there are."""
+    queries = [line[3:] for line in block if line.startswith("?- ")]
+    if not queries or not shutil.which("swipl") or any("cti_file" in query for query in queries):
+        return [], 0
+    done = subprocess.run(["swipl", "-q"], cwd=top, env=dict(os.environ, CTI=str(program)), input="\n".join(queries) + "\n",
+                          stdout=subprocess.PIPE, stderr=subprocess.STDOUT, text=True, timeout=SECONDS)
+    shown, printed = answers(line for line in block if not line.startswith("?- ")), answers(done.stdout.split("\n"))
+    if shown == printed:
+        return [], len(queries)
+    return ["\n".join([f"{path.name}: ?- ..", *(f"  shown:   {line}" for line in shown), *(f"  printed: {line}" for line in printed)])], len(queries)
+
+
 def page_faults(path, program):
     """What is printed otherwise than a page shows, and how many commands were run."""
     folder, faults, count = Folder(program), [], 0
     for block in blocks(path):
+        wrong, asked = query_faults(path, program, block)
+        faults, count = faults + wrong, count + asked
         for command, shown in commands(block):
             words = command.split()
             if words[0] == "cat" and len(words) == 2 and shown and not (words[1].startswith("examples/")):
