@@ -8,4 +8,6 @@ mod commands;
 #[cfg(test)]
 mod failing;
 #[cfg(test)]
+mod lists;
+#[cfg(test)]
 mod texts;
