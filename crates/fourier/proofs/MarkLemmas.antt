@@ -8,7 +8,8 @@ use Rattle.linear_rows.specs.Cleaning.{agree, int_same}
 use Rattle.linear_rows.specs.Equation.{negates}
 use Rattle.linear_rows.proofs.Cleanings.{agree_at}
 use Rattle.linear_rows.proofs.Equations.{negates_at}
-use Rattle.fourier.specs.Marks.{mark_of, mixed}
+use Rattle.fourier.specs.Marks.{AreUp, is_up, mark_of, mixed}
+use Rattle.fourier.proofs.NumberTests.{either_bool}
 
 -- rows that agree have the same mark
 pub same_mark : (m : ℕ) (r s : List ℤ) → agree m r s ≡ true → mark_of m r ≡ mark_of m s
@@ -53,3 +54,32 @@ pub got-map : {X Y : Type 0} (f : X → Y) (xs : List X) (k : ℕ) (d : Y) (e : 
 got-map f [] k d e h = absurd (omega (arith, h))
 got-map f (x ∷ xs) zero d e h = refl
 got-map f (x ∷ xs) (suc k) d e h = got-map f xs k d e (omega (arith, h))
+
+-- flags that stay up
+pub still_up : (flags more : List Bool) (marks : List ℕ) → ((m : ℕ) → is_up flags m ≡ true → is_up more m ≡ true) → AreUp flags marks → AreUp more marks
+still_up flags more [] kept up = tt
+still_up flags more (m ∷ marks) kept up = (kept m up.0, still_up flags more marks kept up.1)
+
+-- and with one mark more
+pub up_with : (flags : List Bool) (marks : List ℕ) (mark : ℕ) → AreUp flags marks → is_up flags mark ≡ true → AreUp flags (marks ++ mark ∷ [])
+up_with flags [] mark up one = (one, tt)
+up_with flags (m ∷ marks) mark up one = (up.0, up_with flags marks mark up.1 one)
+
+-- and with one mark less
+pub up_without : (flags : List Bool) (marks : List ℕ) (k : ℕ) → AreUp flags marks → AreUp flags (remove marks k)
+up_without flags [] zero up = tt
+up_without flags [] (suc k) up = tt
+up_without flags (m ∷ marks) zero up = up.1
+up_without flags (m ∷ marks) (suc k) up = (up.0, up_without flags marks k up.1)
+
+-- the flag of the mark at a place
+up_at : {X : Type 0} (flags : List Bool) (f : X → ℕ) (xs : List X) (k : ℕ) (e : X) → k < length xs → AreUp flags (map f xs) → is_up flags (f (get_or xs k e)) ≡ true
+up_at flags f [] k e l up = absurd (omega (arith, l))
+up_at flags f (x ∷ xs) zero e l up = up.0
+up_at flags f (x ∷ xs) (suc k) e l up = up_at flags f xs k e (omega (arith, l)) up.1
+
+-- a row whose mark's flag is down agrees with none of the rows
+pub agrees_with_none : (flags : List Bool) (m : ℕ) (rows : List (List ℤ)) (row : List ℤ) → AreUp flags (map (mark_of m) rows) → is_up flags (mark_of m row) ≡ false → (j : ℕ) → j < length rows → agree m (get_or rows j []) row ≡ false
+agrees_with_none flags m rows row up down j l = either_bool (agree m (get_or rows j []) row) (λ same.
+    let one : is_up flags (mark_of m row) ≡ true = ap (is_up flags) (sym (same_mark m (get_or rows j []) row same)) ∙ up_at flags (mark_of m) rows j [] l up in
+    cc)

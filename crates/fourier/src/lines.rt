@@ -1,5 +1,5 @@
 // Lists of rows.
-ghost use Rattle.std.specs.Prelude.{◌≡◌, ℕ, length, ◌<◌, ◌≤◌, slice_index_or, [], ◌∷◌, ◌++◌, OnOk, take, drop, suc, true, false};
+ghost use Rattle.std.specs.Prelude.{◌≡◌, ℕ, length, ◌<◌, ◌≤◌, slice_index_or, [], ◌∷◌, ◌++◌, OnOk, take, drop, suc, true, false, IfOk};
 ghost use Rattle.linear_rows.specs.Blown.{all_of, numbers_fit};
 ghost use Rattle.linear_rows.specs.Cleaning.{agree};
 ghost use Rattle.linear_rows.specs.Equation.{negates, place_of};
@@ -7,6 +7,7 @@ ghost use Rattle.fourier.specs.Adding.{AllFit};
 ghost use Rattle.fourier.specs.Small.{small};
 
 use crate::line::Line;
+use crate::marks::{FLAGS, is_up, raise};
 use std::alloc::{AllocError, Global};
 use std::marker::Model;
 
@@ -19,6 +20,8 @@ pub struct Lines {
     // The marks of the rows are those of the columns 1 to this one.
     last: usize,
     marks: Vec<u32>,
+    // Where there are flags, those of the rows' marks are up, and perhaps others.
+    flags: Vec<bool>,
 }
 
 impl Drop for Lines {
@@ -27,19 +30,20 @@ impl Drop for Lines {
             items: _,
             last: _,
             marks: _,
+            flags: _,
         } = self;
     }
 }
 
 impl Model for Lines {
     ghost use Rattle.std.specs.Prelude.{◌≡◌, ℤ, List, map};
-    ghost use Rattle.fourier.specs.Marks.{mark_of};
+    ghost use Rattle.fourier.specs.Marks.{mark_of, AreUp};
 
     ghost Value = { List (List ℤ) };
 
     ghost view = { λ n. n.items.items };
 
-    ghost invariant = { λ n. n.marks.items ≡ map (mark_of n.last) n.items.items };
+    ghost invariant = { λ n. (n.marks.items ≡ map (mark_of n.last) n.items.items) × AreUp n.flags.items n.marks.items };
 }
 
 impl Lines {
@@ -51,7 +55,21 @@ impl Lines {
             items: Vec::new(alloc),
             last,
             marks: Vec::new(alloc),
+            flags: Vec::new(alloc),
         }
+    }
+
+    /// Makes the empty list of rows, of which many are expected, that are looked for by their columns 1 to `last`.
+    pub fn flagged(alloc: Global, last: usize) -> Result<Self, AllocError>
+        ensures { IfOk result (λ rows. rows ≡ []) }
+    {
+        let flags = vec![in alloc; false; FLAGS]?;
+        Ok(Lines {
+            items: Vec::new(alloc),
+            last,
+            marks: Vec::new(alloc),
+            flags,
+        })
     }
 
     /// How many rows there are.
@@ -76,6 +94,7 @@ impl Lines {
         self.marks.reserve(1)?;
         let mark = row.mark(self.last);
         self.items.push(row)?;
+        raise(&mut self.flags, mark);
         self.marks.push(mark)?;
         Ok(())
     }
@@ -95,6 +114,9 @@ impl Lines {
         ensures before { (j : ℕ) → j < result → agree last (slice_index_or self.now j []) row.now ≡ false }
         ensures here { result < length self.now → agree last (slice_index_or self.now result []) row.now ≡ true }
     {
+        if self.lacks(row, last) {
+            return self.len();
+        }
         let mark = row.mark(self.last);
         for i in 0..self.len() {
             if (self.last != last || self.marks[i] == mark) && self.get(i).agrees(row, last) {
@@ -102,6 +124,16 @@ impl Lines {
             }
         }
         self.len()
+    }
+
+    // Whether the flags show that no row has the numbers of `row` in the columns 1 to `last`.
+    fn lacks(&self, row: &Line, last: usize) -> bool
+        ensures { result ≡ true → (j : ℕ) → j < length self.now → agree last (slice_index_or self.now j []) row.now ≡ false }
+    {
+        if self.flags.is_empty() || self.last != last {
+            return false;
+        }
+        !is_up(self.flags.as_slice(), row.mark(last))
     }
 
     /// The place of the first row that is the one at place `i` negated in the columns below `many`, or the number of rows.

@@ -1,12 +1,15 @@
 // Marks of rows: one number for all coefficients of a row.
-ghost use Rattle.std.specs.Prelude.{◌≡◌, ◌<◌, ◌%◌, unsigned_abs};
-ghost use Rattle.fourier.specs.Marks.{mark_of, mixed};
+ghost use Rattle.std.specs.Prelude.{◌≡◌, ℕ, ◌<◌, ◌%◌, true, unsigned_abs};
+ghost use Rattle.fourier.specs.Marks.{is_up, mark_of, mixed};
 ghost use Rattle.fourier.specs.Sparse.{spread};
 
 use crate::part::{Part, after_first, next};
 
 // Marks are less than this prime: 2^31 - 1.
 const MODULUS: u64 = 0x7fff_ffff;
+
+/// How many flags a list of many rows has: four times as many as the most rows of a step.
+pub const FLAGS: usize = 16_384;
 
 /// The mark of a row in the columns 1 to `last`. Rows of different marks have different coefficients there.
 pub fn mark_of(parts: &[Part], tail: usize, last: usize) -> u32
@@ -39,4 +42,26 @@ fn remainder(number: i128) -> u64
         return size as u64 % MODULUS;
     }
     (size % MODULUS as u128) as u64
+}
+
+/// Whether the flag of a mark is up, or there is none.
+pub fn is_up(flags: &[bool], mark: u32) -> bool
+    ensures { result ≡ is_up flags.now mark }
+{
+    let place = mark as usize % FLAGS;
+    if place < flags.len() {
+        return flags[place];
+    }
+    true
+}
+
+/// Puts the flag of a mark up, where there is one.
+pub fn raise(flags: &mut Vec<bool>, mark: u32)
+    ensures kept { (m : ℕ) → is_up flags.old.items m ≡ true → is_up flags.new.items m ≡ true }
+    ensures up { is_up flags.new.items mark ≡ true }
+{
+    let place = mark as usize % FLAGS;
+    if place < flags.len() {
+        flags[place] = true;
+    }
 }

@@ -1,5 +1,5 @@
 // One step of elimination.
-ghost use Rattle.std.specs.Prelude.{◌≡◌, true, false, ◌<◌, ◌≤◌, ◌+◌, ◌^◌, OnOk};
+ghost use Rattle.std.specs.Prelude.{◌≡◌, true, false, ◌<◌, ◌≤◌, ◌+◌, ◌^◌, [], IfOk, OnOk};
 ghost use Rattle.linear_rows.specs.Equation.{equation_from, combinations_by};
 ghost use Rattle.linear_rows.specs.Blown.{step_fits};
 ghost use Rattle.fourier.specs.Adding.{add_rows, AllFit, OneLength};
@@ -11,7 +11,10 @@ use crate::equations::{cross_equation, equation};
 use crate::fault::StepFault;
 use crate::lines::Lines;
 use linear_rows::RowFault;
-use std::alloc::Global;
+use std::alloc::{AllocError, Global};
+
+// From so many rows on a step may leave thousands.
+const MANY_ROWS: usize = 64;
 
 /// The rows that a step leaves, which eliminates column `k`. The columns 1 to `last` are compared.
 ///
@@ -30,7 +33,10 @@ pub fn step(
     requires last { last < 2 ^ 32 }
     ensures { StepSays brief last k rows.now result }
 {
-    let mut kept = Lines::marked(alloc, last);
+    let mut kept = match empty_rows(alloc, rows.len(), last) {
+        Ok(kept) => kept,
+        Err(_) => return Err(StepFault::Memory),
+    };
     match add_without(alloc, &mut kept, rows, k, last) {
         Ok(()) => {}
         Err(_) => return Err(StepFault::Memory),
@@ -44,6 +50,16 @@ pub fn step(
         return Err(StepFault::Many);
     }
     Ok(kept)
+}
+
+// The empty list of rows for a step of so many rows: where they are many, it has flags.
+fn empty_rows(alloc: Global, count: usize, last: usize) -> Result<Lines, AllocError>
+    ensures { IfOk result (λ kept. kept ≡ []) }
+{
+    if count < MANY_ROWS {
+        return Ok(Lines::marked(alloc, last));
+    }
+    Lines::flagged(alloc, last)
 }
 
 // The kept rows with all combinations of a step.

@@ -9,10 +9,10 @@ returns-in-Err-Wide c = step_wide c.args.last c.args.k c.args.rows.now (c.in-Err
 
 pub returns-then-len-gt-MOST_ROWS : goal.returns-then-len-gt-MOST_ROWS
 returns-then-len-gt-MOST_ROWS c =
-    let first = c.in-Ok.ensures ∙ ap (λ l. add_rows c.args.last l (without c.args.k c.args.rows.now)) c.marked-kept.ensures in
+    let first = c.in-Ok-add_without.ensures ∙ ap (λ l. add_rows c.args.last l (without c.args.k c.args.rows.now)) c.in-Ok.ensures in
     said_many c.args.brief c.args.last c.args.k c.args.rows.now c.combinations.new.kept c.in-Ok-combinations.ensures.fits (stepped c.args.last c.args.k c.args.rows.now c.add_without.new.kept c.combinations.new.kept first c.in-Ok-combinations.ensures.kept) (omega arith)
 
 pub returns : goal.returns
 returns c =
-    let first = c.in-Ok.ensures ∙ ap (λ l. add_rows c.args.last l (without c.args.k c.args.rows.now)) c.marked-kept.ensures in
+    let first = c.in-Ok-add_without.ensures ∙ ap (λ l. add_rows c.args.last l (without c.args.k c.args.rows.now)) c.in-Ok.ensures in
     said_few c.args.brief c.args.last c.args.k c.args.rows.now c.combinations.new.kept c.in-Ok-combinations.ensures.fits (stepped c.args.last c.args.k c.args.rows.now c.add_without.new.kept c.combinations.new.kept first c.in-Ok-combinations.ensures.kept) (omega arith)

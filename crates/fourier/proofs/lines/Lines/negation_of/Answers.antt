@@ -28,9 +28,9 @@ apart c = elim c.else-index-mark.branch [
             let within : j < length items = omega (arith, c.loop-j-test.true, c.len-j-end.ensures, ap length c.self.view_is) in
             let here : c.args.i < length items = omega (arith, c.requires.place, ap length c.self.view_is) in
             let other : v.index.result.now ≡ mark_of last (get_or items j []) =
-            v.index.ensures ∙ ap (λ ms. get_or ms j v.index.result.now) c.self.invariant ∙ got-map (mark_of last) items j v.index.result.now [] within in
+            v.index.ensures ∙ ap (λ ms. get_or ms j v.index.result.now) c.self.invariant.0 ∙ got-map (mark_of last) items j v.index.result.now [] within in
             let own : c.index-mark.result.now ≡ mark_of last (get_or items c.args.i []) =
-            c.index-mark.ensures ∙ ap (λ ms. get_or ms c.args.i c.index-mark.result.now) c.self.invariant ∙ got-map (mark_of last) items c.args.i c.index-mark.result.now [] here in
+            c.index-mark.ensures ∙ ap (λ ms. get_or ms c.args.i c.index-mark.result.now) c.self.invariant.0 ∙ got-map (mark_of last) items c.args.i c.index-mark.result.now [] here in
             let turned : negates c.args.many (get_or items c.args.i []) (get_or items j []) ≡ true =
             ap (λ (rows : List (List ℤ)). negates c.args.many (get_or rows c.args.i []) (get_or rows j [])) c.self.view_is ∙ opposite in
             let equal : v.index.result.now ≡ c.index-mark.result.now =

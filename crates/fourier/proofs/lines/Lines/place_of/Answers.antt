@@ -19,7 +19,7 @@ apart c = elim c.else-index-mark.branch [
             let i = c.loop-i.i in
             let within : i < length items = omega (arith, c.loop-i-test.true, c.len-i-end.ensures, ap length c.self.view_is) in
             let own : v.index.result.now ≡ mark_of last (get_or items i []) =
-            v.index.ensures ∙ ap (λ ms. get_or ms i v.index.result.now) c.self.invariant ∙ got-map (mark_of last) items i v.index.result.now [] within in
+            v.index.ensures ∙ ap (λ ms. get_or ms i v.index.result.now) c.self.invariant.0 ∙ got-map (mark_of last) items i v.index.result.now [] within in
             let agrees : agree last (get_or items i []) c.args.row.now ≡ true =
             ap (λ (rows : List (List ℤ)). agree last (get_or rows i []) c.args.row.now) c.self.view_is ∙ ap (λ (m : ℕ). agree m (get_or c.args.self.now i []) c.args.row.now) v.if-self-last.false ∙ same in
             let equal : v.index.result.now ≡ c.mark-mark.result = own ∙ same_mark last (get_or items i []) c.args.row.now agrees ∙ sym c.mark-mark.ensures in
