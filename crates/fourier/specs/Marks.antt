@@ -15,7 +15,7 @@ mark_of (suc m) row = mixed (mark_of m row) (entry row (suc m))
 
 -- the flag of a mark is up, or there is none
 abbrev pub is_up : List Bool → ℕ → Bool
-is_up flags mark = slice_index_or flags (mark % 16384) true
+is_up flags mark = slice_index_or flags (mark % 65536) true
 
 -- the flag of each of some marks is up, or there is none
 abbrev pub AreUp : List Bool → List ℕ → Type 0

@@ -114,26 +114,18 @@ impl Lines {
         ensures before { (j : ℕ) → j < result → agree last (slice_index_or self.now j []) row.now ≡ false }
         ensures here { result < length self.now → agree last (slice_index_or self.now result []) row.now ≡ true }
     {
-        if self.lacks(row, last) {
+        let mark = row.mark(self.last);
+        let is_marked = self.last == last;
+        if is_marked && !is_up(self.flags.as_slice(), mark) {
             return self.len();
         }
-        let mark = row.mark(self.last);
+        let marks = self.marks.as_slice();
         for i in 0..self.len() {
-            if (self.last != last || self.marks[i] == mark) && self.get(i).agrees(row, last) {
+            if (!is_marked || marks[i] == mark) && self.get(i).agrees(row, last) {
                 return i;
             }
         }
         self.len()
-    }
-
-    // Whether the flags show that no row has the numbers of `row` in the columns 1 to `last`.
-    fn lacks(&self, row: &Line, last: usize) -> bool
-        ensures { result ≡ true → (j : ℕ) → j < length self.now → agree last (slice_index_or self.now j []) row.now ≡ false }
-    {
-        if self.flags.is_empty() || self.last != last {
-            return false;
-        }
-        !is_up(self.flags.as_slice(), row.mark(last))
     }
 
     /// The place of the first row that is the one at place `i` negated in the columns below `many`, or the number of rows.

@@ -8,8 +8,8 @@ use crate::part::{Part, after_first, next};
 // Marks are less than this prime: 2^31 - 1.
 const MODULUS: u64 = 0x7fff_ffff;
 
-/// How many flags a list of many rows has: four times as many as the most rows of a step.
-pub const FLAGS: usize = 16_384;
+/// How many flags a list of many rows has: sixteen times as many as the most rows of a step.
+pub const FLAGS: usize = 65_536;
 
 /// The mark of a row in the columns 1 to `last`. Rows of different marks have different coefficients there.
 pub fn mark_of(parts: &[Part], tail: usize, last: usize) -> u32
@@ -32,12 +32,15 @@ fn mixed(mark: u32, number: i128) -> u32
     ((mark as u64 * 1_000_003 + remainder(number)) % MODULUS) as u32
 }
 
-// What a number leaves, in 64 bits, as most numbers are.
+// What a number leaves: most numbers themselves, and nearly all in 64 bits.
 fn remainder(number: i128) -> u64
     ensures value { result ≡ unsigned_abs number % 2147483647 }
     ensures within { result < 2147483647 }
 {
     let size = number.unsigned_abs();
+    if size < MODULUS as u128 {
+        return size as u64;
+    }
     if size <= u64::MAX as u128 {
         return size as u64 % MODULUS;
     }

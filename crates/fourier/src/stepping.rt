@@ -14,7 +14,7 @@ use linear_rows::RowFault;
 use std::alloc::{AllocError, Global};
 
 // From so many rows on a step may leave thousands.
-const MANY_ROWS: usize = 64;
+const MANY_ROWS: usize = 24;
 
 /// The rows that a step leaves, which eliminates column `k`. The columns 1 to `last` are compared.
 ///

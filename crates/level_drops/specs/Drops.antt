@@ -1,4 +1,4 @@
--- To believe, for the modes.
+-- To believe, for the modes by lists of mappings.
 -- The level of a clause's head, less that of a call, less the number by which it has to drop.
 --
 -- To believe: `drop_of`.

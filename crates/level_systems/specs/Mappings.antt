@@ -1,4 +1,4 @@
--- Private.
+-- To believe, for the modes by lists of mappings.
 -- Mappings as they are given: a part for each member, and multipliers for each call.
 --
 -- To believe: all of this file.

@@ -1,4 +1,4 @@
--- Private.
+-- To believe, for the modes by lists of mappings.
 -- The pairs of a component: a clause of a member and a call of a member in its body, both counted from 1.
 --
 -- To believe: `pairs_of`.

@@ -1,4 +1,4 @@
--- To believe, for the modes.
+-- To believe, for the modes by lists of mappings.
 -- Lists as mappings: what preconditions and modes see of a list is where some measure of it has a positive coefficient.
 --
 -- To believe: all of this file, where preconditions and modes of lists are spoken of.

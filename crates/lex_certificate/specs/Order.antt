@@ -1,4 +1,4 @@
--- To believe, for the modes.
+-- To believe, for the modes by lists of mappings.
 -- The facts of parts, in the order of the format.
 --
 -- To believe: all of this file.

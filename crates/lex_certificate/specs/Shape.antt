@@ -1,4 +1,4 @@
--- To believe, for the modes.
+-- To believe, for the modes by lists of mappings.
 -- The shape of parts: how many there are, how wide they are, and in which ranges their numbers are.
 --
 -- To believe: all of this file. Predicates, clauses, calls, rows, lists and measures are numbered from 0 here.

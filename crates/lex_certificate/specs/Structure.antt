@@ -1,4 +1,4 @@
--- To believe, for the modes.
+-- To believe, for the modes by lists of mappings.
 -- What the facts of a certificate of lists say of a program, and with which parts.
 --
 -- To believe: `IsStructured`, and below it Order.antt and Shape.antt.

@@ -1,4 +1,4 @@
--- To believe, for the modes.
+-- To believe, for the modes by lists of mappings.
 -- The text of a certificate of lists: a line for each fact.
 --
 -- To believe: all of this file, over Text.antt of `certificate`.

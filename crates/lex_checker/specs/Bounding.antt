@@ -1,4 +1,4 @@
--- To believe, for the modes.
+-- To believe, for the modes by lists of mappings.
 -- What a valid certificate of lists says of queries: each that meets a printed mode has bounded derivations.
 --
 -- To believe: this file, over `ModeIsBounded` of `cert_checker`, which speaks of terms, programs, unification and

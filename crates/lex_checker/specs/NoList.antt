@@ -1,4 +1,4 @@
--- To believe, for the modes.
+-- Private.
 -- What a certificate's stuck sets mean: no list of mappings of the component drops at each of its calls, for the printed
 -- size rows.
 --

@@ -1,4 +1,4 @@
--- To believe, for the modes.
+-- To believe, for the modes by lists of mappings.
 -- What the multipliers of a certificate of lists have to show: that the measures of each list drop at each call.
 --
 -- At each call of its own component, and for each list, there are multipliers for the measures up to the call's place.

@@ -1,4 +1,4 @@
--- To believe, for the command.
+-- To believe, for the modes by lists of mappings.
 -- When a certificate of lists is valid.
 --
 -- Its facts are those of some parts, and what the parts claim holds: their modes, that built-in predicates have stated size

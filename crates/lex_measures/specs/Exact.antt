@@ -1,4 +1,4 @@
--- To believe, for the modes.
+-- To believe, for the modes by lists of mappings.
 -- When a certificate of lists is exact: it says the most that may be said by its method.
 --
 -- Its size rows come from a legal chain, whose steps it notes. Its lists, their drops and its stuck sets are those that are

@@ -1,4 +1,4 @@
--- To believe, for the modes.
+-- To believe, for the modes by lists of mappings.
 -- Lists of level mappings of a component that descend, found in turns at a set of positions, and when none is found.
 --
 -- In each turn a mapping rises at none of the calls that remain, and those at which it falls by 1 leave. Where none

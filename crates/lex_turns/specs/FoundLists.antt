@@ -1,4 +1,4 @@
--- To believe, for the modes.
+-- To believe, for the modes by lists of mappings.
 -- What is found of a component's lists: one for each minimal support of a list that descends, or a stuck set, or what was
 -- given up.
 --
