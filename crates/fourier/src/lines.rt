@@ -119,9 +119,8 @@ impl Lines {
         if is_marked && !is_up(self.flags.as_slice(), mark) {
             return self.len();
         }
-        let marks = self.marks.as_slice();
-        for i in 0..self.len() {
-            if (!is_marked || marks[i] == mark) && self.get(i).agrees(row, last) {
+        for (i, own) in self.marks.iter().enumerate() {
+            if (!is_marked || *own == mark) && self.get(i).agrees(row, last) {
                 return i;
             }
         }

@@ -1,5 +1,5 @@
 // One step of elimination.
-ghost use Rattle.std.specs.Prelude.{◌≡◌, true, false, ◌<◌, ◌≤◌, ◌+◌, ◌^◌, [], IfOk, OnOk};
+ghost use Rattle.std.specs.Prelude.{◌≡◌, true, false, ◌<◌, ◌≤◌, ◌+◌, ◌^◌, [], length, IfOk, OnOk};
 ghost use Rattle.linear_rows.specs.Equation.{equation_from, combinations_by};
 ghost use Rattle.linear_rows.specs.Blown.{step_fits};
 ghost use Rattle.fourier.specs.Adding.{add_rows, AllFit, OneLength};
@@ -13,8 +13,8 @@ use crate::lines::Lines;
 use linear_rows::RowFault;
 use std::alloc::{AllocError, Global};
 
-// From so many rows on a step may leave thousands.
-const MANY_ROWS: usize = 24;
+// From so many rows on that rise in a column, and as many that fall, a step may leave hundreds.
+const MANY_ROWS: usize = 16;
 
 /// The rows that a step leaves, which eliminates column `k`. The columns 1 to `last` are compared.
 ///
@@ -33,7 +33,7 @@ pub fn step(
     requires last { last < 2 ^ 32 }
     ensures { StepSays brief last k rows.now result }
 {
-    let mut kept = match empty_rows(alloc, rows.len(), last) {
+    let mut kept = match empty_rows(alloc, rows, k, last) {
         Ok(kept) => kept,
         Err(_) => return Err(StepFault::Memory),
     };
@@ -52,14 +52,31 @@ pub fn step(
     Ok(kept)
 }
 
-// The empty list of rows for a step of so many rows: where they are many, it has flags.
-fn empty_rows(alloc: Global, count: usize, last: usize) -> Result<Lines, AllocError>
+// The empty list of rows for a step: where many rows are combined with many, it has flags.
+fn empty_rows(alloc: Global, rows: &Lines, k: usize, last: usize) -> Result<Lines, AllocError>
     ensures { IfOk result (λ kept. kept ≡ []) }
 {
-    if count < MANY_ROWS {
-        return Ok(Lines::marked(alloc, last));
+    if rows.len() >= 2 * MANY_ROWS && combines_many(rows, k) {
+        return Lines::flagged(alloc, last);
     }
-    Lines::flagged(alloc, last)
+    Ok(Lines::marked(alloc, last))
+}
+
+// Whether many rows rise in column `k`, and many fall.
+fn combines_many(rows: &Lines, k: usize) -> bool
+    ensures { result ≡ true → 32 ≤ length rows.now }
+{
+    let mut rising = 0usize;
+    let mut falling = 0usize;
+    for i in 0..rows.len() {
+        let number = rows.get(i).entry(k);
+        if number > 0 {
+            rising += 1;
+        } else if number < 0 {
+            falling += 1;
+        }
+    }
+    rising >= MANY_ROWS && falling >= MANY_ROWS
 }
 
 // The kept rows with all combinations of a step.
