@@ -135,8 +135,9 @@ impl Lines {
     {
         let row = self.get(i);
         let mark = self.marks[i];
-        for j in 0..self.len() {
-            if (many <= self.last || self.marks[j] == mark) && row.negates(self.get(j), many) {
+        let is_short = many <= self.last;
+        for (j, own) in self.marks.iter().enumerate() {
+            if (is_short || *own == mark) && row.negates(self.get(j), many) {
                 return j;
             }
         }
