@@ -28,8 +28,8 @@ use std::alloc::Global;
 /// --steps N` reads a query of the program too, and writes its answers among the empty derivation and the first N others, then how
 /// many there were, the length of the longest, and whether there are more. N is from 1 to 1,000,000, and else 100,000. `gen N` makes a
 /// program of N predicates, from 1 to 300, and writes how many clauses it has, and how many modes `infer` would print for it.
-/// `lex FILE` writes the certificate of the program's modes by lists of mappings that descend in lexicographic order, one list for each
-/// minimal support. `loop FILE QUERY --depth D` reads a query as `run` does, and looks at its derivations of at most D clauses, from 1 to 12, and else 8,
+/// `lex FILE` writes the certificate of the program's modes by lists of mappings that descend in lexicographic order: one list for each
+/// minimal support of a component of at most 12 argument positions, and one at most of a larger one. `loop FILE QUERY --depth D` reads a query as `run` does, and looks at its derivations of at most D clauses, from 1 to 12, and else 8,
 /// but at no more than 100,000. It writes `loop(Before,Cycle).`, the clauses of the first that comes back to an atom that is more general
 /// than one that it passed, so that the query has derivations of every length; or `no_loop(N).` where none of all N does; or
 /// `stopped(100000).` where there are more. The answer is complete, and all memory is taken, before the first byte is written.

@@ -4,7 +4,8 @@ use Rattle.call_components.specs.Partition.{Partition}
 use Rattle.cti_terms.specs.Listing.{Listing}
 use Rattle.cti_terms.specs.Tree.{Tree}
 use Rattle.linear_rows.proofs.Members.{of-append}
-use Rattle.lex_turns.specs.Found.{AreVoid, IsChosen, IsUnmapped, IsVoid}
+use Rattle.lex_turns.specs.Found.{AreVoid, IsChosen, IsVoid}
+use Rattle.lex_turns.specs.FoundLists.{IsUnmapped}
 use Rattle.lex_turns.specs.declared.within.Within.{Within}
 use Rattle.lex_turns.specs.declared.within.Within.TheVariants as within
 
@@ -13,7 +14,7 @@ module _ (expression : ℕ → Tree → List ℤ) (p : Listing) (comps : Partiti
   pub all_chosen : (s : List ℕ) (w : Within) → IsUnmapped expression p comps rows c s → IsChosen expression p comps rows c s w
   all_chosen s (within.List l) h = λ long. h
   all_chosen s within.Nothing h = tt
-  all_chosen s within.GivenUp h = tt
+  all_chosen s within.GivenUp h = h
 
   -- one more set at which no list descends
   pub more_void : (sets : List (List ℕ)) (s : List ℕ) → AreVoid expression p comps rows c sets → IsVoid expression p comps rows c s → AreVoid expression p comps rows c (sets ++ s ∷ [])

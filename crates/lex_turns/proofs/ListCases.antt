@@ -19,7 +19,7 @@ use Rattle.level_dual.proofs.Subsequences.{in_whole}
 use Rattle.level_dual.proofs.WalkSteps.{walk_steps}
 use Rattle.lex_turns.specs.Deciding.{IsNotFound}
 use Rattle.lex_turns.specs.Found.{IsVoid}
-use Rattle.lex_turns.specs.FoundLists.{AreFoundLists, HasList, IsGivenUpAt, IsStuckSetOf}
+use Rattle.lex_turns.specs.FoundLists.{AreFoundLists, HasList, IsStuckSetOf, MayBeMissing}
 use Rattle.lex_turns.specs.Walked.{IsAllWalked, own_support}
 use Rattle.lex_turns.specs.declared.found_lists.FoundLists.{FoundLists}
 use Rattle.lex_turns.specs.declared.measure_list.MeasureList.{MeasureList}
@@ -41,7 +41,7 @@ module _ (expression : ℕ → Tree → List ℤ) (p : Listing) (comps : Partiti
   many = count expression p comps rows c
 
   abbrev given_up_at : List ℕ → Type 0
-  given_up_at = IsGivenUpAt expression p comps rows c
+  given_up_at = MayBeMissing expression p comps rows c
 
   abbrev has : List ℕ → Type 0
   has = HasList expression p comps rows c
@@ -62,7 +62,7 @@ module _ (expression : ℕ → Tree → List ℤ) (p : Listing) (comps : Partiti
     large = large;
     lists = tt;
     small = λ _. record { minimal = λ s i. absurd i; within = λ s h. inr ([], none_undecided expression p comps rows c all, refl); order = tt; single = tt; given_up = λ s i. given s };
-    more = λ _. record { few = omega arith; single = tt; spare = tt; decided = inr (inr (full_undecided expression p comps rows c all)); given_up = λ s i. inl (given s) };
+    more = λ _. record { few = omega arith; single = tt; spare = tt; decided = inr (inr (full_undecided expression p comps rows c all, inl (given all))); given_up = λ s i. inl (given s).0 };
     stuck = ((λ h. absurd (h refl)), λ k. absurd (k.1 (full_undecided expression p comps rows c all)));
     shown = λ r e. cc;
     sets = sets_undecided expression p comps rows c all (full_is_set many);
@@ -81,7 +81,7 @@ module _ (expression : ℕ → Tree → List ℤ) (p : Listing) (comps : Partiti
     large = large;
     lists = tt;
     small = λ few. record { minimal = λ s i. absurd i; within = λ s h. absurd (elim why [ inl same ↦ both b same few | inr none ↦ none s h ]); order = tt; single = tt; given_up = λ s i. given_one s i };
-    more = λ _. record { few = omega arith; single = tt; spare = tt; decided = inr (inr (inl refl)); given_up = λ s i. inl (given_one s i) };
+    more = λ _. record { few = omega arith; single = tt; spare = tt; decided = inr (inr (inl refl, inl given)); given_up = λ s i. inl (given_one s i).0 };
     stuck = ((λ h. absurd (h refl)), λ k. absurd (k.1 (inl refl)));
     shown = λ r e. cc;
     sets = full_sets;

@@ -22,8 +22,8 @@ use Rattle.level_dual.proofs.FoundCases.{below_there}
 use Rattle.level_dual.proofs.Subsequences.{kept_order, once_push, pushed_order}
 use Rattle.level_dual.proofs.Visits.{give_up_set, none_left, none_right, not_above_of, pass_set, refute_set}
 use Rattle.level_dual.proofs.WalkSteps.{apart_still, walk_steps}
-use Rattle.lex_turns.specs.Found.{AreVoid, IsListIn, IsUnmapped, IsVoid}
-use Rattle.lex_turns.specs.FoundLists.{HasList, IsDescendingList, IsGivenUpAt, IsLong}
+use Rattle.lex_turns.specs.Found.{AreVoid, IsListIn, IsVoid}
+use Rattle.lex_turns.specs.FoundLists.{HasList, IsDescendingList, IsLong, IsUnmapped, MayBeMissing}
 use Rattle.lex_turns.specs.Walked.{IsAllWalked, IsSingle, IsWalkedTo, own_support}
 use Rattle.lex_turns.specs.declared.measure_list.MeasureList.{MeasureList}
 use Rattle.lex_turns.specs.declared.walked.Walked.{Walked}
@@ -97,7 +97,7 @@ module _ (size : (ℕ → ℕ) → Tree → ℕ) (truth : (ℕ → Bool) → Tre
     not_blown : passed ≡ false → IsAbove w.blown s → ⊥
     not_blown fresh = not_above_of s w.blown (none_right (list_any (λ t. is_part t s) w.found) (list_any (λ t. is_part t s) w.blown) fresh)
 
-    pub given_up_on : passed ≡ false → IsGivenUpAt expression p comps rows c s → (blown : List (List ℕ)) → blown ≡ w.blown ++ s ∷ []
+    pub given_up_on : passed ≡ false → MayBeMissing expression p comps rows c s → (blown : List (List ℕ)) → blown ≡ w.blown ++ s ∷ []
         → IsWalkedTo expression p comps rows c (take (suc i) order) (record { found = w.found; lists = w.lists; blown = blown })
     given_up_on fresh here blown e = subst (λ (b : List (List ℕ)). IsWalkedTo expression p comps rows c (take (suc i) order) (record { found = w.found; lists = w.lists; blown = b })) (sym e) (record {
       walked = give_up_set n has sets i s w.found w.blown at before.walked;
@@ -108,7 +108,7 @@ module _ (size : (ℕ → ℕ) → Tree → ℕ) (truth : (ℕ → Bool) → Tre
       blown_order = pushed_order order w.blown i s at before.blown_order;
       given_up = λ t j. elim (of-append w.blown (s ∷ []) t j) [
         | inl old ↦ before.given_up t old
-        | inr (inl same) ↦ subst (IsGivenUpAt expression p comps rows c) same here
+        | inr (inl same) ↦ subst (MayBeMissing expression p comps rows c) same here
         | inr (inr none) ↦ absurd none
       ];
       once = once_push w.blown s before.once (λ j. not_blown fresh (s, j, part_self s));

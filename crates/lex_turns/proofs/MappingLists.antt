@@ -80,7 +80,7 @@ module _ (expression : ℕ → Tree → List ℤ) (p : Listing) (comps : Partiti
           decided = elim more.decided [
             | inl l ↦ let n = length-map f.mappings one_list in inl (omega (arith, n, l))
             | inr (inl r) ↦ absurd ((is.refuted.0 r).0 s had_one)
-            | inr (inr b) ↦ inr (inr b)
+            | inr (inr b) ↦ inr (inr (b, inr (is.given_up _ b, (s, had_one))))
           ];
           given_up = λ t i. inr (is.given_up t i);
         };

@@ -13,8 +13,8 @@ use Rattle.level_systems.specs.Subsequences.{AreOnce}
 use Rattle.level_dual.proofs.FoundCases.{part_full}
 use Rattle.level_dual.proofs.LargeLaws.{not_before, not_within, place_in, take_whole, taken_in, without_in, without_not, without_set}
 use Rattle.level_dual.proofs.Subsequences.{once_push}
-use Rattle.lex_turns.specs.Found.{IsUnmapped, IsVoid}
-use Rattle.lex_turns.specs.FoundLists.{AreFoundLists, IsGivenUpAt}
+use Rattle.lex_turns.specs.Found.{IsVoid}
+use Rattle.lex_turns.specs.FoundLists.{AreFoundLists, IsGivenUpAt, IsUnmapped}
 use Rattle.lex_turns.specs.Large.{AreTried, IsHadList, IsLeftOut}
 use Rattle.lex_turns.specs.Walked.{own_support}
 use Rattle.lex_turns.specs.declared.large.LeftOut.TheVariants.{None as NoneLeft}

@@ -8,11 +8,10 @@ use Rattle.termination_model.specs.ComponentViews.{positions_in}
 use Rattle.linear_rows.specs.Members.{In}
 use Rattle.termination_model.specs.Minimal.{IsExcluded}
 use Rattle.termination_model.specs.Modes.{is_part}
-use Rattle.level_systems.specs.Found.{IsBlownSet, had}
 use Rattle.level_systems.specs.declared.component.Component.{Component}
 use Rattle.level_systems.specs.declared.position.Position.{Position}
 use Rattle.lex_turns.specs.Coursing.{IsStopped}
-use Rattle.lex_turns.specs.FoundLists.{HasList, IsDescendingList, IsGivenUpAt, IsLong, support_of_list}
+use Rattle.lex_turns.specs.FoundLists.{HasList, IsDescendingList, IsGivenUpAt, IsLong, IsUnmapped, support_of_list}
 use Rattle.lex_turns.specs.declared.course.Ended.{Ended}
 use Rattle.lex_turns.specs.declared.course.Ended.TheVariants as ended
 use Rattle.lex_turns.specs.declared.measure_list.MeasureList.{MeasureList}
@@ -44,12 +43,8 @@ module _ (expression : ℕ → Tree → List ℤ) (p : Listing) (comps : Partiti
   IsEndedAt x at s (ended.Refuted gone) = IsStopped expression p comps rows c x at gone.items × IsVoid s
   IsEndedAt x at s ended.GivenUp = IsGivenUpAt expression p comps rows c s
 
-  -- no mapping decreases at a set, or that is not known, since the set's system is blown
-  abbrev pub IsUnmapped : List ℕ → Type 0
-  IsUnmapped s = IsBlownSet expression p comps rows c s ⊎ IsExcluded (had expression p comps rows c) s
-
-  -- a long list is found only where no mapping is
+  -- a long list is found, and the search is given up, only where no mapping is
   abbrev pub IsChosen : List ℕ → Within → Type 0
-  IsChosen s (within.List l) = IsLong l → IsUnmapped s
+  IsChosen s (within.List l) = IsLong l → IsUnmapped expression p comps rows c s
   IsChosen s within.Nothing = Unit {0}
-  IsChosen s within.GivenUp = Unit {0}
+  IsChosen s within.GivenUp = IsUnmapped expression p comps rows c s

@@ -90,6 +90,14 @@ module _ (expression : ℕ → Tree → List ℤ) (p : Listing) (comps : Partiti
   abbrev pub IsGivenUpAt : List ℕ → Type 0
   IsGivenUpAt s = IsGivenUp expression (component_view expression p comps rows c) (arity_in p) (positions_at expression p comps rows c s)
 
+  -- no mapping decreases at a set, or that is not known, since the set's system is blown
+  abbrev pub IsUnmapped : List ℕ → Type 0
+  IsUnmapped s = IsBlownSet expression p comps rows c s ⊎ IsExcluded (had expression p comps rows c) s
+
+  -- a list may be missing: no mapping was found at the set, and the search for a list was given up
+  abbrev pub MayBeMissing : List ℕ → Type 0
+  MayBeMissing s = IsGivenUpAt s × IsUnmapped s
+
   -- a stuck set that the check of a certificate accepts: a refutation without directions
   pub record IsStuckSetOf (r : Refutation) : Type 0 where
     pub some : 1 ≤ length r.points
@@ -104,7 +112,7 @@ module _ (expression : ℕ → Tree → List ℤ) (p : Listing) (comps : Partiti
     pub order : IsSubsequence (supports f) (chosen_up_to (count expression p comps rows c) (count expression p comps rows c))
     pub single : AllByRecursion (λ (l : MeasureList). IsLong l
         → IsBlownSet expression p comps rows c (support_of_list (positions_in p comps c) l) ⊎ (had expression p comps rows c (support_of_list (positions_in p comps c) l) → ⊥)) f.lists
-    pub given_up : (s : List ℕ) → In s f.blown → IsGivenUpAt s
+    pub given_up : (s : List ℕ) → In s f.blown → MayBeMissing s
 
   -- none of the positions of a list can be left out, but where the search without it was given up
   abbrev pub IsWithoutSpare : List (List ℕ) → MeasureList → Type 0
@@ -113,13 +121,19 @@ module _ (expression : ℕ → Tree → List ℤ) (p : Listing) (comps : Partiti
       ⊎ (IsExcluded (had expression p comps rows c) (without i (support_of_list (positions_in p comps c) l))
       × (IsLong l → IsExcluded HasList (without i (support_of_list (positions_in p comps c) l))))
 
-  -- more: one list at most, of one mapping where some mapping decreases; or a stuck set; or all positions were given up
+  -- nothing is known of the set of all positions: a list may be missing, or a mapping whose set is blown
+  abbrev pub IsUndecided : Type 0
+  IsUndecided = MayBeMissing (full expression p comps rows c) ⊎ (IsBlownSet expression p comps rows c (full expression p comps rows c)
+      × ((s : List ℕ) × had expression p comps rows c s))
+
+  -- more: one list at most, of one mapping where some mapping decreases; or a stuck set; or nothing is known of all
+  -- positions, and these were given up
   pub record AreLargeLists (f : FoundLists) : Type 0 where
     pub few : length f.lists ≤ 1
     pub single : AllByRecursion (λ (l : MeasureList). IsLong l
         → IsBlownSet expression p comps rows c (full expression p comps rows c) ⊎ ((s : List ℕ) → had expression p comps rows c s → ⊥)) f.lists
     pub spare : AllByRecursion (IsWithoutSpare f.blown) f.lists
-    pub decided : (1 ≤ length f.lists) ⊎ (f.refutation ≢ None) ⊎ In (full expression p comps rows c) f.blown
+    pub decided : (1 ≤ length f.lists) ⊎ (f.refutation ≢ None) ⊎ (In (full expression p comps rows c) f.blown × IsUndecided)
     pub given_up : (s : List ℕ) → In s f.blown → IsGivenUpAt s ⊎ IsBlownSet expression p comps rows c s
 
   pub record AreFoundLists (f : FoundLists) : Type 0 where

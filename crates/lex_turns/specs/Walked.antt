@@ -12,7 +12,7 @@ use Rattle.termination_model.specs.Modes.{chosen_up_to}
 use Rattle.level_systems.specs.Found.{IsBlownSet, had}
 use Rattle.level_systems.specs.Subsequences.{AreOnce, IsSubsequence}
 use Rattle.level_dual.specs.Walk.{IsWalked}
-use Rattle.lex_turns.specs.FoundLists.{HasList, IsDescendingList, IsGivenUpAt, IsLong, support_of_list}
+use Rattle.lex_turns.specs.FoundLists.{HasList, IsDescendingList, IsLong, MayBeMissing, support_of_list}
 use Rattle.lex_turns.specs.declared.measure_list.MeasureList.{MeasureList}
 use Rattle.lex_turns.specs.declared.walked.Walked.{Walked}
 
@@ -32,7 +32,7 @@ module _ (expression : ℕ → Tree → List ℤ) (p : Listing) (comps : Partiti
     pub single : AllByRecursion IsSingle w.lists
     pub found_order : IsSubsequence w.found order
     pub blown_order : IsSubsequence w.blown order
-    pub given_up : (s : List ℕ) → In s w.blown → IsGivenUpAt expression p comps rows c s
+    pub given_up : (s : List ℕ) → In s w.blown → MayBeMissing expression p comps rows c s
     pub once : AreOnce w.blown
     pub apart : (s : List ℕ) → In s w.blown → IsAbove w.found s → ⊥
 

@@ -6,8 +6,7 @@ ghost use Rattle.level_systems.specs.Found.{count, full};
 ghost use Rattle.level_systems.specs.Held.{spelled};
 ghost use Rattle.level_systems.specs.Searched.{IsSound};
 ghost use Rattle.level_systems.specs.Subsequences.{AreOnce};
-ghost use Rattle.lex_turns.specs.Found.{IsUnmapped};
-ghost use Rattle.lex_turns.specs.FoundLists.{AreFoundLists, is_used, mappings_of, support_of_list};
+ghost use Rattle.lex_turns.specs.FoundLists.{AreFoundLists, IsUnmapped, is_used, mappings_of, support_of_list};
 ghost use Rattle.lex_turns.specs.Large.{IsHadList, IsLeftOut, IsShorterThan};
 
 use crate::found_lists::FoundLists;

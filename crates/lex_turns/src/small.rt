@@ -4,7 +4,7 @@ ghost use Rattle.std.specs.Prelude.{◌≡◌, ◌↔◌, ◌<◌, ◌^◌, ◌+
 ghost use Rattle.level_dual.specs.Components.{ForComponent};
 ghost use Rattle.level_systems.specs.Found.{count};
 ghost use Rattle.level_systems.specs.Searched.{IsSound};
-ghost use Rattle.lex_turns.specs.FoundLists.{AreFoundLists, HasList, IsGivenUpAt};
+ghost use Rattle.lex_turns.specs.FoundLists.{AreFoundLists, HasList, MayBeMissing};
 ghost use Rattle.linear_rows.specs.Step.{columns};
 
 use crate::found_lists::FoundLists;
@@ -30,7 +30,7 @@ pub(crate) fn find_small(
     requires small { length component.now.positions.items + 1 < 2 ^ 32 }
     ensures { IfOk result (λ f. ForComponent p.now component.now (λ expression comps rows c.
         IsTrue false ↔ (12 < count expression p.now comps rows c) → (given_up ≡ true
-        → IsGivenUpAt expression p.now comps rows c full)
+        → MayBeMissing expression p.now comps rows c full)
         → (given_up ≡ false → ((s : List ℕ) → HasList expression p.now comps rows c s → ⊥) → ⊥)
         → AreFoundLists expression p.now comps rows c f)) }
 {

@@ -13,7 +13,7 @@ use Rattle.lex_turns.specs.Descending.{IsGivenUp, positions_at}
 use Rattle.termination_model.specs.ComponentViews.{component_view}
 use Rattle.termination_model.specs.Ready.{arity_in}
 use Rattle.lex_turns.specs.Found.{IsEndedAt, IsListIn, IsVoid}
-use Rattle.lex_turns.specs.FoundLists.{IsGivenUpAt}
+use Rattle.lex_turns.specs.FoundLists.{IsGivenUpAt, IsUnmapped, MayBeMissing}
 use Rattle.level_systems.specs.Found.{full as full_of}
 use Rattle.lex_turns.proofs.ListCases.{not_found_are}
 use Rattle.lex_turns.proofs.ListWalk.{full_same, large_told}
@@ -80,8 +80,10 @@ returns-in-Refuted g c =
     subst (λ (gs : List Bool). IsStopped e p comps rows r x at2 gs) (sym c.as_slice-in-Refuted-2.ensures.value) (subst (λ (ps : List Position). IsStopped e p comps rows r x ps c.in-Refuted.gone.items) same_at ended.0) in
     let there2 : map spelled at2 ≡ positions_at e p comps rows r (columns 1 (length x.positions.items)) = ap (map spelled) (sym same_at) ∙ there ∙ ap (positions_at e p comps rows r) full in
     let large = large_told size truth e p comps rows r x h c.is_large-large.result c.as_slice-in-Refuted-3.result.now c.is_large-large.ensures c.as_slice-in-Refuted-3.ensures.value c.is_large-large.result refl in
-    let given : c.in_ok-stuck-in-Refuted.stuck ≡ None → IsGivenUpAt e p comps rows r (full_of e p comps rows r) = λ none.
-    subst (IsGivenUp e (component_view e p comps rows r) (arity_in p)) (there2 ∙ ap (positions_at e p comps rows r) all)
-    (c.in_ok-stuck-in-Refuted.ensures.given_up none comps r h (all_at size truth e p comps rows r x h at2 there2) stopped) in
+    let given : c.in_ok-stuck-in-Refuted.stuck ≡ None → MayBeMissing e p comps rows r (full_of e p comps rows r) = λ none. (
+      subst (IsGivenUp e (component_view e p comps rows r) (arity_in p)) (there2 ∙ ap (positions_at e p comps rows r) all)
+          (c.in_ok-stuck-in-Refuted.ensures.given_up none comps r h (all_at size truth e p comps rows r x h at2 there2) stopped),
+      subst (IsUnmapped e p comps rows r) (c.requires.full ∙ all) unmapped,
+    ) in
     not_found_are e p comps rows r c.is_large-large.result large (subst (IsVoid e p comps rows r) (full ∙ all) ended.1) c.args.full (c.requires.full ∙ all) c.in_ok-stuck-in-Refuted.stuck
     (c.in_ok-stuck-in-Refuted.ensures.stuck comps r h stopped) given f is) c.not_found.ensures

@@ -11,11 +11,11 @@ returns-then-is_large c =
     let x = c.args.component.now in
     let large = large_told size truth expression p comps rows r x h c.is_large.result c.as_slice.result.now c.is_large.ensures c.as_slice.ensures.value true c.if-is_large.true in
     let full = c.requires.full ∙ full_same size truth expression p comps rows r x h in
-    given_up_are expression p comps rows r true large (inl refl) c.args.full full given f is) c.not_found.ensures
+    given_up_are expression p comps rows r true large (inl refl) c.args.full full (given, unmapped) f is) c.not_found.ensures
 
 pub returns : goal.returns
 returns c =
     if_ok c.find_small.result (λ f is. λ size truth expression comps rows r h unmapped given.
     let p = c.args.p.now in
     let large = large_told size truth expression p comps rows r c.args.component.now h c.is_large.result c.as_slice.result.now c.is_large.ensures c.as_slice.ensures.value false c.if-is_large.false in
-    is size truth expression comps rows r h large (λ yes. given) (λ no none. cc)) c.find_small.ensures
+    is size truth expression comps rows r h large (λ yes. (given, unmapped)) (λ no none. cc)) c.find_small.ensures

@@ -1,7 +1,7 @@
 use Rattle.std.proofs.Common.{true, false, subst, ◌∙◌}
 use Rattle.termination_model.specs.ComponentViews.{positions_in}
 use Rattle.level_dual.proofs.Results.{if_ok}
-use Rattle.lex_turns.specs.Found.{IsUnmapped}
+use Rattle.lex_turns.specs.FoundLists.{IsUnmapped}
 use Rattle.lex_turns.specs.FoundLists.{support_of_list}
 use Rattle.lex_turns.proofs.ListWalk.{full_same, large_told}
 use Rattle.lex_turns.proofs.deciding.of_list.Goals as goal

@@ -1,4 +1,4 @@
-use Rattle.std.proofs.Common.{◌≡◌, ◌<◌, ◌↔◌, ℕ, IsTrue, length, ap, sym, subst, ◌∙◌}
+use Rattle.std.proofs.Common.{◌≡◌, ◌<◌, ◌↔◌, inl, ℕ, IsTrue, length, ap, sym, subst, ◌∙◌}
 use Rattle.std.specs.Prelude.{IfSome}
 use Rattle.std.proofs.lemmas.List.{length-map}
 use Rattle.linear_rows.specs.Step.{columns}
@@ -6,6 +6,7 @@ use Rattle.termination_model.specs.Sizes.{rows_of}
 use Rattle.level_systems.specs.Found.{count}
 use Rattle.level_systems.specs.Held.{spelled}
 use Rattle.level_systems.specs.Searched.{IsComponent}
+use Rattle.level_dual.proofs.BlownSets.{all_blown}
 use Rattle.level_dual.proofs.Results.{if_ok}
 use Rattle.lex_turns.proofs.GivenUpSets.{all_given_up}
 use Rattle.lex_turns.proofs.ListCases.{undecided_are}
@@ -21,7 +22,7 @@ returns-in_default g c =
     let long : length items ≡ count e p comps rows c.args.c = sym (length-map items spelled) ∙ ap length c.in_ok-positions.ensures in
     let large = subst (λ (n : ℕ). IsTrue c.is_large-large.result ↔ (12 < n)) (ap length c.as_slice.ensures.value ∙ long) c.is_large-large.ensures in
     let full : c.in_ok-full.full ≡ columns 1 (count e p comps rows c.args.c) = c.in_ok-full.ensures.numbers ∙ ap (columns 1) (c.count_of.ensures ∙ ap length c.as_slice-2.ensures.value ∙ long) in
-    if_ok c.nothing_decided.result (λ f is. undecided_are e p comps rows c.args.c c.is_large-large.result large (all_given_up e p comps rows c.args.c (c.in_ok-component.ensures.given_up c.in_default.is)) c.in_ok-full.full full f is) c.nothing_decided.ensures
+    if_ok c.nothing_decided.result (λ f is. undecided_are e p comps rows c.args.c c.is_large-large.result large (λ s. let w = c.in_ok-component.ensures.given_up c.in_default.is in (all_given_up e p comps rows c.args.c w s, inl (all_blown e p comps rows c.args.c w s))) c.in_ok-full.full full f is) c.nothing_decided.ensures
 
 pub find-requires-clause-full : goal.find-requires-clause-full
 find-requires-clause-full g c =

@@ -30,6 +30,8 @@ returns-in-Nothing c = λ size truth expression comps rows r h i at void w.
 
 pub returns-in_ok-push-in-GivenUp : goal.returns-in_ok-push-in-GivenUp
 returns-in_ok-push-in-GivenUp c = λ size truth expression comps rows r h i at void w.
-    given_up_on size truth expression c.args.p.now comps rows r c.args.component.now h i c.args.set.now c.args.walked.now at w (sym c.is_passed.ensures ∙ c.if-is_passed.false)
-    (subst (IsWithin expression c.args.p.now comps rows r c.args.set.now) c.in-GivenUp.is (c.in_ok-list.ensures.within size truth expression comps rows r h)) c.push-in-GivenUp.new.self
+    given_up_on size truth expression c.args.p.now comps rows r c.args.component.now h i c.args.set.now c.args.walked.now at w (sym c.is_passed.ensures ∙ c.if-is_passed.false) (
+      subst (IsWithin expression c.args.p.now comps rows r c.args.set.now) c.in-GivenUp.is (c.in_ok-list.ensures.within size truth expression comps rows r h),
+      subst (IsChosen expression c.args.p.now comps rows r c.args.set.now) c.in-GivenUp.is (c.in_ok-list.ensures.chosen size truth expression comps rows r h),
+    ) c.push-in-GivenUp.new.self
     (c.in_ok-push-in-GivenUp.ensures.ok ∙ (λ j. c.args.walked.now.blown ++ c.in_ok-copied-in-GivenUp.ensures j ∷ []))
