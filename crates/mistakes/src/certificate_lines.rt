@@ -1,5 +1,7 @@
 //! Lines of certificates that are not facts, or not as they have to be.
 
+use crate::fact_look::fact_mistake;
+use crate::fact_mistake::FactMistake;
 use crate::mistake::Mistake;
 use crate::mode_numbers::ModeNumbers;
 
@@ -26,14 +28,35 @@ fn has_minus(text: &[u8]) -> bool {
     text.contains(&b'-')
 }
 
+/// Whether a line of a text is that of a certificate's version.
+fn has_version(text: &[u8]) -> bool {
+    text.split(|byte| *byte == b'\n')
+        .any(|line| line.starts_with(b"cti("))
+}
+
+/// What the text of a certificate shows as a whole, whose line of this number, counted from 1, is not a fact.
+pub fn beginning_mistake<'a>(text: &[u8], number: u64) -> Option<Mistake<'a>> {
+    if text.starts_with(b"ctilex(") {
+        Some(Mistake::Fact(FactMistake::OfLists))
+    } else if number == 1 && !has_version(text) {
+        Some(Mistake::Fact(FactMistake::NoBeginning))
+    } else {
+        None
+    }
+}
+
 /// What a line of a certificate shows that is not a fact.
-pub fn line_mistake<'a>(line: &[u8], is_unended: bool) -> Option<Mistake<'a>> {
+pub fn line_mistake<'a>(line: &'a [u8], is_unended: bool) -> Option<Mistake<'a>> {
     if line.ends_with(b"\r") {
         Some(Mistake::CarriageReturn)
     } else if line.is_empty() {
         Some(Mistake::EmptyLine)
+    } else if line.starts_with(b"%") || line.starts_with(b"/*") {
+        Some(Mistake::Fact(FactMistake::Comment))
     } else if NATURAL.iter().any(|name| line.starts_with(name)) && has_minus(after_name(line)) {
         Some(Mistake::Negative)
+    } else if let Some(mistake) = fact_mistake(line) {
+        Some(Mistake::Fact(mistake))
     } else if is_unended && line.ends_with(b").") {
         Some(Mistake::NoNewline)
     } else {

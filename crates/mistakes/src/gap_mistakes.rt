@@ -2,7 +2,8 @@
 
 use crate::mistake::Mistake;
 use crate::searching::may_declare;
-use crate::word_reader::shown_name;
+use crate::word_reader::{WordReader, shown_name};
+use prolog_tokens::TokenKind;
 
 /// A place after a whole term, in a text.
 #[derive(Clone, Copy)]
@@ -16,17 +17,17 @@ pub struct Gap<'a> {
 }
 
 /// The longest run of symbols that is shown.
-const MOST_SYMBOLS: usize = 16;
+pub(crate) const MOST_SYMBOLS: usize = 16;
 
 /// The operators that consist of symbols and can follow a term.
-const INFIX: [&[u8]; 31] = [
+pub(crate) const INFIX: [&[u8]; 31] = [
     b":-", b"-->", b"->", b"=", b"\\=", b"==", b"\\==", b"@<", b"@=<", b"@>", b"@>=", b"=..",
     b"=:=", b"=\\=", b"<", b"=<", b">", b">=", b"+", b"-", b"/\\", b"\\/", b"*", b"/", b"//",
     b"<<", b">>", b"**", b"^", b".", b"",
 ];
 
 /// Whether a byte is one of the symbols that operators consist of.
-fn is_symbol(byte: u8) -> bool {
+pub(crate) fn is_symbol(byte: u8) -> bool {
     b"#$&*+-./:<=>?@^~\\".contains(&byte)
 }
 
@@ -95,10 +96,46 @@ fn symbol_mistake<'a>(gap: Gap<'a>, symbols: &'a [u8]) -> Option<Mistake<'a>> {
     {
         return None;
     }
-    if symbols == b":".as_slice() {
-        return colon_mistake(gap.before, gap.after);
+    match symbols {
+        b":" => colon_mistake(gap.before, gap.after),
+        b"*->" => Some(Mistake::SoftCut),
+        _ => Some(Mistake::NoOperator(shown_name(symbols)?)),
     }
-    Some(Mistake::NoOperator(shown_name(symbols)?))
+}
+
+/// Whether a text ends in `not` where this stands before another word.
+fn is_not(gap: Gap<'_>) -> bool {
+    let before = gap.before.trim_ascii_end();
+    match gap.after {
+        [next, ..] => {
+            before.len() < gap.before.len()
+                && is_word(*next)
+                && last_word(before) == b"not".as_slice()
+        }
+        [] => false,
+    }
+}
+
+/// Whether a bracket that is open at the front of a text is closed before the clause ends.
+pub fn is_closed_later(text: &[u8]) -> bool {
+    let mut reader = WordReader::new(text, 0);
+    let mut depth = 0u32;
+    for _ in 0..reader.most() {
+        let Some(word) = reader.next() else {
+            return false;
+        };
+        if word.opens() {
+            depth = depth.saturating_add(1);
+        } else if word.closes() {
+            if depth == 0 {
+                return true;
+            }
+            depth = depth.saturating_sub(1);
+        } else if word.kind == TokenKind::End {
+            return false;
+        }
+    }
+    false
 }
 
 /// What the text shows at a place after a whole term, where the clause cannot go on.
@@ -109,6 +146,9 @@ pub fn gap_mistake<'a>(gap: Gap<'a>) -> Option<Mistake<'a>> {
     }
     if let Some(mistake) = variable_name(gap.before, gap.after) {
         return Some(mistake);
+    }
+    if is_not(gap) {
+        return Some(Mistake::NotOperator);
     }
     symbol_mistake(gap, symbols)
 }

@@ -18,6 +18,10 @@ pub(crate) struct GoalLook<'a> {
     pub(crate) has_grammar_arrow: bool,
     /// Whether the first goal compares terms.
     pub(crate) has_test: bool,
+    /// Whether the first goal makes a term of a list.
+    pub(crate) has_univ: bool,
+    /// Whether there is the neck of a clause.
+    pub(crate) has_neck: bool,
 }
 
 /// Whether a name compares terms, and binds nothing.
@@ -40,6 +44,8 @@ impl<'a> GoalLook<'a> {
             has_arrow: false,
             has_grammar_arrow: false,
             has_test: false,
+            has_univ: false,
+            has_neck: false,
         };
         let mut reader = WordReader::new(text, at);
         for _ in 0..reader.most() {
@@ -117,6 +123,8 @@ impl<'a> GoalLook<'a> {
                 self.is_first_goal = false;
             }
             b"-->" => self.has_grammar_arrow = true,
+            b":-" => self.has_neck = true,
+            b"=.." => self.has_univ = self.has_univ || self.is_first_goal,
             _ => self.has_test = self.has_test || (self.is_first_goal && is_test(name)),
         }
     }

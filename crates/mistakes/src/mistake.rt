@@ -1,5 +1,6 @@
 //! The usual mistakes, and what to do about each.
 
+use crate::fact_mistake::FactMistake;
 use crate::mode_numbers::ModeNumbers;
 use thiserror::Error;
 
@@ -12,8 +13,24 @@ pub enum Mistake<'a> {
     SplitNeck,
     #[error("`{0}` is no operator here: correct it, or declare it with `:- op(..)`")]
     NoOperator(&'a str),
+    #[error("no term stands before `{0}`: a term is missing, or `{0}` is one too many")]
+    NoLeft(&'a str),
     #[error("does the clause before end with a comma in place of its dot?")]
     CommaForDot,
+    #[error("does the clause before end with `;` in place of its dot?")]
+    SemicolonForDot,
+    #[error("a clause has one `:-`: is a dot missing before this one's head?")]
+    SecondNeck,
+    #[error("a `{0}` is missing before `:-`")]
+    Unclosed(char),
+    #[error("put the term that has `:-` in parentheses of its own")]
+    NeckInTerm,
+    #[error("a list has one `|`, and one term after it: `[a,b|T]`")]
+    SecondBar,
+    #[error("`|` stands in lists alone: write `;` for it")]
+    BarOutside,
+    #[error("a comment begins with `%`, or stands between `/*` and `*/`")]
+    Comment,
     #[error("a name begins with a small letter: `{0}` is a variable")]
     VariableName(&'a str),
     #[error("no `{0}` is open here: one `{1}` too many")]
@@ -32,8 +49,12 @@ pub enum Mistake<'a> {
     Cut,
     #[error("write `(C,A ; B)` for `(C -> A ; B)`: modes with the comma hold with the arrow")]
     IfThenElse,
+    #[error("write `(C,A ; B)` for `(C *-> A ; B)`: modes with the comma hold with the arrow")]
+    SoftCut,
     #[error("write `(G,fail ; true)` for `\\+ G`: modes with it hold for the negation")]
     Negation,
+    #[error("`not` is no operator here: write `(G,fail ; true)` for `not G`")]
+    NotOperator,
     #[error("write `(G,fail ; true)` for `findall(T,G,L)` and its like: their lists stay unknown")]
     AllSolutions,
     #[error("leave it out: modes without it hold with it")]
@@ -44,14 +65,36 @@ pub enum Mistake<'a> {
     Call,
     #[error("write the facts into the file: clauses are not added or removed while a query runs")]
     Assert,
+    #[error("leave it out: modes without it hold with it, and what it binds stays unknown")]
+    Unknown,
+    #[error("write the goal itself: no goal of a pure program raises an error")]
+    Catch,
+    #[error("write `fail` for it: the derivation ends there")]
+    Exit,
+    #[error("leave it out, with what relies on it: no query that calls it ends")]
+    Repeat,
+    #[error("write `X = Y` for `unify_with_occurs_check(X,Y)`: that is what `=` does here")]
+    Unify,
+    #[error("a number is no goal: name a predicate")]
+    NumberGoal,
     #[error("leave out `?-`")]
     Prompt,
+    #[error("a query is no clause: write its goals alone")]
+    ClauseAsQuery,
+    #[error("leave it out: a query calls predicates of the program, `=`, `is` and comparisons of integers")]
+    QueryGoal,
     #[error("a query has no branches: run each of them by itself")]
     Branches,
     #[error("run its goal by itself")]
     GoalAlone,
     #[error("a head has no comma outside parentheses: does a clause end with a comma in place of its dot?")]
     CommaInHead,
+    #[error("a head has no `;` outside parentheses: does a clause end with `;` in place of its dot?")]
+    SemicolonInHead,
+    #[error("write `:-` for `->` between a head and its body")]
+    ArrowInHead,
+    #[error("a head has no negation: clauses say what holds")]
+    NegatedHead,
     #[error("run it with `cti run {file} '{query}'`")]
     QueryInFile {
         file: &'a str,
@@ -63,6 +106,8 @@ pub enum Mistake<'a> {
     BackQuote,
     #[error("save the file as UTF-8")]
     NotText,
+    #[error("this is no text: name the file of a program, and save it as UTF-8")]
+    Binary,
     #[error("delete this control character")]
     ControlByte,
     #[error("write a plain space, quote or dash: this character is none of them")]
@@ -79,6 +124,8 @@ pub enum Mistake<'a> {
     Negative,
     #[error("leave out the empty line")]
     EmptyLine,
+    #[error("{0}")]
+    Fact(FactMistake<'a>),
     #[error("the numbers of a mode ascend: `{0}`")]
     ModeOrder(ModeNumbers),
     #[error("the first file is a certificate: the two files may be exchanged")]

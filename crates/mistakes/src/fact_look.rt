@@ -1,0 +1,190 @@
+//! Lines of certificates, read token by token.
+
+use crate::fact_forms::{FactForm, form_of};
+use crate::fact_mistake::FactMistake;
+use crate::word_reader::{Word, WordReader, shown_name};
+use prolog_tokens::TokenKind;
+
+/// The most arguments of a predicate.
+const MOST_ARGUMENTS: i128 = 12;
+
+/// A fact whose parts are looked at.
+#[derive(Clone, Copy)]
+struct FactLook<'a> {
+    form: FactForm,
+    /// How many brackets are open within the fact's parentheses.
+    depth: u32,
+    /// The number of the part, from 0.
+    part: u32,
+    /// The token before.
+    before: Option<Word<'a>>,
+    /// What is wrong, where something is.
+    found: Option<FactMistake<'a>>,
+}
+
+/// Whether a name stands without quotes.
+fn is_plain(name: &[u8]) -> bool {
+    match name {
+        b"[]" => true,
+        [first, ..] => {
+            first.is_ascii_lowercase()
+                && name
+                    .iter()
+                    .all(|byte| byte.is_ascii_alphanumeric() || *byte == b'_')
+        }
+        [] => false,
+    }
+}
+
+/// What is between the quotes of a name.
+fn unquoted(text: &[u8]) -> &[u8] {
+    let end = text.len().saturating_sub(1);
+    text.get(1..end).unwrap_or(&[])
+}
+
+/// A decimal number without the zeros that it begins with, where there are such.
+fn without_zeros(digits: &[u8]) -> Option<&[u8]> {
+    let last = digits.len().checked_sub(1)?;
+    if last == 0 || !digits.iter().all(|byte| byte.is_ascii_digit()) {
+        return None;
+    }
+    let zeros = digits.iter().take_while(|byte| **byte == b'0').count();
+    if zeros == 0 {
+        return None;
+    }
+    digits.get(zeros.min(last)..)
+}
+
+impl<'a> FactLook<'a> {
+    /// Takes the next token, and answers whether there is more to look at.
+    fn take(&mut self, word: Word<'a>) -> bool {
+        if word.opens() {
+            self.depth = self.depth.saturating_add(1);
+        } else if word.closes() {
+            if self.depth == 0 {
+                self.end_part();
+                self.end();
+                return false;
+            }
+            self.depth = self.depth.saturating_sub(1);
+        } else if word.kind == TokenKind::Comma {
+            if self.depth == 0 {
+                self.end_part();
+                self.part = self.part.saturating_add(1);
+            }
+        } else {
+            self.found = self.mistake_in(word);
+        }
+        self.before = Some(word);
+        self.found.is_none()
+    }
+
+    /// Takes the end of a part.
+    fn end_part(&mut self) {
+        if self.part == self.form.pred
+            && let Some(before) = self.before
+            && before.is_name()
+        {
+            self.found = Some(FactMistake::Arity);
+        }
+    }
+
+    /// Takes the end of the fact.
+    fn end(&mut self) {
+        let found = self.part.saturating_add(1);
+        if self.found.is_none() && found != self.form.parts {
+            self.found = Some(FactMistake::Parts {
+                name: self.form.name,
+                wanted: self.form.parts,
+                found,
+            });
+        }
+    }
+
+    /// Whether it is of this name.
+    fn is_of(&self, name: &str) -> bool {
+        self.form.name == name
+    }
+
+    /// Whether the part under way is a predicate.
+    fn is_pred(&self) -> bool {
+        self.depth == 0 && self.part == self.form.pred
+    }
+
+    /// Whether the part under way is a list of modes.
+    fn is_modes(&self) -> bool {
+        self.part == 1 && (self.is_of("terminates") || self.is_of("blown"))
+    }
+
+    /// Whether an argument of a row of truth values is under way.
+    fn is_cell(&self) -> bool {
+        self.depth == 1 && (self.is_of("grounds") || self.is_of("pre"))
+    }
+
+    /// What a token shows that is no bracket and no comma.
+    fn mistake_in(&self, word: Word<'a>) -> Option<FactMistake<'a>> {
+        if self.is_of("norm") && !matches!(word.text, b"term" | b"list") {
+            return Some(FactMistake::Norm);
+        }
+        match word.kind {
+            TokenKind::Int(number) => self.number_mistake(word, number),
+            TokenKind::Quoted if is_plain(unquoted(word.text)) => {
+                Some(FactMistake::Quotes(shown_name(unquoted(word.text))?))
+            }
+            TokenKind::Var if self.is_pred() => Some(FactMistake::NoQuotes(shown_name(word.text)?)),
+            TokenKind::Var if self.is_cell() => Some(FactMistake::Cell),
+            TokenKind::Name if self.is_cell() && word.text != b"x".as_slice() => {
+                Some(FactMistake::Cell)
+            }
+            _ => None,
+        }
+    }
+
+    /// What a number shows.
+    fn number_mistake(&self, word: Word<'a>, number: i128) -> Option<FactMistake<'a>> {
+        if let Some(rest) = without_zeros(word.text) {
+            return Some(FactMistake::LeadingZero(shown_name(rest)?));
+        }
+        let is_counted = self.form.first <= self.part && self.part < self.form.end;
+        if self.is_pred() && number > MOST_ARGUMENTS {
+            Some(FactMistake::ManyArguments)
+        } else if self.is_cell() && number != 0 && number != 1 {
+            Some(FactMistake::Cell)
+        } else if self.is_modes() && self.depth == 1 {
+            Some(FactMistake::Mode)
+        } else if self.is_modes() && self.depth > 1 && number == 0 {
+            Some(FactMistake::Argument)
+        } else if self.depth == 0 && is_counted && number == 0 {
+            Some(FactMistake::Number(self.form.name))
+        } else {
+            None
+        }
+    }
+}
+
+/// What a line of a certificate shows that is no fact.
+pub(crate) fn fact_mistake<'a>(line: &'a [u8]) -> Option<FactMistake<'a>> {
+    let mut reader = WordReader::new(line, 0);
+    let name = reader.next()?;
+    let Some(form) = form_of(name.text) else {
+        return Some(FactMistake::Name(shown_name(name.text)?));
+    };
+    let open = reader.next()?;
+    if !open.opens_arguments(name) {
+        return None;
+    }
+    let mut look = FactLook {
+        form,
+        depth: 0,
+        part: 0,
+        before: None,
+        found: None,
+    };
+    for _ in 0..reader.most() {
+        match reader.next() {
+            Some(word) if look.take(word) => {}
+            _ => break,
+        }
+    }
+    look.found
+}
