@@ -9,8 +9,9 @@ use crate::texts::Texts;
 use crate::told::Subject;
 use crate::trouble::Trouble;
 use mistakes::{
-    Mistake, argument_mistake, byte_mistake, goal_mistake, head_mistake, is_certificate,
-    line_mistake, mode_mistake, program_mistake, query_in_file, variable_mistake,
+    Mistake, argument_mistake, beginning_mistake, byte_mistake, goal_mistake, head_mistake,
+    is_certificate, line_mistake, mode_mistake, program_mistake, query_in_file, standing_mistake,
+    variable_mistake,
 };
 use std::alloc::{AllocError, Global};
 
@@ -37,6 +38,9 @@ fn syntax_advice<'a>(
 fn fact_mistake<'a>(place: Place<'_>, texts: Texts<'a>) -> Option<Mistake<'a>> {
     if is_certificate(texts.program) && !is_certificate(texts.told) {
         return Some(Mistake::Exchanged);
+    }
+    if let Some(mistake) = beginning_mistake(texts.told, place.line) {
+        return Some(mistake);
     }
     let line = line_of(texts.told, place.line)?;
     let is_last = line_of(texts.told, place.line.saturating_add(1)).is_none();
@@ -80,8 +84,13 @@ fn certificate_mistake<'a>(
     if let Some(mistake) = program_mistake(texts.program, texts.told) {
         return Some(mistake);
     }
+    let line = line_of(texts.told, place.line)?;
     match reason {
-        NoReason::Shape => mode_mistake(line_of(texts.told, place.line)?),
+        NoReason::Shape => mode_mistake(line),
+        NoReason::Extra => {
+            let before = line_of(texts.told, place.line.saturating_sub(1));
+            standing_mistake(texts.told, place.line, before, line)
+        }
         _ => None,
     }
 }

@@ -2,7 +2,7 @@
 
 use crate::scan::{Last, Scan, is_symbol};
 use crate::told::Subject;
-use mistakes::{Gap, Mistake, gap_mistake};
+use mistakes::{Gap, Mistake, gap_mistake, is_closed_later, start_mistake};
 use std::alloc::{AllocError, Global};
 use thiserror::Error;
 
@@ -124,12 +124,17 @@ fn end_fault<'a>(subject: Subject, before: &[u8]) -> Expected<'a> {
 }
 
 /// What was expected where a term begins.
-fn expected_term<'a>(before: &[u8], next: u8) -> Expected<'a> {
-    if before == b"#".as_slice() && next == b'!' {
-        Expected::Mistake(Mistake::ScriptLine)
-    } else {
-        Expected::Term
+fn expected_term<'a>(scan: &Scan, gap: Gap<'a>, next: u8) -> Expected<'a> {
+    if gap.before == b"#".as_slice() && next == b'!' {
+        return Expected::Mistake(Mistake::ScriptLine);
     }
+    if scan.last == Last::Opening
+        && scan.earlier == Last::Opening
+        && let Some(mistake) = start_mistake(gap)
+    {
+        return Expected::Mistake(mistake);
+    }
+    Expected::Term
 }
 
 /// The bracket that one closes, where none is open.
@@ -142,19 +147,72 @@ fn closer_mistake<'a>(next: u8) -> Option<Mistake<'a>> {
     }
 }
 
-/// Whether the clause before ends with a comma and a line's end, and the next one's neck stands here.
-fn is_comma_for_dot(scan: &Scan, after: &[u8]) -> bool {
-    let begins = after.starts_with(b":-") || after.starts_with(b"-->");
-    begins && scan.open.is_empty() && scan.clause.has_neck && scan.clause.ends_line
+/// What a second neck shows, outside brackets: the clause before may end with a comma or `;` and a line's end.
+fn second_neck<'a>(scan: &Scan, after: &[u8]) -> Option<Mistake<'a>> {
+    if !scan.clause.has_neck {
+        return None;
+    }
+    match scan.clause.joint {
+        b',' if scan.clause.ends_line => Some(Mistake::CommaForDot),
+        b';' if scan.clause.ends_line => Some(Mistake::SemicolonForDot),
+        _ if after.starts_with(b":-") => Some(Mistake::SecondNeck),
+        _ => None,
+    }
+}
+
+/// What a neck shows within a bracket.
+fn inner_neck<'a>(bracket: u8, after: &[u8]) -> Mistake<'a> {
+    if is_closed_later(after) {
+        return Mistake::NeckInTerm;
+    }
+    match bracket {
+        b'[' => Mistake::Unclosed(']'),
+        b'{' => Mistake::Unclosed('}'),
+        _ => Mistake::Unclosed(')'),
+    }
+}
+
+/// What a neck shows that cannot stand here.
+fn neck_mistake<'a>(scan: &Scan, after: &[u8]) -> Option<Mistake<'a>> {
+    if !after.starts_with(b":-") && !after.starts_with(b"-->") {
+        return None;
+    }
+    match scan.open.last() {
+        Some(bracket) if after.starts_with(b":-") => Some(inner_neck(*bracket, after)),
+        Some(_) => None,
+        None => second_neck(scan, after),
+    }
+}
+
+/// What a comma or a bar shows that cannot stand here.
+fn bar_mistake<'a>(scan: &Scan, next: u8) -> Option<Mistake<'a>> {
+    match (scan.open.last(), next) {
+        (Some(b'['), b',' | b'|') => Some(Mistake::SecondBar),
+        (_, b'|') => Some(Mistake::BarOutside),
+        _ => None,
+    }
+}
+
+/// A mistake as it is in a query, or in a head.
+fn told_there<'a>(scan: &Scan, subject: Subject, mistake: Mistake<'a>) -> Mistake<'a> {
+    match mistake {
+        Mistake::NotOperator if subject == Subject::Query => Mistake::GoalAlone,
+        Mistake::NotOperator if !scan.clause.has_neck => Mistake::NegatedHead,
+        Mistake::SoftCut if subject == Subject::Query => Mistake::Branches,
+        _ => mistake,
+    }
 }
 
 /// The mistake that the text shows after a whole term.
-fn mistake_after<'a>(scan: &Scan, gap: Gap<'a>, next: u8) -> Option<Mistake<'a>> {
+fn mistake_after<'a>(scan: &Scan, subject: Subject, gap: Gap<'a>, next: u8) -> Option<Mistake<'a>> {
     if let Some(mistake) = gap_mistake(gap) {
+        return Some(told_there(scan, subject, mistake));
+    }
+    if let Some(mistake) = neck_mistake(scan, gap.after) {
         return Some(mistake);
     }
-    if is_comma_for_dot(scan, gap.after) {
-        return Some(Mistake::CommaForDot);
+    if let Some(mistake) = bar_mistake(scan, next) {
+        return Some(mistake);
     }
     if scan.open.is_empty() {
         closer_mistake(next)
@@ -165,7 +223,7 @@ fn mistake_after<'a>(scan: &Scan, gap: Gap<'a>, next: u8) -> Option<Mistake<'a>>
 
 /// What was expected after a whole term.
 fn expected_after<'a>(scan: &Scan, subject: Subject, gap: Gap<'a>, next: u8) -> Expected<'a> {
-    if let Some(mistake) = mistake_after(scan, gap, next) {
+    if let Some(mistake) = mistake_after(scan, subject, gap, next) {
         return Expected::Mistake(mistake);
     }
     if is_symbol(next) && next != b'.' {
@@ -185,7 +243,7 @@ fn expected_between<'a>(scan: &Scan, subject: Subject, gap: Gap<'a>) -> Expected
         return end_fault(subject, gap.before);
     };
     if scan.last != Last::Operand || ends_in_word(gap.before) {
-        return expected_term(gap.before, *next);
+        return expected_term(scan, gap, *next);
     }
     expected_after(scan, subject, gap, *next)
 }

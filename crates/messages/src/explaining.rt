@@ -49,10 +49,19 @@ fn cause_of<R: Files>(rt: &R, name: &str) -> Option<FileCause> {
     }
 }
 
+/// The cause, with whether a query stands in the place of the file that is missing.
+fn cause_with_query<R: Files>(rt: &R, words: Words<'_>, cause: FileCause) -> FileCause {
+    if cause == FileCause::Missing && words.has_query() && is_lasting(rt, words.second()) {
+        FileCause::Exchanged
+    } else {
+        cause
+    }
+}
+
 /// Which file could not be loaded, and why: the program's, unless only the certificate's shows a cause.
 fn file_trouble<'a, R: Files>(rt: &R, words: Words<'a>) -> Trouble<'a> {
     if let Some(cause) = cause_of(rt, words.file()) {
-        return Trouble::File(words.file(), cause);
+        return Trouble::File(words.file(), cause_with_query(rt, words, cause));
     }
     if words.has_certificate()
         && let Some(cause) = cause_of(rt, words.second())

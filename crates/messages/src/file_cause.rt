@@ -8,6 +8,9 @@ use thiserror::Error;
 pub enum FileCause {
     #[error("there is no such file")]
     Missing,
+    /// It is missing, and the word for a query is a file's name.
+    #[error("there is no such file")]
+    Exchanged,
     #[error("permission denied")]
     Denied,
     #[error("this is a directory")]
@@ -32,6 +35,7 @@ impl FileCause {
         match self {
             FileCause::Missing =>
                 "look at the name's spelling and at the directory that you are in",
+            FileCause::Exchanged => "the file comes before the query: the two may be exchanged",
             FileCause::Denied => "ask for the right to read it",
             FileCause::Directory => "name a file in it",
             FileCause::Failed => "try again, and look whether the disk works",

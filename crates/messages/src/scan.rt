@@ -30,7 +30,7 @@ pub struct Scan {
     pub open: Vec<u8>,
     pub last: Last,
     /// What stood last before the run of symbols that stands last.
-    earlier: Last,
+    pub earlier: Last,
     mode: Mode,
     /// The byte before.
     before: u8,
@@ -45,10 +45,12 @@ pub struct Scan {
 pub struct ClauseScan {
     /// Whether its neck was there.
     pub has_neck: bool,
-    /// Whether a line ended after its last comma, and before the next token.
+    /// Whether a line ended after its last comma or `;`, and before the next token.
     pub ends_line: bool,
-    /// Whether its last token is a comma.
-    is_comma: bool,
+    /// The last of its commas and `;`.
+    pub joint: u8,
+    /// Whether its last token is a comma or `;`.
+    is_joint: bool,
 }
 
 impl ClauseScan {
@@ -57,19 +59,21 @@ impl ClauseScan {
         ClauseScan {
             has_neck: false,
             ends_line: false,
-            is_comma: false,
+            joint: b',',
+            is_joint: false,
         }
     }
 
     /// Takes the next byte outside brackets, comments and quotes.
     fn take(&mut self, byte: u8, before: u8) {
         if byte == b'\n' {
-            self.ends_line = self.ends_line || self.is_comma;
-        } else if byte == b',' {
-            self.is_comma = true;
+            self.ends_line = self.ends_line || self.is_joint;
+        } else if byte == b',' || byte == b';' {
+            self.joint = byte;
+            self.is_joint = true;
             self.ends_line = false;
         } else if byte != b'%' && !byte.is_ascii_whitespace() {
-            self.is_comma = false;
+            self.is_joint = false;
         }
         self.has_neck = self.has_neck || (byte == b'-' && before == b':');
     }

@@ -19,6 +19,10 @@ pub enum WordFault<'a> {
     Missing(Command, &'static str),
     #[error("`{0}` is one word too many")]
     Extra(&'a str),
+    #[error("`{1}` is one word too many: write `{0} {1}`")]
+    BareValue(CommandOption, &'a str),
+    #[error("`cti {0}` takes the one word {1}: `{2}` is too many")]
+    OneWord(Command, &'static str, &'a str),
     #[error("{0} needs {1}")]
     NoValue(CommandOption, &'static str),
     #[error("`{0}` is not a number of steps")]
@@ -44,6 +48,12 @@ impl WordFault<'_> {
             }
             WordFault::UnknownOption(_) => {
                 "infer has the option --norm, run has --steps and loop has --depth; write -- before a word that begins with -"
+            }
+            WordFault::OneWord(Command::Gen, ..) | WordFault::BareValue(..) => {
+                "the usage has a line for each command"
+            }
+            WordFault::OneWord(..) => {
+                "call it for each file by itself; a name with spaces stands in quotes"
             }
             WordFault::Extra(_) => "put a query or a name with spaces in quotes",
             WordFault::NoValue(CommandOption::Steps, _) | WordFault::BadSteps(_) => {

@@ -170,7 +170,7 @@ impl<'a> Words<'a> {
         } else if has_second && self.second.is_none() {
             self.second = Some(word);
         } else {
-            self.blame(WordFault::Extra(word));
+            self.blame(extra_fault(self.command, word));
         }
     }
 
@@ -187,6 +187,31 @@ impl<'a> Words<'a> {
         if self.fault.is_none() {
             self.fault = Some(fault);
         }
+    }
+}
+
+/// Whether a word can be the value of an option.
+fn is_value(option: CommandOption, word: &str) -> bool {
+    match option {
+        CommandOption::Steps | CommandOption::Depth => {
+            !word.is_empty() && word.bytes().all(|byte| byte.is_ascii_digit())
+        }
+        CommandOption::Norm => matches!(word, "term" | "list"),
+    }
+}
+
+/// The fault of a word that is one too many for a command.
+fn extra_fault<'a>(command: Option<Command>, word: &'a str) -> WordFault<'a> {
+    if let Some(option) = CommandOption::of(command)
+        && is_value(option, word)
+    {
+        return WordFault::BareValue(option, word);
+    }
+    match command {
+        Some(command) if command.second().is_none() => {
+            WordFault::OneWord(command, command.first(), word)
+        }
+        _ => WordFault::Extra(word),
     }
 }
 
