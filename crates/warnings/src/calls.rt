@@ -15,7 +15,7 @@ pub(crate) struct Call {
 }
 
 /// Whether a name of the given arity joins two bodies.
-fn is_connective(text: &[u8], arity: usize) -> bool {
+pub(crate) fn is_connective(text: &[u8], arity: usize) -> bool {
     arity == 2 && matches!(text, b"," | b";")
 }
 
@@ -23,7 +23,7 @@ fn is_connective(text: &[u8], arity: usize) -> bool {
 fn is_known(text: &[u8], arity: usize) -> bool {
     matches!(
         (text, arity),
-        (b"true" | b"fail", 0)
+        (b"true" | b"fail" | b"false", 0)
             | (
                 b"=" | b"is" | b"=:=" | b"=\\=" | b"<" | b"=<" | b">" | b">=",
                 2

@@ -1,6 +1,7 @@
 //! The warnings about the clauses of a text.
 
 use crate::calls::{Call, push_calls};
+use crate::expressions::push_valueless;
 use crate::findings::Findings;
 use crate::parts::{body_of, head_of, pred_in};
 use crate::singletons::push_singletons;
@@ -92,6 +93,9 @@ pub(crate) fn warnings_in(
     };
     for clause in clauses {
         push_singletons(alloc, text, clause, &mut findings)?;
+        if let Some(body) = body_of(names, &clause.term) {
+            push_valueless(body, names, &mut findings.warnings)?;
+        }
     }
     findings.warnings.sort_by_key(|warning| warning.at())?;
     Ok(findings)
@@ -108,6 +112,7 @@ pub(crate) fn query_warnings_in(
     push_calls(&query.term, names, None, &mut calls)?;
     let mut warnings = Vec::new(alloc);
     push_undefined(alloc, &calls, defined, &mut warnings)?;
+    push_valueless(&query.term, names, &mut warnings)?;
     Ok(Findings {
         warnings,
         places: Vec::new(alloc),

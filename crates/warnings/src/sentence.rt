@@ -24,6 +24,11 @@ pub enum Sentence<'a> {
         arity: u32,
         other: u32,
     },
+    #[error("`{name}/{arity}` has no value here, so that this goal always fails")]
+    NoValue {
+        name: &'a str,
+        arity: u32,
+    },
     #[error("the variable {0} occurs only once: write `_` if it is meant")]
     Singleton(&'a str),
     #[error("the variables {0} occur only once: write `_` for each that is meant")]

@@ -83,6 +83,10 @@ fn sentence_of<'a>(
             arity: pred.arity,
             other: arity,
         },
+        Warning::NoValue { pred, .. } => Sentence::NoValue {
+            name: str_of(names, pred.name),
+            arity: pred.arity,
+        },
         Warning::Singletons { .. } if count == 1 => Sentence::Singleton(variables),
         Warning::Singletons { .. } => Sentence::Singletons(variables),
     }
@@ -95,6 +99,9 @@ fn advice_of(names: &Names, warning: Warning) -> Option<&'static str> {
             let library = library_of(str_of(names, pred.name), pred.arity);
             Some(library.advice())
         }
+        Warning::NoValue { .. } => Some(
+            "an expression has integers, variables, `+`, `-` and `*` alone: write clauses for what else it needs",
+        ),
         _ => None,
     }
 }

@@ -17,6 +17,11 @@ pub(crate) enum Warning {
         pred: Pred,
         arity: u32,
     },
+    /// A goal's expression has this name, so that it never has a value.
+    NoValue {
+        at: u32,
+        pred: Pred,
+    },
     /// Variables occur only once in their clause: so many of the findings' places, from this one on.
     Singletons {
         at: u32,
@@ -31,6 +36,7 @@ impl Warning {
         match self {
             Warning::NoClause { at, .. }
             | Warning::OtherArity { at, .. }
+            | Warning::NoValue { at, .. }
             | Warning::Singletons { at, .. } => at,
         }
     }
