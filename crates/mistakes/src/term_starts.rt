@@ -32,6 +32,10 @@ pub fn start_mistake<'a>(gap: Gap<'a>) -> Option<Mistake<'a>> {
     if symbols.is_empty() || symbols.len() > MOST_SYMBOLS || !begins_term(*next) {
         return None;
     }
+    // The end of a comment is no operator.
+    if symbols.ends_with(b"*/") {
+        return None;
+    }
     if may_declare(gap.operators, symbols) || PREFIX.iter().any(|name| *name == symbols) {
         return None;
     }

@@ -7,6 +7,8 @@ pub enum Library {
     Clauses,
     /// None do, or none for every use.
     NoClauses,
+    /// It is a name with a number of arguments, and no call.
+    Indicator,
     /// It is not known as one of a library.
     Unknown,
 }
@@ -98,6 +100,8 @@ pub(crate) fn library_of(text: &str, arity: u32) -> Library {
         Library::Clauses
     } else if is_one_of(&WITHOUT_CLAUSES, text, arity) {
         Library::NoClauses
+    } else if text == "/" && arity == 2 {
+        Library::Indicator
     } else {
         Library::Unknown
     }
@@ -111,6 +115,7 @@ impl Library {
             Library::NoClauses => {
                 "no clauses of pure Prolog do what it does: docs/real-files.md says what stands for it"
             }
+            Library::Indicator => "NAME/ARITY only names a predicate: write a call of it",
             Library::Unknown => "correct the name, or add its clauses",
         }
     }
