@@ -23,6 +23,8 @@ pub(crate) enum Cause {
 /// What a certificate says of the predicates and the components of a program.
 pub(crate) struct Causes {
     pub(crate) norm: CertNorm,
+    /// Whether it is a certificate of lists of mappings.
+    pub(crate) is_of_lists: bool,
     /// The place of each predicate's `terminates` among the facts.
     terminates: Vec<usize>,
     /// By component.
@@ -40,6 +42,7 @@ impl Drop for Causes {
     fn drop(self) {
         let Causes {
             norm: _,
+            is_of_lists: _,
             terminates: _,
             causes: _,
             points: _,
@@ -57,6 +60,7 @@ impl Causes {
     ) -> Result<Causes, AllocError> {
         let mut causes = Causes {
             norm: CertNorm::Term,
+            is_of_lists: false,
             terminates: Vec::new(alloc),
             causes: vec![in alloc; Cause::None; listed.table.preds.len()]?,
             points: 0,
@@ -98,22 +102,28 @@ impl Causes {
 
     /// Notes what is said of the component of a predicate that has this text.
     fn note_named(&mut self, listed: &Listed, text: &PredText, cause: Cause) {
-        if self.looked < MOST_LOOKED {
-            self.looked += 1;
+        if self.looks() {
             let found = listed.pred_of(text.name.as_slice(), text.arity);
             self.note_found(&listed.table, found, cause);
         }
     }
 
+    /// Whether one more predicate is looked for by its text.
+    pub(crate) fn looks(&mut self) -> bool {
+        let looks = self.looked < MOST_LOOKED;
+        self.looked = self.looked.saturating_add(1);
+        looks
+    }
+
     /// Notes what is said of the component of a clause's head.
-    fn note_clause(&mut self, table: &Table, clause: u32, cause: Cause) {
+    pub(crate) fn note_clause(&mut self, table: &Table, clause: u32, cause: Cause) {
         if let Some(row) = table.clause(clause) {
             self.note_found(table, Some(row.head), cause);
         }
     }
 
     /// Notes what is said of the component of a predicate, where nothing was said before.
-    fn note_found(&mut self, table: &Table, pred: Option<u32>, cause: Cause) {
+    pub(crate) fn note_found(&mut self, table: &Table, pred: Option<u32>, cause: Cause) {
         let Some(pred) = pred else {
             return;
         };

@@ -5,6 +5,7 @@ use crate::listed::Listed;
 use crate::table::ClauseRow;
 use certificate::Fact;
 use sequences::Sequence;
+use std::alloc::{AllocError, Global};
 
 /// A program, where it stands in its text, and what its certificate says.
 #[derive(Clone, Copy)]
@@ -17,12 +18,14 @@ pub(crate) struct View<'p, 'c, 'f> {
 /// Why a predicate has no mode.
 #[derive(Clone, Copy)]
 pub(crate) enum Why {
-    /// Nothing falls at this one call.
-    OneCall,
+    /// Nothing falls at the one call of this fact.
+    OneCall { start: usize },
     /// Nothing falls at all of so many calls, the first of which is this fact.
     Calls { start: usize, points: u64 },
     /// The same, and no order of measures does.
     Stuck { start: usize, points: u64 },
+    /// No list of mappings descends at all of so many calls.
+    NoList { start: usize, points: u64 },
     Large(u64),
     Blown,
     /// It calls this predicate, which has no mode.
@@ -167,7 +170,10 @@ impl<'f> View<'_, '_, 'f> {
     /// Why nothing falls at so many calls, the first of which is this fact.
     fn refuted_case(self, start: usize, points: u64) -> Why {
         if points == 1 {
-            return Why::OneCall;
+            return Why::OneCall { start };
+        }
+        if self.causes.is_of_lists {
+            return Why::NoList { start, points };
         }
         if self.are_stuck(start, points) {
             return Why::Stuck { start, points };
@@ -195,11 +201,90 @@ impl<'f> View<'_, '_, 'f> {
                 why: Why::Unknown,
                 at: self.first_clause(pred),
             },
+            // The first of the calls that ask for something.
+            Some(blamed) if blamed.at.is_some() => Case {
+                why: Why::Unmet,
+                at: blamed.at,
+            },
             _ => Case {
                 why: Why::Unmet,
                 at: self.first_clause(pred),
             },
         }
+    }
+
+    /// Adds the places of a clause's calls that ask for something.
+    fn push_asking(
+        self,
+        number: u32,
+        row: ClauseRow,
+        places: &mut Vec<u32>,
+    ) -> Result<(), AllocError> {
+        let component = self.listed.table.component_of(row.head);
+        let calls = self.listed.table.calls_of(row);
+        let mut place = 0u32;
+        for callee in calls {
+            place = place.saturating_add(1);
+            if self.is_blamed(component, *callee, false)
+                && let Some(at) = self.listed.places.call(number, place, calls.len())
+            {
+                places.push(at)?;
+            }
+        }
+        Ok(())
+    }
+
+    /// The places of the calls that ask for something, in the clauses of a predicate's component.
+    pub(crate) fn asking_places(self, alloc: Global, pred: u32) -> Result<Vec<u32>, AllocError> {
+        let component = self.listed.table.component_of(pred);
+        let mut places = Vec::new(alloc);
+        let mut number = 0u32;
+        for row in &self.listed.table.clauses {
+            number = number.saturating_add(1);
+            if self.listed.table.component_of(row.head) == component {
+                self.push_asking(number, *row, &mut places)?;
+            }
+        }
+        Ok(places)
+    }
+
+    /// Whether a clause computes an integer.
+    fn computes(self, clause: u32, is_pred: u32) -> bool {
+        match self.listed.table.clause(clause) {
+            Some(row) => self.listed.table.calls_of(row).contains(&is_pred),
+            None => false,
+        }
+    }
+
+    /// Whether the clause of one of so many points, from this fact on, computes an integer.
+    pub(crate) fn counts(self, start: usize, points: u64) -> bool {
+        let Some(is_pred) = self.listed.pred_of(b"is", 2) else {
+            return false;
+        };
+        let mut left = points;
+        for fact in self.facts.get(start..).unwrap_or(&[]) {
+            if left == 0 {
+                return false;
+            }
+            if let Fact::Point { clause, .. } = fact {
+                if self.computes(*clause, is_pred) {
+                    return true;
+                }
+                left = left.saturating_sub(1);
+            }
+        }
+        false
+    }
+
+    /// The places of the clause and of the call of a point.
+    pub(crate) fn point_span(self, place: usize) -> Option<(u32, u32)> {
+        let Some(Fact::Point { clause, .. }) = self.facts.get(place) else {
+            return None;
+        };
+        Some((
+            self.listed.places.clause(*clause)?,
+            self.point_place(place)?,
+        ))
     }
 
     /// Why a predicate has no mode.

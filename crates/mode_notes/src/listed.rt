@@ -31,6 +31,14 @@ impl Listed {
         }
     }
 
+    /// Whether a predicate has this text.
+    pub(crate) fn is_pred(&self, pred: u32, name: &[u8], arity: u32) -> bool {
+        match self.table.preds.get(pred as usize) {
+            Some(known) => known.arity == arity && text_of(&self.names, known.name) == name,
+            None => false,
+        }
+    }
+
     /// The predicate whose text this is, looked for among all.
     pub(crate) fn pred_of(&self, name: &[u8], arity: u32) -> Option<u32> {
         let mut number = 0u32;

@@ -17,6 +17,11 @@ pub enum Note<'a> {
         pred: &'a str,
         places: &'a str,
     },
+    #[error("{pred} has no mode: no list of mappings descends: the calls at {places} keep each other going")]
+    NoList {
+        pred: &'a str,
+        places: &'a str,
+    },
     #[error("{pred} has no mode: its recursive group has {positions} arguments, more than 12, so that only one measure was looked for")]
     Large {
         pred: &'a str,
@@ -24,6 +29,8 @@ pub enum Note<'a> {
     },
     #[error("{0} has no mode: the search for a measure was given up, since a number or a list grew too large")]
     Blown(&'a str),
+    #[error("{0} has no mode: the search for a list of mappings was given up, since a number or a list grew too large")]
+    BlownLists(&'a str),
     #[error("{pred} has no mode: it calls {callee}, which has none")]
     Callee {
         pred: &'a str,
@@ -36,10 +43,12 @@ pub enum Note<'a> {
         needs: &'a str,
         known: &'a str,
     },
-    #[error("{pred} has no mode: no {known} arguments of a query are enough for all the calls of its clauses")]
+    #[error("{pred} has no mode: no {known} arguments of a query are enough for all the calls of its clauses{places}")]
     Unmet {
         pred: &'a str,
         known: &'a str,
+        /// The calls that ask for something, after a colon, or nothing.
+        places: &'a str,
     },
     #[error("{0} has no mode: no measure was found")]
     Unknown(&'a str),
@@ -56,8 +65,12 @@ impl Note<'_> {
             Note::Stuck { .. } => {
                 "let one argument, or one sum of arguments, get smaller at each of them; `cti lex` finds no mode here either"
             }
+            Note::NoList { .. } => {
+                "let one argument, or one sum of arguments, get smaller at each of them"
+            }
             Note::Large { .. } => "put arguments that belong together into one term",
-            Note::Blown(_) => "split the predicate, or give it fewer arguments",
+            Note::Blown(_) | Note::BlownLists(_) =>
+                "split the predicate, or give it fewer arguments",
             Note::Callee { .. } => "the note about that one says why",
             Note::Needs { .. } | Note::Unmet { .. } => {
                 "call something before it that makes the argument known, or give the clause's head one more argument"

@@ -1,8 +1,10 @@
 //! The text of the notes.
 
+use crate::cause::Causes;
 use crate::finding_causes::{Case, View, Why};
+use crate::hints::smaller_hint;
 use crate::note::Note;
-use crate::showing::{Source, calls_shown, needs_shown};
+use crate::showing::{Source, asking_shown, calls_shown, needs_shown};
 use certificate::CertNorm;
 use messages::{push_excerpt, push_help, push_shown};
 use std::alloc::{AllocError, Global};
@@ -28,21 +30,26 @@ fn push_note(
     push_excerpt(message, source.text, place)
 }
 
-/// Adds what to do about a call at which nothing gets smaller.
-fn push_loop_help(
-    alloc: Global,
-    message: &mut Vec<u8>,
-    source: Source<'_, '_, '_>,
-    pred: u32,
-) -> Result<(), AllocError> {
+/// What to do about a call at which nothing gets smaller.
+fn loop_advice(alloc: Global, source: Source<'_, '_, '_>, pred: u32) -> Result<String, AllocError> {
     let Some(query) = source.query(alloc, pred)? else {
-        return push_help(message, "give the call something that gets smaller");
+        return format!(in alloc; "give the call something that gets smaller");
     };
     let file = source.name;
-    let advice = format!(in alloc;
+    format!(in alloc;
         "give the call something that gets smaller; `cti loop {file} '{query}'` may show that it goes on"
-    )?;
-    push_help(message, &advice)
+    )
+}
+
+/// Adds what to do about a case, as its note says.
+fn push_advice(
+    alloc: Global,
+    message: &mut Vec<u8>,
+    advice: &str,
+    hint: &str,
+) -> Result<(), AllocError> {
+    let said = format!(in alloc; "{advice}{hint}")?;
+    push_help(message, &said)
 }
 
 /// What a mode asks of arguments.
@@ -58,6 +65,7 @@ fn parts_of(
     alloc: Global,
     source: Source<'_, '_, '_>,
     view: View<'_, '_, '_>,
+    pred: u32,
     why: Why,
 ) -> Result<(String, String), AllocError> {
     match why {
@@ -66,10 +74,13 @@ fn parts_of(
             let needs = needs_shown(alloc, view, callee)?;
             Ok((source.shown(alloc, callee)?, needs))
         }
-        Why::Calls { start, points } | Why::Stuck { start, points } => {
+        Why::Calls { start, points }
+        | Why::Stuck { start, points }
+        | Why::NoList { start, points } => {
             let places = calls_shown(alloc, source, view, start, points)?;
             Ok((String::new(alloc), places))
         }
+        Why::Unmet => Ok((String::new(alloc), asking_shown(alloc, source, view, pred)?)),
         _ => Ok((String::new(alloc), String::new(alloc))),
     }
 }
@@ -77,17 +88,19 @@ fn parts_of(
 /// A case as a note.
 fn note_of<'a>(
     why: Why,
-    norm: CertNorm,
+    causes: &Causes,
     pred: &'a str,
     callee: &'a str,
     said: &'a str,
 ) -> Note<'a> {
-    let known = known_word(norm);
+    let known = known_word(causes.norm);
     match why {
-        Why::OneCall => Note::OneCall(pred),
+        Why::OneCall { .. } => Note::OneCall(pred),
         Why::Calls { .. } => Note::Calls { pred, places: said },
         Why::Stuck { .. } => Note::Stuck { pred, places: said },
+        Why::NoList { .. } => Note::NoList { pred, places: said },
         Why::Large(positions) => Note::Large { pred, positions },
+        Why::Blown if causes.is_of_lists => Note::BlownLists(pred),
         Why::Blown => Note::Blown(pred),
         Why::Callee(_) => Note::Callee { pred, callee },
         Why::Needs(_) => Note::Needs {
@@ -96,7 +109,11 @@ fn note_of<'a>(
             needs: said,
             known,
         },
-        Why::Unmet => Note::Unmet { pred, known },
+        Why::Unmet => Note::Unmet {
+            pred,
+            known,
+            places: said,
+        },
         Why::Unknown => Note::Unknown(pred),
     }
 }
@@ -111,12 +128,16 @@ fn push_case(
 ) -> Result<(), AllocError> {
     let Case { why, at } = view.case_of(pred);
     let shown = source.shown(alloc, pred)?;
-    let (callee, said) = parts_of(alloc, source, view, why)?;
-    let note = note_of(why, view.causes.norm, &shown, &callee, &said);
+    let (callee, said) = parts_of(alloc, source, view, pred, why)?;
+    let note = note_of(why, view.causes, &shown, &callee, &said);
     push_note(alloc, message, source, at, note)?;
+    let hint = smaller_hint(source, view, why);
     match note {
-        Note::OneCall(_) => push_loop_help(alloc, message, source, pred),
-        _ => push_help(message, note.advice()),
+        Note::OneCall(_) => {
+            let advice = loop_advice(alloc, source, pred)?;
+            push_advice(alloc, message, &advice, hint)
+        }
+        _ => push_advice(alloc, message, note.advice(), hint),
     }
 }
 

@@ -3,6 +3,7 @@
 use crate::cause::Causes;
 use crate::finding_causes::View;
 use crate::listed::Listed;
+use crate::lists::{is_of_lists, shared_lines};
 use crate::noting::notes;
 use crate::places::Places;
 use crate::showing::Source;
@@ -17,7 +18,7 @@ use std::alloc::{AllocError, Global};
 const MOST_BYTES: usize = 1_048_576;
 
 /// The program of a text, if it is one.
-fn listed_program(alloc: Global, text: &[u8]) -> Result<Option<Listed>, AllocError> {
+pub(crate) fn listed_program(alloc: Global, text: &[u8]) -> Result<Option<Listed>, AllocError> {
     if text.len() > MOST_BYTES {
         return Ok(None);
     }
@@ -37,17 +38,34 @@ fn listed_program(alloc: Global, text: &[u8]) -> Result<Option<Listed>, AllocErr
     }))
 }
 
-/// The notes about a named program by its certificate.
+/// The facts of a certificate that notes are made of, or none where it is not read.
+fn facts_of(alloc: Global, certificate: &[u8]) -> Result<Option<Certificate>, AllocError> {
+    let read = if is_of_lists(certificate) {
+        let lines = shared_lines(alloc, certificate)?;
+        Certificate::read(alloc, &lines)
+    } else {
+        Certificate::read(alloc, certificate)
+    };
+    Ok(read.ok())
+}
+
+/// The notes about a named program by the text of its certificate, which are none where one is not read.
 pub(crate) fn notes_of(
     alloc: Global,
     name: &str,
     text: &[u8],
-    certificate: &Certificate,
+    certificate: &[u8],
 ) -> Result<Vec<u8>, AllocError> {
+    let Some(facts) = facts_of(alloc, certificate)? else {
+        return Ok(Vec::new(alloc));
+    };
     let Some(listed) = listed_program(alloc, text)? else {
         return Ok(Vec::new(alloc));
     };
-    let causes = Causes::of(alloc, &listed, certificate)?;
+    let mut causes = Causes::of(alloc, &listed, &facts)?;
+    if is_of_lists(certificate) {
+        causes.take_lists(&listed, certificate);
+    }
     if !causes.are_of(&listed.table) {
         return Ok(Vec::new(alloc));
     }
@@ -59,7 +77,7 @@ pub(crate) fn notes_of(
     let view = View {
         listed: &listed,
         causes: &causes,
-        facts: certificate.facts.as_slice(),
+        facts: facts.facts.as_slice(),
     };
     notes(alloc, source, view)
 }

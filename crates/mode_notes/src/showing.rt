@@ -19,6 +19,14 @@ pub(crate) struct Source<'n, 't, 'p> {
     pub(crate) listed: &'p Listed,
 }
 
+/// Whether a name is a small letter with letters, digits and underscores.
+pub(crate) fn is_plain(name: &str) -> bool {
+    name.starts_with(|c: char| c.is_ascii_lowercase())
+        && name
+            .bytes()
+            .all(|byte| byte.is_ascii_alphanumeric() || byte == b'_')
+}
+
 impl<'n, 'p> Source<'n, '_, 'p> {
     /// The name of a predicate, as far as it is text.
     fn name_of(self, pred: u32) -> &'p str {
@@ -56,11 +64,7 @@ impl<'n, 'p> Source<'n, '_, 'p> {
     /// The most general query of a predicate with a plain name.
     pub(crate) fn query(self, alloc: Global, pred: u32) -> Result<Option<String>, AllocError> {
         let name = self.name_of(pred);
-        let is_plain = name.starts_with(|c: char| c.is_ascii_lowercase())
-            && name
-                .bytes()
-                .all(|byte| byte.is_ascii_alphanumeric() || byte == b'_');
-        if !is_plain {
+        if !is_plain(name) {
             return Ok(None);
         }
         let mut query = String::new(alloc);
@@ -107,6 +111,29 @@ pub(crate) fn calls_shown(
         place = place.saturating_add(1);
     }
     if points > count {
+        shown.push_str(", ..")?;
+    }
+    Ok(shown)
+}
+
+/// The places of the calls of a predicate's group that ask for something, after a colon, as lines and columns.
+pub(crate) fn asking_shown(
+    alloc: Global,
+    source: Source<'_, '_, '_>,
+    view: View<'_, '_, '_>,
+    pred: u32,
+) -> Result<String, AllocError> {
+    let places = view.asking_places(alloc, pred)?;
+    let mut shown = String::new(alloc);
+    let most = places.len().min(MOST_CALLS as usize);
+    let mut before = ": ";
+    for at in places.get(..most).unwrap_or(&[]) {
+        let Place { line, column, .. } = source.place(*at);
+        let item = format!(in alloc; "{before}{line}:{column}")?;
+        shown.push_str(&item)?;
+        before = ", ";
+    }
+    if places.len() > most {
         shown.push_str(", ..")?;
     }
     Ok(shown)

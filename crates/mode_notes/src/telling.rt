@@ -1,13 +1,21 @@
 //! What is said of modes.
 
+use crate::expecting::expected_note;
+use crate::lists::is_of_lists;
 use crate::reading::notes_of;
-use certificate::Certificate;
-use messages::{Ending, Words, text_again};
+use messages::{Ending, ToldNo, Words, text_again};
 use std::alloc::{AllocError, Global};
 use std::rt::Files;
 
-/// The exit status of a call that answered.
+/// The exit status of a call that answered, and of one whose certificate is not valid.
 const DONE: u8 = 0;
+
+const NO: u8 = 1;
+
+/// The reasons of a certificate that is not valid where another fact was expected.
+const MISSING: u64 = 2;
+
+const EXTRA: u64 = 3;
 
 /// How a certificate of list size begins.
 const LIST_SIZE: &[u8] = b"cti(2).\nnorm(list).\n";
@@ -32,13 +40,35 @@ pub fn program_notes(
     text: &[u8],
     certificate: &[u8],
 ) -> Result<Vec<u8>, AllocError> {
-    match Certificate::read(alloc, certificate) {
-        Ok(facts) => notes_of(alloc, name, text, &facts),
-        Err(_) => Ok(Vec::new(alloc)),
+    notes_of(alloc, name, text, certificate)
+}
+
+/// The note about a named certificate of a program, which was answered so.
+pub fn check_note(
+    alloc: Global,
+    name: &str,
+    texts: (&[u8], &[u8]),
+    output: &str,
+) -> Result<Vec<u8>, AllocError> {
+    match ToldNo::read(output) {
+        Some(told) if told.reason == MISSING || told.reason == EXTRA => {
+            expected_note(alloc, name, texts, told.line)
+        }
+        _ => Ok(Vec::new(alloc)),
     }
 }
 
-/// The notes about the program of a call of `infer`, which wrote this certificate.
+/// The note about the certificate of a call of `check` that is not valid.
+fn no_note<R: Files + AllocGlobal>(rt: &R, ending: Ending<'_>) -> Result<Vec<u8>, AllocError> {
+    let words = ending.told_words();
+    let program = text_again(rt, words.file());
+    let certificate = text_again(rt, words.second());
+    let output = std::str::from_utf8(ending.output).unwrap_or("");
+    let texts = (program.as_slice(), certificate.as_slice());
+    check_note(rt.alloc(), words.second(), texts, output)
+}
+
+/// The notes about the program of a call that wrote this certificate.
 fn infer_notes<R: Files + AllocGlobal>(
     rt: &R,
     words: Words<'_>,
@@ -52,17 +82,20 @@ fn infer_notes<R: Files + AllocGlobal>(
     Ok(message)
 }
 
-/// The notes about a call that answered, and wrote this text if it was `infer`.
+/// The notes about a call that answered, and wrote this text if it wrote a certificate.
 pub fn call_notes<R: Files + AllocGlobal>(
     rt: &R,
     ending: Ending<'_>,
     written: &[u8],
 ) -> Result<Vec<u8>, AllocError> {
     let words = ending.told_words();
+    if ending.status == NO && words.has_certificate() {
+        return no_note(rt, ending);
+    }
     if ending.status != DONE {
         return Ok(Vec::new(rt.alloc()));
     }
-    if words.infers() {
+    if words.infers() || is_of_lists(written) {
         infer_notes(rt, words, written)
     } else if words.has_certificate() {
         let certificate = text_again(rt, words.second());

@@ -1,0 +1,62 @@
+//! Facts that are expected in a certificate, as they are shown.
+
+use crate::listed::Listed;
+use crate::showing::is_plain;
+use std::alloc::{AllocError, Global};
+
+/// A fact that is expected. Predicates are counted from 0, all else from 1.
+#[derive(Clone, Copy)]
+pub(crate) enum Wanted {
+    Terminates(u32),
+    By {
+        clause: u32,
+        index: u64,
+    },
+    Measure {
+        pred: u32,
+        mapping: u64,
+    },
+    Falls {
+        clause: u32,
+        call: u32,
+        mapping: u64,
+    },
+}
+
+/// A predicate as a certificate has it.
+fn shown_pred(alloc: Global, listed: &Listed, pred: u32) -> Result<String, AllocError> {
+    let name = std::str::from_utf8(listed.name_of(pred)).unwrap_or("?");
+    let arity = match listed.table.preds.get(pred as usize) {
+        Some(pred) => pred.arity,
+        None => 0,
+    };
+    if name == "[]" || is_plain(name) {
+        format!(in alloc; "{name}/{arity}")
+    } else {
+        format!(in alloc; "'{name}'/{arity}")
+    }
+}
+
+/// A fact as it is shown, without what its place does not determine.
+pub(crate) fn shown_fact(
+    alloc: Global,
+    listed: &Listed,
+    wanted: Wanted,
+) -> Result<String, AllocError> {
+    match wanted {
+        Wanted::Terminates(pred) => {
+            let pred = shown_pred(alloc, listed, pred)?;
+            format!(in alloc; "terminates({pred},..)")
+        }
+        Wanted::By { clause, index } => format!(in alloc; "by({clause},{index},..)"),
+        Wanted::Measure { pred, mapping } => {
+            let pred = shown_pred(alloc, listed, pred)?;
+            format!(in alloc; "measure({pred},{mapping},..)")
+        }
+        Wanted::Falls {
+            clause,
+            call,
+            mapping,
+        } => format!(in alloc; "falls({clause},{call},{mapping},..)"),
+    }
+}
