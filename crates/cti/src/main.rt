@@ -52,8 +52,8 @@ fn run(rt: &HostRuntime, alloc: Global) -> Result<Status, AllocError> {
         runtime: rt,
         faults: 0,
     };
-    let infers = texts.first() == Some(&"infer");
-    let mut out = RealSink::new(Keeping::new(alloc, rt.stdout(), infers));
+    let keeps = matches!(texts.first().copied(), Some("infer" | "lex"));
+    let mut out = RealSink::new(Keeping::new(alloc, rt.stdout(), keeps));
     let status = command(alloc, &texts, &mut files, &mut out);
     let ending = Ending {
         status: status.number(),
