@@ -24,6 +24,20 @@ const LIST_SIZE: &[u8] = b"cti(2).\nnorm(list).\n";
 const LIST_NOTE: &[u8] =
     b"cti: note: these modes are by list size: they speak of lists whose length is known\n";
 
+/// How a line about the modes of a predicate begins, and how it ends where there are none.
+const MODES: &[u8] = b"terminates(";
+
+const NO_MODES: &[u8] = b",[]).";
+
+/// Whether a certificate says of some predicate that it has no mode. The lines about modes stand together, near its beginning.
+fn lacks_modes(certificate: &[u8]) -> bool {
+    certificate
+        .split(|byte| *byte == b'\n')
+        .skip_while(|line| !line.starts_with(MODES))
+        .take_while(|line| line.starts_with(MODES))
+        .any(|line| line.ends_with(NO_MODES))
+}
+
 /// What is said of the norm of a certificate, where its modes are not of ground arguments.
 pub fn norm_note(certificate: &[u8]) -> &'static [u8] {
     if certificate.starts_with(LIST_SIZE) {
@@ -76,9 +90,11 @@ fn infer_notes<R: Files + AllocGlobal>(
 ) -> Result<Vec<u8>, AllocError> {
     let alloc = rt.alloc();
     let mut message = Vec::from_slice(alloc, norm_note(certificate))?;
-    let text = text_again(rt, words.file());
-    let notes = program_notes(alloc, words.file(), &text, certificate)?;
-    message.extend_from_slice(&notes)?;
+    if lacks_modes(certificate) {
+        let text = text_again(rt, words.file());
+        let notes = program_notes(alloc, words.file(), &text, certificate)?;
+        message.extend_from_slice(&notes)?;
+    }
     Ok(message)
 }
 
