@@ -82,7 +82,88 @@ fn mistakes_in_syntax(rt: HostRuntime) -> Result<(), Fail> {
         (
             "refused(program,1,11,6).\n",
             "p :- q, r :- s.",
-            "this operator cannot follow here: put one side of it in parentheses",
+            "a clause has one `:-`: is a dot missing before this one's head?",
+        ),
+        (
+            "refused(program,1,8,6).\n",
+            "p :- q :- r.",
+            "a clause has one `:-`: is a dot missing before this one's head?",
+        ),
+        (
+            "refused(program,2,6,6).\n",
+            "p(X) :- q(X);\nr(X) :- s(X).",
+            "does the clause before end with `;` in place of its dot?",
+        ),
+        (
+            "refused(program,1,5,6).\n",
+            "p(X :- q(X).",
+            "a `)` is missing before `:-`",
+        ),
+        (
+            "refused(program,1,19,6).\n",
+            "p :- assertz(q(X) :- r(X)).",
+            "put the term that has `:-` in parentheses of its own",
+        ),
+    ] {
+        assert!(rt; is_program_help(alloc, refusal, text, help)?, "{text}");
+    }
+    Ok(())
+}
+
+// Bars, signs that are no operators, and comments.
+#[test]
+fn mistakes_in_terms(rt: HostRuntime) -> Result<(), Fail> {
+    let alloc = rt.alloc();
+    for (refusal, text, help) in [
+        (
+            "refused(program,1,7,6).\n",
+            "p([a|b|c]).",
+            "a list has one `|`, and one term after it: `[a,b|T]`",
+        ),
+        (
+            "refused(program,1,7,6).\n",
+            "p([a|b,c]).",
+            "a list has one `|`, and one term after it: `[a,b|T]`",
+        ),
+        (
+            "refused(program,1,15,6).\n",
+            "p(X) :- (q(X) | r(X)).",
+            "`|` stands in lists alone: write `;` for it",
+        ),
+        (
+            "refused(program,1,10,6).\n",
+            "p(X) :- ~r(X).",
+            "`~` is no operator here: correct it, or declare it with `:- op(..)`",
+        ),
+        (
+            "refused(program,1,3,6).\n",
+            "# text\np(a).",
+            "a comment begins with `%`, or stands between `/*` and `*/`",
+        ),
+        (
+            "refused(program,1,10,6).\n",
+            "p(a). // text\nq(b).",
+            "a comment begins with `%`, or stands between `/*` and `*/`",
+        ),
+        (
+            "refused(program,1,15,6).\n",
+            "p(X) :- X = = 3.",
+            "no term stands before `=`: a term is missing, or `=` is one too many",
+        ),
+        (
+            "refused(program,1,13,6).\n",
+            "p(X) :- not r(X).",
+            "`not` is no operator here: write `(G,fail ; true)` for `not G`",
+        ),
+        (
+            "refused(program,1,5,6).\n",
+            "not p(X) :- r(X).",
+            "a head has no negation: clauses say what holds",
+        ),
+        (
+            "refused(program,1,13,6).\n",
+            "p(X) :- ( a *-> b ; c ).",
+            "write `(C,A ; B)` for `(C *-> A ; B)`: modes with the comma hold with the arrow",
         ),
         (
             "refused(program,1,2,6).\n",
@@ -182,8 +263,84 @@ fn mistakes_in_programs(rt: HostRuntime) -> Result<(), Fail> {
         (
             "refused(program,1,9,11).\n",
             "p(X) :- functor(X,f,2).",
-            "leave out cut, negation, if-then-else, call/N, input and output, and grammar rules",
+            "leave it out: modes without it hold with it, and what it binds stays unknown",
         ),
+        (
+            "refused(program,1,9,11).\n",
+            "p(X) :- X =.. [f|_], q.",
+            "leave it out: modes without it hold with it, and what it binds stays unknown",
+        ),
+        (
+            "refused(program,1,9,11).\n",
+            "p(X) :- atom_chars(X,_).",
+            "leave it out: modes without it hold with it, and what it binds stays unknown",
+        ),
+        (
+            "refused(program,1,6,11).\n",
+            "p :- catch(q,_,true).",
+            "write the goal itself: no goal of a pure program raises an error",
+        ),
+        (
+            "refused(program,1,6,11).\n",
+            "p :- halt.",
+            "write `fail` for it: the derivation ends there",
+        ),
+        (
+            "refused(program,1,6,11).\n",
+            "p :- throw(x).",
+            "write `fail` for it: the derivation ends there",
+        ),
+        (
+            "refused(program,1,6,11).\n",
+            "p :- repeat, q.",
+            "leave it out, with what relies on it: no query that calls it ends",
+        ),
+        (
+            "refused(program,1,11,11).\n",
+            "p(X,Y) :- unify_with_occurs_check(X,Y).",
+            "write `X = Y` for `unify_with_occurs_check(X,Y)`: that is what `=` does here",
+        ),
+        (
+            "refused(program,1,6,11).\n",
+            "p :- 3, q.",
+            "a number is no goal: name a predicate",
+        ),
+        (
+            "refused(program,1,1,12).\n",
+            "q(a);\np(X) :- q(X).",
+            "a head has no `;` outside parentheses: does a clause end with `;` in place of its dot?",
+        ),
+        (
+            "refused(program,1,1,12).\n",
+            "p(X) -> q(X).",
+            "write `:-` for `->` between a head and its body",
+        ),
+        (
+            "refused(program,1,1,12).\n",
+            "\\+ p(X) :- q(X).",
+            "a head has no negation: clauses say what holds",
+        ),
+        (
+            "refused(program,1,1,12).\n",
+            "P :- q.",
+            "a name begins with a small letter: `P` is a variable",
+        ),
+        (
+            "refused(program,1,1,1).\n",
+            "\u{7f}ELF\u{0}\u{1}",
+            "this is no text: name the file of a program, and save it as UTF-8",
+        ),
+    ] {
+        assert!(rt; is_program_help(alloc, refusal, text, help)?, "{text}");
+    }
+    Ok(())
+}
+
+// Heads that are none, queries, bytes and numbers.
+#[test]
+fn mistakes_in_heads(rt: HostRuntime) -> Result<(), Fail> {
+    let alloc = rt.alloc();
+    for (refusal, text, help) in [
         (
             "refused(program,1,1,12).\n",
             "q(a),\nr(X) :- s(X).",
@@ -280,6 +437,31 @@ fn mistakes_in_queries(rt: HostRuntime) -> Result<(), Fail> {
         ),
         (
             "refused(query,1,1,11).\n",
+            "p(X) :- q(X)",
+            "a query is no clause: write its goals alone",
+        ),
+        (
+            "refused(query,1,7,11).\n",
+            "p(X), halt",
+            "leave it out: a query calls predicates of the program, `=`, `is` and comparisons of integers",
+        ),
+        (
+            "refused(query,1,7,11).\n",
+            "p(X), X \\== a",
+            "leave it out: a query calls predicates of the program, `=`, `is` and comparisons of integers",
+        ),
+        (
+            "refused(query,1,1,11).\n",
+            "3",
+            "a number is no goal: name a predicate",
+        ),
+        (
+            "refused(query,1,5,6).\n",
+            "not p(X)",
+            "run its goal by itself",
+        ),
+        (
+            "refused(query,1,1,11).\n",
             "X",
             "a variable as a goal is not read: name the predicate",
         ),
@@ -343,6 +525,131 @@ fn mistakes_in_certificates(rt: HostRuntime) -> Result<(), Fail> {
             (3, "refused(certificate,2,1,16).\n"),
             ("cti(1).\n\n", "p(a).\n"),
             "leave out the empty line",
+        ),
+    ] {
+        assert!(rt; is_helped(alloc, words, ended, texts, help)?, "{help}");
+    }
+    Ok(())
+}
+
+// Lines that are no facts, and facts at a wrong place.
+#[test]
+fn lines_of_certificates(rt: HostRuntime) -> Result<(), Fail> {
+    let alloc = rt.alloc();
+    let words = &["check", "a.pl", "a.cert"];
+    for (ended, texts, help) in [
+        (
+            (3, "refused(certificate,1,1,16).\n"),
+            ("ctilex(1).\nterminates(p/1,[[1]]).\n", "p(a).\n"),
+            "this is a certificate of lists of mappings, as `cti lex` writes it: `cti check` reads those of `cti infer` alone",
+        ),
+        (
+            (3, "refused(certificate,1,1,16).\n"),
+            ("q(a).\n", "p(a).\n"),
+            "a certificate begins with `cti(1).` or `cti(2).`, as `cti infer` writes it",
+        ),
+        (
+            (3, "refused(certificate,1,1,16).\n"),
+            ("% mine\ncti(1).\n", "p(a).\n"),
+            "leave out this line: a certificate has no comments",
+        ),
+        (
+            (3, "refused(certificate,2,1,16).\n"),
+            ("cti(1).\nmesure(p/1,1,[0],0).\n", "p(a).\n"),
+            "no fact of a certificate has the name `mesure`",
+        ),
+        (
+            (3, "refused(certificate,2,1,16).\n"),
+            ("cti(2).\nnorm(lists).\n", "p(a).\n"),
+            "the norms are `term` and `list`",
+        ),
+        (
+            (3, "refused(certificate,2,1,16).\n"),
+            ("cti(1).\nterminates('app'/3,[[1]]).\n", "p(a).\n"),
+            "write `app` without quotes",
+        ),
+        (
+            (3, "refused(certificate,2,1,16).\n"),
+            ("cti(1).\nterminates(App/3,[[1]]).\n", "p(a).\n"),
+            "put `App` in single quotes: it does not begin with a small letter",
+        ),
+        (
+            (3, "refused(certificate,2,1,16).\n"),
+            ("cti(1).\nterminates(app,[[1]]).\n", "p(a).\n"),
+            "a predicate stands with the number of its arguments, as `app/3`",
+        ),
+        (
+            (3, "refused(certificate,2,1,16).\n"),
+            ("cti(1).\nterminates(app/13,[[1]]).\n", "p(a).\n"),
+            "a predicate has at most 12 arguments",
+        ),
+        (
+            (3, "refused(certificate,2,1,16).\n"),
+            ("cti(1).\nterminates(app/3,[[0]]).\n", "p(a).\n"),
+            "the arguments of a mode are numbered from 1",
+        ),
+        (
+            (3, "refused(certificate,2,1,16).\n"),
+            ("cti(1).\nterminates(app/3,[1]).\n", "p(a).\n"),
+            "each mode is a list of its own, as in `[[1],[2,3]]`",
+        ),
+        (
+            (3, "refused(certificate,2,1,16).\n"),
+            ("cti(1).\nby(01,1,1,[]).\n", "p(a).\n"),
+            "leave out the zeros before a number: write `1`",
+        ),
+        (
+            (3, "refused(certificate,2,1,16).\n"),
+            ("cti(1).\nfalls(2,0,1,1,[]).\n", "p(a).\n"),
+            "`falls` counts clauses, calls, mappings, rows, steps and points from 1",
+        ),
+        (
+            (3, "refused(certificate,2,1,16).\n"),
+            ("cti(1).\npre(app/3,1,1,[1,_,x]).\n", "p(a).\n"),
+            "each argument of a row is `0`, `1` or `x`",
+        ),
+        (
+            (3, "refused(certificate,2,1,16).\n"),
+            ("cti(1).\ngrounds(app/3,1,[1,2,x]).\n", "p(a).\n"),
+            "each argument of a row is `0`, `1` or `x`",
+        ),
+        (
+            (3, "refused(certificate,2,1,16).\n"),
+            ("cti(1).\nfalls(2,1,1,[]).\n", "p(a).\n"),
+            "`falls` has 5 parts, and here 4",
+        ),
+        (
+            (3, "refused(certificate,2,1,16).\n"),
+            ("cti(1).\nfalls(2,1,1,1, []).\n", "p(a).\n"),
+            "each line is a fact, a dot and a newline, without spaces or comments",
+        ),
+        (
+            (1, "no(2,3).\n"),
+            ("cti(1).\nnorm(list).\nterminates(p/0,[[]]).\n", "p.\n"),
+            "`norm` stands in version 2: begin with `cti(2).`",
+        ),
+        (
+            (1, "no(2,3).\n"),
+            ("cti(2).\nterminates(p/0,[[]]).\n", "p.\n"),
+            "in version 2 the second line is `norm(term).` or `norm(list).`",
+        ),
+        (
+            (1, "no(1,3).\n"),
+            ("norm(list).\nterminates(p/0,[[]]).\n", "p.\n"),
+            "a certificate begins with `cti(1).` or `cti(2).`, as `cti infer` writes it",
+        ),
+        (
+            (1, "no(4,3).\n"),
+            (
+                "cti(1).\nterminates(p/0,[[]]).\nby(1,1,1,[]).\nsize(p/0,1,[0]).\n",
+                "p.\n",
+            ),
+            "`size` lines stand before `by` lines",
+        ),
+        (
+            (1, "no(3,3).\n"),
+            ("cti(1).\nterminates(p/0,[[]]).\nby(1,1,1,[]).\n", "p.\n"),
+            "the facts have to stand in their order, or the certificate is of another program",
         ),
         (
             (1, "no(2,4).\n"),
@@ -415,5 +722,18 @@ fn standard_input(rt: HostRuntime) -> Result<(), Fail> {
     let trouble = Trouble::File("-", FileCause::Missing);
     let said = message(alloc, trouble, Texts::none())?;
     assert!(rt; said.ends_with(b"  help: standard input is /dev/stdin\n"));
+    Ok(())
+}
+
+// The query stands in the place of the file.
+#[test]
+fn a_query_for_a_file(rt: HostRuntime) -> Result<(), Fail> {
+    let alloc = rt.alloc();
+    let trouble = Trouble::File("app(X,Y,Z)", FileCause::Exchanged);
+    let said = message(alloc, trouble, Texts::none())?;
+    assert_eq!(rt;
+        said.as_slice(),
+        b"app(X,Y,Z): error: there is no such file\n  help: the file comes before the query: the two may be exchanged\n".as_slice()
+    );
     Ok(())
 }

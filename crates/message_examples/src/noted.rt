@@ -1,6 +1,6 @@
 //! What is noted of predicates without a mode.
 
-use mode_notes::{norm_note, program_notes};
+use mode_notes::{check_note, norm_note, program_notes};
 use std::alloc::{AllocError, Global};
 use std::test::Fail;
 
@@ -81,11 +81,149 @@ a.pl:3:9: note: `p/1` has no mode: nothing known of its arguments gets smaller f
   help: put arguments that belong together into one term
 ",
         ),
+        (
+            "q(_,[]).\nq(X,[_|T]) :- q(X,T).\nr(X,Y) :- q(X,Z),\n    q(Z,Y).\n",
+            "cti(1).\nterminates(q/2,[[2]]).\nterminates(r/2,[]).\nfalls(2,1,1,1,[]).\n",
+            "a.pl:3:11: note: `r/2` has no mode: no ground arguments of a query are enough for all the calls of its clauses: 3:11, 4:5
+    r(X,Y) :- q(X,Z),
+              ^
+  help: call something before it that makes the argument known, or give the clause's head one more argument
+",
+        ),
+        (
+            "c(N) :- M is N-1, c(M).\n",
+            "cti(1).\nterminates(c/1,[]).\nterminates(is/2,[[]]).\nnone(c/1,1).\npoint(1,2,1,[0,0]).\n",
+            "a.pl:1:19: note: `c/1` has no mode: nothing known of its arguments gets smaller from this clause's head to this call
+    c(N) :- M is N-1, c(M).
+                      ^
+  help: give the call something that gets smaller; `cti loop a.pl 'c(A)'` may show that it goes on; integers have size 0, so that no counter gets smaller
+",
+        ),
+        (
+            "d([X|Xs]) :- d([f(X)|Xs]).\n",
+            "cti(1).\nterminates(d/1,[]).\nnone(d/1,1).\npoint(1,1,1,[0,0]).\n",
+            "a.pl:1:14: note: `d/1` has no mode: nothing known of its arguments gets smaller from this clause's head to this call
+    d([X|Xs]) :- d([f(X)|Xs]).
+                 ^
+  help: give the call something that gets smaller; `cti loop a.pl 'd(A)'` may show that it goes on; `cti infer --norm list` may help where a list gets shorter
+",
+        ),
         ("p(a).\n", "cti(1).\nterminates(p/1,[[]]).\n", ""),
         ("p(a).\nq.\n", "cti(1).\nterminates(p/1,[]).\n", ""),
         ("p(a).\n", "cti(1)", ""),
     ] {
         assert!(rt; is_noted(alloc, text, certificate, wanted)?, "{wanted}");
+    }
+    Ok(())
+}
+
+// What is said of certificates of lists.
+#[test]
+fn notes_about_lists(rt: HostRuntime) -> Result<(), Fail> {
+    let alloc = rt.alloc();
+    for (text, certificate, wanted) in [
+        (
+            "p(s(X),Y) :- p(X,s(Y)).\np(X,s(Y)) :- p(s(X),Y).\n",
+            "ctilex(1).\nterminates(p/2,[]).\nnone(p/2,2).\npoint(1,1,1,[0,0]).\npoint(2,1,1,[0,0]).\n",
+            "a.pl:1:14: note: `p/2` has no mode: no list of mappings descends: the calls at 1:14, 2:14 keep each other going
+    p(s(X),Y) :- p(X,s(Y)).
+                 ^
+  help: let one argument, or one sum of arguments, get smaller at each of them
+",
+        ),
+        (
+            "'P q' :- 'P q'.\n",
+            "ctilex(1).\nterminates('P q'/0,[]).\nnone('P q'/0,1).\npoint(1,1,1,[]).\n",
+            "a.pl:1:10: note: `P q/0` has no mode: nothing known of its arguments gets smaller from this clause's head to this call
+    'P q' :- 'P q'.
+             ^
+  help: give the call something that gets smaller
+",
+        ),
+        (
+            "q.\n'P q' :- 'P q'.\n",
+            "ctilex(1).\nterminates(q/0,[[]]).\nterminates('P q'/0,[]).\nblown('P q'/0).\n",
+            "a.pl:2:1: note: `P q/0` has no mode: the search for a list of mappings was given up, since a number or a list grew too large
+    'P q' :- 'P q'.
+    ^
+  help: split the predicate, or give it fewer arguments
+",
+        ),
+        (
+            "p(X) :- q(X,_).\nq(_,[]).\nq(X,[_|T]) :- q(X,T).\n",
+            "ctilex(1).\nterminates(p/1,[]).\nterminates(q/2,[[2]]).\nlevel(q/2,1,1,[0,1],0).\ndrops(3,1,1,1,1,[]).\n",
+            "a.pl:1:9: note: `p/1` has no mode: `q/2` at this call needs argument 2 ground, and no ground arguments of a query make sure of that
+    p(X) :- q(X,_).
+            ^
+  help: call something before it that makes the argument known, or give the clause's head one more argument
+",
+        ),
+        (
+            "p(X) :- q(X), p(X).\nq(a).\n",
+            "ctilex(1).\nterminates(p/1,[]).\nterminates(q/1,[[]]).\ndrops(1,2,1,1,1,[]).\n",
+            "a.pl:1:1: note: `p/1` has no mode: no ground arguments of a query are enough for all the calls of its clauses
+    p(X) :- q(X), p(X).
+    ^
+  help: call something before it that makes the argument known, or give the clause's head one more argument
+",
+        ),
+        ("p(a).\n", "ctilex(1).\nterminates(p/1,[[]]).\n", ""),
+    ] {
+        assert!(rt; is_noted(alloc, text, certificate, wanted)?, "{wanted}");
+    }
+    Ok(())
+}
+
+/// A program whose certificates are broken.
+const APPEND: &str = "app([],L,L).\napp([H|T],L,[H|R]) :- app(T,L,R).\np :- app(_,_,_).\n";
+
+// The fact is named that was expected in the place of the first one that is wrong.
+#[test]
+fn notes_about_certificates(rt: HostRuntime) -> Result<(), Fail> {
+    let alloc = rt.alloc();
+    for (output, facts, wanted) in [
+        (
+            "no(2,3).\n",
+            "terminates(rev/2,[]).\n",
+            "a.cert:2:1: note: `terminates(app/3,..)` was expected here\n",
+        ),
+        (
+            "no(3,2).\n",
+            "terminates(app/3,[]).\n",
+            "a.cert:3:1: note: `terminates(p/0,..)` was expected here\n",
+        ),
+        (
+            "no(5,3).\n",
+            "terminates(app/3,[]).\nterminates(p/0,[]).\nsize(app/3,1,[0,1,1,-1]).\nby(2,1,1,[1]).\n",
+            "a.cert:5:1: note: `by(1,1,..)` was expected here\n",
+        ),
+        (
+            "no(6,3).\n",
+            "terminates(app/3,[]).\nterminates(p/0,[]).\nmeasure(app/3,1,[1,0,0],0).\nmeasure(app/3,2,[0,0,1],0).\nfalls(2,1,1,1,[]).\n",
+            "a.cert:6:1: note: `measure(p/0,1,..)` was expected here\n",
+        ),
+        (
+            "no(7,3).\n",
+            "terminates(app/3,[]).\nterminates(p/0,[]).\nmeasure(app/3,1,[1,0,0],0).\nmeasure(app/3,2,[0,0,1],0).\nmeasure(p/0,1,[],0).\nfalls(2,1,2,1,[]).\n",
+            "a.cert:7:1: note: `falls(2,1,1,..)` was expected here\n",
+        ),
+        (
+            "no(8,3).\n",
+            "terminates(app/3,[]).\nterminates(p/0,[]).\nmeasure(app/3,1,[1,0,0],0).\nmeasure(app/3,2,[0,0,1],0).\nmeasure(p/0,1,[],0).\nfalls(2,1,1,1,[]).\npre(app/3,1,1,[1,x,x]).\n",
+            "a.cert:8:1: note: `falls(2,1,2,..)` was expected here\n",
+        ),
+        (
+            "no(4,3).\n",
+            "terminates(app/3,[]).\nterminates(p/0,[]).\nsize(app/3,2,[0,1,1,-1]).\n",
+            "",
+        ),
+        ("no(2,9).\n", "terminates(app/3,[[2]]).\n", ""),
+        ("yes.\n", "terminates(app/3,[[1]]).\n", ""),
+    ] {
+        let certificate = format!(in alloc; "cti(1).\n{facts}")?;
+        let texts = (APPEND.as_bytes(), certificate.as_bytes());
+        let said = check_note(alloc, "a.cert", texts, output)?;
+        assert!(rt; said.as_slice() == wanted.as_bytes(), "{output}");
     }
     Ok(())
 }

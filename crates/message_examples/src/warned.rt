@@ -16,6 +16,23 @@ fn warnings_about_programs(rt: HostRuntime) -> Result<(), Fail> {
     for (text, wanted) in [
         ("p(X) :- q(X).\nq(_).\n", ""),
         ("p :- true, fail, X = X.\n", ""),
+        ("p :- ( false ; q ).\nq :- 2 < 3.\n", ""),
+        (
+            "p(X) :- X is X mod 2 + 1, ( a < f(X) ; -X =:= 3 * 4 ).\n",
+            "a.pl:1:14: warning: `mod/2` has no value here, so that this goal always fails
+    p(X) :- X is X mod 2 + 1, ( a < f(X) ; -X =:= 3 * 4 ).
+                 ^
+  help: an expression has integers, variables, `+`, `-` and `*` alone: write clauses for what else it needs
+a.pl:1:29: warning: `a/0` has no value here, so that this goal always fails
+    p(X) :- X is X mod 2 + 1, ( a < f(X) ; -X =:= 3 * 4 ).
+                                ^
+  help: an expression has integers, variables, `+`, `-` and `*` alone: write clauses for what else it needs
+a.pl:1:33: warning: `f/1` has no value here, so that this goal always fails
+    p(X) :- X is X mod 2 + 1, ( a < f(X) ; -X =:= 3 * 4 ).
+                                    ^
+  help: an expression has integers, variables, `+`, `-` and `*` alone: write clauses for what else it needs
+",
+        ),
         (":- op(700,xfx,to).\np(_X).\n", ""),
         (
             "p(X) :- q(X).\n",
@@ -31,6 +48,14 @@ fn warnings_about_programs(rt: HostRuntime) -> Result<(), Fail> {
     p(X) :- ( X = a ; member(X, [b]) ), member(X, [c]).
                       ^
   help: libraries are not read: add its clauses
+",
+        ),
+        (
+            "p :- q, false/0.\nq.\n",
+            "a.pl:1:9: warning: `//2` is called and has no clause: here it always fails, so the modes of `p/0` and of its callers say nothing of a program that has it
+    p :- q, false/0.
+            ^
+  help: NAME/ARITY only names a predicate: write a call of it
 ",
         ),
         (

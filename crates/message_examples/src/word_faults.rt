@@ -24,7 +24,26 @@ fn faults_of_words(rt: HostRuntime) -> Result<(), Fail> {
         (&["infer"], "`cti infer` needs the word FILE"),
         (&["check", "a.pl"], "`cti check` needs the word CERT"),
         (&["run", "a.pl"], "`cti run` needs the word QUERY"),
-        (&["infer", "a.pl", "b.pl"], "`b.pl` is one word too many"),
+        (
+            &["infer", "a.pl", "b.pl"],
+            "`cti infer` takes the one word FILE: `b.pl` is too many",
+        ),
+        (
+            &["lex", "a.pl", "b.pl"],
+            "`cti lex` takes the one word FILE: `b.pl` is too many",
+        ),
+        (
+            &["infer", "a.pl", "list"],
+            "`list` is one word too many: write `--norm list`",
+        ),
+        (
+            &["run", "a.pl", "p", "20"],
+            "`20` is one word too many: write `--steps 20`",
+        ),
+        (
+            &["loop", "a.pl", "p", "8"],
+            "`8` is one word too many: write `--depth 8`",
+        ),
         (&["run", "a.pl", "p", "q"], "`q` is one word too many"),
         (&["gen"], "`cti gen` needs the word N"),
         (&["gen", "301"], "`301` is not a number of predicates"),
@@ -33,7 +52,10 @@ fn faults_of_words(rt: HostRuntime) -> Result<(), Fail> {
             &["gen", "00000001"],
             "`00000001` is not a number of predicates",
         ),
-        (&["gen", "5", "6"], "`6` is one word too many"),
+        (
+            &["gen", "5", "6"],
+            "`cti gen` takes the one word N: `6` is too many",
+        ),
         (
             &["infer", "-v", "a.pl"],
             "`-v` is not an option of this command",
