@@ -67,6 +67,11 @@ fn what_was_expected(rt: HostRuntime) -> Result<(), Fail> {
             "the clause before this line has no end dot",
         ),
         (
+            "p :-\n    q\n    r.\n",
+            (3, 5),
+            "a comma or the end dot is missing before this line",
+        ),
+        (
             "p(a). % (\nq b.\n",
             (2, 3),
             "an operator or the end dot was expected here",

@@ -128,7 +128,17 @@ fn mistakes_in_terms(rt: HostRuntime) -> Result<(), Fail> {
         (
             "refused(program,1,15,6).\n",
             "p(X) :- (q(X) | r(X)).",
-            "`|` stands in lists alone: write `;` for it",
+            "`|` stands in lists alone: write `[H|T]` for a list, and `;` for a choice of goals",
+        ),
+        (
+            "refused(program,1,15,6).\n",
+            "p(X) :- X > = 3.",
+            "write `>=` without a space in it",
+        ),
+        (
+            "refused(program,1,18,6).\n",
+            "p(X) :- q(X) - > r(X).",
+            "write `->` without a space in it",
         ),
         (
             "refused(program,1,10,6).\n",
@@ -278,7 +288,7 @@ fn mistakes_in_programs(rt: HostRuntime) -> Result<(), Fail> {
         (
             "refused(program,1,6,11).\n",
             "p :- catch(q,_,true).",
-            "write the goal itself: no goal of a pure program raises an error",
+            "write `(G ; R)` for `catch(G,E,R)`: modes with it hold for the catch",
         ),
         (
             "refused(program,1,6,11).\n",

@@ -25,7 +25,7 @@ fn notes_about_modes(rt: HostRuntime) -> Result<(), Fail> {
             "a.pl:1:9: note: `p/1` has no mode: nothing known of its arguments gets smaller from this clause's head to this call
     p(X) :- p(X).
             ^
-  help: give the call something that gets smaller; `cti loop a.pl 'p(A)'` may show that it goes on
+  help: give the call something that gets smaller; `cti loop a.pl 'p(A)'`, with what you know in the place of variables, may show that it goes on
 ",
         ),
         (
@@ -60,7 +60,7 @@ a.pl:1:12: note: this disjunction has no mode: it calls `p/1`, which has none
 a.pl:3:9: note: `p/1` has no mode: nothing known of its arguments gets smaller from this clause's head to this call
     p(X) :- p(X).
             ^
-  help: give the call something that gets smaller; `cti loop a.pl 'p(A)'` may show that it goes on
+  help: give the call something that gets smaller; `cti loop a.pl 'p(A)'`, with what you know in the place of variables, may show that it goes on
 ",
         ),
         (
@@ -96,7 +96,7 @@ a.pl:3:9: note: `p/1` has no mode: nothing known of its arguments gets smaller f
             "a.pl:1:19: note: `c/1` has no mode: nothing known of its arguments gets smaller from this clause's head to this call
     c(N) :- M is N-1, c(M).
                       ^
-  help: give the call something that gets smaller; `cti loop a.pl 'c(A)'` may show that it goes on; integers have size 0, so that no counter gets smaller
+  help: give the call something that gets smaller; integers have size 0, so that no counter gets smaller
 ",
         ),
         (
@@ -105,7 +105,7 @@ a.pl:3:9: note: `p/1` has no mode: nothing known of its arguments gets smaller f
             "a.pl:1:14: note: `d/1` has no mode: nothing known of its arguments gets smaller from this clause's head to this call
     d([X|Xs]) :- d([f(X)|Xs]).
                  ^
-  help: give the call something that gets smaller; `cti loop a.pl 'd(A)'` may show that it goes on; `cti infer --norm list` may help where a list gets shorter
+  help: give the call something that gets smaller; `cti loop a.pl 'd(A)'`, with what you know in the place of variables, may show that it goes on; `cti infer --norm list` may help where a list gets shorter
 ",
         ),
         ("p(a).\n", "cti(1).\nterminates(p/1,[[]]).\n", ""),

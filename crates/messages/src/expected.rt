@@ -27,6 +27,8 @@ pub enum Expected<'a> {
     Operator,
     #[error("the clause before this line has no end dot")]
     NoDot,
+    #[error("a comma or the end dot is missing before this line")]
+    NoComma,
     #[error("this directive is not read: leave it out")]
     Directive,
     #[error("the text ends within a clause: look for a missing end dot or bracket")]
@@ -105,10 +107,12 @@ fn expected_outside<'a>(subject: Subject, before: &[u8]) -> Expected<'a> {
         Expected::QueryEnd
     } else if ends_in_directive(before) {
         Expected::Directive
-    } else if begins_line(before) {
+    } else if !begins_line(before) {
+        Expected::EndDot
+    } else if before.ends_with(b"\n") {
         Expected::NoDot
     } else {
-        Expected::EndDot
+        Expected::NoComma
     }
 }
 

@@ -4,10 +4,18 @@ use crate::mistake::Mistake;
 use crate::word_reader::{Word, WordReader, shown_name};
 use prolog_tokens::TokenKind;
 
-/// What the first token of a clause shows, whose head is none.
-fn first_mistake<'a>(word: Word<'a>) -> Option<Mistake<'a>> {
+/// Whether a token stands after a whole head.
+fn follows_head(word: Word<'_>) -> bool {
+    word.kind == TokenKind::End || word.text == b":-".as_slice()
+}
+
+/// What the first tokens of a clause show, whose head is none.
+fn first_mistake<'a>(reader: &mut WordReader<'a>) -> Option<Mistake<'a>> {
+    let word = reader.next()?;
     match word.kind {
-        TokenKind::Var => Some(Mistake::VariableName(shown_name(word.text)?)),
+        TokenKind::Var if follows_head(reader.next()?) => {
+            Some(Mistake::VariableName(shown_name(word.text)?))
+        }
         TokenKind::Name if word.text == b"\\+".as_slice() => Some(Mistake::NegatedHead),
         _ => None,
     }
@@ -33,7 +41,7 @@ fn mistake_before_neck<'a>(reader: &mut WordReader<'_>) -> Option<Mistake<'a>> {
         } else if word.closes() {
             depth = depth.saturating_sub(1);
         } else if depth == 0 {
-            if word.kind == TokenKind::End || word.text == b":-".as_slice() {
+            if follows_head(word) {
                 return None;
             }
             if let Some(mistake) = joint_mistake(word) {
@@ -49,5 +57,5 @@ pub fn head_mistake<'a>(text: &'a [u8], at: usize) -> Option<Mistake<'a>> {
     if let Some(mistake) = mistake_before_neck(&mut WordReader::new(text, at)) {
         return Some(mistake);
     }
-    first_mistake(WordReader::new(text, at).next()?)
+    first_mistake(&mut WordReader::new(text, at))
 }

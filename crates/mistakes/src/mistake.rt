@@ -11,6 +11,8 @@ pub enum Mistake<'a> {
     Module(&'a str),
     #[error("`: -` is no operator here: write `:-`")]
     SplitNeck,
+    #[error("write `{0}` without a space in it")]
+    SplitOperator(&'a str),
     #[error("`{0}` is no operator here: correct it, or declare it with `:- op(..)`")]
     NoOperator(&'a str),
     #[error("no term stands before `{0}`: a term is missing, or `{0}` is one too many")]
@@ -27,7 +29,7 @@ pub enum Mistake<'a> {
     NeckInTerm,
     #[error("a list has one `|`, and one term after it: `[a,b|T]`")]
     SecondBar,
-    #[error("`|` stands in lists alone: write `;` for it")]
+    #[error("`|` stands in lists alone: write `[H|T]` for a list, and `;` for a choice of goals")]
     BarOutside,
     #[error("a comment begins with `%`, or stands between `/*` and `*/`")]
     Comment,
@@ -67,7 +69,7 @@ pub enum Mistake<'a> {
     Assert,
     #[error("leave it out: modes without it hold with it, and what it binds stays unknown")]
     Unknown,
-    #[error("write the goal itself: no goal of a pure program raises an error")]
+    #[error("write `(G ; R)` for `catch(G,E,R)`: modes with it hold for the catch")]
     Catch,
     #[error("write `fail` for it: the derivation ends there")]
     Exit,

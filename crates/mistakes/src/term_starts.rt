@@ -20,6 +20,18 @@ fn last_symbols(text: &[u8]) -> &[u8] {
     text.get(start..).unwrap_or(&[])
 }
 
+/// The operator that these symbols at the end of a text make with those before them, from which layout parts them.
+fn split_operator(before: &[u8], symbols: &[u8]) -> Option<&'static str> {
+    let text = before.trim_ascii_end();
+    let end = text.len().saturating_sub(symbols.len());
+    match (last_symbols(text.get(..end)?), symbols) {
+        (b">", b"=") => Some(">="),
+        (b"=", b"<") => Some("=<"),
+        (b"-", b">") => Some("->"),
+        _ => None,
+    }
+}
+
 /// Whether a term can begin with a byte that is no symbol.
 fn begins_term(byte: u8) -> bool {
     byte.is_ascii_alphanumeric() || b"_'\"([{!".contains(&byte)
@@ -38,6 +50,9 @@ pub fn start_mistake<'a>(gap: Gap<'a>) -> Option<Mistake<'a>> {
     }
     if may_declare(gap.operators, symbols) || PREFIX.iter().any(|name| *name == symbols) {
         return None;
+    }
+    if let Some(whole) = split_operator(gap.before, symbols) {
+        return Some(Mistake::SplitOperator(whole));
     }
     let name = shown_name(symbols)?;
     match name {

@@ -162,6 +162,15 @@ impl<'p> Seen<'p> {
         None
     }
 
+    /// The fact that is expected in the place of a fall of a clause: a measure, where the clause's head has none.
+    fn wanted_at_fall(&self, clause: u32) -> Option<Wanted> {
+        let pred = self.listed.table.clause(clause)?.head;
+        if self.measures.count(pred) == 0 {
+            return Some(Wanted::Measure { pred, mapping: 1 });
+        }
+        self.wanted_fall()
+    }
+
     /// The fact that is expected in the place of another one, as far as its kind allows it.
     fn wanted(&self, alloc: Global, found: Option<&Fact>) -> Result<Option<Wanted>, AllocError> {
         if let Some(Fact::Cti { .. } | Fact::Norm { .. }) = found {
@@ -182,10 +191,11 @@ impl<'p> Seen<'p> {
         if let Some(wanted) = self.wanted_measure(alloc)? {
             return Ok(Some(wanted));
         }
-        if let Some(Fact::Measure { .. }) = found {
-            return Ok(None);
+        match found {
+            Some(Fact::Measure { .. }) => Ok(None),
+            Some(Fact::Falls { clause, .. }) => Ok(self.wanted_at_fall(*clause)),
+            _ => Ok(self.wanted_fall()),
         }
-        Ok(self.wanted_fall())
     }
 }
 

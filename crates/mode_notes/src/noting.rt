@@ -30,14 +30,24 @@ fn push_note(
     push_excerpt(message, source.text, place)
 }
 
-/// What to do about a call at which nothing gets smaller.
-fn loop_advice(alloc: Global, source: Source<'_, '_, '_>, pred: u32) -> Result<String, AllocError> {
-    let Some(query) = source.query(alloc, pred)? else {
+/// What to do about a call at which nothing gets smaller. No loop is found behind a step that computes an integer.
+fn loop_advice(
+    alloc: Global,
+    source: Source<'_, '_, '_>,
+    pred: u32,
+    computes: bool,
+) -> Result<String, AllocError> {
+    let query = if computes {
+        None
+    } else {
+        source.query(alloc, pred)?
+    };
+    let Some(query) = query else {
         return format!(in alloc; "give the call something that gets smaller");
     };
     let file = source.name;
     format!(in alloc;
-        "give the call something that gets smaller; `cti loop {file} '{query}'` may show that it goes on"
+        "give the call something that gets smaller; `cti loop {file} '{query}'`, with what you know in the place of variables, may show that it goes on"
     )
 }
 
@@ -132,9 +142,9 @@ fn push_case(
     let note = note_of(why, view.causes, &shown, &callee, &said);
     push_note(alloc, message, source, at, note)?;
     let hint = smaller_hint(source, view, why);
-    match note {
-        Note::OneCall(_) => {
-            let advice = loop_advice(alloc, source, pred)?;
+    match why {
+        Why::OneCall { start } => {
+            let advice = loop_advice(alloc, source, pred, view.counts(start, 1))?;
             push_advice(alloc, message, &advice, hint)
         }
         _ => push_advice(alloc, message, note.advice(), hint),
