@@ -1,5 +1,5 @@
 -- Tests of all numbers and rows.
-use Rattle.std.proofs.Common.{◌≡◌, ℕ, zero, suc, ℤ, List, [], ◌∷◌, ◌<◌, ◌^◌, Bool, true, false, length, get_or, refl, arith}
+use Rattle.std.proofs.Common.{◌≡◌, ℕ, zero, suc, ℤ, List, [], ◌∷◌, ◌++◌, ◌+◌, ◌<◌, ◌^◌, Bool, true, false, length, map, take, get_or, refl, sym, ap, ◌∙◌, arith}
 use Rattle.std.specs.Prelude.{All, ◌&&◌, unsigned_abs}
 use Rattle.std.specs.Cmp.Derive.{both_true}
 use Rattle.std.proofs.lemmas.Bool.{ltb-true}
@@ -33,3 +33,11 @@ rows_fit [] e = All-nil (λ r. All Fits r)
 rows_fit (r ∷ rs) e =
     let two = both (all_of fits r) (numbers_fit rs) e in
     All-cons (λ r. All Fits r) r rs (row_fit r two.0) (rows_fit rs two.1)
+
+-- what holds of the items so far, with one more
+pub mapped_more : {X Y : Type 0} (f : X → Y) (xs : List X) (i : ℕ) (d : X) (y : Y) → i < length xs → y ≡ f (get_or xs i d) → map f (take i xs) ++ y ∷ [] ≡ map f (take (i + 1) xs)
+mapped_more f [] i d y h e = absurd (omega arith)
+mapped_more f (x ∷ xs) zero d y h e = ap (λ z. z ∷ []) e
+mapped_more f (x ∷ xs) (suc i) d y h e =
+    let one : suc i + 1 ≡ suc (i + 1) = omega arith in
+    ap (λ l. f x ∷ l) (mapped_more f xs i d y (omega arith) e) ∙ ap (λ k. map f (take k (x ∷ xs))) (sym one)

@@ -6,6 +6,7 @@ ghost use Rattle.linear_rows.specs.Equation.{equation_from, solved_rows};
 ghost use Rattle.linear_rows.specs.Blown.{solved_rows_fit};
 ghost use Rattle.fourier.specs.Adding.{add_rows, add_solved, add_solved_fits, AllFit, OneLength};
 
+use crate::column::Column;
 use crate::crossing::cross_add;
 use crate::line::Line;
 use crate::lines::Lines;
@@ -36,22 +37,21 @@ pub fn cross_equation(
     rows: &Lines,
     i: usize,
     j: usize,
-    k: usize,
-    last: usize,
+    column: Column,
 ) -> Result<(), RowFault>
     requires fit { AllFit rows.now }
     requires long { OneLength rows.now }
     requires i { i < length rows.now }
     requires j { j < length rows.now }
-    requires rises { pos 1 ≤ℤ entry (slice_index_or rows.now i []) k }
-    requires falls { entry (slice_index_or rows.now j []) k <ℤ pos 0 }
-    ensures kept { OnOk result (kept.new ≡ add_rows last kept.old (solved_rows k i j rows.now)) }
-    ensures fits { OnOk result (solved_rows_fit k i j rows.now ≡ true) }
-    ensures wide { result ≡ Err RowFault.Wide → solved_rows_fit k i j rows.now ≡ false }
+    requires rises { pos 1 ≤ℤ entry (slice_index_or rows.now i []) column.k }
+    requires falls { entry (slice_index_or rows.now j []) column.k <ℤ pos 0 }
+    ensures kept { OnOk result (kept.new ≡ add_rows column.last kept.old (solved_rows column.k i j rows.now)) }
+    ensures fits { OnOk result (solved_rows_fit column.k i j rows.now ≡ true) }
+    ensures wide { result ≡ Err RowFault.Wide → solved_rows_fit column.k i j rows.now ≡ false }
 {
     for p in 0..rows.len() {
         if elsewhere(p, i, j) {
-            match cross_solved(alloc, kept, rows.get(i), rows.get(j), rows.get(p), k, last) {
+            match cross_solved(alloc, kept, rows.get(i), rows.get(j), rows.get(p), column) {
                 Ok(()) => {}
                 Err(fault) => return Err(fault),
             }
@@ -74,24 +74,23 @@ fn cross_solved(
     r: &Line,
     s: &Line,
     q: &Line,
-    k: usize,
-    last: usize,
+    column: Column,
 ) -> Result<(), RowFault>
     requires long_r { length r.now ≡ length q.now }
     requires long_s { length q.now ≡ length s.now }
-    requires rises { pos 1 ≤ℤ entry r.now k }
-    requires falls { entry s.now k <ℤ pos 0 }
-    requires fits { Fits (entry s.now k) }
-    requires fits_q { Fits (entry q.now k) }
-    ensures kept { OnOk result (kept.new ≡ add_solved last k r.now s.now kept.old q.now) }
-    ensures fits { OnOk result (add_solved_fits k r.now s.now q.now ≡ true) }
-    ensures wide { result ≡ Err RowFault.Wide → add_solved_fits k r.now s.now q.now ≡ false }
+    requires rises { pos 1 ≤ℤ entry r.now column.k }
+    requires falls { entry s.now column.k <ℤ pos 0 }
+    requires fits { Fits (entry s.now column.k) }
+    requires fits_q { Fits (entry q.now column.k) }
+    ensures kept { OnOk result (kept.new ≡ add_solved column.last column.k r.now s.now kept.old q.now) }
+    ensures fits { OnOk result (add_solved_fits column.k r.now s.now q.now ≡ true) }
+    ensures wide { result ≡ Err RowFault.Wide → add_solved_fits column.k r.now s.now q.now ≡ false }
 {
-    if is_negative(q.entry(k)) {
-        return cross_add(alloc, kept, r, q, k, last);
+    if is_negative(q.entry(column.k)) {
+        return cross_add(alloc, kept, r, q, column);
     }
-    if is_positive(q.entry(k)) {
-        return cross_add(alloc, kept, q, s, k, last);
+    if is_positive(q.entry(column.k)) {
+        return cross_add(alloc, kept, q, s, column);
     }
     Ok(())
 }

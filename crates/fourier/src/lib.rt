@@ -9,6 +9,7 @@
 mod bounding;
 mod checking;
 mod cleaning;
+mod column;
 mod comparing;
 mod converting;
 mod crossing;

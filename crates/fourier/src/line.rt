@@ -52,6 +52,18 @@ impl Line {
         }
     }
 
+    /// Makes the row of no numbers, with room for a number of those that are not 0.
+    fn with_room(alloc: Global, count: usize) -> Result<Self, AllocError>
+        ensures { IfOk result (λ row. row ≡ []) }
+    {
+        let parts = Vec::with_capacity(alloc, count)?;
+        Ok(Line {
+            parts,
+            tail: 0,
+            long: 0,
+        })
+    }
+
     /// How many numbers there are.
     pub fn len(&self) -> usize
         ensures { result ≡ length self.now }
@@ -284,7 +296,7 @@ fn merge(
     ensures fits { IfOk result (λ _. blend_fits a b (spread r.now r_tail) (spread s.now s_tail) ≡ true) }
     ensures wide { result ≡ Err RowFault.Wide → blend_fits a b (spread r.now r_tail) (spread s.now s_tail) ≡ false }
 {
-    let mut out = Line::new(alloc);
+    let mut out = Line::with_room(alloc, r.len().saturating_add(s.len()))?;
     let mut p = place_at(r, r_tail, 0);
     let mut q = place_at(s, s_tail, 0);
     while p.index < r.len() || q.index < s.len() {

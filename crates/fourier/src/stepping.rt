@@ -6,6 +6,7 @@ ghost use Rattle.fourier.specs.Adding.{add_rows, AllFit, OneLength};
 ghost use Rattle.fourier.specs.Saying.{FitsUnless, StepSays};
 
 use crate::cleaning::{MOST_ROWS, add_without};
+use crate::column::Column;
 use crate::crossing::cross_rising;
 use crate::equations::{cross_equation, equation};
 use crate::fault::StepFault;
@@ -96,8 +97,9 @@ fn combinations(
     ensures fits { OnOk result (FitsUnless brief kept.new (step_fits last k rows.now)) }
     ensures wide { result ≡ Err RowFault.Wide → step_fits last k rows.now ≡ false }
 {
+    let column = Column { k, last };
     match equation(rows, k, last + 1) {
-        Some((i, j)) => cross_equation(alloc, kept, rows, i, j, k, last),
-        None => cross_rising(alloc, kept, rows, k, last, brief),
+        Some((i, j)) => cross_equation(alloc, kept, rows, i, j, column),
+        None => cross_rising(alloc, kept, rows, column, brief),
     }
 }

@@ -6,4 +6,4 @@ use Rattle.fourier.proofs.Loops.{Done}
 use Rattle.fourier.proofs.crossing.cross_falling.Given as goal
 
 abbrev pub invariant-loop-j : goal.invariant-loop-j
-invariant-loop-j l = Done (λ kept s. add_row l.last kept (crossed l.k l.r s)) (crossed_fits l.k l.r) l.initial.kept (falling l.k (take l.j l.rows)) l.kept
+invariant-loop-j l = Done (λ kept s. add_row l.column.last kept (crossed l.column.k l.r s)) (crossed_fits l.column.k l.r) l.initial.kept (falling l.column.k (take l.j l.rows)) l.kept

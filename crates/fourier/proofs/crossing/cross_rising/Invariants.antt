@@ -6,4 +6,4 @@ use Rattle.fourier.proofs.Loops.{Done}
 use Rattle.fourier.proofs.crossing.cross_rising.Given as goal
 
 abbrev pub invariant-loop-i : goal.invariant-loop-i
-invariant-loop-i l = Done (λ kept r. add_rows l.last kept (map (λ s. crossed l.k r s) (falling l.k l.rows))) (λ r. all_of (crossed_fits l.k r) (falling l.k l.rows)) l.initial.kept (rising l.k (take l.i l.rows)) l.kept
+invariant-loop-i l = Done (λ kept r. add_rows l.column.last kept (map (λ s. crossed l.column.k r s) (falling l.column.k l.rows))) (λ r. all_of (crossed_fits l.column.k r) (falling l.column.k l.rows)) l.initial.kept (rising l.column.k (take l.i l.rows)) l.kept

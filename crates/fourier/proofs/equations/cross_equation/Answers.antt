@@ -11,12 +11,12 @@ loop-p-preserved c =
     elim c.if-elsewhere.branch [
       | then-elsewhere+in-Ok w ↦
           let t : not (nat_eq c.loop-p.p c.args.i || nat_eq c.loop-p.p c.args.j) ≡ true = cc (c.elsewhere.ensures, w.if-elsewhere.true) in
-          let n : c.if-elsewhere.kept ≡ add_solved c.args.last c.args.k (get_or c.args.rows.now c.args.i []) (get_or c.args.rows.now c.args.j []) c.loop-p.kept w.get-then-elsewhere-2.result.now = w.kept-is ∙ w.in-Ok.ensures.kept ∙ cc (w.get.ensures, w.get-then-elsewhere.ensures) in
-          let f : add_solved_fits c.args.k (get_or c.args.rows.now c.args.i []) (get_or c.args.rows.now c.args.j []) w.get-then-elsewhere-2.result.now ≡ true = cc (w.in-Ok.ensures.fits, w.get.ensures, w.get-then-elsewhere.ensures) in
-          place_yes c.args.last c.args.k c.args.i c.args.j c.loop-p.p (get_or c.args.rows.now c.args.i []) (get_or c.args.rows.now c.args.j []) w.get-then-elsewhere-2.result.now c.args.kept.now c.loop-p.kept c.if-elsewhere.kept c.args.rows.now lt t w.get-then-elsewhere-2.ensures c.loop-p.invariant n f
+          let n : c.if-elsewhere.kept ≡ add_solved c.args.column.last c.args.column.k (get_or c.args.rows.now c.args.i []) (get_or c.args.rows.now c.args.j []) c.loop-p.kept w.get-then-elsewhere-2.result.now = w.kept-is ∙ w.in-Ok.ensures.kept ∙ cc (w.get.ensures, w.get-then-elsewhere.ensures) in
+          let f : add_solved_fits c.args.column.k (get_or c.args.rows.now c.args.i []) (get_or c.args.rows.now c.args.j []) w.get-then-elsewhere-2.result.now ≡ true = cc (w.in-Ok.ensures.fits, w.get.ensures, w.get-then-elsewhere.ensures) in
+          place_yes c.args.column.last c.args.column.k c.args.i c.args.j c.loop-p.p (get_or c.args.rows.now c.args.i []) (get_or c.args.rows.now c.args.j []) w.get-then-elsewhere-2.result.now c.args.kept.now c.loop-p.kept c.if-elsewhere.kept c.args.rows.now lt t w.get-then-elsewhere-2.ensures c.loop-p.invariant n f
       | else-elsewhere w ↦
           let t : not (nat_eq c.loop-p.p c.args.i || nat_eq c.loop-p.p c.args.j) ≡ false = cc (c.elsewhere.ensures, w.if-elsewhere.false) in
-          rw w.kept-is (place_no c.args.last c.args.k c.args.i c.args.j c.loop-p.p (get_or c.args.rows.now c.args.i []) (get_or c.args.rows.now c.args.j []) c.args.kept.now c.loop-p.kept c.args.rows.now lt t c.loop-p.invariant)
+          rw w.kept-is (place_no c.args.column.last c.args.column.k c.args.i c.args.j c.loop-p.p (get_or c.args.rows.now c.args.i []) (get_or c.args.rows.now c.args.j []) c.args.kept.now c.loop-p.kept c.args.rows.now lt t c.loop-p.invariant)
     ]
 
 pub returns-in-Err-clause-wide : goal.returns-in-Err-clause-wide
@@ -25,16 +25,16 @@ returns-in-Err-clause-wide c =
     let t : not (nat_eq c.loop-p.p c.args.i || nat_eq c.loop-p.p c.args.j) ≡ true = cc (c.elsewhere.ensures, c.if-elsewhere.true) in
     λ is.
     let wide = c.in-Err.ensures.wide is in
-    let f : add_solved_fits c.args.k (get_or c.args.rows.now c.args.i []) (get_or c.args.rows.now c.args.j []) c.get-then-elsewhere-2.result.now ≡ false = cc (wide, c.get.ensures, c.get-then-elsewhere.ensures) in
-    solved_fit c.args.k c.args.i c.args.j c.args.rows.now false
-    (place_wide c.args.k c.args.i c.args.j c.loop-p.p (get_or c.args.rows.now c.args.i []) (get_or c.args.rows.now c.args.j []) c.get-then-elsewhere-2.result.now c.args.rows.now lt t c.get-then-elsewhere-2.ensures f)
+    let f : add_solved_fits c.args.column.k (get_or c.args.rows.now c.args.i []) (get_or c.args.rows.now c.args.j []) c.get-then-elsewhere-2.result.now ≡ false = cc (wide, c.get.ensures, c.get-then-elsewhere.ensures) in
+    solved_fit c.args.column.k c.args.i c.args.j c.args.rows.now false
+    (place_wide c.args.column.k c.args.i c.args.j c.loop-p.p (get_or c.args.rows.now c.args.i []) (get_or c.args.rows.now c.args.j []) c.get-then-elsewhere-2.result.now c.args.rows.now lt t c.get-then-elsewhere-2.ensures f)
 
 pub returns-clause-kept : goal.returns-clause-kept
 returns-clause-kept c =
     let all = take_all c.args.rows.now c.loop-p.p (omega arith) in
-    solved_kept c.args.last c.args.k c.args.i c.args.j c.args.kept.now c.args.rows.now c.loop-p.kept (rw all at c.loop-p.invariant.kept_is)
+    solved_kept c.args.column.last c.args.column.k c.args.i c.args.j c.args.kept.now c.args.rows.now c.loop-p.kept (rw all at c.loop-p.invariant.kept_is)
 
 pub returns-clause-fits : goal.returns-clause-fits
 returns-clause-fits c =
     let all = take_all c.args.rows.now c.loop-p.p (omega arith) in
-    solved_fit c.args.k c.args.i c.args.j c.args.rows.now true (rw all at c.loop-p.invariant.pass)
+    solved_fit c.args.column.k c.args.i c.args.j c.args.rows.now true (rw all at c.loop-p.invariant.pass)

@@ -5,4 +5,4 @@ use Rattle.fourier.proofs.Loops.{Done}
 use Rattle.fourier.proofs.equations.cross_equation.Given as goal
 
 abbrev pub invariant-loop-p : goal.invariant-loop-p
-invariant-loop-p l = Done (add_solved l.last l.k (get_or l.rows l.i []) (get_or l.rows l.j [])) (add_solved_fits l.k (get_or l.rows l.i []) (get_or l.rows l.j [])) l.initial.kept (other_places 0 l.i l.j (take l.p l.rows)) l.kept
+invariant-loop-p l = Done (add_solved l.column.last l.column.k (get_or l.rows l.i []) (get_or l.rows l.j [])) (add_solved_fits l.column.k (get_or l.rows l.i []) (get_or l.rows l.j [])) l.initial.kept (other_places 0 l.i l.j (take l.p l.rows)) l.kept
