@@ -1,7 +1,5 @@
 -- The rows of earlier components, put into a state, and what a component's run makes of it.
-use Rattle.std.proofs.Common.{◌≡◌, ℕ, zero, suc, ◌+◌, ◌-◌, ◌<◌, ◌==◌, ◌&&◌, nat_le, nat_lt, ℤ, Bool, true, false, if◌then◌else◌, inl, inr, ◌⊎◌, List, [], ◌∷◌, ◌++◌, map, length, slice_get, slice_set, Option, None, Some, refl, ap, sym, subst, ◌∙◌, arith, eqb-true}
-use Rattle.std.specs.Prelude.{All}
-use Rattle.std.specs.List.{flat_map}
+use Rattle.std.proofs.Common.{◌≡◌, ℕ, ◌+◌, ◌<◌, ◌==◌, ◌&&◌, nat_le, nat_lt, ℤ, Bool, true, false, if◌then◌else◌, inl, inr, List, [], ◌++◌, map, length, slice_get, slice_set, Option, None, Some, refl, ap, sym, subst, ◌∙◌, arith, eqb-true}
 use Rattle.std.proofs.lemmas.Bool.{cases_eq}
 use Rattle.std.proofs.lemmas.Bool.Decides.{nat_tests}
 use Rattle.std.proofs.lemmas.List.{length-set}
@@ -9,7 +7,6 @@ use Rattle.call_components.specs.Partition.{Partition, AreComponents, IsIn}
 use Rattle.call_components.proofs.Lists.{slice_get-set_same, slice_get-set_other}
 use Rattle.cti_terms.specs.Listing.{Listing, IsProgram}
 use Rattle.cti_terms.specs.Tree.{Tree}
-use Rattle.cti_terms.specs.declared.clauses.Clause.{Clause}
 use Rattle.cti_terms.specs.declared.predicates.Pred.{Pred}
 use Rattle.linear_rows.specs.Plain.{plain_rows, HaveWidth}
 use Rattle.linear_rows.specs.declared.row.Rows.{Rows}
@@ -22,9 +19,8 @@ use Rattle.termination_model.specs.ChainRows.{AreSpoken}
 use Rattle.numeric_model.specs.Parts.{IsPartOf, is_before, starting}
 use Rattle.numeric_model.specs.Running.{IsRun, rows_in}
 use Rattle.numeric_model.specs.declared.chain.Chain.{Chain}
-use Rattle.numeric_model.specs.States.{IsState, IsValueOf, every, is_from, own_from, plain_step}
+use Rattle.numeric_model.specs.States.{IsState, every, is_from, own_from, plain_step}
 use Rattle.numeric_model.specs.declared.state.State.{State}
-use Rattle.numeric_model.specs.declared.value.Value.{Value}
 use Rattle.numeric_model.proofs.Chaining.{listed_fit}
 use Rattle.numeric_model.proofs.Taking.{rows_set}
 

@@ -1,5 +1,5 @@
 -- The row of constant -1 and zeros among rows.
-use Rattle.std.proofs.Common.{◌≡◌, ℕ, zero, suc, ◌<◌, ℤ, pos, List, [], ◌∷◌, map, length, slice_get, Some, refl, ap, sym, ◌∙◌, arith, inl, inr}
+use Rattle.std.proofs.Common.{◌≡◌, ℕ, suc, ◌<◌, ℤ, pos, List, [], ◌∷◌, map, length, slice_get, Some, refl, ap, sym, ◌∙◌, arith, inl, inr}
 use Rattle.exact128.specs.Sums.{entry}
 use Rattle.linear_rows.specs.Members.{In}
 use Rattle.linear_rows.specs.Plain.{plain_row}

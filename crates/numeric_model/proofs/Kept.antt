@@ -1,6 +1,6 @@
 -- What keeping rows gives: facts of sublists, and what multipliers show.
-use Rattle.std.proofs.Common.{◌≡◌, ◌≢◌, ℕ, zero, suc, ◌<◌, ℤ, pos, negsuc, Bool, true, false, ◌⊎◌, inl, List, [], ◌∷◌, length, refl, ap, sym, subst, arith}
-use Rattle.std.specs.Prelude.{All, ◌≤ℤ◌}
+use Rattle.std.proofs.Common.{◌≡◌, ◌≢◌, ℕ, suc, ◌<◌, ℤ, Bool, true, false, ◌⊎◌, inl, List, [], ◌∷◌, length, refl, sym, subst, arith}
+use Rattle.std.specs.Prelude.{All}
 use Rattle.std.specs.List.{AllByRecursion}
 use Rattle.termination_model.proofs.ChainHeads.{bottom_fails_over}
 use Rattle.linear_rows.specs.Rows.{Holds, HoldsOn, AreEmpty}

@@ -1,5 +1,5 @@
 -- A step on a clause's system is a step of the clause.
-use Rattle.std.proofs.Common.{◌≡◌, ℕ, zero, suc, ◌+◌, ℤ, pos, negsuc, Bool, true, false, ◌&&◌, if◌then◌else◌, ◌⊎◌, inl, inr, List, [], ◌∷◌, ◌++◌, map, length, not, None, Some, refl, ap, sym, subst, ◌∙◌, arith}
+use Rattle.std.proofs.Common.{◌≡◌, ℕ, suc, ◌+◌, ℤ, pos, negsuc, Bool, true, false, ◌&&◌, if◌then◌else◌, ◌⊎◌, inl, inr, List, [], ◌∷◌, ◌++◌, map, length, not, None, refl, ap, sym, subst, ◌∙◌}
 use Rattle.std.specs.Prelude.{◌↔◌, ◌||◌}
 use Rattle.std.specs.List.{AllByRecursion}
 use Rattle.exact128.specs.Fits.{fits}
@@ -174,7 +174,7 @@ module _ (speaks : List ℤ → Bool) (expression : ℕ → Tree → List ℤ) (
   whole_parts : (P : ℕ → List (List ℤ) → List (List ℤ) → Type 0) → s.wide ≡ false → P s.variables (plain_rows s.rows.list) (plain_rows s.head.list) → P k.vars whole heads
   whole_parts P e h = subst (λ (x : List (List ℤ)). P k.vars x heads) (narrow e) (parts P h)
 
-  image_is : (image : List (List ℤ)) (weak : Bool) → SaysImage speaks s image weak → IsLegalImage speaks expression rows k weak image
+  pub image_is : (image : List (List ℤ)) (weak : Bool) → SaysImage speaks s image weak → IsLegalImage speaks expression rows k weak image
   image_is image true (inl w, e) = (wide_image k.vars heads whole (sym is.wide ∙ w), e)
   image_is image true (inr b, e) = (go s.wide refl, e)
     where
@@ -193,13 +193,18 @@ module _ (speaks : List ℤ → Bool) (expression : ℕ → Tree → List ℤ) (
   }
 
   -- the step is legal for the clause
-  pub step_is : (pass : ℕ) (image : List (List ℤ)) (image_weak : Bool) → SaysImage speaks s image image_weak → (old new : List (List ℤ)) (weak : Bool) (how : How)
+  pub step_from : (pass : ℕ) (image : List (List ℤ)) (image_weak : Bool) → IsLegalImage speaks expression rows k image_weak image → (old new : List (List ℤ)) (weak : Bool) (how : How)
       → HasLegalRows speaks (arity_of s) (HoldsFor s) (FailsFor s) (IsBlownOn s) pass old image weak how new → old ≡ rows k.head.pred.0
       → (number : ℕ) → IsLegalStep speaks expression pass rows k (record { clause = number; image = image; image_weak = image_weak; how = how; rows = new; weak = weak })
-  step_is pass image image_weak says old new weak how legal old_is number = record {
-    image = image_is image image_weak says;
+  step_from pass image image_weak legal_image old new weak how legal old_is number = record {
+    image = legal_image;
     legal =
         let mapped = legal_map speaks (arity_of s) (HoldsFor s) (FailsFor s) (IsBlownOn s) (HoldsHere speaks expression rows k) (FailsHere speaks expression rows k) (IsBlownHere speaks expression rows k) holds fails blown pass old image weak how new legal in
         let Rules : ℕ → List (List ℤ) → Type 0 = λ n o. HasLegalRows speaks n (HoldsHere speaks expression rows k) (FailsHere speaks expression rows k) (IsBlownHere speaks expression rows k) pass o image weak how new in
         subst (λ (o : List (List ℤ)). Rules (length k.head.args) o) old_is (subst (λ (n : ℕ). Rules n old) arity_is mapped);
   }
+
+  pub step_is : (pass : ℕ) (image : List (List ℤ)) (image_weak : Bool) → SaysImage speaks s image image_weak → (old new : List (List ℤ)) (weak : Bool) (how : How)
+      → HasLegalRows speaks (arity_of s) (HoldsFor s) (FailsFor s) (IsBlownOn s) pass old image weak how new → old ≡ rows k.head.pred.0
+      → (number : ℕ) → IsLegalStep speaks expression pass rows k (record { clause = number; image = image; image_weak = image_weak; how = how; rows = new; weak = weak })
+  step_is pass image image_weak says = step_from pass image image_weak (image_is image image_weak says)

@@ -10,8 +10,10 @@
 mod chain;
 mod component;
 mod filled;
+mod latest;
 mod noting;
 mod own_clauses;
+mod repeating;
 mod running;
 mod solving;
 mod state;

@@ -2,16 +2,61 @@
 ghost use Rattle.std.specs.Prelude.{◌≡◌, ◌≤◌, ◌<◌, ◌-◌, ℕ, true, IfOk, OnOk, length, slice_get, Some};
 ghost use Rattle.std.specs.List.{AllByRecursion};
 ghost use Rattle.cti_terms.specs.declared.clauses.Clause.{Clause};
+ghost use Rattle.numeric_model.specs.Noting.{HasRowsOf, IsNoted};
+ghost use Rattle.numeric_model.specs.Repeating.{IsMarked, WereLegal};
 ghost use Rattle.numeric_model.specs.Running.{IsPassed, IsRun, IsTaken, with_clauses};
 ghost use Rattle.numeric_model.specs.States.{IsState, own_from};
+ghost use Rattle.termination_model.specs.Sizes.{AreSizes, rows_of};
 
-use crate::noting::note_step;
+use crate::filled::Filled;
+use crate::noting::{Noted, note_step};
+use crate::repeating::note_again;
 use crate::state::State;
+use crate::value::Value;
 use call_components::Components;
 use cti_terms::Program;
 use polyhedra::Domain;
 use std::alloc::{AllocError, Global};
 use term_size::Norm;
+
+// What a step on clause `k` does to the value of its head's predicate. Where the rows that it reads are those that the last
+// one read, it takes that one's image, if the head's rows stay.
+fn note<D: Domain, N: Norm>(
+    alloc: Global,
+    p: &Program,
+    norm: &N,
+    k: u32,
+    pass: u32,
+    state: &State<D>,
+    value: &Value<D>,
+) -> Result<Noted<D>, AllocError>
+    requires first { 1 ≤ k }
+    requires last { k ≤ length p.now.clauses }
+    requires sizes { AreSizes p.now.preds state.now.sizes.rows }
+    requires legal { WereLegal D.speaks (N.expression norm.now) p.now state.now }
+    requires old { (c : Clause) → slice_get p.now.clauses (k - 1) ≡ Some c
+        → HasRowsOf (rows_of state.now.sizes.rows) c value.now.filled (D.width value.now.of) (D.listed value.now.of) }
+    ensures { IfOk result (λ noted. (c : Clause) → slice_get p.now.clauses (k - 1) ≡ Some c
+        → IsNoted D.width D.listed D.speaks (N.expression norm.now) pass (rows_of state.now.sizes.rows) c k value.now.filled noted) }
+{
+    if let Filled::Inhabited = value.filled {
+        if let Some(earlier) = state.last_step(k, p.clause(k).body.as_slice()) {
+            if let Some(noted) = note_again(alloc, p, norm, &state.sizes, &value.of, earlier)? {
+                return Ok(noted);
+            }
+        }
+    }
+    note_step(
+        alloc,
+        p,
+        norm,
+        &state.sizes,
+        &value.of,
+        value.filled,
+        k,
+        pass,
+    )
+}
 
 // A step on clause `k`. It says whether rows changed.
 fn run_step<D: Domain, N: Norm>(
@@ -28,22 +73,15 @@ fn run_step<D: Domain, N: Norm>(
     requires last { k ≤ length p.now.clauses }
     requires head { (x : Clause) → slice_get p.now.clauses (k - 1) ≡ Some x → own_from comps.now c x.head.pred.0 ≡ true }
     requires state { IsState D.width D.listed (own_from comps.now c) p.now state.old }
+    requires legal { WereLegal D.speaks (N.expression norm.now) p.now state.old }
     ensures state { OnOk result (IsState D.width D.listed (own_from comps.now c) p.now state.new) }
     ensures taken { IfOk result (λ changed. (x : Clause) → slice_get p.now.clauses (k - 1) ≡ Some x
-        → IsTaken D.width D.listed D.speaks (N.expression norm.now) pass (k, x) state.old state.new changed) }
+        → IsTaken D.width D.listed D.speaks (N.expression norm.now) pass (k, x) state.old state.new changed
+        × IsMarked x.head.pred.0 state.old state.new changed) }
 {
     let pred = p.clause(k).head.pred;
     let value = &state.values[pred.0 as usize];
-    let noted = note_step(
-        alloc,
-        p,
-        norm,
-        &state.sizes,
-        &value.of,
-        value.filled,
-        k,
-        pass,
-    )?;
+    let noted = note(alloc, p, norm, k, pass, state, value)?;
     state.accept(alloc, k, pred, noted)
 }
 
@@ -61,7 +99,9 @@ fn run_pass<D: Domain, N: Norm>(
     requires own { AllByRecursion (λ k. (1 ≤ k) × (k ≤ length p.now.clauses)) own.now }
     requires heads { (j k : ℕ) (x : Clause) → slice_get own.now j ≡ Some k → slice_get p.now.clauses (k - 1) ≡ Some x → own_from comps.now c x.head.pred.0 ≡ true }
     requires state { IsState D.width D.listed (own_from comps.now c) p.now state.old }
+    requires legal { WereLegal D.speaks (N.expression norm.now) p.now state.old }
     ensures state { OnOk result (IsState D.width D.listed (own_from comps.now c) p.now state.new) }
+    ensures legal { OnOk result (WereLegal D.speaks (N.expression norm.now) p.now state.new) }
     ensures passed { IfOk result
         (IsPassed D.width D.listed D.speaks (N.expression norm.now) pass (with_clauses p.now.clauses own.now) state.old state.new) }
 {
@@ -86,7 +126,9 @@ pub(crate) fn run_component<D: Domain, N: Norm>(
     requires own { AllByRecursion (λ k. (1 ≤ k) × (k ≤ length p.now.clauses)) own.now }
     requires heads { (j k : ℕ) (x : Clause) → slice_get own.now j ≡ Some k → slice_get p.now.clauses (k - 1) ≡ Some x → own_from comps.now c x.head.pred.0 ≡ true }
     requires state { IsState D.width D.listed (own_from comps.now c) p.now state.old }
+    requires legal { WereLegal D.speaks (N.expression norm.now) p.now state.old }
     ensures state { OnOk result (IsState D.width D.listed (own_from comps.now c) p.now state.new) }
+    ensures legal { OnOk result (WereLegal D.speaks (N.expression norm.now) p.now state.new) }
     ensures run { OnOk result (IsRun D.width D.listed D.speaks (N.expression norm.now) (with_clauses p.now.clauses own.now) state.old state.new) }
 {
     let mut number = 1;

@@ -1,18 +1,20 @@
 // The state of a chain: the rows of each predicate, and the steps so far.
-ghost use Rattle.std.specs.Prelude.{◌≡◌, ◌≤◌, ◌<◌, ◌-◌, IfOk, OnOk, length, [], ◌∷◌, slice_get, Some};
+ghost use Rattle.std.specs.Prelude.{◌≡◌, ◌≤◌, ◌<◌, ◌-◌, IfOk, IfSome, OnOk, length, [], ◌∷◌, slice_get, Some};
 ghost use Rattle.cti_terms.specs.Listing.{IsProgram, Listing};
 ghost use Rattle.linear_rows.specs.declared.row.Rows.{Rows};
 ghost use Rattle.termination_model.specs.Chain.{start_rows};
 ghost use Rattle.termination_model.specs.Sizes.{rows_of};
+ghost use Rattle.numeric_model.specs.Repeating.{IsLastStep, IsMarked};
 ghost use Rattle.numeric_model.specs.States.{AreStatedTo, IfReplaced, IsAccepted, IsAdded, IsFresh, IsState, IsStatedAt, every};
 
 use crate::chain::Chain;
 use crate::filled::Filled;
+use crate::latest::Latest;
 use crate::noting::Noted;
 use crate::step::Step;
 use crate::stepped::Stepped;
 use crate::value::Value;
-use cti_terms::{Builtin, PredId, Program};
+use cti_terms::{Atom, Builtin, PredId, Program};
 use linear_rows::Multipliers;
 use polyhedra::Domain;
 use sequences::Sequence;
@@ -29,6 +31,8 @@ pub(crate) struct State<D> {
     pub(crate) proofs: Vec<Sequence<Multipliers>>,
     /// The steps so far.
     pub(crate) steps: Sequence<Step>,
+    /// Which of them were the last ones.
+    pub(crate) latest: Latest,
 }
 
 impl<D: Drop> Drop for State<D> {
@@ -38,6 +42,7 @@ impl<D: Drop> Drop for State<D> {
             values: _,
             proofs: _,
             steps: _,
+            latest: _,
         } = self;
     }
 }
@@ -57,6 +62,7 @@ impl<D: Domain> State<D> {
             values: Vec::new(alloc),
             proofs: Vec::new(alloc),
             steps: Sequence::new(alloc),
+            latest: Latest::new(alloc, p)?,
         };
         state.add_values(alloc, p)?;
         state.put_stated(alloc, p)?;
@@ -149,7 +155,8 @@ impl<D: Domain> State<D> {
         requires last { k ≤ length self.old.proofs.items }
         requires rows { pred.0 < length self.old.sizes.rows }
         requires values { pred.0 < length self.old.values.items }
-        ensures { IfOk result (IsAccepted D.width D.listed pred.0 k noted self.old self.new) }
+        ensures accepted { IfOk result (IsAccepted D.width D.listed pred.0 k noted self.old self.new) }
+        ensures marked { IfOk result (IsMarked pred.0 self.old self.new) }
     {
         let Noted {
             image,
@@ -173,8 +180,24 @@ impl<D: Domain> State<D> {
             rows,
             step_weak: weak,
         })?;
+        self.latest.note(k, pred, self.steps.len(), changed);
         self.proofs[k as usize - 1] = by;
         Ok(changed)
+    }
+
+    /// The last step on clause `k`, if it had one and the rows of these atoms' predicates are still those that it read.
+    pub(crate) fn last_step(&self, k: u32, body: &[Atom]) -> Option<&Step>
+        requires { 1 ≤ k }
+        ensures { IfSome result (λ step. IsLastStep self.now k body.now step.now) }
+    {
+        let place = self.latest.place_of(k)?;
+        if place >= self.steps.len() || self.steps.get(place).clause != k {
+            return None;
+        }
+        if !self.latest.have_stayed(body, place) {
+            return None;
+        }
+        Some(self.steps.get(place))
     }
 
     // Puts a new value in the place of a predicate's, if there is one, and says whether there is.
@@ -190,6 +213,7 @@ impl<D: Domain> State<D> {
         ensures replaced { IfOk result (IfReplaced D.width D.listed pred.0 next filled self.old self.new) }
         ensures proofs { OnOk result (self.new.proofs ≡ self.old.proofs) }
         ensures steps { OnOk result (self.new.steps ≡ self.old.steps) }
+        ensures latest { OnOk result (self.new.latest ≡ self.old.latest) }
     {
         match next {
             None => Ok(false),
@@ -213,6 +237,7 @@ impl<D: Domain> State<D> {
             values: _,
             proofs,
             steps,
+            latest: _,
         } = self;
         sizes.proofs = Sequence::from_vec(proofs);
         Chain { steps, sizes }

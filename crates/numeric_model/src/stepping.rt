@@ -21,8 +21,8 @@ use simplex::Held;
 use std::alloc::{AllocError, Global};
 use termination_model::How;
 
-// How many rows a value lists.
-fn count<D: Domain>(value: &D) -> usize
+/// How many rows a value lists.
+pub(crate) fn count<D: Domain>(value: &D) -> usize
     ensures { result ≡ length (D.listed value.now) }
 {
     value.rows().list.len()

@@ -1,4 +1,4 @@
-use Rattle.std.proofs.Common.{◌≡◌, ◌<◌, ◌∙◌, ℕ, length, refl, slice_get, Some, arith, sym}
+use Rattle.std.proofs.Common.{◌≡◌, ◌<◌, length, slice_get, arith}
 use Rattle.numeric_model.specs.Parts.{is_before}
 use Rattle.numeric_model.proofs.Below.{put_all, put_more, put_none, sizes_if}
 use Rattle.numeric_model.proofs.OwnClauses.{some_at}

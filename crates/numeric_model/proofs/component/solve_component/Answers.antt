@@ -9,6 +9,7 @@ use Rattle.numeric_model.specs.Running.{IsRun, with_clauses}
 use Rattle.numeric_model.specs.declared.state.State.{State}
 use Rattle.numeric_model.proofs.Below.{part_of, put_state}
 use Rattle.numeric_model.proofs.Chaining.{own_head}
+use Rattle.numeric_model.proofs.Repeats.{none_legal}
 use Rattle.numeric_model.proofs.component.solve_component.Goals as goal
 
 pub run_component-requires-clause-own : goal.run_component-requires-clause-own
@@ -30,6 +31,12 @@ run_component-requires-clause-state g c =
     put_state g.D.Domain.width g.D.Domain.listed c.args.p.now c.args.comps.now c.args.c (rows_of c.args.below.now.rows) c.in_ok-state.state _ c.in_ok-state.ensures.state refl refl
     c.in_ok-put_below.ensures.sizes c.in_ok-put_below.ensures.rows
 
+pub run_component-requires-clause-legal : goal.run_component-requires-clause-legal
+run_component-requires-clause-legal g c =
+    let old : State g.row.D.Denot =
+    record { sizes = record { rows = c.put_below.new.rows; proofs = c.in_ok-state.state.sizes.proofs }; values = c.in_ok-state.state.values; proofs = c.in_ok-state.state.proofs; steps = c.in_ok-state.state.steps; latest = c.in_ok-state.state.latest } in
+    none_legal g.D.Domain.speaks (g.N.Norm.expression c.args.norm.now) c.args.p.now old c.in_ok-state.ensures.steps
+
 pub returns : goal.returns
 returns g c =
     let below : c.args.c < length c.in_ok-own.own.items = omega (arith, c.in_ok-own.ensures.each, c.requires.inner) in
@@ -38,7 +45,7 @@ returns g c =
     ap (with_clauses c.args.p.now.clauses) c.as_slice.ensures ∙ c.in_ok-own.ensures.clauses c.args.c c.index.result.now list in
     let start = c.in_ok-state.ensures.rows in
     let old : State g.row.D.Denot =
-    record { sizes = record { rows = c.put_below.new.rows; proofs = c.in_ok-state.state.sizes.proofs }; values = c.in_ok-state.state.values; proofs = c.in_ok-state.state.proofs; steps = c.in_ok-state.state.steps } in
+    record { sizes = record { rows = c.put_below.new.rows; proofs = c.in_ok-state.state.sizes.proofs }; values = c.in_ok-state.state.values; proofs = c.in_ok-state.state.proofs; steps = c.in_ok-state.state.steps; latest = c.in_ok-state.state.latest } in
     part_of g.D.Domain.width g.D.Domain.listed g.D.Domain.speaks (g.N.Norm.expression c.args.norm.now) c.args.p.now c.args.comps.now c.clauses-program.ensures.sound c.requires.components
     g.met.D.Domain.laws.1 g.met.D.Domain.laws.2 c.args.c (rows_of c.args.below.now.rows) old c.run_component.new.state
     (subst (λ (ks : List (ℕ × Clause)). IsRun g.D.Domain.width g.D.Domain.listed g.D.Domain.speaks (g.N.Norm.expression c.args.norm.now) ks old c.run_component.new.state) own c.in_ok-run_component.ensures.run)

@@ -8,6 +8,7 @@ use Rattle.numeric_model.proofs.running.run_component.Goals as goal
 pub loop-changed-init : goal.loop-changed-init
 loop-changed-init g c = record {
   state = c.requires.state;
+  legal = c.requires.legal;
   running = running_none g.D.Domain.width g.D.Domain.listed g.D.Domain.speaks (g.N.Norm.expression c.args.norm.now) (with_clauses c.args.p.now.clauses c.args.own.now) c.args.state.now;
 }
 
@@ -25,6 +26,7 @@ loop-changed-preserved-then-number-le3 g c =
     let passed = c.in_ok-changed.ensures.passed in
     record {
       state = c.in_ok-changed.ensures.state;
+      legal = c.in_ok-changed.ensures.legal;
       running = running_more g.D.Domain.width g.D.Domain.listed g.D.Domain.speaks e ks c.loop-changed.number c.args.state.now c.loop-changed.state c.run_pass.new.state c.loop-changed.invariant.running c.in_ok-changed.changed passed c.if-not-changed.false
           (c.loop-changed.number + 1) (inl (c.if-number-le3.true, refl));
     }
@@ -36,6 +38,7 @@ loop-changed-preserved g c =
     let passed = c.in_ok-changed.ensures.passed in
     record {
       state = c.in_ok-changed.ensures.state;
+      legal = c.in_ok-changed.ensures.legal;
       running = running_more g.D.Domain.width g.D.Domain.listed g.D.Domain.speaks e ks c.loop-changed.number c.args.state.now c.loop-changed.state c.run_pass.new.state c.loop-changed.invariant.running c.in_ok-changed.changed passed c.if-not-changed.false
           c.loop-changed.number (inr (c.if-number-le3.false, refl));
     }

@@ -1,5 +1,6 @@
 use Rattle.std.proofs.Common.{◌+◌, ◌-◌, ◌*◌, ◌^◌, suc, length}
 use Rattle.numeric_model.specs.States.{IsState, own_from, weights}
+use Rattle.numeric_model.specs.Repeating.{WereLegal}
 use Rattle.numeric_model.specs.Running.{with_clauses}
 use Rattle.numeric_model.proofs.Passes.{IsRunning}
 use Rattle.numeric_model.proofs.running.run_component.Given as goal
@@ -7,6 +8,7 @@ use Rattle.numeric_model.proofs.running.run_component.Given as goal
 abbrev pub invariant-loop-changed : goal.invariant-loop-changed
 invariant-loop-changed g l = record {
   state : IsState g.D.Domain.width g.D.Domain.listed (own_from l.comps l.c) l.p l.state;
+  legal : WereLegal g.D.Domain.speaks (g.N.Norm.expression l.norm) l.p l.state;
   running : IsRunning g.D.Domain.width g.D.Domain.listed g.D.Domain.speaks (g.N.Norm.expression l.norm) (with_clauses l.p.clauses l.own) l.number l.fn.state l.state;
 }
 

@@ -3,10 +3,11 @@ use Rattle.cti_terms.specs.declared.clauses.Clause.{Clause}
 use Rattle.numeric_model.specs.Running.{IsPassed, with_clauses}
 use Rattle.numeric_model.proofs.OwnClauses.{next_own, numbered_with}
 use Rattle.numeric_model.proofs.Passes.{AreNumbered, passed_none, passed_more}
+use Rattle.numeric_model.proofs.Repeats.{legal_more}
 use Rattle.numeric_model.proofs.running.run_pass.Goals as goal
 
 pub loop-k-init : goal.loop-k-init
-loop-k-init g c = record { state = c.requires.state; passed = passed_none g.D.Domain.width g.D.Domain.listed g.D.Domain.speaks (g.N.Norm.expression c.args.norm.now) c.args.pass c.args.state.now }
+loop-k-init g c = record { state = c.requires.state; legal = c.requires.legal; passed = passed_none g.D.Domain.width g.D.Domain.listed g.D.Domain.speaks (g.N.Norm.expression c.args.norm.now) c.args.pass c.args.state.now }
 
 pub loop-k-preserved : goal.loop-k-preserved
 loop-k-preserved g c =
@@ -22,8 +23,9 @@ loop-k-preserved g c =
     let k : ℕ × Clause = (slice_index_or own j 0, next.clause) in
     let numbered : AreNumbered clauses (ks ++ k ∷ []) = subst (AreNumbered clauses) next.more (numbered_with clauses (take (j + 1) own)) in
     let passed = passed_more width listed speaks e c.args.pass ks k c.args.state.now c.loop-k.state c.run_step.new.state c.loop-k.changed c.in_ok-more.more
-    c.loop-k.invariant.passed (c.in_ok-more.ensures.taken next.clause next.at) clauses numbered c.loop-k.invariant.state.proofs in
+    c.loop-k.invariant.passed (c.in_ok-more.ensures.taken next.clause next.at).0 clauses numbered c.loop-k.invariant.state.proofs in
     record {
       state = c.in_ok-more.ensures.state;
+      legal = legal_more width listed speaks e c.args.p.now c.args.pass k c.loop-k.state c.run_step.new.state c.in_ok-more.more (c.in_ok-more.ensures.taken next.clause next.at).0 (c.in_ok-more.ensures.taken next.clause next.at).1 next.at c.loop-k.invariant.legal;
       passed = subst (λ (xs : List (ℕ × Clause)). IsPassed width listed speaks e c.args.pass xs c.args.state.now c.run_step.new.state (c.loop-k.changed || c.in_ok-more.more)) (sym next.more) passed;
     }

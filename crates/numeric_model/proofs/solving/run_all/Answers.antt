@@ -6,11 +6,13 @@ use Rattle.termination_model.specs.Chain.{clauses_of}
 use Rattle.numeric_model.specs.Running.{IsRun, with_clauses}
 use Rattle.numeric_model.specs.States.{IsState, every, own_from}
 use Rattle.numeric_model.proofs.Chaining.{chained_none, chained_more, from_more, own_head, weaker}
+use Rattle.numeric_model.proofs.Repeats.{none_legal}
 use Rattle.numeric_model.proofs.solving.run_all.Goals as goal
 
 pub loop-c-init : goal.loop-c-init
 loop-c-init g c = record {
   state = weaker g.D.Domain.width g.D.Domain.listed every (own_from c.args.comps.now 0) c.args.p.now c.in_ok-state.state (λ q o. refl) c.in_ok-state.ensures.state;
+  legal = none_legal g.D.Domain.speaks (g.N.Norm.expression c.args.norm.now) c.args.p.now c.in_ok-state.state c.in_ok-state.ensures.steps;
   chained = chained_none g.D.Domain.width g.D.Domain.listed g.D.Domain.speaks (g.N.Norm.expression c.args.norm.now) c.args.p.now c.args.comps.now c.in_ok-state.state c.in_ok-state.ensures.rows c.in_ok-state.ensures.steps;
 }
 
@@ -37,6 +39,7 @@ loop-c-preserved g c =
     let run = subst (λ (ks : List (ℕ × Clause)). IsRun g.D.Domain.width g.D.Domain.listed g.D.Domain.speaks (g.N.Norm.expression c.args.norm.now) ks c.loop-c.state c.run_component.new.state) own c.in_ok-run_component.ensures.run in
     record {
       state = weaker g.D.Domain.width g.D.Domain.listed (own_from c.args.comps.now c.loop-c.c) (own_from c.args.comps.now (c.loop-c.c + 1)) c.args.p.now c.run_component.new.state (λ q o. from_more c.args.comps.now c.loop-c.c q o) c.in_ok-run_component.ensures.state;
+      legal = c.in_ok-run_component.ensures.legal;
       chained = chained_more g.D.Domain.width g.D.Domain.listed g.D.Domain.speaks (g.N.Norm.expression c.args.norm.now) c.args.p.now c.args.comps.now c.clauses-program.ensures.sound c.requires c.loop-c.c c.loop-c.state c.run_component.new.state
           c.loop-c.invariant.chained run g.met.D.Domain.laws.1 g.met.D.Domain.laws.2 c.in_ok-run_component.ensures.state;
     }

@@ -1,5 +1,4 @@
-use Rattle.std.proofs.Common.{◌≡◌, ◌+◌, length, Some, None, refl, subst, sym, ◌∙◌, arith}
-use Rattle.numeric_model.specs.States.{AreStatedTo}
+use Rattle.std.proofs.Common.{refl, sym, ◌∙◌, arith}
 use Rattle.numeric_model.proofs.Starts.{stated_none, stated_past, stated_more}
 use Rattle.numeric_model.proofs.state.State.put_stated.Goals as goal
 use Rattle.numeric_model.proofs.state.State.put_stated.Goals.{in-Some+in_ok-put_rows, in_default}

@@ -1,5 +1,4 @@
 use Rattle.std.proofs.Common.{length}
-use Rattle.numeric_model.specs.States.{AreStatedTo}
 use Rattle.numeric_model.proofs.Starts.{start_state, rows_start, stated_later}
 use Rattle.numeric_model.proofs.state.State.start.Goals as goal
 

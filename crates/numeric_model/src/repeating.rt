@@ -1,0 +1,66 @@
+// A step that repeats an earlier one: where the rows that it reads are the same, so is the image.
+ghost use Rattle.std.specs.Prelude.{◌≡◌, ◌≢◌, ◌≤◌, ◌-◌, ℕ, [], true, false, IfOk, IfSome, length, slice_get, Some};
+ghost use Rattle.cti_terms.specs.declared.clauses.Clause.{Clause};
+ghost use Rattle.termination_model.specs.Sizes.{AreSizes, rows_of};
+ghost use Rattle.numeric_model.specs.Noting.{IsNoted};
+ghost use Rattle.numeric_model.specs.Repeating.{IsRepeatable};
+
+use crate::filled::Filled;
+use crate::noting::Noted;
+use crate::step::Step;
+use crate::stepped::Stepped;
+use crate::stepping::count;
+use cti_terms::Program;
+use polyhedra::Domain;
+use std::alloc::{AllocError, Global};
+use term_size::Norm;
+use termination_model::{How, Sizes, system};
+
+/// One more step on the clause of an earlier one, if that noted an image with a point and the rows of the head's predicate
+/// hold on the clause, so that they stay.
+pub(crate) fn note_again<D: Domain, N: Norm>(
+    alloc: Global,
+    p: &Program,
+    norm: &N,
+    sizes: &Sizes,
+    old: &D,
+    earlier: &Step,
+) -> Result<Option<Noted<D>>, AllocError>
+    requires first { 1 ≤ earlier.now.clause }
+    requires last { earlier.now.clause ≤ length p.now.clauses }
+    requires sizes { AreSizes p.now.preds sizes.now.rows }
+    requires earlier { (c : Clause) → slice_get p.now.clauses (earlier.now.clause - 1) ≡ Some c
+        → IsRepeatable D.speaks (N.expression norm.now) (rows_of sizes.now.rows) c (D.width old.now) (D.listed old.now) earlier.now }
+    ensures { IfOk result (λ again. IfSome again (λ noted. (pass : ℕ) (c : Clause) → slice_get p.now.clauses (earlier.now.clause - 1) ≡ Some c
+        → IsNoted D.width D.listed D.speaks (N.expression norm.now) pass (rows_of sizes.now.rows) c earlier.now.clause Filled.Inhabited noted)) }
+{
+    if !has_point(earlier) {
+        return Ok(None);
+    }
+    let atoms = p.clause(earlier.clause).body.len() as u32;
+    let system = system(alloc, p, norm, sizes, earlier.clause, atoms)?;
+    let kept = old.widen(alloc, &system)?;
+    if kept.weak || count(old) != count(&kept.value) {
+        return Ok(None);
+    }
+    let image = earlier.image.copy(alloc)?;
+    Ok(Some(Noted {
+        image,
+        image_weak: earlier.image_weak,
+        stepped: Stepped {
+            how: How::Same,
+            weak: false,
+            next: None,
+            filled: Filled::Inhabited,
+            by: kept.by,
+        },
+    }))
+}
+
+// Whether what a step did shows that its image has a point.
+fn has_point(step: &Step) -> bool
+    ensures strong { result ≡ true → step.now.step_weak ≡ false }
+    ensures some { result ≡ true → step.now.how ≢ How.None }
+{
+    !step.step_weak && step.how != How::None
+}
