@@ -12,9 +12,10 @@ use Rattle.linear_rows.specs.Plain.{plain_rows, HaveWidth}
 use Rattle.linear_rows.specs.declared.row.Rows.{Rows}
 use Rattle.termination_model.specs.Grounds.{HasArity}
 use Rattle.termination_model.specs.Sizes.{AreSizes, plain_or_none, rows_of}
+use Rattle.termination_model.proofs.ChainLeaves.{not_head, passes_leave}
 use Rattle.termination_model.proofs.Lists.{place_below}
 use Rattle.linear_rows.specs.Replacing.{row_fits}
-use Rattle.termination_model.specs.Chain.{after_passes, clauses_of, ArePasses}
+use Rattle.termination_model.specs.Chain.{after_passes, clauses_of, start_rows, ArePasses}
 use Rattle.termination_model.specs.ChainRows.{AreSpoken}
 use Rattle.numeric_model.specs.Parts.{IsPartOf, is_before, starting}
 use Rattle.numeric_model.specs.Running.{IsRun, rows_in}
@@ -133,8 +134,24 @@ module _ {D : Type 0} (width : D → ℕ) (listed : D → List (List ℤ)) (spea
       itself : (n : ℕ) → nat_le n n ≡ true
       itself n = grind (arith, nat_tests)
 
+  -- no clause of this component has a head of an earlier one
+  stays : (q : ℕ) → is_before c (slice_get comps.of q) ≡ true → rows_of new.sizes.rows q ≡ below q
+  stays q before = from (slice_get comps.of q) refl
+    where
+      from : (o : Option ℕ) → slice_get comps.of q ≡ o → rows_of new.sizes.rows q ≡ below q
+      from None e = let f : is_before c (slice_get comps.of q) ≡ false = ap (is_before c) e in absurd (cc)
+      from (Some d) e =
+          let t : nat_lt d c ≡ true = sym (ap (is_before c) e) ∙ before in
+          let lt : d < c = grind (arith, nat_tests) in
+          let left : rows_in new q ≡ rows_in old q =
+          ap (λ (f : ℕ → List (List ℤ)). f q) run.rows ∙ passes_leave q (rows_in old) (clauses_of p comps c) run.passes (not_head p comps prog are c c q (d, lt, e) (omega arith)) in
+          left ∙ ap (λ (f : ℕ → List (List ℤ)). f q) rows ∙ ap (λ (b : Bool). if b then below q else start_rows p q) before
+
   part : IsPartOf speaks expression p comps c below made
   part = record {
+    sizes = state.sizes;
+    count = state.proofs;
+    others = stays;
     passes = run.passes;
     steps_are = ap (map plain_step) (run.steps_are ∙ ap (λ xs. xs ++ run.steps) none) ∙ run.by_pass;
     run = record {

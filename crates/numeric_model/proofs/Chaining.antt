@@ -65,10 +65,10 @@ counted_at n [] k i = absurd i
 counted_at n (x ∷ ks) k (inl is) = (0, (let e : k.0 ≡ n = ap (λ (y : Numbered). y.0) (sym is) in omega arith), ap (λ (y : Numbered). Some y.1) is)
 counted_at n (x ∷ ks) k (inr i) = let h = counted_at (suc n) ks k i in (suc h.0, (let e = h.1 in omega arith), h.2)
 
-at_number : (ks : List Clause) (k : Numbered) → In k (counted 1 ks) → slice_get ks (k.0 - 1) ≡ Some k.1
+pub at_number : (ks : List Clause) (k : Numbered) → In k (counted 1 ks) → slice_get ks (k.0 - 1) ≡ Some k.1
 at_number ks k i = let h = counted_at 1 ks k i in let e : k.0 - 1 ≡ h.0 = (let l = h.1 in omega arith) in ap (slice_get ks) e ∙ h.2
 
-in_counted_at : (n : ℕ) (ks : List Clause) (j : ℕ) (k : Clause) → slice_get ks j ≡ Some k → In (n + j, k) (counted n ks)
+pub in_counted_at : (n : ℕ) (ks : List Clause) (j : ℕ) (k : Clause) → slice_get ks j ≡ Some k → In (n + j, k) (counted n ks)
 in_counted_at n [] j k e = cc
 in_counted_at n (x ∷ ks) zero k e = let z : n ≡ n + 0 = omega arith in let same : x ≡ k = cc in inl (λ i. (z i, same i))
 in_counted_at n (x ∷ ks) (suc j) k e =
@@ -76,14 +76,14 @@ in_counted_at n (x ∷ ks) (suc j) k e =
     inr (subst (λ (m : ℕ). In (m, k) (counted (suc n) ks)) z (in_counted_at (suc n) ks j k e))
 
 -- ---- proofs where rows agree
-proved_same : (expression : ℕ → Tree → List ℤ) (rows new : Rowed) (k : Clause) (by : List Multipliers) → new k.head.pred.0 ≡ rows k.head.pred.0 → ((b : Atom) → In b k.body → new b.pred.0 ≡ rows b.pred.0)
+pub proved_same : (expression : ℕ → Tree → List ℤ) (rows new : Rowed) (k : Clause) (by : List Multipliers) → new k.head.pred.0 ≡ rows k.head.pred.0 → ((b : Atom) → In b k.body → new b.pred.0 ≡ rows b.pred.0)
     → IsProved expression rows k by → IsProved expression new k by
 proved_same expression rows new k by head body h =
     let same = same_system expression rows new k.vars k.body body in
     subst (λ (s : List (List ℤ)). AreShownOver (map short_row s) (row_over expression k.vars k.head.args) (new k.head.pred.0) by) (sym same)
     (subst (λ (o : List (List ℤ)). AreShownOver (map short_row (system expression rows k.vars k.body)) (row_over expression k.vars k.head.args) o by) (sym head) h)
 
-proved_all : (expression : ℕ → Tree → List ℤ) (rows : Rowed) (ks : List Clause) (ms : List (List Multipliers)) → length ms ≡ length ks
+pub proved_all : (expression : ℕ → Tree → List ℤ) (rows : Rowed) (ks : List Clause) (ms : List (List Multipliers)) → length ms ≡ length ks
     → ((j : ℕ) (k : Clause) (m : List Multipliers) → slice_get ks j ≡ Some k → slice_get ms j ≡ Some m → IsProved expression rows k m) → AreProved expression rows ks ms
 proved_all expression rows [] [] l h = tt
 proved_all expression rows [] (m ∷ ms) l h = absurd (omega arith)

@@ -2,7 +2,7 @@
 -- The run of a component: its part of a legal chain.
 --
 -- To believe: `starting`, `IsRunOf`. To move to termination_model, beside `IsLegalChain`.
-use Rattle.std.specs.Prelude.{◌≡◌, ℕ, ◌-◌, ℤ, Bool, true, false, nat_lt, if◌then◌else◌, List, map, slice_get, All, Option, None, Some}
+use Rattle.std.specs.Prelude.{◌≡◌, ℕ, ◌-◌, ℤ, Bool, true, false, nat_lt, if◌then◌else◌, List, length, map, slice_get, All, Option, None, Some}
 use Rattle.std.specs.List.{flat_map}
 use Rattle.call_components.specs.Partition.{Partition, IsIn}
 use Rattle.cti_terms.specs.Tree.{Tree}
@@ -13,7 +13,7 @@ use Rattle.linear_rows.specs.Replacing.{row_fits}
 use Rattle.linear_rows.specs.declared.multipliers.Multipliers.{Multipliers}
 use Rattle.termination_model.specs.Chain.{after_passes, clauses_of, component_of, start_rows, ArePasses}
 use Rattle.termination_model.specs.ChainSteps.{Step}
-use Rattle.termination_model.specs.Sizes.{rows_of}
+use Rattle.termination_model.specs.Sizes.{AreSizes, rows_of}
 use Rattle.numeric_model.specs.Proved.{IsProved}
 use Rattle.numeric_model.specs.States.{plain_step}
 use Rattle.numeric_model.specs.declared.chain.Chain.{Chain}
@@ -32,8 +32,11 @@ pub record IsRunOf (speaks : List ℤ → Bool) (expression : ℕ → Tree → L
   pub legal : ArePasses speaks expression 1 (starting p comps c below) (clauses_of p comps c) passes
   pub last_are : (q : ℕ) → IsIn comps c q → last q ≡ after_passes (starting p comps c below) (clauses_of p comps c) passes q
 
--- a component's run, with its proofs. Other predicates' rows and other clauses' proofs count nothing
+-- a component's run, with its proofs, in whole tables. Later predicates' rows and other clauses' proofs count nothing
 pub record IsPartOf (speaks : List ℤ → Bool) (expression : ℕ → Tree → List ℤ) (p : Listing) (comps : Partition) (c : ℕ) (below : ℕ → List (List ℤ)) (part : Chain) : Type 0 where
+  pub sizes : AreSizes p.preds part.sizes.rows
+  pub count : length part.sizes.proofs ≡ length p.clauses
+  pub others : (q : ℕ) → is_before c (component_of comps q) ≡ true → rows_of part.sizes.rows q ≡ below q
   pub passes : List (List Step)
   pub steps_are : map plain_step part.steps ≡ flat_map (λ ss. ss) passes
   pub run : IsRunOf speaks expression p comps c below passes (rows_of part.sizes.rows)

@@ -6,7 +6,7 @@ ghost use Rattle.termination_model.specs.Sizes.{AreSizes, rows_of};
 ghost use Rattle.numeric_model.specs.Parts.{IsPartOf, is_before};
 
 use crate::chain::Chain;
-use crate::own_clauses::own_clauses;
+use crate::clause_lists::own_clauses;
 use crate::running::run_component;
 use crate::state::State;
 use call_components::Components;

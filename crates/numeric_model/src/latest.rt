@@ -1,5 +1,5 @@
 // The last steps of a chain: those on each clause, and those that changed each predicate's rows.
-ghost use Rattle.std.specs.Prelude.{◌≡◌, ◌≤◌, true, false, replicate, length, IfOk, slice_set};
+ghost use Rattle.std.specs.Prelude.{◌≡◌, ◌≤◌, true, false, slice_set};
 ghost use Rattle.numeric_model.specs.Repeating.{HaveStayed};
 
 use cti_terms::{Atom, PredId, Program};

@@ -8,11 +8,11 @@
 #![tactic(auto)]
 
 mod chain;
+mod clause_lists;
 mod component;
 mod filled;
 mod latest;
 mod noting;
-mod own_clauses;
 mod repeating;
 mod running;
 mod solving;
@@ -23,6 +23,7 @@ mod stepping;
 mod value;
 
 pub use chain::Chain;
+pub use clause_lists::own_clauses;
 pub use component::solve_component;
 pub use solving::solve;
 pub use step::Step;

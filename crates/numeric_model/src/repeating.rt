@@ -1,5 +1,5 @@
 // A step that repeats an earlier one: where the rows that it reads are the same, so is the image.
-ghost use Rattle.std.specs.Prelude.{◌≡◌, ◌≢◌, ◌≤◌, ◌-◌, ℕ, [], true, false, IfOk, IfSome, length, slice_get, Some};
+ghost use Rattle.std.specs.Prelude.{◌≡◌, ◌≢◌, ◌≤◌, ◌-◌, ℕ, true, false, IfOk, IfSome, length, slice_get, Some};
 ghost use Rattle.cti_terms.specs.declared.clauses.Clause.{Clause};
 ghost use Rattle.termination_model.specs.Sizes.{AreSizes, rows_of};
 ghost use Rattle.numeric_model.specs.Noting.{IsNoted};

@@ -9,7 +9,7 @@ ghost use Rattle.numeric_model.specs.Running.{IsChained};
 ghost use Rattle.numeric_model.specs.States.{IsState, own_from, plain_step};
 
 use crate::chain::Chain;
-use crate::own_clauses::own_clauses;
+use crate::clause_lists::own_clauses;
 use crate::running::run_component;
 use crate::state::State;
 use call_components::Components;

@@ -31,7 +31,7 @@ fn push_own(lists: &mut Vec<Sequence<u32>>, c: u32, k: u32) -> Result<(), AllocE
 }
 
 /// For each component the numbers of its predicates' clauses, in order.
-pub(crate) fn own_clauses(
+pub fn own_clauses(
     alloc: Global,
     p: &Program,
     comps: &Components,
