@@ -1,0 +1,13 @@
+pub mod Anew
+pub mod CarriedParts
+pub mod CarriedRows
+pub mod Clauses
+pub mod Comparisons
+pub mod Empty
+pub mod Names
+pub mod Parts
+pub mod Resolved
+pub mod SolvedLaws
+pub mod Stands
+pub mod Tables
+pub mod Turns

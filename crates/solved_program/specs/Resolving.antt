@@ -1,0 +1,83 @@
+-- Private.
+-- How far the size rows of a program after an edit have come.
+use Rattle.std.specs.Prelude.{◌≡◌, ℕ, ◌-◌, ℤ, Bool, List, [], ◌∷◌, ◌++◌, length, map, slice_get, Some}
+use Rattle.call_components.specs.Partition.{Partition, IsIn}
+use Rattle.cti_terms.specs.Listing.{Listing}
+use Rattle.cti_terms.specs.Tree.{Tree}
+use Rattle.cti_terms.specs.declared.clauses.Clause.{Clause}
+use Rattle.numeric_model.specs.Parts.{IsPartOf}
+use Rattle.numeric_model.specs.Running.{AreOwnClauses}
+use Rattle.numeric_model.specs.States.{plain_step}
+use Rattle.numeric_model.specs.declared.chain.Chain.{Chain}
+use Rattle.numeric_model.specs.declared.step.Step.{Step}
+use Rattle.linear_rows.specs.declared.row.Rows.{Rows}
+use Rattle.termination_model.specs.Sizes.{AreSizes, rows_of}
+use Rattle.solved_program.specs.Carried.{AreLaterCarried}
+use Rattle.solved_program.specs.Kept.{IsEdit}
+use Rattle.solved_program.specs.Renumbered.{in_turn}
+use Rattle.solved_program.specs.Solved.{AreSolvedTo}
+use Rattle.solved_program.specs.Standing.{KeepValuesTo, StandsFor}
+use Rattle.solved_program.specs.Taken.{AreTaken, place_of}
+use Rattle.solved_program.specs.declared.resolving.Sources.{Sources}
+use Rattle.solved_program.specs.declared.solved_sizes.SolvedSizes.{SolvedSizes}
+
+-- an edit, tables of the old program, and the clauses of all components
+pub record AreSources (s : Sources) : Type 0 where
+  pub edit : IsEdit s.edit.now
+  pub rows : AreSizes s.edit.now.before.now.preds s.old.now.sizes.rows
+  pub proofs : length s.old.now.sizes.proofs ≡ length s.edit.now.before.now.clauses
+  pub each : length s.old.now.steps ≡ length s.edit.now.components_before.now.members
+  pub own_before : AreOwnClauses s.edit.now.before.now s.edit.now.components_before.now s.own_before.now
+  pub own : AreOwnClauses s.edit.now.after.now s.edit.now.components.now s.own.now
+
+-- a component stands for an old one where size rows have come out as these
+abbrev pub Stands : Sources → List Rows → ℕ → ℕ → Type 0
+Stands s rows b c = StandsFor s.edit.now.components_before.now s.edit.now.components.now b c (rows_of s.old.now.sizes.rows) (rows_of rows) s.edit.now.before.now s.edit.now.after.now s.edit.now.kept.now
+
+-- the first of these clauses was kept, and was one of the component b
+pub record IsFirstKeptOf (s : Sources) (own : List ℕ) (b : ℕ) : Type 0 where
+  pub number : ℕ
+  pub number_before : ℕ
+  pub clause : Clause
+  pub first : slice_get own 0 ≡ Some number
+  pub kept_as : slice_get s.edit.now.kept.now (number - 1) ≡ Some (Some number_before)
+  pub at : slice_get s.edit.now.before.now.clauses (number_before - 1) ≡ Some clause
+  pub among : IsIn s.edit.now.components_before.now b clause.head.pred.0
+
+-- The components below n are solved, and those of them that stand for old ones have kept their rows. All later ones still have
+-- what they had before the edit.
+pub record AreResolvedTo (speaks : List ℤ → Bool) (expression : ℕ → Tree → List ℤ) (s : Sources) (n : ℕ) (now : SolvedSizes) : Type 0 where
+  pub solved : AreSolvedTo speaks expression s.edit.now.after.now s.edit.now.components.now n now
+  pub stayed : KeepValuesTo s.edit.now n (rows_of s.old.now.sizes.rows) (rows_of now.sizes.rows)
+  pub later : AreLaterCarried s.edit.now.before.now s.edit.now.after.now s.edit.now.components.now s.edit.now.kept.now s.old.now.sizes.rows s.old.now.sizes.proofs n now.sizes.rows now.sizes.proofs
+
+-- the steps of an old component are those of one more component, on the clauses of these numbers
+pub record IsCarriedPart (steps : List Step) (own : List ℕ) (old now : SolvedSizes) : Type 0 where
+  pub carried : List Step
+  pub steps_are : now.steps ≡ old.steps ++ carried ∷ []
+  pub sizes : now.sizes ≡ old.sizes
+  pub plain : map plain_step carried ≡ in_turn own 0 (map plain_step steps)
+
+-- so it is with the steps of the component `before`, for the component c
+abbrev pub IsCarriedFrom : Sources → ℕ → ℕ → SolvedSizes → SolvedSizes → Type 0
+IsCarriedFrom s before c old now = (steps : List Step) (own : List ℕ) → slice_get s.old.now.steps before ≡ Some steps → slice_get s.own.now c ≡ Some own → IsCarriedPart steps own old now
+
+-- the rows of these members, the proofs of these clauses and the steps are taken from a chain
+pub record IsPartTaken (members own : List ℕ) (chain : Chain) (old now : SolvedSizes) : Type 0 where
+  pub each : length now.sizes.rows ≡ length old.sizes.rows
+  pub rows : AreTaken members chain.sizes.rows old.sizes.rows now.sizes.rows
+  pub count : length now.sizes.proofs ≡ length old.sizes.proofs
+  pub proofs : AreTaken (map place_of own) chain.sizes.proofs old.sizes.proofs now.sizes.proofs
+  pub steps : now.steps ≡ old.steps ++ chain.steps ∷ []
+
+-- one more component is solved above the rows so far
+pub record IsSolvedAnew (speaks : List ℤ → Bool) (expression : ℕ → Tree → List ℤ) (p : Listing) (comps : Partition) (c : ℕ) (members own : List ℕ) (old now : SolvedSizes) : Type 0 where
+  pub chain : Chain
+  pub part : IsPartOf speaks expression p comps c (rows_of old.sizes.rows) chain
+  pub members_are : slice_get comps.members c ≡ Some members
+  pub taken : IsPartTaken members own chain old now
+
+-- so it is with the component c
+abbrev pub IsSolvedAt : (List ℤ → Bool) → (ℕ → Tree → List ℤ) → Sources → ℕ → SolvedSizes → SolvedSizes → Type 0
+IsSolvedAt speaks expression s c old now = (members own : List ℕ) → slice_get s.edit.now.components.now.members c ≡ Some members → slice_get s.own.now c ≡ Some own
+    → IsSolvedAnew speaks expression s.edit.now.after.now s.edit.now.components.now c members own old now

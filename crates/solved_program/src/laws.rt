@@ -1,0 +1,8 @@
+//! Laws of what is kept. Each is a function that does nothing, and whose clause is proved.
+
+ghost use Rattle.solved_program.specs.Solved.{SolvedSizesAreProved};
+
+/// The parts of all components are a legal chain whose rows are proved.
+pub fn solved_sizes_are_proved()
+    ensures { SolvedSizesAreProved }
+{}

@@ -1,0 +1,36 @@
+//! What is found of a program's predicates, kept from one edit of it to the next.
+//!
+//! All that is found of a component depends on its own clauses and on what is found of the predicates that they call.
+//! So after an edit a component keeps what was found of it where its clauses are kept ones, all of them, and what they
+//! call has come out as it was. All others are solved anew. Nothing rests on what the edit was said to touch: which
+//! components keep their part is decided by clauses and by values.
+//!
+//! `solve_sizes` finds the size rows of a program, and `resolve_sizes` those after an edit of it. It goes through the
+//! new components, callees first, over tables that begin with the old rows and proofs, so a component that is taken
+//! over only gets its steps, under the new numbers of its clauses. Terms are not compared: an edit says of each new
+//! clause which old clause it is, and components are compared by these numbers. A component without clauses is solved
+//! each time.
+//!
+//! `StandsFor` says when a component stands for an old one, over any value for each predicate, so that it serves other
+//! engines too.
+//!
+//! Depends on `numeric_model`, which solves one component above others, and on `component_laws`, whose laws carry a
+//! part from one program to another.
+#![tactic(auto)]
+
+mod carrying;
+mod comparing;
+mod copies;
+mod edit;
+pub mod laws;
+mod renumbering;
+mod resolving;
+mod solved_sizes;
+mod solving;
+mod standing;
+mod taking;
+
+pub use edit::Edit;
+pub use resolving::resolve_sizes;
+pub use solved_sizes::SolvedSizes;
+pub use solving::solve_sizes;

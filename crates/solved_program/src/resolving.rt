@@ -1,0 +1,212 @@
+//! The size rows of a program after an edit.
+
+ghost use Rattle.std.specs.Prelude.{◌≡◌, ◌≤◌, ◌<◌, ◌+◌, ℕ, List, IfOk, IfSome, IsNone, OnOk, Some, All, length, map};
+ghost use Rattle.std.specs.Prelude.{slice_get};
+ghost use Rattle.call_components.specs.Numbers.{number_of};
+ghost use Rattle.termination_model.specs.Sizes.{AreSizes, rows_of};
+ghost use Rattle.solved_program.specs.Comparing.{AreNumbersIn};
+ghost use Rattle.solved_program.specs.Kept.{IsEdit};
+ghost use Rattle.solved_program.specs.Resolving.{AreResolvedTo, AreSources, IsCarriedFrom, IsFirstKeptOf, IsPartTaken};
+ghost use Rattle.solved_program.specs.Resolving.{IsSolvedAt, Stands};
+ghost use Rattle.solved_program.specs.Solved.{AreSolved};
+ghost use Rattle.solved_program.specs.Standing.{KeepValues};
+
+use crate::carrying::carried;
+use crate::edit::Edit;
+use crate::renumbering::renumbered;
+use crate::solved_sizes::SolvedSizes;
+use crate::standing::Compared;
+use crate::taking::{take_proofs, take_rows};
+use cti_terms::PredId;
+use numeric_model::{Chain, own_clauses, solve_component};
+use polyhedra::Domain;
+use sequences::Sequence;
+use std::alloc::{AllocError, Global};
+use std::mem;
+use term_size::Norm;
+use termination_model::SizeRows;
+
+/// What the size rows after an edit are made from.
+#[derive(Clone, Copy)]
+pub(crate) struct Sources<'a> {
+    pub(crate) edit: &'a Edit<'a>,
+    pub(crate) old: &'a SolvedSizes,
+    /// For each component before the edit the numbers of its clauses.
+    pub(crate) own_before: &'a [Sequence<u32>],
+    /// The same after the edit.
+    pub(crate) own: &'a [Sequence<u32>],
+}
+
+// Takes the rows of these members, the proofs of these clauses, and the steps.
+fn take_part(
+    alloc: Global,
+    members: &[PredId],
+    own: &[u32],
+    chain: &mut Chain,
+    solved: &mut SolvedSizes,
+) -> Result<(), AllocError>
+    requires members { All (λ q. q.0 < length chain.old.sizes.rows) members.now }
+    requires own { All (λ k. (1 ≤ k) × (k ≤ length chain.old.sizes.proofs)) own.now }
+    requires rows { length chain.old.sizes.rows ≡ length solved.old.sizes.rows }
+    requires proofs { length chain.old.sizes.proofs ≡ length solved.old.sizes.proofs }
+    ensures { OnOk result (IsPartTaken (map number_of members.now) own.now chain.old solved.old solved.new) }
+{
+    let sizes = &mut solved.sizes;
+    take_rows(alloc, members, &chain.sizes.rows, &mut sizes.rows)?;
+    take_proofs(alloc, own, &chain.sizes.proofs, &mut sizes.proofs)?;
+    let steps = mem::replace(&mut chain.steps, Sequence::new(alloc));
+    solved.steps.push(steps)
+}
+
+impl Sources<'_> {
+    // The component of the old clause that the first of these clauses is.
+    fn component_before(&self, own: &[u32]) -> Option<u32>
+        requires edit { IsEdit self.now.edit.now }
+        requires own { AreNumbersIn self.now.edit.now.after.now own.now }
+        ensures below { IfSome result (λ b. b < length self.now.edit.now.components_before.now.members) }
+        ensures kept { IfSome result (IsFirstKeptOf self.now own.now) }
+        ensures lost { IsNone result → (b : ℕ) → IsFirstKeptOf self.now own.now b → ⊥ }
+    {
+        if own.is_empty() {
+            return None;
+        }
+        let first = own[0] as usize - 1;
+        match self.edit.kept[first] {
+            Some(kept) => {
+                let pred = self.edit.before.clause(kept).head.pred;
+                Some(self.edit.components_before.of(pred))
+            }
+            None => None,
+        }
+    }
+
+    // The old component that the component `c` stands for, if it stands, where size rows have come out so far.
+    fn standing(&self, c: u32, rows: &SizeRows) -> Option<u32>
+        requires sources { AreSources self.now }
+        requires rows { AreSizes self.now.edit.now.after.now.preds rows.now }
+        requires inner { c < length self.now.edit.now.components.now.members }
+        ensures below { IfSome result (λ b. b < length self.now.edit.now.components_before.now.members) }
+        ensures stands { IfSome result (λ b. Stands self.now rows.now b c) }
+        ensures none { IsNone result → (b : ℕ) → Stands self.now rows.now b c → ⊥ }
+    {
+        let _program = self.edit.before.clauses();
+        let own = self.own[c as usize].as_slice();
+        let before = self.component_before(own)?;
+        let compared = Compared {
+            edit: self.edit,
+            before,
+            after: c,
+            rows_before: &self.old.sizes.rows,
+            rows,
+        };
+        let own_before = self.own_before[before as usize].as_slice();
+        if compared.are_same_clauses(own_before, own) {
+            Some(before)
+        } else {
+            None
+        }
+    }
+
+    // Takes over the part of an old component, whose rows and proofs are there already.
+    fn carry(
+        &self,
+        alloc: Global,
+        before: u32,
+        c: u32,
+        solved: &mut SolvedSizes,
+    ) -> Result<(), AllocError>
+        requires before { before < length self.now.old.now.steps }
+        requires inner { c < length self.now.own.now }
+        requires some { (own : List ℕ) → slice_get self.now.own.now c ≡ Some own → 0 < length own }
+        ensures { OnOk result (IsCarriedFrom self.now before c solved.old solved.new) }
+    {
+        let steps = self.old.steps.get(before as usize);
+        let own = self.own[c as usize].as_slice();
+        let carried = renumbered(alloc, steps.as_slice(), own)?;
+        solved.steps.push(carried)
+    }
+
+    // Solves a component above the rows so far.
+    fn solve_anew<D: Domain, N: Norm>(
+        &self,
+        alloc: Global,
+        norm: &N,
+        c: u32,
+        solved: &mut SolvedSizes,
+    ) -> Result<(), AllocError>
+        requires sources { AreSources self.now }
+        requires rows { AreSizes self.now.edit.now.after.now.preds solved.old.sizes.rows }
+        requires proofs { length solved.old.sizes.proofs ≡ length self.now.edit.now.after.now.clauses }
+        requires inner { c < length self.now.edit.now.components.now.members }
+        ensures { OnOk result (IsSolvedAt D.speaks (N.expression norm.now) self.now c solved.old solved.new) }
+    {
+        let components = self.edit.components;
+        let mut chain = solve_component::<D, N>(
+            alloc,
+            self.edit.after,
+            components,
+            c,
+            norm,
+            &solved.sizes,
+        )?;
+        let own = self.own[c as usize].as_slice();
+        take_part(alloc, components.members(c), own, &mut chain, solved)
+    }
+
+    // Takes over one more component, or solves it.
+    fn resolve<D: Domain, N: Norm>(
+        &self,
+        alloc: Global,
+        norm: &N,
+        c: u32,
+        solved: &mut SolvedSizes,
+    ) -> Result<(), AllocError>
+        requires sources { AreSources self.now }
+        requires old { AreSolved D.speaks (N.expression norm.now) self.now.edit.now.before.now
+            self.now.edit.now.components_before.now self.now.old.now }
+        requires inner { c < length self.now.edit.now.components.now.members }
+        requires solved { AreResolvedTo D.speaks (N.expression norm.now) self.now c solved.old }
+        ensures { OnOk result (AreResolvedTo D.speaks (N.expression norm.now) self.now (c + 1) solved.new) }
+    {
+        let _before = self.edit.before.clauses();
+        let _after = self.edit.after.clauses();
+        match self.standing(c, &solved.sizes.rows) {
+            Some(before) => self.carry(alloc, before, c, solved),
+            None => self.solve_anew::<D, N>(alloc, norm, c, solved),
+        }
+    }
+}
+
+/// The size rows of a program after an edit, from those before it.
+///
+/// A component keeps its steps, rows and proofs where its clauses are those of an old component, all of them and in
+/// their order, and the predicates that they call have the rows that they had. Each other component is solved.
+pub fn resolve_sizes<D: Domain, N: Norm>(
+    alloc: Global,
+    norm: &N,
+    edit: &Edit<'_>,
+    old: &SolvedSizes,
+) -> Result<SolvedSizes, AllocError>
+    requires edit { IsEdit edit.now }
+    requires old { AreSolved D.speaks (N.expression norm.now) edit.now.before.now edit.now.components_before.now
+        old.now }
+
+    // Each component is solved, also where it was taken over. One that stands for an old one has the rows that it had.
+    ensures solved { IfOk result (AreSolved D.speaks (N.expression norm.now) edit.now.after.now
+        edit.now.components.now) }
+    ensures kept { IfOk result (λ now. KeepValues edit.now (rows_of old.now.sizes.rows) (rows_of now.sizes.rows)) }
+{
+    let own_before = own_clauses(alloc, edit.before, edit.components_before)?;
+    let own = own_clauses(alloc, edit.after, edit.components)?;
+    let sources = Sources {
+        edit,
+        old,
+        own_before: own_before.as_slice(),
+        own: own.as_slice(),
+    };
+    let mut solved = carried(alloc, edit, old)?;
+    for c in 0..edit.components.count() {
+        sources.resolve::<D, N>(alloc, norm, c, &mut solved)?;
+    }
+    Ok(solved)
+}
