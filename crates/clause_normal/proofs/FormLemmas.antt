@@ -15,6 +15,7 @@ use Rattle.clause_normal.specs.declared.words.Neck.TheVariants as neck
 use Rattle.clause_normal.specs.Words.{neck_of, is_silent}
 use Rattle.clause_normal.specs.Terms.{occurrences, list_variables}
 use Rattle.clause_normal.specs.NormalForm.{skipped, refused, is_silent_goal, named_form, form_of, named_head_fault, head_fault, head_call}
+use Rattle.clause_normal.specs.Definite.{named_parts, parted}
 use Rattle.clause_normal.specs.Rules.{named}
 use Rattle.clause_normal.specs.Views.{plain_of}
 use Rattle.clause_normal.proofs.PartLemmas.{plain_list_row}
@@ -46,6 +47,16 @@ module _ (names : List (List ℕ)) (t : ReadTerm) (f : Name) (args : Vec ReadTer
 
   pub form_at : (k : Neck) → neck_of (name_text names f.0) (length args.items) ≡ k → form_of names (tree_of t) ≡ named_form names (tree_of t) k (map tree_of args.items)
   form_at k h = form_fun ∙ ap (λ (k : Neck). named_form names (tree_of t) k (map tree_of args.items)) h
+
+  -- the same for the parts of a term
+  pub parts_at : (k : Neck) → neck_of (name_text names f.0) (length args.items) ≡ k → parted names (tree_of t) ≡ named_parts (tree_of t) k (map tree_of args.items)
+  parts_at k h =
+      let ts = row (map tree_of args.items) in
+      let tr : Tree = tree t.at (Fun f.0 ts) in
+      let s : tree_of t ≡ tr = tree_of_fun t f args is in
+      ap (parted names) s
+      ∙ (λ i. named_parts tr (neck_of (name_text names f.0) (arity_terms args.items i)) (list_of_row (map tree_of args.items) i))
+      ∙ (λ i. named_parts (sym s i) (h i) (map tree_of args.items))
 
   pub form_directive : (d : ReadTerm) (b : Bool) → neck_of (name_text names f.0) (length args.items) ≡ neck.Directive → args.items ≡ d ∷ [] → is_silent_goal names (tree_of d) ≡ b
       → form_of names (tree_of t) ≡ (if b then skipped else refused kind.Directive)

@@ -190,7 +190,7 @@ chosen_ordinary names m args = by_test (length (map Variable args) == 2)
     by_test false = refl
 
 -- as many arguments without their places
-length-plain : (ts : Trees) → length (plain_list ts) ≡ arity ts
+pub length-plain : (ts : Trees) → length (plain_list ts) ≡ arity ts
 length-plain no_trees = refl
 length-plain (more_trees t ts) = ap suc (length-plain ts)
 

@@ -53,7 +53,7 @@ module _ (names later : List (List ℕ)) (ext : Extends names later) where
         ap (λ (b : Body). b ∷ argument_bodies later ts) (body_stays t p.0) ∙ ap (λ (bs : List Body). body_of names t ∷ bs) (bodies_stay ts p.1)
 
   -- the fault of a known head
-  head_stays : (t : Tree) → IsTrue (is_known (length names) t) → head_fault later t ≡ head_fault names t
+  pub head_stays : (t : Tree) → IsTrue (is_known (length names) t) → head_fault later t ≡ head_fault names t
   head_stays (tree at (Var x)) h = refl
   head_stays (tree at (Int i)) h = refl
   head_stays (tree at (Fun f ts)) h =
@@ -70,7 +70,7 @@ module _ (names later : List (List ℕ)) (ext : Extends names later) where
   abbrev AreKnown : List Tree → Type 0
   AreKnown ts = AllByRecursion (λ (t : Tree). IsTrue (is_known (length names) t)) ts
 
-  list_known : (ts : Trees) → IsTrue (all_known (length names) ts) → AreKnown (list_of ts)
+  pub list_known : (ts : Trees) → IsTrue (all_known (length names) ts) → AreKnown (list_of ts)
   list_known no_trees h = tt
   list_known (more_trees t ts) h = let p = and_parts (is_known (length names) t) (all_known (length names) ts) h in (p.0, list_known ts p.1)
 

@@ -14,6 +14,8 @@ pub mod KindLemmas
 pub mod FormLemmas
 pub mod OutcomeLemmas
 pub mod QueryLemmas
+pub mod DefiniteLemmas
+pub mod DefiniteLater
 pub mod PlaceLemmas
 pub mod SizeLemmas
 pub mod LimitLemmas

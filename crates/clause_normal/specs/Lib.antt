@@ -15,4 +15,6 @@ pub mod RuleViews
 pub mod FormViews
 pub mod Faults
 pub mod Query
+pub mod Definite
+pub mod DefiniteViews
 pub mod Small

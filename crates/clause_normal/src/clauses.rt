@@ -38,7 +38,7 @@ fn are_few(alloc: Global, variables: &[u32]) -> Result<bool, AllocError>
 }
 
 /// The head of a clause as a call.
-fn head_call<'a>(names: &Names, head: &'a ReadTerm) -> Result<Call<'a>, NormFault>
+pub(crate) fn head_call<'a>(names: &Names, head: &'a ReadTerm) -> Result<Call<'a>, NormFault>
     requires { IsTrue (is_known (length names.now) (tree_of head.now)) }
     ensures { AnswersHead names.now (tree_of head.now) result }
 {
@@ -49,7 +49,7 @@ fn head_call<'a>(names: &Names, head: &'a ReadTerm) -> Result<Call<'a>, NormFaul
 }
 
 /// Reports the fault of a clause at a place with too many different variables.
-pub(crate) fn check_variables(alloc: Global, variables: &[u32], at: u32) -> Result<(), NormFault>
+fn check_variables(alloc: Global, variables: &[u32], at: u32) -> Result<(), NormFault>
     ensures { AnswersFault (variables_fault at variables.now) result }
 {
     if are_few(alloc, variables)? {
@@ -116,7 +116,7 @@ fn add_fact<'a>(
 }
 
 /// Reports the fault of a term that is a clause with too many different variables.
-fn check_term(alloc: Global, term: &ReadTerm) -> Result<(), NormFault>
+pub(crate) fn check_term(alloc: Global, term: &ReadTerm) -> Result<(), NormFault>
     ensures { AnswersFault (variables_fault term.now.at (occurrences (tree_of term.now))) result }
 {
     let variables = term_variables(alloc, term)?;

@@ -3,6 +3,7 @@
 ghost use Rattle.std.specs.Prelude.{◌≡◌, ◌≤◌, ◌∷◌, [], ℕ, IsTrue, IfNone, length, option_map};
 ghost use Rattle.prolog_terms.specs.Clauses.{is_below, is_known};
 ghost use Rattle.prolog_terms.specs.Terms.{tree_of};
+ghost use Rattle.clause_normal.specs.DefiniteViews.{IsParted};
 ghost use Rattle.clause_normal.specs.FormViews.{IsForm, FormIsFit, IsHead};
 ghost use Rattle.clause_normal.specs.NormalForm.{is_silent_goal, named_head_fault};
 
@@ -49,6 +50,7 @@ fn only(args: &[ReadTerm]) -> &ReadTerm
 pub(crate) fn form_of<'a>(names: &Names, term: &'a ReadTerm) -> Form<'a>
     requires { IsTrue (is_known (length names.now) (tree_of term.now)) }
     ensures form { IsForm names.now term.now result }
+    ensures parted { IsParted names.now term.now result }
     ensures fit { (vars : ℕ) → IsTrue (is_below vars (tree_of term.now)) → FormIsFit (length names.now) vars result }
 {
     match &term.shape {

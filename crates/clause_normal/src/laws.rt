@@ -11,6 +11,7 @@ ghost use Rattle.prolog_reader.specs.Places.{ArePlacedClauses};
 ghost use Rattle.clause_normal.specs.NormalForm.{Fault, normal_form, normal_rules};
 ghost use Rattle.clause_normal.specs.Rules.{Rule};
 ghost use Rattle.clause_normal.specs.Small.{IsSmall, call_nodes};
+ghost use Rattle.clause_normal.specs.Definite.{AreDefinite, program_of};
 ghost use Rattle.clause_normal.specs.Query.{query_form, query_calls, query_goals};
 
 use cti_terms::{MOST_NODES, MOST_VARIABLES};
@@ -45,4 +46,9 @@ pub fn goals_of_queries_are_small()
     ensures nodes { (names : List (List ℕ)) (clause : Clause) → nodes clause.term ≤ 2097152 → sum_by call_nodes (query_calls (query_goals names clause.term)) ≤ MOST_NODES }
     ensures preds { (names : List (List ℕ)) (p q : Listing) (clause : Clause) (g : Query) → nodes clause.term ≤ 2097152 → query_form names p clause ≡ Ok (q, g)
         → length q.preds ≤ length p.preds + 2097152 }
+{}
+
+/// The program of definite clauses is their normal form.
+pub fn definite_programs_are_normal()
+    ensures { (names : List (List ℕ)) (clauses : List Clause) → AreDefinite names clauses → normal_form names clauses ≡ Ok (program_of names clauses) }
 {}

@@ -8,6 +8,7 @@
 mod body;
 mod clauses;
 mod copying;
+mod definite;
 mod fault;
 mod forms;
 mod goal;
@@ -28,6 +29,7 @@ mod text_program;
 mod variables;
 mod words;
 
+pub use definite::{check_added, definite_program};
 pub use fault::{NormFault, NormKind};
 pub use limits::MOST_TEXT_CLAUSES;
 pub use query::normal_query;

@@ -14,14 +14,13 @@ ghost use Rattle.clause_normal.specs.RuleViews.{args_of, call_of, CallIsFit, IsN
 ghost use Rattle.clause_normal.specs.declared.rule.Call.{Call as TheCall};
 ghost use Rattle.clause_normal.specs.Views.{item_goal, ItemIsFit};
 
-use crate::clauses::check_variables;
+use crate::clauses::check_term;
 use crate::fault::{NormFault, NormKind};
 use crate::numbering::{add_arg_variables, add_atoms};
 use crate::order::firsts;
 use crate::part::{Item, Part, atom_item, part_of};
 use crate::rule::{Args, Call, Functor};
 use crate::text_program::{add_equality, equality_pred};
-use crate::variables::term_variables;
 use cti_terms::{Goal, MOST_CLAUSES, MOST_NODES, MOST_VARIABLES, Names, Program};
 use prolog_reader::{ReadClause, ReadTerm};
 use std::alloc::{AllocError, Global};
@@ -111,6 +110,27 @@ fn item_calls<'a>(alloc: Global, items: &[Item<'a>]) -> Result<Vec<Call<'a>>, Al
     Ok(calls)
 }
 
+/// The calls of a conjunction, or its first fault. A disjunction is impure here.
+pub(crate) fn conjunction<'a>(
+    alloc: Global,
+    names: &Names,
+    query: &'a ReadTerm,
+) -> Result<Vec<Call<'a>>, NormFault>
+    requires { IsTrue (is_known (length names.now) (tree_of query.now)) }
+    ensures fault { AnswersFault (query_fault (query_goals names.now (tree_of query.now))) result }
+    ensures calls { IfOk result (λ v. map call_of v.items ≡ query_calls (query_goals names.now (tree_of query.now))) }
+    ensures fit { IfOk result (λ v. AllByRecursion (CallIsFit (length names.now)) v.items) }
+    ensures named { IfOk result (λ v. AllByRecursion (λ (c : TheCall). IsNamed c.functor) v.items) }
+{
+    let items = query_items(alloc, names, query)?;
+    match check_items(&items) {
+        Ok(()) => {}
+        Err(fault) => return Err(fault),
+    }
+    let calls = item_calls(alloc, &items)?;
+    Ok(calls)
+}
+
 /// The variables of calls from left to right, with repetitions.
 fn calls_variables(alloc: Global, calls: &[Call]) -> Result<Vec<u32>, AllocError>
     ensures { IfOk result (λ v. v.items ≡ call_variables (map call_of calls.now)) }
@@ -190,17 +210,14 @@ pub fn normal_query(
     ensures still { (i : ℕ) → i < length program.old.preds → slice_get program.new.preds i ≡ slice_get program.old.preds i }
     ensures earlier { IfErr result (λ e. program.new.clauses ≡ program.old.clauses) }
 {
-    let items = query_items(alloc, names, &query.term)?;
-    match check_items(&items) {
+    let calls = match conjunction(alloc, names, &query.term) {
+        Ok(calls) => calls,
+        Err(fault) => return Err(fault),
+    };
+    match check_term(alloc, &query.term) {
         Ok(()) => {}
         Err(fault) => return Err(fault),
     }
-    let variables = term_variables(alloc, &query.term)?;
-    match check_variables(alloc, &variables, query.term.at) {
-        Ok(()) => {}
-        Err(fault) => return Err(fault),
-    }
-    let calls = item_calls(alloc, &items)?;
     let occurrences = calls_variables(alloc, &calls)?;
     let Some(order) = firsts(alloc, &occurrences, MOST_VARIABLES as usize)? else {
         return Err(NormFault::Memory);

@@ -99,6 +99,30 @@ pub(crate) fn add_equality(
     Ok(())
 }
 
+/// The program of clauses, with that of `=`/2 where it is called.
+pub(crate) fn whole_program(
+    alloc: Global,
+    names: &mut Names,
+    rules: &[Rule],
+) -> Result<Program, AllocError>
+    requires few { length rules.now ≤ 16384 }
+    requires fit { AllByRecursion (RuleIsFit (length names.old)) rules.now }
+    requires ordinary { AllByRecursion (λ (r : TheRule). IsOrdinaryCall names.old r.head) (map rule_of rules.now) }
+    requires room { length names.old < 2 ^ 32 - 3 }
+    ensures kept { Extends names.old names.new }
+    ensures program { IfOk result (λ p. p ≡ with_equality names.new (with_rules names.new (empty_program names.new) (map rule_of rules.now))) }
+    ensures added { OnOk result (names.new ≡ with_names names.old (operation_texts ++ rule_texts (map rule_of rules.now))) }
+    ensures arithmetic { IfOk result (λ p. (later : List (List ℕ)) → Extends names.new later → p.arithmetic ≡ arithmetic_of later p.preds) }
+    ensures known { IfOk result (λ p. AllByRecursion (λ (q : ThePred). q.name.0 < length names.new) p.preds) }
+    ensures sound { IfOk result IsProgram }
+    ensures room { IfOk result (λ p. position (is_equality names.new) p.preds ≡ None → length p.clauses < 16385) }
+{
+    let mut program = program_of(alloc, names, rules)?;
+    add_equality(alloc, names, &mut program)?;
+    let _preds = program.preds();
+    Ok(program)
+}
+
 /// The program of a text's clauses in normal form: bodies are conjunctions, each disjunction is a predicate of its own.
 ///
 /// A clause is followed by those of the branches of its disjunctions, and the clause of `=`/2 is last, where `=`/2 is called. Predicates
@@ -131,8 +155,6 @@ pub fn normal(alloc: Global, text: &ReadText, names: &mut Names) -> Result<Progr
         Ok(rules) => rules,
         Err(fault) => return Err(fault),
     };
-    let mut program = program_of(alloc, names, &rules)?;
-    add_equality(alloc, names, &mut program)?;
-    let _preds = program.preds();
+    let program = whole_program(alloc, names, &rules)?;
     Ok(program)
 }
