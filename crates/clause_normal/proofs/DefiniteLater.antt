@@ -1,5 +1,5 @@
 -- Definite clauses stay what they are where names are added.
-use Rattle.std.proofs.Common.{◌≡◌, ℕ, IsTrue, nat_lt, List, [], ◌∷◌, ◌++◌, length, Option, refl, ap, ◌∙◌}
+use Rattle.std.proofs.Common.{◌≡◌, ℕ, IsTrue, nat_lt, List, [], ◌∷◌, ◌++◌, length, Option, None, refl, ap, ◌∙◌}
 use Rattle.std.specs.List.{AllByRecursion}
 use Rattle.std.proofs.lemmas.Bool.{and_parts, ltb-true}
 use Rattle.prolog_grammar.specs.Placed.{Tree, tree, Shape, Var, Int, Fun, Trees, no_trees, more_trees}
@@ -17,7 +17,7 @@ use Rattle.clause_normal.specs.ChoiceNames.{call_texts, rule_texts}
 use Rattle.clause_normal.specs.Rules.{Call, Rule}
 use Rattle.clause_normal.specs.NormalForm.{Fault, first_of, head_call, variables_fault}
 use Rattle.clause_normal.specs.Query.{named_goals, query_goals, shape_goals, argument_goals, query_fault, query_calls}
-use Rattle.clause_normal.specs.Definite.{Parted, no_clause, fact, rule, named_parts, parted, parts_fault, parted_fault, parts_rule, rules_of}
+use Rattle.clause_normal.specs.Definite.{Parted, no_clause, fact, rule, named_parts, parted, parts_fault, parted_fault, AreDefinite, parts_rule, rules_of}
 use Rattle.clause_normal.proofs.Later.{text_stays, head_stays, list_known}
 
 module _ (names later : List (List ℕ)) (ext : Extends names later) where
@@ -57,7 +57,7 @@ module _ (names later : List (List ℕ)) (ext : Extends names later) where
       ap (λ (x : List ℕ). named_parts (tree at (Fun f ts)) (neck_of x (arity ts)) (list_of ts)) (text_stays names later ext f (ltb-true f (length names) p.0))
 
   -- parts that are known
-  abbrev AreKnownParts : Parted → Type 0
+  abbrev pub AreKnownParts : Parted → Type 0
   AreKnownParts (no_clause k) = Unit {0}
   AreKnownParts (fact u) = IsTrue (is_known (length names) u)
   AreKnownParts (rule u b) = IsTrue (is_known (length names) u) × IsTrue (is_known (length names) b)
@@ -69,7 +69,7 @@ module _ (names later : List (List ℕ)) (ext : Extends names later) where
   named_parts_known t neck.Grammar ts w h = tt
   named_parts_known t k ts w h = w
 
-  parted_known : (t : Tree) → IsTrue (is_known (length names) t) → AreKnownParts (parted names t)
+  pub parted_known : (t : Tree) → IsTrue (is_known (length names) t) → AreKnownParts (parted names t)
   parted_known (tree at (Var x)) h = h
   parted_known (tree at (Int n)) h = h
   parted_known (tree at (Fun f ts)) h =
@@ -100,6 +100,14 @@ module _ (names later : List (List ℕ)) (ext : Extends names later) where
       let one : parts_rule later (parted later c.term) ≡ parts_rule names (parted names c.term) =
       ap (parts_rule later) (parted_stays c.term h.0.known) ∙ parts_rule_stays (parted names c.term) (parted_known c.term h.0.known) in
       λ i. one i ++ rules_of_stay cs h.1 i
+
+  -- so they stay definite
+  pub definite_stay : (cs : List Clause) → AllByRecursion (IsFit (length names)) cs → AreDefinite names cs → AreDefinite later cs
+  definite_stay cs fit h = record { each = each_stays cs fit h.each; few = h.few }
+    where
+      each_stays : (cs : List Clause) → AllByRecursion (IsFit (length names)) cs → AllByRecursion (λ (c : Clause). parted_fault names c ≡ None) cs → AllByRecursion (λ (c : Clause). parted_fault later c ≡ None) cs
+      each_stays [] fit h = tt
+      each_stays (c ∷ cs) fit h = (parted_fault_stays c fit.0 ∙ h.0, each_stays cs fit.1 h.1)
 
 -- definite clauses call nothing that needs a name
 module _ (names : List (List ℕ)) where

@@ -1,9 +1,9 @@
 -- The program of definite clauses is their normal form.
-use Rattle.std.proofs.Common.{◌≡◌, ℕ, ◌+◌, ◌≤◌, ◌&&◌, ◌||◌, ◌==◌, Bool, true, false, nat_lt, List, [], ◌∷◌, ◌++◌, length, Option, Some, None, Result, Ok, if◌then◌else◌, refl, ap, sym, ◌∙◌, arith, append-nil, append_assoc, eqb-true}
+use Rattle.std.proofs.Common.{◌≡◌, ℕ, ◌+◌, ◌≤◌, ◌&&◌, ◌||◌, ◌==◌, Bool, true, false, zero, suc, nat_le, nat_lt, take, drop, List, [], ◌∷◌, ◌++◌, length, Option, Some, None, Result, Ok, if◌then◌else◌, refl, ap, sym, ◌∙◌, arith, append-nil, append_assoc, eqb-true}
 use Rattle.std.specs.Prelude.{codes}
 use Rattle.std.specs.List.{AllByRecursion}
 use Rattle.std.specs.Cmp.Lexicographic.{same_text}
-use Rattle.std.proofs.lemmas.Bool.{and_parts, le-ltb}
+use Rattle.std.proofs.lemmas.Bool.{and_parts, le-ltb, leb-false}
 use Rattle.std.proofs.lemmas.List.{length-append}
 use Rattle.cti_terms.specs.Tree.{Tree as Term}
 use Rattle.prolog_grammar.specs.Placed.{Tree, tree, Shape, Var, Int, Fun, Trees, no_trees, more_trees}
@@ -21,7 +21,7 @@ use Rattle.clause_normal.specs.Rules.{named, Call, Rule, choices, inner, calls, 
 use Rattle.clause_normal.specs.NormalForm.{Fault, Made, first_of, goals_fault, clause, clause_fault, head_fault, head_call, variables_fault, made_or_fault, with_form, named_form, form_of, and_next, normal_rules, normal_form}
 use Rattle.clause_normal.specs.NormalForm.{program_of as program_or_fault}
 use Rattle.clause_normal.specs.Query.{named_goals, query_goals, argument_goals, bad_goal, query_fault, query_calls}
-use Rattle.clause_normal.specs.Definite.{Parted, no_clause, fact, rule, named_parts, parted, parts_fault, parted_fault, AreDefinite, parts_rule, rules_of, program_of}
+use Rattle.clause_normal.specs.Definite.{Parted, no_clause, fact, rule, named_parts, parted, parts_fault, parted_fault, added_fault, AreDefinite, parts_rule, rules_of, program_of}
 use Rattle.clause_normal.proofs.KindLemmas.{length-plain}
 use Rattle.clause_normal.proofs.ListLemmas.{all_append}
 
@@ -224,3 +224,46 @@ module _ (names : List (List ℕ)) where
 
   pub definite_normal : (cs : List Clause) → AreDefinite names cs → normal_form names cs ≡ Ok (program_of names cs)
   definite_normal cs h = ap (program_or_fault names) (definite_rules [] 1 cs h.each (omega (arith, h.few)))
+
+-- ---- clauses come and go
+
+taken : {X : Type 0} (P : X → Type 0) (i : ℕ) (xs : List X) → AllByRecursion P xs → AllByRecursion P (take i xs)
+taken P zero xs h = tt
+taken P (suc i) [] h = tt
+taken P (suc i) (x ∷ xs) h = (h.0, taken P i xs h.1)
+
+dropped : {X : Type 0} (P : X → Type 0) (i : ℕ) (xs : List X) → AllByRecursion P xs → AllByRecursion P (drop i xs)
+dropped P zero xs h = h
+dropped P (suc i) [] h = tt
+dropped P (suc i) (x ∷ xs) h = dropped P i xs h.1
+
+fewer : {X : Type 0} (i j : ℕ) (xs : List X) → i ≤ j → length (take i xs ++ drop j xs) ≤ length xs
+fewer zero zero xs le = omega arith
+fewer zero (suc j) [] le = omega arith
+fewer zero (suc j) (x ∷ xs) le = omega (arith, fewer 0 j xs (omega arith))
+fewer (suc i) zero xs le = absurd (omega (arith, le))
+fewer (suc i) (suc j) [] le = omega arith
+fewer (suc i) (suc j) (x ∷ xs) le = omega (arith, fewer i j xs (omega (arith, le)))
+
+-- a clause may be added where there is room
+room : (at n : ℕ) → ◌≡◌ {A = Option Fault} (if nat_le 16384 n then Some (kind.ManyClauses, at) else None) None → n + 1 ≤ 16384
+room at n = by_test (nat_le 16384 n) refl
+  where
+    by_test : (b : Bool) → nat_le 16384 n ≡ b → ◌≡◌ {A = Option Fault} (if b then Some (kind.ManyClauses, at) else None) None → n + 1 ≤ 16384
+    by_test true e h = absurd (let k = h in cc)
+    by_test false e h = omega (arith, leb-false 16384 n e)
+
+module _ (names : List (List ℕ)) where
+  abbrev Fine : Clause → Type 0
+  Fine c = parted_fault names c ≡ None
+
+  pub definite_added : (cs : List Clause) (c : Clause) → AreDefinite names cs → added_fault names (length cs) c ≡ None → AreDefinite names (cs ++ c ∷ [])
+  definite_added cs c h e =
+      let p = both_none (parted_fault names c) (if nat_le 16384 (length cs) then Some (kind.ManyClauses, place c.term) else None) e in
+      record { each = all_append Fine cs (c ∷ []) h.each (p.0, tt); few = omega (arith, length-append cs (c ∷ []), room (place c.term) (length cs) p.1) }
+
+  pub definite_taken : (cs : List Clause) (i j : ℕ) → i ≤ j → AreDefinite names cs → AreDefinite names (take i cs ++ drop j cs)
+  definite_taken cs i j le h = record {
+    each = all_append Fine (take i cs) (drop j cs) (taken Fine i cs h.each) (dropped Fine j cs h.each);
+    few = omega (arith, fewer i j cs le, h.few);
+  }

@@ -16,6 +16,7 @@ pub mod OutcomeLemmas
 pub mod QueryLemmas
 pub mod DefiniteLemmas
 pub mod DefiniteLater
+pub mod DefinitePrograms
 pub mod PlaceLemmas
 pub mod SizeLemmas
 pub mod LimitLemmas

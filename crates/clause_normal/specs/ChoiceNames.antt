@@ -3,7 +3,9 @@
 -- order in which they are called.
 --
 -- To believe: all of this file, and in prolog_reader `with_names`.
-use Rattle.std.specs.Prelude.{ℕ, List, [], ◌∷◌, ◌++◌, Result, Ok, Err}
+use Rattle.std.specs.Prelude.{ℕ, nat_eq, IsTrue, List, [], ◌∷◌, ◌++◌, Result, Ok, Err}
+use Rattle.std.specs.List.{AllByRecursion, list_any}
+use Rattle.std.specs.Cmp.Lexicographic.{pointwise}
 use Rattle.prolog_terms.specs.Clauses.{Clause}
 use Rattle.prolog_reader.specs.Naming.{with_names}
 use Rattle.clause_normal.specs.NormalForm.{Fault, normal_rules}
@@ -30,3 +32,7 @@ made_texts (Err f) = []
 -- the names of the program of a text's clauses, after those by which the text was read
 abbrev pub program_names : List (List ℕ) → List Clause → List (List ℕ)
 program_names names clauses = with_names names (made_texts (normal_rules names [] 1 clauses))
+
+-- the names of arithmetic operations are among these, so that only those of disjunctions are added
+abbrev pub HasOperations : List (List ℕ) → Type 0
+HasOperations names = AllByRecursion (λ (text : List ℕ). IsTrue (list_any (pointwise nat_eq text) names)) operation_texts

@@ -1,17 +1,19 @@
 //! Where faults stand. It is a function that does nothing, and whose clauses are proved.
 
-ghost use Rattle.std.specs.Prelude.{◌≡◌, ◌≤◌, ◌+◌, ℕ, List, [], Ok, Err, length, sum_by};
+ghost use Rattle.std.specs.Prelude.{◌≡◌, ◌≤◌, ◌+◌, ℕ, List, [], ◌∷◌, ◌++◌, None, Ok, Err, length, take, drop, sum_by};
 ghost use Rattle.std.specs.List.{AllByRecursion};
 ghost use Rattle.cti_terms.specs.Listing.{Listing};
 ghost use Rattle.cti_terms.specs.declared.derivation.Goal.{Goal as Query};
 ghost use Rattle.prolog_grammar.specs.Places.{IsPlaced};
 ghost use Rattle.prolog_terms.specs.Clauses.{Clause, nodes};
-ghost use Rattle.clause_normal.specs.ChoiceNames.{program_names};
+ghost use Rattle.clause_normal.specs.ChoiceNames.{program_names, HasOperations};
+ghost use Rattle.prolog_reader.specs.Fit.{IsFit};
+ghost use Rattle.prolog_reader.specs.Names.{Extends};
 ghost use Rattle.prolog_reader.specs.Places.{ArePlacedClauses};
 ghost use Rattle.clause_normal.specs.NormalForm.{Fault, normal_form, normal_rules};
 ghost use Rattle.clause_normal.specs.Rules.{Rule};
 ghost use Rattle.clause_normal.specs.Small.{IsSmall, call_nodes};
-ghost use Rattle.clause_normal.specs.Definite.{AreDefinite, program_of};
+ghost use Rattle.clause_normal.specs.Definite.{AreDefinite, added_fault, program_of};
 ghost use Rattle.clause_normal.specs.Query.{query_form, query_calls, query_goals};
 
 use cti_terms::{MOST_NODES, MOST_VARIABLES};
@@ -51,4 +53,18 @@ pub fn goals_of_queries_are_small()
 /// The program of definite clauses is their normal form.
 pub fn definite_programs_are_normal()
     ensures { (names : List (List ℕ)) (clauses : List Clause) → AreDefinite names clauses → normal_form names clauses ≡ Ok (program_of names clauses) }
+{}
+
+/// Definite clauses stay definite where one is added without a fault, where some in a row are taken out, and where names are added.
+pub fn definite_clauses_come_and_go()
+    ensures added { (names : List (List ℕ)) (clauses : List Clause) (c : Clause) → AreDefinite names clauses → added_fault names (length clauses) c ≡ None → AreDefinite names (clauses ++ c ∷ []) }
+    ensures taken { (names : List (List ℕ)) (clauses : List Clause) (i j : ℕ) → i ≤ j → AreDefinite names clauses → AreDefinite names (take i clauses ++ drop j clauses) }
+    ensures later { (names later : List (List ℕ)) (clauses : List Clause) → Extends names later → AllByRecursion (IsFit (length names)) clauses → AreDefinite names clauses → AreDefinite later clauses }
+{}
+
+/// The program of definite clauses is the same where names are added, if those of arithmetic operations are there.
+pub fn definite_programs_stay()
+    ensures program { (names later : List (List ℕ)) (clauses : List Clause) → Extends names later → HasOperations names → AllByRecursion (IsFit (length names)) clauses → AreDefinite names clauses
+        → program_of later clauses ≡ program_of names clauses }
+    ensures operations { (names later : List (List ℕ)) → Extends names later → HasOperations names → HasOperations later }
 {}
