@@ -1,5 +1,5 @@
 -- Definite clauses stay what they are where names are added.
-use Rattle.std.proofs.Common.{◌≡◌, ℕ, IsTrue, nat_lt, List, [], ◌∷◌, ◌++◌, length, Option, None, refl, ap, ◌∙◌}
+use Rattle.std.proofs.Common.{◌≡◌, ℕ, IsTrue, nat_lt, List, [], ◌∷◌, ◌++◌, length, map, Option, None, refl, ap, ◌∙◌}
 use Rattle.std.specs.List.{AllByRecursion}
 use Rattle.std.proofs.lemmas.Bool.{and_parts, ltb-true}
 use Rattle.prolog_grammar.specs.Placed.{Tree, tree, Shape, Var, Int, Fun, Trees, no_trees, more_trees}
@@ -13,7 +13,12 @@ use Rattle.clause_normal.specs.declared.words.Neck.TheVariants as neck
 use Rattle.clause_normal.specs.Words.{connective_of, neck_of}
 use Rattle.clause_normal.specs.Terms.{plain_list, occurrences}
 use Rattle.clause_normal.specs.Bodies.{Goal, call, choice, bad, named_goal, atom_goal}
-use Rattle.clause_normal.specs.ChoiceNames.{call_texts, rule_texts}
+use Rattle.clause_normal.specs.ChoiceNames.{functor_texts, call_texts, rule_texts}
+use Rattle.clause_normal.specs.declared.rule.Call.{Call as CodeCall}
+use Rattle.clause_normal.specs.declared.rule.Functor.{Functor as CodeFunctor}
+use Rattle.clause_normal.specs.declared.rule.Functor.TheVariants as functor
+use Rattle.clause_normal.specs.declared.rule.Rule.{Rule as CodeRule}
+use Rattle.clause_normal.specs.RuleViews.{functor_of, call_of, rule_of, IsNamed, RuleIsNamed}
 use Rattle.clause_normal.specs.Rules.{Call, Rule}
 use Rattle.clause_normal.specs.NormalForm.{Fault, first_of, head_call, variables_fault}
 use Rattle.clause_normal.specs.Query.{named_goals, query_goals, shape_goals, argument_goals, query_fault, query_calls}
@@ -109,6 +114,26 @@ module _ (names later : List (List ℕ)) (ext : Extends names later) where
       each_stays [] fit h = tt
       each_stays (c ∷ cs) fit h = (parted_fault_stays c fit.0 ∙ h.0, each_stays cs fit.1 h.1)
 
+-- clauses that need no name call only names
+no_texts : (xs ys : List (List ℕ)) → xs ++ ys ≡ [] → (xs ≡ []) × (ys ≡ [])
+no_texts [] ys h = (refl, h)
+no_texts (x ∷ xs) ys h = absurd (let e = h in cc)
+
+functor_named : (f : CodeFunctor) → functor_texts (functor_of f) ≡ [] → IsNamed f
+functor_named (functor.Named f) h = tt
+functor_named (functor.Chosen m) h = absurd (let e = h in cc)
+
+calls_named : (cs : List CodeCall) → call_texts (map call_of cs) ≡ [] → AllByRecursion (λ (c : CodeCall). IsNamed c.functor) cs
+calls_named [] h = tt
+calls_named (c ∷ cs) h = let p = no_texts (functor_texts (functor_of c.functor)) (call_texts (map call_of cs)) h in (functor_named c.functor p.0, calls_named cs p.1)
+
+pub rules_named : (rs : List CodeRule) → rule_texts (map rule_of rs) ≡ [] → AllByRecursion RuleIsNamed rs
+rules_named [] h = tt
+rules_named (r ∷ rs) h =
+    let p = no_texts (call_texts (call_of r.head ∷ map call_of r.body.items)) (rule_texts (map rule_of rs)) h in
+    let q = no_texts (functor_texts (functor_of r.head.functor)) (call_texts (map call_of r.body.items)) p.0 in
+    ((functor_named r.head.functor q.0, calls_named r.body.items q.1), rules_named rs p.1)
+
 -- definite clauses call nothing that needs a name
 module _ (names : List (List ℕ)) where
   calls_texts : (gs : List Goal) → call_texts (query_calls gs) ≡ []
@@ -132,3 +157,7 @@ module _ (names : List (List ℕ)) where
   pub definite_texts : (cs : List Clause) → rule_texts (rules_of names cs) ≡ []
   definite_texts [] = refl
   definite_texts (c ∷ cs) = parts_texts (parted names c.term) (rules_of names cs) ∙ definite_texts cs
+
+  -- so the code's clauses call only names
+  pub definite_named : (cs : List Clause) (rs : List CodeRule) → map rule_of rs ≡ rules_of names cs → AllByRecursion RuleIsNamed rs
+  definite_named cs rs e = rules_named rs (ap rule_texts e ∙ definite_texts cs)

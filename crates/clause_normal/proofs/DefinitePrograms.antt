@@ -7,17 +7,13 @@ use Rattle.std.proofs.lemmas.Bool.{and_parts, ltb-true}
 use Rattle.std.proofs.lemmas.List.Folds.{list_any-append}
 use Rattle.cti_terms.specs.Arithmetic.{Arithmetic}
 use Rattle.cti_terms.specs.Listing.{Listing, is_pred, with_pred}
-use Rattle.cti_terms.specs.Numbers.{number_of, with_text}
+use Rattle.cti_terms.specs.Numbers.{number_of}
 use Rattle.cti_terms.specs.Tree.{Tree as Term}
 use Rattle.cti_terms.specs.declared.atom_list.Atom.{Atom}
-use Rattle.cti_terms.specs.declared.builtins.Arith.{Arith}
-use Rattle.cti_terms.specs.declared.builtins.Builtin.{Builtin}
 use Rattle.cti_terms.specs.declared.predicates.Pred.{Pred}
-use Rattle.cti_terms.specs.declared.predicates.PredId.{PredId}
 use Rattle.prolog_grammar.specs.Placed.{Tree, tree, Shape, Var, Int, Fun, Trees, no_trees, more_trees}
 use Rattle.prolog_reader.specs.Fit.{IsFit}
 use Rattle.prolog_reader.specs.Names.{name_text, Extends}
-use Rattle.prolog_reader.specs.Naming.{with_names}
 use Rattle.prolog_reader.proofs.NameLemmas.{number_kept, text_there}
 use Rattle.prolog_terms.specs.Clauses.{Clause, arity, is_known, shape_known, all_known}
 use Rattle.clause_normal.specs.declared.fault.NormKind.TheVariants as kind
@@ -28,7 +24,7 @@ use Rattle.clause_normal.specs.Terms.{plain_list, renumbered}
 use Rattle.clause_normal.specs.Bodies.{Goal, call, choice, bad, named_goal, atom_goal}
 use Rattle.clause_normal.specs.ChoiceNames.{HasOperations}
 use Rattle.clause_normal.specs.Rules.{Functor, named, chosen, Call, Rule}
-use Rattle.clause_normal.specs.NormalForm.{first_of, head_fault, head_call}
+use Rattle.clause_normal.specs.NormalForm.{head_fault, head_call}
 use Rattle.clause_normal.specs.Numbering.{name_number, pred_of, atom_after, with_calls, atoms_after, order_of, builtin_at, builtins_from, operation_texts, operations, arithmetic_of, empty_program, with_rule, with_rules, is_equality, with_equality_clause, with_equality}
 use Rattle.clause_normal.specs.Query.{named_goals, query_goals, shape_goals, argument_goals, query_calls}
 use Rattle.clause_normal.specs.Definite.{Parted, no_clause, fact, rule, parted, parts_fault, parted_fault, AreDefinite, parts_rule, rules_of, program_of}

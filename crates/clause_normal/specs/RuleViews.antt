@@ -31,6 +31,10 @@ abbrev pub IsNamed : CodeFunctor → Type 0
 IsNamed (functor.Named f) = Unit {0}
 IsNamed (functor.Chosen m) = ⊥
 
+-- a clause that calls only names
+abbrev pub RuleIsNamed : CodeRule → Type 0
+RuleIsNamed r = IsNamed r.head.functor × AllByRecursion (λ (c : CodeCall). IsNamed c.functor) r.body.items
+
 -- a name that is known
 abbrev pub FunctorIsFit : ℕ → CodeFunctor → Type 0
 FunctorIsFit names (functor.Named f) = f.0 < names

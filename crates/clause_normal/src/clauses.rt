@@ -5,6 +5,8 @@ ghost use Rattle.std.specs.List.{AllByRecursion};
 ghost use Rattle.prolog_terms.specs.Clauses.{is_known, nodes};
 ghost use Rattle.prolog_reader.specs.Fit.{IsFit, AreFit};
 ghost use Rattle.prolog_terms.specs.Terms.{tree_of, clause_of};
+ghost use Rattle.clause_normal.specs.Definite.{fact};
+ghost use Rattle.clause_normal.specs.DefiniteViews.{AnswersRule};
 ghost use Rattle.clause_normal.specs.Faults.{AnswersFault, AnswersHead, AnswersMade, AnswersNext, AnswersNumber, IfFault};
 ghost use Rattle.clause_normal.specs.NormalForm.{goals_fault, variables_fault, with_form, with_clause, normal_rules, clause};
 ghost use Rattle.clause_normal.specs.Bodies.{no_goals};
@@ -85,6 +87,37 @@ fn push_rule<'a>(made: &mut Vec<Rule<'a>>, rule: Rule<'a>) -> Result<(), AllocEr
     Ok(())
 }
 
+/// Reports the fault of a term that is a clause with too many different variables.
+pub(crate) fn check_term(alloc: Global, term: &ReadTerm) -> Result<(), NormFault>
+    ensures { AnswersFault (variables_fault term.now.at (occurrences (tree_of term.now))) result }
+{
+    let variables = term_variables(alloc, term)?;
+    check_variables(alloc, &variables, term.at)
+}
+
+/// The clause that a head alone is, or its first fault. The head is the clause's term.
+pub(crate) fn fact_rule<'a>(
+    alloc: Global,
+    names: &Names,
+    head: &'a ReadTerm,
+) -> Result<Rule<'a>, NormFault>
+    requires { IsTrue (is_known (length names.now) (tree_of head.now)) }
+    ensures { AnswersRule names.now (tree_of head.now) (fact (tree_of head.now)) result }
+{
+    let call = match head_call(names, head) {
+        Ok(call) => call,
+        Err(fault) => return Err(fault),
+    };
+    match check_term(alloc, head) {
+        Ok(()) => {}
+        Err(fault) => return Err(fault),
+    }
+    Ok(Rule {
+        head: call,
+        body: Vec::new(alloc),
+    })
+}
+
 /// Adds the clause that a head alone is, which is the term of the clause.
 fn add_fact<'a>(
     alloc: Global,
@@ -97,30 +130,12 @@ fn add_fact<'a>(
     ensures count { OnOk result (length made.new.items ≤ 16384) }
     ensures fit { OnOk result (AllByRecursion (RuleIsFit (length names.now)) made.old.items → AllByRecursion (RuleIsFit (length names.now)) made.new.items) }
 {
-    let head = match head_call(names, term) {
-        Ok(head) => head,
+    let rule = match fact_rule(alloc, names, term) {
+        Ok(rule) => rule,
         Err(fault) => return Err(fault),
     };
-    match check_term(alloc, term) {
-        Ok(()) => {}
-        Err(fault) => return Err(fault),
-    }
-    push_rule(
-        made,
-        Rule {
-            head,
-            body: Vec::new(alloc),
-        },
-    )?;
+    push_rule(made, rule)?;
     check_count(made, term.at)
-}
-
-/// Reports the fault of a term that is a clause with too many different variables.
-pub(crate) fn check_term(alloc: Global, term: &ReadTerm) -> Result<(), NormFault>
-    ensures { AnswersFault (variables_fault term.now.at (occurrences (tree_of term.now))) result }
-{
-    let variables = term_variables(alloc, term)?;
-    check_variables(alloc, &variables, term.at)
 }
 
 /// Adds the clauses that a call of a head with these variables and a body with these become.

@@ -9,14 +9,15 @@ ghost use Rattle.prolog_terms.specs.Terms.{tree_of, clause_of};
 ghost use Rattle.prolog_reader.specs.Fit.{IsFit};
 ghost use Rattle.prolog_reader.specs.Names.{Extends};
 ghost use Rattle.prolog_reader.specs.Naming.{with_names};
-ghost use Rattle.clause_normal.specs.Definite.{AreDefinite, fact, rule, parted, parted_fault, added_fault, rules_of, program_of};
+ghost use Rattle.clause_normal.specs.ChoiceNames.{HasOperations};
+ghost use Rattle.clause_normal.specs.Definite.{AreDefinite, rule, parted, parted_fault, added_fault, rules_of, program_of};
 ghost use Rattle.clause_normal.specs.DefiniteViews.{AnswersRule};
 ghost use Rattle.clause_normal.specs.Faults.{AnswersFault, IfFault};
 ghost use Rattle.clause_normal.specs.Numbering.{arithmetic_of, operation_texts};
 ghost use Rattle.clause_normal.specs.RuleViews.{rule_of, RuleIsFit};
 ghost use Rattle.clause_normal.specs.declared.fault.NormKind.TheVariants.{ManyClauses};
 
-use crate::clauses::{check_term, head_call};
+use crate::clauses::{check_term, fact_rule, head_call};
 use crate::fault::{NormFault, NormKind};
 use crate::forms::{Form, form_of};
 use crate::limits::MOST_TEXT_CLAUSES;
@@ -26,25 +27,6 @@ use crate::text_program::whole_program;
 use cti_terms::{Names, Program};
 use prolog_reader::{ReadClause, ReadTerm};
 use std::alloc::{AllocError, Global};
-
-/// The clause that a head alone is, or its first fault. The head is the clause's term.
-fn fact_rule<'a>(alloc: Global, names: &Names, head: &'a ReadTerm) -> Result<Rule<'a>, NormFault>
-    requires { IsTrue (is_known (length names.now) (tree_of head.now)) }
-    ensures { AnswersRule names.now (tree_of head.now) (fact (tree_of head.now)) result }
-{
-    let call = match head_call(names, head) {
-        Ok(call) => call,
-        Err(fault) => return Err(fault),
-    };
-    match check_term(alloc, head) {
-        Ok(()) => {}
-        Err(fault) => return Err(fault),
-    }
-    Ok(Rule {
-        head: call,
-        body: Vec::new(alloc),
-    })
-}
 
 /// The clause of a term with a head and a body, or its first fault.
 fn implication_rule<'a>(
@@ -166,9 +148,11 @@ pub fn definite_program(
     ensures program { IfOk result (λ p. p ≡ program_of names.new (map clause_of clauses.now)) }
     ensures sound { IfOk result IsProgram }
 
-    // Earlier names keep their numbers, and those of the predicates are known.
+    // The names of arithmetic operations are added, and where they are there, nothing is, also after an error. Earlier names keep their
+    // numbers, and those of the predicates are known.
     ensures names { OnOk result (names.new ≡ with_names names.old operation_texts) }
     ensures kept { Extends names.old names.new }
+    ensures same { HasOperations names.old → names.new ≡ names.old }
     ensures known { IfOk result (λ p. AllByRecursion (λ (q : ThePred). q.name.0 < length names.new) p.preds) }
 
     // What is built in is what these names say, and later ones too.

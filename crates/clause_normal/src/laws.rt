@@ -1,4 +1,4 @@
-//! Where faults stand. It is a function that does nothing, and whose clauses are proved.
+//! Where faults stand, what made clauses are, and definite clauses. Each is a function that does nothing, whose clauses are proved.
 
 ghost use Rattle.std.specs.Prelude.{◌≡◌, ◌≤◌, ◌+◌, ℕ, List, [], ◌∷◌, ◌++◌, None, Ok, Err, length, take, drop, sum_by};
 ghost use Rattle.std.specs.List.{AllByRecursion};

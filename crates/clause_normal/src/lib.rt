@@ -2,6 +2,7 @@
 //!
 //! A body is a conjunction of calls, and each disjunction becomes a predicate of its own, whose clauses are its branches.
 //! `specs/NormalForm.antt` says which program that is and which fault comes first, and `specs/Query.antt` the same of queries.
+//! `specs/Definite.antt` says it of clauses without disjunctions, one at a time, so that they may come and go.
 //! Depends on `cti_terms` for programs, `prolog_reader` for clauses with places, and `thiserror`.
 #![tactic(auto)]
 

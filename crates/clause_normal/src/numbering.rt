@@ -9,7 +9,7 @@ ghost use Rattle.prolog_reader.specs.Naming.{with_names};
 ghost use Rattle.clause_normal.specs.ChoiceNames.{functor_texts, call_texts};
 ghost use Rattle.clause_normal.specs.Numbering.{name_number, pred_of, kind_of_pred, arithmetic_of, atom_after, atoms_after, with_calls, call_variables, with_rule, HasArity};
 ghost use Rattle.clause_normal.specs.Kinds.{functor_text, with_kind, IsOrdinaryCall, HasOrdinary};
-ghost use Rattle.clause_normal.specs.RuleViews.{functor_of, args_of, call_of, rule_of, IsNamed, CallIsFit, FunctorIsFit, RuleIsFit};
+ghost use Rattle.clause_normal.specs.RuleViews.{functor_of, args_of, call_of, rule_of, IsNamed, RuleIsNamed, CallIsFit, FunctorIsFit, RuleIsFit};
 ghost use Rattle.clause_normal.specs.declared.rule.Call.{Call as TheCall};
 ghost use Rattle.clause_normal.specs.Terms.{list_variables};
 
@@ -218,6 +218,7 @@ pub(crate) fn add_rule(
     ensures count { OnOk result (length program.new.clauses ≡ length program.old.clauses + 1) }
     ensures program { OnOk result ((later : List (List ℕ)) → Extends names.new later → program.new ≡ with_rule later program.old (rule_of rule.now)) }
     ensures added { OnOk result (names.new ≡ with_names names.old (call_texts ((rule_of rule.now).head ∷ (rule_of rule.now).body))) }
+    ensures named { RuleIsNamed rule.now → names.new ≡ names.old }
     ensures known { OnOk result (AllByRecursion (λ (p : ThePred). p.name.0 < length names.old) program.old.preds → AllByRecursion (λ (p : ThePred). p.name.0 < length names.new) program.new.preds) }
 {
     let variables = rule_variables(alloc, rule)?;

@@ -4,6 +4,7 @@ ghost use Rattle.std.specs.Prelude.{◌≡◌, ◌<◌, ◌^◌, ◌-◌, ℕ, L
 ghost use Rattle.cti_terms.specs.Listing.{AreThree};
 ghost use Rattle.prolog_reader.specs.Names.{Extends};
 ghost use Rattle.prolog_reader.specs.Naming.{with_names};
+ghost use Rattle.clause_normal.specs.ChoiceNames.{HasOperations};
 ghost use Rattle.clause_normal.specs.Numbering.{operation_texts, operations, empty_program};
 
 use cti_terms::{Arith, Names, Program};
@@ -14,6 +15,7 @@ fn operations(names: &mut Names) -> Result<Arith, AllocError>
     requires { length names.old < 2 ^ 32 - 3 }
     ensures kept { Extends names.old names.new }
     ensures added { OnOk result (names.new ≡ with_names names.old operation_texts) }
+    ensures same { HasOperations names.old → names.new ≡ names.old }
     ensures operations { IfOk result (λ o. (later : List (List ℕ)) → Extends names.new later → operations later ≡ o) }
     ensures three { IfOk result AreThree }
 {
@@ -28,6 +30,7 @@ pub(crate) fn empty_program(alloc: Global, names: &mut Names) -> Result<Program,
     requires { length names.old < 2 ^ 32 - 3 }
     ensures kept { Extends names.old names.new }
     ensures added { OnOk result (names.new ≡ with_names names.old operation_texts) }
+    ensures same { HasOperations names.old → names.new ≡ names.old }
     ensures program { IfOk result (λ p. (later : List (List ℕ)) → Extends names.new later → p ≡ empty_program later) }
 {
     let mut program = Program::new(alloc);

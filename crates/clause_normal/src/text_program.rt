@@ -7,11 +7,11 @@ ghost use Rattle.cti_terms.specs.declared.predicates.Pred.{Pred as ThePred};
 ghost use Rattle.prolog_reader.specs.Fit.{AreFit};
 ghost use Rattle.prolog_reader.specs.Names.{Extends};
 ghost use Rattle.prolog_reader.specs.Naming.{with_names};
-ghost use Rattle.clause_normal.specs.ChoiceNames.{rule_texts, program_names};
+ghost use Rattle.clause_normal.specs.ChoiceNames.{rule_texts, program_names, HasOperations};
 ghost use Rattle.clause_normal.specs.Faults.{IfFault};
 ghost use Rattle.clause_normal.specs.NormalForm.{normal_form};
 ghost use Rattle.clause_normal.specs.Numbering.{arithmetic_of, empty_program, operation_texts, is_equality, with_equality, with_rules, equality_clause};
-ghost use Rattle.clause_normal.specs.RuleViews.{rule_of, RuleIsFit};
+ghost use Rattle.clause_normal.specs.RuleViews.{rule_of, RuleIsFit, RuleIsNamed};
 ghost use Rattle.clause_normal.specs.Kinds.{IsOrdinaryCall};
 ghost use Rattle.clause_normal.specs.Rules.{Rule as TheRule};
 
@@ -34,6 +34,7 @@ fn program_of(alloc: Global, names: &mut Names, rules: &[Rule]) -> Result<Progra
     ensures kept { Extends names.old names.new }
     ensures program { IfOk result (λ p. (later : List (List ℕ)) → Extends names.new later → p ≡ with_rules later (empty_program later) (map rule_of rules.now)) }
     ensures added { OnOk result (names.new ≡ with_names names.old (operation_texts ++ rule_texts (map rule_of rules.now))) }
+    ensures same { HasOperations names.old → AllByRecursion RuleIsNamed rules.now → names.new ≡ names.old }
     ensures arithmetic { IfOk result (λ p. (later : List (List ℕ)) → Extends names.new later → p.arithmetic ≡ arithmetic_of later p.preds) }
     ensures room { IfOk result (λ p. length p.clauses ≤ 16384) }
     ensures known { IfOk result (λ p. AllByRecursion (λ (q : ThePred). q.name.0 < length names.new) p.preds) }
@@ -112,6 +113,7 @@ pub(crate) fn whole_program(
     ensures kept { Extends names.old names.new }
     ensures program { IfOk result (λ p. p ≡ with_equality names.new (with_rules names.new (empty_program names.new) (map rule_of rules.now))) }
     ensures added { OnOk result (names.new ≡ with_names names.old (operation_texts ++ rule_texts (map rule_of rules.now))) }
+    ensures same { HasOperations names.old → AllByRecursion RuleIsNamed rules.now → names.new ≡ names.old }
     ensures arithmetic { IfOk result (λ p. (later : List (List ℕ)) → Extends names.new later → p.arithmetic ≡ arithmetic_of later p.preds) }
     ensures known { IfOk result (λ p. AllByRecursion (λ (q : ThePred). q.name.0 < length names.new) p.preds) }
     ensures sound { IfOk result IsProgram }

@@ -9,7 +9,7 @@ use Rattle.clause_normal.specs.Kinds.{IsOrdinaryCall}
 use Rattle.clause_normal.specs.Numbering.{empty_program, operation_texts, with_equality, with_rules}
 use Rattle.clause_normal.specs.Rules.{Rule}
 use Rattle.clause_normal.specs.RuleViews.{rule_of}
-use Rattle.clause_normal.proofs.DefiniteLater.{definite_texts, rules_of_stay}
+use Rattle.clause_normal.proofs.DefiniteLater.{definite_named, definite_texts, rules_of_stay}
 use Rattle.clause_normal.proofs.DefiniteLemmas.{definite_rules}
 use Rattle.clause_normal.proofs.KindLemmas.{rules_ordinary}
 use Rattle.clause_normal.proofs.definite.definite_program.Goals as goal
@@ -39,3 +39,13 @@ returns-clause-names c =
     c.in_ok-program.ensures.added
     ∙ ap (λ (rs : List Rule). with_names names (operation_texts ++ rule_texts rs)) rules
     ∙ ap (λ (ns : List (List ℕ)). with_names names (operation_texts ++ ns)) (definite_texts names cs)
+
+pub returns-in_err-program-clause-same : goal.returns-in_err-program-clause-same
+returns-in_err-program-clause-same c has =
+    let rules = ap (λ (rs : List CodeRule). map rule_of rs) c.deref.ensures.value ∙ c.in_ok-rules.ensures.rules in
+    c.in_err-program.ensures.same has (definite_named c.args.names.now (map clause_of c.args.clauses.now) c.deref.result.now rules)
+
+pub returns-clause-same : goal.returns-clause-same
+returns-clause-same c has =
+    let rules = ap (λ (rs : List CodeRule). map rule_of rs) c.deref.ensures.value ∙ c.in_ok-rules.ensures.rules in
+    c.in_ok-program.ensures.same has (definite_named c.args.names.now (map clause_of c.args.clauses.now) c.deref.result.now rules)

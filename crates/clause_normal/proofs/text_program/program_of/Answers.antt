@@ -11,7 +11,7 @@ use Rattle.clause_normal.specs.ChoiceNames.{call_texts, rule_texts}
 use Rattle.clause_normal.specs.Numbering.{arithmetic_of, empty_program, operation_texts, with_rules}
 use Rattle.clause_normal.specs.Kinds.{IsOrdinaryCall}
 use Rattle.clause_normal.specs.Rules.{Rule}
-use Rattle.clause_normal.specs.RuleViews.{rule_of, RuleIsFit}
+use Rattle.clause_normal.specs.RuleViews.{rule_of, RuleIsFit, RuleIsNamed}
 use Rattle.clause_normal.proofs.ListLemmas.{all_at, all_mapped_at}
 use Rattle.clause_normal.proofs.KindLemmas.{call_stays}
 use Rattle.clause_normal.proofs.NumberingLemmas.{extends_more, rule_later}
@@ -46,6 +46,7 @@ rules-init c =
       kept = c.in_ok-program.ensures.kept;
       program = λ more ext. ap (λ (p : Listing). with_rules more p all) (made more ext);
       added = ap (λ (n : List (List ℕ)). with_names n (rule_texts all)) c.in_ok-program.ensures.added ∙ sym (names_more names operation_texts (rule_texts all));
+      same = λ h k. c.in_ok-program.ensures.same h;
       arithmetic = λ more ext. ap (λ (p : Listing). p.arithmetic) (made more ext) ∙ ap (arithmetic_of more) (sym none);
       count = ap (λ (p : Listing). length p.clauses) here;
       known = subst (λ (ps : List Pred). AllByRecursion (λ (q : Pred). q.name.0 < length later) ps) (sym none) tt;
@@ -70,6 +71,7 @@ rules-preserved c =
       added =
           ap (λ (n : List (List ℕ)). with_names n (rule_texts rest)) add.added ∙ sym (names_more c.rules.names texts (rule_texts rest))
           ∙ ap (λ (rs : List Rule). with_names c.rules.names (rule_texts rs)) (sym left) ∙ inv.added;
+      same = λ h k. add.named (subst RuleIsNamed there (all_at RuleIsNamed items i it k c.rules-test.true)) ∙ inv.same h k;
       arithmetic = add.arithmetic;
       count = omega (arith, inv.count, add.count);
       known = add.known inv.known;
