@@ -1,5 +1,5 @@
 -- The program of definite clauses stays the same where names are added.
-use Rattle.std.proofs.Common.{◌≡◌, ℕ, suc, ◌+◌, ◌<◌, ◌&&◌, ◌||◌, ◌==◌, Bool, true, false, not, cond, IsTrue, nat_eq, nat_lt, position, List, [], ◌∷◌, ◌++◌, length, map, Option, Some, None, if◌then◌else◌, refl, ap, sym, ◌∙◌, subst, append-nil}
+use Rattle.std.proofs.Common.{◌≡◌, ℕ, suc, ◌+◌, ◌<◌, ◌&&◌, ◌||◌, ◌==◌, Bool, true, false, not, cond, IsTrue, nat_eq, nat_lt, position, List, [], ◌∷◌, ◌++◌, length, map, Option, Some, None, if◌then◌else◌, refl, ap, sym, ◌∙◌, subst, append-nil, eq-eqb}
 use Rattle.std.specs.Prelude.{codes}
 use Rattle.std.specs.List.{AllByRecursion, list_any, position_or_len}
 use Rattle.std.specs.Cmp.Lexicographic.{pointwise}
@@ -7,14 +7,16 @@ use Rattle.std.proofs.lemmas.Bool.{and_parts, ltb-true}
 use Rattle.std.proofs.lemmas.List.Folds.{list_any-append}
 use Rattle.cti_terms.specs.Arithmetic.{Arithmetic}
 use Rattle.cti_terms.specs.Listing.{Listing, is_pred, with_pred}
-use Rattle.cti_terms.specs.Numbers.{number_of}
+use Rattle.cti_terms.specs.Numbers.{number_of, with_text}
 use Rattle.cti_terms.specs.Tree.{Tree as Term}
 use Rattle.cti_terms.specs.declared.atom_list.Atom.{Atom}
 use Rattle.cti_terms.specs.declared.predicates.Pred.{Pred}
 use Rattle.prolog_grammar.specs.Placed.{Tree, tree, Shape, Var, Int, Fun, Trees, no_trees, more_trees}
 use Rattle.prolog_reader.specs.Fit.{IsFit}
 use Rattle.prolog_reader.specs.Names.{name_text, Extends}
+use Rattle.prolog_reader.specs.Naming.{with_names}
 use Rattle.prolog_reader.proofs.NameLemmas.{number_kept, text_there}
+use Rattle.prolog_reader.proofs.NamingLemmas.{names_stay}
 use Rattle.prolog_terms.specs.Clauses.{Clause, arity, is_known, shape_known, all_known}
 use Rattle.clause_normal.specs.declared.fault.NormKind.TheVariants as kind
 use Rattle.clause_normal.specs.declared.words.Connective.{Connective}
@@ -241,3 +243,25 @@ texts_kept names later (t ∷ ts) ext h =
 
 pub operations_kept : (names later : List (List ℕ)) → Extends names later → HasOperations names → HasOperations later
 operations_kept names later ext h = texts_kept names later operation_texts ext h
+
+itself : (text : List ℕ) → pointwise nat_eq text text ≡ true
+itself [] = refl
+itself (b ∷ bs) = rw (eq-eqb b b refl, itself bs) refl
+
+text_added : (names : List (List ℕ)) (text : List ℕ) → IsThere (with_text names text) text
+text_added names text = by_test (list_any (pointwise nat_eq text) names) refl
+  where
+    by_test : (b : Bool) → list_any (pointwise nat_eq text) names ≡ b → IsThere (if b then names else names ++ text ∷ []) text
+    by_test true e = e
+    by_test false e = list_any-append (pointwise nat_eq text) names (text ∷ []) ∙ (λ i. e i || (itself text i || false))
+
+texts_added : (names ts : List (List ℕ)) → AllByRecursion (IsThere (with_names names ts)) ts
+unfolding with_names
+texts_added names [] = tt
+texts_added names (t ∷ ts) =
+    let first = with_text names t in
+    let ext = names_stay first ts in
+    (subst (λ (ns : List (List ℕ)). IsThere ns t) (sym ext.1) (text_kept first ext.0 t (text_added names t)), texts_added first ts)
+
+pub operations_added : (names : List (List ℕ)) → HasOperations (with_names names operation_texts)
+operations_added names = texts_added names operation_texts

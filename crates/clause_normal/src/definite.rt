@@ -94,7 +94,7 @@ fn definite_rules<'a>(
     'clauses: for clause in clauses {
         match definite_rule(alloc, names, clause) {
             Ok(rule) => rules.push(rule)?,
-            // They are definite, so only memory can be out.
+            // They are definite, so only memory can have run out.
             Err(_) => return Err(AllocError),
         }
     }

@@ -9,8 +9,10 @@ ghost use Rattle.prolog_terms.specs.Clauses.{Clause, nodes};
 ghost use Rattle.clause_normal.specs.ChoiceNames.{program_names, HasOperations};
 ghost use Rattle.prolog_reader.specs.Fit.{IsFit};
 ghost use Rattle.prolog_reader.specs.Names.{Extends};
+ghost use Rattle.prolog_reader.specs.Naming.{with_names};
 ghost use Rattle.prolog_reader.specs.Places.{ArePlacedClauses};
 ghost use Rattle.clause_normal.specs.NormalForm.{Fault, normal_form, normal_rules};
+ghost use Rattle.clause_normal.specs.Numbering.{operation_texts};
 ghost use Rattle.clause_normal.specs.Rules.{Rule};
 ghost use Rattle.clause_normal.specs.Small.{IsSmall, call_nodes};
 ghost use Rattle.clause_normal.specs.Definite.{AreDefinite, added_fault, program_of};
@@ -62,9 +64,10 @@ pub fn definite_clauses_come_and_go()
     ensures later { (names later : List (List ℕ)) (clauses : List Clause) → Extends names later → AllByRecursion (IsFit (length names)) clauses → AreDefinite names clauses → AreDefinite later clauses }
 {}
 
-/// The program of definite clauses is the same where names are added, if those of arithmetic operations are there.
+/// The program of definite clauses is the same where names are added, if those of arithmetic operations are there. Once added, they are.
 pub fn definite_programs_stay()
     ensures program { (names later : List (List ℕ)) (clauses : List Clause) → Extends names later → HasOperations names → AllByRecursion (IsFit (length names)) clauses → AreDefinite names clauses
         → program_of later clauses ≡ program_of names clauses }
+    ensures named { (names : List (List ℕ)) → HasOperations (with_names names operation_texts) }
     ensures operations { (names later : List (List ℕ)) → Extends names later → HasOperations names → HasOperations later }
 {}
