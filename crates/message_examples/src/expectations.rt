@@ -27,7 +27,11 @@ fn is_expected(
 fn what_was_expected(rt: HostRuntime) -> Result<(), Fail> {
     let alloc = rt.alloc();
     for (text, place, sentence) in [
-        ("p :- , q.", (1, 6), "a term was expected here"),
+        (
+            "p :- , q.",
+            (1, 6),
+            "no term stands before `,`: a term is missing, or `,` is one too many",
+        ),
         ("p :- X is ).", (1, 11), "a term was expected here"),
         ("p(/* ( */).", (1, 10), "a term was expected here"),
         (

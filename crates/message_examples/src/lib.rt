@@ -8,6 +8,8 @@ mod mistakes_shown;
 #[cfg(test)]
 mod noted;
 #[cfg(test)]
+mod other_languages;
+#[cfg(test)]
 mod sentences;
 #[cfg(test)]
 mod warned;

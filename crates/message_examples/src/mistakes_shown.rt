@@ -5,7 +5,7 @@ use std::alloc::{AllocError, Global};
 use std::test::Fail;
 
 /// Whether a call of these words that ended so ends its message by this help, where the texts are that of the place and the program's.
-fn is_helped(
+pub(crate) fn is_helped(
     alloc: Global,
     words: &[&str],
     (status, output): (u8, &str),
@@ -31,7 +31,7 @@ fn is_helped(
 }
 
 /// Whether this is the help about a program.
-fn is_program_help(
+pub(crate) fn is_program_help(
     alloc: Global,
     refusal: &str,
     text: &str,
@@ -369,7 +369,7 @@ fn mistakes_in_heads(rt: HostRuntime) -> Result<(), Fail> {
         (
             "refused(program,2,1,13).\n",
             "p(a).\n?- p('X').",
-            "run it with `cti run a.pl 'QUERY'`",
+            "run it with `cti run a.pl 'p('\\''X'\\'')'`",
         ),
         (
             "refused(program,1,1,1).\n",
@@ -408,7 +408,7 @@ fn mistakes_in_heads(rt: HostRuntime) -> Result<(), Fail> {
 }
 
 /// Whether this is the help about a query of a program.
-fn is_query_help(
+pub(crate) fn is_query_help(
     alloc: Global,
     refusal: &str,
     query: &str,
@@ -478,7 +478,7 @@ fn mistakes_in_queries(rt: HostRuntime) -> Result<(), Fail> {
         (
             "refused(query,1,4,11).\n",
             "p, !",
-            "leave out cut, negation, if-then-else, call/N, input and output, and grammar rules",
+            "leave it out: a query calls predicates of the program, `=`, `is` and comparisons of integers",
         ),
         (
             "refused(query,1,3,6).\n",
@@ -488,7 +488,22 @@ fn mistakes_in_queries(rt: HostRuntime) -> Result<(), Fail> {
         (
             "refused(query,1,3,6).\n",
             "p q",
+            "put the arguments of `p` in parentheses, or a comma is missing after it",
+        ),
+        (
+            "refused(query,1,6,6).\n",
+            "p(a) q",
             "an operator or the end of the query was expected here",
+        ),
+        (
+            "refused(query,1,7,6).\n",
+            "p(X). p(Y).",
+            "a query ends at its dot: run what stands after it by itself",
+        ),
+        (
+            "refused(query,1,2,6).\n",
+            "b.pl",
+            "a query stands here, and this is the name of a file",
         ),
         (
             "refused(query,1,2,6).\n",

@@ -67,6 +67,26 @@ a.pl:1:33: warning: `f/1` has no value here, so that this goal always fails
 ",
         ),
         (
+            "p(X) :- atom_number(X, Y), q(Y).\nq(_).\n",
+            "a.pl:1:9: warning: `atom_number/2` is called and has no clause: here it always fails, so the modes of `p/1` and of its callers say nothing of a program that has it
+    p(X) :- atom_number(X, Y), q(Y).
+            ^
+  help: leave it out: modes without it hold with it, and what it binds stays unknown
+",
+        ),
+        (
+            "p :- phrase(q, S), writeln(S).\n",
+            "a.pl:1:6: warning: `phrase/2` is called and has no clause: here it always fails, so the modes of `p/0` and of its callers say nothing of a program that has it
+    p :- phrase(q, S), writeln(S).
+         ^
+  help: write `p(S0,S)` for `phrase(p,S0,S)`, with clauses in the place of grammar rules
+a.pl:1:20: warning: `writeln/1` is called and has no clause: here it always fails, so the modes of `p/0` and of its callers say nothing of a program that has it
+    p :- phrase(q, S), writeln(S).
+                       ^
+  help: leave it out: what is written does not change whether a query ends
+",
+        ),
+        (
             "p(X, Y, _Z) :-\n    q(V).\nq(_).\n",
             "a.pl:1:3: warning: the variables `X`, `Y`, `V` occur only once: write `_` for each that is meant
     p(X, Y, _Z) :-

@@ -81,7 +81,7 @@ fn messages_with_their_lines(rt: HostRuntime) -> Result<(), Fail> {
             "query:1:3: error: this is not a goal of a pure program
     p,!
       ^
-  help: leave out cut, negation, if-then-else, call/N, input and output, and grammar rules
+  help: leave it out: a query calls predicates of the program, `=`, `is` and comparisons of integers
 ",
         ),
         (
@@ -97,7 +97,7 @@ fn messages_with_their_lines(rt: HostRuntime) -> Result<(), Fail> {
             (1, "no(3,2).\n"),
             "cti(1).\n",
             "a.cert:3:1: error: the certificate is not valid: a fact is missing here
-  help: the facts end too early, or the certificate is of another program
+  help: the first file is a certificate: name the program there
 ",
         ),
         (

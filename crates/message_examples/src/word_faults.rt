@@ -21,6 +21,14 @@ fn faults_of_words(rt: HostRuntime) -> Result<(), Fail> {
             &["append.pl"],
             "a command comes first: `cti infer append.pl`",
         ),
+        (
+            &["my file.pl"],
+            "a command comes first: `cti infer 'my file.pl'`",
+        ),
+        (
+            &["run", "p(X)"],
+            "`cti run` needs the word FILE before `p(X)`",
+        ),
         (&["infer"], "`cti infer` needs the word FILE"),
         (&["check", "a.pl"], "`cti check` needs the word CERT"),
         (&["run", "a.pl"], "`cti run` needs the word QUERY"),

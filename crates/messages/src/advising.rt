@@ -9,9 +9,9 @@ use crate::texts::Texts;
 use crate::told::Subject;
 use crate::trouble::Trouble;
 use mistakes::{
-    Mistake, argument_mistake, beginning_mistake, byte_mistake, goal_mistake, head_mistake,
-    is_certificate, line_mistake, mode_mistake, program_mistake, query_in_file, standing_mistake,
-    variable_mistake,
+    FactMistake, FileMistake, Mistake, argument_mistake, beginning_mistake, byte_mistake,
+    goal_mistake, head_mistake, is_certificate, line_mistake, mode_mistake, program_mistake,
+    query_in_file, standing_mistake, variable_mistake,
 };
 use std::alloc::{AllocError, Global};
 
@@ -34,39 +34,69 @@ fn syntax_advice<'a>(
     )
 }
 
-/// The mistake that a refused line of a certificate shows.
-fn fact_mistake<'a>(place: Place<'_>, texts: Texts<'a>) -> Option<Mistake<'a>> {
-    if is_certificate(texts.program) && !is_certificate(texts.told) {
-        return Some(Mistake::Exchanged);
-    }
-    if let Some(mistake) = beginning_mistake(texts.told, place.line) {
+/// What a refused line of a certificate shows.
+fn line_fault<'a>(place: Place<'_>, told: &'a [u8]) -> Option<FactMistake<'a>> {
+    if let Some(mistake) = beginning_mistake(told, place.line) {
         return Some(mistake);
     }
-    let line = line_of(texts.told, place.line)?;
-    let is_last = line_of(texts.told, place.line.saturating_add(1)).is_none();
+    let line = line_of(told, place.line)?;
+    let is_last = line_of(told, place.line.saturating_add(1)).is_none();
     line_mistake(line, is_last)
 }
 
-/// The mistake that a refused text shows, but for one of its syntax.
-fn refusal_mistake<'a>(
+/// The mistake that a refused certificate shows.
+fn refused_certificate<'a>(place: Place<'_>, texts: Texts<'a>) -> Option<Mistake<'a>> {
+    if is_certificate(texts.program) && !is_certificate(texts.told) {
+        return Some(Mistake::File(FileMistake::Exchanged));
+    }
+    line_fault(place, texts.told).map(Mistake::Fact)
+}
+
+/// The mistake that the size of a clause or of one of its atoms shows.
+fn size_mistake<'a>(
     alloc: Global,
+    kind: RefusalKind,
+    text: &'a [u8],
+    at: usize,
+) -> Result<Option<Mistake<'a>>, AllocError> {
+    let mistake = if kind == RefusalKind::Arity {
+        argument_mistake(text, at)
+    } else {
+        variable_mistake(alloc, text, at)?
+    };
+    Ok(mistake.map(Mistake::Clause))
+}
+
+/// The mistake that a refused text shows, but for one of its syntax or size.
+fn refusal_mistake<'a>(
     subject: Subject,
     place: Place<'a>,
     kind: RefusalKind,
     texts: Texts<'a>,
-) -> Result<Option<Mistake<'a>>, AllocError> {
+) -> Option<Mistake<'a>> {
     let text = texts.told;
     let at = offset_of(text, place.line, place.column);
-    Ok(match kind {
-        RefusalKind::BadByte => byte_mistake(text.get(at..).unwrap_or(&[])),
-        RefusalKind::Arity => argument_mistake(text, at),
-        RefusalKind::ManyVariables => variable_mistake(alloc, text, at)?,
+    match kind {
+        RefusalKind::BadByte => Some(Mistake::Byte(byte_mistake(text.get(at..)?)?)),
         RefusalKind::NotPure => goal_mistake(text, at, subject == Subject::Query),
         RefusalKind::BadHead => head_mistake(text, at),
-        RefusalKind::Directive => query_in_file(place.name, text, at),
-        RefusalKind::NotAFact => fact_mistake(place, texts),
+        RefusalKind::Directive => Some(Mistake::File(query_in_file(place.name, text, at)?)),
+        RefusalKind::NotAFact => refused_certificate(place, texts),
         _ => None,
-    })
+    }
+}
+
+/// The fact of a certificate that shows why it is not valid.
+fn invalid_fact<'a>(place: Place<'_>, reason: NoReason, told: &'a [u8]) -> Option<FactMistake<'a>> {
+    let line = line_of(told, place.line)?;
+    match reason {
+        NoReason::Shape => mode_mistake(line),
+        NoReason::Extra => {
+            let before = line_of(told, place.line.saturating_sub(1));
+            standing_mistake(told, place.line, before, line)
+        }
+        _ => None,
+    }
 }
 
 /// The mistake that a certificate shows which is not valid.
@@ -81,17 +111,12 @@ fn certificate_mistake<'a>(
     ) {
         return None;
     }
-    if let Some(mistake) = program_mistake(texts.program, texts.told) {
-        return Some(mistake);
+    if is_certificate(texts.program) {
+        return Some(Mistake::File(FileMistake::NoProgram));
     }
-    let line = line_of(texts.told, place.line)?;
-    match reason {
-        NoReason::Shape => mode_mistake(line),
-        NoReason::Extra => {
-            let before = line_of(texts.told, place.line.saturating_sub(1));
-            standing_mistake(texts.told, place.line, before, line)
-        }
-        _ => None,
+    match program_mistake(texts.program, texts.told) {
+        Some(mistake) => Some(Mistake::File(mistake)),
+        None => invalid_fact(place, reason, texts.told).map(Mistake::Fact),
     }
 }
 
@@ -108,9 +133,11 @@ pub(crate) fn shown_advice<'a>(
         Trouble::Refused(subject, place, RefusalKind::Unexpected) => {
             return Ok(Some(syntax_advice(alloc, subject, place, texts)?));
         }
-        Trouble::Refused(subject, place, kind) => {
-            refusal_mistake(alloc, subject, place, kind, texts)?
+        Trouble::Refused(_, place, kind @ (RefusalKind::Arity | RefusalKind::ManyVariables)) => {
+            let at = offset_of(texts.told, place.line, place.column);
+            size_mistake(alloc, kind, texts.told, at)?
         }
+        Trouble::Refused(subject, place, kind) => refusal_mistake(subject, place, kind, texts),
         Trouble::NotValid(place, reason) => certificate_mistake(place, reason, texts),
         _ => None,
     };

@@ -2,7 +2,10 @@
 
 use crate::scan::{Last, Scan, is_symbol};
 use crate::told::Subject;
-use mistakes::{Gap, Mistake, gap_mistake, is_closed_later, start_mistake};
+use mistakes::{
+    Bracket, ClauseMistake, Gap, GoalMistake, HeadMistake, Mistake, OperatorMistake, QueryMistake,
+    gap_mistake, is_closed_later, percent_mistake, start_mistake, term_mistake,
+};
 use std::alloc::{AllocError, Global};
 use thiserror::Error;
 
@@ -120,17 +123,20 @@ fn expected_outside<'a>(subject: Subject, before: &[u8]) -> Expected<'a> {
 fn end_fault<'a>(subject: Subject, before: &[u8]) -> Expected<'a> {
     match subject {
         Subject::Query if before.trim_ascii().is_empty() => {
-            Expected::Mistake(Mistake::EmptyQuery)
+            Expected::Mistake(Mistake::Query(QueryMistake::Empty))
         }
         Subject::Query => Expected::EarlyEnd,
-        _ => Expected::TextEnd,
+        _ => match percent_mistake(before) {
+            Some(mistake) => Expected::Mistake(Mistake::Operator(mistake)),
+            None => Expected::TextEnd,
+        },
     }
 }
 
 /// What was expected where a term begins.
 fn expected_term<'a>(scan: &Scan, gap: Gap<'a>, next: u8) -> Expected<'a> {
     if gap.before == b"#".as_slice() && next == b'!' {
-        return Expected::Mistake(Mistake::ScriptLine);
+        return Expected::Mistake(Mistake::Clause(ClauseMistake::ScriptLine));
     }
     if scan.last == Last::Opening
         && scan.earlier == Last::Opening
@@ -138,90 +144,148 @@ fn expected_term<'a>(scan: &Scan, gap: Gap<'a>, next: u8) -> Expected<'a> {
     {
         return Expected::Mistake(mistake);
     }
-    Expected::Term
+    match term_mistake(gap) {
+        Some(mistake) => Expected::Mistake(mistake),
+        None => Expected::Term,
+    }
 }
 
-/// The bracket that one closes, where none is open.
-fn closer_mistake<'a>(next: u8) -> Option<Mistake<'a>> {
-    match next {
-        b')' => Some(Mistake::Closer('(', ')')),
-        b']' => Some(Mistake::Closer('[', ']')),
-        b'}' => Some(Mistake::Closer('{', '}')),
+/// The bracket that a byte closes.
+fn closed_by(byte: u8) -> Option<Bracket> {
+    match byte {
+        b')' => Some(Bracket::Group),
+        b']' => Some(Bracket::List),
+        b'}' => Some(Bracket::Braces),
         _ => None,
     }
+}
+
+/// What a closing bracket shows, where none is open or another one.
+fn closer_mistake<'a>(bracket: Option<Bracket>, next: u8) -> Option<ClauseMistake<'a>> {
+    let (opener, closer) = closed_by(next)?.characters();
+    Some(match bracket {
+        None => ClauseMistake::Closer(opener, closer),
+        Some(open) => ClauseMistake::OtherCloser(open.characters().0, closer),
+    })
 }
 
 /// What a second neck shows, outside brackets: the clause before may end with a comma or `;` and a line's end.
-fn second_neck<'a>(scan: &Scan, after: &[u8]) -> Option<Mistake<'a>> {
+fn second_neck<'a>(scan: &Scan, gap: Gap<'a>) -> Option<Mistake<'a>> {
     if !scan.clause.has_neck {
         return None;
     }
-    match scan.clause.joint {
-        b',' if scan.clause.ends_line => Some(Mistake::CommaForDot),
-        b';' if scan.clause.ends_line => Some(Mistake::SemicolonForDot),
-        _ if after.starts_with(b":-") => Some(Mistake::SecondNeck),
-        _ => None,
+    let mistake = match scan.clause.joint {
+        b',' if scan.clause.ends_line => ClauseMistake::CommaForDot,
+        b';' if scan.clause.ends_line => ClauseMistake::SemicolonForDot,
+        _ if gap.after.starts_with(b":-") => ClauseMistake::SecondNeck,
+        _ => return None,
+    };
+    Some(Mistake::Clause(mistake))
+}
+
+/// That `%` was meant for the remainder of a division in the line before a place at which a line begins.
+fn percent_before<'a>(before: &[u8]) -> Option<OperatorMistake<'a>> {
+    if begins_line(before) {
+        percent_mistake(before)
+    } else {
+        None
     }
 }
 
 /// What a neck shows within a bracket.
-fn inner_neck<'a>(bracket: u8, after: &[u8]) -> Mistake<'a> {
+fn inner_neck<'a>(bracket: Bracket, after: &[u8]) -> Mistake<'a> {
     if is_closed_later(after) {
-        return Mistake::NeckInTerm;
+        return Mistake::Operator(OperatorMistake::InTerm(":-"));
     }
-    match bracket {
-        b'[' => Mistake::Unclosed(']'),
-        b'{' => Mistake::Unclosed('}'),
-        _ => Mistake::Unclosed(')'),
-    }
+    let (_, closer) = bracket.characters();
+    Mistake::Clause(ClauseMistake::Unclosed(closer))
 }
 
 /// What a neck shows that cannot stand here.
-fn neck_mistake<'a>(scan: &Scan, after: &[u8]) -> Option<Mistake<'a>> {
-    if !after.starts_with(b":-") && !after.starts_with(b"-->") {
+fn neck_mistake<'a>(scan: &Scan, gap: Gap<'a>) -> Option<Mistake<'a>> {
+    let is_neck = gap.after.starts_with(b":-");
+    if !is_neck && !gap.after.starts_with(b"-->") {
         return None;
     }
-    match scan.open.last() {
-        Some(bracket) if after.starts_with(b":-") => Some(inner_neck(*bracket, after)),
+    match gap.bracket {
+        Some(bracket) if is_neck => Some(inner_neck(bracket, gap.after)),
         Some(_) => None,
-        None => second_neck(scan, after),
+        None => second_neck(scan, gap),
     }
 }
 
-/// What a comma or a bar shows that cannot stand here.
-fn bar_mistake<'a>(scan: &Scan, next: u8) -> Option<Mistake<'a>> {
-    match (scan.open.last(), next) {
-        (Some(b'['), b',' | b'|') => Some(Mistake::SecondBar),
-        (_, b'|') => Some(Mistake::BarOutside),
+/// What a comma, a bar or a `;` shows that cannot stand here.
+fn bar_mistake<'a>(bracket: Option<Bracket>, next: u8) -> Option<Mistake<'a>> {
+    match (bracket, next) {
+        (Some(Bracket::List), b',' | b'|') => Some(Mistake::Clause(ClauseMistake::SecondBar)),
+        (_, b'|') => Some(Mistake::Clause(ClauseMistake::BarOutside)),
+        (Some(Bracket::List | Bracket::Arguments), b';') => {
+            Some(Mistake::Operator(OperatorMistake::InTerm(";")))
+        }
         _ => None,
     }
 }
 
 /// A mistake as it is in a query, or in a head.
-fn told_there<'a>(scan: &Scan, subject: Subject, mistake: Mistake<'a>) -> Mistake<'a> {
+fn told_there<'a>(gap: Gap<'a>, subject: Subject, mistake: Mistake<'a>) -> Mistake<'a> {
     match mistake {
-        Mistake::NotOperator if subject == Subject::Query => Mistake::GoalAlone,
-        Mistake::NotOperator if !scan.clause.has_neck => Mistake::NegatedHead,
-        Mistake::SoftCut if subject == Subject::Query => Mistake::Branches,
+        Mistake::Goal(GoalMistake::NotOperator) if subject == Subject::Query => {
+            Mistake::Query(QueryMistake::GoalAlone)
+        }
+        Mistake::Goal(GoalMistake::NotOperator) if gap.is_in_head => {
+            Mistake::Head(HeadMistake::Negation)
+        }
+        Mistake::Goal(GoalMistake::SoftCut | GoalMistake::If) if subject == Subject::Query => {
+            Mistake::Query(QueryMistake::Branches)
+        }
         _ => mistake,
     }
 }
 
-/// The mistake that the text shows after a whole term.
-fn mistake_after<'a>(scan: &Scan, subject: Subject, gap: Gap<'a>, next: u8) -> Option<Mistake<'a>> {
-    if let Some(mistake) = gap_mistake(gap) {
-        return Some(told_there(scan, subject, mistake));
+/// What a query shows as a whole: it is a file's name, or a dot ends it before the place.
+fn query_mistake(gap: Gap<'_>) -> Option<QueryMistake> {
+    if gap.after.ends_with(b".pl") || gap.after.ends_with(b".cert") {
+        return Some(QueryMistake::FileName);
     }
-    if let Some(mistake) = neck_mistake(scan, gap.after) {
-        return Some(mistake);
-    }
-    if let Some(mistake) = bar_mistake(scan, next) {
-        return Some(mistake);
-    }
-    if scan.open.is_empty() {
-        closer_mistake(next)
+    let before = gap.before.trim_ascii_end();
+    if gap.bracket.is_none() && before.len() < gap.before.len() && before.ends_with(b".") {
+        Some(QueryMistake::Second)
     } else {
         None
+    }
+}
+
+/// The mistake that brackets, bars and necks show after a whole term.
+fn joint_mistake<'a>(scan: &Scan, gap: Gap<'a>, next: u8) -> Option<Mistake<'a>> {
+    if let Some(mistake) = neck_mistake(scan, gap) {
+        return Some(mistake);
+    }
+    if let Some(mistake) = bar_mistake(gap.bracket, next) {
+        return Some(mistake);
+    }
+    closer_mistake(gap.bracket, next).map(Mistake::Clause)
+}
+
+/// The mistake that the text shows after a whole term.
+fn mistake_after<'a>(scan: &Scan, subject: Subject, gap: Gap<'a>, next: u8) -> Option<Mistake<'a>> {
+    if ends_in_directive(gap.before) {
+        return None;
+    }
+    if let Some(mistake) = percent_before(gap.before) {
+        return Some(Mistake::Operator(mistake));
+    }
+    match gap_mistake(gap) {
+        Some(mistake) => Some(told_there(gap, subject, mistake)),
+        None => joint_mistake(scan, gap, next),
+    }
+}
+
+/// What was expected within this bracket, after a whole term.
+fn expected_inside<'a>(bracket: Bracket) -> Expected<'a> {
+    match bracket {
+        Bracket::Arguments | Bracket::Group => Expected::Parenthesis,
+        Bracket::List => Expected::Bracket,
+        Bracket::Braces => Expected::Brace,
     }
 }
 
@@ -233,10 +297,8 @@ fn expected_after<'a>(scan: &Scan, subject: Subject, gap: Gap<'a>, next: u8) -> 
     if is_symbol(next) && next != b'.' {
         return Expected::Operator;
     }
-    match scan.open.last() {
-        Some(b'(') => Expected::Parenthesis,
-        Some(b'[') => Expected::Bracket,
-        Some(_) => Expected::Brace,
+    match gap.bracket {
+        Some(bracket) => expected_inside(bracket),
         None => expected_outside(subject, gap.before),
     }
 }
@@ -246,6 +308,11 @@ fn expected_between<'a>(scan: &Scan, subject: Subject, gap: Gap<'a>) -> Expected
     let Some(next) = gap.after.first() else {
         return end_fault(subject, gap.before);
     };
+    if subject == Subject::Query
+        && let Some(mistake) = query_mistake(gap)
+    {
+        return Expected::Mistake(Mistake::Query(mistake));
+    }
     if scan.last != Last::Operand || ends_in_word(gap.before) {
         return expected_term(scan, gap, *next);
     }
@@ -256,14 +323,19 @@ fn expected_between<'a>(scan: &Scan, subject: Subject, gap: Gap<'a>) -> Expected
 pub fn expected_at<'a>(alloc: Global, stop: Stop<'a>) -> Result<Expected<'a>, AllocError> {
     let text = stop.text;
     let at = offset_of(text, stop.line, stop.column);
-    let gap = Gap {
-        before: text.get(..at).unwrap_or(text),
-        after: text.get(at..).unwrap_or(&[]),
-        operators: stop.operators,
-    };
+    let before = text.get(..at).unwrap_or(text);
     let mut scan = Scan::new(alloc);
-    for byte in gap.before {
+    for byte in before {
         scan.take(*byte)?;
     }
+    let gap = Gap {
+        before,
+        after: text.get(at..).unwrap_or(&[]),
+        operators: stop.operators,
+        is_in_head: stop.subject == Subject::Program
+            && !scan.clause.has_neck
+            && scan.open.is_empty(),
+        bracket: scan.open.last().copied(),
+    };
     Ok(expected_between(&scan, stop.subject, gap))
 }

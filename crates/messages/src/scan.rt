@@ -1,5 +1,6 @@
 //! A quick look over a text: which brackets are open, and whether a term or an operator stands last.
 
+use mistakes::Bracket;
 use std::alloc::{AllocError, Global};
 
 /// What a byte belongs to.
@@ -27,7 +28,7 @@ pub enum Last {
 #[derive(Drop)]
 pub struct Scan {
     /// The brackets that are open.
-    pub open: Vec<u8>,
+    pub open: Vec<Bracket>,
     pub last: Last,
     /// What stood last before the run of symbols that stands last.
     pub earlier: Last,
@@ -84,6 +85,16 @@ pub fn is_symbol(byte: u8) -> bool {
     b"#$&*+-./:<=>?@^~\\".contains(&byte)
 }
 
+/// The bracket that a byte opens after another one.
+fn opened(byte: u8, before: u8) -> Bracket {
+    match byte {
+        b'[' => Bracket::List,
+        b'{' => Bracket::Braces,
+        _ if before.is_ascii_alphanumeric() || b"_'".contains(&before) => { Bracket::Arguments }
+        _ => Bracket::Group,
+    }
+}
+
 impl Scan {
     /// Before a first byte.
     pub fn new(alloc: Global) -> Scan {
@@ -131,7 +142,7 @@ impl Scan {
         self.is_dot = byte == b'.' && !is_symbol(before);
         match byte {
             b'(' | b'[' | b'{' => {
-                self.open.push(byte)?;
+                self.open.push(opened(byte, before))?;
                 self.last = Last::Opening;
             }
             b')' | b']' | b'}' => {

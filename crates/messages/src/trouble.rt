@@ -83,6 +83,9 @@ impl<'a> Trouble<'a> {
             Trouble::Words(fault) => fault.advice(),
             Trouble::Asked(_) => "",
             Trouble::File("-", FileCause::Missing) => "standard input is /dev/stdin",
+            Trouble::File(name, FileCause::Missing | FileCause::Failed) if name.ends_with('/') => {
+                "leave out the `/` at its end, if it is a file"
+            }
             Trouble::File(_, cause) => cause.advice(),
             Trouble::Output(_) => {
                 "the answer was cut short: free space on the disk, or let the reader of the pipe read to the end"

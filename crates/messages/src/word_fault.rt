@@ -2,6 +2,7 @@
 
 use crate::command::Command;
 use crate::command_option::CommandOption;
+use mistakes::ShellWord;
 use thiserror::Error;
 
 /// Why the words are not a command.
@@ -12,11 +13,14 @@ pub enum WordFault<'a> {
     #[error("`{0}` is not a command")]
     UnknownCommand(&'a str),
     #[error("a command comes first: `cti infer {0}`")]
-    FileFirst(&'a str),
+    FileFirst(ShellWord<'a>),
     #[error("`{0}` is not an option of this command")]
     UnknownOption(&'a str),
     #[error("`cti {0}` needs the word {1}")]
     Missing(Command, &'static str),
+    /// The command, and the query that stands in the place of the file.
+    #[error("`cti {0}` needs the word FILE before `{1}`")]
+    NoFile(Command, &'a str),
     #[error("`{0}` is one word too many")]
     Extra(&'a str),
     #[error("`{1}` is one word too many: write `{0} {1}`")]
@@ -67,7 +71,9 @@ impl WordFault<'_> {
             }
             WordFault::BadCount(_) => "write a number from 1 to 300",
             WordFault::Twice(_) => "leave one of them out",
-            WordFault::Missing(..) | WordFault::Other => { "the usage has a line for each command" }
+            WordFault::Missing(..) | WordFault::NoFile(..) | WordFault::Other => {
+                "the usage has a line for each command"
+            }
         }
     }
 }

@@ -4,6 +4,7 @@ use crate::asked::Asked;
 use crate::command::Command;
 use crate::command_option::CommandOption;
 use crate::word_fault::WordFault;
+use mistakes::ShellWord;
 
 /// The most digits of a number of steps or of predicates, and of a depth.
 const MOST_DIGITS: usize = 7;
@@ -43,7 +44,7 @@ fn command_fault<'a>(word: Option<&'a str>) -> Option<WordFault<'a>> {
     };
     match Command::of(word) {
         Some(_) => None,
-        None if word.ends_with(".pl") => Some(WordFault::FileFirst(word)),
+        None if word.ends_with(".pl") => Some(WordFault::FileFirst(ShellWord::new(word))),
         None => Some(WordFault::UnknownCommand(word)),
     }
 }
@@ -117,6 +118,9 @@ impl<'a> Words<'a> {
             return WordFault::Missing(command, command.first());
         }
         match command.second() {
+            Some(_) if self.second.is_none() && self.has_query() && is_query(self.file()) => {
+                WordFault::NoFile(command, self.file())
+            }
             Some(name) if self.second.is_none() => WordFault::Missing(command, name),
             _ => WordFault::Other,
         }
@@ -188,6 +192,11 @@ impl<'a> Words<'a> {
             self.fault = Some(fault);
         }
     }
+}
+
+/// Whether a word looks like a query, and not like a file's name.
+fn is_query(word: &str) -> bool {
+    word.ends_with(')') || word.ends_with(").")
 }
 
 /// Whether a word can be the value of an option.

@@ -2,7 +2,6 @@
 
 use crate::fact_look::fact_mistake;
 use crate::fact_mistake::FactMistake;
-use crate::mistake::Mistake;
 use crate::mode_numbers::ModeNumbers;
 
 /// The facts whose numbers are never negative.
@@ -35,30 +34,44 @@ fn has_version(text: &[u8]) -> bool {
 }
 
 /// What the text of a certificate shows as a whole, whose line of this number, counted from 1, is not a fact.
-pub fn beginning_mistake<'a>(text: &[u8], number: u64) -> Option<Mistake<'a>> {
+pub fn beginning_mistake<'a>(text: &[u8], number: u64) -> Option<FactMistake<'a>> {
     if text.starts_with(b"ctilex(") {
-        Some(Mistake::Fact(FactMistake::OfLists))
+        Some(FactMistake::OfLists)
     } else if number == 1 && !has_version(text) {
-        Some(Mistake::Fact(FactMistake::NoBeginning))
+        Some(FactMistake::NoBeginning)
     } else {
         None
     }
 }
 
-/// What a line of a certificate shows that is not a fact.
-pub fn line_mistake<'a>(line: &'a [u8], is_unended: bool) -> Option<Mistake<'a>> {
+/// What the form of a line shows, whatever fact it is to be.
+fn form_mistake<'a>(line: &[u8]) -> Option<FactMistake<'a>> {
     if line.ends_with(b"\r") {
-        Some(Mistake::CarriageReturn)
+        Some(FactMistake::CarriageReturn)
     } else if line.is_empty() {
-        Some(Mistake::EmptyLine)
+        Some(FactMistake::EmptyLine)
     } else if line.starts_with(b"%") || line.starts_with(b"/*") {
-        Some(Mistake::Fact(FactMistake::Comment))
+        Some(FactMistake::Comment)
     } else if NATURAL.iter().any(|name| line.starts_with(name)) && has_minus(after_name(line)) {
-        Some(Mistake::Negative)
-    } else if let Some(mistake) = fact_mistake(line) {
-        Some(Mistake::Fact(mistake))
-    } else if is_unended && line.ends_with(b").") {
-        Some(Mistake::NoNewline)
+        Some(FactMistake::Negative)
+    } else {
+        None
+    }
+}
+
+/// What a line of a certificate shows that is not a fact. `is_unended` is whether no line comes after it.
+pub fn line_mistake<'a>(line: &'a [u8], is_unended: bool) -> Option<FactMistake<'a>> {
+    if let Some(mistake) = form_mistake(line) {
+        return Some(mistake);
+    }
+    if is_unended && !line.ends_with(b").") {
+        return Some(FactMistake::CutOff);
+    }
+    if let Some(mistake) = fact_mistake(line) {
+        return Some(mistake);
+    }
+    if is_unended {
+        Some(FactMistake::NoNewline)
     } else {
         None
     }
@@ -134,12 +147,12 @@ fn unordered_mode(modes: &[u8]) -> Option<ModeNumbers> {
 }
 
 /// What a line of a certificate shows that has modes.
-pub fn mode_mistake<'a>(line: &[u8]) -> Option<Mistake<'a>> {
+pub fn mode_mistake<'a>(line: &[u8]) -> Option<FactMistake<'a>> {
     if !line.starts_with(b"terminates(") {
         return None;
     }
     let modes = after_name(line);
     let start = modes.iter().position(|byte| *byte == b'[')?;
     let numbers = unordered_mode(modes.get(start..)?)?;
-    Some(Mistake::ModeOrder(numbers))
+    Some(FactMistake::ModeOrder(numbers))
 }

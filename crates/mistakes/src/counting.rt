@@ -1,6 +1,6 @@
 //! How many arguments and variables there are.
 
-use crate::mistake::Mistake;
+use crate::clause_sentences::ClauseMistake;
 use crate::mode_numbers::MOST_ARGUMENTS;
 use crate::word_reader::{WordReader, shown_name};
 use prolog_tokens::TokenKind;
@@ -30,7 +30,7 @@ fn arguments_in(reader: &mut WordReader<'_>) -> Option<u64> {
 }
 
 /// How many arguments the atom at a place of a text has, where these are more than 12.
-pub fn argument_mistake<'a>(text: &'a [u8], at: usize) -> Option<Mistake<'a>> {
+pub fn argument_mistake<'a>(text: &'a [u8], at: usize) -> Option<ClauseMistake<'a>> {
     let mut reader = WordReader::new(text, at);
     let name = reader.next()?;
     let open = reader.next()?;
@@ -41,7 +41,7 @@ pub fn argument_mistake<'a>(text: &'a [u8], at: usize) -> Option<Mistake<'a>> {
     if count <= MOST_ARGUMENTS as u64 {
         return None;
     }
-    Some(Mistake::Arguments(shown_name(name.text)?, count))
+    Some(ClauseMistake::Arguments(shown_name(name.text)?, count))
 }
 
 /// Adds the variables of the clause at a place of a text, and answers how many `_` there are.
@@ -83,13 +83,13 @@ pub fn variable_mistake<'a>(
     alloc: Global,
     text: &[u8],
     at: usize,
-) -> Result<Option<Mistake<'a>>, AllocError> {
+) -> Result<Option<ClauseMistake<'a>>, AllocError> {
     let mut variables = Vec::new(alloc);
     let nameless = push_variables(text, at, &mut variables)?;
     variables.sort()?;
     let count = nameless.saturating_add(distinct_in(&variables));
     if count > MOST_VARIABLES {
-        Ok(Some(Mistake::Variables(count)))
+        Ok(Some(ClauseMistake::Variables(count)))
     } else {
         Ok(None)
     }

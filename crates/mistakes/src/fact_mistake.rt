@@ -1,5 +1,6 @@
 //! What is wrong with a line of a certificate.
 
+use crate::mode_numbers::ModeNumbers;
 use thiserror::Error;
 
 /// What is wrong with a line of a certificate, shown as what to do about it.
@@ -11,6 +12,18 @@ pub enum FactMistake<'a> {
     NoBeginning,
     #[error("leave out this line: a certificate has no comments")]
     Comment,
+    #[error("leave out the empty line")]
+    EmptyLine,
+    #[error("this line ends with a carriage return: end each line with a newline alone")]
+    CarriageReturn,
+    #[error("this line, the last, has no newline at its end")]
+    NoNewline,
+    #[error("the certificate is cut off in this line, its last: write it anew with `cti infer`")]
+    CutOff,
+    #[error("no number of this fact is negative")]
+    Negative,
+    #[error("the numbers of a mode ascend: `{0}`")]
+    ModeOrder(ModeNumbers),
     #[error("no fact of a certificate has the name `{0}`")]
     Name(&'a str),
     #[error("the norms are `term` and `list`")]

@@ -1,57 +1,15 @@
 //! Places after a whole term where a clause cannot go on.
 
+use crate::clause_sentences::ClauseMistake;
+use crate::foreign_operators::foreign_mistake;
+use crate::gap::{Bracket, Gap, first_name, first_symbols, is_word, last_name, last_word};
+use crate::goal_sentences::GoalMistake;
+use crate::infix_operators::{MOST_SYMBOLS, infix_mistake, is_infix};
 use crate::mistake::Mistake;
+use crate::operator_sentences::OperatorMistake;
 use crate::searching::may_declare;
 use crate::word_reader::{WordReader, shown_name};
 use prolog_tokens::TokenKind;
-
-/// A place after a whole term, in a text.
-#[derive(Clone, Copy)]
-pub struct Gap<'a> {
-    /// The text before it.
-    pub before: &'a [u8],
-    /// The text from it on.
-    pub after: &'a [u8],
-    /// The text whose directives declare operators.
-    pub operators: &'a [u8],
-}
-
-/// The longest run of symbols that is shown.
-pub(crate) const MOST_SYMBOLS: usize = 16;
-
-/// The operators that consist of symbols and can follow a term.
-pub(crate) const INFIX: [&[u8]; 31] = [
-    b":-", b"-->", b"->", b"=", b"\\=", b"==", b"\\==", b"@<", b"@=<", b"@>", b"@>=", b"=..",
-    b"=:=", b"=\\=", b"<", b"=<", b">", b">=", b"+", b"-", b"/\\", b"\\/", b"*", b"/", b"//",
-    b"<<", b">>", b"**", b"^", b".", b"",
-];
-
-/// Whether a byte is one of the symbols that operators consist of.
-pub(crate) fn is_symbol(byte: u8) -> bool {
-    b"#$&*+-./:<=>?@^~\\".contains(&byte)
-}
-
-/// Whether a byte can stand within a name.
-fn is_word(byte: u8) -> bool {
-    byte.is_ascii_alphanumeric() || byte == b'_'
-}
-
-/// The run of symbols at the front of a text.
-fn symbols_of(text: &[u8]) -> &[u8] {
-    let len = text.iter().take_while(|byte| is_symbol(**byte)).count();
-    text.get(..len).unwrap_or(&[])
-}
-
-/// The name or variable that a text ends in, which is empty where there is none.
-fn last_word(text: &[u8]) -> &[u8] {
-    let len = text.iter().rev().take_while(|byte| is_word(**byte)).count();
-    let start = text.len().saturating_sub(len);
-    match text.get(..start) {
-        // The character of `0'` is no name.
-        Some([.., b'\'']) => &[],
-        _ => text.get(start..).unwrap_or(&[]),
-    }
-}
 
 /// Whether a dot at the front of a text ends a clause.
 fn is_end(text: &[u8]) -> bool {
@@ -62,58 +20,127 @@ fn is_end(text: &[u8]) -> bool {
     }
 }
 
-/// The variable that has arguments, as `P` in `P(X)`.
-fn variable_name<'a>(before: &'a [u8], after: &[u8]) -> Option<Mistake<'a>> {
-    let word = last_word(before);
-    match (word, after) {
-        ([first, ..], [b'(', ..]) if first.is_ascii_uppercase() || *first == b'_' => {
-            Some(Mistake::VariableName(shown_name(word)?))
+/// What a dot shows that ends no clause.
+fn dot_mistake<'a>(symbols: &[u8], after: &[u8]) -> Option<ClauseMistake<'a>> {
+    match symbols {
+        b"." if !is_end(after) => Some(ClauseMistake::Dot),
+        b".." if is_end(after.get(1..).unwrap_or(&[])) => Some(ClauseMistake::Dots),
+        b"*/" => Some(ClauseMistake::NestedComment),
+        _ => None,
+    }
+}
+
+/// What a bracket shows that opens right after a term, or after a space that stands behind a name.
+fn opening_mistake<'a>(gap: Gap<'a>) -> Option<ClauseMistake<'a>> {
+    let word = last_word(gap.before);
+    let is_variable = matches!(word, [first, ..] if first.is_ascii_uppercase() || *first == b'_');
+    match gap.after {
+        [b'(', ..] if is_variable => Some(ClauseMistake::VariableName(shown_name(word)?)),
+        [b'(', ..] if word.is_empty() => {
+            let name = last_name(gap.before.trim_ascii_end())?;
+            Some(ClauseMistake::Space(shown_name(name)?))
         }
+        [b'{', ..] if !word.is_empty() => Some(ClauseMistake::Dict),
         _ => None,
     }
 }
 
 /// What a colon is meant for, which is no operator.
-fn colon_mistake<'a>(before: &'a [u8], after: &[u8]) -> Option<Mistake<'a>> {
-    let rest = after.get(1..).unwrap_or(&[]);
-    if rest.first() == Some(&b' ') && rest.trim_ascii_start().first() == Some(&b'-') {
-        return Some(Mistake::SplitNeck);
-    }
-    let word = last_word(before);
-    match (word.first(), rest.first()) {
-        (Some(first), Some(next)) if first.is_ascii_lowercase() && is_word(*next) => {
-            Some(Mistake::Module(shown_name(word)?))
+fn colon_mistake<'a>(gap: Gap<'a>) -> Option<OperatorMistake<'a>> {
+    let rest = gap.after.get(1..).unwrap_or(&[]);
+    match rest {
+        [b' ', ..] if rest.trim_ascii_start().first() == Some(&b'-') => {
+            return Some(OperatorMistake::SplitNeck);
         }
-        _ => Some(Mistake::NoOperator(":")),
+        // A dash or a minus sign of typography.
+        [0xe2, 0x80, 0x90..=0x95, ..] | [0xe2, 0x88, 0x92, ..] => {
+            return Some(OperatorMistake::Neck(shown_name(gap.after.get(..4)?)?));
+        }
+        _ => {}
     }
+    match (last_name(gap.before), rest.first()) {
+        (Some(name), Some(next))
+            if next.is_ascii_lowercase() && gap.bracket != Some(Bracket::List) => {
+            Some(OperatorMistake::Module(shown_name(name)?))
+        }
+        _ => Some(OperatorMistake::Unknown(":")),
+    }
+}
+
+/// What symbols show that are declared as an operator somewhere.
+fn declared_mistake<'a>(gap: Gap<'a>, symbols: &'a [u8]) -> Option<Mistake<'a>> {
+    if may_declare(gap.before, symbols) || !may_declare(gap.after, symbols) {
+        return None;
+    }
+    Some(Mistake::Operator(OperatorMistake::Late(shown_name(symbols)?)))
 }
 
 /// What a run of symbols shows that is no operator.
 fn symbol_mistake<'a>(gap: Gap<'a>, symbols: &'a [u8]) -> Option<Mistake<'a>> {
-    if symbols.len() > MOST_SYMBOLS
-        || INFIX.iter().any(|name| *name == symbols)
-        || may_declare(gap.operators, symbols)
-    {
+    if symbols.is_empty() || symbols.len() > MOST_SYMBOLS {
         return None;
     }
+    if may_declare(gap.operators, symbols) {
+        return declared_mistake(gap, symbols);
+    }
+    let name = shown_name(symbols)?;
     match symbols {
-        b":" => colon_mistake(gap.before, gap.after),
-        b"*->" => Some(Mistake::SoftCut),
-        _ => Some(Mistake::NoOperator(shown_name(symbols)?)),
+        b":" => Some(Mistake::Operator(colon_mistake(gap)?)),
+        b"*->" => Some(Mistake::Goal(GoalMistake::SoftCut)),
+        _ if is_infix(symbols) => Some(Mistake::Operator(infix_mistake(gap, name)?)),
+        _ => match foreign(gap, name) {
+            Some(mistake) => Some(mistake),
+            None => Some(Mistake::Operator(OperatorMistake::Unknown(name))),
+        },
     }
 }
 
-/// Whether a text ends in `not` where this stands before another word.
-fn is_not(gap: Gap<'_>) -> bool {
-    let before = gap.before.trim_ascii_end();
-    match gap.after {
-        [next, ..] => {
-            before.len() < gap.before.len()
-                && is_word(*next)
-                && last_word(before) == b"not".as_slice()
-        }
-        [] => false,
+/// What a sign of another language shows, which may be one of the program's own within a term.
+fn foreign<'a>(gap: Gap<'a>, sign: &'a str) -> Option<Mistake<'a>> {
+    let mistake = foreign_mistake(sign, gap.is_in_head)?;
+    if gap.is_in_term() {
+        return Some(Mistake::Operator(OperatorMistake::Unknown(sign)));
     }
+    Some(mistake)
+}
+
+/// What signs show that are no symbols: `!=` and `||`.
+fn sign_mistake<'a>(gap: Gap<'a>) -> Option<Mistake<'a>> {
+    let sign = match gap.after {
+        [b'!', b'=', ..] => "!=",
+        [b'|', b'|', ..] => "||",
+        _ => return None,
+    };
+    foreign(gap, sign)
+}
+
+/// What a word shows that begins right after a name and a space, as `r` in `not r`.
+fn second_word<'a>(gap: Gap<'a>, name: &'a [u8]) -> Option<Mistake<'a>> {
+    match name {
+        b"not" => Some(Mistake::Goal(GoalMistake::NotOperator)),
+        b"if" => Some(Mistake::Goal(GoalMistake::If)),
+        _ if gap.is_in_head || gap.bracket.is_some() => None,
+        _ => {
+            let name = ClauseMistake::NoParentheses(shown_name(name)?);
+            Some(Mistake::Clause(name))
+        }
+    }
+}
+
+/// What a word shows after a whole term.
+fn word_mistake<'a>(gap: Gap<'a>) -> Option<Mistake<'a>> {
+    if let Some(word) = first_name(gap.after)
+        && let Some(mistake) = foreign(gap, shown_name(word)?)
+    {
+        return Some(mistake);
+    }
+    let before = gap.before.trim_ascii_end();
+    let next = gap.after.first()?;
+    let has_line = gap.before.get(before.len()..)?.contains(&b'\n');
+    if before.len() == gap.before.len() || has_line || !is_word(*next) {
+        return None;
+    }
+    second_word(gap, last_name(before)?)
 }
 
 /// Whether a bracket that is open at the front of a text is closed before the clause ends.
@@ -140,15 +167,18 @@ pub fn is_closed_later(text: &[u8]) -> bool {
 
 /// What the text shows at a place after a whole term, where the clause cannot go on.
 pub fn gap_mistake<'a>(gap: Gap<'a>) -> Option<Mistake<'a>> {
-    let symbols = symbols_of(gap.after);
-    if symbols == b".".as_slice() && !is_end(gap.after) {
-        return Some(Mistake::Dot);
+    let symbols = first_symbols(gap.after);
+    if let Some(mistake) = dot_mistake(symbols, gap.after) {
+        return Some(Mistake::Clause(mistake));
     }
-    if let Some(mistake) = variable_name(gap.before, gap.after) {
+    if let Some(mistake) = opening_mistake(gap) {
+        return Some(Mistake::Clause(mistake));
+    }
+    if let Some(mistake) = sign_mistake(gap) {
         return Some(mistake);
     }
-    if is_not(gap) {
-        return Some(Mistake::NotOperator);
+    if let Some(mistake) = word_mistake(gap) {
+        return Some(mistake);
     }
     symbol_mistake(gap, symbols)
 }

@@ -69,6 +69,14 @@ impl<'a> GoalLook<'a> {
         }
     }
 
+    /// Whether the first token is the prompt of a Prolog system.
+    pub(crate) fn begins_with_prompt(&self) -> bool {
+        match self.first {
+            Some(word) => word.text == b"?-".as_slice(),
+            None => false,
+        }
+    }
+
     /// Whether the first token has arguments.
     pub(crate) fn has_arguments(&self) -> bool {
         match (self.first, self.second) {

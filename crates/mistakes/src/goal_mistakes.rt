@@ -1,123 +1,146 @@
 //! Goals that are not read.
 
 use crate::goal_look::GoalLook;
+use crate::goal_sentences::GoalMistake;
 use crate::mistake::Mistake;
+use crate::query_sentences::QueryMistake;
 use prolog_tokens::TokenKind;
 
-/// What a goal of this name with arguments shows.
-fn call_mistake<'a>(name: &[u8]) -> Option<Mistake<'a>> {
-    match name {
-        b"findall" | b"bagof" | b"setof" => Some(Mistake::AllSolutions),
-        b"call" | b"once" => Some(Mistake::Call),
-        b"asserta" | b"assertz" | b"retract" | b"abolish" => Some(Mistake::Assert),
-        b"var"
-        | b"nonvar"
-        | b"atom"
-        | b"integer"
-        | b"float"
-        | b"number"
-        | b"atomic"
-        | b"compound" => Some(Mistake::Test),
-        b"write" | b"writeq" | b"write_canonical" | b"write_term" | b"nl" | b"put_char" => {
-            Some(Mistake::Output)
-        }
-        _ => other_mistake(name),
-    }
-}
+/// Goals with arguments that are not read, by name.
+const CALLS: [(&[u8], GoalMistake); 50] = [
+    (b"findall", GoalMistake::AllSolutions),
+    (b"bagof", GoalMistake::AllSolutions),
+    (b"setof", GoalMistake::AllSolutions),
+    (b"call", GoalMistake::Call),
+    (b"once", GoalMistake::Call),
+    (b"asserta", GoalMistake::Assert),
+    (b"assertz", GoalMistake::Assert),
+    (b"retract", GoalMistake::Assert),
+    (b"abolish", GoalMistake::Assert),
+    (b"var", GoalMistake::Test),
+    (b"nonvar", GoalMistake::Test),
+    (b"atom", GoalMistake::Test),
+    (b"integer", GoalMistake::Test),
+    (b"float", GoalMistake::Test),
+    (b"number", GoalMistake::Test),
+    (b"atomic", GoalMistake::Test),
+    (b"compound", GoalMistake::Test),
+    (b"op", GoalMistake::Test),
+    (b"set_prolog_flag", GoalMistake::Test),
+    (b"close", GoalMistake::Test),
+    (b"write", GoalMistake::Output),
+    (b"writeq", GoalMistake::Output),
+    (b"write_canonical", GoalMistake::Output),
+    (b"write_term", GoalMistake::Output),
+    (b"nl", GoalMistake::Output),
+    (b"put_char", GoalMistake::Output),
+    (b"catch", GoalMistake::Catch),
+    (b"throw", GoalMistake::Exit),
+    (b"halt", GoalMistake::Exit),
+    (b"unify_with_occurs_check", GoalMistake::Unify),
+    (b"functor", GoalMistake::Unknown),
+    (b"arg", GoalMistake::Unknown),
+    (b"copy_term", GoalMistake::Unknown),
+    (b"=..", GoalMistake::Unknown),
+    (b"clause", GoalMistake::Unknown),
+    (b"current_predicate", GoalMistake::Unknown),
+    (b"current_op", GoalMistake::Unknown),
+    (b"current_prolog_flag", GoalMistake::Unknown),
+    (b"open", GoalMistake::Unknown),
+    (b"read", GoalMistake::Unknown),
+    (b"read_term", GoalMistake::Unknown),
+    (b"get_char", GoalMistake::Unknown),
+    (b"atom_length", GoalMistake::Unknown),
+    (b"atom_concat", GoalMistake::Unknown),
+    (b"sub_atom", GoalMistake::Unknown),
+    (b"atom_chars", GoalMistake::Unknown),
+    (b"atom_codes", GoalMistake::Unknown),
+    (b"char_code", GoalMistake::Unknown),
+    (b"number_chars", GoalMistake::Unknown),
+    (b"number_codes", GoalMistake::Unknown),
+];
 
-/// What a goal of this name with arguments shows that raises errors, or binds what is not known here.
-fn other_mistake<'a>(name: &[u8]) -> Option<Mistake<'a>> {
-    match name {
-        b"catch" => Some(Mistake::Catch),
-        b"throw" | b"halt" => Some(Mistake::Exit),
-        b"unify_with_occurs_check" => Some(Mistake::Unify),
-        b"op" | b"set_prolog_flag" | b"close" => Some(Mistake::Test),
-        b"functor"
-        | b"arg"
-        | b"copy_term"
-        | b"=.."
-        | b"clause"
-        | b"current_predicate"
-        | b"current_op"
-        | b"current_prolog_flag" => Some(Mistake::Unknown),
-        b"open" | b"read" | b"read_term" | b"get_char" => Some(Mistake::Unknown),
-        b"atom_length"
-        | b"atom_concat"
-        | b"sub_atom"
-        | b"atom_chars"
-        | b"atom_codes"
-        | b"char_code"
-        | b"number_chars"
-        | b"number_codes" => Some(Mistake::Unknown),
-        _ => None,
+/// What a goal of this name with arguments shows.
+fn call_mistake(name: &[u8]) -> Option<GoalMistake> {
+    for (other, mistake) in CALLS {
+        if other == name {
+            return Some(mistake);
+        }
     }
+    None
 }
 
 /// What a goal that begins with this name shows.
-fn named_mistake<'a>(name: &[u8], has_arguments: bool) -> Option<Mistake<'a>> {
+fn named_mistake(name: &[u8], has_arguments: bool) -> Option<GoalMistake> {
     match name {
-        b"\\+" => Some(Mistake::Negation),
-        b"?-" => Some(Mistake::Prompt),
-        b"!" if !has_arguments => Some(Mistake::Cut),
-        b"nl" if !has_arguments => Some(Mistake::Output),
-        b"halt" if !has_arguments => Some(Mistake::Exit),
-        b"repeat" if !has_arguments => Some(Mistake::Repeat),
+        b"\\+" => Some(GoalMistake::Negation),
+        b"!" if !has_arguments => Some(GoalMistake::Cut),
+        b"nl" if !has_arguments => Some(GoalMistake::Output),
+        b"halt" if !has_arguments => Some(GoalMistake::Exit),
+        b"repeat" if !has_arguments => Some(GoalMistake::Repeat),
         _ if has_arguments => call_mistake(name),
         _ => None,
     }
 }
 
 /// What a goal shows by its first token.
-fn first_mistake<'a>(look: &GoalLook<'_>) -> Option<Mistake<'a>> {
+fn first_mistake(look: &GoalLook<'_>) -> Option<GoalMistake> {
     let first = look.first?;
     match first.kind {
-        TokenKind::Var if look.is_alone() => Some(Mistake::VariableGoal),
-        TokenKind::Int(_) if look.is_alone() => Some(Mistake::NumberGoal),
+        TokenKind::Var if look.is_alone() => Some(GoalMistake::Variable),
+        TokenKind::Int(_) if look.is_alone() => Some(GoalMistake::Number),
         TokenKind::Name => named_mistake(first.text, look.has_arguments()),
         _ => None,
     }
 }
 
 /// What a goal of a clause shows.
-fn clause_mistake<'a>(look: &GoalLook<'_>) -> Option<Mistake<'a>> {
+fn clause_mistake(look: &GoalLook<'_>) -> Option<GoalMistake> {
     if look.has_arrow {
-        Some(Mistake::IfThenElse)
+        Some(GoalMistake::IfThenElse)
     } else if look.has_test {
-        Some(Mistake::Test)
+        Some(GoalMistake::Test)
     } else if look.has_univ {
-        Some(Mistake::Unknown)
+        Some(GoalMistake::Unknown)
     } else {
         first_mistake(look)
     }
 }
 
-/// What a goal of a query shows, which cannot have branches in place of it.
+/// What a goal of a query shows by its first token, which cannot have branches in place of it.
+fn named_in_query(mistake: GoalMistake) -> Mistake<'static> {
+    match mistake {
+        GoalMistake::Variable | GoalMistake::Number | GoalMistake::Call | GoalMistake::Unify => {
+            Mistake::Goal(mistake)
+        }
+        GoalMistake::Catch => Mistake::Goal(GoalMistake::Call),
+        GoalMistake::Negation | GoalMistake::AllSolutions => {
+            Mistake::Query(QueryMistake::GoalAlone)
+        }
+        _ => Mistake::Query(QueryMistake::Goal),
+    }
+}
+
+/// What a goal of a query shows outside its first token.
+fn joined_in_query(look: &GoalLook<'_>) -> Option<QueryMistake> {
+    if look.begins_with_prompt() {
+        Some(QueryMistake::Prompt)
+    } else if look.has_neck {
+        Some(QueryMistake::Clause)
+    } else if look.has_arrow || look.has_branch {
+        Some(QueryMistake::Branches)
+    } else if look.has_test || look.has_univ {
+        Some(QueryMistake::Goal)
+    } else {
+        None
+    }
+}
+
+/// What a goal of a query shows.
 fn query_mistake<'a>(look: &GoalLook<'_>) -> Option<Mistake<'a>> {
-    if look.has_neck {
-        return Some(Mistake::ClauseAsQuery);
-    }
-    if look.has_arrow || look.has_branch {
-        return Some(Mistake::Branches);
-    }
-    if look.has_test || look.has_univ {
-        return Some(Mistake::QueryGoal);
-    }
-    match first_mistake(look) {
-        Some(Mistake::Negation | Mistake::AllSolutions) => Some(Mistake::GoalAlone),
-        Some(Mistake::Prompt) => Some(Mistake::Prompt),
-        Some(Mistake::VariableGoal) => Some(Mistake::VariableGoal),
-        Some(Mistake::NumberGoal) => Some(Mistake::NumberGoal),
-        Some(Mistake::Call | Mistake::Catch) => Some(Mistake::Call),
-        Some(Mistake::Unify) => Some(Mistake::Unify),
-        Some(
-            Mistake::Test
-            | Mistake::Output
-            | Mistake::Unknown
-            | Mistake::Exit
-            | Mistake::Repeat
-            | Mistake::Assert,
-        ) => Some(Mistake::QueryGoal),
-        _ => None,
+    match joined_in_query(look) {
+        Some(mistake) => Some(Mistake::Query(mistake)),
+        None => first_mistake(look).map(named_in_query),
     }
 }
 
@@ -125,10 +148,10 @@ fn query_mistake<'a>(look: &GoalLook<'_>) -> Option<Mistake<'a>> {
 pub fn goal_mistake<'a>(text: &[u8], at: usize, is_query: bool) -> Option<Mistake<'a>> {
     let look = GoalLook::of(text, at);
     if look.has_grammar_arrow {
-        Some(Mistake::GrammarRule)
-    } else if is_query {
-        query_mistake(&look)
-    } else {
-        clause_mistake(&look)
+        return Some(Mistake::Goal(GoalMistake::GrammarRule));
     }
+    if is_query {
+        return query_mistake(&look);
+    }
+    Some(Mistake::Goal(clause_mistake(&look)?))
 }

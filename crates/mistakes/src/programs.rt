@@ -1,6 +1,6 @@
 //! The first predicate of a program, and of a certificate.
 
-use crate::mistake::Mistake;
+use crate::file_sentences::FileMistake;
 use crate::word_reader::{Word, WordReader, shown_name};
 use prolog_tokens::TokenKind;
 
@@ -102,13 +102,13 @@ fn is_pred(text: &str, name: &str, arity: u64) -> bool {
 }
 
 /// That a certificate is of another program, where their first predicates are plain to see and differ.
-pub fn program_mistake<'a>(program: &'a [u8], certificate: &'a [u8]) -> Option<Mistake<'a>> {
+pub fn program_mistake<'a>(program: &'a [u8], certificate: &'a [u8]) -> Option<FileMistake<'a>> {
     let (name, arity) = first_pred(program)?;
     let other = certified_pred(certificate)?;
     if is_pred(other, name, arity) {
         return None;
     }
-    Some(Mistake::OtherProgram { name, arity, other })
+    Some(FileMistake::OtherProgram { name, arity, other })
 }
 
 /// Whether a text begins as a certificate does.

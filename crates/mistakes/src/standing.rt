@@ -2,7 +2,6 @@
 
 use crate::fact_forms::{FactForm, form_of};
 use crate::fact_mistake::FactMistake;
-use crate::mistake::Mistake;
 
 /// The form of the fact of a line.
 fn form_of_line(line: &[u8]) -> Option<FactForm> {
@@ -29,15 +28,14 @@ pub fn standing_mistake<'a>(
     number: u64,
     before: Option<&[u8]>,
     line: &[u8],
-) -> Option<Mistake<'a>> {
+) -> Option<FactMistake<'a>> {
     let form = form_of_line(line)?;
     if let Some(mistake) = version_mistake(text, number, form) {
-        return Some(Mistake::Fact(mistake));
+        return Some(mistake);
     }
     let earlier = form_of_line(before?)?;
     if form.rank < earlier.rank {
-        let mistake = FactMistake::Order(form.name, earlier.name);
-        return Some(Mistake::Fact(mistake));
+        return Some(FactMistake::Order(form.name, earlier.name));
     }
     None
 }

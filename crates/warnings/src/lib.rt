@@ -10,6 +10,7 @@ mod expressions;
 mod finding;
 mod findings;
 mod libraries;
+mod library_names;
 mod parts;
 mod sentence;
 mod singletons;

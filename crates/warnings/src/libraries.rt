@@ -1,4 +1,8 @@
-//! Predicates that Prolog programs often take from the libraries of SWI-Prolog.
+//! What can stand for predicates that Prolog programs take from the system or its libraries.
+
+use crate::library_names::{
+    DELAYED, LOADING, OF_GOALS, OF_GRAMMARS, OF_STATE, OUTPUT, TESTS, UNKNOWN, WITH_CLAUSES,
+};
 
 /// What can stand for a predicate that has no clause.
 #[derive(Clone, Copy, Debug, PartialEq, Eq)]
@@ -7,82 +11,27 @@ pub enum Library {
     Clauses,
     /// None do, or none for every use.
     NoClauses,
+    /// It ends, and only fails or not.
+    Test,
+    /// It ends, and what it binds is not known here.
+    Unknown,
+    /// It ends, and writes.
+    Output,
+    /// It changes clauses or values that last.
+    State,
+    /// It loads files.
+    Loading,
+    /// It delays goals.
+    Delayed,
+    /// It calls grammar rules.
+    Grammar,
+    /// It is a list.
+    List,
     /// It is a name with a number of arguments, and no call.
     Indicator,
     /// It is not known as one of a library.
-    Unknown,
+    Other,
 }
-
-/// The names and arities of those for which there are clauses.
-const WITH_CLAUSES: [(&str, u32); 19] = [
-    ("append", 2),
-    ("append", 3),
-    ("between", 3),
-    ("last", 2),
-    ("length", 2),
-    ("max_list", 2),
-    ("member", 2),
-    ("memberchk", 2),
-    ("min_list", 2),
-    ("nth0", 3),
-    ("nth1", 3),
-    ("numlist", 3),
-    ("permutation", 2),
-    ("plus", 3),
-    ("reverse", 2),
-    ("select", 3),
-    ("succ", 2),
-    ("sum_list", 2),
-    ("sumlist", 2),
-];
-
-/// The names and arities of the others, but for those that are refused as goals.
-const WITHOUT_CLAUSES: [(&str, u32); 44] = [
-    ("aggregate_all", 3),
-    ("apply", 2),
-    ("assert", 1),
-    ("atomic_list_concat", 2),
-    ("atomic_list_concat", 3),
-    ("b_setval", 2),
-    ("delete", 3),
-    ("dif", 2),
-    ("exclude", 3),
-    ("foldl", 4),
-    ("foldl", 5),
-    ("foldl", 6),
-    ("forall", 2),
-    ("format", 1),
-    ("format", 2),
-    ("format", 3),
-    ("ground", 1),
-    ("ignore", 1),
-    ("include", 3),
-    ("intersection", 3),
-    ("is_list", 1),
-    ("list_to_set", 2),
-    ("maplist", 2),
-    ("maplist", 3),
-    ("maplist", 4),
-    ("maplist", 5),
-    ("msort", 2),
-    ("nb_getval", 2),
-    ("nb_setval", 2),
-    ("not", 1),
-    ("partition", 4),
-    ("predsort", 3),
-    ("print", 1),
-    ("sort", 2),
-    ("sort", 4),
-    ("string_chars", 2),
-    ("string_concat", 3),
-    ("subtract", 3),
-    ("succ_or_zero", 1),
-    ("tab", 1),
-    ("term_to_atom", 2),
-    ("union", 3),
-    ("writef", 2),
-    ("writeln", 1),
-];
 
 /// Whether a name of the given arity is one of a list.
 fn is_one_of(list: &[(&str, u32)], text: &str, arity: u32) -> bool {
@@ -94,16 +43,44 @@ fn is_one_of(list: &[(&str, u32)], text: &str, arity: u32) -> bool {
     false
 }
 
+/// What stands for a predicate that does more than to fail or to bind.
+fn acting(text: &str, arity: u32) -> Option<Library> {
+    Some(if is_one_of(&OUTPUT, text, arity) {
+        Library::Output
+    } else if is_one_of(&OF_STATE, text, arity) {
+        Library::State
+    } else if is_one_of(&LOADING, text, arity) {
+        Library::Loading
+    } else if is_one_of(&DELAYED, text, arity) {
+        Library::Delayed
+    } else if is_one_of(&OF_GRAMMARS, text, arity) {
+        Library::Grammar
+    } else {
+        return term_of(text, arity);
+    })
+}
+
+/// What stands for a term that is no call.
+fn term_of(text: &str, arity: u32) -> Option<Library> {
+    match (text, arity) {
+        ("/", 2) => Some(Library::Indicator),
+        (".", 2) | ("[]", 0) => Some(Library::List),
+        _ => None,
+    }
+}
+
 /// What can stand for the predicate of this name and arity.
 pub(crate) fn library_of(text: &str, arity: u32) -> Library {
     if is_one_of(&WITH_CLAUSES, text, arity) {
         Library::Clauses
-    } else if is_one_of(&WITHOUT_CLAUSES, text, arity) {
+    } else if is_one_of(&OF_GOALS, text, arity) {
         Library::NoClauses
-    } else if text == "/" && arity == 2 {
-        Library::Indicator
-    } else {
+    } else if is_one_of(&TESTS, text, arity) {
+        Library::Test
+    } else if is_one_of(&UNKNOWN, text, arity) {
         Library::Unknown
+    } else {
+        acting(text, arity).unwrap_or(Library::Other)
     }
 }
 
@@ -115,8 +92,23 @@ impl Library {
             Library::NoClauses => {
                 "no clauses of pure Prolog do what it does: docs/real-files.md says what stands for it"
             }
+            Library::Test => "leave it out: modes without it hold with it",
+            Library::Unknown => {
+                "leave it out: modes without it hold with it, and what it binds stays unknown"
+            }
+            Library::Output => "leave it out: what is written does not change whether a query ends",
+            Library::State => {
+                "write what it keeps as clauses: none are added, removed or declared while a query runs"
+            }
+            Library::Loading => "put the clauses of the other file into this one",
+            Library::Delayed =>
+                "write the goal itself, where what it needs is known: goals are not delayed",
+            Library::Grammar =>
+                "write `p(S0,S)` for `phrase(p,S0,S)`, with clauses in the place of grammar rules",
+            Library::List =>
+                "a list is no goal: write its goals with commas, or the clauses of the files that it names",
             Library::Indicator => "NAME/ARITY only names a predicate: write a call of it",
-            Library::Unknown => "correct the name, or add its clauses",
+            Library::Other => "correct the name, or add its clauses",
         }
     }
 }

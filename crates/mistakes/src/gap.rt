@@ -1,0 +1,111 @@
+//! Places in texts, and what stands around them.
+
+/// A bracket that is open.
+#[derive(Clone, Copy, Debug, PartialEq, Eq)]
+pub enum Bracket {
+    /// The parenthesis right after a name.
+    Arguments,
+    /// Any other parenthesis.
+    Group,
+    List,
+    Braces,
+}
+
+impl Bracket {
+    /// The characters that open and close it.
+    pub fn characters(self) -> (char, char) {
+        match self {
+            Bracket::Arguments | Bracket::Group => ('(', ')'),
+            Bracket::List => ('[', ']'),
+            Bracket::Braces => ('{', '}'),
+        }
+    }
+
+    /// Whether commas separate terms in it.
+    pub(crate) fn has_terms(self) -> bool {
+        matches!(self, Bracket::Arguments | Bracket::List)
+    }
+}
+
+/// A place in a text.
+#[derive(Clone, Copy)]
+pub struct Gap<'a> {
+    /// The text before it.
+    pub before: &'a [u8],
+    /// The text from it on.
+    pub after: &'a [u8],
+    /// The text whose directives declare operators.
+    pub operators: &'a [u8],
+    /// Whether it is in a head: no neck stands before it in its clause, and no bracket is open.
+    pub is_in_head: bool,
+    /// The bracket that is open at it, if one is.
+    pub bracket: Option<Bracket>,
+}
+
+impl Gap<'_> {
+    /// Whether it is within a term of an argument or a list.
+    pub(crate) fn is_in_term(self) -> bool {
+        match self.bracket {
+            Some(bracket) => bracket.has_terms(),
+            None => false,
+        }
+    }
+}
+
+/// Whether a byte is one of the symbols that operators consist of.
+pub(crate) fn is_symbol(byte: u8) -> bool {
+    b"#$&*+-./:<=>?@^~\\".contains(&byte)
+}
+
+/// Whether a byte can stand within a name.
+pub(crate) fn is_word(byte: u8) -> bool {
+    byte.is_ascii_alphanumeric() || byte == b'_'
+}
+
+/// The name or variable that a text ends in, which is empty where there is none.
+pub(crate) fn last_word(text: &[u8]) -> &[u8] {
+    let len = text.iter().rev().take_while(|byte| is_word(**byte)).count();
+    let start = text.len().saturating_sub(len);
+    match text.get(..start) {
+        // The character of `0'` is no name.
+        Some([.., b'\'']) => &[],
+        _ => text.get(start..).unwrap_or(&[]),
+    }
+}
+
+/// The name that a text ends in, which begins with a small letter.
+pub(crate) fn last_name(text: &[u8]) -> Option<&[u8]> {
+    let word = last_word(text);
+    if word.first()?.is_ascii_lowercase() {
+        Some(word)
+    } else {
+        None
+    }
+}
+
+/// The name at the front of a text, which begins with a small letter.
+pub(crate) fn first_name(text: &[u8]) -> Option<&[u8]> {
+    if !text.first()?.is_ascii_lowercase() {
+        return None;
+    }
+    let len = text.iter().take_while(|byte| is_word(**byte)).count();
+    text.get(..len)
+}
+
+/// The run of symbols at the front of a text.
+pub(crate) fn first_symbols(text: &[u8]) -> &[u8] {
+    let len = text.iter().take_while(|byte| is_symbol(**byte)).count();
+    text.get(..len).unwrap_or(&[])
+}
+
+/// The run of symbols that a text ends in, but for layout.
+pub(crate) fn last_symbols(text: &[u8]) -> &[u8] {
+    let text = text.trim_ascii_end();
+    let len = text
+        .iter()
+        .rev()
+        .take_while(|byte| is_symbol(**byte))
+        .count();
+    let start = text.len().saturating_sub(len);
+    text.get(start..).unwrap_or(&[])
+}
