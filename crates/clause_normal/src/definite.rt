@@ -112,7 +112,8 @@ pub fn check_added(
     requires fit { IsFit (length names.now) (clause_of clause.now) }
 
     // Exactly that it may be added, or exactly the fault.
-    ensures exact { MatchResult result (λ _. added_fault names.now clauses (clause_of clause.now) ≡ None) (λ e. IfFault e (λ f. added_fault names.now clauses (clause_of clause.now) ≡ Some f)) }
+    ensures exact { let fault = added_fault names.now clauses (clause_of clause.now) in
+        MatchResult result (λ _. fault ≡ None) (λ e. IfFault e (λ f. fault ≡ Some f)) }
 {
     match definite_rule(alloc, names, clause) {
         Ok(_) => {}

@@ -54,20 +54,24 @@ pub fn goals_of_queries_are_small()
 
 /// The program of definite clauses is their normal form.
 pub fn definite_programs_are_normal()
-    ensures { (names : List (List ℕ)) (clauses : List Clause) → AreDefinite names clauses → normal_form names clauses ≡ Ok (program_of names clauses) }
+    ensures { (names : List (List ℕ)) (clauses : List Clause) → AreDefinite names clauses
+        → normal_form names clauses ≡ Ok (program_of names clauses) }
 {}
 
 /// Definite clauses stay definite where one is added without a fault, where some in a row are taken out, and where names are added.
 pub fn definite_clauses_come_and_go()
-    ensures added { (names : List (List ℕ)) (clauses : List Clause) (c : Clause) → AreDefinite names clauses → added_fault names (length clauses) c ≡ None → AreDefinite names (clauses ++ c ∷ []) }
-    ensures taken { (names : List (List ℕ)) (clauses : List Clause) (i j : ℕ) → i ≤ j → AreDefinite names clauses → AreDefinite names (take i clauses ++ drop j clauses) }
-    ensures later { (names later : List (List ℕ)) (clauses : List Clause) → Extends names later → AllByRecursion (IsFit (length names)) clauses → AreDefinite names clauses → AreDefinite later clauses }
+    ensures added { (names : List (List ℕ)) (clauses : List Clause) (c : Clause) → AreDefinite names clauses → added_fault names (length clauses) c ≡ None
+        → AreDefinite names (clauses ++ c ∷ []) }
+    ensures taken { (names : List (List ℕ)) (clauses : List Clause) (i j : ℕ) → i ≤ j → AreDefinite names clauses
+        → AreDefinite names (take i clauses ++ drop j clauses) }
+    ensures later { (names later : List (List ℕ)) (clauses : List Clause) → Extends names later
+        → AllByRecursion (IsFit (length names)) clauses → AreDefinite names clauses → AreDefinite later clauses }
 {}
 
 /// The program of definite clauses is the same where names are added, if those of arithmetic operations are there. Once added, they are.
 pub fn definite_programs_stay()
-    ensures program { (names later : List (List ℕ)) (clauses : List Clause) → Extends names later → HasOperations names → AllByRecursion (IsFit (length names)) clauses → AreDefinite names clauses
-        → program_of later clauses ≡ program_of names clauses }
+    ensures program { (names later : List (List ℕ)) (clauses : List Clause) → Extends names later → HasOperations names
+        → AllByRecursion (IsFit (length names)) clauses → AreDefinite names clauses → program_of later clauses ≡ program_of names clauses }
     ensures named { (names : List (List ℕ)) → HasOperations (with_names names operation_texts) }
     ensures operations { (names later : List (List ℕ)) → Extends names later → HasOperations names → HasOperations later }
 {}
