@@ -175,6 +175,25 @@ impl Sources<'_> {
             None => self.solve_anew::<D, N>(alloc, norm, c, solved),
         }
     }
+
+    // The same for each component, callees first.
+    fn resolve_all<D: Domain, N: Norm>(
+        &self,
+        alloc: Global,
+        norm: &N,
+    ) -> Result<SolvedSizes, AllocError>
+        requires sources { AreSources self.now }
+        requires old { AreSolved D.speaks (N.expression norm.now) self.now.edit.now.before.now
+            self.now.edit.now.components_before.now self.now.old.now }
+        ensures { IfOk result (AreResolvedTo D.speaks (N.expression norm.now) self.now
+            (length self.now.edit.now.components.now.members)) }
+    {
+        let mut solved = carried(alloc, self.edit, self.old)?;
+        for c in 0..self.edit.components.count() {
+            self.resolve::<D, N>(alloc, norm, c, &mut solved)?;
+        }
+        Ok(solved)
+    }
 }
 
 /// The size rows of a program after an edit, from those before it.
@@ -204,9 +223,5 @@ pub fn resolve_sizes<D: Domain, N: Norm>(
         own_before: own_before.as_slice(),
         own: own.as_slice(),
     };
-    let mut solved = carried(alloc, edit, old)?;
-    for c in 0..edit.components.count() {
-        sources.resolve::<D, N>(alloc, norm, c, &mut solved)?;
-    }
-    Ok(solved)
+    sources.resolve_all::<D, N>(alloc, norm)
 }
