@@ -16,4 +16,6 @@ mod warned;
 #[cfg(test)]
 mod whole;
 #[cfg(test)]
+mod why_noted;
+#[cfg(test)]
 mod word_faults;

@@ -34,7 +34,7 @@ fn notes_about_modes(rt: HostRuntime) -> Result<(), Fail> {
             "a.pl:1:14: note: `p/2` has no mode: no single weighted sum of sizes falls at all of these calls: 1:14, 2:14
     p(s(X),Y) :- p(X,s(Y)).
                  ^
-  help: let one argument, or one sum of arguments, get smaller at each of them; `cti lex` finds no mode here either
+  help: let one argument, or one sum of arguments, get smaller at each of them; `cti lex` finds no mode here either; `cti loop a.pl 'p(A,B)'`, with what you know in the place of variables, may show that it goes on
 ",
         ),
         (
@@ -43,7 +43,7 @@ fn notes_about_modes(rt: HostRuntime) -> Result<(), Fail> {
             "a.pl:1:14: note: `p/2` has no mode: no single weighted sum of sizes falls at all of these calls: 1:14, 2:14
     p(s(X),Y) :- p(X,s(Y)).
                  ^
-  help: try `cti lex`, which compares several sums in turn; or let one argument, or one sum of arguments, get smaller at each of them
+  help: try `cti lex`, which compares several sums in turn; or let one argument, or one sum of arguments, get smaller at each of them; `cti loop a.pl 'p(A,B)'`, with what you know in the place of variables, may show that it goes on
 ",
         ),
         (
@@ -66,7 +66,7 @@ a.pl:3:9: note: `p/1` has no mode: nothing known of its arguments gets smaller f
         (
             "p(X) :- q(X,_).\nq(_,[]).\nq(X,[_|T]) :- q(X,T).\n",
             "cti(2).\nnorm(list).\nterminates(p/1,[]).\nterminates(q/2,[[2]]).\nfalls(3,1,1,1,[]).\n",
-            "a.pl:1:9: note: `p/1` has no mode: `q/2` at this call needs argument 2 rigid, and no rigid arguments of a query make sure of that
+            "a.pl:1:9: note: `p/1` has no mode: `q/2` at this call needs argument 2 rigid, and `_` is not known to be rigid there, whatever arguments of a query are
     p(X) :- q(X,_).
             ^
   help: call something before it that makes the argument known, or give the clause's head one more argument
@@ -83,11 +83,11 @@ a.pl:3:9: note: `p/1` has no mode: nothing known of its arguments gets smaller f
         ),
         (
             "q(_,[]).\nq(X,[_|T]) :- q(X,T).\nr(X,Y) :- q(X,Z),\n    q(Z,Y).\n",
-            "cti(1).\nterminates(q/2,[[2]]).\nterminates(r/2,[]).\nfalls(2,1,1,1,[]).\n",
-            "a.pl:3:11: note: `r/2` has no mode: no ground arguments of a query are enough for all the calls of its clauses: 3:11, 4:5
+            "cti(1).\nterminates(q/2,[[2]]).\nterminates(r/2,[]).\ngrounds(q/2,1,[x,x]).\nfalls(2,1,1,1,[]).\n",
+            "a.pl:3:11: note: `r/2` has no mode: `q/2` at this call needs argument 2 ground, and `Z` is not known to be ground there, whatever arguments of a query are
     r(X,Y) :- q(X,Z),
               ^
-  help: call something before it that makes the argument known, or give the clause's head one more argument
+  help: call something before it that makes `Z` ground, or give the clause's head one more argument
 ",
         ),
         (
@@ -128,7 +128,7 @@ fn notes_about_lists(rt: HostRuntime) -> Result<(), Fail> {
             "a.pl:1:14: note: `p/2` has no mode: no list of mappings descends: the calls at 1:14, 2:14 keep each other going
     p(s(X),Y) :- p(X,s(Y)).
                  ^
-  help: let one argument, or one sum of arguments, get smaller at each of them
+  help: let one argument, or one sum of arguments, get smaller at each of them; `cti loop a.pl 'p(A,B)'`, with what you know in the place of variables, may show that it goes on
 ",
         ),
         (
@@ -152,7 +152,7 @@ fn notes_about_lists(rt: HostRuntime) -> Result<(), Fail> {
         (
             "p(X) :- q(X,_).\nq(_,[]).\nq(X,[_|T]) :- q(X,T).\n",
             "ctilex(1).\nterminates(p/1,[]).\nterminates(q/2,[[2]]).\nlevel(q/2,1,1,[0,1],0).\ndrops(3,1,1,1,1,[]).\n",
-            "a.pl:1:9: note: `p/1` has no mode: `q/2` at this call needs argument 2 ground, and no ground arguments of a query make sure of that
+            "a.pl:1:9: note: `p/1` has no mode: `q/2` at this call needs argument 2 ground, and `_` is not known to be ground there, whatever arguments of a query are
     p(X) :- q(X,_).
             ^
   help: call something before it that makes the argument known, or give the clause's head one more argument

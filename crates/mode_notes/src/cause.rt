@@ -1,5 +1,6 @@
 //! What a certificate's facts say of components.
 
+use crate::fact_runs::FactRuns;
 use crate::listed::Listed;
 use crate::table::Table;
 use certificate::{CertNorm, Certificate, Fact, PredText};
@@ -27,6 +28,8 @@ pub(crate) struct Causes {
     pub(crate) is_of_lists: bool,
     /// The place of each predicate's `terminates` among the facts.
     terminates: Vec<usize>,
+    /// The truth rows that answers may have.
+    pub(crate) grounds: FactRuns,
     /// By component.
     causes: Vec<Cause>,
     /// How many points the refutation has that the next point begins.
@@ -44,6 +47,7 @@ impl Drop for Causes {
             norm: _,
             is_of_lists: _,
             terminates: _,
+            grounds: _,
             causes: _,
             points: _,
             looked: _,
@@ -62,6 +66,7 @@ impl Causes {
             norm: CertNorm::Term,
             is_of_lists: false,
             terminates: Vec::new(alloc),
+            grounds: FactRuns::new(alloc, listed.table.preds.len())?,
             causes: vec![in alloc; Cause::None; listed.table.preds.len()]?,
             points: 0,
             looked: 0,
@@ -77,6 +82,7 @@ impl Causes {
         match fact {
             Fact::Norm { norm } => self.norm = *norm,
             Fact::Terminates { .. } => self.terminates.push(place)?,
+            Fact::Grounds { pred, .. } => self.grounds.add(listed, pred, place),
             Fact::Falls { clause, .. } => self.note_clause(&listed.table, *clause, Cause::Measure),
             Fact::Refuted { points, .. } => self.points = *points,
             Fact::Point { clause, .. } if self.points > 0 => {
@@ -131,6 +137,14 @@ impl Causes {
             && *known == Cause::None
         {
             *known = cause;
+        }
+    }
+
+    /// What a mode asks of arguments.
+    pub(crate) fn known_word(&self) -> &'static str {
+        match self.norm {
+            CertNorm::Term => "ground",
+            CertNorm::List => "rigid",
         }
     }
 

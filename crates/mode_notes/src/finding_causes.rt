@@ -1,7 +1,10 @@
 //! Which call is to blame that a predicate has no mode.
 
 use crate::cause::{Cause, Causes};
-use crate::listed::Listed;
+use crate::culprit::Culprit;
+use crate::lacking::{CallAt, Found};
+use crate::listed::{Listed, Step};
+use crate::sizing::Sizing;
 use crate::table::ClauseRow;
 use certificate::Fact;
 use sequences::Sequence;
@@ -18,8 +21,8 @@ pub(crate) struct View<'p, 'c, 'f> {
 /// Why a predicate has no mode.
 #[derive(Clone, Copy)]
 pub(crate) enum Why {
-    /// Nothing falls at the one call of this fact.
-    OneCall { start: usize },
+    /// Nothing falls at one call.
+    OneCall(Culprit),
     /// Nothing falls at all of so many calls, the first of which is this fact.
     Calls { start: usize, points: u64 },
     /// The same, and no order of measures does.
@@ -30,7 +33,9 @@ pub(crate) enum Why {
     Blown,
     /// It calls this predicate, which has no mode.
     Callee(u32),
-    /// It calls this predicate, whose modes ask for arguments.
+    /// This call lacks variables, whatever arguments of a query are known.
+    Lacks(CallAt),
+    /// The same, where nothing is known of the variables.
     Needs(u32),
     /// No arguments are enough.
     Unmet,
@@ -44,16 +49,22 @@ pub(crate) struct Case {
     pub(crate) at: Option<u32>,
 }
 
-/// A call to blame.
-#[derive(Clone, Copy)]
-struct Blamed {
-    callee: u32,
-    at: Option<u32>,
-    /// How many calls are as it is.
-    count: u64,
-}
+impl<'p, 'f> View<'p, '_, 'f> {
+    /// The norm of the certificate.
+    pub(crate) fn sizing(self) -> Sizing<'p> {
+        Sizing {
+            names: &self.listed.names,
+            norm: self.causes.norm,
+        }
+    }
 
-impl<'f> View<'_, '_, 'f> {
+    /// The truth rows that answers of a predicate may have.
+    pub(crate) fn grounds(self, pred: u32) -> &'f [Fact] {
+        let run = self.causes.grounds.of(pred);
+        let rest = self.facts.get(run.start..).unwrap_or(&[]);
+        rest.get(..run.count).unwrap_or(rest)
+    }
+
     /// The modes of a predicate.
     pub(crate) fn modes_of(self, pred: u32) -> &'f [Sequence<u32>] {
         let Some(place) = self.causes.terminates(pred) else {
@@ -65,64 +76,35 @@ impl<'f> View<'_, '_, 'f> {
         }
     }
 
-    /// Whether every query of a predicate ends.
-    fn always_ends(self, pred: u32) -> bool {
-        self.modes_of(pred).iter().any(|mode| mode.is_empty())
-    }
-
-    /// Whether a call has to be looked at: one that leaves a component, without a mode or not with every query of it.
-    fn is_blamed(self, component: u32, callee: u32, without_mode: bool) -> bool {
-        let is_other = self.listed.table.component_of(callee) != component;
-        is_other && self.modes_of(callee).is_empty() == without_mode && !self.always_ends(callee)
-    }
-
-    /// The first call to blame of a clause, with how many there are.
-    fn blamed_in(self, number: u32, row: ClauseRow, without_mode: bool) -> Option<Blamed> {
+    /// The first call of a clause that leaves its component for a predicate without a mode: the predicate, and the call's place.
+    fn call_without_mode(self, number: u32, row: ClauseRow) -> Option<(u32, Option<u32>)> {
         let component = self.listed.table.component_of(row.head);
         let calls = self.listed.table.calls_of(row);
-        let mut found: Option<Blamed> = None;
         let mut place = 0u32;
         for callee in calls {
             place = place.saturating_add(1);
-            if !self.is_blamed(component, *callee, without_mode) {
-                continue;
+            let is_other = self.listed.table.component_of(*callee) != component;
+            if is_other && self.modes_of(*callee).is_empty() {
+                let at = self.listed.places.call(number, place, calls.len());
+                return Some((*callee, at));
             }
-            found = Some(match found {
-                Some(first) => Blamed {
-                    count: first.count.saturating_add(1),
-                    ..first
-                },
-                None => Blamed {
-                    callee: *callee,
-                    at: self.listed.places.call(number, place, calls.len()),
-                    count: 1,
-                },
-            });
         }
-        found
+        None
     }
 
-    /// The first call to blame in the clauses of a component, with how many there are.
-    fn blamed_of(self, component: u32, without_mode: bool) -> Option<Blamed> {
-        let mut found: Option<Blamed> = None;
+    /// The first such call in the clauses of a component, as a case.
+    fn callee_case(self, component: u32) -> Option<Case> {
         let mut number = 0u32;
         for row in &self.listed.table.clauses {
             number = number.saturating_add(1);
-            if self.listed.table.component_of(row.head) != component {
-                continue;
+            if self.listed.table.component_of(row.head) == component
+                && let Some((callee, at)) = self.call_without_mode(number, *row)
+            {
+                let why = Why::Callee(callee);
+                return Some(Case { why, at });
             }
-            let Some(next) = self.blamed_in(number, *row, without_mode) else {
-                continue;
-            };
-            found = Some(match found {
-                Some(first) => Blamed {
-                    count: first.count.saturating_add(next.count),
-                    ..first
-                },
-                None => next,
-            });
         }
-        found
+        None
     }
 
     /// The place of a predicate's first clause.
@@ -169,8 +151,14 @@ impl<'f> View<'_, '_, 'f> {
 
     /// Why nothing falls at so many calls, the first of which is this fact.
     fn refuted_case(self, start: usize, points: u64) -> Why {
+        if let Some(culprit) = self.culprit(start, points) {
+            return Why::OneCall(culprit);
+        }
         if points == 1 {
-            return Why::OneCall { start };
+            return Why::OneCall(Culprit {
+                head: start,
+                call: start,
+            });
         }
         if self.causes.is_of_lists {
             return Why::NoList { start, points };
@@ -181,93 +169,67 @@ impl<'f> View<'_, '_, 'f> {
         Why::Calls { start, points }
     }
 
+    /// The case of a predicate by the calls of its component that lack something.
+    fn lacking_case(self, pred: u32, found: &Found, is_recursive: bool) -> Case {
+        if let Some(call) = found.lacking.first() {
+            let why = Why::Lacks(*call);
+            return Case { why, at: call.at };
+        }
+        match found.unsure.first() {
+            // Without recursion the only call that is not sure to get what it asks for does not get it.
+            Some(call) if !is_recursive && found.unsure.len() == 1 => Case {
+                why: Why::Needs(call.callee),
+                at: call.at,
+            },
+            Some(call) => Case {
+                why: Why::Unmet,
+                at: call.at,
+            },
+            None => Case {
+                why: Why::Unmet,
+                at: self.first_clause(pred),
+            },
+        }
+    }
+
     /// The case of a predicate whose component has a measure, or needs none, and yet no mode.
-    fn unmet_case(self, pred: u32, has_measure: bool) -> Case {
+    fn unmet_case(self, alloc: Global, pred: u32, has_measure: bool) -> Result<Case, AllocError> {
         let component = self.listed.table.component_of(pred);
+        if let Some(case) = self.callee_case(component) {
+            return Ok(case);
+        }
         let is_recursive = self.listed.table.is_recursive(component);
-        if let Some(blamed) = self.blamed_of(component, true) {
-            return Case {
-                why: Why::Callee(blamed.callee),
-                at: blamed.at,
-            };
+        if is_recursive && !has_measure {
+            let at = self.first_clause(pred);
+            let why = Why::Unknown;
+            return Ok(Case { why, at });
         }
-        // Without recursion the only call that asks for something is the one that does not get it.
-        match self.blamed_of(component, false) {
-            Some(blamed) if !is_recursive && blamed.count == 1 => Case {
-                why: Why::Needs(blamed.callee),
-                at: blamed.at,
-            },
-            _ if is_recursive && !has_measure => Case {
-                why: Why::Unknown,
-                at: self.first_clause(pred),
-            },
-            // The first of the calls that ask for something.
-            Some(blamed) if blamed.at.is_some() => Case {
-                why: Why::Unmet,
-                at: blamed.at,
-            },
-            _ => Case {
-                why: Why::Unmet,
-                at: self.first_clause(pred),
-            },
-        }
+        let found = self.lacking_in(alloc, component)?;
+        Ok(self.lacking_case(pred, &found, is_recursive))
     }
 
-    /// Adds the places of a clause's calls that ask for something.
-    fn push_asking(
-        self,
-        number: u32,
-        row: ClauseRow,
-        places: &mut Vec<u32>,
-    ) -> Result<(), AllocError> {
-        let component = self.listed.table.component_of(row.head);
-        let calls = self.listed.table.calls_of(row);
-        let mut place = 0u32;
-        for callee in calls {
-            place = place.saturating_add(1);
-            if self.is_blamed(component, *callee, false)
-                && let Some(at) = self.listed.places.call(number, place, calls.len())
-            {
-                places.push(at)?;
-            }
-        }
-        Ok(())
-    }
-
-    /// The places of the calls that ask for something, in the clauses of a predicate's component.
-    pub(crate) fn asking_places(self, alloc: Global, pred: u32) -> Result<Vec<u32>, AllocError> {
-        let component = self.listed.table.component_of(pred);
-        let mut places = Vec::new(alloc);
-        let mut number = 0u32;
-        for row in &self.listed.table.clauses {
-            number = number.saturating_add(1);
-            if self.listed.table.component_of(row.head) == component {
-                self.push_asking(number, *row, &mut places)?;
-            }
-        }
-        Ok(places)
-    }
-
-    /// Whether a clause computes an integer.
-    fn computes(self, clause: u32, is_pred: u32) -> bool {
+    /// Whether a clause has such a step.
+    fn has_step(self, clause: u32, step: Step) -> bool {
         match self.listed.table.clause(clause) {
-            Some(row) => self.listed.table.calls_of(row).contains(&is_pred),
+            Some(row) => {
+                let calls = self.listed.table.calls_of(row);
+                calls
+                    .iter()
+                    .any(|callee| self.listed.is_step(*callee, step))
+            }
             None => false,
         }
     }
 
-    /// Whether the clause of one of so many points, from this fact on, computes an integer.
-    pub(crate) fn counts(self, start: usize, points: u64) -> bool {
-        let Some(is_pred) = self.listed.pred_of(b"is", 2) else {
-            return false;
-        };
+    /// Whether the clause of one of so many points, from this fact on, has such a step.
+    fn has_step_at(self, start: usize, points: u64, step: Step) -> bool {
         let mut left = points;
         for fact in self.facts.get(start..).unwrap_or(&[]) {
             if left == 0 {
                 return false;
             }
             if let Fact::Point { clause, .. } = fact {
-                if self.computes(*clause, is_pred) {
+                if self.has_step(*clause, step) {
                     return true;
                 }
                 left = left.saturating_sub(1);
@@ -276,38 +238,58 @@ impl<'f> View<'_, '_, 'f> {
         false
     }
 
-    /// The places of the clause and of the call of a point.
-    pub(crate) fn point_span(self, place: usize) -> Option<(u32, u32)> {
-        let Some(Fact::Point { clause, .. }) = self.facts.get(place) else {
-            return None;
+    /// Whether the clause of one of the calls that a case speaks of has such a step.
+    pub(crate) fn is_behind(self, why: Why, step: Step) -> bool {
+        match why {
+            Why::OneCall(culprit) => {
+                self.has_step_at(culprit.head, 1, step) || self.has_step_at(culprit.call, 1, step)
+            }
+            Why::Calls { start, points }
+            | Why::Stuck { start, points }
+            | Why::NoList { start, points } => self.has_step_at(start, points, step),
+            _ => false,
+        }
+    }
+
+    /// The place of the clause of a point.
+    pub(crate) fn clause_place(self, place: usize) -> Option<u32> {
+        match self.facts.get(place) {
+            Some(Fact::Point { clause, .. }) => self.listed.places.clause(*clause),
+            _ => None,
+        }
+    }
+
+    /// The predicate of the head of a point's clause.
+    pub(crate) fn head_at(self, place: usize) -> Option<u32> {
+        match self.facts.get(place) {
+            Some(Fact::Point { clause, .. }) => Some(self.listed.table.clause(*clause)?.head),
+            _ => None,
+        }
+    }
+
+    /// The case of a predicate at so many calls of which nothing falls at all.
+    fn case_at(self, start: usize, points: u64) -> Case {
+        let why = self.refuted_case(start, points);
+        let at = match why {
+            Why::OneCall(culprit) => self.point_place(culprit.call),
+            _ => self.point_place(start),
         };
-        Some((
-            self.listed.places.clause(*clause)?,
-            self.point_place(place)?,
-        ))
+        Case { why, at }
     }
 
     /// Why a predicate has no mode.
-    pub(crate) fn case_of(self, pred: u32) -> Case {
+    pub(crate) fn case_of(self, alloc: Global, pred: u32) -> Result<Case, AllocError> {
         let cause = self
             .causes
             .of_component(self.listed.table.component_of(pred));
         let at = self.first_clause(pred);
-        match cause {
-            Cause::Refuted { start, points } => Case {
-                why: self.refuted_case(start, points),
-                at: self.point_place(start),
-            },
-            Cause::Large(positions) => Case {
-                why: Why::Large(positions),
-                at,
-            },
-            Cause::Blown => Case {
-                why: Why::Blown,
-                at,
-            },
-            Cause::Measure => self.unmet_case(pred, true),
-            Cause::None => self.unmet_case(pred, false),
-        }
+        let why = match cause {
+            Cause::Refuted { start, points } => return Ok(self.case_at(start, points)),
+            Cause::Large(positions) => Why::Large(positions),
+            Cause::Blown => Why::Blown,
+            Cause::Measure => return self.unmet_case(alloc, pred, true),
+            Cause::None => return self.unmet_case(alloc, pred, false),
+        };
+        Ok(Case { why, at })
     }
 }

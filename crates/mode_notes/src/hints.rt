@@ -1,6 +1,7 @@
 //! What may help where nothing gets smaller.
 
 use crate::finding_causes::{View, Why};
+use crate::listed::Step;
 use crate::showing::Source;
 use certificate::CertNorm;
 
@@ -10,30 +11,31 @@ const COUNTER: &str = "; integers have size 0, so that no counter gets smaller";
 /// What is said where lists may get shorter and their elements larger.
 const SHORTER: &str = "; `cti infer --norm list` may help where a list gets shorter";
 
-/// Whether a list with a rest stands in a clause before the call of a point.
-fn takes_list(source: Source<'_, '_, '_>, view: View<'_, '_, '_>, start: usize) -> bool {
-    match view.point_span(start) {
-        Some((clause, call)) => {
+/// Whether a list with a rest stands in a clause before a call, between the points of these facts.
+fn takes_list(
+    source: Source<'_, '_, '_>,
+    view: View<'_, '_, '_>,
+    head: usize,
+    call: usize,
+) -> bool {
+    match (view.clause_place(head), view.point_place(call)) {
+        (Some(clause), Some(call)) => {
             let before = source.text.get(clause as usize..call as usize);
             before.unwrap_or(&[]).contains(&b'|')
         }
-        None => false,
+        _ => false,
     }
 }
 
-/// What may help at so many points, the first of which is this fact.
-fn hint_at(
+/// What may help where a list with a rest stands before the call of a point, in a clause of another one.
+fn list_hint(
     source: Source<'_, '_, '_>,
     view: View<'_, '_, '_>,
-    start: usize,
-    points: u64,
+    head: usize,
+    call: usize,
 ) -> &'static str {
-    if view.counts(start, points) {
-        COUNTER
-    } else if view.causes.norm == CertNorm::Term
-        && !view.causes.is_of_lists
-        && takes_list(source, view, start)
-    {
+    let is_of_terms = view.causes.norm == CertNorm::Term && !view.causes.is_of_lists;
+    if is_of_terms && takes_list(source, view, head, call) {
         SHORTER
     } else {
         ""
@@ -46,11 +48,14 @@ pub(crate) fn smaller_hint(
     view: View<'_, '_, '_>,
     why: Why,
 ) -> &'static str {
+    if view.is_behind(why, Step::Computing) {
+        return COUNTER;
+    }
     match why {
-        Why::OneCall { start } => hint_at(source, view, start, 1),
-        Why::Calls { start, points }
-        | Why::Stuck { start, points }
-        | Why::NoList { start, points } => hint_at(source, view, start, points),
+        Why::OneCall(culprit) => list_hint(source, view, culprit.head, culprit.call),
+        Why::Calls { start, .. } | Why::Stuck { start, .. } | Why::NoList { start, .. } => {
+            list_hint(source, view, start, start)
+        }
         _ => "",
     }
 }

@@ -9,9 +9,14 @@
 #![tactic(auto)]
 
 mod cause;
+mod culprit;
 mod expecting;
+mod fact_runs;
 mod finding_causes;
 mod hints;
+mod lacked;
+mod lacking;
+mod lacks_shown;
 mod listed;
 mod lists;
 mod note;
@@ -19,9 +24,13 @@ mod noting;
 mod places;
 mod pred_counts;
 mod reading;
+mod rigid_sets;
 mod showing;
+mod sizing;
 mod table;
 mod telling;
+mod truths;
+mod walk;
 mod wanted;
 
 pub use note::Note;

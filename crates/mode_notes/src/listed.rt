@@ -2,11 +2,12 @@
 
 use crate::places::Places;
 use crate::table::Table;
-use cti_terms::Names;
+use cti_terms::{Clause, Names, Program};
 use warnings::text_of;
 
-/// A program's table, where its clauses stand, and its names.
+/// A program, its table, where its clauses stand, and its names.
 pub(crate) struct Listed {
+    pub(crate) program: Program,
     pub(crate) table: Table,
     pub(crate) places: Places,
     pub(crate) names: Names,
@@ -15,6 +16,7 @@ pub(crate) struct Listed {
 impl Drop for Listed {
     fn drop(self) {
         let Listed {
+            program: _,
             table: _,
             places: _,
             names: _,
@@ -22,7 +24,53 @@ impl Drop for Listed {
     }
 }
 
+/// The predicates of integers, each with two arguments: the one that computes, and the comparisons.
+const STEPS: [&[u8]; 7] = [b"is", b"=:=", b"=\\=", b"<", b"=<", b">", b">="];
+
+/// A step that no clause makes.
+#[derive(Clone, Copy, PartialEq, Eq)]
+pub(crate) enum Step {
+    /// One that computes an integer.
+    Computing,
+    /// One that computes or compares integers. No loop is found behind it.
+    OfIntegers,
+}
+
 impl Listed {
+    /// The clause of a number, which counts from 1.
+    pub(crate) fn clause(&self, number: u32) -> Option<&Clause> {
+        if number >= 1 && number <= self.program.clauses() {
+            Some(self.program.clause(number))
+        } else {
+            None
+        }
+    }
+
+    /// All arguments of a predicate, as a set.
+    pub(crate) fn arguments_of(&self, pred: u32) -> u32 {
+        match self.table.preds.get(pred as usize) {
+            Some(pred) => 1u32.checked_shl(pred.arity).unwrap_or(0).saturating_sub(1),
+            None => 0,
+        }
+    }
+
+    /// Whether a predicate stands for a disjunction of the text.
+    pub(crate) fn is_disjunction(&self, pred: u32) -> bool {
+        self.name_of(pred).starts_with(b"$or")
+    }
+
+    /// Whether a call of a predicate is such a step.
+    pub(crate) fn is_step(&self, pred: u32, step: Step) -> bool {
+        let count = match step {
+            Step::Computing => 1,
+            Step::OfIntegers => STEPS.len(),
+        };
+        STEPS
+            .iter()
+            .take(count)
+            .any(|name| self.is_pred(pred, *name, 2))
+    }
+
     /// The text of a predicate's name.
     pub(crate) fn name_of(&self, pred: u32) -> &[u8] {
         match self.table.preds.get(pred as usize) {

@@ -8,7 +8,7 @@ use std::alloc::{AllocError, Global};
 const BEGINNING: &[u8] = b"ctilex(1).\n";
 
 /// The facts of a certificate of lists that stand in the same form in one of measures, and are looked at.
-const SHARED: [&[u8]; 3] = [b"terminates(", b"none(", b"point("];
+const SHARED: [&[u8]; 4] = [b"terminates(", b"grounds(", b"none(", b"point("];
 
 /// Whether a text is that of a certificate of lists.
 pub(crate) fn is_of_lists(certificate: &[u8]) -> bool {

@@ -5,8 +5,12 @@ use thiserror::Error;
 /// Why a predicate has no mode, as it is said. Predicates stand as `NAME/ARITY` in back quotes, or as a disjunction.
 #[derive(Clone, Copy, Debug, PartialEq, Eq, Error)]
 pub enum Note<'a> {
-    #[error("{0} has no mode: nothing known of its arguments gets smaller from this clause's head to this call")]
-    OneCall(&'a str),
+    #[error("{pred} has no mode: nothing known of {arguments} gets smaller from this clause's head to this call")]
+    OneCall {
+        pred: &'a str,
+        /// Its own ones, or those of another predicate of its group.
+        arguments: &'a str,
+    },
     #[error("{pred} has no mode: no single weighted sum of sizes falls at all of these calls: {places}")]
     Calls {
         pred: &'a str,
@@ -36,18 +40,24 @@ pub enum Note<'a> {
         pred: &'a str,
         callee: &'a str,
     },
-    #[error("{pred} has no mode: {callee} at this call needs {needs} {known}, and no {known} arguments of a query make sure of that")]
+    #[error("{pred} has no mode: {need}, and no {known} arguments of a query make sure of that")]
     Needs {
         pred: &'a str,
-        callee: &'a str,
-        needs: &'a str,
+        need: &'a str,
         known: &'a str,
+    },
+    #[error("{pred} has no mode: {need}, and {lack}")]
+    Lacks {
+        pred: &'a str,
+        need: &'a str,
+        /// The variables that are lacking, and the places of other calls that lack something.
+        lack: &'a str,
     },
     #[error("{pred} has no mode: no {known} arguments of a query are enough for all the calls of its clauses{places}")]
     Unmet {
         pred: &'a str,
         known: &'a str,
-        /// The calls that ask for something, after a colon, or nothing.
+        /// The calls that may lack something, after a colon, or nothing.
         places: &'a str,
     },
     #[error("{0} has no mode: no measure was found")]
@@ -55,10 +65,10 @@ pub enum Note<'a> {
 }
 
 impl Note<'_> {
-    /// What to do, where the sentence about loops does not say it.
+    /// What to do, a sentence about loops or variables aside.
     pub(crate) fn advice(self) -> &'static str {
         match self {
-            Note::OneCall(_) => "give the call something that gets smaller",
+            Note::OneCall { .. } => "give the call something that gets smaller",
             Note::Calls { .. } => {
                 "try `cti lex`, which compares several sums in turn; or let one argument, or one sum of arguments, get smaller at each of them"
             }
@@ -72,7 +82,7 @@ impl Note<'_> {
             Note::Blown(_) | Note::BlownLists(_) =>
                 "split the predicate, or give it fewer arguments",
             Note::Callee { .. } => "the note about that one says why",
-            Note::Needs { .. } | Note::Unmet { .. } => {
+            Note::Needs { .. } | Note::Lacks { .. } | Note::Unmet { .. } => {
                 "call something before it that makes the argument known, or give the clause's head one more argument"
             }
             Note::Unknown(_) => "split the predicate, or give it fewer arguments",

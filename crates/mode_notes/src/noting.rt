@@ -3,9 +3,10 @@
 use crate::cause::Causes;
 use crate::finding_causes::{Case, View, Why};
 use crate::hints::smaller_hint;
+use crate::lacks_shown::{lack_advice, lack_shown, need_shown, unsure_shown};
+use crate::listed::Step;
 use crate::note::Note;
-use crate::showing::{Source, asking_shown, calls_shown, needs_shown};
-use certificate::CertNorm;
+use crate::showing::{Source, calls_shown};
 use messages::{push_excerpt, push_help, push_shown};
 use std::alloc::{AllocError, Global};
 
@@ -30,28 +31,49 @@ fn push_note(
     push_excerpt(message, source.text, place)
 }
 
-/// What to do about a call at which nothing gets smaller. No loop is found behind a step that computes an integer.
+/// The predicate of the clause whose call is to blame, or else the one that the note is about.
+fn blamed_pred(view: View<'_, '_, '_>, pred: u32, why: Why) -> u32 {
+    match why {
+        Why::OneCall(culprit) => view.head_at(culprit.head).unwrap_or(pred),
+        _ => pred,
+    }
+}
+
+/// What may show that calls at which nothing gets smaller go on, besides this advice. No loop is found behind a step of integers.
 fn loop_advice(
     alloc: Global,
     source: Source<'_, '_, '_>,
     pred: u32,
-    computes: bool,
+    advice: &str,
 ) -> Result<String, AllocError> {
-    let query = if computes {
-        None
-    } else {
-        source.query(alloc, pred)?
-    };
-    let Some(query) = query else {
-        return format!(in alloc; "give the call something that gets smaller");
+    let Some(query) = source.query(alloc, pred)? else {
+        return format!(in alloc; "{advice}");
     };
     let file = source.name;
     format!(in alloc;
-        "give the call something that gets smaller; `cti loop {file} '{query}'`, with what you know in the place of variables, may show that it goes on"
+        "{advice}; `cti loop {file} '{query}'`, with what you know in the place of variables, may show that it goes on"
     )
 }
 
-/// Adds what to do about a case, as its note says.
+/// What to do about a case, as its note says.
+fn advice_of(
+    alloc: Global,
+    source: Source<'_, '_, '_>,
+    view: View<'_, '_, '_>,
+    (pred, why): (u32, Why),
+    advice: &str,
+) -> Result<String, AllocError> {
+    match why {
+        Why::OneCall(_) | Why::Calls { .. } | Why::Stuck { .. } | Why::NoList { .. }
+            if !view.is_behind(why, Step::OfIntegers) => {
+            loop_advice(alloc, source, blamed_pred(view, pred, why), advice)
+        }
+        Why::Lacks(call) => lack_advice(alloc, source, view, call, advice),
+        _ => format!(in alloc; "{advice}"),
+    }
+}
+
+/// Adds what to do about a case, and what may help besides.
 fn push_advice(
     alloc: Global,
     message: &mut Vec<u8>,
@@ -62,15 +84,43 @@ fn push_advice(
     push_help(message, &said)
 }
 
-/// What a mode asks of arguments.
-fn known_word(norm: CertNorm) -> &'static str {
-    match norm {
-        CertNorm::Term => "ground",
-        CertNorm::List => "rigid",
+/// The arguments of which none gets smaller.
+fn arguments_shown(
+    alloc: Global,
+    source: Source<'_, '_, '_>,
+    pred: u32,
+    blamed: u32,
+) -> Result<String, AllocError> {
+    if pred == blamed {
+        return format!(in alloc; "its arguments");
+    }
+    let shown = source.shown(alloc, blamed)?;
+    format!(in alloc; "the arguments of {shown}")
+}
+
+/// What a note about calls that lack something says: what one needs, and what it lacks, or which ones they are.
+fn lacking_parts(
+    alloc: Global,
+    source: Source<'_, '_, '_>,
+    view: View<'_, '_, '_>,
+    pred: u32,
+) -> Result<(String, String), AllocError> {
+    let component = view.listed.table.component_of(pred);
+    let found = view.lacking_in(alloc, component)?;
+    match found.lacking.first() {
+        Some(call) => {
+            let need = need_shown(alloc, source, view, call.callee)?;
+            let lack = lack_shown(alloc, source, view, found.lacking.as_slice())?;
+            Ok((need, lack))
+        }
+        None => {
+            let places = unsure_shown(alloc, source, found.unsure.as_slice())?;
+            Ok((String::new(alloc), places))
+        }
     }
 }
 
-/// The predicate that a case speaks of besides, and what is said of calls or arguments.
+/// What a case's note says besides the predicate.
 fn parts_of(
     alloc: Global,
     source: Source<'_, '_, '_>,
@@ -78,20 +128,22 @@ fn parts_of(
     pred: u32,
     why: Why,
 ) -> Result<(String, String), AllocError> {
+    let none = String::new(alloc);
     match why {
-        Why::Callee(callee) => Ok((source.shown(alloc, callee)?, String::new(alloc))),
-        Why::Needs(callee) => {
-            let needs = needs_shown(alloc, view, callee)?;
-            Ok((source.shown(alloc, callee)?, needs))
+        Why::OneCall(_) => {
+            let blamed = blamed_pred(view, pred, why);
+            Ok((arguments_shown(alloc, source, pred, blamed)?, none))
         }
+        Why::Callee(callee) => Ok((source.shown(alloc, callee)?, none)),
+        Why::Needs(callee) => Ok((need_shown(alloc, source, view, callee)?, none)),
         Why::Calls { start, points }
         | Why::Stuck { start, points }
         | Why::NoList { start, points } => {
             let places = calls_shown(alloc, source, view, start, points)?;
-            Ok((String::new(alloc), places))
+            Ok((none, places))
         }
-        Why::Unmet => Ok((String::new(alloc), asking_shown(alloc, source, view, pred)?)),
-        _ => Ok((String::new(alloc), String::new(alloc))),
+        Why::Lacks(_) | Why::Unmet => lacking_parts(alloc, source, view, pred),
+        _ => Ok((none, String::new(alloc))),
     }
 }
 
@@ -100,24 +152,34 @@ fn note_of<'a>(
     why: Why,
     causes: &Causes,
     pred: &'a str,
-    callee: &'a str,
+    named: &'a str,
     said: &'a str,
 ) -> Note<'a> {
-    let known = known_word(causes.norm);
+    let known = causes.known_word();
     match why {
-        Why::OneCall { .. } => Note::OneCall(pred),
+        Why::OneCall(_) => Note::OneCall {
+            pred,
+            arguments: named,
+        },
         Why::Calls { .. } => Note::Calls { pred, places: said },
         Why::Stuck { .. } => Note::Stuck { pred, places: said },
         Why::NoList { .. } => Note::NoList { pred, places: said },
         Why::Large(positions) => Note::Large { pred, positions },
         Why::Blown if causes.is_of_lists => Note::BlownLists(pred),
         Why::Blown => Note::Blown(pred),
-        Why::Callee(_) => Note::Callee { pred, callee },
+        Why::Callee(_) => Note::Callee {
+            pred,
+            callee: named,
+        },
         Why::Needs(_) => Note::Needs {
             pred,
-            callee,
-            needs: said,
+            need: named,
             known,
+        },
+        Why::Lacks(_) => Note::Lacks {
+            pred,
+            need: named,
+            lack: said,
         },
         Why::Unmet => Note::Unmet {
             pred,
@@ -136,19 +198,13 @@ fn push_case(
     view: View<'_, '_, '_>,
     pred: u32,
 ) -> Result<(), AllocError> {
-    let Case { why, at } = view.case_of(pred);
+    let Case { why, at } = view.case_of(alloc, pred)?;
     let shown = source.shown(alloc, pred)?;
-    let (callee, said) = parts_of(alloc, source, view, pred, why)?;
-    let note = note_of(why, view.causes, &shown, &callee, &said);
+    let (named, said) = parts_of(alloc, source, view, pred, why)?;
+    let note = note_of(why, view.causes, &shown, &named, &said);
     push_note(alloc, message, source, at, note)?;
-    let hint = smaller_hint(source, view, why);
-    match why {
-        Why::OneCall { start } => {
-            let advice = loop_advice(alloc, source, pred, view.counts(start, 1))?;
-            push_advice(alloc, message, &advice, hint)
-        }
-        _ => push_advice(alloc, message, note.advice(), hint),
-    }
+    let advice = advice_of(alloc, source, view, (pred, why), note.advice())?;
+    push_advice(alloc, message, &advice, smaller_hint(source, view, why))
 }
 
 /// The notes about the predicates without a mode, one for each component that has one.

@@ -13,10 +13,20 @@ struct ClausePlace {
     count: usize,
 }
 
-/// Where the clauses of a program stand, and their calls. A branch of a disjunction is a clause, as in the program.
+/// The place of a call, and which of the variables' places are its own. Those of a disjunction are its branches'.
+#[derive(Clone, Copy)]
+struct CallPlace {
+    at: u32,
+    start: usize,
+    count: usize,
+}
+
+/// Where the clauses of a program stand, their calls, and the variables of these. A branch of a disjunction is a clause, as in the
+/// program.
 pub(crate) struct Places {
     clauses: Vec<ClausePlace>,
-    calls: Vec<u32>,
+    calls: Vec<CallPlace>,
+    variables: Vec<u32>,
 }
 
 impl Drop for Places {
@@ -24,6 +34,7 @@ impl Drop for Places {
         let Places {
             clauses: _,
             calls: _,
+            variables: _,
         } = self;
     }
 }
@@ -64,6 +75,20 @@ fn push_parts<'a>(
     Ok(())
 }
 
+/// Adds the places of a term's variables, in the order of the text. A text nests at most 1,000 terms.
+fn push_variables(term: &ReadTerm, places: &mut Vec<u32>) -> Result<(), AllocError> {
+    match &term.shape {
+        ReadShape::Var(_) => places.push(term.at)?,
+        ReadShape::Int(_) => {}
+        ReadShape::Fun(_, args) => {
+            for arg in args {
+                push_variables(arg, places)?;
+            }
+        }
+    }
+    Ok(())
+}
+
 impl Places {
     /// The places of the clauses of a text.
     pub(crate) fn of(
@@ -74,6 +99,7 @@ impl Places {
         let mut places = Places {
             clauses: Vec::new(alloc),
             calls: Vec::new(alloc),
+            variables: Vec::new(alloc),
         };
         for clause in clauses {
             if head_of(names, &clause.term).is_some() {
@@ -121,7 +147,7 @@ impl Places {
         let start = self.calls.len();
         for goal in &goals {
             if !is_true(names, goal) {
-                self.calls.push(goal.at)?;
+                self.push_call(names, goal)?;
             }
             if is_joined(names, goal, b";") {
                 push_parts(names, goal, b";", &mut branches)?;
@@ -129,6 +155,21 @@ impl Places {
         }
         push_reversed(&branches, waiting)?;
         self.push_clause(at, start)
+    }
+
+    /// Adds a call, with its variables.
+    fn push_call(&mut self, names: &Names, goal: &ReadTerm) -> Result<(), AllocError> {
+        let start = self.variables.len();
+        if !is_joined(names, goal, b";") {
+            push_variables(goal, &mut self.variables)?;
+        }
+        let count = self.variables.len().saturating_sub(start);
+        self.calls.push(CallPlace {
+            at: goal.at,
+            start,
+            count,
+        })?;
+        Ok(())
     }
 
     /// Adds a clause whose calls' places stand from one of them on.
@@ -144,8 +185,8 @@ impl Places {
         Some(self.clauses.get(place as usize)?.at)
     }
 
-    /// The place of a call of a clause that has so many, where the text agrees. Both numbers count from 1.
-    pub(crate) fn call(&self, number: u32, call: u32, count: usize) -> Option<u32> {
+    /// A call of a clause that has so many, where the text agrees. Both numbers count from 1.
+    fn call_place(&self, number: u32, call: u32, count: usize) -> Option<CallPlace> {
         let place = number.checked_sub(1)?;
         let clause = self.clauses.get(place as usize)?;
         if clause.count != count || call as usize > count {
@@ -153,6 +194,20 @@ impl Places {
         }
         let own = self.calls.get(clause.start..)?;
         own.get(call.checked_sub(1)? as usize).copied()
+    }
+
+    /// The place of a call of a clause that has so many, where the text agrees. Both numbers count from 1.
+    pub(crate) fn call(&self, number: u32, call: u32, count: usize) -> Option<u32> {
+        Some(self.call_place(number, call, count)?.at)
+    }
+
+    /// The places of the variables of such a call, in the order of the text.
+    pub(crate) fn variables(&self, number: u32, call: u32, count: usize) -> &[u32] {
+        let Some(place) = self.call_place(number, call, count) else {
+            return &[];
+        };
+        let rest = self.variables.get(place.start..).unwrap_or(&[]);
+        rest.get(..place.count).unwrap_or(rest)
     }
 }
 

@@ -32,6 +32,7 @@ pub(crate) fn listed_program(alloc: Global, text: &[u8]) -> Result<Option<Listed
     let table = Table::of(alloc, &program)?;
     let places = Places::of(alloc, &names, read.clauses.as_slice())?;
     Ok(Some(Listed {
+        program,
         table,
         places,
         names,

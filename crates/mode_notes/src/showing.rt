@@ -6,7 +6,7 @@ use messages::Place;
 use std::alloc::{AllocError, Global};
 
 /// How many calls are named of those at which nothing falls.
-const MOST_CALLS: u64 = 4;
+pub(crate) const MOST_CALLS: u64 = 4;
 
 /// The most variables of a query that is shown, which are named by letters.
 const MOST_VARIABLES: u32 = 12;
@@ -33,11 +33,6 @@ impl<'n, 'p> Source<'n, '_, 'p> {
         std::str::from_utf8(self.listed.name_of(pred)).unwrap_or("?")
     }
 
-    /// Whether a predicate stands for a disjunction of the text.
-    fn is_disjunction(self, pred: u32) -> bool {
-        self.name_of(pred).starts_with("$or")
-    }
-
     /// How many arguments a predicate has.
     fn arity_of(self, pred: u32) -> u32 {
         match self.listed.table.preds.get(pred as usize) {
@@ -48,7 +43,7 @@ impl<'n, 'p> Source<'n, '_, 'p> {
 
     /// A predicate as it is shown.
     pub(crate) fn shown(self, alloc: Global, pred: u32) -> Result<String, AllocError> {
-        if self.is_disjunction(pred) {
+        if self.listed.is_disjunction(pred) {
             return format!(in alloc; "this disjunction");
         }
         let name = self.name_of(pred);
@@ -111,29 +106,6 @@ pub(crate) fn calls_shown(
         place = place.saturating_add(1);
     }
     if points > count {
-        shown.push_str(", ..")?;
-    }
-    Ok(shown)
-}
-
-/// The places of the calls of a predicate's group that ask for something, after a colon, as lines and columns.
-pub(crate) fn asking_shown(
-    alloc: Global,
-    source: Source<'_, '_, '_>,
-    view: View<'_, '_, '_>,
-    pred: u32,
-) -> Result<String, AllocError> {
-    let places = view.asking_places(alloc, pred)?;
-    let mut shown = String::new(alloc);
-    let most = places.len().min(MOST_CALLS as usize);
-    let mut before = ": ";
-    for at in places.get(..most).unwrap_or(&[]) {
-        let Place { line, column, .. } = source.place(*at);
-        let item = format!(in alloc; "{before}{line}:{column}")?;
-        shown.push_str(&item)?;
-        before = ", ";
-    }
-    if places.len() > most {
         shown.push_str(", ..")?;
     }
     Ok(shown)

@@ -1,0 +1,190 @@
+//! The variables that a call lacks, by their names in the text.
+
+use crate::finding_causes::View;
+use crate::lacking::CallAt;
+use crate::showing::Source;
+use crate::truths::arguments_of;
+use cti_terms::{Atom, Term};
+use std::alloc::{AllocError, Global};
+
+/// How many variables are named at most.
+const MOST_NAMES: u32 = 4;
+
+/// The variables that a call lacks.
+pub(crate) struct Lacked {
+    /// Their names in back quotes, with commas between.
+    pub(crate) names: String,
+    pub(crate) count: u32,
+    /// Whether one of them is an `_`.
+    has_blank: bool,
+    /// Those that have not been named, as a set.
+    left: u64,
+}
+
+impl Drop for Lacked {
+    fn drop(self) {
+        let Lacked {
+            names: _,
+            count: _,
+            has_blank: _,
+            left: _,
+        } = self;
+    }
+}
+
+/// The text of the variable at a place, if one stands there.
+fn variable_at(text: &[u8], at: u32) -> Option<&str> {
+    let rest = text.get(at as usize..).unwrap_or(&[]);
+    let word = rest
+        .split(|byte| !byte.is_ascii_alphanumeric() && *byte != b'_')
+        .next()
+        .unwrap_or(&[]);
+    match word.first() {
+        Some(byte) if byte.is_ascii_uppercase() || *byte == b'_' => std::str::from_utf8(word).ok(),
+        _ => None,
+    }
+}
+
+/// Adds the variables of a term, in the order of the text. A text nests at most 1,000 terms.
+fn push_variables(term: &Term, variables: &mut Vec<u32>) -> Result<(), AllocError> {
+    match term {
+        Term::Var(variable) => variables.push(*variable)?,
+        Term::Int(_) => {}
+        Term::Fun(_, args) => {
+            for arg in args {
+                push_variables(arg, variables)?;
+            }
+        }
+    }
+    Ok(())
+}
+
+/// The variables of an atom, in the order of the text.
+fn variables_of(alloc: Global, atom: &Atom) -> Result<Vec<u32>, AllocError> {
+    let mut variables = Vec::new(alloc);
+    for arg in atom.args.as_slice() {
+        push_variables(arg, &mut variables)?;
+    }
+    Ok(variables)
+}
+
+impl Lacked {
+    /// Whether all of them have a name.
+    pub(crate) fn is_named(&self) -> bool {
+        self.count > 0 && self.left == 0 && !self.has_blank
+    }
+
+    /// Whether a variable has to be named, which is noted then.
+    fn takes(&mut self, variable: u32) -> bool {
+        let set = 1u64.checked_shl(variable).unwrap_or(0);
+        let takes = self.left & set != 0 && self.count < MOST_NAMES;
+        if takes {
+            self.left &= !set;
+        }
+        takes
+    }
+
+    /// Adds a name.
+    fn push(&mut self, name: &str) -> Result<(), AllocError> {
+        if name == "_" {
+            if self.has_blank {
+                return Ok(());
+            }
+            self.has_blank = true;
+        }
+        self.names
+            .push_str(if self.count == 0 { "`" } else { ", `" })?;
+        self.names.push_str(name)?;
+        self.names.push_str("`")?;
+        self.count = self.count.saturating_add(1);
+        Ok(())
+    }
+
+    /// Names the variables of a call that have not been.
+    fn take_call(
+        &mut self,
+        alloc: Global,
+        text: &[u8],
+        atom: &Atom,
+        places: &[u32],
+    ) -> Result<(), AllocError> {
+        let variables = variables_of(alloc, atom)?;
+        if variables.len() != places.len() {
+            return Ok(());
+        }
+        for (variable, at) in variables.iter().zip(places.iter()) {
+            if let Some(name) = variable_at(text, *at)
+                && self.takes(*variable)
+            {
+                self.push(name)?;
+            }
+        }
+        Ok(())
+    }
+}
+
+impl View<'_, '_, '_> {
+    /// The arguments that some mode of a predicate asks for.
+    fn asked_of(self, pred: u32) -> u32 {
+        let mut asked = 0u32;
+        for mode in self.modes_of(pred) {
+            asked |= arguments_of(mode.as_slice());
+        }
+        asked
+    }
+
+    /// The variables of these arguments of an atom that are not among the known ones.
+    fn unknown_in(self, atom: &Atom, arguments: u32, known: u64) -> u64 {
+        let mut variables = 0u64;
+        let mut argument = 0u32;
+        for arg in atom.args.as_slice() {
+            if arguments & 1u32.checked_shl(argument).unwrap_or(0) != 0 {
+                self.sizing().add_rigid(arg, &mut variables);
+            }
+            argument = argument.saturating_add(1);
+        }
+        variables & !known
+    }
+}
+
+/// The variables that a call lacks. Those of a disjunction are named by the other calls of its clause.
+pub(crate) fn lacked_by(
+    alloc: Global,
+    source: Source<'_, '_, '_>,
+    view: View<'_, '_, '_>,
+    call: CallAt,
+) -> Result<Lacked, AllocError> {
+    let mut lacked = Lacked {
+        names: String::new(alloc),
+        count: 0,
+        has_blank: false,
+        left: 0,
+    };
+    let Some(clause) = view.listed.clause(call.clause) else {
+        return Ok(lacked);
+    };
+    let atoms = clause.body.as_slice();
+    let is_disjunction = view.listed.is_disjunction(call.callee);
+    let mut number = 0u32;
+    for atom in atoms {
+        number = number.saturating_add(1);
+        if number == call.call {
+            lacked.left = view.unknown_in(atom, view.asked_of(call.callee), call.known);
+        }
+    }
+    number = 0;
+    for atom in atoms {
+        number = number.saturating_add(1);
+        if number == call.call || is_disjunction {
+            let places = view
+                .listed
+                .places
+                .variables(call.clause, number, atoms.len());
+            lacked.take_call(alloc, source.text, atom, places)?;
+        }
+    }
+    if lacked.left != 0 && lacked.count > 0 {
+        lacked.names.push_str(", ..")?;
+    }
+    Ok(lacked)
+}

@@ -1,0 +1,83 @@
+//! What is known of arguments once calls have succeeded.
+
+use certificate::{CertCell, Fact};
+
+/// The set of one argument, counted from 0. A predicate has at most 12.
+fn only(argument: u32) -> u32 {
+    1u32.checked_shl(argument).unwrap_or(0)
+}
+
+/// The arguments whose variables are all among these.
+pub(crate) fn known_arguments(sets: &[u64], variables: u64) -> u32 {
+    let mut known = 0u32;
+    let mut argument = 0u32;
+    for set in sets {
+        if *set & !variables == 0 {
+            known |= only(argument);
+        }
+        argument = argument.saturating_add(1);
+    }
+    known
+}
+
+/// The variables of these arguments.
+pub(crate) fn variables_of(sets: &[u64], arguments: u32) -> u64 {
+    let mut variables = 0u64;
+    let mut argument = 0u32;
+    for set in sets {
+        if arguments & only(argument) != 0 {
+            variables |= *set;
+        }
+        argument = argument.saturating_add(1);
+    }
+    variables
+}
+
+/// The arguments that a mode, which counts them from 1, names.
+pub(crate) fn arguments_of(mode: &[u32]) -> u32 {
+    let mut arguments = 0u32;
+    for number in mode {
+        arguments |= only(number.saturating_sub(1));
+    }
+    arguments
+}
+
+/// The arguments that have this cell in a cube.
+fn with_cell(cube: &[CertCell], wanted: CertCell) -> u32 {
+    let mut arguments = 0u32;
+    let mut argument = 0u32;
+    for cell in cube {
+        if *cell == wanted {
+            arguments |= only(argument);
+        }
+        argument = argument.saturating_add(1);
+    }
+    arguments
+}
+
+/// The arguments that are known after a call that has these before, by the rows of its predicate, or none where it cannot succeed.
+pub(crate) fn known_after(grounds: &[Fact], before: u32) -> Option<u32> {
+    let mut after = None;
+    for fact in grounds {
+        if let Fact::Grounds { cube, .. } = fact
+            && with_cell(cube.as_slice(), CertCell::Zero) & before == 0
+        {
+            let known = with_cell(cube.as_slice(), CertCell::One) | before;
+            after = Some(after.unwrap_or(u32::MAX) & known);
+        }
+    }
+    after
+}
+
+/// Whether a predicate with these rows may have an answer at which just these arguments are known.
+pub(crate) fn may_have(grounds: &[Fact], known: u32) -> bool {
+    for fact in grounds {
+        if let Fact::Grounds { cube, .. } = fact
+            && with_cell(cube.as_slice(), CertCell::Zero) & known == 0
+            && with_cell(cube.as_slice(), CertCell::One) & !known == 0
+        {
+            return true;
+        }
+    }
+    false
+}
