@@ -7,23 +7,23 @@ use crate::showing::{MOST_CALLS, Source, needs_shown};
 use messages::Place;
 use std::alloc::{AllocError, Global};
 
-/// The places of these calls, as lines and columns, at most so many.
+/// The places of the first of these calls, as lines and columns.
 fn places_shown(
     alloc: Global,
     source: Source<'_, '_, '_>,
     calls: &[CallAt],
 ) -> Result<String, AllocError> {
     let mut shown = String::new(alloc);
-    let mut before = "";
-    for call in calls.iter().take(MOST_CALLS as usize) {
+    let most = calls.len().min(MOST_CALLS as usize);
+    for call in calls.get(..most).unwrap_or(&[]) {
         if let Some(at) = call.at {
             let Place { line, column, .. } = source.place(at);
+            let before = if shown.is_empty() { "" } else { ", " };
             let item = format!(in alloc; "{before}{line}:{column}")?;
             shown.push_str(&item)?;
-            before = ", ";
         }
     }
-    if calls.len() > MOST_CALLS as usize {
+    if calls.len() > most {
         shown.push_str(", ..")?;
     }
     Ok(shown)
