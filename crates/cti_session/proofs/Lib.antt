@@ -1,0 +1,6 @@
+mod Clauses
+mod Later
+mod Lists
+mod ModeFacts
+mod NodeLemmas
+mod Staying

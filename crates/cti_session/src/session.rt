@@ -1,0 +1,216 @@
+//! Sessions.
+
+ghost use Rattle.std.specs.Prelude.{◌≡◌, ◌≤◌, ◌<◌, ◌+◌, ◌-◌, ◌^◌, ◌++◌, ◌∷◌, [], ℕ, List, suc, Some, None};
+ghost use Rattle.std.specs.Prelude.{IfOk, OnOk, OnErr, MatchResult, length, slice_get};
+ghost use Rattle.std.specs.List.{insert as inserted, remove as removed};
+ghost use Rattle.cert_structure.specs.Order.{pred_text};
+ghost use Rattle.certificate.specs.declared.fact.Fact.TheVariants.{Terminates};
+ghost use Rattle.clause_normal.specs.Definite.{added_fault};
+ghost use Rattle.clause_normal.specs.Numbering.{operation_texts};
+ghost use Rattle.prolog_reader.specs.Fit.{IsFit};
+ghost use Rattle.prolog_reader.specs.Names.{Extends};
+ghost use Rattle.prolog_reader.specs.Naming.{with_names};
+ghost use Rattle.prolog_terms.specs.Clauses.{nodes};
+ghost use Rattle.prolog_terms.specs.Terms.{clause_of, tree_of};
+ghost use Rattle.cti_session.specs.Faults.{IfNorm};
+ghost use Rattle.cti_session.specs.Session.{HasProgram, IsSession, nodes_in};
+
+use crate::counting::term_nodes;
+use crate::edit::{EditClause, EditFault};
+use crate::inferring::{Inferred, infer_clauses, infer_with, infer_without};
+use certificate::{Certificate, Fact};
+use clause_normal::check_added;
+use cti_terms::{Names, PredId, Program};
+use prolog_terms::ReadClause;
+use sequences::Sequence;
+use std::alloc::{AllocError, Global};
+use std::marker::Model;
+
+/// A program whose clauses come and go, with its certificate.
+///
+/// Contracts see the clauses, their program and its certificate. The names are the caller's, who may add to them
+/// between edits: the law `sessions_stay` says that the session stays one. Clauses count from 1.
+pub struct Session {
+    clauses: Vec<ReadClause>,
+    nodes: u32,
+    inferred: Inferred,
+}
+
+impl Drop for Session {
+    fn drop(self) {
+        let Session {
+            clauses: _,
+            nodes: _,
+            inferred: _,
+        } = self;
+    }
+}
+
+impl Model for Session {
+    ghost use Rattle.cti_session.specs.Session.{Snapshot};
+    ghost use Rattle.cti_session.specs.SnapshotCode.{coded_snapshot};
+
+    ghost Value = { Snapshot };
+
+    ghost coded = { coded_snapshot };
+
+    ghost use Rattle.cti_session.specs.Inferring.{snapshot, IsKept};
+
+    ghost view = { λ s. snapshot s.clauses.items s.inferred };
+
+    // It is a session for some names, those of the last edit.
+    ghost invariant = { λ s. IsKept s.nodes (snapshot s.clauses.items s.inferred) };
+}
+
+impl Session {
+    /// A session without clauses.
+    ///
+    /// The names of arithmetic operations are added, and later edits add none.
+    pub fn new(alloc: Global, names: &mut Names) -> Result<Session, AllocError>
+        requires room { length names.old < 2 ^ 32 - 3 }
+        ensures clauses { IfOk result (λ s. s.clauses ≡ []) }
+        ensures session { IfOk result (IsSession names.new) }
+        ensures names { OnOk result (names.new ≡ with_names names.old operation_texts) }
+        ensures kept { Extends names.old names.new }
+    {
+        let clauses = Vec::new(alloc);
+        let inferred = infer_clauses(alloc, clauses.as_slice(), names)?;
+        Ok(Session {
+            clauses,
+            nodes: 0,
+            inferred,
+        })
+    }
+
+    /// Adds a clause after the others. After an error the session is as before.
+    pub fn add(&mut self, clause: EditClause, names: &mut Names) -> Result<(), EditFault>
+        requires known { HasProgram names.old self.old }
+        requires fit { IsFit (length names.old) (clause_of clause.clause) }
+        requires small { nodes_in self.old.clauses + nodes (tree_of clause.clause.term) ≤ 2097152 }
+        requires room { length names.old < 2 ^ 32 - 3 }
+
+        // The certificate is valid and exact for the program of the clauses.
+        ensures clauses { OnOk result (self.new.clauses ≡ self.old.clauses ++ clause_of clause.clause ∷ []) }
+        ensures session { OnOk result (IsSession names.new self.new) }
+
+        // The clause is refused exactly where it has a fault as the last one, and with the first fault.
+        ensures exact { let fault = added_fault names.old (length self.old.clauses) (clause_of clause.clause) in
+            MatchResult result (λ _. fault ≡ None) (λ e. IfNorm e (λ f. fault ≡ Some f)) }
+        ensures err { OnErr result (self.new ≡ self.old) }
+        ensures names { names.new ≡ names.old }
+    {
+        let at = self.clauses.len();
+        self.put(at, clause, names)
+    }
+
+    /// Puts in a clause, which is then the one of number `k`. After an error the session is as before.
+    pub fn insert(&mut self, k: u32, clause: EditClause, names: &mut Names) -> Result<(), EditFault>
+        requires first { 1 ≤ k }
+        requires last { k ≤ length self.old.clauses + 1 }
+        requires known { HasProgram names.old self.old }
+        requires fit { IsFit (length names.old) (clause_of clause.clause) }
+        requires small { nodes_in self.old.clauses + nodes (tree_of clause.clause.term) ≤ 2097152 }
+        requires room { length names.old < 2 ^ 32 - 3 }
+
+        // The certificate is valid and exact for the program of the clauses.
+        ensures clauses { OnOk result (self.new.clauses ≡ inserted self.old.clauses (k - 1) (clause_of clause.clause)) }
+        ensures session { OnOk result (IsSession names.new self.new) }
+
+        // The clause is refused exactly where it has a fault, wherever it stands, and with the first fault.
+        ensures exact { let fault = added_fault names.old (length self.old.clauses) (clause_of clause.clause) in
+            MatchResult result (λ _. fault ≡ None) (λ e. IfNorm e (λ f. fault ≡ Some f)) }
+        ensures err { OnErr result (self.new ≡ self.old) }
+        ensures names { names.new ≡ names.old }
+    {
+        self.put(k as usize - 1, clause, names)
+    }
+
+    /// Puts in a clause after the first `at` ones.
+    fn put(&mut self, at: usize, clause: EditClause, names: &mut Names) -> Result<(), EditFault>
+        requires at { at ≤ length self.old.clauses }
+        requires known { HasProgram names.old self.old }
+        requires fit { IsFit (length names.old) (clause_of clause.clause) }
+        requires small { nodes_in self.old.clauses + nodes (tree_of clause.clause.term) ≤ 2097152 }
+        requires room { length names.old < 2 ^ 32 - 3 }
+        ensures clauses { OnOk result (self.new.clauses ≡ inserted self.old.clauses at (clause_of clause.clause)) }
+        ensures session { OnOk result (IsSession names.new self.new) }
+        ensures exact { let fault = added_fault names.old (length self.old.clauses) (clause_of clause.clause) in
+            MatchResult result (λ _. fault ≡ None) (λ e. IfNorm e (λ f. fault ≡ Some f)) }
+        ensures err { OnErr result (self.new ≡ self.old) }
+        ensures names { names.new ≡ names.old }
+    {
+        let alloc = *self.clauses.allocator();
+        let clause = clause.clause;
+        check_added(alloc, &clause, names, self.clauses.len())?;
+        let more = term_nodes(alloc, &clause.term)?;
+        let inferred = infer_with(&mut self.clauses, at, clause, names)?;
+        self.inferred = inferred;
+        self.nodes += more;
+        Ok(())
+    }
+
+    /// Takes out the clause of number `k`. After an error the session is as before.
+    pub fn remove(&mut self, k: u32, names: &mut Names) -> Result<(), AllocError>
+        requires first { 1 ≤ k }
+        requires last { k ≤ length self.old.clauses }
+        requires known { HasProgram names.old self.old }
+        requires room { length names.old < 2 ^ 32 - 3 }
+
+        // The certificate is valid and exact for the program of the clauses.
+        ensures clauses { OnOk result (self.new.clauses ≡ removed self.old.clauses (k - 1)) }
+        ensures session { OnOk result (IsSession names.new self.new) }
+        ensures err { OnErr result (self.new ≡ self.old) }
+        ensures names { names.new ≡ names.old }
+    {
+        let alloc = *self.clauses.allocator();
+        let at = k as usize - 1;
+        let fewer = term_nodes(alloc, &self.clauses[at].term)?;
+        let inferred = infer_without(&mut self.clauses, at, names)?;
+        self.inferred = inferred;
+        self.nodes -= fewer;
+        Ok(())
+    }
+
+    /// How many clauses there are, without that of `=`/2.
+    pub fn clauses(&self) -> u32
+        ensures { result ≡ length self.now.clauses }
+    {
+        self.clauses.len() as u32
+    }
+
+    /// How many nodes the terms of the clauses have together.
+    pub fn nodes(&self) -> u32
+        ensures { result ≡ nodes_in self.now.clauses }
+    {
+        self.nodes
+    }
+
+    /// The program of the clauses.
+    pub fn program(&self) -> &Program
+        ensures { result.now ≡ self.now.program }
+    {
+        &self.inferred.program
+    }
+
+    /// The modes of a predicate, as the certificate prints them. It takes no memory.
+    pub fn modes(&self, p: PredId) -> &[Sequence<u32>]
+        requires { p.0 < length self.now.program.preds }
+
+        // After its version a certificate has one fact for each predicate.
+        ensures { (names : List (List ℕ)) → IsSession names self.now
+            → slice_get self.now.certificate.facts (suc p.0)
+            ≡ Some (Terminates (pred_text self.now.program names p.0) result.now) }
+    {
+        match self.inferred.certificate.facts.get(p.0 as usize + 1) {
+            Fact::Terminates { pred: _, modes } => modes.as_slice(),
+            _ => unreachable!(),
+        }
+    }
+
+    /// The certificate of the program. It takes no memory.
+    pub fn certificate(&self) -> &Certificate
+        ensures { result.now ≡ self.now.certificate }
+    {
+        &self.inferred.certificate
+    }
+}
