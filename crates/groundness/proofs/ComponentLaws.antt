@@ -17,10 +17,9 @@ use Rattle.termination_model.proofs.ChainLeaves.{call_is, number_is, placed}
 use Rattle.termination_model.proofs.ChainSieves.{of_all}
 use Rattle.termination_model.proofs.Lists.{by_places, from_places, there}
 use Rattle.groundness.specs.Marks.{HasUser, IsMarked}
-use Rattle.groundness.specs.Components.{AddsOnlyNeededIn, HaveStartRows, IsClosedIn, IsLeastOver, KeepsOthers, is_member, over}
-use Rattle.groundness.proofs.BegunLaws.{start_same}
+use Rattle.groundness.specs.Components.{AddsOnlyNeededIn, HasNoRows, HaveStartRows, IsClosedIn, IsLeastOver, KeepsOthers, is_member, over}
 
-number_of : (c : ℕ) (o : Option ℕ) → is_number c o ≡ true → o ≡ Some c
+pub number_of : (c : ℕ) (o : Option ℕ) → is_number c o ≡ true → o ≡ Some c
 number_of c None e = cc
 number_of c (Some d) e = ap Some (eqb-true d c e)
 
@@ -95,10 +94,9 @@ module _ (truth : (ℕ → Bool) → Tree → Bool) (p : Listing) (m : ℕ → B
 
 -- ---- all components
 module _ (truth : (ℕ → Bool) → Tree → Bool) (p : Listing) (comps : Partition) where
-  -- components below c are at their least, above the others; the later ones have the rows of what is built in
+  -- components below c are at their least, above the others
   pub record AreLeastTo (c : ℕ) (family : Family) : Type 0 where
     pub least : (d : ℕ) → d < c → IsLeastOver truth p (is_member comps d) family family
-    pub start : (d : ℕ) → c ≤ d → HaveStartRows p.arithmetic (is_member comps d) family
     pub none : (q : ℕ) (row : List Bool) → component_of comps q ≡ None → IsTrue (family q row) → ⊥
 
 module _ (truth : (ℕ → Bool) → Tree → Bool) (p : Listing) (comps : Partition) (prog : IsProgram p) (are : AreComponents p comps) where
@@ -158,15 +156,13 @@ module _ (truth : (ℕ → Bool) → Tree → Bool) (p : Listing) (comps : Parti
         | inl same ↦ subst (λ (x : ℕ). IsLeastOver truth p (is_member comps x) new new) (sym same) own
         | inr ne ↦ stays d (omega arith)
       ];
-      start = λ d le. start_same p.arithmetic (is_member comps d) old new (λ q is. kept d q (number_of d (component_of comps q) is) (λ f. absurd (omega arith))) (to.start d (omega arith));
       none = λ q row e t. to.none q row e (subst (λ (u : List Bool → Bool). IsTrue (u row)) (others q (ap (is_number c) e)) t);
     }
 
-  pub least_start : (family : Family) → ((m : ℕ → Bool) → HaveStartRows p.arithmetic m family) → ((q : ℕ) (row : List Bool) → IsTrue (family q row) → q < length p.preds) → AreLeastTo truth p comps 0 family
-  least_start family start within = record {
+  pub least_start : (family : Family) → HasNoRows family → AreLeastTo truth p comps 0 family
+  least_start family none = record {
     least = λ d lt. absurd (omega arith);
-    start = λ d le. start (is_member comps d);
-    none = λ q row e t. let at = component_there q (within q row t) in absurd (cc);
+    none = λ q row e t. none q row t;
   }
 
   module _ (family : Family) (all : AreLeastTo truth p comps (length comps.members) family) where

@@ -1,9 +1,9 @@
-pub mod BegunLaws
 pub mod ClauseLaws
 pub mod ComponentLaws
 pub mod Examples
 pub mod MarkLaws
 pub mod MissingLaws
+pub mod NoRows
 pub mod RoundLaws
 pub mod SetLaws
 pub mod StartLaws

@@ -9,7 +9,7 @@ use Rattle.cti_terms.specs.Tree.{Tree}
 use Rattle.termination_model.specs.Grounds.{Family, IsClosedUnder, IsGround, IsInside, truth_row}
 use Rattle.groundness.specs.Marks.{IsApart}
 use Rattle.groundness.specs.Missing.{all_missing}
-use Rattle.truth_rows.specs.Sets.{family_of}
+use Rattle.truth_rows.specs.Sets.{family_of, has_row}
 use Rattle.truth_rows.proofs.CallerLemmas.{family_later}
 use Rattle.termination_model.proofs.Lists.{by_places, from_places}
 use Rattle.groundness.proofs.MissingLaws.{all_missing_kept}
@@ -21,6 +21,10 @@ module _ (preds : List Pred) (T T2 : List Rows) (K : Keeps T T2) (sets : List Di
 
   pub missing_same : (sets' : List Diagram) → sets' ≡ sets → all_missing preds T2 sets' ≡ all_missing preds T sets
   missing_same sets' same = ap (all_missing preds T2) same ∙ all_missing_kept preds T T2 K sets known
+
+  -- a predicate that keeps its diagram keeps its rows
+  pub kept_later : (sets' : List Diagram) (r : ℕ) → slice_get sets' r ≡ slice_get sets r → family_of preds T2 sets' r ≡ family_of preds T sets r
+  kept_later sets' r same = (λ i row. has_row (slice_get preds r) T2 (same i) row) ∙ ap (λ (f : Family). f r) (family_later preds T T2 K sets known)
 
 -- a clause that does not have the predicate whose set grew in its body
 pub still_closed : (truth : (ℕ → Bool) → Tree → Bool) (old new : Family) (q : ℕ) → IsInside old new → ((r : ℕ) → ((r ≡ q) → ⊥) → new r ≡ old r) → (c : Clause) → IsApart c q → IsClosedUnder truth old c → IsClosedUnder truth new c

@@ -2,8 +2,7 @@
 -- The least family, component by component.
 --
 -- To believe: `is_member`, `HasMembersBuiltins`, `IsLeastOver`. To move to termination_model, beside `IsLeast`.
-use Rattle.std.specs.Prelude.{◌≡◌, ℕ, Bool, true, false, if◌then◌else◌, IsTrue, List, [], ◌∷◌, length, slice_get, Some}
-use Rattle.bool_diagrams.specs.declared.diagram.Diagram.{Diagram}
+use Rattle.std.specs.Prelude.{◌≡◌, ℕ, Bool, true, false, if◌then◌else◌, IsTrue, List, [], ◌∷◌, slice_get, Some}
 use Rattle.call_components.specs.Partition.{Partition}
 use Rattle.cti_terms.specs.Arithmetic.{Arithmetic, kind_of}
 use Rattle.cti_terms.specs.Tree.{Tree}
@@ -45,6 +44,10 @@ module _ (truth : (ℕ → Bool) → Tree → Bool) (p : Listing) (is_member : �
   abbrev pub AddsOnlyNeededIn : Family → Family → Type 0
   AddsOnlyNeededIn old new = (other : Family) → IsClosedIn other → IsInside old other → IsInside new other
 
+-- no predicate has rows
+abbrev pub HasNoRows : Family → Type 0
+HasNoRows family = (q : ℕ) (row : List Bool) → IsTrue (family q row) → ⊥
+
 -- predicates that are no members keep their rows
 abbrev pub KeepsOthers : (ℕ → Bool) → Family → Family → Type 0
 KeepsOthers is_member old new = (r : ℕ) → is_member r ≡ false → new r ≡ old r
@@ -53,12 +56,3 @@ KeepsOthers is_member old new = (r : ℕ) → is_member r ≡ false → new r �
 pub record HaveStartRows (ar : Arithmetic) (is_member : ℕ → Bool) (family : Family) : Type 0 where
   pub builtins : HasMembersBuiltins ar is_member family
   pub alone : (other : Family) → HasMembersBuiltins ar is_member other → (q : ℕ) (row : List Bool) → is_member q ≡ true → IsTrue (family q row) → IsTrue (other q row)
-
--- the set that a search in the component begins with: a member's is its first one
-pub record IsBegun (comps : Partition) (c : ℕ) (first below : List Diagram) (q : ℕ) (d : Diagram) : Type 0 where
-  pub member : is_member comps c q ≡ true → slice_get first q ≡ Some d
-  pub other : is_member comps c q ≡ false → slice_get below q ≡ Some d
-
-pub record AreBegun (comps : Partition) (c : ℕ) (first below sets : List Diagram) : Type 0 where
-  pub each : length sets ≡ length below
-  pub at : (q : ℕ) (d : Diagram) → slice_get sets q ≡ Some d → IsBegun comps c first below q d

@@ -6,6 +6,8 @@
 //! The sets are found by marks: each clause that may still give a row has one. Whoever looks for sets by clauses in
 //! another way takes the marks and the lists of clauses from here.
 //!
+//! `solve` finds the sets of all predicates, and `solve_component` those of one component, in a caller's table of sets.
+//!
 //! Depends on `termination_model`, which says what the least family is, and on `truth_rows`, whose sets these are.
 #![tactic(auto)]
 
@@ -13,9 +15,11 @@ mod clause_lists;
 mod clause_rows;
 mod grounds;
 mod marks;
+mod setting;
 mod solving;
 
 pub use clause_lists::{ClauseLists, heads, users};
 pub use grounds::Grounds;
 pub use marks::Marks;
+pub use setting::Setting;
 pub use solving::{solve, solve_component};

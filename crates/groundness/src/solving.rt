@@ -6,20 +6,22 @@ ghost use Rattle.bool_diagrams.specs.Rows.{IsDiagram, Keeps, holds};
 ghost use Rattle.call_components.specs.Partition.{AreComponents};
 ghost use Rattle.cti_terms.specs.Listing.{IsProgram};
 ghost use Rattle.cti_terms.specs.declared.clauses.Clause.{Clause};
-ghost use Rattle.groundness.specs.Components.{AddsOnlyNeededIn, AreBegun, HaveStartRows, IsBegun, IsLeastOver, KeepsOthers, UnmarkedAreClosedIn, is_member};
-ghost use Rattle.groundness.specs.Marks.{AreHeads, AreUsers, HasUser, IsApart, IsMarked, work};
+ghost use Rattle.groundness.specs.Components.{AddsOnlyNeededIn, HaveStartRows, HasNoRows, IsLeastOver, UnmarkedAreClosedIn, is_member};
+ghost use Rattle.groundness.specs.Marks.{HasUser, IsApart, IsMarked, work};
+ghost use Rattle.groundness.specs.Setting.{IsSetting};
 ghost use Rattle.groundness.specs.Missing.{all_missing};
 ghost use Rattle.truth_rows.specs.Sets.{AreSets, family_of};
-ghost use Rattle.groundness.specs.Sets.{AddsOnlyNeeded, AreStarts};
+ghost use Rattle.groundness.specs.Sets.{AddsOnlyNeeded, AreBegun, KeepsOtherSets, set_as};
 ghost use Rattle.termination_model.specs.Grounds.{IsClosedUnder, IsInside, IsLeast};
 
 use crate::clause_lists::{ClauseLists, heads, users};
 use crate::clause_rows::clause_rows;
 use crate::grounds::Grounds;
 use crate::marks::Marks;
+use crate::setting::Setting;
 use bool_diagrams::{Diagram, Table};
 use call_components::Components;
-use cti_terms::{PredId, Program};
+use cti_terms::{Builtin, PredId, Program};
 use std::alloc::{AllocError, Global};
 use term_size::Norm;
 
@@ -40,10 +42,85 @@ pub fn solve<N: Norm>(
 {
     let users = users(alloc, p)?;
     let heads = heads(alloc, p)?;
+    let setting = Setting {
+        program: p,
+        comps,
+        norm,
+        heads: &heads,
+        users: &users,
+    };
     let mut marks = Marks::none(alloc, p.clauses())?;
-    let mut sets = start_sets(alloc, p, table)?;
-    solve_all(p, comps, norm, &users, &heads, table, &mut sets, &mut marks)?;
+    let mut sets = vec![in alloc; table.truth(false); p.preds() as usize]?;
+    solve_all(&setting, &mut marks, table, &mut sets)?;
     Ok(Grounds { sets })
+}
+
+// Puts the sets of all components into their places, which have no rows before.
+fn solve_all<N: Norm>(
+    setting: &Setting<N>,
+    marks: &mut Marks,
+    table: &mut Table,
+    sets: &mut [Diagram],
+) -> Result<(), AllocError>
+    requires setting { IsSetting setting.now }
+    requires marks { length marks.old ≡ length setting.now.program.now.clauses }
+    requires sets { AreSets setting.now.program.now.preds table.old sets.old }
+    requires none { HasNoRows (family_of setting.now.program.now.preds table.old sets.old) }
+    ensures keeps { Keeps table.old table.new }
+    ensures sets { OnOk result (AreSets setting.now.program.now.preds table.new sets.new) }
+    ensures least { OnOk result (IsLeast (N.truth setting.now.norm.now) setting.now.program.now (family_of setting.now.program.now.preds table.new sets.new)) }
+{
+    for c in 0..setting.comps.count() {
+        solve_component(setting, c, marks, table, sets)?;
+    }
+    Ok(())
+}
+
+/// Puts into the places of a component's members their sets: the least ones above those of the predicates that they call.
+///
+/// What the places of members hold before counts nothing, nor which marks there are. The sets of other predicates stay as
+/// they are, diagram for diagram. Out of memory, the table keeps its earlier diagrams.
+pub fn solve_component<N: Norm>(
+    setting: &Setting<N>,
+    c: u32,
+    marks: &mut Marks,
+    table: &mut Table,
+    sets: &mut [Diagram],
+) -> Result<(), AllocError>
+    requires setting { IsSetting setting.now }
+    requires inner { c < length setting.now.comps.now.members }
+    requires marks { length marks.old ≡ length setting.now.program.now.clauses }
+    requires sets { AreSets setting.now.program.now.preds table.old sets.old }
+    ensures keeps { Keeps table.old table.new }
+    ensures marks { OnOk result (length marks.new ≡ length setting.now.program.now.clauses) }
+    ensures sets { OnOk result (AreSets setting.now.program.now.preds table.new sets.new) }
+    ensures others { OnOk result (KeepsOtherSets (is_member setting.now.comps.now c) sets.old sets.new) }
+    ensures least { OnOk result (IsLeastOver (N.truth setting.now.norm.now) setting.now.program.now (is_member setting.now.comps.now c) (family_of setting.now.program.now.preds table.old sets.old) (family_of setting.now.program.now.preds table.new sets.new)) }
+{
+    begin(setting, c, table, sets)?;
+    add_all(setting, c, marks, table, sets)?;
+    Ok(())
+}
+
+// Puts the sets to begin with into the places of a component's members.
+fn begin<N: Norm>(
+    setting: &Setting<N>,
+    c: u32,
+    table: &mut Table,
+    sets: &mut [Diagram],
+) -> Result<(), AllocError>
+    requires setting { IsSetting setting.now }
+    requires inner { c < length setting.now.comps.now.members }
+    requires sets { AreSets setting.now.program.now.preds table.old sets.old }
+    ensures keeps { Keeps table.old table.new }
+    ensures sets { OnOk result (AreSets setting.now.program.now.preds table.new sets.new) }
+    ensures start { OnOk result (HaveStartRows setting.now.program.now.arithmetic (is_member setting.now.comps.now c) (family_of setting.now.program.now.preds table.new sets.new)) }
+    ensures others { OnOk result (KeepsOtherSets (is_member setting.now.comps.now c) sets.old sets.new) }
+{
+    let both = rigid_pair(table)?;
+    let none = table.truth(false);
+    begin_members(setting.program, setting.comps, c, none, both, sets);
+    Ok(())
 }
 
 // The rows of two rigid arguments.
@@ -57,84 +134,59 @@ fn rigid_pair(table: &mut Table) -> Result<Diagram, AllocError>
     table.and(first, second)
 }
 
-// The sets to begin with: that of a built-in predicate has the row of two rigid arguments, and others have none.
-fn start_sets(alloc: Global, p: &Program, table: &mut Table) -> Result<Vec<Diagram>, AllocError>
-    ensures keeps { Keeps table.old table.new }
-    ensures sets { IfOk result (λ sets. AreStarts p.now table.new sets.items) }
-{
-    let _program = p.clauses();
-    let both = rigid_pair(table)?;
-    let none = table.truth(false);
-    let mut sets = Vec::new(alloc);
-    for q in 0..p.preds() {
-        sets.push(match p.builtin(PredId(q)) {
-            Some(_) => both,
-            None => none,
-        })?;
-    }
-    Ok(sets)
-}
-
-// Puts the sets of all components into their places, which have the rows of what is built in before.
-fn solve_all<N: Norm>(
-    p: &Program,
-    comps: &Components,
-    norm: &N,
-    users: &ClauseLists,
-    heads: &ClauseLists,
-    table: &mut Table,
-    sets: &mut [Diagram],
-    marks: &mut Marks,
-) -> Result<(), AllocError>
-    requires program { IsProgram p.now }
-    requires components { AreComponents p.now comps.now }
-    requires sets { AreSets p.now.preds table.old sets.old }
-    requires users { AreUsers p.now users.now }
-    requires heads { AreHeads p.now heads.now }
-    requires each { length marks.old ≡ length p.now.clauses }
-    requires starts { AreStarts p.now table.old sets.old }
-    ensures keeps { Keeps table.old table.new }
-    ensures sets { OnOk result (AreSets p.now.preds table.new sets.new) }
-    ensures least { OnOk result (IsLeast (N.truth norm.now) p.now (family_of p.now.preds table.new sets.new)) }
-{
-    for c in 0..comps.count() {
-        solve_in(p, comps, c, norm, users, heads, table, sets, marks)?;
-    }
-    Ok(())
-}
-
-// Puts the sets of a component's members into their places, which have the rows of what is built in before. Those of other
-// predicates stay.
-//
-// It begins with a mark for each of the component's clauses. It takes a mark away and adds what the clause gives; where that
-// is a new row, the clauses that have the head's predicate in their bodies get marks. It ends without marks.
-fn solve_in<N: Norm>(
+// The same for these two sets: `both` has the row of two rigid arguments, and `none` has none.
+fn begin_members(
     p: &Program,
     comps: &Components,
     c: u32,
-    norm: &N,
-    users: &ClauseLists,
-    heads: &ClauseLists,
-    table: &mut Table,
+    none: Diagram,
+    both: Diagram,
     sets: &mut [Diagram],
-    marks: &mut Marks,
-) -> Result<(), AllocError>
-    requires program { IsProgram p.now }
+)
     requires components { AreComponents p.now comps.now }
     requires inner { c < length comps.now.members }
-    requires sets { AreSets p.now.preds table.old sets.old }
-    requires users { AreUsers p.now users.now }
-    requires heads { AreHeads p.now heads.now }
-    requires each { length marks.old ≡ length p.now.clauses }
-    requires start { HaveStartRows p.now.arithmetic (is_member comps.now c) (family_of p.now.preds table.old sets.old) }
-    ensures keeps { Keeps table.old table.new }
-    ensures sets { OnOk result (AreSets p.now.preds table.new sets.new) }
-    ensures each { OnOk result (length marks.new ≡ length p.now.clauses) }
-    ensures others { OnOk result (KeepsOthers (is_member comps.now c) (family_of p.now.preds table.old sets.old) (family_of p.now.preds table.new sets.new)) }
-    ensures least { OnOk result (IsLeastOver (N.truth norm.now) p.now (is_member comps.now c) (family_of p.now.preds table.old sets.old) (family_of p.now.preds table.new sets.new)) }
+    requires each { length sets.old ≡ length p.now.preds }
+    ensures { AreBegun p.now.arithmetic (is_member comps.now c) none both sets.old sets.new }
 {
-    mark_members(heads, comps.members(c), marks)?;
-    while add_next(p, comps, c, norm, users, table, sets, marks)? {}
+    for member in comps.members(c) {
+        sets[member.0 as usize] = first_set(p.builtin(*member), none, both);
+    }
+}
+
+// The set of a predicate to begin with: that of a built-in one has a row.
+fn first_set(kind: Option<Builtin>, none: Diagram, both: Diagram) -> Diagram
+    ensures { result ≡ set_as none both kind }
+{
+    match kind {
+        Some(_) => both,
+        None => none,
+    }
+}
+
+// Adds rows to the sets of a component's members until they are closed under its clauses. Those of other predicates stay.
+//
+// It begins with a mark for each of the component's clauses. It takes a mark away and adds what the clause gives; where that
+// is a new row, the clauses that have the head's predicate in their bodies get marks. It ends without marks.
+fn add_all<N: Norm>(
+    setting: &Setting<N>,
+    c: u32,
+    marks: &mut Marks,
+    table: &mut Table,
+    sets: &mut [Diagram],
+) -> Result<(), AllocError>
+    requires setting { IsSetting setting.now }
+    requires inner { c < length setting.now.comps.now.members }
+    requires marks { length marks.old ≡ length setting.now.program.now.clauses }
+    requires sets { AreSets setting.now.program.now.preds table.old sets.old }
+    requires start { HaveStartRows setting.now.program.now.arithmetic (is_member setting.now.comps.now c) (family_of setting.now.program.now.preds table.old sets.old) }
+    ensures keeps { Keeps table.old table.new }
+    ensures marks { OnOk result (length marks.new ≡ length setting.now.program.now.clauses) }
+    ensures sets { OnOk result (AreSets setting.now.program.now.preds table.new sets.new) }
+    ensures others { OnOk result (KeepsOtherSets (is_member setting.now.comps.now c) sets.old sets.new) }
+    ensures least { OnOk result (IsLeastOver (N.truth setting.now.norm.now) setting.now.program.now (is_member setting.now.comps.now c) (family_of setting.now.program.now.preds table.old sets.old) (family_of setting.now.program.now.preds table.new sets.new)) }
+{
+    mark_members(setting.heads, setting.comps.members(c), marks)?;
+    while add_next(setting, c, marks, table, sets)? {}
     Ok(())
 }
 
@@ -157,44 +209,39 @@ fn mark_members(
 // Takes the next mark away, adds what its clause gives, if it is one of the component's, and marks the clauses that ask for it.
 // It answers whether there was a mark.
 fn add_next<N: Norm>(
-    p: &Program,
-    comps: &Components,
+    setting: &Setting<N>,
     c: u32,
-    norm: &N,
-    users: &ClauseLists,
+    marks: &mut Marks,
     table: &mut Table,
     sets: &mut [Diagram],
-    marks: &mut Marks,
 ) -> Result<bool, AllocError>
-    requires program { IsProgram p.now }
-    requires placed { length comps.now.of ≡ length p.now.preds }
-    requires sets { AreSets p.now.preds table.old sets.old }
-    requires users { AreUsers p.now users.now }
-    requires each { length marks.old ≡ length p.now.clauses }
-    requires closed { UnmarkedAreClosedIn (N.truth norm.now) p.now (is_member comps.now c) marks.old (family_of p.now.preds table.old sets.old) }
+    requires setting { IsSetting setting.now }
+    requires marks { length marks.old ≡ length setting.now.program.now.clauses }
+    requires sets { AreSets setting.now.program.now.preds table.old sets.old }
+    requires closed { UnmarkedAreClosedIn (N.truth setting.now.norm.now) setting.now.program.now (is_member setting.now.comps.now c) marks.old (family_of setting.now.program.now.preds table.old sets.old) }
     ensures keeps { Keeps table.old table.new }
-    ensures sets { IfOk result (λ more. AreSets p.now.preds table.new sets.new) }
-    ensures needed { IfOk result (λ more. AddsOnlyNeededIn (N.truth norm.now) p.now (is_member comps.now c) (family_of p.now.preds table.old sets.old) (family_of p.now.preds table.new sets.new)) }
-    ensures inside { IfOk result (λ more. IsInside (family_of p.now.preds table.old sets.old) (family_of p.now.preds table.new sets.new)) }
-    ensures others { IfOk result (λ more. KeepsOthers (is_member comps.now c) (family_of p.now.preds table.old sets.old) (family_of p.now.preds table.new sets.new)) }
-    ensures each { IfOk result (λ more. length marks.new ≡ length p.now.clauses) }
-    ensures closed { IfOk result (λ more. UnmarkedAreClosedIn (N.truth norm.now) p.now (is_member comps.now c) marks.new (family_of p.now.preds table.new sets.new)) }
-    ensures less { IfOk result (λ more. more ≡ true → work p.now.preds table.new sets.new marks.new < work p.now.preds table.old sets.old marks.old) }
+    ensures sets { IfOk result (λ more. AreSets setting.now.program.now.preds table.new sets.new) }
+    ensures needed { IfOk result (λ more. AddsOnlyNeededIn (N.truth setting.now.norm.now) setting.now.program.now (is_member setting.now.comps.now c) (family_of setting.now.program.now.preds table.old sets.old) (family_of setting.now.program.now.preds table.new sets.new)) }
+    ensures inside { IfOk result (λ more. IsInside (family_of setting.now.program.now.preds table.old sets.old) (family_of setting.now.program.now.preds table.new sets.new)) }
+    ensures others { IfOk result (λ more. KeepsOtherSets (is_member setting.now.comps.now c) sets.old sets.new) }
+    ensures each { IfOk result (λ more. length marks.new ≡ length setting.now.program.now.clauses) }
+    ensures closed { IfOk result (λ more. UnmarkedAreClosedIn (N.truth setting.now.norm.now) setting.now.program.now (is_member setting.now.comps.now c) marks.new (family_of setting.now.program.now.preds table.new sets.new)) }
+    ensures less { IfOk result (λ more. more ≡ true → work setting.now.program.now.preds table.new sets.new marks.new < work setting.now.program.now.preds table.old sets.old marks.old) }
     ensures done { IfOk result (λ more. more ≡ false → (j : ℕ) → IsMarked marks.new j → ⊥) }
 {
     let Some(k) = marks.take() else {
         return Ok(false);
     };
     let number = k + 1;
-    let head = p.clause(number).head.pred;
-    if comps.of(head) != c {
+    let head = setting.program.clause(number).head.pred;
+    if setting.comps.of(head) != c {
         return Ok(true);
     }
-    let grew = add_rows(p, norm, table, sets, number)?;
+    let grew = add_rows(setting.program, setting.norm, table, sets, number)?;
     if !grew {
         return Ok(true);
     }
-    marks.mark_all(users.of(head))?;
+    marks.mark_all(setting.users.of(head))?;
     Ok(true)
 }
 
@@ -218,7 +265,7 @@ fn add_rows<N: Norm>(
     ensures same { IfOk result (λ grew. grew ≡ false → sets.new ≡ sets.old) }
     ensures inside { IfOk result (λ grew. IsInside (family_of p.now.preds table.old sets.old) (family_of p.now.preds table.new sets.new)) }
     ensures others { IfOk result (λ grew. (c : Clause) → slice_get p.now.clauses (k - 1) ≡ Some c
-        → (r : ℕ) → ((r ≡ c.head.pred.0) → ⊥) → family_of p.now.preds table.new sets.new r ≡ family_of p.now.preds table.old sets.old r) }
+        → (r : ℕ) → ((r ≡ c.head.pred.0) → ⊥) → slice_get sets.new r ≡ slice_get sets.old r) }
     ensures closed { IfOk result (λ grew. (c : Clause) → slice_get p.now.clauses (k - 1) ≡ Some c → (grew ≡ true → IsApart c c.head.pred.0) → IsClosedUnder (N.truth norm.now) (family_of p.now.preds table.new sets.new) c) }
 {
     let clause = p.clause(k);
@@ -230,69 +277,4 @@ fn add_rows<N: Norm>(
     }
     sets[place] = joined;
     Ok(true)
-}
-
-/// Gives the members of a component their sets, in the order of their numbers: the least ones above those of the predicates that
-/// they call, which `below` has.
-///
-/// What `below` has for the members and for later components counts nothing. Out of memory, the table keeps its earlier diagrams.
-pub fn solve_component<N: Norm>(
-    alloc: Global,
-    p: &Program,
-    comps: &Components,
-    c: u32,
-    norm: &N,
-    below: &Grounds,
-    table: &mut Table,
-) -> Result<Grounds, AllocError>
-    requires components { AreComponents p.now comps.now }
-    requires inner { c < length comps.now.members }
-    requires below { AreSets p.now.preds table.old below.now }
-    ensures keeps { Keeps table.old table.new }
-    ensures sets { IfOk result (AreSets p.now.preds table.new) }
-    ensures least { IfOk result (λ g. IsLeastOver (N.truth norm.now) p.now (is_member comps.now c) (family_of p.now.preds table.old below.now) (family_of p.now.preds table.new g)) }
-{
-    let users = users(alloc, p)?;
-    let heads = heads(alloc, p)?;
-    let mut marks = Marks::none(alloc, p.clauses())?;
-    let first = start_sets(alloc, p, table)?;
-    let mut sets = begun(alloc, p, comps, c, &first, below)?;
-    solve_in(
-        p, comps, c, norm, &users, &heads, table, &mut sets, &mut marks,
-    )?;
-    Ok(Grounds { sets })
-}
-
-// The first sets for the members, and those below for other predicates.
-fn begun(
-    alloc: Global,
-    p: &Program,
-    comps: &Components,
-    c: u32,
-    first: &[Diagram],
-    below: &Grounds,
-) -> Result<Vec<Diagram>, AllocError>
-    requires components { AreComponents p.now comps.now }
-    requires first { length first.now ≡ length p.now.preds }
-    requires below { length below.now ≡ length p.now.preds }
-    ensures { IfOk result (λ sets. AreBegun comps.now c first.now below.now sets.items) }
-{
-    let mut sets = Vec::new(alloc);
-    for q in 0..p.preds() {
-        sets.push(begun_at(comps, c, first, below, PredId(q)))?;
-    }
-    Ok(sets)
-}
-
-// The first set for a member, and that below for another predicate.
-fn begun_at(comps: &Components, c: u32, first: &[Diagram], below: &Grounds, q: PredId) -> Diagram
-    requires there { q.0 < length comps.now.of }
-    requires first { q.0 < length first.now }
-    requires below { q.0 < length below.now }
-    ensures { IsBegun comps.now c first.now below.now q.0 result }
-{
-    if comps.of(q) == c {
-        return first[q.0 as usize];
-    }
-    below.of(q)
 }

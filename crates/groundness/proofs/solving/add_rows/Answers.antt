@@ -1,5 +1,6 @@
 use Rattle.std.proofs.Common.{◌≡◌, ap, refl, slice_set, sym, subst, ◌∙◌}
 use Rattle.bool_diagrams.proofs.CallerLemmas.{known_later, keeps_twice}
+use Rattle.call_components.proofs.Lists.{slice_get-set_other}
 use Rattle.cti_terms.specs.declared.clauses.Clause.{Clause}
 use Rattle.termination_model.specs.Grounds.{Family, IsClosedUnder}
 use Rattle.truth_rows.specs.Sets.{family_of}
@@ -8,7 +9,7 @@ use Rattle.termination_model.proofs.Lists.{there}
 use Rattle.truth_rows.proofs.SetLaws.{none, ready, atom_there}
 use Rattle.groundness.specs.Marks.{IsApart}
 use Rattle.groundness.specs.Sets.{AddsOnlyNeeded}
-use Rattle.groundness.proofs.SetLaws.{added_apart, added_closed, added_inside, added_less, added_needed, added_others, added_sets}
+use Rattle.groundness.proofs.SetLaws.{added_apart, added_closed, added_inside, added_less, added_needed, added_sets}
 use Rattle.groundness.proofs.solving.add_rows.Goals as goal
 
 pub clause_rows-requires : goal.clause_rows-requires
@@ -59,10 +60,6 @@ pub returns-then-same-clause-inside : goal.returns-then-same-clause-inside
 returns-then-same-clause-inside g c = λ q row t.
     ap (λ (f : Family). f q row) (family_later c.args.p.now.preds c.args.table.now c.or.new.self (keeps_twice _ _ _ c.clause_rows.ensures.keeps c.or.ensures.keeps) c.args.sets.now c.requires.sets.known) ∙ t
 
-pub returns-then-same-clause-others : goal.returns-then-same-clause-others
-returns-then-same-clause-others g c = λ k at r ne.
-    ap (λ (f : Family). f r) (family_later c.args.p.now.preds c.args.table.now c.or.new.self (keeps_twice _ _ _ c.clause_rows.ensures.keeps c.or.ensures.keeps) c.args.sets.now c.requires.sets.known)
-
 pub returns-clause-inside : goal.returns-clause-inside
 returns-clause-inside g c = added_inside c.args.p.now c.requires.program c.args.table.now c.args.sets.now c.requires.sets (g.N.Norm.truth c.args.norm.now) c.clause_rows.new.table c.or.new.self c.clause_rows.ensures.keeps c.or.ensures.keeps c.clause-clause.result.now c.clause-clause.ensures.sound c.in_ok-given.given c.in_ok-joined.joined c.in_ok-joined.ensures.known c.in_ok-given.ensures.rows c.in_ok-joined.ensures.rows
 
@@ -70,8 +67,7 @@ pub returns-clause-others : goal.returns-clause-others
 returns-clause-others g c = λ k at r ne.
     let f = c.clause-clause.ensures.there in
     let is : k ≡ c.clause-clause.result.now = cc in
-    added_others c.args.p.now c.requires.program c.args.table.now c.args.sets.now c.requires.sets (g.N.Norm.truth c.args.norm.now) c.clause_rows.new.table c.or.new.self c.clause_rows.ensures.keeps c.or.ensures.keeps c.clause-clause.result.now c.clause-clause.ensures.sound c.in_ok-given.given c.in_ok-joined.joined c.in_ok-joined.ensures.known c.in_ok-given.ensures.rows c.in_ok-joined.ensures.rows
-    r (subst (λ (y : Clause). (r ≡ y.head.pred.0) → ⊥) is ne)
+    slice_get-set_other c.args.sets.now c.clause-clause.result.now.head.pred.0 r c.in_ok-joined.joined (subst (λ (y : Clause). (r ≡ y.head.pred.0) → ⊥) is ne)
 
 pub returns-clause-closed : goal.returns-clause-closed
 returns-clause-closed g c = λ k at apart.

@@ -8,7 +8,7 @@ abbrev pub invariant-loop-c : goal.invariant-loop-c
 invariant-loop-c g l =
     record {
       keeps : Keeps l.fn.table l.table;
-      sets : AreSets l.p.preds l.table l.sets;
-      each : length l.marks ≡ length l.p.clauses;
-      least : AreLeastTo (g.N.Norm.truth l.norm) l.p l.comps l.c (family_of l.p.preds l.table l.sets);
+      sets : AreSets l.setting.program.now.preds l.table l.sets;
+      each : length l.marks ≡ length l.setting.program.now.clauses;
+      least : AreLeastTo (g.N.Norm.truth l.setting.norm.now) l.setting.program.now l.setting.comps.now l.c (family_of l.setting.program.now.preds l.table l.sets);
     }
