@@ -1,9 +1,8 @@
 //! What may help where nothing gets smaller.
 
-use crate::finding_causes::{View, Why};
-use crate::listed::Step;
 use crate::showing::Source;
 use certificate::CertNorm;
+use mode_causes::{Step, View, Why};
 
 /// What is said where a counter does not count.
 const COUNTER: &str = "; integers have size 0, so that no counter gets smaller";

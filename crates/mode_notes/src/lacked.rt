@@ -1,10 +1,8 @@
 //! The variables that a call lacks, by their names in the text.
 
-use crate::finding_causes::View;
-use crate::lacking::CallAt;
 use crate::showing::Source;
-use crate::truths::arguments_of;
 use cti_terms::{Atom, Term};
+use mode_causes::{CallAt, View, arguments_of};
 use std::alloc::{AllocError, Global};
 
 /// How many variables are named at most.
@@ -123,28 +121,26 @@ impl Lacked {
     }
 }
 
-impl View<'_, '_, '_> {
-    /// The arguments that some mode of a predicate asks for.
-    fn asked_of(self, pred: u32) -> u32 {
-        let mut asked = 0u32;
-        for mode in self.modes_of(pred) {
-            asked |= arguments_of(mode.as_slice());
-        }
-        asked
+/// The arguments that some mode of a predicate asks for.
+fn asked_of(view: View<'_, '_, '_>, pred: u32) -> u32 {
+    let mut asked = 0u32;
+    for mode in view.modes_of(pred) {
+        asked |= arguments_of(mode.as_slice());
     }
+    asked
+}
 
-    /// The variables of these arguments of an atom that are not among the known ones.
-    fn unknown_in(self, atom: &Atom, arguments: u32, known: u64) -> u64 {
-        let mut variables = 0u64;
-        let mut argument = 0u32;
-        for arg in atom.args.as_slice() {
-            if arguments & 1u32.checked_shl(argument).unwrap_or(0) != 0 {
-                self.sizing().add_rigid(arg, &mut variables);
-            }
-            argument = argument.saturating_add(1);
+/// The variables of these arguments of an atom that are not among the known ones.
+fn unknown_in(view: View<'_, '_, '_>, atom: &Atom, arguments: u32, known: u64) -> u64 {
+    let mut variables = 0u64;
+    let mut argument = 0u32;
+    for arg in atom.args.as_slice() {
+        if arguments & 1u32.checked_shl(argument).unwrap_or(0) != 0 {
+            view.sizing().add_rigid(arg, &mut variables);
         }
-        variables & !known
+        argument = argument.saturating_add(1);
     }
+    variables & !known
 }
 
 /// The variables that a call lacks. Those of a disjunction are named by the other calls of its clause.
@@ -169,7 +165,7 @@ pub(crate) fn lacked_by(
     for atom in atoms {
         number = number.saturating_add(1);
         if number == call.call {
-            lacked.left = view.unknown_in(atom, view.asked_of(call.callee), call.known);
+            lacked.left = unknown_in(view, atom, asked_of(view, call.callee), call.known);
         }
     }
     number = 0;

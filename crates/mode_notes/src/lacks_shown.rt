@@ -1,10 +1,9 @@
 //! What is said of calls that lack something.
 
-use crate::finding_causes::View;
 use crate::lacked::lacked_by;
-use crate::lacking::CallAt;
 use crate::showing::{MOST_CALLS, Source, needs_shown};
 use messages::Place;
+use mode_causes::{CallAt, View};
 use std::alloc::{AllocError, Global};
 
 /// The places of the first of these calls, as lines and columns.

@@ -1,7 +1,6 @@
 //! Certificates of lists of mappings.
 
-use crate::cause::{Cause, Causes};
-use crate::listed::Listed;
+use mode_causes::{Cause, Causes, Listed};
 use std::alloc::{AllocError, Global};
 
 /// How a certificate of lists begins.
@@ -68,19 +67,17 @@ fn pred_of(certificate: &[u8], pred: &[u8]) -> Option<u32> {
     None
 }
 
-impl Causes {
-    /// Takes what the lines of a certificate of lists say that stand in no other.
-    pub(crate) fn take_lists(&mut self, listed: &Listed, certificate: &[u8]) {
-        self.is_of_lists = true;
-        for line in certificate.split(|byte| *byte == b'\n') {
-            if let Some(clause) = dropping_clause(line) {
-                self.note_clause(&listed.table, clause, Cause::Measure);
-            } else if let Some(pred) = blown_text(line)
-                && self.looks()
-            {
-                let found = pred_of(certificate, pred);
-                self.note_found(&listed.table, found, Cause::Blown);
-            }
+/// Takes what the lines of a certificate of lists say that stand in no other.
+pub(crate) fn take_lists(causes: &mut Causes, listed: &Listed, certificate: &[u8]) {
+    causes.is_of_lists = true;
+    for line in certificate.split(|byte| *byte == b'\n') {
+        if let Some(clause) = dropping_clause(line) {
+            causes.note_clause(&listed.table, clause, Cause::Measure);
+        } else if let Some(pred) = blown_text(line)
+            && causes.looks()
+        {
+            let found = pred_of(certificate, pred);
+            causes.note_found(&listed.table, found, Cause::Blown);
         }
     }
 }

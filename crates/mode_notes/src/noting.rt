@@ -1,13 +1,11 @@
 //! The text of the notes.
 
-use crate::cause::Causes;
-use crate::finding_causes::{Case, View, Why};
 use crate::hints::smaller_hint;
 use crate::lacks_shown::{lack_advice, lack_shown, need_shown, unsure_shown};
-use crate::listed::Step;
 use crate::note::Note;
 use crate::showing::{Source, calls_shown};
 use messages::{push_excerpt, push_help, push_shown};
+use mode_causes::{Case, Causes, Step, View, Why};
 use std::alloc::{AllocError, Global};
 
 /// How many notes are written at most.

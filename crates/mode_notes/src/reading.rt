@@ -1,16 +1,12 @@
 //! A program and its certificate, read again.
 
-use crate::cause::Causes;
-use crate::finding_causes::View;
-use crate::listed::Listed;
-use crate::lists::{is_of_lists, shared_lines};
+use crate::lists::{is_of_lists, shared_lines, take_lists};
 use crate::noting::notes;
-use crate::places::Places;
 use crate::showing::Source;
-use crate::table::Table;
 use certificate::Certificate;
 use clause_normal::normal;
 use cti_terms::Names;
+use mode_causes::{Causes, Listed, Places, Table, View};
 use prolog_reader::read_text;
 use std::alloc::{AllocError, Global};
 
@@ -65,7 +61,7 @@ pub(crate) fn notes_of(
     };
     let mut causes = Causes::of(alloc, &listed, &facts)?;
     if is_of_lists(certificate) {
-        causes.take_lists(&listed, certificate);
+        take_lists(&mut causes, &listed, certificate);
     }
     if !causes.are_of(&listed.table) {
         return Ok(Vec::new(alloc));

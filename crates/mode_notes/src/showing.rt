@@ -1,8 +1,7 @@
 //! Predicates, places and arguments as they are shown.
 
-use crate::finding_causes::View;
-use crate::listed::Listed;
 use messages::Place;
+use mode_causes::{Listed, View};
 use std::alloc::{AllocError, Global};
 
 /// How many calls are named of those at which nothing falls.

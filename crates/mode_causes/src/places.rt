@@ -23,7 +23,7 @@ struct CallPlace {
 
 /// Where the clauses of a program stand, their calls, and the variables of these. A branch of a disjunction is a clause, as in the
 /// program.
-pub(crate) struct Places {
+pub struct Places {
     clauses: Vec<ClausePlace>,
     calls: Vec<CallPlace>,
     variables: Vec<u32>,
@@ -91,11 +91,7 @@ fn push_variables(term: &ReadTerm, places: &mut Vec<u32>) -> Result<(), AllocErr
 
 impl Places {
     /// The places of the clauses of a text.
-    pub(crate) fn of(
-        alloc: Global,
-        names: &Names,
-        clauses: &[ReadClause],
-    ) -> Result<Places, AllocError> {
+    pub fn of(alloc: Global, names: &Names, clauses: &[ReadClause]) -> Result<Places, AllocError> {
         let mut places = Places {
             clauses: Vec::new(alloc),
             calls: Vec::new(alloc),
@@ -180,7 +176,7 @@ impl Places {
     }
 
     /// The place of a clause, whose number counts from 1.
-    pub(crate) fn clause(&self, number: u32) -> Option<u32> {
+    pub fn clause(&self, number: u32) -> Option<u32> {
         let place = number.checked_sub(1)?;
         Some(self.clauses.get(place as usize)?.at)
     }
@@ -197,12 +193,12 @@ impl Places {
     }
 
     /// The place of a call of a clause that has so many, where the text agrees. Both numbers count from 1.
-    pub(crate) fn call(&self, number: u32, call: u32, count: usize) -> Option<u32> {
+    pub fn call(&self, number: u32, call: u32, count: usize) -> Option<u32> {
         Some(self.call_place(number, call, count)?.at)
     }
 
     /// The places of the variables of such a call, in the order of the text.
-    pub(crate) fn variables(&self, number: u32, call: u32, count: usize) -> &[u32] {
+    pub fn variables(&self, number: u32, call: u32, count: usize) -> &[u32] {
         let Some(place) = self.call_place(number, call, count) else {
             return &[];
         };

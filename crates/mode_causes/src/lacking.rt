@@ -12,15 +12,15 @@ const MOST_ROUNDS: u32 = 3;
 
 /// A call of a clause, both counted from 1, and the variables that are known there.
 #[derive(Clone, Copy)]
-pub(crate) struct CallAt {
-    pub(crate) clause: u32,
-    pub(crate) call: u32,
-    pub(crate) callee: u32,
-    pub(crate) known: u64,
+pub struct CallAt {
+    pub clause: u32,
+    pub call: u32,
+    pub callee: u32,
+    pub known: u64,
     /// The byte of the text where it stands.
-    pub(crate) at: Option<u32>,
+    pub at: Option<u32>,
     /// The byte of the own call that has to come before, where there is one.
-    pub(crate) after: Option<u32>,
+    pub after: Option<u32>,
 }
 
 /// The arguments that are known at an own call.
@@ -32,11 +32,11 @@ struct Weaker {
 }
 
 /// What was found of the calls of a component, where all arguments of its heads are known.
-pub(crate) struct Found {
+pub struct Found {
     /// The calls that surely lack something.
-    pub(crate) lacking: Vec<CallAt>,
+    pub lacking: Vec<CallAt>,
     /// Those that may lack something.
-    pub(crate) unsure: Vec<CallAt>,
+    pub unsure: Vec<CallAt>,
     /// By predicate, the own call of it at which the fewest arguments are known.
     weaker: Vec<Option<Weaker>>,
 }
@@ -216,7 +216,7 @@ impl View<'_, '_, '_> {
     }
 
     /// The calls of a component that lack something. Behind its own calls they are looked for only where there are none else.
-    pub(crate) fn lacking_in(self, alloc: Global, component: u32) -> Result<Found, AllocError> {
+    pub fn lacking_in(self, alloc: Global, component: u32) -> Result<Found, AllocError> {
         let mut found = Found::new(alloc, self.listed.table.preds.len())?;
         self.go_from_all(alloc, component, &mut found)?;
         for _ in 0..MOST_ROUNDS {

@@ -8,7 +8,7 @@ fn only(argument: u32) -> u32 {
 }
 
 /// The arguments whose variables are all among these.
-pub(crate) fn known_arguments(sets: &[u64], variables: u64) -> u32 {
+pub fn known_arguments(sets: &[u64], variables: u64) -> u32 {
     let mut known = 0u32;
     let mut argument = 0u32;
     for set in sets {
@@ -21,7 +21,7 @@ pub(crate) fn known_arguments(sets: &[u64], variables: u64) -> u32 {
 }
 
 /// The variables of these arguments.
-pub(crate) fn variables_of(sets: &[u64], arguments: u32) -> u64 {
+pub fn variables_of(sets: &[u64], arguments: u32) -> u64 {
     let mut variables = 0u64;
     let mut argument = 0u32;
     for set in sets {
@@ -34,7 +34,7 @@ pub(crate) fn variables_of(sets: &[u64], arguments: u32) -> u64 {
 }
 
 /// The arguments that a mode, which counts them from 1, names.
-pub(crate) fn arguments_of(mode: &[u32]) -> u32 {
+pub fn arguments_of(mode: &[u32]) -> u32 {
     let mut arguments = 0u32;
     for number in mode {
         arguments |= only(number.saturating_sub(1));
@@ -56,7 +56,7 @@ fn with_cell(cube: &[CertCell], wanted: CertCell) -> u32 {
 }
 
 /// The arguments that are known after a call that has these before, by the rows of its predicate, or none where it cannot succeed.
-pub(crate) fn known_after(grounds: &[Fact], before: u32) -> Option<u32> {
+pub fn known_after(grounds: &[Fact], before: u32) -> Option<u32> {
     let mut after = None;
     for fact in grounds {
         if let Fact::Grounds { cube, .. } = fact
@@ -70,7 +70,7 @@ pub(crate) fn known_after(grounds: &[Fact], before: u32) -> Option<u32> {
 }
 
 /// Whether a predicate with these rows may have an answer at which just these arguments are known.
-pub(crate) fn may_have(grounds: &[Fact], known: u32) -> bool {
+pub fn may_have(grounds: &[Fact], known: u32) -> bool {
     for fact in grounds {
         if let Fact::Grounds { cube, .. } = fact
             && with_cell(cube.as_slice(), CertCell::Zero) & known == 0

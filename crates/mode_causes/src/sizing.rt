@@ -6,16 +6,16 @@ use warnings::text_of;
 
 /// The norm of a certificate, and the names of its program.
 #[derive(Clone, Copy)]
-pub(crate) struct Sizing<'n> {
-    pub(crate) names: &'n Names,
-    pub(crate) norm: CertNorm,
+pub struct Sizing<'n> {
+    pub names: &'n Names,
+    pub norm: CertNorm,
 }
 
 /// A point: the values of a clause's variables, multiplied by `t`. Where `t` is 0, it is a direction.
 #[derive(Clone, Copy)]
-pub(crate) struct Point<'f> {
-    pub(crate) t: i128,
-    pub(crate) values: &'f [i128],
+pub struct Point<'f> {
+    pub t: i128,
+    pub values: &'f [i128],
 }
 
 /// The set of one variable. Those of a clause are below 64.
@@ -34,7 +34,7 @@ impl Sizing<'_> {
     }
 
     /// Adds the variables that have to be rigid for a term to be. A text nests at most 1,000 terms.
-    pub(crate) fn add_rigid(self, term: &Term, variables: &mut u64) {
+    pub fn add_rigid(self, term: &Term, variables: &mut u64) {
         match term {
             Term::Var(variable) => *variables |= only(*variable),
             Term::Int(_) => {}
@@ -52,7 +52,7 @@ impl Sizing<'_> {
     }
 
     /// The size of a term at a point, where it is no larger than a number can be. A text nests at most 1,000 terms.
-    pub(crate) fn size_at(self, term: &Term, point: Point<'_>) -> Option<i128> {
+    pub fn size_at(self, term: &Term, point: Point<'_>) -> Option<i128> {
         match term {
             Term::Var(variable) => point.values.get(*variable as usize).copied(),
             Term::Int(_) => Some(0),

@@ -18,9 +18,9 @@ const MOST_LEVELS: u32 = 8;
 /// The call at which nothing gets smaller: the fact whose clause has the head, and the one whose clause has the call, which is a branch
 /// of a disjunction of the other where it is not the same.
 #[derive(Clone, Copy)]
-pub(crate) struct Culprit {
-    pub(crate) head: usize,
-    pub(crate) call: usize,
+pub struct Culprit {
+    pub head: usize,
+    pub call: usize,
 }
 
 /// A pair of a refutation.
@@ -201,7 +201,7 @@ impl<'p, 'f> View<'p, '_, 'f> {
     }
 
     /// The first call of so many points, from this fact on, at which nothing gets smaller whatever the measure is.
-    pub(crate) fn culprit(self, start: usize, points: u64) -> Option<Culprit> {
+    pub fn culprit(self, start: usize, points: u64) -> Option<Culprit> {
         let mut place = start;
         let mut left = points.min(MOST_POINTS);
         for fact in self.facts.get(start..).unwrap_or(&[]) {

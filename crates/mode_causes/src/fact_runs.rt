@@ -6,13 +6,13 @@ use std::alloc::{AllocError, Global};
 
 /// The first of a predicate's facts, and how many there are.
 #[derive(Clone, Copy)]
-pub(crate) struct Run {
-    pub(crate) start: usize,
-    pub(crate) count: usize,
+pub struct Run {
+    pub start: usize,
+    pub count: usize,
 }
 
 /// The facts of one kind of each predicate, where they stand in the order of the predicates.
-pub(crate) struct FactRuns {
+pub struct FactRuns {
     runs: Vec<Run>,
     /// The predicate whose facts stand last.
     pred: u32,
@@ -26,7 +26,7 @@ impl Drop for FactRuns {
 
 impl FactRuns {
     /// No facts of so many predicates.
-    pub(crate) fn new(alloc: Global, preds: usize) -> Result<FactRuns, AllocError> {
+    pub fn new(alloc: Global, preds: usize) -> Result<FactRuns, AllocError> {
         Ok(FactRuns {
             runs: vec![in alloc; Run { start: 0, count: 0 }; preds]?,
             pred: 0,
@@ -34,7 +34,7 @@ impl FactRuns {
     }
 
     /// Adds the fact at this place, of a predicate with this text, which is the last one or one after it.
-    pub(crate) fn add(&mut self, listed: &Listed, text: &PredText, place: usize) {
+    pub fn add(&mut self, listed: &Listed, text: &PredText, place: usize) {
         for _ in self.pred as usize..self.runs.len() {
             if listed.is_pred(self.pred, text.name.as_slice(), text.arity) {
                 break;
@@ -50,7 +50,7 @@ impl FactRuns {
     }
 
     /// The facts of a predicate.
-    pub(crate) fn of(&self, pred: u32) -> Run {
+    pub fn of(&self, pred: u32) -> Run {
         match self.runs.get(pred as usize) {
             Some(run) => *run,
             None => Run { start: 0, count: 0 },

@@ -6,15 +6,15 @@ use std::alloc::{AllocError, Global};
 
 /// An atom of a clause: its predicate, and which of the clause's sets are its arguments'.
 #[derive(Clone, Copy)]
-pub(crate) struct AtomSets {
-    pub(crate) pred: u32,
+pub struct AtomSets {
+    pub pred: u32,
     start: usize,
     count: usize,
 }
 
 /// The atoms of a clause, the head first, and for each argument the set of the variables that have to be rigid for it to be.
-pub(crate) struct RigidSets {
-    pub(crate) atoms: Vec<AtomSets>,
+pub struct RigidSets {
+    pub atoms: Vec<AtomSets>,
     sets: Vec<u64>,
 }
 
@@ -26,11 +26,7 @@ impl Drop for RigidSets {
 
 impl RigidSets {
     /// The sets of a clause.
-    pub(crate) fn of(
-        alloc: Global,
-        sizing: Sizing<'_>,
-        clause: &Clause,
-    ) -> Result<RigidSets, AllocError> {
+    pub fn of(alloc: Global, sizing: Sizing<'_>, clause: &Clause) -> Result<RigidSets, AllocError> {
         let mut made = RigidSets {
             atoms: Vec::new(alloc),
             sets: Vec::new(alloc),
@@ -60,13 +56,13 @@ impl RigidSets {
     }
 
     /// The sets of an atom's arguments.
-    pub(crate) fn of_atom(&self, atom: AtomSets) -> &[u64] {
+    pub fn of_atom(&self, atom: AtomSets) -> &[u64] {
         let rest = self.sets.get(atom.start..).unwrap_or(&[]);
         rest.get(..atom.count).unwrap_or(rest)
     }
 
     /// The sets of the arguments of the head.
-    pub(crate) fn of_head(&self) -> &[u64] {
+    pub fn of_head(&self) -> &[u64] {
         match self.atoms.first() {
             Some(head) => self.of_atom(*head),
             None => &[],

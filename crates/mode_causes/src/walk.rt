@@ -8,13 +8,13 @@ use crate::truths::{known_after, known_arguments, may_have, variables_of};
 const MOST_ROUNDS: u32 = 64;
 
 /// A clause before one of its calls.
-pub(crate) struct Walk<'s, 'p, 'c, 'f> {
+pub struct Walk<'s, 'p, 'c, 'f> {
     view: View<'p, 'c, 'f>,
     sets: &'s RigidSets,
     /// The variables that are known.
-    pub(crate) known: u64,
+    pub known: u64,
     /// Whether the calls before may succeed with no other variable known.
-    pub(crate) is_sure: bool,
+    pub is_sure: bool,
 }
 
 impl Drop for Walk<'_, '_, '_, '_> {
@@ -30,7 +30,7 @@ impl Drop for Walk<'_, '_, '_, '_> {
 
 impl<'s, 'p, 'c, 'f> Walk<'s, 'p, 'c, 'f> {
     /// A clause before its first call, where these arguments of the head are known.
-    pub(crate) fn new(
+    pub fn new(
         view: View<'p, 'c, 'f>,
         sets: &'s RigidSets,
         arguments: u32,
@@ -46,7 +46,7 @@ impl<'s, 'p, 'c, 'f> Walk<'s, 'p, 'c, 'f> {
     }
 
     /// The arguments of an atom that are known.
-    pub(crate) fn arguments(&self, atom: AtomSets) -> u32 {
+    pub fn arguments(&self, atom: AtomSets) -> u32 {
         known_arguments(self.sets.of_atom(atom), self.known)
     }
 
@@ -83,7 +83,7 @@ impl<'s, 'p, 'c, 'f> Walk<'s, 'p, 'c, 'f> {
     }
 
     /// Goes behind a call, the last of these.
-    pub(crate) fn pass(&mut self, atom: AtomSets, atoms: &[AtomSets]) {
+    pub fn pass(&mut self, atom: AtomSets, atoms: &[AtomSets]) {
         let before = self.known;
         self.learn(atom);
         if self.known == before {

@@ -6,11 +6,11 @@ use cti_terms::{Clause, Names, Program};
 use warnings::text_of;
 
 /// A program, its table, where its clauses stand, and its names.
-pub(crate) struct Listed {
-    pub(crate) program: Program,
-    pub(crate) table: Table,
-    pub(crate) places: Places,
-    pub(crate) names: Names,
+pub struct Listed {
+    pub program: Program,
+    pub table: Table,
+    pub places: Places,
+    pub names: Names,
 }
 
 impl Drop for Listed {
@@ -29,7 +29,7 @@ const STEPS: [&[u8]; 7] = [b"is", b"=:=", b"=\\=", b"<", b"=<", b">", b">="];
 
 /// A step that no clause makes.
 #[derive(Clone, Copy, PartialEq, Eq)]
-pub(crate) enum Step {
+pub enum Step {
     /// One that computes an integer.
     Computing,
     /// One that computes or compares integers. No loop is found behind it.
@@ -38,7 +38,7 @@ pub(crate) enum Step {
 
 impl Listed {
     /// The clause of a number, which counts from 1.
-    pub(crate) fn clause(&self, number: u32) -> Option<&Clause> {
+    pub fn clause(&self, number: u32) -> Option<&Clause> {
         if number >= 1 && number <= self.program.clauses() {
             Some(self.program.clause(number))
         } else {
@@ -47,7 +47,7 @@ impl Listed {
     }
 
     /// All arguments of a predicate, as a set.
-    pub(crate) fn arguments_of(&self, pred: u32) -> u32 {
+    pub fn arguments_of(&self, pred: u32) -> u32 {
         match self.table.preds.get(pred as usize) {
             Some(pred) => 1u32.checked_shl(pred.arity).unwrap_or(0).saturating_sub(1),
             None => 0,
@@ -55,12 +55,12 @@ impl Listed {
     }
 
     /// Whether a predicate stands for a disjunction of the text.
-    pub(crate) fn is_disjunction(&self, pred: u32) -> bool {
+    pub fn is_disjunction(&self, pred: u32) -> bool {
         self.name_of(pred).starts_with(b"$or")
     }
 
     /// Whether a call of a predicate is such a step.
-    pub(crate) fn is_step(&self, pred: u32, step: Step) -> bool {
+    pub fn is_step(&self, pred: u32, step: Step) -> bool {
         let count = match step {
             Step::Computing => 1,
             Step::OfIntegers => STEPS.len(),
@@ -72,7 +72,7 @@ impl Listed {
     }
 
     /// The text of a predicate's name.
-    pub(crate) fn name_of(&self, pred: u32) -> &[u8] {
+    pub fn name_of(&self, pred: u32) -> &[u8] {
         match self.table.preds.get(pred as usize) {
             Some(pred) => text_of(&self.names, pred.name),
             None => b"?",
@@ -80,7 +80,7 @@ impl Listed {
     }
 
     /// Whether a predicate has this text.
-    pub(crate) fn is_pred(&self, pred: u32, name: &[u8], arity: u32) -> bool {
+    pub fn is_pred(&self, pred: u32, name: &[u8], arity: u32) -> bool {
         match self.table.preds.get(pred as usize) {
             Some(known) => known.arity == arity && text_of(&self.names, known.name) == name,
             None => false,
@@ -88,7 +88,7 @@ impl Listed {
     }
 
     /// The predicate whose text this is, looked for among all.
-    pub(crate) fn pred_of(&self, name: &[u8], arity: u32) -> Option<u32> {
+    pub fn pred_of(&self, name: &[u8], arity: u32) -> Option<u32> {
         let mut number = 0u32;
         for pred in &self.table.preds {
             if pred.arity == arity && text_of(&self.names, pred.name) == name {

@@ -6,18 +6,18 @@ use std::alloc::{AllocError, Global};
 
 /// A clause: its head's predicate, and which of the table's calls are its own.
 #[derive(Clone, Copy)]
-pub(crate) struct ClauseRow {
-    pub(crate) head: u32,
+pub struct ClauseRow {
+    pub head: u32,
     start: usize,
     count: usize,
 }
 
 /// A program: its predicates, its clauses, and which component a predicate is in.
-pub(crate) struct Table {
-    pub(crate) preds: Vec<Pred>,
+pub struct Table {
+    pub preds: Vec<Pred>,
     /// The component of each predicate.
     component: Vec<u32>,
-    pub(crate) clauses: Vec<ClauseRow>,
+    pub clauses: Vec<ClauseRow>,
     /// The predicates of the calls of all clauses.
     calls: Vec<u32>,
     /// Whether each component is recursive.
@@ -38,7 +38,7 @@ impl Drop for Table {
 
 impl Table {
     /// The table of a program.
-    pub(crate) fn of(alloc: Global, program: &Program) -> Result<Table, AllocError> {
+    pub fn of(alloc: Global, program: &Program) -> Result<Table, AllocError> {
         let mut table = Table {
             preds: Vec::new(alloc),
             component: Vec::new(alloc),
@@ -87,23 +87,23 @@ impl Table {
     }
 
     /// Whether a component is recursive.
-    pub(crate) fn is_recursive(&self, component: u32) -> bool {
+    pub fn is_recursive(&self, component: u32) -> bool {
         self.recursive.get(component as usize) == Some(&true)
     }
 
     /// The component of a predicate.
-    pub(crate) fn component_of(&self, pred: u32) -> u32 {
+    pub fn component_of(&self, pred: u32) -> u32 {
         self.component.get(pred as usize).copied().unwrap_or(0)
     }
 
     /// The clause of a number, which counts from 1.
-    pub(crate) fn clause(&self, number: u32) -> Option<ClauseRow> {
+    pub fn clause(&self, number: u32) -> Option<ClauseRow> {
         let place = number.checked_sub(1)?;
         self.clauses.get(place as usize).copied()
     }
 
     /// The predicates of a clause's calls.
-    pub(crate) fn calls_of(&self, clause: ClauseRow) -> &[u32] {
+    pub fn calls_of(&self, clause: ClauseRow) -> &[u32] {
         let rest = self.calls.get(clause.start..).unwrap_or(&[]);
         rest.get(..clause.count).unwrap_or(rest)
     }

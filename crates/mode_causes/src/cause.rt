@@ -8,7 +8,7 @@ use std::alloc::{AllocError, Global};
 
 /// What the facts say of a component.
 #[derive(Clone, Copy, PartialEq, Eq)]
-pub(crate) enum Cause {
+pub enum Cause {
     /// Nothing.
     None,
     /// A measure falls at each recursive call.
@@ -22,14 +22,14 @@ pub(crate) enum Cause {
 }
 
 /// What a certificate says of the predicates and the components of a program.
-pub(crate) struct Causes {
-    pub(crate) norm: CertNorm,
+pub struct Causes {
+    pub norm: CertNorm,
     /// Whether it is a certificate of lists of mappings.
-    pub(crate) is_of_lists: bool,
+    pub is_of_lists: bool,
     /// The place of each predicate's `terminates` among the facts.
     terminates: Vec<usize>,
     /// The truth rows that answers may have.
-    pub(crate) grounds: FactRuns,
+    pub grounds: FactRuns,
     /// By component.
     causes: Vec<Cause>,
     /// How many points the refutation has that the next point begins.
@@ -57,7 +57,7 @@ impl Drop for Causes {
 
 impl Causes {
     /// What the facts say.
-    pub(crate) fn of(
+    pub fn of(
         alloc: Global,
         listed: &Listed,
         certificate: &Certificate,
@@ -115,21 +115,21 @@ impl Causes {
     }
 
     /// Whether one more predicate is looked for by its text.
-    pub(crate) fn looks(&mut self) -> bool {
+    pub fn looks(&mut self) -> bool {
         let looks = self.looked < MOST_LOOKED;
         self.looked = self.looked.saturating_add(1);
         looks
     }
 
     /// Notes what is said of the component of a clause's head.
-    pub(crate) fn note_clause(&mut self, table: &Table, clause: u32, cause: Cause) {
+    pub fn note_clause(&mut self, table: &Table, clause: u32, cause: Cause) {
         if let Some(row) = table.clause(clause) {
             self.note_found(table, Some(row.head), cause);
         }
     }
 
     /// Notes what is said of the component of a predicate, where nothing was said before.
-    pub(crate) fn note_found(&mut self, table: &Table, pred: Option<u32>, cause: Cause) {
+    pub fn note_found(&mut self, table: &Table, pred: Option<u32>, cause: Cause) {
         let Some(pred) = pred else {
             return;
         };
@@ -141,7 +141,7 @@ impl Causes {
     }
 
     /// What a mode asks of arguments.
-    pub(crate) fn known_word(&self) -> &'static str {
+    pub fn known_word(&self) -> &'static str {
         match self.norm {
             CertNorm::Term => "ground",
             CertNorm::List => "rigid",
@@ -149,7 +149,7 @@ impl Causes {
     }
 
     /// What is said of the component of a predicate.
-    pub(crate) fn of_component(&self, component: u32) -> Cause {
+    pub fn of_component(&self, component: u32) -> Cause {
         self.causes
             .get(component as usize)
             .copied()
@@ -157,12 +157,12 @@ impl Causes {
     }
 
     /// Whether each predicate has its modes.
-    pub(crate) fn are_of(&self, table: &Table) -> bool {
+    pub fn are_of(&self, table: &Table) -> bool {
         self.terminates.len() == table.preds.len()
     }
 
     /// The place among the facts of a predicate's `terminates`.
-    pub(crate) fn terminates(&self, pred: u32) -> Option<usize> {
+    pub fn terminates(&self, pred: u32) -> Option<usize> {
         self.terminates.get(pred as usize).copied()
     }
 }

@@ -12,15 +12,15 @@ use std::alloc::{AllocError, Global};
 
 /// A program, where it stands in its text, and what its certificate says.
 #[derive(Clone, Copy)]
-pub(crate) struct View<'p, 'c, 'f> {
-    pub(crate) listed: &'p Listed,
-    pub(crate) causes: &'c Causes,
-    pub(crate) facts: &'f [Fact],
+pub struct View<'p, 'c, 'f> {
+    pub listed: &'p Listed,
+    pub causes: &'c Causes,
+    pub facts: &'f [Fact],
 }
 
 /// Why a predicate has no mode.
 #[derive(Clone, Copy)]
-pub(crate) enum Why {
+pub enum Why {
     /// Nothing falls at one call.
     OneCall(Culprit),
     /// Nothing falls at all of so many calls, the first of which is this fact.
@@ -44,14 +44,14 @@ pub(crate) enum Why {
 
 /// Why a predicate has no mode, and the byte of the text that shows it.
 #[derive(Clone, Copy)]
-pub(crate) struct Case {
-    pub(crate) why: Why,
-    pub(crate) at: Option<u32>,
+pub struct Case {
+    pub why: Why,
+    pub at: Option<u32>,
 }
 
 impl<'p, 'f> View<'p, '_, 'f> {
     /// The norm of the certificate.
-    pub(crate) fn sizing(self) -> Sizing<'p> {
+    pub fn sizing(self) -> Sizing<'p> {
         Sizing {
             names: &self.listed.names,
             norm: self.causes.norm,
@@ -59,14 +59,14 @@ impl<'p, 'f> View<'p, '_, 'f> {
     }
 
     /// The truth rows that answers of a predicate may have.
-    pub(crate) fn grounds(self, pred: u32) -> &'f [Fact] {
+    pub fn grounds(self, pred: u32) -> &'f [Fact] {
         let run = self.causes.grounds.of(pred);
         let rest = self.facts.get(run.start..).unwrap_or(&[]);
         rest.get(..run.count).unwrap_or(rest)
     }
 
     /// The modes of a predicate.
-    pub(crate) fn modes_of(self, pred: u32) -> &'f [Sequence<u32>] {
+    pub fn modes_of(self, pred: u32) -> &'f [Sequence<u32>] {
         let Some(place) = self.causes.terminates(pred) else {
             return &[];
         };
@@ -120,7 +120,7 @@ impl<'p, 'f> View<'p, '_, 'f> {
     }
 
     /// The place of the call of a point.
-    pub(crate) fn point_place(self, place: usize) -> Option<u32> {
+    pub fn point_place(self, place: usize) -> Option<u32> {
         let Some(Fact::Point { clause, call, .. }) = self.facts.get(place) else {
             return None;
         };
@@ -239,7 +239,7 @@ impl<'p, 'f> View<'p, '_, 'f> {
     }
 
     /// Whether the clause of one of the calls that a case speaks of has such a step.
-    pub(crate) fn is_behind(self, why: Why, step: Step) -> bool {
+    pub fn is_behind(self, why: Why, step: Step) -> bool {
         match why {
             Why::OneCall(culprit) => {
                 self.has_step_at(culprit.head, 1, step) || self.has_step_at(culprit.call, 1, step)
@@ -252,7 +252,7 @@ impl<'p, 'f> View<'p, '_, 'f> {
     }
 
     /// The place of the clause of a point.
-    pub(crate) fn clause_place(self, place: usize) -> Option<u32> {
+    pub fn clause_place(self, place: usize) -> Option<u32> {
         match self.facts.get(place) {
             Some(Fact::Point { clause, .. }) => self.listed.places.clause(*clause),
             _ => None,
@@ -260,7 +260,7 @@ impl<'p, 'f> View<'p, '_, 'f> {
     }
 
     /// The predicate of the head of a point's clause.
-    pub(crate) fn head_at(self, place: usize) -> Option<u32> {
+    pub fn head_at(self, place: usize) -> Option<u32> {
         match self.facts.get(place) {
             Some(Fact::Point { clause, .. }) => Some(self.listed.table.clause(*clause)?.head),
             _ => None,
@@ -278,7 +278,7 @@ impl<'p, 'f> View<'p, '_, 'f> {
     }
 
     /// Why a predicate has no mode.
-    pub(crate) fn case_of(self, alloc: Global, pred: u32) -> Result<Case, AllocError> {
+    pub fn case_of(self, alloc: Global, pred: u32) -> Result<Case, AllocError> {
         let cause = self
             .causes
             .of_component(self.listed.table.component_of(pred));

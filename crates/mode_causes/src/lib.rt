@@ -1,0 +1,30 @@
+//! Which call is to blame that a predicate has no mode, from a certificate that was printed and from its program.
+//!
+//! `Causes` are what the facts of a certificate say of each predicate, and `View` finds the cause of one: the calls that a
+//! refutation names, what was given up, or the call that needs what no query gives it.
+//!
+//! It depends on `certificate` for the facts, on `call_components` and `cti_terms` for the program, on `prolog_reader` and
+//! `warnings` for clauses with places, and on `sequences`.
+#![tactic(auto)]
+
+mod cause;
+mod culprit;
+mod fact_runs;
+mod finding_causes;
+mod lacking;
+mod listed;
+mod places;
+mod rigid_sets;
+mod sizing;
+mod table;
+mod truths;
+mod walk;
+
+pub use cause::{Cause, Causes};
+pub use culprit::Culprit;
+pub use finding_causes::{Case, View, Why};
+pub use lacking::CallAt;
+pub use listed::{Listed, Step};
+pub use places::Places;
+pub use table::{ClauseRow, Table};
+pub use truths::arguments_of;
