@@ -50,6 +50,7 @@ fn kinds_of_refusal(rt: HostRuntime) -> Result<(), Fail> {
         (14, "this op directive sets no operator"),
         (15, "the program has more than 16,384 clauses"),
         (16, "this line is not a fact of a certificate"),
+        (18, "this is not an edit that can be done"),
     ] {
         assert!(rt; is_kind(alloc, number, sentence)?, "{number}");
     }

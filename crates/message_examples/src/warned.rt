@@ -15,6 +15,14 @@ fn warnings_about_programs(rt: HostRuntime) -> Result<(), Fail> {
     let alloc = rt.alloc();
     for (text, wanted) in [
         ("p(X) :- q(X).\nq(_).\n", ""),
+        (
+            "cti(1).\nterminates(p/1,[[1]]).\n",
+            "a.pl:1:1: warning: this is a certificate, and it is read as a program of facts
+    cti(1).
+    ^
+  help: a certificate is checked by `cti check FILE CERT`, where FILE has its program
+",
+        ),
         ("p :- true, fail, X = X.\n", ""),
         ("p :- ( false ; q ).\nq :- 2 < 3.\n", ""),
         (

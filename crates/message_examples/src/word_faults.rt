@@ -103,6 +103,7 @@ fn faults_of_words(rt: HostRuntime) -> Result<(), Fail> {
             &["run", "a.pl", "p", "--steps", "1", "--steps", "2"],
             "--steps stands twice",
         ),
+        (&["session"], "`cti session` needs the word FILE"),
         (&["loop"], "`cti loop` needs the word FILE"),
         (&["loop", "a.pl"], "`cti loop` needs the word QUERY"),
         (&["loop", "a.pl", "p", "--depth"], "--depth needs a number"),

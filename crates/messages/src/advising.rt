@@ -10,8 +10,8 @@ use crate::told::Subject;
 use crate::trouble::Trouble;
 use mistakes::{
     FactMistake, FileMistake, Mistake, argument_mistake, beginning_mistake, byte_mistake,
-    goal_mistake, head_mistake, is_certificate, line_mistake, mode_mistake, program_mistake,
-    query_in_file, standing_mistake, variable_mistake,
+    edit_mistake, goal_mistake, head_mistake, is_certificate, line_mistake, mode_mistake,
+    program_mistake, query_in_file, standing_mistake, variable_mistake,
 };
 use std::alloc::{AllocError, Global};
 
@@ -82,6 +82,7 @@ fn refusal_mistake<'a>(
         RefusalKind::BadHead => head_mistake(text, at),
         RefusalKind::Directive => Some(Mistake::File(query_in_file(place.name, text, at)?)),
         RefusalKind::NotAFact => refused_certificate(place, texts),
+        RefusalKind::BadEdit => Some(Mistake::Edit(edit_mistake(text, at)?)),
         _ => None,
     }
 }

@@ -16,6 +16,7 @@ const HELP: &str = "cti finds and checks which queries of a pure logic program e
   cti gen N                       infer a program that is made, of N predicates
   cti lex FILE                    find the modes by lists of measures, where infer has none
   cti loop FILE QUERY --depth D   look for a loop of at most D clauses, usually 8
+  cti session FILE                do the edits of FILE, and tell modes between them
 
 Exit status: 0 done, or the certificate is valid; 1 it is not valid, or no loop was
 found; 2 the words are no command; 3 a text was refused; 4 a file could not be

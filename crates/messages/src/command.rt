@@ -11,6 +11,7 @@ pub enum Command {
     Gen,
     Lex,
     Loop,
+    Session,
 }
 
 impl Command {
@@ -23,6 +24,7 @@ impl Command {
             "gen" => Some(Command::Gen),
             "lex" => Some(Command::Lex),
             "loop" => Some(Command::Loop),
+            "session" => Some(Command::Session),
             _ => None,
         }
     }
@@ -36,6 +38,7 @@ impl Command {
             Command::Gen => "gen",
             Command::Lex => "lex",
             Command::Loop => "loop",
+            Command::Session => "session",
         }
     }
 
@@ -50,7 +53,7 @@ impl Command {
     /// What its second word is, in the usage.
     pub fn second(self) -> Option<&'static str> {
         match self {
-            Command::Infer | Command::Gen | Command::Lex => None,
+            Command::Infer | Command::Gen | Command::Lex | Command::Session => None,
             Command::Check => Some("CERT"),
             Command::Run | Command::Loop => Some("QUERY"),
         }

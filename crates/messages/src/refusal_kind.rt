@@ -37,6 +37,8 @@ pub enum RefusalKind {
     ManyClauses,
     #[error("this line is not a fact of a certificate")]
     NotAFact,
+    #[error("this is not an edit that can be done")]
+    BadEdit,
 }
 
 impl RefusalKind {
@@ -59,6 +61,7 @@ impl RefusalKind {
             14 => RefusalKind::BadOperator,
             15 => RefusalKind::ManyClauses,
             16 => RefusalKind::NotAFact,
+            18 => RefusalKind::BadEdit,
             _ => return None,
         })
     }
@@ -99,6 +102,9 @@ impl RefusalKind {
             }
             RefusalKind::NotAFact => {
                 "each line is a fact, a dot and a newline, without spaces or comments"
+            }
+            RefusalKind::BadEdit => {
+                "an edit is add(Clause), del(Number) or modes(Name/Arity), each with a dot after it"
             }
         }
     }

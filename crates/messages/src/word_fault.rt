@@ -48,7 +48,7 @@ impl WordFault<'_> {
     pub fn advice(self) -> &'static str {
         match self {
             WordFault::NoCommand | WordFault::UnknownCommand(_) | WordFault::FileFirst(_) => {
-                "the commands are infer, check, run, gen, lex and loop"
+                "the commands are infer, check, run, gen, lex, loop and session"
             }
             WordFault::UnknownOption(_) => {
                 "infer has the option --norm, run has --steps and loop has --depth; write -- before a word that begins with -"

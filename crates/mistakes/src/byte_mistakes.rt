@@ -3,7 +3,7 @@
 use thiserror::Error;
 
 /// What is wrong with the bytes of a text, shown as what to do about it.
-#[derive(Clone, Copy, Debug, PartialEq, Eq, Error)]
+#[derive(Clone, Copy, Debug, Error)]
 pub enum ByteMistake {
     #[error("save the file without the byte order mark at its beginning")]
     ByteOrderMark,

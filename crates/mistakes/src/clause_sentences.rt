@@ -3,7 +3,7 @@
 use thiserror::Error;
 
 /// What is wrong with the shape of a clause: its dots, brackets, names and comments, shown as what to do about it.
-#[derive(Clone, Copy, Debug, PartialEq, Eq, Error)]
+#[derive(Clone, Copy, Debug, Error)]
 pub enum ClauseMistake<'a> {
     #[error("does the clause before end with a comma in place of its dot?")]
     CommaForDot,

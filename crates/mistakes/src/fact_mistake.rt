@@ -4,7 +4,7 @@ use crate::mode_numbers::ModeNumbers;
 use thiserror::Error;
 
 /// What is wrong with a line of a certificate, shown as what to do about it.
-#[derive(Clone, Copy, Debug, PartialEq, Eq, Error)]
+#[derive(Clone, Copy, Debug, Error)]
 pub enum FactMistake<'a> {
     #[error("this is a certificate of lists of mappings, as `cti lex` writes it: `cti check` reads those of `cti infer` alone")]
     OfLists,

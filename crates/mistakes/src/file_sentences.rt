@@ -4,7 +4,7 @@ use crate::shell_word::ShellWord;
 use thiserror::Error;
 
 /// What a file has that belongs elsewhere, shown as what to do about it.
-#[derive(Clone, Copy, Debug, PartialEq, Eq, Error)]
+#[derive(Clone, Copy, Debug, Error)]
 pub enum FileMistake<'a> {
     #[error("run it with `cti run {file} {query}`")]
     Query {

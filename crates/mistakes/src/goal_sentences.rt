@@ -3,7 +3,7 @@
 use thiserror::Error;
 
 /// What is wrong with a goal of a clause, shown as what to do about it.
-#[derive(Clone, Copy, Debug, PartialEq, Eq, Error)]
+#[derive(Clone, Copy, Debug, Error)]
 pub enum GoalMistake {
     #[error("a variable as a goal is not read: name the predicate")]
     Variable,

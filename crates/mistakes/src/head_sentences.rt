@@ -3,7 +3,7 @@
 use thiserror::Error;
 
 /// What is wrong with the head of a clause, shown as what to do about it.
-#[derive(Clone, Copy, Debug, PartialEq, Eq, Error)]
+#[derive(Clone, Copy, Debug, Error)]
 pub enum HeadMistake {
     #[error("a head has no comma outside parentheses: does a clause end with a comma in place of its dot?")]
     Comma,

@@ -2,6 +2,7 @@
 
 use crate::byte_mistakes::ByteMistake;
 use crate::clause_sentences::ClauseMistake;
+use crate::edit_mistakes::EditMistake;
 use crate::fact_mistake::FactMistake;
 use crate::file_sentences::FileMistake;
 use crate::goal_sentences::GoalMistake;
@@ -11,7 +12,7 @@ use crate::query_sentences::QueryMistake;
 use thiserror::Error;
 
 /// A mistake that a text shows, by the part of a text that has it. It is shown as what to do about it.
-#[derive(Clone, Copy, Debug, PartialEq, Eq, Error)]
+#[derive(Clone, Copy, Debug, Error)]
 pub enum Mistake<'a> {
     #[error("{0}")]
     Byte(ByteMistake),
@@ -27,6 +28,8 @@ pub enum Mistake<'a> {
     Query(QueryMistake),
     #[error("{0}")]
     File(FileMistake<'a>),
+    #[error("{0}")]
+    Edit(EditMistake),
     #[error("{0}")]
     Fact(FactMistake<'a>),
 }

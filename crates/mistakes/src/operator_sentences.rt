@@ -3,7 +3,7 @@
 use thiserror::Error;
 
 /// What is wrong with an operator, or with what stands in the place of one, shown as what to do about it.
-#[derive(Clone, Copy, Debug, PartialEq, Eq, Error)]
+#[derive(Clone, Copy, Debug, Error)]
 pub enum OperatorMistake<'a> {
     #[error("`:` is no operator here: modules are not read, leave out `{0}:`")]
     Module(&'a str),

@@ -3,7 +3,7 @@
 use thiserror::Error;
 
 /// What is wrong with a query, shown as what to do about it.
-#[derive(Clone, Copy, Debug, PartialEq, Eq, Error)]
+#[derive(Clone, Copy, Debug, Error)]
 pub enum QueryMistake {
     #[error("the query is empty")]
     Empty,

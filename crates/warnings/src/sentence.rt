@@ -5,6 +5,8 @@ use thiserror::Error;
 /// A warning as it is said.
 #[derive(Clone, Copy, Debug, PartialEq, Eq, Error)]
 pub enum Sentence<'a> {
+    #[error("this is a certificate, and it is read as a program of facts")]
+    Certificate,
     #[error("`{name}/{arity}` is called and has no clause: here it always fails, so the modes of `{caller}/{inputs}` and of its callers say nothing of a program that has it")]
     NoClause {
         name: &'a str,

@@ -8,6 +8,7 @@ use crate::sentence::Sentence;
 use crate::warning::Warning;
 use cti_terms::{Name, Names, Pred};
 use messages::{Ending, Place, push_excerpt, push_help, push_shown, text_again};
+use mistakes::is_certificate;
 use prolog_reader::{read_query, read_text};
 use std::alloc::{AllocError, Global};
 use std::rt::Files;
@@ -17,6 +18,10 @@ const MOST_WARNINGS: usize = 20;
 
 /// The most names of a program that leave room for those of a query.
 const MOST_NAMES: u32 = 4_000_000_000;
+
+/// What to do about a certificate that is read as a program.
+const CERTIFICATE_ADVICE: &str =
+    "a certificate is checked by `cti check FILE CERT`, where FILE has its program";
 
 /// The exit statuses of a call that answered.
 const DONE: u8 = 0;
@@ -125,10 +130,7 @@ fn push_warning(
     let place = Place::of(named.name, named.text, warning.at());
     let variables = variables_at(alloc, named.text, places)?;
     let sentence = sentence_of(named.names, warning, &variables, places.len());
-    let head = format!(in alloc; "{place}: warning: {sentence}")?;
-    push_shown(message, head.as_bytes())?;
-    message.push(b'\n')?;
-    push_excerpt(message, named.text, place)?;
+    push_head(alloc, message, named.text, place, sentence)?;
     match advice_of(named.names, warning) {
         Some(advice) => push_help(message, advice),
         None => Ok(()),
@@ -171,8 +173,34 @@ fn push_more(alloc: Global, message: &mut Vec<u8>, count: usize) -> Result<(), A
     message.extend_from_slice(line.as_bytes())
 }
 
+/// Adds the first line of a warning, and the line of the text.
+fn push_head(
+    alloc: Global,
+    message: &mut Vec<u8>,
+    text: &[u8],
+    place: Place<'_>,
+    sentence: Sentence<'_>,
+) -> Result<(), AllocError> {
+    let head = format!(in alloc; "{place}: warning: {sentence}")?;
+    push_shown(message, head.as_bytes())?;
+    message.push(b'\n')?;
+    push_excerpt(message, text, place)
+}
+
+/// The warning about a certificate that is read as a program.
+fn certificate_warning(alloc: Global, name: &str, text: &[u8]) -> Result<Vec<u8>, AllocError> {
+    let mut message = Vec::new(alloc);
+    let place = Place::of(name, text, 0);
+    push_head(alloc, &mut message, text, place, Sentence::Certificate)?;
+    push_help(&mut message, CERTIFICATE_ADVICE)?;
+    Ok(message)
+}
+
 /// The text of the warnings about a program, which is empty where there are none or the text is not a program's.
 pub fn program_warnings(alloc: Global, name: &str, text: &[u8]) -> Result<Vec<u8>, AllocError> {
+    if is_certificate(text) {
+        return certificate_warning(alloc, name, text);
+    }
     let mut names = Names::new(alloc);
     let Ok(read) = read_text(alloc, text, &mut names) else {
         return Ok(Vec::new(alloc));
