@@ -32,6 +32,7 @@ mod words;
 
 pub use definite::{check_added, definite_program};
 pub use fault::{NormFault, NormKind};
+pub use forms::is_silent_goal;
 pub use limits::MOST_TEXT_CLAUSES;
 pub use query::normal_query;
 pub use text_program::normal;

@@ -1,6 +1,9 @@
 mod Clauses
+mod EditLemmas
 mod Later
 mod Lists
 mod ModeFacts
 mod NodeLemmas
+mod PlayLemmas
 mod Staying
+mod ToldLines

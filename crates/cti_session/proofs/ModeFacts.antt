@@ -46,7 +46,7 @@ modes_there names s is q lt =
     let first = v.structured.is ∙ alone parts.norm _ norm.0 (sym v.structured.is ∙ norm.1) in
     record { modes = m.0; at = ap (λ fs. slice_get fs (suc q)) first ∙ get_front (mode_facts s.program names parts.modes) _ q _ own }
 
-some_same : {A : Type 0} (x y : A) → Some x ≡ Some y → x ≡ y
+pub some_same : {A : Type 0} (x y : A) → Some x ≡ Some y → x ≡ y
 some_same x y e = cc
 
 -- the fact at that place

@@ -1,5 +1,10 @@
+pub mod EditViews
+pub mod Edits
+pub mod EditsFaults
 pub mod Faults
 pub mod Inferring
+pub mod Playing
 pub mod Session
 pub mod SnapshotCode
 pub mod Stacks
+pub mod Told

@@ -15,7 +15,7 @@ pub struct EditClause {
 #[derive(Clone, Copy, Debug, PartialEq, Eq, Error)]
 pub enum EditFault {
     /// The clause is refused, at this place.
-    #[error("no clause of a program: {kind:?} at byte {at}")]
+    #[error("the clause is refused, at byte {at}")]
     Norm { kind: NormKind, at: u32 },
     /// Memory ran out.
     #[error("out of memory")]

@@ -12,9 +12,14 @@
 
 mod counting;
 mod edit;
+mod edits;
+mod edits_fault;
 mod inferring;
 pub mod laws;
+mod playing;
 mod session;
 
 pub use edit::{EditClause, EditFault};
+pub use edits_fault::{EditKind, EditsFault};
+pub use playing::play;
 pub use session::Session;

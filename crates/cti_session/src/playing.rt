@@ -1,0 +1,292 @@
+//! The edits of a text, one after another.
+
+ghost use Rattle.std.specs.Prelude.{◌≡◌, ◌≤◌, ◌<◌, ◌+◌, ◌-◌, ◌^◌, ◌++◌, ◌∷◌, [], ℕ, List, suc, Some, Err, true, false, IfOk, IfErr, IfSome, OnOk, length, map, option_map, slice_get};
+ghost use Rattle.certificate.specs.Text.{fact_text};
+ghost use Rattle.certificate.specs.declared.fact.Fact.TheVariants.{Terminates};
+ghost use Rattle.clause_normal.specs.Numbering.{operation_texts};
+ghost use Rattle.prolog_reader.specs.Fit.{AreFit, IsFit};
+ghost use Rattle.prolog_reader.specs.Naming.{with_names};
+ghost use Rattle.prolog_terms.specs.Clauses.{nodes, place};
+ghost use Rattle.prolog_terms.specs.Terms.{clause_of, tree_of};
+ghost use Rattle.cti_session.specs.Edits.{add, done, edit_of, number_in, outcome, predicate_in, remove, tell};
+ghost use Rattle.cti_session.specs.EditsFaults.{IfRefused};
+ghost use Rattle.cti_session.specs.Playing.{AnswersStep, HasModesAt, IsToldAs, IsUnderWay, clauses_in};
+ghost use Rattle.cti_session.specs.Session.{nodes_in};
+ghost use Rattle.cti_session.specs.Told.{IsPlayed};
+
+use crate::edits::{Edit, edit_of};
+use crate::edits_fault::{EditKind, EditsFault};
+use crate::inferring::{Inferred, infer_clauses};
+use cert_structure::copied_modes;
+use certificate::{Certificate, Fact, PredText};
+use clause_normal::check_added;
+use cti_terms::{Name, Names, PredId, Program};
+use prolog_terms::{ReadClause, ReadClauses};
+use sequences::Sequence;
+use std::alloc::{AllocError, Global};
+
+/// The edits of a text under way.
+struct Playing {
+    clauses: Vec<ReadClause>,
+    /// What was inferred last.
+    inferred: Inferred,
+    /// Whether that is of the clauses as they stand.
+    is_current: bool,
+    /// What is printed.
+    lines: Vec<u8>,
+}
+
+impl Drop for Playing {
+    fn drop(self) {
+        let Playing {
+            clauses: _,
+            inferred: _,
+            is_current: _,
+            lines: _,
+        } = self;
+    }
+}
+
+/// The refusal of an edit that cannot be done.
+fn bad_edit<T>(at: u32) -> Result<T, EditsFault>
+    ensures { result ≡ Err (EditsFault.Refused EditKind.BadEdit at) }
+{
+    Err(EditsFault::Refused {
+        kind: EditKind::BadEdit,
+        at,
+    })
+}
+
+/// The place of the clause of this number among so many, where clauses count from 1 and places from 0.
+fn place_in(count: usize, number: i128) -> Option<usize>
+    ensures { option_map (λ at. at + 1) result ≡ number_in count number }
+{
+    if number < 1 || number > count as i128 {
+        return None;
+    }
+    Some(number as usize - 1)
+}
+
+/// The predicate of this name and arity.
+fn predicate_in(program: &Program, name: Name, arity: i128) -> Option<PredId>
+    ensures number { option_map (λ q. q.0) result ≡ predicate_in program.now name.0 arity }
+    ensures there { IfSome result (λ q. q.0 < length program.now.preds) }
+{
+    // So much is known of every program.
+    let _program = program.clauses();
+    match u32::try_from(arity) {
+        Ok(arity) => program.find(name, arity),
+        Err(_) => None,
+    }
+}
+
+/// The predicate and the modes of the fact that has those of a predicate.
+fn modes_of(facts: &[Fact], p: PredId) -> (&PredText, &[Sequence<u32>])
+    requires { HasModesAt facts.now (suc p.0) }
+    ensures { slice_get facts.now (suc p.0) ≡ Some (Terminates result.0.now result.1.now) }
+{
+    match &facts[p.0 as usize + 1] {
+        Fact::Terminates { pred, modes } => (pred, modes.as_slice()),
+        _ => unreachable!(),
+    }
+}
+
+/// A fact of a predicate's modes.
+fn modes_fact(alloc: Global, pred: &PredText, modes: &[Sequence<u32>]) -> Result<Fact, AllocError>
+    ensures { IfOk result (λ fact. fact ≡ Terminates pred.now modes.now) }
+{
+    Ok(Fact::Terminates {
+        pred: PredText {
+            name: pred.name.copy(alloc)?,
+            arity: pred.arity,
+        },
+        modes: copied_modes(alloc, modes)?,
+    })
+}
+
+/// The line of a predicate's modes.
+fn modes_line(
+    alloc: Global,
+    pred: &PredText,
+    modes: &[Sequence<u32>],
+) -> Result<Vec<u8>, AllocError>
+    ensures { IfOk result (λ line. line.items ≡ fact_text (Terminates pred.now modes.now)) }
+{
+    let mut facts = Sequence::new(alloc);
+    facts.push(modes_fact(alloc, pred, modes)?)?;
+    let told = Certificate { facts };
+    told.print(alloc)
+}
+
+impl Playing {
+    /// What is printed.
+    fn into_lines(self) -> Vec<u8>
+        ensures { result ≡ self.lines }
+    {
+        let Playing {
+            clauses: _,
+            inferred: _,
+            is_current: _,
+            lines,
+        } = self;
+        lines
+    }
+
+    /// Puts a clause last.
+    fn push(&mut self, clause: ReadClause) -> Result<(), AllocError>
+        ensures clauses { OnOk result (clauses_in self.new ≡ clauses_in self.old ++ clause_of clause ∷ []) }
+        ensures stale { OnOk result (self.new.is_current ≡ false) }
+        ensures lines { self.new.lines ≡ self.old.lines }
+    {
+        self.clauses.push(clause)?;
+        self.is_current = false;
+        Ok(())
+    }
+
+    /// Adds a clause after the others.
+    fn add(&mut self, clause: ReadClause, names: &Names) -> Result<(), EditsFault>
+        requires under_way { IsUnderWay names.now self.old }
+        requires fit { IsFit (length names.now) (clause_of clause) }
+        requires small { nodes_in (clauses_in self.old) + nodes (tree_of clause.term) ≤ 2097152 }
+        ensures step { (at : ℕ) → AnswersStep names.now self.old self.new (done names.now (clauses_in self.old) at (add (clause_of clause))) result }
+        ensures clauses { OnOk result (clauses_in self.new ≡ clauses_in self.old ++ clause_of clause ∷ []) }
+    {
+        let alloc = *self.clauses.allocator();
+        check_added(alloc, &clause, names, self.clauses.len())?;
+        self.push(clause)?;
+        Ok(())
+    }
+
+    /// Removes the clause of this number.
+    fn remove(&mut self, number: i128, at: u32) -> Result<(), EditsFault>
+        ensures step { (names : List (List ℕ)) → IsUnderWay names self.old
+            → AnswersStep names self.old self.new (done names (clauses_in self.old) at (remove number)) result }
+        ensures fewer { OnOk result (nodes_in (clauses_in self.new) ≤ nodes_in (clauses_in self.old)) }
+    {
+        match place_in(self.clauses.len(), number) {
+            Some(place) => {
+                let _removed = self.clauses.remove(place);
+                self.is_current = false;
+                Ok(())
+            }
+            None => bad_edit(at),
+        }
+    }
+
+    /// Infers the program of the clauses, unless that was done.
+    fn infer(&mut self, names: &mut Names) -> Result<(), AllocError>
+        requires under_way { IsUnderWay names.old self.old }
+        requires room { length names.old < 2 ^ 32 - 3 }
+        ensures names { names.new ≡ names.old }
+        ensures current { OnOk result (self.new.is_current ≡ true) }
+        ensures clauses { self.new.clauses ≡ self.old.clauses }
+        ensures lines { self.new.lines ≡ self.old.lines }
+        ensures under_way { OnOk result (IsUnderWay names.new self.new) }
+    {
+        if !self.is_current {
+            let alloc = *self.clauses.allocator();
+            self.inferred = infer_clauses(alloc, self.clauses.as_slice(), names)?;
+            self.is_current = true;
+        }
+        Ok(())
+    }
+
+    /// Adds the line of a predicate's modes.
+    fn push_line(&mut self, p: PredId) -> Result<(), AllocError>
+        requires { HasModesAt self.old.inferred.certificate.facts (suc p.0) }
+        ensures line { OnOk result (IsToldAs self.old self.new p.0) }
+        ensures others { (self.new.clauses ≡ self.old.clauses) × (self.new.inferred ≡ self.old.inferred) × (self.new.is_current ≡ self.old.is_current) }
+    {
+        let alloc = *self.clauses.allocator();
+        let (pred, modes) = modes_of(self.inferred.certificate.facts.as_slice(), p);
+        let line = modes_line(alloc, pred, modes)?;
+        self.lines.extend_from_slice(&line)
+    }
+
+    /// Tells the modes of the predicate of this name and arity.
+    fn tell(
+        &mut self,
+        name: Name,
+        arity: i128,
+        at: u32,
+        names: &mut Names,
+    ) -> Result<(), EditsFault>
+        requires under_way { IsUnderWay names.old self.old }
+        requires room { length names.old < 2 ^ 32 - 3 }
+        ensures names { names.new ≡ names.old }
+        ensures step { AnswersStep names.old self.old self.new (done names.old (clauses_in self.old) at (tell name.0 arity)) result }
+        ensures clauses { self.new.clauses ≡ self.old.clauses }
+    {
+        self.infer(names)?;
+        match predicate_in(&self.inferred.program, name, arity) {
+            Some(p) => {
+                self.push_line(p)?;
+                Ok(())
+            }
+            None => bad_edit(at),
+        }
+    }
+
+    /// Does the edit that a clause of the text is.
+    fn play(&mut self, clause: ReadClause, names: &mut Names) -> Result<(), EditsFault>
+        requires under_way { IsUnderWay names.old self.old }
+        requires fit { IsFit (length names.old) (clause_of clause) }
+        requires small { nodes_in (clauses_in self.old) + nodes (tree_of clause.term) ≤ 2097152 }
+        requires room { length names.old < 2 ^ 32 - 3 }
+        ensures names { names.new ≡ names.old }
+        ensures step { let e = clause_of clause in
+            AnswersStep names.old self.old self.new (done names.old (clauses_in self.old) (place e.term) (edit_of names.old e)) result }
+        ensures small { OnOk result (nodes_in (clauses_in self.new) ≤ nodes_in (clauses_in self.old) + nodes (tree_of clause.term)) }
+    {
+        let at = clause.term.at;
+        match edit_of(names, clause) {
+            Edit::Nothing => Ok(()),
+            Edit::Add(clause) => self.add(clause, names),
+            Edit::Remove(number) => self.remove(number, at),
+            Edit::Tell(name, arity) => self.tell(name, arity, at, names),
+            Edit::NoEdit => bad_edit(at),
+        }
+    }
+}
+
+/// Does all edits of a text, in order.
+fn play_all(
+    playing: &mut Playing,
+    edits: Vec<ReadClause>,
+    names: &mut Names,
+) -> Result<(), EditsFault>
+    requires begun { IsUnderWay names.old playing.old }
+    requires none { clauses_in playing.old ≡ [] }
+    requires empty { playing.old.lines.items ≡ [] }
+    requires fit { AreFit (length names.old) (map clause_of edits.items) }
+    requires room { length names.old < 2 ^ 32 - 3 }
+    ensures played { OnOk result (IsPlayed names.old (map clause_of edits.items) playing.new.lines.items) }
+    ensures refused { IfErr result (λ e. IfRefused e (λ r. outcome names.old [] (map clause_of edits.items) ≡ Err r)) }
+{
+    for edit in edits {
+        playing.play(edit, names)?;
+    }
+    Ok(())
+}
+
+/// Does the edits of a text, from no clauses on, and gives what is printed: a line for each edit that asks for modes.
+///
+/// The names of arithmetic operations are added. Fails with `Refused` at the first edit that cannot be done, and its place;
+/// that memory runs out only where a growth was refused is said by no clause.
+pub fn play(alloc: Global, edits: ReadClauses, names: &mut Names) -> Result<Vec<u8>, EditsFault>
+    requires fit { AreFit (length names.old) edits }
+    requires room { length names.old < 2 ^ 32 - 6 }
+    ensures played { IfOk result (λ lines. IsPlayed (with_names names.old operation_texts) edits lines.items) }
+    ensures refused { IfErr result (λ e. IfRefused e (λ r. outcome (with_names names.old operation_texts) [] edits ≡ Err r)) }
+{
+    let clauses = Vec::new(alloc);
+    let inferred = infer_clauses(alloc, clauses.as_slice(), names)?;
+    let mut playing = Playing {
+        clauses,
+        inferred,
+        is_current: true,
+        lines: Vec::new(alloc),
+    };
+    play_all(&mut playing, edits.into_vec(), names)?;
+    Ok(playing.into_lines())
+}
