@@ -3,7 +3,7 @@ _cti() {
     local word=${COMP_WORDS[COMP_CWORD]} command=${COMP_WORDS[1]}
     COMPREPLY=()
     if [ "$COMP_CWORD" -eq 1 ]; then
-        mapfile -t COMPREPLY < <(compgen -W "infer check run gen lex loop" -- "$word")
+        mapfile -t COMPREPLY < <(compgen -W "infer check run gen lex loop session" -- "$word")
         return
     fi
     case $command in
@@ -16,7 +16,7 @@ _cti() {
             mapfile -t COMPREPLY < <(compgen -f -- "$word")
         fi
         ;;
-    lex) [ "$COMP_CWORD" -eq 2 ] && mapfile -t COMPREPLY < <(compgen -f -- "$word") ;;
+    lex | session) [ "$COMP_CWORD" -eq 2 ] && mapfile -t COMPREPLY < <(compgen -f -- "$word") ;;
     check) [ "$COMP_CWORD" -le 3 ] && mapfile -t COMPREPLY < <(compgen -f -- "$word") ;;
     run | loop)
         local option=--steps first=2

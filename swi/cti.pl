@@ -8,6 +8,7 @@
             cti_lex/2,                  % +File, -Modes
             cti_loop/3,                 % +File, +Query, -Answer
             cti_loop/4,                 % +File, +Query, -Answer, +Options
+            cti_session/2,              % +Edits, -Modes
             cti_why/2,                  % +File, -Notes
             cti_why/3,                  % +File, -Notes, +Options
             cti_assertions/2,           % +File, -Assertions
@@ -255,6 +256,32 @@ depth_words(Options, ['--depth', Depth]) :-
     !,
     must_be(between(1, 12), Depth).
 depth_words(_, []).
+
+%!  cti_session(+Edits, -Modes) is det.
+%
+%   Does Edits, one after another, from an empty program on. Each is a term
+%   add(Clause), which adds a clause, del(K), which removes the clause of
+%   number K, or modes(Name/Arity). Modes is a list of Name/Arity-Sets, one
+%   for each modes(Name/Arity), for the program as it stands there; Sets is
+%   as of cti_modes/2. No variable of a clause is bound or shared.
+
+cti_session(Edits, Modes) :-
+    must_be(list, Edits),
+    tmp_file_stream(text, Path, Stream),
+    call_cleanup(
+        ( call_cleanup(maplist(write_edit(Stream), Edits), close(Stream)),
+          run_cti([session, '--', file(Path)], Status, Facts, Message) ),
+        delete_file(Path)),
+    (   Status =:= 0
+    ->  findall(Predicate-Sets, member(terminates(Predicate, Sets), Facts), Modes)
+    ;   throw(error(cti_error(Status, Message), _))
+    ).
+
+%   Operators of this system need not be those of cti, so none are written.
+
+write_edit(Stream, Edit) :-
+    write_term(Stream, Edit, [quoted(true), ignore_ops(true)]),
+    write(Stream, '.\n').
 
 absolute_path(File, Path) :-
     absolute_file_name(File, Path, []).

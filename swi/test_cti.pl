@@ -75,6 +75,22 @@ test(lex_of_a_missing_file, error(cti_error(4, _))) :-
 test(lex_of_no_program, error(cti_error(3, _))) :-
     cti_lex('README.md', _).
 
+test(session, Modes == [app/3-[[]], app/3-[[1],[3]], app/3-[[]]]) :-
+    cti_session([ add(app([],L,L)), modes(app/3),
+                  add((app([H|T],M,[H|R]) :- app(T,M,R))), modes(app/3),
+                  del(2), modes(app/3) ],
+                Modes).
+
+test(session_with_operators, Modes == [down/1-[], (=)/2-[[]]]) :-
+    cti_session([ add((down(N) :- N > 0, M is N - 1, down(M))), modes(down/1), add((p(X) :- X = 'A b')), modes((=)/2) ],
+                Modes).
+
+test(session_without_such_a_clause, error(cti_error(3, _))) :-
+    cti_session([del(1)], _).
+
+test(session_of_no_edits, Modes == []) :-
+    cti_session([], Modes).
+
 test(why, Line-Column == 9-12) :-
     cti_why('examples/closure.pl', [note(Line, Column, Sentence)]),
     sub_string(Sentence, 0, _, _, "`tc/2` has no mode: ").

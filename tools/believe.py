@@ -8,8 +8,8 @@ usage: tools/believe.py            a count of lines for each rank, and the files
 The ranks, each without those before: *for a Yes* (queries that meet a printed mode end), *for the modes* (the printed modes are exactly
 the minimal ones), *for reading* (which program or query a text is, or where its fault is), *for the command* (all else that `command`
 promises: statuses, words, valid certificates, runs), *procedures* (definitions that follow an algorithm, since they decide whose numbers do
-not fit), *for the modes by lists* (what `lex` prints), *for a loop* (what `loop` prints, and that unification is complete). All else in
-specs/ is private: a contract between functions, which the check has read.
+not fit), *for the modes by lists* (what `lex` prints), *for a loop* (what `loop` prints, and that unification is complete),
+*for sessions* (what `session` prints). All else in specs/ is private: a contract between functions, which the check has read.
 """
 import re
 import sys
@@ -23,6 +23,7 @@ READING = [("cti_top", "Programs", ["IsProgramOf", "IsProgramRefusal"]), ("cti_t
 MODES = [("report", "Exact", ["IsExact"]), ("certificate", "Text", ["text_of"])]
 LISTS = [("cti_top", "Lexed", None)]
 COMMAND = [("cti_top", "Outcome", None)]
+SESSIONS = [("cti_top", "Sessions", None)]
 LOOP = [("cti_top", "Loops", None), ("loop_finder", "Finding", ["IsLooked"]), ("loop_finder", "Loop", ["GoesOn"]), ("cti_terms", "MostGeneral", None)]
 PROCEDURES = {
     "linear_rows": {"Elimination", "Equation", "Cleaning", "Step", "Blown", "Solving", "Systems", "Irredundant"},
@@ -99,6 +100,7 @@ MARKS = {
     "for the command": "-- To believe, for the command.",
     "procedures": "-- A procedure, to believe for who is blown.",
     "for a loop": "-- To believe, for a loop.",
+    "for sessions": "-- To believe, for sessions.",
     "private": "-- Private.",
 }
 
@@ -124,16 +126,17 @@ def main():
     yes = specs.closure(YES, follows_an_algorithm)
     modes = specs.closure(MODES, follows_an_algorithm) - yes
     reading = specs.closure(READING, follows_an_algorithm) - yes - modes
-    apart = lambda key: key in (LISTS[0][:2], LOOP[0][:2])
+    apart = lambda key: key in (LISTS[0][:2], LOOP[0][:2], SESSIONS[0][:2])
     known = yes | modes | reading
     command = specs.closure(COMMAND, lambda key: apart(key) or follows_an_algorithm(key)) - known
     procedures = specs.closure(COMMAND, apart) - known - command
     lists = specs.closure(LISTS) - known - command - procedures
     loop = specs.closure(LOOP) - known - command - procedures - lists
+    sessions = specs.closure(SESSIONS) - known - command - procedures - lists - loop
     ranks = [("for a Yes", yes), ("for the modes", modes), ("for reading", reading), ("for the command", command)]
-    ranks += [("procedures", procedures), ("for the modes by lists", lists), ("for a loop", loop)]
+    ranks += [("procedures", procedures), ("for the modes by lists", lists), ("for a loop", loop), ("for sessions", sessions)]
     everything = {(key, name) for key, names in specs.files.items() for name in names}
-    ranks.append(("private", everything - known - command - procedures - lists - loop))
+    ranks.append(("private", everything - known - command - procedures - lists - loop - sessions))
     if "--mark" in sys.argv:
         mark(specs, ranks)
         return

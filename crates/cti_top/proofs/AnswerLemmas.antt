@@ -1,8 +1,11 @@
 -- What is so of each answer, and of what is asked for.
 use Rattle.std.specs.Prelude.{Result, Ok, Err, IfOk, ◌≡◌}
-use Rattle.std.proofs.Common.{subst, sym}
-use Rattle.cti_top.specs.Words.{Ask, infer, check, run, gen, lex, loop, Origin, origin}
+use Rattle.std.proofs.Common.{ℕ, List, refl, subst, sym}
+use Rattle.std.specs.Prelude.{◌≢◌}
+use Rattle.cti_top.specs.Words.{Ask, infer, check, run, gen, lex, loop, session, Origin, origin}
 use Rattle.cti_top.specs.Answers.{IsAskInRange, IsInRange}
+use Rattle.cti_top.specs.Programs.{IsRefused}
+use Rattle.cti_top.specs.Sessions.{IsRefusedFor}
 
 -- what is so of each answer
 pub if_ok : {A E : Type 0} {P Q : A → Type 0} (r : Result A E) → ((a : A) → P a → Q a) → IfOk r P → IfOk r Q
@@ -17,6 +20,17 @@ origin_ranged (run name query steps) h = h
 origin_ranged (gen n) h = h
 origin_ranged (lex name) h = h
 origin_ranged (loop name query depth) h = tt
+origin_ranged (session name) h = h
 
 pub in_range : (ask : Ask) (o : Origin) → o ≡ origin ask → IsAskInRange ask → IsInRange o
 in_range ask o is h = subst IsInRange (sym is) (origin_ranged ask h)
+
+-- what refuses a program refuses the text of what is asked, if that is no session
+pub refused_for : (ask : Ask) (bytes : List ℕ) (kind at : ℕ) → ((name : List ℕ) → ask ≢ session name) → IsRefused bytes kind at → IsRefusedFor ask bytes kind at
+refused_for (infer name norm) bytes kind at apart r = r
+refused_for (check name certificate) bytes kind at apart r = r
+refused_for (run name query steps) bytes kind at apart r = r
+refused_for (gen n) bytes kind at apart r = r
+refused_for (lex name) bytes kind at apart r = r
+refused_for (loop name query depth) bytes kind at apart r = r
+refused_for (session name) bytes kind at apart r = absurd (apart name refl)

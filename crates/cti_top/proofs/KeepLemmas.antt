@@ -3,7 +3,7 @@ use Rattle.std.proofs.Common.{◌≡◌, ℕ, ◌≤◌, List, inl, inr, refl, �
 use Rattle.outside.specs.Told.{Map, Keeps}
 use Rattle.outside.specs.Causes.{Rose}
 use Rattle.cti_top.specs.Outcome.{CertificateRose, FileRose, OriginRose}
-use Rattle.cti_top.specs.Words.{Ask, infer, check, run, gen, lex, loop, Origin, file, generated, origin}
+use Rattle.cti_top.specs.Words.{Ask, infer, check, run, gen, lex, loop, session, Origin, file, generated, origin}
 
 -- a store that no call has touched
 pub untouched : (told : Map) (faults : List ℕ → ℕ) → Keeps told told faults faults
@@ -36,6 +36,7 @@ no_certificate_rises (run f query steps) rose = rose
 no_certificate_rises (gen n) rose = rose
 no_certificate_rises (lex f) rose = rose
 no_certificate_rises (loop f query depth) rose = rose
+no_certificate_rises (session f) rose = rose
 
 pub no_file_rises : (told : Map) (ask : Ask) → FileRose told ask (λ name. 0) (λ name. 0) → ⊥
 no_file_rises told ask (inl rose) = no_origin_rises (origin ask) rose
@@ -49,6 +50,7 @@ certificate_rose (run f query steps) before between after calm rose = rose
 certificate_rose (gen n) before between after calm rose = rose
 certificate_rose (lex f) before between after calm rose = rose
 certificate_rose (loop f query depth) before between after calm rose = rose
+certificate_rose (session f) before between after calm rose = rose
 
 -- the certificate's count rises only where a certificate is asked for
 pub none_asked : (ask : Ask) (before after : List ℕ → ℕ) → ((name certificate : List ℕ) → ask ≡ check name certificate → ⊥) → CertificateRose ask before after → ⊥
@@ -58,3 +60,4 @@ none_asked (run f query steps) before after none rose = rose
 none_asked (gen n) before after none rose = rose
 none_asked (lex f) before after none rose = rose
 none_asked (loop f query depth) before after none rose = rose
+none_asked (session f) before after none rose = rose

@@ -4,6 +4,7 @@ pub mod KeepLemmas
 pub mod ModeLemmas
 pub mod PlaceLemmas
 pub mod SourceLemmas
+pub mod SessionLemmas
 pub mod QueryLemmas
 pub mod StepLemmas
 pub mod RunLemmas
@@ -13,5 +14,6 @@ pub mod CheckLemmas
 pub mod OutcomeLemmas
 pub mod MeetsLemmas
 pub mod OneAnswer
+pub mod OneSession
 pub mod OneCertificate
 pub mod RefusedLemmas

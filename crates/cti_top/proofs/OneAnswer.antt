@@ -20,33 +20,33 @@ use Rattle.cti_top.specs.Queries.{Known, ReadsQueryAs, IsQueryOf, IsQueryRefused
 use Rattle.cti_top.specs.Runs.{IsKnown, IsRefusedQuery}
 use Rattle.cti_top.specs.Refusal.{read_number, normal_number}
 
-ok_is : {X E : Type 0} (x y : X) → ◌≡◌ {A = Result X E} (Ok x) (Ok y) → x ≡ y
+pub ok_is : {X E : Type 0} (x y : X) → ◌≡◌ {A = Result X E} (Ok x) (Ok y) → x ≡ y
 ok_is {X = X} {E = E} x y h = ap of h
   where
     of : Result X E → X
     of (Ok z) = z
     of (Err e) = x
 
-err_is : {X E : Type 0} (x y : E) → ◌≡◌ {A = Result X E} (Err x) (Err y) → x ≡ y
+pub err_is : {X E : Type 0} (x y : E) → ◌≡◌ {A = Result X E} (Err x) (Err y) → x ≡ y
 err_is {X = X} {E = E} x y h = ap of h
   where
     of : Result X E → E
     of (Ok z) = x
     of (Err e) = e
 
-apart : {X E : Type 0} (x : X) (e : E) → ◌≡◌ {A = Result X E} (Ok x) (Err e) → ⊥
+pub apart : {X E : Type 0} (x : X) (e : E) → ◌≡◌ {A = Result X E} (Ok x) (Err e) → ⊥
 apart x e h = cc
 
 module _ (bytes : List ℕ) where
   -- what the text answers by the names that it gives
-  answers_once : (names other : List (List ℕ)) (a b : Answer) → AreNamesOf text_own [] bytes names → AreNamesOf text_own [] bytes other → IsTextAnswer names bytes a → IsTextAnswer other bytes b
+  pub answers_once : (names other : List (List ℕ)) (a b : Answer) → AreNamesOf text_own [] bytes names → AreNamesOf text_own [] bytes other → IsTextAnswer names bytes a → IsTextAnswer other bytes b
       → (names ≡ other) × (a ≡ b)
   answers_once names other a b n m h k =
       let same = names_once text_own [] bytes names other n m in
       (same, text_once names bytes a b h (subst (λ (ns : List (List ℕ)). IsTextAnswer ns bytes b) (sym same) k))
 
   -- and what its clauses come to
-  forms_once : (names other : List (List ℕ)) (cs ds : List Clause) (t u : Table) → ReadsAs bytes names cs t → ReadsAs bytes other ds u → (names ≡ other) × (cs ≡ ds) × (t ≡ u)
+  pub forms_once : (names other : List (List ℕ)) (cs ds : List Clause) (t u : Table) → ReadsAs bytes names cs t → ReadsAs bytes other ds u → (names ≡ other) × (cs ≡ ds) × (t ≡ u)
   forms_once names other cs ds t u r s =
       let same = answers_once names other (Ok (cs, t)) (Ok (ds, u)) r.named s.named r.reads s.reads in
       let pair = ok_is (cs, t) (ds, u) same.1 in

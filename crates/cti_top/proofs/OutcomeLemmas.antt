@@ -2,9 +2,10 @@
 use Rattle.std.proofs.Common.{◌≡◌, ℕ, ◌≤◌, ◌<◌, List, [], length, subst, Option, Some, None, ◌⊎◌, refl, ap, sym, ◌∙◌, inl, inr, arith, nat_eq, false}
 use Rattle.std.proofs.lemmas.Option.{none-some, same_Some}
 use Rattle.outside.specs.Told.{Map, TellsAt, TellsMore, Takes}
-use Rattle.cti_top.specs.Words.{Ask, infer, check, run, gen, lex, loop, Origin, file, generated, origin, query_of, asks}
+use Rattle.cti_top.specs.Words.{Ask, infer, check, run, gen, lex, loop, session, Origin, file, generated, origin, query_of, asks}
 use Rattle.term_size.specs.declared.any_norm.NormName.{NormName}
 use Rattle.cti_top.specs.Programs.{IsRefused}
+use Rattle.cti_top.specs.Sessions.{IsRefusedFor, IsRefusedSession}
 use Rattle.report.specs.Generated.{generated as generated_text}
 use Rattle.certificate.specs.Reading.{IsTextOf}
 use Rattle.certificate.specs.Reading.{most_bytes as most_certificate_bytes}
@@ -23,7 +24,7 @@ use Rattle.cti_terms.specs.declared.derivation.Goal.{Goal}
 use Rattle.ld_resolver.specs.declared.running.Ending.{Ending}
 use Rattle.cti_top.specs.Answers.{AnswersCertificate, AnswersProgram, AnswersRequest}
 use Rattle.cti_top.specs.Answers as answers
-use Rattle.cti_top.specs.Outcome.{most_bytes, TellsText, TellsLong, IsAnswer, usage, inferred, lexed, summed, ran, looped, checked, program_too_long, program_refused, query_refused, certificate_too_long, certificate_refused, Outcome, HasFile, HasText, IsDoneOrMemory, IsRanOrMemory, IsLoopedOrMemory, IsCheckedOrMemory}
+use Rattle.cti_top.specs.Outcome.{most_bytes, TellsText, TellsLong, IsAnswer, usage, inferred, lexed, summed, ran, looped, played, checked, program_too_long, program_refused, query_refused, certificate_too_long, certificate_refused, Outcome, HasFile, HasText, IsDoneOrMemory, IsRanOrMemory, IsLoopedOrMemory, IsCheckedOrMemory}
 use Rattle.cti_top.specs.declared.status.Status.{Status}
 use Rattle.cti_top.specs.declared.status.Status.TheVariants.{Done, No, Usage, Refused, FileFault, OutFault, Memory, Stopped, Overflow}
 
@@ -69,6 +70,7 @@ pub not_file : (told : Map) (words : List (List ℕ)) (text : List ℕ) → IsAn
 not_file told words text (usage n s e) = cc
 not_file told words text (inferred f b r a t m s) = cc
 not_file told words text (lexed f b a t m s) = cc
+not_file told words text (played f b a t m s) = cc
 not_file told words text (summed n a m s) = cc
 not_file told words text (ran f q n b a t r) = elim r.ran.ends [ ]
 not_file told words text (looped f q d b a t r) = file_unlike_looked (looked_as r.looked)
@@ -83,6 +85,7 @@ not_out : (told : Map) (words : List (List ℕ)) (text : List ℕ) → IsAnswer 
 not_out told words text (usage n s e) = cc
 not_out told words text (inferred f b r a t m s) = cc
 not_out told words text (lexed f b a t m s) = cc
+not_out told words text (played f b a t m s) = cc
 not_out told words text (summed n a m s) = cc
 not_out told words text (ran f q n b a t r) = elim r.ran.ends [ ]
 not_out told words text (looped f q d b a t r) = out_unlike_looked (looked_as r.looked)
@@ -97,6 +100,7 @@ not_memory : (told : Map) (words : List (List ℕ)) (text : List ℕ) → IsAnsw
 not_memory told words text (usage n s e) = cc
 not_memory told words text (inferred f b r a t m s) = cc
 not_memory told words text (lexed f b a t m s) = cc
+not_memory told words text (played f b a t m s) = cc
 not_memory told words text (summed n a m s) = cc
 not_memory told words text (ran f q n b a t r) = elim r.ran.ends [ ]
 not_memory told words text (looped f q d b a t r) = memory_unlike_looked (looked_as r.looked)
@@ -152,6 +156,7 @@ command_of (run f q n) = 2
 command_of (gen n) = 3
 command_of (loop f q d) = 4
 command_of (lex f) = 5
+command_of (session f) = 6
 
 no_other : (x : Ask) → nat_eq (command_of x) (command_of x) ≡ false → ⊥
 no_other (infer f norm) e = cc
@@ -160,6 +165,7 @@ no_other (run f q n) e = cc
 no_other (gen n) e = cc
 no_other (loop f q d) e = cc
 no_other (lex f) e = cc
+no_other (session f) e = cc
 
 -- what is asked for is asked for once
 pub one_ask : (words : List (List ℕ)) (x y : Ask) → asks words ≡ Some x → asks words ≡ Some y → x ≡ y
@@ -178,11 +184,12 @@ module _ (told : Map) (words : List (List ℕ)) (ask : Ask) (bytes : List ℕ) (
   no_long : (k : Ask) → asks words ≡ Some k → TellsLong told (origin k) → length bytes ≤ most_bytes → ⊥
   no_long k a m short = long_text told (origin k) (origin ask) bytes (ap origin (one_ask words k ask a asked)) has short m
 
-  no_refusal : (k : Ask) (b : List ℕ) (kind at : ℕ) → asks words ≡ Some k → TellsText told (origin k) b → IsRefused b kind at
-      → ((kind at : ℕ) → IsRefused bytes kind at → ⊥) → ⊥
+  no_refusal : (k : Ask) (b : List ℕ) (kind at : ℕ) → asks words ≡ Some k → TellsText told (origin k) b → IsRefusedFor k b kind at
+      → ((kind at : ℕ) → IsRefusedFor ask bytes kind at → ⊥) → ⊥
   no_refusal k b kind at a t r none =
-      let same = same_text told (origin k) (origin ask) b bytes (ap origin (one_ask words k ask a asked)) has t in
-      none kind at (rw same at r)
+      let same_ask = one_ask words k ask a asked in
+      let same = same_text told (origin k) (origin ask) b bytes (ap origin same_ask) has t in
+      none kind at (subst (λ (x : Ask). IsRefusedFor x bytes kind at) same_ask (subst (λ (x : List ℕ). IsRefusedFor k x kind at) same r))
 
 -- a file without a fault is answered
 pub done_or_memory : (told : Map) (words : List (List ℕ)) (status : Status) (text name bytes : List ℕ) (norm : NormName) → IsAnswer told words status text → asks words ≡ Some (infer name norm)
@@ -190,6 +197,7 @@ pub done_or_memory : (told : Map) (words : List (List ℕ)) (status : Status) (t
 done_or_memory told words status text name bytes norm (usage n s e) asked has short none = absurd (none-some _ (sym n ∙ asked))
 done_or_memory told words status text name bytes norm (inferred f b r a t m s) asked has short none = inl s
 done_or_memory told words status text name bytes norm (lexed f b a t m s) asked has short none = inl s
+done_or_memory told words status text name bytes norm (played f b a t m s) asked has short none = inl s
 done_or_memory told words status text name bytes norm (summed n a m s) asked has short none = inl s
 done_or_memory told words status text name bytes norm (ran f q n b a t r) asked has short none = absurd (unlike words _ _ asked a refl)
 done_or_memory told words status text name bytes norm (checked f c b d k a t i u h) asked has short none = absurd (unlike words _ _ asked a refl)
@@ -208,6 +216,7 @@ pub lexed_or_memory : (told : Map) (words : List (List ℕ)) (status : Status) (
 lexed_or_memory told words status text name bytes (usage n s e) asked has short none = absurd (none-some _ (sym n ∙ asked))
 lexed_or_memory told words status text name bytes (inferred f b r a t m s) asked has short none = inl s
 lexed_or_memory told words status text name bytes (lexed f b a t m s) asked has short none = inl s
+lexed_or_memory told words status text name bytes (played f b a t m s) asked has short none = inl s
 lexed_or_memory told words status text name bytes (summed n a m s) asked has short none = inl s
 lexed_or_memory told words status text name bytes (ran f q n b a t r) asked has short none = absurd (unlike words _ _ asked a refl)
 lexed_or_memory told words status text name bytes (checked f c b d k a t i u h) asked has short none = absurd (unlike words _ _ asked a refl)
@@ -220,12 +229,32 @@ lexed_or_memory told words status text name bytes (certificate_too_long f c b k 
 lexed_or_memory told words status text name bytes (certificate_refused f c b d k l a t i u r s e) asked has short none =
     absurd (unlike words _ _ asked a refl)
 
+-- and so is a text whose edits can be done
+pub played_or_memory : (told : Map) (words : List (List ℕ)) (status : Status) (text name bytes : List ℕ) → IsAnswer told words status text → asks words ≡ Some (session name)
+    → HasFile told name bytes → length bytes ≤ most_bytes → ((kind at : ℕ) → IsRefusedSession bytes kind at → ⊥) → IsDoneOrMemory status
+played_or_memory told words status text name bytes (usage n s e) asked has short none = absurd (none-some _ (sym n ∙ asked))
+played_or_memory told words status text name bytes (inferred f b r a t m s) asked has short none = inl s
+played_or_memory told words status text name bytes (lexed f b a t m s) asked has short none = inl s
+played_or_memory told words status text name bytes (played f b a t m s) asked has short none = inl s
+played_or_memory told words status text name bytes (summed n a m s) asked has short none = inl s
+played_or_memory told words status text name bytes (ran f q n b a t r) asked has short none = absurd (unlike words _ _ asked a refl)
+played_or_memory told words status text name bytes (checked f c b d k a t i u h) asked has short none = absurd (unlike words _ _ asked a refl)
+played_or_memory told words status text name bytes (program_too_long k a m s e) asked has short none = absurd (no_long told words (session name) bytes asked has k a m short)
+played_or_memory told words status text name bytes (program_refused k b kind at a t r s e) asked has short none =
+    absurd (no_refusal told words (session name) bytes asked has k b kind at a t r none)
+played_or_memory told words status text name bytes (looped f q d b a t r) asked has short none = absurd (unlike words _ _ asked a refl)
+played_or_memory told words status text name bytes (query_refused k q b kind at a w t r s e) asked has short none = absurd (no_query words _ k q asked a w refl)
+played_or_memory told words status text name bytes (certificate_too_long f c b k a t i m s e) asked has short none = absurd (unlike words _ _ asked a refl)
+played_or_memory told words status text name bytes (certificate_refused f c b d k l a t i u r s e) asked has short none =
+    absurd (unlike words _ _ asked a refl)
+
 -- a generated program without a fault is answered
 pub summed_or_memory : (told : Map) (words : List (List ℕ)) (status : Status) (text : List ℕ) (n : ℕ) → IsAnswer told words status text → asks words ≡ Some (gen n)
     → length (generated_text n) ≤ most_bytes → ((kind at : ℕ) → IsRefused (generated_text n) kind at → ⊥) → IsDoneOrMemory status
 summed_or_memory told words status text n (usage none s e) asked short no_fault = absurd (none-some _ (sym none ∙ asked))
 summed_or_memory told words status text n (inferred f b r a t m s) asked short no_fault = inl s
 summed_or_memory told words status text n (lexed f b a t m s) asked short no_fault = inl s
+summed_or_memory told words status text n (played f b a t m s) asked short no_fault = inl s
 summed_or_memory told words status text n (summed m a h s) asked short no_fault = inl s
 summed_or_memory told words status text n (ran f q k b a t r) asked short no_fault = absurd (unlike words _ _ asked a refl)
 summed_or_memory told words status text n (checked f c b d k a t i u h) asked short no_fault = absurd (unlike words _ _ asked a refl)
@@ -278,6 +307,7 @@ pub ran_or_memory : (told : Map) (words : List (List ℕ)) (status : Status) (te
 ran_or_memory told words status text name query bytes steps (usage n s e) asked has short none no_fault = absurd (none-some _ (sym n ∙ asked))
 ran_or_memory told words status text name query bytes steps (inferred f b r a t m s) asked has short none no_fault = inl s
 ran_or_memory told words status text name query bytes steps (lexed f b a t m s) asked has short none no_fault = inl s
+ran_or_memory told words status text name query bytes steps (played f b a t m s) asked has short none no_fault = inl s
 ran_or_memory told words status text name query bytes steps (summed n a m s) asked has short none no_fault = inl s
 ran_or_memory told words status text name query bytes steps (ran f q n b a t r) asked has short none no_fault = ended status r.ran.ends
 ran_or_memory told words status text name query bytes steps (checked f c b d k a t i u h) asked has short none no_fault = absurd (unlike words _ _ a asked refl)
@@ -300,6 +330,7 @@ pub looped_or_memory : (told : Map) (words : List (List ℕ)) (status : Status) 
 looped_or_memory told words status text name query bytes depth (usage n s e) asked has short none no_fault = absurd (none-some _ (sym n ∙ asked))
 looped_or_memory told words status text name query bytes depth (inferred f b r a t m s) asked has short none no_fault = inl s
 looped_or_memory told words status text name query bytes depth (lexed f b a t m s) asked has short none no_fault = inl s
+looped_or_memory told words status text name query bytes depth (played f b a t m s) asked has short none no_fault = inl s
 looped_or_memory told words status text name query bytes depth (summed n a m s) asked has short none no_fault = inl s
 looped_or_memory told words status text name query bytes depth (ran f q n b a t r) asked has short none no_fault = absurd (unlike words _ _ asked a refl)
 looped_or_memory told words status text name query bytes depth (looped f q d b a t r) asked has short none no_fault = or_memory status (looked_as r.looked)
@@ -326,6 +357,7 @@ pub checked_or_memory : (told : Map) (words : List (List ℕ)) (status : Status)
 checked_or_memory told words status text name certificate bytes certified c (usage n s e) asked has short none held is = absurd (none-some _ (sym n ∙ asked))
 checked_or_memory told words status text name certificate bytes certified c (inferred f b r a t m s) asked has short none held is = inl s
 checked_or_memory told words status text name certificate bytes certified c (lexed f b a t m s) asked has short none held is = inl s
+checked_or_memory told words status text name certificate bytes certified c (played f b a t m s) asked has short none held is = inl s
 checked_or_memory told words status text name certificate bytes certified c (summed n a m s) asked has short none held is = inl s
 checked_or_memory told words status text name certificate bytes certified c (ran f q n b a t r) asked has short none held is =
     absurd (unlike words _ _ asked a refl)
@@ -361,6 +393,7 @@ answered told words (run f query n) bytes status text a t (inl (inr (kind, at, r
 answered told words (loop f query d) bytes status text a t (inl (inl r)) = looped f query d bytes a t r
 answered told words (loop f query d) bytes status text a t (inl (inr (kind, at, r, h))) = query_refused (loop f query d) query bytes kind at a refl t r h.status h.line
 answered told words (lex f) bytes status text a t (inl (s, m)) = lexed f bytes a t m s
+answered told words (session f) bytes status text a t (inl (s, m)) = played f bytes a t m s
 answered told words (gen n) bytes status text a t (inl (s, m)) = summed n a (subst (λ (b : List ℕ). IsSummary b n text) t m) s
 answered told words ask bytes status text a t (inr (kind, at, r, h)) = program_refused ask bytes kind at a t r h.status h.line
 

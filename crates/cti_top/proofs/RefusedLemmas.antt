@@ -2,17 +2,19 @@
 use Rattle.std.proofs.Common.{◌≡◌, ◌⊎◌, ℕ, List, Some, inl, inr, refl, ap, sym, ◌∙◌, subst}
 use Rattle.std.proofs.lemmas.Option.{none-some}
 use Rattle.outside.specs.Told.{Map}
-use Rattle.cti_top.specs.Words.{Ask, infer, check, run, gen, lex, loop, Origin, origin, query_of, asks}
+use Rattle.cti_top.specs.Words.{Ask, infer, check, run, gen, lex, loop, session, Origin, file, origin, query_of, asks}
 use Rattle.cti_top.specs.Programs.{IsRefused}
+use Rattle.cti_top.specs.Sessions.{IsRefusedFor, IsToldBy}
 use Rattle.report.specs.Generated.{generated}
 use Rattle.cti_terms.specs.Listing.{Listing}
 use Rattle.cti_terms.specs.declared.derivation.Goal.{Goal}
 use Rattle.cti_top.specs.Queries.{Known, IsQueryOf}
 use Rattle.cti_top.specs.Runs.{IsKnown, IsRefusedQuery}
-use Rattle.cti_top.specs.Outcome.{TellsText, FileRose, OriginRose, HasText, IsAnswer, IsRefusedOrMemory, usage, inferred, lexed, summed, ran, looped, checked, program_too_long, program_refused, query_refused, certificate_too_long, certificate_refused}
+use Rattle.cti_top.specs.Outcome.{TellsText, CertificateRose, FileRose, OriginRose, HasText, IsAnswer, IsRefusedOrMemory, usage, inferred, lexed, summed, ran, looped, played, checked, program_too_long, program_refused, query_refused, certificate_too_long, certificate_refused}
 use Rattle.cti_top.specs.declared.status.Status.{Status}
 use Rattle.cti_top.specs.declared.status.Status.TheVariants.{FileFault, Memory, Refused}
 use Rattle.cti_top.proofs.OneAnswer.{none_refused, no_query_refused}
+use Rattle.cti_top.proofs.OneSession.{told_or_refused}
 use Rattle.cti_top.proofs.OutcomeLemmas.{same_text, one_ask, one_text, one_query, no_query}
 
 module _ (told : Map) (words : List (List ℕ)) where
@@ -23,34 +25,63 @@ module _ (told : Map) (words : List (List ℕ)) where
       let same = same_text told (origin k) (origin ask) b bytes (ap origin (one_ask words k ask a asked)) has t in
       none_refused bytes known (subst (λ (x : List ℕ). IsKnown x known) same is) kind at r
 
-  -- so no count of a file rises there, but that of the program's
-  none_rose : (ask k : Ask) (bytes : List ℕ) (kind at : ℕ) (before after : List ℕ → ℕ) → asks words ≡ Some ask → HasText told (origin ask) bytes → IsRefused bytes kind at
-      → (OriginRose (origin ask) before after → ⊥) → asks words ≡ Some k → FileRose told k before after → ⊥
+  -- what refuses the text of what is asked refuses it, however that is called
+  refused_as : (ask k : Ask) (bytes : List ℕ) (kind at : ℕ) → asks words ≡ Some ask → asks words ≡ Some k → IsRefusedFor ask bytes kind at → IsRefusedFor k bytes kind at
+  refused_as ask k bytes kind at asked a r = subst (λ (x : Ask). IsRefusedFor x bytes kind at) (one_ask words ask k asked a) r
+
+  -- so no count of a certificate's file rises there
+  no_certificate_rose : (ask k : Ask) (bytes b : List ℕ) (kind at : ℕ) (known : Known) (before after : List ℕ → ℕ) → asks words ≡ Some ask → asks words ≡ Some k
+      → HasText told (origin ask) bytes → TellsText told (origin k) b → IsRefusedFor k bytes kind at → IsKnown b known → CertificateRose k before after → ⊥
+  no_certificate_rose ask (check f c) bytes b kind at known before after asked a has t r is rose = none_known ask (check f c) bytes b kind at known asked a has t r is
+  no_certificate_rose ask (infer f n) bytes b kind at known before after asked a has t r is rose = rose
+  no_certificate_rose ask (run f q n) bytes b kind at known before after asked a has t r is rose = rose
+  no_certificate_rose ask (gen n) bytes b kind at known before after asked a has t r is rose = rose
+  no_certificate_rose ask (lex f) bytes b kind at known before after asked a has t r is rose = rose
+  no_certificate_rose ask (loop f q d) bytes b kind at known before after asked a has t r is rose = rose
+  no_certificate_rose ask (session f) bytes b kind at known before after asked a has t r is rose = rose
+
+  -- nor any other, but that of the program's
+  none_rose : (ask k : Ask) (bytes : List ℕ) (kind at : ℕ) (before after : List ℕ → ℕ) → asks words ≡ Some ask → HasText told (origin ask) bytes
+      → IsRefusedFor ask bytes kind at → (OriginRose (origin ask) before after → ⊥) → asks words ≡ Some k → FileRose told k before after → ⊥
   none_rose ask k bytes kind at before after asked has r calm a (inl rose) =
       calm (subst (λ (o : Origin). OriginRose o before after) (ap origin (one_ask words k ask a asked)) rose)
-  none_rose ask k bytes kind at before after asked has r calm a (inr (b, known, tells, is, rose)) = none_known ask k bytes b kind at known asked a has tells r is
+  none_rose ask k bytes kind at before after asked has r calm a (inr (b, known, tells, is, rose)) =
+      no_certificate_rose ask k bytes b kind at known before after asked a has tells (refused_as ask k bytes kind at asked a r) is rose
 
   pub refused_or_memory : (status : Status) (ask : Ask) (bytes : List ℕ) (kind at : ℕ) (before after : List ℕ → ℕ) → asks words ≡ Some ask → HasText told (origin ask) bytes
-      → IsRefused bytes kind at → (OriginRose (origin ask) before after → ⊥) → (status ≡ FileFault → (k : Ask) × (asks words ≡ Some k) × FileRose told k before after)
+      → IsRefusedFor ask bytes kind at → (OriginRose (origin ask) before after → ⊥) → (status ≡ FileFault → (k : Ask) × (asks words ≡ Some k) × FileRose told k before after)
       → (status ≡ FileFault) ⊎ (status ≡ Memory) → IsRefusedOrMemory status
   refused_or_memory status ask bytes kind at before after asked has r calm fault (inl e) =
       absurd (none_rose ask (fault e).0 bytes kind at before after asked has r calm (fault e).1 (fault e).2)
   refused_or_memory status ask bytes kind at before after asked has r calm fault (inr e) = inr e
 
 module _ (told : Map) (words : List (List ℕ)) (status : Status) (text : List ℕ) where
-  pub refused_answer : (ask : Ask) (bytes : List ℕ) (kind at : ℕ) → IsAnswer told words status text → asks words ≡ Some ask → HasText told (origin ask) bytes → IsRefused bytes kind at
-      → status ≡ Refused
+  pub refused_answer : (ask : Ask) (bytes : List ℕ) (kind at : ℕ) → IsAnswer told words status text → asks words ≡ Some ask → HasText told (origin ask) bytes
+      → IsRefusedFor ask bytes kind at → status ≡ Refused
   refused_answer ask bytes kind at (usage n s e) asked has r = absurd (none-some _ (sym n ∙ asked))
   refused_answer ask bytes kind at (inferred f b n a t m s) asked has r =
-      absurd (none_known told words ask (infer f n) bytes b kind at (record { names = m.names; program = m.program; table = m.table }) asked a has t r m.is)
+      let q = refused_as told words ask (infer f n) bytes kind at asked a r in
+      absurd (none_known told words ask (infer f n) bytes b kind at (record { names = m.names; program = m.program; table = m.table }) asked a has t q m.is)
   refused_answer ask bytes kind at (lexed f b a t m s) asked has r =
-      absurd (none_known told words ask (lex f) bytes b kind at (record { names = m.names; program = m.program; table = m.table }) asked a has t r m.is)
+      let q = refused_as told words ask (lex f) bytes kind at asked a r in
+      absurd (none_known told words ask (lex f) bytes b kind at (record { names = m.names; program = m.program; table = m.table }) asked a has t q m.is)
+  refused_answer ask bytes kind at (played f b a t m s) asked has r =
+      let same = same_text told (file f) (origin ask) b bytes (ap origin (one_ask words (session f) ask a asked)) has t in
+      let q = refused_as told words ask (session f) bytes kind at asked a r in
+      absurd (told_or_refused bytes m.names m.told kind at (subst (λ (x : List ℕ). IsToldBy x m.names m.told) same m.is) q)
   refused_answer ask bytes kind at (summed n a m s) asked has r =
       let i = m.inferred in
-      absurd (none_known told words ask (gen n) bytes (generated n) kind at (record { names = i.names; program = i.program; table = i.table }) asked a has refl r i.is)
-  refused_answer ask bytes kind at (ran f q n b a t m) asked has r = absurd (none_known told words ask (run f q n) bytes b kind at m.known asked a has t r m.is)
-  refused_answer ask bytes kind at (looped f q d b a t m) asked has r = absurd (none_known told words ask (loop f q d) bytes b kind at m.known asked a has t r m.is)
-  refused_answer ask bytes kind at (checked f c b d k a t i u h) asked has r = absurd (none_known told words ask (check f c) bytes b kind at k asked a has t r i)
+      let q = refused_as told words ask (gen n) bytes kind at asked a r in
+      absurd (none_known told words ask (gen n) bytes (generated n) kind at (record { names = i.names; program = i.program; table = i.table }) asked a has refl q i.is)
+  refused_answer ask bytes kind at (ran f q n b a t m) asked has r =
+      let z = refused_as told words ask (run f q n) bytes kind at asked a r in
+      absurd (none_known told words ask (run f q n) bytes b kind at m.known asked a has t z m.is)
+  refused_answer ask bytes kind at (looped f q d b a t m) asked has r =
+      let z = refused_as told words ask (loop f q d) bytes kind at asked a r in
+      absurd (none_known told words ask (loop f q d) bytes b kind at m.known asked a has t z m.is)
+  refused_answer ask bytes kind at (checked f c b d k a t i u h) asked has r =
+      let z = refused_as told words ask (check f c) bytes kind at asked a r in
+      absurd (none_known told words ask (check f c) bytes b kind at k asked a has t z i)
   refused_answer ask bytes kind at (program_too_long k a m s e) asked has r = s
   refused_answer ask bytes kind at (program_refused k b kind' at' a t q s e) asked has r = s
   refused_answer ask bytes kind at (query_refused k q b kind' at' a w t m s e) asked has r = s
@@ -71,6 +102,7 @@ module _ (told : Map) (words : List (List ℕ)) (status : Status) (text : List �
   query_refused_answer ask query bytes kind at (usage n s e) asked v has r = absurd (none-some _ (sym n ∙ asked))
   query_refused_answer ask query bytes kind at (inferred f b n a t m s) asked v has r = absurd (no_query words (infer f n) ask query a asked v refl)
   query_refused_answer ask query bytes kind at (lexed f b a t m s) asked v has r = absurd (no_query words (lex f) ask query a asked v refl)
+  query_refused_answer ask query bytes kind at (played f b a t m s) asked v has r = absurd (no_query words (session f) ask query a asked v refl)
   query_refused_answer ask query bytes kind at (summed n a m s) asked v has r = absurd (no_query words (gen n) ask query a asked v refl)
   query_refused_answer ask query bytes kind at (ran f q n b a t m) asked v has r =
       absurd (no_goal ask (run f q n) query q bytes b kind at m.known m.names m.program m.goal asked a v refl has t r m.is m.asked)

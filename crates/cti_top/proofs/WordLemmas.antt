@@ -7,7 +7,7 @@ use Rattle.clap.specs.Faults.{defaults_fault, level_fault, settle_fault, walk_fa
 use Rattle.clap.specs.Simple.{Shape, built}
 use Rattle.clap.specs.Walk.{Held, Names, settled, walk, walk_from}
 use Rattle.clap.proofs.OnLiterals.{clap_on_literals}
-use Rattle.cti_top.specs.Words.{command_line, ask_if, asks, infer, check, run, gen, lex, loop, norm_in, predicates_in}
+use Rattle.cti_top.specs.Words.{command_line, ask_if, asks, infer, check, run, gen, lex, loop, session, norm_in, predicates_in}
 
 or_else_nil : (a b : Kinds) → or_else a b ≡ [] → (a ≡ []) × (b ≡ [])
 or_else_nil [] b h = (refl, h)
@@ -64,6 +64,10 @@ loop_asks c d cs ds h k = simp (h, k)
 pub lex_asks : (c : ℕ) (cs : List ℕ) → nat_eq c 45 ≡ false → asks (codes "lex" ∷ (c ∷ cs) ∷ []) ≡ Some (lex (c ∷ cs))
 unfolding clap_on_literals
 lex_asks c cs h = simp h
+
+pub session_asks : (c : ℕ) (cs : List ℕ) → nat_eq c 45 ≡ false → asks (codes "session" ∷ (c ∷ cs) ∷ []) ≡ Some (session (c ∷ cs))
+unfolding clap_on_literals
+session_asks c cs h = simp h
 
 -- a word after gen that does not begin with a dash
 pub gen_asks : (c : ℕ) (cs : List ℕ) → nat_eq c 45 ≡ false → asks (codes "gen" ∷ (c ∷ cs) ∷ []) ≡ option_map gen (predicates_in (c ∷ cs))

@@ -4,7 +4,7 @@ use Rattle.std.specs.Prelude.{ℕ, ◌≡◌, ◌≤◌, ◌⊎◌, List}
 use Rattle.cert_checker.specs.declared.verdict.Verdict.{Verdict}
 use Rattle.cert_checker.specs.declared.verdict.Verdict.TheVariants as verdict
 use Rattle.certificate.specs.Reading.{most_bytes}
-use Rattle.cti_top.specs.Words.{Ask, infer, check, run, gen, lex, loop, Origin, origin}
+use Rattle.cti_top.specs.Words.{Ask, infer, check, run, gen, lex, loop, session, Origin, origin}
 use Rattle.cti_top.specs.Words as words
 use Rattle.outside.specs.Told.{Map, TellsAt, TellsMore}
 use Rattle.cti_top.specs.Checks.{IsCheckOf, IsRefusedCertificate}
@@ -12,7 +12,7 @@ use Rattle.cti_top.specs.Queries.{Known}
 use Rattle.cti_top.specs.Outcome.{TellsText, TellsLong}
 use Rattle.cti_top.specs.Places.{line_of, column_of}
 use Rattle.cti_top.specs.Refusal.{refusal_line}
-use Rattle.cti_top.specs.Programs.{IsRefused}
+use Rattle.cti_top.specs.Sessions.{IsRefusedFor, IsRefusedSession, IsSessionOf}
 use Rattle.cti_top.specs.Inferred.{IsInferred}
 use Rattle.cti_top.specs.Lexed.{IsLexed}
 use Rattle.cti_top.specs.Summary.{IsSummary}
@@ -50,6 +50,7 @@ ask_of (request.Run file query steps) = run file.now query.now steps
 ask_of (request.Generate count) = gen count
 ask_of (request.Lex file) = lex file.now
 ask_of (request.Loop file query depth) = loop file.now query.now depth
+ask_of (request.Session file) = session file.now
 
 -- an origin, by its text
 abbrev pub origin_of : ItsOrigin → Origin
@@ -69,6 +70,7 @@ IsAskInRange (run name query steps) = Unit {0}
 IsAskInRange (gen n) = (1 ≤ n) × (n ≤ 300)
 IsAskInRange (lex name) = Unit {0}
 IsAskInRange (loop name query depth) = (1 ≤ depth) × (depth ≤ 12)
+IsAskInRange (session name) = Unit {0}
 
 -- the status and the line of what was found where a loop was looked for
 abbrev pub looked_status : Looked → Status
@@ -112,7 +114,12 @@ pub data AnswersCertificate (told : Map) (known : Known) (name : List ℕ) (stat
   read : (certified : List ℕ) → TellsAt told name certified → AnswersText known certified status text → AnswersCertificate told known name status text
   long : TellsMore told name most_bytes → Refuses Certificate 1 1 8 status text → AnswersCertificate told known name status text
 
--- what is asked for of the program that these bytes are
+-- the answer to the bytes of a text of edits
+abbrev pub AnswersSession : List ℕ → Status → List ℕ → Type 0
+AnswersSession bytes status text =
+    ((status ≡ Done) × IsSessionOf bytes text) ⊎ ((kind : ℕ) × (at : ℕ) × IsRefusedSession bytes kind at × RefusesAt Program bytes kind at status text)
+
+-- what is asked for of the program, or the edits, that these bytes are
 abbrev pub AnswersAsk : Map → List ℕ → Ask → Status → List ℕ → Type 0
 AnswersAsk told bytes (infer file norm) status text = (status ≡ Done) × IsInferred norm bytes text
 AnswersAsk told bytes (check file certificate) status text = (known : Known) × IsKnown bytes known × AnswersCertificate told known certificate status text
@@ -120,11 +127,12 @@ AnswersAsk told bytes (run file query steps) status text = AnswersQuery bytes qu
 AnswersAsk told bytes (gen n) status text = (status ≡ Done) × IsSummary bytes n text
 AnswersAsk told bytes (lex file) status text = (status ≡ Done) × IsLexed bytes text
 AnswersAsk told bytes (loop file query depth) status text = AnswersLoop bytes query depth status text
+AnswersAsk told bytes (session file) status text = (status ≡ Done) × IsSessionOf bytes text
 
--- the same, or why the program is refused
+-- the same, or why the text is refused
 abbrev pub AnswersProgram : Map → List ℕ → Ask → Status → List ℕ → Type 0
 AnswersProgram told bytes ask status text =
-    AnswersAsk told bytes ask status text ⊎ ((kind : ℕ) × (at : ℕ) × IsRefused bytes kind at × RefusesAt Program bytes kind at status text)
+    AnswersAsk told bytes ask status text ⊎ ((kind : ℕ) × (at : ℕ) × IsRefusedFor ask bytes kind at × RefusesAt Program bytes kind at status text)
 
 -- the same of a program of its origin
 pub data AnswersRequest (told : Map) (ask : Ask) (status : Status) (text : List ℕ) : Type 0 where

@@ -4,6 +4,7 @@ pub mod CommandLine
 pub mod Places
 pub mod Refusal
 pub mod Programs
+pub mod Sessions
 pub mod Inferred
 pub mod Summary
 pub mod Queries

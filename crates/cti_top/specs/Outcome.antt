@@ -4,10 +4,10 @@
 -- To believe: all of this file.
 use Rattle.std.specs.Prelude.{ℕ, ◌≡◌, ◌⊎◌, List, Option, Some, None}
 use Rattle.outside.specs.Told.{Map, TellsAt, TellsMore, Takes, TakesPart}
-use Rattle.cti_top.specs.Words.{Ask, infer, check, run, gen, lex, loop, Origin, file, generated, origin, query_of, asks, usage_lines}
+use Rattle.cti_top.specs.Words.{Ask, infer, check, run, gen, lex, loop, session, Origin, file, generated, origin, query_of, asks, usage_lines}
 use Rattle.cti_top.specs.Places.{line_of, column_of}
 use Rattle.cti_top.specs.Refusal.{refusal_line}
-use Rattle.cti_top.specs.Programs.{IsRefused}
+use Rattle.cti_top.specs.Sessions.{IsRefusedFor, IsSessionOf}
 use Rattle.term_size.specs.declared.any_norm.NormName.{NormName}
 use Rattle.cti_top.specs.Inferred.{IsInferred}
 use Rattle.cti_top.specs.Lexed.{IsLexed}
@@ -38,8 +38,9 @@ TellsLong told (file name) = TellsMore told name most_bytes
 TellsLong told (generated n) = ⊥
 
 -- The answer to the words: the usage exactly where they ask for nothing; the modes of the program that they name, or its modes by lists of
--- mappings; the check of their certificate; the run of their query, or a loop of it; how many modes their generated program has; or why
--- the program's text, the certificate's or the query is refused. Where the store shows its map, the bytes are those at the file's name.
+-- mappings; the check of their certificate; the run of their query, or a loop of it; how many modes their generated program has; what their
+-- edits tell; or why the text of the program or of the edits, the certificate's or the query is refused. Where the store shows its map, the
+-- bytes are those at the file's name.
 pub data IsAnswer (told : Map) (words : List (List ℕ)) (status : Status) (text : List ℕ) : Type 0 where
   usage : asks words ≡ None → status ≡ Usage → text ≡ usage_lines → IsAnswer told words status text
   inferred : (name bytes : List ℕ) (norm : NormName) → asks words ≡ Some (infer name norm) → TellsAt told name bytes → IsInferred norm bytes text → status ≡ Done
@@ -50,11 +51,13 @@ pub data IsAnswer (told : Map) (words : List (List ℕ)) (status : Status) (text
       → IsAnswer told words status text
   looped : (name query : List ℕ) (depth : ℕ) (bytes : List ℕ) → asks words ≡ Some (loop name query depth) → TellsAt told name bytes
       → IsLoopSearchOf bytes query depth status text → IsAnswer told words status text
+  played : (name bytes : List ℕ) → asks words ≡ Some (session name) → TellsAt told name bytes → IsSessionOf bytes text → status ≡ Done
+      → IsAnswer told words status text
   checked : (name certificate bytes certified : List ℕ) (known : Known) → asks words ≡ Some (check name certificate) → TellsAt told name bytes → IsKnown bytes known
       → TellsAt told certificate certified → IsCheckOf known certified status text → IsAnswer told words status text
   program_too_long : (ask : Ask) → asks words ≡ Some ask → TellsLong told (origin ask) → status ≡ Refused
       → text ≡ refusal_line Program 1 1 8 → IsAnswer told words status text
-  program_refused : (ask : Ask) (bytes : List ℕ) (kind at : ℕ) → asks words ≡ Some ask → TellsText told (origin ask) bytes → IsRefused bytes kind at → status ≡ Refused
+  program_refused : (ask : Ask) (bytes : List ℕ) (kind at : ℕ) → asks words ≡ Some ask → TellsText told (origin ask) bytes → IsRefusedFor ask bytes kind at → status ≡ Refused
       → text ≡ refusal_line Program (line_of bytes at) (column_of bytes at) kind → IsAnswer told words status text
   query_refused : (ask : Ask) (query bytes : List ℕ) (kind at : ℕ) → asks words ≡ Some ask → query_of ask ≡ Some query → TellsText told (origin ask) bytes
       → IsRefusedQuery bytes query kind at → status ≡ Refused → text ≡ refusal_line Query (line_of query at) (column_of query at) kind
@@ -115,6 +118,7 @@ CertificateRose (run name query steps) before after = ⊥
 CertificateRose (gen n) before after = ⊥
 CertificateRose (lex name) before after = ⊥
 CertificateRose (loop name query depth) before after = ⊥
+CertificateRose (session name) before after = ⊥
 
 -- the count of the program's file rose, or that of the certificate's, which is loaded only where the program is read
 abbrev pub FileRose : Map → Ask → (List ℕ → ℕ) → (List ℕ → ℕ) → Type 0

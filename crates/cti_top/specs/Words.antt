@@ -47,6 +47,10 @@ lex_command = with_rule (new_app (codes "lex")) (required_word (codes "file"))
 abbrev pub loop_command : App
 loop_command = with_rule (with_rule (with_rule (new_app (codes "loop")) (required_word (codes "file"))) (required_word (codes "query"))) (option (codes "depth"))
 
+-- session FILE
+abbrev pub session_command : App
+session_command = with_rule (new_app (codes "session")) (required_word (codes "file"))
+
 -- no words of help, no program's name, and a subcommand has to be given
 abbrev pub settings : Shape → Shape
 settings s = record s {
@@ -62,13 +66,13 @@ top_command = on_top settings (new_app (codes "cti"))
 -- the command line
 abbrev pub command_line : App
 command_line =
-    with_subcommand (with_subcommand
+    with_subcommand (with_subcommand (with_subcommand
     (with_subcommand (with_subcommand (with_subcommand (with_subcommand top_command infer_command.top) check_command.top) run_command.top) gen_command.top)
-    lex_command.top) loop_command.top
+    lex_command.top) loop_command.top) session_command.top
 
 -- what is asked for, by its texts: the modes of a file's program by a norm, the check of a file's certificate of it, a query of it with a
--- number of nodes, how many modes the generated program of this many predicates has, the modes of a file's program by lists of mappings, or
--- a loop of a query of a file's program among its derivations of so many steps
+-- number of nodes, how many modes the generated program of this many predicates has, the modes of a file's program by lists of mappings, a
+-- loop of a query of a file's program among its derivations of so many steps, or what the edits of a file tell
 pub data Ask : Type 0 where
   infer : Text → NormName → Ask
   check : Text → Text → Ask
@@ -76,13 +80,14 @@ pub data Ask : Type 0 where
   gen : ℕ → Ask
   lex : Text → Ask
   loop : Text → Text → ℕ → Ask
+  session : Text → Ask
 
--- where the text of a program comes from: it is that of a file, or it is generated
+-- where a text comes from: it is that of a file, or it is generated
 pub data Origin : Type 0 where
   file : Text → Origin
   generated : ℕ → Origin
 
--- where the text of the program comes from that is asked about
+-- where the text comes from that is asked about: a program, or edits
 abbrev pub origin : Ask → Origin
 origin (infer name norm) = file name
 origin (check name certificate) = file name
@@ -90,6 +95,7 @@ origin (run name query steps) = file name
 origin (gen n) = generated n
 origin (lex name) = file name
 origin (loop name query depth) = file name
+origin (session name) = file name
 
 -- at most the given number of decimal digits, and at least one
 abbrev pub is_short_number : ℕ → Text → Bool
@@ -148,6 +154,7 @@ ask_by name rows =
     else if bytes_eq name (codes "infer") then option_map (infer (given (codes "file") rows)) (norm_of (first_of (codes "norm") rows))
     else if bytes_eq name (codes "check") then Some (check (given (codes "file") rows) (given (codes "certificate") rows))
     else if bytes_eq name (codes "lex") then Some (lex (given (codes "file") rows))
+    else if bytes_eq name (codes "session") then Some (session (given (codes "file") rows))
     else if bytes_eq name (codes "loop") then
     option_map (loop (given (codes "file") rows) (given (codes "query") rows)) (depth_of (first_of (codes "depth") rows))
     else option_map (run (given (codes "file") rows) (given (codes "query") rows)) (steps_of (first_of (codes "steps") rows))
@@ -166,3 +173,4 @@ abbrev pub usage_lines : List ℕ
 usage_lines =
     codes "usage: cti infer FILE --norm NORM\n" ++ codes "usage: cti check FILE CERT\n" ++ codes "usage: cti run FILE QUERY --steps N\n"
     ++ codes "usage: cti gen N\n" ++ codes "usage: cti lex FILE\n" ++ codes "usage: cti loop FILE QUERY --depth D\n"
+    ++ codes "usage: cti session FILE\n"

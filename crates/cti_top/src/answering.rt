@@ -1,10 +1,10 @@
 //! The answer to the words, complete before any of it is written.
 
-ghost use Rattle.std.specs.Prelude.{◌≡◌, ◌<◌, ◌≤◌, ◌⊎◌, List, ℕ, length, map, position, Some, None, IfOk, IfErr, IsErrOf};
+ghost use Rattle.std.specs.Prelude.{◌≡◌, ◌≢◌, ◌<◌, ◌≤◌, ◌⊎◌, List, ℕ, length, map, position, Some, None, IfOk, IfErr, IsErrOf};
 ghost use Rattle.std.specs.List.{AllByRecursion};
 ghost use Rattle.cti_terms.specs.declared.predicates.Pred.{Pred as ThePred};
 ghost use Rattle.clause_normal.specs.Numbering.{is_equality};
-ghost use Rattle.cti_top.specs.Words.{Ask, asks, origin, usage_lines};
+ghost use Rattle.cti_top.specs.Words.{Ask, asks, origin, session, usage_lines};
 ghost use Rattle.report.specs.Generated.{generated};
 ghost use Rattle.cti_top.specs.Queries.{Known};
 ghost use Rattle.cti_top.specs.Known.{known_of, NamesBuiltins};
@@ -22,6 +22,7 @@ use crate::looping::loop_of;
 use crate::refusal::Subject;
 use crate::request::{Origin, Refusal, Request, request_in, usage_text};
 use crate::running::run_of;
+use crate::session::session_of;
 use crate::source::{Source, SourceFault, program_in};
 use crate::status::Status;
 use outside::{Files, LoadFault};
@@ -41,6 +42,7 @@ fn answer_program<F: Files>(
     requires room { position (is_equality source.names) source.program.preds ≡ None → length source.program.clauses < 16385 }
     requires arithmetic { NamesBuiltins source.names source.program }
     requires range { IsAskInRange (ask_of request) }
+    requires program { (name : List ℕ) → ask_of request ≢ session name }
     ensures answered { IfOk result (λ a. (bytes : List ℕ) → IsKnown bytes (known_of source) → AnswersAsk (F.told files.old) bytes (ask_of request.entry) a.status a.text.items) }
     ensures file_fault { IsErrOf result Status.FileFault → CertificateRose (ask_of request.entry) (F.faults files.old) (F.faults files.new) }
     ensures others { IfErr result (λ e. (e ≡ Status.FileFault) ⊎ (e ≡ Status.Memory)) }
@@ -53,10 +55,11 @@ fn answer_program<F: Files>(
         Request::Generate(predicates) => Ok(gen_of(alloc, &source, predicates)?),
         Request::Lex(_) => Ok(lex_of(alloc, &source)?),
         Request::Loop(_, query, depth) => Ok(loop_of(alloc, source, query.as_bytes(), depth)?),
+        Request::Session(_) => unreachable!(),
     }
 }
 
-/// The answer to what is asked of the bytes of a program, or the status of a call that writes nothing.
+/// The answer to what is asked of the bytes of a program or of edits, or the status of a call that writes nothing.
 #[tactic(auto, using(crate::proofs::KeepLemmas::untouched, crate::proofs::KeepLemmas::loaded))]
 fn answer_text<F: Files>(
     alloc: Global,
@@ -71,6 +74,9 @@ fn answer_text<F: Files>(
     ensures others { IfErr result (λ e. (e ≡ Status.FileFault) ⊎ (e ≡ Status.Memory)) }
     ensures kept { Keeps (F.told files.old) (F.told files.new) (F.faults files.old) (F.faults files.new) }
 {
+    if let Request::Session(_) = request {
+        return Ok(session_of(alloc, bytes)?);
+    }
     match program_in(alloc, bytes) {
         Ok(source) => answer_program(alloc, source, request, files),
         Err(SourceFault::Refused { kind, at }) => {
@@ -94,7 +100,7 @@ fn generated(alloc: Global, predicates: u32) -> Result<Vec<u8>, LoadFault>
     }
 }
 
-/// The text of a program of this origin.
+/// The text of this origin.
 fn text_of<F: Files>(alloc: Global, origin: Origin, files: &mut F) -> Result<Vec<u8>, LoadFault>
     requires { IsInRange (origin_of origin) }
     ensures text { IfOk result (λ text. TellsText (F.told files.old) (origin_of origin.entry) text.items) }

@@ -1,7 +1,7 @@
 //! The command line, part by part, as `clap` reads it.
 
 ghost use Rattle.std.specs.Prelude.{◌≡◌, IfOk, false, codes};
-ghost use Rattle.cti_top.specs.Words.{command_line, top_command, infer_command, check_command, run_command, gen_command, lex_command, loop_command, required_word, option};
+ghost use Rattle.cti_top.specs.Words.{command_line, top_command, infer_command, check_command, run_command, gen_command, lex_command, loop_command, session_command, required_word, option};
 ghost use Rattle.cti_top.specs.CommandLine.{IsCommandLine};
 ghost use Rattle.clap.specs.declared.Command.TheViews.{out-Command};
 ghost use Rattle.clap.specs.Words.{app_of, rule_of, with_rule, with_subcommand};
@@ -102,6 +102,13 @@ fn find_loop<'a>(alloc: Global) -> Result<Command<'a>, AllocError>
     with_argument(find_loop, option(alloc, "depth"))
 }
 
+/// `session FILE`
+fn session<'a>(alloc: Global) -> Result<Command<'a>, AllocError>
+    ensures { IfOk result (IsCommandLine session_command) }
+{
+    with_argument(Command::new(alloc, "session"), word(alloc, "file"))
+}
+
 /// The command line of `infer` and `check`.
 fn first_commands<'a>(alloc: Global) -> Result<Command<'a>, AllocError>
     ensures { IfOk result (IsCommandLine (with_subcommand (with_subcommand top_command infer_command.top) check_command.top)) }
@@ -124,5 +131,6 @@ pub fn command_line<'a>(alloc: Global) -> Result<Command<'a>, AllocError>
     ensures { IfOk result (IsCommandLine command_line) }
 {
     let command = with_command(more_commands(alloc)?, lex(alloc)?)?;
-    with_command(command, find_loop(alloc)?)
+    let command = with_command(command, find_loop(alloc)?)?;
+    with_command(command, session(alloc)?)
 }

@@ -14,12 +14,14 @@ ghost use Rattle.cti_terms.specs.declared.atom_list.Atom.{Atom};
 ghost use Rattle.cti_terms.specs.declared.derivation.Goal.{Goal};
 ghost use Rattle.ld_resolver.specs.Count.{HasNodes};
 ghost use Rattle.term_size.specs.declared.any_norm.NormName.TheVariants as norm;
+ghost use Rattle.cti_session.specs.Edits.{Told};
 ghost use Rattle.cti_top.specs.Checks.{IsRefusedCertificate};
 ghost use Rattle.cti_top.specs.Meets.{MeetsMode};
 ghost use Rattle.cti_top.specs.Programs.{IsRefused};
 ghost use Rattle.cti_top.specs.Queries.{Known, IsQueryOf, IsQueryRefused};
 ghost use Rattle.cti_top.specs.Runs.{IsFinished, IsKnown};
-ghost use Rattle.cti_top.specs.Words.{asks, infer, check, lex, loop, norm_in, run};
+ghost use Rattle.cti_top.specs.Sessions.{IsRefusedSession, IsToldBy};
+ghost use Rattle.cti_top.specs.Words.{asks, infer, check, lex, loop, norm_in, run, session};
 
 use cert_checker::valid_certificates_bound_their_modes;
 use ld_resolver::laws::{a_budget_of_all_nodes_finishes, bounded_goals_have_finitely_many_nodes};
@@ -50,6 +52,7 @@ pub fn plain_words_ask()
     ensures lex { (c : ℕ) (cs : List ℕ) → nat_eq c 45 ≡ false → asks (codes "lex" ∷ (c ∷ cs) ∷ []) ≡ Some (lex (c ∷ cs)) }
     ensures find_loop { (c d : ℕ) (cs ds : List ℕ) → nat_eq c 45 ≡ false → nat_eq d 45 ≡ false
         → asks (codes "loop" ∷ (c ∷ cs) ∷ (d ∷ ds) ∷ []) ≡ Some (loop (c ∷ cs) (d ∷ ds) 8) }
+    ensures session { (c : ℕ) (cs : List ℕ) → nat_eq c 45 ≡ false → asks (codes "session" ∷ (c ∷ cs) ∷ []) ≡ Some (session (c ∷ cs)) }
 {}
 
 /// Bytes are exactly one program, with its names and operators, or they are refused, for one fault at one place; and never both. The same of
@@ -68,6 +71,18 @@ pub fn a_text_has_one_answer()
         → (kind ≡ other) × (at ≡ place) }
     ensures query_apart { (known : Known) (query : List ℕ) (names : List (List ℕ)) (p : Listing) (g : Goal) (kind at : ℕ) → IsQueryOf known query names p g
         → IsQueryRefused known query kind at → ⊥ }
+{}
+
+/// The edits of a text tell exactly one thing, by its names, or the text is refused, for one fault at one place; and never both.
+pub fn edits_have_one_outcome()
+    ensures some { (bytes : List ℕ) → ((names : List (List ℕ)) × (told : List Told) × IsToldBy bytes names told)
+        ⊎ ((kind : ℕ) × (at : ℕ) × IsRefusedSession bytes kind at) }
+    ensures told { (bytes : List ℕ) (names other : List (List ℕ)) (told more : List Told) → IsToldBy bytes names told → IsToldBy bytes other more
+        → (names ≡ other) × (told ≡ more) }
+    ensures refused { (bytes : List ℕ) (kind at other place : ℕ) → IsRefusedSession bytes kind at → IsRefusedSession bytes other place
+        → (kind ≡ other) × (at ≡ place) }
+    ensures apart { (bytes : List ℕ) (names : List (List ℕ)) (told : List Told) (kind at : ℕ) → IsToldBy bytes names told
+        → IsRefusedSession bytes kind at → ⊥ }
 {}
 
 /// A text within the limit is that of one certificate at most, or it is refused, at one line; and never both. A longer one is neither.

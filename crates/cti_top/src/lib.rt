@@ -17,6 +17,7 @@ mod querying;
 mod refusal;
 mod request;
 mod running;
+mod session;
 mod source;
 mod status;
 mod steps;

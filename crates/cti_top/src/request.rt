@@ -37,9 +37,11 @@ pub enum Request<'a> {
     Lex(&'a str),
     /// A loop of a query of the program in a file, and how many steps the derivations have that are looked at.
     Loop(&'a str, &'a str, u32),
+    /// What the edits in a file tell.
+    Session(&'a str),
 }
 
-/// Where the text of a program comes from.
+/// Where a text comes from.
 #[derive(Clone, Copy)]
 pub enum Origin<'a> {
     /// It is that of a file of this name.
@@ -49,7 +51,7 @@ pub enum Origin<'a> {
 }
 
 impl<'a> Request<'a> {
-    /// Where the text of its program comes from.
+    /// Where the text comes from that it is about.
     pub fn origin(self) -> Origin<'a>
         ensures { origin_of result ≡ origin (ask_of self.entry) }
     {
@@ -60,6 +62,7 @@ impl<'a> Request<'a> {
             Request::Generate(count) => Origin::Generated(count),
             Request::Lex(file) => Origin::File(file),
             Request::Loop(file, _, _) => Origin::File(file),
+            Request::Session(file) => Origin::File(file),
         }
     }
 }
@@ -169,6 +172,9 @@ fn request_by<'a>(name: &str, given: &ArgMatches<'a>) -> Result<Request<'a>, Ref
     if name == "lex" {
         return Ok(Request::Lex(file));
     }
+    if name == "session" {
+        return Ok(Request::Session(file));
+    }
     match steps_of(value(given, "steps")) {
         Some(steps) => Ok(Request::Run(file, word(given, "query"), steps)),
         None => Err(Refusal::Usage),
@@ -199,5 +205,6 @@ pub fn usage_text(alloc: Global) -> Result<Vec<u8>, AllocError>
     text.extend_from_slice(b"usage: cti gen N\n")?;
     text.extend_from_slice(b"usage: cti lex FILE\n")?;
     text.extend_from_slice(b"usage: cti loop FILE QUERY --depth D\n")?;
+    text.extend_from_slice(b"usage: cti session FILE\n")?;
     Ok(text)
 }

@@ -64,7 +64,7 @@ fn read_number(kind: ReadKind) -> u32
 }
 
 /// The number of the kind of a fault of the normal form.
-fn normal_number(kind: NormKind) -> u32
+pub fn normal_number(kind: NormKind) -> u32
     ensures { result ≡ normal_number kind }
 {
     match kind {

@@ -4,8 +4,9 @@ ghost use Rattle.std.specs.Prelude.{◌≡◌, ◌≤◌, List, ℕ, map, Some};
 ghost use Rattle.certificate.specs.Reading.{IsTextOf};
 ghost use Rattle.certificate.specs.declared.certificate.Certificate.{Certificate as TheCertificate};
 ghost use Rattle.outside.specs.Causes.{Rose};
-ghost use Rattle.cti_top.specs.Words.{Ask, asks, check, gen, infer, lex, loop, origin, query_of, run};
-ghost use Rattle.cti_top.specs.Programs.{IsRefused};
+ghost use Rattle.cti_session.specs.Edits.{Told};
+ghost use Rattle.cti_top.specs.Words.{Ask, asks, check, gen, infer, lex, loop, origin, query_of, run, session};
+ghost use Rattle.cti_top.specs.Sessions.{IsRefusedFor, IsToldBy};
 ghost use Rattle.cti_top.specs.Outcome.{FileRose, HasFile, HasText, IsCheckedOrMemory, IsDoneOrMemory, IsLoopedOrMemory, IsRanOrMemory, IsRefusedOrMemory, OriginRose, Outcome};
 ghost use Rattle.cti_top.specs.Queries.{IsQueryOf, Known};
 ghost use Rattle.cti_top.specs.Runs.{IsKnown, IsRefusedQuery};
@@ -32,7 +33,8 @@ use std::alloc::Global;
 /// minimal support of a component of at most 12 argument positions, and one at most of a larger one. `loop FILE QUERY --depth D` reads a query as `run` does, and looks at its derivations of at most D clauses, from 1 to 12, and else 8,
 /// but at no more than 100,000. It writes `loop(Before,Cycle).`, the clauses of the first that comes back to an atom that is more general
 /// than one that it passed, so that the query has derivations of every length; or `no_loop(N).` where none of all N does; or
-/// `stopped(100000).` where there are more. The answer is complete, and all memory is taken, before the first byte is written.
+/// `stopped(100000).` where there are more. `session FILE` reads a text of edits, `add(T)`, `del(K)` and `modes(N/A)`, does them in order from
+/// no clauses on, and writes for each `modes` the modes of that predicate for the program as it stands then. The answer is complete, and all memory is taken, before the first byte is written.
 #[tactic(auto, using(crate::proofs::KeepLemmas::untouched, crate::proofs::KeepLemmas::loaded))]
 pub fn command<F: Files, S: Sink>(
     alloc: Global,
@@ -79,13 +81,18 @@ pub fn command<F: Files, S: Sink>(
         → (Rose (F.faults files.old name) (F.faults files.new name) → ⊥) → (Rose (S.faults out.old) (S.faults out.new) → ⊥)
         → IsLoopedOrMemory result }
 
+    // The same of edits that can be done.
+    ensures complete_session { (name bytes : List ℕ) (names : List (List ℕ)) (told : List Told) → asks (map (λ w. w.now) words.entry.now) ≡ Some (session name)
+        → HasFile (F.told files.old) name bytes → IsToldBy bytes names told
+        → (Rose (F.faults files.old name) (F.faults files.new name) → ⊥) → (Rose (S.faults out.old) (S.faults out.new) → ⊥) → IsDoneOrMemory result }
+
     // The same of a generated text that is a program, for which no file is loaded.
     ensures complete_gen { (n : ℕ) (known : Known) → asks (map (λ w. w.now) words.entry.now) ≡ Some (gen n) → IsKnown (generated n) known
         → (Rose (S.faults out.old) (S.faults out.new) → ⊥) → IsDoneOrMemory result }
 
     // A text that is refused is answered by its refusal, in the same way, and so is a query.
     ensures complete_refused { (ask : Ask) (bytes : List ℕ) (kind at : ℕ) → asks (map (λ w. w.now) words.entry.now) ≡ Some ask → HasText (F.told files.old) (origin ask) bytes
-        → IsRefused bytes kind at → (OriginRose (origin ask) (F.faults files.old) (F.faults files.new) → ⊥) → (Rose (S.faults out.old) (S.faults out.new) → ⊥) → IsRefusedOrMemory result }
+        → IsRefusedFor ask bytes kind at → (OriginRose (origin ask) (F.faults files.old) (F.faults files.new) → ⊥) → (Rose (S.faults out.old) (S.faults out.new) → ⊥) → IsRefusedOrMemory result }
     ensures complete_query_refused { (ask : Ask) (query bytes : List ℕ) (kind at : ℕ) → asks (map (λ w. w.now) words.entry.now) ≡ Some ask
         → query_of ask ≡ Some query → HasText (F.told files.old) (origin ask) bytes → IsRefusedQuery bytes query kind at
         → (OriginRose (origin ask) (F.faults files.old) (F.faults files.new) → ⊥) → (Rose (S.faults out.old) (S.faults out.new) → ⊥)

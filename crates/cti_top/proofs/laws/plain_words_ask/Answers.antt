@@ -1,4 +1,4 @@
-use Rattle.cti_top.proofs.WordLemmas.{infer_asks, norm_asks, check_asks, run_asks, lex_asks, loop_asks}
+use Rattle.cti_top.proofs.WordLemmas.{infer_asks, norm_asks, check_asks, run_asks, lex_asks, loop_asks, session_asks}
 use Rattle.cti_top.proofs.laws.plain_words_ask.Goals as goal
 
 pub returns-clause-infer : goal.returns-clause-infer
@@ -18,3 +18,6 @@ returns-clause-lex c = lex_asks
 
 pub returns-clause-find_loop : goal.returns-clause-find_loop
 returns-clause-find_loop c = loop_asks
+
+pub returns-clause-session : goal.returns-clause-session
+returns-clause-session c = session_asks

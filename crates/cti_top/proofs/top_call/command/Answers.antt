@@ -3,8 +3,9 @@ use Rattle.report.specs.Generated.{generated}
 use Rattle.cti_top.specs.Outcome.{IsAnswer}
 use Rattle.cti_top.specs.declared.status.Status.{Status}
 use Rattle.cti_top.proofs.OneAnswer.{is_short, none_refused, no_query_refused}
+use Rattle.cti_top.proofs.OneSession.{told_or_refused, told_short}
 use Rattle.cti_top.proofs.RefusedLemmas.{refused_answer, refused_or_memory, query_refused_answer}
-use Rattle.cti_top.proofs.OutcomeLemmas.{not_file, outcome_of, done_or_memory, lexed_or_memory, summed_or_memory, ran_or_memory, looped_or_memory, checked_or_memory}
+use Rattle.cti_top.proofs.OutcomeLemmas.{not_file, outcome_of, done_or_memory, lexed_or_memory, played_or_memory, summed_or_memory, ran_or_memory, looped_or_memory, checked_or_memory}
 use Rattle.cti_top.proofs.top_call.command.Goals as goal
 
 pub returns-in-Ok-write_text-clause-outcome : goal.returns-in-Ok-write_text-clause-outcome
@@ -39,6 +40,11 @@ pub returns-in-Ok-write_text-clause-complete_loop : goal.returns-in-Ok-write_tex
 returns-in-Ok-write_text-clause-complete_loop g c name query bytes depth known names program goal asked has is as_goal calm still =
     looped_or_memory (g.F.Files.told c.args.files.now) (map (λ w. w.now) c.args.words.now) c.in-Ok.answer.status c.in-Ok.answer.text.items name query bytes depth c.in-Ok.ensures.answered asked has (is_short bytes known is) (none_refused bytes known is)
     (no_query_refused bytes query known names program goal is as_goal)
+
+pub returns-in-Ok-write_text-clause-complete_session : goal.returns-in-Ok-write_text-clause-complete_session
+returns-in-Ok-write_text-clause-complete_session g c name bytes names told asked has is calm still =
+    played_or_memory (g.F.Files.told c.args.files.now) (map (λ w. w.now) c.args.words.now) c.in-Ok.answer.status c.in-Ok.answer.text.items name bytes c.in-Ok.ensures.answered asked has
+    (told_short bytes names told is) (λ kind at. told_or_refused bytes names told kind at is)
 
 pub returns-in-Ok-write_text-clause-complete_gen : goal.returns-in-Ok-write_text-clause-complete_gen
 returns-in-Ok-write_text-clause-complete_gen g c n known asked is still =
