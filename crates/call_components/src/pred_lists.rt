@@ -54,7 +54,8 @@ impl PredLists {
     /// Adds a predicate at the end of a row.
     pub(crate) fn push(&mut self, number: u32, pred: PredId) -> Result<(), AllocError>
         requires { number < length self.old }
-        ensures ok { OnOk result (self.new ≡ slice_set self.old number (slice_index_or self.old number [] ++ pred.0 ∷ [])) }
+        ensures ok { OnOk result (self.new ≡ slice_set self.old number
+            (slice_index_or self.old number [] ++ pred.0 ∷ [])) }
     {
         self.rows[number as usize].push(pred)
     }
@@ -62,7 +63,8 @@ impl PredLists {
     /// Adds the predicates of these atoms at the end of a row.
     pub(crate) fn extend(&mut self, number: u32, atoms: &Atoms) -> Result<(), AllocError>
         requires { number < length self.old }
-        ensures ok { OnOk result (self.new ≡ slice_set self.old number (slice_index_or self.old number [] ++ map called_by_atom atoms.now)) }
+        ensures ok { OnOk result (self.new ≡ slice_set self.old number
+            (slice_index_or self.old number [] ++ map called_by_atom atoms.now)) }
     {
         self.rows[number as usize].extend_by(atoms)
     }

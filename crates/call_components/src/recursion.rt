@@ -35,7 +35,8 @@ pub(crate) fn recursive_numbers(
     requires below { All (λ number. number < numbering.now.count) numbering.now.of.items }
     ensures count { IfOk result (λ answers. length answers.items ≡ numbering.now.count) }
     ensures answer { IfOk result (λ answers. (c : ℕ) → c < numbering.now.count
-        → (slice_get answers.items c ≡ Some true) ↔ CallsWithin table.now numbering.now.of.items c (length table.now)) }
+        → (slice_get answers.items c ≡ Some true) ↔ CallsWithin table.now numbering.now.of.items c
+        (length table.now)) }
 {
     let mut answers = vec![in alloc; false; numbering.count as usize]?;
     for caller in 0..table.count() {

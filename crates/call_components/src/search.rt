@@ -108,7 +108,8 @@ impl Search {
 
     /// One step from the last segment: its next call, or its end, which makes it the next component.
     fn step(&mut self, table: &PredLists, last: Segment) -> Result<(), AllocError>
-        requires last { slice_get self.old.segments.items (length self.old.segments.items - 1) ≡ Some last }
+        requires last { slice_get self.old.segments.items (length self.old.segments.items - 1)
+            ≡ Some last }
         requires idle { IsIdle table.now self.old }
         ensures ok { OnOk result (IsIdle table.now self.new) }
         ensures kept { OnOk result (KeepsSeen self.old.marks self.new.marks) }

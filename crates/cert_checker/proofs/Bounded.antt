@@ -31,7 +31,7 @@ use Rattle.termination_model.specs.Grounds.{Family, HasArity}
 use Rattle.termination_model.specs.Rows.{Covers}
 use Rattle.termination_model.specs.Short.{DescendsProved, ServesProved, ShowsProved}
 use Rattle.cert_checker.specs.Bounding.{FactIsBounded, ModeIsBounded, ModesAreBounded}
-use Rattle.cert_checker.specs.Claimed.{claims_of, natural_coefficients, mapping_count, mapping_of, measure_of, measures_from, rank_of}
+use Rattle.cert_checker.specs.Claimed.{claims_of, natural_coefficients, mapping_count, mapping_of, measure_of, measures_from}
 use Rattle.number_tests.specs.Shape.{IsLevelPart, list_at}
 use Rattle.cert_checker.specs.Shape.{HaveLevels}
 use Rattle.cert_checker.specs.Norms.{norm_in}
@@ -40,6 +40,7 @@ use Rattle.cert_checker.proofs.Claims.{falls, ranked, sizes}
 use Rattle.number_tests.proofs.ColumnLengths.{an_element}
 use Rattle.cert_checker.proofs.PrintedModes.{listed_bounded, meets_row, rigid_is, same_pred}
 use Rattle.cert_checker.proofs.ShapeLaws.{arity_at, have_falls, have_levels, have_row_proofs, items_are, one_of, some_is}
+use Rattle.termination_model.specs.ComponentViews.{rank_in}
 
 -- the claims of parts, with the sets of truth rows that they spell
 abbrev claims : ((ℕ → ℕ) → Tree → ℕ) → ((ℕ → Bool) → Tree → Bool) → (ℕ → Tree → List ℤ) → Listing → Partition → Parts → Claims
@@ -73,14 +74,14 @@ count_of parts (q ∷ ms) n some each = each q refl
 
 module _ (size : (ℕ → ℕ) → Tree → ℕ) (truth : (ℕ → Bool) → Tree → Bool) (expression : ℕ → Tree → List ℤ) (norm : IsNorm size truth expression)
     (p : Listing) (comps : Partition) (parts : Parts) (prog : IsProgram p) (are : AreComponents p comps) (have : shape.HaveShape p comps parts) where
-  rank_in : (q r : ℕ) → IsIn comps r q → rank_of comps q ≡ r
-  rank_in q r h = indexed comps.of q r (length comps.members) h
+  rank_within : (q r : ℕ) → IsIn comps r q → rank_in comps q ≡ r
+  rank_within q r h = indexed comps.of q r (length comps.members) h
 
   levels : HaveLevels p comps parts
   levels = have_levels p comps parts have are
 
   -- a component has as many measures as each member has preconditions
-  measure_count : (q : ℕ) → q < length p.preds → length ((claims size truth expression p comps parts).measures (rank_of comps q)) ≡ length (shape.items_of parts.preconditions q)
+  measure_count : (q : ℕ) → q < length p.preds → length ((claims size truth expression p comps parts).measures (rank_in comps q)) ≡ length (shape.items_of parts.preconditions q)
   measure_count q lt =
       let (r, hq) = an_element comps.of q (omega (arith, lt, are.each)) in
       let ms = list_at comps.members r in
@@ -88,8 +89,8 @@ module _ (size : (ℕ → ℕ) → Tree → ℕ) (truth : (ℕ → Bool) → Tre
       let count : mapping_count parts ms ≡ length (list_at parts.levels q) = count_of parts ms (length (list_at parts.levels q)) (are.ascending r ms at).1
       (λ x e. levels.members x q ((are.members r ms at x).0 (has_contains ms x (0, e)) ∙ sym hq)) in
       let inner = one_of parts.preconditions have.preconditions q (list_at parts.preconditions q) (there parts.preconditions q [] (omega (arith, lt, have.preconditions.count))) in
-      measure_length parts (holding.precondition p parts) 0 (mapping_count parts (list_at comps.members (rank_of comps q)))
-      ∙ ap (λ (n : ℕ). mapping_count parts (list_at comps.members n)) (rank_in q r hq)
+      measure_length parts (holding.precondition p parts) 0 (mapping_count parts (list_at comps.members (rank_in comps q)))
+      ∙ ap (λ (n : ℕ). mapping_count parts (list_at comps.members n)) (rank_within q r hq)
       ∙ count
       ∙ sym (ap length (items_are parts.levels q))
       ∙ sym inner.count
@@ -103,7 +104,7 @@ module _ (size : (ℕ → ℕ) → Tree → ℕ) (truth : (ℕ → Bool) → Tre
   claim_modes : ClaimModes truth p comps parts (claims size truth expression p comps parts)
   claim_modes = record {
     truth = refl;
-    ranks = rank_in;
+    ranks = rank_within;
     grounds = refl;
     each = measure_count;
     measures = λ r m x e.
@@ -123,7 +124,7 @@ module _ (size : (ℕ → ℕ) → Tree → ℕ) (truth : (ℕ → Bool) → Tre
       closed = shown_modes.closed;
       stated = hold.stated;
       measures = λ r.
-          all_both (KeepsRows p (claims size truth expression p comps parts) r) (λ (m : Measure). AllByRecursion (λ (k : Clause). rank_of comps k.head.pred.0 ≡ r → DescendsProved (claims size truth expression p comps parts) m k) p.clauses)
+          all_both (KeepsRows p (claims size truth expression p comps parts) r) (λ (m : Measure). AllByRecursion (λ (k : Clause). rank_in comps k.head.pred.0 ≡ r → DescendsProved (claims size truth expression p comps parts) m k) p.clauses)
           (ServesProved p (claims size truth expression p comps parts) r) (λ m keeps descends. record { covered = keeps.covered; descends = descends; rule = keeps.rule })
           ((claims size truth expression p comps parts).measures r) (shown_modes.measures r)
           (falls size truth expression p comps parts (holding.grounds_of p parts) (holding.precondition p parts) prog are levels (have_falls p comps parts have are prog) hold.falls r);

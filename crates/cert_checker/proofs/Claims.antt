@@ -18,9 +18,10 @@ use Rattle.termination_model.specs.Grounds.{Family}
 use Rattle.termination_model.specs.Rows.{scaled, added}
 use Rattle.termination_model.specs.Short.{Provable, SizesProved, DescendsProved}
 use Rattle.termination_model.specs.Sizes.{rows_of}
-use Rattle.termination_model.specs.Systems.{row_over, short_system}
+use Rattle.termination_model.specs.Systems.{row_over}
+use Rattle.termination_model.specs.ShortSystems.{short_system}
 use Rattle.termination_model.proofs.Lists.{by_places, from_places, place_below, there}
-use Rattle.cert_checker.specs.Claimed.{claims_of, natural_coefficients, measure_of, measures_from, mapping_of, natural_offset, rank_of, mapping_count}
+use Rattle.cert_checker.specs.Claimed.{claims_of, natural_coefficients, measure_of, measures_from, mapping_of, natural_offset, mapping_count}
 use Rattle.number_tests.specs.Proved.{fall_of, level_of}
 use Rattle.cert_checker.specs.Proved.{FallsHold}
 use Rattle.linear_rows.specs.Showing.{AreMultipliers, IsShown}
@@ -30,6 +31,7 @@ use Rattle.cert_checker.specs.Shows.{ClausesAreRanked, FallsAreProved, SizesAreP
 use Rattle.cert_checker.proofs.LevelFacts.{level_parts}
 use Rattle.number_tests.proofs.ColumnLengths.{an_element}
 use Rattle.number_tests.proofs.Sized.{some_below}
+use Rattle.termination_model.specs.ComponentViews.{rank_in}
 
 pub natural_is : (x : ℤ) → pos 0 ≤ℤ x → pos (unsigned_abs x) ≡ x
 natural_is x h = omega (arith, ints)
@@ -90,14 +92,14 @@ module _ (size : (ℕ → ℕ) → Tree → ℕ) (truth : (ℕ → Bool) → Tre
     clause_is = by_places (IsClause p.preds) p.clauses prog.clauses
 
     -- a predicate is in the component that its rank names
-    in_rank : (vars : ℕ) (a : Atom) → IsAtom p.preds vars a → IsIn comps (rank_of comps a.pred.0) a.pred.0
+    in_rank : (vars : ℕ) (a : Atom) → IsAtom p.preds vars a → IsIn comps (rank_in comps a.pred.0) a.pred.0
     in_rank vars a is = there comps.of a.pred.0 (length comps.members) (omega (arith, are.each, some_below (λ (d : Pred). d.arity ≡ length a.args) p.preds a.pred.0 is.arity))
 
     module _ (levels : HaveLevels p comps parts) (have : HaveFalls p comps parts) (hold : FallsHold expression p comps parts) where
       -- a component's measures are the mappings of each member
-      measure_count : (vars : ℕ) (a : Atom) → IsAtom p.preds vars a → mapping_count parts (list_at comps.members (rank_of comps a.pred.0)) ≡ length (list_at parts.levels a.pred.0)
+      measure_count : (vars : ℕ) (a : Atom) → IsAtom p.preds vars a → mapping_count parts (list_at comps.members (rank_in comps a.pred.0)) ≡ length (list_at parts.levels a.pred.0)
       measure_count vars a is =
-          let r = rank_of comps a.pred.0 in
+          let r = rank_in comps a.pred.0 in
           let inside = in_rank vars a is in
           let at : slice_get comps.members r ≡ Some (list_at comps.members r) = there comps.members r [] (are.within r a.pred.0 inside) in
           count_of parts (list_at comps.members r) (length (list_at parts.levels a.pred.0)) (are.ascending r (list_at comps.members r) at).1
@@ -121,9 +123,9 @@ module _ (size : (ℕ → ℕ) → Tree → ℕ) (truth : (ℕ → Bool) → Tre
 
 pub falls : (size : (ℕ → ℕ) → Tree → ℕ) (truth : (ℕ → Bool) → Tree → Bool) (expression : ℕ → Tree → List ℤ) → FallsAreProved size truth expression
 falls size truth expression p comps parts grounds pre prog are levels have hold r =
-    all_measures parts pre (λ (m : Measure). AllByRecursion (λ (k : Clause). rank_of comps k.head.pred.0 ≡ r → DescendsProved (claims_of size truth expression comps parts grounds pre) m k) p.clauses)
+    all_measures parts pre (λ (m : Measure). AllByRecursion (λ (k : Clause). rank_in comps k.head.pred.0 ≡ r → DescendsProved (claims_of size truth expression comps parts grounds pre) m k) p.clauses)
     0 (mapping_count parts (list_at comps.members r)) (λ m lt.
-    from_places (λ (k : Clause). rank_of comps k.head.pred.0 ≡ r → DescendsProved (claims_of size truth expression comps parts grounds pre) (measure_of parts pre m) k) p.clauses (λ k c at same.
+    from_places (λ (k : Clause). rank_in comps k.head.pred.0 ≡ r → DescendsProved (claims_of size truth expression comps parts grounds pre) (measure_of parts pre m) k) p.clauses (λ k c at same.
     let is = by_places (IsClause p.preds) p.clauses prog.clauses k c at in
     let count = measure_count size truth expression p comps parts grounds pre prog are levels have hold c.vars c.head is.head in
     descends size truth expression p comps parts grounds pre prog are levels have hold k c at m (omega (arith, lt, count, ap (λ (n : ℕ). mapping_count parts (list_at comps.members n)) same))))
@@ -132,8 +134,8 @@ pub ranked : (size : (ℕ → ℕ) → Tree → ℕ) (truth : (ℕ → Bool) →
 ranked size truth expression p comps parts grounds pre prog are =
     from_places (IsRanked (claims_of size truth expression comps parts grounds pre)) p.clauses (λ k c at.
     let is = by_places (IsClause p.preds) p.clauses prog.clauses k c at in
-    from_places (λ (b : Atom). rank_of comps b.pred.0 ≤ rank_of comps c.head.pred.0) c.body (λ j b ej.
+    from_places (λ (b : Atom). rank_in comps b.pred.0 ≤ rank_in comps c.head.pred.0) c.body (λ j b ej.
     let atom = by_places (IsAtom p.preds c.vars) c.body is.body j b ej in
-    are.callees_first c.head.pred.0 b.pred.0 (rank_of comps c.head.pred.0) (rank_of comps b.pred.0)
+    are.callees_first c.head.pred.0 b.pred.0 (rank_in comps c.head.pred.0) (rank_in comps b.pred.0)
     (in_rank size truth expression p comps parts grounds pre prog are c.vars c.head is.head) (in_rank size truth expression p comps parts grounds pre prog are c.vars b atom)
     (any_at (λ (y : Clause). (y.head.pred.0 ≡ c.head.pred.0) × Any (λ (x : Atom). x.pred.0 ≡ b.pred.0) y.body) p.clauses k c at (refl, any_at (λ (x : Atom). x.pred.0 ≡ b.pred.0) c.body j b ej refl))))

@@ -24,12 +24,13 @@ use Rattle.termination_model.specs.Systems.{row_over, system}
 use Rattle.termination_model.specs.View.{Member, Place, Call, place_of, rule_of, system_of, view_of}
 use Rattle.termination_model.specs.View as view
 use Rattle.termination_model.proofs.Lists.{by_places, from_places, indexed, mapped_place, there}
-use Rattle.cert_checker.specs.Claimed.{claims_of, rank_of}
+use Rattle.cert_checker.specs.Claimed.{claims_of}
 use Rattle.cert_checker.specs.Excluded.{IsNatural, IsPairIn, RefutationsExclude, itself, pair_of}
 use Rattle.number_tests.specs.Refuting.{PointHolds, RowHolds, RowsHold, SumsRefute, atom_or_none, call_loads, call_of, clause_of, clause_or_none, head_loads, load_at, numbers_of, values_of}
 use Rattle.number_tests.specs.Shape.{IsPairOf, list_at}
 use Rattle.cert_checker.proofs.Claims.{natural_is, naturals_are}
 use Rattle.number_tests.proofs.ColumnLengths.{an_element}
+use Rattle.termination_model.specs.ComponentViews.{rank_in}
 
 -- an element that passes a test is among the mapped ones that do
 some_kept : {X Y : Type 0} → (t : X → Bool) (g : X → Y) (xs : List X) (i : ℕ) (x : X) → slice_get xs i ≡ Some x → t x ≡ true → SomeOf (λ (y : Y). y ≡ g x) (map g (filter t xs))
@@ -98,11 +99,11 @@ module _ (size : (ℕ → ℕ) → Tree → ℕ) (truth : (ℕ → Bool) → Tre
       let own = by_places (RowHolds x) (system expression (rows_of parts.rows) c.vars (take j c.body)) hold i row e in
       subst (λ (ns : List ℤ). pos 0 ≤ℤ dot row ns) (sym (numbers_are x is)) own.holds)))
 
-  rank_is : (q : ℕ) → IsIn comps r q → rank_of comps q ≡ r
+  rank_is : (q : ℕ) → IsIn comps r q → rank_in comps q ≡ r
   rank_is q e = indexed comps.of q r (length comps.members) e
 
   values_same : (n : ℕ) (ts : List Tree) (x : Point) → length x.w ≡ n → IsNatural x
-      → values_at truth expression n (map unsigned_abs x.w) (unsigned_abs x.t) ts ≡ values_of (map (expression (length x.w)) ts) x
+      → values_at expression n (map unsigned_abs x.w) (unsigned_abs x.t) ts ≡ values_of (map (expression (length x.w)) ts) x
   values_same n ts x same is =
       (λ i. natural_is x.t is.t i ∷ map (λ e. dot e (numbers_are x is i)) (map (expression n) ts)) ∙ ap (λ (k : ℕ). values_of (map (expression k) ts) x) (sym same)
 
@@ -121,13 +122,13 @@ module _ (size : (ℕ → ℕ) → Tree → ℕ) (truth : (ℕ → Bool) → Tre
         let (b, e) = an_element (clause_of p x).body (x.call - 1) (omega (arith, first, last, same)) in
         e ∙ ap (λ (o : Option Atom). Some (atom_or_none o)) (sym e)
 
-    is_pair : IsPair truth expression (view_of p claims r itself) (pair_of p claims r x)
+    is_pair : IsPair expression (view_of p claims r itself) (pair_of p claims r x)
     is_pair = record {
-      there = some_kept (λ (k : Clause). rank_of comps k.head.pred.0 == r) (rule_of claims r itself) p.clauses (x.clause - 1) (clause_of p x)
-          (pair.there ∙ ap Some (sym own)) (eq-eqb (rank_of comps (clause_of p x).head.pred.0) r (rank_is (clause_of p x).head.pred.0 inside.head));
+      there = some_kept (λ (k : Clause). rank_in comps k.head.pred.0 == r) (rule_of claims r itself) p.clauses (x.clause - 1) (clause_of p x)
+          (pair.there ∙ ap Some (sym own)) (eq-eqb (rank_in comps (clause_of p x).head.pred.0) r (rank_is (clause_of p x).head.pred.0 inside.head));
       call = mapped_place (view.call_of claims r itself) (clause_of p x).body (x.call - 1) (call_of p x) call_at;
-      member = let passes = eq-eqb (rank_of comps (call_of p x).pred.0) r (rank_is (call_of p x).pred.0 inside.call) in
-          place_yes (rank_of comps (call_of p x).pred.0 == r) passes;
+      member = let passes = eq-eqb (rank_in comps (call_of p x).pred.0) r (rank_is (call_of p x).pred.0 inside.call) in
+          place_yes (rank_in comps (call_of p x).pred.0 == r) passes;
       width = length-map x.point.w unsigned_abs ∙ width;
       holds = all_hold (clause_of p x) (x.call - 1) x.point inside.natural hold.0;
       point = elim inside.positive [
@@ -147,10 +148,10 @@ module _ (size : (ℕ → ℕ) → Tree → ℕ) (truth : (ℕ → Bool) → Tre
         place_yes true e = refl
         place_yes false e = cc
 
-    head_same : head_load truth expression (pair_of p claims r x) ≡ load_at expression (clause_of p x).head x.point
+    head_same : head_load expression (pair_of p claims r x) ≡ load_at expression (clause_of p x).head x.point
     head_same = ap (λ (vs : List ℤ). ((clause_of p x).head.pred.0, vs)) (values_same (clause_of p x).vars (clause_of p x).head.args x.point width inside.natural)
 
-    call_same : call_load truth expression (pair_of p claims r x) ≡ load_at expression (call_of p x) x.point
+    call_same : call_load expression (pair_of p claims r x) ≡ load_at expression (call_of p x) x.point
     call_same = ap (λ (vs : List ℤ). ((call_of p x).pred.0, vs)) (values_same (clause_of p x).vars (call_of p x).args x.point width inside.natural)
 
 pub in_range : (xs : List ℕ) (i d r : ℕ) → slice_index_or xs i d ≡ r → r < d → slice_get xs i ≡ Some r
@@ -159,14 +160,14 @@ in_range (x ∷ xs) zero d r e lt = ap Some e
 in_range (x ∷ xs) (suc i) d r e lt = in_range xs i d r e lt
 
 -- a number of another component is not that of a member
-other_number : (comps : Partition) (r q a : ℕ) → rank_of comps a ≡ r → (rank_of comps q == r) ≡ false → (a == q) ≡ false
+other_number : (comps : Partition) (r q a : ℕ) → rank_in comps a ≡ r → (rank_in comps q == r) ≡ false → (a == q) ≡ false
 other_number comps r q a own apart = go (a == q) refl
   where
     go : (b : Bool) → (a == q) ≡ b → b ≡ false
     go false e = refl
     go true e =
         let same : a ≡ q = eqb-true a q e in
-        let passes : (rank_of comps q == r) ≡ true = eq-eqb (rank_of comps q) r (sym (ap (rank_of comps) same) ∙ own) in
+        let passes : (rank_in comps q == r) ≡ true = eq-eqb (rank_in comps q) r (sym (ap (rank_in comps) same) ∙ own) in
         let both : true ≡ false = sym passes ∙ apart in
         cc
 
@@ -176,9 +177,9 @@ Whole expression p comps parts r x = IsPairOf p x × IsPairIn comps r p x × Poi
 
 pub excluded : (size : (ℕ → ℕ) → Tree → ℕ) (truth : (ℕ → Bool) → Tree → Bool) (expression : ℕ → Tree → List ℤ) → RefutationsExclude size truth expression
 excluded size truth expression p comps parts grounds pre prog are have hold q r f slot isin inside = record {
-  pairs = all_mapped (pair_of p c r) (Whole expression p comps parts r) (IsPair truth expression (view_of p c r itself)) (λ x h. let (one, two, three) = h in is_pair size truth expression p comps parts grounds pre r x one two three) f.points whole;
+  pairs = all_mapped (pair_of p c r) (Whole expression p comps parts r) (IsPair expression (view_of p c r itself)) (λ x h. let (one, two, three) = h in is_pair size truth expression p comps parts grounds pre r x one two three) f.points whole;
   positive = some_mapped (pair_of p c r) (λ (x : PairPoint). pos 1 ≤ℤ x.point.t) (λ (y : Pair). 1 ≤ y.t) (λ x some. omega (arith, ints, some)) f.points both.0.positive;
-  columns = λ a i. column a i (rank_of comps a == r) refl;
+  columns = λ a i. column a i (rank_in comps a == r) refl;
 }
   where
     c : Claims
@@ -199,24 +200,24 @@ excluded size truth expression p comps parts grounds pre prog are have hold q r 
     whole : AllByRecursion (Whole expression p comps parts r) f.points
     whole = from_places (Whole expression p comps parts r) f.points (λ i x e. (by_places (IsPairOf p) f.points (have.pairs q f slot) i x e, by_places (IsPairIn comps r p) f.points inside i x e, by_places (PointHolds expression p (rows_of parts.rows)) f.points both.1 i x e))
 
-    heads : map (head_load truth expression) (map (pair_of p c r) f.points) ≡ head_loads expression p f.points
-    heads = map_twice (pair_of p c r) (head_load truth expression) f.points
-        ∙ mapped_same (λ x. head_load truth expression (pair_of p c r x)) (λ x. load_at expression (clause_of p x).head x.point) f.points
-        (from_places (λ (x : PairPoint). head_load truth expression (pair_of p c r x) ≡ load_at expression (clause_of p x).head x.point) f.points
+    heads : map (head_load expression) (map (pair_of p c r) f.points) ≡ head_loads expression p f.points
+    heads = map_twice (pair_of p c r) (head_load expression) f.points
+        ∙ mapped_same (λ x. head_load expression (pair_of p c r x)) (λ x. load_at expression (clause_of p x).head x.point) f.points
+        (from_places (λ (x : PairPoint). head_load expression (pair_of p c r x) ≡ load_at expression (clause_of p x).head x.point) f.points
         (λ i x e. let (one, two, three) = by_places (Whole expression p comps parts r) f.points whole i x e in head_same size truth expression p comps parts grounds pre r x one two three))
 
-    calls : map (call_load truth expression) (map (pair_of p c r) f.points) ≡ call_loads expression p f.points
-    calls = map_twice (pair_of p c r) (call_load truth expression) f.points
-        ∙ mapped_same (λ x. call_load truth expression (pair_of p c r x)) (λ x. load_at expression (call_of p x) x.point) f.points
-        (from_places (λ (x : PairPoint). call_load truth expression (pair_of p c r x) ≡ load_at expression (call_of p x) x.point) f.points
+    calls : map (call_load expression) (map (pair_of p c r) f.points) ≡ call_loads expression p f.points
+    calls = map_twice (pair_of p c r) (call_load expression) f.points
+        ∙ mapped_same (λ x. call_load expression (pair_of p c r x)) (λ x. load_at expression (call_of p x) x.point) f.points
+        (from_places (λ (x : PairPoint). call_load expression (pair_of p c r x) ≡ load_at expression (call_of p x) x.point) f.points
         (λ i x e. let (one, two, three) = by_places (Whole expression p comps parts r) f.points whole i x e in call_same size truth expression p comps parts grounds pre r x one two three))
 
-    column : (a i : ℕ) (b : Bool) → (rank_of comps a == r) ≡ b
-        → entry (gather a (map (head_load truth expression) (map (pair_of p c r) f.points))) i ≤ℤ entry (gather a (map (call_load truth expression) (map (pair_of p c r) f.points))) i
+    column : (a i : ℕ) (b : Bool) → (rank_in comps a == r) ≡ b
+        → entry (gather a (map (head_load expression) (map (pair_of p c r) f.points))) i ≤ℤ entry (gather a (map (call_load expression) (map (pair_of p c r) f.points))) i
     column a i true e =
-        let own : slice_get comps.of a ≡ Some r = in_range comps.of a (length comps.members) r (eqb-true (rank_of comps a) r e) inner in
+        let own : slice_get comps.of a ≡ Some r = in_range comps.of a (length comps.members) r (eqb-true (rank_in comps a) r e) inner in
         let found = both.0.columns a ((are.members r members at a).1 own) i in
-        subst (λ (hs : List Load). entry (gather a hs) i ≤ℤ entry (gather a (map (call_load truth expression) (map (pair_of p c r) f.points))) i) (sym heads)
+        subst (λ (hs : List Load). entry (gather a hs) i ≤ℤ entry (gather a (map (call_load expression) (map (pair_of p c r) f.points))) i) (sym heads)
         (subst (λ (hs : List Load). entry (gather a (head_loads expression p f.points)) i ≤ℤ entry (gather a hs) i) (sym calls) found)
     column a i false e =
         let no_heads : gather a (head_loads expression p f.points) ≡ [] = none_gathered a (head_loads expression p f.points)
@@ -227,5 +228,5 @@ excluded size truth expression p comps parts grounds pre prog are have hold q r 
         (λ x h. let (one, g, three) = h in other_number comps r a (call_of p x).pred.0 (indexed comps.of (call_of p x).pred.0 r (length comps.members) g.call) e) f.points whole) in
         let first = ap (gather a) heads ∙ no_heads in
         let second = ap (gather a) calls ∙ no_calls in
-        subst (λ (xs : List ℤ). entry xs i ≤ℤ entry (gather a (map (call_load truth expression) (map (pair_of p c r) f.points))) i) (sym first)
+        subst (λ (xs : List ℤ). entry xs i ≤ℤ entry (gather a (map (call_load expression) (map (pair_of p c r) f.points))) i) (sym first)
         (subst (λ (xs : List ℤ). entry [] i ≤ℤ entry xs i) (sym second) (omega (arith, ints)))

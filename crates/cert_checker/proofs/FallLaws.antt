@@ -23,7 +23,7 @@ use Rattle.term_size.specs.Norm.{IsNorm}
 use Rattle.termination_model.proofs.Lists.{by_places, one_element}
 use Rattle.termination_model.specs.Replacing.{over_columns}
 use Rattle.termination_model.specs.Sizes.{rows_of}
-use Rattle.termination_model.specs.Systems.{short_system}
+use Rattle.termination_model.specs.ShortSystems.{short_system}
 use Rattle.cert_checker.specs.Fault.{FallFails, reason_of}
 use Rattle.cert_checker.specs.Finding.{FallsFail, Finds, MappingFails, MappingsFail, NoneFails}
 use Rattle.cert_checker.specs.Shape.{AreTogether}

@@ -29,7 +29,8 @@ use Rattle.termination_model.proofs.RowColumns.{columns_replace}
 use Rattle.termination_model.proofs.SystemLaws.{widths}
 use Rattle.termination_model.specs.Replacing.{AreColumns, over_columns}
 use Rattle.termination_model.specs.Sizes.{rows_of}
-use Rattle.termination_model.specs.Systems.{row_fits, row_over, short_system}
+use Rattle.termination_model.specs.Systems.{row_fits, row_over}
+use Rattle.termination_model.specs.ShortSystems.{short_system}
 use Rattle.cert_checker.specs.Fault.{RowFails, reason_number, reason_of}
 use Rattle.cert_checker.specs.Finding.{ByFails, Finds, NoneFails}
 use Rattle.cert_checker.specs.declared.fault.Fault.{Fault}

@@ -28,7 +28,7 @@ use Rattle.termination_model.specs.Systems.{system}
 use Rattle.termination_model.specs.View.{Call, Lower, Member, Place, Rule, fall_over, rule_of, system_of, upward_union, view_of}
 use Rattle.termination_model.specs.View as view
 use Rattle.termination_model.proofs.Refuted.{none_decreases}
-use Rattle.cert_checker.specs.Claimed.{claims_of, rank_of}
+use Rattle.cert_checker.specs.Claimed.{claims_of}
 use Rattle.cert_checker.specs.Excluded.{IsNatural, IsPairIn, itself, pair_of}
 use Rattle.cert_checker.proofs.AnyPartition.{parts_hold}
 use Rattle.cert_checker.proofs.Validity.{OneStructure}
@@ -39,6 +39,7 @@ use Rattle.cert_checker.specs.Valid.{ClaimsHold, PartsHold}
 use Rattle.cert_checker.proofs.Excludes.{excluded, in_range, system_same, take_mapped}
 use Rattle.cert_checker.proofs.Partitions.{together_is}
 use Rattle.cert_checker.proofs.ShapeLaws.{have_refutations, numbered_is, one_of}
+use Rattle.termination_model.specs.ComponentViews.{rank_in}
 
 amounts_are : (xs : List ℤ) → AreAmounts xs → All (λ x. pos 0 ≤ℤ x) xs
 amounts_are [] h k d lt = absurd (omega (arith, lt))
@@ -116,20 +117,20 @@ module _ (size : (ℕ → ℕ) → Tree → ℕ) (truth : (ℕ → Bool) → Tre
   abbrev claims : Claims
   claims = claims_of size truth expression comps parts grounds pre
 
-  decreases : MappingDecreases expression p comps (rows_of parts.rows) r l → Decreases truth expression (view_of p claims r itself) l
+  decreases : MappingDecreases expression p comps (rows_of parts.rows) r l → Decreases expression (view_of p claims r itself) l
   decreases d =
-      kept_all (λ (k : Clause). rank_of comps k.head.pred.0 == r) (rule_of claims r itself)
+      kept_all (λ (k : Clause). rank_in comps k.head.pred.0 == r) (rule_of claims r itself)
       (λ (k : Rule). (j : ℕ) (b : Call) (q : ℕ) → slice_get k.body j ≡ Some b → b.place ≡ Member q
-      → HoldsOn (suc k.vars) (system_of expression k.vars (take j k.body)) (fall_over truth expression k q b.args 1 l)) p.clauses (λ i k at passes j b q ej place.
+      → HoldsOn (suc k.vars) (system_of expression k.vars (take j k.body)) (fall_over expression k q b.args 1 l)) p.clauses (λ i k at passes j b q ej place.
       let (a, ea, same) = unmapped (view.call_of claims r itself) k.body j b ej in
-      let head : IsIn comps r k.head.pred.0 = in_range comps.of k.head.pred.0 (length comps.members) r (eqb-true (rank_of comps k.head.pred.0) r passes) inner in
-      let (own, number) = place_is (rank_of comps a.pred.0 == r) a.pred.0 q (upward_union claims a.pred.0) (ap (λ (x : Call). x.place) same ∙ place) in
-      let call : IsIn comps r a.pred.0 = in_range comps.of a.pred.0 (length comps.members) r (eqb-true (rank_of comps a.pred.0) r own) inner in
+      let head : IsIn comps r k.head.pred.0 = in_range comps.of k.head.pred.0 (length comps.members) r (eqb-true (rank_in comps k.head.pred.0) r passes) inner in
+      let (own, number) = place_is (rank_in comps a.pred.0 == r) a.pred.0 q (upward_union claims a.pred.0) (ap (λ (x : Call). x.place) same ∙ place) in
+      let call : IsIn comps r a.pred.0 = in_range comps.of a.pred.0 (length comps.members) r (eqb-true (rank_in comps a.pred.0) r own) inner in
       let rows : system expression (rows_of parts.rows) k.vars (take j k.body) ≡ system_of expression k.vars (take j (map (view.call_of claims r itself) k.body)) =
       sym (ap (system_of expression k.vars) (take_mapped (view.call_of claims r itself) j k.body) ∙ system_same size truth expression p comps parts grounds pre r k.vars (take j k.body)) in
-      subst (λ (rs : List (List ℤ)). HoldsOn (suc k.vars) rs (fall_over truth expression (rule_of claims r itself k) q b.args 1 l)) rows
-      (subst (λ (x : Call). HoldsOn (suc k.vars) (system expression (rows_of parts.rows) k.vars (take j k.body)) (fall_over truth expression (rule_of claims r itself k) q x.args 1 l)) same
-      (subst (λ (n : ℕ). HoldsOn (suc k.vars) (system expression (rows_of parts.rows) k.vars (take j k.body)) (fall_over truth expression (rule_of claims r itself k) n a.args 1 l)) number
+      subst (λ (rs : List (List ℤ)). HoldsOn (suc k.vars) rs (fall_over expression (rule_of claims r itself k) q b.args 1 l)) rows
+      (subst (λ (x : Call). HoldsOn (suc k.vars) (system expression (rows_of parts.rows) k.vars (take j k.body)) (fall_over expression (rule_of claims r itself k) q x.args 1 l)) same
+      (subst (λ (n : ℕ). HoldsOn (suc k.vars) (system expression (rows_of parts.rows) k.vars (take j k.body)) (fall_over expression (rule_of claims r itself k) n a.args 1 l)) number
       (d i k at head j a ea call))))
 
 pub nothing : Family
@@ -141,7 +142,7 @@ pub none_of_parts : (size : (ℕ → ℕ) → Tree → ℕ) (truth : (ℕ → Bo
 none_of_parts size truth expression p comps parts prog are have hold q r f slot isin l d =
     let (opens, some, ascend, all) = one_of parts.refutations have.refutations q (Some f) slot in
     let inside = all_map (shape.IsPairPoint p comps q) (IsPairIn comps r p) (pair_in p comps r q isin) f.points all in
-    none_decreases truth expression (view_of p (claims_of size truth expression comps parts nothing (λ _. nothing)) r itself)
+    none_decreases expression (view_of p (claims_of size truth expression comps parts nothing (λ _. nothing)) r itself)
     (map (pair_of p (claims_of size truth expression comps parts nothing (λ _. nothing)) r) f.points) l
     (excluded size truth expression p comps parts nothing (λ _. nothing) prog are (have_refutations p comps parts have) hold.refutations q r f slot isin inside)
     (decreases size truth expression p comps parts nothing (λ _. nothing) r (are.within r q isin) l d)

@@ -79,7 +79,7 @@ widths_are m n same [] h k d lt = absurd (omega (arith, lt))
 widths_are m n same (r ∷ rows) h zero d lt = h.0.0 ∙ same
 widths_are m n same (r ∷ rows) h (suc k) d lt = widths_are m n same rows h.1 k d (omega (arith, lt))
 
-pub multipliers_are : (m n : ℕ) → m ≡ n → (by : Multipliers) → shape.AreMultipliers m by → AreMultipliers n by
+pub multipliers_are : (m n : ℕ) → m ≡ n → (by : Multipliers) → shape.HaveMultipliers m by → AreMultipliers n by
 multipliers_are m n same by (each, scale, list) = record { each = each ∙ same; naturals = amounts_are by.list list; scale = scale.0 }
 
 pub level_is : (m n : ℕ) → m ≡ n → (l : LevelPart) → shape.IsLevel m l → IsLevelPart n l
@@ -117,7 +117,7 @@ module _ (p : Listing) where
 
   abbrev pub AreProofsOf : List Rows → List (List Multipliers) → Type 0
   AreProofsOf rows proofs =
-      AreEach (length p.clauses) (λ k. AreEach (shape.rows_of rows (shape.head_of p k)) (λ _. shape.AreMultipliers (shape.rows_of_atoms rows (shape.body_of p k)))) proofs
+      AreEach (length p.clauses) (λ k. AreEach (shape.rows_of rows (shape.head_of p k)) (λ _. shape.HaveMultipliers (shape.rows_of_atoms rows (shape.body_of p k)))) proofs
 
   pub sizes_of : (rows : List Rows) → AreRowsOf rows → AreSizes p.preds rows
   sizes_of rows have = record {
@@ -139,7 +139,7 @@ module _ (p : Listing) where
   }
     where
       clause_proofs : (k : ℕ) (c : Clause) → slice_get p.clauses k ≡ Some c
-          → AreEach (shape.rows_of parts.rows (shape.head_of p k)) (λ _. shape.AreMultipliers (shape.rows_of_atoms parts.rows (shape.body_of p k))) (list_at parts.row_proofs k)
+          → AreEach (shape.rows_of parts.rows (shape.head_of p k)) (λ _. shape.HaveMultipliers (shape.rows_of_atoms parts.rows (shape.body_of p k))) (list_at parts.row_proofs k)
       clause_proofs k c e = one_of parts.row_proofs have k (list_at parts.row_proofs k) (list_there parts.row_proofs (length p.clauses) k have.count (slice_get_within p.clauses k c e))
 
   module _ (comps : Partition) (parts : Parts) (have : shape.HaveShape p comps parts) where
@@ -231,19 +231,19 @@ module _ (p : Listing) where
 
       module _ (prog : IsProgram p) where
         clause_falls : (k : ℕ) (c : Clause) → slice_get p.clauses k ≡ Some c
-            → AreEach (length (shape.body_of p k)) (λ j. AreEach (shape.proofs_of_call comps parts.levels (shape.head_of p k) (slice_get (shape.body_of p k) j)) (λ _. shape.AreMultipliers (shape.rows_of_atoms parts.rows (take j (shape.body_of p k))))) (list_at parts.falls k)
+            → AreEach (length (shape.body_of p k)) (λ j. AreEach (shape.proofs_of_call comps parts.levels (shape.head_of p k) (slice_get (shape.body_of p k) j)) (λ _. shape.HaveMultipliers (shape.rows_of_atoms parts.rows (take j (shape.body_of p k))))) (list_at parts.falls k)
         clause_falls k c e = one_of parts.falls have.falls k (list_at parts.falls k) (list_there parts.falls (length p.clauses) k have.falls.count (slice_get_within p.clauses k c e))
 
         call_falls : (k j : ℕ) (c : Clause) (b : Atom) → slice_get p.clauses k ≡ Some c → slice_get c.body j ≡ Some b
-            → AreEach (shape.proofs_of_call comps parts.levels c.head.pred.0 (Some b)) (λ _. shape.AreMultipliers (shape.rows_of_atoms parts.rows (take j c.body))) (list_at (list_at parts.falls k) j)
+            → AreEach (shape.proofs_of_call comps parts.levels c.head.pred.0 (Some b)) (λ _. shape.HaveMultipliers (shape.rows_of_atoms parts.rows (take j c.body))) (list_at (list_at parts.falls k) j)
         call_falls k j c b e ej =
             let bs = body_at k c e in
             let inner = clause_falls k c e in
             let each = one_of (list_at parts.falls k) inner j (list_at (list_at parts.falls k) j)
             (list_there (list_at parts.falls k) (length c.body) j (inner.count ∙ ap length bs) (slice_get_within c.body j b ej)) in
-            let head = subst (λ (h : ℕ). AreEach (shape.proofs_of_call comps parts.levels h (slice_get (shape.body_of p k) j)) (λ _. shape.AreMultipliers (shape.rows_of_atoms parts.rows (take j (shape.body_of p k)))) (list_at (list_at parts.falls k) j)) (head_at k c e) each in
-            let body = subst (λ (s : List Atom). AreEach (shape.proofs_of_call comps parts.levels c.head.pred.0 (slice_get s j)) (λ _. shape.AreMultipliers (shape.rows_of_atoms parts.rows (take j s))) (list_at (list_at parts.falls k) j)) bs head in
-            subst (λ (o : Option Atom). AreEach (shape.proofs_of_call comps parts.levels c.head.pred.0 o) (λ _. shape.AreMultipliers (shape.rows_of_atoms parts.rows (take j c.body))) (list_at (list_at parts.falls k) j)) ej body
+            let head = subst (λ (h : ℕ). AreEach (shape.proofs_of_call comps parts.levels h (slice_get (shape.body_of p k) j)) (λ _. shape.HaveMultipliers (shape.rows_of_atoms parts.rows (take j (shape.body_of p k)))) (list_at (list_at parts.falls k) j)) (head_at k c e) each in
+            let body = subst (λ (s : List Atom). AreEach (shape.proofs_of_call comps parts.levels c.head.pred.0 (slice_get s j)) (λ _. shape.HaveMultipliers (shape.rows_of_atoms parts.rows (take j s))) (list_at (list_at parts.falls k) j)) bs head in
+            subst (λ (o : Option Atom). AreEach (shape.proofs_of_call comps parts.levels c.head.pred.0 o) (λ _. shape.HaveMultipliers (shape.rows_of_atoms parts.rows (take j c.body))) (list_at (list_at parts.falls k) j)) ej body
 
         together_is_true : (k j : ℕ) (c : Clause) (b : Atom) → slice_get p.clauses k ≡ Some c → AreTogether comps c.head.pred.0 b.pred.0 → shape.is_together comps c.head.pred.0 b.pred.0 ≡ true
         together_is_true k j c b e h =

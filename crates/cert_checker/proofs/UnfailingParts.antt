@@ -37,7 +37,8 @@ use Rattle.termination_model.specs.Grounds.{IsClosedUnder}
 use Rattle.termination_model.specs.Rows.{Covers}
 use Rattle.termination_model.specs.Sizes.{plain_or_none, rows_of}
 use Rattle.termination_model.specs.Stated.{AreStated, stated_rows}
-use Rattle.termination_model.specs.Systems.{row_over, short_system}
+use Rattle.termination_model.specs.Systems.{row_over}
+use Rattle.termination_model.specs.ShortSystems.{short_system}
 use Rattle.cert_checker.specs.Fault.{FactFails, reason_of}
 use Rattle.cert_checker.specs.Finding.{NoneFails}
 use Rattle.cert_checker.specs.ModeFaults.{mode_reason}

@@ -15,10 +15,7 @@ use Rattle.termination_model.specs.Grounds.{Family}
 use Rattle.termination_model.specs.Claims.{Mapping, Measure, Claims}
 use Rattle.termination_model.specs.Sizes.{rows_of}
 use Rattle.number_tests.specs.Shape.{list_at}
-
--- the component of a predicate
-abbrev pub rank_of : Partition → ℕ → ℕ
-rank_of comps q = slice_index_or comps.of q (length comps.members)
+use Rattle.termination_model.specs.ComponentViews.{rank_in}
 
 module _ (parts : Parts) where
   -- the mapping of number m
@@ -47,7 +44,7 @@ module _ (size : (ℕ → ℕ) → Tree → ℕ) (truth : (ℕ → Bool) → Tre
   claims_of comps parts grounds pre = record {
     size = size;
     truth = truth;
-    rank = rank_of comps;
+    rank = rank_in comps;
     expression = expression;
     rows = rows_of parts.rows;
     grounds = grounds;

@@ -55,4 +55,4 @@ module _ (size : (ℕ → ℕ) → Tree → ℕ) (truth : (ℕ → Bool) → Tre
       → IsProgram p → AreComponents p comps → HaveRefutations p parts → RefutationsHold expression p comps parts
       → (q r : ℕ) (f : Refutation) → slice_get parts.refutations q ≡ Some (Some f) → IsIn comps r q → AllByRecursion (IsPairIn comps r p) f.points
       → (let c = claims_of size truth expression comps parts grounds pre in
-      IsRefutation truth expression (view_of p c r itself) (map (pair_of p c r) f.points))
+      IsRefutation expression (view_of p c r itself) (map (pair_of p c r) f.points))

@@ -12,9 +12,10 @@ use Rattle.cert_structure.specs.declared.parts.Parts.{Parts}
 use Rattle.termination_model.specs.Grounds.{Family}
 use Rattle.termination_model.specs.Claims.{Measure, IsRanked}
 use Rattle.termination_model.specs.Short.{SizesProved, DescendsProved}
-use Rattle.cert_checker.specs.Claimed.{claims_of, rank_of}
+use Rattle.cert_checker.specs.Claimed.{claims_of}
 use Rattle.cert_checker.specs.Proved.{ByHold, FallsHold}
 use Rattle.cert_checker.specs.Shape.{HaveFalls, HaveLevels, HaveRowProofs}
+use Rattle.termination_model.specs.ComponentViews.{rank_in}
 
 module _ (size : (ℕ → ℕ) → Tree → ℕ) (truth : (ℕ → Bool) → Tree → Bool) (expression : ℕ → Tree → List ℤ) where
   -- a clause calls nothing of a higher component
@@ -37,4 +38,4 @@ module _ (size : (ℕ → ℕ) → Tree → ℕ) (truth : (ℕ → Bool) → Tre
       (p : Listing) (comps : Partition) (parts : Parts) (grounds : Family) (pre : ℕ → Family)
       → IsProgram p → AreComponents p comps → HaveLevels p comps parts → HaveFalls p comps parts → FallsHold expression p comps parts
       → (r : ℕ) → (let c = claims_of size truth expression comps parts grounds pre in
-      AllByRecursion (λ (m : Measure). AllByRecursion (λ (k : Clause). rank_of comps k.head.pred.0 ≡ r → DescendsProved c m k) p.clauses) (c.measures r))
+      AllByRecursion (λ (m : Measure). AllByRecursion (λ (k : Clause). rank_in comps k.head.pred.0 ≡ r → DescendsProved c m k) p.clauses) (c.measures r))

@@ -37,7 +37,7 @@ use cti_terms::{Names, Program};
 use std::alloc::{AllocError, Global};
 use term_size::AnyNorm;
 
-// The first fault of the numbers of a certificate, in the order of its lines: that of the first fact that fails.
+/// The first fault of the numbers of a certificate, in the order of its lines: that of the first fact that fails.
 fn number_fault(
     alloc: Global,
     p: &Program,
@@ -49,7 +49,8 @@ fn number_fault(
     requires components { AreComponents p.now comps.now }
     requires shape { HaveShape p.now comps.now parts.now }
     requires lines { AreLines parts.now lines }
-    ensures hold { IfOk result (λ fault. (fault ≡ None) ↔ NumbersHold (any_row norm.now) p.now comps.now parts.now) }
+    ensures hold { IfOk result
+        (λ fault. (fault ≡ None) ↔ NumbersHold (any_row norm.now) p.now comps.now parts.now) }
     ensures first { IfOk result (λ fault. (names : List (List ℕ)) → AreNamed names p.now.preds
         → AllPairs (λ a b. a ≢ b) names
         → Finds (FactFails p.now names (any_truth norm.now) (any_row norm.now) comps.now parts.now)
@@ -73,7 +74,7 @@ fn number_fault(
     Ok(fault)
 }
 
-// The first fault of the parts of a certificate, in the order of its lines: that of the modes, or else that of the numbers.
+/// The first fault of the parts of a certificate, in the order of its lines: that of the modes, or else that of the numbers.
 fn value_fault(
     alloc: Global,
     p: &Program,
@@ -100,7 +101,7 @@ fn value_fault(
     }
 }
 
-// The first fault of a certificate.
+/// The first fault of a certificate.
 fn first_fault(
     alloc: Global,
     p: &Program,
@@ -109,10 +110,16 @@ fn first_fault(
 ) -> Result<Option<Fault>, AllocError>
     requires named { AreNamed names.now p.now.preds }
     ensures valid { IfOk result (λ fault. (fault ≡ None) ↔ IsValid p.now names.now c.now.facts) }
-    ensures excluded { IfOk result (λ fault. fault ≡ None → RefutedHaveNoMapping p.now names.now c.now.facts) }
-    ensures structure { IfOk result (λ fault. (line : ℕ) (why : TheStructureReason) → HasStructureFault p.now names.now c.now.facts line why → fault ≡ Some (structure_fault line why)) }
-    ensures fault { IfOk result (λ fault. IfSome fault (λ f. IsFault p.now names.now c.now.facts f.line f.reason)) }
-    ensures values { IfOk result (λ fault. (line : ℕ) (why : TheReason) → IsValueFault p.now names.now c.now.facts line why → fault ≡ Some (record { line = line; reason = why })) }
+    ensures excluded { IfOk result (λ fault. fault ≡ None
+        → RefutedHaveNoMapping p.now names.now c.now.facts) }
+    ensures structure { IfOk result (λ fault. (line : ℕ) (why : TheStructureReason)
+        → HasStructureFault p.now names.now c.now.facts line why
+        → fault ≡ Some (structure_fault line why)) }
+    ensures fault { IfOk result
+        (λ fault. IfSome fault (λ f. IsFault p.now names.now c.now.facts f.line f.reason)) }
+    ensures values { IfOk result (λ fault. (line : ℕ) (why : TheReason)
+        → IsValueFault p.now names.now c.now.facts line why
+        → fault ≡ Some (record { line = line; reason = why })) }
 {
     // What every program and all names keep, and that the facts can be counted.
     p.preds();
@@ -153,10 +160,12 @@ pub fn check(
     ensures bounded { IfOk result (λ v. v ≡ Yes → ModesAreBounded p.now names.now c.now.facts) }
 
     // And no mapping of a component with a refutation decreases, for the size rows of the certificate.
-    ensures excluded { IfOk result (λ v. v ≡ Yes → RefutedHaveNoMapping p.now names.now c.now.facts) }
+    ensures excluded { IfOk result (λ v. v ≡ Yes
+        → RefutedHaveNoMapping p.now names.now c.now.facts) }
 
     // The answer is No with a line and a reason exactly where they are those of the first fault: of the structure, or else of the first fact that claims what does not hold.
-    ensures fault { IfOk result (λ v. (line : ℕ) (why : TheReason) → (v ≡ No line why) ↔ IsFault p.now names.now c.now.facts line why) }
+    ensures fault { IfOk result (λ v. (line : ℕ) (why : TheReason)
+        → (v ≡ No line why) ↔ IsFault p.now names.now c.now.facts line why) }
 {
     // No two names have the same text, and no two predicates the same name and arity.
     names.count();

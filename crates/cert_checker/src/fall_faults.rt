@@ -34,9 +34,9 @@ use std::alloc::{AllocError, Global};
 use term_size::Norm;
 use termination_model::replaced;
 
-// Why multipliers do not show that a mapping falls over the rows of a system, if they do not.
-//
-// The columns are those of the head's arguments and of the call's.
+/// Why multipliers do not show that a mapping falls over the rows of a system, if they do not.
+///
+/// The columns are those of the head's arguments and of the call's.
 fn mapping_flaw(
     alloc: Global,
     rows: &Rows,
@@ -49,17 +49,21 @@ fn mapping_flaw(
     requires weighed { CanBeWeighed columns.now head.now call.now }
     requires width { HaveWidth rows.now.width rows.now.list }
     requires count { length columns.now ≡ rows.now.width + 1 }
-    ensures shown { IfOk result (λ flaw. (flaw ≡ None) ↔ IsShown (plain_rows rows.now.list) (over_columns columns.now (fall_weights head.now call.now)) by.now) }
-    ensures fails { IfOk result (λ flaw. IfSome flaw (MultipliersFail (plain_rows rows.now.list) by.now.list (over_columns columns.now (fall_weights head.now call.now)) by.now.scale)) }
+    ensures shown { IfOk result
+        (λ flaw. (flaw ≡ None) ↔ IsShown (plain_rows rows.now.list)
+        (over_columns columns.now (fall_weights head.now call.now)) by.now) }
+    ensures fails { IfOk result
+        (λ flaw. IfSome flaw (MultipliersFail (plain_rows rows.now.list) by.now.list
+        (over_columns columns.now (fall_weights head.now call.now)) by.now.scale)) }
 {
     let weights = weigh_fall(alloc, head, call)?;
     let target = replaced(alloc, weights.as_slice(), columns)?;
     Ok(fall_flaw(rows, target, by))
 }
 
-// The first mapping that its multipliers do not show to fall. The first one has this line.
-//
-// The columns are those of the head's arguments and of the call's.
+/// The first mapping that its multipliers do not show to fall. The first one has this line.
+///
+/// The columns are those of the head's arguments and of the call's.
 fn mapping_fault(
     alloc: Global,
     rows: &Rows,
@@ -72,14 +76,19 @@ fn mapping_fault(
     requires heads { length heads.now ≡ length proofs.now }
     requires calls { length calls.now ≡ length proofs.now }
     requires multipliers { AllByRecursion (AreMultipliers (length rows.now.list)) proofs.now }
-    requires parts { (m : ℕ) (head call : LevelPart) → slice_get heads.now m ≡ Some head → slice_get calls.now m ≡ Some call → CanBeWeighed columns.now head call }
+    requires parts { (m : ℕ) (head call : LevelPart) → slice_get heads.now m ≡ Some head
+        → slice_get calls.now m ≡ Some call → CanBeWeighed columns.now head call }
     requires width { HaveWidth rows.now.width rows.now.list }
     requires count { length columns.now ≡ rows.now.width + 1 }
-    ensures hold { IfOk result (λ fault. (fault ≡ None) ↔ ((m : ℕ) (head call : LevelPart) (by : TheMultipliers)
-        → slice_get heads.now m ≡ Some head → slice_get calls.now m ≡ Some call → slice_get proofs.now m ≡ Some by
-        → IsShown (plain_rows rows.now.list) (over_columns columns.now (fall_weights head call)) by)) }
+    ensures hold { IfOk result
+        (λ fault. (fault ≡ None) ↔ ((m : ℕ) (head call : LevelPart) (by : TheMultipliers)
+        → slice_get heads.now m ≡ Some head → slice_get calls.now m ≡ Some call
+        → slice_get proofs.now m ≡ Some by
+        → IsShown (plain_rows rows.now.list)
+        (over_columns columns.now (fall_weights head call)) by)) }
     ensures first { IfOk result (λ fault. (k j : ℕ)
-        → Finds (MappingsFail (plain_rows rows.now.list) columns.now heads.now calls.now) line (lines_from 0 (falls_line k j) proofs.now) fault) }
+        → Finds (MappingsFail (plain_rows rows.now.list) columns.now heads.now calls.now) line
+        (lines_from 0 (falls_line k j) proofs.now) fault) }
 {
     for m in 0..proofs.len() {
         let flaw = mapping_flaw(alloc, rows, columns, &heads[m], &calls[m], &proofs[m])?;
@@ -93,7 +102,7 @@ fn mapping_fault(
     Ok(None)
 }
 
-// The first fall of a clause that is not shown. Clauses count from 1, and the first fall has the line `first`.
+/// The first fall of a clause that is not shown. Clauses count from 1, and the first fall has the line `first`.
 fn clause_fall_fault<N: Norm>(
     alloc: Global,
     p: &Program,
@@ -110,9 +119,12 @@ fn clause_fall_fault<N: Norm>(
     requires levels { HaveLevels p.now comps.now parts.now }
     requires falls { HaveFalls p.now comps.now parts.now }
     ensures hold { IfOk result (λ fault. (c : Clause) → slice_get p.now.clauses (k - 1) ≡ Some c
-        → (fault ≡ None) ↔ CallsFall (N.expression norm.now) comps.now parts.now c (list_at parts.now.falls (k - 1))) }
-    ensures first { IfOk result (Finds (FallsFail (N.expression norm.now) p.now comps.now parts.now) first
-        (facts_from 0 (λ j ms. lines_from 0 (falls_line (k - 1) j) ms) (list_at parts.now.falls (k - 1)))) }
+        → (fault ≡ None) ↔ CallsFall (N.expression norm.now) comps.now parts.now c
+        (list_at parts.now.falls (k - 1))) }
+    ensures first { IfOk result
+        (Finds (FallsFail (N.expression norm.now) p.now comps.now parts.now) first
+        (facts_from 0 (λ j ms. lines_from 0 (falls_line (k - 1) j) ms)
+        (list_at parts.now.falls (k - 1)))) }
 {
     let clause = p.clause(k);
     let component = comps.of(clause.head.pred);
@@ -142,9 +154,11 @@ fn clause_fall_fault<N: Norm>(
     Ok(None)
 }
 
-// The line after the falls of a clause, the first of which has the line `first`.
+/// The line after the falls of a clause, the first of which has the line `first`.
 fn line_after(proofs: &[Sequence<Multipliers>], first: u64) -> u64
-    ensures { (n : ℕ) → u64_saturate (result + n) ≡ u64_saturate (first + before (λ (ms : List TheMultipliers). length ms) proofs.now (length proofs.now) + n) }
+    ensures { (n : ℕ) → u64_saturate (result + n)
+        ≡ u64_saturate (first + before (λ (ms : List TheMultipliers). length ms) proofs.now
+        (length proofs.now) + n) }
 {
     let mut line = first;
     for own in proofs {
@@ -169,8 +183,11 @@ pub fn fall_fault<N: Norm>(
     requires sizes { AreSizes p.now.preds parts.now.rows }
     requires levels { HaveLevels p.now comps.now parts.now }
     requires falls { HaveFalls p.now comps.now parts.now }
-    ensures hold { IfOk result (λ fault. (fault ≡ None) ↔ FallsHold (N.expression norm.now) p.now comps.now parts.now) }
-    ensures first { IfOk result (Finds (FallsFail (N.expression norm.now) p.now comps.now parts.now) first (fall_facts parts.now.falls)) }
+    ensures hold { IfOk result
+        (λ fault. (fault ≡ None) ↔ FallsHold (N.expression norm.now) p.now comps.now parts.now) }
+    ensures first { IfOk result
+        (Finds (FallsFail (N.expression norm.now) p.now comps.now parts.now) first
+        (fall_facts parts.now.falls)) }
 {
     let mut line = first;
     for k in 0..p.clauses() {

@@ -17,14 +17,18 @@ ghost use Rattle.cert_checker.specs.declared.reason.Reason.{Reason};
 ///
 /// Together with the rules of truth rows these are the premises of `termination_model`'s `proofs_show`.
 pub fn numbers_show_claims()
-    ensures ranked { (size : (ℕ → ℕ) → Tree → ℕ) (truth : (ℕ → Bool) → Tree → Bool) (expression : ℕ → Tree → List ℤ) → ClausesAreRanked size truth expression }
-    ensures sizes { (size : (ℕ → ℕ) → Tree → ℕ) (truth : (ℕ → Bool) → Tree → Bool) (expression : ℕ → Tree → List ℤ) → SizesAreProved size truth expression }
-    ensures falls { (size : (ℕ → ℕ) → Tree → ℕ) (truth : (ℕ → Bool) → Tree → Bool) (expression : ℕ → Tree → List ℤ) → FallsAreProved size truth expression }
+    ensures ranked { (size : (ℕ → ℕ) → Tree → ℕ) (truth : (ℕ → Bool) → Tree → Bool) (expression : ℕ
+        → Tree → List ℤ) → ClausesAreRanked size truth expression }
+    ensures sizes { (size : (ℕ → ℕ) → Tree → ℕ) (truth : (ℕ → Bool) → Tree → Bool) (expression : ℕ
+        → Tree → List ℤ) → SizesAreProved size truth expression }
+    ensures falls { (size : (ℕ → ℕ) → Tree → ℕ) (truth : (ℕ → Bool) → Tree → Bool) (expression : ℕ
+        → Tree → List ℤ) → FallsAreProved size truth expression }
 {}
 
 /// Where a certificate's refutations hold, they are refutations of the views of its claims.
 pub fn refutations_are_those_of_views()
-    ensures { (size : (ℕ → ℕ) → Tree → ℕ) (truth : (ℕ → Bool) → Tree → Bool) (expression : ℕ → Tree → List ℤ) → RefutationsExclude size truth expression }
+    ensures { (size : (ℕ → ℕ) → Tree → ℕ) (truth : (ℕ → Bool) → Tree → Bool) (expression : ℕ → Tree
+        → List ℤ) → RefutationsExclude size truth expression }
 {}
 
 /// A certificate of a program is valid exactly where it has no fault: at no line, and for no reason.
@@ -32,7 +36,9 @@ pub fn refutations_are_those_of_views()
 /// The names are those of the program's predicates, and no two are alike. The partition is one into the program's
 /// components, as `components` finds it; which one does not matter.
 pub fn valid_certificates_have_no_fault()
-    ensures { (p : Listing) (names : List (List ℕ)) (facts : List Fact) (comps : Partition) → IsProgram p → AreNamed names p.preds → AllPairs (λ a b. a ≢ b) names → AreComponents p comps
+    ensures { (p : Listing) (names : List (List ℕ)) (facts : List Fact) (comps : Partition)
+        → IsProgram p → AreNamed names p.preds → AllPairs (λ a b. a ≢ b) names
+        → AreComponents p comps
         → IsValid p names facts ↔ ((line : ℕ) (why : Reason) → ¬ IsFault p names facts line why) }
 {}
 
@@ -40,7 +46,9 @@ pub fn valid_certificates_have_no_fault()
 ///
 /// The names are those of the program's predicates, and no two are alike.
 pub fn a_certificate_has_one_fault()
-    ensures { (p : Listing) (names : List (List ℕ)) (facts : List Fact) (line other : ℕ) (why because : Reason)
+    ensures { (p : Listing) (names : List (List ℕ)) (facts : List Fact) (line other : ℕ)
+        (why because : Reason)
         → IsProgram p → AreNamed names p.preds → AllPairs (λ a b. a ≢ b) names
-        → IsFault p names facts line why → IsFault p names facts other because → (line ≡ other) × (why ≡ because) }
+        → IsFault p names facts line why → IsFault p names facts other because → (line ≡ other)
+        × (why ≡ because) }
 {}

@@ -21,21 +21,21 @@ pub(crate) struct Lines {
     pub(crate) refutations: u64,
 }
 
-// The line of the first mode. That of the version comes before it, and that of the norm, if there is one.
+/// The line of the first mode. That of the version comes before it, and that of the norm, if there is one.
 fn first_mode(norm: Option<CertNorm>) -> u64
     ensures { result ≡ suc (length (head_facts norm)) }
 {
     if norm.is_some() { 3 } else { 2 }
 }
 
-// The line after this many facts.
+/// The line after this many facts.
 fn after(line: u64, facts: usize) -> u64
     ensures { result ≡ u64_saturate (line + facts) }
 {
     line.saturating_add(facts as u64)
 }
 
-// The line after the size rows, the first of which has the line `first`.
+/// The line after the size rows, the first of which has the line `first`.
 fn after_rows(rows: &SizeRows, first: u64) -> u64
     ensures { result ≡ u64_saturate (first + rows_in rows.now) }
 {
@@ -46,7 +46,7 @@ fn after_rows(rows: &SizeRows, first: u64) -> u64
     line
 }
 
-// The line after lists of facts.
+/// The line after lists of facts.
 fn after_lists<T>(lists: &[Sequence<T>], first: u64) -> u64
     ensures { result ≡ u64_saturate (first + count_in lists.now) }
 {
@@ -57,7 +57,7 @@ fn after_lists<T>(lists: &[Sequence<T>], first: u64) -> u64
     line
 }
 
-// The line after lists of such lists.
+/// The line after lists of such lists.
 fn after_all<T>(lists: &[Sequence<Sequence<T>>], first: u64) -> u64
     ensures { result ≡ u64_saturate (first + count_all lists.now) }
 {

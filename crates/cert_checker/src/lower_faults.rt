@@ -23,7 +23,7 @@ impl Reason {
     }
 }
 
-// What is wrong with the structure, as a reason of a certificate.
+/// What is wrong with the structure, as a reason of a certificate.
 fn structure_reason(reason: StructureReason) -> Reason
     ensures { result ≡ structure_reason reason }
 {
@@ -35,7 +35,7 @@ fn structure_reason(reason: StructureReason) -> Reason
     }
 }
 
-// The reason why modes fail, as one of a certificate.
+/// The reason why modes fail, as one of a certificate.
 fn mode_reason(reason: ModeReason) -> Reason
     ensures { result ≡ mode_reason reason }
 {

@@ -17,7 +17,7 @@ use call_components::Components;
 use cert_structure::{LevelPart, Parts};
 use cti_terms::{PredId, Program};
 
-// Whether all numbers are 0.
+/// Whether all numbers are 0.
 fn are_zero(numbers: &[i128]) -> bool
     ensures { IsTrue result ↔ AllByRecursion (λ a. a ≡ pos 0) numbers.now }
 {
@@ -29,17 +29,18 @@ fn are_zero(numbers: &[i128]) -> bool
     true
 }
 
-// Whether a predicate's part of a mapping is 0.
+/// Whether a predicate's part of a mapping is 0.
 fn is_zero(part: &LevelPart) -> bool
     ensures { IsTrue result ↔ IsZero part.now }
 {
     part.offset == 0 && are_zero(part.coeffs.as_slice())
 }
 
-// The first part that is not 0, where a component is not recursive. The first one has this line.
+/// The first part that is not 0, where a component is not recursive. The first one has this line.
 fn part_fault(recursive: bool, parts: &[LevelPart], line: u64) -> Option<Fault>
     ensures hold { (result ≡ None) ↔ (recursive ≡ false → AllByRecursion IsZero parts.now) }
-    ensures first { (pred : PredText) → recursive ≡ false → Finds PartsFail line (lines_from 0 (measure_line pred) parts.now) result }
+    ensures first { (pred : PredText) → recursive ≡ false
+        → Finds PartsFail line (lines_from 0 (measure_line pred) parts.now) result }
 {
     if recursive {
         return None;
@@ -65,8 +66,10 @@ pub fn measure_fault(p: &Program, comps: &Components, parts: &Parts, first: u64)
     ensures hold { (result ≡ None) ↔ MeasuresAreZero comps.now parts.now }
 
     // Predicates are distinguished by their texts.
-    ensures first { (names : List (List ℕ)) → AreNamed names p.now.preds → AllPairs (λ a b. a ≢ b) names
-        → Finds (MeasuresFail p.now names comps.now) first (level_facts p.now names parts.now.levels) result }
+    ensures first { (names : List (List ℕ)) → AreNamed names p.now.preds
+        → AllPairs (λ a b. a ≢ b) names
+        → Finds (MeasuresFail p.now names comps.now) first
+        (level_facts p.now names parts.now.levels) result }
 {
     let mut line = first;
     for q in 0..p.preds() {

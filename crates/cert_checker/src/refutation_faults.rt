@@ -26,7 +26,7 @@ use std::alloc::{AllocError, Global};
 use term_size::Norm;
 use termination_model::SizeRows;
 
-// The first fact of a refutation that does not hold: that of the sums, which has this line, or one of the points.
+/// The first fact of a refutation that does not hold: that of the sums, which has this line, or one of the points.
 fn group_fault<N: Norm>(
     alloc: Global,
     p: &Program,
@@ -38,10 +38,14 @@ fn group_fault<N: Norm>(
 ) -> Result<Option<Fault>, AllocError>
     requires sizes { AreSizes p.now.preds sizes.now }
     requires pairs { AllByRecursion (IsPairOf p.now) points.now }
-    ensures hold { IfOk result (λ fault. (fault ≡ None) ↔ (SumsRefute (N.expression norm.now) p.now (map number_of members.now) points.now
-        × AllByRecursion (PointHolds (N.expression norm.now) p.now (rows_of sizes.now)) points.now)) }
+    ensures hold { IfOk result
+        (λ fault. (fault ≡ None) ↔
+        (SumsRefute (N.expression norm.now) p.now (map number_of members.now) points.now
+        × AllByRecursion (PointHolds (N.expression norm.now) p.now
+        (rows_of sizes.now)) points.now)) }
     ensures first { IfOk result (λ fault. (pred : PredText)
-        → Finds (GroupFails (N.expression norm.now) p.now sizes.now (map number_of members.now) points.now) line (group_facts pred points.now) fault) }
+        → Finds (GroupFails (N.expression norm.now) p.now sizes.now
+        (map number_of members.now) points.now) line (group_facts pred points.now) fault) }
 {
     if let Some(flaw) = sums_flaw(alloc, p, norm, sizes, members, points)? {
         let reason = Reason::of(flaw, Reason::Refutation);
@@ -56,9 +60,10 @@ fn group_fault<N: Norm>(
     }))
 }
 
-// The line after the points of a refutation, the first of which has the line `first`.
+/// The line after the points of a refutation, the first of which has the line `first`.
 fn line_after(points: &[PairPoint], first: u64) -> u64
-    ensures { (n : ℕ) → u64_saturate (result + n) ≡ u64_saturate (first + before points_of points.now (length points.now) + n) }
+    ensures { (n : ℕ) → u64_saturate (result + n)
+        ≡ u64_saturate (first + before points_of points.now (length points.now) + n) }
 {
     let mut line = first;
     for x in points {
@@ -83,11 +88,15 @@ pub fn refutation_fault<N: Norm>(
     requires components { AreComponents p.now comps.now }
     requires sizes { AreSizes p.now.preds parts.now.rows }
     requires refutations { HaveRefutations p.now parts.now }
-    ensures hold { IfOk result (λ fault. (fault ≡ None) ↔ RefutationsHold (N.expression norm.now) p.now comps.now parts.now) }
+    ensures hold { IfOk result
+        (λ fault. (fault ≡ None) ↔ RefutationsHold
+        (N.expression norm.now) p.now comps.now parts.now) }
 
     // Predicates are distinguished by their texts.
-    ensures first { IfOk result (λ fault. (names : List (List ℕ)) → AreNamed names p.now.preds → AllPairs (λ a b. a ≢ b) names
-        → Finds (RefutationsFail (N.expression norm.now) p.now names comps.now parts.now) first (refuted_facts p.now names parts.now.refutations) fault) }
+    ensures first { IfOk result (λ fault. (names : List (List ℕ)) → AreNamed names p.now.preds
+        → AllPairs (λ a b. a ≢ b) names
+        → Finds (RefutationsFail (N.expression norm.now) p.now names comps.now parts.now) first
+        (refuted_facts p.now names parts.now.refutations) fault) }
 {
     let mut line = first;
     for q in 0..p.preds() {

@@ -27,7 +27,7 @@ use std::alloc::{AllocError, Global};
 use term_size::Norm;
 use termination_model::{SizeRows, columns};
 
-// Why multipliers do not show a size row over the rows of a system, if they do not. The columns are those of the head's arguments.
+/// Why multipliers do not show a size row over the rows of a system, if they do not. The columns are those of the head's arguments.
 fn row_flaw(
     alloc: Global,
     rows: &Rows,
@@ -39,14 +39,18 @@ fn row_flaw(
     requires width { HaveWidth rows.now.width rows.now.list }
     requires count { length columns.now ≡ rows.now.width + 1 }
     requires long { All (λ c. length c ≡ length (plain_row row.now)) columns.now }
-    ensures shown { IfOk result (λ flaw. (flaw ≡ None) ↔ IsShown (plain_rows rows.now.list) (over_columns columns.now (plain_row row.now)) by.now) }
-    ensures fails { IfOk result (λ flaw. IfSome flaw (MultipliersFail (plain_rows rows.now.list) by.now.list (over_columns columns.now (plain_row row.now)) by.now.scale)) }
+    ensures shown { IfOk result
+        (λ flaw. (flaw ≡ None) ↔ IsShown (plain_rows rows.now.list)
+        (over_columns columns.now (plain_row row.now)) by.now) }
+    ensures fails { IfOk result
+        (λ flaw. IfSome flaw (MultipliersFail (plain_rows rows.now.list) by.now.list
+        (over_columns columns.now (plain_row row.now)) by.now.scale)) }
 {
     let target = size_target(alloc, row, columns)?;
     Ok(size_flaw(rows, target, by))
 }
 
-// The first size row of a clause's head that its multipliers do not show. The first one has this line.
+/// The first size row of a clause's head that its multipliers do not show. The first one has this line.
 fn clause_size_fault<N: Norm>(
     alloc: Global,
     norm: &N,
@@ -57,10 +61,15 @@ fn clause_size_fault<N: Norm>(
 ) -> Result<Option<Fault>, AllocError>
     requires sized { IsSizedClause sizes.now clause.now }
     requires each { length proofs.now ≡ length (rows_of sizes.now clause.now.head.pred.0) }
-    requires multipliers { AllByRecursion (AreMultipliers (row_count (rows_of sizes.now) clause.now.body)) proofs.now }
-    ensures hold { IfOk result (λ fault. (fault ≡ None) ↔ RowsAreKept (N.expression norm.now) sizes.now clause.now proofs.now) }
-    ensures first { IfOk result (λ fault. (p : Listing) (k : ℕ) → slice_get p.clauses k ≡ Some clause.now
-        → Finds (ByFails (N.expression norm.now) p sizes.now) line (lines_from 0 (by_line k) proofs.now) fault) }
+    requires multipliers { AllByRecursion
+        (AreMultipliers (row_count (rows_of sizes.now) clause.now.body)) proofs.now }
+    ensures hold { IfOk result
+        (λ fault. (fault ≡ None) ↔ RowsAreKept
+        (N.expression norm.now) sizes.now clause.now proofs.now) }
+    ensures first { IfOk result (λ fault. (p : Listing) (k : ℕ)
+        → slice_get p.clauses k ≡ Some clause.now
+        → Finds (ByFails (N.expression norm.now) p sizes.now) line
+        (lines_from 0 (by_line k) proofs.now) fault) }
 {
     let own = sizes.get(clause.head.pred.0 as usize);
     let mut system = first_system(alloc, norm, sizes, clause)?;
@@ -100,8 +109,10 @@ pub fn size_fault<N: Norm>(
 ) -> Result<Option<Fault>, AllocError>
     requires sizes { AreSizes p.now.preds parts.now.rows }
     requires proofs { HaveRowProofs p.now parts.now }
-    ensures hold { IfOk result (λ fault. (fault ≡ None) ↔ ByHold (N.expression norm.now) p.now parts.now) }
-    ensures first { IfOk result (Finds (ByFails (N.expression norm.now) p.now parts.now.rows) first (proof_facts parts.now.row_proofs)) }
+    ensures hold { IfOk result
+        (λ fault. (fault ≡ None) ↔ ByHold (N.expression norm.now) p.now parts.now) }
+    ensures first { IfOk result (Finds (ByFails (N.expression norm.now) p.now parts.now.rows) first
+        (proof_facts parts.now.row_proofs)) }
 {
     let mut line = first;
     for k in 0..p.clauses() {

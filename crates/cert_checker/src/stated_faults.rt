@@ -19,21 +19,21 @@ use cti_terms::{Builtin, PredId, Program};
 use linear_rows::{Row, Rows};
 use termination_model::SizeRows;
 
-// Whether a row is the one that is stated of `is`: the size of its first argument is 0.
+/// Whether a row is the one that is stated of `is`: the size of its first argument is 0.
 fn is_row_of_is(row: &Row) -> bool
     ensures { IsTrue result ↔ (is_row ≡ plain_row row.now) }
 {
     row.constant == 0 && row.coeffs.as_slice() == [-1, 0].as_slice()
 }
 
-// Whether a row is stated of built-in predicates of this kind.
+/// Whether a row is stated of built-in predicates of this kind.
 fn is_stated(kind: Builtin, row: &Row) -> bool
     ensures { IsTrue result ↔ In (plain_row row.now) (stated_rows kind) }
 {
     kind == Builtin::Is && is_row_of_is(row)
 }
 
-// The first row that is not stated of predicates of this kind, where they are built in. The first one has this line.
+/// The first row that is not stated of predicates of this kind, where they are built in. The first one has this line.
 fn foreign_fault(kind: Option<Builtin>, rows: &Rows, line: u64) -> Option<Fault>
     ensures hold { (result ≡ None) ↔ ((b : TheBuiltin) → kind ≡ Some b
         → AllByRecursion (λ r. In r (stated_rows b)) (plain_rows rows.now.list)) }
@@ -61,7 +61,8 @@ pub fn stated_fault(p: &Program, sizes: &SizeRows, first: u64) -> Option<Fault>
     ensures hold { (result ≡ None) ↔ AreStated p.now.arithmetic (rows_of sizes.now) }
 
     // Predicates are distinguished by their texts.
-    ensures first { (names : List (List ℕ)) → AreNamed names p.now.preds → AllPairs (λ a b. a ≢ b) names
+    ensures first { (names : List (List ℕ)) → AreNamed names p.now.preds
+        → AllPairs (λ a b. a ≢ b) names
         → Finds (SizesFail p.now names) first (size_facts p.now names sizes.now) result }
 {
     let mut line = first;

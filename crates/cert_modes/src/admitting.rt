@@ -30,7 +30,8 @@ pub(crate) fn mark_refused(
     requires marks { length marks.old ≡ length p.now.preds }
     ensures each { length marks.new ≡ length marks.old }
     ensures admitted { (q : ℕ) → IsMarked ((d : TheDiagram) → slice_get sets.now q ≡ Some d
-        → IsTrue (list_all (λ mode. truth_rows table.now d (mode_row mode 1 (arity_in p.now q))) (items_of modes.now q))) ModeReason.Mode
+        → IsTrue (list_all (λ mode. truth_rows table.now d (mode_row mode 1 (arity_in p.now q)))
+        (items_of modes.now q))) ModeReason.Mode
         (mark_at marks.old q) (mark_at marks.new q) }
 {
     for q in 0..p.preds() {
@@ -40,12 +41,13 @@ pub(crate) fn mark_refused(
     }
 }
 
-// Whether a set has the row of each mode.
+/// Whether a set has the row of each mode.
 fn are_admitted(table: &Table, set: Diagram, modes: &[Sequence<u32>], arity: u32) -> bool
     requires known { IsDiagram table.now set }
     requires reads { ReadsBelow table.now set arity }
     requires narrow { arity ≤ MOST_ARGUMENTS }
-    ensures { result ≡ list_all (λ mode. truth_rows table.now set (mode_row mode 1 arity)) modes.now }
+    ensures { result ≡ list_all
+        (λ mode. truth_rows table.now set (mode_row mode 1 arity)) modes.now }
 {
     for mode in modes {
         if !admits(table, set, mode.as_slice(), arity) {

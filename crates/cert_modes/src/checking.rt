@@ -38,8 +38,10 @@ pub fn mode_fault<N: Norm>(
 ) -> Result<Option<ModeFault>, AllocError>
     requires components { AreComponents p.now comps.now }
     requires shape { HaveSets p.now parts.now }
-    ensures hold { IfOk result (λ fault. (fault ≡ None) ↔ ModesHold (N.truth norm.now) p.now comps.now parts.now) }
-    ensures first { IfOk result (λ fault. IfSome fault (IsFirstPred (N.truth norm.now) p.now comps.now parts.now line)) }
+    ensures hold { IfOk result
+        (λ fault. (fault ≡ None) ↔ ModesHold (N.truth norm.now) p.now comps.now parts.now) }
+    ensures first { IfOk result
+        (λ fault. IfSome fault (IsFirstPred (N.truth norm.now) p.now comps.now parts.now line)) }
 {
     let mut table = Table::new(alloc)?;
     let sets = Sets::new(alloc, &mut table, p, parts)?;
@@ -47,7 +49,7 @@ pub fn mode_fault<N: Norm>(
     Ok(marks.first(line))
 }
 
-// The first reason why the modes of each predicate fail, where they do.
+/// The first reason why the modes of each predicate fail, where they do.
 fn marks_of<N: Norm>(
     alloc: Global,
     norm: &N,
@@ -62,7 +64,8 @@ fn marks_of<N: Norm>(
     requires ready { AreReady p.now table.old sets.now }
     requires spell { SpellParts p.now parts.now table.old sets.now }
     ensures each { IfOk result (λ marks. length marks ≡ length p.now.preds) }
-    ensures told { IfOk result (λ marks. (q : ℕ) → MarkTells (N.truth norm.now) p.now comps.now parts.now q (mark_at marks q)) }
+    ensures told { IfOk result (λ marks. (q : ℕ)
+        → MarkTells (N.truth norm.now) p.now comps.now parts.now q (mark_at marks q)) }
 {
     let ranks = component_numbers(alloc, p, comps)?;
     let mut marks = Marks::new(alloc, p.preds() as usize)?;

@@ -14,11 +14,14 @@ use cti_terms::Clause;
 pub(crate) fn choose(sets: &Sets, mapping: usize, clause: &Clause, chosen: &mut [Diagram])
     requires each { length chosen.old ≡ length sets.now.preconditions }
     requires head { clause.now.head.pred.0 < length sets.now.preconditions }
-    requires body { (j : ℕ) (b : Atom) → slice_get clause.now.body j ≡ Some b → b.pred.0 < length sets.now.preconditions }
+    requires body { (j : ℕ) (b : Atom) → slice_get clause.now.body j ≡ Some b
+        → b.pred.0 < length sets.now.preconditions }
     ensures each { length chosen.new ≡ length chosen.old }
-    ensures head { slice_get chosen.new clause.now.head.pred.0 ≡ Some (set_at sets.now.preconditions sets.now.none mapping clause.now.head.pred.0) }
+    ensures head { slice_get chosen.new clause.now.head.pred.0
+        ≡ Some (set_at sets.now.preconditions sets.now.none mapping clause.now.head.pred.0) }
     ensures body { (j : ℕ) (b : Atom) → slice_get clause.now.body j ≡ Some b
-        → slice_get chosen.new b.pred.0 ≡ Some (set_at sets.now.preconditions sets.now.none mapping b.pred.0) }
+        → slice_get chosen.new b.pred.0
+        ≡ Some (set_at sets.now.preconditions sets.now.none mapping b.pred.0) }
     ensures others { (q : ℕ) → (slice_get chosen.new q ≡ slice_get chosen.old q)
         ⊎ (slice_get chosen.new q ≡ Some (set_at sets.now.preconditions sets.now.none mapping q)) }
 {

@@ -30,7 +30,9 @@ pub(crate) fn mark_open<N: Norm>(
     requires marks { length marks.old ≡ length p.now.preds }
     ensures keeps { Keeps table.old table.new }
     ensures each { OnOk result (length marks.new ≡ length marks.old) }
-    ensures closed { OnOk result ((q : ℕ) → IsMarked (ClosesIn (N.truth norm.now) p.now (family_of p.now.preds table.old sets.now) q) ModeReason.Ground
+    ensures closed { OnOk result ((q : ℕ)
+        → IsMarked (ClosesIn (N.truth norm.now) p.now
+        (family_of p.now.preds table.old sets.now) q) ModeReason.Ground
         (mark_at marks.old q) (mark_at marks.new q)) }
 {
     for k in 0..p.clauses() {
@@ -41,12 +43,14 @@ pub(crate) fn mark_open<N: Norm>(
     Ok(())
 }
 
-// Marks each built-in predicate whose set lacks the row of two rigid arguments. It takes no memory.
+/// Marks each built-in predicate whose set lacks the row of two rigid arguments. It takes no memory.
 fn mark_unstated(table: &Table, p: &Program, sets: &[Diagram], marks: &mut Marks)
     requires sets { AreSets p.now.preds table.now sets.now }
     requires marks { length marks.old ≡ length p.now.preds }
     ensures each { length marks.new ≡ length marks.old }
-    ensures stated { (q : ℕ) → IsMarked ((b : Builtin) → kind_of p.now.arithmetic q ≡ Some b → IsTrue (family_of p.now.preds table.now sets.now q (true ∷ (true ∷ [])))) ModeReason.Ground
+    ensures stated { (q : ℕ) → IsMarked ((b : Builtin) → kind_of p.now.arithmetic q ≡ Some b
+        → IsTrue (family_of p.now.preds table.now sets.now q
+        (true ∷ (true ∷ [])))) ModeReason.Ground
         (mark_at marks.old q) (mark_at marks.new q) }
 {
     for q in 0..p.preds() {
@@ -55,12 +59,13 @@ fn mark_unstated(table: &Table, p: &Program, sets: &[Diagram], marks: &mut Marks
     }
 }
 
-// Whether the set of a predicate has the row of two rigid arguments, if it is built in.
+/// Whether the set of a predicate has the row of two rigid arguments, if it is built in.
 fn has_stated_row(table: &Table, p: &Program, pred: PredId, set: Diagram) -> bool
     requires there { pred.0 < length p.now.preds }
     requires known { IsDiagram table.now set }
     requires reads { (n : ℕ) → HasArity p.now.preds pred.0 n → ReadsBelow table.now set n }
-    ensures { IsTrue result ↔ ((b : Builtin) → kind_of p.now.arithmetic pred.0 ≡ Some b → IsTrue (truth_rows table.now set (true ∷ (true ∷ [])))) }
+    ensures { IsTrue result ↔ ((b : Builtin) → kind_of p.now.arithmetic pred.0 ≡ Some b
+        → IsTrue (truth_rows table.now set (true ∷ (true ∷ [])))) }
 {
     let _program = p.clauses();
     match p.builtin(pred) {

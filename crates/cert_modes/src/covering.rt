@@ -27,10 +27,14 @@ pub(crate) fn mark_uncovered(
     requires levels { length levels.now ≡ length p.now.preds }
     requires sets { length sets.now ≡ length p.now.preds }
     requires marks { length marks.old ≡ length p.now.preds }
-    requires each { (q : ℕ) → q < length p.now.preds → HaveLevels table.old (arity_in p.now q) (items_of levels.now q) (items_of sets.now q) }
+    requires each { (q : ℕ) → q < length p.now.preds
+        → HaveLevels table.old (arity_in p.now q) (items_of levels.now q) (items_of sets.now q) }
     ensures keeps { Keeps table.old table.new }
     ensures each { OnOk result (length marks.new ≡ length marks.old) }
-    ensures covered { OnOk result ((q : ℕ) → IsMarked (q < length p.now.preds → AreCovered table.old (items_of levels.now q) (items_of sets.now q)) ModeReason.Precondition
+    ensures covered { OnOk result ((q : ℕ)
+        → IsMarked (q < length p.now.preds
+        → AreCovered table.old (items_of levels.now q)
+        (items_of sets.now q)) ModeReason.Precondition
         (mark_at marks.old q) (mark_at marks.new q)) }
 {
     for q in 0..p.preds() {
@@ -41,7 +45,7 @@ pub(crate) fn mark_uncovered(
     Ok(())
 }
 
-// Whether the rows of each mapping's set are true at its positive coefficients.
+/// Whether the rows of each mapping's set are true at its positive coefficients.
 fn are_covered(
     alloc: Global,
     table: &mut Table,
@@ -50,7 +54,8 @@ fn are_covered(
 ) -> Result<bool, AllocError>
     requires { (width : ℕ) × HaveLevels table.old width levels.now sets.now }
     ensures keeps { Keeps table.old table.new }
-    ensures covered { IfOk result (λ covered. IsTrue covered ↔ AreCovered table.old levels.now sets.now) }
+    ensures covered { IfOk result
+        (λ covered. IsTrue covered ↔ AreCovered table.old levels.now sets.now) }
 {
     for (mapping, level) in levels.iter().enumerate() {
         let positive = signs(alloc, level.coeffs.as_slice())?;
@@ -62,7 +67,7 @@ fn are_covered(
     Ok(true)
 }
 
-// Whether each of these numbers is positive.
+/// Whether each of these numbers is positive.
 fn signs(alloc: Global, numbers: &[i128]) -> Result<Vec<bool>, AllocError>
     ensures { IfOk result (λ signs. signs.items ≡ map is_positive numbers.now) }
 {
@@ -73,7 +78,7 @@ fn signs(alloc: Global, numbers: &[i128]) -> Result<Vec<bool>, AllocError>
     Ok(signs)
 }
 
-// Whether a number is positive.
+/// Whether a number is positive.
 fn is_positive(number: i128) -> bool
     ensures { result ≡ is_positive number }
 {

@@ -68,7 +68,7 @@ impl Marks {
     }
 }
 
-// A mark after a test: the first reason stays.
+/// A mark after a test: the first reason stays.
 fn noted(mark: Option<ModeReason>, holds: bool, reason: ModeReason) -> Option<ModeReason>
     ensures { result ≡ noted mark holds reason }
 {

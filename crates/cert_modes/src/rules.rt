@@ -35,14 +35,16 @@ pub(crate) fn mark_broken<N: Norm>(
     requires marks { length marks.old ≡ length p.now.preds }
     ensures keeps { Keeps table.old table.new }
     ensures each { OnOk result (length marks.new ≡ length marks.old) }
-    ensures kept { OnOk result ((q : ℕ) → IsMarked (OfPred p.now q (KeepsEach (N.truth norm.now) p.now table.old ranks.now sets.now)) ModeReason.Precondition
+    ensures kept { OnOk result ((q : ℕ)
+        → IsMarked (OfPred p.now q
+        (KeepsEach (N.truth norm.now) p.now table.old ranks.now sets.now)) ModeReason.Precondition
         (mark_at marks.old q) (mark_at marks.new q)) }
 {
     let mut chosen = vec![in alloc; sets.none; p.preds() as usize]?;
     mark_each(norm, table, p, ranks, sets, &mut chosen, marks)
 }
 
-// The same, with room for a set of each predicate.
+/// The same, with room for a set of each predicate.
 fn mark_each<N: Norm>(
     norm: &N,
     table: &mut Table,
@@ -58,7 +60,9 @@ fn mark_each<N: Norm>(
     requires marks { length marks.old ≡ length p.now.preds }
     ensures keeps { Keeps table.old table.new }
     ensures each { OnOk result (length marks.new ≡ length marks.old) }
-    ensures kept { OnOk result ((q : ℕ) → IsMarked (OfPred p.now q (KeepsEach (N.truth norm.now) p.now table.old ranks.now sets.now)) ModeReason.Precondition
+    ensures kept { OnOk result ((q : ℕ)
+        → IsMarked (OfPred p.now q
+        (KeepsEach (N.truth norm.now) p.now table.old ranks.now sets.now)) ModeReason.Precondition
         (mark_at marks.old q) (mark_at marks.new q)) }
 {
     for k in 0..p.clauses() {
@@ -68,7 +72,7 @@ fn mark_each<N: Norm>(
     Ok(())
 }
 
-// Whether a clause, counted from 1, keeps the rule in each mapping of its head. `chosen` has room for a set of each predicate.
+/// Whether a clause, counted from 1, keeps the rule in each mapping of its head. `chosen` has room for a set of each predicate.
 fn keeps_each<N: Norm>(
     norm: &N,
     table: &mut Table,

@@ -66,7 +66,7 @@ impl Sets {
     }
 }
 
-// The rows that the cubes of each predicate cover.
+/// The rows that the cubes of each predicate cover.
 fn ground_sets(
     alloc: Global,
     table: &mut Table,
@@ -75,7 +75,8 @@ fn ground_sets(
 ) -> Result<Vec<Diagram>, AllocError>
     requires each { length cubes.now ≡ length p.now.preds }
     ensures keeps { Keeps table.old table.new }
-    ensures rows { IfOk result (λ sets. HaveRows p.now table.new (λ q. covered (items_of cubes.now q)) sets.items) }
+    ensures rows { IfOk result
+        (λ sets. HaveRows p.now table.new (λ q. covered (items_of cubes.now q)) sets.items) }
 {
     let mut sets = Vec::new(alloc);
     for q in 0..p.preds() {
@@ -86,7 +87,7 @@ fn ground_sets(
     Ok(sets)
 }
 
-// The rows that the cubes of each predicate and each mapping cover.
+/// The rows that the cubes of each predicate and each mapping cover.
 fn precondition_sets(
     alloc: Global,
     table: &mut Table,
@@ -106,7 +107,7 @@ fn precondition_sets(
     Ok(sets)
 }
 
-// The rows that the cubes of each mapping cover.
+/// The rows that the cubes of each mapping cover.
 fn mapping_sets(
     alloc: Global,
     table: &mut Table,
@@ -125,7 +126,7 @@ fn mapping_sets(
     Ok(sets)
 }
 
-// The rows that some set of each predicate has with all upper rows.
+/// The rows that some set of each predicate has with all upper rows.
 fn allowed_sets(
     alloc: Global,
     table: &mut Table,
@@ -134,7 +135,9 @@ fn allowed_sets(
 ) -> Result<Vec<Diagram>, AllocError>
     requires sets { AreMappingSets p.now table.old sets.now }
     ensures keeps { Keeps table.old table.new }
-    ensures rows { IfOk result (λ allowed. HaveRows p.now table.new (λ q. upward table.old (items_of sets.now q)) allowed.items) }
+    ensures rows { IfOk result
+        (λ allowed. HaveRows p.now table.new
+        (λ q. upward table.old (items_of sets.now q)) allowed.items) }
 {
     let mut allowed = Vec::new(alloc);
     for q in 0..p.preds() {

@@ -20,7 +20,7 @@ use Rattle.cert_structure.specs.declared.fault.StructureReason.{StructureReason}
 use Rattle.cert_structure.specs.declared.fault.StructureReason.TheVariants as reason
 use Rattle.cert_structure.specs.Numbered.{facts_from, lines_from, EachFrom, AreEach}
 use Rattle.cert_structure.specs.Order.{mode_facts, size_facts, proof_facts, ground_facts, fall_facts, pre_facts, pred_text, size_line, by_line, grounds_line, measure_line, falls_line, pre_line}
-use Rattle.cert_structure.specs.Shape.{arity_in, head_of, body_of, rows_of, rows_of_atoms, items_of, is_recursive, first_of, mappings_of, proofs_of_call, IsMode, IsSizeRow, AreMultipliers, HasWidth, IsLevel}
+use Rattle.cert_structure.specs.Shape.{arity_in, head_of, body_of, rows_of, rows_of_atoms, items_of, is_recursive, first_of, mappings_of, proofs_of_call, IsMode, IsSizeRow, HaveMultipliers, HasWidth, IsLevel}
 use Rattle.cert_structure.specs.StructureFault.{HaveOnePlace, content_fault}
 use Rattle.cert_structure.specs.StructureFault as place
 use Rattle.cert_structure.specs.Walk.{Wrong, Read, Taken, at_place, item_of, go_on, result_map, with_first, same_pred, kept, is_mode, are_entries, row_read, multipliers_read, cube_read, level_read, take_modes, take_row, take_proof, take_ground, take_level, take_fall, take_pre, read_next, read_many, read_each, read_modes, read_rows, read_proofs, read_grounds, read_level, read_levels, read_call, read_calls, read_falls, read_cubes, read_pre}
@@ -228,7 +228,7 @@ no_row_right n = (many_zeros n, entries_are (pos 0 ∷ zeros n) (all n))
 abbrev no_multipliers : ℕ → Multipliers
 no_multipliers rows = record { scale = pos 0; list = zeros rows }
 
-no_multipliers_right : (rows : ℕ) → AreMultipliers rows (no_multipliers rows)
+no_multipliers_right : (rows : ℕ) → HaveMultipliers rows (no_multipliers rows)
 no_multipliers_right rows = (many_zeros rows, zero_amount, zeros_amounts rows)
 
 abbrev no_level : ℕ → LevelPart
@@ -452,7 +452,7 @@ module _ (comps : Partition) (rows : List Rows) (levels : List (List LevelPart))
   AreCallsFrom body j n calls = (length calls ≡ n) × EachFrom j (IsCall comps rows levels head k body) calls
 
   one_call : (done bs body : List Atom) (b : Atom) (j before : ℕ) (ms : List Multipliers) → body ≡ done ++ b ∷ bs → j ≡ length done → before ≡ rows_of_atoms rows done
-      → length ms ≡ proofs_of_call comps levels head (Some b) → EachFrom 0 (λ _. AreMultipliers before) ms → IsCall comps rows levels head k body j ms
+      → length ms ≡ proofs_of_call comps levels head (Some b) → EachFrom 0 (λ _. HaveMultipliers before) ms → IsCall comps rows levels head k body j ms
   one_call done bs body b j before ms whole here sum count each =
       let at : slice_get body j ≡ Some b = rw (whole, here) (place_behind done b bs) in
       let taken : take j body ≡ done = rw (whole, here) (front done (b ∷ bs)) in
@@ -461,7 +461,7 @@ module _ (comps : Partition) (rows : List Rows) (levels : List (List LevelPart))
   pub calls_fill : (bs done body : List Atom) (j before : ℕ) → body ≡ done ++ bs → j ≡ length done → before ≡ rows_of_atoms rows done → (calls : List (List Multipliers)) × AreCallsFrom body j (length bs) calls
   calls_fill [] done body j before whole here sum = ([], (refl, tt))
   calls_fill (b ∷ bs) done body j before whole here sum =
-      let (ms, count, each) = fill (λ _. AreMultipliers before) (proofs_of_call comps levels head (Some b)) (λ i below. (no_multipliers before, no_multipliers_right before)) 0
+      let (ms, count, each) = fill (λ _. HaveMultipliers before) (proofs_of_call comps levels head (Some b)) (λ i below. (no_multipliers before, no_multipliers_right before)) 0
       (proofs_of_call comps levels head (Some b)) (omega arith) in
       let (calls, h) = calls_fill bs (done ++ b ∷ []) body (suc j) (before + rows_of rows b.pred.0) (whole ∙ sym (append_assoc done (b ∷ []) bs))
       (ap suc here ∙ sym (one_longer done b)) (ap (λ n. n + rows_of rows b.pred.0) sum ∙ sym (rows_more rows done b)) in
@@ -477,7 +477,7 @@ module _ (comps : Partition) (rows : List Rows) (levels : List (List LevelPart))
       (λ first.
       let (calls, h) = calls_fill bs (done ++ b ∷ []) body (suc j) (before + rows_of rows b.pred.0) whole' here' sum' in
       ends_more _ _ (facts_from (suc j) call_lines calls) s w
-      (counted_ends (take_fall k j before) (falls_line k j) (AreMultipliers before) (fall_taken k j before) (no_multipliers before) (no_multipliers_right before) (fall_bad k j before (no_multipliers before))
+      (counted_ends (take_fall k j before) (falls_line k j) (HaveMultipliers before) (fall_taken k j before) (no_multipliers before) (no_multipliers_right before) (fall_bad k j before (no_multipliers before))
       (proofs_of_call comps levels head (Some b)) s w first)
       (λ l g. (g.0 ∷ calls, ap (λ z. z ++ facts_from (suc j) call_lines calls) g.1, (ap suc h.0, (one_call done bs body b j before g.0 whole here sum g.2 g.3, h.1)))))
       (λ q read more.
@@ -634,37 +634,37 @@ module _ (p : Listing) (names : List (List ℕ)) where
 
 module _ (p : Listing) (rows : List Rows) where
   abbrev pub AreProofs : List (List Multipliers) → Type 0
-  AreProofs xs = AreEach (length p.clauses) (λ k. AreEach (rows_of rows (head_of p k)) (λ _. AreMultipliers (rows_of_atoms rows (body_of p k)))) xs
+  AreProofs xs = AreEach (length p.clauses) (λ k. AreEach (rows_of rows (head_of p k)) (λ _. HaveMultipliers (rows_of_atoms rows (body_of p k)))) xs
 
-  one_proofs : (k : ℕ) → (x : List Multipliers) × AreEach (rows_of rows (head_of p k)) (λ _. AreMultipliers (rows_of_atoms rows (body_of p k))) x
+  one_proofs : (k : ℕ) → (x : List Multipliers) × AreEach (rows_of rows (head_of p k)) (λ _. HaveMultipliers (rows_of_atoms rows (body_of p k))) x
   one_proofs k =
-      let (xs, count, each) = fill (λ _. AreMultipliers (rows_of_atoms rows (body_of p k))) (rows_of rows (head_of p k))
+      let (xs, count, each) = fill (λ _. HaveMultipliers (rows_of_atoms rows (body_of p k))) (rows_of rows (head_of p k))
       (λ i below. (no_multipliers (rows_of_atoms rows (body_of p k)), no_multipliers_right (rows_of_atoms rows (body_of p k)))) 0 (rows_of rows (head_of p k)) (omega arith) in
       (xs, record { count = count; each = each })
 
   pub proofs_fill : (xs : List (List Multipliers)) × AreProofs xs
   proofs_fill =
-      let (xs, count, each) = fill (λ k ms. AreEach (rows_of rows (head_of p k)) (λ _. AreMultipliers (rows_of_atoms rows (body_of p k))) ms) (length p.clauses) (λ k below. one_proofs k) 0
+      let (xs, count, each) = fill (λ k ms. AreEach (rows_of rows (head_of p k)) (λ _. HaveMultipliers (rows_of_atoms rows (body_of p k))) ms) (length p.clauses) (λ k below. one_proofs k) 0
       (length p.clauses) (omega arith) in
       (xs, record { count = count; each = each })
 
   pub proofs_ends : (s : List Fact) (w : Wrong) → read_each (read_proofs p rows) 0 (length p.clauses) s ≡ Err w → Ends (λ l. (xs : List (List Multipliers)) × (l ≡ proof_facts xs) × AreProofs xs) s w
   unfolding read_proofs
   proofs_ends s w e =
-      ends_weaker _ _ s w (each_ends (read_proofs p rows) (λ k ms. lines_from 0 (by_line k) ms) (λ k ms. AreEach (rows_of rows (head_of p k)) (λ _. AreMultipliers (rows_of_atoms rows (body_of p k))) ms) (length p.clauses)
+      ends_weaker _ _ s w (each_ends (read_proofs p rows) (λ k ms. lines_from 0 (by_line k) ms) (λ k ms. AreEach (rows_of rows (head_of p k)) (λ _. HaveMultipliers (rows_of_atoms rows (body_of p k))) ms) (length p.clauses)
       (λ k below. one_proofs k) sound (λ k s w below fails. item k s w fails) 0 (length p.clauses) s w (omega arith) e)
       (λ l h. (h.0, h.1, record { count = h.2; each = h.3 }))
     where
       sound : (k : ℕ) (s t : List Fact) (x : List Multipliers) → read_proofs p rows k s ≡ Ok (x, t)
-          → (s ≡ lines_from 0 (by_line k) x ++ t) × AreEach (rows_of rows (head_of p k)) (λ _. AreMultipliers (rows_of_atoms rows (body_of p k))) x
+          → (s ≡ lines_from 0 (by_line k) x ++ t) × AreEach (rows_of rows (head_of p k)) (λ _. HaveMultipliers (rows_of_atoms rows (body_of p k))) x
       sound k s t x read =
           let (one, count, each) = counted_sound (take_proof k (rows_of_atoms rows (body_of p k))) (by_line k) _ (proof_taken k (rows_of_atoms rows (body_of p k))) 0 (rows_of rows (head_of p k)) s t x read in
           (one, record { count = count; each = each })
 
       item : (k : ℕ) (s : List Fact) (w : Wrong) → read_proofs p rows k s ≡ Err w
-          → Ends (λ l. (x : List Multipliers) × (l ≡ lines_from 0 (by_line k) x) × AreEach (rows_of rows (head_of p k)) (λ _. AreMultipliers (rows_of_atoms rows (body_of p k))) x) s w
+          → Ends (λ l. (x : List Multipliers) × (l ≡ lines_from 0 (by_line k) x) × AreEach (rows_of rows (head_of p k)) (λ _. HaveMultipliers (rows_of_atoms rows (body_of p k))) x) s w
       item k s w fails =
-          ends_weaker _ _ s w (counted_ends (take_proof k (rows_of_atoms rows (body_of p k))) (by_line k) (AreMultipliers (rows_of_atoms rows (body_of p k))) (proof_taken k (rows_of_atoms rows (body_of p k)))
+          ends_weaker _ _ s w (counted_ends (take_proof k (rows_of_atoms rows (body_of p k))) (by_line k) (HaveMultipliers (rows_of_atoms rows (body_of p k))) (proof_taken k (rows_of_atoms rows (body_of p k)))
           (no_multipliers (rows_of_atoms rows (body_of p k))) (no_multipliers_right (rows_of_atoms rows (body_of p k))) (proof_bad k (rows_of_atoms rows (body_of p k)) (no_multipliers (rows_of_atoms rows (body_of p k))))
           (rows_of rows (head_of p k)) s w fails)
           (λ l h. (h.0, h.1, record { count = h.2; each = h.3 }))

@@ -20,7 +20,7 @@ use Rattle.cert_structure.specs.declared.fault.StructureReason.TheVariants as re
 use Rattle.cert_structure.specs.declared.parts.Parts.{Parts}
 use Rattle.cert_structure.specs.Numbered.{facts_from, EachFrom, AreEach}
 use Rattle.cert_structure.specs.Order.{pred_text, head_facts, mode_facts, size_facts, proof_facts, ground_facts, level_facts, fall_facts, pre_facts, refuted_facts, refutation_facts, point_facts, at_facts, listed, is_note}
-use Rattle.cert_structure.specs.Shape.{IsPairPoint, PairsAscend, pair_of, arity_in, mappings_of, is_recursive, is_pair, IsLevel, IsRefutation, HaveShape}
+use Rattle.cert_structure.specs.Shape.{IsPairPoint, PairsAscend, place_of_pair, arity_in, mappings_of, is_recursive, is_pair, IsLevel, IsRefutation, HaveShape}
 use Rattle.cert_structure.specs.Structure.{IsStructured, AreNotes}
 use Rattle.cert_structure.specs.StructureFault.{HaveOnePlace, content_fault, claimed, IsBeginning, whole, short, IsStructureFault, missing, extra, content}
 use Rattle.cert_structure.specs.StructureFault as place
@@ -614,7 +614,7 @@ module _ (p : Listing) (names : List (List ℕ)) (comps : Partition) (h : AreCom
   points_quiet a (x ∷ xs) last (suc n) i fits ascend all =
       let read = point_given p comps a last x (facts_from (suc i) (λ _ x. point_facts x) xs) ascend.0 all.0 in
       subst (λ z. QuietEnd (z >>= λ x. result_map (with_first x.0) (read_points p comps a (x.0.clause, x.0.call) n x.1))) (sym read)
-      (quiet_map (λ ys. x ∷ ys) (read_points p comps a (pair_of x) n (facts_from (suc i) (λ _ x. point_facts x) xs)) (points_quiet a xs (pair_of x) n (suc i) (omega (arith, fits)) ascend.1 all.1))
+      (quiet_map (λ ys. x ∷ ys) (read_points p comps a (place_of_pair x) n (facts_from (suc i) (λ _ x. point_facts x) xs)) (points_quiet a xs (place_of_pair x) n (suc i) (omega (arith, fits)) ascend.1 all.1))
 
   group_quiet : (levels : Levels) (a : ℕ) (r : Refutation) (count : ℕ) → IsRefutation p comps levels a (Some r) → length r.points ≤ count
       → QuietEnd (read_refutation p names comps levels a (fact.Refuted (pred_text p names a) count ∷ facts_from 0 (λ _ x. point_facts x) r.points))

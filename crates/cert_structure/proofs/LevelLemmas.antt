@@ -14,7 +14,7 @@ use Rattle.linear_rows.specs.declared.row.Rows.{Rows}
 use Rattle.number_tests.specs.declared.level_part.LevelPart.{LevelPart}
 use Rattle.cert_structure.specs.Numbered.{facts_from, lines_from, EachFrom, AreEach}
 use Rattle.cert_structure.specs.Order.{text_or_none, pred_text, measure_line, falls_line}
-use Rattle.cert_structure.specs.Shape.{arity_in, rows_of, rows_of_atoms, items_of, is_recursive, first_of, mappings_of, proofs_of_call, AreMultipliers, IsLevel}
+use Rattle.cert_structure.specs.Shape.{arity_in, rows_of, rows_of_atoms, items_of, is_recursive, first_of, mappings_of, proofs_of_call, HaveMultipliers, IsLevel}
 use Rattle.cert_structure.specs.Walk.{same_pred, result_map, with_first, take_level, take_fall, read_each, read_next, read_many, read_level, read_levels, read_call, read_calls}
 use Rattle.cert_structure.proofs.SectionLemmas.{same_ok, bound, mapped, all_both, all_from, others_from, each_all, all_each, counted_sound, counted_back, many_sound, many_back}
 use Rattle.cert_structure.proofs.TakeLemmas.{same_is, level_taken, level_given, fall_taken, fall_given}
@@ -190,7 +190,7 @@ rows_more rows bs b = sum_by_push (λ (c : Atom). rows_of rows c.pred.0) bs b
 module _ (comps : Partition) (rows : List Rows) (levels : List (List LevelPart)) (head k : ℕ) where
   -- the proofs for a call of a body
   abbrev pub IsCall : List Atom → ℕ → List Multipliers → Type 0
-  IsCall body j ms = AreEach (proofs_of_call comps levels head (slice_get body j)) (λ _. AreMultipliers (rows_of_atoms rows (take j body))) ms
+  IsCall body j ms = AreEach (proofs_of_call comps levels head (slice_get body j)) (λ _. HaveMultipliers (rows_of_atoms rows (take j body))) ms
 
   abbrev call_lines : ℕ → List Multipliers → List Fact
   call_lines j ms = lines_from 0 (falls_line k j) ms
@@ -230,7 +230,7 @@ module _ (comps : Partition) (rows : List Rows) (levels : List (List LevelPart))
       let at : slice_get body j ≡ Some b = rw (whole, here) (place_behind done b bs) in
       let taken : take j body ≡ done = rw (whole, here) (front done (b ∷ bs)) in
       let mine_count : length ms ≡ proofs_of_call comps levels head (Some b) = rw at at each.0.count in
-      let mine_each : EachFrom 0 (λ _. AreMultipliers before) ms = rw (taken, ← sum) at each.0.each in
+      let mine_each : EachFrom 0 (λ _. HaveMultipliers before) ms = rw (taken, ← sum) at each.0.each in
       rw (
         append_assoc (call_lines j ms) (facts_from (suc j) call_lines calls) t,
         counted_back (take_fall k j before) (falls_line k j) _ (fall_given k j before) 0 (proofs_of_call comps levels head (Some b)) ms (facts_from (suc j) call_lines calls ++ t) mine_count mine_each,

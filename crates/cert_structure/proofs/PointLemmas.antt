@@ -17,7 +17,7 @@ use Rattle.number_tests.specs.declared.refutation.Refutation.{Refutation}
 use Rattle.cert_structure.specs.declared.refutations.FirstPoint.{FirstPoint}
 use Rattle.cert_structure.specs.Numbered.{facts_from}
 use Rattle.cert_structure.specs.Order.{pred_text, at_facts, point_facts, refutation_facts}
-use Rattle.cert_structure.specs.Shape.{vars_of, items_of, first_of, is_recursive, is_pair, IsBefore, pair_of, PairsAscend, IsPoint, HasSecond, IsPairPoint, IsOpen, IsRefutation}
+use Rattle.cert_structure.specs.Shape.{vars_of, items_of, first_of, is_recursive, is_pair, IsBefore, place_of_pair, PairsAscend, IsPoint, HasSecond, IsPairPoint, IsOpen, IsRefutation}
 use Rattle.cert_structure.specs.Walk.{Taken, is_amount, are_amounts, is_before, pair_end, paired, point_read, pair_point, result_map, with_first, read_next, take_point, take_second, take_refuted, read_second, read_point, read_points, read_group, refutation_read, is_open, read_refutation}
 use Rattle.cert_structure.proofs.KindLemmas.{split_point, split_second, IsPoint as IsPointFact, IsAt}
 use Rattle.cert_structure.proofs.SectionLemmas.{same_some, same_ok, err_ok, bound, mapped, IsTaken, IsBack, next_sound, next_back}
@@ -157,17 +157,17 @@ second_back p x (Some y) t h =
 
 module _ (p : Listing) (comps : Partition) (a : ℕ) where
   pub point_sound : (last : ℕ × ℕ) (s t : List Fact) (y : PairPoint) → read_point p comps a last s ≡ Ok (y, t)
-      → (s ≡ point_facts y ++ t) × IsBefore last (pair_of y) × IsPairPoint p comps a y
+      → (s ≡ point_facts y ++ t) × IsBefore last (place_of_pair y) × IsPairPoint p comps a y
   unfolding read_point
   point_sound last s t y e =
       bound (λ x. read_second p x.0 x.1) (read_next (take_point p comps a last) 0 s) (y, t) e λ q here more.
       let (one, right) = next_sound (take_point p comps a last) (λ _ y. fact.Point y.pair.clause y.pair.call y.point.t y.point.w) _ (first_taken p comps a last) 0 s q.1 q.0 here in
       let (others, second, same) = second_sound p q.0 q.1 t y more in
       let back : pair_point q.0 y.at ≡ y = same in
-      subst (λ z. (s ≡ point_facts z ++ t) × IsBefore last (pair_of z) × IsPairPoint p comps a z) back
+      subst (λ z. (s ≡ point_facts z ++ t) × IsBefore last (place_of_pair z) × IsPairPoint p comps a z) back
       (rw (one, others) refl, right.before, record { pair = right.pair; point = right.point; second = second })
 
-  pub point_given : (last : ℕ × ℕ) (y : PairPoint) (t : List Fact) → IsBefore last (pair_of y) → IsPairPoint p comps a y
+  pub point_given : (last : ℕ × ℕ) (y : PairPoint) (t : List Fact) → IsBefore last (place_of_pair y) → IsPairPoint p comps a y
       → read_point p comps a last (point_facts y ++ t) ≡ Ok (y, t)
   unfolding read_point
   point_given last y t before h =
@@ -206,7 +206,7 @@ module _ (p : Listing) (comps : Partition) (a : ℕ) where
       rw (
         append_assoc (point_facts x) (facts_from (suc i) (λ _ x. point_facts x) xs) t,
         point_given last x (facts_from (suc i) (λ _ x. point_facts x) xs ++ t) ascend.0 all.0,
-        points_given n (pair_of x) (suc i) xs t (omega (arith, count)) ascend.1 all.1,
+        points_given n (place_of_pair x) (suc i) xs t (omega (arith, count)) ascend.1 all.1,
       ) refl
 
 abbrev as_refutation : List PairPoint × List Fact → Option Refutation × List Fact

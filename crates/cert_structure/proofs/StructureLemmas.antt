@@ -17,7 +17,7 @@ use Rattle.linear_rows.specs.declared.point.Point.{Point}
 use Rattle.number_tests.specs.declared.refutation.Refutation.{Refutation}
 use Rattle.cert_structure.specs.Numbered.{facts_from, lines_from, AreEach}
 use Rattle.cert_structure.specs.Order.{pred_text, size_line, by_line, grounds_line, measure_line, falls_line, pre_line, at_facts, point_facts, refutation_facts, mode_facts, size_facts, proof_facts, ground_facts, level_facts, fall_facts, pre_facts, refuted_facts, is_note}
-use Rattle.cert_structure.specs.Shape.{arity_in, head_of, body_of, rows_of, rows_of_atoms, items_of, IsMode, IsSizeRow, AreMultipliers, HasWidth, IsRefutation}
+use Rattle.cert_structure.specs.Shape.{arity_in, head_of, body_of, rows_of, rows_of_atoms, items_of, IsMode, IsSizeRow, HaveMultipliers, HasWidth, IsRefutation}
 use Rattle.cert_structure.specs.Structure.{AreNotes}
 use Rattle.cert_structure.specs.Walk.{take_modes, take_row, take_proof, take_ground, take_level, take_pre, take_refuted, read_many, read_each, read_modes, read_rows, read_proofs, read_grounds, read_falls, read_cubes, read_pre, read_refutation}
 use Rattle.cert_structure.proofs.KindLemmas.{kind, split_row, split_ground, split_level, split_pre, split_refuted, IsSize, IsGrounds, IsMeasure, IsPre, IsRefuted}
@@ -306,11 +306,11 @@ module _ (p : Listing) (names : List (List ℕ)) where
 
 module _ (p : Listing) (rows : List Rows) where
   pub proofs_section : (s t : List Fact) (xs : List (List Multipliers)) → read_each (read_proofs p rows) 0 (length p.clauses) s ≡ Ok (xs, t)
-      → (s ≡ proof_facts xs ++ t) × AreEach (length p.clauses) (λ k. AreEach (rows_of rows (head_of p k)) (λ _. AreMultipliers (rows_of_atoms rows (body_of p k)))) xs
+      → (s ≡ proof_facts xs ++ t) × AreEach (length p.clauses) (λ k. AreEach (rows_of rows (head_of p k)) (λ _. HaveMultipliers (rows_of_atoms rows (body_of p k)))) xs
   unfolding read_proofs
   proofs_section s t xs e =
       let (whole, count, each) = each_sound (read_proofs p rows) (λ k ms. lines_from 0 (by_line k) ms)
-      (λ k ms. AreEach (rows_of rows (head_of p k)) (λ _. AreMultipliers (rows_of_atoms rows (body_of p k))) ms)
+      (λ k ms. AreEach (rows_of rows (head_of p k)) (λ _. HaveMultipliers (rows_of_atoms rows (body_of p k))) ms)
       (λ k s t x read.
       let (one, count, each) = counted_sound (take_proof k (rows_of_atoms rows (body_of p k))) (by_line k) _ (proof_taken k (rows_of_atoms rows (body_of p k))) 0 (rows_of rows (head_of p k)) s t x read in
       (one, record { count = count; each = each }))
@@ -322,12 +322,12 @@ module _ (p : Listing) (rows : List Rows) where
   free (f ∷ u) = (tt, free u)
 
   pub proofs_listed : (xs : List (List Multipliers)) (t : List Fact)
-      → AreEach (length p.clauses) (λ k. AreEach (rows_of rows (head_of p k)) (λ _. AreMultipliers (rows_of_atoms rows (body_of p k)))) xs
+      → AreEach (length p.clauses) (λ k. AreEach (rows_of rows (head_of p k)) (λ _. HaveMultipliers (rows_of_atoms rows (body_of p k)))) xs
       → read_each (read_proofs p rows) 0 (length p.clauses) (proof_facts xs ++ t) ≡ Ok (xs, t)
   unfolding read_proofs
   proofs_listed xs t h =
       each_back (read_proofs p rows) (λ k ms. lines_from 0 (by_line k) ms)
-      (λ k ms. AreEach (rows_of rows (head_of p k)) (λ _. AreMultipliers (rows_of_atoms rows (body_of p k))) ms)
+      (λ k ms. AreEach (rows_of rows (head_of p k)) (λ _. HaveMultipliers (rows_of_atoms rows (body_of p k))) ms)
       (λ a f. Unit {0}) (length p.clauses)
       (λ k x t below right none.
       counted_back (take_proof k (rows_of_atoms rows (body_of p k))) (by_line k) _ (proof_given k (rows_of_atoms rows (body_of p k))) 0 (rows_of rows (head_of p k)) x t right.count right.each)

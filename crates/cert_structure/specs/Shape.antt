@@ -15,7 +15,7 @@ use Rattle.linear_rows.specs.declared.row.Rows.{Rows}
 use Rattle.number_tests.specs.declared.level_part.LevelPart.{LevelPart}
 use Rattle.linear_rows.specs.declared.point.Point.{Point}
 pub use Rattle.number_tests.specs.Levels.{items_of}
-pub use Rattle.number_tests.specs.Shape.{IsBefore, pair_of, PairsAscend}
+pub use Rattle.number_tests.specs.Shape.{IsBefore, place_of_pair, PairsAscend}
 use Rattle.number_tests.specs.declared.pair_point.PairPoint.{PairPoint}
 pub use Rattle.termination_model.specs.Ready.{arity_in}
 use Rattle.number_tests.specs.declared.refutation.Refutation.{Refutation}
@@ -73,8 +73,8 @@ abbrev pub IsSizeRow : ℕ → Row → Type 0
 IsSizeRow arity row = (length row.coeffs ≡ arity) × AreEntries (row.constant ∷ row.coeffs)
 
 -- a multiplier for each row
-abbrev pub AreMultipliers : ℕ → Multipliers → Type 0
-AreMultipliers rows m = (length m.list ≡ rows) × IsAmount m.scale × AreAmounts m.list
+abbrev pub HaveMultipliers : ℕ → Multipliers → Type 0
+HaveMultipliers rows m = (length m.list ≡ rows) × IsAmount m.scale × AreAmounts m.list
 
 abbrev pub HasWidth : {A : Type 0} → ℕ → List A → Type 0
 HasWidth arity cells = length cells ≡ arity
@@ -132,12 +132,12 @@ pub record HaveShape (p : Listing) (comps : Partition) (parts : Parts) : Type 0 
   pub rows : AreEach (length p.preds) (λ a r. (r.width ≡ arity_in p a) × AllByRecursion (IsSizeRow (arity_in p a)) r.list) parts.rows
   -- a proof for each size row of the head, over the rows of the whole body
   pub row_proofs : AreEach (length p.clauses)
-      (λ k. AreEach (rows_of parts.rows (head_of p k)) (λ _. AreMultipliers (rows_of_atoms parts.rows (body_of p k)))) parts.row_proofs
+      (λ k. AreEach (rows_of parts.rows (head_of p k)) (λ _. HaveMultipliers (rows_of_atoms parts.rows (body_of p k)))) parts.row_proofs
   pub grounds : AreEach (length p.preds) (λ a. AllByRecursion (HasWidth (arity_in p a))) parts.grounds
   pub levels : AreEach (length p.preds) (λ a ls. (length ls ≡ mappings_of comps parts.levels a) × AllByRecursion (IsLevel (arity_in p a)) ls) parts.levels
   -- for a call to the own component a proof for each mapping, over the rows of the atoms before the call
   pub falls : AreEach (length p.clauses)
-      (λ k. AreEach (length (body_of p k)) (λ j. AreEach (proofs_of_call comps parts.levels (head_of p k) (slice_get (body_of p k) j)) (λ _. AreMultipliers (rows_of_atoms parts.rows (take j (body_of p k))))))
+      (λ k. AreEach (length (body_of p k)) (λ j. AreEach (proofs_of_call comps parts.levels (head_of p k) (slice_get (body_of p k) j)) (λ _. HaveMultipliers (rows_of_atoms parts.rows (take j (body_of p k))))))
       parts.falls
   pub preconditions : AreEach (length p.preds)
       (λ a. AreEach (length (items_of parts.levels a)) (λ _. AllByRecursion (HasWidth (arity_in p a)))) parts.preconditions

@@ -72,7 +72,8 @@ pub(crate) struct Falls<'a> {
 impl Falls<'_> {
     /// How many proofs a call of a clause with a head of this predicate has.
     fn proofs_of_call(&self, head: u64, call: &Atom) -> u64
-        ensures { result ≡ proofs_of_call self.now.calls.comps.now self.now.levels.now head (Some call.now) }
+        ensures { result ≡ proofs_of_call self.now.calls.comps.now self.now.levels.now head
+            (Some call.now) }
     {
         if self.calls.together(head, u64::from(call.pred.0)) {
             mappings(self.levels, head)

@@ -107,7 +107,8 @@ fn levels<'f>(
     names: &Names,
     facts: &'f [Fact],
 ) -> Result<(Sequence<Sequence<LevelPart>>, &'f [Fact]), Stop>
-    ensures { Agrees result (read_levels calls.now.p.now names.now calls.now.comps.now [] 0 (length calls.now.p.now.preds) facts.now) }
+    ensures { Agrees result (read_levels calls.now.p.now names.now calls.now.comps.now [] 0
+        (length calls.now.p.now.preds) facts.now) }
 {
     let mut levels = Sequence::new(alloc);
     let mut rest = facts;
@@ -127,7 +128,8 @@ pub(crate) fn levels_into<'f>(
     place: &mut Sequence<Sequence<LevelPart>>,
     facts: &'f [Fact],
 ) -> Result<&'f [Fact], Stop>
-    ensures { Fills result place.new (read_levels calls.now.p.now names.now calls.now.comps.now [] 0 (length calls.now.p.now.preds) facts.now) }
+    ensures { Fills result place.new (read_levels calls.now.p.now names.now calls.now.comps.now [] 0
+        (length calls.now.p.now.preds) facts.now) }
 {
     let (read, rest) = levels(alloc, calls, names, facts)?;
     *place = read;

@@ -155,7 +155,8 @@ fn notes(facts: &[Fact]) -> usize
 /// The parts, where all facts after them are notes.
 #[tactic(auto, unfolding(crate::specs::Walk::read_whole))]
 fn whole(alloc: Global, calls: &Calls, names: &Names, facts: &[Fact]) -> Result<Parts, Stop>
-    ensures { AgreesWhole result (read_whole calls.now.p.now names.now calls.now.comps.now facts.now) }
+    ensures { AgreesWhole result
+        (read_whole calls.now.p.now names.now calls.now.comps.now facts.now) }
 {
     let (parts, rest) = parts(alloc, calls, names, facts)?;
     let count = notes(rest);
@@ -171,7 +172,8 @@ fn whole(alloc: Global, calls: &Calls, names: &Names, facts: &[Fact]) -> Result<
 /// The predicates of a program are distinguished by their texts.
 fn told_apart(p: &Program, names: &Names)
     requires { AreNamed names.now p.now.preds }
-    ensures { (a b : ℕ) → a < b → b < length p.now.preds → pred_text p.now names.now b ≢ pred_text p.now names.now a }
+    ensures { (a b : ℕ) → a < b → b < length p.now.preds
+        → pred_text p.now names.now b ≢ pred_text p.now names.now a }
 {
     let _preds = p.preds();
     let _names = names.count();
@@ -192,16 +194,19 @@ pub fn parts_of(
     requires components { AreComponents p.now comps.now }
 
     // The certificate has the parts that are found.
-    ensures found { IfOk result (λ parts. IsStructured p.now names.now comps.now parts c.now.facts) }
+    ensures found { IfOk result
+        (λ parts. IsStructured p.now names.now comps.now parts c.now.facts) }
 
     // The parts of a certificate are found, unless memory runs out; so it has no others, and none where a line is wrong.
-    ensures only { (parts : TheParts) → IsStructured p.now names.now comps.now parts c.now.facts → MatchResult result (λ found. found ≡ parts) (λ fault. fault ≡ Memory) }
+    ensures only { (parts : TheParts) → IsStructured p.now names.now comps.now parts c.now.facts
+        → MatchResult result (λ found. found ≡ parts) (λ fault. fault ≡ Memory) }
 
     // A line that is named is that of the first fault, and the reason is what is wrong there.
     ensures wrong { IfErr result (IsFirstWrong p.now names.now comps.now c.now.facts) }
 
     // No other line or reason is, and none where there are parts.
-    ensures fault { (line : ℕ) (why : TheReason) → IsStructureFault p.now names.now comps.now c.now.facts line why
+    ensures fault { (line : ℕ) (why : TheReason)
+        → IsStructureFault p.now names.now comps.now c.now.facts line why
         → MatchResult result (λ _. ⊥) (λ fault. (fault ≡ Memory) ⊎ (fault ≡ IsWrong line why)) }
 {
     told_apart(p, names);
@@ -219,12 +224,15 @@ pub fn parts_of(
 
 /// What parts a certificate has does not depend on how the components are numbered.
 pub fn one_structure()
-    ensures { (p : Listing) (names : List (List ℕ)) (one other : Partition) (parts : TheParts) (facts : List TheFact) → AreComponents p one → AreComponents p other
+    ensures { (p : Listing) (names : List (List ℕ)) (one other : Partition) (parts : TheParts)
+        (facts : List TheFact) → AreComponents p one → AreComponents p other
         → IsStructured p names one parts facts → IsStructured p names other parts facts }
 {}
 
 /// Which fault a certificate has does not depend on how the components are numbered.
 pub fn one_structure_fault()
-    ensures { (p : Listing) (names : List (List ℕ)) (one other : Partition) (facts : List TheFact) (line : ℕ) (why : TheReason) → AreComponents p one → AreComponents p other
-        → IsStructureFault p names one facts line why → IsStructureFault p names other facts line why }
+    ensures { (p : Listing) (names : List (List ℕ)) (one other : Partition) (facts : List TheFact)
+        (line : ℕ) (why : TheReason) → AreComponents p one → AreComponents p other
+        → IsStructureFault p names one facts line why
+        → IsStructureFault p names other facts line why }
 {}

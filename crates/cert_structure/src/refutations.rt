@@ -142,7 +142,8 @@ fn pair_point<'f>(
     last: Pair,
     facts: &'f [Fact],
 ) -> Result<(PairPoint, &'f [Fact]), Stop>
-    ensures { Agrees result (read_point calls.now.p.now calls.now.comps.now pred (pair_end last) facts.now) }
+    ensures { Agrees result (read_point calls.now.p.now calls.now.comps.now pred
+        (pair_end last) facts.now) }
 {
     let fact = PointFact {
         calls: *calls,
@@ -161,7 +162,8 @@ fn points<'f>(
     count: u64,
     facts: &'f [Fact],
 ) -> Result<(Sequence<PairPoint>, &'f [Fact]), Stop>
-    ensures { Agrees result (read_points calls.now.p.now calls.now.comps.now pred (0, 0) count facts.now) }
+    ensures { Agrees result (read_points calls.now.p.now calls.now.comps.now pred
+        (0, 0) count facts.now) }
 {
     let mut points = Sequence::new(alloc);
     let mut rest = facts;

@@ -97,7 +97,8 @@ pub(crate) fn rows_into<'f>(
     rows: &mut SizeRows,
     facts: &'f [Fact],
 ) -> Result<&'f [Fact], Stop>
-    ensures { Fills result rows.new (read_each (read_rows reader.now.p.now reader.now.names.now) 0 count facts.now) }
+    ensures { Fills result rows.new
+        (read_each (read_rows reader.now.p.now reader.now.names.now) 0 count facts.now) }
 {
     let (read, rest) = each(alloc, reader, count, facts)?;
     *rows = SizeRows::from_vec(read.into_vec());

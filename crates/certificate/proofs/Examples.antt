@@ -20,7 +20,7 @@ mark = rw (decimal_digit 7 (lit≤ tt)) refl
 list_size : fact_text (fact.Norm norm.List) ≡ codes "norm(list).\n"
 list_size = refl
 
--- the line of another norm is no fact
+-- the line of another norm is not a fact
 another_norm : read_any (codes "norm(depth).\n") ≡ None
 unfolding read_any read_norm_fact read_norm
 another_norm = refl

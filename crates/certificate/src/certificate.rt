@@ -52,14 +52,17 @@ impl Certificate {
         ensures value { IfOk result (λ c. IsTextOf c text.now) }
 
         // The text of a certificate is read as that one, unless memory runs out.
-        ensures only { (c : TheCertificate) → IsTextOf c text.now → MatchResult result (λ read. read ≡ c) (λ fault. fault ≡ Memory) }
+        ensures only { (c : TheCertificate) → IsTextOf c text.now
+            → MatchResult result (λ read. read ≡ c) (λ fault. fault ≡ Memory) }
 
         // A text is too long exactly where it has more bytes than the limit.
         ensures long { (result ≡ Err TooLong) ↔ (most_bytes < length text.now) }
 
         // Within the limit, the fault names the first line that is not a fact, and comes where there is one.
-        ensures line { (n : ℕ) → result ≡ Err (WrongLine n) → (length text.now ≤ most_bytes) × IsFirstWrong text.now n }
-        ensures wrong { (n : ℕ) → length text.now ≤ most_bytes → IsFirstWrong text.now n → MatchResult result (λ c. ⊥) (λ fault. (fault ≡ WrongLine n) ⊎ (fault ≡ Memory)) }
+        ensures line { (n : ℕ) → result ≡ Err (WrongLine n) → (length text.now ≤ most_bytes)
+            × IsFirstWrong text.now n }
+        ensures wrong { (n : ℕ) → length text.now ≤ most_bytes → IsFirstWrong text.now n
+            → MatchResult result (λ c. ⊥) (λ fault. (fault ≡ WrongLine n) ⊎ (fault ≡ Memory)) }
     {
         if text.len() > MOST_BYTES {
             return Err(CertFault::Long);
@@ -80,7 +83,8 @@ fn read_facts(alloc: Global, text: &[u8]) -> Result<(Sequence<Fact>, &[u8]), All
     ensures whole { IfOk result (λ p. text.now ≡ text_of p.0 ++ p.1.now) }
     ensures in_range { IfOk result (λ p. AreInRange p.0) }
     ensures few { IfOk result (λ p. length p.0 + length p.1.now ≤ length text.now) }
-    ensures stops { IfOk result (λ p. (f : TheFact) (s : List ℕ) → InRange f → p.1.now ≢ fact_text f ++ s) }
+    ensures stops { IfOk result (λ p. (f : TheFact) (s : List ℕ) → InRange f
+        → p.1.now ≢ fact_text f ++ s) }
 {
     let mut facts = Sequence::new(alloc);
     let mut rest = text;
@@ -99,7 +103,8 @@ fn read_facts(alloc: Global, text: &[u8]) -> Result<(Sequence<Fact>, &[u8]), All
 /// The fact whose line a text begins with, and the text after it.
 fn first_fact(alloc: Global, text: &[u8]) -> Result<(Fact, &[u8]), LineFault>
     ensures value { IfOk result (λ p. InRange p.0 × (text.now ≡ fact_text p.0 ++ p.1.now)) }
-    ensures only { (f : TheFact) (s : List ℕ) → InRange f → text.now ≡ fact_text f ++ s → MatchResult result (λ p. (p.0 ≡ f) × (p.1.now ≡ s)) (λ fault. fault ≡ NoMemory) }
+    ensures only { (f : TheFact) (s : List ℕ) → InRange f → text.now ≡ fact_text f ++ s
+        → MatchResult result (λ p. (p.0 ≡ f) × (p.1.now ≡ s)) (λ fault. fault ≡ NoMemory) }
 {
     let (fact, _) = read_fact(alloc, text)?;
     let line = line_of(alloc, &fact)?;
@@ -117,5 +122,6 @@ fn line_of(alloc: Global, fact: &Fact) -> Result<Vec<u8>, AllocError>
 
 /// No two certificates in range have one text.
 pub fn one_text()
-    ensures { (c d : TheCertificate) → AreInRange c.facts → AreInRange d.facts → text_of c.facts ≡ text_of d.facts → c ≡ d }
+    ensures { (c d : TheCertificate) → AreInRange c.facts → AreInRange d.facts
+        → text_of c.facts ≡ text_of d.facts → c ≡ d }
 {}

@@ -48,7 +48,8 @@ impl<T: Field> Field for Sequence<T> {
 
 /// Appends the items, each with a comma before it.
 fn print_others<T: Field>(items: &[T], out: &mut Vec<u8>) -> Result<(), AllocError>
-    ensures { OnOk result (out.new.items ≡ out.old.items ++ flat_map (λ x. codes "," ++ T.shown x) items.now) }
+    ensures { OnOk result (out.new.items ≡ out.old.items ++ flat_map
+        (λ x. codes "," ++ T.shown x) items.now) }
 {
     for item in items {
         out.push(b',')?;
@@ -63,8 +64,10 @@ fn read_more<'a, T: Field>(
     text: &'a [u8],
     items: &mut Sequence<T>,
 ) -> Result<&'a [u8], LineFault>
-    ensures value { AgreesMore items.new result (with_all items.old (read_until 93 (next_item T.reads) text.now)) }
-    ensures fits { AllByRecursion T.fits items.old → IfOk result (λ rest. AllByRecursion T.fits items.new) }
+    ensures value { AgreesMore items.new result
+        (with_all items.old (read_until 93 (next_item T.reads) text.now)) }
+    ensures fits { AllByRecursion T.fits items.old
+        → IfOk result (λ rest. AllByRecursion T.fits items.new) }
 {
     let mut rest = text;
     loop {

@@ -95,7 +95,8 @@ fn close(out: &mut Vec<u8>) -> Result<(), AllocError>
 
 /// Appends a mark of a step.
 fn mark(out: &mut Vec<u8>, before: &[u8], step: &u64) -> Result<(), AllocError>
-    ensures { OnOk result (out.new.items ≡ out.old.items ++ before.now ++ decimal step.now ++ codes ")).\n") }
+    ensures { OnOk result (out.new.items ≡ out.old.items ++ before.now ++ decimal step.now
+        ++ codes ")).\n") }
 {
     field(out, before, step)?;
     out.extend_from_slice(b")).\n")
@@ -103,7 +104,8 @@ fn mark(out: &mut Vec<u8>, before: &[u8], step: &u64) -> Result<(), AllocError>
 
 /// Appends a line with one part.
 fn one<A: Field>(out: &mut Vec<u8>, before: &[u8], a: &A) -> Result<(), AllocError>
-    ensures { OnOk result (out.new.items ≡ out.old.items ++ before.now ++ A.shown a.now ++ codes ").\n") }
+    ensures { OnOk result (out.new.items ≡ out.old.items ++ before.now ++ A.shown a.now
+        ++ codes ").\n") }
 {
     field(out, before, a)?;
     close(out)
@@ -111,7 +113,8 @@ fn one<A: Field>(out: &mut Vec<u8>, before: &[u8], a: &A) -> Result<(), AllocErr
 
 /// Appends a line with two parts.
 fn two<A: Field, B: Field>(out: &mut Vec<u8>, before: &[u8], a: &A, b: &B) -> Result<(), AllocError>
-    ensures { OnOk result (out.new.items ≡ out.old.items ++ before.now ++ A.shown a.now ++ codes "," ++ B.shown b.now ++ codes ").\n") }
+    ensures { OnOk result (out.new.items ≡ out.old.items ++ before.now ++ A.shown a.now ++ codes ","
+        ++ B.shown b.now ++ codes ").\n") }
 {
     field(out, before, a)?;
     one(out, b",", b)
@@ -125,7 +128,8 @@ fn three<A: Field, B: Field, C: Field>(
     b: &B,
     c: &C,
 ) -> Result<(), AllocError>
-    ensures { OnOk result (out.new.items ≡ out.old.items ++ before.now ++ A.shown a.now ++ codes "," ++ B.shown b.now ++ codes "," ++ C.shown c.now ++ codes ").\n") }
+    ensures { OnOk result (out.new.items ≡ out.old.items ++ before.now ++ A.shown a.now ++ codes ","
+        ++ B.shown b.now ++ codes "," ++ C.shown c.now ++ codes ").\n") }
 {
     field(out, before, a)?;
     two(out, b",", b, c)
@@ -140,7 +144,9 @@ fn four<A: Field, B: Field, C: Field, D: Field>(
     c: &C,
     d: &D,
 ) -> Result<(), AllocError>
-    ensures { OnOk result (out.new.items ≡ out.old.items ++ before.now ++ A.shown a.now ++ codes "," ++ B.shown b.now ++ codes "," ++ C.shown c.now ++ codes "," ++ D.shown d.now ++ codes ").\n") }
+    ensures { OnOk result (out.new.items ≡ out.old.items ++ before.now ++ A.shown a.now ++ codes ","
+        ++ B.shown b.now ++ codes "," ++ C.shown c.now ++ codes "," ++ D.shown d.now
+        ++ codes ").\n") }
 {
     field(out, before, a)?;
     three(out, b",", b, c, d)

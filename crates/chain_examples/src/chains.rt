@@ -1,4 +1,5 @@
-// Chains of worked programs.
+//! Chains of worked programs.
+
 use call_components::components;
 use cti_terms::PredId;
 use linear_rows::Rows;
@@ -79,7 +80,7 @@ fn seen(alloc: Global, text: &str, pred: u32) -> Result<Outcome, Fail> {
     })
 }
 
-// Append has x1 + x2 = x3, by a chain of four steps.
+/// Append has x1 + x2 = x3, by a chain of four steps.
 #[test]
 fn append(rt: HostRuntime) -> Result<(), Fail> {
     let seen = seen(rt.alloc(), APPEND, 0)?;
@@ -88,8 +89,8 @@ fn append(rt: HostRuntime) -> Result<(), Fail> {
     Ok(())
 }
 
-// The rows of a predicate, by its number, and how many images are weak. `part` keeps x2 = x3 + x4. The last predicate of the
-// doubling chain has no rows, since both images of its clause are weak.
+/// The rows of a predicate, by its number, and how many images are weak. `part` keeps x2 = x3 + x4. The last predicate of the
+/// doubling chain has no rows, since both images of its clause are weak.
 #[test]
 fn rows_of_predicates(rt: HostRuntime) -> Result<(), Fail> {
     for (text, pred, weak, wanted) in [
@@ -114,7 +115,7 @@ fn rows_of_predicates(rt: HostRuntime) -> Result<(), Fail> {
     Ok(())
 }
 
-// No step of these is weak.
+/// No step of these is weak.
 #[test]
 fn strong_steps(rt: HostRuntime) -> Result<(), Fail> {
     for text in [APPEND, PART] {

@@ -21,7 +21,9 @@ use std::alloc::{AllocError, Global};
 fn is_new(places: &Places, start: usize, end: usize, order: &[u32], x: u32) -> bool
     requires firsts { x < length places.now.firsts.items }
     requires ends { x < length places.now.ends.items }
-    ensures { result ≡ ((nat_lt (slice_index places.now.firsts.items x) start || nat_lt end (slice_index places.now.ends.items x)) && not (is_among order.now x)) }
+    ensures { result ≡ ((nat_lt (slice_index places.now.firsts.items x) start
+        || nat_lt end (slice_index places.now.ends.items x))
+        && not (is_among order.now x)) }
 {
     places.is_outside(x, start, end) && !is_among(order, x)
 }
@@ -37,8 +39,10 @@ fn shared(
 ) -> Result<Option<Vec<u32>>, AllocError>
     requires firsts { AllByRecursion (λ x. x < length places.now.firsts.items) own.now }
     requires ends { AllByRecursion (λ x. x < length places.now.ends.items) own.now }
-    ensures { let shared = filter (λ x. nat_lt (slice_index places.now.firsts.items x) start || nat_lt end (slice_index places.now.ends.items x)) own.now in
-        IfOk result (λ order. MatchOption order (12 < length (firsts shared)) (λ v. (v.items ≡ firsts shared) × (length v.items ≤ 12))) }
+    ensures { let shared = filter (λ x. nat_lt (slice_index places.now.firsts.items x) start
+        || nat_lt end (slice_index places.now.ends.items x)) own.now in
+        IfOk result (λ order. MatchOption order (12 < length (firsts shared))
+        (λ v. (v.items ≡ firsts shared) × (length v.items ≤ 12))) }
 {
     let mut order = Vec::new(alloc);
     'own: for x in own {
@@ -67,8 +71,10 @@ fn choice_goal<'a, 'v, 'o>(
     requires below { AllByRecursion (λ x. x < length places.now.firsts.items) own.now }
     ensures goal { IfOk result (λ g. (earlier later : List ℕ) → length earlier ≡ start
         → AreNoted (earlier ++ (own.now ++ later)) places.now
-        → goal_of g ≡ choice_goal at (arguments (earlier ++ (own.now ++ later)) own.now) (branches_in branches.now.items)) }
-    ensures below { IfOk result (λ g. OutlinesAreBelow (length places.now.firsts.items) branches.now.items
+        → goal_of g ≡ choice_goal at (arguments (earlier ++ (own.now ++ later)) own.now)
+        (branches_in branches.now.items)) }
+    ensures below { IfOk result
+        (λ g. OutlinesAreBelow (length places.now.firsts.items) branches.now.items
         → GoalIsBelow (length places.now.firsts.items) g) }
 {
     match shared(alloc, places, start, start + own.len(), own)? {
@@ -89,7 +95,8 @@ fn goal<'a, 'v, 'o>(
     requires below { PieceIsBelow (length places.now.firsts.items) piece.now }
     ensures goal { IfOk result (λ g. (earlier later : List ℕ) → length earlier ≡ start
         → AreNoted (earlier ++ (piece_own (piece_of piece.now) ++ later)) places.now
-        → goal_of g ≡ piece_goal (piece_of piece.now) (earlier ++ (piece_own (piece_of piece.now) ++ later))) }
+        → goal_of g ≡ piece_goal (piece_of piece.now)
+        (earlier ++ (piece_own (piece_of piece.now) ++ later))) }
     ensures below { IfOk result (λ g. GoalIsBelow (length places.now.firsts.items) g) }
 {
     match piece {
@@ -117,9 +124,11 @@ fn goals<'a, 'v, 'o>(
     requires room { first + length (own_in pieces.now) < 2 ^ 64 }
     requires size { HasSize (length places.now.firsts.items) places.now }
     requires below { PiecesAreBelow (length places.now.firsts.items) pieces.now }
-    ensures goals { IfOk result (λ v. (args : List ℕ) → length args ≡ first → AreNoted (args ++ own_in pieces.now) places.now
+    ensures goals { IfOk result (λ v. (args : List ℕ) → length args ≡ first
+        → AreNoted (args ++ own_in pieces.now) places.now
         → goals_row (map goal_of v.items) ≡ goals_in pieces.now (args ++ own_in pieces.now)) }
-    ensures below { IfOk result (λ v. AllByRecursion (GoalIsBelow (length places.now.firsts.items)) v.items) }
+    ensures below { IfOk result
+        (λ v. AllByRecursion (GoalIsBelow (length places.now.firsts.items)) v.items) }
 {
     let mut goals = Vec::new(alloc);
     let mut start = first;
@@ -153,8 +162,10 @@ pub(crate) fn body_goals<'a, 'v, 'o>(
     requires body { OutlineIsBelow (length places.old.firsts.items) body.now }
     requires size { HasSize (length places.old.firsts.items) places.old }
     ensures size { OnOk result (HasSize (length places.old.firsts.items) places.new) }
-    ensures goals { IfOk result (λ v. goals_row (map goal_of v.items) ≡ outline_goals body.now args.now) }
-    ensures below { IfOk result (λ v. AllByRecursion (GoalIsBelow (length places.old.firsts.items)) v.items) }
+    ensures goals { IfOk result
+        (λ v. goals_row (map goal_of v.items) ≡ outline_goals body.now args.now) }
+    ensures below { IfOk result
+        (λ v. AllByRecursion (GoalIsBelow (length places.old.firsts.items)) v.items) }
 {
     let all = with_own(alloc, args, &body.pieces)?;
     places.note(&all);

@@ -66,7 +66,8 @@ fn check_variables(alloc: Global, variables: &[u32], at: u32) -> Result<(), Norm
 
 /// Reports the fault of a clause at a place with which there are too many.
 fn check_count(made: &[Rule], at: u32) -> Result<(), NormFault>
-    ensures fault { AnswersFault (if nat_lt 16384 (length made.now) then Some (ManyClauses, at) else None) result }
+    ensures fault { AnswersFault
+        (if nat_lt 16384 (length made.now) then Some (ManyClauses, at) else None) result }
     ensures count { OnOk result (length made.now ≤ 16384) }
 {
     if made.len() > MOST_TEXT_CLAUSES {
@@ -126,9 +127,13 @@ fn add_fact<'a>(
     term: &'a ReadTerm,
 ) -> Result<(), NormFault>
     requires { IsTrue (is_known (length names.now) (tree_of term.now)) }
-    ensures made { (vars n : ℕ) → AnswersNext (with_form names.now (map rule_of made.old.items) n (record { term = tree_of term.now; vars = vars }) (clause (tree_of term.now) no_goals)) (map rule_of made.new.items) n result }
+    ensures made { (vars n : ℕ)
+        → AnswersNext (with_form names.now (map rule_of made.old.items) n
+        (record { term = tree_of term.now; vars = vars }) (clause (tree_of term.now) no_goals))
+        (map rule_of made.new.items) n result }
     ensures count { OnOk result (length made.new.items ≤ 16384) }
-    ensures fit { OnOk result (AllByRecursion (RuleIsFit (length names.now)) made.old.items → AllByRecursion (RuleIsFit (length names.now)) made.new.items) }
+    ensures fit { OnOk result (AllByRecursion (RuleIsFit (length names.now)) made.old.items
+        → AllByRecursion (RuleIsFit (length names.now)) made.new.items) }
 {
     let rule = match fact_rule(alloc, names, term) {
         Ok(rule) => rule,
@@ -154,9 +159,11 @@ fn add_with_variables<'a, 'v>(
     requires body { IsTermFit (length names.now) vars body.now }
     requires args { AllByRecursion (λ x. x < vars) args.now }
     requires own { own.now ≡ occurrences (tree_of body.now) }
-    ensures { let goals = goals_of names.now body.now (args.now ++ occurrences (tree_of body.now)) in
+    ensures { let goals = goals_of names.now body.now
+        (args.now ++ occurrences (tree_of body.now)) in
         let made_then = map rule_of made.old.items ++ rules next (call_of call.entry) goals in
-        AnswersMade (goals_fault goals) made_then (after next goals) (map rule_of made.new.items) result }
+        AnswersMade (goals_fault goals) made_then (after next goals)
+        (map rule_of made.new.items) result }
 {
     let outline = outlined(alloc, names, body, own)?;
     let mut places = Places::new(alloc, vars)?;
@@ -178,9 +185,11 @@ fn add_body<'a>(
     requires room { next + nodes (tree_of body.now) + 1 < 2 ^ 64 }
     requires head { IsTermFit (length names.now) vars head.now }
     requires body { IsTermFit (length names.now) vars body.now }
-    ensures { let goals = goals_of names.now body.now (occurrences (tree_of head.now) ++ occurrences (tree_of body.now)) in
+    ensures { let goals = goals_of names.now body.now
+        (occurrences (tree_of head.now) ++ occurrences (tree_of body.now)) in
         let made_then = map rule_of made.old.items ++ rules next (call_of call.entry) goals in
-        AnswersMade (goals_fault goals) made_then (after next goals) (map rule_of made.new.items) result }
+        AnswersMade (goals_fault goals) made_then (after next goals)
+        (map rule_of made.new.items) result }
 {
     let args = term_variables(alloc, head)?;
     let own = term_variables(alloc, body)?;
@@ -201,11 +210,17 @@ fn add_implication<'a>(
     requires room { next + nodes (tree_of body.now) + 1 < 2 ^ 64 }
     requires head { IsTermFit (length names.now) vars head.now }
     requires body { IsTermFit (length names.now) vars body.now }
-    ensures made { AnswersNumber (with_form names.now (map rule_of made.old.items) next (record { term = tree_of term.now; vars = vars })
-        (clause (tree_of head.now) (goals_of names.now body.now (occurrences (tree_of head.now) ++ occurrences (tree_of body.now))))) (map rule_of made.new.items) result }
+    ensures made { AnswersNumber
+        (with_form names.now (map rule_of made.old.items) next
+        (record { term = tree_of term.now; vars = vars })
+        (clause (tree_of head.now)
+        (goals_of names.now body.now
+        (occurrences (tree_of head.now) ++ occurrences (tree_of body.now)))))
+        (map rule_of made.new.items) result }
     ensures few { IfOk result (λ n. n ≤ next + nodes (tree_of body.now)) }
     ensures count { OnOk result (length made.new.items ≤ 16384) }
-    ensures fit { OnOk result (AllByRecursion (RuleIsFit (length names.now)) made.old.items → AllByRecursion (RuleIsFit (length names.now)) made.new.items) }
+    ensures fit { OnOk result (AllByRecursion (RuleIsFit (length names.now)) made.old.items
+        → AllByRecursion (RuleIsFit (length names.now)) made.new.items) }
 {
     let call = match head_call(names, head) {
         Ok(call) => call,
@@ -235,10 +250,13 @@ fn add_clause<'a>(
 ) -> Result<u64, NormFault>
     requires room { next + nodes (tree_of clause.now.term) + 1 < 2 ^ 64 }
     requires fit { IsFit (length names.now) (clause_of clause.now) }
-    ensures made { AnswersNumber (with_clause names.now (map rule_of made.old.items) next (clause_of clause.now)) (map rule_of made.new.items) result }
+    ensures made { AnswersNumber
+        (with_clause names.now (map rule_of made.old.items) next (clause_of clause.now))
+        (map rule_of made.new.items) result }
     ensures few { IfOk result (λ n. n ≤ next + nodes (tree_of clause.now.term)) }
     ensures count { OnOk result (length made.old.items ≤ 16384 → length made.new.items ≤ 16384) }
-    ensures fit { OnOk result (AllByRecursion (RuleIsFit (length names.now)) made.old.items → AllByRecursion (RuleIsFit (length names.now)) made.new.items) }
+    ensures fit { OnOk result (AllByRecursion (RuleIsFit (length names.now)) made.old.items
+        → AllByRecursion (RuleIsFit (length names.now)) made.new.items) }
 {
     match form_of(names, &clause.term) {
         Form::Skipped => Ok(next),
@@ -270,7 +288,9 @@ pub(crate) fn text_rules<'a>(
     clauses: &'a [ReadClause],
 ) -> Result<Vec<Rule<'a>>, NormFault>
     requires fit { AreFit (length names.now) (map clause_of clauses.now) }
-    ensures rules { MatchResult result (λ v. normal_rules names.now [] 1 (map clause_of clauses.now) ≡ Ok (map rule_of v.items)) (λ e. IfFault e (λ f. normal_rules names.now [] 1 (map clause_of clauses.now) ≡ Err f)) }
+    ensures rules { MatchResult result (λ v. normal_rules names.now [] 1 (map clause_of clauses.now)
+        ≡ Ok (map rule_of v.items))
+        (λ e. IfFault e (λ f. normal_rules names.now [] 1 (map clause_of clauses.now) ≡ Err f)) }
     ensures fit { IfOk result (λ v. AllByRecursion (RuleIsFit (length names.now)) v.items) }
     ensures count { IfOk result (λ v. length v.items ≤ 16384) }
 {

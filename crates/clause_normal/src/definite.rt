@@ -38,7 +38,8 @@ fn implication_rule<'a>(
 ) -> Result<Rule<'a>, NormFault>
     requires head { IsTrue (is_known (length names.now) (tree_of head.now)) }
     requires body { IsTrue (is_known (length names.now) (tree_of body.now)) }
-    ensures { AnswersRule names.now (tree_of term.now) (rule (tree_of head.now) (tree_of body.now)) result }
+    ensures { AnswersRule names.now (tree_of term.now)
+        (rule (tree_of head.now) (tree_of body.now)) result }
 {
     let call = match head_call(names, head) {
         Ok(call) => call,
@@ -65,7 +66,8 @@ fn definite_rule<'a>(
     clause: &'a ReadClause,
 ) -> Result<Rule<'a>, NormFault>
     requires { IsFit (length names.now) (clause_of clause.now) }
-    ensures { AnswersRule names.now (tree_of clause.now.term) (parted names.now (tree_of clause.now.term)) result }
+    ensures { AnswersRule names.now (tree_of clause.now.term)
+        (parted names.now (tree_of clause.now.term)) result }
 {
     let at = clause.term.at;
     match form_of(names, &clause.term) {
@@ -86,7 +88,8 @@ fn definite_rules<'a>(
     clauses: &'a [ReadClause],
 ) -> Result<Vec<Rule<'a>>, AllocError>
     requires fit { AllByRecursion (IsFit (length names.now)) (map clause_of clauses.now) }
-    ensures rules { IfOk result (λ v. map rule_of v.items ≡ rules_of names.now (map clause_of clauses.now)) }
+    ensures rules { IfOk result
+        (λ v. map rule_of v.items ≡ rules_of names.now (map clause_of clauses.now)) }
     ensures fit { IfOk result (λ v. AllByRecursion (RuleIsFit (length names.now)) v.items) }
     ensures count { IfOk result (λ v. length v.items ≡ length clauses.now) }
 {
@@ -154,10 +157,12 @@ pub fn definite_program(
     ensures names { OnOk result (names.new ≡ with_names names.old operation_texts) }
     ensures kept { Extends names.old names.new }
     ensures same { HasOperations names.old → names.new ≡ names.old }
-    ensures known { IfOk result (λ p. AllByRecursion (λ (q : ThePred). q.name.0 < length names.new) p.preds) }
+    ensures known { IfOk result
+        (λ p. AllByRecursion (λ (q : ThePred). q.name.0 < length names.new) p.preds) }
 
     // What is built in is what these names say, and later ones too.
-    ensures arithmetic { IfOk result (λ p. (later : List (List ℕ)) → Extends names.new later → p.arithmetic ≡ arithmetic_of later p.preds) }
+    ensures arithmetic { IfOk result (λ p. (later : List (List ℕ)) → Extends names.new later
+        → p.arithmetic ≡ arithmetic_of later p.preds) }
 {
     let rules = definite_rules(alloc, names, clauses)?;
     let program = whole_program(alloc, names, &rules)?;

@@ -51,7 +51,8 @@ pub(crate) fn form_of<'a>(names: &Names, term: &'a ReadTerm) -> Form<'a>
     requires { IsTrue (is_known (length names.now) (tree_of term.now)) }
     ensures form { IsForm names.now term.now result }
     ensures parted { IsParted names.now term.now result }
-    ensures fit { (vars : ℕ) → IsTrue (is_below vars (tree_of term.now)) → FormIsFit (length names.now) vars result }
+    ensures fit { (vars : ℕ) → IsTrue (is_below vars (tree_of term.now))
+        → FormIsFit (length names.now) vars result }
 {
     match &term.shape {
         ReadShape::Var(_) | ReadShape::Int(_) => Form::Fact(term),
@@ -77,7 +78,8 @@ pub(crate) fn form_of<'a>(names: &Names, term: &'a ReadTerm) -> Form<'a>
 
 /// What is wrong with a head whose name has this text and the given number of arguments.
 fn head_kind(text: &[u8], arity: usize) -> Option<NormKind>
-    ensures fault { (at : ℕ) → named_head_fault text.now arity at ≡ option_map (λ k. (k, at)) result }
+    ensures fault { (at : ℕ) → named_head_fault text.now arity at ≡ option_map
+        (λ k. (k, at)) result }
     ensures few { IfNone result (arity ≤ 12) }
 {
     if is_reserved(text, arity) {

@@ -36,7 +36,9 @@ impl<'a> Level<'a> {
     /// Adds a goal.
     fn add(&mut self, alloc: Global, goal: &Goal<'a, '_, '_>) -> Result<(), AllocError>
         requires { self.old.next + 1 < 2 ^ 64 }
-        ensures calls { OnOk result (map call_of self.new.calls.items ≡ map call_of self.old.calls.items ++ call_at self.old.next (goal_of goal.now)) }
+        ensures calls { OnOk result
+            (map call_of self.new.calls.items ≡ map call_of self.old.calls.items
+            ++ call_at self.old.next (goal_of goal.now)) }
         ensures next { OnOk result (self.new.next ≡ self.old.next + choices_at (goal_of goal.now)) }
     {
         match goal {
@@ -65,7 +67,8 @@ pub(crate) fn level_of<'a>(
     goals: &[Goal<'a, '_, '_>],
 ) -> Result<Level<'a>, AllocError>
     requires { first + choices (goals_row (map goal_of goals.now)) + 1 < 2 ^ 64 }
-    ensures calls { IfOk result (λ l. map call_of l.calls.items ≡ calls first (goals_row (map goal_of goals.now))) }
+    ensures calls { IfOk result
+        (λ l. map call_of l.calls.items ≡ calls first (goals_row (map goal_of goals.now))) }
     ensures next { IfOk result (λ l. l.next ≡ first + choices (goals_row (map goal_of goals.now))) }
 {
     let mut level = Level {

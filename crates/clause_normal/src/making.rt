@@ -40,7 +40,11 @@ fn add_rule<'a>(
 ) -> Result<u64, AllocError>
     requires { first + choices (goals_row (map goal_of goals.now)) + 1 < 2 ^ 64 }
     ensures rule { OnOk result (map rule_of made.new.items ≡ map rule_of made.old.items
-        ++ record { head = call_of head.entry; body = calls first (goals_row (map goal_of goals.now)) } ∷ []) }
+        ++ record {
+          head = call_of head.entry;
+          body = calls first
+              (goals_row (map goal_of goals.now));
+        } ∷ []) }
     ensures next { IfOk result (λ n. n ≡ first + choices (goals_row (map goal_of goals.now))) }
 {
     let level = level_of(alloc, first, goals)?;
@@ -70,7 +74,8 @@ pub(crate) fn add_rules<'a, 'v, 'o>(
     ensures size { OnOk result (HasSize (length places.old.firsts.items) places.new) }
     ensures made { let goals = outline_goals body.now args.now in
         let made_then = map rule_of made.old.items ++ rules first (call_of head.entry) goals in
-        AnswersMade (goals_fault goals) made_then (after first goals) (map rule_of made.new.items) result }
+        AnswersMade (goals_fault goals) made_then (after first goals)
+        (map rule_of made.new.items) result }
 {
     let goals = body_goals(alloc, places, args, body)?;
     let next = add_rule(alloc, made, first, head, &goals)?;
@@ -95,7 +100,8 @@ fn add_below<'a, 'v, 'o>(
     ensures size { OnOk result (HasSize (length places.old.firsts.items) places.new) }
     ensures made { let row = goals_row (map goal_of goals.now) in
         let made_then = map rule_of made.old.items ++ below first next row in
-        AnswersMade (goals_fault row) made_then (next + inner row) (map rule_of made.new.items) result }
+        AnswersMade (goals_fault row) made_then (next + inner row)
+        (map rule_of made.new.items) result }
 {
     let mut number = first;
     let mut after = next;
@@ -124,8 +130,10 @@ fn add_goal<'a, 'v, 'o>(
     requires goal { GoalIsBelow (length places.old.firsts.items) goal.now }
     requires size { HasSize (length places.old.firsts.items) places.old }
     ensures size { OnOk result (HasSize (length places.old.firsts.items) places.new) }
-    ensures made { let made_then = map rule_of made.old.items ++ below_at number next (goal_of goal.now) in
-        AnswersMade (goal_fault (goal_of goal.now)) made_then (next + inner_at (goal_of goal.now)) (map rule_of made.new.items) result }
+    ensures made { let made_then = map rule_of made.old.items ++ below_at number next
+        (goal_of goal.now) in
+        AnswersMade (goal_fault (goal_of goal.now)) made_then (next + inner_at (goal_of goal.now))
+        (map rule_of made.new.items) result }
 {
     match goal {
         Goal::Item(Item::Call(_, _)) => Ok(next),
@@ -157,8 +165,10 @@ fn add_branches<'a, 'v, 'o>(
     requires size { HasSize (length places.old.firsts.items) places.old }
     ensures size { OnOk result (HasSize (length places.old.firsts.items) places.new) }
     ensures made { let row = branches_in branches.now args.now in
-        let made_then = map rule_of made.old.items ++ branch_rules (choice_call number args.now) next row in
-        AnswersMade (branches_fault row) made_then (next + within row) (map rule_of made.new.items) result }
+        let made_then = map rule_of made.old.items ++ branch_rules
+        (choice_call number args.now) next row in
+        AnswersMade (branches_fault row) made_then (next + within row)
+        (map rule_of made.new.items) result }
 {
     let mut after = next;
     'branches: for branch in branches {

@@ -27,11 +27,15 @@ use std::alloc::{AllocError, Global};
 /// The name of what is called. More names than have numbers do not fit into memory.
 fn functor_name(alloc: Global, names: &mut Names, functor: Functor) -> Result<Name, AllocError>
     ensures kept { Extends names.old names.new }
-    ensures number { IfOk result (λ n. (later : List (List ℕ)) → Extends names.new later → name_number later (functor_of functor) ≡ n.0) }
-    ensures known { IfOk result (λ n. FunctorIsFit (length names.old) functor → n.0 < length names.new) }
-    ensures text { IfOk result (λ n. FunctorIsFit (length names.old) functor → name_text names.new n.0 ≡ functor_text names.old (functor_of functor)) }
+    ensures number { IfOk result (λ n. (later : List (List ℕ)) → Extends names.new later
+        → name_number later (functor_of functor) ≡ n.0) }
+    ensures known { IfOk result (λ n. FunctorIsFit (length names.old) functor
+        → n.0 < length names.new) }
+    ensures text { IfOk result (λ n. FunctorIsFit (length names.old) functor
+        → name_text names.new n.0 ≡ functor_text names.old (functor_of functor)) }
     ensures named { IsNamed functor → names.new ≡ names.old }
-    ensures added { OnOk result (names.new ≡ with_names names.old (functor_texts (functor_of functor))) }
+    ensures added { OnOk result
+        (names.new ≡ with_names names.old (functor_texts (functor_of functor))) }
 {
     match functor {
         Functor::Named(name) => Ok(name),
@@ -50,10 +54,14 @@ fn functor_name(alloc: Global, names: &mut Names, functor: Functor) -> Result<Na
 fn add_builtin(program: &mut Program, name: Name, kind: Builtin) -> Result<PredId, AllocError>
     requires room { length program.old.preds < 2 ^ 32 - 1 }
     ensures number { IfOk result (λ p. p.0 ≡ position_or_len (is_pred name.0 2) program.old.preds) }
-    ensures preds { OnOk result (program.new.preds ≡ with_pred program.old.preds (record { name = name; arity = 2 })) }
-    ensures found { IfOk result (λ p. slice_get program.new.preds p.0 ≡ Some (record { name = name; arity = 2 })) }
+    ensures preds { OnOk result
+        (program.new.preds ≡ with_pred program.old.preds (record { name = name; arity = 2 })) }
+    ensures found { IfOk result
+        (λ p. slice_get program.new.preds p.0 ≡ Some (record { name = name; arity = 2 })) }
     ensures clauses { program.new.clauses ≡ program.old.clauses }
-    ensures arithmetic { OnOk result (program.new.arithmetic ≡ with_kind program.old.arithmetic program.old.preds (record { name = name; arity = 2 }) (Some kind)) }
+    ensures arithmetic { OnOk result
+        (program.new.arithmetic ≡ with_kind program.old.arithmetic program.old.preds
+        (record { name = name; arity = 2 }) (Some kind)) }
     ensures err { OnErr result (program.new ≡ program.old) }
 {
     match program.find(name, 2) {
@@ -75,11 +83,17 @@ fn add_pred(
     requires name { name.0 < length names.now }
     requires small { arity ≤ 12 }
     requires room { length program.old.preds < 2 ^ 32 - 1 }
-    ensures number { IfOk result (λ p. p.0 ≡ position_or_len (is_pred name.0 arity) program.old.preds) }
-    ensures preds { OnOk result (program.new.preds ≡ with_pred program.old.preds (record { name = name; arity = arity })) }
-    ensures found { IfOk result (λ p. slice_get program.new.preds p.0 ≡ Some (record { name = name; arity = arity })) }
+    ensures number { IfOk result
+        (λ p. p.0 ≡ position_or_len (is_pred name.0 arity) program.old.preds) }
+    ensures preds { OnOk result
+        (program.new.preds ≡ with_pred program.old.preds (record { name = name; arity = arity })) }
+    ensures found { IfOk result
+        (λ p. slice_get program.new.preds p.0 ≡ Some (record { name = name; arity = arity })) }
     ensures clauses { program.new.clauses ≡ program.old.clauses }
-    ensures arithmetic { OnOk result (program.new.arithmetic ≡ with_kind program.old.arithmetic program.old.preds (record { name = name; arity = arity }) (kind_of_pred names.now (record { name = name; arity = arity }))) }
+    ensures arithmetic { OnOk result
+        (program.new.arithmetic ≡ with_kind program.old.arithmetic program.old.preds
+        (record { name = name; arity = arity })
+        (kind_of_pred names.now (record { name = name; arity = arity }))) }
     ensures err { OnErr result (program.new ≡ program.old) }
 {
     match builtin_of(text_of(names, name), arity as usize) {
@@ -110,20 +124,28 @@ fn add_atom(
     requires order { length order.now ≤ 48 }
     requires fit { CallIsFit (length names.old) call.now }
     ensures kept { Extends names.old names.new }
-    ensures atom { IfOk result (λ a. (later : List (List ℕ)) → Extends names.new later → a ≡ atom_after later order.now program.old.preds (call_of call.now)) }
-    ensures preds { OnOk result ((later : List (List ℕ)) → Extends names.new later → program.new.preds ≡ with_pred program.old.preds (pred_of later (call_of call.now))) }
+    ensures atom { IfOk result (λ a. (later : List (List ℕ)) → Extends names.new later
+        → a ≡ atom_after later order.now program.old.preds (call_of call.now)) }
+    ensures preds { OnOk result ((later : List (List ℕ)) → Extends names.new later
+        → program.new.preds ≡ with_pred program.old.preds (pred_of later (call_of call.now))) }
     ensures clauses { program.new.clauses ≡ program.old.clauses }
-    ensures arithmetic { (later : List (List ℕ)) → Extends names.new later → program.old.arithmetic ≡ arithmetic_of later program.old.preds → program.new.arithmetic ≡ arithmetic_of later program.new.preds }
+    ensures arithmetic { (later : List (List ℕ)) → Extends names.new later
+        → program.old.arithmetic ≡ arithmetic_of later program.old.preds
+        → program.new.arithmetic ≡ arithmetic_of later program.new.preds }
     ensures nodes { IfOk result (λ a. left.old ≡ left.new + atom_nodes a) }
 
     // Earlier predicates keep their places, and the atom has as many arguments as its predicate.
-    ensures still { (i : ℕ) → i < length program.old.preds → slice_get program.new.preds i ≡ slice_get program.old.preds i }
+    ensures still { (i : ℕ) → i < length program.old.preds
+        → slice_get program.new.preds i ≡ slice_get program.old.preds i }
     ensures more { length program.old.preds ≤ length program.new.preds }
     ensures arity { IfOk result (HasArity program.new.preds) }
-    ensures ordinary { IfOk result (λ a. IsOrdinaryCall names.old (call_of call.now) → HasOrdinary names.new program.new.preds a) }
-    ensures known { AllByRecursion (λ (p : ThePred). p.name.0 < length names.old) program.old.preds → AllByRecursion (λ (p : ThePred). p.name.0 < length names.new) program.new.preds }
+    ensures ordinary { IfOk result (λ a. IsOrdinaryCall names.old (call_of call.now)
+        → HasOrdinary names.new program.new.preds a) }
+    ensures known { AllByRecursion (λ (p : ThePred). p.name.0 < length names.old) program.old.preds
+        → AllByRecursion (λ (p : ThePred). p.name.0 < length names.new) program.new.preds }
     ensures named { IsNamed call.now.functor → names.new ≡ names.old }
-    ensures added { OnOk result (names.new ≡ with_names names.old (functor_texts (call_of call.now).functor)) }
+    ensures added { OnOk result
+        (names.new ≡ with_names names.old (functor_texts (call_of call.now).functor)) }
 {
     let name = functor_name(alloc, names, call.functor)?;
     if program.preds() == u32::MAX {
@@ -141,7 +163,8 @@ pub(crate) fn add_arg_variables(
     variables: &mut Vec<u32>,
     args: &Args,
 ) -> Result<(), AllocError>
-    ensures { OnOk result (variables.new.items ≡ variables.old.items ++ list_variables (args_of args.now)) }
+    ensures { OnOk result (variables.new.items ≡ variables.old.items ++ list_variables
+        (args_of args.now)) }
 {
     match args {
         Args::Terms(terms) => {
@@ -157,7 +180,8 @@ pub(crate) fn add_arg_variables(
 
 /// The variables of a clause from left to right, with repetitions.
 fn rule_variables(alloc: Global, rule: &Rule) -> Result<Vec<u32>, AllocError>
-    ensures { IfOk result (λ v. v.items ≡ call_variables ((rule_of rule.now).head ∷ (rule_of rule.now).body)) }
+    ensures { IfOk result (λ v. v.items
+        ≡ call_variables ((rule_of rule.now).head ∷ (rule_of rule.now).body)) }
 {
     let mut variables = Vec::new(alloc);
     add_arg_variables(alloc, &mut variables, &rule.head.args)?;
@@ -179,20 +203,28 @@ pub(crate) fn add_atoms(
     requires order { length order.now ≤ 48 }
     requires fit { AllByRecursion (CallIsFit (length names.old)) calls.now }
     ensures kept { Extends names.old names.new }
-    ensures atoms { IfOk result (λ xs. (later : List (List ℕ)) → Extends names.new later → xs ≡ atoms_after later order.now program.old.preds (map call_of calls.now)) }
-    ensures preds { OnOk result ((later : List (List ℕ)) → Extends names.new later → program.new.preds ≡ with_calls later program.old.preds (map call_of calls.now)) }
+    ensures atoms { IfOk result (λ xs. (later : List (List ℕ)) → Extends names.new later
+        → xs ≡ atoms_after later order.now program.old.preds (map call_of calls.now)) }
+    ensures preds { OnOk result ((later : List (List ℕ)) → Extends names.new later
+        → program.new.preds ≡ with_calls later program.old.preds (map call_of calls.now)) }
     ensures clauses { program.new.clauses ≡ program.old.clauses }
-    ensures arithmetic { (later : List (List ℕ)) → Extends names.new later → program.old.arithmetic ≡ arithmetic_of later program.old.preds → program.new.arithmetic ≡ arithmetic_of later program.new.preds }
+    ensures arithmetic { (later : List (List ℕ)) → Extends names.new later
+        → program.old.arithmetic ≡ arithmetic_of later program.old.preds
+        → program.new.arithmetic ≡ arithmetic_of later program.new.preds }
     ensures nodes { IfOk result (λ xs. left.old ≡ left.new + sum_by atom_nodes xs) }
     ensures count { IfOk result (λ xs. length xs ≡ length calls.now) }
 
     // Earlier predicates keep their places, and atoms have as many arguments as their predicates.
     ensures more { length program.old.preds ≤ length program.new.preds }
-    ensures still { (i : ℕ) → i < length program.old.preds → slice_get program.new.preds i ≡ slice_get program.old.preds i }
+    ensures still { (i : ℕ) → i < length program.old.preds
+        → slice_get program.new.preds i ≡ slice_get program.old.preds i }
     ensures arity { IfOk result (λ xs. AllByRecursion (HasArity program.new.preds) xs) }
-    ensures known { AllByRecursion (λ (p : ThePred). p.name.0 < length names.old) program.old.preds → AllByRecursion (λ (p : ThePred). p.name.0 < length names.new) program.new.preds }
-    ensures named { AllByRecursion (λ (c : TheCall). IsNamed c.functor) calls.now → names.new ≡ names.old }
-    ensures added { OnOk result (names.new ≡ with_names names.old (call_texts (map call_of calls.now))) }
+    ensures known { AllByRecursion (λ (p : ThePred). p.name.0 < length names.old) program.old.preds
+        → AllByRecursion (λ (p : ThePred). p.name.0 < length names.new) program.new.preds }
+    ensures named { AllByRecursion (λ (c : TheCall). IsNamed c.functor) calls.now
+        → names.new ≡ names.old }
+    ensures added { OnOk result
+        (names.new ≡ with_names names.old (call_texts (map call_of calls.now))) }
 {
     let mut atoms = Atoms::new(alloc);
     'calls: for call in calls {
@@ -211,15 +243,22 @@ pub(crate) fn add_rule(
 ) -> Result<(), AllocError>
     requires room { length program.old.clauses < MOST_CLAUSES }
     requires fit { RuleIsFit (length names.old) rule.now }
-    requires arithmetic { (later : List (List ℕ)) → Extends names.old later → program.old.arithmetic ≡ arithmetic_of later program.old.preds }
+    requires arithmetic { (later : List (List ℕ)) → Extends names.old later
+        → program.old.arithmetic ≡ arithmetic_of later program.old.preds }
     requires ordinary { IsOrdinaryCall names.old (call_of rule.now.head) }
     ensures kept { Extends names.old names.new }
-    ensures arithmetic { OnOk result ((later : List (List ℕ)) → Extends names.new later → program.new.arithmetic ≡ arithmetic_of later program.new.preds) }
+    ensures arithmetic { OnOk result ((later : List (List ℕ)) → Extends names.new later
+        → program.new.arithmetic ≡ arithmetic_of later program.new.preds) }
     ensures count { OnOk result (length program.new.clauses ≡ length program.old.clauses + 1) }
-    ensures program { OnOk result ((later : List (List ℕ)) → Extends names.new later → program.new ≡ with_rule later program.old (rule_of rule.now)) }
-    ensures added { OnOk result (names.new ≡ with_names names.old (call_texts ((rule_of rule.now).head ∷ (rule_of rule.now).body))) }
+    ensures program { OnOk result ((later : List (List ℕ)) → Extends names.new later
+        → program.new ≡ with_rule later program.old (rule_of rule.now)) }
+    ensures added { OnOk result
+        (names.new ≡ with_names names.old
+        (call_texts ((rule_of rule.now).head ∷ (rule_of rule.now).body))) }
     ensures named { RuleIsNamed rule.now → names.new ≡ names.old }
-    ensures known { OnOk result (AllByRecursion (λ (p : ThePred). p.name.0 < length names.old) program.old.preds → AllByRecursion (λ (p : ThePred). p.name.0 < length names.new) program.new.preds) }
+    ensures known { OnOk result
+        (AllByRecursion (λ (p : ThePred). p.name.0 < length names.old) program.old.preds
+        → AllByRecursion (λ (p : ThePred). p.name.0 < length names.new) program.new.preds) }
 {
     let variables = rule_variables(alloc, rule)?;
     let Some(order) = firsts(alloc, &variables, MOST_VARIABLES as usize)? else {

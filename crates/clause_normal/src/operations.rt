@@ -16,7 +16,8 @@ fn operations(names: &mut Names) -> Result<Arith, AllocError>
     ensures kept { Extends names.old names.new }
     ensures added { OnOk result (names.new ≡ with_names names.old operation_texts) }
     ensures same { HasOperations names.old → names.new ≡ names.old }
-    ensures operations { IfOk result (λ o. (later : List (List ℕ)) → Extends names.new later → operations later ≡ o) }
+    ensures operations { IfOk result (λ o. (later : List (List ℕ)) → Extends names.new later
+        → operations later ≡ o) }
     ensures three { IfOk result AreThree }
 {
     let plus = names.intern(b"+")?;
@@ -31,7 +32,8 @@ pub(crate) fn empty_program(alloc: Global, names: &mut Names) -> Result<Program,
     ensures kept { Extends names.old names.new }
     ensures added { OnOk result (names.new ≡ with_names names.old operation_texts) }
     ensures same { HasOperations names.old → names.new ≡ names.old }
-    ensures program { IfOk result (λ p. (later : List (List ℕ)) → Extends names.new later → p ≡ empty_program later) }
+    ensures program { IfOk result (λ p. (later : List (List ℕ)) → Extends names.new later
+        → p ≡ empty_program later) }
 {
     let mut program = Program::new(alloc);
     let arith = operations(names)?;

@@ -14,7 +14,8 @@ pub(crate) fn is_among(xs: &[u32], x: u32) -> bool
 
 /// Each of these numbers once, in order of first occurrence, where these are no more than `most`.
 pub(crate) fn firsts(alloc: Global, xs: &[u32], most: usize) -> Result<Option<Vec<u32>>, AllocError>
-    ensures { IfOk result (λ order. MatchOption order (most < length (firsts xs.now)) (λ v. (v.items ≡ firsts xs.now) × (length v.items ≤ most))) }
+    ensures { IfOk result (λ order. MatchOption order (most < length (firsts xs.now))
+        (λ v. (v.items ≡ firsts xs.now) × (length v.items ≤ most))) }
 {
     let mut order = Vec::new(alloc);
     'numbers: for x in xs {

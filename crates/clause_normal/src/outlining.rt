@@ -47,11 +47,14 @@ fn add_pieces<'a, 'v>(
     pieces: &mut Vec<Piece<'a, 'v>>,
 ) -> Result<&'v [u32], AllocError>
     requires known { IsTrue (is_known (length names.now) (tree_of body.now)) }
-    requires variables { (rest : List ℕ) × (variables.now ≡ occurrences (tree_of body.now) ++ rest) }
-    ensures rest { IfOk result (λ rest. variables.now ≡ occurrences (tree_of body.now) ++ rest.now) }
+    requires variables { (rest : List ℕ)
+        × (variables.now ≡ occurrences (tree_of body.now) ++ rest) }
+    ensures rest { IfOk result
+        (λ rest. variables.now ≡ occurrences (tree_of body.now) ++ rest.now) }
     ensures goals { OnOk result ((all : List ℕ) → goals_in pieces.new.items all
         ≡ joined (goals_in pieces.old.items all) (goals_of names.now body.now all)) }
-    ensures own { OnOk result (own_in pieces.new.items ≡ own_in pieces.old.items ++ occurrences (tree_of body.now)) }
+    ensures own { OnOk result (own_in pieces.new.items ≡ own_in pieces.old.items ++ occurrences
+        (tree_of body.now)) }
     ensures below { OnOk result ((vars : ℕ) → AllByRecursion (λ x. x < vars) variables.now
         → PiecesAreBelow vars pieces.old.items → PiecesAreBelow vars pieces.new.items) }
 {
@@ -85,13 +88,21 @@ fn add_disjunction<'a, 'v>(
 ) -> Result<&'v [u32], AllocError>
     requires left { IsTrue (is_known (length names.now) (tree_of left.now)) }
     requires right { IsTrue (is_known (length names.now) (tree_of right.now)) }
-    requires variables { (rest : List ℕ) × (variables.now ≡ occurrences (tree_of left.now) ++ (occurrences (tree_of right.now) ++ rest)) }
-    ensures rest { IfOk result (λ rest. variables.now ≡ occurrences (tree_of left.now) ++ (occurrences (tree_of right.now) ++ rest.now)) }
-    ensures goals { OnOk result ((all : List ℕ) → goals_in pieces.new.items all ≡ joined (goals_in pieces.old.items all)
-        (one_goal (choice_goal at (arguments all (occurrences (tree_of left.now) ++ occurrences (tree_of right.now)))
-        (λ args. joined_branches (branches_of names.now left.now args) (branches_of names.now right.now args))))) }
+    requires variables { (rest : List ℕ)
+        × (variables.now ≡ occurrences (tree_of left.now)
+        ++ (occurrences (tree_of right.now) ++ rest)) }
+    ensures rest { IfOk result
+        (λ rest. variables.now ≡ occurrences (tree_of left.now)
+        ++ (occurrences (tree_of right.now) ++ rest.now)) }
+    ensures goals { OnOk result ((all : List ℕ)
+        → goals_in pieces.new.items all ≡ joined (goals_in pieces.old.items all)
+        (one_goal (choice_goal at
+        (arguments all (occurrences (tree_of left.now) ++ occurrences (tree_of right.now)))
+        (λ args. joined_branches (branches_of names.now left.now args)
+        (branches_of names.now right.now args))))) }
     ensures own { OnOk result (own_in pieces.new.items
-        ≡ own_in pieces.old.items ++ (occurrences (tree_of left.now) ++ occurrences (tree_of right.now))) }
+        ≡ own_in pieces.old.items
+        ++ (occurrences (tree_of left.now) ++ occurrences (tree_of right.now))) }
     ensures below { OnOk result ((vars : ℕ) → AllByRecursion (λ x. x < vars) variables.now
         → PiecesAreBelow vars pieces.old.items → PiecesAreBelow vars pieces.new.items) }
 {
@@ -113,10 +124,13 @@ fn add_outlines<'a, 'v>(
     outlines: &mut Vec<Outline<'a, 'v>>,
 ) -> Result<&'v [u32], AllocError>
     requires known { IsTrue (is_known (length names.now) (tree_of body.now)) }
-    requires variables { (rest : List ℕ) × (variables.now ≡ occurrences (tree_of body.now) ++ rest) }
-    ensures rest { IfOk result (λ rest. variables.now ≡ occurrences (tree_of body.now) ++ rest.now) }
+    requires variables { (rest : List ℕ)
+        × (variables.now ≡ occurrences (tree_of body.now) ++ rest) }
+    ensures rest { IfOk result
+        (λ rest. variables.now ≡ occurrences (tree_of body.now) ++ rest.now) }
     ensures branches { OnOk result ((args : List ℕ) → branches_in outlines.new.items args
-        ≡ joined_branches (branches_in outlines.old.items args) (branches_of names.now body.now args)) }
+        ≡ joined_branches (branches_in outlines.old.items args)
+        (branches_of names.now body.now args)) }
     ensures below { OnOk result ((vars : ℕ) → AllByRecursion (λ x. x < vars) variables.now
         → OutlinesAreBelow vars outlines.old.items → OutlinesAreBelow vars outlines.new.items) }
 {
@@ -142,7 +156,8 @@ pub(crate) fn outlined<'a, 'v>(
     requires variables { variables.now ≡ occurrences (tree_of body.now) }
     ensures goals { IfOk result (λ o. (args : List ℕ) → outline_goals o args
         ≡ goals_of names.now body.now (args ++ occurrences (tree_of body.now))) }
-    ensures below { IfOk result (λ o. (vars : ℕ) → AllByRecursion (λ x. x < vars) variables.now → OutlineIsBelow vars o) }
+    ensures below { IfOk result (λ o. (vars : ℕ) → AllByRecursion (λ x. x < vars) variables.now
+        → OutlineIsBelow vars o) }
 {
     let mut pieces = Vec::new(alloc);
     add_pieces(alloc, names, body, variables, &mut pieces)?;

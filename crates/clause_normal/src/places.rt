@@ -73,7 +73,8 @@ impl Places {
     pub(crate) fn is_outside(&self, x: u32, start: usize, end: usize) -> bool
         requires firsts { x < length self.now.firsts.items }
         requires ends { x < length self.now.ends.items }
-        ensures { result ≡ (nat_lt (slice_index self.now.firsts.items x) start || nat_lt end (slice_index self.now.ends.items x)) }
+        ensures { result ≡ (nat_lt (slice_index self.now.firsts.items x) start
+            || nat_lt end (slice_index self.now.ends.items x)) }
     {
         self.firsts[x as usize] < start || end < self.ends[x as usize]
     }

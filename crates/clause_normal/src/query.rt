@@ -32,7 +32,8 @@ fn query_items<'a>(
     query: &'a ReadTerm,
 ) -> Result<Vec<Item<'a>>, AllocError>
     requires { IsTrue (is_known (length names.now) (tree_of query.now)) }
-    ensures goals { IfOk result (λ v. map item_goal v.items ≡ query_goals names.now (tree_of query.now)) }
+    ensures goals { IfOk result
+        (λ v. map item_goal v.items ≡ query_goals names.now (tree_of query.now)) }
     ensures fit { IfOk result (λ v. AllByRecursion (ItemIsFit (length names.now)) v.items) }
 {
     let mut items = Vec::new(alloc);
@@ -81,9 +82,13 @@ fn check_items(items: &[Item]) -> Result<(), NormFault>
 
 /// Adds the call that a goal is.
 fn add_call<'a>(calls: &mut Vec<Call<'a>>, item: &Item<'a>) -> Result<(), AllocError>
-    ensures calls { OnOk result (map call_of calls.new.items ≡ map call_of calls.old.items ++ query_call (item_goal item.now)) }
-    ensures fit { OnOk result ((names : ℕ) → ItemIsFit names item.now → AllByRecursion (CallIsFit names) calls.old.items → AllByRecursion (CallIsFit names) calls.new.items) }
-    ensures named { OnOk result (AllByRecursion (λ (c : TheCall). IsNamed c.functor) calls.old.items → AllByRecursion (λ (c : TheCall). IsNamed c.functor) calls.new.items) }
+    ensures calls { OnOk result (map call_of calls.new.items ≡ map call_of calls.old.items
+        ++ query_call (item_goal item.now)) }
+    ensures fit { OnOk result ((names : ℕ) → ItemIsFit names item.now
+        → AllByRecursion (CallIsFit names) calls.old.items
+        → AllByRecursion (CallIsFit names) calls.new.items) }
+    ensures named { OnOk result (AllByRecursion (λ (c : TheCall). IsNamed c.functor) calls.old.items
+        → AllByRecursion (λ (c : TheCall). IsNamed c.functor) calls.new.items) }
 {
     match item {
         Item::Call(name, args) => {
@@ -100,7 +105,8 @@ fn add_call<'a>(calls: &mut Vec<Call<'a>>, item: &Item<'a>) -> Result<(), AllocE
 /// The calls among these goals.
 fn item_calls<'a>(alloc: Global, items: &[Item<'a>]) -> Result<Vec<Call<'a>>, AllocError>
     ensures calls { IfOk result (λ v. map call_of v.items ≡ query_calls (map item_goal items.now)) }
-    ensures fit { IfOk result (λ v. (names : ℕ) → AllByRecursion (ItemIsFit names) items.now → AllByRecursion (CallIsFit names) v.items) }
+    ensures fit { IfOk result (λ v. (names : ℕ) → AllByRecursion (ItemIsFit names) items.now
+        → AllByRecursion (CallIsFit names) v.items) }
     ensures named { IfOk result (λ v. AllByRecursion (λ (c : TheCall). IsNamed c.functor) v.items) }
 {
     let mut calls = Vec::new(alloc);
@@ -118,7 +124,8 @@ pub(crate) fn conjunction<'a>(
 ) -> Result<Vec<Call<'a>>, NormFault>
     requires { IsTrue (is_known (length names.now) (tree_of query.now)) }
     ensures fault { AnswersFault (query_fault (query_goals names.now (tree_of query.now))) result }
-    ensures calls { IfOk result (λ v. map call_of v.items ≡ query_calls (query_goals names.now (tree_of query.now))) }
+    ensures calls { IfOk result
+        (λ v. map call_of v.items ≡ query_calls (query_goals names.now (tree_of query.now))) }
     ensures fit { IfOk result (λ v. AllByRecursion (CallIsFit (length names.now)) v.items) }
     ensures named { IfOk result (λ v. AllByRecursion (λ (c : TheCall). IsNamed c.functor) v.items) }
 {
@@ -158,11 +165,15 @@ fn add_new_equality(
     known: bool,
 ) -> Result<(), AllocError>
     requires room { known ≡ false → length program.old.clauses < MOST_CLAUSES }
-    requires names { AllByRecursion (λ (q : ThePred). q.name.0 < length names.now) program.old.preds }
+    requires names { AllByRecursion
+        (λ (q : ThePred). q.name.0 < length names.now) program.old.preds }
     requires arithmetic { program.old.arithmetic ≡ arithmetic_of names.now program.old.preds }
     ensures preds { program.new.preds ≡ program.old.preds }
     ensures arithmetic { program.new.arithmetic ≡ program.old.arithmetic }
-    ensures clauses { OnOk result (program.new.clauses ≡ with_equality_clause (if known then None else position (is_equality names.now) program.old.preds) program.old.clauses) }
+    ensures clauses { OnOk result
+        (program.new.clauses ≡ with_equality_clause
+        (if known then None else position
+        (is_equality names.now) program.old.preds) program.old.clauses) }
     ensures err { OnErr result (program.new ≡ program.old) }
 {
     if known {
@@ -187,27 +198,32 @@ pub fn normal_query(
     requires room { length names.old ≤ 4292870143 }
 
     // The names of the predicates are known, and there is room for a clause where =/2 is none of them.
-    requires known { AllByRecursion (λ (q : ThePred). q.name.0 < length names.old) program.old.preds }
+    requires known { AllByRecursion
+        (λ (q : ThePred). q.name.0 < length names.old) program.old.preds }
     requires preds { length program.old.preds ≤ 4292870143 }
-    requires clauses { position (is_equality names.old) program.old.preds ≡ None → length program.old.clauses < 16385 }
+    requires clauses { position (is_equality names.old) program.old.preds ≡ None
+        → length program.old.clauses < 16385 }
 
     // What is built in is what the names say, before and after.
     requires arithmetic { program.old.arithmetic ≡ arithmetic_of names.old program.old.preds }
     ensures arithmetic { program.new.arithmetic ≡ arithmetic_of names.new program.new.preds }
 
     // Exactly the goal of the definition with the program that it needs, or exactly its fault.
-    ensures exact { AnswersQuery (query_form names.old program.old (clause_of query.now)) program.new result }
+    ensures exact { AnswersQuery
+        (query_form names.old program.old (clause_of query.now)) program.new result }
 
     // The goal is one of that program: each variable is below its counter.
     ensures goal { IfOk result (λ g. AllByRecursion (IsAtom program.new.preds g.fresh) g.atoms) }
 
     // No name is added, and the names of the predicates stay known, also after an error.
     ensures names { names.new ≡ names.old }
-    ensures known { AllByRecursion (λ (q : ThePred). q.name.0 < length names.new) program.new.preds }
+    ensures known { AllByRecursion
+        (λ (q : ThePred). q.name.0 < length names.new) program.new.preds }
 
     // After a fault the program is unchanged, and always its earlier predicates and clauses are.
     ensures fault { IfErr result (λ e. IfFault e (λ _. program.new ≡ program.old)) }
-    ensures still { (i : ℕ) → i < length program.old.preds → slice_get program.new.preds i ≡ slice_get program.old.preds i }
+    ensures still { (i : ℕ) → i < length program.old.preds
+        → slice_get program.new.preds i ≡ slice_get program.old.preds i }
     ensures earlier { IfErr result (λ e. program.new.clauses ≡ program.old.clauses) }
 {
     let calls = match conjunction(alloc, names, &query.term) {

@@ -29,15 +29,21 @@ use std::alloc::{AllocError, Global};
 fn program_of(alloc: Global, names: &mut Names, rules: &[Rule]) -> Result<Program, AllocError>
     requires few { length rules.now ≤ 16384 }
     requires fit { AllByRecursion (RuleIsFit (length names.old)) rules.now }
-    requires ordinary { AllByRecursion (λ (r : TheRule). IsOrdinaryCall names.old r.head) (map rule_of rules.now) }
+    requires ordinary { AllByRecursion (λ (r : TheRule). IsOrdinaryCall names.old r.head)
+        (map rule_of rules.now) }
     requires room { length names.old < 2 ^ 32 - 3 }
     ensures kept { Extends names.old names.new }
-    ensures program { IfOk result (λ p. (later : List (List ℕ)) → Extends names.new later → p ≡ with_rules later (empty_program later) (map rule_of rules.now)) }
-    ensures added { OnOk result (names.new ≡ with_names names.old (operation_texts ++ rule_texts (map rule_of rules.now))) }
-    ensures same { HasOperations names.old → AllByRecursion RuleIsNamed rules.now → names.new ≡ names.old }
-    ensures arithmetic { IfOk result (λ p. (later : List (List ℕ)) → Extends names.new later → p.arithmetic ≡ arithmetic_of later p.preds) }
+    ensures program { IfOk result (λ p. (later : List (List ℕ)) → Extends names.new later
+        → p ≡ with_rules later (empty_program later) (map rule_of rules.now)) }
+    ensures added { OnOk result
+        (names.new ≡ with_names names.old (operation_texts ++ rule_texts (map rule_of rules.now))) }
+    ensures same { HasOperations names.old → AllByRecursion RuleIsNamed rules.now
+        → names.new ≡ names.old }
+    ensures arithmetic { IfOk result (λ p. (later : List (List ℕ)) → Extends names.new later
+        → p.arithmetic ≡ arithmetic_of later p.preds) }
     ensures room { IfOk result (λ p. length p.clauses ≤ 16384) }
-    ensures known { IfOk result (λ p. AllByRecursion (λ (q : ThePred). q.name.0 < length names.new) p.preds) }
+    ensures known { IfOk result
+        (λ p. AllByRecursion (λ (q : ThePred). q.name.0 < length names.new) p.preds) }
 {
     let mut program = empty_program(alloc, names)?;
     'rules: for rule in rules {
@@ -88,7 +94,8 @@ pub(crate) fn add_equality(
     program: &mut Program,
 ) -> Result<(), AllocError>
     requires room { length program.old.clauses < MOST_CLAUSES }
-    requires known { AllByRecursion (λ (q : ThePred). q.name.0 < length names.now) program.old.preds }
+    requires known { AllByRecursion
+        (λ (q : ThePred). q.name.0 < length names.now) program.old.preds }
     requires arithmetic { program.old.arithmetic ≡ arithmetic_of names.now program.old.preds }
     ensures program { OnOk result (program.new ≡ with_equality names.now program.old) }
     ensures err { OnErr result (program.new ≡ program.old) }
@@ -108,16 +115,24 @@ pub(crate) fn whole_program(
 ) -> Result<Program, AllocError>
     requires few { length rules.now ≤ 16384 }
     requires fit { AllByRecursion (RuleIsFit (length names.old)) rules.now }
-    requires ordinary { AllByRecursion (λ (r : TheRule). IsOrdinaryCall names.old r.head) (map rule_of rules.now) }
+    requires ordinary { AllByRecursion (λ (r : TheRule). IsOrdinaryCall names.old r.head)
+        (map rule_of rules.now) }
     requires room { length names.old < 2 ^ 32 - 3 }
     ensures kept { Extends names.old names.new }
-    ensures program { IfOk result (λ p. p ≡ with_equality names.new (with_rules names.new (empty_program names.new) (map rule_of rules.now))) }
-    ensures added { OnOk result (names.new ≡ with_names names.old (operation_texts ++ rule_texts (map rule_of rules.now))) }
-    ensures same { HasOperations names.old → AllByRecursion RuleIsNamed rules.now → names.new ≡ names.old }
-    ensures arithmetic { IfOk result (λ p. (later : List (List ℕ)) → Extends names.new later → p.arithmetic ≡ arithmetic_of later p.preds) }
-    ensures known { IfOk result (λ p. AllByRecursion (λ (q : ThePred). q.name.0 < length names.new) p.preds) }
+    ensures program { IfOk result
+        (λ p. p ≡ with_equality names.new
+        (with_rules names.new (empty_program names.new) (map rule_of rules.now))) }
+    ensures added { OnOk result
+        (names.new ≡ with_names names.old (operation_texts ++ rule_texts (map rule_of rules.now))) }
+    ensures same { HasOperations names.old → AllByRecursion RuleIsNamed rules.now
+        → names.new ≡ names.old }
+    ensures arithmetic { IfOk result (λ p. (later : List (List ℕ)) → Extends names.new later
+        → p.arithmetic ≡ arithmetic_of later p.preds) }
+    ensures known { IfOk result
+        (λ p. AllByRecursion (λ (q : ThePred). q.name.0 < length names.new) p.preds) }
     ensures sound { IfOk result IsProgram }
-    ensures room { IfOk result (λ p. position (is_equality names.new) p.preds ≡ None → length p.clauses < 16385) }
+    ensures room { IfOk result (λ p. position (is_equality names.new) p.preds ≡ None
+        → length p.clauses < 16385) }
 {
     let mut program = program_of(alloc, names, rules)?;
     add_equality(alloc, names, &mut program)?;
@@ -137,21 +152,25 @@ pub fn normal(alloc: Global, text: &ReadText, names: &mut Names) -> Result<Progr
     requires room { length names.old ≤ 4292870143 }
 
     // Exactly the program of the definition, or exactly its fault.
-    ensures exact { MatchResult result (λ p. normal_form names.new text.now.clauses ≡ Ok p) (λ e. IfFault e (λ f. normal_form names.new text.now.clauses ≡ Err f)) }
+    ensures exact { MatchResult result (λ p. normal_form names.new text.now.clauses ≡ Ok p)
+        (λ e. IfFault e (λ f. normal_form names.new text.now.clauses ≡ Err f)) }
 
     // The names are those of the definition, and after a fault those that were there. Earlier names keep their numbers, and those of the
     // predicates are known.
     ensures names { OnOk result (names.new ≡ program_names names.old text.now.clauses) }
     ensures fault { IfErr result (λ e. IfFault e (λ _. names.new ≡ names.old)) }
     ensures kept { Extends names.old names.new }
-    ensures known { IfOk result (λ p. AllByRecursion (λ (q : ThePred). q.name.0 < length names.new) p.preds) }
+    ensures known { IfOk result
+        (λ p. AllByRecursion (λ (q : ThePred). q.name.0 < length names.new) p.preds) }
     ensures sound { IfOk result IsProgram }
 
     // What is built in is what these names say, and later ones too.
-    ensures arithmetic { IfOk result (λ p. (later : List (List ℕ)) → Extends names.new later → p.arithmetic ≡ arithmetic_of later p.preds) }
+    ensures arithmetic { IfOk result (λ p. (later : List (List ℕ)) → Extends names.new later
+        → p.arithmetic ≡ arithmetic_of later p.preds) }
 
     // There is room for one clause more where =/2 is not a predicate of the program.
-    ensures room { IfOk result (λ p. position (is_equality names.new) p.preds ≡ None → length p.clauses < 16385) }
+    ensures room { IfOk result (λ p. position (is_equality names.new) p.preds ≡ None
+        → length p.clauses < 16385) }
 {
     let rules = match text_rules(alloc, names, text.clauses.as_slice()) {
         Ok(rules) => rules,

@@ -24,7 +24,8 @@ pub(crate) fn add_variables(
     variables: &mut Vec<u32>,
     terms: &[ReadTerm],
 ) -> Result<(), AllocError>
-    ensures { OnOk result (variables.new.items ≡ variables.old.items ++ list_variables (map plain_of terms.now)) }
+    ensures { OnOk result (variables.new.items ≡ variables.old.items ++ list_variables
+        (map plain_of terms.now)) }
 {
     let mut stack = Vec::new(alloc);
     stack.push(terms)?;
@@ -53,7 +54,8 @@ pub(crate) fn variables_of(alloc: Global, terms: &[ReadTerm]) -> Result<Vec<u32>
 /// The variables of a term from left to right, with repetitions.
 pub(crate) fn term_variables(alloc: Global, term: &ReadTerm) -> Result<Vec<u32>, AllocError>
     ensures value { IfOk result (λ v. v.items ≡ occurrences (tree_of term.now)) }
-    ensures below { IfOk result (λ v. (vars : ℕ) → IsTrue (is_below vars (tree_of term.now)) → AllByRecursion (λ x. x < vars) v.items) }
+    ensures below { IfOk result (λ v. (vars : ℕ) → IsTrue (is_below vars (tree_of term.now))
+        → AllByRecursion (λ x. x < vars) v.items) }
 {
     let variables = variables_of(alloc, from_ref(term))?;
     Ok(variables)

@@ -1,9 +1,10 @@
-// Worked facts, with ample memory.
+//! Worked facts, with ample memory.
+
 use cert_checker::{check_fall, check_size};
 use linear_rows::{Multipliers, Numbers, Proof, Row, Rows};
 use std::test::Fail;
 
-// The rows of app(T,L,R) over H, T, L and R show that app([H|T],L,[H|R]) keeps its first row.
+/// The rows of app(T,L,R) over H, T, L and R show that app([H|T],L,[H|R]) keeps its first row.
 #[test]
 fn rows_of_append(rt: HostRuntime) -> Result<(), Fail> {
     let alloc = rt.alloc();
@@ -35,7 +36,7 @@ fn rows_of_append(rt: HostRuntime) -> Result<(), Fail> {
     Ok(())
 }
 
-// The size of the first argument falls by 1 + H, from [H|T] to T, less 1.
+/// The size of the first argument falls by 1 + H, from [H|T] to T, less 1.
 #[test]
 fn fall_of_append(rt: HostRuntime) -> Result<(), Fail> {
     let alloc = rt.alloc();

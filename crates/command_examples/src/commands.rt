@@ -145,7 +145,7 @@ fn is_refused(alloc: Global, text: &[u8], words: &[&str], line: &[u8]) -> Result
     Ok(status == Status::Refused && taken.as_slice() == line)
 }
 
-// The longest text that is read, and a text of one byte more, as a program and as a query.
+/// The longest text that is read, and a text of one byte more, as a program and as a query.
 #[test]
 fn long_texts(rt: HostRuntime) -> Result<(), Fail> {
     let alloc = rt.alloc();
@@ -174,7 +174,7 @@ fn long_texts(rt: HostRuntime) -> Result<(), Fail> {
     Ok(())
 }
 
-// A query of two lines.
+/// A query of two lines.
 #[test]
 fn queries_of_two_lines(rt: HostRuntime) -> Result<(), Fail> {
     let alloc = rt.alloc();

@@ -82,7 +82,7 @@ fn writes_fail(
     Ok(true)
 }
 
-// Each of the loads of a command, and each of its first twenty writes, fails in turn.
+/// Each of the loads of a command, and each of its first twenty writes, fails in turn.
 #[test]
 fn loads_and_writes_that_fail(rt: HostRuntime) -> Result<(), Fail> {
     let alloc = rt.alloc();

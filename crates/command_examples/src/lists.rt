@@ -1,4 +1,5 @@
-// Certificates of lists of mappings, with ample memory.
+//! Certificates of lists of mappings, with ample memory.
+
 use lex_certificate::{LexCertificate, LexFact};
 use lex_checker::check;
 use lex_measures::infer;
@@ -11,7 +12,7 @@ use std::test::Fail;
 const ACKERMANN: &str =
     "ack(0,N,s(N)). ack(s(M),0,R) :- ack(M,s(0),R). ack(s(M),s(N),R) :- ack(s(M),N,S), ack(M,S,R).";
 
-// Whether a fact is a level; its coefficients are exchanged for these. The offsets of both are 0.
+/// Whether a fact is a level; its coefficients are exchanged for these. The offsets of both are 0.
 fn exchange(fact: &mut LexFact, coefficients: &mut Sequence<i128>) -> bool {
     match fact {
         LexFact::Level { coeffs, .. } => {
@@ -22,7 +23,7 @@ fn exchange(fact: &mut LexFact, coefficients: &mut Sequence<i128>) -> bool {
     }
 }
 
-// Gives each level the coefficients of the one before it, and the first one those of the last.
+/// Gives each level the coefficients of the one before it, and the first one those of the last.
 fn rotate(alloc: Global, facts: &mut [LexFact]) {
     let mut coefficients = Sequence::new(alloc);
     for fact in facts.iter_mut() {
@@ -35,7 +36,7 @@ fn rotate(alloc: Global, facts: &mut [LexFact]) {
     }
 }
 
-// The two mappings of Ackermann's function, in the other order: the one of the second argument rises at a call.
+/// The two mappings of Ackermann's function, in the other order: the one of the second argument rises at a call.
 #[test]
 fn exchanged_mappings_are_refused(rt: HostRuntime) -> Result<(), Fail> {
     let alloc = rt.alloc();

@@ -1,4 +1,5 @@
-// Worked polyhedra, with ample memory. A row's constant comes first.
+//! Worked polyhedra, with ample memory. A row's constant comes first.
+
 ghost use Rattle.std.specs.Prelude.{◌≡◌, ◌≤ℤ◌, pos, IfOk, All, length};
 ghost use Rattle.linear_rows.specs.Plain.{HaveWidth, plain_row, plain_rows};
 ghost use Rattle.polyhedra.specs.Telling.{IsSystem, HasNaturalHead};
@@ -33,7 +34,7 @@ fn rows(alloc: Global, width: u32, list: &[&[i128]]) -> Result<Rows, Fail>
     Ok(rows)
 }
 
-// A row of numbers of at least 0.
+/// A row of numbers of at least 0.
 fn natural_row(alloc: Global, width: u32, numbers: &[u32]) -> Result<Row, Fail>
     ensures width { IfOk result (λ row. length row.coeffs ≡ width) }
     ensures natural { IfOk result (λ row. All (λ x. pos 0 ≤ℤ x) (plain_row row)) }
@@ -55,7 +56,8 @@ fn natural_row(alloc: Global, width: u32, numbers: &[u32]) -> Result<Row, Fail>
 fn natural_rows(alloc: Global, width: u32, list: &[&[u32]]) -> Result<Rows, Fail>
     ensures rows { IfOk result (λ rows. HaveWidth rows.width rows.list) }
     ensures width { IfOk result (λ rows. rows.width ≡ width) }
-    ensures natural { IfOk result (λ rows. All (λ r. All (λ x. pos 0 ≤ℤ x) r) (plain_rows rows.list)) }
+    ensures natural { IfOk result
+        (λ rows. All (λ r. All (λ x. pos 0 ≤ℤ x) r) (plain_rows rows.list)) }
 {
     let mut rows = Rows::new(alloc, width);
     for numbers in list {
@@ -64,7 +66,7 @@ fn natural_rows(alloc: Global, width: u32, list: &[&[u32]]) -> Result<Rows, Fail
     Ok(rows)
 }
 
-// A clause's system: the sizes of its head's arguments, and its body's rows.
+/// A clause's system: the sizes of its head's arguments, and its body's rows.
 fn system(alloc: Global, variables: u32, head: &[&[u32]], body: &[&[i128]]) -> Result<System, Fail>
     ensures system { IfOk result (λ s. IsSystem s) }
     ensures head { IfOk result (λ s. HasNaturalHead s) }
@@ -79,7 +81,7 @@ fn system(alloc: Global, variables: u32, head: &[&[u32]], body: &[&[i128]]) -> R
     })
 }
 
-// Whether these are the rows that a value lists.
+/// Whether these are the rows that a value lists.
 fn lists(value: &Poly, rows: &[&[i128]]) -> bool {
     let list = &value.rows().list;
     if list.len() != rows.len() {
@@ -98,7 +100,7 @@ fn lists(value: &Poly, rows: &[&[i128]]) -> bool {
     true
 }
 
-// app([], Ys, Ys).
+/// app([], Ys, Ys).
 fn first_clause(alloc: Global) -> Result<System, Fail>
     ensures system { IfOk result (λ s. IsSystem s) }
     ensures head { IfOk result (λ s. HasNaturalHead s) }
@@ -107,7 +109,7 @@ fn first_clause(alloc: Global) -> Result<System, Fail>
     system(alloc, 1, head.as_slice(), [].as_slice())
 }
 
-// app([X|Xs], Ys, [X|Zs]) :- app(Xs, Ys, Zs), where Xs has size 0, and Ys and Zs one size.
+/// app([X|Xs], Ys, [X|Zs]) :- app(Xs, Ys, Zs), where Xs has size 0, and Ys and Zs one size.
 fn second_clause(alloc: Global) -> Result<System, Fail>
     ensures system { IfOk result (λ s. IsSystem s) }
     ensures head { IfOk result (λ s. HasNaturalHead s) }
@@ -125,7 +127,7 @@ fn second_clause(alloc: Global) -> Result<System, Fail>
     system(alloc, 4, head.as_slice(), body.as_slice())
 }
 
-// Whether an image is not weak and lists these rows.
+/// Whether an image is not weak and lists these rows.
 fn image_is(alloc: Global, clause: &System, rows: &[&[i128]]) -> Result<bool, Fail>
     requires system { IsSystem clause.now }
     requires head { HasNaturalHead clause.now }
@@ -134,7 +136,7 @@ fn image_is(alloc: Global, clause: &System, rows: &[&[i128]]) -> Result<bool, Fa
     Ok(!made.weak && lists(&made.value, rows))
 }
 
-// Whether a join is not weak and lists these rows.
+/// Whether a join is not weak and lists these rows.
 fn join_is(alloc: Global, first: &Poly, second: &Poly, rows: &[&[i128]]) -> Result<bool, Fail> {
     if first.rows().width != second.rows().width {
         return Ok(false);
@@ -143,7 +145,7 @@ fn join_is(alloc: Global, first: &Poly, second: &Poly, rows: &[&[i128]]) -> Resu
     Ok(!made.weak && lists(&made.value, rows))
 }
 
-// The image of a clause.
+/// The image of a clause.
 fn image_of(alloc: Global, clause: &System) -> Result<Poly, Fail>
     requires system { IsSystem clause.now }
     requires head { HasNaturalHead clause.now }
@@ -151,7 +153,7 @@ fn image_of(alloc: Global, clause: &System) -> Result<Poly, Fail>
     Ok(Poly::image(alloc, clause)?.value)
 }
 
-// The rows of the fact, and of the rule.
+/// The rows of the fact, and of the rule.
 fn fact(alloc: Global) -> Result<Poly, Fail> {
     let clause = first_clause(alloc)?;
     image_of(alloc, &clause)
@@ -162,14 +164,14 @@ fn rule(alloc: Global) -> Result<Poly, Fail> {
     image_of(alloc, &clause)
 }
 
-// The segment from the origin to 2 along one of two axes.
+/// The segment from the origin to 2 along one of two axes.
 fn segment(alloc: Global, rows: &[&[i128]]) -> Result<Poly, Fail> {
     let head = [[0, 1, 0].as_slice(), [0, 0, 1].as_slice()];
     let clause = system(alloc, 2, head.as_slice(), rows)?;
     image_of(alloc, &clause)
 }
 
-// What a test shows: that a row holds, or that it fails.
+/// What a test shows: that a row holds, or that it fails.
 fn tells(alloc: Global, value: &Poly, width: u32, numbers: &[i128]) -> Result<Option<bool>, Fail> {
     let row = row(alloc, width, numbers)?;
     if value.rows().width != width {
@@ -182,7 +184,7 @@ fn tells(alloc: Global, value: &Poly, width: u32, numbers: &[i128]) -> Result<Op
     }
 }
 
-// Whether a row over three arguments holds on a clause.
+/// Whether a row over three arguments holds on a clause.
 fn holds_on(alloc: Global, clause: &System, numbers: &[i128]) -> Result<bool, Fail>
     requires system { IsSystem clause.now }
 {
@@ -197,7 +199,7 @@ fn holds_on(alloc: Global, clause: &System, numbers: &[i128]) -> Result<bool, Fa
     }
 }
 
-// How many rows of a value stay on a clause, each with the given number of multipliers.
+/// How many rows of a value stay on a clause, each with the given number of multipliers.
 fn kept(alloc: Global, value: &Poly, clause: &System, many: usize) -> Result<usize, Fail>
     requires system { IsSystem clause.now }
 {
@@ -242,7 +244,7 @@ fn image_of_a_rule(rt: HostRuntime) -> Result<(), Fail> {
     Ok(())
 }
 
-// A system with a row that did not fit has a weak image, without rows.
+/// A system with a row that did not fit has a weak image, without rows.
 #[test]
 fn image_of_a_wide_system(rt: HostRuntime) -> Result<(), Fail> {
     let alloc = rt.alloc();
@@ -253,7 +255,7 @@ fn image_of_a_wide_system(rt: HostRuntime) -> Result<(), Fail> {
     Ok(())
 }
 
-// Joined, the two clauses of append keep that the third list is as long as the others together.
+/// Joined, the two clauses of append keep that the third list is as long as the others together.
 #[test]
 fn join_of_append(rt: HostRuntime) -> Result<(), Fail> {
     let alloc = rt.alloc();
@@ -276,7 +278,7 @@ fn joins_with_nothing(rt: HostRuntime) -> Result<(), Fail> {
     Ok(())
 }
 
-// Two segments from the origin, along one axis and along the other, span a triangle.
+/// Two segments from the origin, along one axis and along the other, span a triangle.
 #[test]
 fn join_of_segments(rt: HostRuntime) -> Result<(), Fail> {
     let alloc = rt.alloc();
@@ -310,7 +312,7 @@ fn tests_on_a_triangle(rt: HostRuntime) -> Result<(), Fail> {
     Ok(())
 }
 
-// Each row of a clause's image stays on the clause.
+/// Each row of a clause's image stays on the clause.
 #[test]
 fn rows_of_the_rule_stay(rt: HostRuntime) -> Result<(), Fail> {
     let alloc = rt.alloc();
@@ -320,7 +322,7 @@ fn rows_of_the_rule_stay(rt: HostRuntime) -> Result<(), Fail> {
     Ok(())
 }
 
-// Of the fact's rows one stays on the rule: the third list is at least as long as the second.
+/// Of the fact's rows one stays on the rule: the third list is at least as long as the second.
 #[test]
 fn rows_of_the_fact_stay(rt: HostRuntime) -> Result<(), Fail> {
     let alloc = rt.alloc();

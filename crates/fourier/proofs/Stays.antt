@@ -8,7 +8,8 @@ use lib.IntN.{neg_ℤ}
 use Rattle.exact128.specs.Fits.{Fits}
 use Rattle.exact128.specs.Gcd.{gcd}
 use Rattle.exact128.specs.Sums.{entry}
-use Rattle.linear_rows.specs.Elimination.{scaled, crossed, crossings, rising, falling, without, is_positive, is_negative, is_zero}
+use Rattle.linear_rows.specs.Elimination.{crossed, crossings, rising, falling, without, is_positive, is_negative, is_zero}
+use Rattle.linear_rows.specs.RowSums.{scaled}
 use Rattle.linear_rows.specs.Cleaning.{row_gcd}
 use Rattle.linear_rows.specs.Equation.{equation_from, other_places, solved_row, solved_rows, combinations_by, step}
 use Rattle.linear_rows.specs.Blown.{all_of, crossed_fits, solved_fits, crossings_fit, solved_rows_fit, combinations_fit, step_fits}

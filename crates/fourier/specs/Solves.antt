@@ -22,13 +22,13 @@ Spells s (Err (BlownFault step wide)) = s ≡ Blown step wide
 Spells s (Err Memory) = Unit {0}
 
 -- the same, but that a brief answer says of a blown solving only that it is blown
-abbrev pub IsBlown : Bool → ℕ → Bool → Solution → Type 0
-IsBlown false step wide s = s ≡ Blown step wide
-IsBlown true step wide s = (n : ℕ) × (w : Bool) × (s ≡ Blown n w)
+abbrev pub IsToldBlown : Bool → ℕ → Bool → Solution → Type 0
+IsToldBlown false step wide s = s ≡ Blown step wide
+IsToldBlown true step wide s = (n : ℕ) × (w : Bool) × (s ≡ Blown n w)
 
 abbrev pub SpellsUnless : Bool → Solution → Result Solved ElimFault → Type 0
 SpellsUnless brief s (Ok solved) = Spells s (Ok solved)
-SpellsUnless brief s (Err (BlownFault step wide)) = IsBlown brief step wide s
+SpellsUnless brief s (Err (BlownFault step wide)) = IsToldBlown brief step wide s
 SpellsUnless brief s (Err Memory) = Unit {0}
 
 -- there is an answer exactly where the solving is not blown, and it spells the solution

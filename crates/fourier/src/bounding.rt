@@ -1,4 +1,5 @@
-// Bounds of a variable from below, and its value: the greatest of them and of 0.
+//! Bounds of a variable from below, and its value: the greatest of them and of 0.
+
 ghost use Rattle.std.specs.Prelude.{◌≡◌, ℕ, pos, ◌≤ℤ◌, ◌+◌, ◌<◌, ◌≤◌, ◌^◌, length, map, All, drop, [], ◌∷◌};
 ghost use Rattle.exact128.specs.Fits.{Fits};
 ghost use Rattle.exact128.specs.Sums.{entry};
@@ -21,7 +22,8 @@ pub fn greatest(rows: &Lines, k: usize, values: &VecDeque<Ratio, Global>) -> Res
     requires fit { AllFit rows.now }
     requires long { All (λ row. k + 1 + length values.now.items ≤ length row) rows.now }
     requires small { k + 1 + length values.now.items < 2 ^ 33 }
-    ensures { Gives (greatest k (map fraction_of values.now.items) (whole (pos 0)) (rising k rows.now)) result }
+    ensures { Gives (greatest k (map fraction_of values.now.items) (whole (pos 0))
+        (rising k rows.now)) result }
 {
     let mut best = integer(0);
     for i in 0..rows.len() {
@@ -35,7 +37,7 @@ pub fn greatest(rows: &Lines, k: usize, values: &VecDeque<Ratio, Global>) -> Res
     Ok(best)
 }
 
-// The greater of a value and of a row's bound.
+/// The greater of a value and of a row's bound.
 fn greater(
     best: Ratio,
     row: &Line,
@@ -46,7 +48,8 @@ fn greater(
     requires long { k + 1 + length values.now.items ≤ length row.now }
     requires small { k + 1 + length values.now.items < 2 ^ 33 }
     requires rises { pos 1 ≤ℤ entry row.now k }
-    ensures { Gives (greatest k (map fraction_of values.now.items) (fraction_of best) (row.now ∷ [])) result }
+    ensures { Gives (greatest k (map fraction_of values.now.items) (fraction_of best)
+        (row.now ∷ [])) result }
 {
     match bound(row, k, values) {
         Ok(value) => match exceeds(value, best) {
@@ -58,7 +61,7 @@ fn greater(
     }
 }
 
-// Whether one fraction is greater than another.
+/// Whether one fraction is greater than another.
 fn exceeds(x: Ratio, y: Ratio) -> Result<bool, Wide>
     ensures { Tells (exceeds (fraction_of x) (fraction_of y)) result }
 {
@@ -68,7 +71,7 @@ fn exceeds(x: Ratio, y: Ratio) -> Result<bool, Wide>
     }
 }
 
-// What a row that rises in a column says that its variable is at least.
+/// What a row that rises in a column says that its variable is at least.
 fn bound(row: &Line, k: usize, values: &VecDeque<Ratio, Global>) -> Result<Ratio, Wide>
     requires fit { All Fits row.now }
     requires long { k + 1 + length values.now.items ≤ length row.now }
@@ -82,7 +85,7 @@ fn bound(row: &Line, k: usize, values: &VecDeque<Ratio, Global>) -> Result<Ratio
     }
 }
 
-// The sum of products of a row's numbers, from a place on, with values, on top of another sum.
+/// The sum of products of a row's numbers, from a place on, with values, on top of another sum.
 fn sum_on(
     start: Ratio,
     row: &Line,
@@ -92,7 +95,8 @@ fn sum_on(
     requires fit { All Fits row.now }
     requires long { from + length values.now.items ≤ length row.now }
     requires small { from + length values.now.items < 2 ^ 33 }
-    ensures { Gives (sum_on (fraction_of start) (drop from row.now) (map fraction_of values.now.items)) result }
+    ensures { Gives (sum_on (fraction_of start) (drop from row.now)
+        (map fraction_of values.now.items)) result }
 {
     let mut sum = start;
     for j in 0..values.len() {
@@ -104,7 +108,7 @@ fn sum_on(
     Ok(sum)
 }
 
-// A sum with one more product.
+/// A sum with one more product.
 fn plus_product(sum: Ratio, number: i128, value: Ratio) -> Result<Ratio, Wide>
     requires { Fits number }
     ensures { Gives (sum_on (fraction_of sum) (number ∷ []) (fraction_of value ∷ [])) result }
@@ -115,7 +119,7 @@ fn plus_product(sum: Ratio, number: i128, value: Ratio) -> Result<Ratio, Wide>
     }
 }
 
-// A whole number as a fraction.
+/// A whole number as a fraction.
 fn integer(number: i128) -> Ratio
     requires { Fits number }
     ensures { fraction_of result ≡ whole number }
@@ -126,7 +130,7 @@ fn integer(number: i128) -> Ratio
     }
 }
 
-// The fraction with the other sign.
+/// The fraction with the other sign.
 fn negated(value: Ratio) -> Ratio
     ensures { fraction_of result ≡ negated (fraction_of value) }
 {

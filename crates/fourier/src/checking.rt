@@ -1,4 +1,5 @@
-// The last checks of a solving: whether their numbers fit.
+//! The last checks of a solving: whether their numbers fit.
+
 ghost use Rattle.std.specs.Prelude.{◌≡◌, pos, length, ◌∷◌, drop, IfOk, ◌*ℤ◌, ◌+ℤ◌, SomeIff};
 ghost use Rattle.exact128.specs.Fits.{Fits};
 ghost use Rattle.linear_rows.specs.Plain.{plain_row, plain_rows, HaveWidth};
@@ -23,7 +24,7 @@ pub fn point_fits(rows: &Rows, t: i128, w: &[i128]) -> bool
     true
 }
 
-// Whether the value of a row at a point is formed in numbers that fit: the constant's product first.
+/// Whether the value of a row at a point is formed in numbers that fit: the constant's product first.
 fn value_fits(row: &Row, t: i128, w: &[i128]) -> bool
     requires { length w.now ≡ length row.now.coeffs }
     ensures { result ≡ sums_fit (pos 0) (plain_row row.now) (t ∷ w.now) }
@@ -40,7 +41,7 @@ fn value_fits(row: &Row, t: i128, w: &[i128]) -> bool
     true
 }
 
-// A sum with one more product, where both fit.
+/// A sum with one more product, where both fit.
 fn plus_product(sum: i128, a: i128, b: i128) -> Option<i128>
     ensures { SomeIff result (Fits (a *ℤ b) × Fits (sum +ℤ a *ℤ b)) (sum +ℤ a *ℤ b) }
 {

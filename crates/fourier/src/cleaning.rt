@@ -1,4 +1,5 @@
-// Rows that are kept: divided by what their numbers share, none that says nothing, and one for each list of coefficients.
+//! Rows that are kept: divided by what their numbers share, none that says nothing, and one for each list of coefficients.
+
 ghost use Rattle.std.specs.Prelude.{◌≡◌, OnOk, All};
 ghost use Rattle.exact128.specs.Fits.{Fits};
 ghost use Rattle.linear_rows.specs.Elimination.{without};
@@ -52,7 +53,7 @@ pub fn add(alloc: Global, kept: &mut Lines, row: Line, last: usize) -> Result<()
     add_divided(kept, divided, last)
 }
 
-// The kept rows with one more, which is divided.
+/// The kept rows with one more, which is divided.
 fn add_divided(kept: &mut Lines, row: Line, last: usize) -> Result<(), AllocError>
     ensures { OnOk result (kept.new ≡ insert_divided last kept.old row) }
 {
@@ -62,7 +63,7 @@ fn add_divided(kept: &mut Lines, row: Line, last: usize) -> Result<(), AllocErro
     insert(kept, row, last)
 }
 
-// The kept rows with one more. Of rows with the same coefficients the one with the least constant stays.
+/// The kept rows with one more. Of rows with the same coefficients the one with the least constant stays.
 fn insert(kept: &mut Lines, row: Line, last: usize) -> Result<(), AllocError>
     ensures { OnOk result (kept.new ≡ insert_row last kept.old row) }
 {
@@ -76,7 +77,7 @@ fn insert(kept: &mut Lines, row: Line, last: usize) -> Result<(), AllocError>
     kept.push(row)
 }
 
-// Whether a row has no coefficient and a constant of at least 0.
+/// Whether a row has no coefficient and a constant of at least 0.
 fn is_trivial(row: &Line, last: usize) -> bool
     ensures { result ≡ is_trivial last row.now }
 {

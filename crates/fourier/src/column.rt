@@ -1,4 +1,4 @@
-// The column that a step eliminates.
+//! The column that a step eliminates.
 
 /// Which column is eliminated, and which columns are compared: from 1 to the last one.
 #[derive(Clone, Copy)]

@@ -1,4 +1,5 @@
-// Comparisons of two rows, column by column, in one walk.
+//! Comparisons of two rows, column by column, in one walk.
+
 ghost use Rattle.std.specs.Prelude.{◌≡◌, All};
 ghost use Rattle.exact128.specs.Fits.{Fits};
 ghost use Rattle.linear_rows.specs.Cleaning.{agree};

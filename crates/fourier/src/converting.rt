@@ -1,4 +1,5 @@
-// Rows as lists of numbers, and back.
+//! Rows as lists of numbers, and back.
+
 ghost use Rattle.std.specs.Prelude.{◌≡◌, ◌≤◌, ◌<◌, ◌+◌, IfOk, length};
 ghost use Rattle.linear_rows.specs.Plain.{plain_row, plain_rows, HaveWidth};
 ghost use Rattle.fourier.specs.Adding.{AllLong};
@@ -20,7 +21,7 @@ pub fn lines_of(alloc: Global, rows: &Rows) -> Result<Lines, AllocError>
     Ok(lines)
 }
 
-// A row with its constant first.
+/// A row with its constant first.
 fn line_of(alloc: Global, row: &Row) -> Result<Line, AllocError>
     ensures { IfOk result (λ line. line ≡ plain_row row.now) }
 {
@@ -47,7 +48,7 @@ pub fn rows_of(alloc: Global, lines: &Lines, width: u32) -> Result<Rows, AllocEr
     Ok(rows)
 }
 
-// A row, from its numbers with the constant first.
+/// A row, from its numbers with the constant first.
 fn row_of(alloc: Global, line: &Line) -> Result<Row, AllocError>
     requires { 0 < length line.now }
     ensures { IfOk result (λ row. plain_row row ≡ line.now) }

@@ -1,4 +1,5 @@
-// Combinations of two rows in which a column vanishes.
+//! Combinations of two rows in which a column vanishes.
+
 ghost use Rattle.std.specs.Prelude.{◌≡◌, ◌&&◌, ◌||◌, nat_lt, true, false, pos, ◌≤ℤ◌, ◌<ℤ◌, length, map, IfOk, OnOk};
 ghost use Rattle.exact128.specs.Fits.{Fits};
 ghost use Rattle.exact128.specs.Sums.{entry};
@@ -29,7 +30,8 @@ pub fn cross_rising(
 ) -> Result<(), RowFault>
     requires fit { AllFit rows.now }
     requires long { OneLength rows.now }
-    ensures kept { OnOk result (kept.new ≡ add_rows column.last kept.old (crossings column.k rows.now)) }
+    ensures kept { OnOk result
+        (kept.new ≡ add_rows column.last kept.old (crossings column.k rows.now)) }
     ensures fits { OnOk result (FitsUnless brief kept.new (crossings_fit column.k rows.now)) }
     ensures wide { result ≡ Err RowFault.Wide → crossings_fit column.k rows.now ≡ false }
 {
@@ -49,7 +51,7 @@ pub fn cross_rising(
     Ok(())
 }
 
-// Of each row, whether it falls in column `k`.
+/// Of each row, whether it falls in column `k`.
 fn falling_flags(alloc: Global, rows: &Lines, k: usize) -> Result<Vec<bool>, AllocError>
     ensures { IfOk result (λ falls. falls.items ≡ map (λ s. is_negative (entry s k)) rows.now) }
 {
@@ -60,21 +62,21 @@ fn falling_flags(alloc: Global, rows: &Lines, k: usize) -> Result<Vec<bool>, All
     Ok(falls)
 }
 
-// Whether a step may stop once too many rows are kept: it is brief, or no number that it forms can be too large.
+/// Whether a step may stop once too many rows are kept: it is brief, or no number that it forms can be too large.
 fn may_stop(brief: bool, rows: &Lines) -> bool
     ensures { result ≡ (brief || all_of (all_of small) rows.now) }
 {
     brief || rows.are_small()
 }
 
-// Whether a step that may stop need not go on.
+/// Whether a step that may stop need not go on.
 fn is_crowded(stops: bool, kept: &Lines) -> bool
     ensures { result ≡ (stops && nat_lt 4096 (length kept.now)) }
 {
     stops && kept.len() > MOST_ROWS
 }
 
-// The kept rows with the combinations of `r` and the rows that fall in the column.
+/// The kept rows with the combinations of `r` and the rows that fall in the column.
 fn cross_falling(
     alloc: Global,
     kept: &mut Lines,
@@ -87,9 +89,13 @@ fn cross_falling(
     requires long { AllLong (length r.now) rows.now }
     requires rises { pos 1 ≤ℤ entry r.now column.k }
     requires falls { falls.now ≡ map (λ s. is_negative (entry s column.k)) rows.now }
-    ensures kept { OnOk result (kept.new ≡ add_rows column.last kept.old (map (λ s. crossed column.k r.now s) (falling column.k rows.now))) }
-    ensures fits { OnOk result (all_of (crossed_fits column.k r.now) (falling column.k rows.now) ≡ true) }
-    ensures wide { result ≡ Err RowFault.Wide → all_of (crossed_fits column.k r.now) (falling column.k rows.now) ≡ false }
+    ensures kept { OnOk result
+        (kept.new ≡ add_rows column.last kept.old
+        (map (λ s. crossed column.k r.now s) (falling column.k rows.now))) }
+    ensures fits { OnOk result (all_of (crossed_fits column.k r.now) (falling column.k rows.now)
+        ≡ true) }
+    ensures wide { result ≡ Err RowFault.Wide
+        → all_of (crossed_fits column.k r.now) (falling column.k rows.now) ≡ false }
 {
     for j in 0..falls.len() {
         if falls[j] {
@@ -114,7 +120,8 @@ pub fn cross_add(
     requires rises { pos 1 ≤ℤ entry r.now column.k }
     requires falls { entry s.now column.k <ℤ pos 0 }
     requires fits { Fits (entry s.now column.k) }
-    ensures kept { OnOk result (kept.new ≡ add_row column.last kept.old (crossed column.k r.now s.now)) }
+    ensures kept { OnOk result
+        (kept.new ≡ add_row column.last kept.old (crossed column.k r.now s.now)) }
     ensures fits { OnOk result (crossed_fits column.k r.now s.now ≡ true) }
     ensures wide { result ≡ Err RowFault.Wide → crossed_fits column.k r.now s.now ≡ false }
 {
@@ -123,7 +130,7 @@ pub fn cross_add(
     Ok(())
 }
 
-// The sum of `r`, which rises in column `k`, and of `s`, which falls there, in which it vanishes.
+/// The sum of `r`, which rises in column `k`, and of `s`, which falls there, in which it vanishes.
 fn cross(alloc: Global, r: &Line, s: &Line, k: usize) -> Result<Line, RowFault>
     requires long { length r.now ≡ length s.now }
     requires rises { pos 1 ≤ℤ entry r.now k }

@@ -1,4 +1,5 @@
-// Elimination of one variable.
+//! Elimination of one variable.
+
 ghost use Rattle.std.specs.Prelude.{◌≡◌, ℕ, ℤ, pos, List, ◌<◌, ◌+◌, IfOk, All, ◌↔◌};
 ghost use Rattle.exact128.specs.Sums.{entry};
 ghost use Rattle.linear_rows.specs.Plain.{plain_row, plain_rows, HaveWidth};
@@ -27,11 +28,18 @@ pub fn eliminate(alloc: Global, rows: &Rows, var: u32) -> Result<Rows, ElimFault
     ensures exact { Eliminates rows.now.width (var + 1) (plain_rows rows.now.list) result }
     ensures width { IfOk result (λ left. left.width ≡ rows.now.width) }
     ensures long { IfOk result (λ left. HaveWidth left.width left.list) }
-    ensures vanishes { IfOk result (λ left. All (λ row. entry row (var + 1) ≡ pos 0) (plain_rows left.list)) }
+    ensures vanishes { IfOk result
+        (λ left. All (λ row. entry row (var + 1) ≡ pos 0) (plain_rows left.list)) }
 
     // What it is for: no point is lost, and none is gained where some row keeps the variable at 0 or above.
-    ensures sound { IfOk result (λ left. All (λ row. HoldsOn (rows.now.width + 1) (plain_rows rows.now.list) row) (plain_rows left.list)) }
-    ensures complete { IfOk result (λ left. HasFloor rows.now.width (var + 1) (plain_rows rows.now.list) → (row : List ℤ) → entry row (var + 1) ≡ pos 0 → (HoldsOn (rows.now.width + 1) (plain_rows left.list) row ↔ HoldsOn (rows.now.width + 1) (plain_rows rows.now.list) row)) }
+    ensures sound { IfOk result
+        (λ left. All (λ row. HoldsOn (rows.now.width + 1) (plain_rows rows.now.list) row)
+        (plain_rows left.list)) }
+    ensures complete { IfOk result
+        (λ left. HasFloor rows.now.width (var + 1) (plain_rows rows.now.list) → (row : List ℤ)
+        → entry row (var + 1) ≡ pos 0
+        → (HoldsOn (rows.now.width + 1) (plain_rows left.list) row
+        ↔ HoldsOn (rows.now.width + 1) (plain_rows rows.now.list) row)) }
 {
     let lines = lines_of(alloc, rows)?;
     if !lines.fit() {

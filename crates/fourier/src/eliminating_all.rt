@@ -1,4 +1,5 @@
-// Elimination of variables, one after the other.
+//! Elimination of variables, one after the other.
+
 ghost use Rattle.std.specs.Prelude.{◌≡◌, suc, ◌+◌, ◌≤◌, IfOk};
 ghost use Rattle.linear_rows.specs.Plain.{plain_rows, HaveWidth};
 ghost use Rattle.linear_rows.specs.Step.{columns};
@@ -18,7 +19,8 @@ use std::alloc::Global;
 pub fn eliminate_all(alloc: Global, rows: &Rows, from: u32, count: u32) -> Result<Rows, ElimFault>
     requires columns { from + count ≤ rows.now.width }
     requires width { HaveWidth rows.now.width rows.now.list }
-    ensures exact { EliminatesAll rows.now.width (columns (suc from) count) (plain_rows rows.now.list) result }
+    ensures exact { EliminatesAll rows.now.width (columns (suc from) count)
+        (plain_rows rows.now.list) result }
     ensures width { IfOk result (λ left. left.width ≡ rows.now.width) }
     ensures long { IfOk result (λ left. HaveWidth left.width left.list) }
     ensures fit { IfOk result (λ left. AllFit (plain_rows left.list)) }

@@ -1,4 +1,5 @@
-// Elimination by an equation, a row that stands among the rows with its negation.
+//! Elimination by an equation, a row that stands among the rows with its negation.
+
 ghost use Rattle.std.specs.Prelude.{◌≡◌, true, false, pos, ◌≤ℤ◌, ◌<ℤ◌, ◌<◌, length, OnOk, slice_index_or, [], not, nat_eq, ◌||◌};
 ghost use Rattle.exact128.specs.Fits.{Fits};
 ghost use Rattle.exact128.specs.Sums.{entry};
@@ -45,7 +46,8 @@ pub fn cross_equation(
     requires j { j < length rows.now }
     requires rises { pos 1 ≤ℤ entry (slice_index_or rows.now i []) column.k }
     requires falls { entry (slice_index_or rows.now j []) column.k <ℤ pos 0 }
-    ensures kept { OnOk result (kept.new ≡ add_rows column.last kept.old (solved_rows column.k i j rows.now)) }
+    ensures kept { OnOk result
+        (kept.new ≡ add_rows column.last kept.old (solved_rows column.k i j rows.now)) }
     ensures fits { OnOk result (solved_rows_fit column.k i j rows.now ≡ true) }
     ensures wide { result ≡ Err RowFault.Wide → solved_rows_fit column.k i j rows.now ≡ false }
 {
@@ -60,14 +62,14 @@ pub fn cross_equation(
     Ok(())
 }
 
-// Whether `p` is neither of two places.
+/// Whether `p` is neither of two places.
 fn elsewhere(p: usize, i: usize, j: usize) -> bool
     ensures { result ≡ not (nat_eq p i || nat_eq p j) }
 {
     p != i && p != j
 }
 
-// The kept rows with `q`, crossed with the equation of `r` and `s` where the variable stands in it.
+/// The kept rows with `q`, crossed with the equation of `r` and `s` where the variable stands in it.
 fn cross_solved(
     alloc: Global,
     kept: &mut Lines,
@@ -82,7 +84,8 @@ fn cross_solved(
     requires falls { entry s.now column.k <ℤ pos 0 }
     requires fits { Fits (entry s.now column.k) }
     requires fits_q { Fits (entry q.now column.k) }
-    ensures kept { OnOk result (kept.new ≡ add_solved column.last column.k r.now s.now kept.old q.now) }
+    ensures kept { OnOk result
+        (kept.new ≡ add_solved column.last column.k r.now s.now kept.old q.now) }
     ensures fits { OnOk result (add_solved_fits column.k r.now s.now q.now ≡ true) }
     ensures wide { result ≡ Err RowFault.Wide → add_solved_fits column.k r.now s.now q.now ≡ false }
 {

@@ -1,4 +1,5 @@
-// Why rows were not eliminated or solved.
+//! Why rows were not eliminated or solved.
+
 ghost use Rattle.std.specs.Prelude.{◌≡◌};
 
 use std::alloc::AllocError;

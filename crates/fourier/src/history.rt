@@ -1,4 +1,5 @@
-// The rows before each step.
+//! The rows before each step.
+
 ghost use Rattle.std.specs.Prelude.{◌≡◌, length, ◌<◌, slice_index_or, [], ◌∷◌, ◌++◌, OnOk};
 
 use crate::lines::Lines;

@@ -1,4 +1,5 @@
-// A row as one list of numbers: the constant, the coefficients, and the multipliers that it carries.
+//! A row as one list of numbers: the constant, the coefficients, and the multipliers that it carries.
+
 ghost use Rattle.std.specs.Prelude.{◌≡◌, length, ◌<◌, ◌≤◌, ◌^◌, ◌+◌, pos, [], ◌∷◌, ◌++◌, ◌*ℤ◌, ◌+ℤ◌, OnOk, IfOk, SomeIff, All, map, int_div, true, false};
 ghost use Rattle.exact128.specs.Fits.{Fits, fits};
 ghost use Rattle.exact128.specs.Sums.{entry};
@@ -209,7 +210,7 @@ impl Line {
     }
 }
 
-// The number at a place, or 0 past the end.
+/// The number at a place, or 0 past the end.
 fn entry_of(parts: &[Part], tail: usize, k: usize) -> i128
     ensures { result ≡ entry (spread parts.now tail) k }
 {
@@ -227,7 +228,7 @@ fn entry_of(parts: &[Part], tail: usize, k: usize) -> i128
     0
 }
 
-// Whether each number fits.
+/// Whether each number fits.
 fn parts_fit(parts: &[Part], tail: usize) -> bool
     ensures { result ≡ all_of fits (spread parts.now tail) }
 {
@@ -239,7 +240,7 @@ fn parts_fit(parts: &[Part], tail: usize) -> bool
     true
 }
 
-// Whether each number is small.
+/// Whether each number is small.
 fn parts_are_small(parts: &[Part], tail: usize) -> bool
     ensures { result ≡ all_of small (spread parts.now tail) }
 {
@@ -251,7 +252,7 @@ fn parts_are_small(parts: &[Part], tail: usize) -> bool
     true
 }
 
-// The greatest common divisor of the numbers.
+/// The greatest common divisor of the numbers.
 fn shared_of(parts: &[Part], tail: usize) -> u128
     requires { All Fits (spread parts.now tail) }
     ensures value { result ≡ row_gcd (spread parts.now tail) }
@@ -266,7 +267,7 @@ fn shared_of(parts: &[Part], tail: usize) -> u128
     shared
 }
 
-// The row, each number divided by `part`.
+/// The row, each number divided by `part`.
 fn divide(alloc: Global, parts: &[Part], tail: usize, part: u128) -> Result<Line, AllocError>
     requires some { 0 < part }
     requires fits { part < 2 ^ 127 }
@@ -281,7 +282,7 @@ fn divide(alloc: Global, parts: &[Part], tail: usize, part: u128) -> Result<Line
     Ok(out)
 }
 
-// The sum of two rows of one length, the one times `a` and the other times `b`.
+/// The sum of two rows of one length, the one times `a` and the other times `b`.
 fn merge(
     alloc: Global,
     a: i128,
@@ -292,9 +293,12 @@ fn merge(
     s_tail: usize,
 ) -> Result<Line, RowFault>
     requires { length (spread r.now r_tail) ≡ length (spread s.now s_tail) }
-    ensures sum { IfOk result (λ row. row ≡ blended a b (spread r.now r_tail) (spread s.now s_tail)) }
-    ensures fits { IfOk result (λ _. blend_fits a b (spread r.now r_tail) (spread s.now s_tail) ≡ true) }
-    ensures wide { result ≡ Err RowFault.Wide → blend_fits a b (spread r.now r_tail) (spread s.now s_tail) ≡ false }
+    ensures sum { IfOk result
+        (λ row. row ≡ blended a b (spread r.now r_tail) (spread s.now s_tail)) }
+    ensures fits { IfOk result (λ _. blend_fits a b (spread r.now r_tail) (spread s.now s_tail)
+        ≡ true) }
+    ensures wide { result ≡ Err RowFault.Wide
+        → blend_fits a b (spread r.now r_tail) (spread s.now s_tail) ≡ false }
 {
     let mut out = Line::with_room(alloc, r.len().saturating_add(s.len()))?;
     let mut p = place_at(r, r_tail, 0);
@@ -315,9 +319,10 @@ fn merge(
     Ok(out)
 }
 
-// One number of a blend, where all that it forms fits.
+/// One number of a blend, where all that it forms fits.
 fn blend_one(a: i128, b: i128, x: i128, y: i128) -> Option<i128>
-    ensures { SomeIff result (Fits (a *ℤ x) × Fits (b *ℤ y) × Fits (a *ℤ x +ℤ b *ℤ y)) (a *ℤ x +ℤ b *ℤ y) }
+    ensures { SomeIff result (Fits (a *ℤ x) × Fits (b *ℤ y) × Fits (a *ℤ x +ℤ b *ℤ y))
+        (a *ℤ x +ℤ b *ℤ y) }
 {
     let Some(left) = times(a, x) else {
         return None;

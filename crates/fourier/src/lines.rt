@@ -1,4 +1,5 @@
-// Lists of rows.
+//! Lists of rows.
+
 ghost use Rattle.std.specs.Prelude.{◌≡◌, ℕ, length, ◌<◌, ◌≤◌, slice_index_or, [], ◌∷◌, ◌++◌, OnOk, take, drop, suc, true, false, IfOk};
 ghost use Rattle.linear_rows.specs.Blown.{all_of, numbers_fit};
 ghost use Rattle.linear_rows.specs.Cleaning.{agree};
@@ -111,8 +112,10 @@ impl Lines {
     /// The place of the first row with the numbers of `row` in the columns 1 to `last`, or the number of rows.
     pub fn place_of(&self, row: &Line, last: usize) -> usize
         ensures within { result ≤ length self.now }
-        ensures before { (j : ℕ) → j < result → agree last (slice_index_or self.now j []) row.now ≡ false }
-        ensures here { result < length self.now → agree last (slice_index_or self.now result []) row.now ≡ true }
+        ensures before { (j : ℕ) → j < result → agree last (slice_index_or self.now j []) row.now
+            ≡ false }
+        ensures here { result < length self.now
+            → agree last (slice_index_or self.now result []) row.now ≡ true }
     {
         let mark = row.mark(self.last);
         let is_marked = self.last == last;

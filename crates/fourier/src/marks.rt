@@ -1,4 +1,5 @@
-// Marks of rows: one number for all coefficients of a row.
+//! Marks of rows: one number for all coefficients of a row.
+
 ghost use Rattle.std.specs.Prelude.{◌≡◌, ℕ, ◌<◌, ◌%◌, true, unsigned_abs};
 ghost use Rattle.fourier.specs.Marks.{is_up, mark_of, mixed};
 ghost use Rattle.fourier.specs.Sparse.{spread};
@@ -25,14 +26,14 @@ pub fn mark_of(parts: &[Part], tail: usize, last: usize) -> u32
     mark
 }
 
-// A mark with one number more.
+/// A mark with one number more.
 fn mixed(mark: u32, number: i128) -> u32
     ensures { result ≡ mixed mark number }
 {
     ((mark as u64 * 1_000_003 + remainder(number)) % MODULUS) as u32
 }
 
-// What a number leaves: most numbers themselves, and nearly all in 64 bits.
+/// What a number leaves: most numbers themselves, and nearly all in 64 bits.
 fn remainder(number: i128) -> u64
     ensures value { result ≡ unsigned_abs number % 2147483647 }
     ensures within { result < 2147483647 }

@@ -1,4 +1,5 @@
-// Numbers after zeros, and walks over them.
+//! Numbers after zeros, and walks over them.
+
 ghost use Rattle.std.specs.Prelude.{◌≡◌, ℕ, suc, ◌<◌, ◌≤◌, ◌+◌, ◌∷◌, ◌++◌, length, drop};
 ghost use Rattle.exact128.specs.Sums.{entry};
 ghost use Rattle.fourier.specs.Sparse.{first_zeros, rest_at, StandsAt};
@@ -35,7 +36,8 @@ pub fn place_at(parts: &[Part], tail: usize, index: usize) -> Place
 pub fn walk(parts: &[Part], tail: usize, place: Place, over: usize) -> (i128, Place)
     requires zeros { over ≤ place.before }
     requires more { over < length (rest_at parts.now tail place) }
-    ensures { rest_at parts.now tail place ≡ zeros over ++ result.0 ∷ rest_at parts.now tail result.1 }
+    ensures { rest_at parts.now tail place ≡ zeros over ++ result.0
+        ∷ rest_at parts.now tail result.1 }
 {
     if over < place.before {
         let before = place.before - over - 1;
@@ -54,7 +56,8 @@ pub fn walk(parts: &[Part], tail: usize, place: Place, over: usize) -> (i128, Pl
 /// The number where a walk stands, 0 past the end, and the place after it.
 pub fn next(parts: &[Part], tail: usize, place: Place) -> (i128, Place)
     ensures number { result.0 ≡ entry (rest_at parts.now tail place) 0 }
-    ensures rest { (k : ℕ) → entry (rest_at parts.now tail result.1) k ≡ entry (rest_at parts.now tail place) (suc k) }
+    ensures rest { (k : ℕ) → entry (rest_at parts.now tail result.1) k
+        ≡ entry (rest_at parts.now tail place) (suc k) }
 {
     if place.before > 0 {
         let before = place.before - 1;

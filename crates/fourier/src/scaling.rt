@@ -1,4 +1,5 @@
-// Fractions as whole numbers over their least common denominator.
+//! Fractions as whole numbers over their least common denominator.
+
 ghost use Rattle.std.specs.Prelude.{◌≡◌, ◌*ℤ◌, ◌/◌, pos, ◌≤ℤ◌, unsigned_abs, map, length, IfOk, IfSome, SomeIff, OnErr, None, Some};
 ghost use Rattle.exact128.specs.Fits.{Fits};
 ghost use Rattle.exact128.specs.Gcd.{gcd};
@@ -27,11 +28,13 @@ pub fn common_of(values: &VecDeque<Ratio, Global>) -> Option<i128>
     Some(common)
 }
 
-// The least common multiple of two numbers, where it fits.
+/// The least common multiple of two numbers, where it fits.
 fn multiple(a: i128, b: i128) -> Option<i128>
     requires a { pos 1 ≤ℤ a }
     requires b { pos 1 ≤ℤ b }
-    ensures value { SomeIff result (Fits (pos (unsigned_abs a / gcd (unsigned_abs a) (unsigned_abs b)) *ℤ b)) (pos (unsigned_abs a / gcd (unsigned_abs a) (unsigned_abs b)) *ℤ b) }
+    ensures value { SomeIff result
+        (Fits (pos (unsigned_abs a / gcd (unsigned_abs a) (unsigned_abs b)) *ℤ b))
+        (pos (unsigned_abs a / gcd (unsigned_abs a) (unsigned_abs b)) *ℤ b) }
     ensures positive { IfSome result (λ common. pos 1 ≤ℤ common) }
 {
     let shared = gcd(a.unsigned_abs(), b.unsigned_abs());
@@ -45,9 +48,11 @@ pub fn made_whole(
     values: &VecDeque<Ratio, Global>,
 ) -> Result<Numbers, ValueFault>
     requires { pos 1 ≤ℤ common }
-    ensures numbers { IfOk result (λ numbers. made_whole common (map fraction_of values.now.items) ≡ Some numbers) }
+    ensures numbers { IfOk result (λ numbers. made_whole common (map fraction_of values.now.items)
+        ≡ Some numbers) }
     ensures long { IfOk result (λ numbers. length numbers ≡ length values.now.items) }
-    ensures wide { result ≡ Err ValueFault.Wide → made_whole common (map fraction_of values.now.items) ≡ None }
+    ensures wide { result ≡ Err ValueFault.Wide
+        → made_whole common (map fraction_of values.now.items) ≡ None }
 {
     let mut numbers = Numbers::new(alloc);
     for i in 0..values.len() {
@@ -59,10 +64,12 @@ pub fn made_whole(
     Ok(numbers)
 }
 
-// A value times a common multiple of denominators, where it fits.
+/// A value times a common multiple of denominators, where it fits.
 fn whole_number(common: i128, value: Ratio) -> Option<i128>
     requires { pos 1 ≤ℤ common }
-    ensures { SomeIff result (Fits (value.num *ℤ pos (unsigned_abs common / unsigned_abs value.den))) (value.num *ℤ pos (unsigned_abs common / unsigned_abs value.den)) }
+    ensures { SomeIff result (Fits
+        (value.num *ℤ pos (unsigned_abs common / unsigned_abs value.den)))
+        (value.num *ℤ pos (unsigned_abs common / unsigned_abs value.den)) }
 {
     times(value.num, quotient(common, value.den.unsigned_abs()))
 }

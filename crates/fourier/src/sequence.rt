@@ -1,4 +1,5 @@
-// Steps of elimination, one after the other.
+//! Steps of elimination, one after the other.
+
 ghost use Rattle.std.specs.Prelude.{◌≡◌, ◌<◌, ◌≤◌, ◌^◌};
 ghost use Rattle.linear_rows.specs.Step.{columns};
 ghost use Rattle.fourier.specs.Adding.{OneLength};

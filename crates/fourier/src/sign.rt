@@ -1,4 +1,5 @@
-// Tests of numbers, in the words of the definitions.
+//! Tests of numbers, in the words of the definitions.
+
 ghost use Rattle.std.specs.Prelude.{◌≡◌, pos, neg_ℤ, int_le};
 ghost use Rattle.exact128.specs.Fits.{Fits};
 ghost use Rattle.linear_rows.specs.Elimination.{is_positive, is_negative, is_zero};

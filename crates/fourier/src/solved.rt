@@ -1,4 +1,5 @@
-// What solving finds.
+//! What solving finds.
+
 use linear_rows::{Multipliers, Point};
 
 /// What solving finds of rows.

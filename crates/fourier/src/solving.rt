@@ -1,4 +1,5 @@
-// Solving of rows over naturals.
+//! Solving of rows over naturals.
+
 ghost use Rattle.std.specs.Prelude.{◌≡◌, ◌+◌, ◌<◌, ◌^◌, All, length, IfOk, IfSome, drop, take, true, pos, None, Some, if◌then◌else◌};
 ghost use Rattle.linear_rows.specs.Plain.{plain_rows, HaveWidth};
 ghost use Rattle.linear_rows.specs.Proves.{Refutes};
@@ -50,10 +51,12 @@ pub fn solve_briefly(alloc: Global, rows: &Rows) -> Result<Option<Solved>, Alloc
     requires { HaveWidth rows.now.width rows.now.list }
 
     // Exactly the solution of that definition, but for how a solving is blown.
-    ensures spells { IfOk result (SpellsOrBlown (solution rows.now.width (plain_rows rows.now.list))) }
+    ensures spells { IfOk result
+        (SpellsOrBlown (solution rows.now.width (plain_rows rows.now.list))) }
 
     // What it is for.
-    ensures decides { IfOk result (λ o. IfSome o (Decides rows.now.width (plain_rows rows.now.list))) }
+    ensures decides { IfOk result
+        (λ o. IfSome o (Decides rows.now.width (plain_rows rows.now.list))) }
 {
     match solved(alloc, rows, true) {
         Ok(solved) => Ok(Some(solved)),
@@ -62,7 +65,7 @@ pub fn solve_briefly(alloc: Global, rows: &Rows) -> Result<Option<Solved>, Alloc
     }
 }
 
-// What solving finds, by brief steps or by whole ones.
+/// What solving finds, by brief steps or by whole ones.
 fn solved(alloc: Global, rows: &Rows, brief: bool) -> Result<Solved, ElimFault>
     requires { HaveWidth rows.now.width rows.now.list }
     ensures { SpellsUnless brief (solution rows.now.width (plain_rows rows.now.list)) result }
@@ -83,14 +86,15 @@ fn solved(alloc: Global, rows: &Rows, brief: bool) -> Result<Solved, ElimFault>
     }
 }
 
-// The point that values give, if its check is in numbers that fit.
+/// The point that values give, if its check is in numbers that fit.
 fn found(alloc: Global, rows: &Rows, before: &History, last: u32) -> Result<Solved, ElimFault>
     requires width { HaveWidth rows.now.width rows.now.list }
     requires last { last ≡ rows.now.width + 1 }
     requires steps { length before.now ≡ rows.now.width + 1 }
     requires fit { All AllFit before.now }
     requires long { All (AllLongerThan (length before.now)) before.now }
-    ensures { Spells (found_of rows.now.width (plain_rows rows.now.list) (whole_back before.now)) result }
+    ensures { Spells (found_of rows.now.width (plain_rows rows.now.list)
+        (whole_back before.now)) result }
 {
     let width = rows.width as usize;
     let numbers = match whole_values(alloc, before) {
@@ -112,7 +116,7 @@ fn found(alloc: Global, rows: &Rows, before: &History, last: u32) -> Result<Solv
     Ok(Solved::Point(Point { t, w }))
 }
 
-// The first numbers of a list.
+/// The first numbers of a list.
 fn front(numbers: Numbers, count: usize) -> Numbers
     ensures { result ≡ take count numbers }
 {
@@ -121,7 +125,7 @@ fn front(numbers: Numbers, count: usize) -> Numbers
     Numbers::from_vec(items)
 }
 
-// The values of all columns, as whole numbers over their least common denominator.
+/// The values of all columns, as whole numbers over their least common denominator.
 fn whole_values(alloc: Global, before: &History) -> Result<Numbers, ValueFault>
     requires fit { All AllFit before.now }
     requires long { All (AllLongerThan (length before.now)) before.now }
@@ -140,12 +144,15 @@ fn whole_values(alloc: Global, before: &History) -> Result<Numbers, ValueFault>
     made_whole(alloc, common, &values)
 }
 
-// The multipliers that a row carries, if their test is in numbers that fit.
+/// The multipliers that a row carries, if their test is in numbers that fit.
 fn refuted(alloc: Global, rows: &Rows, line: &Line, last: u32) -> Result<Solved, ElimFault>
     requires width { HaveWidth rows.now.width rows.now.list }
     requires last { last ≡ rows.now.width + 1 }
-    requires refutes { Refutes rows.now.width (plain_rows rows.now.list) (drop (last + 1) line.now) }
-    ensures { Spells (if refutes_in (plain_rows rows.now.list) (drop (last + 1) line.now) 0 (rows.now.width + 1) then RefutedBy (drop (last + 1) line.now) else (BlownStep last true)) result }
+    requires refutes { Refutes rows.now.width (plain_rows rows.now.list)
+        (drop (last + 1) line.now) }
+    ensures { Spells (if refutes_in (plain_rows rows.now.list) (drop (last + 1) line.now) 0
+        (rows.now.width + 1) then RefutedBy (drop (last + 1) line.now) else
+        (BlownStep last true)) result }
 {
     let list = carried(alloc, line, last as usize + 1)?;
     let target = Row::bottom(alloc, rows.width)?;

@@ -1,4 +1,5 @@
-// The rows that are solved: variables of at least 0, t of at least 1, and the given rows, each with its multiplier.
+//! The rows that are solved: variables of at least 0, t of at least 1, and the given rows, each with its multiplier.
+
 ghost use Rattle.std.specs.Prelude.{◌≡◌, pos, ◌∷◌, ◌++◌, ◌+◌, ◌<◌, ◌^◌, length, IfOk, OnOk, [], suc};
 ghost use Rattle.linear_rows.specs.Plain.{plain_row, plain_rows};
 ghost use Rattle.linear_rows.specs.Solving.{units, floors, carried, start_rows};
@@ -23,7 +24,7 @@ pub fn start_rows(alloc: Global, rows: &Rows) -> Result<Lines, AllocError>
     Ok(lines)
 }
 
-// Appends rows that say that each variable is at least 0.
+/// Appends rows that say that each variable is at least 0.
 fn push_floors(
     alloc: Global,
     lines: &mut Lines,
@@ -39,9 +40,10 @@ fn push_floors(
     Ok(())
 }
 
-// Appends the given rows, each with its constant as the coefficient of t and the multiplier 1 of itself.
+/// Appends the given rows, each with its constant as the coefficient of t and the multiplier 1 of itself.
 fn push_given(alloc: Global, lines: &mut Lines, rows: &Rows) -> Result<(), AllocError>
-    ensures { OnOk result (lines.new ≡ lines.old ++ carried (length rows.now.list) 0 (plain_rows rows.now.list)) }
+    ensures { OnOk result (lines.new ≡ lines.old ++ carried (length rows.now.list) 0
+        (plain_rows rows.now.list)) }
 {
     let many = rows.list.len();
     for i in 0..many {
@@ -50,7 +52,7 @@ fn push_given(alloc: Global, lines: &mut Lines, rows: &Rows) -> Result<(), Alloc
     Ok(())
 }
 
-// A row of a constant, of 1 at one of the given number of places, and of the given number of multipliers 0.
+/// A row of a constant, of 1 at one of the given number of places, and of the given number of multipliers 0.
 fn unit_line(
     alloc: Global,
     constant: i128,
@@ -68,10 +70,11 @@ fn unit_line(
     Ok(line)
 }
 
-// A given row, at a place of the given number.
+/// A given row, at a place of the given number.
 fn given_line(alloc: Global, row: &Row, many: usize, place: usize) -> Result<Line, AllocError>
     requires { place < many }
-    ensures { IfOk result (λ line. line ≡ pos 0 ∷ (row.now.coeffs ++ row.now.constant ∷ units many place)) }
+    ensures { IfOk result (λ line. line
+        ≡ pos 0 ∷ (row.now.coeffs ++ row.now.constant ∷ units many place)) }
 {
     let mut line = Line::new(alloc);
     line.push(0)?;
@@ -83,7 +86,7 @@ fn given_line(alloc: Global, row: &Row, many: usize, place: usize) -> Result<Lin
     Ok(line)
 }
 
-// Appends the given number of numbers, 1 at a place and else 0.
+/// Appends the given number of numbers, 1 at a place and else 0.
 fn push_units(line: &mut Line, long: usize, place: usize) -> Result<(), AllocError>
     requires { place < long }
     ensures { OnOk result (line.new ≡ line.old ++ units long place) }

@@ -1,4 +1,5 @@
-// One step of elimination.
+//! One step of elimination.
+
 ghost use Rattle.std.specs.Prelude.{◌≡◌, true, false, ◌<◌, ◌≤◌, ◌+◌, ◌^◌, [], length, IfOk, OnOk};
 ghost use Rattle.linear_rows.specs.Equation.{equation_from, combinations_by};
 ghost use Rattle.linear_rows.specs.Blown.{step_fits};
@@ -14,7 +15,7 @@ use crate::lines::Lines;
 use linear_rows::RowFault;
 use std::alloc::{AllocError, Global};
 
-// From so many rows on that rise in a column, and as many that fall, a step may leave hundreds.
+// Where this many rows rise in a column, and as many fall, a step may leave hundreds.
 const MANY_ROWS: usize = 16;
 
 /// The rows that a step leaves, which eliminates column `k`. The columns 1 to `last` are compared.
@@ -53,7 +54,7 @@ pub fn step(
     Ok(kept)
 }
 
-// The empty list of rows for a step: where many rows are combined with many, it has flags.
+/// The empty list of rows for a step: where many rows are combined with many, it has flags.
 fn empty_rows(alloc: Global, rows: &Lines, k: usize, last: usize) -> Result<Lines, AllocError>
     ensures { IfOk result (λ kept. kept ≡ []) }
 {
@@ -63,7 +64,7 @@ fn empty_rows(alloc: Global, rows: &Lines, k: usize, last: usize) -> Result<Line
     Ok(Lines::marked(alloc, last))
 }
 
-// Whether many rows rise in column `k`, and many fall.
+/// Whether many rows rise in column `k`, and many fall.
 fn combines_many(rows: &Lines, k: usize) -> bool
     ensures { result ≡ true → 32 ≤ length rows.now }
 {
@@ -80,7 +81,7 @@ fn combines_many(rows: &Lines, k: usize) -> bool
     rising >= MANY_ROWS && falling >= MANY_ROWS
 }
 
-// The kept rows with all combinations of a step.
+/// The kept rows with all combinations of a step.
 fn combinations(
     alloc: Global,
     kept: &mut Lines,
@@ -93,7 +94,9 @@ fn combinations(
     requires long { OneLength rows.now }
     requires k { k ≤ last }
     requires last { last < 2 ^ 32 }
-    ensures kept { OnOk result (kept.new ≡ add_rows last kept.old (combinations_by (equation_from (last + 1) k rows.now 0 rows.now) k rows.now)) }
+    ensures kept { OnOk result
+        (kept.new ≡ add_rows last kept.old
+        (combinations_by (equation_from (last + 1) k rows.now 0 rows.now) k rows.now)) }
     ensures fits { OnOk result (FitsUnless brief kept.new (step_fits last k rows.now)) }
     ensures wide { result ≡ Err RowFault.Wide → step_fits last k rows.now ≡ false }
 {

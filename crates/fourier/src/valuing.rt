@@ -1,4 +1,5 @@
-// The values of all columns, the last column's first.
+//! The values of all columns, the last column's first.
+
 ghost use Rattle.std.specs.Prelude.{◌≡◌, ◌+◌, ◌<◌, ◌≤◌, ◌^◌, All, length, map, IfOk, None, Some};
 ghost use Rattle.rational128.specs.Formulas.{fraction_of};
 ghost use Rattle.linear_rows.specs.Step.{columns};
@@ -17,9 +18,11 @@ pub fn values_of(alloc: Global, before: &History) -> Result<VecDeque<Ratio, Glob
     requires fit { All AllFit before.now }
     requires long { All (AllLongerThan (length before.now)) before.now }
     requires small { length before.now < 2 ^ 32 + 1 }
-    ensures values { IfOk result (λ values. values_back (columns 1 (length before.now)) before.now ≡ Some (map fraction_of values.items)) }
+    ensures values { IfOk result (λ values. values_back (columns 1 (length before.now)) before.now
+        ≡ Some (map fraction_of values.items)) }
     ensures long { IfOk result (λ values. length values.items ≡ length before.now) }
-    ensures wide { result ≡ Err ValueFault.Wide → values_back (columns 1 (length before.now)) before.now ≡ None }
+    ensures wide { result ≡ Err ValueFault.Wide
+        → values_back (columns 1 (length before.now)) before.now ≡ None }
 {
     let mut values = VecDeque::new(alloc);
     let mut i = before.len();

@@ -1,7 +1,7 @@
 -- Private.
 -- The least family, component by component.
 --
--- To believe: `is_member`, `HasMembersBuiltins`, `IsLeastOver`. To move to termination_model, beside `IsLeast`.
+-- To believe: `HasMembersBuiltins`, `IsLeastOver`.
 use Rattle.std.specs.Prelude.{◌≡◌, ℕ, Bool, true, false, if◌then◌else◌, IsTrue, List, [], ◌∷◌, slice_get, Some}
 use Rattle.call_components.specs.Partition.{Partition}
 use Rattle.cti_terms.specs.Arithmetic.{Arithmetic, kind_of}
@@ -10,12 +10,8 @@ use Rattle.cti_terms.specs.Listing.{Listing}
 use Rattle.cti_terms.specs.declared.builtins.Builtin.{Builtin}
 use Rattle.cti_terms.specs.declared.clauses.Clause.{Clause}
 use Rattle.groundness.specs.Marks.{IsMarked}
-use Rattle.termination_model.specs.Chain.{component_of, is_number}
+pub use Rattle.termination_model.specs.Chain.{is_member}
 use Rattle.termination_model.specs.Grounds.{Family, IsClosedUnder, IsInside}
-
--- whether a predicate is in the component
-abbrev pub is_member : Partition → ℕ → ℕ → Bool
-is_member comps c q = is_number c (component_of comps q)
 
 -- each built-in predicate that is a member has the row of two rigid arguments
 abbrev pub HasMembersBuiltins : Arithmetic → (ℕ → Bool) → Family → Type 0

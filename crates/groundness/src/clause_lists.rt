@@ -64,7 +64,8 @@ impl ClauseLists {
     /// Adds a clause to the list of a predicate.
     pub(crate) fn push(&mut self, pred: PredId, clause: u32) -> Result<(), AllocError>
         requires { pred.0 < length self.old }
-        ensures ok { OnOk result (self.new ≡ slice_set self.old pred.0 (slice_index_or self.old pred.0 [] ++ clause ∷ [])) }
+        ensures ok { OnOk result (self.new ≡ slice_set self.old pred.0
+            (slice_index_or self.old pred.0 [] ++ clause ∷ [])) }
     {
         let row = &mut self.rows[pred.0 as usize];
         row.items.push(clause)?;
@@ -97,13 +98,16 @@ pub fn heads(alloc: Global, p: &Program) -> Result<ClauseLists, AllocError>
     Ok(lists)
 }
 
-// Adds a clause to the lists of the predicates that its body has.
+/// Adds a clause to the lists of the predicates that its body has.
 fn add_calls(lists: &mut ClauseLists, body: &Atoms, clause: u32) -> Result<(), AllocError>
-    requires there { (i : ℕ) (b : Atom) → slice_get body.now i ≡ Some b → b.pred.0 < length lists.old }
+    requires there { (i : ℕ) (b : Atom) → slice_get body.now i ≡ Some b
+        → b.pred.0 < length lists.old }
     ensures each { OnOk result (length lists.new ≡ length lists.old) }
     ensures more { OnOk result ((q j : ℕ) → HasUser lists.old q j → HasUser lists.new q j) }
-    ensures only { OnOk result ((q j : ℕ) → HasUser lists.new q j → HasUser lists.old q j ⊎ (j ≡ clause)) }
-    ensures added { OnOk result ((i : ℕ) (b : Atom) → slice_get body.now i ≡ Some b → HasUser lists.new b.pred.0 clause) }
+    ensures only { OnOk result ((q j : ℕ) → HasUser lists.new q j → HasUser lists.old q j
+        ⊎ (j ≡ clause)) }
+    ensures added { OnOk result ((i : ℕ) (b : Atom) → slice_get body.now i ≡ Some b
+        → HasUser lists.new b.pred.0 clause) }
 {
     for atom in body.as_slice() {
         lists.push(atom.pred, clause)?;

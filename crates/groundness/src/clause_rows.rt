@@ -22,7 +22,8 @@ pub(crate) fn clause_rows<N: Norm>(
     ensures keeps { Keeps table.old table.new }
     ensures known { IfOk result (IsDiagram table.new) }
     ensures rows { IfOk result (λ d. (row : ℕ → Bool)
-        → IsTrue (holds table.new d row) ↔ Gives (N.truth norm.now) table.old sets.now clause.now row) }
+        → IsTrue (holds table.new d row)
+        ↔ Gives (N.truth norm.now) table.old sets.now clause.now row) }
 {
     let body = head_reaching_rows(norm, table, sets, clause)?;
     let rows = rows_of_head(norm, table, body, &clause.head.args, clause.vars)?;

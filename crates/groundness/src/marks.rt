@@ -74,13 +74,14 @@ impl Marks {
     }
 }
 
-// Takes the mark of the last clause that waits and has one.
+/// Takes the mark of the last clause that waits and has one.
 fn take_marked(marked: &mut Vec<bool>, waiting: &mut Vec<u32>) -> Option<u32>
     requires { AreWaiting marked.old.items waiting.old.items }
     ensures waiting { AreWaiting marked.new.items waiting.new.items }
     ensures taken { MatchOption result
         ((marked.new.items ≡ marked.old.items) × ((j : ℕ) → IsMarked marked.old.items j → ⊥))
-        (λ clause. (marked.new.items ≡ slice_set marked.old.items clause false) × IsMarked marked.old.items clause) }
+        (λ clause. (marked.new.items ≡ slice_set marked.old.items clause false)
+        × IsMarked marked.old.items clause) }
 {
     while let Some(clause) = waiting.pop() {
         if !marked[clause as usize] {

@@ -38,7 +38,8 @@ pub fn solve<N: Norm>(
     requires components { AreComponents p.now comps.now }
     ensures keeps { Keeps table.old table.new }
     ensures sets { IfOk result (AreSets p.now.preds table.new) }
-    ensures least { IfOk result (λ g. IsLeast (N.truth norm.now) p.now (family_of p.now.preds table.new g)) }
+    ensures least { IfOk result
+        (λ g. IsLeast (N.truth norm.now) p.now (family_of p.now.preds table.new g)) }
 {
     let users = users(alloc, p)?;
     let heads = heads(alloc, p)?;
@@ -55,7 +56,7 @@ pub fn solve<N: Norm>(
     Ok(Grounds { sets })
 }
 
-// Puts the sets of all components into their places, which have no rows before.
+/// Puts the sets of all components into their places, which have no rows before.
 fn solve_all<N: Norm>(
     setting: &Setting<N>,
     marks: &mut Marks,
@@ -68,7 +69,8 @@ fn solve_all<N: Norm>(
     requires none { HasNoRows (family_of setting.now.program.now.preds table.old sets.old) }
     ensures keeps { Keeps table.old table.new }
     ensures sets { OnOk result (AreSets setting.now.program.now.preds table.new sets.new) }
-    ensures least { OnOk result (IsLeast (N.truth setting.now.norm.now) setting.now.program.now (family_of setting.now.program.now.preds table.new sets.new)) }
+    ensures least { OnOk result (IsLeast (N.truth setting.now.norm.now) setting.now.program.now
+        (family_of setting.now.program.now.preds table.new sets.new)) }
 {
     for c in 0..setting.comps.count() {
         solve_component(setting, c, marks, table, sets)?;
@@ -94,15 +96,19 @@ pub fn solve_component<N: Norm>(
     ensures keeps { Keeps table.old table.new }
     ensures marks { OnOk result (length marks.new ≡ length setting.now.program.now.clauses) }
     ensures sets { OnOk result (AreSets setting.now.program.now.preds table.new sets.new) }
-    ensures others { OnOk result (KeepsOtherSets (is_member setting.now.comps.now c) sets.old sets.new) }
-    ensures least { OnOk result (IsLeastOver (N.truth setting.now.norm.now) setting.now.program.now (is_member setting.now.comps.now c) (family_of setting.now.program.now.preds table.old sets.old) (family_of setting.now.program.now.preds table.new sets.new)) }
+    ensures others { OnOk result
+        (KeepsOtherSets (is_member setting.now.comps.now c) sets.old sets.new) }
+    ensures least { OnOk result (IsLeastOver (N.truth setting.now.norm.now) setting.now.program.now
+        (is_member setting.now.comps.now c)
+        (family_of setting.now.program.now.preds table.old sets.old)
+        (family_of setting.now.program.now.preds table.new sets.new)) }
 {
     begin(setting, c, table, sets)?;
     add_all(setting, c, marks, table, sets)?;
     Ok(())
 }
 
-// Puts the sets to begin with into the places of a component's members.
+/// Puts the sets to begin with into the places of a component's members.
 fn begin<N: Norm>(
     setting: &Setting<N>,
     c: u32,
@@ -114,8 +120,11 @@ fn begin<N: Norm>(
     requires sets { AreSets setting.now.program.now.preds table.old sets.old }
     ensures keeps { Keeps table.old table.new }
     ensures sets { OnOk result (AreSets setting.now.program.now.preds table.new sets.new) }
-    ensures start { OnOk result (HaveStartRows setting.now.program.now.arithmetic (is_member setting.now.comps.now c) (family_of setting.now.program.now.preds table.new sets.new)) }
-    ensures others { OnOk result (KeepsOtherSets (is_member setting.now.comps.now c) sets.old sets.new) }
+    ensures start { OnOk result
+        (HaveStartRows setting.now.program.now.arithmetic (is_member setting.now.comps.now c)
+        (family_of setting.now.program.now.preds table.new sets.new)) }
+    ensures others { OnOk result
+        (KeepsOtherSets (is_member setting.now.comps.now c) sets.old sets.new) }
 {
     let both = rigid_pair(table)?;
     let none = table.truth(false);
@@ -123,7 +132,7 @@ fn begin<N: Norm>(
     Ok(())
 }
 
-// The rows of two rigid arguments.
+/// The rows of two rigid arguments.
 fn rigid_pair(table: &mut Table) -> Result<Diagram, AllocError>
     ensures keeps { Keeps table.old table.new }
     ensures known { IfOk result (IsDiagram table.new) }
@@ -134,7 +143,7 @@ fn rigid_pair(table: &mut Table) -> Result<Diagram, AllocError>
     table.and(first, second)
 }
 
-// The same for these two sets: `both` has the row of two rigid arguments, and `none` has none.
+/// The same for these two sets: `both` has the row of two rigid arguments, and `none` has none.
 fn begin_members(
     p: &Program,
     comps: &Components,
@@ -153,7 +162,7 @@ fn begin_members(
     }
 }
 
-// The set of a predicate to begin with: that of a built-in one has a row.
+/// The set of a predicate to begin with: that of a built-in one has a row.
 fn first_set(kind: Option<Builtin>, none: Diagram, both: Diagram) -> Diagram
     ensures { result ≡ set_as none both kind }
 {
@@ -163,10 +172,10 @@ fn first_set(kind: Option<Builtin>, none: Diagram, both: Diagram) -> Diagram
     }
 }
 
-// Adds rows to the sets of a component's members until they are closed under its clauses. Those of other predicates stay.
-//
-// It begins with a mark for each of the component's clauses. It takes a mark away and adds what the clause gives; where that
-// is a new row, the clauses that have the head's predicate in their bodies get marks. It ends without marks.
+/// Adds rows to the sets of a component's members until they are closed under its clauses. Those of other predicates stay.
+///
+/// It begins with a mark for each of the component's clauses. It takes a mark away and adds what the clause gives; where that
+/// is a new row, the clauses that have the head's predicate in their bodies get marks. It ends without marks.
 fn add_all<N: Norm>(
     setting: &Setting<N>,
     c: u32,
@@ -178,19 +187,25 @@ fn add_all<N: Norm>(
     requires inner { c < length setting.now.comps.now.members }
     requires marks { length marks.old ≡ length setting.now.program.now.clauses }
     requires sets { AreSets setting.now.program.now.preds table.old sets.old }
-    requires start { HaveStartRows setting.now.program.now.arithmetic (is_member setting.now.comps.now c) (family_of setting.now.program.now.preds table.old sets.old) }
+    requires start { HaveStartRows setting.now.program.now.arithmetic
+        (is_member setting.now.comps.now c)
+        (family_of setting.now.program.now.preds table.old sets.old) }
     ensures keeps { Keeps table.old table.new }
     ensures marks { OnOk result (length marks.new ≡ length setting.now.program.now.clauses) }
     ensures sets { OnOk result (AreSets setting.now.program.now.preds table.new sets.new) }
-    ensures others { OnOk result (KeepsOtherSets (is_member setting.now.comps.now c) sets.old sets.new) }
-    ensures least { OnOk result (IsLeastOver (N.truth setting.now.norm.now) setting.now.program.now (is_member setting.now.comps.now c) (family_of setting.now.program.now.preds table.old sets.old) (family_of setting.now.program.now.preds table.new sets.new)) }
+    ensures others { OnOk result
+        (KeepsOtherSets (is_member setting.now.comps.now c) sets.old sets.new) }
+    ensures least { OnOk result (IsLeastOver (N.truth setting.now.norm.now) setting.now.program.now
+        (is_member setting.now.comps.now c)
+        (family_of setting.now.program.now.preds table.old sets.old)
+        (family_of setting.now.program.now.preds table.new sets.new)) }
 {
     mark_members(setting.heads, setting.comps.members(c), marks)?;
     while add_next(setting, c, marks, table, sets)? {}
     Ok(())
 }
 
-// Marks the clauses of these predicates.
+/// Marks the clauses of these predicates.
 fn mark_members(
     heads: &ClauseLists,
     members: &[PredId],
@@ -198,7 +213,8 @@ fn mark_members(
 ) -> Result<(), AllocError>
     requires { (q j : ℕ) → HasUser heads.now q j → j < length marks.old }
     ensures each { length marks.new ≡ length marks.old }
-    ensures marked { OnOk result ((i j : ℕ) (a : ThePred) → slice_get members.now i ≡ Some a → HasUser heads.now a.0 j → IsMarked marks.new j) }
+    ensures marked { OnOk result ((i j : ℕ) (a : ThePred) → slice_get members.now i ≡ Some a
+        → HasUser heads.now a.0 j → IsMarked marks.new j) }
 {
     for member in members {
         marks.mark_all(heads.of(*member))?;
@@ -206,8 +222,8 @@ fn mark_members(
     Ok(())
 }
 
-// Takes the next mark away, adds what its clause gives, if it is one of the component's, and marks the clauses that ask for it.
-// It answers whether there was a mark.
+/// Takes the next mark away, adds what its clause gives, if it is one of the component's, and marks the clauses that ask for it.
+/// It answers whether there was a mark.
 fn add_next<N: Norm>(
     setting: &Setting<N>,
     c: u32,
@@ -218,15 +234,28 @@ fn add_next<N: Norm>(
     requires setting { IsSetting setting.now }
     requires marks { length marks.old ≡ length setting.now.program.now.clauses }
     requires sets { AreSets setting.now.program.now.preds table.old sets.old }
-    requires closed { UnmarkedAreClosedIn (N.truth setting.now.norm.now) setting.now.program.now (is_member setting.now.comps.now c) marks.old (family_of setting.now.program.now.preds table.old sets.old) }
+    requires closed { UnmarkedAreClosedIn (N.truth setting.now.norm.now) setting.now.program.now
+        (is_member setting.now.comps.now c) marks.old
+        (family_of setting.now.program.now.preds table.old sets.old) }
     ensures keeps { Keeps table.old table.new }
     ensures sets { IfOk result (λ more. AreSets setting.now.program.now.preds table.new sets.new) }
-    ensures needed { IfOk result (λ more. AddsOnlyNeededIn (N.truth setting.now.norm.now) setting.now.program.now (is_member setting.now.comps.now c) (family_of setting.now.program.now.preds table.old sets.old) (family_of setting.now.program.now.preds table.new sets.new)) }
-    ensures inside { IfOk result (λ more. IsInside (family_of setting.now.program.now.preds table.old sets.old) (family_of setting.now.program.now.preds table.new sets.new)) }
-    ensures others { IfOk result (λ more. KeepsOtherSets (is_member setting.now.comps.now c) sets.old sets.new) }
+    ensures needed { IfOk result
+        (λ more. AddsOnlyNeededIn (N.truth setting.now.norm.now) setting.now.program.now
+        (is_member setting.now.comps.now c)
+        (family_of setting.now.program.now.preds table.old sets.old)
+        (family_of setting.now.program.now.preds table.new sets.new)) }
+    ensures inside { IfOk result
+        (λ more. IsInside (family_of setting.now.program.now.preds table.old sets.old)
+        (family_of setting.now.program.now.preds table.new sets.new)) }
+    ensures others { IfOk result
+        (λ more. KeepsOtherSets (is_member setting.now.comps.now c) sets.old sets.new) }
     ensures each { IfOk result (λ more. length marks.new ≡ length setting.now.program.now.clauses) }
-    ensures closed { IfOk result (λ more. UnmarkedAreClosedIn (N.truth setting.now.norm.now) setting.now.program.now (is_member setting.now.comps.now c) marks.new (family_of setting.now.program.now.preds table.new sets.new)) }
-    ensures less { IfOk result (λ more. more ≡ true → work setting.now.program.now.preds table.new sets.new marks.new < work setting.now.program.now.preds table.old sets.old marks.old) }
+    ensures closed { IfOk result
+        (λ more. UnmarkedAreClosedIn (N.truth setting.now.norm.now) setting.now.program.now
+        (is_member setting.now.comps.now c) marks.new
+        (family_of setting.now.program.now.preds table.new sets.new)) }
+    ensures less { IfOk result (λ more. more ≡ true
+        → work setting.now.program.now.preds table.new sets.new marks.new < work setting.now.program.now.preds table.old sets.old marks.old) }
     ensures done { IfOk result (λ more. more ≡ false → (j : ℕ) → IsMarked marks.new j → ⊥) }
 {
     let Some(k) = marks.take() else {
@@ -245,7 +274,7 @@ fn add_next<N: Norm>(
     Ok(true)
 }
 
-// Adds what a clause gives, and answers whether that was a new row.
+/// Adds what a clause gives, and answers whether that was a new row.
 fn add_rows<N: Norm>(
     p: &Program,
     norm: &N,
@@ -260,13 +289,19 @@ fn add_rows<N: Norm>(
     ensures keeps { Keeps table.old table.new }
     ensures sets { IfOk result (λ grew. AreSets p.now.preds table.new sets.new) }
     ensures needed { IfOk result (λ grew. (x : Clause) → slice_get p.now.clauses (k - 1) ≡ Some x
-        → AddsOnlyNeeded (N.truth norm.now) x (family_of p.now.preds table.old sets.old) (family_of p.now.preds table.new sets.new)) }
-    ensures less { IfOk result (λ grew. grew ≡ true → all_missing p.now.preds table.new sets.new < all_missing p.now.preds table.old sets.old) }
+        → AddsOnlyNeeded (N.truth norm.now) x (family_of p.now.preds table.old sets.old)
+        (family_of p.now.preds table.new sets.new)) }
+    ensures less { IfOk result (λ grew. grew ≡ true
+        → all_missing p.now.preds table.new sets.new < all_missing p.now.preds table.old sets.old) }
     ensures same { IfOk result (λ grew. grew ≡ false → sets.new ≡ sets.old) }
-    ensures inside { IfOk result (λ grew. IsInside (family_of p.now.preds table.old sets.old) (family_of p.now.preds table.new sets.new)) }
+    ensures inside { IfOk result
+        (λ grew. IsInside (family_of p.now.preds table.old sets.old)
+        (family_of p.now.preds table.new sets.new)) }
     ensures others { IfOk result (λ grew. (c : Clause) → slice_get p.now.clauses (k - 1) ≡ Some c
         → (r : ℕ) → ((r ≡ c.head.pred.0) → ⊥) → slice_get sets.new r ≡ slice_get sets.old r) }
-    ensures closed { IfOk result (λ grew. (c : Clause) → slice_get p.now.clauses (k - 1) ≡ Some c → (grew ≡ true → IsApart c c.head.pred.0) → IsClosedUnder (N.truth norm.now) (family_of p.now.preds table.new sets.new) c) }
+    ensures closed { IfOk result (λ grew. (c : Clause) → slice_get p.now.clauses (k - 1) ≡ Some c
+        → (grew ≡ true → IsApart c c.head.pred.0)
+        → IsClosedUnder (N.truth norm.now) (family_of p.now.preds table.new sets.new) c) }
 {
     let clause = p.clause(k);
     let given = clause_rows(norm, table, sets, clause)?;

@@ -7,7 +7,7 @@ use linear_rows::Numbers;
 use number_tests::LevelPart;
 use std::alloc::{AllocError, Global};
 
-// The offset of a call with the other sign, and 1 less where the levels fall.
+/// The offset of a call with the other sign, and 1 less where the levels fall.
 fn offset_weight(call: &LevelPart, falls: bool) -> i128
     requires { pos 0 ≤ℤ call.now.offset }
     ensures { result ≡ neg_ℤ call.now.offset -ℤ pos (fall_number falls) }
@@ -29,7 +29,8 @@ pub fn weigh_drop(
 ) -> Result<Vec<i128>, AllocError>
     requires offset { pos 0 ≤ℤ call.now.offset }
     requires coefficients { All (λ x. pos 0 ≤ℤ x) call.now.coeffs }
-    ensures { IfOk result (λ weights. weights.items ≡ drop_weights (fall_number falls) head.now call.now) }
+    ensures { IfOk result (λ weights. weights.items
+        ≡ drop_weights (fall_number falls) head.now call.now) }
 {
     let mut weights = Vec::new(alloc);
     weights.push(head.offset)?;

@@ -27,7 +27,7 @@ use Rattle.termination_model.proofs.Readiness.{views_have_few}
 use Rattle.termination_model.proofs.Refuting.{multipliers_refute}
 use Rattle.termination_model.specs.AllPositions.{IsCoveredBy}
 use Rattle.termination_model.specs.BlownSupports.{emptiness, is_found}
-use Rattle.termination_model.specs.ComponentViews.{component_view, members_in, no_truth, size_claims}
+use Rattle.termination_model.specs.ComponentViews.{component_view, members_in, size_claims}
 use Rattle.termination_model.specs.Excluding.{IsRefutationAt, number_count, pairs_at}
 use Rattle.termination_model.specs.OwnCalls.{OwnCall as Recalled, Position, own_calls, rows_before}
 use Rattle.termination_model.specs.Ready.{arity_in}
@@ -35,7 +35,7 @@ use Rattle.termination_model.specs.Refutation.{IsPair, IsRefutation, Load, Pair,
 use Rattle.termination_model.specs.SupportSystem.{support_rows, unknowns}
 use Rattle.termination_model.specs.Systems.{system}
 use Rattle.termination_model.specs.View.{Rule, system_of}
-use Rattle.level_systems.specs.Held.{IsHeld, live_of, pair_of, spelled, with_live}
+use Rattle.level_systems.specs.Held.{IsHeld, live_of, numbers_of_call, spelled, with_live}
 use Rattle.level_systems.specs.Pairs.{clause_at}
 use Rattle.level_systems.specs.Refuted.{ArePoints, AreSpelled, HasPoints, IsInFit, RefuteIf, lives_of, solution_of}
 use Rattle.level_systems.specs.Searched.{IsComponent}
@@ -98,7 +98,7 @@ module _ (expression : ℕ → Tree → List ℤ) (p : Listing) (comps : Partiti
 
   abbrev SecondsFit : Pair → Type 0
   SecondsFit y =
-      (o : Recalled) (t : ℤ) (w : List ℤ) → y.t ≡ 0 → In o (own_calls view) → o.rule ≡ y.rule → o.place ≡ y.place → emptiness no_truth expression view (arity_in p) o ≡ Found t w
+      (o : Recalled) (t : ℤ) (w : List ℤ) → y.t ≡ 0 → In o (own_calls view) → o.rule ≡ y.rule → o.place ≡ y.place → emptiness expression view (arity_in p) o ≡ Found t w
       → AllByRecursion (λ e. DotFits (length e) e (entry w o.rule.vars ∷ take o.rule.vars w)) (lines_of y)
 
   abbrev IsGood : PairPoint → Type 0
@@ -126,7 +126,7 @@ module _ (expression : ℕ → Tree → List ℤ) (p : Listing) (comps : Partiti
     at_holds fit None h = tt
     at_holds fit (Some y) h = subst (AllByRecursion (RowHolds y)) (sym lines_same) (second_holds fit y h)
 
-    point_good : ValuesFit (pair_at own t w) → SecondsFit (pair_at own t w) → IsPair no_truth expression view (pair_at own t w) → (at : Option Point) → IsSecond expression p comps rows c own t at
+    point_good : ValuesFit (pair_at own t w) → SecondsFit (pair_at own t w) → IsPair expression view (pair_at own t w) → (at : Option Point) → IsSecond expression p comps rows c own t at
         → IsGood (point_at expression p comps rows c own t w at)
     point_good values seconds pair at h =
         let n = vars_of expression p comps rows c own in
@@ -149,7 +149,7 @@ module _ (expression : ℕ → Tree → List ℤ) (p : Listing) (comps : Partiti
         )
 
   pub stand_good : (owns : List OwnCall) → AllByRecursion (IsHeld expression p rows) owns → AllByRecursion (λ (own : OwnCall). In (own_of own) (own_calls view)) owns → (vs : List ℕ) (xs : List PairPoint) → Stand expression p comps rows c owns vs xs
-      → AllByRecursion ValuesFit (pairs_at (map own_of owns) vs) → AllByRecursion SecondsFit (pairs_at (map own_of owns) vs) → AllByRecursion (IsPair no_truth expression view) (pairs_at (map own_of owns) vs) → AllByRecursion IsGood xs
+      → AllByRecursion ValuesFit (pairs_at (map own_of owns) vs) → AllByRecursion SecondsFit (pairs_at (map own_of owns) vs) → AllByRecursion (IsPair expression view) (pairs_at (map own_of owns) vs) → AllByRecursion IsGood xs
   stand_good [] held inside vs xs h values seconds pairs = subst (AllByRecursion IsGood) (sym h) tt
   stand_good (own ∷ owns) held inside [] xs h values seconds pairs = absurd h
   stand_good (own ∷ owns) held inside (t ∷ vs) xs (inl h) values seconds pairs =
@@ -189,7 +189,7 @@ module _ (size : (ℕ → ℕ) → Tree → ℕ) (truth : (ℕ → Bool) → Tre
   found_lives : AllByRecursion (λ (own : OwnCall). (s : ℤ) × (w : List ℤ) × (tested expression p comps rows c own ≡ Found s w)) owns
   found_lives = all_in _ owns (λ own i.
       let o = own_of expression p comps rows c own in
-      let live = of-filter (λ (y : Recalled). is_found (emptiness no_truth expression (view expression p comps rows c) (arity_in p) y)) (own_calls (view expression p comps rows c)) o
+      let live = of-filter (λ (y : Recalled). is_found (emptiness expression (view expression p comps rows c) (arity_in p) y)) (own_calls (view expression p comps rows c)) o
       (subst (In o) (sym fit.live) (in-map (own_of expression p comps rows c) owns own i)) in
       is_some_point (tested expression p comps rows c own) live.1)
 
@@ -205,14 +205,14 @@ module _ (size : (ℕ → ℕ) → Tree → ℕ) (truth : (ℕ → Bool) → Tre
     callees size truth expression p comps rows c x h x.calls.items h.inside h.held o (lives_in expression p comps rows c x.calls.items o i),
   )
 
-  excludes : IsRefutationAt no_truth expression ps ms (view expression p comps rows c) pairs
+  excludes : IsRefutationAt expression ps ms (view expression p comps rows c) pairs
   excludes =
-      multipliers_refute no_truth expression (view expression p comps rows c) ps ms ls fit.numbers (λ k t. h.norm.width k t) (lives_own expression p comps rows c x.calls.items h.pairs h.held)
+      multipliers_refute expression (view expression p comps rows c) ps ms ls fit.numbers (λ k t. h.norm.width k t) (lives_own expression p comps rows c x.calls.items h.pairs h.held)
       (all_live expression p comps rows c x.calls.items h.held) long refuted
 
-  refutation : IsRefutation no_truth expression (view expression p comps rows c) pairs
+  refutation : IsRefutation expression (view expression p comps rows c) pairs
   refutation =
-      all_refute no_truth expression (view expression p comps rows c) ps ms pairs (of_members ms ls fit.numbers of_mine)
+      all_refute expression (view expression p comps rows c) ps ms pairs (of_members ms ls fit.numbers of_mine)
       (subst (λ (qs : List Position). AllByRecursion (IsCoveredBy qs) pairs) (sym h.order) (positions_cover_pairs (arity_in p) ms ls fit.numbers (λ o i.
       let there = of_mine o i in
       (views_have_few p (size_claims expression p comps rows) c h.program o (in_view o i), there.0, there.1)))) excludes
@@ -232,7 +232,7 @@ module _ (size : (ℕ → ℕ) → Tree → ℕ) (truth : (ℕ → Bool) → Tre
 
     pub formed_accepted : PairsAscend (0, 0) xs × AllByRecursion HasPoints xs
     formed_accepted =
-        let all : AscendFrom (0, 0) (map pair_of x.calls.items) = subst (AscendFrom (0, 0)) (sym h.pairs) (pairs_ascend comps c (0, 0) 0 p.clauses (omega arith)) in
+        let all : AscendFrom (0, 0) (map numbers_of_call x.calls.items) = subst (AscendFrom (0, 0)) (sym h.pairs) (pairs_ascend comps c (0, 0) 0 p.clauses (omega arith)) in
         (stand_ascend expression p comps rows c (0, 0) owns fit.numbers xs stand (live_ascend (0, 0) x.calls.items all), stand_points expression p comps rows c owns held_lives fit.numbers xs stand)
 
     pub sums_accepted : SumsRefute expression p (members_in comps c) xs
@@ -243,14 +243,14 @@ module _ (size : (ℕ → ℕ) → Tree → ℕ) (truth : (ℕ → Bool) → Tre
           positive = stand_positive expression p comps rows c owns fit.numbers xs stand refutation.positive;
           fit = record {
             values = all_map (IsGood expression p comps rows c) (PairFits expression p) (λ y g. g.0) xs good;
-            heads = sums_fit (map (head_load no_truth expression) pairs) (head_loads expression p xs) heads (λ k q. ap (λ (hs : List Load). row_fits (gather q hs)) (take_mapped (head_load no_truth expression) k pairs) ∙ fit.fits.head_sums k q);
-            calls = sums_fit (map (call_load no_truth expression) pairs) (call_loads expression p xs) calls (λ k q. ap (λ (hs : List Load). row_fits (gather q hs)) (take_mapped (call_load no_truth expression) k pairs) ∙ fit.fits.call_sums k q);
+            heads = sums_fit (map (head_load expression) pairs) (head_loads expression p xs) heads (λ k q. ap (λ (hs : List Load). row_fits (gather q hs)) (take_mapped (head_load expression) k pairs) ∙ fit.fits.head_sums k q);
+            calls = sums_fit (map (call_load expression) pairs) (call_loads expression p xs) calls (λ k q. ap (λ (hs : List Load). row_fits (gather q hs)) (take_mapped (call_load expression) k pairs) ∙ fit.fits.call_sums k q);
           };
           columns = λ q _ i.
-              let a = gathers_same (map (head_load no_truth expression) pairs) (head_loads expression p xs) heads q i in
-              let b = gathers_same (map (call_load no_truth expression) pairs) (call_loads expression p xs) calls q i in
+              let a = gathers_same (map (head_load expression) pairs) (head_loads expression p xs) heads q i in
+              let b = gathers_same (map (call_load expression) pairs) (call_loads expression p xs) calls q i in
               subst (λ (z : ℤ). z ≤ℤ entry (gather q (call_loads expression p xs)) i) (sym a)
-              (subst (λ (z : ℤ). entry (gather q (map (head_load no_truth expression) pairs)) i ≤ℤ z) (sym b) (refutation.columns q i));
+              (subst (λ (z : ℤ). entry (gather q (map (head_load expression) pairs)) i ≤ℤ z) (sym b) (refutation.columns q i));
         }
 
     pub points_accepted : AllByRecursion (PointHolds expression p rows) xs

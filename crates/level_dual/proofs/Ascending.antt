@@ -7,7 +7,7 @@ use Rattle.linear_rows.specs.declared.multipliers.Multipliers.{Multipliers}
 use Rattle.std.specs.Prelude.{Option, None, Some}
 use Rattle.number_tests.specs.Shape.{IsBefore}
 use Rattle.termination_model.specs.ComponentViews.{rank_in}
-use Rattle.level_systems.specs.Held.{live_of, pair_of, with_live}
+use Rattle.level_systems.specs.Held.{live_of, numbers_of_call, with_live}
 use Rattle.level_systems.specs.Pairs.{calls_from, pairs_from}
 use Rattle.level_systems.specs.declared.own_call.OwnCall.{OwnCall}
 
@@ -27,13 +27,13 @@ ascend_lower a b [] h k = tt
 ascend_lower a b (q ∷ qs) h k = (before_trans a b q h k.0, k.1)
 
 -- so do the calls that can be reached
-pub live_ascend : (last : ℕ × ℕ) (owns : List OwnCall) → AscendFrom last (map pair_of owns) → AscendFrom last (map pair_of (live_of owns))
+pub live_ascend : (last : ℕ × ℕ) (owns : List OwnCall) → AscendFrom last (map numbers_of_call owns) → AscendFrom last (map numbers_of_call (live_of owns))
 live_ascend last [] h = tt
-live_ascend last (own ∷ owns) h = go own.empty (live_ascend (pair_of own) owns h.1)
+live_ascend last (own ∷ owns) h = go own.empty (live_ascend (numbers_of_call own) owns h.1)
   where
-    go : (m : Option Multipliers) → AscendFrom (pair_of own) (map pair_of (live_of owns)) → AscendFrom last (map pair_of (with_live m own (live_of owns)))
+    go : (m : Option Multipliers) → AscendFrom (numbers_of_call own) (map numbers_of_call (live_of owns)) → AscendFrom last (map numbers_of_call (with_live m own (live_of owns)))
     go None rest = (h.0, rest)
-    go (Some by) rest = ascend_lower last (pair_of own) (map pair_of (live_of owns)) h.0 rest
+    go (Some by) rest = ascend_lower last (numbers_of_call own) (map numbers_of_call (live_of owns)) h.0 rest
 
 -- at most the call j of the clause k
 abbrev IsUpTo : ℕ × ℕ → ℕ → ℕ → Type 0

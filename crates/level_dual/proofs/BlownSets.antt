@@ -16,7 +16,7 @@ use Rattle.linear_rows.proofs.Members.{in-map}
 use Rattle.termination_model.specs.BlownSupports.{FallsFit, TargetsFit, in_order, live_calls, same_position, support_solution}
 use Rattle.termination_model.specs.BlownSupports.IsBlownAt.{mapping, solving, undecided, unfit}
 use Rattle.termination_model.specs.Claims.{Mapping as PlainMapping}
-use Rattle.termination_model.specs.ComponentViews.{component_view, no_truth, positions_in, size_claims}
+use Rattle.termination_model.specs.ComponentViews.{component_view, positions_in, size_claims}
 use Rattle.termination_model.specs.OwnCalls.{OwnCall as Recalled, Position as Place, members_of, own_calls, rows_before}
 use Rattle.termination_model.specs.Ready.{arity_in, itself, positions_by}
 use Rattle.termination_model.specs.SupportLaws.{AreFalls}
@@ -70,10 +70,10 @@ module _ (size : (ℕ → ℕ) → Tree → ℕ) (truth : (ℕ → Bool) → Tre
   mine = map number_of x.by_clauses.items
 
   abbrev Fit : PlainMapping → List Recalled → List ℤ → Type 0
-  Fit l os list = FallsFit no_truth expression (component_view expression p comps rows c) (arity_in p) l os list
+  Fit l os list = FallsFit expression (component_view expression p comps rows c) (arity_in p) l os list
 
   abbrev Targets : PlainMapping → Type 0
-  Targets l = TargetsFit no_truth expression (component_view expression p comps rows c) (arity_in p) l
+  Targets l = TargetsFit expression (component_view expression p comps rows c) (arity_in p) l
 
   -- the system of a set of positions, as the code has it
   module _ (s : List ℕ) (at : List Position) (is : map spelled at ≡ filter (λ r. list_any (same_position r) (picked_from 1 (map spelled x.positions.items) s)) (map spelled x.order.items))
@@ -81,7 +81,7 @@ module _ (size : (ℕ → ℕ) → Tree → ℕ) (truth : (ℕ → Bool) → Tre
     abbrev picks : List Place
     picks = picked_from 1 (positions_in p comps c) s
 
-    order_is : map spelled at ≡ in_order no_truth expression (component_view expression p comps rows c) (arity_in p) picks
+    order_is : map spelled at ≡ in_order expression (component_view expression p comps rows c) (arity_in p) picks
     order_is =
         is ∙ (λ j. filter (λ r. list_any (same_position r) (picked_from 1 (h.positions j) s)) (h.order j))
         ∙ ap (λ (qs : List ℕ). filter (λ r. list_any (same_position r) picks) (positions_by (arity_in p) qs)) h.by_clauses
@@ -90,8 +90,8 @@ module _ (size : (ℕ → ℕ) → Tree → ℕ) (truth : (ℕ → Bool) → Tre
     width_is =
         en ∙ (λ j. sym (length-map at spelled) j + (sym (length-map x.by_clauses.items number_of) j + sym (counts expression p comps rows c (map spelled at) mine x.calls.items h.held) j))
 
-    solution_is : live_calls no_truth expression (component_view expression p comps rows c) (arity_in p) ≡ ls
-        → support_solution no_truth expression (component_view expression p comps rows c) (arity_in p) picks ≡ solution n lines
+    solution_is : live_calls expression (component_view expression p comps rows c) (arity_in p) ≡ ls
+        → support_solution expression (component_view expression p comps rows c) (arity_in p) picks ≡ solution n lines
     solution_is e =
         sym ((λ j. solution (width_is j) (es j))
         ∙ (λ j. solution (unknowns expression (order_is j) (h.by_clauses j) (sym e j)) (support_rows expression (order_is j) (h.by_clauses j) (sym e j))))
@@ -123,19 +123,19 @@ module _ (size : (ℕ → ℕ) → Tree → ℕ) (truth : (ℕ → Bool) → Tre
         let spell = length-map at spelled in
         let count = length-map x.by_clauses.items number_of in
         let l = mapping_at (arity_in p) (map spelled at) mine cs os in
-        let falls : AreFalls no_truth expression l ls vs =
-        points_fall no_truth expression (map spelled at) mine (arity_in p) ls point.scale cs os vs (λ k u. h.norm.width k u) (lives_few expression p comps rows c x.calls.items h.pairs h.held h.program) point.some
+        let falls : AreFalls expression l ls vs =
+        points_fall expression (map spelled at) mine (arity_in p) ls point.scale cs os vs (λ k u. h.norm.width k u) (lives_few expression p comps rows c x.calls.items h.pairs h.held h.program) point.some
         (lc ∙ sym spell) (lo ∙ sym count) (lv ∙ sym (counts expression p comps rows c (map spelled at) mine x.calls.items h.held)) hold in
         blown_by_lives expression p comps rows c x.calls.items h.pairs h.held picks (λ e.
-        let same : mapping_at (arity_in p) (in_order no_truth expression (component_view expression p comps rows c) (arity_in p) picks) (members_of (component_view expression p comps rows c)) cs os ≡ l =
+        let same : mapping_at (arity_in p) (in_order expression (component_view expression p comps rows c) (arity_in p) picks) (members_of (component_view expression p comps rows c)) cs os ≡ l =
         λ j. mapping_at (arity_in p) (sym order_is j) (sym h.by_clauses j) cs os in
         mapping t cs os vs (solution_is e ∙ found ∙ ap (λ (z : List ℤ). Found t z) (point.w_is ∙ ap (map pos) (sym whole))) (lc ∙ sym spell ∙ ap length order_is) (lo ∙ sym count ∙ ap length h.by_clauses)
         (λ fit targets.
         let fit_here : Fit l ls (map pos vs) =
         subst (λ (k : List Recalled). Fit l k (map pos vs)) e
-        (subst (λ (k : PlainMapping). Fit k (live_calls no_truth expression (component_view expression p comps rows c) (arity_in p)) (map pos vs)) same fit) in
-        let targets_here : AllByRecursion (λ (o : Recalled). row_fits (fall_over no_truth expression o.rule o.member o.call.args 1 l) ≡ true) (own_calls (component_view expression p comps rows c)) =
+        (subst (λ (k : PlainMapping). Fit k (live_calls expression (component_view expression p comps rows c) (arity_in p)) (map pos vs)) same fit) in
+        let targets_here : AllByRecursion (λ (o : Recalled). row_fits (fall_over expression o.rule o.member o.call.args 1 l) ≡ true) (own_calls (component_view expression p comps rows c)) =
         subst Targets same targets in
         none (subst (ShowFalls ms x.calls.items) (sym tv)
         (all_shown size truth expression h.norm p comps rows c ms l (measures.parts cs os lc lo tc to) x.calls.items vs h.held (wide_heads size truth expression p comps rows c x h ms measures.measures x.calls.items h.held) fit_here
-        (subst (λ (k : List Recalled). AllByRecursion (λ (o : Recalled). row_fits (fall_over no_truth expression o.rule o.member o.call.args 1 l) ≡ true) k) (calls_are expression p comps rows c x.calls.items h.pairs h.held) targets_here) falls))))
+        (subst (λ (k : List Recalled). AllByRecursion (λ (o : Recalled). row_fits (fall_over expression o.rule o.member o.call.args 1 l) ≡ true) k) (calls_are expression p comps rows c x.calls.items h.pairs h.held) targets_here) falls))))

@@ -3,7 +3,7 @@ use Rattle.std.proofs.Common.{◌≡◌, ℕ, zero, suc, ℤ, Bool, true, false,
 use Rattle.std.specs.Prelude.{nat_lt, unsigned_abs}
 use Rattle.exact128.specs.Sums.{entry}
 use Rattle.number_tests.specs.declared.level_part.LevelPart.{LevelPart}
-use Rattle.termination_model.specs.Best.{coefficient}
+use Rattle.termination_model.specs.Coefficients.{coefficient}
 use Rattle.termination_model.specs.Claims.{Mapping as PlainMapping}
 use Rattle.termination_model.specs.OwnCalls.{Position}
 use Rattle.termination_model.specs.Supports.{support_from}

@@ -11,7 +11,7 @@ use Rattle.linear_rows.specs.Members.{In}
 use Rattle.linear_rows.specs.Proves.{Refutes}
 use Rattle.linear_rows.specs.Step.{columns}
 use Rattle.termination_model.specs.BlownSupports.{same_position}
-use Rattle.termination_model.specs.ComponentViews.{Has, component_view, members_in, no_truth, positions_in}
+use Rattle.termination_model.specs.ComponentViews.{HasSupportIn, component_view, members_in, positions_in}
 use Rattle.termination_model.specs.Excluding.{IsOfMembers, number_count, pairs_at}
 use Rattle.termination_model.specs.Minimal.{IsExcluded}
 use Rattle.termination_model.specs.OwnCalls.{OwnCall as Recalled, Position, own_calls, rows_before}
@@ -85,7 +85,7 @@ module _ (size : (ℕ → ℕ) → Tree → ℕ) (truth : (ℕ → Bool) → Tre
         (position_of (arity_in p) (map number_of x.by_clauses.items) y.0 y.1 (view_members y.0 (is_inside y.0 member)) argument) i)
 
     pub set_excluded : (n : ℕ) (ms : List ℤ) → n ≡ length at + (length x.by_clauses.items + count_of x.calls.items) → Refutes n (support_rows expression at (map number_of x.by_clauses.items) (lives size truth expression p comps rows c x h)) ms
-        → IsExcluded (Has expression p comps rows c) s
+        → IsExcluded (HasSupportIn expression p comps rows c) s
     set_excluded n ms en refutes =
         let members = map number_of x.by_clauses.items in
         let ls = lives size truth expression p comps rows c x h in
@@ -100,5 +100,5 @@ module _ (size : (ℕ → ℕ) → Tree → ℕ) (truth : (ℕ → Bool) → Tre
         (of_members members ls vs (λ o i.
         let there = in_calls expression p comps rows c x.calls.items h.pairs h.held o i in
         (callers o there, callees x.calls.items inside h.held o (lives_in expression p comps rows c x.calls.items o i))))
-        (multipliers_refute no_truth expression (component_view expression p comps rows c) at members ls vs (λ k t. h.norm.width k t) (lives_own expression p comps rows c x.calls.items h.pairs h.held)
+        (multipliers_refute expression (component_view expression p comps rows c) at members ls vs (λ k t. h.norm.width k t) (lives_own expression p comps rows c x.calls.items h.pairs h.held)
         (all_live expression p comps rows c x.calls.items h.held) long refuted)

@@ -20,7 +20,7 @@ use Rattle.number_tests.proofs.FallTargets.{fall_target}
 use Rattle.term_size.specs.Norm.{IsNorm}
 use Rattle.termination_model.specs.BlownSupports.{FallsFit}
 use Rattle.termination_model.specs.Claims.{Mapping}
-use Rattle.termination_model.specs.ComponentViews.{component_view, no_truth}
+use Rattle.termination_model.specs.ComponentViews.{component_view}
 use Rattle.termination_model.specs.OwnCalls.{OwnCall as Recalled, rows_before}
 use Rattle.termination_model.specs.Ready.{arity_in}
 use Rattle.termination_model.specs.Rows.{added, scaled}
@@ -72,7 +72,7 @@ module _ (size : (ℕ → ℕ) → Tree → ℕ) (truth : (ℕ → Bool) → Tre
 
   -- the fall of the mapping at a call
   abbrev pub fall_at : Recalled → List ℤ
-  fall_at o = fall_over no_truth expression o.rule o.member o.call.args 1 l
+  fall_at o = fall_over expression o.rule o.member o.call.args 1 l
 
   -- parts have a coefficient for each argument of a head
   abbrev pub IsWideHead : OwnCall → Type 0
@@ -116,11 +116,11 @@ module _ (size : (ℕ → ℕ) → Tree → ℕ) (truth : (ℕ → Bool) → Tre
   rows_count y h = ap length (sym (rows_are expression p comps rows c y h)) ∙ length-map y.rows.list plain_row
 
   abbrev pub Fit : List Recalled → List ℤ → Type 0
-  Fit os list = FallsFit no_truth expression (component_view expression p comps rows c) (arity_in p) l os list
+  Fit os list = FallsFit expression (component_view expression p comps rows c) (arity_in p) l os list
 
   -- the falls of calls that can be reached are shown by their multipliers, those of others by what shows their rows empty
   pub all_shown : (owns : List OwnCall) (vs : List ℕ) → AllByRecursion (IsHeld expression p rows) owns → AllByRecursion IsWideHead owns
-      → Fit (map own (live_of owns)) (map pos vs) → AllByRecursion (λ (o : Recalled). row_fits (fall_at o) ≡ true) (map own owns) → AreFalls no_truth expression l (map own (live_of owns)) vs → ShowFalls ms owns (map pos vs)
+      → Fit (map own (live_of owns)) (map pos vs) → AllByRecursion (λ (o : Recalled). row_fits (fall_at o) ≡ true) (map own owns) → AreFalls expression l (map own (live_of owns)) vs → ShowFalls ms owns (map pos vs)
   all_shown [] vs held wide fit targets falls = tt
   all_shown (y ∷ owns) vs held wide fit targets falls = by_reach y.empty first.reach fit falls (λ ws f a. all_shown owns ws held.1 wide.1 f targets.1 a)
     where
@@ -131,8 +131,8 @@ module _ (size : (ℕ → ℕ) → Tree → ℕ) (truth : (ℕ → Bool) → Tre
       n = length (rows_before expression (own y))
 
       by_reach : (m : Option Multipliers) → IsReach (clause_at p y.clause).vars (plain_rows y.rows.list) m → Fit (map own (with_live m y (live_of owns))) (map pos vs)
-          → AreFalls no_truth expression l (map own (with_live m y (live_of owns))) vs
-          → ((ws : List ℕ) → Fit (map own (live_of owns)) (map pos ws) → AreFalls no_truth expression l (map own (live_of owns)) ws → ShowFalls ms owns (map pos ws))
+          → AreFalls expression l (map own (with_live m y (live_of owns))) vs
+          → ((ws : List ℕ) → Fit (map own (live_of owns)) (map pos ws) → AreFalls expression l (map own (live_of owns)) ws → ShowFalls ms owns (map pos ws))
           → ShowsFall ms y (record { scale = scale_of m; list = multipliers_of m (length y.rows.list) (map pos vs) }) × ShowFalls ms owns (values_after m (length y.rows.list) (map pos vs))
       by_reach None r f a rest =
           let count = rows_count y first in (

@@ -9,15 +9,15 @@ use Rattle.linear_rows.specs.Step.{columns}
 use Rattle.linear_rows.proofs.Members.{in-left, in-right, of-append}
 use Rattle.number_tests.specs.declared.refutation.Refutation.{Refutation}
 use Rattle.call_components.proofs.Lists.{all_map}
-use Rattle.termination_model.specs.ComponentViews.{component_view, no_truth, positions_in}
-use Rattle.termination_model.specs.Excluding.{IsAt}
+use Rattle.termination_model.specs.ComponentViews.{component_view, positions_in, HasSupportIn}
+use Rattle.termination_model.specs.Excluding.{IsZeroOutside}
 use Rattle.termination_model.specs.Refutation.{Decreases}
 use Rattle.termination_model.specs.Minimal.{IsAbove, IsSet}
 use Rattle.termination_model.specs.Modes.{chosen_up_to, is_part}
 use Rattle.termination_model.proofs.Sets.{of_part, part_same, part_self, set_short, to_part, up_to_set}
 use Rattle.level_dual.specs.Cases.{undecided}
-use Rattle.level_systems.specs.Found.{IsBlownSet, IsFound, IsRefutationOf, count, full, had}
-use Rattle.level_systems.specs.Mappings.{IsMappingOf, mapping_of, support_of}
+use Rattle.level_systems.specs.Found.{IsBlownSet, IsFound, IsRefutationOf, count, full}
+use Rattle.level_systems.specs.Mappings.{IsMappingOf, mapping_with, support_of}
 use Rattle.level_systems.specs.Searched.{IsDecreasing}
 use Rattle.level_systems.specs.Subsequences.{AreOnce, IsSubsequence}
 use Rattle.level_dual.specs.Walked.{IsAllWalked, IsCompleted}
@@ -79,7 +79,7 @@ module _ (expression : ℕ → Tree → List ℤ) (p : Listing) (comps : Partiti
   blown_set = IsBlownSet expression p comps rows c
 
   abbrev has : List ℕ → Type 0
-  has = had expression p comps rows c
+  has = HasSupportIn expression p comps rows c
 
   pub full_undecided : (s : List ℕ) → In s (undecided s)
   full_undecided [] = inl refl
@@ -194,8 +194,8 @@ module _ (expression : ℕ → Tree → List ℤ) (p : Listing) (comps : Partiti
   walked_found sets large w h more fulls blown empty once why = record {
     large = large;
     mappings = all_map (IsDecreasing expression p comps rows c) (IsMappingOf expression p rows comps c) (λ m d. d.mapping) w.mappings h.mappings;
-    at = all_map (IsDecreasing expression p comps rows c) (λ (m : Mapping). IsAt (positions_in p comps c) (mapping_of m.measures)) (λ m d. d.at) w.mappings h.mappings;
-    falling = all_map (IsDecreasing expression p comps rows c) (λ (m : Mapping). Decreases no_truth expression (component_view expression p comps rows c) (mapping_of m.measures)) (λ m d. d.falling) w.mappings h.mappings;
+    at = all_map (IsDecreasing expression p comps rows c) (λ (m : Mapping). IsZeroOutside (positions_in p comps c) (mapping_with m.measures)) (λ m d. d.at) w.mappings h.mappings;
+    falling = all_map (IsDecreasing expression p comps rows c) (λ (m : Mapping). Decreases expression (component_view expression p comps rows c) (mapping_with m.measures)) (λ m d. d.falling) w.mappings h.mappings;
     small = λ _. record {
       minimal = λ s i. h.walked.minimal s (subst (In s) h.supports i);
       within = λ s k. elim ((walk_steps many has sets).within w.found w.blown h.walked s k) [

@@ -19,7 +19,7 @@ use Rattle.linear_rows.specs.Step.{columns}
 use Rattle.termination_model.proofs.AllPositionsLaws.{all_are_picked}
 use Rattle.termination_model.specs.BlownSupports.{CheckFits, IsBlownAt, in_order, live_calls, same_position, support_solution}
 use Rattle.termination_model.specs.BlownSupports.IsBlownAt.{refutation, solving}
-use Rattle.termination_model.specs.ComponentViews.{Has, component_view, members_in, no_truth, positions_in, rank_in, size_claims}
+use Rattle.termination_model.specs.ComponentViews.{HasSupportIn, component_view, members_in, positions_in, rank_in, size_claims}
 use Rattle.termination_model.specs.Excluding.{pairs_at}
 use Rattle.termination_model.specs.OwnCalls.{OwnCall as Recalled, Position, first_rules, members_of}
 use Rattle.termination_model.specs.Ready.{arity_in, itself, positions_by}
@@ -87,7 +87,7 @@ module _ (size : (ℕ → ℕ) → Tree → ℕ) (truth : (ℕ → Bool) → Tre
       ap (λ (n : ℕ). picked_from 1 (positions_in p comps c) (columns 1 n)) many ∙ all_are_picked (positions_in p comps c)
 
   -- all positions in the order of the clauses
-  pub order_same : in_order no_truth expression view (arity_in p) all ≡ map spelled x.order.items
+  pub order_same : in_order expression view (arity_in p) all ≡ map spelled x.order.items
   order_same =
       let order = positions_by (arity_in p) (members_of view) in
       filter_all (λ r. list_any (same_position r) all) order (λ r i.
@@ -106,7 +106,7 @@ module _ (size : (ℕ → ℕ) → Tree → ℕ) (truth : (ℕ → Bool) → Tre
   ls = lives size truth expression p comps rows c x h
 
   -- a point gives a mapping that decreases
-  point_has : (t : ℤ) (w : List ℤ) → IsPoint (unknowns expression ps ms ls) (support_rows expression ps ms ls) t w → ((s : List ℕ) → Has expression p comps rows c s → ⊥) → ⊥
+  point_has : (t : ℤ) (w : List ℤ) → IsPoint (unknowns expression ps ms ls) (support_rows expression ps ms ls) t w → ((s : List ℕ) → HasSupportIn expression p comps rows c s → ⊥) → ⊥
   point_has t w point none =
       let a = length ps in
       let b = length ms in
@@ -126,11 +126,11 @@ module _ (size : (ℕ → ℕ) → Tree → ℕ) (truth : (ℕ → Bool) → Tre
       let found = (laws size truth expression p comps rows c x h).found numbers l (at_picked size truth expression p comps rows c x h numbers ps is cs os) falls in
       none (support_from 1 (positions_in p comps c) l) found.1
 
-  module _ (none : (s : List ℕ) → Has expression p comps rows c s → ⊥) (refused : IsInFit expression p comps rows c x → ⊥) (same : live_calls no_truth expression view (arity_in p) ≡ ls) where
-    solved_same : support_solution no_truth expression view (arity_in p) all ≡ solution_of expression x (lives_of expression p comps rows c x)
+  module _ (none : (s : List ℕ) → HasSupportIn expression p comps rows c s → ⊥) (refused : IsInFit expression p comps rows c x → ⊥) (same : live_calls expression view (arity_in p) ≡ ls) where
+    solved_same : support_solution expression view (arity_in p) all ≡ solution_of expression x (lives_of expression p comps rows c x)
     solved_same = λ i. solution (unknowns expression (order_same i) (sym h.by_clauses i) (same i)) (support_rows expression (order_same i) (sym h.by_clauses i) (same i))
 
-    by_solution : (s : Solution) → support_solution no_truth expression view (arity_in p) all ≡ s → IsBlownAt no_truth expression view (arity_in p) all
+    by_solution : (s : Solution) → support_solution expression view (arity_in p) all ≡ s → IsBlownAt expression view (arity_in p) all
     by_solution (Blown step wide) e = solving step wide e
     by_solution (Found t w) e = absurd (point_has t w (found_holds (unknowns expression ps ms ls) (support_rows expression ps ms ls) t w (support_wide expression ps ms ls) (sym solved_same ∙ e)) none)
     by_solution (Refuted ws) e =
@@ -141,9 +141,9 @@ module _ (size : (ℕ → ℕ) → Tree → ℕ) (truth : (ℕ → Bool) → Tre
           numbers = map unsigned_abs ws;
           live = same;
           refuted = sym solved_same ∙ told;
-          fits = subst (λ (os : List Recalled). CheckFits no_truth expression view (arity_in p) (pairs_at os (map unsigned_abs ws))) same fits;
+          fits = subst (λ (os : List Recalled). CheckFits expression view (arity_in p) (pairs_at os (map unsigned_abs ws))) same fits;
         }))
 
-  pub full_blown : ((s : List ℕ) → Has expression p comps rows c s → ⊥) → (IsInFit expression p comps rows c x → ⊥) → IsBlownAt no_truth expression view (arity_in p) all
+  pub full_blown : ((s : List ℕ) → HasSupportIn expression p comps rows c s → ⊥) → (IsInFit expression p comps rows c x → ⊥) → IsBlownAt expression view (arity_in p) all
   full_blown none refused =
-      blown_by_lives expression p comps rows c x.calls.items h.pairs h.held all (λ same. by_solution none refused same (support_solution no_truth expression view (arity_in p) all) refl)
+      blown_by_lives expression p comps rows c x.calls.items h.pairs h.held all (λ same. by_solution none refused same (support_solution expression view (arity_in p) all) refl)

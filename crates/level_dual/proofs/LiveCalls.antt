@@ -27,10 +27,10 @@ use Rattle.linear_rows.proofs.Starts.{dot-zeros}
 use Rattle.simplex.proofs.TestLaws.{point_fails, refutes_proves}
 use Rattle.termination_model.specs.BlownSupports.{IsBlownAt, emptiness, is_found, live_calls}
 use Rattle.termination_model.specs.BlownSupports.IsBlownAt.{undecided}
-use Rattle.termination_model.specs.ComponentViews.{component_view, no_truth}
+use Rattle.termination_model.specs.ComponentViews.{component_view}
 use Rattle.termination_model.specs.OwnCalls.{OwnCall as Recalled, Position, own_calls, rows_before}
 use Rattle.termination_model.specs.Ready.{arity_in}
-use Rattle.level_systems.specs.Held.{HasPoint, IsHeld, IsReach, live_of, pair_of, with_live}
+use Rattle.level_systems.specs.Held.{HasPoint, IsHeld, IsReach, live_of, numbers_of_call, with_live}
 use Rattle.level_systems.specs.Pairs.{clause_at, pairs_of}
 use Rattle.level_systems.specs.declared.own_call.OwnCall.{OwnCall}
 use Rattle.level_systems.proofs.HeldCalls.{calls_are, re, rows_are, shown_empty}
@@ -100,7 +100,7 @@ wide_rows n rs h = to_All (λ (r : List ℤ). length r ≡ suc n) (plain_rows rs
 module _ (expression : ℕ → Tree → List ℤ) (p : Listing) (comps : Partition) (rows : ℕ → List (List ℤ)) (c : ℕ) where
   -- what elimination says of the rows before a call
   abbrev pub told : Recalled → Solution
-  told o = emptiness no_truth expression (component_view expression p comps rows c) (arity_in p) o
+  told o = emptiness expression (component_view expression p comps rows c) (arity_in p) o
 
   abbrev live : Recalled → Bool
   live o = is_found (told o)
@@ -139,10 +139,10 @@ module _ (expression : ℕ → Tree → List ℤ) (p : Listing) (comps : Partiti
     | inr rest ↦ let first = held.0 in one_live y owns first (told (own y)) refl y.empty first.reach rest
   ]
 
-  module _ (owns : List OwnCall) (pairs : map pair_of owns ≡ pairs_of p comps c) (held : AllByRecursion (IsHeld expression p rows) owns) where
+  module _ (owns : List OwnCall) (pairs : map numbers_of_call owns ≡ pairs_of p comps c) (held : AllByRecursion (IsHeld expression p rows) owns) where
     -- some call's test is blown, or the calls that can be reached are those that the code takes as live
     pub live_calls_same : SomeBlown (own_calls (component_view expression p comps rows c))
-        ⊎ (live_calls no_truth expression (component_view expression p comps rows c) (arity_in p) ≡ map (re expression p comps rows c) (live_of owns))
+        ⊎ (live_calls expression (component_view expression p comps rows c) (arity_in p) ≡ map (re expression p comps rows c) (live_of owns))
     live_calls_same =
         let same = calls_are expression p comps rows c owns pairs held in
         elim (lives_same owns held) [
@@ -152,9 +152,9 @@ module _ (expression : ℕ → Tree → List ℤ) (p : Listing) (comps : Partiti
 
     -- what is blown where these are the same is blown
     pub blown_by_lives : (ps : List Position)
-        → (live_calls no_truth expression (component_view expression p comps rows c) (arity_in p) ≡ map (re expression p comps rows c) (live_of owns)
-        → IsBlownAt no_truth expression (component_view expression p comps rows c) (arity_in p) ps)
-        → IsBlownAt no_truth expression (component_view expression p comps rows c) (arity_in p) ps
+        → (live_calls expression (component_view expression p comps rows c) (arity_in p) ≡ map (re expression p comps rows c) (live_of owns)
+        → IsBlownAt expression (component_view expression p comps rows c) (arity_in p) ps)
+        → IsBlownAt expression (component_view expression p comps rows c) (arity_in p) ps
     blown_by_lives ps f = elim live_calls_same [
       | inl b ↦ undecided b.0 b.1 b.2
       | inr e ↦ f e

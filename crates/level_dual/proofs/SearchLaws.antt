@@ -13,8 +13,8 @@ use Rattle.linear_rows.specs.Rows.{AllHold}
 use Rattle.linear_rows.specs.declared.multipliers.Multipliers.{Multipliers}
 use Rattle.termination_model.specs.BlownSupports.{same_position}
 use Rattle.termination_model.specs.Claims.{Mapping as PlainMapping, SomeOf}
-use Rattle.termination_model.specs.ComponentViews.{Has, component_view, members_in, no_truth, positions_in}
-use Rattle.termination_model.specs.Excluding.{IsAt}
+use Rattle.termination_model.specs.ComponentViews.{HasSupportIn, component_view, members_in, positions_in}
+use Rattle.termination_model.specs.Excluding.{IsZeroOutside}
 use Rattle.termination_model.specs.Modes.{is_part}
 use Rattle.termination_model.specs.OwnCalls.{OwnCall as Recalled, Position, own_calls, rows_before}
 use Rattle.termination_model.specs.Ready.{Apart, arity_in, positions_by}
@@ -22,7 +22,7 @@ use Rattle.termination_model.specs.Refutation.{Decreases}
 use Rattle.termination_model.specs.SupportSystem.{mapping_at, row_count, support_rows}
 use Rattle.termination_model.specs.Supports.{AreDistinct, MappingsFromSystems, picked_from, support_from}
 use Rattle.termination_model.proofs.Having.{decreases, picked_in, systems_give_mappings}
-use Rattle.termination_model.specs.Best.{coefficient}
+use Rattle.termination_model.specs.Coefficients.{coefficient}
 use Rattle.termination_model.specs.Rows.{added, scaled}
 use Rattle.termination_model.specs.Systems.{row_over}
 use Rattle.termination_model.specs.View.{Call, Member, Rule, fall_over, system_of}
@@ -32,7 +32,7 @@ use Rattle.termination_model.proofs.Lists.{indexed}
 use Rattle.termination_model.proofs.Points.{points_fall}
 use Rattle.termination_model.proofs.Readiness.{own_of, positions_are_distinct}
 use Rattle.level_systems.specs.Held.{IsHeld, live_of, with_live}
-use Rattle.level_systems.specs.Mappings.{IsMappingOf, mapping_of, support_of}
+use Rattle.level_systems.specs.Mappings.{IsMappingOf, mapping_with, support_of}
 use Rattle.level_systems.specs.Recalled.{count_of, with_count}
 use Rattle.level_systems.specs.Searched.{IsComponent, IsFoundIn}
 use Rattle.level_systems.specs.Valued.{IsPartOf}
@@ -56,7 +56,7 @@ at_in P (y ∷ xs) all x (inr i) = at_in P xs all.1 x i
 
 -- falls depend on the levels of the head and of the call
 falls_over : (expression : ℕ → Tree → List ℤ) (r : Rule) (q : ℕ) (ts : List Tree) (k l : PlainMapping) → k.coefficients r.member ≡ l.coefficients r.member → k.offset r.member ≡ l.offset r.member
-    → k.coefficients q ≡ l.coefficients q → k.offset q ≡ l.offset q → fall_over no_truth expression r q ts 1 k ≡ fall_over no_truth expression r q ts 1 l
+    → k.coefficients q ≡ l.coefficients q → k.offset q ≡ l.offset q → fall_over expression r q ts 1 k ≡ fall_over expression r q ts 1 l
 falls_over expression r q ts k l a b d e =
     λ j. added (row_over expression r.vars r.args (pos (b j) ∷ map pos (a j))) (scaled (negsuc 0) (added (row_over expression r.vars ts (pos (e j) ∷ map pos (d j))) (pos 1 ∷ [])))
 
@@ -147,9 +147,9 @@ module _ (size : (ℕ → ℕ) → Tree → ℕ) (truth : (ℕ → Bool) → Tre
   pub distinct : AreDistinct (positions_in p comps c)
   distinct = positions_are_distinct (arity_in p) (members_in comps c) members_apart
 
-  pub laws : MappingsFromSystems no_truth expression (component_view expression p comps rows c) (positions_in p comps c) mine (arity_in p) lives
+  pub laws : MappingsFromSystems expression (component_view expression p comps rows c) (positions_in p comps c) mine (arity_in p) lives
   laws =
-      systems_give_mappings no_truth expression (component_view expression p comps rows c) (positions_in p comps c) mine (arity_in p) lives (λ n t. h.norm.width n t) distinct
+      systems_give_mappings expression (component_view expression p comps rows c) (positions_in p comps c) mine (arity_in p) lives (λ n t. h.norm.width n t) distinct
       (are_lives expression p comps rows c x.calls.items h.pairs h.held)
 
   pub members_there : (o : Recalled) → In o (own_calls (component_view expression p comps rows c)) → In o.rule.member (members_in comps c) × In o.member (members_in comps c)
@@ -167,11 +167,11 @@ module _ (size : (ℕ → ℕ) → Tree → ℕ) (truth : (ℕ → Bool) → Tre
 
   -- a mapping decreases with one that is the same for all members
   falls_same : (k l : PlainMapping) → ((q : ℕ) → In q (members_in comps c) → (k.coefficients q ≡ l.coefficients q) × (k.offset q ≡ l.offset q))
-      → Decreases no_truth expression (component_view expression p comps rows c) l → Decreases no_truth expression (component_view expression p comps rows c) k
-  falls_same k l same d = decreases no_truth expression k (component_view expression p comps rows c) (λ o i.
+      → Decreases expression (component_view expression p comps rows c) l → Decreases expression (component_view expression p comps rows c) k
+  falls_same k l same d = decreases expression k (component_view expression p comps rows c) (λ o i.
       let own = own_of (component_view expression p comps rows c) o i in
       let fall = some_all (λ (r : Rule). (j : ℕ) (b : Call) (q : ℕ) → slice_get r.body j ≡ Some b → b.place ≡ Member q
-      → HoldsOn (suc r.vars) (system_of expression r.vars (take j r.body)) (fall_over no_truth expression r q b.args 1 l)) (component_view expression p comps rows c) d o.rule own.there o.place o.call o.member own.call own.member in
+      → HoldsOn (suc r.vars) (system_of expression r.vars (take j r.body)) (fall_over expression r q b.args 1 l)) (component_view expression p comps rows c) d o.rule own.there o.place o.call o.member own.call own.member in
       let there = members_there o i in
       let head = same o.rule.member there.0 in
       let call = same o.member there.1 in
@@ -180,13 +180,13 @@ module _ (size : (ℕ → ℕ) → Tree → ℕ) (truth : (ℕ → Bool) → Tre
   -- a point of the system of a set of positions gives a mapping
   module _ (s : List ℕ) (at : List Position) (is : at ≡ filter (λ r. list_any (same_position r) (picked_from 1 (positions_in p comps c) s)) (positions_by (arity_in p) mine)) where
     pub point_decreases : (scale : ℕ) (cs os ms : List ℕ) → 1 ≤ scale → length cs ≡ length at → length os ≡ length mine → length ms ≡ count_of x.calls.items
-        → AllHold (support_rows expression at mine lives) scale (cs ++ (os ++ ms)) → Decreases no_truth expression (component_view expression p comps rows c) (mapping_at (arity_in p) at mine cs os)
+        → AllHold (support_rows expression at mine lives) scale (cs ++ (os ++ ms)) → Decreases expression (component_view expression p comps rows c) (mapping_at (arity_in p) at mine cs os)
     point_decreases scale cs os ms some lc lo lm hold =
         laws.falls (mapping_at (arity_in p) at mine cs os) ms
-        (points_fall no_truth expression at mine (arity_in p) lives scale cs os ms (λ n t. h.norm.width n t) (lives_few expression p comps rows c x.calls.items h.pairs h.held h.program) some lc lo
+        (points_fall expression at mine (arity_in p) lives scale cs os ms (λ n t. h.norm.width n t) (lives_few expression p comps rows c x.calls.items h.pairs h.held h.program) some lc lo
         (lm ∙ sym (counts expression p comps rows c at mine x.calls.items h.held)) hold)
 
-    pub at_picked : (cs os : List ℕ) → IsAt (picked_from 1 (positions_in p comps c) s) (mapping_at (arity_in p) at mine cs os)
+    pub at_picked : (cs os : List ℕ) → IsZeroOutside (picked_from 1 (positions_in p comps c) s) (mapping_at (arity_in p) at mine cs os)
     at_picked cs os q a k =
         of_ordered (positions_by (arity_in p) mine) (picked_from 1 (positions_in p comps c) s) (q, a) (subst (In {X = Position} (q, a)) is (laws.at at cs os q a k))
 
@@ -199,7 +199,7 @@ module _ (size : (ℕ → ℕ) → Tree → ℕ) (truth : (ℕ → Bool) → Tre
         let (part, has) = laws.found s l (at_picked cs os) (point_decreases scale cs os ms some lc lo lm hold) in
         let measures = mapping.measures in
         let same : support_of (positions_in p comps c) m ≡ support_from 1 (positions_in p comps c) l =
-        support_same (positions_in p comps c) 1 (mapping_of m.measures) l
+        support_same (positions_in p comps c) 1 (mapping_with m.measures) l
         (λ y i. mapping_same l m.measures y.0 parts (subst (In y.0) (sym measures.each) (pred_of (arity_in p) (members_in comps c) y i).0)) in
         let member : (q : ℕ) → In q (members_in comps c) → In q (map (λ (y : Measure). y.pred.0) m.measures) = λ q i. subst (In q) (sym measures.each) i in
         record {
@@ -211,9 +211,9 @@ module _ (size : (ℕ → ℕ) → Tree → ℕ) (truth : (ℕ → Bool) → Tre
                   picked_in (positions_in p comps c) 1 s (q, a) (at_picked cs os q a lt')
               | inr none ↦ let lt' : 0 < coefficient [] a = subst (λ (zs : List ℕ). 0 < coefficient zs a) none lt in absurd (omega (arith, lt'))
             ];
-            falling = falls_same (mapping_of m.measures) l (λ q i. (mapping_same l m.measures q parts (member q i), offset_same l m.measures q parts (member q i)))
+            falling = falls_same (mapping_with m.measures) l (λ q i. (mapping_same l m.measures q parts (member q i), offset_same l m.measures q parts (member q i)))
                 (point_decreases scale cs os ms some lc lo lm hold);
           };
           part = subst (λ (z : List ℕ). is_part z s ≡ true) (sym same) part;
-          has = subst (Has expression p comps rows c) (sym same) has;
+          has = subst (HasSupportIn expression p comps rows c) (sym same) has;
         }

@@ -21,12 +21,11 @@ use Rattle.number_tests.specs.declared.pair_point.PairPoint.{PairPoint}
 use Rattle.simplex.proofs.RowLists.{length-zeros}
 use Rattle.simplex.proofs.TestLaws.{Failing, point_fails}
 use Rattle.termination_model.specs.Claims.{SomeOf}
-use Rattle.termination_model.specs.ComponentViews.{no_truth}
 use Rattle.termination_model.specs.Excluding.{number_count, pairs_at}
 use Rattle.termination_model.specs.OwnCalls.{OwnCall as Recalled, rows_before}
 use Rattle.termination_model.specs.Refutation.{Pair, call_load, head_load, values_at}
 use Rattle.level_systems.specs.Found.{HasSecondPoint}
-use Rattle.level_systems.specs.Held.{IsHeld, pair_of}
+use Rattle.level_systems.specs.Held.{IsHeld, numbers_of_call}
 use Rattle.level_systems.specs.Pairs.{clause_at}
 use Rattle.level_systems.specs.Refuted.{ArePoints, AreSpelled, HasFoundPoint, HasPoints, IsNought}
 use Rattle.level_systems.specs.declared.own_call.OwnCall.{OwnCall}
@@ -129,11 +128,11 @@ module _ (expression : ℕ → Tree → List ℤ) (p : Listing) (comps : Partiti
       (omega (arith, width, long, many), (w, (s, tests_same own first ∙ is)), subst (AreSpelled owns) (sym dropped) (all_spelled owns held.1 found.1 (drop n vs) rest))
 
   -- ---- they ascend
-  pub stand_ascend : (last : ℕ × ℕ) (owns : List OwnCall) (vs : List ℕ) (xs : List PairPoint) → Stand owns vs xs → AscendFrom last (map pair_of owns) → PairsAscend last xs
+  pub stand_ascend : (last : ℕ × ℕ) (owns : List OwnCall) (vs : List ℕ) (xs : List PairPoint) → Stand owns vs xs → AscendFrom last (map numbers_of_call owns) → PairsAscend last xs
   stand_ascend last [] vs xs h k = subst (PairsAscend last) (sym h) tt
   stand_ascend last (own ∷ owns) [] xs h k = absurd h
-  stand_ascend last (own ∷ owns) (t ∷ vs) xs (inl h) k = stand_ascend last owns (drop (vars_of own) vs) xs h.1 (ascend_lower last (pair_of own) (map pair_of owns) k.0 k.1)
-  stand_ascend last (own ∷ owns) (t ∷ vs) xs (inr h) k = subst (PairsAscend last) (sym h.2) (k.0, stand_ascend (pair_of own) owns (drop (vars_of own) vs) h.1 h.4 k.1)
+  stand_ascend last (own ∷ owns) (t ∷ vs) xs (inl h) k = stand_ascend last owns (drop (vars_of own) vs) xs h.1 (ascend_lower last (numbers_of_call own) (map numbers_of_call owns) k.0 k.1)
+  stand_ascend last (own ∷ owns) (t ∷ vs) xs (inr h) k = subst (PairsAscend last) (sym h.2) (k.0, stand_ascend (numbers_of_call own) owns (drop (vars_of own) vs) h.1 h.4 k.1)
 
   -- ---- a second point
   long_bottom : (n : ℕ) → length (bottom_row n) ≡ suc n
@@ -170,13 +169,13 @@ module _ (expression : ℕ → Tree → List ℤ) (p : Listing) (comps : Partiti
       )
 
   -- ---- they have the same loads
-  values_nought : (ts : List Tree) (n t : ℕ) (w : List ℕ) → IsNought (map pos (t ∷ w)) → IsNought (values_at no_truth expression n w t ts)
+  values_nought : (ts : List Tree) (n t : ℕ) (w : List ℕ) → IsNought (map pos (t ∷ w)) → IsNought (values_at expression n w t ts)
   values_nought ts n t w h zero d lt = nought_head (pos t) (map pos w) h
   values_nought [] n t w h (suc k) d lt = absurd (omega (arith, lt))
   values_nought (x ∷ ts) n t w h (suc zero) d lt = dot_nought (expression n x) (pos t ∷ map pos w) h
   values_nought (x ∷ ts) n t w h (suc (suc k)) d lt = values_nought ts n t w h (suc k) d (omega (arith, lt))
 
-  pub stand_heads : (owns : List OwnCall) (vs : List ℕ) → length vs ≡ number_count (map own_of owns) → (xs : List PairPoint) → Stand owns vs xs → AreLeft (map (head_load no_truth expression) (pairs_at (map own_of owns) vs)) (head_loads expression p xs)
+  pub stand_heads : (owns : List OwnCall) (vs : List ℕ) → length vs ≡ number_count (map own_of owns) → (xs : List PairPoint) → Stand owns vs xs → AreLeft (map (head_load expression) (pairs_at (map own_of owns) vs)) (head_loads expression p xs)
   stand_heads [] vs e xs h = ap (head_loads expression p) h
   stand_heads (own ∷ owns) [] e xs h = absurd h
   stand_heads (own ∷ owns) (t ∷ vs) e xs (inl h) =
@@ -194,7 +193,7 @@ module _ (expression : ℕ → Tree → List ℤ) (p : Listing) (comps : Partiti
         stand_heads owns (drop n vs) rest h.1 h.4,
       )
 
-  pub stand_calls : (owns : List OwnCall) (vs : List ℕ) → length vs ≡ number_count (map own_of owns) → (xs : List PairPoint) → Stand owns vs xs → AreLeft (map (call_load no_truth expression) (pairs_at (map own_of owns) vs)) (call_loads expression p xs)
+  pub stand_calls : (owns : List OwnCall) (vs : List ℕ) → length vs ≡ number_count (map own_of owns) → (xs : List PairPoint) → Stand owns vs xs → AreLeft (map (call_load expression) (pairs_at (map own_of owns) vs)) (call_loads expression p xs)
   stand_calls [] vs e xs h = ap (call_loads expression p) h
   stand_calls (own ∷ owns) [] e xs h = absurd h
   stand_calls (own ∷ owns) (t ∷ vs) e xs (inl h) =

@@ -8,7 +8,7 @@ use Rattle.linear_rows.specs.Members.{In}
 use Rattle.linear_rows.specs.Step.{columns}
 use Rattle.linear_rows.proofs.Members.{in-filter, in-left, in-right, of-append, of-filter}
 use Rattle.number_tests.specs.declared.level_part.LevelPart.{LevelPart}
-use Rattle.termination_model.specs.Best.{coefficient}
+use Rattle.termination_model.specs.Coefficients.{coefficient}
 use Rattle.termination_model.specs.BlownSupports.{same_position}
 use Rattle.termination_model.specs.Claims.{Mapping}
 use Rattle.termination_model.specs.OwnCalls.{Position}
@@ -16,7 +16,7 @@ use Rattle.termination_model.specs.Ready.{arity_in, positions_by}
 use Rattle.termination_model.specs.Supports.{support_from}
 use Rattle.number_tests.specs.Shape.{IsLevelPart}
 use Rattle.level_systems.specs.Falling.{HasParts}
-use Rattle.level_systems.specs.Mappings.{HasMeasures, natural_coefficients, level_in, mapping_of, natural_offset}
+use Rattle.level_systems.specs.Mappings.{HasMeasures, natural_coefficients, level_in, mapping_with, natural_offset}
 use Rattle.level_systems.specs.Searched.{IsSoundCall}
 use Rattle.level_systems.specs.declared.own_call.OwnCall.{OwnCall}
 use Rattle.level_systems.specs.Valued.{IsPartOf}
@@ -48,19 +48,19 @@ part_there P (m ∷ ms) q all h = go (m.pred.0 == q) refl h (part_there P ms q a
     go false e (inr i) rec = rec i
 
 pub mapping_same : (l : Mapping) (ms : List Measure) (q : ℕ) → AllByRecursion (λ (m : Measure). IsPartOf l m.pred.0 m.part) ms → In q (map (λ (m : Measure). m.pred.0) ms)
-    → (mapping_of ms).coefficients q ≡ l.coefficients q
+    → (mapping_with ms).coefficients q ≡ l.coefficients q
 mapping_same l ms q all h =
     let (part, at, is) = part_there (IsPartOf l) ms q all h in
     ap natural_coefficients at ∙ ap (map unsigned_abs) is.coefficients ∙ naturals_of (l.coefficients q)
 
 pub offset_same : (l : Mapping) (ms : List Measure) (q : ℕ) → AllByRecursion (λ (m : Measure). IsPartOf l m.pred.0 m.part) ms → In q (map (λ (m : Measure). m.pred.0) ms)
-    → (mapping_of ms).offset q ≡ l.offset q
+    → (mapping_with ms).offset q ≡ l.offset q
 offset_same l ms q all h =
     let (part, at, is) = part_there (IsPartOf l) ms q all h in
     ap natural_offset at ∙ ap unsigned_abs is.offset
 
 -- a mapping without a part for a predicate has no coefficients there
-pub part_or_none : (ms : List Measure) (q : ℕ) → In q (map (λ (m : Measure). m.pred.0) ms) ⊎ ((mapping_of ms).coefficients q ≡ [])
+pub part_or_none : (ms : List Measure) (q : ℕ) → In q (map (λ (m : Measure). m.pred.0) ms) ⊎ ((mapping_with ms).coefficients q ≡ [])
 part_or_none [] q = inr refl
 part_or_none (m ∷ ms) q = go (m.pred.0 == q) refl (part_or_none ms q)
   where

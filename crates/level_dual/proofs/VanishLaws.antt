@@ -17,9 +17,9 @@ use Rattle.linear_rows.specs.Rows.{HoldsOn}
 use Rattle.linear_rows.specs.declared.row.Row.{Row}
 use Rattle.linear_rows.specs.declared.row.Rows.{Rows}
 use Rattle.linear_rows.proofs.Members.{in-left, in-map, in-right, of-append}
-use Rattle.termination_model.specs.Best.{coefficient}
+use Rattle.termination_model.specs.Coefficients.{coefficient}
 use Rattle.termination_model.specs.Claims.{Mapping}
-use Rattle.termination_model.specs.ComponentViews.{Has, component_view, no_truth, positions_in}
+use Rattle.termination_model.specs.ComponentViews.{HasSupportIn, component_view, positions_in}
 use Rattle.termination_model.specs.Minimal.{IsExcluded}
 use Rattle.termination_model.specs.Modes.{is_part}
 use Rattle.termination_model.specs.OwnCalls.{Position as Place, rows_before}
@@ -128,7 +128,7 @@ column_kept n (b ∷ row) on j l =
     let at = dot_spike row j k n l in
     omega (arith, ints, holds, at))
 
-fall_column : (expression : ℕ → Tree → List ℤ) (r : Rule) (q : ℕ) (ts : List Tree) (l : Mapping) (j : ℕ) → pos 0 ≤ℤ entry (fall_over no_truth expression r q ts 1 l) (suc j)
+fall_column : (expression : ℕ → Tree → List ℤ) (r : Rule) (q : ℕ) (ts : List Tree) (l : Mapping) (j : ℕ) → pos 0 ≤ℤ entry (fall_over expression r q ts 1 l) (suc j)
     → dot (map pos (l.coefficients q)) (map (λ e. entry e (suc j)) (map (expression r.vars) ts))
     ≤ℤ dot (map pos (l.coefficients r.member)) (map (λ e. entry e (suc j)) (map (expression r.vars) r.args))
 fall_column expression r q ts l j le =
@@ -230,7 +230,7 @@ marked_more k marks s h there i lt = elim (less_or_same i k lt) [
 
 module _ (size : (ℕ → ℕ) → Tree → ℕ) (truth : (ℕ → Bool) → Tree → Bool) (expression : ℕ → Tree → List ℤ) (p : Listing) (comps : Partition) (rows : ℕ → List (List ℤ)) (c : ℕ) (x : Component)
     (h : IsComponent size truth expression p comps rows c x) (l : Mapping) where
-  module _ (d : Decreases no_truth expression (component_view expression p comps rows c) l) where
+  module _ (d : Decreases expression (component_view expression p comps rows c) l) where
     call_keeps : (own : OwnCall) → In own x.calls.items → KeepsColumns l own
     call_keeps own i none j lt =
         let view = component_view expression p comps rows c in
@@ -239,11 +239,11 @@ module _ (size : (ℕ → ℕ) → Tree → ℕ) (truth : (ℕ → Bool) → Tre
         let r = recalls expression p comps rows c own held in
         let mine = own_of view o (subst (In o) (sym (calls_are expression p comps rows c x.calls.items h.pairs h.held)) (in-map (re expression p comps rows c) x.calls.items own i)) in
         let fall = from_in (λ (k : Rule). (n : ℕ) (b : Call) (q : ℕ) → slice_get k.body n ≡ Some b → b.place ≡ Member q
-        → HoldsOn (suc k.vars) (system_of expression k.vars (take n k.body)) (fall_over no_truth expression k q b.args 1 l)) view d o.rule (some_there view o.rule mine.there) o.place o.call o.member mine.call mine.member in
+        → HoldsOn (suc k.vars) (system_of expression k.vars (take n k.body)) (fall_over expression k q b.args 1 l)) view d o.rule (some_there view o.rule mine.there) o.place o.call o.member mine.call mine.member in
         let empty : rows_before expression o ≡ [] = sym (rows_are expression p comps rows c own held) ∙ ap plain_rows none in
-        let all = subst (λ (rs : List (List ℤ)). HoldsOn (suc o.rule.vars) rs (fall_over no_truth expression o.rule o.member o.call.args 1 l)) empty fall in
+        let all = subst (λ (rs : List (List ℤ)). HoldsOn (suc o.rule.vars) rs (fall_over expression o.rule o.member o.call.args 1 l)) empty fall in
         let inside : j < o.rule.vars = let wide = r.vars in omega (arith, lt, wide) in
-        let kept = fall_column expression o.rule o.member o.call.args l j (column_kept o.rule.vars (fall_over no_truth expression o.rule o.member o.call.args 1 l) all j inside) in
+        let kept = fall_column expression o.rule o.member o.call.args l j (column_kept o.rule.vars (fall_over expression o.rule o.member o.call.args 1 l) all j inside) in
         let call : dot (map pos (l.coefficients own.callee.0)) (sizes_at own.callee_sizes (suc j)) ≡ dot (map pos (l.coefficients o.member)) (map (λ e. entry e (suc j)) (map (expression o.rule.vars) o.call.args)) =
         λ i. dot (map pos (l.coefficients (r.callee i))) (map (λ e. entry e (suc j)) (r.callee_sizes i)) in
         let head : dot (map pos (l.coefficients own.caller.0)) (sizes_at own.caller_sizes (suc j)) ≡ dot (map pos (l.coefficients o.rule.member)) (map (λ e. entry e (suc j)) (map (expression o.rule.vars) o.rule.args)) =
@@ -323,7 +323,7 @@ vanishes_there positions places l marks u set same support part unlisted k x at 
 
 module _ (expression : ℕ → Tree → List ℤ) (p : Listing) (comps : Partition) (rows : ℕ → List (List ℤ)) (c : ℕ) (positions : List Position) (same : map spelled positions ≡ positions_in p comps c) where
   -- where the set of the places without marks is excluded, so is each mapping that vanishes at the marks
-  pub void_of : (marks : List Bool) (numbers : List ℕ) → AreMarkedOrIn (length positions) marks numbers → IsExcluded (Has expression p comps rows c) numbers → IsVoid expression p comps rows c positions marks
+  pub void_of : (marks : List Bool) (numbers : List ℕ) → AreMarkedOrIn (length positions) marks numbers → IsExcluded (HasSupportIn expression p comps rows c) numbers → IsVoid expression p comps rows c positions marks
   void_of marks numbers cover excluded l at d v =
       let places = positions_in p comps c in
       excluded (support_from 1 places l)

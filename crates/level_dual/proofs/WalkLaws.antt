@@ -8,7 +8,7 @@ use Rattle.call_components.specs.Partition.{Partition}
 use Rattle.call_components.proofs.Lists.{all_append}
 use Rattle.linear_rows.specs.Step.{columns}
 use Rattle.linear_rows.proofs.Members.{of-append}
-use Rattle.termination_model.specs.ComponentViews.{Has, positions_in}
+use Rattle.termination_model.specs.ComponentViews.{HasSupportIn, positions_in}
 use Rattle.termination_model.specs.Minimal.{IsAbove, IsExcluded, IsSet}
 use Rattle.termination_model.specs.Modes.{chosen_up_to, is_part}
 use Rattle.termination_model.proofs.Lists.{map_push}
@@ -34,7 +34,7 @@ module _ (size : (ℕ → ℕ) → Tree → ℕ) (truth : (ℕ → Bool) → Tre
   n = length x.positions.items
 
   abbrev had : List ℕ → Type 0
-  had = Has expression p comps rows c
+  had = HasSupportIn expression p comps rows c
 
   count : length (positions_in p comps c) ≡ n
   count = ap length (sym h.positions) ∙ length-map x.positions.items spelled

@@ -8,10 +8,10 @@ use Rattle.exact128.specs.Sums.{dot, entry}
 use Rattle.linear_rows.specs.Members.{In}
 use Rattle.linear_rows.specs.Plain.{plain_rows}
 use Rattle.linear_rows.specs.declared.row.Rows.{Rows}
-use Rattle.termination_model.specs.Best.{coefficient}
+use Rattle.termination_model.specs.Coefficients.{coefficient}
 use Rattle.termination_model.specs.Claims.{Mapping}
-use Rattle.termination_model.specs.ComponentViews.{component_view, no_truth, positions_in}
-use Rattle.termination_model.specs.Excluding.{IsAt}
+use Rattle.termination_model.specs.ComponentViews.{component_view, positions_in}
+use Rattle.termination_model.specs.Excluding.{IsZeroOutside}
 use Rattle.termination_model.specs.Refutation.{Decreases}
 use Rattle.level_systems.specs.declared.own_call.OwnCall.{OwnCall}
 use Rattle.level_systems.specs.declared.position.Position.{Position}
@@ -55,7 +55,7 @@ AreMarkedOrIn n marks s = (k : ℕ) → k < n → (slice_get marks k ≡ Some tr
 module _ (expression : ℕ → Tree → List ℤ) (p : Listing) (comps : Partition) (rows : ℕ → List (List ℤ)) (c : ℕ) where
   -- no decreasing mapping of the component is 0 at all positions that are marked
   abbrev pub IsVoid : List Position → List Bool → Type 0
-  IsVoid positions marks = (l : Mapping) → IsAt (positions_in p comps c) l → Decreases no_truth expression (component_view expression p comps rows c) l → Vanishes positions marks l → ⊥
+  IsVoid positions marks = (l : Mapping) → IsZeroOutside (positions_in p comps c) l → Decreases expression (component_view expression p comps rows c) l → Vanishes positions marks l → ⊥
 
   -- so it is with the marks that are known, if there are any
   abbrev pub IsKnown : List Position → Option (List Bool) → Type 0

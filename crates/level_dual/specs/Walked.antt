@@ -5,7 +5,7 @@ use Rattle.std.specs.List.{AllByRecursion}
 use Rattle.cti_terms.specs.Listing.{Listing}
 use Rattle.cti_terms.specs.Tree.{Tree}
 use Rattle.call_components.specs.Partition.{Partition}
-use Rattle.termination_model.specs.ComponentViews.{Has, positions_in}
+use Rattle.termination_model.specs.ComponentViews.{HasSupportIn, positions_in}
 use Rattle.linear_rows.specs.Members.{In}
 use Rattle.termination_model.specs.Minimal.{IsAbove}
 use Rattle.termination_model.specs.Modes.{chosen_up_to, is_part}
@@ -19,7 +19,7 @@ use Rattle.level_dual.specs.declared.walked.Walked.{Walked}
 module _ (expression : ℕ → Tree → List ℤ) (p : Listing) (comps : Partition) (rows : ℕ → List (List ℤ)) (c : ℕ) where
   -- after the first i sets of n positions
   pub record IsWalkedTo (n i : ℕ) (w : Walked) : Type 0 where
-    pub walked : IsWalked (Has expression p comps rows c) (take i (chosen_up_to n n)) w.found w.blown
+    pub walked : IsWalked (HasSupportIn expression p comps rows c) (take i (chosen_up_to n n)) w.found w.blown
     pub supports : map (support_of (positions_in p comps c)) w.mappings ≡ w.found
     pub mappings : AllByRecursion (IsDecreasing expression p comps rows c) w.mappings
     pub found_order : IsSubsequence w.found (take i (chosen_up_to n n))
@@ -30,7 +30,7 @@ module _ (expression : ℕ → Tree → List ℤ) (p : Listing) (comps : Partiti
 
   -- after all sets
   pub record IsAllWalked (w : Walked) : Type 0 where
-    pub walked : IsWalked (Has expression p comps rows c) (chosen_up_to (length (positions_in p comps c)) (length (positions_in p comps c))) w.found w.blown
+    pub walked : IsWalked (HasSupportIn expression p comps rows c) (chosen_up_to (length (positions_in p comps c)) (length (positions_in p comps c))) w.found w.blown
     pub supports : map (support_of (positions_in p comps c)) w.mappings ≡ w.found
     pub mappings : AllByRecursion (IsDecreasing expression p comps rows c) w.mappings
     pub found_order : IsSubsequence w.found (chosen_up_to (length (positions_in p comps c)) (length (positions_in p comps c)))

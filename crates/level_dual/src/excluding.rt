@@ -8,7 +8,7 @@ ghost use Rattle.level_systems.specs.Searched.{IsSound};
 ghost use Rattle.level_dual.specs.Components.{ForComponent};
 ghost use Rattle.level_dual.specs.Vanishing.{IsKnown, IsVoid};
 ghost use Rattle.level_systems.specs.declared.position.Position.{Position};
-ghost use Rattle.termination_model.specs.ComponentViews.{Has};
+ghost use Rattle.termination_model.specs.ComponentViews.{HasSupportIn};
 ghost use Rattle.termination_model.specs.Minimal.{IsExcluded};
 
 use crate::places::Places;
@@ -19,7 +19,7 @@ use level_systems::{Answer, Component};
 use sequences::Sequence;
 use std::alloc::{AllocError, Global};
 
-// Marks where each mapping at a set is 0: at the positions outside of it, and where that makes coefficients 0.
+/// Marks where each mapping at a set is 0: at the positions outside of it, and where that makes coefficients 0.
 fn marks_outside(
     alloc: Global,
     p: &Program,
@@ -30,7 +30,7 @@ fn marks_outside(
     requires sound { IsSound p.now component.now }
     ensures { IfOk result (λ marks. ForComponent p.now component.now (λ expression comps rows c.
         IsVoid expression p.now comps rows c component.now.positions.items marks.items
-        → IsExcluded (Has expression p.now comps rows c) set.now)) }
+        → IsExcluded (HasSupportIn expression p.now comps rows c) set.now)) }
 {
     // What every program keeps.
     p.preds();
@@ -43,10 +43,12 @@ fn marks_outside(
     Ok(marks)
 }
 
-// Whether it is known of fewer marks that no mapping is 0 at all of them.
+/// Whether it is known of fewer marks that no mapping is 0 at all of them.
 fn is_known(known: &Option<Sequence<bool>>, marks: &[bool]) -> bool
-    ensures { result ≡ true → (expression : ℕ → Tree → List ℤ) (p : Listing) (comps : Partition) (rows : ℕ → List (List ℤ)) (c : ℕ) (positions : List Position)
-        → IsKnown expression p comps rows c positions known.now → IsVoid expression p comps rows c positions marks.now }
+    ensures { result ≡ true → (expression : ℕ → Tree → List ℤ) (p : Listing) (comps : Partition)
+        (rows : ℕ → List (List ℤ)) (c : ℕ) (positions : List Position)
+        → IsKnown expression p comps rows c positions known.now
+        → IsVoid expression p comps rows c positions marks.now }
 {
     match known {
         Some(few) => is_covered(few.as_slice(), marks),
@@ -54,7 +56,7 @@ fn is_known(known: &Option<Sequence<bool>>, marks: &[bool]) -> bool
     }
 }
 
-// Whether a search at the positions without marks, if these are fewer than `most`, finds that there is no mapping.
+/// Whether a search at the positions without marks, if these are fewer than `most`, finds that there is no mapping.
 fn is_void(
     alloc: Global,
     p: &Program,
@@ -64,7 +66,8 @@ fn is_void(
 ) -> Result<bool, AllocError>
     requires sound { IsSound p.now component.now }
     requires small { length component.now.positions.items < 2 ^ 32 }
-    ensures { IfOk result (λ void. void ≡ true → ForComponent p.now component.now (λ expression comps rows c.
+    ensures { IfOk result (λ void. void ≡ true
+        → ForComponent p.now component.now (λ expression comps rows c.
         IsVoid expression p.now comps rows c component.now.positions.items marks.now)) }
 {
     let rest = unmarked(alloc, component.positions.as_slice().len(), marks)?;
@@ -93,9 +96,10 @@ pub(crate) fn exclude(
     ensures known { ForComponent p.now component.now (λ expression comps rows c.
         IsKnown expression p.now comps rows c component.now.positions.items known.old
         → IsKnown expression p.now comps rows c component.now.positions.items known.new) }
-    ensures excluded { IfOk result (λ yes. yes ≡ true → ForComponent p.now component.now (λ expression comps rows c.
+    ensures excluded { IfOk result (λ yes. yes ≡ true
+        → ForComponent p.now component.now (λ expression comps rows c.
         IsKnown expression p.now comps rows c component.now.positions.items known.old
-        → IsExcluded (Has expression p.now comps rows c) set.now)) }
+        → IsExcluded (HasSupportIn expression p.now comps rows c) set.now)) }
 {
     let marks = marks_outside(alloc, p, component, starts, set)?;
     if is_known(known, marks.as_slice()) {

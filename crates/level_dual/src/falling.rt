@@ -29,12 +29,13 @@ pub(crate) fn find_part(measures: &[Measure], pred: PredId) -> Option<&LevelPart
     None
 }
 
-// The multipliers of a call: those that show that it cannot be reached, or the first of the values.
+/// The multipliers of a call: those that show that it cannot be reached, or the first of the values.
 fn multipliers_at(alloc: Global, own: &OwnCall, values: &[i128]) -> Result<Multipliers, AllocError>
     requires naturals { All (λ x. pos 0 ≤ℤ x) values.now }
     requires room { own.now.empty ≡ None → length own.now.rows.list ≤ length values.now }
     requires empty { IfSome own.now.empty (AreMultipliers (length own.now.rows.list)) }
-    ensures list { IfOk result (λ by. by.list ≡ multipliers_of own.now.empty (length own.now.rows.list) values.now) }
+    ensures list { IfOk result
+        (λ by. by.list ≡ multipliers_of own.now.empty (length own.now.rows.list) values.now) }
     ensures scale { IfOk result (λ by. by.scale ≡ scale_of own.now.empty) }
     ensures multipliers { IfOk result (AreMultipliers (length own.now.rows.list)) }
 {
@@ -53,7 +54,7 @@ fn multipliers_at(alloc: Global, own: &OwnCall, values: &[i128]) -> Result<Multi
     }
 }
 
-// The values that are left for later calls.
+/// The values that are left for later calls.
 fn values_after<'a>(own: &OwnCall, values: &'a [i128]) -> &'a [i128]
     requires { own.now.empty ≡ None → length own.now.rows.list ≤ length values.now }
     ensures { result.now ≡ values_after own.now.empty (length own.now.rows.list) values.now }
@@ -64,7 +65,7 @@ fn values_after<'a>(own: &OwnCall, values: &'a [i128]) -> &'a [i128]
     }
 }
 
-// The fall at a call, where these multipliers show it.
+/// The fall at a call, where these multipliers show it.
 fn fall_at(
     alloc: Global,
     own: &OwnCall,
@@ -75,7 +76,8 @@ fn fall_at(
     requires by { AreMultipliers (length own.now.rows.list) by }
     requires widths { HaveWidth own.now.rows.width own.now.rows.list }
     requires columns { length own.now.columns.items ≡ own.now.rows.width + 1 }
-    requires long { All (λ col. length col ≡ suc (length own.now.caller_sizes.list) + suc (length own.now.callee_sizes.list)) own.now.columns.items }
+    requires long { All (λ col. length col ≡ suc (length own.now.caller_sizes.list) + suc
+        (length own.now.callee_sizes.list)) own.now.columns.items }
     ensures { IfOk result (IsFallIf measures.now own.now by) }
 {
     let Some(head) = find_part(measures, own.caller) else {

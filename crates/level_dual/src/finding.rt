@@ -6,11 +6,12 @@ ghost use Rattle.call_components.specs.Numbers.{number_of};
 ghost use Rattle.call_components.specs.Partition.{AreComponents, Partition};
 ghost use Rattle.cti_terms.specs.Tree.{Tree};
 ghost use Rattle.level_dual.specs.Cases.{undecided};
-ghost use Rattle.level_systems.specs.Found.{IsFound, count, had};
+ghost use Rattle.level_systems.specs.Found.{IsFound, count};
 ghost use Rattle.level_systems.specs.Held.{IsHeld};
 ghost use Rattle.level_systems.specs.Searched.{IsComponent, IsSound};
 ghost use Rattle.linear_rows.specs.Step.{columns};
 ghost use Rattle.termination_model.specs.Sizes.{AreSizes, rows_of};
+ghost use Rattle.termination_model.specs.ComponentViews.{HasSupportIn};
 
 use crate::large::find_large;
 use crate::refuting::refutation;
@@ -69,9 +70,10 @@ pub fn one_set(alloc: Global, set: Sequence<u32>) -> Result<Sequence<Sequence<u3
     Ok(sets)
 }
 
-// What is found where nothing can be decided: the empty set and that of all positions stand for all.
+/// What is found where nothing can be decided: the empty set and that of all positions stand for all.
 fn nothing_decided(alloc: Global, full: Sequence<u32>, large: bool) -> Result<Found, AllocError>
-    ensures { IfOk result (λ f. f ≡ record { mappings = []; refutation = None; blown = undecided full; large = large }) }
+    ensures { IfOk result (λ f. f
+        ≡ record { mappings = []; refutation = None; blown = undecided full; large = large }) }
 {
     let mut blown = one_set(alloc, Sequence::new(alloc))?;
     if !full.is_empty() {
@@ -85,9 +87,10 @@ fn nothing_decided(alloc: Global, full: Sequence<u32>, large: bool) -> Result<Fo
     })
 }
 
-// What is found where the set of all positions was given up, of more positions than are looked at in all supports.
+/// What is found where the set of all positions was given up, of more positions than are looked at in all supports.
 fn all_given_up(alloc: Global, full: Sequence<u32>, large: bool) -> Result<Found, AllocError>
-    ensures { IfOk result (λ f. f ≡ record { mappings = []; refutation = None; blown = full ∷ []; large = large }) }
+    ensures { IfOk result (λ f. f
+        ≡ record { mappings = []; refutation = None; blown = full ∷ []; large = large }) }
 {
     Ok(Found {
         mappings: Sequence::new(alloc),
@@ -97,7 +100,7 @@ fn all_given_up(alloc: Global, full: Sequence<u32>, large: bool) -> Result<Found
     })
 }
 
-// What is found where no mapping decreases.
+/// What is found where no mapping decreases.
 fn none_decreases<N: Norm>(
     alloc: Global,
     p: &Program,
@@ -109,11 +112,16 @@ fn none_decreases<N: Norm>(
 ) -> Result<Found, AllocError>
     requires sound { IsSound p.now component.now }
     requires sizes { AreSizes p.now.preds sizes.now.rows }
-    requires held { AllByRecursion (IsHeld (N.expression norm.now) p.now (rows_of sizes.now.rows)) component.now.calls.items }
+    requires held { AllByRecursion
+        (IsHeld (N.expression norm.now) p.now (rows_of sizes.now.rows)) component.now.calls.items }
     requires full { full ≡ columns 1 (length component.now.positions.items) }
-    ensures { IfOk result (λ f. (comps : Partition) (c : ℕ) → IsComponent (N.size norm.now) (N.truth norm.now) (N.expression norm.now) p.now comps (rows_of sizes.now.rows) c component.now
+    ensures { IfOk result (λ f. (comps : Partition) (c : ℕ)
+        → IsComponent (N.size norm.now) (N.truth norm.now) (N.expression norm.now) p.now comps
+        (rows_of sizes.now.rows) c component.now
         → IsTrue large ↔ (12 < count (N.expression norm.now) p.now comps (rows_of sizes.now.rows) c)
-        → ((s : List ℕ) → had (N.expression norm.now) p.now comps (rows_of sizes.now.rows) c s → ⊥) → IsFound (N.expression norm.now) p.now comps (rows_of sizes.now.rows) c f) }
+        → ((s : List ℕ) → HasSupportIn (N.expression norm.now) p.now comps
+        (rows_of sizes.now.rows) c s → ⊥)
+        → IsFound (N.expression norm.now) p.now comps (rows_of sizes.now.rows) c f) }
 {
     match refutation(alloc, p, norm, sizes, component)? {
         Some(refutation) => Ok(Found {
@@ -126,7 +134,7 @@ fn none_decreases<N: Norm>(
     }
 }
 
-// What is found in a component none of whose calls is given up.
+/// What is found in a component none of whose calls is given up.
 fn find<N: Norm>(
     alloc: Global,
     p: &Program,
@@ -138,11 +146,15 @@ fn find<N: Norm>(
 ) -> Result<Found, AllocError>
     requires sound { IsSound p.now component.now }
     requires sizes { AreSizes p.now.preds sizes.now.rows }
-    requires held { AllByRecursion (IsHeld (N.expression norm.now) p.now (rows_of sizes.now.rows)) component.now.calls.items }
+    requires held { AllByRecursion
+        (IsHeld (N.expression norm.now) p.now (rows_of sizes.now.rows)) component.now.calls.items }
     requires full { full ≡ columns 1 (length component.now.positions.items) }
     requires few { length component.now.positions.items + 1 < 2 ^ 32 }
-    ensures { IfOk result (λ f. (comps : Partition) (c : ℕ) → IsComponent (N.size norm.now) (N.truth norm.now) (N.expression norm.now) p.now comps (rows_of sizes.now.rows) c component.now
-        → IsTrue large ↔ (12 < count (N.expression norm.now) p.now comps (rows_of sizes.now.rows) c) → IsFound (N.expression norm.now) p.now comps (rows_of sizes.now.rows) c f) }
+    ensures { IfOk result (λ f. (comps : Partition) (c : ℕ)
+        → IsComponent (N.size norm.now) (N.truth norm.now) (N.expression norm.now) p.now comps
+        (rows_of sizes.now.rows) c component.now
+        → IsTrue large ↔ (12 < count (N.expression norm.now) p.now comps (rows_of sizes.now.rows) c)
+        → IsFound (N.expression norm.now) p.now comps (rows_of sizes.now.rows) c f) }
 {
     match search(alloc, p, component, full.as_slice())? {
         Answer::Refuted => none_decreases(alloc, p, norm, sizes, component, full, large),
@@ -183,7 +195,8 @@ pub fn mappings<N: Norm>(
     requires inner { c < length comps.now.members }
     requires recursive { slice_get comps.now.recursive c ≡ Some true }
     requires sizes { AreSizes p.now.preds sizes.now.rows }
-    ensures { IfOk result (IsFound (N.expression norm.now) p.now comps.now (rows_of sizes.now.rows) c) }
+    ensures { IfOk result (IsFound (N.expression norm.now) p.now comps.now
+        (rows_of sizes.now.rows) c) }
 {
     let positions = component_positions(alloc, p, comps, c)?;
     let large = is_large(positions.as_slice());

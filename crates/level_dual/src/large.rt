@@ -1,7 +1,7 @@
 //! Components of many positions: one mapping, none of whose positions can be left out.
 
 ghost use Rattle.std.specs.Prelude.{◌≡◌, ◌↔◌, ◌<◌, ◌^◌, IfOk, IsTrue, length, map, true};
-ghost use Rattle.level_systems.specs.Found.{IsFound, count, without};
+ghost use Rattle.level_systems.specs.Found.{IsFound, count, without_number};
 ghost use Rattle.level_systems.specs.Held.{spelled};
 ghost use Rattle.level_dual.specs.Components.{ForComponent};
 ghost use Rattle.level_dual.specs.Large.{IsHadMapping, IsLeftOut, IsShorterThan, has_coefficient};
@@ -29,14 +29,15 @@ pub fn has_coefficient(measures: &[Measure], position: Position) -> bool
     part.coeffs.entry(position.argument as usize).unsigned_abs() > 0
 }
 
-// The numbers of the positions at which a mapping has a positive coefficient.
+/// The numbers of the positions at which a mapping has a positive coefficient.
 fn support_of(
     alloc: Global,
     positions: &[Position],
     mapping: &Mapping,
 ) -> Result<Vec<u32>, AllocError>
     requires { length positions.now < 2 ^ 32 }
-    ensures { IfOk result (λ support. support.items ≡ support_of (map spelled positions.now) mapping.now) }
+    ensures { IfOk result (λ support. support.items
+        ≡ support_of (map spelled positions.now) mapping.now) }
 {
     let mut support = Vec::new(alloc);
     for i in 0..positions.len() {
@@ -48,8 +49,8 @@ fn support_of(
 }
 
 /// The set without a number.
-pub fn without(alloc: Global, set: &[u32], number: u32) -> Result<Sequence<u32>, AllocError>
-    ensures { IfOk result (λ rest. rest ≡ without number set.now) }
+pub fn without_number(alloc: Global, set: &[u32], number: u32) -> Result<Sequence<u32>, AllocError>
+    ensures { IfOk result (λ rest. rest ≡ without_number number set.now) }
 {
     let mut rest = Vec::new(alloc);
     for other in set {
@@ -69,7 +70,7 @@ pub(crate) enum LeftOut {
     None(Sequence<Sequence<u32>>),
 }
 
-// Searches at a set, unless it is seen from what was found before that no mapping decreases there.
+/// Searches at a set, unless it is seen from what was found before that no mapping decreases there.
 fn search_unless_excluded(
     alloc: Global,
     p: &Program,
@@ -83,7 +84,8 @@ fn search_unless_excluded(
     ensures known { ForComponent p.now component.now (λ expression comps rows c.
         IsKnown expression p.now comps rows c component.now.positions.items known.old
         → IsKnown expression p.now comps rows c component.now.positions.items known.new) }
-    ensures answer { IfOk result (λ answer. ForComponent p.now component.now (λ expression comps rows c.
+    ensures answer { IfOk result
+        (λ answer. ForComponent p.now component.now (λ expression comps rows c.
         IsKnown expression p.now comps rows c component.now.positions.items known.old
         → IsAnswer expression p.now comps rows c set.now answer)) }
 {
@@ -94,7 +96,7 @@ fn search_unless_excluded(
     Ok(answer)
 }
 
-// Searches at the support of a mapping without one position after another, up to a mapping of smaller support.
+/// Searches at the support of a mapping without one position after another, up to a mapping of smaller support.
 fn leave_out(
     alloc: Global,
     p: &Program,
@@ -103,15 +105,17 @@ fn leave_out(
 ) -> Result<LeftOut, AllocError>
     requires sound { IsSound p.now component.now }
     requires small { length component.now.positions.items < 2 ^ 32 }
-    ensures shorter { IfOk result (IsShorterThan (map spelled component.now.positions.items) (length support.now)) }
-    ensures left_out { IfOk result (λ out. ForComponent p.now component.now (λ expression comps rows c.
+    ensures shorter { IfOk result
+        (IsShorterThan (map spelled component.now.positions.items) (length support.now)) }
+    ensures left_out { IfOk result
+        (λ out. ForComponent p.now component.now (λ expression comps rows c.
         AreOnce support.now → IsLeftOut expression p.now comps rows c support.now out)) }
 {
     let starts = starts_of(alloc, component.positions.as_slice())?;
     let mut blown = Sequence::new(alloc);
     let mut known = None;
     for number in support {
-        let set = without(alloc, support, *number)?;
+        let set = without_number(alloc, support, *number)?;
         match search_unless_excluded(
             alloc,
             p,
@@ -145,7 +149,8 @@ pub fn find_large(
     requires sound { IsSound p.now component.now }
     requires small { length component.now.positions.items < 2 ^ 32 }
     ensures { IfOk result (λ f. ForComponent p.now component.now (λ expression comps rows c.
-        IsTrue true ↔ (12 < count expression p.now comps rows c) → IsHadMapping expression p.now comps rows c mapping
+        IsTrue true ↔ (12 < count expression p.now comps rows c)
+        → IsHadMapping expression p.now comps rows c mapping
         → IsFound expression p.now comps rows c f)) }
 {
     let mut mapping = mapping;

@@ -21,7 +21,7 @@ mod walked;
 mod walking;
 
 pub use finding::{all_numbers, count_of, is_large, mappings, one_set};
-pub use large::{find_large, has_coefficient, without};
+pub use large::{find_large, has_coefficient, without_number};
 pub use level_systems::{Fall, Found, Mapping, Measure};
 pub use number_tests::{LevelPart, PairPoint, Refutation};
 pub use refuting::are_formed;

@@ -14,13 +14,13 @@ ghost use Rattle.linear_rows.specs.Members.{In};
 ghost use Rattle.linear_rows.specs.Plain.{HaveWidth};
 ghost use Rattle.linear_rows.specs.Step.{columns};
 ghost use Rattle.level_systems.specs.declared.own_call.OwnCall.{OwnCall};
-ghost use Rattle.number_tests.specs.Shape.{IsBefore, pair_of};
+ghost use Rattle.number_tests.specs.Shape.{IsBefore, place_of_pair};
 ghost use Rattle.termination_model.specs.BlownSupports.{IsBlownAt};
 ghost use Rattle.termination_model.specs.OwnCalls.{OwnCall as Recalled};
 ghost use Rattle.termination_model.specs.Ready.{arity_in};
 ghost use Rattle.termination_model.specs.Sizes.{AreSizes, rows_of};
 ghost use Rattle.termination_model.specs.Supports.{picked_from};
-ghost use Rattle.termination_model.specs.ComponentViews.{Has, component_view, members_in, no_truth, positions_in};
+ghost use Rattle.termination_model.specs.ComponentViews.{HasSupportIn, component_view, members_in, positions_in};
 
 use cti_terms::Program;
 use fourier::{ElimFault, Solved};
@@ -32,7 +32,7 @@ use std::alloc::{AllocError, Global};
 use term_size::Norm;
 use termination_model::Sizes;
 
-// Whether all numbers are 0.
+/// Whether all numbers are 0.
 fn are_zero(numbers: &[i128]) -> bool
     ensures { result ≡ true → IsNought numbers.now }
 {
@@ -51,7 +51,7 @@ pub(crate) fn is_nought(x: i128) -> bool
     x == 0
 }
 
-// The point of a call that multipliers spell: its t first. Where that is 0, a second point is given.
+/// The point of a call that multipliers spell: its t first. Where that is 0, a second point is given.
 fn pair_point(
     alloc: Global,
     own: &OwnCall,
@@ -81,7 +81,7 @@ fn pair_point(
     }))
 }
 
-// Adds the point of a call, unless all its numbers are 0, and says whether that was possible.
+/// Adds the point of a call, unless all its numbers are 0, and says whether that was possible.
 fn add_point(
     alloc: Global,
     own: &OwnCall,
@@ -91,8 +91,11 @@ fn add_point(
 ) -> Result<bool, AllocError>
     requires widths { HaveWidth own.now.rows.width own.now.rows.list }
     requires numbers { length numbers.now ≡ own.now.rows.width + 1 }
-    ensures mine { IfOk result (λ done. (owns : List OwnCall) → In own.now owns → AllByRecursion (IsOfCalls owns) points.old → AllByRecursion (IsOfCalls owns) points.new) }
-    ensures exact { by_pivots ≡ false → IfOk result (IsAdded own.now numbers.now points.old points.new) }
+    ensures mine { IfOk result (λ done. (owns : List OwnCall) → In own.now owns
+        → AllByRecursion (IsOfCalls owns) points.old
+        → AllByRecursion (IsOfCalls owns) points.new) }
+    ensures exact { by_pivots ≡ false
+        → IfOk result (IsAdded own.now numbers.now points.old points.new) }
 {
     if are_zero(numbers) {
         return Ok(true);
@@ -104,7 +107,7 @@ fn add_point(
     Ok(true)
 }
 
-// The points of calls that multipliers of a system's rows spell, in their order.
+/// The points of calls that multipliers of a system's rows spell, in their order.
 fn points_of(
     alloc: Global,
     calls: &[OwnCall],
@@ -133,7 +136,7 @@ fn points_of(
     Ok(Some(points))
 }
 
-// The points of the multipliers that refute the system of all positions, if they do.
+/// The points of the multipliers that refute the system of all positions, if they do.
 fn refuting_points(
     alloc: Global,
     p: &Program,
@@ -141,9 +144,13 @@ fn refuting_points(
     by_pivots: bool,
 ) -> Result<Option<Sequence<PairPoint>>, AllocError>
     requires { IsSound p.now component.now }
-    ensures mine { IfOk result (λ o. IfSome o (AllByRecursion (IsOfCalls component.now.calls.items))) }
-    ensures exact { by_pivots ≡ false → IfOk result (λ o. (expression : ℕ → Tree → List ℤ) (re : OwnCall → Recalled) → AllByRecursion (λ own. Recalls expression (re own) own) component.now.calls.items
-        → RefuteIf (live_of component.now.calls.items) (solution_of expression component.now (map re (live_of component.now.calls.items))) o) }
+    ensures mine { IfOk result
+        (λ o. IfSome o (AllByRecursion (IsOfCalls component.now.calls.items))) }
+    ensures exact { by_pivots ≡ false
+        → IfOk result (λ o. (expression : ℕ → Tree → List ℤ) (re : OwnCall → Recalled)
+        → AllByRecursion (λ own. Recalls expression (re own) own) component.now.calls.items
+        → RefuteIf (live_of component.now.calls.items)
+        (solution_of expression component.now (map re (live_of component.now.calls.items))) o) }
 {
     let calls = component.calls.as_slice();
     let system = support_system(
@@ -160,7 +167,7 @@ fn refuting_points(
     }
 }
 
-// Whether all numbers are at least 0.
+/// Whether all numbers are at least 0.
 fn are_natural(numbers: &[i128]) -> bool
     ensures { IsTrue result ↔ All (λ x. pos 0 ≤ℤ x) numbers.now }
 {
@@ -172,7 +179,7 @@ fn are_natural(numbers: &[i128]) -> bool
     true
 }
 
-// Whether all numbers of a point are at least 0.
+/// Whether all numbers of a point are at least 0.
 fn is_natural(point: &Point) -> bool
     ensures { IsTrue result ↔ IsNaturalPoint point.now }
 {
@@ -182,7 +189,7 @@ fn is_natural(point: &Point) -> bool
     are_natural(point.w.as_slice())
 }
 
-// Whether a pair's points are natural, and there is a second one exactly where the first stands for a direction.
+/// Whether a pair's points are natural, and there is a second one exactly where the first stands for a direction.
 fn has_points(x: &PairPoint) -> bool
     ensures { IsTrue result ↔ HasPoints x.now }
 {
@@ -201,9 +208,9 @@ fn has_points(x: &PairPoint) -> bool
     !is_nought(second.t)
 }
 
-// Whether a pair is after the one of a clause and a call.
+/// Whether a pair is after the one of a clause and a call.
 fn is_after(clause: u32, call: u32, x: &PairPoint) -> bool
-    ensures { IsTrue result ↔ IsBefore (clause, call) (pair_of x.now) }
+    ensures { IsTrue result ↔ IsBefore (clause, call) (place_of_pair x.now) }
 {
     if clause < x.clause {
         return true;
@@ -216,7 +223,8 @@ fn is_after(clause: u32, call: u32, x: &PairPoint) -> bool
 
 /// Whether pairs ascend, each with the points that it needs.
 pub fn are_formed(points: &[PairPoint]) -> bool
-    ensures { IsTrue result ↔ (PairsAscend (0, 0) points.now × AllByRecursion HasPoints points.now) }
+    ensures { IsTrue result ↔ (PairsAscend (0, 0) points.now
+        × AllByRecursion HasPoints points.now) }
 {
     let mut clause = 0;
     let mut call = 0;
@@ -233,7 +241,7 @@ pub fn are_formed(points: &[PairPoint]) -> bool
     true
 }
 
-// The refutation of a component by one way of solving.
+/// The refutation of a component by one way of solving.
 fn refutation_by<N: Norm>(
     alloc: Global,
     p: &Program,
@@ -244,12 +252,20 @@ fn refutation_by<N: Norm>(
 ) -> Result<Option<Refutation>, AllocError>
     requires sound { IsSound p.now component.now }
     requires sizes { AreSizes p.now.preds sizes.now.rows }
-    requires held { AllByRecursion (IsHeld (N.expression norm.now) p.now (rows_of sizes.now.rows)) component.now.calls.items }
-    ensures refutes { IfOk result (λ o. (comps : Partition) (c : ℕ) → map number_of component.now.members.items ≡ members_in comps c
-        → AllByRecursion (λ (own : OwnCall). IsIn comps c own.caller.0) component.now.calls.items → AllByRecursion (λ (own : OwnCall). IsIn comps c own.callee.0) component.now.calls.items
-        → IfSome o (IsRefutationOf (N.expression norm.now) p.now comps (rows_of sizes.now.rows) c)) }
-    ensures given_up { by_pivots ≡ false → IfOk result (λ o. o ≡ None → (comps : Partition) (c : ℕ) → IsComponent (N.size norm.now) (N.truth norm.now) (N.expression norm.now) p.now comps (rows_of sizes.now.rows) c component.now
-        → IsInFit (N.expression norm.now) p.now comps (rows_of sizes.now.rows) c component.now → ⊥) }
+    requires held { AllByRecursion
+        (IsHeld (N.expression norm.now) p.now (rows_of sizes.now.rows)) component.now.calls.items }
+    ensures refutes { IfOk result (λ o. (comps : Partition) (c : ℕ)
+        → map number_of component.now.members.items ≡ members_in comps c
+        → AllByRecursion (λ (own : OwnCall). IsIn comps c own.caller.0) component.now.calls.items
+        → AllByRecursion (λ (own : OwnCall). IsIn comps c own.callee.0) component.now.calls.items
+        → IfSome o (IsRefutationOf (N.expression norm.now) p.now comps
+        (rows_of sizes.now.rows) c)) }
+    ensures given_up { by_pivots ≡ false
+        → IfOk result (λ o. o ≡ None → (comps : Partition) (c : ℕ)
+        → IsComponent (N.size norm.now) (N.truth norm.now) (N.expression norm.now) p.now comps
+        (rows_of sizes.now.rows) c component.now
+        → IsInFit (N.expression norm.now) p.now comps (rows_of sizes.now.rows) c component.now
+        → ⊥) }
 {
     let Some(points) = refuting_points(alloc, p, component, by_pivots)? else {
         return Ok(None);
@@ -279,14 +295,24 @@ pub(crate) fn refutation<N: Norm>(
 ) -> Result<Option<Refutation>, AllocError>
     requires sound { IsSound p.now component.now }
     requires sizes { AreSizes p.now.preds sizes.now.rows }
-    requires held { AllByRecursion (IsHeld (N.expression norm.now) p.now (rows_of sizes.now.rows)) component.now.calls.items }
-    ensures refutes { IfOk result (λ o. (comps : Partition) (c : ℕ) → map number_of component.now.members.items ≡ members_in comps c
-        → AllByRecursion (λ (own : OwnCall). IsIn comps c own.caller.0) component.now.calls.items → AllByRecursion (λ (own : OwnCall). IsIn comps c own.callee.0) component.now.calls.items
-        → IfSome o (IsRefutationOf (N.expression norm.now) p.now comps (rows_of sizes.now.rows) c)) }
-    ensures given_up { IfOk result (λ o. o ≡ None → (comps : Partition) (c : ℕ) → IsComponent (N.size norm.now) (N.truth norm.now) (N.expression norm.now) p.now comps (rows_of sizes.now.rows) c component.now
-        → ((s : List ℕ) → Has (N.expression norm.now) p.now comps (rows_of sizes.now.rows) c s → ⊥)
-        → IsBlownAt no_truth (N.expression norm.now) (component_view (N.expression norm.now) p.now comps (rows_of sizes.now.rows) c) (arity_in p.now)
-        (picked_from 1 (positions_in p.now comps c) (columns 1 (length component.now.positions.items)))) }
+    requires held { AllByRecursion
+        (IsHeld (N.expression norm.now) p.now (rows_of sizes.now.rows)) component.now.calls.items }
+    ensures refutes { IfOk result (λ o. (comps : Partition) (c : ℕ)
+        → map number_of component.now.members.items ≡ members_in comps c
+        → AllByRecursion (λ (own : OwnCall). IsIn comps c own.caller.0) component.now.calls.items
+        → AllByRecursion (λ (own : OwnCall). IsIn comps c own.callee.0) component.now.calls.items
+        → IfSome o (IsRefutationOf (N.expression norm.now) p.now comps
+        (rows_of sizes.now.rows) c)) }
+    ensures given_up { IfOk result (λ o. o ≡ None → (comps : Partition) (c : ℕ)
+        → IsComponent (N.size norm.now) (N.truth norm.now) (N.expression norm.now) p.now comps
+        (rows_of sizes.now.rows) c component.now
+        → ((s : List ℕ) → HasSupportIn (N.expression norm.now) p.now comps
+        (rows_of sizes.now.rows) c s → ⊥)
+        → IsBlownAt (N.expression norm.now)
+        (component_view (N.expression norm.now) p.now comps (rows_of sizes.now.rows) c)
+        (arity_in p.now)
+        (picked_from 1 (positions_in p.now comps c)
+        (columns 1 (length component.now.positions.items)))) }
 {
     if let Some(refutation) = refutation_by(alloc, p, norm, sizes, component, true)? {
         return Ok(Some(refutation));

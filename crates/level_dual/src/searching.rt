@@ -5,7 +5,7 @@ ghost use Rattle.std.specs.List.{list_any};
 ghost use Rattle.call_components.specs.Numbers.{number_of};
 ghost use Rattle.level_dual.specs.Components.{ForComponent};
 ghost use Rattle.level_systems.specs.Found.{IsBlownSet};
-ghost use Rattle.level_systems.specs.Held.{live_of, pair_of, recalled_at, spelled};
+ghost use Rattle.level_systems.specs.Held.{live_of, numbers_of_call, recalled_at, spelled};
 ghost use Rattle.level_systems.specs.Recalled.{count_of};
 ghost use Rattle.level_systems.specs.Searched.{AreMeasuresAt, IsAnswer, IsMappingIf, IsSound};
 ghost use Rattle.level_systems.specs.declared.own_call.OwnCall.{OwnCall};
@@ -25,7 +25,7 @@ use linear_rows::{Numbers, Rows};
 use sequences::Sequence;
 use std::alloc::{AllocError, Global};
 
-// The parts of the members in the mapping that values give.
+/// The parts of the members in the mapping that values give.
 fn measures_at(
     alloc: Global,
     p: &Program,
@@ -57,7 +57,7 @@ fn measures_at(
     Ok(measures)
 }
 
-// The mapping that a point of a support's system gives, where its falls are shown in numbers that fit.
+/// The mapping that a point of a support's system gives, where its falls are shown in numbers that fit.
 fn mapping_at(
     alloc: Global,
     p: &Program,
@@ -68,7 +68,8 @@ fn mapping_at(
     requires sound { IsSound p.now component.now }
     requires distinct { AreDistinct (map spelled at.now) }
     requires naturals { All (λ x. pos 0 ≤ℤ x) values.now }
-    requires long { length values.now ≡ length at.now + (length component.now.by_clauses.items + count_of component.now.calls.items) }
+    requires long { length values.now
+        ≡ length at.now + (length component.now.by_clauses.items + count_of component.now.calls.items) }
     ensures { IfOk result (IsMappingIf p.now component.now at.now values.now) }
 {
     let measures = measures_at(alloc, p, component, at, values)?;
@@ -85,19 +86,22 @@ fn mapping_at(
     }
 }
 
-// The positions of a set, in the order of the clauses.
+/// The positions of a set, in the order of the clauses.
 fn positions_at(
     alloc: Global,
     component: &Component,
     set: &[u32],
 ) -> Result<Vec<Position>, AllocError>
-    ensures { IfOk result (λ at. map spelled at.items ≡ filter (λ r. list_any (same_position r) (picked_from 1 (map spelled component.now.positions.items) set.now)) (map spelled component.now.order.items)) }
+    ensures { IfOk result (λ at. map spelled at.items ≡ filter
+        (λ r. list_any (same_position r)
+        (picked_from 1 (map spelled component.now.positions.items) set.now))
+        (map spelled component.now.order.items)) }
 {
     let at = picked(alloc, component.positions.as_slice(), set)?;
     in_order(alloc, component.order.as_slice(), at.as_slice())
 }
 
-// The system of a component at these positions.
+/// The system of a component at these positions.
 fn system_at(
     alloc: Global,
     p: &Program,
@@ -105,10 +109,16 @@ fn system_at(
     at: &[Position],
 ) -> Result<Rows, AllocError>
     requires sound { IsSound p.now component.now }
-    ensures width { IfOk result (λ system. system.width ≡ length at.now + (length component.now.by_clauses.items + count_of component.now.calls.items)) }
+    ensures width { IfOk result
+        (λ system. system.width ≡ length at.now +
+        (length component.now.by_clauses.items + count_of component.now.calls.items)) }
     ensures widths { IfOk result (λ system. HaveWidth system.width system.list) }
-    ensures rows { IfOk result (λ system. ForComponent p.now component.now (λ expression comps rows c.
-        plain_rows system.list ≡ support_rows expression (map spelled at.now) (map number_of component.now.by_clauses.items) (map (λ (own : OwnCall). recalled_at expression p.now rows comps c (pair_of own)) (live_of component.now.calls.items)))) }
+    ensures rows { IfOk result
+        (λ system. ForComponent p.now component.now (λ expression comps rows c.
+        plain_rows system.list ≡ support_rows expression (map spelled at.now)
+        (map number_of component.now.by_clauses.items)
+        (map (λ (own : OwnCall). recalled_at expression p.now rows comps c
+        (numbers_of_call own)) (live_of component.now.calls.items)))) }
 {
     // What every program keeps.
     p.preds();
@@ -120,8 +130,8 @@ fn system_at(
     )
 }
 
-// Searches for a mapping at a set of positions by one way of solving. Nothing is found where the mapping that a point
-// gives has falls that are not shown in numbers that fit.
+/// Searches for a mapping at a set of positions by one way of solving. Nothing is found where the mapping that a point
+/// gives has falls that are not shown in numbers that fit.
 fn search_by(
     alloc: Global,
     p: &Program,
@@ -130,9 +140,11 @@ fn search_by(
     by_pivots: bool,
 ) -> Result<Option<Answer>, AllocError>
     requires sound { IsSound p.now component.now }
-    ensures some { IfOk result (λ o. IfSome o (λ answer. ForComponent p.now component.now (λ expression comps rows c.
+    ensures some { IfOk result
+        (λ o. IfSome o (λ answer. ForComponent p.now component.now (λ expression comps rows c.
         IsAnswer expression p.now comps rows c set.now answer))) }
-    ensures none { IfOk result (λ o. o ≡ None → by_pivots ≡ false → ForComponent p.now component.now (λ expression comps rows c.
+    ensures none { IfOk result (λ o. o ≡ None → by_pivots ≡ false
+        → ForComponent p.now component.now (λ expression comps rows c.
         IsBlownSet expression p.now comps rows c set.now)) }
 {
     let at = positions_at(alloc, component, set)?;

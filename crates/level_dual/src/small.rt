@@ -2,12 +2,13 @@
 
 ghost use Rattle.std.specs.Prelude.{◌≡◌, ◌↔◌, ◌<◌, ◌^◌, ◌+◌, ℕ, List, IfOk, IsTrue, false, length, true};
 ghost use Rattle.std.specs.List.{list_any};
-ghost use Rattle.level_systems.specs.Found.{IsBlownSet, IsFound, count, had};
+ghost use Rattle.level_systems.specs.Found.{IsBlownSet, IsFound, count};
 ghost use Rattle.level_systems.specs.Searched.{IsSound};
 ghost use Rattle.level_dual.specs.Components.{ForComponent};
 ghost use Rattle.level_dual.specs.Walked.{IsCompleted};
 ghost use Rattle.linear_rows.specs.Step.{columns};
 ghost use Rattle.termination_model.specs.Modes.{is_part};
+ghost use Rattle.termination_model.specs.ComponentViews.{HasSupportIn};
 
 use crate::walked::Walked;
 use crate::walking::{is_part, walk};
@@ -66,8 +67,10 @@ pub(crate) fn find_small(
     requires full { full ≡ columns 1 (length component.now.positions.items) }
     requires small { length component.now.positions.items + 1 < 2 ^ 32 }
     ensures { IfOk result (λ f. ForComponent p.now component.now (λ expression comps rows c.
-        IsTrue false ↔ (12 < count expression p.now comps rows c) → (given_up ≡ true → IsBlownSet expression p.now comps rows c full)
-        → (given_up ≡ false → ((s : List ℕ) → had expression p.now comps rows c s → ⊥) → ⊥) → IsFound expression p.now comps rows c f)) }
+        IsTrue false ↔ (12 < count expression p.now comps rows c)
+        → (given_up ≡ true → IsBlownSet expression p.now comps rows c full)
+        → (given_up ≡ false → ((s : List ℕ) → HasSupportIn expression p.now comps rows c s → ⊥) → ⊥)
+        → IsFound expression p.now comps rows c f)) }
 {
     let walked = walk(alloc, p, component, component.positions.len() as u32)?;
     let none = walked.mappings.is_empty();

@@ -9,7 +9,7 @@ ghost use Rattle.std.specs.List.{AllByRecursion};
 ghost use Rattle.exact128.specs.Sums.{entry};
 ghost use Rattle.level_systems.specs.Recalled.{HasNumbers};
 ghost use Rattle.level_dual.specs.Vanishing.{AreMarkedOrIn, AreUnlisted, IsMarkedAt, IsSilent, KeepsColumns, Vanishes, sizes_at};
-ghost use Rattle.termination_model.specs.Best.{coefficient};
+ghost use Rattle.termination_model.specs.Coefficients.{coefficient};
 ghost use Rattle.termination_model.specs.Claims.{Mapping};
 
 use crate::places::Places;
@@ -19,14 +19,14 @@ use level_systems::OwnCall;
 use linear_rows::Rows;
 use std::alloc::{AllocError, Global};
 
-// Whether a place is marked.
+/// Whether a place is marked.
 fn has_mark(marks: &[bool], place: usize) -> bool
     ensures { result ≡ true → slice_get marks.now place ≡ Some true }
 {
     place < marks.len() && marks[place]
 }
 
-// Marks a place, if there is one.
+/// Marks a place, if there is one.
 fn put_mark(marks: &mut Vec<bool>, place: usize)
     ensures { IsMarkedAt marks.old.items place marks.new.items }
 {
@@ -35,9 +35,10 @@ fn put_mark(marks: &mut Vec<bool>, place: usize)
     }
 }
 
-// Whether an argument's position is marked.
+/// Whether an argument's position is marked.
 fn is_marked(places: &Places, marks: &[bool], pred: PredId, argument: usize) -> bool
-    ensures { result ≡ true → (l : Mapping) → Vanishes places.now.positions.now marks.now l → coefficient (l.coefficients pred.0) argument ≡ 0 }
+    ensures { result ≡ true → (l : Mapping) → Vanishes places.now.positions.now marks.now l
+        → coefficient (l.coefficients pred.0) argument ≡ 0 }
 {
     let Some(place) = places.of(pred, argument) else {
         return false;
@@ -45,9 +46,11 @@ fn is_marked(places: &Places, marks: &[bool], pred: PredId, argument: usize) -> 
     has_mark(marks, place)
 }
 
-// Marks an argument's position, if it is found.
+/// Marks an argument's position, if it is found.
 fn mark(places: &Places, marks: &mut Vec<bool>, pred: PredId, argument: usize)
-    ensures { (l : Mapping) → coefficient (l.coefficients pred.0) argument ≡ 0 → Vanishes places.now.positions.now marks.old.items l → Vanishes places.now.positions.now marks.new.items l }
+    ensures { (l : Mapping) → coefficient (l.coefficients pred.0) argument ≡ 0
+        → Vanishes places.now.positions.now marks.old.items l
+        → Vanishes places.now.positions.now marks.new.items l }
 {
     let Some(place) = places.of(pred, argument) else {
         return;
@@ -55,7 +58,7 @@ fn mark(places: &Places, marks: &mut Vec<bool>, pred: PredId, argument: usize)
     put_mark(marks, place);
 }
 
-// The number of an argument's size in the column of a variable.
+/// The number of an argument's size in the column of a variable.
 fn number(sizes: &Rows, argument: usize, variable: usize) -> i128
     requires { argument < length sizes.now.list }
     ensures { result ≡ entry (sizes_at sizes.now (suc variable)) argument }
@@ -63,7 +66,7 @@ fn number(sizes: &Rows, argument: usize, variable: usize) -> i128
     sizes.list.get(argument).coeffs.entry(variable)
 }
 
-// Whether an argument counts nothing in the column of a variable, or its position is marked.
+/// Whether an argument counts nothing in the column of a variable, or its position is marked.
 fn is_silent(
     sizes: &Rows,
     variable: usize,
@@ -73,7 +76,8 @@ fn is_silent(
     argument: usize,
 ) -> bool
     requires { argument < length sizes.now.list }
-    ensures { result ≡ true → (l : Mapping) → Vanishes places.now.positions.now marks.now l → 0 < coefficient (l.coefficients pred.0) argument
+    ensures { result ≡ true → (l : Mapping) → Vanishes places.now.positions.now marks.now l
+        → 0 < coefficient (l.coefficients pred.0) argument
         → entry (sizes_at sizes.now (suc variable)) argument ≡ pos 0 }
 {
     if is_nought(number(sizes, argument, variable)) {
@@ -82,10 +86,11 @@ fn is_silent(
     is_marked(places, marks, pred, argument)
 }
 
-// Whether the head counts nothing in the column of a variable where the coefficients at marked positions are 0.
+/// Whether the head counts nothing in the column of a variable where the coefficients at marked positions are 0.
 fn is_head_silent(own: &OwnCall, variable: usize, places: &Places, marks: &[bool]) -> bool
     ensures { result ≡ true → (l : Mapping) → Vanishes places.now.positions.now marks.now l
-        → IsSilent l own.now.caller.0 own.now.caller_sizes (suc variable) (length own.now.caller_sizes.list) }
+        → IsSilent l own.now.caller.0 own.now.caller_sizes (suc variable)
+        (length own.now.caller_sizes.list) }
 {
     let sizes = &own.caller_sizes;
     for argument in 0..sizes.list.len() {
@@ -96,10 +101,12 @@ fn is_head_silent(own: &OwnCall, variable: usize, places: &Places, marks: &[bool
     true
 }
 
-// Marks each argument of the call that counts in the column of a variable.
+/// Marks each argument of the call that counts in the column of a variable.
 fn mark_call(own: &OwnCall, variable: usize, places: &Places, marks: &mut Vec<bool>)
-    ensures { (l : Mapping) → IsSilent l own.now.callee.0 own.now.callee_sizes (suc variable) (length own.now.callee_sizes.list)
-        → Vanishes places.now.positions.now marks.old.items l → Vanishes places.now.positions.now marks.new.items l }
+    ensures { (l : Mapping) → IsSilent l own.now.callee.0 own.now.callee_sizes (suc variable)
+        (length own.now.callee_sizes.list)
+        → Vanishes places.now.positions.now marks.old.items l
+        → Vanishes places.now.positions.now marks.new.items l }
 {
     for argument in 0..own.callee_sizes.list.len() {
         if !is_nought(number(&own.callee_sizes, argument, variable)) {
@@ -108,10 +115,12 @@ fn mark_call(own: &OwnCall, variable: usize, places: &Places, marks: &mut Vec<bo
     }
 }
 
-// Marks what is 0 at a call where the head's marked coefficients are.
+/// Marks what is 0 at a call where the head's marked coefficients are.
 fn spread_at(own: &OwnCall, places: &Places, marks: &mut Vec<bool>)
     requires { HasNumbers own.now }
-    ensures { (l : Mapping) → KeepsColumns l own.now → Vanishes places.now.positions.now marks.old.items l → Vanishes places.now.positions.now marks.new.items l }
+    ensures { (l : Mapping) → KeepsColumns l own.now
+        → Vanishes places.now.positions.now marks.old.items l
+        → Vanishes places.now.positions.now marks.new.items l }
 {
     if own.rows.list.len() > 0 {
         return;
@@ -123,20 +132,24 @@ fn spread_at(own: &OwnCall, places: &Places, marks: &mut Vec<bool>)
     }
 }
 
-// Marks what is 0 at calls, from the first to the last.
+/// Marks what is 0 at calls, from the first to the last.
 fn spread_onward(calls: &[OwnCall], places: &Places, marks: &mut Vec<bool>)
     requires { AllByRecursion HasNumbers calls.now }
-    ensures { (l : Mapping) → AllByRecursion (KeepsColumns l) calls.now → Vanishes places.now.positions.now marks.old.items l → Vanishes places.now.positions.now marks.new.items l }
+    ensures { (l : Mapping) → AllByRecursion (KeepsColumns l) calls.now
+        → Vanishes places.now.positions.now marks.old.items l
+        → Vanishes places.now.positions.now marks.new.items l }
 {
     for i in 0..calls.len() {
         spread_at(&calls[i], places, marks);
     }
 }
 
-// Marks what is 0 at calls, from the last to the first.
+/// Marks what is 0 at calls, from the last to the first.
 fn spread_back(calls: &[OwnCall], places: &Places, marks: &mut Vec<bool>)
     requires { AllByRecursion HasNumbers calls.now }
-    ensures { (l : Mapping) → AllByRecursion (KeepsColumns l) calls.now → Vanishes places.now.positions.now marks.old.items l → Vanishes places.now.positions.now marks.new.items l }
+    ensures { (l : Mapping) → AllByRecursion (KeepsColumns l) calls.now
+        → Vanishes places.now.positions.now marks.old.items l
+        → Vanishes places.now.positions.now marks.new.items l }
 {
     for i in 0..calls.len() {
         spread_at(&calls[calls.len() - 1 - i], places, marks);
@@ -146,7 +159,9 @@ fn spread_back(calls: &[OwnCall], places: &Places, marks: &mut Vec<bool>)
 /// Marks what is 0 at calls where the marked coefficients are, going over the calls a few times.
 pub(crate) fn spread(calls: &[OwnCall], places: &Places, marks: &mut Vec<bool>)
     requires { AllByRecursion HasNumbers calls.now }
-    ensures { (l : Mapping) → AllByRecursion (KeepsColumns l) calls.now → Vanishes places.now.positions.now marks.old.items l → Vanishes places.now.positions.now marks.new.items l }
+    ensures { (l : Mapping) → AllByRecursion (KeepsColumns l) calls.now
+        → Vanishes places.now.positions.now marks.old.items l
+        → Vanishes places.now.positions.now marks.new.items l }
 {
     spread_onward(calls, places, marks);
     spread_onward(calls, places, marks);
@@ -184,7 +199,8 @@ pub(crate) fn unmarked(alloc: Global, count: usize, marks: &[bool]) -> Result<Ve
 
 /// Whether all places that are marked in the first list are marked in the second.
 pub(crate) fn is_covered(few: &[bool], marks: &[bool]) -> bool
-    ensures { result ≡ true → (k : ℕ) → slice_get few.now k ≡ Some true → slice_get marks.now k ≡ Some true }
+    ensures { result ≡ true → (k : ℕ) → slice_get few.now k ≡ Some true
+        → slice_get marks.now k ≡ Some true }
 {
     for k in 0..few.len() {
         if few[k] && !has_mark(marks, k) {

@@ -39,9 +39,10 @@ pub fn is_above(sets: &[Sequence<u32>], set: &[u32]) -> bool
     false
 }
 
-// Whether a set is above one that was found, or above one that was given up.
+/// Whether a set is above one that was found, or above one that was given up.
 fn is_passed(walked: &Walked, set: &[u32]) -> bool
-    ensures { result ≡ (list_any (λ t. is_part t set.now) walked.now.found || list_any (λ t. is_part t set.now) walked.now.blown) }
+    ensures { result ≡ (list_any (λ t. is_part t set.now) walked.now.found
+        || list_any (λ t. is_part t set.now) walked.now.blown) }
 {
     is_above(walked.found.as_slice(), set) || is_above(walked.blown.as_slice(), set)
 }
@@ -53,7 +54,7 @@ pub fn copied(alloc: Global, set: &[u32]) -> Result<Sequence<u32>, AllocError>
     Ok(Sequence::from_vec(Vec::from_slice(alloc, set)?))
 }
 
-// Searches at one more set, unless it is above one that was found or given up.
+/// Searches at one more set, unless it is above one that was found or given up.
 fn visit(
     alloc: Global,
     p: &Program,
@@ -63,9 +64,12 @@ fn visit(
 ) -> Result<(), AllocError>
     requires sound { IsSound p.now component.now }
     ensures { IfOk result (λ done. ForComponent p.now component.now (λ expression comps rows c.
-        (i : ℕ) → slice_get (chosen_up_to (length component.now.positions.items) (length component.now.positions.items)) i ≡ Some set.now
-        → IsWalkedTo expression p.now comps rows c (length component.now.positions.items) i walked.old
-        → IsWalkedTo expression p.now comps rows c (length component.now.positions.items) (suc i) walked.new)) }
+        (i : ℕ) → slice_get (chosen_up_to (length component.now.positions.items)
+        (length component.now.positions.items)) i ≡ Some set.now
+        → IsWalkedTo expression p.now comps rows c
+        (length component.now.positions.items) i walked.old
+        → IsWalkedTo expression p.now comps rows c (length component.now.positions.items)
+        (suc i) walked.new)) }
 {
     if is_passed(walked, set) {
         return Ok(());

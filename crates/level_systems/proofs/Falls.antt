@@ -16,10 +16,11 @@ use Rattle.number_tests.specs.Targets.{fall_weights}
 use Rattle.number_tests.specs.declared.level_part.LevelPart.{LevelPart}
 use Rattle.number_tests.proofs.FallTargets.{fall_target}
 use Rattle.term_size.specs.Norm.{IsNorm}
-use Rattle.termination_model.specs.Systems.{row_over, short_row, short_system, system}
+use Rattle.termination_model.specs.Systems.{row_over, system}
+use Rattle.termination_model.specs.ShortSystems.{short_row, short_system}
 use Rattle.termination_model.proofs.Lists.{one_element}
 use Rattle.level_systems.specs.Falling.{AreFallsOf, ShowFalls, ShowsFall, values_after}
-use Rattle.level_systems.specs.Held.{IsHeld, pair_of}
+use Rattle.level_systems.specs.Held.{IsHeld, numbers_of_call}
 use Rattle.level_systems.specs.Mappings.{IsFall, level_in}
 use Rattle.level_systems.specs.Pairs.{call_at, clause_at}
 use Rattle.level_systems.specs.declared.fall.Fall.{Fall}
@@ -34,7 +35,7 @@ pub short_same : (rs : List (List ℤ)) → ((r : List ℤ) → In r rs → row_
 short_same [] h = refl
 short_same (r ∷ rs) h = let here = short_is r (h r (inl refl)) in let rest = short_same rs (λ x i. h x (inr i)) in λ i. here i ∷ rest i
 
-pub pairs_are : (owns : List OwnCall) (values : List ℤ) (fs : List Fall) → AreFallsOf owns values fs → map (λ (f : Fall). (f.clause, f.call)) fs ≡ map pair_of owns
+pub pairs_are : (owns : List OwnCall) (values : List ℤ) (fs : List Fall) → AreFallsOf owns values fs → map (λ (f : Fall). (f.clause, f.call)) fs ≡ map numbers_of_call owns
 pairs_are [] values [] h = refl
 pairs_are [] values (f ∷ fs) h = absurd h
 pairs_are (own ∷ owns) values [] h = absurd h

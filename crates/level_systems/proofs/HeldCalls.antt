@@ -13,7 +13,7 @@ use Rattle.linear_rows.specs.Showing.{Shows, bottom_row}
 use Rattle.linear_rows.specs.Solving.{zeros}
 use Rattle.linear_rows.specs.declared.multipliers.Multipliers.{Multipliers}
 use Rattle.linear_rows.proofs.Soundness.{law_empty}
-use Rattle.termination_model.specs.ComponentViews.{component_view, no_truth, positions_in, size_claims}
+use Rattle.termination_model.specs.ComponentViews.{component_view, positions_in, size_claims}
 use Rattle.termination_model.specs.Excluding.{IsLive, IsOwnCall}
 use Rattle.termination_model.specs.OwnCalls.{OwnCall as Recalled, own_calls, rows_before}
 use Rattle.termination_model.specs.Ready.{arity_in, itself}
@@ -22,7 +22,7 @@ use Rattle.termination_model.specs.Supports.{AreLives}
 use Rattle.termination_model.specs.Systems.{system}
 use Rattle.termination_model.specs.View as view
 use Rattle.termination_model.proofs.Readiness.{views_are_ready, views_have_few}
-use Rattle.level_systems.specs.Held.{HasPoint, IsHeld, IsReach, live_of, pair_of, recalled_at, with_live}
+use Rattle.level_systems.specs.Held.{HasPoint, IsHeld, IsReach, live_of, numbers_of_call, recalled_at, with_live}
 use Rattle.level_systems.specs.Pairs.{call_at, clause_at, pairs_of}
 use Rattle.level_systems.specs.Recalled.{Recalls, count_of, with_count}
 use Rattle.level_systems.specs.declared.own_call.OwnCall.{OwnCall}
@@ -51,7 +51,7 @@ shown_empty n rows by h e =
 module _ (expression : ℕ → Tree → List ℤ) (p : Listing) (comps : Partition) (rows : ℕ → List (List ℤ)) (c : ℕ) where
   -- a held call as one of the view
   abbrev pub re : OwnCall → Recalled
-  re own = recalled_at expression p rows comps c (pair_of own)
+  re own = recalled_at expression p rows comps c (numbers_of_call own)
 
   pub rows_are : (own : OwnCall) → IsHeld expression p rows own → plain_rows own.rows.list ≡ rows_before expression (re own)
   rows_are own h =
@@ -104,23 +104,23 @@ module _ (expression : ℕ → Tree → List ℤ) (p : Listing) (comps : Partiti
       go (Some by) k = k
 
   live_case : (m : Option Multipliers) (own : OwnCall) (owns : List OwnCall) → IsHeld expression p rows own → IsReach (clause_at p own.clause).vars (plain_rows own.rows.list) m
-      → AllByRecursion (IsLive no_truth expression) (map re (live_of owns)) → AllByRecursion (IsLive no_truth expression) (map re (with_live m own (live_of owns)))
+      → AllByRecursion (IsLive expression) (map re (live_of owns)) → AllByRecursion (IsLive expression) (map re (with_live m own (live_of owns)))
   live_case None own owns held r rest =
       let point : HasPoint (clause_at p own.clause).vars (rows_before expression (re own)) = subst (HasPoint (clause_at p own.clause).vars) (rows_are own held) r in
       (record { t = point.t; w = point.w; some = point.some; long = point.long; hold = point.hold }, rest)
   live_case (Some by) own owns held r rest = rest
 
   -- the lives hold at points
-  pub all_live : (owns : List OwnCall) → AllByRecursion (IsHeld expression p rows) owns → AllByRecursion (IsLive no_truth expression) (map re (live_of owns))
+  pub all_live : (owns : List OwnCall) → AllByRecursion (IsHeld expression p rows) owns → AllByRecursion (IsLive expression) (map re (live_of owns))
   all_live [] h = tt
   all_live (own ∷ owns) h = let held = h.0 in live_case own.empty own owns held held.reach (all_live owns h.1)
 
-  module _ (owns : List OwnCall) (pairs : map pair_of owns ≡ pairs_of p comps c) (held : AllByRecursion (IsHeld expression p rows) owns) where
+  module _ (owns : List OwnCall) (pairs : map numbers_of_call owns ≡ pairs_of p comps c) (held : AllByRecursion (IsHeld expression p rows) owns) where
     pub calls_are : own_calls (component_view expression p comps rows c) ≡ map re owns
     calls_are =
-        calls_are_pairs expression p comps rows c ∙ ap (map (recalled_at expression p rows comps c)) (sym pairs) ∙ sym (map_map (recalled_at expression p rows comps c) pair_of owns)
+        calls_are_pairs expression p comps rows c ∙ ap (map (recalled_at expression p rows comps c)) (sym pairs) ∙ sym (map_map (recalled_at expression p rows comps c) numbers_of_call owns)
 
-    pub are_lives : AreLives no_truth expression (component_view expression p comps rows c) (positions_in p comps c) (map re (live_of owns))
+    pub are_lives : AreLives expression (component_view expression p comps rows c) (positions_in p comps c) (map re (live_of owns))
     are_lives o i = lives_or_empty owns held o (subst (In o) calls_are i)
 
     pub in_calls : (o : Recalled) → In o (map re (live_of owns)) → In o (own_calls (component_view expression p comps rows c))

@@ -14,24 +14,24 @@ use Rattle.linear_rows.specs.declared.point.Point.{Point}
 use Rattle.number_tests.specs.Refuting.{PointHolds, SumsRefute, call_of, clause_of}
 use Rattle.number_tests.specs.declared.pair_point.PairPoint.{PairPoint}
 use Rattle.termination_model.specs.BlownSupports.{IsBlownAt}
-use Rattle.termination_model.specs.Excluding.{IsAt}
+use Rattle.termination_model.specs.Excluding.{IsZeroOutside}
 use Rattle.termination_model.specs.Refutation.{Decreases}
 use Rattle.level_systems.specs.declared.mapping.Mapping.{Mapping}
 use Rattle.number_tests.specs.Shape.{IsPairOf}
 pub use Rattle.number_tests.specs.Shape.{PairsAscend}
 use Rattle.number_tests.specs.declared.refutation.Refutation.{Refutation}
-use Rattle.termination_model.specs.ComponentViews.{Has, component_view, members_in, no_truth, positions_in}
+use Rattle.termination_model.specs.ComponentViews.{HasSupportIn, component_view, members_in, positions_in}
 use Rattle.termination_model.specs.Minimal.{IsAbove, IsExcluded, IsMinimal, IsSet}
 use Rattle.termination_model.specs.Modes.{chosen_up_to}
 use Rattle.termination_model.specs.Ready.{arity_in}
 use Rattle.termination_model.specs.Supports.{picked_from}
-use Rattle.level_systems.specs.Mappings.{IsMappingOf, mapping_of, support_of}
+use Rattle.level_systems.specs.Mappings.{IsMappingOf, mapping_with, support_of}
 use Rattle.level_systems.specs.Subsequences.{AreOnce, IsSubsequence}
 use Rattle.level_systems.specs.declared.found.Found.{Found}
 
 -- the set without a number
-abbrev pub without : ℕ → List ℕ → List ℕ
-without i s = filter (λ x. not (nat_eq i x)) s
+abbrev pub without_number : ℕ → List ℕ → List ℕ
+without_number i s = filter (λ x. not (nat_eq i x)) s
 
 -- natural numbers t and w
 abbrev pub IsNaturalPoint : Point → Type 0
@@ -49,15 +49,12 @@ module _ (expression : ℕ → Tree → List ℤ) (p : Listing) (comps : Partiti
   abbrev pub full : List ℕ
   full = columns 1 count
 
-  abbrev pub had : List ℕ → Type 0
-  had = Has expression p comps rows c
-
   abbrev pub supports : Found → List (List ℕ)
   supports f = map (support_of (positions_in p comps c)) f.mappings
 
   -- the system of a set of positions is blown
   abbrev pub IsBlownSet : List ℕ → Type 0
-  IsBlownSet s = IsBlownAt no_truth expression (component_view expression p comps rows c) (arity_in p) (picked_from 1 (positions_in p comps c) s)
+  IsBlownSet s = IsBlownAt expression (component_view expression p comps rows c) (arity_in p) (picked_from 1 (positions_in p comps c) s)
 
   -- a pair of the component with natural points, and a second one exactly where the first stands for a direction
   pub record IsOwnPair (x : PairPoint) : Type 0 where
@@ -77,27 +74,27 @@ module _ (expression : ℕ → Tree → List ℤ) (p : Listing) (comps : Partiti
   -- up to 12 positions: the minimal supports, in order, and each decreasing mapping has one of them within its support,
   -- unless that is above one that was given up
   pub record IsSmall (f : Found) : Type 0 where
-    pub minimal : (s : List ℕ) → In s (supports f) → IsMinimal had s
-    pub within : (s : List ℕ) → had s → IsAbove (supports f) s ⊎ IsAbove f.blown s
+    pub minimal : (s : List ℕ) → In s (supports f) → IsMinimal (HasSupportIn expression p comps rows c) s
+    pub within : (s : List ℕ) → HasSupportIn expression p comps rows c s → IsAbove (supports f) s ⊎ IsAbove f.blown s
     pub order : IsSubsequence (supports f) (chosen_up_to count count)
 
   -- more: one mapping at most, none of whose positions can be left out, or a refutation, or all positions were given up
   pub record IsLarge (f : Found) : Type 0 where
     pub few : length f.mappings ≤ 1
-    pub decreases : (s : List ℕ) → In s (supports f) → had s
-    pub needed : (s : List ℕ) → In s (supports f) → (i : ℕ) → In i s → In (without i s) f.blown ⊎ IsExcluded had (without i s)
+    pub decreases : (s : List ℕ) → In s (supports f) → HasSupportIn expression p comps rows c s
+    pub needed : (s : List ℕ) → In s (supports f) → (i : ℕ) → In i s → In (without_number i s) f.blown ⊎ IsExcluded (HasSupportIn expression p comps rows c) (without_number i s)
     pub decided : (1 ≤ length f.mappings) ⊎ (f.refutation ≢ None) ⊎ In full f.blown
 
   pub record IsFound (f : Found) : Type 0 where
     pub large : IsTrue f.large ↔ (12 < count)
     -- each mapping has a part for each member, and falls that the check of a certificate accepts
     pub mappings : AllByRecursion (IsMappingOf expression p rows comps c) f.mappings
-    pub at : AllByRecursion (λ (m : Mapping). IsAt (positions_in p comps c) (mapping_of m.measures)) f.mappings
-    pub falling : AllByRecursion (λ (m : Mapping). Decreases no_truth expression (component_view expression p comps rows c) (mapping_of m.measures)) f.mappings
+    pub at : AllByRecursion (λ (m : Mapping). IsZeroOutside (positions_in p comps c) (mapping_with m.measures)) f.mappings
+    pub falling : AllByRecursion (λ (m : Mapping). Decreases expression (component_view expression p comps rows c) (mapping_with m.measures)) f.mappings
     pub small : f.large ≡ false → IsSmall f
     pub more : f.large ≡ true → IsLarge f
     -- a refutation exactly where no mapping decreases and the set of all positions was not given up
-    pub refuted : (f.refutation ≢ None) ↔ (((s : List ℕ) → had s → ⊥) × (In full f.blown → ⊥))
+    pub refuted : (f.refutation ≢ None) ↔ (((s : List ℕ) → HasSupportIn expression p comps rows c s → ⊥) × (In full f.blown → ⊥))
     pub shown : (r : Refutation) → f.refutation ≡ Some r → IsRefutationOf r
     -- what was given up are sets of positions, which are blown and above no support that was found, and each stands once
     pub sets : (s : List ℕ) → In s f.blown → IsSet 1 (suc count) s

@@ -95,8 +95,8 @@ module _ (expression : ℕ → Tree → List ℤ) (p : Listing) (rows : ℕ → 
     }
 
 -- the numbers of a held call
-abbrev pub pair_of : OwnCall → ℕ × ℕ
-pair_of own = (own.clause, own.call)
+abbrev pub numbers_of_call : OwnCall → ℕ × ℕ
+numbers_of_call own = (own.clause, own.call)
 
 -- the calls that can be reached
 abbrev pub with_live : Option Multipliers → OwnCall → List OwnCall → List OwnCall

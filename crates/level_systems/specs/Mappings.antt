@@ -19,7 +19,7 @@ use Rattle.termination_model.specs.ComponentViews.{members_in, positions_in}
 use Rattle.termination_model.specs.OwnCalls.{Position}
 use Rattle.termination_model.specs.Ready.{arity_in}
 use Rattle.termination_model.specs.Supports.{support_from}
-use Rattle.termination_model.specs.Systems.{short_system}
+use Rattle.termination_model.specs.ShortSystems.{short_system}
 use Rattle.level_systems.specs.Pairs.{pairs_of}
 use Rattle.level_systems.specs.declared.fall.Fall.{Fall}
 use Rattle.level_systems.specs.declared.mapping.Mapping.{Mapping}
@@ -31,15 +31,15 @@ level_in [] q = None
 level_in (m ∷ ms) q = if m.pred.0 == q then Some m.part else level_in ms q
 
 -- the mapping with these parts
-abbrev pub mapping_of : List Measure → PlainMapping
-mapping_of ms = record {
+abbrev pub mapping_with : List Measure → PlainMapping
+mapping_with ms = record {
   coefficients = λ q. natural_coefficients (level_in ms q);
   offset = λ q. natural_offset (level_in ms q);
 }
 
 -- the numbers of the positions at which a mapping has a positive coefficient
 abbrev pub support_of : List Position → Mapping → List ℕ
-support_of positions m = support_from 1 positions (mapping_of m.measures)
+support_of positions m = support_from 1 positions (mapping_with m.measures)
 
 -- a part for each member, in order, with natural numbers
 pub record HasMeasures (p : Listing) (members : List ℕ) (ms : List Measure) : Type 0 where

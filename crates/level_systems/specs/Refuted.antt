@@ -15,13 +15,13 @@ use Rattle.linear_rows.specs.Systems.{test_rows}
 use Rattle.linear_rows.specs.declared.point.Point.{Point}
 use Rattle.number_tests.specs.declared.pair_point.PairPoint.{PairPoint}
 use Rattle.termination_model.specs.BlownSupports.{CheckFits, live_calls}
-use Rattle.termination_model.specs.ComponentViews.{component_view, no_truth}
+use Rattle.termination_model.specs.ComponentViews.{component_view}
 use Rattle.termination_model.specs.Excluding.{pairs_at}
 use Rattle.termination_model.specs.OwnCalls.{OwnCall as Recalled}
 use Rattle.termination_model.specs.Ready.{arity_in}
 use Rattle.termination_model.specs.SupportSystem.{support_rows, unknowns}
 use Rattle.level_systems.specs.Found.{HasSecondPoint, IsNaturalPoint}
-use Rattle.level_systems.specs.Held.{live_of, pair_of, recalled_at, spelled}
+use Rattle.level_systems.specs.Held.{live_of, numbers_of_call, recalled_at, spelled}
 use Rattle.level_systems.specs.declared.component.Component.{Component}
 use Rattle.level_systems.specs.declared.own_call.OwnCall.{OwnCall}
 
@@ -113,11 +113,11 @@ solution_of expression x lives =
 module _ (expression : ℕ → Tree → List ℤ) (p : Listing) (comps : Partition) (rows : ℕ → List (List ℤ)) (c : ℕ) (x : Component) where
   -- the calls that can be reached
   abbrev pub lives_of : List Recalled
-  lives_of = map (λ own. recalled_at expression p rows comps c (pair_of own)) (live_of x.calls.items)
+  lives_of = map (λ own. recalled_at expression p rows comps c (numbers_of_call own)) (live_of x.calls.items)
 
   -- elimination refutes the system of all positions, and the check of its multipliers is in numbers that fit
   pub record IsInFit : Type 0 where
     pub numbers : List ℕ
-    pub live : live_calls no_truth expression (component_view expression p comps rows c) (arity_in p) ≡ lives_of
+    pub live : live_calls expression (component_view expression p comps rows c) (arity_in p) ≡ lives_of
     pub refuted : solution_of expression x lives_of ≡ Refuted (map pos numbers)
-    pub fits : CheckFits no_truth expression (component_view expression p comps rows c) (arity_in p) (pairs_at lives_of numbers)
+    pub fits : CheckFits expression (component_view expression p comps rows c) (arity_in p) (pairs_at lives_of numbers)

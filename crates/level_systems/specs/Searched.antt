@@ -8,8 +8,8 @@ use Rattle.cti_terms.specs.Listing.{IsProgram, Listing}
 use Rattle.cti_terms.specs.Tree.{Tree}
 use Rattle.linear_rows.specs.Members.{In}
 use Rattle.term_size.specs.Norm.{IsNorm}
-use Rattle.termination_model.specs.ComponentViews.{Has, component_view, members_in, no_truth, positions_in}
-use Rattle.termination_model.specs.Excluding.{IsAt}
+use Rattle.termination_model.specs.ComponentViews.{HasSupportIn, component_view, members_in, positions_in}
+use Rattle.termination_model.specs.Excluding.{IsZeroOutside}
 use Rattle.termination_model.specs.Minimal.{IsExcluded}
 use Rattle.termination_model.specs.Modes.{is_part}
 use Rattle.termination_model.specs.OwnCalls.{members_of}
@@ -19,8 +19,8 @@ use Rattle.termination_model.specs.SupportSystem.{mapping_at}
 use Rattle.termination_model.specs.Supports.{AreDistinct}
 use Rattle.level_systems.specs.Falling.{AreFallsOf, IsReady, ShowFalls}
 use Rattle.level_systems.specs.Found.{IsBlownSet}
-use Rattle.level_systems.specs.Held.{IsHeld, pair_of, spelled}
-use Rattle.level_systems.specs.Mappings.{HasMeasures, IsMappingOf, mapping_of, support_of}
+use Rattle.level_systems.specs.Held.{IsHeld, numbers_of_call, spelled}
+use Rattle.level_systems.specs.Mappings.{HasMeasures, IsMappingOf, mapping_with, support_of}
 use Rattle.level_systems.specs.Pairs.{pairs_of}
 use Rattle.level_systems.specs.Recalled.{HasNumbers}
 use Rattle.level_systems.specs.Valued.{IsPartOf}
@@ -60,7 +60,7 @@ pub record IsComponent (size : (ℕ → ℕ) → Tree → ℕ) (truth : (ℕ →
   pub by_clauses : map number_of x.by_clauses.items ≡ members_of (component_view expression p comps rows c)
   pub order : map spelled x.order.items ≡ positions_by (arity_in p) (map number_of x.by_clauses.items)
   pub positions : map spelled x.positions.items ≡ positions_in p comps c
-  pub pairs : map pair_of x.calls.items ≡ pairs_of p comps c
+  pub pairs : map numbers_of_call x.calls.items ≡ pairs_of p comps c
   pub held : AllByRecursion (IsHeld expression p rows) x.calls.items
   pub callers : AllByRecursion (λ (own : OwnCall). IsIn comps c own.caller.0) x.calls.items
   pub inside : AllByRecursion (λ (own : OwnCall). IsIn comps c own.callee.0) x.calls.items
@@ -84,16 +84,16 @@ module _ (expression : ℕ → Tree → List ℤ) (p : Listing) (comps : Partiti
   -- a mapping of the component's positions that decreases
   pub record IsDecreasing (m : mapping.Mapping) : Type 0 where
     pub mapping : IsMappingOf expression p rows comps c m
-    pub at : IsAt (positions_in p comps c) (mapping_of m.measures)
-    pub falling : Decreases no_truth expression (component_view expression p comps rows c) (mapping_of m.measures)
+    pub at : IsZeroOutside (positions_in p comps c) (mapping_with m.measures)
+    pub falling : Decreases expression (component_view expression p comps rows c) (mapping_with m.measures)
 
   -- such a mapping whose support is part of a set, and had
   pub record IsFoundIn (s : List ℕ) (m : mapping.Mapping) : Type 0 where
     pub mapping : IsDecreasing m
     pub part : is_part (support_of (positions_in p comps c) m) s ≡ true
-    pub has : Has expression p comps rows c (support_of (positions_in p comps c) m)
+    pub has : HasSupportIn expression p comps rows c (support_of (positions_in p comps c) m)
 
   abbrev pub IsAnswer : List ℕ → Answer → Type 0
   IsAnswer s (Mapping m) = IsFoundIn s m
-  IsAnswer s Refuted = IsExcluded (Has expression p comps rows c) s
+  IsAnswer s Refuted = IsExcluded (HasSupportIn expression p comps rows c) s
   IsAnswer s Blown = IsBlownSet expression p comps rows c s

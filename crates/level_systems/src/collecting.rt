@@ -5,7 +5,7 @@ ghost use Rattle.std.specs.List.{AllByRecursion};
 ghost use Rattle.call_components.specs.Partition.{AreComponents, IsIn};
 ghost use Rattle.cti_terms.specs.declared.clauses.Clause.{Clause};
 ghost use Rattle.level_systems.specs.Collected.{IsHeldIn, SomeGivenUp};
-ghost use Rattle.level_systems.specs.Held.{IsGivenUp, IsHeldAs, pair_of};
+ghost use Rattle.level_systems.specs.Held.{IsGivenUp, IsHeldAs, numbers_of_call};
 ghost use Rattle.level_systems.specs.Pairs.{calls_from, clause_at, pairs_of};
 ghost use Rattle.termination_model.specs.Sizes.{AreSizes, rows_of};
 
@@ -19,7 +19,7 @@ use std::alloc::{AllocError, Global};
 use term_size::Norm;
 use termination_model::{Sizes, add_expressions, system};
 
-// A call, where its rows fit and their test is not blown. Clause and call count from 1.
+/// A call, where its rows fit and their test is not blown. Clause and call count from 1.
 fn own_call<N: Norm>(
     alloc: Global,
     p: &Program,
@@ -33,8 +33,10 @@ fn own_call<N: Norm>(
     requires call { 1 ≤ j }
     requires body { (c : Clause) → slice_get p.now.clauses (k - 1) ≡ Some c → j ≤ length c.body }
     requires sizes { AreSizes p.now.preds sizes.now.rows }
-    ensures held { IfOk result (λ o. IfSome o (IsHeldAs (N.expression norm.now) p.now (rows_of sizes.now.rows) k j)) }
-    ensures none { IfOk result (λ o. o ≡ None → IsGivenUp (N.expression norm.now) p.now (rows_of sizes.now.rows) k j) }
+    ensures held { IfOk result
+        (λ o. IfSome o (IsHeldAs (N.expression norm.now) p.now (rows_of sizes.now.rows) k j)) }
+    ensures none { IfOk result (λ o. o ≡ None
+        → IsGivenUp (N.expression norm.now) p.now (rows_of sizes.now.rows) k j) }
 {
     let clause = p.clause(k);
     let call = &clause.body.as_slice()[j as usize - 1];
@@ -63,7 +65,7 @@ fn own_call<N: Norm>(
     }))
 }
 
-// Adds the calls of a clause, and says whether none was given up.
+/// Adds the calls of a clause, and says whether none was given up.
 fn add_calls<N: Norm>(
     alloc: Global,
     p: &Program,
@@ -79,10 +81,18 @@ fn add_calls<N: Norm>(
     requires last { k ≤ length p.now.clauses }
     requires inside { IsIn comps.now c (clause_at p.now k).head.pred.0 }
     requires sizes { AreSizes p.now.preds sizes.now.rows }
-    requires held { AllByRecursion (IsHeldIn (N.expression norm.now) p.now (rows_of sizes.now.rows) comps.now c) calls.old.items }
-    ensures pairs { IfOk result (λ all. all ≡ true → map pair_of calls.new.items ≡ map pair_of calls.old.items ++ calls_from comps.now c k 0 (clause_at p.now k).body) }
-    ensures held { IfOk result (λ all. AllByRecursion (IsHeldIn (N.expression norm.now) p.now (rows_of sizes.now.rows) comps.now c) calls.new.items) }
-    ensures given_up { IfOk result (λ all. all ≡ false → SomeGivenUp (N.expression norm.now) p.now (rows_of sizes.now.rows) (calls_from comps.now c k 0 (clause_at p.now k).body)) }
+    requires held { AllByRecursion
+        (IsHeldIn (N.expression norm.now) p.now
+        (rows_of sizes.now.rows) comps.now c) calls.old.items }
+    ensures pairs { IfOk result (λ all. all ≡ true
+        → map numbers_of_call calls.new.items ≡ map numbers_of_call calls.old.items
+        ++ calls_from comps.now c k 0 (clause_at p.now k).body) }
+    ensures held { IfOk result
+        (λ all. AllByRecursion (IsHeldIn (N.expression norm.now) p.now
+        (rows_of sizes.now.rows) comps.now c) calls.new.items) }
+    ensures given_up { IfOk result (λ all. all ≡ false
+        → SomeGivenUp (N.expression norm.now) p.now (rows_of sizes.now.rows)
+        (calls_from comps.now c k 0 (clause_at p.now k).body)) }
 {
     let clause = p.clause(k);
     for j in 0..clause.body.len() {
@@ -112,9 +122,15 @@ pub fn own_calls<N: Norm>(
 ) -> Result<Option<Vec<OwnCall>>, AllocError>
     requires components { AreComponents p.now comps.now }
     requires sizes { AreSizes p.now.preds sizes.now.rows }
-    ensures pairs { IfOk result (λ o. IfSome o (λ calls. map pair_of calls.items ≡ pairs_of p.now comps.now c)) }
-    ensures held { IfOk result (λ o. IfSome o (λ calls. AllByRecursion (IsHeldIn (N.expression norm.now) p.now (rows_of sizes.now.rows) comps.now c) calls.items)) }
-    ensures given_up { IfOk result (λ o. o ≡ None → SomeGivenUp (N.expression norm.now) p.now (rows_of sizes.now.rows) (pairs_of p.now comps.now c)) }
+    ensures pairs { IfOk result
+        (λ o. IfSome o (λ calls. map numbers_of_call calls.items ≡ pairs_of p.now comps.now c)) }
+    ensures held { IfOk result
+        (λ o. IfSome o (λ calls. AllByRecursion
+        (IsHeldIn (N.expression norm.now) p.now
+        (rows_of sizes.now.rows) comps.now c) calls.items)) }
+    ensures given_up { IfOk result (λ o. o ≡ None
+        → SomeGivenUp (N.expression norm.now) p.now (rows_of sizes.now.rows)
+        (pairs_of p.now comps.now c)) }
 {
     let mut calls = Vec::new(alloc);
     for k in 0..p.clauses() {

@@ -35,8 +35,12 @@ pub fn collect<N: Norm>(
     requires sizes { AreSizes p.now.preds sizes.now.rows }
     requires positions { map spelled positions.items ≡ positions_in p.now comps.now c }
     ensures sound { IfOk result (λ o. IfSome o (IsSound p.now)) }
-    ensures component { IfOk result (λ o. IfSome o (IsComponent (N.size norm.now) (N.truth norm.now) (N.expression norm.now) p.now comps.now (rows_of sizes.now.rows) c)) }
-    ensures given_up { IfOk result (λ o. o ≡ None → SomeGivenUp (N.expression norm.now) p.now (rows_of sizes.now.rows) (pairs_of p.now comps.now c)) }
+    ensures component { IfOk result
+        (λ o. IfSome o (IsComponent (N.size norm.now) (N.truth norm.now)
+        (N.expression norm.now) p.now comps.now (rows_of sizes.now.rows) c)) }
+    ensures given_up { IfOk result (λ o. o ≡ None
+        → SomeGivenUp (N.expression norm.now) p.now (rows_of sizes.now.rows)
+        (pairs_of p.now comps.now c)) }
 {
     // What every program keeps.
     p.preds();

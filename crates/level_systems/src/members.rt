@@ -14,7 +14,7 @@ use call_components::Components;
 use cti_terms::{PredId, Program};
 use std::alloc::{AllocError, Global};
 
-// Whether a predicate is in a list.
+/// Whether a predicate is in a list.
 fn is_listed(preds: &[PredId], pred: PredId) -> bool
     ensures { result ≡ list_any (λ q. q.0 == pred.0) preds.now }
 {
@@ -34,7 +34,8 @@ pub fn members_by_clauses(
     c: u32,
 ) -> Result<Vec<PredId>, AllocError>
     requires { AreComponents p.now comps.now }
-    ensures { IfOk result (λ members. map number_of members.items ≡ members_by_clauses comps.now c [] p.now.clauses) }
+    ensures { IfOk result (λ members. map number_of members.items
+        ≡ members_by_clauses comps.now c [] p.now.clauses) }
 {
     let mut members = Vec::new(alloc);
     for k in 0..p.clauses() {
@@ -47,10 +48,11 @@ pub fn members_by_clauses(
     Ok(members)
 }
 
-// Adds the positions of a predicate.
+/// Adds the positions of a predicate.
 fn add_positions(p: &Program, pred: PredId, positions: &mut Vec<Position>) -> Result<(), AllocError>
     requires { pred.0 < length p.now.preds }
-    ensures { OnOk result (map spelled positions.new.items ≡ map spelled positions.old.items ++ arguments_from pred.0 0 (arity_in p.now pred.0)) }
+    ensures { OnOk result (map spelled positions.new.items ≡ map spelled positions.old.items
+        ++ arguments_from pred.0 0 (arity_in p.now pred.0)) }
 {
     for argument in 0..p.pred(pred).arity {
         positions.push(Position { pred, argument })?;
@@ -65,7 +67,8 @@ pub fn positions_of(
     members: &[PredId],
 ) -> Result<Vec<Position>, AllocError>
     requires { AllByRecursion (λ q. q < length p.now.preds) (map number_of members.now) }
-    ensures { IfOk result (λ positions. map spelled positions.items ≡ positions_by (arity_in p.now) (map number_of members.now)) }
+    ensures { IfOk result (λ positions. map spelled positions.items ≡ positions_by (arity_in p.now)
+        (map number_of members.now)) }
 {
     let mut positions = Vec::new(alloc);
     for member in members {
@@ -83,7 +86,8 @@ pub fn component_positions(
 ) -> Result<Vec<Position>, AllocError>
     requires components { AreComponents p.now comps.now }
     requires inner { c < length comps.now.members }
-    ensures { IfOk result (λ positions. map spelled positions.items ≡ positions_in p.now comps.now c) }
+    ensures { IfOk result (λ positions. map spelled positions.items
+        ≡ positions_in p.now comps.now c) }
 {
     let positions = positions_of(alloc, p, comps.members(c))?;
     Ok(positions)

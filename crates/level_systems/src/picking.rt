@@ -9,7 +9,7 @@ ghost use Rattle.termination_model.specs.Supports.{picked_from};
 use crate::position::Position;
 use std::alloc::{AllocError, Global};
 
-// Whether a number is in a set.
+/// Whether a number is in a set.
 fn has_number(set: &[u32], number: usize) -> bool
     ensures { result ≡ list_any (λ x. nat_eq number x) set.now }
 {
@@ -27,7 +27,8 @@ pub fn picked(
     positions: &[Position],
     set: &[u32],
 ) -> Result<Vec<Position>, AllocError>
-    ensures { IfOk result (λ picked. map spelled picked.items ≡ picked_from 1 (map spelled positions.now) set.now) }
+    ensures { IfOk result (λ picked. map spelled picked.items
+        ≡ picked_from 1 (map spelled positions.now) set.now) }
 {
     let mut picked = Vec::new(alloc);
     for i in 0..positions.len() {
@@ -38,7 +39,7 @@ pub fn picked(
     Ok(picked)
 }
 
-// Whether a position is in a list.
+/// Whether a position is in a list.
 fn is_picked(picked: &[Position], position: Position) -> bool
     ensures { result ≡ list_any (λ q. same_position (spelled position) (spelled q)) picked.now }
 {
@@ -56,7 +57,8 @@ pub fn in_order(
     order: &[Position],
     picked: &[Position],
 ) -> Result<Vec<Position>, AllocError>
-    ensures { IfOk result (λ at. map spelled at.items ≡ filter (λ r. list_any (same_position r) (map spelled picked.now)) (map spelled order.now)) }
+    ensures { IfOk result (λ at. map spelled at.items ≡ filter
+        (λ r. list_any (same_position r) (map spelled picked.now)) (map spelled order.now)) }
 {
     let mut at = Vec::new(alloc);
     for position in order {

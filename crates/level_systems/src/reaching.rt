@@ -25,7 +25,7 @@ pub enum Reach {
     Blown,
 }
 
-// The row of constant -1 and coefficients 0.
+/// The row of constant -1 and coefficients 0.
 fn bottom(alloc: Global, width: u32) -> Result<Row, AllocError>
     ensures { IfOk result (λ r. plain_row r ≡ bottom_row width) }
 {
@@ -52,7 +52,7 @@ pub fn emptiness(alloc: Global, rows: &Rows) -> Result<Reach, AllocError>
     }
 }
 
-// A point at which rows hold, if pivots or elimination find one.
+/// A point at which rows hold, if pivots or elimination find one.
 fn point_by_pivots(alloc: Global, rows: &Rows) -> Result<Option<Point>, AllocError>
     requires { HaveWidth rows.now.width rows.now.list }
     ensures { IfOk result (λ o. IfSome o (λ point. length point.w ≡ rows.now.width)) }
@@ -68,7 +68,7 @@ fn point_by_pivots(alloc: Global, rows: &Rows) -> Result<Option<Point>, AllocErr
     }
 }
 
-// The row over one more column, the last, that has the constant of a row as this column's coefficient.
+/// The row over one more column, the last, that has the constant of a row as this column's coefficient.
 fn at_last(alloc: Global, row: &Row, constant: i128) -> Result<Row, AllocError>
     ensures { IfOk result (λ r. plain_row r ≡ at_last (plain_row row.now) constant) }
 {
@@ -77,14 +77,15 @@ fn at_last(alloc: Global, row: &Row, constant: i128) -> Result<Row, AllocError>
     Ok(Row { constant, coeffs })
 }
 
-// Appends rows over one more column, which stands for the t of a point.
+/// Appends rows over one more column, which stands for the t of a point.
 fn add_rows(alloc: Global, test: &mut Rows, rows: &Rows) -> Result<(), AllocError>
     requires width { test.old.width ≡ rows.now.width + 1 }
     requires test { HaveWidth test.old.width test.old.list }
     requires rows { HaveWidth rows.now.width rows.now.list }
     ensures width { test.new.width ≡ test.old.width }
     ensures test { HaveWidth test.new.width test.new.list }
-    ensures rows { OnOk result (plain_rows test.new.list ≡ plain_rows test.old.list ++ map (λ r. at_last r (pos 0)) (plain_rows rows.now.list)) }
+    ensures rows { OnOk result (plain_rows test.new.list ≡ plain_rows test.old.list ++ map
+        (λ r. at_last r (pos 0)) (plain_rows rows.now.list)) }
 {
     for row in rows.list.as_slice() {
         test.push(at_last(alloc, row, 0)?)?;
@@ -92,13 +93,14 @@ fn add_rows(alloc: Global, test: &mut Rows, rows: &Rows) -> Result<(), AllocErro
     Ok(())
 }
 
-// Appends that the last column is at least 1.
+/// Appends that the last column is at least 1.
 fn add_last(alloc: Global, test: &mut Rows, width: u32) -> Result<(), AllocError>
     requires width { test.old.width ≡ width + 1 }
     requires test { HaveWidth test.old.width test.old.list }
     ensures width { test.new.width ≡ test.old.width }
     ensures test { HaveWidth test.new.width test.new.list }
-    ensures rows { OnOk result (plain_rows test.new.list ≡ plain_rows test.old.list ++ (negsuc 0 ∷ (zeros width ++ pos 1 ∷ [])) ∷ []) }
+    ensures rows { OnOk result (plain_rows test.new.list ≡ plain_rows test.old.list
+        ++ (negsuc 0 ∷ (zeros width ++ pos 1 ∷ [])) ∷ []) }
 {
     let mut coeffs = zeros(alloc, width as usize)?;
     coeffs.push(1)?;
@@ -108,13 +110,15 @@ fn add_last(alloc: Global, test: &mut Rows, width: u32) -> Result<(), AllocError
     })
 }
 
-// The rows that are solved to test whether rows are empty. That the row of constant -1 is at most -1 says once more
-// that the last column is at least 1.
+/// The rows that are solved to test whether rows are empty. That the row of constant -1 is at most -1 says once more
+/// that the last column is at least 1.
 fn test_of(alloc: Global, rows: &Rows) -> Result<Rows, AllocError>
     requires { HaveWidth rows.now.width rows.now.list }
     ensures width { IfOk result (λ test. test.width ≡ rows.now.width + 1) }
     ensures test { IfOk result (λ test. HaveWidth test.width test.list) }
-    ensures rows { IfOk result (λ test. plain_rows test.list ≡ test_rows rows.now.width (plain_rows rows.now.list) (bottom_row rows.now.width)) }
+    ensures rows { IfOk result
+        (λ test. plain_rows test.list ≡ test_rows rows.now.width (plain_rows rows.now.list)
+        (bottom_row rows.now.width)) }
 {
     // There is no memory for that many variables.
     let Some(last) = rows.width.checked_add(1) else {
@@ -127,7 +131,7 @@ fn test_of(alloc: Global, rows: &Rows) -> Result<Rows, AllocError>
     Ok(test)
 }
 
-// The point of the rows that a point of their test is.
+/// The point of the rows that a point of their test is.
 fn last_first(point: Point, width: usize) -> Point
     ensures t { result.t ≡ entry point.w width }
     ensures w { result.w ≡ take width point.w }
@@ -141,7 +145,7 @@ fn last_first(point: Point, width: usize) -> Point
     }
 }
 
-// A point at which rows hold, if elimination alone finds one.
+/// A point at which rows hold, if elimination alone finds one.
 fn point_by_elimination(alloc: Global, rows: &Rows) -> Result<Option<Point>, AllocError>
     requires { HaveWidth rows.now.width rows.now.list }
     ensures long { IfOk result (λ o. IfSome o (λ point. length point.w ≡ rows.now.width)) }
@@ -159,7 +163,8 @@ fn point_by_elimination(alloc: Global, rows: &Rows) -> Result<Option<Point>, All
 pub fn point_of(alloc: Global, rows: &Rows, by_pivots: bool) -> Result<Option<Point>, AllocError>
     requires { HaveWidth rows.now.width rows.now.list }
     ensures long { IfOk result (λ o. IfSome o (λ point. length point.w ≡ rows.now.width)) }
-    ensures exact { by_pivots ≡ false → IfOk result (IsFoundPoint rows.now.width (plain_rows rows.now.list)) }
+    ensures exact { by_pivots ≡ false
+        → IfOk result (IsFoundPoint rows.now.width (plain_rows rows.now.list)) }
 {
     if by_pivots {
         return point_by_pivots(alloc, rows);

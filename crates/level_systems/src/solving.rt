@@ -15,7 +15,8 @@ pub fn solve_by(alloc: Global, rows: &Rows, by_pivots: bool) -> Result<Solved, E
     requires { HaveWidth rows.now.width rows.now.list }
     ensures decides { IfOk result (Decides rows.now.width (plain_rows rows.now.list)) }
     ensures blown { IsBlownAs (solution rows.now.width (plain_rows rows.now.list)) result }
-    ensures exact { by_pivots ≡ false → Spells (solution rows.now.width (plain_rows rows.now.list)) result }
+    ensures exact { by_pivots ≡ false
+        → Spells (solution rows.now.width (plain_rows rows.now.list)) result }
 {
     if by_pivots {
         return simplex::solve(alloc, rows);

@@ -21,7 +21,7 @@ use cti_terms::PredId;
 use linear_rows::{Numbers, Row, Rows};
 use std::alloc::{AllocError, Global};
 
-// The number of a row in a column.
+/// The number of a row in a column.
 fn number(row: &Row, x: usize) -> i128
     requires { x < length (plain_row row.now) }
     ensures { result ≡ entry (plain_row row.now) x }
@@ -33,7 +33,7 @@ fn number(row: &Row, x: usize) -> i128
     }
 }
 
-// What a position's coefficient counts in a column of the level of an atom with these sizes.
+/// What a position's coefficient counts in a column of the level of an atom with these sizes.
 fn share_of(pred: PredId, sizes: &Rows, x: usize, position: &Position) -> i128
     requires sizes { AreSizes x sizes.now }
     ensures share { result ≡ share pred.0 (plain_rows sizes.now.list) x (spelled position.now) }
@@ -46,11 +46,13 @@ fn share_of(pred: PredId, sizes: &Rows, x: usize, position: &Position) -> i128
     number(sizes.list.get(place), x)
 }
 
-// What a position's coefficient counts in a column of a call's row.
+/// What a position's coefficient counts in a column of a call's row.
 fn position_of(own: &OwnCall, x: usize, position: &Position) -> i128
     requires head { AreSizes x own.now.caller_sizes }
     requires call { AreSizes x own.now.callee_sizes }
-    ensures { result ≡ share own.now.caller.0 (plain_rows own.now.caller_sizes.list) x (spelled position.now) -ℤ share own.now.callee.0 (plain_rows own.now.callee_sizes.list) x (spelled position.now) }
+    ensures { result ≡ share own.now.caller.0 (plain_rows own.now.caller_sizes.list) x
+        (spelled position.now) -ℤ share own.now.callee.0 (plain_rows own.now.callee_sizes.list) x
+        (spelled position.now) }
 {
     share_of(own.caller, &own.caller_sizes, x, position)
         - share_of(own.callee, &own.callee_sizes, x, position)
@@ -66,7 +68,9 @@ pub(crate) fn add_positions(
     requires head { AreSizes x own.now.caller_sizes }
     requires call { AreSizes x own.now.callee_sizes }
     ensures { OnOk result (row.new.items ≡ row.old.items ++ map (λ p.
-        share own.now.caller.0 (plain_rows own.now.caller_sizes.list) x (spelled p) -ℤ share own.now.callee.0 (plain_rows own.now.callee_sizes.list) x (spelled p)) positions.now) }
+        share own.now.caller.0 (plain_rows own.now.caller_sizes.list) x
+        (spelled p) -ℤ share own.now.callee.0 (plain_rows own.now.callee_sizes.list) x
+        (spelled p)) positions.now) }
 {
     for position in positions {
         row.push(position_of(own, x, position))?;
@@ -74,7 +78,7 @@ pub(crate) fn add_positions(
     Ok(())
 }
 
-// What the offset of a member counts in a column of a call's row.
+/// What the offset of a member counts in a column of a call's row.
 fn offset_of(own: &OwnCall, x: usize, member: PredId) -> i128
     ensures { result ≡ offset_share own.now.caller.0 x member.0 -ℤ offset_share own.now.callee.0 x member.0 }
 {
@@ -91,7 +95,8 @@ pub(crate) fn add_offsets(
     x: usize,
     members: &[PredId],
 ) -> Result<(), AllocError>
-    ensures { OnOk result (row.new.items ≡ row.old.items ++ map (λ m. offset_share own.now.caller.0 x m.0 -ℤ offset_share own.now.callee.0 x m.0) members.now) }
+    ensures { OnOk result (row.new.items ≡ row.old.items ++ map
+        (λ m. offset_share own.now.caller.0 x m.0 -ℤ offset_share own.now.callee.0 x m.0) members.now) }
 {
     for member in members {
         row.push(offset_of(own, x, *member))?;
@@ -109,7 +114,7 @@ pub(crate) fn add_zeros(row: &mut Vec<i128>, count: usize) -> Result<(), AllocEr
     Ok(())
 }
 
-// The number of a row with the other sign.
+/// The number of a row with the other sign.
 fn negated(row: &Row, x: usize) -> i128
     requires there { x < length (plain_row row.now) }
     requires fits { fits (entry (plain_row row.now) x) ≡ true }
@@ -122,7 +127,8 @@ fn negated(row: &Row, x: usize) -> i128
 pub(crate) fn add_multipliers(row: &mut Vec<i128>, rows: &[Row], x: usize) -> Result<(), AllocError>
     requires there { All (λ r. x < length (plain_row r)) rows.now }
     requires fits { All (λ r. fits (entry (plain_row r) x) ≡ true) rows.now }
-    ensures { OnOk result (row.new.items ≡ row.old.items ++ map (λ r. neg_ℤ (entry (plain_row r) x)) rows.now) }
+    ensures { OnOk result (row.new.items ≡ row.old.items ++ map
+        (λ r. neg_ℤ (entry (plain_row r) x)) rows.now) }
 {
     for before in rows {
         row.push(negated(before, x))?;
@@ -137,7 +143,7 @@ pub(crate) fn less_one(x: usize) -> i128
     if x == 0 { -1 } else { 0 }
 }
 
-// The numbers of the coefficients in the row of a call and a column, with the multipliers of other calls around its own.
+/// The numbers of the coefficients in the row of a call and a column, with the multipliers of other calls around its own.
 fn row_numbers(
     alloc: Global,
     own: &OwnCall,
@@ -151,7 +157,8 @@ fn row_numbers(
     requires call { AreSizes x own.now.callee_sizes }
     requires there { All (λ r. x < length (plain_row r)) own.now.rows.list }
     requires fits { All (λ r. fits (entry (plain_row r) x) ≡ true) own.now.rows.list }
-    ensures { IfOk result (λ row. row.items ≡ held_numbers own.now positions.now members.now before after x) }
+    ensures { IfOk result (λ row. row.items
+        ≡ held_numbers own.now positions.now members.now before after x) }
 {
     let mut row = Vec::new(alloc);
     add_positions(&mut row, own, x, positions)?;
@@ -162,7 +169,7 @@ fn row_numbers(
     Ok(row)
 }
 
-// The row of a call and a column.
+/// The row of a call and a column.
 fn call_row(
     alloc: Global,
     own: &OwnCall,
@@ -176,7 +183,8 @@ fn call_row(
     requires call { AreSizes x own.now.callee_sizes }
     requires there { All (λ r. x < length (plain_row r)) own.now.rows.list }
     requires fits { All (λ r. fits (entry (plain_row r) x) ≡ true) own.now.rows.list }
-    ensures { IfOk result (λ row. plain_row row ≡ less_one x ∷ held_numbers own.now positions.now members.now before after x) }
+    ensures { IfOk result (λ row. plain_row row ≡ less_one x
+        ∷ held_numbers own.now positions.now members.now before after x) }
 {
     let row = row_numbers(alloc, own, positions, members, before, after, x)?;
     Ok(Row {
@@ -185,7 +193,7 @@ fn call_row(
     })
 }
 
-// The rows of a call, one for each column, with the multipliers of other calls around its own.
+/// The rows of a call, one for each column, with the multipliers of other calls around its own.
 fn add_call(
     alloc: Global,
     own: &OwnCall,
@@ -196,11 +204,15 @@ fn add_call(
     system: &mut Rows,
 ) -> Result<(), AllocError>
     requires numbers { HasNumbers own.now }
-    requires width { length positions.now + (length members.now + (before + (length own.now.rows.list + after))) ≡ system.old.width }
+    requires width { length positions.now +
+        (length members.now + (before + (length own.now.rows.list + after))) ≡ system.old.width }
     ensures width { system.new.width ≡ system.old.width }
-    ensures widths { HaveWidth system.old.width system.old.list → HaveWidth system.new.width system.new.list }
-    ensures rows { OnOk result ((expression : ℕ → Tree → List ℤ) (o : Recalled) → Recalls expression o own.now
-        → plain_rows system.new.list ≡ plain_rows system.old.list ++ call_rows expression (map spelled positions.now) (map number_of members.now) before after o) }
+    ensures widths { HaveWidth system.old.width system.old.list
+        → HaveWidth system.new.width system.new.list }
+    ensures rows { OnOk result ((expression : ℕ → Tree → List ℤ) (o : Recalled)
+        → Recalls expression o own.now
+        → plain_rows system.new.list ≡ plain_rows system.old.list ++ call_rows expression
+        (map spelled positions.now) (map number_of members.now) before after o) }
 {
     for x in 0..own.rows.width as usize + 1 {
         system.push(call_row(alloc, own, positions, members, before, after, x)?)?;
@@ -208,7 +220,7 @@ fn add_call(
     Ok(())
 }
 
-// How many multipliers the calls that can be reached have together. There is no memory for more than a count can say.
+/// How many multipliers the calls that can be reached have together. There is no memory for more than a count can say.
 fn count_of(calls: &[OwnCall]) -> Result<usize, AllocError>
     ensures { IfOk result (λ n. n ≡ count_of calls.now) }
 {
@@ -250,10 +262,13 @@ pub fn support_system(
     members: &[PredId],
 ) -> Result<Rows, AllocError>
     requires numbers { AllByRecursion HasNumbers calls.now }
-    ensures width { IfOk result (λ rows. rows.width ≡ length positions.now + (length members.now + count_of calls.now)) }
+    ensures width { IfOk result
+        (λ rows. rows.width ≡ length positions.now + (length members.now + count_of calls.now)) }
     ensures widths { IfOk result (λ rows. HaveWidth rows.width rows.list) }
-    ensures rows { IfOk result (λ rows. (expression : ℕ → Tree → List ℤ) (re : OwnCall → Recalled) → AllByRecursion (λ own. Recalls expression (re own) own) calls.now
-        → plain_rows rows.list ≡ support_rows expression (map spelled positions.now) (map number_of members.now) (map re (live_of calls.now))) }
+    ensures rows { IfOk result (λ rows. (expression : ℕ → Tree → List ℤ) (re : OwnCall → Recalled)
+        → AllByRecursion (λ own. Recalls expression (re own) own) calls.now
+        → plain_rows rows.list ≡ support_rows expression (map spelled positions.now)
+        (map number_of members.now) (map re (live_of calls.now))) }
 {
     let count = count_of(calls)?;
     let mut system = Rows::new(alloc, width_of(positions.len(), members.len(), count)?);

@@ -25,7 +25,7 @@ use cti_terms::PredId;
 use linear_rows::{Numbers, Row, Rows};
 use std::alloc::{AllocError, Global};
 
-// What the drops of calls count in a column of a call's row, with the given number of calls before and after it.
+/// What the drops of calls count in a column of a call's row, with the given number of calls before and after it.
 fn add_drops(row: &mut Vec<i128>, earlier: usize, later: usize, x: usize) -> Result<(), AllocError>
     ensures { OnOk result (row.new.items ≡ row.old.items ++ drop_entries earlier later x) }
 {
@@ -34,8 +34,8 @@ fn add_drops(row: &mut Vec<i128>, earlier: usize, later: usize, x: usize) -> Res
     add_zeros(row, later)
 }
 
-// The numbers after the constant in the row of a call and a column, with the drops and multipliers of other calls around
-// its own.
+/// The numbers after the constant in the row of a call and a column, with the drops and multipliers of other calls around
+/// its own.
 fn turn_numbers(
     alloc: Global,
     own: &OwnCall,
@@ -51,7 +51,8 @@ fn turn_numbers(
     requires call { AreSizes x own.now.callee_sizes }
     requires there { All (λ r. x < length (plain_row r)) own.now.rows.list }
     requires fits { All (λ r. fits (entry (plain_row r) x) ≡ true) own.now.rows.list }
-    ensures { IfOk result (λ row. row.items ≡ turned_numbers own.now positions.now members.now earlier later before after x) }
+    ensures { IfOk result (λ row. row.items
+        ≡ turned_numbers own.now positions.now members.now earlier later before after x) }
 {
     let mut row = Vec::new(alloc);
     add_positions(&mut row, own, x, positions)?;
@@ -63,7 +64,7 @@ fn turn_numbers(
     Ok(row)
 }
 
-// The row of a call and a column.
+/// The row of a call and a column.
 fn turn_row(
     alloc: Global,
     own: &OwnCall,
@@ -79,7 +80,8 @@ fn turn_row(
     requires call { AreSizes x own.now.callee_sizes }
     requires there { All (λ r. x < length (plain_row r)) own.now.rows.list }
     requires fits { All (λ r. fits (entry (plain_row r) x) ≡ true) own.now.rows.list }
-    ensures { IfOk result (λ row. plain_row row ≡ pos 0 ∷ turned_numbers own.now positions.now members.now earlier later before after x) }
+    ensures { IfOk result (λ row. plain_row row
+        ≡ pos 0 ∷ turned_numbers own.now positions.now members.now earlier later before after x) }
 {
     let row = turn_numbers(
         alloc, own, positions, members, earlier, later, before, after, x,
@@ -90,7 +92,7 @@ fn turn_row(
     })
 }
 
-// The rows of a call, one for each column, with the drops and multipliers of other calls around its own.
+/// The rows of a call, one for each column, with the drops and multipliers of other calls around its own.
 fn add_turn(
     alloc: Global,
     own: &OwnCall,
@@ -103,11 +105,16 @@ fn add_turn(
     system: &mut Rows,
 ) -> Result<(), AllocError>
     requires numbers { HasNumbers own.now }
-    requires width { length positions.now + (length members.now + ((earlier + (later + 1)) + (before + (length own.now.rows.list + after)))) ≡ system.old.width }
+    requires width { length positions.now +
+        (length members.now + ((earlier + (later + 1)) +
+        (before + (length own.now.rows.list + after)))) ≡ system.old.width }
     ensures width { system.new.width ≡ system.old.width }
-    ensures widths { HaveWidth system.old.width system.old.list → HaveWidth system.new.width system.new.list }
-    ensures rows { OnOk result ((expression : ℕ → Tree → List ℤ) (o : Recalled) → Recalls expression o own.now
-        → plain_rows system.new.list ≡ plain_rows system.old.list ++ call_turn_rows expression (map spelled positions.now) (map number_of members.now) earlier later before after o) }
+    ensures widths { HaveWidth system.old.width system.old.list
+        → HaveWidth system.new.width system.new.list }
+    ensures rows { OnOk result ((expression : ℕ → Tree → List ℤ) (o : Recalled)
+        → Recalls expression o own.now
+        → plain_rows system.new.list ≡ plain_rows system.old.list ++ call_turn_rows expression
+        (map spelled positions.now) (map number_of members.now) earlier later before after o) }
 {
     for x in 0..own.rows.width as usize + 1 {
         let row = turn_row(
@@ -118,7 +125,7 @@ fn add_turn(
     Ok(())
 }
 
-// The given number of ones.
+/// The given number of ones.
 fn add_ones(row: &mut Vec<i128>, count: usize) -> Result<(), AllocError>
     ensures { OnOk result (row.new.items ≡ row.old.items ++ ones count) }
 {
@@ -128,7 +135,7 @@ fn add_ones(row: &mut Vec<i128>, count: usize) -> Result<(), AllocError>
     Ok(())
 }
 
-// That the drops are together at least 1.
+/// That the drops are together at least 1.
 fn sum_row(
     alloc: Global,
     positions: usize,
@@ -136,7 +143,8 @@ fn sum_row(
     calls: usize,
     count: usize,
 ) -> Result<Row, AllocError>
-    ensures { IfOk result (λ row. plain_row row ≡ negsuc 0 ∷ (((zeros positions ++ zeros members) ++ ones calls) ++ zeros count)) }
+    ensures { IfOk result (λ row. plain_row row
+        ≡ negsuc 0 ∷ (((zeros positions ++ zeros members) ++ ones calls) ++ zeros count)) }
 {
     let mut row = Vec::new(alloc);
     add_zeros(&mut row, positions)?;
@@ -149,7 +157,7 @@ fn sum_row(
     })
 }
 
-// How many rows the calls have before them together. There is no memory for more than a count can say.
+/// How many rows the calls have before them together. There is no memory for more than a count can say.
 fn all_rows(calls: &[&OwnCall]) -> Result<usize, AllocError>
     ensures { IfOk result (λ n. n ≡ all_rows (held_of calls.now)) }
 {
@@ -172,10 +180,14 @@ pub fn turn_system(
     members: &[PredId],
 ) -> Result<Rows, AllocError>
     requires numbers { AllByRecursion HasNumbers (held_of calls.now) }
-    ensures width { IfOk result (λ rows. rows.width ≡ length positions.now + (length members.now + (length calls.now + all_rows (held_of calls.now)))) }
+    ensures width { IfOk result
+        (λ rows. rows.width ≡ length positions.now +
+        (length members.now + (length calls.now + all_rows (held_of calls.now)))) }
     ensures widths { IfOk result (λ rows. HaveWidth rows.width rows.list) }
-    ensures rows { IfOk result (λ rows. (expression : ℕ → Tree → List ℤ) (re : OwnCall → Recalled) → AllByRecursion (λ own. Recalls expression (re own) own) (held_of calls.now)
-        → plain_rows rows.list ≡ turn_rows expression (map spelled positions.now) (map number_of members.now) (map re (held_of calls.now))) }
+    ensures rows { IfOk result (λ rows. (expression : ℕ → Tree → List ℤ) (re : OwnCall → Recalled)
+        → AllByRecursion (λ own. Recalls expression (re own) own) (held_of calls.now)
+        → plain_rows rows.list ≡ turn_rows expression (map spelled positions.now)
+        (map number_of members.now) (map re (held_of calls.now))) }
 {
     let count = all_rows(calls)?;
     let Some(others) = calls.len().checked_add(count) else {

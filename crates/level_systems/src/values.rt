@@ -15,10 +15,11 @@ use linear_rows::Numbers;
 use number_tests::LevelPart;
 use std::alloc::{AllocError, Global};
 
-// The value of a position, or 0 where it has none.
+/// The value of a position, or 0 where it has none.
 fn value_at(positions: &[Position], values: &Numbers, pred: PredId, argument: u32) -> i128
     requires { AreDistinct (map spelled positions.now) }
-    ensures { (cs : List ℕ) → length cs ≡ length positions.now → take (length positions.now) values.now ≡ map pos cs
+    ensures { (cs : List ℕ) → length cs ≡ length positions.now
+        → take (length positions.now) values.now ≡ map pos cs
         → result ≡ pos (value_of_position (map spelled positions.now) cs pred.0 argument) }
 {
     for i in 0..positions.len() {
@@ -29,11 +30,12 @@ fn value_at(positions: &[Position], values: &Numbers, pred: PredId, argument: u3
     0
 }
 
-// The offset of a member, or 0 where it has none. Offsets come after the given number of other values.
+/// The offset of a member, or 0 where it has none. Offsets come after the given number of other values.
 fn offset_at(members: &[PredId], values: &Numbers, before: usize, pred: PredId) -> i128
     requires apart { Apart (map number_of members.now) }
     requires room { before + length members.now ≤ length values.now }
-    ensures { (os : List ℕ) → length os ≡ length members.now → take (length members.now) (drop before values.now) ≡ map pos os
+    ensures { (os : List ℕ) → length os ≡ length members.now
+        → take (length members.now) (drop before values.now) ≡ map pos os
         → result ≡ pos (value_of_member (map number_of members.now) os pred.0) }
 {
     for i in 0..members.len() {
@@ -44,7 +46,7 @@ fn offset_at(members: &[PredId], values: &Numbers, before: usize, pred: PredId) 
     0
 }
 
-// The coefficients of a predicate.
+/// The coefficients of a predicate.
 fn coefficients(
     alloc: Global,
     positions: &[Position],
@@ -53,8 +55,10 @@ fn coefficients(
     arity: u32,
 ) -> Result<Numbers, AllocError>
     requires { AreDistinct (map spelled positions.now) }
-    ensures { IfOk result (λ numbers. (cs : List ℕ) → length cs ≡ length positions.now → take (length positions.now) values.now ≡ map pos cs
-        → numbers ≡ map pos (map (value_of_position (map spelled positions.now) cs pred.0) (columns 0 arity))) }
+    ensures { IfOk result (λ numbers. (cs : List ℕ) → length cs ≡ length positions.now
+        → take (length positions.now) values.now ≡ map pos cs
+        → numbers ≡ map pos (map (value_of_position (map spelled positions.now) cs pred.0)
+        (columns 0 arity))) }
 {
     let mut numbers = Numbers::new(alloc);
     for argument in 0..arity {
@@ -76,9 +80,12 @@ pub fn level_part(
     requires members { Apart (map number_of members.now) }
     requires pred { pred.0 < length p.now.preds }
     requires room { length positions.now + length members.now ≤ length values.now }
-    ensures { IfOk result (λ part. (cs os : List ℕ) → length cs ≡ length positions.now → length os ≡ length members.now
-        → take (length positions.now) values.now ≡ map pos cs → take (length members.now) (drop (length positions.now) values.now) ≡ map pos os
-        → IsPartOf (mapping_at (arity_in p.now) (map spelled positions.now) (map number_of members.now) cs os) pred.0 part) }
+    ensures { IfOk result (λ part. (cs os : List ℕ) → length cs ≡ length positions.now
+        → length os ≡ length members.now
+        → take (length positions.now) values.now ≡ map pos cs
+        → take (length members.now) (drop (length positions.now) values.now) ≡ map pos os
+        → IsPartOf (mapping_at (arity_in p.now) (map spelled positions.now)
+        (map number_of members.now) cs os) pred.0 part) }
 {
     let coeffs = coefficients(alloc, positions, values, pred, p.pred(pred).arity)?;
     Ok(LevelPart {

@@ -3,7 +3,7 @@ use Rattle.std.proofs.Common.{◌≡◌, ℕ, suc, ◌+◌, ◌<◌, Bool, true,
 use Rattle.std.proofs.lemmas.Bool.{and_parts}
 use Rattle.std.specs.List.{AllByRecursion}
 use Rattle.call_components.specs.Partition.{Partition}
-use Rattle.cert_structure.specs.Shape.{items_of, rows_of, rows_of_atoms, AreMultipliers}
+use Rattle.cert_structure.specs.Shape.{items_of, rows_of, rows_of_atoms, HaveMultipliers}
 use Rattle.cert_structure.proofs.LevelLemmas.{place_behind, front, one_longer, rows_more}
 use Rattle.cti_terms.specs.declared.atom_list.Atom.{Atom}
 use Rattle.fact_reading.specs.declared.stop.Reason.TheVariants as reason
@@ -31,7 +31,7 @@ module _ (k j rows : ℕ) where
       let (one, right) = many_sound (take_drop k j rows m) (drops_line k j m) _ (drop_taken k j rows m) 0 s q.1 q.0 read in
       go q one right (nat_le 1 (length q.0) && nat_le (length q.0) n) refl more
     where
-      go : (q : List Multipliers × List LexFact) → s ≡ lines_from 0 (drops_line k j m) q.0 ++ q.1 → AllByRecursion (AreMultipliers rows) q.0
+      go : (q : List Multipliers × List LexFact) → s ≡ lines_from 0 (drops_line k j m) q.0 ++ q.1 → AllByRecursion (HaveMultipliers rows) q.0
           → (b : Bool) → (nat_le 1 (length q.0) && nat_le (length q.0) n) ≡ b → if◌then◌else◌ {A = Read LexFact (List Multipliers)} b (Ok q) (wrong_at q.1 reason.Extra) ≡ Ok (x, t)
           → (s ≡ lines_from 0 (drops_line k j m) x ++ t) × IsPlace rows n x
       go q one right true test same =

@@ -6,7 +6,7 @@ use Rattle.std.specs.List.{AllByRecursion}
 use Rattle.bool_diagrams.specs.declared.cube.Cell.{Cell}
 use Rattle.call_components.specs.Partition.{Partition}
 use Rattle.cert_structure.specs.Order.{pred_text}
-use Rattle.cert_structure.specs.Shape.{arity_in, head_of, body_of, rows_of, rows_of_atoms, items_of, IsMode, IsSizeRow, AreMultipliers, HasWidth}
+use Rattle.cert_structure.specs.Shape.{arity_in, head_of, body_of, rows_of, rows_of_atoms, items_of, IsMode, IsSizeRow, HaveMultipliers, HasWidth}
 use Rattle.cert_structure.proofs.LevelLemmas.{arity_text, not_same}
 use Rattle.cert_structure.proofs.TakeLemmas.{same_itself}
 use Rattle.certificate.specs.declared.pred_text.PredText.{PredText}
@@ -305,11 +305,11 @@ module _ (p : Listing) (names : List (List ℕ)) where
 
 module _ (p : Listing) (rows : List Rows) where
   pub proofs_section : (s t : List LexFact) (xs : List (List Multipliers)) → read_each (read_proofs p rows) 0 (length p.clauses) s ≡ Ok (xs, t)
-      → (s ≡ proof_facts xs ++ t) × AreEach (length p.clauses) (λ k. AreEach (rows_of rows (head_of p k)) (λ _. AreMultipliers (rows_of_atoms rows (body_of p k)))) xs
+      → (s ≡ proof_facts xs ++ t) × AreEach (length p.clauses) (λ k. AreEach (rows_of rows (head_of p k)) (λ _. HaveMultipliers (rows_of_atoms rows (body_of p k)))) xs
   unfolding read_proofs
   proofs_section s t xs e =
       let (whole, count, each) = each_sound (read_proofs p rows) (λ k ms. lines_from 0 (by_line k) ms)
-      (λ k ms. AreEach (rows_of rows (head_of p k)) (λ _. AreMultipliers (rows_of_atoms rows (body_of p k))) ms)
+      (λ k ms. AreEach (rows_of rows (head_of p k)) (λ _. HaveMultipliers (rows_of_atoms rows (body_of p k))) ms)
       (λ k s t x read.
       let (one, count, each) = counted_sound (take_proof k (rows_of_atoms rows (body_of p k))) (by_line k) _ (proof_taken k (rows_of_atoms rows (body_of p k))) 0 (rows_of rows (head_of p k)) s t x read in
       (one, record { count = count; each = each }))
@@ -317,12 +317,12 @@ module _ (p : Listing) (rows : List Rows) where
       (whole, record { count = count; each = each })
 
   pub proofs_listed : (xs : List (List Multipliers)) (t : List LexFact)
-      → AreEach (length p.clauses) (λ k. AreEach (rows_of rows (head_of p k)) (λ _. AreMultipliers (rows_of_atoms rows (body_of p k)))) xs
+      → AreEach (length p.clauses) (λ k. AreEach (rows_of rows (head_of p k)) (λ _. HaveMultipliers (rows_of_atoms rows (body_of p k)))) xs
       → read_each (read_proofs p rows) 0 (length p.clauses) (proof_facts xs ++ t) ≡ Ok (xs, t)
   unfolding read_proofs
   proofs_listed xs t h =
       each_back (read_proofs p rows) (λ k ms. lines_from 0 (by_line k) ms)
-      (λ k ms. AreEach (rows_of rows (head_of p k)) (λ _. AreMultipliers (rows_of_atoms rows (body_of p k))) ms)
+      (λ k ms. AreEach (rows_of rows (head_of p k)) (λ _. HaveMultipliers (rows_of_atoms rows (body_of p k))) ms)
       (λ a f. Unit {0}) (length p.clauses)
       (λ k x t below right none.
       counted_back (take_proof k (rows_of_atoms rows (body_of p k))) (by_line k) _ (proof_given k (rows_of_atoms rows (body_of p k))) 0 (rows_of rows (head_of p k)) x t right.count right.each)

@@ -8,7 +8,7 @@ use Rattle.std.specs.Ordering.{int_eq}
 use Rattle.std.specs.List.{AllByRecursion}
 use Rattle.call_components.specs.Partition.{Partition}
 use Rattle.cert_structure.specs.Order.{pred_text}
-use Rattle.cert_structure.specs.Shape.{vars_of, items_of, first_of, is_recursive, is_pair, IsBefore, pair_of, PairsAscend, IsPoint}
+use Rattle.cert_structure.specs.Shape.{vars_of, items_of, first_of, is_recursive, is_pair, IsBefore, place_of_pair, PairsAscend, IsPoint}
 use Rattle.cert_structure.specs.Walk.{is_amount, are_amounts, is_before, point_read}
 use Rattle.cert_structure.proofs.PointLemmas.{before_is}
 use Rattle.cert_structure.proofs.TakeLemmas.{other_taken, placed, kept_is, amount_is, amount_back, amounts_are, amounts_back}
@@ -75,7 +75,7 @@ stuck_is clause call vars t w y e = go (int_eq t (pos 0)) refl e
 module _ (p : Listing) (comps : Partition) (a : ℕ) where
   -- what is asked of a pair after another
   pub record IsNext (last : ℕ × ℕ) (y : PairPoint) : Type 0 where
-    pub before : IsBefore last (pair_of y)
+    pub before : IsBefore last (place_of_pair y)
     pub right : IsStuckPoint p comps a y
 
   pub point_taken : (last : ℕ × ℕ) → IsTaken (take_point p comps a last) (λ _ y. point_line y) (IsNext last)
@@ -97,7 +97,7 @@ module _ (p : Listing) (comps : Partition) (a : ℕ) where
   point_given last i y h =
       rw (
         h.right.pair,
-        before_back last (pair_of y) h.before,
+        before_back last (place_of_pair y) h.before,
         not_null y.point.t h.right.positive,
         point_back (vars_of (numbered p.clauses y.clause)) y.point h.right.point,
       ) (ap (λ z. Some (Some (record { clause = y.clause; call = y.call; point = y.point; at = z }))) (sym h.right.single))
@@ -129,7 +129,7 @@ module _ (p : Listing) (comps : Partition) (a : ℕ) where
       rw (
         next_back (take_point p comps a last) (λ _ y. point_line y) (IsNext last) (point_given last) 0 x (lines_from (suc i) (λ _ x. point_line x) xs ++ t)
             (record { before = ascend.0; right = all.0 }),
-        points_given n (pair_of x) (suc i) xs t (omega (arith, count)) ascend.1 all.1,
+        points_given n (place_of_pair x) (suc i) xs t (omega (arith, count)) ascend.1 all.1,
       ) refl
 
 abbrev as_set : List PairPoint × List LexFact → Option Refutation × List LexFact

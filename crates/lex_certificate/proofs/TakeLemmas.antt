@@ -9,7 +9,7 @@ use Rattle.std.specs.List.{AllByRecursion, list_all}
 use Rattle.bool_diagrams.specs.declared.cube.Cell.{Cell}
 use Rattle.bool_diagrams.specs.declared.cube.Cell.TheVariants as side
 use Rattle.cert_structure.specs.Order.{cell_of}
-use Rattle.cert_structure.specs.Shape.{Ascend, IsMode, IsSizeRow, AreMultipliers, HasWidth, IsLevel}
+use Rattle.cert_structure.specs.Shape.{Ascend, IsMode, IsSizeRow, HaveMultipliers, HasWidth, IsLevel}
 use Rattle.cert_structure.specs.Walk.{kept, same_pred, is_amount, is_entry, are_amounts, are_entries, is_mode, cell_read, row_read, multipliers_read, cube_read, level_read}
 use Rattle.cert_structure.proofs.TakeLemmas.{other_taken, placed, kept_is, same_is, same_itself, amount_is, amount_back, amounts_are, amounts_back, entries_are}
 use Rattle.certificate.specs.declared.cell.CertCell.{CertCell}
@@ -99,14 +99,14 @@ row_back : (arity : ℕ) (x : Row) → IsSizeRow arity x → row_read arity (x.c
 row_back arity x h = rw (eq-eqb (length x.coeffs) arity h.0, entry_back x.constant h.1.0, entries_back x.coeffs h.1.1) refl
 
 multipliers_are : (rows : ℕ) (scale : ℤ) (list : List ℤ) (x : Multipliers) → multipliers_read rows scale list ≡ Some (Some x)
-    → (record { scale = scale; list = list } ≡ x) × AreMultipliers rows x
+    → (record { scale = scale; list = list } ≡ x) × HaveMultipliers rows x
 multipliers_are rows scale list x e =
     let (right, same) = kept_is ((length list == rows) && (is_amount scale && are_amounts list)) (record { scale = scale; list = list }) x e in
     let (wide, more) = and_parts (length list == rows) (is_amount scale && are_amounts list) right in
     let (one, others) = and_parts (is_amount scale) (are_amounts list) more in
     rw (← same) (refl, (eqb-true (length list) rows wide, amount_is scale one, amounts_are list others))
 
-multipliers_back : (rows : ℕ) (x : Multipliers) → AreMultipliers rows x → multipliers_read rows x.scale x.list ≡ Some (Some x)
+multipliers_back : (rows : ℕ) (x : Multipliers) → HaveMultipliers rows x → multipliers_read rows x.scale x.list ≡ Some (Some x)
 multipliers_back rows x h = rw (eq-eqb (length x.list) rows h.0, amount_back x.scale h.1, amounts_back x.list h.2) refl
 
 cube_is : (arity : ℕ) (cells : List CertCell) (x : List Cell) → cube_read arity cells ≡ Some (Some x) → (cells ≡ map cell_of x) × HasWidth arity x
@@ -174,11 +174,11 @@ pub row_given : (pred : PredText) → IsBack (take_row pred) (size_line pred) (I
 unfolding take_row
 row_given pred i x h = rw (same_itself pred, eq-eqb (suc i) (suc i) refl, row_back pred.arity x h) refl
 
-pub proof_taken : (k rows : ℕ) → IsTaken (take_proof k rows) (by_line k) (AreMultipliers rows)
+pub proof_taken : (k rows : ℕ) → IsTaken (take_proof k rows) (by_line k) (HaveMultipliers rows)
 unfolding take_proof
 proof_taken k rows i f x e = go (split_proof f)
   where
-    go : ((k rows j : ℕ) → take_proof k rows j f ≡ Some None) ⊎ IsBy f → (f ≡ by_line k i x) × AreMultipliers rows x
+    go : ((k rows j : ℕ) → take_proof k rows j f ≡ Some None) ⊎ IsBy f → (f ≡ by_line k i x) × HaveMultipliers rows x
     go (inl none) = other_taken (take_proof k rows i f) x (none k rows i) e
     go (inr (clause, index, scale, list, is)) =
         let (here, some) = placed ((clause == suc k) && (index == suc i)) (multipliers_read rows scale list) x (rw is at e) in
@@ -186,7 +186,7 @@ proof_taken k rows i f x e = go (split_proof f)
         let (whole, right) = multipliers_are rows scale list x some in
         (rw (is, eqb-true clause (suc k) same, eqb-true index (suc i) number, ← whole) refl, right)
 
-pub proof_given : (k rows : ℕ) → IsBack (take_proof k rows) (by_line k) (AreMultipliers rows)
+pub proof_given : (k rows : ℕ) → IsBack (take_proof k rows) (by_line k) (HaveMultipliers rows)
 unfolding take_proof
 proof_given k rows i x h = rw (eq-eqb (suc k) (suc k) refl, eq-eqb (suc i) (suc i) refl, multipliers_back rows x h) refl
 
@@ -223,11 +223,11 @@ pub level_given : (pred : PredText) (m : ℕ) → IsBack (take_level pred m) (le
 unfolding take_level
 level_given pred m i x h = rw (same_itself pred, eq-eqb (suc m) (suc m) refl, eq-eqb (suc i) (suc i) refl, level_back pred.arity x h) refl
 
-pub drop_taken : (k j rows m : ℕ) → IsTaken (take_drop k j rows m) (drops_line k j m) (AreMultipliers rows)
+pub drop_taken : (k j rows m : ℕ) → IsTaken (take_drop k j rows m) (drops_line k j m) (HaveMultipliers rows)
 unfolding take_drop
 drop_taken k j rows m i f x e = go (split_drop f)
   where
-    go : ((k j rows m i : ℕ) → take_drop k j rows m i f ≡ Some None) ⊎ IsDrops f → (f ≡ drops_line k j m i x) × AreMultipliers rows x
+    go : ((k j rows m i : ℕ) → take_drop k j rows m i f ≡ Some None) ⊎ IsDrops f → (f ≡ drops_line k j m i x) × HaveMultipliers rows x
     go (inl none) = other_taken (take_drop k j rows m i f) x (none k j rows m i) e
     go (inr (clause, call, list, index, scale, numbers, is)) =
         let (here, some) = placed ((clause == suc k) && ((call == suc j) && ((list == suc m) && (index == suc i)))) (multipliers_read rows scale numbers) x (rw is at e) in
@@ -237,7 +237,7 @@ drop_taken k j rows m i f x e = go (split_drop f)
         let (whole, right) = multipliers_are rows scale numbers x some in
         (rw (is, eqb-true clause (suc k) one, eqb-true call (suc j) two, eqb-true list (suc m) three, eqb-true index (suc i) four, ← whole) refl, right)
 
-pub drop_given : (k j rows m : ℕ) → IsBack (take_drop k j rows m) (drops_line k j m) (AreMultipliers rows)
+pub drop_given : (k j rows m : ℕ) → IsBack (take_drop k j rows m) (drops_line k j m) (HaveMultipliers rows)
 unfolding take_drop
 drop_given k j rows m i x h =
     rw (eq-eqb (suc k) (suc k) refl, eq-eqb (suc j) (suc j) refl, eq-eqb (suc m) (suc m) refl, eq-eqb (suc i) (suc i) refl, multipliers_back rows x h) refl

@@ -6,7 +6,7 @@ use Rattle.std.specs.Prelude.{◌≡◌, ◌≢◌, ℕ, ◌≤◌, pos, IsTrue,
 use Rattle.std.specs.List.{AllByRecursion}
 use Rattle.call_components.specs.Partition.{Partition}
 use Rattle.fact_reading.specs.Numbered.{AreEach}
-use Rattle.cert_structure.specs.Shape.{AreMultipliers, HasWidth, IsLevel, IsMode, IsPoint, IsSizeRow, arity_in, body_of, first_of, head_of, is_own_call, is_pair, is_recursive, items_of, rows_of, rows_of_atoms, vars_of}
+use Rattle.cert_structure.specs.Shape.{HaveMultipliers, HasWidth, IsLevel, IsMode, IsPoint, IsSizeRow, arity_in, body_of, first_of, head_of, is_own_call, is_pair, is_recursive, items_of, rows_of, rows_of_atoms, vars_of}
 use Rattle.cti_terms.specs.Listing.{Listing, numbered}
 use Rattle.cti_terms.specs.declared.atom_list.Atom.{Atom}
 use Rattle.linear_rows.specs.declared.multipliers.Multipliers.{Multipliers}
@@ -32,7 +32,7 @@ lists_of_call comps lists a call = if is_own_call comps a call then items_of lis
 
 -- from 1 up to n multipliers of rows
 abbrev pub IsPlace : ℕ → ℕ → List Multipliers → Type 0
-IsPlace rows n ms = (1 ≤ length ms) × (length ms ≤ n) × AllByRecursion (AreMultipliers rows) ms
+IsPlace rows n ms = (1 ≤ length ms) × (length ms ≤ n) × AllByRecursion (HaveMultipliers rows) ms
 
 -- such multipliers for each list, one at most for each of its measures
 abbrev pub ArePlaces : ℕ → List (List LevelPart) → List (List Multipliers) → Type 0
@@ -62,7 +62,7 @@ pub record HaveShape (p : Listing) (comps : Partition) (parts : LexParts) : Type
   pub rows : AreEach (length p.preds) (λ a r. (r.width ≡ arity_in p a) × AllByRecursion (IsSizeRow (arity_in p a)) r.list) parts.rows
   -- a proof for each size row of the head, over the rows of the whole body
   pub row_proofs : AreEach (length p.clauses)
-      (λ k. AreEach (rows_of parts.rows (head_of p k)) (λ _. AreMultipliers (rows_of_atoms parts.rows (body_of p k)))) parts.row_proofs
+      (λ k. AreEach (rows_of parts.rows (head_of p k)) (λ _. HaveMultipliers (rows_of_atoms parts.rows (body_of p k)))) parts.row_proofs
   pub grounds : AreEach (length p.preds) (λ a. AllByRecursion (HasWidth (arity_in p a))) parts.grounds
   pub lists : AreEach (length p.preds) (λ a. AreLists (arity_in p a) (lengths_of comps parts.lists a)) parts.lists
   -- for a call to the own component, for each list, proofs up to the call's place, over the rows of the atoms before the call

@@ -113,7 +113,8 @@ pub(crate) struct Drops<'a> {
 impl Drops<'_> {
     /// The lists that a call of a clause with a head of this predicate has to drop in.
     fn lists_of_call(&self, head: u64, call: &Atom) -> &[Sequence<LevelPart>]
-        ensures { result.now ≡ lists_of_call self.now.calls.comps.now self.now.lists.now head (Some call.now) }
+        ensures { result.now ≡ lists_of_call self.now.calls.comps.now self.now.lists.now head
+            (Some call.now) }
     {
         if self.calls.together(head, u64::from(call.pred.0)) {
             lists_at(self.lists, head)

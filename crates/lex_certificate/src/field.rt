@@ -112,7 +112,8 @@ impl<T: Field> Field for Sequence<T> {
 
 /// Appends the items, each with a comma before it.
 fn print_others<T: Field>(items: &[T], out: &mut Vec<u8>) -> Result<(), AllocError>
-    ensures { OnOk result (out.new.items ≡ out.old.items ++ flat_map (λ x. codes "," ++ T.shown x) items.now) }
+    ensures { OnOk result (out.new.items ≡ out.old.items ++ flat_map
+        (λ x. codes "," ++ T.shown x) items.now) }
 {
     for item in items {
         out.push(b',')?;

@@ -186,7 +186,8 @@ fn levels<'f>(
     facts: &'f [LexFact],
 ) -> Result<(Sequence<Sequence<Sequence<LevelPart>>>, &'f [LexFact]), Stop>
     ensures { Agrees result
-        (read_levels calls.now.p.now names.now calls.now.comps.now [] 0 (length calls.now.p.now.preds) facts.now) }
+        (read_levels calls.now.p.now names.now calls.now.comps.now [] 0
+        (length calls.now.p.now.preds) facts.now) }
 {
     let mut lists = Sequence::new(alloc);
     let mut rest = facts;
@@ -207,7 +208,8 @@ pub(crate) fn levels_into<'f>(
     facts: &'f [LexFact],
 ) -> Result<&'f [LexFact], Stop>
     ensures { Fills result place.new
-        (read_levels calls.now.p.now names.now calls.now.comps.now [] 0 (length calls.now.p.now.preds) facts.now) }
+        (read_levels calls.now.p.now names.now calls.now.comps.now [] 0
+        (length calls.now.p.now.preds) facts.now) }
 {
     let (read, rest) = levels(alloc, calls, names, facts)?;
     *place = read;

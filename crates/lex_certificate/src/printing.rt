@@ -98,7 +98,8 @@ fn close(out: &mut Vec<u8>) -> Result<(), AllocError>
 
 /// Appends a mark of a step.
 fn mark(out: &mut Vec<u8>, before: &[u8], step: &u64) -> Result<(), AllocError>
-    ensures { OnOk result (out.new.items ≡ out.old.items ++ before.now ++ decimal step.now ++ codes ")).\n") }
+    ensures { OnOk result (out.new.items ≡ out.old.items ++ before.now ++ decimal step.now
+        ++ codes ")).\n") }
 {
     field(out, before, step)?;
     out.extend_from_slice(b")).\n")
@@ -106,7 +107,8 @@ fn mark(out: &mut Vec<u8>, before: &[u8], step: &u64) -> Result<(), AllocError>
 
 /// Appends a line with one part.
 fn one<A: Field>(out: &mut Vec<u8>, before: &[u8], a: &A) -> Result<(), AllocError>
-    ensures { OnOk result (out.new.items ≡ out.old.items ++ before.now ++ A.shown a.now ++ codes ").\n") }
+    ensures { OnOk result (out.new.items ≡ out.old.items ++ before.now ++ A.shown a.now
+        ++ codes ").\n") }
 {
     field(out, before, a)?;
     close(out)
@@ -146,7 +148,8 @@ fn four<A: Field, B: Field, C: Field, D: Field>(
     d: &D,
 ) -> Result<(), AllocError>
     ensures { OnOk result (out.new.items ≡ out.old.items ++ before.now ++ A.shown a.now
-        ++ codes "," ++ B.shown b.now ++ codes "," ++ C.shown c.now ++ codes "," ++ D.shown d.now ++ codes ").\n") }
+        ++ codes "," ++ B.shown b.now ++ codes "," ++ C.shown c.now ++ codes "," ++ D.shown d.now
+        ++ codes ").\n") }
 {
     field(out, before, a)?;
     three(out, b",", b, c, d)

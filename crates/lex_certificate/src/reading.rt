@@ -66,7 +66,8 @@ fn fill<'a, 'f>(
     parts: &mut LexParts,
     facts: &'f [LexFact],
 ) -> Result<&'f [LexFact], Stop>
-    ensures { Fills result parts.new (read_sections calls.now.p.now names.now calls.now.comps.now facts.now) }
+    ensures { Fills result parts.new
+        (read_sections calls.now.p.now names.now calls.now.comps.now facts.now) }
 {
     let p = calls.p;
     let (preds, clauses) = (u64::from(p.preds()), u64::from(p.clauses()));
@@ -145,7 +146,8 @@ fn whole(
     names: &Names,
     facts: &[LexFact],
 ) -> Result<Option<LexParts>, AllocError>
-    ensures { IfOk result (λ found. found ≡ read_whole calls.now.p.now names.now calls.now.comps.now facts.now) }
+    ensures { IfOk result (λ found. found
+        ≡ read_whole calls.now.p.now names.now calls.now.comps.now facts.now) }
 {
     match parts(alloc, calls, names, facts) {
         Ok((parts, rest)) => Ok(are_notes(rest).then_some(parts)),
@@ -157,7 +159,8 @@ fn whole(
 /// The predicates of a program are distinguished by their texts.
 fn told_apart(p: &Program, names: &Names)
     requires { AreNamed names.now p.now.preds }
-    ensures { (a b : ℕ) → a < b → b < length p.now.preds → pred_text p.now names.now b ≢ pred_text p.now names.now a }
+    ensures { (a b : ℕ) → a < b → b < length p.now.preds
+        → pred_text p.now names.now b ≢ pred_text p.now names.now a }
 {
     let _preds = p.preds();
     let _names = names.count();
@@ -178,7 +181,8 @@ pub fn parts_of(
     requires components { AreComponents p.now comps.now }
 
     // The certificate has the parts that are found.
-    ensures found { IfOk result (λ found. IfSome found (λ parts. IsStructured p.now names.now comps.now parts c.now.facts)) }
+    ensures found { IfOk result
+        (λ found. IfSome found (λ parts. IsStructured p.now names.now comps.now parts c.now.facts)) }
 
     // The parts of a certificate are found, unless memory runs out; so it has no others.
     ensures only { (parts : TheParts) → IsStructured p.now names.now comps.now parts c.now.facts
@@ -193,14 +197,17 @@ pub fn parts_of(
 ///
 /// The names are those of the program's predicates, and no two are alike.
 pub fn one_reading()
-    ensures { (p : Listing) (names : List (List ℕ)) (one other : Partition) (facts : List TheFact) (a b : TheParts)
-        → IsProgram p → AreNamed names p.preds → AllPairs (λ x y. x ≢ y) names → AreComponents p one → AreComponents p other
+    ensures { (p : Listing) (names : List (List ℕ)) (one other : Partition) (facts : List TheFact)
+        (a b : TheParts)
+        → IsProgram p → AreNamed names p.preds → AllPairs (λ x y. x ≢ y) names → AreComponents p one
+        → AreComponents p other
         → IsStructured p names one a facts → IsStructured p names other b facts → a ≡ b }
 {}
 
 /// What parts a certificate has does not depend on how the components are numbered.
 pub fn one_structure()
-    ensures { (p : Listing) (names : List (List ℕ)) (one other : Partition) (parts : TheParts) (facts : List TheFact)
+    ensures { (p : Listing) (names : List (List ℕ)) (one other : Partition) (parts : TheParts)
+        (facts : List TheFact)
         → AreComponents p one → AreComponents p other
         → IsStructured p names one parts facts → IsStructured p names other parts facts }
 {}

@@ -97,7 +97,8 @@ fn points<'f>(
     count: u64,
     facts: &'f [LexFact],
 ) -> Result<(Sequence<PairPoint>, &'f [LexFact]), Stop>
-    ensures { Agrees result (read_points calls.now.p.now calls.now.comps.now pred (0, 0) count facts.now) }
+    ensures { Agrees result (read_points calls.now.p.now calls.now.comps.now pred
+        (0, 0) count facts.now) }
 {
     let mut points = Sequence::new(alloc);
     let mut rest = facts;

@@ -11,7 +11,6 @@ use Rattle.cert_checker.proofs.Claims.{ranked, sizes}
 use Rattle.cert_checker.proofs.PrintedModes.{meets_row, same_pred}
 use Rattle.cert_checker.proofs.ShapeLaws.{arity_at, items_are, some_is}
 use Rattle.cert_checker.specs.Bounding.{ModeIsBounded}
-use Rattle.cert_checker.specs.Claimed.{rank_of}
 use Rattle.cert_modes.specs.Claimed.{ClaimModes, HoldingModesShow, IsMeasure, KeepsRows, ShowModes}
 use Rattle.cert_modes.specs.Modes as holding
 use Rattle.cert_structure.specs.Order as order
@@ -46,6 +45,7 @@ use Rattle.lex_checker.proofs.Descending.{all_at, lengths_are, lists_descend}
 use Rattle.lex_checker.proofs.Printed.{listed_bounded}
 use Rattle.lex_checker.proofs.Shapes.{has, have_drops, have_lists, have_row_proofs}
 use Rattle.lex_checker.proofs.Unions.{covers_list}
+use Rattle.termination_model.specs.ComponentViews.{rank_in}
 
 -- the claims of parts, with the sets of truth rows that they spell
 abbrev claims : Listing → Partition → LexParts → Claims
@@ -61,14 +61,14 @@ measure_at parts pre k (n ∷ ns) zero m x at e = let here : m ≡ k = omega (ar
 measure_at parts pre k (n ∷ ns) (suc i) m x at e = measure_at parts pre (suc k) ns i m x (omega (arith, at)) e
 
 module _ (p : Listing) (comps : Partition) (parts : LexParts) (prog : IsProgram p) (are : AreComponents p comps) (have : HaveShape p comps parts) where
-  rank_in : (q r : ℕ) → IsIn comps r q → rank_of comps q ≡ r
-  rank_in q r h = indexed comps.of q r (length comps.members) h
+  rank_within : (q r : ℕ) → IsIn comps r q → rank_in comps q ≡ r
+  rank_within q r h = indexed comps.of q r (length comps.members) h
 
   lists : HaveLists p comps parts
   lists = have_lists p comps parts have are
 
   -- a component has as many measures as each member has preconditions
-  measure_count : (q : ℕ) → q < length p.preds → length ((claims p comps parts).measures (rank_of comps q)) ≡ length (shape.items_of parts.preconditions q)
+  measure_count : (q : ℕ) → q < length p.preds → length ((claims p comps parts).measures (rank_in comps q)) ≡ length (shape.items_of parts.preconditions q)
   measure_count q lt =
       let (r, hq) = an_element comps.of q (omega (arith, lt, are.each)) in
       let ms = list_at comps.members r in
@@ -76,8 +76,8 @@ module _ (p : Listing) (comps : Partition) (parts : LexParts) (prog : IsProgram 
       let lengths : lengths_by parts ms ≡ map length (list_at parts.lists q) = lengths_are parts ms (map length (list_at parts.lists q)) (are.ascending r ms at).1
       (λ x e. lists.members x q ((are.members r ms at x).0 (has_contains ms x (0, e)) ∙ sym hq)) in
       let inner = has parts.preconditions have.preconditions q (list_at parts.preconditions q) (there parts.preconditions q [] (omega (arith, lt, have.preconditions.count))) in
-      measure_length parts (holding.precondition p (flat parts)) 0 (lengths_by parts (list_at comps.members (rank_of comps q)))
-      ∙ ap (λ (n : ℕ). length (lengths_by parts (list_at comps.members n))) (rank_in q r hq)
+      measure_length parts (holding.precondition p (flat parts)) 0 (lengths_by parts (list_at comps.members (rank_in comps q)))
+      ∙ ap (λ (n : ℕ). length (lengths_by parts (list_at comps.members n))) (rank_within q r hq)
       ∙ ap length lengths
       ∙ length-map (list_at parts.lists q) length
       ∙ sym (ap length (items_are parts.lists q))
@@ -87,7 +87,7 @@ module _ (p : Listing) (comps : Partition) (parts : LexParts) (prog : IsProgram 
   claim_modes : ClaimModes truth p comps (flat parts) (claims p comps parts)
   claim_modes = record {
     truth = refl;
-    ranks = rank_in;
+    ranks = rank_within;
     grounds = refl;
     each = measure_count;
     measures = λ r m x e.
@@ -115,7 +115,7 @@ module _ (p : Listing) (comps : Partition) (parts : LexParts) (prog : IsProgram 
       closed = shown_modes.closed;
       stated = hold.stated;
       measures = λ r.
-          all_both (KeepsRows p (claims p comps parts) r) (λ (m : Measure). AllByRecursion (λ (k : Clause). rank_of comps k.head.pred.0 ≡ r → DescendsProved (claims p comps parts) m k) p.clauses)
+          all_both (KeepsRows p (claims p comps parts) r) (λ (m : Measure). AllByRecursion (λ (k : Clause). rank_in comps k.head.pred.0 ≡ r → DescendsProved (claims p comps parts) m k) p.clauses)
           (ServesProved p (claims p comps parts) r) (λ m keeps descends. record { covered = keeps.covered; descends = descends; rule = keeps.rule })
           ((claims p comps parts).measures r) (shown_modes.measures r)
           (lists_descend size truth size_row p comps parts (holding.grounds_of p (flat parts)) (holding.precondition p (flat parts)) prog are lists (have_drops p comps parts have are prog) hold.drops r);

@@ -10,7 +10,6 @@ use Rattle.cti_terms.specs.declared.clauses.Clause.{Clause}
 use Rattle.cti_terms.specs.declared.predicates.Pred.{Pred}
 use Rattle.call_components.specs.Partition.{Partition, AreComponents, IsIn}
 use Rattle.call_components.proofs.Lists.{has_contains}
-use Rattle.cert_checker.specs.Claimed.{rank_of}
 use Rattle.cert_checker.specs.Shape.{AreTogether}
 use Rattle.cert_checker.proofs.Claims.{natural_is, naturals_are}
 use Rattle.level_drops.specs.Drops.{drop_of}
@@ -28,12 +27,14 @@ use Rattle.termination_model.specs.Grounds.{Family}
 use Rattle.termination_model.specs.Rows.{scaled, added}
 use Rattle.termination_model.specs.Short.{Provable, FallsProved, DescendsProved}
 use Rattle.termination_model.specs.Sizes.{rows_of}
-use Rattle.termination_model.specs.Systems.{row_over, short_system}
+use Rattle.termination_model.specs.Systems.{row_over}
+use Rattle.termination_model.specs.ShortSystems.{short_system}
 use Rattle.termination_model.proofs.Lists.{by_places, from_places, place_below, there}
-use Rattle.lex_checker.specs.Claimed.{claims_of, lengths_by, mapping_of, mappings_from, measure_of, measures_from}
+use Rattle.lex_checker.specs.Claimed.{claims_of, lengths_by, list_mapping, mappings_from, measure_of, measures_from}
 use Rattle.lex_checker.specs.Proved.{DropsHold, drop_at}
 use Rattle.lex_checker.specs.Shape.{HaveDrops, HaveLists, HavePlace}
 use Rattle.lex_certificate.specs.declared.parts.LexParts.{LexParts}
+use Rattle.termination_model.specs.ComponentViews.{rank_in}
 
 provable : (n : ℕ) (rows : List (List ℤ)) (target : List ℤ) (by : Multipliers) → AreMultipliers n by → IsShown rows target by → Provable rows target
 provable n rows target by are shown = (by.list, unsigned_abs by.scale, are.naturals, subst (Proves rows by.list target) (sym (natural_is by.scale are.scale)) shown.proves)
@@ -81,7 +82,7 @@ module _ (size : (ℕ → ℕ) → Tree → ℕ) (truth : (ℕ → Bool) → Tre
 
   drop_is : (d n k : ℕ) (c : Clause) (b : Atom) (head call : LevelPart) (m i : ℕ) → IsLevelPart n head → IsLevelPart k call
       → slice_get (list_at (list_at parts.lists c.head.pred.0) m) i ≡ Some head → slice_get (list_at (list_at parts.lists b.pred.0) m) i ≡ Some call
-      → fall_row claims c b d (mapping_of parts m i) ≡ drop_of expression d c b head call
+      → fall_row claims c b d (list_mapping parts m i) ≡ drop_of expression d c b head call
   drop_is d n k c b head call m i hn kn eh ec =
       let first = level_is n c.vars c.head head m i hn eh in
       let second = level_is k c.vars b call m i kn ec in
@@ -91,13 +92,13 @@ module _ (size : (ℕ → ℕ) → Tree → ℕ) (truth : (ℕ → Bool) → Tre
     clause_is : (k : ℕ) (c : Clause) → slice_get p.clauses k ≡ Some c → IsClause p.preds c
     clause_is = by_places (IsClause p.preds) p.clauses prog.clauses
 
-    in_rank : (vars : ℕ) (a : Atom) → IsAtom p.preds vars a → IsIn comps (rank_of comps a.pred.0) a.pred.0
+    in_rank : (vars : ℕ) (a : Atom) → IsAtom p.preds vars a → IsIn comps (rank_in comps a.pred.0) a.pred.0
     in_rank vars a is = there comps.of a.pred.0 (length comps.members) (omega (arith, are.each, some_below (λ (d : Pred). d.arity ≡ length a.args) p.preds a.pred.0 is.arity))
 
     -- a component's lists are those of each member
-    list_lengths : (vars : ℕ) (a : Atom) → IsAtom p.preds vars a → lengths_by parts (list_at comps.members (rank_of comps a.pred.0)) ≡ map length (list_at parts.lists a.pred.0)
+    list_lengths : (vars : ℕ) (a : Atom) → IsAtom p.preds vars a → lengths_by parts (list_at comps.members (rank_in comps a.pred.0)) ≡ map length (list_at parts.lists a.pred.0)
     list_lengths vars a is =
-        let r = rank_of comps a.pred.0 in
+        let r = rank_in comps a.pred.0 in
         let inside = in_rank vars a is in
         let at : slice_get comps.members r ≡ Some (list_at comps.members r) = there comps.members r [] (are.within r a.pred.0 inside) in
         lengths_are parts (list_at comps.members r) (map length (list_at parts.lists a.pred.0)) (are.ascending r (list_at comps.members r) at).1
@@ -110,7 +111,7 @@ module _ (size : (ℕ → ℕ) → Tree → ℕ) (truth : (ℕ → Bool) → Tre
         (d.arity, some_and (IsLevelPart d.arity) (list_at (list_at parts.lists a.pred.0) m) i l (all_at (IsLevelPart d.arity) (list_at parts.lists a.pred.0) m (lists.naturals a.pred.0 d at)) e)
 
     module _ (k : ℕ) (c : Clause) (at : slice_get p.clauses k ≡ Some c) (m n : ℕ) (lm : slice_get (map length (list_at parts.lists c.head.pred.0)) m ≡ Some n) where
-      module _ (j : ℕ) (b : Atom) (ej : slice_get c.body j ≡ Some b) (same : rank_of comps b.pred.0 ≡ rank_of comps c.head.pred.0) where
+      module _ (j : ℕ) (b : Atom) (ej : slice_get c.body j ≡ Some b) (same : rank_in comps b.pred.0 ≡ rank_in comps c.head.pred.0) where
         abbrev rows : List (List ℤ)
         rows = short_system expression (rows_of parts.rows) c.vars (take j c.body)
 
@@ -134,7 +135,7 @@ module _ (size : (ℕ → ℕ) → Tree → ℕ) (truth : (ℕ → Bool) → Tre
         call_long : length (list_at (list_at parts.lists b.pred.0) m) ≡ n
         call_long = long_at (list_at parts.lists b.pred.0) m n (subst (λ (xs : List ℕ). slice_get xs m ≡ Some n) (lists.members c.head.pred.0 b.pred.0 together) lm)
 
-        proved_at : (i : ℕ) → i < length ms → Provable rows (fall_row claims c b (drop_at i (length ms)) (mapping_of parts m i))
+        proved_at : (i : ℕ) → i < length ms → Provable rows (fall_row claims c b (drop_at i (length ms)) (list_mapping parts m i))
         proved_at i lt =
             let few = place.few in
             let (head, eh) = an_element (list_at (list_at parts.lists c.head.pred.0) m) i (omega (arith, lt, few, head_long)) in
@@ -148,9 +149,9 @@ module _ (size : (ℕ → ℕ) → Tree → ℕ) (truth : (ℕ → Bool) → Tre
 
         from : (d i rest : ℕ) → i + suc d ≡ length ms → i + rest ≡ n → FallsProved claims c rows b d (mappings_from parts m i rest)
         from d i zero e f = absurd (let few = place.few in omega (arith, e, f, few))
-        from zero i (suc rest) e f = subst (λ (z : ℕ). Provable rows (fall_row claims c b z (mapping_of parts m i))) (last_drop i (length ms) e) (proved_at i (omega (arith, e)))
+        from zero i (suc rest) e f = subst (λ (z : ℕ). Provable rows (fall_row claims c b z (list_mapping parts m i))) (last_drop i (length ms) e) (proved_at i (omega (arith, e)))
         from (suc d) i (suc rest) e f = (
-          subst (λ (z : ℕ). Provable rows (fall_row claims c b z (mapping_of parts m i))) (other_drop i d (length ms) e) (proved_at i (omega (arith, e))),
+          subst (λ (z : ℕ). Provable rows (fall_row claims c b z (list_mapping parts m i))) (other_drop i d (length ms) e) (proved_at i (omega (arith, e))),
           from d (suc i) rest (omega (arith, e)) (omega (arith, f)),
         )
 
@@ -161,10 +162,10 @@ module _ (size : (ℕ → ℕ) → Tree → ℕ) (truth : (ℕ → Bool) → Tre
       descends : DescendsProved claims (measure_of parts pre m n) c
       descends j b ej same = last_place j b ej same (length (ms j b ej same)) refl (place j b ej same).some
 
-    pub lists_descend : (r : ℕ) → AllByRecursion (λ (m : Measure). AllByRecursion (λ (k : Clause). rank_of comps k.head.pred.0 ≡ r → DescendsProved claims m k) p.clauses) (claims.measures r)
+    pub lists_descend : (r : ℕ) → AllByRecursion (λ (m : Measure). AllByRecursion (λ (k : Clause). rank_in comps k.head.pred.0 ≡ r → DescendsProved claims m k) p.clauses) (claims.measures r)
     lists_descend r =
-        all_lists parts pre (λ (m : Measure). AllByRecursion (λ (k : Clause). rank_of comps k.head.pred.0 ≡ r → DescendsProved claims m k) p.clauses) 0 (lengths_by parts (list_at comps.members r))
-        (λ i n m e lm. from_places (λ (k : Clause). rank_of comps k.head.pred.0 ≡ r → DescendsProved claims (measure_of parts pre m n) k) p.clauses (λ k c at same.
+        all_lists parts pre (λ (m : Measure). AllByRecursion (λ (k : Clause). rank_in comps k.head.pred.0 ≡ r → DescendsProved claims m k) p.clauses) 0 (lengths_by parts (list_at comps.members r))
+        (λ i n m e lm. from_places (λ (k : Clause). rank_in comps k.head.pred.0 ≡ r → DescendsProved claims (measure_of parts pre m n) k) p.clauses (λ k c at same.
         let is = clause_is k c at in
         let here : i ≡ m = omega (arith, e) in
         descends k c at m n (subst (λ (x : ℕ). slice_get (map length (list_at parts.lists c.head.pred.0)) x ≡ Some n) here

@@ -97,7 +97,7 @@ module _ (p : Listing) (comps : Partition) (parts : LexParts) (have : HaveShape 
 
   pub have_row_proofs : HaveRowProofs p (flat parts)
   have_row_proofs =
-      row_proofs_of p (flat parts) (in_turn (λ k. old.AreEach (shape.rows_of parts.rows (shape.head_of p k)) (λ _. shape.AreMultipliers (shape.rows_of_atoms parts.rows (shape.body_of p k))))
+      row_proofs_of p (flat parts) (in_turn (λ k. old.AreEach (shape.rows_of parts.rows (shape.head_of p k)) (λ _. shape.HaveMultipliers (shape.rows_of_atoms parts.rows (shape.body_of p k))))
       (λ k ms are. same_each ms are) parts.row_proofs have.row_proofs)
 
   pub have_sets : HaveSets p (flat parts)
@@ -211,7 +211,7 @@ module _ (p : Listing) (comps : Partition) (parts : LexParts) (have : HaveShape 
           subst (λ (ls : List (List LevelPart)). ArePlaces (shape.rows_of_atoms parts.rows (take j c.body)) ls mss) (items_are parts.lists c.head.pred.0) own
 
       place_of : (m n len : ℕ) → m ≡ n → (ms : List Multipliers) → IsPlace m len ms → HavePlace n len ms
-      place_of m n len same ms (some, few, each) = record { some = some; few = few; multipliers = all_map (shape.AreMultipliers m) (AreMultipliers n) (multipliers_are m n same) ms each }
+      place_of m n len same ms (some, few, each) = record { some = some; few = few; multipliers = all_map (shape.HaveMultipliers m) (AreMultipliers n) (multipliers_are m n same) ms each }
 
       pub have_drops : HaveDrops p comps parts
       have_drops = record {

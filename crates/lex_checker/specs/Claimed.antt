@@ -5,7 +5,6 @@
 -- list's mappings. Nothing here has to be believed.
 use Rattle.std.specs.Prelude.{ℕ, zero, suc, ℤ, Bool, List, [], ◌∷◌, map, length, slice_get}
 use Rattle.call_components.specs.Partition.{Partition}
-use Rattle.cert_checker.specs.Claimed.{rank_of}
 use Rattle.cti_terms.specs.Tree.{Tree}
 use Rattle.lex_certificate.specs.declared.parts.LexParts.{LexParts}
 use Rattle.number_tests.specs.Levels.{natural_coefficients, natural_offset}
@@ -13,11 +12,12 @@ use Rattle.number_tests.specs.Shape.{list_at}
 use Rattle.termination_model.specs.Claims.{Mapping, Measure, Claims}
 use Rattle.termination_model.specs.Grounds.{Family}
 use Rattle.termination_model.specs.Sizes.{rows_of}
+use Rattle.termination_model.specs.ComponentViews.{rank_in}
 
 module _ (parts : LexParts) where
   -- measure i of the list of number m
-  abbrev pub mapping_of : ℕ → ℕ → Mapping
-  mapping_of m i = record {
+  abbrev pub list_mapping : ℕ → ℕ → Mapping
+  list_mapping m i = record {
     coefficients = λ q. natural_coefficients (slice_get (list_at (list_at parts.lists q) m) i);
     offset = λ q. natural_offset (slice_get (list_at (list_at parts.lists q) m) i);
   }
@@ -25,7 +25,7 @@ module _ (parts : LexParts) where
   -- n measures, from number i on
   abbrev pub mappings_from : ℕ → ℕ → ℕ → List Mapping
   mappings_from m i zero = []
-  mappings_from m i (suc n) = mapping_of m i ∷ mappings_from m (suc i) n
+  mappings_from m i (suc n) = list_mapping m i ∷ mappings_from m (suc i) n
 
   -- how many measures the lists of a component with these members have
   abbrev pub lengths_by : List ℕ → List ℕ
@@ -46,7 +46,7 @@ module _ (size : (ℕ → ℕ) → Tree → ℕ) (truth : (ℕ → Bool) → Tre
   claims_of comps parts grounds pre = record {
     size = size;
     truth = truth;
-    rank = rank_of comps;
+    rank = rank_in comps;
     expression = expression;
     rows = rows_of parts.rows;
     grounds = grounds;

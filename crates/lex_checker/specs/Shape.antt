@@ -29,7 +29,7 @@ pub record HaveLists (p : Listing) (comps : Partition) (parts : LexParts) : Type
   pub naturals : (q : ℕ) (d : Pred) → slice_get p.preds q ≡ Some d → AllByRecursion (AllByRecursion (IsLevelPart d.arity)) (list_at parts.lists q)
   pub members : (a b : ℕ) → AreTogether comps a b → map length (list_at parts.lists a) ≡ map length (list_at parts.lists b)
 
--- multipliers of so many rows for one measure at least, and for n measures at most
+-- multipliers for one measure at least, and for n measures at most, each with one number for each row
 pub record HavePlace (rows n : ℕ) (ms : List Multipliers) : Type 0 where
   pub some : 1 ≤ length ms
   pub few : length ms ≤ n
@@ -44,7 +44,7 @@ pub record HaveDrops (p : Listing) (comps : Partition) (parts : LexParts) : Type
       → m < length (list_at parts.lists c.head.pred.0)
       → HavePlace (row_count (rows_of parts.rows) (take j c.body)) (length (list_at (list_at parts.lists c.head.pred.0) m)) (list_at (list_at (list_at parts.drops k) j) m)
 
--- for each list its measures at a clause's head and at a call, and multipliers of so many rows for the first of these
+-- for each list its measures at a clause's head and at a call, and multipliers for the first of these, one for each row
 pub record AreListsAt (rows : ℕ) (c : Clause) (b : Atom) (heads calls : List (List LevelPart)) (proofs : List (List Multipliers)) : Type 0 where
   pub head_parts : AllByRecursion (AllByRecursion (IsLevelPart (length c.head.args))) heads
   pub call_parts : AllByRecursion (AllByRecursion (IsLevelPart (length b.args))) calls
@@ -52,7 +52,7 @@ pub record AreListsAt (rows : ℕ) (c : Clause) (b : Atom) (heads calls : List (
   pub few_calls : (m : ℕ) → length (list_at proofs m) ≤ length (list_at calls m)
   pub multipliers : (m : ℕ) → AllByRecursion (AreMultipliers rows) (list_at proofs m)
 
--- parts of a head and of a call for each of these multipliers, which are of so many rows
+-- parts of a head and of a call for each of these multipliers, which have one number for each row
 pub record CanDrop (rows : ℕ) (columns : List (List ℤ)) (heads calls : List LevelPart) (ms : List Multipliers) : Type 0 where
   pub few_heads : length ms ≤ length heads
   pub few_calls : length ms ≤ length calls

@@ -14,7 +14,8 @@ use cert_modes::laws::holding_modes_show;
 ///
 /// The names are those of the program's predicates, and no two are alike.
 pub fn valid_lists_bound_their_modes()
-    ensures { (p : Listing) (names : List (List ℕ)) (facts : List LexFact) → IsProgram p → AreNamed names p.preds
+    ensures { (p : Listing) (names : List (List ℕ)) (facts : List LexFact) → IsProgram p
+        → AreNamed names p.preds
         → AllPairs (λ a b. a ≢ b) names → IsValid p names facts → ModesAreBounded p names facts }
 {
     holding_modes_show();

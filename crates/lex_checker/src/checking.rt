@@ -107,10 +107,12 @@ pub fn check(
     ensures valid { IfOk result (λ yes. IsTrue yes ↔ IsValid p.now names.now c.now.facts) }
 
     // And then each query that meets a mode of the certificate is bounded.
-    ensures bounded { IfOk result (λ yes. yes ≡ true → ModesAreBounded p.now names.now c.now.facts) }
+    ensures bounded { IfOk result (λ yes. yes ≡ true
+        → ModesAreBounded p.now names.now c.now.facts) }
 
     // And no list of a component with a stuck set drops, for the size rows of the certificate.
-    ensures stuck { IfOk result (λ yes. yes ≡ true → StuckComponentsHaveNoList p.now names.now c.now.facts) }
+    ensures stuck { IfOk result (λ yes. yes ≡ true
+        → StuckComponentsHaveNoList p.now names.now c.now.facts) }
 {
     // No two names have the same text, and no two predicates the same name and arity.
     names.count();

@@ -83,7 +83,8 @@ fn lists_drop(
         (list_at heads.now m) (list_at calls.now m) (list_at proofs.now m) }
     requires width { HaveWidth rows.now.width rows.now.list }
     requires count { length columns.now ≡ rows.now.width + 1 }
-    ensures { IfOk result (λ yes. IsTrue yes ↔ ((m : ℕ) → AreShown (plain_rows rows.now.list) columns.now
+    ensures { IfOk result (λ yes. IsTrue yes
+        ↔ ((m : ℕ) → AreShown (plain_rows rows.now.list) columns.now
         (list_at heads.now m) (list_at calls.now m) (list_at proofs.now m))) }
 {
     for m in 0..proofs.len() {
@@ -105,11 +106,13 @@ fn call_drops<N: Norm>(
     call: &Atom,
     proofs: &[Sequence<Multipliers>],
 ) -> Result<bool, AllocError>
-    requires system { (j : ℕ) × IsSystemUpTo (N.expression norm.now) (rows_of parts.now.rows) clause.now j system.now }
+    requires system { (j : ℕ)
+        × IsSystemUpTo (N.expression norm.now) (rows_of parts.now.rows) clause.now j system.now }
     requires sized { IsSizedClause parts.now.rows clause.now }
     requires call { IsSizedAtom parts.now.rows clause.now.vars call.now }
     requires lists { AreListsAt (length system.now.rows.list) clause.now call.now
-        (list_at parts.now.lists clause.now.head.pred.0) (list_at parts.now.lists call.now.pred.0) proofs.now }
+        (list_at parts.now.lists clause.now.head.pred.0)
+        (list_at parts.now.lists call.now.pred.0) proofs.now }
     ensures { IfOk result (λ yes. IsTrue yes ↔ ((m : ℕ) → MeasuresDrop (N.expression norm.now)
         (plain_rows system.now.rows.list) clause.now call.now
         (list_at (list_at parts.now.lists clause.now.head.pred.0) m)
@@ -144,7 +147,8 @@ fn clause_drops<N: Norm>(
     requires lists { HaveLists p.now comps.now parts.now }
     requires drops { HaveDrops p.now comps.now parts.now }
     ensures { IfOk result (λ yes. (c : TheClause) → slice_get p.now.clauses (k - 1) ≡ Some c
-        → IsTrue yes ↔ CallsDrop (N.expression norm.now) comps.now parts.now c (list_at parts.now.drops (k - 1))) }
+        → IsTrue yes ↔ CallsDrop (N.expression norm.now) comps.now parts.now c
+        (list_at parts.now.drops (k - 1))) }
 {
     let clause = p.clause(k);
     let component = comps.of(clause.head.pred);
@@ -188,7 +192,8 @@ pub(crate) fn drops_hold<N: Norm>(
     requires sizes { AreSizes p.now.preds parts.now.rows }
     requires lists { HaveLists p.now comps.now parts.now }
     requires drops { HaveDrops p.now comps.now parts.now }
-    ensures { IfOk result (λ yes. IsTrue yes ↔ DropsHold (N.expression norm.now) p.now comps.now parts.now) }
+    ensures { IfOk result (λ yes. IsTrue yes
+        ↔ DropsHold (N.expression norm.now) p.now comps.now parts.now) }
 {
     for k in 0..p.clauses() {
         if !clause_drops(alloc, p, comps, norm, parts, k + 1)? {

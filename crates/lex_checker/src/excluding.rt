@@ -15,8 +15,10 @@ use lex_certificate::one_reading;
 ///
 /// The names are those of the program's predicates, and no two are alike.
 pub fn stuck_components_have_no_list()
-    ensures { (p : Listing) (names : List (List ℕ)) (facts : List LexFact) → IsProgram p → AreNamed names p.preds
-        → AllPairs (λ a b. a ≢ b) names → IsValid p names facts → StuckComponentsHaveNoList p names facts }
+    ensures { (p : Listing) (names : List (List ℕ)) (facts : List LexFact) → IsProgram p
+        → AreNamed names p.preds
+        → AllPairs (λ a b. a ≢ b) names → IsValid p names facts
+        → StuckComponentsHaveNoList p names facts }
 {
     one_reading();
 }

@@ -9,7 +9,7 @@ use Rattle.cti_terms.specs.Tree.{Tree}
 use Rattle.linear_rows.specs.Rows.{AreEmpty}
 use Rattle.linear_rows.specs.Plain.{plain_rows}
 use Rattle.linear_rows.specs.declared.multipliers.Multipliers.{Multipliers}
-use Rattle.termination_model.specs.ComponentViews.{component_view, members_in, no_truth}
+use Rattle.termination_model.specs.ComponentViews.{component_view, members_in}
 use Rattle.termination_model.specs.OwnCalls.{OwnCall as Recalled, Position as Place, members_of, own_calls, rows_before}
 use Rattle.termination_model.specs.Ready.{arity_in}
 use Rattle.termination_model.specs.TurnSystem.{left}
@@ -305,7 +305,7 @@ module _ (size : (ℕ → ℕ) → Tree → ℕ) (truth : (ℕ → Bool) → Tre
         let l = mapping_at (arity_in p) [] [] [] [] in
         zero_fails (zero_reached course is_course em none) (λ fit. fails
         (all_dead size truth expression h.norm p comps rows c ms l zeros.parts x.calls.items h.held (wide_heads size truth expression p comps rows c x h ms (zero_shaped p (map number_of x.members.items) ms zeros) x.calls.items h.held)
-        (subst (λ (os : List Recalled). AllByRecursion (λ (o : Recalled). row_fits (fall_over no_truth expression o.rule o.member o.call.args 1 l) ≡ true) os) (calls_are expression p comps rows c x.calls.items h.pairs h.held) fit)))
+        (subst (λ (os : List Recalled). AllByRecursion (λ (o : Recalled). row_fits (fall_over expression o.rule o.member o.call.args 1 l) ≡ true) os) (calls_are expression p comps rows c x.calls.items h.pairs h.held) fit)))
 
     pub zero_list_at : (course : Course) (l : MeasureList) → IsCourse p x at course → course.measures ≡ [] → remaining_of x course ≡ [] → AllByRecursion IsReady x.calls.items → (ms : List Measure) → AreZeros p (map number_of x.members.items) ms
         → EmptyFall ms x.calls.items → l.measures ≡ ms ∷ [] → l.drops ≡ course.drops.items → IsListAt expression p comps rows c (map spelled at) l × AreNeeded expression p comps rows c l

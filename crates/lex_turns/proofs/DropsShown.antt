@@ -18,7 +18,7 @@ use Rattle.linear_rows.specs.declared.multipliers.Multipliers.{Multipliers}
 use Rattle.number_tests.specs.declared.level_part.LevelPart.{LevelPart}
 use Rattle.term_size.specs.Norm.{IsNorm}
 use Rattle.termination_model.specs.Claims.{Mapping, SomeOf}
-use Rattle.termination_model.specs.ComponentViews.{component_view, no_truth}
+use Rattle.termination_model.specs.ComponentViews.{component_view}
 use Rattle.termination_model.specs.OwnCalls.{OwnCall as Recalled, rows_before}
 use Rattle.termination_model.specs.Ready.{arity_in}
 use Rattle.termination_model.specs.Rows.{added, scaled}
@@ -73,9 +73,9 @@ abbrev pub falls_of : ℕ → Bool
 falls_of zero = false
 falls_of (suc d) = true
 
-number_is : (truth : (ℕ → Bool) → Tree → Bool) (expression : ℕ → Tree → List ℤ) (view : List Rule) (arity : ℕ → ℕ) (d : ℕ) → fall_number (falls_of d) ≡ falls_by truth expression view arity d
-number_is truth expression view arity zero = refl
-number_is truth expression view arity (suc d) = refl
+number_is : (expression : ℕ → Tree → List ℤ) (view : List Rule) (arity : ℕ → ℕ) (d : ℕ) → fall_number (falls_of d) ≡ falls_by expression view arity d
+number_is expression view arity zero = refl
+number_is expression view arity (suc d) = refl
 
 number_low : (d : ℕ) → fall_number (falls_of d) ≤ d
 number_low zero = omega arith
@@ -100,7 +100,7 @@ module _ (size : (ℕ → ℕ) → Tree → ℕ) (truth : (ℕ → Bool) → Tre
 
   -- the drop of the mapping at a call
   abbrev pub target_at : ℕ → Recalled → List ℤ
-  target_at d o = fall_over no_truth expression o.rule o.member o.call.args d l
+  target_at d o = fall_over expression o.rule o.member o.call.args d l
 
   -- parts have a coefficient for each argument of a head
   abbrev pub IsWideHead : OwnCall → Type 0
@@ -157,7 +157,7 @@ module _ (size : (ℕ → ℕ) → Tree → ℕ) (truth : (ℕ → Bool) → Tre
 
   -- shown drops are those of the mapping
   pub all_proved : (owns : List OwnCall) (vs : List ℕ) (fs : List Bool) → AllByRecursion (IsHeld expression p rows) owns → AllByRecursion IsWideHead owns → AllByRecursion (HasParts ms) owns
-      → ShowDrops ms owns (map pos vs) fs → law.ShowDrops no_truth expression l (map own owns) (map fall_number fs) vs
+      → ShowDrops ms owns (map pos vs) fs → law.ShowDrops expression l (map own owns) (map fall_number fs) vs
   all_proved [] vs fs held wide parted shows = tt
   all_proved (y ∷ owns) vs [] held wide parted shows = absurd shows
   all_proved (y ∷ owns) vs (f ∷ fs) held wide parted shows =
@@ -172,14 +172,14 @@ module _ (size : (ℕ → ℕ) → Tree → ℕ) (truth : (ℕ → Bool) → Tre
 
   -- drops of the mapping are shown where all numbers fit
   pub all_shown : (owns : List OwnCall) (vs ds : List ℕ) → AllByRecursion (IsHeld expression p rows) owns → AllByRecursion IsWideHead owns → length ds ≡ length owns
-      → DropsFit no_truth expression (component_view expression p comps rows c) (arity_in p) l (map own owns) ds vs → AreDrops no_truth expression l (map own owns) ds vs → ShowDrops ms owns (map pos vs) (map falls_of ds)
+      → DropsFit expression (component_view expression p comps rows c) (arity_in p) l (map own owns) ds vs → AreDrops expression l (map own owns) ds vs → ShowDrops ms owns (map pos vs) (map falls_of ds)
   all_shown [] vs [] held wide e fit drops = tt
   all_shown [] vs (d ∷ ds) held wide e fit drops = absurd (omega (arith, e))
   all_shown (y ∷ owns) vs [] held wide e fit drops = absurd drops
   all_shown (y ∷ owns) vs (d ∷ ds) held wide e fit drops =
       let n = length (rows_before expression (own y)) in
       let count = rows_count y held.0 in
-      let number = number_is no_truth expression (component_view expression p comps rows c) (arity_in p) d in
+      let number = number_is expression (component_view expression p comps rows c) (arity_in p) d in
       let here = fit.0 in
       let list = map pos (take n vs) in
       let fits : row_fits (target_at (fall_number (falls_of d)) (own y)) ≡ true = subst (λ (k : ℕ). row_fits (target_at k (own y)) ≡ true) (sym number) here.0 in

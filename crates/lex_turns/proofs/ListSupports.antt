@@ -8,10 +8,10 @@ use Rattle.call_components.specs.Partition.{Partition}
 use Rattle.cti_terms.specs.Listing.{Listing}
 use Rattle.cti_terms.specs.Tree.{Tree}
 use Rattle.linear_rows.specs.Members.{In}
-use Rattle.termination_model.specs.Best.{coefficient}
+use Rattle.termination_model.specs.Coefficients.{coefficient}
 use Rattle.termination_model.specs.Claims.{Mapping}
-use Rattle.termination_model.specs.ComponentViews.{component_view, no_truth, positions_in}
-use Rattle.termination_model.specs.Excluding.{IsAt}
+use Rattle.termination_model.specs.ComponentViews.{component_view, positions_in, HasSupportIn}
+use Rattle.termination_model.specs.Excluding.{IsZeroOutside}
 use Rattle.termination_model.specs.Minimal.{IsExcluded, IsSet}
 use Rattle.termination_model.specs.Modes.{is_part}
 use Rattle.termination_model.specs.OwnCalls.{Position}
@@ -21,8 +21,7 @@ use Rattle.termination_model.specs.View.{Rule}
 use Rattle.termination_model.specs.Supports.{AreDistinct, picked_from, support_from}
 use Rattle.termination_model.proofs.Having.{picked_in}
 use Rattle.termination_model.proofs.Sets.{Part, any_in, in_any, of_part, set_lower, to_part}
-use Rattle.level_systems.specs.Found.{had}
-use Rattle.level_systems.specs.Mappings.{mapping_of}
+use Rattle.level_systems.specs.Mappings.{mapping_with}
 use Rattle.level_systems.specs.declared.measure.Measure.{Measure}
 use Rattle.level_dual.specs.Large.{has_coefficient}
 use Rattle.lex_turns.specs.Descending.{NoneDescends}
@@ -125,20 +124,20 @@ module _ (expression : ℕ → Tree → List ℤ) (p : Listing) (comps : Partiti
   places = positions_in p comps c
 
   abbrev descends : List Mapping → Type 0
-  descends ls = ListDescends no_truth expression (component_view expression p comps rows c) ls
+  descends ls = ListDescends expression (component_view expression p comps rows c) ls
 
   pub list_sets : (s : List ℕ) → HasList expression p comps rows c s → IsSet 1 (suc (length places)) s
   list_sets s h = subst (IsSet 1 (suc (length places))) h.is (list_set places h.list 1 (suc (length places)) (omega arith))
 
   -- a list at the positions of a set has a support that is part of it
-  pub part_of_set : AreDistinct places → (s : List ℕ) (ls : List Mapping) → AllByRecursion (IsAt (picked_from 1 places s)) ls → is_part (list_support_from 1 places ls) s ≡ true
+  pub part_of_set : AreDistinct places → (s : List ℕ) (ls : List Mapping) → AllByRecursion (IsZeroOutside (picked_from 1 places s)) ls → is_part (list_support_from 1 places ls) s ≡ true
   part_of_set distinct s ls at =
       of_part (list_support_from 1 places ls) s (list_part places ls 1 s distinct (λ r i u.
-      used_at (λ (z : Position). In z (picked_from 1 places s)) r ls (all_each (IsAt (picked_from 1 places s)) (λ (l : Mapping). 0 < coefficient (l.coefficients r.0) r.1 → In r (picked_from 1 places s)) ls (λ l k a. a r.0 r.1) at) u))
+      used_at (λ (z : Position). In z (picked_from 1 places s)) r ls (all_each (IsZeroOutside (picked_from 1 places s)) (λ (l : Mapping). 0 < coefficient (l.coefficients r.0) r.1 → In r (picked_from 1 places s)) ls (λ l k a. a r.0 r.1) at) u))
 
   -- a list of which the support is part of a set is at the positions of the set
-  at_set : (s : List ℕ) (ls : List Mapping) → Part (list_support_from 1 places ls) s → AllByRecursion (IsAt places) ls → AllByRecursion (IsAt (picked_from 1 places s)) ls
-  at_set s ls part at = all_each (IsAt places) (IsAt (picked_from 1 places s)) ls (λ l i a q b positive. used_picked places ls 1 s part (q, b) (a q b positive) (used_in (q, b) ls l i positive)) at
+  at_set : (s : List ℕ) (ls : List Mapping) → Part (list_support_from 1 places ls) s → AllByRecursion (IsZeroOutside places) ls → AllByRecursion (IsZeroOutside (picked_from 1 places s)) ls
+  at_set s ls part at = all_each (IsZeroOutside places) (IsZeroOutside (picked_from 1 places s)) ls (λ l i a q b positive. used_picked places ls 1 s part (q, b) (a q b positive) (used_in (q, b) ls l i positive)) at
 
   -- where no list at the positions of a set descends, no support that is part of it is had
   pub void_of : (s : List ℕ) → NoneDescends expression p comps rows c s → IsVoid expression p comps rows c s
@@ -146,22 +145,22 @@ module _ (expression : ℕ → Tree → List ℤ) (p : Listing) (comps : Partiti
       let inside : Part (list_support_from 1 places has.list) s = subst (λ (z : List ℕ). Part z s) (sym has.is) (to_part u s part) in
       none has.list (at_set s has.list inside has.at) has.descends
 
-  pub one_descends : (l : Mapping) → Decreases no_truth expression (component_view expression p comps rows c) l → descends (l ∷ [])
+  pub one_descends : (l : Mapping) → Decreases expression (component_view expression p comps rows c) l → descends (l ∷ [])
   one_descends l d = go (component_view expression p comps rows c) d
     where
-      go : (view : List Rule) → Decreases no_truth expression view l → ListDescends no_truth expression view (l ∷ [])
+      go : (view : List Rule) → Decreases expression view l → ListDescends expression view (l ∷ [])
       go [] d = tt
       go (k ∷ ks) d = ((λ j b q at e. (0, d.0 j b q at e)), go ks d.1)
 
   -- a mapping that decreases is a list of one
-  pub list_had : (s : List ℕ) → had expression p comps rows c s → HasList expression p comps rows c s
+  pub list_had : (s : List ℕ) → HasSupportIn expression p comps rows c s → HasList expression p comps rows c s
   list_had s h = record { list = h.mapping ∷ []; some = omega arith; at = (h.at, tt); descends = one_descends h.mapping h.decreases; is = one_support places h.mapping 1 ∙ h.is }
 
-  pub void_had : (s : List ℕ) → IsVoid expression p comps rows c s → IsExcluded (had expression p comps rows c) s
+  pub void_had : (s : List ℕ) → IsVoid expression p comps rows c s → IsExcluded (HasSupportIn expression p comps rows c) s
   void_had s void u part h = void u part (list_had u h)
 
 -- a list is used where one of its mappings has a positive coefficient
-pub used_there : (r : Position) (mss : List (List Measure)) (i : ℕ) (ms : List Measure) → slice_get mss i ≡ Some ms → has_coefficient ms r ≡ true → is_used r (map mapping_of mss) ≡ true
+pub used_there : (r : Position) (mss : List (List Measure)) (i : ℕ) (ms : List Measure) → slice_get mss i ≡ Some ms → has_coefficient ms r ≡ true → is_used r (map mapping_with mss) ≡ true
 used_there r [] i ms e h = cc
-used_there r (ns ∷ mss) zero ms e h = let same : ns ≡ ms = cc in or_left (has_coefficient ns r) (is_used r (map mapping_of mss)) (subst (λ (k : List Measure). has_coefficient k r ≡ true) (sym same) h)
-used_there r (ns ∷ mss) (suc i) ms e h = or_right (has_coefficient ns r) (is_used r (map mapping_of mss)) (used_there r mss i ms e h)
+used_there r (ns ∷ mss) zero ms e h = let same : ns ≡ ms = cc in or_left (has_coefficient ns r) (is_used r (map mapping_with mss)) (subst (λ (k : List Measure). has_coefficient k r ≡ true) (sym same) h)
+used_there r (ns ∷ mss) (suc i) ms e h = or_right (has_coefficient ns r) (is_used r (map mapping_with mss)) (used_there r mss i ms e h)

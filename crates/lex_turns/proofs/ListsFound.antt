@@ -9,10 +9,10 @@ use Rattle.call_components.proofs.Lists.{all_map}
 use Rattle.linear_rows.specs.Members.{In}
 use Rattle.linear_rows.proofs.Members.{in-left, in-right}
 use Rattle.linear_rows.specs.Rows.{AreEmpty, HoldsOn}
-use Rattle.termination_model.specs.Best.{coefficient}
+use Rattle.termination_model.specs.Coefficients.{coefficient}
 use Rattle.termination_model.specs.Claims.{Mapping}
-use Rattle.termination_model.specs.ComponentViews.{component_view, members_in, no_truth, positions_in, size_claims}
-use Rattle.termination_model.specs.Excluding.{IsAt}
+use Rattle.termination_model.specs.ComponentViews.{component_view, members_in, positions_in, size_claims}
+use Rattle.termination_model.specs.Excluding.{IsZeroOutside}
 use Rattle.termination_model.specs.OwnCalls.{OwnCall as Recalled, Position, members_of, own_calls, own_calls_from, rows_before}
 use Rattle.termination_model.specs.Ready.{arity_in, positions_by}
 use Rattle.termination_model.specs.Rows.{added, scaled}
@@ -28,7 +28,7 @@ use Rattle.termination_model.proofs.OwnCallsThere.{call_there}
 use Rattle.termination_model.proofs.Refuted.{from_in as some_in}
 use Rattle.termination_model.proofs.Readiness.{own_of, views_have_few}
 use Rattle.termination_model.proofs.TurnLists.{turns_descend}
-use Rattle.level_systems.specs.Mappings.{HasMeasures, mapping_of}
+use Rattle.level_systems.specs.Mappings.{HasMeasures, mapping_with}
 use Rattle.level_systems.specs.Searched.{IsComponent}
 use Rattle.level_systems.specs.Valued.{IsPartOf}
 use Rattle.level_systems.specs.declared.component.Component.{Component}
@@ -69,12 +69,12 @@ AreAllSame names (k ∷ ks) (l ∷ ls) = AreSame names k l × AreAllSame names k
 
 -- falls depend on the levels of the head and of the call
 drops_over : (expression : ℕ → Tree → List ℤ) (r : Rule) (q d : ℕ) (ts : List Tree) (k l : Mapping) → k.coefficients r.member ≡ l.coefficients r.member → k.offset r.member ≡ l.offset r.member
-    → k.coefficients q ≡ l.coefficients q → k.offset q ≡ l.offset q → fall_over no_truth expression r q ts d k ≡ fall_over no_truth expression r q ts d l
+    → k.coefficients q ≡ l.coefficients q → k.offset q ≡ l.offset q → fall_over expression r q ts d k ≡ fall_over expression r q ts d l
 drops_over expression r q d ts k l a b e f =
     λ j. added (row_over expression r.vars r.args (pos (b j) ∷ map pos (a j))) (scaled (negsuc 0) (added (row_over expression r.vars ts (pos (f j) ∷ map pos (e j))) (pos d ∷ [])))
 
 places_same : (expression : ℕ → Tree → List ℤ) (names : List ℕ) (r : Rule) (rs : List (List ℤ)) (q : ℕ) (ts : List Tree) → In r.member names → In q names → (i : ℕ) (ks ls : List Mapping) → AreAllSame names ks ls
-    → FallsOver no_truth expression r rs q ts i ls → FallsOver no_truth expression r rs q ts i ks
+    → FallsOver expression r rs q ts i ls → FallsOver expression r rs q ts i ks
 places_same expression names r rs q ts a b i [] [] same f = f
 places_same expression names r rs q ts a b i [] (l ∷ ls) same f = absurd same
 places_same expression names r rs q ts a b i (k ∷ ks) [] same f = absurd same
@@ -103,7 +103,7 @@ each_call P (k ∷ ks) h = (
 
 -- the list falls at some place
 abbrev HasPlaceIn : (ℕ → Tree → List ℤ) → List Mapping → Recalled → Type 0
-HasPlaceIn expression ls o = (i : ℕ) × FallsOver no_truth expression o.rule (rows_before expression o) o.member o.call.args i ls
+HasPlaceIn expression ls o = (i : ℕ) × FallsOver expression o.rule (rows_before expression o) o.member o.call.args i ls
 
 module _ (size : (ℕ → ℕ) → Tree → ℕ) (truth : (ℕ → Bool) → Tree → Bool) (expression : ℕ → Tree → List ℤ) (p : Listing) (comps : Partition) (rows : ℕ → List (List ℤ)) (c : ℕ) (x : Component)
     (h : IsComponent size truth expression p comps rows c x) where
@@ -114,16 +114,16 @@ module _ (size : (ℕ → ℕ) → Tree → ℕ) (truth : (ℕ → Bool) → Tre
   names = members_in comps c
 
   -- a list descends with one that is the same for all members
-  same_descends : (ks ls : List Mapping) → AreAllSame names ks ls → ListDescends no_truth expression view ls → ListDescends no_truth expression view ks
+  same_descends : (ks ls : List Mapping) → AreAllSame names ks ls → ListDescends expression view ls → ListDescends expression view ks
   same_descends ks ls same d = each_call (HasPlaceIn expression ks) view (λ o i.
       let own = own_of view o i in
       let there = members_there size truth expression p comps rows c x h o i in
       let (k, f) = some_in (λ (r : Rule). (j : ℕ) (b : Call) (q : ℕ) → slice_get r.body j ≡ Some b → b.place ≡ Member q
-      → (n : ℕ) × FallsOver no_truth expression r (system_of expression r.vars (take j r.body)) q b.args n ls) view o.rule d own.there o.place o.call o.member own.call own.member in
+      → (n : ℕ) × FallsOver expression r (system_of expression r.vars (take j r.body)) q b.args n ls) view o.rule d own.there o.place o.call o.member own.call own.member in
       (k, places_same expression names o.rule (rows_before expression o) o.member o.call.args there.0 there.1 k ks ls same f))
 
   -- where no call is ever reached, each list that is not empty descends
-  dead_descends : (l : Mapping) (ls : List Mapping) → AreReached expression (own_calls view) [] → ListDescends no_truth expression view (l ∷ ls)
+  dead_descends : (l : Mapping) (ls : List Mapping) → AreReached expression (own_calls view) [] → ListDescends expression view (l ∷ ls)
   dead_descends l ls reached = each_call (HasPlaceIn expression (l ∷ ls)) view (λ o i. elim (reached_or expression (own_calls view) [] reached o i) [
     | inl none ↦ absurd none
     | inr empty ↦ (0, λ t w ht lw hold. absurd (empty t w ht lw hold))
@@ -140,7 +140,7 @@ module _ (size : (ℕ → ℕ) → Tree → ℕ) (truth : (ℕ → Bool) → Tre
     picks = picked_from 1 (positions_in p comps c) s
 
     at_picks : (ps : List Position) (qs cs os : List ℕ) (ms : List Measure) → ((r : Position) → In r ps → In r picks) → AllByRecursion (λ (m : Measure). IsPartOf (mapping_at (arity_in p) ps qs cs os) m.pred.0 m.part) ms
-        → IsAt picks (mapping_of ms)
+        → IsZeroOutside picks (mapping_with ms)
     at_picks ps qs cs os ms inside parts q a lt =
         let l = mapping_at (arity_in p) ps qs cs os in
         elim (part_or_none ms q) [
@@ -150,7 +150,7 @@ module _ (size : (ℕ → ℕ) → Tree → ℕ) (truth : (ℕ → Bool) → Tre
           | inr none ↦ let lt' : 0 < coefficient [] a = subst (λ (zs : List ℕ). 0 < coefficient zs a) none lt in absurd (omega (arith, lt'))
         ]
 
-    part_same : (l : Mapping) (ms : List Measure) → HasMeasures p names ms → AllByRecursion (λ (m : Measure). IsPartOf l m.pred.0 m.part) ms → AreSame names (mapping_of ms) l
+    part_same : (l : Mapping) (ms : List Measure) → HasMeasures p names ms → AllByRecursion (λ (m : Measure). IsPartOf l m.pred.0 m.part) ms → AreSame names (mapping_with ms) l
     part_same l ms m parts q i =
         let there = subst (In q) (sym m.each) i in
         (mapping_same l ms q parts there, offset_same l ms q parts there)
@@ -164,13 +164,13 @@ module _ (size : (ℕ → ℕ) → Tree → ℕ) (truth : (ℕ → Bool) → Tre
     all_measures (u ∷ us) [] are = absurd are
     all_measures (u ∷ us) (ms ∷ mss) are = let first = are.0 in (first.measures, all_measures us mss are.1)
 
-    all_at : (us : List Turn) (mss : List (List Measure)) → AreMeasuresOf p names at mine us mss → AllByRecursion (IsAt picks) (map mapping_of mss)
+    all_at : (us : List Turn) (mss : List (List Measure)) → AreMeasuresOf p names at mine us mss → AllByRecursion (IsZeroOutside picks) (map mapping_with mss)
     all_at [] [] are = tt
     all_at [] (ms ∷ mss) are = absurd are
     all_at (u ∷ us) [] are = absurd are
     all_at (u ∷ us) (ms ∷ mss) are = let first = are.0 in (at_picks at mine u.coefficients u.offsets ms ordered first.parts, all_at us mss are.1)
 
-    all_same : (us : List Turn) (mss : List (List Measure)) → AreMeasuresOf p names at mine us mss → AreAllSame names (map mapping_of mss) (map (mapping_by (arity_in p) at mine) us)
+    all_same : (us : List Turn) (mss : List (List Measure)) → AreMeasuresOf p names at mine us mss → AreAllSame names (map mapping_with mss) (map (mapping_by (arity_in p) at mine) us)
     all_same [] [] are = tt
     all_same [] (ms ∷ mss) are = absurd are
     all_same (u ∷ us) [] are = absurd are
@@ -186,16 +186,16 @@ module _ (size : (ℕ → ℕ) → Tree → ℕ) (truth : (ℕ → Bool) → Tre
     record AreFine (mss : List (List Measure)) : Type 0 where
       some : 1 ≤ length mss
       measures : AllByRecursion (HasMeasures p names) mss
-      at_set : AllByRecursion (IsAt picks) (map mapping_of mss)
-      descend : ListDescends no_truth expression view (map mapping_of mss)
+      at_set : AllByRecursion (IsZeroOutside picks) (map mapping_with mss)
+      descend : ListDescends expression view (map mapping_with mss)
 
     fine : (mss : List (List Measure)) → AreMeasuresAt expression p comps rows c at mss → AreFine mss
     fine mss (turned lives us reached turns none some are) = record {
       some = let long = same_long us mss are in omega (arith, some, long);
       measures = all_measures us mss are;
       at_set = all_at us mss are;
-      descend = same_descends (map mapping_of mss) (map (mapping_by (arity_in p) at mine) us) (all_same us mss are)
-          (turns_descend no_truth expression view at mine (arity_in p) lives us (λ n t. h.norm.width n t)
+      descend = same_descends (map mapping_with mss) (map (mapping_by (arity_in p) at mine) us) (all_same us mss are)
+          (turns_descend expression view at mine (arity_in p) lives us (λ n t. h.norm.width n t)
           (all_in (HasFew (arity_in p)) lives (λ o i. views_have_few p (size_claims expression p comps rows) c h.program o (reached_in expression (own_calls view) lives reached o i)))
           (λ o i. reached_or expression (own_calls view) lives reached o i) turns none some);
     }
@@ -203,15 +203,15 @@ module _ (size : (ℕ → ℕ) → Tree → ℕ) (truth : (ℕ → Bool) → Tre
       some = omega arith;
       measures = (m, tt);
       at_set = (at_picks [] [] [] [] ms (λ r i. absurd i) parts, tt);
-      descend = dead_descends (mapping_of ms) [] reached;
+      descend = dead_descends (mapping_with ms) [] reached;
     })
 
     pub list_found : (l : MeasureList) → IsListAt expression p comps rows c at l → AreNeeded expression p comps rows c l → IsListIn expression p comps rows c s l
     list_found l is needed =
         let f = fine l.measures is.measures in
-        let at_all = all_map (IsAt picks) (IsAt (positions_in p comps c)) (λ k a q b lt. picked_in (positions_in p comps c) 1 s (q, b) (a q b lt)) (mappings_of l) f.at_set in
+        let at_all = all_map (IsZeroOutside picks) (IsZeroOutside (positions_in p comps c)) (λ k a q b lt. picked_in (positions_in p comps c) 1 s (q, b) (a q b lt)) (mappings_of l) f.at_set in
         record {
           list = record { some = f.some; measures = f.measures; pairs = is.pairs; places = is.places; needed = needed; at = at_all; descends = f.descend };
           part = part_of_set expression p comps rows c (distinct size truth expression p comps rows c x h) s (mappings_of l) f.at_set;
-          has = record { list = mappings_of l; some = let n = length-map l.measures mapping_of in let more = f.some in omega (arith, n, more); at = at_all; descends = f.descend; is = refl };
+          has = record { list = mappings_of l; some = let n = length-map l.measures mapping_with in let more = f.some in omega (arith, n, more); at = at_all; descends = f.descend; is = refl };
         }

@@ -6,12 +6,12 @@ use Rattle.cti_terms.specs.Listing.{Listing}
 use Rattle.cti_terms.specs.Tree.{Tree}
 use Rattle.call_components.specs.Partition.{Partition}
 use Rattle.linear_rows.specs.Members.{In}
-use Rattle.termination_model.specs.ComponentViews.{component_view, no_truth, positions_in}
-use Rattle.termination_model.specs.Excluding.{IsAt}
+use Rattle.termination_model.specs.ComponentViews.{component_view, positions_in, HasSupportIn}
+use Rattle.termination_model.specs.Excluding.{IsZeroOutside}
 use Rattle.termination_model.specs.Minimal.{IsAbove, IsExcluded}
 use Rattle.termination_model.specs.Refutation.{Decreases}
-use Rattle.level_systems.specs.Found.{IsFound, count, had, without}
-use Rattle.level_systems.specs.Mappings.{IsMappingOf, mapping_of, support_of}
+use Rattle.level_systems.specs.Found.{IsFound, count, without_number}
+use Rattle.level_systems.specs.Mappings.{IsMappingOf, mapping_with, support_of}
 use Rattle.level_systems.specs.declared.found.Found.{Found}
 use Rattle.level_systems.specs.declared.mapping.Mapping.{Mapping}
 use Rattle.lex_turns.specs.FoundLists.{AreFoundLists, IsDescendingList, IsLong, IsWithoutSpare, support_of_list}
@@ -30,13 +30,13 @@ true_of false t = cc
 
 module _ (expression : ℕ → Tree → List ℤ) (p : Listing) (comps : Partition) (rows : ℕ → List (List ℤ)) (c : ℕ) where
   abbrev has : List ℕ → Type 0
-  has = had expression p comps rows c
+  has = HasSupportIn expression p comps rows c
 
   abbrev own : Mapping → List ℕ
   own m = support_of (positions_in p comps c) m
 
-  all_lists : (ms : List Mapping) → AllByRecursion (IsMappingOf expression p rows comps c) ms → AllByRecursion (λ (m : Mapping). IsAt (positions_in p comps c) (mapping_of m.measures)) ms
-      → AllByRecursion (λ (m : Mapping). Decreases no_truth expression (component_view expression p comps rows c) (mapping_of m.measures)) ms → AllByRecursion (IsDescendingList expression p comps rows c) (map one_list ms)
+  all_lists : (ms : List Mapping) → AllByRecursion (IsMappingOf expression p rows comps c) ms → AllByRecursion (λ (m : Mapping). IsZeroOutside (positions_in p comps c) (mapping_with m.measures)) ms
+      → AllByRecursion (λ (m : Mapping). Decreases expression (component_view expression p comps rows c) (mapping_with m.measures)) ms → AllByRecursion (IsDescendingList expression p comps rows c) (map one_list ms)
   all_lists [] is at falls = tt
   all_lists (m ∷ ms) is at falls = (one_list_is expression p comps rows c m (record { mapping = is.0; at = at.0; falling = falls.0 }), all_lists ms is.1 at.1 falls.1)
 
@@ -48,7 +48,7 @@ module _ (expression : ℕ → Tree → List ℤ) (p : Listing) (comps : Partiti
   supports_same [] = refl
   supports_same (m ∷ ms) = let rest = supports_same ms in λ i. one_support_of expression p comps rows c m i ∷ rest i
 
-  all_spare : (blown : List (List ℕ)) (ms : List Mapping) → ((s : List ℕ) → In s (map own ms) → (i : ℕ) → In i s → In (without i s) blown ⊎ IsExcluded has (without i s))
+  all_spare : (blown : List (List ℕ)) (ms : List Mapping) → ((s : List ℕ) → In s (map own ms) → (i : ℕ) → In i s → In (without_number i s) blown ⊎ IsExcluded has (without_number i s))
       → AllByRecursion (IsWithoutSpare expression p comps rows c blown) (map one_list ms)
   all_spare blown [] needed = tt
   all_spare blown (m ∷ ms) needed = (spare, all_spare blown ms (λ s i. needed s (inr i)))
@@ -57,7 +57,7 @@ module _ (expression : ℕ → Tree → List ℤ) (p : Listing) (comps : Partiti
       spare i there =
           let same = one_support_of expression p comps rows c m in
           let s = support_of_list (positions_in p comps c) (one_list m) in
-          elim (subst (λ (z : List ℕ). In (without i z) blown ⊎ IsExcluded has (without i z)) (sym same) (needed (own m) (inl refl) i (subst (In i) same there))) [
+          elim (subst (λ (z : List ℕ). In (without_number i z) blown ⊎ IsExcluded has (without_number i z)) (sym same) (needed (own m) (inl refl) i (subst (In i) same there))) [
             | inl b ↦ inl b
             | inr e ↦ inr (e, λ long. absurd (one_short m long))
           ]

@@ -13,8 +13,8 @@ use Rattle.linear_rows.specs.Proves.{Refutes}
 use Rattle.linear_rows.specs.declared.multipliers.Multipliers.{Multipliers}
 use Rattle.termination_model.proofs.Readiness.{from_in, own_of}
 use Rattle.termination_model.proofs.Refuting.{multipliers_refute}
-use Rattle.termination_model.specs.ComponentViews.{component_view, no_truth, positions_in}
-use Rattle.termination_model.specs.Excluding.{IsAt, IsLive, IsOwnCall, number_count, pairs_at}
+use Rattle.termination_model.specs.ComponentViews.{component_view, positions_in}
+use Rattle.termination_model.specs.Excluding.{IsZeroOutside, IsLive, IsOwnCall, number_count, pairs_at}
 use Rattle.termination_model.specs.OwnCalls.{OwnCall as Recalled, Position as Place, own_calls}
 use Rattle.termination_model.specs.Supports.{picked_from}
 use Rattle.termination_model.specs.TurnSystem.{sum_row, turn_rows, turn_rows_from, turn_unknowns}
@@ -78,8 +78,8 @@ module _ (size : (ℕ → ℕ) → Tree → ℕ) (truth : (ℕ → Bool) → Tre
     are_own : AllByRecursion (IsOwnCall view) told
     are_own = all_in (IsOwnCall view) told (λ o i. own_of view o (told_view o i))
 
-    are_live : AllByRecursion (IsLive no_truth expression) told
-    are_live = all_in (IsLive no_truth expression) told (λ o i. from_in (IsLive no_truth expression) lives (all_live expression p comps rows c x.calls.items h.held) o (told_live o i))
+    are_live : AllByRecursion (IsLive expression) told
+    are_live = all_in (IsLive expression) told (λ o i. from_in (IsLive expression) lives (all_live expression p comps rows c x.calls.items h.held) o (told_live o i))
 
     of_mine : (o : Recalled) → In o told → In o.rule.member mine × In o.member mine
     of_mine o i = (
@@ -93,12 +93,12 @@ module _ (size : (ℕ → ℕ) → Tree → ℕ) (truth : (ℕ → Bool) → Tre
         let refutes = refuted.1 in
         let naturals = are_naturals ns refutes.natural in
         let count : length (map unsigned_abs ns) ≡ number_count told + 1 =
-        length-map ns unsigned_abs ∙ refutes.long ∙ length-append (turn_rows_from expression ps mine 0 0 told) (sum_row expression ps mine told ∷ []) ∙ ap (λ n. n + 1) (rows_long no_truth expression view ps mine 0 0 told) in
+        length-map ns unsigned_abs ∙ refutes.long ∙ length-append (turn_rows_from expression ps mine 0 0 told) (sum_row expression ps mine told ∷ []) ∙ ap (λ n. n + 1) (rows_long expression view ps mine 0 0 told) in
         let last = split_last (number_count told) (map unsigned_abs ns) count in
         let vs = last.front in
         let proved : Refutes (turn_unknowns expression ps mine told) (turn_rows expression ps mine told) (map pos (vs ++ last.last ∷ [])) =
         subst (Refutes (turn_unknowns expression ps mine told) (turn_rows expression ps mine told)) (naturals ∙ ap (map pos) last.is) refutes in
-        let pairs = multipliers_refute no_truth expression view ps mine told vs (λ k t. h.norm.width k t) are_own are_live last.long (support_refutes no_truth expression view ps mine told vs last.last some last.long proved) in
-        let positive = all_times told vs last.long (times no_truth expression view ps mine told vs last.last some last.long proved) in
-        none_within no_truth expression view ps mine (pairs_at told vs) ls (of_members mine told vs of_mine) pairs (some_pair told vs some last.long) positive
-        (all_map (IsAt (picked_from 1 (positions_in p comps c) s)) (IsAt ps) (λ l a q b lt. subst (In {X = Place} (q, b)) (sym is) (within size truth expression p comps rows c x h s (q, b) (a q b lt))) ls at_picked) d
+        let pairs = multipliers_refute expression view ps mine told vs (λ k t. h.norm.width k t) are_own are_live last.long (support_refutes expression view ps mine told vs last.last some last.long proved) in
+        let positive = all_times told vs last.long (times expression view ps mine told vs last.last some last.long proved) in
+        none_within expression view ps mine (pairs_at told vs) ls (of_members mine told vs of_mine) pairs (some_pair told vs some last.long) positive
+        (all_map (IsZeroOutside (picked_from 1 (positions_in p comps c) s)) (IsZeroOutside ps) (λ l a q b lt. subst (In {X = Place} (q, b)) (sym is) (within size truth expression p comps rows c x h s (q, b) (a q b lt))) ls at_picked) d

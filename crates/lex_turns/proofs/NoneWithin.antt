@@ -15,8 +15,8 @@ use Rattle.termination_model.proofs.Lists.{indexed}
 use Rattle.termination_model.proofs.Readiness.{from_in, own_of}
 use Rattle.termination_model.proofs.Refuting.{multipliers_refute}
 use Rattle.termination_model.specs.Claims.{Mapping}
-use Rattle.termination_model.specs.ComponentViews.{component_view, members_in, no_truth, positions_in}
-use Rattle.termination_model.specs.Excluding.{IsAt, IsLive, IsOfMembers, IsOwnCall, IsRefutationAt, number_count, pairs_at}
+use Rattle.termination_model.specs.ComponentViews.{component_view, members_in, positions_in}
+use Rattle.termination_model.specs.Excluding.{IsZeroOutside, IsLive, IsOfMembers, IsOwnCall, IsRefutationAt, number_count, pairs_at}
 use Rattle.termination_model.specs.OwnCalls.{OwnCall as Recalled, Position as Place, members_of, own_calls}
 use Rattle.termination_model.specs.Ready.{arity_in, positions_by}
 use Rattle.termination_model.specs.Refutation.{Pair}
@@ -117,8 +117,8 @@ module _ (size : (ℕ → ℕ) → Tree → ℕ) (truth : (ℕ → Bool) → Tre
     are_own : AllByRecursion (IsOwnCall view) told
     are_own = all_in (IsOwnCall view) told (λ o i. own_of view o (told_view o i))
 
-    are_live : AllByRecursion (IsLive no_truth expression) told
-    are_live = all_in (IsLive no_truth expression) told (λ o i. from_in (IsLive no_truth expression) lives (all_live expression p comps rows c x.calls.items h.held) o (told_live o i))
+    are_live : AllByRecursion (IsLive expression) told
+    are_live = all_in (IsLive expression) told (λ o i. from_in (IsLive expression) lives (all_live expression p comps rows c x.calls.items h.held) o (told_live o i))
 
     pub of_mine : (o : Recalled) → In o told → In o.rule.member mine × In o.member mine
     of_mine o i = (
@@ -127,18 +127,18 @@ module _ (size : (ℕ → ℕ) → Tree → ℕ) (truth : (ℕ → Bool) → Tre
     )
 
     module _ (vs : List ℕ) (s : ℕ) (long : length vs ≡ number_count told) (refutes : Refutes (turn_unknowns expression ps mine told) (turn_rows expression ps mine told) (map pos (vs ++ s ∷ []))) where
-      pub pairs_refute : IsRefutationAt no_truth expression ps mine view (pairs_at told vs)
+      pub pairs_refute : IsRefutationAt expression ps mine view (pairs_at told vs)
       pairs_refute =
-          multipliers_refute no_truth expression view ps mine told vs (λ k t. h.norm.width k t) are_own are_live long (support_refutes no_truth expression view ps mine told vs s some long refutes)
+          multipliers_refute expression view ps mine told vs (λ k t. h.norm.width k t) are_own are_live long (support_refutes expression view ps mine told vs s some long refutes)
 
       pub pairs_positive : AllByRecursion (λ (y : Pair). 1 ≤ y.t) (pairs_at told vs)
-      pairs_positive = all_times told vs long (times no_truth expression view ps mine told vs s some long refutes)
+      pairs_positive = all_times told vs long (times expression view ps mine told vs s some long refutes)
 
       pub pairs_mine : AllByRecursion (IsOfMembers mine) (pairs_at told vs)
       pairs_mine = of_members mine told vs of_mine
 
-      pub excludes : (ls : List Mapping) → AllByRecursion (IsAt ps) ls → ListDescends no_truth expression view ls → ⊥
-      excludes ls at_ps = none_within no_truth expression view ps mine (pairs_at told vs) ls pairs_mine pairs_refute (some_pair told vs some long) pairs_positive at_ps
+      pub excludes : (ls : List Mapping) → AllByRecursion (IsZeroOutside ps) ls → ListDescends expression view ls → ⊥
+      excludes ls at_ps = none_within expression view ps mine (pairs_at told vs) ls pairs_mine pairs_refute (some_pair told vs some long) pairs_positive at_ps
 
     -- no list at these positions descends
     pub none_descends : (s : List ℕ) → ps ≡ positions_at expression p comps rows c s → NoneDescends expression p comps rows c s
@@ -148,9 +148,9 @@ module _ (size : (ℕ → ℕ) → Tree → ℕ) (truth : (ℕ → Bool) → Tre
         let refutes = refuted.1 in
         let naturals = are_naturals ns refutes.natural in
         let count : length (map unsigned_abs ns) ≡ number_count told + 1 =
-        length-map ns unsigned_abs ∙ refutes.long ∙ length-append (turn_rows_from expression ps mine 0 0 told) (sum_row expression ps mine told ∷ []) ∙ ap (λ n. n + 1) (rows_long no_truth expression view ps mine 0 0 told) in
+        length-map ns unsigned_abs ∙ refutes.long ∙ length-append (turn_rows_from expression ps mine 0 0 told) (sum_row expression ps mine told ∷ []) ∙ ap (λ n. n + 1) (rows_long expression view ps mine 0 0 told) in
         let last = split_last (number_count told) (map unsigned_abs ns) count in
         let proved : Refutes (turn_unknowns expression ps mine told) (turn_rows expression ps mine told) (map pos (last.front ++ last.last ∷ [])) =
         subst (Refutes (turn_unknowns expression ps mine told) (turn_rows expression ps mine told)) (naturals ∙ ap (map pos) last.is) refutes in
         excludes last.front last.last last.long proved ls
-        (all_map (IsAt (picked_from 1 (positions_in p comps c) s)) (IsAt ps) (λ l at q a lt. subst (In {X = Place} (q, a)) (sym is) (within s (q, a) (at q a lt))) ls at_picked) d
+        (all_map (IsZeroOutside (picked_from 1 (positions_in p comps c) s)) (IsZeroOutside ps) (λ l at q a lt. subst (In {X = Place} (q, a)) (sym is) (within s (q, a) (at q a lt))) ls at_picked) d

@@ -16,8 +16,9 @@ use Rattle.number_tests.specs.Shape.{row_count}
 use Rattle.number_tests.specs.declared.level_part.LevelPart.{LevelPart}
 use Rattle.term_size.specs.Norm.{IsNorm}
 use Rattle.termination_model.proofs.Lists.{one_element}
-use Rattle.termination_model.specs.Systems.{short_system, system}
-use Rattle.level_systems.specs.Held.{IsHeld, pair_of}
+use Rattle.termination_model.specs.Systems.{system}
+use Rattle.termination_model.specs.ShortSystems.{short_system}
+use Rattle.level_systems.specs.Held.{IsHeld, numbers_of_call}
 use Rattle.level_systems.specs.Mappings.{level_in}
 use Rattle.level_systems.specs.Pairs.{call_at, clause_at}
 use Rattle.level_systems.specs.declared.measure.Measure.{Measure}
@@ -45,10 +46,10 @@ placed ms mss (own ∷ owns) (g ∷ gs) [] h e = absurd h
 placed ms mss (own ∷ owns) (true ∷ gs) (d ∷ ds) h e = (h.0, placed ms mss owns gs ds h.1 e)
 placed ms mss (own ∷ owns) (false ∷ gs) (d ∷ ds) h e = cc
 
-pub pairs_are : (ms : List Measure) (mss : List (List Measure)) (owns : List OwnCall) (gs : List Bool) (ds : List CallDrops) → AreTracked (ms ∷ mss) owns gs ds → kept owns gs ≡ [] → map (λ (d : CallDrops). (d.clause, d.call)) ds ≡ map pair_of owns
+pub pairs_are : (ms : List Measure) (mss : List (List Measure)) (owns : List OwnCall) (gs : List Bool) (ds : List CallDrops) → AreTracked (ms ∷ mss) owns gs ds → kept owns gs ≡ [] → map (λ (d : CallDrops). (d.clause, d.call)) ds ≡ map numbers_of_call owns
 pairs_are ms mss owns gs ds h e = go owns ds (placed ms mss owns gs ds h e)
   where
-    go : (owns : List OwnCall) (ds : List CallDrops) → ArePlaced (ms ∷ mss) owns ds → map (λ (d : CallDrops). (d.clause, d.call)) ds ≡ map pair_of owns
+    go : (owns : List OwnCall) (ds : List CallDrops) → ArePlaced (ms ∷ mss) owns ds → map (λ (d : CallDrops). (d.clause, d.call)) ds ≡ map numbers_of_call owns
     go [] [] h = refl
     go [] (d ∷ ds) h = absurd h
     go (own ∷ owns) [] h = absurd h

@@ -6,7 +6,7 @@ use Rattle.cti_terms.specs.Listing.{Listing}
 use Rattle.cti_terms.specs.Tree.{Tree}
 use Rattle.termination_model.specs.ComponentViews.{positions_in}
 use Rattle.termination_model.specs.Modes.{is_part}
-use Rattle.level_systems.specs.Mappings.{IsFall, mapping_of, support_of}
+use Rattle.level_systems.specs.Mappings.{IsFall, mapping_with, support_of}
 use Rattle.level_systems.specs.Searched.{IsDecreasing, IsFoundIn}
 use Rattle.level_systems.specs.declared.fall.Fall.{Fall}
 use Rattle.level_systems.specs.declared.mapping.Mapping.{Mapping}
@@ -32,7 +32,7 @@ module _ (expression : ℕ → Tree → List ℤ) (p : Listing) (comps : Partiti
   placed ms (f ∷ fs) h = (h.0, placed ms fs h.1)
 
   pub one_support_of : (m : Mapping) → support_of_list (positions_in p comps c) (one_list m) ≡ support_of (positions_in p comps c) m
-  one_support_of m = one_support (positions_in p comps c) (mapping_of m.measures) 1
+  one_support_of m = one_support (positions_in p comps c) (mapping_with m.measures) 1
 
   pub one_list_is : (m : Mapping) → IsDecreasing expression p comps rows c m → IsDescendingList expression p comps rows c (one_list m)
   one_list_is m is =
@@ -44,7 +44,7 @@ module _ (expression : ℕ → Tree → List ℤ) (p : Listing) (comps : Partiti
         places = placed m.measures m.falls mapping.falls;
         needed = λ long. absurd (one_short m long);
         at = (is.at, tt);
-        descends = one_descends expression p comps rows c (mapping_of m.measures) is.falling;
+        descends = one_descends expression p comps rows c (mapping_with m.measures) is.falling;
       }
 
   pub one_found : (s : List ℕ) (m : Mapping) → IsFoundIn expression p comps rows c s m → IsListIn expression p comps rows c s (one_list m)
@@ -54,5 +54,5 @@ module _ (expression : ℕ → Tree → List ℤ) (p : Listing) (comps : Partiti
       record {
         list = one_list_is m is;
         part = subst (λ (z : List ℕ). is_part z s ≡ true) (sym same) found.part;
-        has = record { list = mapping_of m.measures ∷ []; some = omega arith; at = (is.at, tt); descends = one_descends expression p comps rows c (mapping_of m.measures) is.falling; is = refl };
+        has = record { list = mapping_with m.measures ∷ []; some = omega arith; at = (is.at, tt); descends = one_descends expression p comps rows c (mapping_with m.measures) is.falling; is = refl };
       }

@@ -8,7 +8,7 @@ use Rattle.linear_rows.proofs.Members.{in-left, in-right, of-append}
 use Rattle.termination_model.specs.Minimal.{IsSet}
 use Rattle.termination_model.specs.Modes.{is_part}
 use Rattle.termination_model.proofs.Lists.{taken_more}
-use Rattle.level_systems.specs.Found.{IsBlownSet, count, full, had, without}
+use Rattle.level_systems.specs.Found.{IsBlownSet, count, full, without_number}
 use Rattle.level_systems.specs.Subsequences.{AreOnce}
 use Rattle.level_dual.proofs.FoundCases.{part_full}
 use Rattle.level_dual.proofs.LargeLaws.{not_before, not_within, place_in, take_whole, taken_in, without_in, without_not, without_set}
@@ -20,6 +20,7 @@ use Rattle.lex_turns.specs.Walked.{own_support}
 use Rattle.lex_turns.specs.declared.large.LeftOut.TheVariants.{None as NoneLeft}
 use Rattle.lex_turns.specs.declared.measure_list.MeasureList.{MeasureList}
 use Rattle.lex_turns.proofs.ListSupports.{list_had, list_sets, void_had}
+use Rattle.termination_model.specs.ComponentViews.{HasSupportIn}
 
 module _ (expression : ℕ → Tree → List ℤ) (p : Listing) (comps : Partition) (rows : ℕ → List (List ℤ)) (c : ℕ) where
   abbrev void : List ℕ → Type 0
@@ -53,46 +54,46 @@ module _ (expression : ℕ → Tree → List ℤ) (p : Listing) (comps : Partiti
     new_more : In i (take (k + 1) s)
     new_more = subst (In i) (sym (taken_more s k i at)) (in-right (take k s) (i ∷ []) i (inl refl))
 
-    pub void_too : void (without i s) → tried_to s (k + 1) blown
+    pub void_too : void (without_number i s) → tried_to s (k + 1) blown
     void_too e = record {
       tried = λ j m. elim (one_more j m) [
         | inl old ↦ h.tried j old
-        | inr same ↦ inr (subst (λ (n : ℕ). void (without n s)) same e)
+        | inr same ↦ inr (subst (λ (n : ℕ). void (without_number n s)) same e)
       ];
       tested = λ t m. let w = h.tested t m in (w.0, old_more w.0 w.1, w.2);
       given_up = h.given_up;
       once = h.once;
     }
 
-    not_yet : AreOnce s → In (without i s) blown → ⊥
+    not_yet : AreOnce s → In (without_number i s) blown → ⊥
     not_yet once m =
-        let w = h.tested (without i s) m in
+        let w = h.tested (without_number i s) m in
         let differ : w.0 ≡ i → ⊥ = λ e. not_before s k i once at (subst (λ n. In n (take k s)) e w.1) in
         without_not i s (subst (In i) (sym w.2) (without_in w.0 s i (place_in s k i at) differ))
 
-    pub given_up_too : AreOnce s → given_up_at (without i s) → tried_to s (k + 1) (blown ++ without i s ∷ [])
+    pub given_up_too : AreOnce s → given_up_at (without_number i s) → tried_to s (k + 1) (blown ++ without_number i s ∷ [])
     given_up_too once here = record {
       tried = λ j m. elim (one_more j m) [
-        | inl old ↦ elim (h.tried j old) [ inl b ↦ inl (in-left blown (without i s ∷ []) (without j s) b) | inr e ↦ inr e ]
-        | inr same ↦ inl (in-right blown (without i s ∷ []) (without j s) (inl (ap (λ n. without n s) same)))
+        | inl old ↦ elim (h.tried j old) [ inl b ↦ inl (in-left blown (without_number i s ∷ []) (without_number j s) b) | inr e ↦ inr e ]
+        | inr same ↦ inl (in-right blown (without_number i s ∷ []) (without_number j s) (inl (ap (λ n. without_number n s) same)))
       ];
-      tested = λ t m. elim (of-append blown (without i s ∷ []) t m) [
+      tested = λ t m. elim (of-append blown (without_number i s ∷ []) t m) [
         | inl old ↦ let w = h.tested t old in (w.0, old_more w.0 w.1, w.2)
         | inr new ↦ elim new [ inl e ↦ (i, new_more, sym e) | inr none ↦ absurd none ]
       ];
-      given_up = λ t m. elim (of-append blown (without i s ∷ []) t m) [
+      given_up = λ t m. elim (of-append blown (without_number i s ∷ []) t m) [
         | inl old ↦ h.given_up t old
         | inr (inl e) ↦ subst given_up_at e here
         | inr (inr none) ↦ absurd none
       ];
-      once = once_push blown (without i s) h.once (not_yet once);
+      once = once_push blown (without_number i s) h.once (not_yet once);
     }
 
   pub all_tried : (s : List ℕ) (k : ℕ) (blown : List (List ℕ)) → length s ≤ k → tried_to s k blown → IsLeftOut expression p comps rows c s (NoneLeft blown)
   all_tried s k blown l h = ((λ i m. h.tried i (subst (In i) (sym (take_whole s k l)) m)), h.given_up, h.once, λ t m. let w = h.tested t m in (w.0, w.2, taken_in s k w.0 w.1))
 
   -- no mapping is known where none is found at all positions
-  unmapped_all : IsUnmapped expression p comps rows c all → IsBlownSet expression p comps rows c all ⊎ ((s : List ℕ) → had expression p comps rows c s → ⊥)
+  unmapped_all : IsUnmapped expression p comps rows c all → IsBlownSet expression p comps rows c all ⊎ ((s : List ℕ) → HasSupportIn expression p comps rows c s → ⊥)
   unmapped_all (inl blown) = inl blown
   unmapped_all (inr excluded) = inr (λ s k. excluded s (part_full many s (list_sets expression p comps rows c s (list_had expression p comps rows c s k))) k)
 
@@ -109,7 +110,7 @@ module _ (expression : ℕ → Tree → List ℤ) (p : Listing) (comps : Partiti
         more = λ _. record {
           few = omega arith;
           single = ((λ long. unmapped_all unmapped), tt);
-          spare = ((λ i m. elim (left.0 i m) [ inl b ↦ inl b | inr v ↦ inr (void_had expression p comps rows c (without i s) v, λ long. v) ]), tt);
+          spare = ((λ i m. elim (left.0 i m) [ inl b ↦ inl b | inr v ↦ inr (void_had expression p comps rows c (without_number i s) v, λ long. v) ]), tt);
           decided = inl (omega arith);
           given_up = λ t i. inl (left.1 t i);
         };

@@ -28,7 +28,7 @@ use Rattle.termination_model.proofs.Readiness.{from_in, views_have_few}
 use Rattle.termination_model.specs.AllPositions.{IsCoveredBy}
 use Rattle.termination_model.specs.BlownSupports.{CheckFits}
 use Rattle.termination_model.specs.Claims.{SomeOf}
-use Rattle.termination_model.specs.ComponentViews.{component_view, members_in, no_truth, size_claims}
+use Rattle.termination_model.specs.ComponentViews.{component_view, members_in, size_claims}
 use Rattle.termination_model.specs.Excluding.{number_count, pairs_at}
 use Rattle.termination_model.specs.OwnCalls.{OwnCall as Recalled, Position as Place, members_of, own_calls}
 use Rattle.termination_model.specs.Ready.{arity_in, positions_by}
@@ -36,7 +36,7 @@ use Rattle.termination_model.specs.Refutation.{IsRefutation, Load, Pair, call_lo
 use Rattle.termination_model.specs.TurnSystem.{sum_row, turn_rows, turn_rows_from, turn_unknowns}
 use Rattle.termination_model.specs.View.{Rule}
 use Rattle.level_systems.specs.Found.{PairsAscend}
-use Rattle.level_systems.specs.Held.{IsHeld, pair_of, spelled}
+use Rattle.level_systems.specs.Held.{IsHeld, numbers_of_call, spelled}
 use Rattle.level_systems.specs.Searched.{IsComponent}
 use Rattle.level_systems.specs.declared.component.Component.{Component}
 use Rattle.level_systems.specs.declared.own_call.OwnCall.{OwnCall}
@@ -73,11 +73,11 @@ refuting_if owns n lines ms e refutes None h = short ms refutes h
 refuting_if owns n lines ms e refutes (Some xs) h = record { multipliers = ms; solved = e; refutes = refutes; plain = h }
 
 -- ---- the calls that are kept ascend
-kept_ascend : (last : ℕ × ℕ) (owns : List OwnCall) (gs : List Bool) → AscendFrom last (map pair_of owns) → AscendFrom last (map pair_of (kept owns gs))
+kept_ascend : (last : ℕ × ℕ) (owns : List OwnCall) (gs : List Bool) → AscendFrom last (map numbers_of_call owns) → AscendFrom last (map numbers_of_call (kept owns gs))
 kept_ascend last [] gs h = tt
 kept_ascend last (own ∷ owns) [] h = tt
-kept_ascend last (own ∷ owns) (false ∷ gs) h = (h.0, kept_ascend (pair_of own) owns gs h.1)
-kept_ascend last (own ∷ owns) (true ∷ gs) h = ascend_lower last (pair_of own) (map pair_of (kept owns gs)) h.0 (kept_ascend (pair_of own) owns gs h.1)
+kept_ascend last (own ∷ owns) (false ∷ gs) h = (h.0, kept_ascend (numbers_of_call own) owns gs h.1)
+kept_ascend last (own ∷ owns) (true ∷ gs) h = ascend_lower last (numbers_of_call own) (map numbers_of_call (kept owns gs)) h.0 (kept_ascend (numbers_of_call own) owns gs h.1)
 
 first_pair : (ps : List Pair) → 1 ≤ length ps → AllByRecursion (λ (y : Pair). 1 ≤ y.t) ps → SomeOf (λ (y : Pair). 1 ≤ y.t) ps
 first_pair [] l h = absurd (omega (arith, l))
@@ -167,7 +167,7 @@ module _ (size : (ℕ → ℕ) → Tree → ℕ) (truth : (ℕ → Bool) → Tre
 
     count_is : (ms : List ℤ) → Refutes (unknowns_of expression p comps rows c x at owns) (lines_of expression p comps rows c x at owns) ms → length ms ≡ number_count told + 1
     count_is ms refutes =
-        refutes.long ∙ length-append (turn_rows_from expression ps mine 0 0 told) (sum_row expression ps mine told ∷ []) ∙ ap (λ n. n + 1) (rows_long no_truth expression view ps mine 0 0 told)
+        refutes.long ∙ length-append (turn_rows_from expression ps mine 0 0 told) (sum_row expression ps mine told ∷ []) ∙ ap (λ n. n + 1) (rows_long expression view ps mine 0 0 told)
 
     -- nothing holds at a point where multipliers refute
     no_point : (t : ℤ) (w : List ℤ) → IsPoint (unknowns_of expression p comps rows c x at owns) (lines_of expression p comps rows c x at owns) t w → ⊥
@@ -183,9 +183,9 @@ module _ (size : (ℕ → ℕ) → Tree → ℕ) (truth : (ℕ → Bool) → Tre
       abbrev pairs : List Pair
       pairs = pairs_at told vs
 
-      refutation : IsRefutation no_truth expression view pairs
+      refutation : IsRefutation expression view pairs
       refutation =
-          all_refute no_truth expression view ps mine pairs (pairs_mine size truth expression p comps rows c x h at gone stopped vs s long refutes)
+          all_refute expression view ps mine pairs (pairs_mine size truth expression p comps rows c x h at gone stopped vs s long refutes)
           (cover_more (positions_by (arity_in p) mine) ps all_covered pairs (positions_cover_pairs (arity_in p) mine told vs (λ o i.
           let there = of_mine size truth expression p comps rows c x h at gone stopped o i in
           (views_have_few p (size_claims expression p comps rows) c h.program o (in_view o i), there.0, there.1))))
@@ -194,7 +194,7 @@ module _ (size : (ℕ → ℕ) → Tree → ℕ) (truth : (ℕ → Bool) → Tre
       times : AllByRecursion (λ (y : Pair). 1 ≤ y.t) pairs
       times = pairs_positive size truth expression p comps rows c x h at gone stopped vs s long refutes
 
-      module _ (xs : List PairPoint) (plain : ArePlain owns (map pos (vs ++ s ∷ [])) xs) (fits : CheckFits no_truth expression view (arity_in p) pairs) where
+      module _ (xs : List PairPoint) (plain : ArePlain owns (map pos (vs ++ s ∷ [])) xs) (fits : CheckFits expression view (arity_in p) pairs) where
         stand : Stand expression p comps rows c owns vs xs
         stand = plain_stand expression p comps rows c owns held vs (s ∷ []) long times xs plain
 
@@ -206,7 +206,7 @@ module _ (size : (ℕ → ℕ) → Tree → ℕ) (truth : (ℕ → Bool) → Tre
 
         ascend : PairsAscend (0, 0) xs
         ascend =
-            let all : AscendFrom (0, 0) (map pair_of x.calls.items) = subst (AscendFrom (0, 0)) (sym h.pairs) (pairs_ascend comps c (0, 0) 0 p.clauses (omega arith)) in
+            let all : AscendFrom (0, 0) (map numbers_of_call x.calls.items) = subst (AscendFrom (0, 0)) (sym h.pairs) (pairs_ascend comps c (0, 0) 0 p.clauses (omega arith)) in
             stand_ascend expression p comps rows c (0, 0) owns vs xs stand (kept_ascend (0, 0) x.calls.items gone all)
 
         sums : SumsRefute expression p (members_in comps c) xs
@@ -217,14 +217,14 @@ module _ (size : (ℕ → ℕ) → Tree → ℕ) (truth : (ℕ → Bool) → Tre
               positive = stand_positive expression p comps rows c owns vs xs stand (first_pair pairs (some_pair told vs some long) times);
               fit = record {
                 values = all_map IsGood (PairFits expression p) (λ y g. g.0) xs good;
-                heads = sums_fit (map (head_load no_truth expression) pairs) (head_loads expression p xs) heads (λ k q. ap (λ (hs : List Load). row_fits (gather q hs)) (take_mapped (head_load no_truth expression) k pairs) ∙ fits.head_sums k q);
-                calls = sums_fit (map (call_load no_truth expression) pairs) (call_loads expression p xs) calls (λ k q. ap (λ (hs : List Load). row_fits (gather q hs)) (take_mapped (call_load no_truth expression) k pairs) ∙ fits.call_sums k q);
+                heads = sums_fit (map (head_load expression) pairs) (head_loads expression p xs) heads (λ k q. ap (λ (hs : List Load). row_fits (gather q hs)) (take_mapped (head_load expression) k pairs) ∙ fits.head_sums k q);
+                calls = sums_fit (map (call_load expression) pairs) (call_loads expression p xs) calls (λ k q. ap (λ (hs : List Load). row_fits (gather q hs)) (take_mapped (call_load expression) k pairs) ∙ fits.call_sums k q);
               };
               columns = λ q _ i.
-                  let a = gathers_same (map (head_load no_truth expression) pairs) (head_loads expression p xs) heads q i in
-                  let b = gathers_same (map (call_load no_truth expression) pairs) (call_loads expression p xs) calls q i in
+                  let a = gathers_same (map (head_load expression) pairs) (head_loads expression p xs) heads q i in
+                  let b = gathers_same (map (call_load expression) pairs) (call_loads expression p xs) calls q i in
                   subst (λ (z : ℤ). z ≤ℤ entry (gather q (call_loads expression p xs)) i) (sym a)
-                  (subst (λ (z : ℤ). entry (gather q (map (head_load no_truth expression) pairs)) i ≤ℤ z) (sym b) (refutation.columns q i));
+                  (subst (λ (z : ℤ). entry (gather q (map (head_load expression) pairs)) i ≤ℤ z) (sym b) (refutation.columns q i));
             }
 
         pub accepted : AreAccepted expression p rows (members_in comps c) xs

@@ -7,8 +7,8 @@ use Rattle.exact128.specs.Sums.{dot, entry}
 use Rattle.linear_rows.specs.Members.{In}
 use Rattle.linear_rows.specs.Rows.{HoldsOn}
 use Rattle.cti_terms.specs.Tree.{Tree}
-use Rattle.termination_model.specs.Best.{coefficient}
-use Rattle.termination_model.specs.Excluding.{IsAt, IsOfMembers, IsRefutationAt}
+use Rattle.termination_model.specs.Coefficients.{coefficient}
+use Rattle.termination_model.specs.Excluding.{IsZeroOutside, IsOfMembers, IsRefutationAt}
 use Rattle.termination_model.specs.OwnCalls.{Position}
 use Rattle.termination_model.specs.Rows.{scaled, added}
 use Rattle.termination_model.specs.Claims.{Mapping, SomeOf}
@@ -65,27 +65,27 @@ first_of : {X : Type 0} (P : X → Type 0) (xs : List X) → 1 ≤ length xs →
 first_of P [] l all = absurd (omega arith)
 first_of P (x ∷ xs) l all = inl all.0
 
-module _ (truth : (ℕ → Bool) → Tree → Bool) (expression : ℕ → Tree → List ℤ) (view : List Rule) where
+module _ (expression : ℕ → Tree → List ℤ) (view : List Rule) where
   abbrev rows_of : Pair → List (List ℤ)
   rows_of p = system_of expression p.rule.vars (take p.place p.rule.body)
 
   -- the levels of a pair's head and call at its point
   abbrev head_level : Mapping → Pair → ℤ
-  head_level l p = dot (map pos (weights l p.rule.member)) (head_load truth expression p).1
+  head_level l p = dot (map pos (weights l p.rule.member)) (head_load expression p).1
 
   abbrev call_level : Mapping → Pair → ℤ
-  call_level l p = dot (map pos (weights l p.member)) (call_load truth expression p).1
+  call_level l p = dot (map pos (weights l p.member)) (call_load expression p).1
 
-  level_falls : (l : Mapping) (d : ℕ) (p : Pair) → IsPair truth expression view p → 1 ≤ p.t → HoldsOn (suc p.rule.vars) (rows_of p) (fall_over truth expression p.rule p.member p.call.args d l)
+  level_falls : (l : Mapping) (d : ℕ) (p : Pair) → IsPair expression view p → 1 ≤ p.t → HoldsOn (suc p.rule.vars) (rows_of p) (fall_over expression p.rule p.member p.call.args d l)
       → (call_level l p +ℤ pos d *ℤ pos p.t) ≤ℤ head_level l p
   level_falls l d p is ht on =
       let ps = pos p.t ∷ map pos p.w in
       let n = p.rule.vars in
-      let head = level_over truth expression n p.rule.member p.rule.args l in
-      let call = level_over truth expression n p.member p.call.args l in
+      let head = level_over expression n p.rule.member p.rule.args l in
+      let call = level_over expression n p.member p.call.args l in
       let long = is.width in
       let wide : length p.w + 1 ≡ suc n = omega arith in
-      let at : pos 0 ≤ℤ dot (fall_over truth expression p.rule p.member p.call.args d l) ps = on p.t p.w ht wide is.holds in
+      let at : pos 0 ≤ℤ dot (fall_over expression p.rule p.member p.call.args d l) ps = on p.t p.w ht wide is.holds in
       let hv = dot_over n (map (expression n) p.rule.args) (pos (l.offset p.rule.member)) (map pos (l.coefficients p.rule.member)) (pos p.t) (map pos p.w) in
       let cv = dot_over n (map (expression n) p.call.args) (pos (l.offset p.member)) (map pos (l.coefficients p.member)) (pos p.t) (map pos p.w) in
       let f : (dot call ps +ℤ pos d *ℤ pos p.t) ≤ℤ dot head ps = plain_drop _ _ _ _ _ _ (pos d *ℤ pos p.t) at
@@ -103,10 +103,10 @@ module _ (truth : (ℕ → Bool) → Tree → Bool) (expression : ℕ → Tree �
   fall_stays l p f = omega (arith, ints, f)
 
   abbrev head_sum : Mapping → List Pair → ℤ
-  head_sum l ps = summed (weights l) (map (head_load truth expression) ps)
+  head_sum l ps = summed (weights l) (map (head_load expression) ps)
 
   abbrev call_sum : Mapping → List Pair → ℤ
-  call_sum l ps = summed (weights l) (map (call_load truth expression) ps)
+  call_sum l ps = summed (weights l) (map (call_load expression) ps)
 
   all_stay : (l : Mapping) (ps : List Pair) → AllByRecursion (Stays l) ps → call_sum l ps ≤ℤ head_sum l ps
   all_stay l [] a = omega (arith, ints)
@@ -119,10 +119,10 @@ module _ (truth : (ℕ → Bool) → Tree → Bool) (expression : ℕ → Tree �
 
   -- a pair's place in a list of mappings
   abbrev HasPlace : List Mapping → Pair → Type 0
-  HasPlace ls p = (i : ℕ) × FallsOver truth expression p.rule (rows_of p) p.member p.call.args i ls
+  HasPlace ls p = (i : ℕ) × FallsOver expression p.rule (rows_of p) p.member p.call.args i ls
 
   -- the pair falls in the first mapping, or stays there and has its place among the others
-  first_mapping : (l : Mapping) (ls : List Mapping) (p : Pair) → IsPair truth expression view p → 1 ≤ p.t → HasPlace (l ∷ ls) p → Falls l p ⊎ (Stays l p × HasPlace ls p)
+  first_mapping : (l : Mapping) (ls : List Mapping) (p : Pair) → IsPair expression view p → 1 ≤ p.t → HasPlace (l ∷ ls) p → Falls l p ⊎ (Stays l p × HasPlace ls p)
   first_mapping l ls p is ht (zero, on) = inl (let f = level_falls l 1 p is ht on in omega (arith, ints, f, ht))
   first_mapping l ls p is ht (suc i, (on, rest)) = inr (let f = level_falls l 0 p is ht on in omega (arith, ints, f), (i, rest))
 
@@ -134,7 +134,7 @@ module _ (truth : (ℕ → Bool) → Tree → Bool) (expression : ℕ → Tree �
   add_pair l ls p ps (inr (s, place)) (stay, inl f) = ((s, stay), inl (inr f))
   add_pair l ls p ps (inr (s, place)) (stay, inr places) = ((s, stay), inr (place, places))
 
-  split_first : (l : Mapping) (ls : List Mapping) (ps : List Pair) → AllByRecursion (IsPair truth expression view) ps → AllByRecursion (λ (p : Pair). 1 ≤ p.t) ps → AllByRecursion (HasPlace (l ∷ ls)) ps → SomeFalls l ls ps
+  split_first : (l : Mapping) (ls : List Mapping) (ps : List Pair) → AllByRecursion (IsPair expression view) ps → AllByRecursion (λ (p : Pair). 1 ≤ p.t) ps → AllByRecursion (HasPlace (l ∷ ls)) ps → SomeFalls l ls ps
   split_first l ls [] is ts places = (tt, inr tt)
   split_first l ls (p ∷ ps) is ts places = add_pair l ls p ps (first_mapping l ls p is.0 ts.0 places.0) (split_first l ls ps is.1 ts.1 places.1)
 
@@ -143,49 +143,49 @@ module _ (truth : (ℕ → Bool) → Tree → Bool) (expression : ℕ → Tree �
   no_places (p ∷ ps) (inl (i, f)) = absurd f
   no_places (p ∷ ps) (inr s) = no_places ps s
 
-  module _ (positions : List Position) (members : List ℕ) (ps : List Pair) (of : AllByRecursion (IsOfMembers members) ps) (r : IsRefutationAt truth expression positions members view ps)
+  module _ (positions : List Position) (members : List ℕ) (ps : List Pair) (of : AllByRecursion (IsOfMembers members) ps) (r : IsRefutationAt expression positions members view ps)
       (some : 1 ≤ length ps) (times : AllByRecursion (λ (p : Pair). 1 ≤ p.t) ps) where
     abbrev heads : List Load
-    heads = map (head_load truth expression) ps
+    heads = map (head_load expression) ps
 
     abbrev called : List Load
-    called = map (call_load truth expression) ps
+    called = map (call_load expression) ps
 
     offset_order : (q : ℕ) → entry (gather q heads) 0 ≤ℤ entry (gather q called) 0
     offset_order q = elim (decide_member members q) [
       | inl i ↦ r.offsets q i
       | inr n ↦
-          let h = gather_none q 0 heads (each_load (head_load truth expression) (IsOfMembers members) (λ (h : Load). h.0 ≡ q → entry h.1 0 ≡ pos 0) ps (λ p k e. absurd (n (subst (λ (z : ℕ). In z members) e k.0))) of) in
-          let c = gather_none q 0 called (each_load (call_load truth expression) (IsOfMembers members) (λ (h : Load). h.0 ≡ q → entry h.1 0 ≡ pos 0) ps (λ p k e. absurd (n (subst (λ (z : ℕ). In z members) e k.1))) of) in
+          let h = gather_none q 0 heads (each_load (head_load expression) (IsOfMembers members) (λ (h : Load). h.0 ≡ q → entry h.1 0 ≡ pos 0) ps (λ p k e. absurd (n (subst (λ (z : ℕ). In z members) e k.0))) of) in
+          let c = gather_none q 0 called (each_load (call_load expression) (IsOfMembers members) (λ (h : Load). h.0 ≡ q → entry h.1 0 ≡ pos 0) ps (λ p k e. absurd (n (subst (λ (z : ℕ). In z members) e k.1))) of) in
           omega (arith, ints, h, c)
     ]
 
-    ordered : (l : Mapping) → IsAt positions l → (q i : ℕ) → 0 < coefficient (weights l q) i → entry (gather q heads) i ≤ℤ entry (gather q called) i
+    ordered : (l : Mapping) → IsZeroOutside positions l → (q i : ℕ) → 0 < coefficient (weights l q) i → entry (gather q heads) i ≤ℤ entry (gather q called) i
     ordered l at q zero k = offset_order q
     ordered l at q (suc a) k = r.columns q a (at q a k)
 
-    not_lower : (l : Mapping) → IsAt positions l → head_sum l ps ≤ℤ call_sum l ps
+    not_lower : (l : Mapping) → IsZeroOutside positions l → head_sum l ps ≤ℤ call_sum l ps
     not_lower l at = lighter (weights l) heads called (ordered l at)
 
-    split_end : (l : Mapping) (ls : List Mapping) → IsAt positions l → (AllByRecursion (HasPlace ls) ps → ⊥) → SomeFalls l ls ps → ⊥
+    split_end : (l : Mapping) (ls : List Mapping) → IsZeroOutside positions l → (AllByRecursion (HasPlace ls) ps → ⊥) → SomeFalls l ls ps → ⊥
     split_end l ls at later (stay, inl s) = let f = one_falls l ps stay s in let n = not_lower l at in omega (arith, ints, f, n)
     split_end l ls at later (stay, inr rest) = later rest
 
-    no_list : (ls : List Mapping) → AllByRecursion (IsAt positions) ls → AllByRecursion (HasPlace ls) ps → ⊥
+    no_list : (ls : List Mapping) → AllByRecursion (IsZeroOutside positions) ls → AllByRecursion (HasPlace ls) ps → ⊥
     no_list [] at places = no_places ps (first_of (HasPlace []) ps some places)
     no_list (l ∷ ls) at places = split_end l ls at.0 (λ rest. no_list ls at.1 rest) (split_first l ls ps r.pairs times places)
 
   -- the pairs of a view have places where the list descends
-  place_of : (ls : List Mapping) → ListDescends truth expression view ls → (p : Pair) → IsPair truth expression view p → HasPlace ls p
+  place_of : (ls : List Mapping) → ListDescends expression view ls → (p : Pair) → IsPair expression view p → HasPlace ls p
   place_of ls d p is = from_in (λ (k : Rule). (j : ℕ) (b : Call) (q : ℕ) → slice_get k.body j ≡ Some b → b.place ≡ Member q
-      → (i : ℕ) × FallsOver truth expression k (system_of expression k.vars (take j k.body)) q b.args i ls) view p.rule d is.there p.place p.call p.member is.call is.member
+      → (i : ℕ) × FallsOver expression k (system_of expression k.vars (take j k.body)) q b.args i ls) view p.rule d is.there p.place p.call p.member is.call is.member
 
-  places_of : (ls : List Mapping) → ListDescends truth expression view ls → (ps : List Pair) → AllByRecursion (IsPair truth expression view) ps → AllByRecursion (HasPlace ls) ps
+  places_of : (ls : List Mapping) → ListDescends expression view ls → (ps : List Pair) → AllByRecursion (IsPair expression view) ps → AllByRecursion (HasPlace ls) ps
   places_of ls d [] is = tt
   places_of ls d (p ∷ ps) is = (place_of ls d p is.0, places_of ls d ps is.1)
 
 -- no list of mappings at these positions descends
-pub none_within : (truth : (ℕ → Bool) → Tree → Bool) (expression : ℕ → Tree → List ℤ) (view : List Rule) (positions : List Position) (members : List ℕ) (ps : List Pair) (ls : List Mapping)
-    → AllByRecursion (IsOfMembers members) ps → IsRefutationAt truth expression positions members view ps → 1 ≤ length ps → AllByRecursion (λ (p : Pair). 1 ≤ p.t) ps
-    → AllByRecursion (IsAt positions) ls → ListDescends truth expression view ls → ⊥
-none_within truth expression view positions members ps ls of r some times at d = no_list truth expression view positions members ps of r some times ls at (places_of truth expression view ls d ps r.pairs)
+pub none_within : (expression : ℕ → Tree → List ℤ) (view : List Rule) (positions : List Position) (members : List ℕ) (ps : List Pair) (ls : List Mapping)
+    → AllByRecursion (IsOfMembers members) ps → IsRefutationAt expression positions members view ps → 1 ≤ length ps → AllByRecursion (λ (p : Pair). 1 ≤ p.t) ps
+    → AllByRecursion (IsZeroOutside positions) ls → ListDescends expression view ls → ⊥
+none_within expression view positions members ps ls of r some times at d = no_list expression view positions members ps of r some times ls at (places_of expression view ls d ps r.pairs)

@@ -16,7 +16,7 @@ use Rattle.linear_rows.specs.Solving.Solution.{Blown, Found}
 use Rattle.termination_model.proofs.Readiness.{from_in, views_have_few}
 use Rattle.termination_model.proofs.TurnMakes.{drops_make_turns}
 use Rattle.termination_model.proofs.TurnPoints.{points_drop}
-use Rattle.termination_model.specs.ComponentViews.{component_view, no_truth, size_claims}
+use Rattle.termination_model.specs.ComponentViews.{component_view, size_claims}
 use Rattle.termination_model.specs.OwnCalls.{OwnCall as Recalled, Position as Place, own_calls, rows_before}
 use Rattle.termination_model.specs.Ready.{arity_in}
 use Rattle.termination_model.specs.SupportLaws.{HasFew}
@@ -148,7 +148,7 @@ module _ (size : (ℕ → ℕ) → Tree → ℕ) (truth : (ℕ → Bool) → Tre
             offsets = so;
             drops = sd;
             multipliers = sv;
-            hold = drops_make_turns no_truth expression (map spelled at) mine (arity_in p) (map own rest) cs os ds vs (λ n t. h.norm.width n t) (few rest among) sc so sd sv shown (some_numbers m.falls made.some);
+            hold = drops_make_turns expression (map spelled at) mine (arity_in p) (map own rest) cs os ds vs (λ n t. h.norm.width n t) (few rest among) sc so sd sv shown (some_numbers m.falls made.some);
           };
           drops = refl;
           measures = record { measures = subst (λ (qs : List ℕ). HasMeasures p qs m.measures) h.members measures.measures; parts = parts };
@@ -199,16 +199,16 @@ module _ (size : (ℕ → ℕ) → Tree → ℕ) (truth : (ℕ → Bool) → Tre
           let sv : length vs ≡ row_count expression (map spelled at) mine (map own rest) = lv ∙ sym (counts (map spelled at) mine rest held) in
           let u : Turn = record { t = point.scale; coefficients = cs; offsets = os; drops = ds; multipliers = vs } in
           let l = mapping_at (arity_in p) (map spelled at) mine cs os in
-          let drops = points_drop no_truth expression (map spelled at) mine (arity_in p) (map own rest) point.scale cs os ds vs (λ k z. h.norm.width k z) (few rest among) point.some sc so sd sv hold in
+          let drops = points_drop expression (map spelled at) mine (arity_in p) (map own rest) point.scale cs os ds vs (λ k z. h.norm.width k z) (few rest among) point.some sc so sd sv hold in
           let parts = measures.parts cs os lc lo tc to in
           mapping t u (solution_is ∙ found ∙ ap (λ (z : List ℤ). Found t z) (point.w_is ∙ ap (map pos) (sym whole))) sc (so ∙ ap length h.by_clauses) sd (λ fit empty.
-          let fit_here : DropsFit no_truth expression view (arity_in p) l (map own rest) ds vs =
-          subst (λ (qs : List ℕ). DropsFit no_truth expression view (arity_in p) (mapping_by (arity_in p) (map spelled at) qs u) (map own rest) ds vs) (sym h.by_clauses) fit in
+          let fit_here : DropsFit expression view (arity_in p) l (map own rest) ds vs =
+          subst (λ (qs : List ℕ). DropsFit expression view (arity_in p) (mapping_by (arity_in p) (map spelled at) qs u) (map own rest) ds vs) (sym h.by_clauses) fit in
           none (map falls_of ds)
           (subst (λ (zs : List ℤ). ShowDrops ms rest zs (map falls_of ds)) (sym tv)
           (all_shown size truth expression h.norm p comps rows c ms l parts rest vs ds held (wide_heads size truth expression p comps rows c x h ms measures.measures rest held) ld fit_here drops.0))
           (some_falls ds drops.1) (λ e.
-          let empty_here : EmptyFit no_truth expression view (arity_in p) l =
-          subst (λ (qs : List ℕ). EmptyFit no_truth expression view (arity_in p) (mapping_by (arity_in p) (map spelled at) qs u)) (sym h.by_clauses) (empty e) in
+          let empty_here : EmptyFit expression view (arity_in p) l =
+          subst (λ (qs : List ℕ). EmptyFit expression view (arity_in p) (mapping_by (arity_in p) (map spelled at) qs u)) (sym h.by_clauses) (empty e) in
           all_dead size truth expression h.norm p comps rows c ms l parts x.calls.items h.held (wide_heads size truth expression p comps rows c x h ms measures.measures x.calls.items h.held)
-          (subst (λ (os : List Recalled). AllByRecursion (λ (o : Recalled). row_fits (fall_over no_truth expression o.rule o.member o.call.args 1 l) ≡ true) os) (calls_are expression p comps rows c x.calls.items h.pairs h.held) empty_here)))
+          (subst (λ (os : List Recalled). AllByRecursion (λ (o : Recalled). row_fits (fall_over expression o.rule o.member o.call.args 1 l) ≡ true) os) (calls_are expression p comps rows c x.calls.items h.pairs h.held) empty_here)))

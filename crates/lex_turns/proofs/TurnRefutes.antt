@@ -99,7 +99,7 @@ some_pair [] us h l = absurd (omega arith)
 some_pair (o ∷ os) [] h l = absurd (omega arith)
 some_pair (o ∷ os) (t ∷ us) h l = omega arith
 
-module _ (truth : (ℕ → Bool) → Tree → Bool) (expression : ℕ → Tree → List ℤ) (view : List Rule) (positions : List Position) (members : List ℕ) where
+module _ (expression : ℕ → Tree → List ℤ) (view : List Rule) (positions : List Position) (members : List ℕ) where
   position_count : (o : OwnCall) (x : ℕ) → length (position_entries expression positions members o x) ≡ length positions
   position_count o x = length-map positions (λ p. share o.rule.member (head_sizes expression o) x p -ℤ share o.member (call_sizes expression o) x p)
 
@@ -325,7 +325,7 @@ module _ (truth : (ℕ → Bool) → Tree → Bool) (expression : ℕ → Tree �
 
     support_first : support_sum 0 ≤ℤ negsuc 0
     support_first =
-        let e = column_total expression positions members 0 (λ o x. less_one x) (constant_entry truth expression view positions members) 0 calls vs long
+        let e = column_total expression positions members 0 (λ o x. less_one x) (constant_entry expression view positions members) 0 calls vs long
         ∙ total_same _ (λ o t w. neg_ℤ (pos t)) calls vs long (λ o t w l. one_total o.rule.vars t w) in
         let t = time_total calls vs some long times in
         omega (arith, ints, e, t)

@@ -79,15 +79,15 @@ module _ (expression : ℕ → Tree → List ℤ) (p : Listing) (comps : Partiti
       × Refutes (turn_unknowns expression (map spelled at) (map number_of x.by_clauses.items) (recalled expression p comps rows c x at rest))
       (turn_rows expression (map spelled at) (map number_of x.by_clauses.items) (recalled expression p comps rows c x at rest)) ns
 
-  abbrev pub IsBlown : Bool → List OwnCall → Type 0
-  IsBlown first rest = IsTurnBlown expression (component_view expression p comps rows c) (arity_in p) (map spelled at) first (recalled expression p comps rows c x at rest)
+  abbrev pub CannotTurn : Bool → List OwnCall → Type 0
+  CannotTurn first rest = IsTurnBlown expression (component_view expression p comps rows c) (arity_in p) (map spelled at) first (recalled expression p comps rows c x at rest)
 
 -- how the search goes on from the course that it has now
 abbrev pub IsNext : Listing → Component → List Position → Course → Course → Next → Type 0
 IsNext p x at old new next.More = staying new.gone.items < staying old.gone.items
 IsNext p x at old new next.Done = remaining_of x new ≡ []
 IsNext p x at old new next.Refuted = (1 ≤ length (remaining_of x new)) × ForComponent p x (λ expression comps rows c. IsRefuted expression p comps rows c x at (remaining_of x new))
-IsNext p x at old new next.Blown = (1 ≤ length (remaining_of x new)) × ForComponent p x (λ expression comps rows c. IsBlown expression p comps rows c x at (is_none new.measures) (remaining_of x new))
+IsNext p x at old new next.Blown = (1 ≤ length (remaining_of x new)) × ForComponent p x (λ expression comps rows c. CannotTurn expression p comps rows c x at (is_none new.measures) (remaining_of x new))
 
 -- how a search for calls that stick goes on from those that are gone now
 abbrev pub IsLess : Listing → Component → List Position → List Bool → List Bool → Next → Type 0

@@ -23,14 +23,15 @@ use Rattle.number_tests.specs.Shape.{row_count}
 use Rattle.number_tests.specs.declared.level_part.LevelPart.{LevelPart}
 use Rattle.termination_model.specs.BlownSupports.{CheckFits, in_order}
 use Rattle.termination_model.specs.Claims.{Mapping}
-use Rattle.termination_model.specs.ComponentViews.{component_view, members_in, no_truth, positions_in}
-use Rattle.termination_model.specs.Excluding.{IsAt, IsLive, pairs_at}
+use Rattle.termination_model.specs.ComponentViews.{component_view, members_in, positions_in}
+use Rattle.termination_model.specs.Excluding.{IsZeroOutside, IsLive, pairs_at}
 use Rattle.termination_model.specs.OwnCalls.{OwnCall, Position, members_of, own_calls, rows_before}
 use Rattle.termination_model.specs.Ready.{arity_in, positions_by}
 use Rattle.termination_model.specs.Stuck.{ListDescends}
 use Rattle.termination_model.specs.Supports.{picked_from}
 use Rattle.termination_model.specs.SupportSystem.{mapping_at}
-use Rattle.termination_model.specs.Systems.{row_fits, short_system}
+use Rattle.termination_model.specs.Systems.{row_fits}
+use Rattle.termination_model.specs.ShortSystems.{short_system}
 use Rattle.termination_model.specs.TurnSystem.{turn_rows, turn_unknowns}
 use Rattle.termination_model.specs.Turns.{AreTurns, DropsFit, EmptyFit, Turn, mapping_by, remaining}
 use Rattle.termination_model.specs.View.{Rule}
@@ -47,7 +48,7 @@ abbrev pub AreReached : (ℕ → Tree → List ℤ) → List OwnCall → List Ow
 AreReached expression [] lives = lives ≡ []
 AreReached expression (o ∷ os) lives =
     (AreEmpty (suc o.rule.vars) (rows_before expression o) × AreReached expression os lives)
-    ⊎ ((rest : List OwnCall) × (lives ≡ o ∷ rest) × IsLive no_truth expression o × AreReached expression os rest)
+    ⊎ ((rest : List OwnCall) × (lives ≡ o ∷ rest) × IsLive expression o × AreReached expression os rest)
 
 -- a part for each of these predicates, those of the mapping of a turn
 pub record IsMeasureOf (p : Listing) (preds : List ℕ) (positions : List Position) (members : List ℕ) (u : Turn) (ms : List Measure) : Type 0 where
@@ -87,12 +88,12 @@ module _ (expression : ℕ → Tree → List ℤ) (view : List Rule) (arity : �
     solving : (step : ℕ) (wide : Bool) → turn_solution rest ≡ Blown step wide → IsTurnBlown first rest
     mapping : (t : ℤ) (u : Turn) → turn_solution rest ≡ Found t (map pos (u.coefficients ++ (u.offsets ++ (u.drops ++ u.multipliers))))
         → length u.coefficients ≡ length positions → length u.offsets ≡ length (members_of view) → length u.drops ≡ length rest
-        → (DropsFit no_truth expression view arity (mapping_by arity positions (members_of view) u) rest u.drops u.multipliers
-        → (first ≡ true → EmptyFit no_truth expression view arity (mapping_by arity positions (members_of view) u)) → ⊥)
+        → (DropsFit expression view arity (mapping_by arity positions (members_of view) u) rest u.drops u.multipliers
+        → (first ≡ true → EmptyFit expression view arity (mapping_by arity positions (members_of view) u)) → ⊥)
         → IsTurnBlown first rest
     -- no turn can be made at all positions, and a number does not fit in the check of the stuck set that shows it
     sticking : (vs : List ℕ) (s : ℕ) → ((r : Position) → In r (positions_by arity (members_of view)) → In r positions)
-        → turn_solution rest ≡ Refuted (map pos (vs ++ s ∷ [])) → (CheckFits no_truth expression view arity (pairs_at rest vs) → ⊥) → IsTurnBlown first rest
+        → turn_solution rest ≡ Refuted (map pos (vs ++ s ∷ [])) → (CheckFits expression view arity (pairs_at rest vs) → ⊥) → IsTurnBlown first rest
 
   abbrev pub is_first : List Turn → Bool
   is_first [] = true
@@ -106,7 +107,7 @@ module _ (expression : ℕ → Tree → List ℤ) (view : List Rule) (arity : �
     turned : (lives : List OwnCall) (us : List Turn) → AreReached expression (own_calls view) lives → AreTurns expression positions (members_of view) lives us
         → 1 ≤ length (remaining lives us) → IsTurnBlown (is_first us) (remaining lives us) → IsGivenUp
     -- no call is ever reached, and the target of one does not fit where the mapping is 0
-    zero : AreReached expression (own_calls view) [] → (EmptyFit no_truth expression view arity (mapping_at arity [] [] [] []) → ⊥) → IsGivenUp
+    zero : AreReached expression (own_calls view) [] → (EmptyFit expression view arity (mapping_at arity [] [] [] []) → ⊥) → IsGivenUp
 
 module _ (expression : ℕ → Tree → List ℤ) (p : Listing) (comps : Partition) (rows : ℕ → List (List ℤ)) (c : ℕ) where
   abbrev pub view : List Rule
@@ -127,8 +128,8 @@ module _ (expression : ℕ → Tree → List ℤ) (p : Listing) (comps : Partiti
 
   -- the positions of a set, in the order of the clauses
   abbrev pub positions_at : List ℕ → List Position
-  positions_at s = in_order no_truth expression view (arity_in p) (picked_from 1 (positions_in p comps c) s)
+  positions_at s = in_order expression view (arity_in p) (picked_from 1 (positions_in p comps c) s)
 
   -- no list of mappings at the positions of a set descends
   abbrev pub NoneDescends : List ℕ → Type 0
-  NoneDescends s = (ls : List Mapping) → AllByRecursion (IsAt (picked_from 1 (positions_in p comps c) s)) ls → ListDescends no_truth expression view ls → ⊥
+  NoneDescends s = (ls : List Mapping) → AllByRecursion (IsZeroOutside (picked_from 1 (positions_in p comps c) s)) ls → ListDescends expression view ls → ⊥

@@ -16,18 +16,18 @@ use Rattle.linear_rows.specs.Members.{In}
 use Rattle.linear_rows.specs.Rows.{AreEmpty}
 use Rattle.number_tests.specs.declared.pair_point.PairPoint.{PairPoint}
 use Rattle.number_tests.specs.declared.refutation.Refutation.{Refutation}
-use Rattle.termination_model.specs.Best.{coefficient}
+use Rattle.termination_model.specs.Coefficients.{coefficient}
 use Rattle.termination_model.specs.Claims.{Mapping, SomeOf}
-use Rattle.termination_model.specs.ComponentViews.{component_view, members_in, no_truth, positions_in}
-use Rattle.termination_model.specs.Excluding.{IsAt}
+use Rattle.termination_model.specs.ComponentViews.{component_view, members_in, positions_in, HasSupportIn}
+use Rattle.termination_model.specs.Excluding.{IsZeroOutside}
 use Rattle.termination_model.specs.Minimal.{IsAbove, IsExcluded, IsMinimal, IsSet}
 use Rattle.termination_model.specs.Modes.{chosen_up_to}
 use Rattle.termination_model.specs.OwnCalls.{Position}
 use Rattle.termination_model.specs.Ready.{arity_in}
 use Rattle.termination_model.specs.Stuck.{ListDescends}
-use Rattle.termination_model.specs.Systems.{short_system}
-use Rattle.level_systems.specs.Found.{IsBlownSet, IsRefutationOf, count, full, had, without}
-use Rattle.level_systems.specs.Mappings.{HasMeasures, mapping_of}
+use Rattle.termination_model.specs.ShortSystems.{short_system}
+use Rattle.level_systems.specs.Found.{IsBlownSet, IsRefutationOf, count, full, without_number}
+use Rattle.level_systems.specs.Mappings.{HasMeasures, mapping_with}
 use Rattle.level_systems.specs.Pairs.{pairs_of}
 use Rattle.level_systems.specs.Subsequences.{AreOnce, IsSubsequence}
 use Rattle.lex_turns.specs.Descending.{HasPlace, IsGivenUp, positions_at}
@@ -46,7 +46,7 @@ list_support_from i (r ∷ rs) ls = if is_used r ls then i ∷ list_support_from
 
 -- the mappings of a list that was found
 abbrev pub mappings_of : MeasureList → List Mapping
-mappings_of l = map mapping_of l.measures
+mappings_of l = map mapping_with l.measures
 
 abbrev pub support_of_list : List Position → MeasureList → List ℕ
 support_of_list positions l = list_support_from 1 positions (mappings_of l)
@@ -60,8 +60,8 @@ module _ (expression : ℕ → Tree → List ℤ) (p : Listing) (comps : Partiti
   pub record HasList (s : List ℕ) : Type 0 where
     pub list : List Mapping
     pub some : 1 ≤ length list
-    pub at : AllByRecursion (IsAt (positions_in p comps c)) list
-    pub descends : ListDescends no_truth expression (component_view expression p comps rows c) list
+    pub at : AllByRecursion (IsZeroOutside (positions_in p comps c)) list
+    pub descends : ListDescends expression (component_view expression p comps rows c) list
     pub is : list_support_from 1 (positions_in p comps c) list ≡ s
 
   -- the size rows of the atoms before the call of a pair hold somewhere
@@ -80,8 +80,8 @@ module _ (expression : ℕ → Tree → List ℤ) (p : Listing) (comps : Partiti
     pub pairs : map (λ (d : CallDrops). (d.clause, d.call)) l.drops ≡ pairs_of p comps c
     pub places : AllByRecursion (λ (d : CallDrops). HasPlace expression p rows l.measures (d.clause, d.call) d.by) l.drops
     pub needed : AreNeeded l
-    pub at : AllByRecursion (IsAt (positions_in p comps c)) (mappings_of l)
-    pub descends : ListDescends no_truth expression (component_view expression p comps rows c) (mappings_of l)
+    pub at : AllByRecursion (IsZeroOutside (positions_in p comps c)) (mappings_of l)
+    pub descends : ListDescends expression (component_view expression p comps rows c) (mappings_of l)
 
   abbrev pub supports : FoundLists → List (List ℕ)
   supports f = map (support_of_list (positions_in p comps c)) f.lists
@@ -92,7 +92,7 @@ module _ (expression : ℕ → Tree → List ℤ) (p : Listing) (comps : Partiti
 
   -- no mapping decreases at a set, or that is not known, since the set's system is blown
   abbrev pub IsUnmapped : List ℕ → Type 0
-  IsUnmapped s = IsBlownSet expression p comps rows c s ⊎ IsExcluded (had expression p comps rows c) s
+  IsUnmapped s = IsBlownSet expression p comps rows c s ⊎ IsExcluded (HasSupportIn expression p comps rows c) s
 
   -- a list may be missing: no mapping was found at the set, and the search for a list was given up
   abbrev pub MayBeMissing : List ℕ → Type 0
@@ -111,27 +111,27 @@ module _ (expression : ℕ → Tree → List ℤ) (p : Listing) (comps : Partiti
     pub within : (s : List ℕ) → HasList s → IsAbove (supports f) s ⊎ IsAbove f.blown s
     pub order : IsSubsequence (supports f) (chosen_up_to (count expression p comps rows c) (count expression p comps rows c))
     pub single : AllByRecursion (λ (l : MeasureList). IsLong l
-        → IsBlownSet expression p comps rows c (support_of_list (positions_in p comps c) l) ⊎ (had expression p comps rows c (support_of_list (positions_in p comps c) l) → ⊥)) f.lists
+        → IsBlownSet expression p comps rows c (support_of_list (positions_in p comps c) l) ⊎ (HasSupportIn expression p comps rows c (support_of_list (positions_in p comps c) l) → ⊥)) f.lists
     pub given_up : (s : List ℕ) → In s f.blown → MayBeMissing s
 
   -- none of the positions of a list can be left out, but where the search without it was given up
   abbrev pub IsWithoutSpare : List (List ℕ) → MeasureList → Type 0
   IsWithoutSpare blown l = (i : ℕ) → In i (support_of_list (positions_in p comps c) l)
-      → In (without i (support_of_list (positions_in p comps c) l)) blown
-      ⊎ (IsExcluded (had expression p comps rows c) (without i (support_of_list (positions_in p comps c) l))
-      × (IsLong l → IsExcluded HasList (without i (support_of_list (positions_in p comps c) l))))
+      → In (without_number i (support_of_list (positions_in p comps c) l)) blown
+      ⊎ (IsExcluded (HasSupportIn expression p comps rows c) (without_number i (support_of_list (positions_in p comps c) l))
+      × (IsLong l → IsExcluded HasList (without_number i (support_of_list (positions_in p comps c) l))))
 
   -- nothing is known of the set of all positions: a list may be missing, or a mapping whose set is blown
   abbrev pub IsUndecided : Type 0
   IsUndecided = MayBeMissing (full expression p comps rows c) ⊎ (IsBlownSet expression p comps rows c (full expression p comps rows c)
-      × ((s : List ℕ) × had expression p comps rows c s))
+      × ((s : List ℕ) × HasSupportIn expression p comps rows c s))
 
   -- more: one list at most, of one mapping where some mapping decreases; or a stuck set; or nothing is known of all
   -- positions, and these were given up
   pub record AreLargeLists (f : FoundLists) : Type 0 where
     pub few : length f.lists ≤ 1
     pub single : AllByRecursion (λ (l : MeasureList). IsLong l
-        → IsBlownSet expression p comps rows c (full expression p comps rows c) ⊎ ((s : List ℕ) → had expression p comps rows c s → ⊥)) f.lists
+        → IsBlownSet expression p comps rows c (full expression p comps rows c) ⊎ ((s : List ℕ) → HasSupportIn expression p comps rows c s → ⊥)) f.lists
     pub spare : AllByRecursion (IsWithoutSpare f.blown) f.lists
     pub decided : (1 ≤ length f.lists) ⊎ (f.refutation ≢ None) ⊎ (In (full expression p comps rows c) f.blown × IsUndecided)
     pub given_up : (s : List ℕ) → In s f.blown → IsGivenUpAt s ⊎ IsBlownSet expression p comps rows c s

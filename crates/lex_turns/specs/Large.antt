@@ -7,7 +7,7 @@ use Rattle.call_components.specs.Partition.{Partition}
 use Rattle.linear_rows.specs.Members.{In}
 use Rattle.termination_model.specs.ComponentViews.{positions_in}
 use Rattle.termination_model.specs.OwnCalls.{Position}
-use Rattle.level_systems.specs.Found.{without}
+use Rattle.level_systems.specs.Found.{without_number}
 use Rattle.level_systems.specs.Subsequences.{AreOnce}
 use Rattle.lex_turns.specs.Found.{IsVoid}
 use Rattle.lex_turns.specs.FoundLists.{HasList, IsDescendingList, IsGivenUpAt, support_of_list}
@@ -27,16 +27,16 @@ module _ (expression : ℕ → Tree → List ℤ) (p : Listing) (comps : Partiti
 
   -- at a set without the number, no list descends, or the search was given up
   abbrev pub IsTried : List ℕ → List (List ℕ) → ℕ → Type 0
-  IsTried s blown i = In (without i s) blown ⊎ IsVoid expression p comps rows c (without i s)
+  IsTried s blown i = In (without_number i s) blown ⊎ IsVoid expression p comps rows c (without_number i s)
 
   abbrev pub IsLeftOut : List ℕ → LeftOut → Type 0
   IsLeftOut s (Smaller l) = IsHadList l
   IsLeftOut s (NoneLeft blown) =
-      ((i : ℕ) → In i s → IsTried s blown i) × ((t : List ℕ) → In t blown → IsGivenUpAt expression p comps rows c t) × AreOnce blown × ((t : List ℕ) → In t blown → (i : ℕ) × (t ≡ without i s) × In i s)
+      ((i : ℕ) → In i s → IsTried s blown i) × ((t : List ℕ) → In t blown → IsGivenUpAt expression p comps rows c t) × AreOnce blown × ((t : List ℕ) → In t blown → (i : ℕ) × (t ≡ without_number i s) × In i s)
 
   -- each of the first k numbers of a set was left out
   pub record AreTried (s : List ℕ) (k : ℕ) (blown : List (List ℕ)) : Type 0 where
     pub tried : (i : ℕ) → In i (take k s) → IsTried s blown i
-    pub tested : (t : List ℕ) → In t blown → (i : ℕ) × In i (take k s) × (t ≡ without i s)
+    pub tested : (t : List ℕ) → In t blown → (i : ℕ) × In i (take k s) × (t ≡ without_number i s)
     pub given_up : (t : List ℕ) → In t blown → IsGivenUpAt expression p comps rows c t
     pub once : AreOnce blown

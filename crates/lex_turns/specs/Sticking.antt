@@ -20,7 +20,7 @@ use Rattle.level_systems.specs.Refuted.{HasPoints}
 use Rattle.level_systems.specs.declared.component.Component.{Component}
 use Rattle.level_systems.specs.declared.own_call.OwnCall.{OwnCall}
 use Rattle.level_systems.specs.declared.position.Position.{Position}
-use Rattle.lex_turns.specs.Coursing.{IsBlown, IsStopped}
+use Rattle.lex_turns.specs.Coursing.{CannotTurn, IsStopped}
 use Rattle.lex_turns.specs.Tracking.{kept, recalled}
 
 -- the point of a call that numbers spell, t first
@@ -90,4 +90,4 @@ module _ (expression : ℕ → Tree → List ℤ) (p : Listing) (comps : Partiti
   -- where the search stops for these calls, at all positions, a turn is blown
   abbrev pub IsBlownWhereStopped : Type 0
   IsBlownWhereStopped =
-      (gone : List Bool) → kept x.calls.items gone ≡ rest → AreAt x.order.items at → IsStopped expression p comps rows c x at gone → (first : Bool) → IsBlown expression p comps rows c x at first rest
+      (gone : List Bool) → kept x.calls.items gone ≡ rest → AreAt x.order.items at → IsStopped expression p comps rows c x at gone → (first : Bool) → CannotTurn expression p comps rows c x at first rest

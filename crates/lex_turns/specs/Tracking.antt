@@ -10,7 +10,7 @@ use Rattle.linear_rows.specs.declared.multipliers.Multipliers.{Multipliers}
 use Rattle.termination_model.specs.ComponentViews.{members_in}
 use Rattle.termination_model.specs.OwnCalls.{OwnCall as Recalled}
 use Rattle.termination_model.specs.Turns.{AreTurns, Turn, remaining}
-use Rattle.level_systems.specs.Held.{live_of, pair_of, recalled_at, spelled}
+use Rattle.level_systems.specs.Held.{live_of, numbers_of_call, recalled_at, spelled}
 use Rattle.level_systems.specs.declared.component.Component.{Component}
 use Rattle.level_systems.specs.declared.measure.Measure.{Measure}
 use Rattle.level_systems.specs.declared.own_call.OwnCall.{OwnCall}
@@ -99,7 +99,7 @@ AreTracked mss (own ∷ owns) (g ∷ gs) (d ∷ ds) = IsTracked mss own g d × A
 
 module _ (expression : ℕ → Tree → List ℤ) (p : Listing) (comps : Partition) (rows : ℕ → List (List ℤ)) (c : ℕ) (x : Component) (at : List Position) where
   abbrev pub recalled : List OwnCall → List Recalled
-  recalled owns = map (λ (own : OwnCall). recalled_at expression p rows comps c (pair_of own)) owns
+  recalled owns = map (λ (own : OwnCall). recalled_at expression p rows comps c (numbers_of_call own)) owns
 
   -- turns whose measures these are leave these calls
   pub record HasTurns (mss : List (List Measure)) (rest : List OwnCall) : Type 0 where

@@ -11,7 +11,7 @@ use Rattle.termination_model.specs.OwnCalls.{OwnCall as Recalled}
 use Rattle.termination_model.specs.Ready.{arity_in}
 use Rattle.termination_model.specs.TurnSystem.{turn_rows, turn_unknowns}
 use Rattle.termination_model.specs.Turns.{IsTurn, Turn}
-use Rattle.level_systems.specs.Held.{pair_of, recalled_at, spelled}
+use Rattle.level_systems.specs.Held.{numbers_of_call, recalled_at, spelled}
 use Rattle.level_systems.specs.Searched.{AreMeasuresAt}
 use Rattle.level_systems.specs.Turned.{all_rows}
 use Rattle.level_systems.specs.declared.component.Component.{Component}
@@ -53,7 +53,7 @@ IsMadeStep x rest first step.Blown = Unit {0}
 module _ (expression : ℕ → Tree → List ℤ) (p : Listing) (comps : Partition) (rows : ℕ → List (List ℤ)) (c : ℕ) (x : Component) (at : List Position) (rest : List OwnCall) where
   -- the calls that remain, in the words of the view
   abbrev pub told : List Recalled
-  told = map (λ (own : OwnCall). recalled_at expression p rows comps c (pair_of own)) rest
+  told = map (λ (own : OwnCall). recalled_at expression p rows comps c (numbers_of_call own)) rest
 
   abbrev pub mine : List ℕ
   mine = map number_of x.by_clauses.items

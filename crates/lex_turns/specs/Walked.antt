@@ -6,10 +6,10 @@ use Rattle.cti_terms.specs.Listing.{Listing}
 use Rattle.cti_terms.specs.Tree.{Tree}
 use Rattle.call_components.specs.Partition.{Partition}
 use Rattle.linear_rows.specs.Members.{In}
-use Rattle.termination_model.specs.ComponentViews.{positions_in}
+use Rattle.termination_model.specs.ComponentViews.{positions_in, HasSupportIn}
 use Rattle.termination_model.specs.Minimal.{IsAbove}
 use Rattle.termination_model.specs.Modes.{chosen_up_to}
-use Rattle.level_systems.specs.Found.{IsBlownSet, had}
+use Rattle.level_systems.specs.Found.{IsBlownSet}
 use Rattle.level_systems.specs.Subsequences.{AreOnce, IsSubsequence}
 use Rattle.level_dual.specs.Walk.{IsWalked}
 use Rattle.lex_turns.specs.FoundLists.{HasList, IsDescendingList, IsLong, MayBeMissing, support_of_list}
@@ -22,7 +22,7 @@ module _ (expression : ℕ → Tree → List ℤ) (p : Listing) (comps : Partiti
 
   -- a list is of one mapping where one decreases with its support
   abbrev pub IsSingle : MeasureList → Type 0
-  IsSingle l = IsLong l → IsBlownSet expression p comps rows c (own_support l) ⊎ (had expression p comps rows c (own_support l) → ⊥)
+  IsSingle l = IsLong l → IsBlownSet expression p comps rows c (own_support l) ⊎ (HasSupportIn expression p comps rows c (own_support l) → ⊥)
 
   -- after some sets of all, which stand in this order
   pub record IsWalkedTo (order : List (List ℕ)) (w : Walked) : Type 0 where

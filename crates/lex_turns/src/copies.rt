@@ -8,7 +8,7 @@ use number_tests::LevelPart;
 use sequences::Sequence;
 use std::alloc::{AllocError, Global};
 
-// The same part once more.
+/// The same part once more.
 fn copied_measure(alloc: Global, measure: &Measure) -> Result<Measure, AllocError>
     ensures { IfOk result (λ copy. copy ≡ measure.now) }
 {

@@ -39,7 +39,8 @@ pub(crate) fn nothing_decided(
     full: Sequence<u32>,
     large: bool,
 ) -> Result<FoundLists, AllocError>
-    ensures { IfOk result (λ f. f ≡ record { lists = []; refutation = None; blown = undecided full; large = large }) }
+    ensures { IfOk result (λ f. f
+        ≡ record { lists = []; refutation = None; blown = undecided full; large = large }) }
 {
     let mut blown = one_set(alloc, Sequence::new(alloc))?;
     if !full.is_empty() {
@@ -53,7 +54,7 @@ pub(crate) fn nothing_decided(
     })
 }
 
-// What is found where no list descends: a stuck set, or the set of all positions as given up.
+/// What is found where no list descends: a stuck set, or the set of all positions as given up.
 fn not_found(
     alloc: Global,
     full: Sequence<u32>,
@@ -75,7 +76,7 @@ fn not_found(
     })
 }
 
-// Mappings as lists of one.
+/// Mappings as lists of one.
 fn lists_of(alloc: Global, mappings: &[Mapping]) -> Result<Sequence<MeasureList>, AllocError>
     ensures { IfOk result (λ lists. lists ≡ map one_list mappings.now) }
 {
@@ -86,7 +87,7 @@ fn lists_of(alloc: Global, mappings: &[Mapping]) -> Result<Sequence<MeasureList>
     Ok(lists)
 }
 
-// What is found in a large component where a mapping decreases.
+/// What is found in a large component where a mapping decreases.
 fn of_large_mapping(
     alloc: Global,
     p: &Program,
@@ -95,8 +96,10 @@ fn of_large_mapping(
 ) -> Result<FoundLists, AllocError>
     requires sound { IsSound p.now component.now }
     requires few { length component.now.positions.items < 2 ^ 32 }
-    ensures { IfOk result (λ f. ForComponent p.now component.now (λ expression comps rows c. (s : List ℕ)
-        → 12 < length component.now.positions.items → IsFoundIn expression p.now comps rows c s mapping
+    ensures { IfOk result (λ f. ForComponent p.now component.now
+        (λ expression comps rows c. (s : List ℕ)
+        → 12 < length component.now.positions.items
+        → IsFoundIn expression p.now comps rows c s mapping
         → AreFoundLists expression p.now comps rows c f)) }
 {
     let found = level_dual::find_large(alloc, p, component, mapping)?;
@@ -110,7 +113,7 @@ fn of_large_mapping(
     })
 }
 
-// What is found where a mapping decreases.
+/// What is found where a mapping decreases.
 fn of_mapping(
     alloc: Global,
     p: &Program,
@@ -122,7 +125,8 @@ fn of_mapping(
     requires full { full ≡ columns 1 (length component.now.positions.items) }
     requires few { length component.now.positions.items + 1 < 2 ^ 32 }
     ensures { IfOk result (λ f. ForComponent p.now component.now (λ expression comps rows c.
-        IsFoundIn expression p.now comps rows c full mapping → AreFoundLists expression p.now comps rows c f)) }
+        IsFoundIn expression p.now comps rows c full mapping
+        → AreFoundLists expression p.now comps rows c f)) }
 {
     if is_large(component.positions.as_slice()) {
         return of_large_mapping(alloc, p, component, mapping);
@@ -130,7 +134,7 @@ fn of_mapping(
     find_small(alloc, p, component, full, false)
 }
 
-// What is found where turns at all positions give a list.
+/// What is found where turns at all positions give a list.
 fn of_list(
     alloc: Global,
     p: &Program,
@@ -142,7 +146,8 @@ fn of_list(
     requires full { full ≡ columns 1 (length component.now.positions.items) }
     requires few { length component.now.positions.items + 1 < 2 ^ 32 }
     ensures { IfOk result (λ f. ForComponent p.now component.now (λ expression comps rows c.
-        IsUnmapped expression p.now comps rows c full → IsListIn expression p.now comps rows c full list
+        IsUnmapped expression p.now comps rows c full
+        → IsListIn expression p.now comps rows c full list
         → AreFoundLists expression p.now comps rows c f)) }
 {
     if is_large(component.positions.as_slice()) {
@@ -151,7 +156,7 @@ fn of_list(
     find_small(alloc, p, component, full, false)
 }
 
-// What is found where the search at all positions is given up.
+/// What is found where the search at all positions is given up.
 fn of_given_up(
     alloc: Global,
     p: &Program,
@@ -162,7 +167,8 @@ fn of_given_up(
     requires full { full ≡ columns 1 (length component.now.positions.items) }
     requires few { length component.now.positions.items + 1 < 2 ^ 32 }
     ensures { IfOk result (λ f. ForComponent p.now component.now (λ expression comps rows c.
-        IsUnmapped expression p.now comps rows c full → IsGivenUpAt expression p.now comps rows c full
+        IsUnmapped expression p.now comps rows c full
+        → IsGivenUpAt expression p.now comps rows c full
         → AreFoundLists expression p.now comps rows c f)) }
 {
     if is_large(component.positions.as_slice()) {
@@ -171,7 +177,7 @@ fn of_given_up(
     find_small(alloc, p, component, full, true)
 }
 
-// What is found by turns at all positions, where no mapping is found.
+/// What is found by turns at all positions, where no mapping is found.
 fn by_turns<N: Norm>(
     alloc: Global,
     p: &Program,

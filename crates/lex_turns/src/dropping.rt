@@ -19,7 +19,7 @@ use sequences::Sequence;
 use std::alloc::{AllocError, Global};
 use termination_model::replaced;
 
-// The part of a member.
+/// The part of a member.
 fn find_part(measures: &[Measure], pred: PredId) -> Option<&LevelPart>
     ensures some { IfSome result (λ part. level_in measures.now pred.0 ≡ Some part.now) }
     ensures none { result ≡ None → level_in measures.now pred.0 ≡ None }
@@ -56,7 +56,7 @@ pub(crate) fn later_values<'a>(own: &OwnCall, values: &'a [i128]) -> &'a [i128]
     &values[own.rows.list.len()..]
 }
 
-// Whether multipliers show that the parts of a call's head and call drop, by 1 where they are to fall.
+/// Whether multipliers show that the parts of a call's head and call drop, by 1 where they are to fall.
 fn shows_drop(
     alloc: Global,
     own: &OwnCall,
@@ -68,7 +68,8 @@ fn shows_drop(
     requires by { AreMultipliers (length own.now.rows.list) by.now }
     requires widths { HaveWidth own.now.rows.width own.now.rows.list }
     requires columns { length own.now.columns.items ≡ own.now.rows.width + 1 }
-    requires long { All (λ col. length col ≡ suc (length own.now.caller_sizes.list) + suc (length own.now.callee_sizes.list)) own.now.columns.items }
+    requires long { All (λ col. length col ≡ suc (length own.now.caller_sizes.list) + suc
+        (length own.now.callee_sizes.list)) own.now.columns.items }
     ensures { IfOk result (Tells (ShowsDrop (fall_number falls) measures.now own.now by.now)) }
 {
     let Some(head) = find_part(measures, own.caller) else {
@@ -85,7 +86,7 @@ fn shows_drop(
     Ok(true)
 }
 
-// Whether a call falls, if the first of the values show that or at least that it does not rise.
+/// Whether a call falls, if the first of the values show that or at least that it does not rise.
 fn drop_at(
     alloc: Global,
     own: &OwnCall,

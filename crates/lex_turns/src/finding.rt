@@ -23,8 +23,10 @@ pub(crate) fn positions_at(
     component: &Component,
     set: &[u32],
 ) -> Result<Vec<Position>, AllocError>
-    ensures { IfOk result (λ at. map spelled at.items ≡ filter (λ r. list_any (same_position r) (picked_from 1
-        (map spelled component.now.positions.items) set.now)) (map spelled component.now.order.items)) }
+    ensures { IfOk result (λ at. map spelled at.items ≡ filter
+        (λ r. list_any (same_position r) (picked_from 1
+        (map spelled component.now.positions.items) set.now))
+        (map spelled component.now.order.items)) }
 {
     let at = picked(alloc, component.positions.as_slice(), set)?;
     in_order(alloc, component.order.as_slice(), at.as_slice())
@@ -64,9 +66,11 @@ pub(crate) fn find_at(
     set: &[u32],
 ) -> Result<Within, AllocError>
     requires { IsSound p.now component.now }
-    ensures within { IfOk result (λ within. ForComponent p.now component.now (λ expression comps rows c.
+    ensures within { IfOk result
+        (λ within. ForComponent p.now component.now (λ expression comps rows c.
         IsWithin expression p.now comps rows c set.now within)) }
-    ensures chosen { IfOk result (λ within. ForComponent p.now component.now (λ expression comps rows c.
+    ensures chosen { IfOk result
+        (λ within. ForComponent p.now component.now (λ expression comps rows c.
         IsChosen expression p.now comps rows c set.now within)) }
 {
     match level_dual::search(alloc, p, component, set)? {

@@ -14,12 +14,12 @@ use crate::measure_list::MeasureList;
 use crate::needing::search_without;
 use crate::within::Within;
 use cti_terms::Program;
-use level_dual::{has_coefficient, without};
+use level_dual::{has_coefficient, without_number};
 use level_systems::{Component, Position};
 use sequences::Sequence;
 use std::alloc::{AllocError, Global};
 
-// Whether some mapping of a list has a positive coefficient at a position.
+/// Whether some mapping of a list has a positive coefficient at a position.
 fn is_used(list: &MeasureList, position: Position) -> bool
     ensures { result ≡ is_used (spelled position) (mappings_of list.now) }
 {
@@ -31,14 +31,15 @@ fn is_used(list: &MeasureList, position: Position) -> bool
     false
 }
 
-// The numbers of the positions at which some mapping of a list has a positive coefficient.
+/// The numbers of the positions at which some mapping of a list has a positive coefficient.
 fn support_of(
     alloc: Global,
     positions: &[Position],
     list: &MeasureList,
 ) -> Result<Vec<u32>, AllocError>
     requires { length positions.now < 2 ^ 32 }
-    ensures { IfOk result (λ support. support.items ≡ support_of_list (map spelled positions.now) list.now) }
+    ensures { IfOk result (λ support. support.items
+        ≡ support_of_list (map spelled positions.now) list.now) }
 {
     let mut support = Vec::new(alloc);
     for i in 0..positions.len() {
@@ -58,7 +59,7 @@ pub(crate) enum LeftOut {
     None(Sequence<Sequence<u32>>),
 }
 
-// Searches at the support of a list without one position after another, up to a list of smaller support.
+/// Searches at the support of a list without one position after another, up to a list of smaller support.
 fn leave_out(
     alloc: Global,
     p: &Program,
@@ -68,13 +69,15 @@ fn leave_out(
 ) -> Result<LeftOut, AllocError>
     requires sound { IsSound p.now component.now }
     requires small { length component.now.positions.items < 2 ^ 32 }
-    ensures shorter { IfOk result (IsShorterThan (map spelled component.now.positions.items) (length support.now)) }
-    ensures left_out { IfOk result (λ out. ForComponent p.now component.now (λ expression comps rows c.
+    ensures shorter { IfOk result
+        (IsShorterThan (map spelled component.now.positions.items) (length support.now)) }
+    ensures left_out { IfOk result
+        (λ out. ForComponent p.now component.now (λ expression comps rows c.
         AreOnce support.now → IsLeftOut expression p.now comps rows c support.now out)) }
 {
     let mut blown = Sequence::new(alloc);
     for number in support {
-        let set = without(alloc, support, *number)?;
+        let set = without_number(alloc, support, *number)?;
         match search_without(alloc, p, component, list, set.as_slice(), *number)? {
             Within::List(other) => {
                 // The support of a list at this set is smaller. It is tested, since the caller's loop ends by that.
@@ -103,7 +106,8 @@ pub(crate) fn find_large(
     ensures { IfOk result (λ f. ForComponent p.now component.now (λ expression comps rows c.
         IsTrue true ↔ (12 < count expression p.now comps rows c)
         → IsUnmapped expression p.now comps rows c (full expression p.now comps rows c)
-        → IsHadList expression p.now comps rows c list → AreFoundLists expression p.now comps rows c f)) }
+        → IsHadList expression p.now comps rows c list
+        → AreFoundLists expression p.now comps rows c f)) }
 {
     let mut list = list;
     loop {

@@ -36,7 +36,8 @@ pub fn search<N: Norm>(
     requires inner { c < length comps.now.members }
     requires recursive { slice_get comps.now.recursive c ≡ Some true }
     requires sizes { AreSizes p.now.preds sizes.now.rows }
-    ensures { IfOk result (AreFoundLists (N.expression norm.now) p.now comps.now (rows_of sizes.now.rows) c) }
+    ensures { IfOk result (AreFoundLists (N.expression norm.now) p.now comps.now
+        (rows_of sizes.now.rows) c) }
 {
     let positions = component_positions(alloc, p, comps, c)?;
     let large = is_large(positions.as_slice());

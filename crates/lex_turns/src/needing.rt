@@ -30,7 +30,7 @@ impl Leaving<'_> {
     }
 }
 
-// The turn in which a list first has a positive coefficient at a position.
+/// The turn in which a list first has a positive coefficient at a position.
 fn first_use(list: &MeasureList, position: Position) -> usize {
     let measures = list.measures.as_slice();
     for turn in 0..measures.len() {
@@ -41,13 +41,13 @@ fn first_use(list: &MeasureList, position: Position) -> usize {
     0
 }
 
-// Whether a predicate is marked.
+/// Whether a predicate is marked.
 fn is_marked(marks: &[bool], pred: PredId) -> bool {
     let place = pred.0 as usize;
     place < marks.len() && marks[place]
 }
 
-// Marks a predicate.
+/// Marks a predicate.
 fn mark(marks: &mut Vec<bool>, pred: PredId) {
     let place = pred.0 as usize;
     if place < marks.len() {
@@ -55,7 +55,7 @@ fn mark(marks: &mut Vec<bool>, pred: PredId) {
     }
 }
 
-// Marks the predicates that calls which leave in a turn link with marked ones. Says whether there were any.
+/// Marks the predicates that calls which leave in a turn link with marked ones. Says whether there were any.
 fn link(component: &Component, leaving: Leaving<'_>, marks: &mut Vec<bool>) -> bool {
     let mut more = false;
     for i in 0..component.calls.len() {
@@ -71,7 +71,7 @@ fn link(component: &Component, leaving: Leaving<'_>, marks: &mut Vec<bool>) -> b
     more
 }
 
-// Marks of the predicates that calls which leave in a turn link with this one.
+/// Marks of the predicates that calls which leave in a turn link with this one.
 fn linked(
     alloc: Global,
     component: &Component,
@@ -93,7 +93,7 @@ fn linked(
     Ok(marks)
 }
 
-// Whether a call is never reached, or does not leave, or is not of a marked predicate.
+/// Whether a call is never reached, or does not leave, or is not of a marked predicate.
 fn is_out(own: &OwnCall, leaves: bool, marks: &[bool]) -> bool
     ensures { result ≡ false → own.now.empty ≡ None }
 {
@@ -103,7 +103,7 @@ fn is_out(own: &OwnCall, leaves: bool, marks: &[bool]) -> bool
     !leaves || !is_marked(marks, own.caller)
 }
 
-// Says of each call that it is gone, but for those that can be reached, leave in a turn and are of marked predicates.
+/// Says of each call that it is gone, but for those that can be reached, leave in a turn and are of marked predicates.
 fn all_but(
     alloc: Global,
     component: &Component,
@@ -122,7 +122,7 @@ fn all_but(
     Ok(gone)
 }
 
-// Whether calls are seen for which no turn can be made at a set, which is the support of a list without this position.
+/// Whether calls are seen for which no turn can be made at a set, which is the support of a list without this position.
 fn is_needed(
     alloc: Global,
     p: &Program,
@@ -132,7 +132,8 @@ fn is_needed(
     position: Position,
 ) -> Result<bool, AllocError>
     requires { IsSound p.now component.now }
-    ensures { IfOk result (λ yes. yes ≡ true → ForComponent p.now component.now (λ expression comps rows c.
+    ensures { IfOk result (λ yes. yes ≡ true
+        → ForComponent p.now component.now (λ expression comps rows c.
         IsVoid expression p.now comps rows c set.now)) }
 {
     let leaving = Leaving {

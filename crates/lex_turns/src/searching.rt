@@ -24,9 +24,10 @@ use level_systems::{Component, Position};
 use sequences::Sequence;
 use std::alloc::{AllocError, Global};
 
-// The course before the first turn.
+/// The course before the first turn.
 fn start(alloc: Global, p: &Program, component: &Component) -> Result<Course, AllocError>
-    ensures { IfOk result (λ course. (at : List Position) → IsCourse p.now component.now at course) }
+    ensures { IfOk result (λ course. (at : List Position)
+        → IsCourse p.now component.now at course) }
 {
     let calls = component.calls.as_slice();
     let gone = gone_first(alloc, calls)?;
@@ -38,7 +39,7 @@ fn start(alloc: Global, p: &Program, component: &Component) -> Result<Course, Al
     })
 }
 
-// Adds a turn to the course.
+/// Adds a turn to the course.
 fn advance(
     alloc: Global,
     component: &Component,
@@ -48,7 +49,8 @@ fn advance(
     requires gone { length course.old.gone.items ≡ length component.now.calls.items }
     requires drops { length course.old.drops.items ≡ length component.now.calls.items }
     requires falls { staying course.old.gone.items ≡ length made.falls }
-    requires room { all_rows (kept component.now.calls.items course.old.gone.items) ≤ length made.values }
+    requires room { all_rows (kept component.now.calls.items course.old.gone.items)
+        ≤ length made.values }
     ensures { OnOk result (IsAdvanced component.now made course.old course.new) }
 {
     let Made {
@@ -68,7 +70,7 @@ fn advance(
     course.measures.push(measures)
 }
 
-// Makes one more turn, if a call remains.
+/// Makes one more turn, if a call remains.
 fn go_on(
     alloc: Global,
     p: &Program,
@@ -101,7 +103,7 @@ fn go_on(
     }
 }
 
-// The list of one mapping that is 0, where no call is ever reached.
+/// The list of one mapping that is 0, where no call is ever reached.
 fn zero_list(
     alloc: Global,
     p: &Program,
@@ -112,7 +114,9 @@ fn zero_list(
     requires measures { course.measures ≡ [] }
     requires none { remaining_of component.now course ≡ [] }
     ensures gone { IfOk result (HasGone component.now) }
-    ensures ended { IfOk result (λ ended. (at : List Position) → IsCourse p.now component.now at course → ForComponent p.now component.now (λ expression comps rows c.
+    ensures ended { IfOk result (λ ended. (at : List Position)
+        → IsCourse p.now component.now at course
+        → ForComponent p.now component.now (λ expression comps rows c.
         IsEnded expression p.now comps rows c component.now at ended)) }
 {
     let measures = zero_measures(alloc, p, component.members.as_slice())?;
@@ -132,7 +136,7 @@ fn zero_list(
     }))
 }
 
-// The list of the mappings of turns that leave no call.
+/// The list of the mappings of turns that leave no call.
 fn list_of(
     alloc: Global,
     p: &Program,
@@ -142,7 +146,9 @@ fn list_of(
     requires sound { IsSound p.now component.now }
     requires none { remaining_of component.now course ≡ [] }
     ensures gone { IfOk result (HasGone component.now) }
-    ensures ended { IfOk result (λ ended. (at : List Position) → IsCourse p.now component.now at course → ForComponent p.now component.now (λ expression comps rows c.
+    ensures ended { IfOk result (λ ended. (at : List Position)
+        → IsCourse p.now component.now at course
+        → ForComponent p.now component.now (λ expression comps rows c.
         IsEnded expression p.now comps rows c component.now at ended)) }
 {
     if course.measures.is_empty() {
@@ -169,7 +175,8 @@ pub(crate) fn take_turns(
     requires sound { IsSound p.now component.now }
     requires distinct { AreDistinct (map spelled at.now) }
     ensures gone { IfOk result (HasGone component.now) }
-    ensures ended { IfOk result (λ ended. ForComponent p.now component.now (λ expression comps rows c.
+    ensures ended { IfOk result
+        (λ ended. ForComponent p.now component.now (λ expression comps rows c.
         IsEnded expression p.now comps rows c component.now at.now ended)) }
 {
     let mut course = start(alloc, p, component)?;

@@ -11,7 +11,7 @@ use linear_rows::Multipliers;
 use sequences::Sequence;
 use std::alloc::{AllocError, Global};
 
-// A fall as the drop of a list of one.
+/// A fall as the drop of a list of one.
 fn drop_of(alloc: Global, fall: &Fall) -> Result<CallDrops, AllocError>
     ensures { IfOk result (λ drop. drop ≡ drop_of_fall fall.now) }
 {
@@ -27,7 +27,7 @@ fn drop_of(alloc: Global, fall: &Fall) -> Result<CallDrops, AllocError>
     })
 }
 
-// Falls as the drops of a list of one.
+/// Falls as the drops of a list of one.
 fn drops_of(alloc: Global, falls: &[Fall]) -> Result<Sequence<CallDrops>, AllocError>
     ensures { IfOk result (λ drops. drops ≡ map drop_of_fall falls.now) }
 {

@@ -17,7 +17,7 @@ use cti_terms::Program;
 use level_systems::{Component, Position};
 use std::alloc::{AllocError, Global};
 
-// Makes a turn for the calls that are not gone, if there are any.
+/// Makes a turn for the calls that are not gone, if there are any.
 fn shrink(
     alloc: Global,
     p: &Program,
@@ -64,8 +64,10 @@ pub(crate) fn sticks(
     requires distinct { AreDistinct (map spelled at.now) }
     requires gone { length gone.items ≡ length component.now.calls.items }
     requires reached { KeepReached component.now.calls.items gone.items }
-    ensures { IfOk result (λ yes. yes ≡ true → ForComponent p.now component.now (λ expression comps rows c. (s : List ℕ)
-        → map spelled at.now ≡ positions_at expression p.now comps rows c s → IsVoid expression p.now comps rows c s)) }
+    ensures { IfOk result (λ yes. yes ≡ true
+        → ForComponent p.now component.now (λ expression comps rows c. (s : List ℕ)
+        → map spelled at.now ≡ positions_at expression p.now comps rows c s
+        → IsVoid expression p.now comps rows c s)) }
 {
     let mut gone = gone;
     loop {

@@ -46,7 +46,7 @@ struct Attempt<'a> {
     by_pivots: bool,
 }
 
-// The point of a call that numbers spell: its t first.
+/// The point of a call that numbers spell: its t first.
 fn point_at(alloc: Global, own: &OwnCall, numbers: &[i128]) -> Result<PairPoint, AllocError>
     requires { length numbers.now ≡ own.now.rows.width + 1 }
     ensures { IfOk result (IsPlain own.now numbers.now) }
@@ -60,7 +60,7 @@ fn point_at(alloc: Global, own: &OwnCall, numbers: &[i128]) -> Result<PairPoint,
     })
 }
 
-// The points of calls that multipliers of a system's rows spell, in their order.
+/// The points of calls that multipliers of a system's rows spell, in their order.
 fn points_of(
     alloc: Global,
     rest: &[&OwnCall],
@@ -81,7 +81,7 @@ fn points_of(
     Ok(Some(points))
 }
 
-// The points of the multipliers that refute the system of a turn, if they do.
+/// The points of the multipliers that refute the system of a turn, if they do.
 fn refuting_points(
     alloc: Global,
     p: &Program,
@@ -91,10 +91,13 @@ fn refuting_points(
     requires sound { IsSound p.now component.now }
     requires among { AreAmong component.now.calls.items (held_of attempt.now.round.rest.now) }
     ensures plain { IfOk result (λ o. IfSome o (ArePlainOf (held_of attempt.now.round.rest.now))) }
-    ensures exact { attempt.now.by_pivots ≡ false → IfOk result (λ o. ForComponent p.now component.now (λ expression comps rows c.
+    ensures exact { attempt.now.by_pivots ≡ false
+        → IfOk result (λ o. ForComponent p.now component.now (λ expression comps rows c.
         AreRefutingIf (held_of attempt.now.round.rest.now)
-        (unknowns_of expression p.now comps rows c component.now attempt.now.round.at.now (held_of attempt.now.round.rest.now))
-        (lines_of expression p.now comps rows c component.now attempt.now.round.at.now (held_of attempt.now.round.rest.now)) o)) }
+        (unknowns_of expression p.now comps rows c component.now attempt.now.round.at.now
+        (held_of attempt.now.round.rest.now))
+        (lines_of expression p.now comps rows c component.now attempt.now.round.at.now
+        (held_of attempt.now.round.rest.now)) o)) }
 {
     let system = system_of(alloc, p, component, &attempt.round)?;
     match solve_by(alloc, &system, attempt.by_pivots) {
@@ -105,7 +108,7 @@ fn refuting_points(
     }
 }
 
-// The refutation with these points, if the check of a certificate accepts them.
+/// The refutation with these points, if the check of a certificate accepts them.
 fn accepted<N: Norm>(
     alloc: Global,
     p: &Program,
@@ -117,9 +120,11 @@ fn accepted<N: Norm>(
     requires sizes { AreSizes p.now.preds sizes.now.rows }
     requires pairs { AllByRecursion (IsPairOf p.now) points }
     ensures some { IfOk result (λ o. IfSome o (λ r. (r.points ≡ points)
-        × AreAccepted (N.expression norm.now) p.now (rows_of sizes.now.rows) (map number_of members.now) points)) }
+        × AreAccepted (N.expression norm.now) p.now (rows_of sizes.now.rows)
+        (map number_of members.now) points)) }
     ensures none { IfOk result (λ o. o ≡ None
-        → AreAccepted (N.expression norm.now) p.now (rows_of sizes.now.rows) (map number_of members.now) points → ⊥) }
+        → AreAccepted (N.expression norm.now) p.now (rows_of sizes.now.rows)
+        (map number_of members.now) points → ⊥) }
 {
     if !are_formed(points.as_slice()) {
         return Ok(None);
@@ -133,7 +138,7 @@ fn accepted<N: Norm>(
     Ok(Some(Refutation { points }))
 }
 
-// The stuck set of the calls that remain, by one way of solving.
+/// The stuck set of the calls that remain, by one way of solving.
 fn stuck_by<N: Norm>(
     alloc: Global,
     p: &Program,
@@ -145,14 +150,19 @@ fn stuck_by<N: Norm>(
     requires sound { IsSound p.now component.now }
     requires among { AreAmong component.now.calls.items (held_of attempt.now.round.rest.now) }
     requires sizes { AreSizes p.now.preds sizes.now.rows }
-    requires held { AllByRecursion (IsHeld (N.expression norm.now) p.now (rows_of sizes.now.rows)) component.now.calls.items }
+    requires held { AllByRecursion
+        (IsHeld (N.expression norm.now) p.now (rows_of sizes.now.rows)) component.now.calls.items }
     ensures stuck { IfOk result (λ o. (comps : Partition) (c : ℕ)
-        → IsComponent (N.size norm.now) (N.truth norm.now) (N.expression norm.now) p.now comps (rows_of sizes.now.rows) c component.now
+        → IsComponent (N.size norm.now) (N.truth norm.now) (N.expression norm.now) p.now comps
+        (rows_of sizes.now.rows) c component.now
         → 1 ≤ length attempt.now.round.rest.now
         → IfSome o (IsStuckSetOf (N.expression norm.now) p.now comps (rows_of sizes.now.rows) c)) }
-    ensures blown { attempt.now.by_pivots ≡ false → IfOk result (λ o. o ≡ None → (comps : Partition) (c : ℕ)
-        → IsComponent (N.size norm.now) (N.truth norm.now) (N.expression norm.now) p.now comps (rows_of sizes.now.rows) c component.now
-        → IsBlownWhereStopped (N.expression norm.now) p.now comps (rows_of sizes.now.rows) c component.now
+    ensures blown { attempt.now.by_pivots ≡ false
+        → IfOk result (λ o. o ≡ None → (comps : Partition) (c : ℕ)
+        → IsComponent (N.size norm.now) (N.truth norm.now) (N.expression norm.now) p.now comps
+        (rows_of sizes.now.rows) c component.now
+        → IsBlownWhereStopped (N.expression norm.now) p.now comps
+        (rows_of sizes.now.rows) c component.now
         attempt.now.round.at.now (held_of attempt.now.round.rest.now)) }
 {
     let Some(points) = refuting_points(alloc, p, component, attempt)? else {
@@ -176,16 +186,22 @@ pub(crate) fn stuck_set<N: Norm>(
     requires sound { IsSound p.now component.now }
     requires gone { length halt.now.gone.now ≡ length component.now.calls.items }
     requires sizes { AreSizes p.now.preds sizes.now.rows }
-    requires held { AllByRecursion (IsHeld (N.expression norm.now) p.now (rows_of sizes.now.rows)) component.now.calls.items }
+    requires held { AllByRecursion
+        (IsHeld (N.expression norm.now) p.now (rows_of sizes.now.rows)) component.now.calls.items }
     ensures stuck { IfOk result (λ o. (comps : Partition) (c : ℕ)
-        → IsComponent (N.size norm.now) (N.truth norm.now) (N.expression norm.now) p.now comps (rows_of sizes.now.rows) c component.now
-        → IsStopped (N.expression norm.now) p.now comps (rows_of sizes.now.rows) c component.now halt.now.at.now halt.now.gone.now
+        → IsComponent (N.size norm.now) (N.truth norm.now) (N.expression norm.now) p.now comps
+        (rows_of sizes.now.rows) c component.now
+        → IsStopped (N.expression norm.now) p.now comps
+        (rows_of sizes.now.rows) c component.now halt.now.at.now halt.now.gone.now
         → IfSome o (IsStuckSetOf (N.expression norm.now) p.now comps (rows_of sizes.now.rows) c)) }
     ensures given_up { IfOk result (λ o. o ≡ None → (comps : Partition) (c : ℕ)
-        → IsComponent (N.size norm.now) (N.truth norm.now) (N.expression norm.now) p.now comps (rows_of sizes.now.rows) c component.now
+        → IsComponent (N.size norm.now) (N.truth norm.now) (N.expression norm.now) p.now comps
+        (rows_of sizes.now.rows) c component.now
         → AreAt component.now.order.items halt.now.at.now
-        → IsStopped (N.expression norm.now) p.now comps (rows_of sizes.now.rows) c component.now halt.now.at.now halt.now.gone.now
-        → IsGivenUp (N.expression norm.now) (component_view (N.expression norm.now) p.now comps (rows_of sizes.now.rows) c)
+        → IsStopped (N.expression norm.now) p.now comps
+        (rows_of sizes.now.rows) c component.now halt.now.at.now halt.now.gone.now
+        → IsGivenUp (N.expression norm.now)
+        (component_view (N.expression norm.now) p.now comps (rows_of sizes.now.rows) c)
         (arity_in p.now) (map spelled halt.now.at.now)) }
 {
     let rest = kept(alloc, component.calls.as_slice(), halt.gone)?;

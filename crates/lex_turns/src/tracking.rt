@@ -22,7 +22,7 @@ pub(crate) fn gone_first(alloc: Global, calls: &[OwnCall]) -> Result<Vec<bool>, 
     Ok(gone)
 }
 
-// The multipliers that show that a call is never reached, if it is not.
+/// The multipliers that show that a call is never reached, if it is not.
 fn given(alloc: Global, own: &OwnCall) -> Result<Sequence<Multipliers>, AllocError>
     ensures { IfOk result (λ by. by ≡ given own.now.empty) }
 {
@@ -36,7 +36,7 @@ fn given(alloc: Global, own: &OwnCall) -> Result<Sequence<Multipliers>, AllocErr
     Ok(given)
 }
 
-// The drops of a call before the first turn.
+/// The drops of a call before the first turn.
 fn drops_of_call(alloc: Global, own: &OwnCall) -> Result<CallDrops, AllocError>
     ensures { IfOk result (λ drops. drops ≡ drops_first own.now) }
 {
@@ -110,7 +110,8 @@ pub(crate) fn add_drops(
     requires gone { length gone.now ≡ length calls.now }
     requires drops { length drops.old.items ≡ length calls.now }
     requires room { all_rows (kept calls.now gone.now) ≤ length values.now }
-    ensures { OnOk result (drops.new.items ≡ after_drops calls.now gone.now values.now drops.old.items) }
+    ensures { OnOk result (drops.new.items
+        ≡ after_drops calls.now gone.now values.now drops.old.items) }
 {
     let mut values = values;
     for i in 0..calls.len() {

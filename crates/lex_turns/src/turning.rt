@@ -5,7 +5,7 @@ ghost use Rattle.std.specs.List.{AllByRecursion};
 ghost use Rattle.call_components.specs.Numbers.{number_of};
 ghost use Rattle.level_dual.specs.Components.{ForComponent};
 ghost use Rattle.level_systems.specs.Falling.{HasParts, IsReady};
-ghost use Rattle.level_systems.specs.Held.{pair_of, recalled_at, spelled};
+ghost use Rattle.level_systems.specs.Held.{numbers_of_call, recalled_at, spelled};
 ghost use Rattle.level_systems.specs.Searched.{AreMeasuresAt, IsSound};
 ghost use Rattle.level_systems.specs.Turned.{all_rows, held_of};
 ghost use Rattle.level_systems.specs.declared.own_call.OwnCall.{OwnCall};
@@ -24,7 +24,7 @@ use linear_rows::{Numbers, Rows};
 use sequences::Sequence;
 use std::alloc::{AllocError, Global};
 
-// The parts of the members in the mapping that values give.
+/// The parts of the members in the mapping that values give.
 fn measures_at(
     alloc: Global,
     p: &Program,
@@ -56,7 +56,7 @@ fn measures_at(
     Ok(measures)
 }
 
-// Whether the calls that are never reached fall, where the turn is the first.
+/// Whether the calls that are never reached fall, where the turn is the first.
 fn empty_falls(
     alloc: Global,
     component: &Component,
@@ -65,7 +65,8 @@ fn empty_falls(
 ) -> Result<bool, AllocError>
     requires parts { AllByRecursion (HasParts measures.now) component.now.calls.items }
     requires ready { AllByRecursion IsReady component.now.calls.items }
-    ensures { IfOk result (Tells (first ≡ true → EmptyFall measures.now component.now.calls.items)) }
+    ensures { IfOk result (Tells (first ≡ true
+        → EmptyFall measures.now component.now.calls.items)) }
 {
     if !first {
         return Ok(true);
@@ -85,8 +86,11 @@ pub(crate) fn made_at(
     requires distinct { AreDistinct (map spelled round.now.at.now) }
     requires among { AreAmong component.now.calls.items (held_of round.now.rest.now) }
     requires naturals { All (λ x. pos 0 ≤ℤ x) values.now }
-    requires long { length values.now ≡ length round.now.at.now + (length component.now.by_clauses.items + (length round.now.rest.now + all_rows (held_of round.now.rest.now))) }
-    ensures { IfOk result (IsMadeIf p.now component.now round.now.at.now (held_of round.now.rest.now) round.now.first values.now) }
+    requires long { length values.now ≡ length round.now.at.now +
+        (length component.now.by_clauses.items +
+        (length round.now.rest.now + all_rows (held_of round.now.rest.now))) }
+    ensures { IfOk result (IsMadeIf p.now component.now round.now.at.now
+        (held_of round.now.rest.now) round.now.first values.now) }
 {
     let measures = measures_at(alloc, p, component, round.at, values)?;
     let values = &values.as_slice()[round.at.len()..][component.by_clauses.len()..][round
@@ -118,18 +122,25 @@ pub(crate) fn system_of(
 ) -> Result<Rows, AllocError>
     requires sound { IsSound p.now component.now }
     requires among { AreAmong component.now.calls.items (held_of round.now.rest.now) }
-    ensures width { IfOk result (λ system. system.width ≡ length round.now.at.now + (length component.now.by_clauses.items + (length round.now.rest.now + all_rows (held_of round.now.rest.now)))) }
+    ensures width { IfOk result
+        (λ system. system.width ≡ length round.now.at.now +
+        (length component.now.by_clauses.items +
+        (length round.now.rest.now + all_rows (held_of round.now.rest.now)))) }
     ensures widths { IfOk result (λ system. HaveWidth system.width system.list) }
-    ensures rows { IfOk result (λ system. ForComponent p.now component.now (λ expression comps rows c.
-        plain_rows system.list ≡ turn_rows expression (map spelled round.now.at.now) (map number_of component.now.by_clauses.items) (map (λ (own : OwnCall). recalled_at expression p.now rows comps c (pair_of own)) (held_of round.now.rest.now)))) }
+    ensures rows { IfOk result
+        (λ system. ForComponent p.now component.now (λ expression comps rows c.
+        plain_rows system.list ≡ turn_rows expression (map spelled round.now.at.now)
+        (map number_of component.now.by_clauses.items)
+        (map (λ (own : OwnCall). recalled_at expression p.now rows comps c
+        (numbers_of_call own)) (held_of round.now.rest.now)))) }
 {
     // What every program keeps.
     p.preds();
     turn_system(alloc, round.rest, round.at, component.by_clauses.as_slice())
 }
 
-// Makes a turn by one way of solving. Nothing is made where the drops of the mapping that a point gives are not shown in
-// numbers that fit.
+/// Makes a turn by one way of solving. Nothing is made where the drops of the mapping that a point gives are not shown in
+/// numbers that fit.
 fn turn_by(
     alloc: Global,
     p: &Program,
@@ -141,11 +152,16 @@ fn turn_by(
     requires distinct { AreDistinct (map spelled round.now.at.now) }
     requires among { AreAmong component.now.calls.items (held_of round.now.rest.now) }
     requires some { 1 ≤ length round.now.rest.now }
-    ensures made { IfOk result (λ o. IfSome o (IsMadeStep component.now (held_of round.now.rest.now) round.now.first)) }
-    ensures some { IfOk result (λ o. IfSome o (λ step. ForComponent p.now component.now (λ expression comps rows c.
-        IsStep expression p.now comps rows c component.now round.now.at.now (held_of round.now.rest.now) round.now.first step))) }
-    ensures none { IfOk result (λ o. o ≡ None → by_pivots ≡ false → ForComponent p.now component.now (λ expression comps rows c.
-        IsStep expression p.now comps rows c component.now round.now.at.now (held_of round.now.rest.now) round.now.first Step.Blown)) }
+    ensures made { IfOk result
+        (λ o. IfSome o (IsMadeStep component.now (held_of round.now.rest.now) round.now.first)) }
+    ensures some { IfOk result
+        (λ o. IfSome o (λ step. ForComponent p.now component.now (λ expression comps rows c.
+        IsStep expression p.now comps rows c component.now round.now.at.now
+        (held_of round.now.rest.now) round.now.first step))) }
+    ensures none { IfOk result (λ o. o ≡ None → by_pivots ≡ false
+        → ForComponent p.now component.now (λ expression comps rows c.
+        IsStep expression p.now comps rows c component.now round.now.at.now
+        (held_of round.now.rest.now) round.now.first Step.Blown)) }
 {
     let system = system_of(alloc, p, component, round)?;
     match solve_by(alloc, &system, by_pivots) {
@@ -172,9 +188,11 @@ pub(crate) fn turn(
     requires distinct { AreDistinct (map spelled round.now.at.now) }
     requires among { AreAmong component.now.calls.items (held_of round.now.rest.now) }
     requires some { 1 ≤ length round.now.rest.now }
-    ensures made { IfOk result (IsMadeStep component.now (held_of round.now.rest.now) round.now.first) }
+    ensures made { IfOk result
+        (IsMadeStep component.now (held_of round.now.rest.now) round.now.first) }
     ensures step { IfOk result (λ step. ForComponent p.now component.now (λ expression comps rows c.
-        IsStep expression p.now comps rows c component.now round.now.at.now (held_of round.now.rest.now) round.now.first step)) }
+        IsStep expression p.now comps rows c component.now round.now.at.now
+        (held_of round.now.rest.now) round.now.first step)) }
 {
     if let Some(step) = turn_by(alloc, p, component, round, true)? {
         return Ok(step);

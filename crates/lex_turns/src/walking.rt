@@ -13,13 +13,13 @@ use crate::finding::find_at;
 use crate::walked::Walked;
 use crate::within::Within;
 use cti_terms::Program;
-use level_dual::{copied, is_above, is_below, without};
+use level_dual::{copied, is_above, is_below, without_number};
 use level_systems::Component;
 use sequences::Sequence;
 use std::alloc::{AllocError, Global};
 use termination_model::number_sets;
 
-// Whether a set is above one that was found, or above one that was given up.
+/// Whether a set is above one that was found, or above one that was given up.
 fn is_passed(walked: &Walked, set: &[u32]) -> bool
     ensures { result ≡ (list_any (λ t. is_part t set.now) walked.now.found || list_any
         (λ t. is_part t set.now) walked.now.blown) }
@@ -27,7 +27,7 @@ fn is_passed(walked: &Walked, set: &[u32]) -> bool
     is_above(walked.found.as_slice(), set) || is_above(walked.blown.as_slice(), set)
 }
 
-// The sets of all positions but one at which no list descends.
+/// The sets of all positions but one at which no list descends.
 fn void_sets(
     alloc: Global,
     p: &Program,
@@ -40,7 +40,7 @@ fn void_sets(
 {
     let mut sets = Sequence::new(alloc);
     for number in full {
-        let set = without(alloc, full, *number)?;
+        let set = without_number(alloc, full, *number)?;
         match find_at(alloc, p, component, set.as_slice())? {
             Within::Nothing => sets.push(set)?,
             Within::List(_) => {}
@@ -50,8 +50,8 @@ fn void_sets(
     Ok(sets)
 }
 
-// Searches at one more set, unless it is above one that was found or given up, or part of one at which no list
-// descends.
+/// Searches at one more set, unless it is above one that was found or given up, or part of one at which no list
+/// descends.
 fn visit(
     alloc: Global,
     p: &Program,
@@ -65,10 +65,12 @@ fn visit(
         (i : ℕ) → slice_get (chosen_up_to (length component.now.positions.items)
         (length component.now.positions.items)) i ≡ Some set.now
         → AreVoid expression p.now comps rows c void.now
-        → IsWalkedTo expression p.now comps rows c (take i (chosen_up_to (length component.now.positions.items)
+        → IsWalkedTo expression p.now comps rows c
+        (take i (chosen_up_to (length component.now.positions.items)
         (length component.now.positions.items))) walked.old
         → IsWalkedTo expression p.now comps rows c (take (suc i) (chosen_up_to
-        (length component.now.positions.items) (length component.now.positions.items))) walked.new)) }
+        (length component.now.positions.items)
+        (length component.now.positions.items))) walked.new)) }
 {
     if is_passed(walked, set) {
         return Ok(());

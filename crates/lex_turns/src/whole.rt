@@ -18,12 +18,12 @@ use level_systems::{Component, solve_by};
 use linear_rows::{Numbers, Row, Rows};
 use std::alloc::{AllocError, Global};
 
-// 1 at a place, and 0 elsewhere.
+/// 1 at a place, and 0 elsewhere.
 fn one_at(place: usize, column: usize) -> i128 {
     if column == place { 1 } else { 0 }
 }
 
-// The row of a system of this width that says that the unknown at a place is at least 1.
+/// The row of a system of this width that says that the unknown at a place is at least 1.
 fn least_one(alloc: Global, width: u32, place: usize) -> Result<Row, AllocError>
     ensures { IfOk result (λ row. length row.coeffs ≡ width) }
 {
@@ -37,7 +37,7 @@ fn least_one(alloc: Global, width: u32, place: usize) -> Result<Row, AllocError>
     })
 }
 
-// The system of a turn, with rows that say that each call falls.
+/// The system of a turn, with rows that say that each call falls.
 fn whole_system(
     alloc: Global,
     p: &Program,
@@ -47,7 +47,8 @@ fn whole_system(
     requires sound { IsSound p.now component.now }
     requires among { AreAmong component.now.calls.items (held_of round.now.rest.now) }
     ensures width { IfOk result (λ system. system.width ≡ length round.now.at.now +
-        (length component.now.by_clauses.items + (length round.now.rest.now + all_rows (held_of round.now.rest.now)))) }
+        (length component.now.by_clauses.items +
+        (length round.now.rest.now + all_rows (held_of round.now.rest.now)))) }
     ensures widths { IfOk result (λ system. HaveWidth system.width system.list) }
 {
     let mut system = system_of(alloc, p, component, round)?;
@@ -59,7 +60,7 @@ fn whole_system(
     Ok(system)
 }
 
-// A turn in which all calls leave, if pivots find one.
+/// A turn in which all calls leave, if pivots find one.
 fn whole_turn(
     alloc: Global,
     p: &Program,
@@ -70,9 +71,12 @@ fn whole_turn(
     requires distinct { AreDistinct (map spelled round.now.at.now) }
     requires among { AreAmong component.now.calls.items (held_of round.now.rest.now) }
     requires some { 1 ≤ length round.now.rest.now }
-    ensures made { IfOk result (λ o. IfSome o (IsMade component.now (held_of round.now.rest.now) round.now.first)) }
-    ensures turn { IfOk result (λ o. IfSome o (λ made. ForComponent p.now component.now (λ expression comps rows c.
-        IsTurnOf expression p.now comps rows c component.now round.now.at.now (held_of round.now.rest.now) made))) }
+    ensures made { IfOk result
+        (λ o. IfSome o (IsMade component.now (held_of round.now.rest.now) round.now.first)) }
+    ensures turn { IfOk result
+        (λ o. IfSome o (λ made. ForComponent p.now component.now (λ expression comps rows c.
+        IsTurnOf expression p.now comps rows c component.now round.now.at.now
+        (held_of round.now.rest.now) made))) }
 {
     let system = whole_system(alloc, p, component, round)?;
     match solve_by(alloc, &system, true) {
@@ -94,7 +98,8 @@ pub(crate) fn long_turn(
     requires distinct { AreDistinct (map spelled round.now.at.now) }
     requires among { AreAmong component.now.calls.items (held_of round.now.rest.now) }
     requires some { 1 ≤ length round.now.rest.now }
-    ensures made { IfOk result (IsMadeStep component.now (held_of round.now.rest.now) round.now.first) }
+    ensures made { IfOk result
+        (IsMadeStep component.now (held_of round.now.rest.now) round.now.first) }
     ensures step { IfOk result (λ step. ForComponent p.now component.now (λ expression comps rows c.
         IsStep expression p.now comps rows c component.now round.now.at.now
         (held_of round.now.rest.now) round.now.first step)) }

@@ -15,7 +15,7 @@ use number_tests::LevelPart;
 use sequences::Sequence;
 use std::alloc::{AllocError, Global};
 
-// The part of a member.
+/// The part of a member.
 fn zero_part(alloc: Global, p: &Program, pred: PredId) -> Result<LevelPart, AllocError>
     requires { pred.0 < length p.now.preds }
     ensures { IfOk result (IsPartOf (mapping_at (arity_in p.now) [] [] [] []) pred.0) }

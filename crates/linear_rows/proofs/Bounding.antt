@@ -9,7 +9,8 @@ use Rattle.exact128.specs.Gcd.{gcd}
 use Rattle.exact128.proofs.Rings.{rings, mul_nonneg, cross_trans}
 use Rattle.exact128.proofs.Gcds.{gcd_is}
 use Rattle.exact128.specs.Sums.{entry, dot}
-use Rattle.linear_rows.specs.Elimination.{scaled, added, crossed}
+use Rattle.linear_rows.specs.Elimination.{crossed}
+use Rattle.linear_rows.specs.RowSums.{scaled, added}
 use Rattle.linear_rows.specs.Members.{In}
 use Rattle.linear_rows.proofs.Members.{from_All}
 use Rattle.linear_rows.proofs.Projection.{value, rest, put, Bounds, value-put}

@@ -8,7 +8,8 @@ use Rattle.exact128.specs.Gcd.{gcd}
 use Rattle.exact128.proofs.Rings.{rings, mul_nonneg, nonneg_factor, mul_le, mul_cancel, cancel}
 use Rattle.exact128.specs.Sums.{entry, dot}
 use Rattle.linear_rows.specs.Rows.{column}
-use Rattle.linear_rows.specs.Elimination.{scaled, added, crossed}
+use Rattle.linear_rows.specs.Elimination.{crossed}
+use Rattle.linear_rows.specs.RowSums.{scaled, added}
 use Rattle.linear_rows.specs.Cleaning.{row_gcd}
 use Rattle.linear_rows.specs.Equation.{step}
 use Rattle.linear_rows.specs.Step.{eliminated, all_eliminated}

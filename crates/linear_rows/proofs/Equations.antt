@@ -4,7 +4,8 @@ use Rattle.std.specs.Prelude.{◌≤ℤ◌}
 use Rattle.std.proofs.lemmas.Int.{ints}
 use Rattle.exact128.proofs.Rings.{mul-neg, neg-mul}
 use Rattle.exact128.specs.Sums.{entry}
-use Rattle.linear_rows.specs.Elimination.{scaled, crossed}
+use Rattle.linear_rows.specs.Elimination.{crossed}
+use Rattle.linear_rows.specs.RowSums.{scaled}
 use Rattle.linear_rows.specs.Cleaning.{int_same}
 use Rattle.linear_rows.specs.Equation.{negates}
 use Rattle.linear_rows.proofs.Projection.{value, rest, put, Bounds}

@@ -10,7 +10,8 @@ use Rattle.exact128.proofs.Gcds.{gcd_is, gcd-pos}
 use Rattle.exact128.proofs.Rings.{rings}
 use Rattle.exact128.specs.Sums.{entry}
 use Rattle.linear_rows.specs.Rows.{Holds, HoldsOn}
-use Rattle.linear_rows.specs.Elimination.{scaled, is_zero, without, crossed}
+use Rattle.linear_rows.specs.Elimination.{is_zero, without, crossed}
+use Rattle.linear_rows.specs.RowSums.{scaled}
 use Rattle.linear_rows.specs.Cleaning.{row_gcd, reduced, agree, is_trivial, insert_row, cleaned}
 use Rattle.linear_rows.specs.Equation.{equation_from, combinations_by, step}
 use Rattle.linear_rows.specs.Step.{eliminated, all_eliminated, Floors, HasFloor, Within}

@@ -5,20 +5,11 @@
 -- gives a row without the variable: their sum, each times the other's coefficient without what the two share.
 --
 -- Source: Fourier-Motzkin elimination, as in Schrijver 1986.
-use Rattle.std.specs.Prelude.{ℕ, zero, suc, ℤ, pos, negsuc, List, [], ◌∷◌, ◌++◌, ◌/◌, ◌+ℤ◌, ◌*ℤ◌, Bool, true, false, map, filter, unsigned_abs, int_lt}
+use Rattle.std.specs.Prelude.{ℕ, zero, suc, ℤ, pos, negsuc, List, [], ◌∷◌, ◌++◌, ◌/◌, Bool, true, false, map, filter, unsigned_abs, int_lt}
 use Rattle.std.specs.List.{flat_map}
 use Rattle.exact128.specs.Gcd.{gcd}
 use Rattle.exact128.specs.Sums.{entry}
-
--- a row times a number
-abbrev pub scaled : ℤ → List ℤ → List ℤ
-scaled m xs = map (λ x. m *ℤ x) xs
-
--- the sum of two rows
-abbrev pub added : List ℤ → List ℤ → List ℤ
-added [] ys = ys
-added (x ∷ xs) [] = x ∷ xs
-added (x ∷ xs) (y ∷ ys) = (x +ℤ y) ∷ added xs ys
+pub use Rattle.linear_rows.specs.RowSums.{scaled, added}
 
 -- the sum of two rows in which column k vanishes, where r rises and s falls there
 unfoldable pub crossed : ℕ → List ℤ → List ℤ → List ℤ

@@ -4,6 +4,7 @@ pub mod Plain
 pub mod Proves
 pub mod Verdict
 pub mod Combine
+pub mod RowSums
 pub mod Elimination
 pub mod Cleaning
 pub mod Equation

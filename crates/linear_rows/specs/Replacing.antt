@@ -1,11 +1,11 @@
--- To believe, for the command.
+-- To believe, for the modes.
 -- Rows over arguments, with a row over variables in the place of each argument.
 --
 -- To believe: `substituted`, `row_fits`.
 use Rattle.std.specs.Prelude.{◌≡◌, ℕ, zero, suc, ◌<◌, ℤ, pos, Bool, true, false, ◌&&◌, List, [], ◌∷◌, map, length, replicate, slice_index_or, Option, None, Some}
 use Rattle.exact128.specs.Fits.{fits}
 use Rattle.exact128.specs.Sums.{entry, dot}
-use Rattle.linear_rows.specs.Elimination.{scaled, added}
+use Rattle.linear_rows.specs.RowSums.{scaled, added}
 use Rattle.linear_rows.specs.Plain.{plain_row}
 use Rattle.linear_rows.specs.declared.row.Row.{Row}
 

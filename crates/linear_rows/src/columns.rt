@@ -1,4 +1,5 @@
-// Columns of rows, of which the constants are column 0.
+//! Columns of rows, of which the constants are column 0.
+
 ghost use Rattle.std.specs.Prelude.{◌≡◌, length, ◌<◌, SomeIff, All};
 ghost use Rattle.exact128.specs.Sums.{entry, dot, DotFits};
 ghost use Rattle.linear_rows.specs.Rows.{column};
@@ -23,7 +24,9 @@ pub fn number(row: &Row, k: usize) -> i128
 pub fn column_sum(rows: &[Row], multipliers: &[i128], k: usize) -> Option<i128>
     requires lengths { length multipliers.now ≡ length rows.now }
     requires column { All (λ r. k < length (plain_row r)) rows.now }
-    ensures { SomeIff result (DotFits (length rows.now) multipliers.now (column (plain_rows rows.now) k)) (dot multipliers.now (column (plain_rows rows.now) k)) }
+    ensures { SomeIff result (DotFits (length rows.now) multipliers.now
+        (column (plain_rows rows.now) k))
+        (dot multipliers.now (column (plain_rows rows.now) k)) }
 {
     let mut sum = 0;
     for i in 0..rows.len() {

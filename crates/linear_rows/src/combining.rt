@@ -1,4 +1,5 @@
-// The sum of multiplied rows.
+//! The sum of multiplied rows.
+
 ghost use Rattle.std.specs.Prelude.{◌≡◌, length, IfOk, All, pos, ◌≤ℤ◌, ◌+◌};
 ghost use Rattle.linear_rows.specs.Combine.{CombineFits, IsCombination};
 ghost use Rattle.linear_rows.specs.Plain.{plain_row, plain_rows, HaveWidth};
@@ -34,11 +35,15 @@ pub fn combine(alloc: Global, rows: &Rows, multipliers: &[i128]) -> Result<Row, 
     requires lengths { length multipliers.now ≡ length rows.now.list }
     requires naturals { All (λ m. pos 0 ≤ℤ m) multipliers.now }
     requires width { HaveWidth rows.now.width rows.now.list }
-    ensures sum { IfOk result (λ row. IsCombination (rows.now.width + 1) (plain_rows rows.now.list) multipliers.now (plain_row row)) }
+    ensures sum { IfOk result
+        (λ row. IsCombination (rows.now.width + 1) (plain_rows rows.now.list) multipliers.now
+        (plain_row row)) }
 
     // Wide exactly where one of these numbers does not fit.
-    ensures fits { IfOk result (λ _. CombineFits (rows.now.width + 1) (plain_rows rows.now.list) multipliers.now) }
-    ensures wide { result ≡ Err RowFault.Wide → CombineFits (rows.now.width + 1) (plain_rows rows.now.list) multipliers.now → ⊥ }
+    ensures fits { IfOk result
+        (λ _. CombineFits (rows.now.width + 1) (plain_rows rows.now.list) multipliers.now) }
+    ensures wide { result ≡ Err RowFault.Wide
+        → CombineFits (rows.now.width + 1) (plain_rows rows.now.list) multipliers.now → ⊥ }
 {
     let Some(constant) = column_sum(rows.list.as_slice(), multipliers, 0) else {
         return Err(RowFault::Wide);

@@ -1,4 +1,5 @@
-// Multipliers of rows, and what their test says.
+//! Multipliers of rows, and what their test says.
+
 use crate::numbers::Numbers;
 
 /// One multiplier for each row of a list, and the scale of the target.

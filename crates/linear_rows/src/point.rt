@@ -1,4 +1,5 @@
-// Points at which rows hold or fail.
+//! Points at which rows hold or fail.
+
 use crate::numbers::Numbers;
 
 /// Naturals `w` over the natural `t`, which is at least 1: the rationals w/t.

@@ -1,4 +1,5 @@
-// The test of multipliers, column by column.
+//! The test of multipliers, column by column.
+
 ghost use Rattle.std.specs.Prelude.{◌≡◌, length, ◌<◌, ◌≤◌, SomeIff, All, pos, ◌≤ℤ◌, ◌+◌, ◌↔◌};
 ghost use Rattle.exact128.specs.Fits.{Fits};
 ghost use Rattle.linear_rows.specs.Proves.{goal_number, Proves, AllColumnsFit};
@@ -26,10 +27,14 @@ pub fn proves(rows: &Rows, multipliers: &[i128], target: &Row, scale: i128) -> P
     requires target { length target.now.coeffs ≡ rows.now.width }
 
     // Which answer it is: the first column decides that does not hold in numbers that fit.
-    ensures says { Says (plain_rows rows.now.list) multipliers.now (plain_row target.now) scale result }
+    ensures says { Says (plain_rows rows.now.list) multipliers.now
+        (plain_row target.now) scale result }
 
     // So Holds comes exactly where the target is proved and each number that is formed fits.
-    ensures holds { (result ≡ Proof.Holds) ↔ (Proves (plain_rows rows.now.list) multipliers.now (plain_row target.now) scale × AllColumnsFit (plain_rows rows.now.list) multipliers.now (plain_row target.now) scale) }
+    ensures holds { (result ≡ Proof.Holds)
+        ↔ (Proves (plain_rows rows.now.list) multipliers.now (plain_row target.now) scale
+        × AllColumnsFit (plain_rows rows.now.list) multipliers.now
+        (plain_row target.now) scale) }
 {
     for k in 0..rows.width as usize + 1 {
         match test_column(rows.list.as_slice(), multipliers, target, scale, k) {
@@ -41,12 +46,13 @@ pub fn proves(rows: &Rows, multipliers: &[i128], target: &Row, scale: i128) -> P
     Proof::Holds
 }
 
-// The test of one column.
+/// The test of one column.
 fn test_column(rows: &[Row], multipliers: &[i128], target: &Row, scale: i128, k: usize) -> Proof
     requires lengths { length multipliers.now ≡ length rows.now }
     requires column { All (λ r. k < length (plain_row r)) rows.now }
     requires target { k < length (plain_row target.now) }
-    ensures { ColumnSays (plain_rows rows.now) multipliers.now (plain_row target.now) scale result k }
+    ensures { ColumnSays (plain_rows rows.now) multipliers.now
+        (plain_row target.now) scale result k }
 {
     let Some(sum) = column_sum(rows, multipliers, k) else {
         return Proof::Wide;
@@ -60,10 +66,11 @@ fn test_column(rows: &[Row], multipliers: &[i128], target: &Row, scale: i128, k:
     if rest < 0 { Proof::Fails } else { Proof::Holds }
 }
 
-// The number that the multiplied rows may not pass in a column, where it fits.
+/// The number that the multiplied rows may not pass in a column, where it fits.
 fn goal_number(target: &Row, scale: i128, k: usize) -> Option<i128>
     requires { k < length (plain_row target.now) }
-    ensures { SomeIff result (Fits (goal_number scale (plain_row target.now) k)) (goal_number scale (plain_row target.now) k) }
+    ensures { SomeIff result (Fits (goal_number scale (plain_row target.now) k))
+        (goal_number scale (plain_row target.now) k) }
 {
     if scale != 0 {
         times(scale, number(target, k))

@@ -43,7 +43,7 @@ impl Row {
 /// A list of rows.
 pub type RowList = Sequence<Row>;
 
-// A copy of rows.
+/// A copy of rows.
 fn copy_rows(alloc: Global, rows: &RowList) -> Result<RowList, AllocError>
     ensures { IfOk result (λ copy. copy ≡ rows.now) }
 {
@@ -81,7 +81,8 @@ impl Rows {
         ensures ok { OnOk result (self.new.list ≡ self.old.list ++ row ∷ []) }
         ensures err { OnErr result (self.new.list ≡ self.old.list) }
         ensures width { self.new.width ≡ self.old.width }
-        ensures rows { HaveWidth self.old.width self.old.list → HaveWidth self.new.width self.new.list }
+        ensures rows { HaveWidth self.old.width self.old.list
+            → HaveWidth self.new.width self.new.list }
     {
         self.list.push(row)
     }

@@ -1,4 +1,5 @@
-// Systems of a clause.
+//! Systems of a clause.
+
 use crate::row::Rows;
 
 /// The rows of a clause's body atoms and the size expressions of its head's arguments, over the clause's variables.

@@ -6,11 +6,11 @@ use Rattle.cti_terms.specs.Unify.{Binding}
 use Rattle.loop_finder.specs.declared.matching.Match.{Match}
 
 -- a variable and the tree that it is matched with
-abbrev pub pair_of : ℕ × Match → Binding
-pair_of m = (m.0, tree_of m.1.term.now)
+abbrev pub binding_of : ℕ × Match → Binding
+binding_of m = (m.0, tree_of m.1.term.now)
 
 abbrev pub pairs_of : List (ℕ × Match) → List Binding
-pairs_of = map pair_of
+pairs_of = map binding_of
 
 -- whether matching gives the matches that there are now, or fails
 abbrev pub IsMatched : Option (List Binding) → List Binding → Bool → Type 0

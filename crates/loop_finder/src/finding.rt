@@ -74,7 +74,8 @@ pub fn find(alloc: Global, program: &Program, goal: &Goal, depth: u32) -> Result
     requires goal { IsGoalOf program.now goal.now }
     requires first { 1 ≤ depth }
     requires last { depth ≤ 12 }
-    ensures looked { IfOk result (IsLooked program.now goal.now (clause_nodes program.now depth goal.now)) }
+    ensures looked { IfOk result
+        (IsLooked program.now goal.now (clause_nodes program.now depth goal.now)) }
 
     // Where it answers a loop, there are derivations of every length, so the goal is not bounded.
     ensures goes_on { IfOk result (IfLoop (GoesOn program.now goal.now)) }

@@ -17,8 +17,10 @@ ghost use Rattle.cti_terms.specs.MostGeneral.{IsMostGeneral, Solves};
 
 /// A goal with a loop has derivations of every length, so it is not bounded.
 pub fn a_loop_goes_on()
-    ensures on { (p : Listing) (g : Goal) (u v : List ℕ) → IsProgram p → IsGoalOf p g → IsLoop p g u v → GoesOn p g }
-    ensures unbounded { (p : Listing) (g : Goal) (u v : List ℕ) → IsProgram p → IsGoalOf p g → IsLoop p g u v → ¬ Bounded p g }
+    ensures on { (p : Listing) (g : Goal) (u v : List ℕ) → IsProgram p → IsGoalOf p g
+        → IsLoop p g u v → GoesOn p g }
+    ensures unbounded { (p : Listing) (g : Goal) (u v : List ℕ) → IsProgram p → IsGoalOf p g
+        → IsLoop p g u v → ¬ Bounded p g }
 {}
 
 /// Matching along the terms decides which atoms are more general.

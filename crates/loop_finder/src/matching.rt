@@ -125,7 +125,8 @@ fn match_term<'g>(
     matches: &mut Matches<'g>,
     room: &mut Room,
 ) -> Result<bool, AllocError>
-    ensures { IfOk result (IsMatched (matched matches.old (tree_of general.now) (tree_of special.now)) matches.new) }
+    ensures { IfOk result (IsMatched
+        (matched matches.old (tree_of general.now) (tree_of special.now)) matches.new) }
 {
     room.compare_one()?;
     match general {
@@ -160,7 +161,8 @@ fn match_terms<'g>(
     matches: &mut Matches<'g>,
     room: &mut Room,
 ) -> Result<bool, AllocError>
-    ensures { IfOk result (IsMatched (all_matched matches.old (trees_of general.now) (trees_of special.now)) matches.new) }
+    ensures { IfOk result (IsMatched
+        (all_matched matches.old (trees_of general.now) (trees_of special.now)) matches.new) }
 {
     if general.len() != special.len() {
         return Ok(false);

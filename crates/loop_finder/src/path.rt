@@ -22,14 +22,16 @@ impl Path {
     /// The goal that the derivation leaves.
     pub fn last(&self) -> &Goal
         requires { 0 < length self.now.goals.items }
-        ensures { slice_get self.now.goals.items (length self.now.goals.items - 1) ≡ Some result.now }
+        ensures { slice_get self.now.goals.items (length self.now.goals.items - 1)
+            ≡ Some result.now }
     {
         &self.goals[self.goals.len() - 1]
     }
 
     /// Adds a step, and the goal that it leaves. Out of memory, a part may have been added.
     pub fn push(&mut self, number: u32, goal: Goal) -> Result<(), AllocError>
-        ensures numbers { OnOk result (self.new.numbers.items ≡ self.old.numbers.items ++ number ∷ []) }
+        ensures numbers { OnOk result (self.new.numbers.items ≡ self.old.numbers.items ++ number
+            ∷ []) }
         ensures goals { OnOk result (self.new.goals.items ≡ self.old.goals.items ++ goal ∷ []) }
     {
         self.numbers.push(number)?;
@@ -39,8 +41,10 @@ impl Path {
 
     /// Takes the last step back.
     pub fn pop(&mut self)
-        ensures numbers { (xs : List ℕ) (x : ℕ) → self.old.numbers.items ≡ xs ++ x ∷ [] → self.new.numbers.items ≡ xs }
-        ensures goals { (gs : List TheGoal) (g : TheGoal) → self.old.goals.items ≡ gs ++ g ∷ [] → self.new.goals.items ≡ gs }
+        ensures numbers { (xs : List ℕ) (x : ℕ) → self.old.numbers.items ≡ xs ++ x ∷ []
+            → self.new.numbers.items ≡ xs }
+        ensures goals { (gs : List TheGoal) (g : TheGoal) → self.old.goals.items ≡ gs ++ g ∷ []
+            → self.new.goals.items ≡ gs }
     {
         let _number = self.numbers.pop();
         let _goal = self.goals.pop();
@@ -49,7 +53,8 @@ impl Path {
 
 /// Whether each of the goals has at least so many atoms.
 fn all_have(goals: &[Goal], count: usize) -> bool
-    ensures { IsTrue result ↔ ((j : ℕ) (h : TheGoal) → slice_get goals.now j ≡ Some h → count ≤ length h.atoms) }
+    ensures { IsTrue result ↔ ((j : ℕ) (h : TheGoal) → slice_get goals.now j ≡ Some h
+        → count ≤ length h.atoms) }
 {
     for goal in goals {
         if goal.atoms.len() < count {
@@ -66,7 +71,8 @@ fn is_first_more_general(
     special: &[Atom],
     room: &mut Room,
 ) -> Result<bool, AllocError>
-    ensures { IfOk result (λ r. IsTrue r ↔ FirstIs (λ a. FirstIs (λ b. IsMoreGeneral b a) general.now) special.now) }
+    ensures { IfOk result (λ r. IsTrue r
+        ↔ FirstIs (λ a. FirstIs (λ b. IsMoreGeneral b a) general.now) special.now) }
 {
     if general.is_empty() || special.is_empty() {
         return Ok(false);
@@ -106,7 +112,8 @@ pub fn cycle_start(
     room: &mut Room,
 ) -> Result<Option<usize>, AllocError>
     requires { 0 < length goals.now }
-    ensures { IfOk result (λ o. MatchOption o ((i : ℕ) → IsCycleAt goals.now i → ⊥) (λ s. IsCycleAt goals.now s × ((i : ℕ) → s < i → IsCycleAt goals.now i → ⊥))) }
+    ensures { IfOk result (λ o. MatchOption o ((i : ℕ) → IsCycleAt goals.now i → ⊥)
+        (λ s. IsCycleAt goals.now s × ((i : ℕ) → s < i → IsCycleAt goals.now i → ⊥))) }
 {
     let mut start = goals.len() - 1;
     while start > 0 {

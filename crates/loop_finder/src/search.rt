@@ -45,8 +45,13 @@ fn look_at(
     requires first { 1 ≤ number }
     requires last { number ≤ length program.now.clauses }
     requires looked { effort.old.looked ≤ 100000 }
-    ensures under { IfOk result (λ u. (g h : TheGoal) → IsPath program.now g path.old.numbers.items path.old.goals.items → left_after program.now g path.old.numbers.items ≡ Some h
-        → IsUnder program.now g (100000 - effort.old.looked) (going_on path.old.numbers.items (under number (clause_nodes program.now steps) (resolve program.now h number))) path.old effort.old.looked u path.new effort.new.looked) }
+    ensures under { IfOk result (λ u. (g h : TheGoal)
+        → IsPath program.now g path.old.numbers.items path.old.goals.items
+        → left_after program.now g path.old.numbers.items ≡ Some h
+        → IsUnder program.now g (100000 - effort.old.looked)
+        (going_on path.old.numbers.items
+        (under number (clause_nodes program.now steps)
+        (resolve program.now h number))) path.old effort.old.looked u path.new effort.new.looked) }
 {
     let next = match left_by_step(alloc, program, path.last(), number, &mut effort.room)? {
         Some(goal) => goal,
@@ -82,8 +87,12 @@ pub fn look_under(
 ) -> Result<Under, AllocError>
     requires path { IsPathOf program.now path.old }
     requires looked { effort.old.looked ≤ 100000 }
-    ensures under { IfOk result (λ u. (g h : TheGoal) → IsPath program.now g path.old.numbers.items path.old.goals.items → left_after program.now g path.old.numbers.items ≡ Some h
-        → IsUnder program.now g (100000 - effort.old.looked) (going_on path.old.numbers.items (clause_nodes program.now steps h)) path.old effort.old.looked u path.new effort.new.looked) }
+    ensures under { IfOk result (λ u. (g h : TheGoal)
+        → IsPath program.now g path.old.numbers.items path.old.goals.items
+        → left_after program.now g path.old.numbers.items ≡ Some h
+        → IsUnder program.now g (100000 - effort.old.looked)
+        (going_on path.old.numbers.items
+        (clause_nodes program.now steps h)) path.old effort.old.looked u path.new effort.new.looked) }
 {
     if steps == 0 {
         return Ok(Under::Nothing);

@@ -32,7 +32,8 @@ fn left_by_clause<'p>(
     room: &mut Room,
 ) -> Result<Option<Goal>, AllocError>
     requires { AtomsBelow fresh (atom.now ∷ rest.now) }
-    ensures { IfOk result (λ o. o ≡ option_map (λ r. r.1) (resolve_by (atom.now ∷ rest.now) fresh clause.now)) }
+    ensures { IfOk result (λ o. o ≡ option_map
+        (λ r. r.1) (resolve_by (atom.now ∷ rest.now) fresh clause.now)) }
 {
     if atom.pred.0 != clause.head.pred.0 {
         return Ok(None);

@@ -108,7 +108,7 @@ fn a_file_and_control_bytes(rt: HostRuntime) -> Result<(), Fail> {
     Ok(())
 }
 
-// A line of 300 bytes is shown from 100 bytes before the place on, 200 of them.
+/// A line of 300 bytes is shown from 100 bytes before the place on, 200 of them.
 #[test]
 fn long_lines_are_cut(rt: HostRuntime) -> Result<(), Fail> {
     let alloc = rt.alloc();

@@ -2,6 +2,8 @@
 #![tactic(auto)]
 
 #[cfg(test)]
+mod edits_shown;
+#[cfg(test)]
 mod expectations;
 #[cfg(test)]
 mod mistakes_shown;

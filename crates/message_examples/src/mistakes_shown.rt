@@ -110,7 +110,7 @@ fn mistakes_in_syntax(rt: HostRuntime) -> Result<(), Fail> {
     Ok(())
 }
 
-// Bars, signs that are no operators, and comments.
+/// Bars, signs that are no operators, and comments.
 #[test]
 fn mistakes_in_terms(rt: HostRuntime) -> Result<(), Fail> {
     let alloc = rt.alloc();
@@ -346,7 +346,7 @@ fn mistakes_in_programs(rt: HostRuntime) -> Result<(), Fail> {
     Ok(())
 }
 
-// Heads that are none, queries, bytes and numbers.
+/// Heads that are none, queries, bytes and numbers.
 #[test]
 fn mistakes_in_heads(rt: HostRuntime) -> Result<(), Fail> {
     let alloc = rt.alloc();
@@ -557,7 +557,7 @@ fn mistakes_in_certificates(rt: HostRuntime) -> Result<(), Fail> {
     Ok(())
 }
 
-// Lines that are no facts, and facts at a wrong place.
+/// Lines that are no facts, and facts at a wrong place.
 #[test]
 fn lines_of_certificates(rt: HostRuntime) -> Result<(), Fail> {
     let alloc = rt.alloc();
@@ -714,47 +714,7 @@ fn lines_of_certificates(rt: HostRuntime) -> Result<(), Fail> {
     Ok(())
 }
 
-// Edits that cannot be done, and clauses that cannot be added.
-#[test]
-fn mistakes_in_edits(rt: HostRuntime) -> Result<(), Fail> {
-    let alloc = rt.alloc();
-    let words = ["session", "e.pl"].as_slice();
-    for (refusal, text, help) in [
-        (
-            "refused(program,1,1,18).\n",
-            "add(a,b).\n",
-            "`add` takes one clause: put a rule in parentheses of its own, as `add((p(X) :- q(X)))`",
-        ),
-        (
-            "refused(program,2,1,18).\n",
-            "add(a).\ndel(2).\n",
-            "give the number of a clause that is there now: they count from 1, and those after a removed one move up",
-        ),
-        (
-            "refused(program,1,1,18).\n",
-            "modes(p).\n",
-            "write `modes(Name/Arity)`, for a predicate that has a clause or is called now",
-        ),
-        (
-            "refused(program,1,1,18).\n",
-            ":- dynamic(p/1).\n",
-            "leave it out: only `:- op(Priority,Kind,Names)` and `:- discontiguous(..)` are read",
-        ),
-        (
-            "refused(program,1,1,18).\n",
-            "p(X) :- q(X).\n",
-            "to add a clause, write it in `add(..)`, and a rule in parentheses of its own: `add((p(X) :- q(X)))`",
-        ),
-    ] {
-        assert!(rt;
-            is_helped(alloc, words, (3, refusal), (text, text), help)?,
-            "{help}"
-        );
-    }
-    Ok(())
-}
-
-// What is asked about the program itself is answered without an error.
+/// What is asked about the program itself is answered without an error.
 #[test]
 fn help_and_version(rt: HostRuntime) -> Result<(), Fail> {
     let alloc = rt.alloc();
@@ -780,7 +740,7 @@ fn help_and_version(rt: HostRuntime) -> Result<(), Fail> {
     Ok(())
 }
 
-// Standard input is named by its device.
+/// Standard input is named by its device.
 #[test]
 fn standard_input(rt: HostRuntime) -> Result<(), Fail> {
     let alloc = rt.alloc();
@@ -790,7 +750,7 @@ fn standard_input(rt: HostRuntime) -> Result<(), Fail> {
     Ok(())
 }
 
-// The query stands in the place of the file.
+/// The query stands in the place of the file.
 #[test]
 fn a_query_for_a_file(rt: HostRuntime) -> Result<(), Fail> {
     let alloc = rt.alloc();

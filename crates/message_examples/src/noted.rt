@@ -117,7 +117,7 @@ a.pl:3:9: note: `p/1` has no mode: nothing known of its arguments gets smaller f
     Ok(())
 }
 
-// What is said of certificates of lists.
+/// What is said of certificates of lists.
 #[test]
 fn notes_about_lists(rt: HostRuntime) -> Result<(), Fail> {
     let alloc = rt.alloc();
@@ -177,7 +177,7 @@ fn notes_about_lists(rt: HostRuntime) -> Result<(), Fail> {
 /// A program whose certificates are broken.
 const APPEND: &str = "app([],L,L).\napp([H|T],L,[H|R]) :- app(T,L,R).\np :- app(_,_,_).\n";
 
-// The fact is named that was expected in the place of the first one that is wrong.
+/// The fact is named that was expected in the place of the first one that is wrong.
 #[test]
 fn notes_about_certificates(rt: HostRuntime) -> Result<(), Fail> {
     let alloc = rt.alloc();

@@ -3,7 +3,7 @@
 use crate::mistakes_shown::{is_helped, is_program_help};
 use std::test::Fail;
 
-// Signs and words between a head and its body.
+/// Signs and words between a head and its body.
 #[test]
 fn necks_of_other_languages(rt: HostRuntime) -> Result<(), Fail> {
     let alloc = rt.alloc();
@@ -54,7 +54,7 @@ fn necks_of_other_languages(rt: HostRuntime) -> Result<(), Fail> {
     Ok(())
 }
 
-// Signs and words between goals, and between terms.
+/// Signs and words between goals, and between terms.
 #[test]
 fn operators_of_other_languages(rt: HostRuntime) -> Result<(), Fail> {
     let alloc = rt.alloc();
@@ -150,7 +150,7 @@ fn operators_of_other_languages(rt: HostRuntime) -> Result<(), Fail> {
     Ok(())
 }
 
-// Brackets, commas, and what stands in them.
+/// Brackets, commas, and what stands in them.
 #[test]
 fn brackets_and_commas(rt: HostRuntime) -> Result<(), Fail> {
     let alloc = rt.alloc();
@@ -221,7 +221,7 @@ fn brackets_and_commas(rt: HostRuntime) -> Result<(), Fail> {
     Ok(())
 }
 
-// Certificates that are cut off, and files that are exchanged.
+/// Certificates that are cut off, and files that are exchanged.
 #[test]
 fn certificates_in_part(rt: HostRuntime) -> Result<(), Fail> {
     let alloc = rt.alloc();

@@ -140,7 +140,7 @@ fn warnings_about_queries(rt: HostRuntime) -> Result<(), Fail> {
     Ok(())
 }
 
-// After twenty warnings the others are counted.
+/// After twenty warnings the others are counted.
 #[test]
 fn many_warnings(rt: HostRuntime) -> Result<(), Fail> {
     let alloc = rt.alloc();

@@ -15,7 +15,7 @@ fn is_noted(
     Ok(said.as_slice() == wanted.as_bytes())
 }
 
-// The caret stands at the one call of several that shows it by itself.
+/// The caret stands at the one call of several that shows it by itself.
 #[test]
 fn calls_that_show_it_alone(rt: HostRuntime) -> Result<(), Fail> {
     let alloc = rt.alloc();
@@ -134,7 +134,7 @@ fn calls_that_show_it_alone(rt: HostRuntime) -> Result<(), Fail> {
     Ok(())
 }
 
-// The variables are named that nothing makes known, and calls that get what they need are left out.
+/// The variables are named that nothing makes known, and calls that get what they need are left out.
 #[test]
 fn variables_that_are_lacking(rt: HostRuntime) -> Result<(), Fail> {
     let alloc = rt.alloc();

@@ -200,7 +200,7 @@ impl<'p, 'f> View<'p, '_, 'f> {
         }
     }
 
-    /// The first call of so many points, from this fact on, at which nothing gets smaller whatever the measure is.
+    /// The first call of these points, from this fact on, at which nothing gets smaller whatever the measure is.
     pub fn culprit(self, start: usize, points: u64) -> Option<Culprit> {
         let mut place = start;
         let mut left = points.min(MOST_POINTS);

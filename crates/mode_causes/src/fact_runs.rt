@@ -25,7 +25,7 @@ impl Drop for FactRuns {
 }
 
 impl FactRuns {
-    /// No facts of so many predicates.
+    /// No facts, for this number of predicates.
     pub fn new(alloc: Global, preds: usize) -> Result<FactRuns, AllocError> {
         Ok(FactRuns {
             runs: vec![in alloc; Run { start: 0, count: 0 }; preds]?,

@@ -23,11 +23,11 @@ pub struct View<'p, 'c, 'f> {
 pub enum Why {
     /// Nothing falls at one call.
     OneCall(Culprit),
-    /// Nothing falls at all of so many calls, the first of which is this fact.
+    /// Nothing falls at all of these calls, the first of which is this fact.
     Calls { start: usize, points: u64 },
     /// The same, and no order of measures does.
     Stuck { start: usize, points: u64 },
-    /// No list of mappings descends at all of so many calls.
+    /// No list of mappings descends at all of these calls.
     NoList { start: usize, points: u64 },
     Large(u64),
     Blown,
@@ -221,7 +221,7 @@ impl<'p, 'f> View<'p, '_, 'f> {
         }
     }
 
-    /// Whether the clause of one of so many points, from this fact on, has such a step.
+    /// Whether the clause of one of these points, from this fact on, has such a step.
     fn has_step_at(self, start: usize, points: u64, step: Step) -> bool {
         let mut left = points;
         for fact in self.facts.get(start..).unwrap_or(&[]) {

@@ -18,7 +18,7 @@ impl Drop for PredCounts {
 }
 
 impl PredCounts {
-    /// None of so many predicates.
+    /// None, for this number of predicates.
     pub(crate) fn new(alloc: Global, preds: usize) -> Result<PredCounts, AllocError> {
         Ok(PredCounts {
             counts: vec![in alloc; 0; preds]?,

@@ -1,4 +1,5 @@
-// Worked rows. A row's constant comes first.
+//! Worked rows. A row's constant comes first.
+
 ghost use Rattle.std.specs.Prelude.{◌≡◌, IfOk, length};
 ghost use Rattle.linear_rows.specs.Plain.{HaveWidth};
 

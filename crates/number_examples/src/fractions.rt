@@ -1,4 +1,5 @@
-// Worked rows: each call once, and the edges of what fits.
+//! Worked rows: each call once, and the edges of what fits.
+
 use rational128::{Ratio, Wide};
 use std::cmp::Ordering;
 use std::test::Fail;

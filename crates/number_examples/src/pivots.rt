@@ -1,4 +1,5 @@
-// Worked rows: both ways of solving, and the test of a row. A row's constant comes first.
+//! Worked rows: both ways of solving, and the test of a row. A row's constant comes first.
+
 ghost use Rattle.std.specs.Prelude.{◌≡◌, IfOk};
 ghost use Rattle.linear_rows.specs.Plain.{HaveWidth};
 
@@ -28,7 +29,7 @@ fn told(solved: Result<Solved, ElimFault>, width: usize) -> Result<Said, Fail> {
     }
 }
 
-// What elimination says of rows, and what pivots say.
+/// What elimination says of rows, and what pivots say.
 fn both(alloc: Global, given: &Rows) -> Result<(Said, Said), Fail>
     requires { HaveWidth given.now.width given.now.list }
 {
@@ -38,7 +39,7 @@ fn both(alloc: Global, given: &Rows) -> Result<(Said, Said), Fail>
     Ok((eliminated, pivoted))
 }
 
-// Each row of this table is solved both ways. The last variable of the points is at least 2.
+/// Each row of this table is solved both ways. The last variable of the points is at least 2.
 #[test]
 fn both_ways(rt: HostRuntime) -> Result<(), Fail> {
     let alloc = rt.alloc();
@@ -97,7 +98,7 @@ fn both_ways(rt: HostRuntime) -> Result<(), Fail> {
     Ok(())
 }
 
-// Pivots solve rows of which elimination leaves too many.
+/// Pivots solve rows of which elimination leaves too many.
 #[test]
 fn crowds(rt: HostRuntime) -> Result<(), Fail> {
     let alloc = rt.alloc();
@@ -113,7 +114,7 @@ fn crowds(rt: HostRuntime) -> Result<(), Fail> {
     Ok(())
 }
 
-// Whether a row holds on rows, or None where its test is blown.
+/// Whether a row holds on rows, or None where its test is blown.
 fn held(alloc: Global, given: &Rows, numbers: &[i128]) -> Result<Option<bool>, Fail>
     requires { HaveWidth given.now.width given.now.list }
 {
@@ -125,7 +126,7 @@ fn held(alloc: Global, given: &Rows, numbers: &[i128]) -> Result<Option<bool>, F
     })
 }
 
-// The third variable is at least 2, and at most twice the first.
+/// The third variable is at least 2, and at most twice the first.
 #[test]
 fn tests_of_rows(rt: HostRuntime) -> Result<(), Fail> {
     let alloc = rt.alloc();

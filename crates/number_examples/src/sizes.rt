@@ -1,9 +1,10 @@
-// Worked terms.
+//! Worked terms.
+
 use cti_terms::{Name, Term};
 use std::test::Fail;
 use term_size::{Norm, TermSize, VarSet};
 
-// f(X,f(Y),X) has two names with arguments, X twice and Y once, and asks for X and Y alone.
+/// f(X,f(Y),X) has two names with arguments, X twice and Y once, and asks for X and Y alone.
 #[test]
 fn term_size_of_a_term(rt: HostRuntime) -> Result<(), Fail> {
     let alloc = rt.alloc();

@@ -1,4 +1,5 @@
-// A row over sizes, with ample memory.
+//! A row over sizes, with ample memory.
+
 use linear_rows::Numbers;
 use std::alloc::Global;
 use std::test::Fail;
@@ -11,7 +12,7 @@ fn over_fours(alloc: Global, row: [i128; 3]) -> Result<Option<i128>, Fail> {
     Ok(replaced.map(|row| row.constant))
 }
 
-// Only finished numbers count: products and running sums may be of any size.
+/// Only finished numbers count: products and running sums may be of any size.
 #[test]
 fn rows_over_sizes(rt: HostRuntime) -> Result<(), Fail> {
     let big = 1i128 << 126;

@@ -39,10 +39,10 @@ pub record IsPairOf (p : Listing) (x : PairPoint) : Type 0 where
 abbrev pub IsBefore : ℕ × ℕ → ℕ × ℕ → Type 0
 IsBefore q r = (q.0 < r.0) ⊎ ((q.0 ≡ r.0) × (q.1 < r.1))
 
-abbrev pub pair_of : PairPoint → ℕ × ℕ
-pair_of x = (x.clause, x.call)
+abbrev pub place_of_pair : PairPoint → ℕ × ℕ
+place_of_pair x = (x.clause, x.call)
 
 -- each pair is after the one before it, and the first after this one
 abbrev pub PairsAscend : ℕ × ℕ → List PairPoint → Type 0
 PairsAscend last [] = Unit {0}
-PairsAscend last (x ∷ xs) = IsBefore last (pair_of x) × PairsAscend (pair_of x) xs
+PairsAscend last (x ∷ xs) = IsBefore last (place_of_pair x) × PairsAscend (place_of_pair x) xs

@@ -11,7 +11,7 @@ use Rattle.linear_rows.specs.Plain.{HaveWidth, plain_rows}
 use Rattle.linear_rows.specs.declared.row.Rows.{Rows}
 use Rattle.linear_rows.specs.declared.system.System.{System}
 use Rattle.termination_model.specs.Sizes.{wide_system}
-use Rattle.termination_model.specs.Systems.{short_system}
+use Rattle.termination_model.specs.ShortSystems.{short_system}
 use Rattle.number_tests.specs.declared.reached.Reached.{Reached}
 
 -- an atom whose predicate has size rows over its arguments, and whose variables are below vars

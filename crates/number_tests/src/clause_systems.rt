@@ -18,7 +18,8 @@ pub fn first_system<N: Norm>(
     clause: &Clause,
 ) -> Result<System, AllocError>
     requires { IsSizedClause sizes.now clause.now }
-    ensures { IfOk result (λ s. IsSystemUpTo (N.expression norm.now) (rows_of sizes.now) clause.now 0 s) }
+    ensures { IfOk result (λ s. IsSystemUpTo (N.expression norm.now)
+        (rows_of sizes.now) clause.now 0 s) }
 {
     let mut head = Rows::new(alloc, clause.vars);
     add_expressions(alloc, norm, &clause.head.args, &mut head)?;
@@ -43,8 +44,10 @@ pub fn extend<N: Norm>(
     requires sized { IsSizedClause sizes.now clause.now }
     requires order { from ≤ to }
     requires last { to ≤ length clause.now.body }
-    requires before { IsSystemUpTo (N.expression norm.now) (rows_of sizes.now) clause.now from system.old }
-    ensures { OnOk result (IsSystemUpTo (N.expression norm.now) (rows_of sizes.now) clause.now to system.new) }
+    requires before { IsSystemUpTo (N.expression norm.now)
+        (rows_of sizes.now) clause.now from system.old }
+    ensures { OnOk result (IsSystemUpTo (N.expression norm.now)
+        (rows_of sizes.now) clause.now to system.new) }
 {
     for i in from..to {
         add_atom(alloc, norm, sizes, &clause.body.as_slice()[i], system)?;

@@ -24,7 +24,8 @@ pub fn fall_columns<N: Norm>(
     requires few { system.now.head.width ≤ MOST_VARIABLES }
     requires below { AllByRecursion (λ t. IsTrue (is_below system.now.head.width t)) call.now.args }
     requires small { atom_nodes call.now ≤ MOST_NODES }
-    ensures { IfOk result (λ columns. AreFallColumns (plain_rows system.now.head.list) (map (N.expression norm.now system.now.head.width) call.now.args)
+    ensures { IfOk result (λ columns. AreFallColumns (plain_rows system.now.head.list)
+        (map (N.expression norm.now system.now.head.width) call.now.args)
         system.now.head.width columns.items) }
 {
     let head = columns(alloc, &system.head)?;

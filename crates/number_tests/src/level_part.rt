@@ -22,7 +22,7 @@ impl LevelPart {
     }
 }
 
-// Says of each number whether it is positive.
+/// Says of each number whether it is positive.
 fn signs_of(alloc: Global, numbers: &[i128]) -> Result<Vec<bool>, AllocError>
     ensures { IfOk result (λ signs. signs.items ≡ map is_positive numbers.now) }
 {
@@ -33,7 +33,7 @@ fn signs_of(alloc: Global, numbers: &[i128]) -> Result<Vec<bool>, AllocError>
     Ok(signs)
 }
 
-// Whether a number is positive.
+/// Whether a number is positive.
 fn is_positive(number: i128) -> bool
     ensures { result ≡ is_positive number }
 {

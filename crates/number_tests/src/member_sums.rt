@@ -13,7 +13,7 @@ use linear_rows::Numbers;
 use std::alloc::{AllocError, Global};
 use std::collections::BTreeMap;
 
-// The sums of a predicate, or none.
+/// The sums of a predicate, or none.
 fn sums_of<'a>(sums: &'a BTreeMap<u32, Numbers>, pred: u32, none: &'a Numbers) -> &'a Numbers
     requires { none.now ≡ [] }
     ensures { result.now ≡ sum_at sums.now pred }
@@ -24,9 +24,10 @@ fn sums_of<'a>(sums: &'a BTreeMap<u32, Numbers>, pred: u32, none: &'a Numbers) -
     }
 }
 
-// The sum of two lists, place by place, where each of its numbers fits.
+/// The sum of two lists, place by place, where each of its numbers fits.
 fn sum_numbers(alloc: Global, xs: &Numbers, ys: &Numbers) -> Result<Option<Numbers>, AllocError>
-    ensures { IfOk result (λ sum. SomeIff sum (row_fits (added xs.now ys.now) ≡ true) (added xs.now ys.now)) }
+    ensures { IfOk result (λ sum. SomeIff sum (row_fits (added xs.now ys.now) ≡ true)
+        (added xs.now ys.now)) }
 {
     let mut sums = Numbers::new(alloc);
     for i in 0..xs.len().max(ys.len()) {
@@ -38,7 +39,7 @@ fn sum_numbers(alloc: Global, xs: &Numbers, ys: &Numbers) -> Result<Option<Numbe
     Ok(Some(sums))
 }
 
-// Whether each number is at most that of the other list at its place.
+/// Whether each number is at most that of the other list at its place.
 fn are_at_most(xs: &Numbers, ys: &Numbers) -> bool
     ensures { IsTrue result ↔ ((i : ℕ) → entry xs.now i ≤ℤ entry ys.now i) }
 {
@@ -74,7 +75,8 @@ pub(crate) fn are_lighter(
     heads: &BTreeMap<u32, Numbers>,
     calls: &BTreeMap<u32, Numbers>,
 ) -> bool
-    ensures { IsTrue result ↔ ((q : ℕ) → Contains (map number_of members.now) q → (i : ℕ) → entry (sum_at heads.now q) i ≤ℤ entry (sum_at calls.now q) i) }
+    ensures { IsTrue result ↔ ((q : ℕ) → Contains (map number_of members.now) q → (i : ℕ)
+        → entry (sum_at heads.now q) i ≤ℤ entry (sum_at calls.now q) i) }
 {
     let none = Numbers::new(alloc);
     for member in members {

@@ -26,7 +26,7 @@ use std::collections::BTreeMap;
 use term_size::Norm;
 use termination_model::{SizeRows, add_expressions};
 
-// Adds the values of expressions at a point to the sums of a predicate, and says whether all numbers fit.
+/// Adds the values of expressions at a point to the sums of a predicate, and says whether all numbers fit.
 fn add_load(
     alloc: Global,
     sizes: &Rows,
@@ -43,7 +43,7 @@ fn add_load(
     add_values(alloc, sums, pred, &values)
 }
 
-// Adds the values of a pair's head and call at its point to the sums, and says whether all numbers fit.
+/// Adds the values of a pair's head and call at its point to the sums, and says whether all numbers fit.
 fn add_pair<N: Norm>(
     alloc: Global,
     p: &Program,
@@ -55,10 +55,14 @@ fn add_pair<N: Norm>(
 ) -> Result<bool, AllocError>
     requires pair { IsPairOf p.now x.now }
     requires width { HaveWidth (length x.now.point.w) head.now.list }
-    requires head { plain_rows head.now.list ≡ sizes_at (N.expression norm.now) (clause_of p.now x.now).head x.now.point }
+    requires head { plain_rows head.now.list ≡ sizes_at (N.expression norm.now)
+        (clause_of p.now x.now).head x.now.point }
     ensures { IfOk result (AddsBoth
-        (AddsLoad heads.old heads.new (clause_of p.now x.now).head.pred.0 (sizes_at (N.expression norm.now) (clause_of p.now x.now).head x.now.point) x.now.point)
-        (AddsLoad calls.old calls.new (call_of p.now x.now).pred.0 (sizes_at (N.expression norm.now) (call_of p.now x.now) x.now.point) x.now.point)) }
+        (AddsLoad heads.old heads.new (clause_of p.now x.now).head.pred.0
+        (sizes_at (N.expression norm.now)
+        (clause_of p.now x.now).head x.now.point) x.now.point)
+        (AddsLoad calls.old calls.new (call_of p.now x.now).pred.0
+        (sizes_at (N.expression norm.now) (call_of p.now x.now) x.now.point) x.now.point)) }
 {
     let clause = p.clause(x.clause);
     if !add_load(alloc, head, &x.point, clause.head.pred.0, heads)? {
@@ -70,7 +74,7 @@ fn add_pair<N: Norm>(
     add_load(alloc, &sizes, &x.point, call.pred.0, calls)
 }
 
-// Adds the values of all pairs' heads and calls to sums that are empty, and says whether all numbers fit.
+/// Adds the values of all pairs' heads and calls to sums that are empty, and says whether all numbers fit.
 fn sum_pairs<N: Norm>(
     alloc: Global,
     p: &Program,
@@ -84,9 +88,12 @@ fn sum_pairs<N: Norm>(
     requires pairs { AllByRecursion (IsPairOf p.now) points.now }
     requires no_heads { (q : ℕ) → sum_at heads.old q ≡ [] }
     requires no_calls { (q : ℕ) → sum_at calls.old q ≡ [] }
-    ensures fit { IfOk result (λ fits. IsTrue fits ↔ PairsFit (N.expression norm.now) p.now points.now) }
-    ensures heads { IfOk result (λ fits. fits ≡ true → (q : ℕ) → sum_at heads.new q ≡ gather q (head_loads (N.expression norm.now) p.now points.now)) }
-    ensures calls { IfOk result (λ fits. fits ≡ true → (q : ℕ) → sum_at calls.new q ≡ gather q (call_loads (N.expression norm.now) p.now points.now)) }
+    ensures fit { IfOk result
+        (λ fits. IsTrue fits ↔ PairsFit (N.expression norm.now) p.now points.now) }
+    ensures heads { IfOk result (λ fits. fits ≡ true → (q : ℕ)
+        → sum_at heads.new q ≡ gather q (head_loads (N.expression norm.now) p.now points.now)) }
+    ensures calls { IfOk result (λ fits. fits ≡ true → (q : ℕ)
+        → sum_at calls.new q ≡ gather q (call_loads (N.expression norm.now) p.now points.now)) }
 {
     let mut reached = nothing_reached(alloc);
     for x in points {
@@ -98,7 +105,7 @@ fn sum_pairs<N: Norm>(
     Ok(true)
 }
 
-// Whether some point has a positive t.
+/// Whether some point has a positive t.
 fn has_positive(points: &[PairPoint]) -> bool
     ensures { IsTrue result ↔ SomeOf (λ (x : PairPoint). pos 1 ≤ℤ x.point.t) points.now }
 {
@@ -121,8 +128,12 @@ pub fn sums_flaw<N: Norm>(
 ) -> Result<Option<Flaw>, AllocError>
     requires sizes { AreSizes p.now.preds sizes.now }
     requires pairs { AllByRecursion (IsPairOf p.now) points.now }
-    ensures refute { IfOk result (λ flaw. (flaw ≡ None) ↔ SumsRefute (N.expression norm.now) p.now (map number_of members.now) points.now) }
-    ensures fails { IfOk result (λ flaw. IfSome flaw (SumsFail (N.expression norm.now) p.now (map number_of members.now) points.now)) }
+    ensures refute { IfOk result
+        (λ flaw. (flaw ≡ None) ↔ SumsRefute (N.expression norm.now) p.now
+        (map number_of members.now) points.now) }
+    ensures fails { IfOk result
+        (λ flaw. IfSome flaw (SumsFail (N.expression norm.now) p.now
+        (map number_of members.now) points.now)) }
 {
     let mut heads = BTreeMap::new(alloc);
     let mut calls = BTreeMap::new(alloc);

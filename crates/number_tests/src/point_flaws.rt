@@ -20,7 +20,7 @@ use std::alloc::{AllocError, Global};
 use term_size::Norm;
 use termination_model::SizeRows;
 
-// Why some row of a system does not hold at a point, if one does not.
+/// Why some row of a system does not hold at a point, if one does not.
 fn rows_flaw(system: &System, point: &Point) -> Option<Flaw>
     requires { HaveWidth (length point.now.w) system.now.rows.list }
     ensures holds { (result ≡ None) ↔ SystemHolds system.now point.now }
@@ -41,12 +41,14 @@ fn rows_flaw(system: &System, point: &Point) -> Option<Flaw>
     below
 }
 
-// The first point of a pair at which some row of the system does not hold. The first point has this place.
+/// The first point of a pair at which some row of the system does not hold. The first point has this place.
 fn pair_flaw(system: &System, x: &PairPoint, place: u64) -> Option<PointFlaw>
     requires point { HaveWidth (length x.now.point.w) system.now.rows.list }
     requires at { IfSome x.now.at (λ y. HaveWidth (length y.w) system.now.rows.list) }
-    ensures holds { (result ≡ None) ↔ (SystemHolds system.now x.now.point × IfSome x.now.at (SystemHolds system.now)) }
-    ensures first { IfSome result (IsFirstOfPair (SystemHolds system.now) (SystemFails system.now) x.now place) }
+    ensures holds { (result ≡ None)
+        ↔ (SystemHolds system.now x.now.point × IfSome x.now.at (SystemHolds system.now)) }
+    ensures first { IfSome result
+        (IsFirstOfPair (SystemHolds system.now) (SystemFails system.now) x.now place) }
 {
     if let Some(flaw) = rows_flaw(system, &x.point) {
         return Some(PointFlaw { place, flaw });
@@ -81,8 +83,12 @@ pub fn points_flaw<N: Norm>(
 ) -> Result<Option<PointFlaw>, AllocError>
     requires sizes { AreSizes p.now.preds sizes.now }
     requires pairs { AllByRecursion (IsPairOf p.now) points.now }
-    ensures hold { IfOk result (λ flaw. (flaw ≡ None) ↔ AllByRecursion (PointHolds (N.expression norm.now) p.now (rows_of sizes.now)) points.now) }
-    ensures first { IfOk result (λ flaw. IfSome flaw (IsFirstPoint (N.expression norm.now) p.now (rows_of sizes.now) points.now)) }
+    ensures hold { IfOk result
+        (λ flaw. (flaw ≡ None) ↔ AllByRecursion
+        (PointHolds (N.expression norm.now) p.now (rows_of sizes.now)) points.now) }
+    ensures first { IfOk result
+        (λ flaw. IfSome flaw (IsFirstPoint (N.expression norm.now) p.now
+        (rows_of sizes.now) points.now)) }
 {
     let mut place = 0;
     let mut reached = nothing_reached(alloc);

@@ -15,7 +15,8 @@ use std::alloc::{AllocError, Global};
 /// The constant times `t` comes first, and then the products of the coefficients with the values in order.
 pub(crate) fn value_at(row: &Row, point: &Point) -> Option<i128>
     requires { length row.now.coeffs ≡ length point.now.w }
-    ensures { SomeIff result (ValueFits point.now (plain_row row.now)) (dot (plain_row row.now) (numbers_of point.now)) }
+    ensures { SomeIff result (ValueFits point.now (plain_row row.now))
+        (dot (plain_row row.now) (numbers_of point.now)) }
 {
     let Some(mut sum) = times(row.constant, point.t) else {
         return None;
@@ -39,7 +40,9 @@ pub(crate) fn values_at(
     point: &Point,
 ) -> Result<Option<Numbers>, AllocError>
     requires { HaveWidth (length point.now.w) sizes.now.list }
-    ensures { IfOk result (λ values. SomeIff values (AllByRecursion (ValueFits point.now) (plain_rows sizes.now.list)) (values_of (plain_rows sizes.now.list) point.now)) }
+    ensures { IfOk result (λ values. SomeIff values
+        (AllByRecursion (ValueFits point.now) (plain_rows sizes.now.list))
+        (values_of (plain_rows sizes.now.list) point.now)) }
 {
     let mut values = Numbers::new(alloc);
     values.push(point.t)?;

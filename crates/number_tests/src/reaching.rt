@@ -29,7 +29,7 @@ pub(crate) fn nothing_reached(alloc: Global) -> Reached
     }
 }
 
-// A system of the clause from which the atom can be reached: the one that is there, or that before the first atom.
+/// A system of the clause from which the atom can be reached: the one that is there, or that before the first atom.
 fn resume<N: Norm>(
     alloc: Global,
     p: &Program,

@@ -23,11 +23,14 @@ pub fn check_size(rows: &Rows, target: &Row, by: &Multipliers) -> Proof
     requires target { length target.now.coeffs ≡ rows.now.width }
 
     // Which answer it is: the first column decides that does not hold in numbers that fit.
-    ensures says { Says (plain_rows rows.now.list) by.now.list (plain_row target.now) by.now.scale result }
+    ensures says { Says (plain_rows rows.now.list) by.now.list
+        (plain_row target.now) by.now.scale result }
 
     // So Holds comes exactly where the target is proved and each number that is formed fits.
-    ensures holds { (result ≡ Proof.Holds) ↔ (Proves (plain_rows rows.now.list) by.now.list (plain_row target.now) by.now.scale
-        × AllColumnsFit (plain_rows rows.now.list) by.now.list (plain_row target.now) by.now.scale) }
+    ensures holds { (result ≡ Proof.Holds)
+        ↔ (Proves (plain_rows rows.now.list) by.now.list (plain_row target.now) by.now.scale
+        × AllColumnsFit (plain_rows rows.now.list) by.now.list
+        (plain_row target.now) by.now.scale) }
 {
     proves(rows, by.list.as_slice(), target, by.scale)
 }
@@ -44,16 +47,19 @@ pub fn check_fall(rows: &Rows, target: &Row, by: &Multipliers) -> Proof
     requires target { length target.now.coeffs ≡ rows.now.width }
 
     // Which answer it is: the first column decides that does not hold in numbers that fit.
-    ensures says { Says (plain_rows rows.now.list) by.now.list (plain_row target.now) by.now.scale result }
+    ensures says { Says (plain_rows rows.now.list) by.now.list
+        (plain_row target.now) by.now.scale result }
 
     // So Holds comes exactly where the target is proved and each number that is formed fits.
-    ensures holds { (result ≡ Proof.Holds) ↔ (Proves (plain_rows rows.now.list) by.now.list (plain_row target.now) by.now.scale
-        × AllColumnsFit (plain_rows rows.now.list) by.now.list (plain_row target.now) by.now.scale) }
+    ensures holds { (result ≡ Proof.Holds)
+        ↔ (Proves (plain_rows rows.now.list) by.now.list (plain_row target.now) by.now.scale
+        × AllColumnsFit (plain_rows rows.now.list) by.now.list
+        (plain_row target.now) by.now.scale) }
 {
     proves(rows, by.list.as_slice(), target, by.scale)
 }
 
-// What the answer of a test says of its multipliers.
+/// What the answer of a test says of its multipliers.
 fn flaw_of(proof: Proof) -> Option<Flaw>
     ensures none { (result ≡ None) ↔ (proof ≡ Proof.Holds) }
     ensures which { result ≡ flaw_in proof }

@@ -33,11 +33,13 @@ pub trait Files {
         ensures bytes { IfOk result (λ v. TellsAt (told self.old) name.now v.items) }
         ensures bound { IfOk result (λ v. vec_len v ≤ most) }
         ensures long { IsErrOf result TooLong → TellsMore (told self.old) name.now most }
-        ensures cause { IsErrOf result Failed → Rose (faults self.old name.now) (faults self.new name.now) }
+        ensures cause { IsErrOf result Failed
+            → Rose (faults self.old name.now) (faults self.new name.now) }
 
         // No count falls, and only a failed load makes one greater.
         ensures later { (n : List ℕ) → faults self.old n ≤ faults self.new n }
-        ensures calm { (IsErrOf result Failed → ⊥) → (n : List ℕ) → faults self.new n ≡ faults self.old n }
+        ensures calm { (IsErrOf result Failed → ⊥) → (n : List ℕ)
+            → faults self.new n ≡ faults self.old n }
 
         // No load changes what contracts see, whatever it answers.
         ensures stays { told self.new ≡ told self.old };

@@ -35,7 +35,8 @@ impl MemFiles {
         ensures fault { result ≡ LoadFault.Failed }
         ensures faults { self.new.faults ≡ one_more self.old.faults }
         ensures later { self.old.faults ≤ self.new.faults }
-        ensures stays { (self.new.files ≡ self.old.files) × (self.new.fails ≡ self.old.fails) × (self.new.calls ≡ self.old.calls) }
+        ensures stays { (self.new.files ≡ self.old.files) × (self.new.fails ≡ self.old.fails)
+            × (self.new.calls ≡ self.old.calls) }
     {
         self.faults = self.faults.saturating_add(1);
         LoadFault::Failed
@@ -50,18 +51,22 @@ impl Files for MemFiles {
     fn load(&mut self, alloc: Global, name: &str, most: u64) -> Result<Vec<u8>, LoadFault>
         ensures bytes { IfOk result (λ v. TellsAt (Some (held self.old.files)) name.now v.items) }
         ensures bound { IfOk result (λ v. vec_len v ≤ most) }
-        ensures long { IsErrOf result TooLong → TellsMore (Some (held self.old.files)) name.now most }
+        ensures long { IsErrOf result TooLong
+            → TellsMore (Some (held self.old.files)) name.now most }
         ensures cause { IsErrOf result Failed → Rose self.old.faults self.new.faults }
         ensures later { (n : List ℕ) → self.old.faults ≤ self.new.faults }
-        ensures calm { (IsErrOf result Failed → ⊥) → (n : List ℕ) → self.new.faults ≡ self.old.faults }
+        ensures calm { (IsErrOf result Failed → ⊥) → (n : List ℕ)
+            → self.new.faults ≡ self.old.faults }
         ensures stays { Some (held self.new.files) ≡ Some (held self.old.files) }
 
         // A load counts as a call, and as a fault where it fails; it fails exactly where its number is listed or the name is not there.
         ensures calls { self.new.calls ≡ one_more self.old.calls }
         ensures faults { IsErrOf result Failed → self.new.faults ≡ one_more self.old.faults }
-        ensures fails { (IsErrOf result Failed → ⊥) → list_any (nat_eq self.new.calls) self.old.fails.items ≡ false }
+        ensures fails { (IsErrOf result Failed → ⊥)
+            → list_any (nat_eq self.new.calls) self.old.fails.items ≡ false }
         ensures failed { IsErrOf result Failed
-            → (list_any (nat_eq self.new.calls) self.old.fails.items ≡ true) ⊎ (held self.old.files name.now ≡ None) }
+            → (list_any (nat_eq self.new.calls) self.old.fails.items ≡ true)
+            ⊎ (held self.old.files name.now ≡ None) }
         ensures same { (self.new.files ≡ self.old.files) × (self.new.fails ≡ self.old.fails) }
     {
         self.calls = self.calls.saturating_add(1);

@@ -33,7 +33,9 @@ impl Sink for MemSink {
     ghost faults = { λ s. s.faults };
 
     fn write(&mut self, piece: &[u8]) -> Result<usize, SinkFault>
-        ensures takes { IfOk result (λ n. Takes (Some self.old.taken.items) (take n piece.now) (Some self.new.taken.items)) }
+        ensures takes { IfOk result
+            (λ n. Takes (Some self.old.taken.items) (take n piece.now)
+            (Some self.new.taken.items)) }
         ensures bound { IfOk result (λ n. n ≤ length piece.now) }
         ensures some { IfOk result (λ n. 0 < length piece.now → 0 < n) }
         ensures kept { OnErr result (Some self.new.taken.items ≡ Some self.old.taken.items) }
@@ -45,7 +47,8 @@ impl Sink for MemSink {
         ensures faults { OnErr result (self.new.faults ≡ one_more self.old.faults) }
         ensures calm { OnOk result (self.new.faults ≡ self.old.faults) }
         ensures chunk { IfOk result (λ n. n ≡ min (length piece.now) self.old.chunk) }
-        ensures fails { OnOk result (list_any (nat_eq self.new.calls) self.old.fails.items ≡ false) }
+        ensures fails { OnOk result (list_any (nat_eq self.new.calls) self.old.fails.items
+            ≡ false) }
         ensures stays { (self.new.fails ≡ self.old.fails) × (self.new.chunk ≡ self.old.chunk) }
     {
         self.calls = self.calls.saturating_add(1);

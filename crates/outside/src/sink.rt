@@ -21,7 +21,8 @@ pub trait Sink {
 
     /// Takes the first bytes of a piece, at least one where there is one, and answers how many. It takes no memory.
     fn write(&mut self, piece: &[u8]) -> Result<usize, SinkFault>
-        ensures takes { IfOk result (λ n. Takes (taken self.old) (take n piece.now) (taken self.new)) }
+        ensures takes { IfOk result
+            (λ n. Takes (taken self.old) (take n piece.now) (taken self.new)) }
         ensures bound { IfOk result (λ n. n ≤ length piece.now) }
         ensures some { IfOk result (λ n. 0 < length piece.now → 0 < n) }
 

@@ -1,4 +1,5 @@
-// Worked preconditions. A mode is a number whose bit i is set where argument i has to be rigid.
+//! Worked preconditions. A mode is a number whose bit i is set where argument i has to be rigid.
+
 ghost use Rattle.std.specs.Prelude.{◌≡◌, ◌<◌, ℕ, Bool, IfOk, if◌then◌else◌, length, slice_get, Some};
 ghost use Rattle.call_components.specs.Partition.{AreComponents};
 ghost use Rattle.number_tests.specs.declared.level_part.LevelPart.{LevelPart as ThePart};
@@ -38,7 +39,8 @@ fn parts(
     arity: u32,
 ) -> Result<Sequence<LevelPart>, AllocError>
     ensures each { IfOk result (λ parts. length parts ≡ length mappings.now) }
-    ensures wide { IfOk result (λ parts. (m : ℕ) (part : ThePart) → slice_get parts m ≡ Some part → length part.coeffs ≡ arity) }
+    ensures wide { IfOk result (λ parts. (m : ℕ) (part : ThePart) → slice_get parts m ≡ Some part
+        → length part.coeffs ≡ arity) }
 {
     let mut list = Sequence::new(alloc);
     for coefficients in mappings {
@@ -55,8 +57,10 @@ fn own_parts(
     mappings: &[[i128; 3]],
     arity: u32,
 ) -> Result<Sequence<LevelPart>, AllocError>
-    ensures each { IfOk result (λ parts. length parts ≡ (if recursive then length mappings.now else 1)) }
-    ensures wide { IfOk result (λ parts. (m : ℕ) (part : ThePart) → slice_get parts m ≡ Some part → length part.coeffs ≡ arity) }
+    ensures each { IfOk result
+        (λ parts. length parts ≡ (if recursive then length mappings.now else 1)) }
+    ensures wide { IfOk result (λ parts. (m : ℕ) (part : ThePart) → slice_get parts m ≡ Some part
+        → length part.coeffs ≡ arity) }
 {
     if recursive {
         return parts(alloc, mappings, arity);
@@ -114,8 +118,8 @@ fn modes(alloc: Global, text: &str, mappings: &[[i128; 3]], pred: u32) -> Result
     Ok(numbers)
 }
 
-// The modes of append come from one mapping each. A program without recursion asks for nothing. A query of q(_) below p
-// loops where q has no mapping: then two rows of p are never reached, and neither has all rows above it.
+/// The modes of append come from one mapping each. A program without recursion asks for nothing. A query of q(_) below p
+/// loops where q has no mapping: then two rows of p are never reached, and neither has all rows above it.
 #[test]
 fn modes_that_are_found(rt: HostRuntime) -> Result<(), Fail> {
     let alloc = rt.alloc();

@@ -1,3 +1,5 @@
+//! Components of programs: which predicates call themselves, through others or directly.
+
 ghost use Rattle.std.specs.Prelude.{◌≡◌, IfOk, IfSome, []};
 ghost use Rattle.cti_terms.specs.Arithmetic.{no_arithmetic};
 ghost use Rattle.cti_terms.specs.Listing.{IsAtom};
@@ -83,7 +85,7 @@ fn is_answer(alloc: Global, rules: &[(u32, &[u32])], recursive: &[bool]) -> Resu
     Ok(are_recursive.as_slice() == recursive)
 }
 
-// r :- p, q.   p :- p.   q.
+/// r :- p, q.   p :- p.   q.
 #[test]
 fn a_self_call_is_a_cycle(rt: HostRuntime) -> Result<(), Fail> {
     let rules = [(0, [1, 2].as_slice()), (1, [1].as_slice())];
@@ -92,7 +94,7 @@ fn a_self_call_is_a_cycle(rt: HostRuntime) -> Result<(), Fail> {
     Ok(())
 }
 
-// p :- q.
+/// p :- q.
 #[test]
 fn one_call_is_no_cycle(rt: HostRuntime) -> Result<(), Fail> {
     let rules = [(0, [1].as_slice())];
@@ -100,7 +102,7 @@ fn one_call_is_no_cycle(rt: HostRuntime) -> Result<(), Fail> {
     Ok(())
 }
 
-// s :- a.   a :- c.   b :- a.   c :- d, b.   d.   c :- s, c.
+/// s :- a.   a :- c.   b :- a.   c :- d, b.   d.   c :- s, c.
 #[test]
 fn a_long_cycle_is_one_component(rt: HostRuntime) -> Result<(), Fail> {
     let rules = [

@@ -1,3 +1,5 @@
+//! Runs of queries.
+
 use cti_terms::{Atom, Atoms, Clause, Goal, Name, PredId, Program, Terms};
 use ld_resolver::*;
 use std::alloc::{AllocError, Global};

@@ -1,9 +1,10 @@
-// Worked sets. A row is a number whose bit i is argument i.
+//! Worked sets. A row is a number whose bit i is argument i.
+
 use bool_diagrams::{Cell, Cube, Table};
 use std::test::Fail;
 use truth_rows::{admits, cube_rows, is_covered, upper_rows, upward_union};
 
-// A cube whose first cell is any has the rows with either value there.
+/// A cube whose first cell is any has the rows with either value there.
 #[test]
 fn cubes_have_rows(rt: HostRuntime) -> Result<(), Fail> {
     let alloc = rt.alloc();
@@ -16,7 +17,7 @@ fn cubes_have_rows(rt: HostRuntime) -> Result<(), Fail> {
     Ok(())
 }
 
-// A row stays where the rows above it are in the set: of (0,1) and (1,0) none does, and with (1,1) both do.
+/// A row stays where the rows above it are in the set: of (0,1) and (1,0) none does, and with (1,1) both do.
 #[test]
 fn upper_rows_stay(rt: HostRuntime) -> Result<(), Fail> {
     let alloc = rt.alloc();
@@ -39,7 +40,7 @@ fn upper_rows_stay(rt: HostRuntime) -> Result<(), Fail> {
     Ok(())
 }
 
-// (1,0) and (1,1) are true at the first argument, and not at the second.
+/// (1,0) and (1,1) are true at the first argument, and not at the second.
 #[test]
 fn rows_are_covered(rt: HostRuntime) -> Result<(), Fail> {
     let alloc = rt.alloc();

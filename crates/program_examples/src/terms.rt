@@ -1,3 +1,5 @@
+//! Terms, and what programs hold them.
+
 use cti_terms::*;
 use std::test::Fail;
 

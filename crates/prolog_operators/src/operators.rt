@@ -63,7 +63,8 @@ impl Ops {
     /// Source: ISO/IEC 13211-1:1995, 6.3.4.4, in this project's profile.
     pub fn standard(alloc: Global, names: &mut Names) -> Result<Ops, AllocError>
         requires room { length names.old ≤ 4294967000 }
-        ensures table { IfOk result (λ ops. (later : List (List ℕ)) → Extends names.new later → table_of ops ≡ standard later) }
+        ensures table { IfOk result (λ ops. (later : List (List ℕ)) → Extends names.new later
+            → table_of ops ≡ standard later) }
         ensures added { OnOk result (names.new ≡ with_names names.old operator_texts) }
         ensures kept { Extends names.old names.new }
         ensures few { length names.new ≤ length names.old + 41 }
@@ -91,10 +92,13 @@ impl Ops {
         requires given { name.0 < length names.now }
 
         // What is set is one meaning of the name.
-        ensures ok { OnOk result (setting (table_of self.old) priority kind name.0 (name_text names.now name.0) ≡ Ok (table_of self.new)) }
+        ensures ok { OnOk result (setting (table_of self.old) priority kind name.0
+            (name_text names.now name.0) ≡ Ok (table_of self.new)) }
 
         // A refusal has its cause and changes nothing.
-        ensures refused { IfErr result (λ fault. IsCauseOf fault (setting (table_of self.old) priority kind name.0 (name_text names.now name.0))) }
+        ensures refused { IfErr result
+            (λ fault. IsCauseOf fault
+            (setting (table_of self.old) priority kind name.0 (name_text names.now name.0))) }
         ensures err { OnErr result (table_of self.new ≡ table_of self.old) }
     {
         let priority = match priority_in(priority) {
@@ -140,7 +144,8 @@ impl Ops {
         left: u32,
         right: u32,
     ) -> Result<(), AllocError>
-        ensures ok { OnOk result (table_of self.new ≡ with_infix (table_of self.old) name.0 (infix_meaning priority left right)) }
+        ensures ok { OnOk result (table_of self.new ≡ with_infix (table_of self.old) name.0
+            (infix_meaning priority left right)) }
         ensures err { OnErr result (table_of self.new ≡ table_of self.old) }
     {
         if priority == 0 {
@@ -160,7 +165,8 @@ impl Ops {
 
     /// Sets a prefix meaning, or removes it with priority 0.
     fn put_prefix(&mut self, name: Name, priority: u32, right: u32) -> Result<(), AllocError>
-        ensures ok { OnOk result (table_of self.new ≡ with_prefix (table_of self.old) name.0 (prefix_meaning priority right)) }
+        ensures ok { OnOk result (table_of self.new ≡ with_prefix (table_of self.old) name.0
+            (prefix_meaning priority right)) }
         ensures err { OnErr result (table_of self.new ≡ table_of self.old) }
     {
         if priority == 0 {
@@ -173,7 +179,8 @@ impl Ops {
 
     /// Sets one meaning of a name, or removes it with priority 0.
     pub fn put(&mut self, priority: u32, kind: OpKind, name: Name) -> Result<(), AllocError>
-        ensures ok { OnOk result (table_of self.new ≡ with_operator (table_of self.old) priority kind name.0) }
+        ensures ok { OnOk result (table_of self.new
+            ≡ with_operator (table_of self.old) priority kind name.0) }
         ensures err { OnErr result (table_of self.new ≡ table_of self.old) }
     {
         let below = priority.saturating_sub(1);
@@ -195,8 +202,11 @@ impl Ops {
         kind: OpKind,
     ) -> Result<(), AllocError>
         requires room { length names.old + length texts.now ≤ 4294967200 }
-        ensures ok { OnOk result ((later : List (List ℕ)) → Extends names.new later → table_of self.new ≡ with_texts later (table_of self.old) priority kind (map (λ t. t.now) texts.now)) }
-        ensures added { OnOk result (names.new ≡ with_names names.old (map (λ t. t.now) texts.now)) }
+        ensures ok { OnOk result ((later : List (List ℕ)) → Extends names.new later
+            → table_of self.new ≡ with_texts later (table_of self.old) priority kind
+            (map (λ t. t.now) texts.now)) }
+        ensures added { OnOk result
+            (names.new ≡ with_names names.old (map (λ t. t.now) texts.now)) }
         ensures kept { Extends names.old names.new }
         ensures few { length names.new ≤ length names.old + length texts.now }
     {
@@ -210,7 +220,8 @@ impl Ops {
     /// Operators of clauses and of control.
     fn set_clause_operators(&mut self, names: &mut Names) -> Result<(), AllocError>
         requires room { length names.old ≤ 4294967100 }
-        ensures ok { OnOk result ((later : List (List ℕ)) → Extends names.new later → table_of self.new ≡ clause_operators later (table_of self.old)) }
+        ensures ok { OnOk result ((later : List (List ℕ)) → Extends names.new later
+            → table_of self.new ≡ clause_operators later (table_of self.old)) }
         ensures added { OnOk result (names.new ≡ with_names names.old clause_texts) }
         ensures kept { Extends names.old names.new }
         ensures few { length names.new ≤ length names.old + 7 }
@@ -226,7 +237,8 @@ impl Ops {
     /// Operators of comparison.
     fn set_comparison_operators(&mut self, names: &mut Names) -> Result<(), AllocError>
         requires room { length names.old ≤ 4294967100 }
-        ensures ok { OnOk result ((later : List (List ℕ)) → Extends names.new later → table_of self.new ≡ comparison_operators later (table_of self.old)) }
+        ensures ok { OnOk result ((later : List (List ℕ)) → Extends names.new later
+            → table_of self.new ≡ comparison_operators later (table_of self.old)) }
         ensures added { OnOk result (names.new ≡ with_names names.old comparison_texts) }
         ensures kept { Extends names.old names.new }
         ensures few { length names.new ≤ length names.old + 16 }
@@ -249,7 +261,8 @@ impl Ops {
     /// Operators of arithmetic.
     fn set_arithmetic_operators(&mut self, names: &mut Names) -> Result<(), AllocError>
         requires room { length names.old ≤ 4294967100 }
-        ensures ok { OnOk result ((later : List (List ℕ)) → Extends names.new later → table_of self.new ≡ arithmetic_operators later (table_of self.old)) }
+        ensures ok { OnOk result ((later : List (List ℕ)) → Extends names.new later
+            → table_of self.new ≡ arithmetic_operators later (table_of self.old)) }
         ensures added { OnOk result (names.new ≡ with_names names.old arithmetic_texts) }
         ensures kept { Extends names.old names.new }
         ensures few { length names.new ≤ length names.old + 15 }

@@ -26,7 +26,8 @@ impl Parser<'_> {
         is_touched: bool,
     ) -> Result<Step, AllocError>
         requires under { IsUnder most_openers self.old }
-        ensures { IfOk result (Leads self.old self.new (name_move self.old read token.now is_touched)) }
+        ensures { IfOk result (Leads self.old self.new
+            (name_move self.old read token.now is_touched)) }
     {
         match token {
             Symbol::Touching { .. } => self.open_arguments(
@@ -57,7 +58,8 @@ impl Parser<'_> {
         is_touched: bool,
     ) -> Result<Step, AllocError>
         requires under { IsUnder most_openers self.old }
-        ensures { IfOk result (Leads self.old self.new (prefix_move self.old read (prefix_of op) token.now is_touched)) }
+        ensures { IfOk result (Leads self.old self.new
+            (prefix_move self.old read (prefix_of op) token.now is_touched)) }
     {
         match token {
             Symbol::Name { name, .. } => {
@@ -89,7 +91,8 @@ impl Parser<'_> {
     #[tactic(auto, using(crate::proofs::WalkLemmas::apply_fits))]
     fn apply(&mut self, read: NameRead, op: Prefix, token: &Symbol) -> Result<Step, AllocError>
         requires under { IsUnder most_openers self.old }
-        ensures { IfOk result (Leads self.old self.new (applied_move self.old read (prefix_of op) token.now)) }
+        ensures { IfOk result (Leads self.old self.new
+            (applied_move self.old read (prefix_of op) token.now)) }
     {
         if op.priority > read.bound {
             return Ok(Step::Refused(Refusal::Unexpected));
@@ -108,7 +111,8 @@ impl Parser<'_> {
     /// A token after a name that is an atom.
     fn after_atom(&mut self, read: NameRead, token: &Symbol) -> Result<Step, AllocError>
         requires under { IsUnder most_openers self.old }
-        ensures { IfOk result (Leads self.old self.new (atom_move self.old read.bound (plain read.at read.name.0) token.now)) }
+        ensures { IfOk result (Leads self.old self.new
+            (atom_move self.old read.bound (plain read.at read.name.0) token.now)) }
     {
         let part = atom(self.alloc, read.at, read.name);
         self.after_term(read.bound, part, 0, token)
@@ -124,7 +128,9 @@ impl Parser<'_> {
         is_touched: bool,
     ) -> Result<Step, AllocError>
         requires under { IsUnder most_openers self.old }
-        ensures { IfOk result (Leads self.old self.new (decided can is_touched (atom_move self.old read.bound (plain read.at read.name.0) token.now))) }
+        ensures { IfOk result (Leads self.old self.new
+            (decided can is_touched (atom_move self.old read.bound
+            (plain read.at read.name.0) token.now))) }
     {
         match self.after_atom(read, token)? {
             Step::Refused(Refusal::Unexpected) => {
@@ -147,7 +153,8 @@ impl Parser<'_> {
     /// The parenthesis before arguments.
     fn open_arguments(&mut self, bound: u32, head: Head) -> Result<Step, AllocError>
         requires under { IsUnder most_openers self.old }
-        ensures { IfOk result (Leads self.old self.new (arguments_move self.old bound (head_of head))) }
+        ensures { IfOk result (Leads self.old self.new
+            (arguments_move self.old bound (head_of head))) }
     {
         let parts = Vec::new(self.alloc);
         self.open(bound, Open::Arguments { head, parts })
@@ -161,7 +168,8 @@ impl Parser<'_> {
         token: &Symbol,
     ) -> Result<Step, AllocError>
         requires under { IsUnder most_openers self.old }
-        ensures { IfOk result (Leads self.old self.new (brackets_move self.old bound (head_of head) token.now)) }
+        ensures { IfOk result (Leads self.old self.new
+            (brackets_move self.old bound (head_of head) token.now)) }
     {
         match token {
             Symbol::Touching { .. } => self.open_arguments(bound, head),
@@ -191,7 +199,8 @@ impl Parser<'_> {
         token: &Symbol,
     ) -> Result<Step, AllocError>
         requires under { IsUnder most_openers self.old }
-        ensures { IfOk result (Leads self.old self.new (open_list_move self.old bound at token.now)) }
+        ensures { IfOk result (Leads self.old self.new
+            (open_list_move self.old bound at token.now)) }
     {
         match token {
             Symbol::BracketEnd => Ok(Step::Continue(State::AfterBrackets {
@@ -215,7 +224,8 @@ impl Parser<'_> {
         token: &Symbol,
     ) -> Result<Step, AllocError>
         requires under { IsUnder most_openers self.old }
-        ensures { IfOk result (Leads self.old self.new (open_curly_move self.old bound at token.now)) }
+        ensures { IfOk result (Leads self.old self.new
+            (open_curly_move self.old bound at token.now)) }
     {
         match token {
             Symbol::BraceEnd => Ok(Step::Continue(State::AfterBrackets {

@@ -60,7 +60,8 @@ impl Parser<'_> {
         token: &Symbol,
     ) -> Result<Step, AllocError>
         requires under { IsUnder most_openers self.old }
-        ensures { IfOk result (Leads self.old self.new (term_move self.old bound (part_view part) priority token.now)) }
+        ensures { IfOk result (Leads self.old self.new
+            (term_move self.old bound (part_view part) priority token.now)) }
     {
         let mut bound = bound;
         let mut part = part;
@@ -123,7 +124,8 @@ impl Parser<'_> {
         op: Infix,
     ) -> Result<Step, AllocError>
         requires under { IsUnder most_openers self.old }
-        ensures { IfOk result (Leads self.old self.new (infix_move self.old bound (part_view left) name.0 (infix_of op))) }
+        ensures { IfOk result (Leads self.old self.new
+            (infix_move self.old bound (part_view left) name.0 (infix_of op))) }
     {
         if left.depth >= MOST_OPENERS {
             return Ok(Step::Refused(Refusal::Deep));

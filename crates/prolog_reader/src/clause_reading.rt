@@ -73,7 +73,8 @@ fn is_touched(text: &[u8], at: u32) -> bool
 fn next_fault(text: &[u8], lexer: &mut Lexer) -> Found
     requires short { length text.now ≤ most_bytes }
     requires within { lexer.old.at ≤ length lexer.old.text }
-    ensures fault { (ts : List TextToken) (fault : Option LexFault) → Lexes lexer.old ts fault → IsNextFault (length text.now) fault ts result }
+    ensures fault { (ts : List TextToken) (fault : Option LexFault) → Lexes lexer.old ts fault
+        → IsNextFault (length text.now) fault ts result }
     ensures fit { (count before after : ℕ) → IsFoundFit count before after result }
     ensures text { lexer.new.text ≡ lexer.old.text }
     ensures on { (lexer.old.at ≤ lexer.new.at) × (lexer.new.at ≤ length lexer.old.text) }
@@ -122,10 +123,16 @@ pub fn read_clause(
     requires within { IsWithin text.now first }
     requires known { AreKnown names.old known }
     requires room { length names.old + length text.now ≤ 4294967000 + first.start }
-    ensures found { IfOk result (λ found. (later : List (List ℕ)) (ts : List TextToken) (fault : Option LexFault) → Extends names.new later → Lexes lexer.old ts fault
-        → Finds later text.now fault (closing_of is_query fault) (table_of ops.now) (first ∷ ts) lexer.new found) }
-    ensures added { IfOk result (λ found. (ts : List TextToken) (fault : Option LexFault) → Lexes lexer.old ts fault → ReadNames text.now names.old names.new (first ∷ ts) fault lexer.new found) }
-    ensures fit { IfOk result (λ found. (count : ℕ) → length names.new ≤ count → IsFoundFit count (2 * first.start) (2 * lexer.new.at) found) }
+    ensures found { IfOk result
+        (λ found. (later : List (List ℕ)) (ts : List TextToken) (fault : Option LexFault)
+        → Extends names.new later → Lexes lexer.old ts fault
+        → Finds later text.now fault (closing_of is_query fault) (table_of ops.now)
+        (first ∷ ts) lexer.new found) }
+    ensures added { IfOk result (λ found. (ts : List TextToken) (fault : Option LexFault)
+        → Lexes lexer.old ts fault
+        → ReadNames text.now names.old names.new (first ∷ ts) fault lexer.new found) }
+    ensures fit { IfOk result (λ found. (count : ℕ) → length names.new ≤ count
+        → IsFoundFit count (2 * first.start) (2 * lexer.new.at) found) }
     ensures same { lexer.new.text ≡ text.now }
     ensures on { (lexer.old.at ≤ lexer.new.at) × (lexer.new.at ≤ length text.now) }
     ensures kept { Extends names.old names.new }
@@ -149,7 +156,8 @@ impl ClauseReader<'_> {
     /// Reads the clause from the token at hand on, or says why there is none. After an error nothing is said of the reader.
     fn read(&mut self, lexer: &mut Lexer, names: &mut Names) -> Result<Found, AllocError>
         requires begins { Begins lexer.old names.old self.old }
-        ensures found { IfOk result (IsFound (start_of lexer.old names.old self.old) names.new lexer.new) }
+        ensures found { IfOk result
+            (IsFound (start_of lexer.old names.old self.old) names.new lexer.new) }
         ensures moved { IsMoved (start_of lexer.old names.old self.old) names.new lexer.new }
     {
         let mut state = State::ExpectOperand {

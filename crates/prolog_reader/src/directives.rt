@@ -114,7 +114,8 @@ fn one(terms: &[ReadTerm]) -> Option<&ReadTerm>
 
 /// Both of two terms.
 fn two(terms: &[ReadTerm]) -> Option<(&ReadTerm, &ReadTerm)>
-    ensures found { IfSome result (λ r. map tree_of terms.now ≡ tree_of r.0.now ∷ tree_of r.1.now ∷ []) }
+    ensures found { IfSome result
+        (λ r. map tree_of terms.now ≡ tree_of r.0.now ∷ tree_of r.1.now ∷ []) }
     ensures other { IfNone result (length terms.now ≢ 2) }
 {
     if terms.len() == 2 {
@@ -126,7 +127,8 @@ fn two(terms: &[ReadTerm]) -> Option<(&ReadTerm, &ReadTerm)>
 
 /// All of three terms.
 fn three(terms: &[ReadTerm]) -> Option<(&ReadTerm, &ReadTerm, &ReadTerm)>
-    ensures found { IfSome result (λ r. map tree_of terms.now ≡ tree_of r.0.now ∷ tree_of r.1.now ∷ tree_of r.2.now ∷ []) }
+    ensures found { IfSome result
+        (λ r. map tree_of terms.now ≡ tree_of r.0.now ∷ tree_of r.1.now ∷ tree_of r.2.now ∷ []) }
     ensures other { IfNone result (length terms.now ≢ 3) }
 {
     if terms.len() == 3 {
@@ -144,7 +146,9 @@ fn set_listed(
     kind: OpKind,
     list: &ReadTerm,
 ) -> Result<bool, AllocError>
-    ensures { IfOk result (λ done. effect_of (words_view words.now) (table_of ops.old) (Some priority) (Some kind) (listed (words_view words.now) (tree_of list.now)) ≡ done_effect done (table_of ops.new)) }
+    ensures { IfOk result (λ done. effect_of (words_view words.now) (table_of ops.old)
+        (Some priority) (Some kind) (listed (words_view words.now) (tree_of list.now))
+        ≡ done_effect done (table_of ops.new)) }
 {
     let mut rest = list;
     'cells: loop {
@@ -178,7 +182,9 @@ fn set_operators(
     kind: OpKind,
     names: &ReadTerm,
 ) -> Result<bool, AllocError>
-    ensures { IfOk result (λ done. effect_of (words_view words.now) (table_of ops.old) (Some priority) (Some kind) (operators_of (words_view words.now) (tree_of names.now)) ≡ done_effect done (table_of ops.new)) }
+    ensures { IfOk result (λ done. effect_of (words_view words.now) (table_of ops.old)
+        (Some priority) (Some kind) (operators_of (words_view words.now) (tree_of names.now))
+        ≡ done_effect done (table_of ops.new)) }
 {
     match atom(names) {
         Some(name) => {
@@ -203,7 +209,10 @@ fn set_by(
     of: &ReadTerm,
     names: &ReadTerm,
 ) -> Result<bool, AllocError>
-    ensures { IfOk result (λ done. effect_of (words_view words.now) (table_of ops.old) (priority_of (tree_of at.now)) (kind_of (words_view words.now) (tree_of of.now)) (operators_of (words_view words.now) (tree_of names.now)) ≡ done_effect done (table_of ops.new)) }
+    ensures { IfOk result (λ done. effect_of (words_view words.now) (table_of ops.old)
+        (priority_of (tree_of at.now)) (kind_of (words_view words.now) (tree_of of.now))
+        (operators_of (words_view words.now) (tree_of names.now))
+        ≡ done_effect done (table_of ops.new)) }
 {
     let priority = match priority(at) {
         Some(priority) => priority,
@@ -218,7 +227,8 @@ fn set_by(
 
 /// Does what a directive does to the operators, or answers false where it is refused.
 fn direct(ops: &mut Ops, words: &Words, directive: &ReadTerm) -> Result<bool, AllocError>
-    ensures { IfOk result (λ done. directive_by (words_view words.now) (table_of ops.old) (parts_of (tree_of directive.now)) ≡ done_effect done (table_of ops.new)) }
+    ensures { IfOk result (λ done. directive_by (words_view words.now) (table_of ops.old)
+        (parts_of (tree_of directive.now)) ≡ done_effect done (table_of ops.new)) }
 {
     match parts(directive) {
         Some((name, terms)) => match three(terms) {
@@ -237,7 +247,8 @@ fn direct(ops: &mut Ops, words: &Words, directive: &ReadTerm) -> Result<bool, Al
 
 /// Does what a clause does to the operators, or answers false where it is refused. Then some may be changed.
 pub fn obey(ops: &mut Ops, words: &Words, clause: &ReadTerm) -> Result<bool, AllocError>
-    ensures { IfOk result (λ done. effect (words_view words.now) (table_of ops.old) (tree_of clause.now) ≡ done_effect done (table_of ops.new)) }
+    ensures { IfOk result (λ done. effect (words_view words.now) (table_of ops.old)
+        (tree_of clause.now) ≡ done_effect done (table_of ops.new)) }
 {
     match parts(clause) {
         Some((name, terms)) => match one(terms) {

@@ -23,7 +23,8 @@ impl Parser<'_> {
         token: &Symbol,
     ) -> Result<Step, AllocError>
         requires inside { IsInside most_openers (open_of opening) self.old }
-        ensures { IfOk result (Leads self.old self.new (ended_move self.old bound (open_of opening) (part_view part) token.now)) }
+        ensures { IfOk result (Leads self.old self.new
+            (ended_move self.old bound (open_of opening) (part_view part) token.now)) }
     {
         match opening {
             Open::Group { at } => self.end_group(bound, at, part, token),
@@ -55,7 +56,8 @@ impl Parser<'_> {
         token: &Symbol,
     ) -> Result<Step, AllocError>
         requires inside { IsInside most_openers (group_open at) self.old }
-        ensures { IfOk result (Leads self.old self.new (ended_move self.old bound (group_open at) (part_view part) token.now)) }
+        ensures { IfOk result (Leads self.old self.new
+            (ended_move self.old bound (group_open at) (part_view part) token.now)) }
     {
         match token {
             Symbol::ParenEnd => {
@@ -79,7 +81,8 @@ impl Parser<'_> {
         token: &Symbol,
     ) -> Result<Step, AllocError>
         requires inside { IsInside most_openers (curly_open at) self.old }
-        ensures { IfOk result (Leads self.old self.new (ended_move self.old bound (curly_open at) (part_view part) token.now)) }
+        ensures { IfOk result (Leads self.old self.new
+            (ended_move self.old bound (curly_open at) (part_view part) token.now)) }
     {
         match token {
             Symbol::BraceEnd => {
@@ -99,8 +102,12 @@ impl Parser<'_> {
         part: Part,
         token: &Symbol,
     ) -> Result<Step, AllocError>
-        requires inside { IsInside most_openers (arguments_open (head_of head) (map part_view parts.items)) self.old }
-        ensures { IfOk result (Leads self.old self.new (ended_move self.old bound (arguments_open (head_of head) (map part_view parts.items)) (part_view part) token.now)) }
+        requires inside { IsInside most_openers
+            (arguments_open (head_of head) (map part_view parts.items)) self.old }
+        ensures { IfOk result (Leads self.old self.new
+            (ended_move self.old bound
+            (arguments_open (head_of head) (map part_view parts.items))
+            (part_view part) token.now)) }
     {
         let mut parts = parts;
         parts.push(part)?;
@@ -116,7 +123,8 @@ impl Parser<'_> {
 
     /// A name with arguments, by its place.
     fn call(&self, head: Head, parts: Vec<Part>) -> Result<Part, AllocError>
-        ensures { IfOk result (λ p. part_view p ≡ (rules self.now).call (head_of head) (map part_view parts.items)) }
+        ensures { IfOk result (λ p. part_view p ≡ (rules self.now).call (head_of head)
+            (map part_view parts.items)) }
     {
         match head {
             Head::Plain { at, name } => compound(self.alloc, at, name, parts),
@@ -134,8 +142,11 @@ impl Parser<'_> {
         part: Part,
         token: &Symbol,
     ) -> Result<Step, AllocError>
-        requires inside { IsInside most_openers (items_open at (map part_view parts.items)) self.old }
-        ensures { IfOk result (Leads self.old self.new (ended_move self.old bound (items_open at (map part_view parts.items)) (part_view part) token.now)) }
+        requires inside { IsInside most_openers
+            (items_open at (map part_view parts.items)) self.old }
+        ensures { IfOk result (Leads self.old self.new
+            (ended_move self.old bound (items_open at (map part_view parts.items))
+            (part_view part) token.now)) }
     {
         let mut parts = parts;
         parts.push(part)?;
@@ -160,8 +171,11 @@ impl Parser<'_> {
         part: Part,
         token: &Symbol,
     ) -> Result<Step, AllocError>
-        requires inside { IsInside most_openers (tail_open at (map part_view parts.items)) self.old }
-        ensures { IfOk result (Leads self.old self.new (ended_move self.old bound (tail_open at (map part_view parts.items)) (part_view part) token.now)) }
+        requires inside { IsInside most_openers
+            (tail_open at (map part_view parts.items)) self.old }
+        ensures { IfOk result (Leads self.old self.new
+            (ended_move self.old bound (tail_open at (map part_view parts.items))
+            (part_view part) token.now)) }
     {
         match token {
             Symbol::BracketEnd => {

@@ -13,13 +13,21 @@ ghost use Rattle.prolog_operators.specs.Table.{Table};
 /// Where some further tokens complete a clause that tokens of a text begin, some bytes do. So some bytes complete what stands before the
 /// first unexpected token, and what ends with the first token that is too deep.
 pub fn bytes_complete_clauses()
-    ensures each { (names : List (List ℕ)) (table : Table) (text : List ℕ) (earlier begun later : List TextToken) (fault : Option LexFault)
-        → Lexes (record { text = text; at = 0 }) (earlier ++ (begun ++ later)) fault → EndClauses earlier → CanGoOn (rules_by names table) (seen_tokens names text begun)
+    ensures each { (names : List (List ℕ)) (table : Table) (text : List ℕ)
+        (earlier begun later : List TextToken) (fault : Option LexFault)
+        → Lexes (record { text = text; at = 0 }) (earlier ++ (begun ++ later)) fault
+        → EndClauses earlier → CanGoOn (rules_by names table) (seen_tokens names text begun)
         → IsCompleted names table text earlier begun }
-    ensures unexpected { (names : List (List ℕ)) (table : Table) (text : List ℕ) (earlier ts : List TextToken) (fault : Option LexFault) (rest : List SeenToken)
-        → Lexes (record { text = text; at = 0 }) (earlier ++ ts) fault → EndClauses earlier → IsUnexpected (rules_by names table) (seen_tokens names text ts) rest
-        → IsCompleted names table text earlier (take (before_rest (seen_tokens names text ts) rest) ts) }
-    ensures deep { (names : List (List ℕ)) (table : Table) (text : List ℕ) (earlier ts : List TextToken) (fault : Option LexFault) (rest : List SeenToken)
-        → Lexes (record { text = text; at = 0 }) (earlier ++ ts) fault → EndClauses earlier → IsDeep 1000 (rules_by names table) (seen_tokens names text ts) rest
-        → IsCompleted names table text earlier (take (suc (before_rest (seen_tokens names text ts) rest)) ts) }
+    ensures unexpected { (names : List (List ℕ)) (table : Table) (text : List ℕ)
+        (earlier ts : List TextToken) (fault : Option LexFault) (rest : List SeenToken)
+        → Lexes (record { text = text; at = 0 }) (earlier ++ ts) fault → EndClauses earlier
+        → IsUnexpected (rules_by names table) (seen_tokens names text ts) rest
+        → IsCompleted names table text earlier
+        (take (before_rest (seen_tokens names text ts) rest) ts) }
+    ensures deep { (names : List (List ℕ)) (table : Table) (text : List ℕ)
+        (earlier ts : List TextToken) (fault : Option LexFault) (rest : List SeenToken)
+        → Lexes (record { text = text; at = 0 }) (earlier ++ ts) fault → EndClauses earlier
+        → IsDeep 1000 (rules_by names table) (seen_tokens names text ts) rest
+        → IsCompleted names table text earlier
+        (take (suc (before_rest (seen_tokens names text ts) rest)) ts) }
 {}

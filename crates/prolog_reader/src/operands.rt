@@ -87,7 +87,8 @@ impl Parser<'_> {
     /// Opens a term of the given bound: an operand is expected inside it.
     pub fn open(&mut self, bound: u32, opening: Open) -> Result<Step, AllocError>
         requires inside { IsInside (most_openers + 1) (open_of opening) self.old }
-        ensures { IfOk result (Leads self.old self.new (open_move self.old bound (open_of opening))) }
+        ensures { IfOk result (Leads self.old self.new
+            (open_move self.old bound (open_of opening))) }
     {
         let inside = opening.inside();
         self.stack.push(Frame::Open {

@@ -41,7 +41,8 @@ impl<'a> Parser<'a> {
         is_touched: bool,
     ) -> Result<Step, AllocError>
         requires fits { IsIn state self.old }
-        ensures { IfOk result (Leads self.old self.new (state_move self.old state token.now is_touched)) }
+        ensures { IfOk result (Leads self.old self.new
+            (state_move self.old state token.now is_touched)) }
     {
         match state {
             State::ExpectOperand { bound } => self.operand(bound, token),

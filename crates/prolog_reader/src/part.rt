@@ -79,7 +79,8 @@ pub fn unary(alloc: Global, at: u32, name: Name, inner: Part) -> Result<Part, Al
 
 /// A name with two arguments.
 pub fn pair(alloc: Global, at: u32, name: Name, left: Part, right: Part) -> Result<Part, AllocError>
-    ensures { IfOk result (λ p. part_view p ≡ named_at 1000 at name.0 (part_view left ∷ part_view right ∷ [])) }
+    ensures { IfOk result (λ p. part_view p ≡ named_at 1000 at name.0
+        (part_view left ∷ part_view right ∷ [])) }
 {
     let depth = deeper(greater(left.depth, right.depth));
     let mut terms = Vec::with_capacity(alloc, 2)?;
@@ -103,7 +104,8 @@ pub fn chain(
     parts: Vec<Part>,
     tail: Part,
 ) -> Result<Part, AllocError>
-    ensures { IfOk result (λ p. part_view p ≡ chain 1000 (known_of names) at (map part_view parts.items) (part_view tail)) }
+    ensures { IfOk result (λ p. part_view p ≡ chain 1000 (known_of names) at
+        (map part_view parts.items) (part_view tail)) }
 {
     let mut parts = parts;
     let mut tail = tail;
@@ -143,7 +145,8 @@ pub fn compound(alloc: Global, at: u32, name: Name, parts: Vec<Part>) -> Result<
 /// The arguments' terms, and how deep the deepest is.
 #[tactic(auto, using(crate::proofs::MachineLemmas::onto_push, crate::proofs::MachineLemmas::depth_push, crate::proofs::MachineLemmas::parts_push, crate::proofs::MachineLemmas::back_push, crate::proofs::MachineLemmas::trees_reverse, crate::proofs::MachineLemmas::row_is_onto, crate::proofs::MachineLemmas::depth_is_onto))]
 fn arguments(alloc: Global, parts: Vec<Part>) -> Result<(Vec<ReadTerm>, u32), AllocError>
-    ensures terms { IfOk result (λ r. row (map tree_of r.0.items) ≡ row_of (map part_view parts.items)) }
+    ensures terms { IfOk result
+        (λ r. row (map tree_of r.0.items) ≡ row_of (map part_view parts.items)) }
     ensures depth { IfOk result (λ r. r.1 ≡ depth_of (map part_view parts.items)) }
 {
     let mut parts = parts;

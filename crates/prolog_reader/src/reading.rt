@@ -39,11 +39,13 @@ pub fn read_text(alloc: Global, text: &[u8], names: &mut Names) -> Result<ReadTe
     requires room { length names.old ≤ 4292870143 }
 
     // What is read is what the text reads as, and a refusal is its first fault.
-    ensures found { IfOk result (λ read. AnswersText names.new text.now (Ok (read.clauses, table_of read.ops))) }
+    ensures found { IfOk result
+        (λ read. AnswersText names.new text.now (Ok (read.clauses, table_of read.ops))) }
     ensures refused { IfErr result (λ fault. RefusesText names.new text.now fault) }
 
     // No text has two answers: what it reads as by the names is what is read, or it is refused as it has to be, unless memory runs out.
-    ensures only { (later : List (List ℕ)) (answer : Answer) → Extends names.new later → IsTextAnswer later text.now answer → SaysText result answer }
+    ensures only { (later : List (List ℕ)) (answer : Answer) → Extends names.new later
+        → IsTextAnswer later text.now answer → SaysText result answer }
 
     // The names are those that the text gives, and after a refusal the first of them. Earlier names keep their numbers.
     ensures names { IfOk result (λ read. AreNamesOf text_own names.old text.now names.new) }
@@ -73,7 +75,8 @@ fn is_long(text: &[u8]) -> bool
 /// Reads all clauses of a text, if it is short enough.
 fn read_short(alloc: Global, text: &[u8], names: &mut Names) -> Result<ReadText, ReadFault>
     requires room { length names.old ≤ 4292870143 }
-    ensures found { IfOk result (λ read. AnswersText names.new text.now (Ok (read.clauses, table_of read.ops))) }
+    ensures found { IfOk result
+        (λ read. AnswersText names.new text.now (Ok (read.clauses, table_of read.ops))) }
     ensures refused { IfErr result (λ fault. RefusesText names.new text.now fault) }
     ensures names { IfOk result (λ read. AreNamesOf text_own names.old text.now names.new) }
     ensures begin { IfErr result (λ fault. BeginNames text_own names.old text.now names.new fault) }
@@ -103,8 +106,10 @@ fn read_clauses(
     requires short { length text.now ≤ most_bytes }
     requires room { length names.old ≤ 4293000000 }
     requires words { AreWords names.old words }
-    requires standard { (later : List (List ℕ)) → Extends names.old later → table_of ops ≡ standard later }
-    ensures found { IfOk result (λ read. AnswersText names.new text.now (Ok (read.clauses, table_of read.ops))) }
+    requires standard { (later : List (List ℕ)) → Extends names.old later
+        → table_of ops ≡ standard later }
+    ensures found { IfOk result
+        (λ read. AnswersText names.new text.now (Ok (read.clauses, table_of read.ops))) }
     ensures refused { IfErr result (λ fault. RefusesText names.new text.now fault) }
     ensures names { IfOk result (λ read. AreNamesOf [] names.old text.now names.new) }
     ensures begin { IfErr result (λ fault. BeginNames [] names.old text.now names.new fault) }
@@ -164,15 +169,19 @@ pub fn read_query(
     requires room { length names.old ≤ 4292870143 }
 
     // What is read is what the query reads as by the operators, and a refusal is its first fault.
-    ensures found { IfOk result (λ clause. AnswersQuery names.new (table_of ops.now) text.now (Ok (clause_of clause))) }
-    ensures refused { IfErr result (λ fault. RefusesQuery names.new (table_of ops.now) text.now fault) }
+    ensures found { IfOk result
+        (λ clause. AnswersQuery names.new (table_of ops.now) text.now (Ok (clause_of clause))) }
+    ensures refused { IfErr result
+        (λ fault. RefusesQuery names.new (table_of ops.now) text.now fault) }
 
     // No query has two answers.
-    ensures only { (later : List (List ℕ)) (answer : Result Clause Fault) → Extends names.new later → IsQueryAnswer later (table_of ops.now) text.now answer → SaysQuery result answer }
+    ensures only { (later : List (List ℕ)) (answer : Result Clause Fault) → Extends names.new later
+        → IsQueryAnswer later (table_of ops.now) text.now answer → SaysQuery result answer }
 
     // The names are those that the query gives, and after a refusal the first of them. Earlier names keep their numbers.
     ensures names { IfOk result (λ clause. AreNamesOf query_own names.old text.now names.new) }
-    ensures begin { IfErr result (λ fault. BeginNames query_own names.old text.now names.new fault) }
+    ensures begin { IfErr result
+        (λ fault. BeginNames query_own names.old text.now names.new fault) }
     ensures kept { Extends names.old names.new }
 
     // There are at most as many new ones as the query has bytes and the syntax has names.
@@ -196,10 +205,13 @@ fn read_short_query(
     ops: &Ops,
 ) -> Result<ReadClause, ReadFault>
     requires room { length names.old ≤ 4292870143 }
-    ensures found { IfOk result (λ clause. AnswersQuery names.new (table_of ops.now) text.now (Ok (clause_of clause))) }
-    ensures refused { IfErr result (λ fault. RefusesQuery names.new (table_of ops.now) text.now fault) }
+    ensures found { IfOk result
+        (λ clause. AnswersQuery names.new (table_of ops.now) text.now (Ok (clause_of clause))) }
+    ensures refused { IfErr result
+        (λ fault. RefusesQuery names.new (table_of ops.now) text.now fault) }
     ensures names { IfOk result (λ clause. AreNamesOf query_own names.old text.now names.new) }
-    ensures begin { IfErr result (λ fault. BeginNames query_own names.old text.now names.new fault) }
+    ensures begin { IfErr result
+        (λ fault. BeginNames query_own names.old text.now names.new fault) }
     ensures kept { Extends names.old names.new }
     ensures few { length names.new ≤ length names.old + length text.now + 4 }
     ensures fit { IfOk result (λ clause. IsQueryFit (length names.new) (clause_of clause)) }
@@ -225,8 +237,10 @@ fn read_term(
     requires short { length text.now ≤ most_bytes }
     requires room { length names.old ≤ 4293000000 }
     requires known { AreKnown names.old known }
-    ensures found { IfOk result (λ clause. AnswersQuery names.new (table_of ops.now) text.now (Ok (clause_of clause))) }
-    ensures refused { IfErr result (λ fault. RefusesQuery names.new (table_of ops.now) text.now fault) }
+    ensures found { IfOk result
+        (λ clause. AnswersQuery names.new (table_of ops.now) text.now (Ok (clause_of clause))) }
+    ensures refused { IfErr result
+        (λ fault. RefusesQuery names.new (table_of ops.now) text.now fault) }
     ensures names { IfOk result (λ clause. AreNamesOf [] names.old text.now names.new) }
     ensures begin { IfErr result (λ fault. BeginNames [] names.old text.now names.new fault) }
     ensures kept { Extends names.old names.new }
@@ -269,10 +283,17 @@ fn read_term(
 /// By the same names a text has exactly one answer, and by the same names and operators a query has: the clauses that it reads as, or its
 /// first fault. So no text is read as two programs, and none is both read and refused. And a text gives one list of names.
 pub fn one_answer()
-    ensures text { (names : List (List ℕ)) (text : List ℕ) (answer other : Answer) → IsTextAnswer names text answer → IsTextAnswer names text other → answer ≡ other }
-    ensures some_text { (names : List (List ℕ)) (text : List ℕ) → (answer : Answer) × IsTextAnswer names text answer }
-    ensures names { (own earlier : List (List ℕ)) (text : List ℕ) (names other : List (List ℕ)) → AreNamesOf own earlier text names → AreNamesOf own earlier text other → names ≡ other }
-    ensures some_names { (own earlier : List (List ℕ)) (text : List ℕ) → (names : List (List ℕ)) × AreNamesOf own earlier text names }
-    ensures query { (names : List (List ℕ)) (table : Table) (text : List ℕ) (answer other : Result Clause Fault) → IsQueryAnswer names table text answer → IsQueryAnswer names table text other → answer ≡ other }
-    ensures some_query { (names : List (List ℕ)) (table : Table) (text : List ℕ) → (answer : Result Clause Fault) × IsQueryAnswer names table text answer }
+    ensures text { (names : List (List ℕ)) (text : List ℕ) (answer other : Answer)
+        → IsTextAnswer names text answer → IsTextAnswer names text other → answer ≡ other }
+    ensures some_text { (names : List (List ℕ)) (text : List ℕ) → (answer : Answer)
+        × IsTextAnswer names text answer }
+    ensures names { (own earlier : List (List ℕ)) (text : List ℕ) (names other : List (List ℕ))
+        → AreNamesOf own earlier text names → AreNamesOf own earlier text other → names ≡ other }
+    ensures some_names { (own earlier : List (List ℕ)) (text : List ℕ) → (names : List (List ℕ))
+        × AreNamesOf own earlier text names }
+    ensures query { (names : List (List ℕ)) (table : Table) (text : List ℕ)
+        (answer other : Result Clause Fault) → IsQueryAnswer names table text answer
+        → IsQueryAnswer names table text other → answer ≡ other }
+    ensures some_query { (names : List (List ℕ)) (table : Table) (text : List ℕ)
+        → (answer : Result Clause Fault) × IsQueryAnswer names table text answer }
 {}

@@ -66,7 +66,8 @@ fn name(alloc: Global, text: &[u8], names: &mut Names, token: Token) -> Result<N
     requires room { length names.old < 2 ^ 32 - 1 }
     ensures number { IfOk result (λ n. IsNumber names.new (characters_of text.now token) n.0) }
     ensures known { IfOk result (λ n. n.0 < length names.new) }
-    ensures added { OnOk result (names.new ≡ with_names names.old (characters_of text.now token ∷ [])) }
+    ensures added { OnOk result
+        (names.new ≡ with_names names.old (characters_of text.now token ∷ [])) }
     ensures kept { Extends names.old names.new }
     ensures more { length names.new ≤ length names.old + 1 }
 {
@@ -80,7 +81,8 @@ fn name(alloc: Global, text: &[u8], names: &mut Names, token: Token) -> Result<N
 fn codes(alloc: Global, text: &[u8], token: Token) -> Result<Vec<char>, AllocError>
     requires given { IsTokenOf text.now token }
     requires kind { token.kind ≡ TextKind }
-    ensures { IfOk result (λ codes. codes.items ≡ item_characters 34 0 (drop 1 (bytes_of text.now token))) }
+    ensures { IfOk result (λ codes. codes.items
+        ≡ item_characters 34 0 (drop 1 (bytes_of text.now token))) }
 {
     let mut spelled = Vec::new(alloc);
     decode(text, token, &mut spelled)?;
@@ -99,7 +101,9 @@ fn codes(alloc: Global, text: &[u8], token: Token) -> Result<Vec<char>, AllocErr
 /// An integer, which belongs to a `-` directly before it or does not.
 fn integer(at: u32, value: i128, joined: bool) -> Symbol
     requires { nat_abs value < 2 ^ 127 }
-    ensures { token_of result ≡ (if joined then JoinedToken at (nat_abs value) else Leaf at (integer_value (nat_abs value))) }
+    ensures { token_of result
+        ≡ (if joined then JoinedToken at (nat_abs value) else Leaf at
+        (integer_value (nat_abs value))) }
 {
     let value = Natural::of(value);
     if joined {
@@ -125,9 +129,12 @@ pub fn next_symbol(
     requires room { length names.old < 2 ^ 32 - 1 }
     requires numbered { AreNumbered variables.old }
     requires few { (seen_of variables.old).count < 2 ^ 32 - 1 }
-    ensures value { IfOk result (λ s. (later : List (List ℕ)) → Extends names.new later → token_of s ≡ plain_token later text.now (seen_of variables.old) before token) }
-    ensures fine { IfOk result (λ s. IsTokenFine (length names.new) (seen_of variables.new).count (token_of s)) }
-    ensures seen { OnOk result (seen_of variables.new ≡ seen_after text.now (seen_of variables.old) token) }
+    ensures value { IfOk result (λ s. (later : List (List ℕ)) → Extends names.new later
+        → token_of s ≡ plain_token later text.now (seen_of variables.old) before token) }
+    ensures fine { IfOk result
+        (λ s. IsTokenFine (length names.new) (seen_of variables.new).count (token_of s)) }
+    ensures seen { OnOk result
+        (seen_of variables.new ≡ seen_after text.now (seen_of variables.old) token) }
     ensures numbered { OnOk result (AreNumbered variables.new) }
     ensures added { OnOk result (names.new ≡ with_names names.old (token_texts text.now token)) }
     ensures kept { Extends names.old names.new }

@@ -27,7 +27,8 @@ impl Drop for Sample {
 
 /// The program of a text; none where the text is not a program, or out of memory.
 pub fn program_of(alloc: Global, text: &str) -> Option<Sample>
-    ensures named { IfSome result (λ s. AllByRecursion (λ (q : ThePred). q.name.0 < length s.names) s.program.preds) }
+    ensures named { IfSome result
+        (λ s. AllByRecursion (λ (q : ThePred). q.name.0 < length s.names) s.program.preds) }
     ensures program { IfSome result (λ s. IsProgram s.program) }
 {
     let mut names = Names::new(alloc);

@@ -1,4 +1,5 @@
-// Common divisors of numbers.
+//! Common divisors of numbers.
+
 use exact128::gcd;
 
 /// The greatest common divisor of two numbers, or 0 where it does not fit.
@@ -6,7 +7,7 @@ pub fn shared_by(a: i128, b: i128) -> i128 {
     i128::try_from(gcd(a.unsigned_abs(), b.unsigned_abs())).unwrap_or(0)
 }
 
-// The greatest common divisor of numbers, or 0 where it does not fit.
+/// The greatest common divisor of numbers, or 0 where it does not fit.
 fn shared_of(numbers: &[i128]) -> i128 {
     let mut shared = 0;
     for number in numbers {

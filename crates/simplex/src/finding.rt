@@ -1,4 +1,5 @@
-// What pivots find, tested.
+//! What pivots find, tested.
+
 ghost use Rattle.std.specs.Prelude.{◌≡◌, ◌∷◌, ◌≤ℤ◌, ◌+◌, ◌<◌, ◌^◌, pos, true, length, All, IfOk, IfSome};
 ghost use Rattle.exact128.specs.Sums.{dot};
 ghost use Rattle.linear_rows.specs.Plain.{plain_row, plain_rows, HaveWidth};
@@ -29,14 +30,14 @@ pub fn found(alloc: Global, rows: &Rows) -> Result<Option<Solved>, AllocError>
     }
 }
 
-// The most pivots for rows of this number and width.
+/// The most pivots for rows of this number and width.
 fn most_pivots(width: usize, many: usize) -> Option<usize>
     ensures { IfSome result (λ _. width + many < 2 ^ 64) }
 {
     width.checked_add(many)?.checked_mul(8)?.checked_add(64)
 }
 
-// The point of values over the last of them, if each row holds there.
+/// The point of values over the last of them, if each row holds there.
 fn point_of(rows: &Rows, values: Numbers) -> Option<Solved>
     requires { HaveWidth rows.now.width rows.now.list }
     ensures { IfSome result (Solves rows.now.width (plain_rows rows.now.list)) }
@@ -55,7 +56,7 @@ fn point_of(rows: &Rows, values: Numbers) -> Option<Solved>
     }
 }
 
-// Whether numbers are a point at which each row holds, as far as this is seen in numbers that fit.
+/// Whether numbers are a point at which each row holds, as far as this is seen in numbers that fit.
 fn is_point(rows: &Rows, t: i128, w: &[i128]) -> bool
     requires { HaveWidth rows.now.width rows.now.list }
     ensures { result ≡ true → IsPoint rows.now.width (plain_rows rows.now.list) t w.now }
@@ -71,7 +72,7 @@ fn is_point(rows: &Rows, t: i128, w: &[i128]) -> bool
     true
 }
 
-// Whether no number is below 0.
+/// Whether no number is below 0.
 fn are_natural(numbers: &[i128]) -> bool
     ensures { result ≡ true → All (λ x. pos 0 ≤ℤ x) numbers.now }
 {
@@ -83,7 +84,7 @@ fn are_natural(numbers: &[i128]) -> bool
     true
 }
 
-// Whether the value of a row is at least 0 and formed in numbers that fit.
+/// Whether the value of a row is at least 0 and formed in numbers that fit.
 fn holds_at(row: &Row, t: i128, w: &[i128]) -> bool
     requires { length w.now ≡ length row.now.coeffs }
     ensures { result ≡ true → pos 0 ≤ℤ dot (plain_row row.now) (t ∷ w.now) }
@@ -94,7 +95,7 @@ fn holds_at(row: &Row, t: i128, w: &[i128]) -> bool
     }
 }
 
-// The value of a row, where the numbers that it is formed of fit.
+/// The value of a row, where the numbers that it is formed of fit.
 fn value_at(row: &Row, t: i128, w: &[i128]) -> Option<i128>
     requires { length w.now ≡ length row.now.coeffs }
     ensures { IfSome result (λ value. value ≡ dot (plain_row row.now) (t ∷ w.now)) }
@@ -103,7 +104,7 @@ fn value_at(row: &Row, t: i128, w: &[i128]) -> Option<i128>
     plus(times(row.constant, t)?, products)
 }
 
-// The multipliers as a refutation, if `proves` says so.
+/// The multipliers as a refutation, if `proves` says so.
 fn refuting(alloc: Global, rows: &Rows, list: Numbers) -> Result<Option<Solved>, AllocError>
     requires { HaveWidth rows.now.width rows.now.list }
     ensures { IfOk result (λ o. IfSome o (Solves rows.now.width (plain_rows rows.now.list))) }

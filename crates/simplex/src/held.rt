@@ -1,4 +1,5 @@
-// What the test of a row shows.
+//! What the test of a row shows.
+
 use linear_rows::{Multipliers, Point};
 
 /// Whether a row holds on rows.

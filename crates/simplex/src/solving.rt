@@ -1,4 +1,5 @@
-// Solving of rows over naturals.
+//! Solving of rows over naturals.
+
 ghost use Rattle.std.specs.Prelude.{IfOk};
 ghost use Rattle.linear_rows.specs.Plain.{plain_rows, HaveWidth};
 ghost use Rattle.linear_rows.specs.Solving.{solution};

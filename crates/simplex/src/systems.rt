@@ -1,4 +1,5 @@
-// The rows that are solved to test whether a row holds on rows.
+//! The rows that are solved to test whether a row holds on rows.
+
 ghost use Rattle.std.specs.Prelude.{◌≡◌, ◌+◌, pos, negsuc, neg_ℤ, IfOk, OnOk, SomeIff, length, map, [], ◌∷◌, ◌++◌, true};
 ghost use Rattle.exact128.specs.Fits.{fits};
 ghost use Rattle.linear_rows.specs.Blown.{all_of};
@@ -28,7 +29,7 @@ pub fn test_system(alloc: Global, rows: &Rows, row: &Row) -> Result<Option<Rows>
     Ok(Some(system))
 }
 
-// The row with each number negated, if these fit.
+/// The row with each number negated, if these fit.
 fn opposite(alloc: Global, row: &Row) -> Result<Option<Row>, AllocError>
     ensures { IfOk result (IsOppositeIfFits (plain_row row.now)) }
 {
@@ -41,14 +42,15 @@ fn opposite(alloc: Global, row: &Row) -> Result<Option<Row>, AllocError>
     }
 }
 
-// Appends rows over one more column, which stands for the t of a point.
+/// Appends rows over one more column, which stands for the t of a point.
 fn add_rows(alloc: Global, system: &mut Rows, rows: &Rows) -> Result<(), AllocError>
     requires width { system.old.width ≡ rows.now.width + 1 }
     requires system { HaveWidth system.old.width system.old.list }
     requires rows { HaveWidth rows.now.width rows.now.list }
     ensures width { system.new.width ≡ system.old.width }
     ensures system { HaveWidth system.new.width system.new.list }
-    ensures rows { OnOk result (plain_rows system.new.list ≡ plain_rows system.old.list ++ map (λ r. at_last r (pos 0)) (plain_rows rows.now.list)) }
+    ensures rows { OnOk result (plain_rows system.new.list ≡ plain_rows system.old.list ++ map
+        (λ r. at_last r (pos 0)) (plain_rows rows.now.list)) }
 {
     for row in rows.list.as_slice() {
         system.push(at_last(alloc, row, 0)?)?;
@@ -56,14 +58,15 @@ fn add_rows(alloc: Global, system: &mut Rows, rows: &Rows) -> Result<(), AllocEr
     Ok(())
 }
 
-// Appends that the last column is at least 1, and that a row is at least 1 there.
+/// Appends that the last column is at least 1, and that a row is at least 1 there.
 fn add_ends(alloc: Global, system: &mut Rows, row: &Row) -> Result<(), AllocError>
     requires width { system.old.width ≡ length row.now.coeffs + 1 }
     requires system { HaveWidth system.old.width system.old.list }
     ensures width { system.new.width ≡ system.old.width }
     ensures system { HaveWidth system.new.width system.new.list }
     ensures rows { OnOk result (plain_rows system.new.list ≡ plain_rows system.old.list
-        ++ (negsuc 0 ∷ (zeros (length row.now.coeffs) ++ pos 1 ∷ [])) ∷ at_last (plain_row row.now) (negsuc 0) ∷ []) }
+        ++ (negsuc 0 ∷ (zeros (length row.now.coeffs) ++ pos 1 ∷ [])) ∷ at_last (plain_row row.now)
+        (negsuc 0) ∷ []) }
 {
     let one = Row {
         constant: 1,
@@ -73,7 +76,7 @@ fn add_ends(alloc: Global, system: &mut Rows, row: &Row) -> Result<(), AllocErro
     system.push(at_last(alloc, row, -1)?)
 }
 
-// The row of a constant and of a row's numbers, of which the constant comes last.
+/// The row of a constant and of a row's numbers, of which the constant comes last.
 fn at_last(alloc: Global, row: &Row, constant: i128) -> Result<Row, AllocError>
     ensures { IfOk result (λ r. plain_row r ≡ at_last (plain_row row.now) constant) }
 {
@@ -86,16 +89,17 @@ fn at_last(alloc: Global, row: &Row, constant: i128) -> Result<Row, AllocError>
     })
 }
 
-// The number with the other sign, where it fits.
+/// The number with the other sign, where it fits.
 fn negated(x: i128) -> Option<i128>
     ensures { SomeIff result (fits x ≡ true) (neg_ℤ x) }
 {
     if x == i128::MIN { None } else { Some(-x) }
 }
 
-// The numbers with the other sign, where they fit.
+/// The numbers with the other sign, where they fit.
 fn all_negated(alloc: Global, numbers: &Numbers) -> Result<Option<Numbers>, AllocError>
-    ensures { IfOk result (λ o. SomeIff o (all_of fits numbers.now ≡ true) (map neg_ℤ numbers.now)) }
+    ensures { IfOk result (λ o. SomeIff o (all_of fits numbers.now ≡ true)
+        (map neg_ℤ numbers.now)) }
 {
     let mut all = Numbers::new(alloc);
     for k in 0..numbers.len() {

@@ -1,16 +1,17 @@
-// A tableau of rows, and its pivots.
-//
-// Each of the rows that are solved has a slack variable, which is its value: at least 0 where it holds. A tableau says
-// what some variables, the basic ones, are by the others, which are free. In each of its rows the denominator times the
-// basic variable is the sum of the row's numbers, each times the free variable of its column. Column 0 has the constants.
-// At first the slack variables are basic and the denominators are 1. A pivot exchanges the basic variable of a row and
-// the free variable of a column.
-//
-// All numbers are whole. Each row has a denominator of its own, which is above 0, so that a pivot changes only the rows
-// that have its column, and most systems stay sparse. The numbers of a row have no divisor in common with its
-// denominator, which keeps them as small as determinants of the rows' numbers.
-//
-// Source: integer pivoting as in Edmonds 1967, and the choice of the smallest index as in Bland 1977.
+//! A tableau of rows, and its pivots.
+//!
+//! Each of the rows that are solved has a slack variable, which is its value: at least 0 where it holds. A tableau says
+//! what some variables, the basic ones, are by the others, which are free. In each of its rows the denominator times the
+//! basic variable is the sum of the row's numbers, each times the free variable of its column. Column 0 has the constants.
+//! At first the slack variables are basic and the denominators are 1. A pivot exchanges the basic variable of a row and
+//! the free variable of a column.
+//!
+//! All numbers are whole. Each row has a denominator of its own, which is above 0, so that a pivot changes only the rows
+//! that have its column, and most systems stay sparse. The numbers of a row have no divisor in common with its
+//! denominator, which keeps them as small as determinants of the rows' numbers.
+//!
+//! Source: integer pivoting as in Edmonds 1967, and the choice of the smallest index as in Bland 1977.
+
 ghost use Rattle.std.specs.Prelude.{◌+◌, ◌<◌, ◌^◌, length};
 
 use crate::divisors::{divide, divided, shared_by};
@@ -106,7 +107,7 @@ impl Tableau {
         Ok(Numbers::from_vec(values))
     }
 
-    // A multiple of the denominators of the first `width` variables, or 0 where it does not fit.
+    /// A multiple of the denominators of the first `width` variables, or 0 where it does not fit.
     fn shared_denominator(&self, width: usize) -> i128 {
         let mut shared = 1;
         for row in 0..self.basic.len() {
@@ -142,7 +143,7 @@ impl Tableau {
         Ok(Numbers::from_vec(multipliers))
     }
 
-    // The number in a row and a column, or 0 where there is none.
+    /// The number in a row and a column, or 0 where there is none.
     fn number(&self, row: usize, column: usize) -> i128 {
         let place = self.place(row, column);
         if place < self.numbers.len() {
@@ -152,18 +153,18 @@ impl Tableau {
         }
     }
 
-    // Puts a number into a row and a column.
+    /// Puts a number into a row and a column.
     fn set(&mut self, row: usize, column: usize, number: i128) {
         let place = self.place(row, column);
         put(&mut self.numbers, place, number);
     }
 
-    // Where the number of a row and a column stands.
+    /// Where the number of a row and a column stands.
     fn place(&self, row: usize, column: usize) -> usize {
         row.saturating_mul(self.columns).saturating_add(column)
     }
 
-    // The denominator of a row, or 1 where there is no such row.
+    /// The denominator of a row, or 1 where there is no such row.
     fn denominator(&self, row: usize) -> i128 {
         if row < self.denominators.len() {
             self.denominators[row]
@@ -172,7 +173,7 @@ impl Tableau {
         }
     }
 
-    // The row of the first variable whose constant is below 0, or the number of rows.
+    /// The row of the first variable whose constant is below 0, or the number of rows.
     fn leaving(&self) -> usize {
         let mut first = usize::MAX;
         let mut at = self.basic.len();
@@ -185,7 +186,7 @@ impl Tableau {
         at
     }
 
-    // The column of the first variable that raises a row's variable, or the number of columns.
+    /// The column of the first variable that raises a row's variable, or the number of columns.
     fn entering(&self, row: usize) -> usize {
         let mut first = usize::MAX;
         let mut at = self.columns;
@@ -198,7 +199,7 @@ impl Tableau {
         at
     }
 
-    // Exchanges the variables of a row and a column. It answers whether each number fits.
+    /// Exchanges the variables of a row and a column. It answers whether each number fits.
     fn pivot(&mut self, alloc: Global, row: usize, column: usize) -> Result<bool, AllocError> {
         let places = self.places(alloc, row)?;
         for other in 0..self.basic.len() {
@@ -209,7 +210,7 @@ impl Tableau {
         Ok(self.turn(row, column, places.as_slice()))
     }
 
-    // The columns in which a row has a number other than 0.
+    /// The columns in which a row has a number other than 0.
     fn places(&self, alloc: Global, row: usize) -> Result<Vec<usize>, AllocError> {
         let mut places = Vec::new(alloc);
         for column in 0..self.columns {
@@ -220,7 +221,7 @@ impl Tableau {
         Ok(places)
     }
 
-    // Puts what a row says of a column's variable into another row. The row has numbers at these places.
+    /// Puts what a row says of a column's variable into another row. The row has numbers at these places.
     fn replace(&mut self, other: usize, row: usize, column: usize, places: &[usize]) -> bool {
         let factor = self.number(other, column);
         if factor == 0 {
@@ -246,7 +247,7 @@ impl Tableau {
         true
     }
 
-    // Multiplies a row by a number.
+    /// Multiplies a row by a number.
     fn scale(&mut self, row: usize, scale: i128) -> bool {
         for j in 0..self.columns {
             let x = self.number(row, j);
@@ -264,7 +265,7 @@ impl Tableau {
         true
     }
 
-    // Subtracts a multiple of a row, which has numbers at these places, from another row.
+    /// Subtracts a multiple of a row, which has numbers at these places, from another row.
     fn subtract(&mut self, other: usize, row: usize, factor: i128, places: &[usize]) -> bool {
         for place in places {
             let x = self.number(other, *place);
@@ -277,7 +278,7 @@ impl Tableau {
         true
     }
 
-    // Divides a row by what its numbers and its denominator share.
+    /// Divides a row by what its numbers and its denominator share.
     fn reduce(&mut self, row: usize) {
         let mut shared = self.denominator(row);
         for j in 0..self.columns {
@@ -295,7 +296,7 @@ impl Tableau {
         }
     }
 
-    // Solves a row for a column's variable.
+    /// Solves a row for a column's variable.
     fn turn(&mut self, row: usize, column: usize, places: &[usize]) -> bool {
         let pivot = self.number(row, column);
         for place in places {
@@ -311,7 +312,7 @@ impl Tableau {
         true
     }
 
-    // Exchanges the names of a row's and a column's variables.
+    /// Exchanges the names of a row's and a column's variables.
     fn exchange(&mut self, row: usize, column: usize) {
         if row < self.basic.len() && 0 < column && column <= self.free.len() {
             let leaving = self.basic[row];
@@ -321,7 +322,7 @@ impl Tableau {
     }
 }
 
-// The numbers of rows, one row after the other.
+/// The numbers of rows, one row after the other.
 fn numbers_of(alloc: Global, rows: &Rows) -> Result<Vec<i128>, AllocError> {
     let mut numbers = Vec::new(alloc);
     for row in rows.list.as_slice() {
@@ -331,7 +332,7 @@ fn numbers_of(alloc: Global, rows: &Rows) -> Result<Vec<i128>, AllocError> {
     Ok(numbers)
 }
 
-// `many` numbers, from one on.
+/// `many` numbers, from one on.
 fn counted(alloc: Global, from: usize, many: usize) -> Result<Vec<usize>, AllocError>
     requires { from + many < 2 ^ 64 }
 {
@@ -342,24 +343,24 @@ fn counted(alloc: Global, from: usize, many: usize) -> Result<Vec<usize>, AllocE
     Ok(numbers)
 }
 
-// A number less the product of two others, where all of these fit.
+/// A number less the product of two others, where all of these fit.
 fn less(x: i128, factor: i128, y: i128) -> Option<i128> {
     minus(x, times(factor, y)?)
 }
 
-// The least common multiple of two numbers above 0, or 0 where it does not fit.
+/// The least common multiple of two numbers above 0, or 0 where it does not fit.
 fn multiple(a: i128, b: i128) -> i128 {
     times(a, divided(b, shared_by(a, b))).unwrap_or(0)
 }
 
-// Puts a number at a place, if there is one.
+/// Puts a number at a place, if there is one.
 fn put(numbers: &mut Vec<i128>, place: usize, number: i128) {
     if place < numbers.len() {
         numbers[place] = number;
     }
 }
 
-// Puts a number at the place of the row of a slack variable, which come after `width` others.
+/// Puts a number at the place of the row of a slack variable, which come after `width` others.
 fn put_slack(numbers: &mut Vec<i128>, width: usize, variable: usize, number: i128) {
     if width <= variable {
         put(numbers, variable - width, number);

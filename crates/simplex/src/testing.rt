@@ -1,4 +1,5 @@
-// The test whether a row holds where rows hold.
+//! The test whether a row holds where rows hold.
+
 ghost use Rattle.std.specs.Prelude.{◌≡◌, ◌+◌, IfOk, IfSome, length, take, true};
 ghost use Rattle.exact128.specs.Fits.{fits};
 ghost use Rattle.exact128.specs.Sums.{entry};
@@ -16,12 +17,13 @@ use fourier::Solved;
 use linear_rows::{Multipliers, Numbers, Point, Proof, Row, Rows, proves};
 use std::alloc::{AllocError, Global};
 
-// The multipliers of the rows and the scale of the target, if their test is in numbers that fit.
+/// The multipliers of the rows and the scale of the target, if their test is in numbers that fit.
 fn shown(rows: &Rows, target: &Row, by: Multipliers) -> Option<Multipliers>
     requires width { HaveWidth rows.now.width rows.now.list }
     requires target { length target.now.coeffs ≡ rows.now.width }
     requires fits { all_of fits (plain_row target.now) ≡ true }
-    requires refutes { Refutes (rows.now.width + 1) (test_rows rows.now.width (plain_rows rows.now.list) (plain_row target.now)) by.list }
+    requires refutes { Refutes (rows.now.width + 1)
+        (test_rows rows.now.width (plain_rows rows.now.list) (plain_row target.now)) by.list }
     ensures { ShowsIfFits (plain_rows rows.now.list) (plain_row target.now) by.list result }
 {
     let many = rows.list.len();
@@ -38,7 +40,7 @@ fn shown(rows: &Rows, target: &Row, by: Multipliers) -> Option<Multipliers>
     }
 }
 
-// The point of the rows at which the target fails.
+/// The point of the rows at which the target fails.
 fn failing(point: Point, width: usize) -> Point
     ensures t { result.t ≡ entry point.w width }
     ensures w { result.w ≡ take width point.w }
@@ -52,13 +54,15 @@ fn failing(point: Point, width: usize) -> Point
     }
 }
 
-// What the solution of the rows of a test says, unless the multipliers are not tested in numbers that fit.
+/// What the solution of the rows of a test says, unless the multipliers are not tested in numbers that fit.
 fn held(rows: &Rows, row: &Row, solved: Solved) -> Option<Held>
     requires width { HaveWidth rows.now.width rows.now.list }
     requires row { length row.now.coeffs ≡ rows.now.width }
     requires fits { all_of fits (plain_row row.now) ≡ true }
-    requires solves { Decides (rows.now.width + 1) (test_rows rows.now.width (plain_rows rows.now.list) (plain_row row.now)) solved }
-    ensures { TellsIfFits rows.now.width (plain_rows rows.now.list) (plain_row row.now) solved result }
+    requires solves { Decides (rows.now.width + 1)
+        (test_rows rows.now.width (plain_rows rows.now.list) (plain_row row.now)) solved }
+    ensures { TellsIfFits rows.now.width (plain_rows rows.now.list)
+        (plain_row row.now) solved result }
 {
     match solved {
         Solved::Point(point) => Some(Held::No(failing(point, rows.width as usize))),
@@ -69,7 +73,7 @@ fn held(rows: &Rows, row: &Row, solved: Solved) -> Option<Held>
     }
 }
 
-// What pivots tell, if they tell something.
+/// What pivots tell, if they tell something.
 fn by_pivots(
     alloc: Global,
     rows: &Rows,
@@ -79,7 +83,8 @@ fn by_pivots(
     requires width { HaveWidth rows.now.width rows.now.list }
     requires row { length row.now.coeffs ≡ rows.now.width }
     requires test { IsTest rows.now row.now system.now }
-    ensures { IfOk result (λ o. IfSome o (Tells rows.now.width (plain_rows rows.now.list) (plain_row row.now))) }
+    ensures { IfOk result (λ o. IfSome o
+        (Tells rows.now.width (plain_rows rows.now.list) (plain_row row.now))) }
 {
     match found(alloc, system)? {
         Some(solved) => Ok(held(rows, row, solved)),
@@ -87,7 +92,7 @@ fn by_pivots(
     }
 }
 
-// What elimination answers.
+/// What elimination answers.
 fn by_elimination(alloc: Global, rows: &Rows, row: &Row, system: &Rows) -> Result<Held, AllocError>
     requires width { HaveWidth rows.now.width rows.now.list }
     requires row { length row.now.coeffs ≡ rows.now.width }

@@ -52,7 +52,7 @@ impl Norm for AnyNorm {
     }
 }
 
-// Whether a text is a dot.
+/// Whether a text is a dot.
 fn is_dot_text(text: &[u8]) -> bool
     ensures { result ≡ is_dot_text text.now }
 {

@@ -1,4 +1,5 @@
-// Counting the names with arguments and the variables of a term.
+//! Counting the names with arguments and the variables of a term.
+
 ghost use Rattle.std.specs.Prelude.{◌≡◌, ◌↔◌, ◌<◌, ◌≤◌, ℕ, IsTrue, IfOk, Contains, map, pos, slice_index_or, take};
 ghost use Rattle.cti_terms.specs.Spell.{tree_of, trees_of};
 ghost use Rattle.cti_terms.specs.Tree.{all_nodes, is_below, nodes_of};
@@ -32,7 +33,7 @@ impl Counts {
         counts
     }
 
-    // Goes on in the last argument, so that a list is read without recursion.
+    /// Goes on in the last argument, so that a list is read without recursion.
     #[cycle(counting)]
     fn add(&mut self, t: &Term)
         requires below { IsTrue (is_below MOST_VARIABLES (tree_of t.now)) }
@@ -83,7 +84,8 @@ impl Counts {
     // Which of the first variables occur.
     pub(crate) fn occurring(&self, vars: u32) -> VarSet
         requires { vars ≤ MOST_VARIABLES }
-        ensures { (x : ℕ) → Contains (members result) x ↔ ((x < vars) × (0 < slice_index_or self.now.variables x 0)) }
+        ensures { (x : ℕ) → Contains (members result) x
+            ↔ ((x < vars) × (0 < slice_index_or self.now.variables x 0)) }
     {
         let mut set = VarSet::new();
         for x in 0..vars {

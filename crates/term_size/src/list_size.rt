@@ -31,7 +31,7 @@ struct Cells {
 }
 
 impl ListSize {
-    // Whether a name is the cell's.
+    /// Whether a name is the cell's.
     fn is_dot(self, name: Name) -> bool
         ensures { result ≡ is_dot self.dot name.0 }
     {
@@ -41,7 +41,7 @@ impl ListSize {
         }
     }
 
-    // The tail of a term that is a cell.
+    /// The tail of a term that is a cell.
     fn tail_of<'a>(self, t: &'a Term) -> Option<&'a Term>
         ensures { option_map (λ u. tree_of u.now) result ≡ tail_of self.dot (tree_of t.entry.now) }
     {
@@ -54,7 +54,7 @@ impl ListSize {
         second(args.as_slice())
     }
 
-    // The cells of a term.
+    /// The cells of a term.
     fn cells(self, t: &Term) -> Cells
         requires { nodes_of (tree_of t.now) ≤ MOST_NODES }
         ensures count { result.count ≡ list_size self.dot (λ _. 0) (tree_of t.now) }
@@ -74,7 +74,7 @@ impl ListSize {
     }
 }
 
-// The second of two arguments.
+/// The second of two arguments.
 fn second(args: &[Term]) -> Option<&Term>
     ensures { option_map (λ u. tree_of u.now) result ≡ second (trees_of args.entry.now) }
 {
@@ -84,7 +84,7 @@ fn second(args: &[Term]) -> Option<&Term>
     Some(&args[1])
 }
 
-// 1 for the variable at the end, and 0 for others.
+/// 1 for the variable at the end, and 0 for others.
 fn end_coefficient(end: Option<u32>, x: u32) -> i128
     ensures { result ≡ pos (ends_in end x) }
 {
@@ -94,7 +94,7 @@ fn end_coefficient(end: Option<u32>, x: u32) -> i128
     }
 }
 
-// For each of the given number of variables whether it is the one at the end.
+/// For each of the given number of variables whether it is the one at the end.
 fn end_coefficients(alloc: Global, end: Option<u32>, vars: u32) -> Result<Coefficients, AllocError>
     ensures { IfOk result (λ c. c ≡ ends_from 0 vars end) }
 {
@@ -105,7 +105,7 @@ fn end_coefficients(alloc: Global, end: Option<u32>, vars: u32) -> Result<Coeffi
     Ok(Coefficients::from_vec(items))
 }
 
-// The set of the variable at the end, if there is one.
+/// The set of the variable at the end, if there is one.
 fn end_set(end: Option<u32>) -> VarSet
     requires { (x : ℕ) → end ≡ Some x → x < SET_VARIABLES }
     ensures { (x : ℕ) → Contains (members result) x ↔ (end ≡ Some x) }

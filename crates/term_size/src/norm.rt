@@ -29,7 +29,8 @@ pub trait Norm {
         requires few { vars ≤ MOST_VARIABLES }
         requires below { IsTrue (is_below vars (tree_of t.now)) }
         requires small { nodes_of (tree_of t.now) ≤ MOST_NODES }
-        ensures { IfOk result (λ e. e.constant ∷ e.coeffs ≡ expression self.now vars (tree_of t.now)) };
+        ensures { IfOk result (λ e. e.constant ∷ e.coeffs ≡ expression self.now vars
+            (tree_of t.now)) };
 
     /// The variables that a term's rigidity asks for: it is rigid exactly where what stands for each of them is.
     ///

@@ -28,7 +28,8 @@ impl VarSet {
     /// Adds a member. One that is there changes nothing.
     pub fn insert(&mut self, variable: u32)
         requires { variable < SET_VARIABLES }
-        ensures { (x : ℕ) → Contains (members self.new) x ↔ (Contains (members self.old) x ⊎ (x ≡ variable)) }
+        ensures { (x : ℕ) → Contains (members self.new) x
+            ↔ (Contains (members self.old) x ⊎ (x ≡ variable)) }
     {
         self.0 |= 1 << variable;
     }

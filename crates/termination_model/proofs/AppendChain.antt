@@ -16,7 +16,7 @@ use Rattle.term_size.specs.Occurrences.{size_row}
 use Rattle.termination_model.specs.Systems.{row_over, system}
 use Rattle.termination_model.specs.Append.{append, append_nil, append_cons}
 use Rattle.termination_model.specs.Chain.{after, start_rows}
-use Rattle.termination_model.specs.ChainRows.{bottom_row, HasPart, IsJoin, HasPoint}
+use Rattle.termination_model.specs.ChainRows.{bottom_row, HasSublist, IsJoin, HasPoint}
 use Rattle.termination_model.specs.ChainSteps.{IsImage, HoldsHere, IsLegalStep}
 use Rattle.termination_model.specs.declared.how.How.TheVariants.{First, Join, Same}
 use Rattle.linear_rows.specs.Rows.{AreEmpty}
@@ -62,7 +62,7 @@ unfolding dot blown_step step_fits crossings_fit crossed_fits solved_rows_fit st
 joined_is = refl
 
 -- ---- the first image: each row left is proved from the three that are listed, and each of those fails without the others
-nil_part : HasPart nil_left nil_rows
+nil_part : HasSublist nil_left nil_rows
 nil_part = inr (tt, inl (tt, row (pos 0) (pos 0) (negsuc 0) (pos 1) ∷ row (pos 0) (pos 0) (pos 1) (negsuc 0) ∷ [], refl, inr (tt, inl (tt, row (pos 0) (pos 0) (pos 1) (negsuc 0) ∷ [], refl, inl (tt, [], refl, refl)))))
 
 nil_irredundant : IsIrredundant 3 nil_rows
@@ -82,7 +82,7 @@ natural_nil = naturals_by nil_heads refl
 nil_image : (rows : ℕ → List (List ℤ)) → IsImage fit size_row rows append_nil nil_rows
 nil_image rows = record {
   decided = nil_decided;
-  part = subst (λ (l : List (List ℤ)). HasPart l nil_rows) (sym nil_left_is) nil_part;
+  part = subst (λ (l : List (List ℤ)). HasSublist l nil_rows) (sym nil_left_is) nil_part;
   irredundant = nil_irredundant;
   spoken = ((refl, refl), ((refl, refl), ((refl, refl), tt)));
   same = λ r long spoken.
@@ -110,7 +110,7 @@ first_left_is : image_left 4 cons_heads first_body ≡ first_left
 unfolding dot blown_step step_fits crossings_fit crossed_fits solved_rows_fit step_fault crossed crossings solved_rows row_gcd gcd gcd_within
 first_left_is = refl
 
-first_part : HasPart first_left (at_least ∷ sum_rows)
+first_part : HasSublist first_left (at_least ∷ sum_rows)
 first_part = inl (tt, sum_rows, refl, inr (tt, inr (tt, inl (tt, row (pos 0) (pos 1) (pos 1) (negsuc 0) ∷ [], refl, inl (tt, [], refl, refl)))))
 
 first_irredundant : IsIrredundant 3 (at_least ∷ sum_rows)
@@ -127,7 +127,7 @@ first_covers = all_hold 4 (at_least ∷ sum_rows) first_left ((pos 1 ∷ pos 0 �
 first_image : IsImage fit size_row first_rows append_cons (at_least ∷ sum_rows)
 first_image = record {
   decided = first_decided;
-  part = subst (λ (l : List (List ℤ)). HasPart l (at_least ∷ sum_rows)) (sym first_left_is) first_part;
+  part = subst (λ (l : List (List ℤ)). HasSublist l (at_least ∷ sum_rows)) (sym first_left_is) first_part;
   irredundant = first_irredundant;
   spoken = ((refl, refl), ((refl, refl), ((refl, refl), tt)));
   same = λ r long spoken.
@@ -138,7 +138,7 @@ first_image = record {
 }
 
 -- ---- the join
-join_part : HasPart joined sum_rows
+join_part : HasSublist joined sum_rows
 join_part = inr (tt, inl (tt, row (pos 0) (pos 1) (pos 1) (negsuc 0) ∷ [], refl, inl (tt, [], refl, inr (tt, inr (tt, refl)))))
 
 sum_irredundant : IsIrredundant 3 sum_rows
@@ -166,7 +166,7 @@ sum_point = point_by 3 sum_rows (0 ∷ 0 ∷ 0 ∷ []) refl refl
 the_join : IsJoin fit 3 nil_rows (at_least ∷ sum_rows) sum_rows
 the_join = record {
   decided = join_decided;
-  part = subst (λ (l : List (List ℤ)). HasPart l sum_rows) (sym joined_is) join_part;
+  part = subst (λ (l : List (List ℤ)). HasSublist l sum_rows) (sym joined_is) join_part;
   irredundant = sum_irredundant;
   spoken = ((refl, refl), ((refl, refl), tt));
   same = λ r long spoken.
@@ -200,7 +200,7 @@ third_left_is = refl
 abbrev third_list : List (List ℤ)
 third_list = sum_rows ++ at_least ∷ []
 
-third_part : HasPart third_left third_list
+third_part : HasSublist third_left third_list
 third_part = inr (tt, inl (tt, row (pos 0) (pos 1) (pos 1) (negsuc 0) ∷ at_least ∷ [], refl, inl (tt, at_least ∷ [], refl, inr (tt, inl (tt, [], refl, refl)))))
 
 third_irredundant : IsIrredundant 3 third_list
@@ -217,7 +217,7 @@ third_covers = all_hold 4 third_list third_left ((pos 0 ∷ pos 0 ∷ pos 0 ∷ 
 third_image : IsImage fit size_row third_rows append_cons third_list
 third_image = record {
   decided = third_decided;
-  part = subst (λ (l : List (List ℤ)). HasPart l third_list) (sym third_left_is) third_part;
+  part = subst (λ (l : List (List ℤ)). HasSublist l third_list) (sym third_left_is) third_part;
   irredundant = third_irredundant;
   spoken = ((refl, refl), ((refl, refl), ((refl, refl), tt)));
   same = λ r long spoken.

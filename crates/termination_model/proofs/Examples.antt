@@ -5,7 +5,8 @@ use Rattle.termination_model.specs.Append.{append_cons}
 use Rattle.termination_model.specs.Descent.{mode_row}
 use Rattle.termination_model.specs.Modes.{modes}
 use Rattle.termination_model.specs.Sizes.{wide_system}
-use Rattle.termination_model.specs.Systems.{row_over, short_row, short_system}
+use Rattle.termination_model.specs.Systems.{row_over}
+use Rattle.termination_model.specs.ShortSystems.{short_row, short_system}
 use Rattle.termination_model.specs.View.{all_upper}
 
 -- the sizes of the first two lists are together that of the third: x1 + x2 - x3 is at least 0, and at most 0

@@ -6,14 +6,14 @@ use Rattle.std.proofs.lemmas.List.{length-map}
 use Rattle.cti_terms.specs.Tree.{Tree}
 use Rattle.exact128.specs.Sums.{dot, entry}
 use Rattle.linear_rows.specs.Members.{In}
-use Rattle.termination_model.specs.Best.{coefficient}
+use Rattle.termination_model.specs.Coefficients.{coefficient}
 use Rattle.termination_model.specs.Claims.{Mapping, SomeOf}
 use Rattle.termination_model.specs.Refutation.{Pair, Load, gather, Decreases, head_load, call_load, values_at, IsPair, IsRefutation}
 use Rattle.termination_model.specs.View.{Rule}
 use Rattle.termination_model.specs.Rows.{added}
 use Rattle.termination_model.specs.OwnCalls.{Position}
 use Rattle.termination_model.proofs.Entries.{entry_added}
-use Rattle.termination_model.specs.Excluding.{IsAt, IsRefutationAt, IsOfMembers, ExcludesAt, AllRefute}
+use Rattle.termination_model.specs.Excluding.{IsZeroOutside, IsRefutationAt, IsOfMembers, ExcludesAt, AllRefute}
 use Rattle.termination_model.proofs.Refuted.{none_at, weights}
 use Rattle.std.proofs.lemmas.Bool.Decides.{nat_tests}
 
@@ -74,46 +74,46 @@ past_end (x ∷ xs) (suc i) l = past_end xs i (omega arith)
 below_or : (a n : ℕ) → (a < n) ⊎ (n ≤ a)
 below_or a n = grind arith
 
-module _ (truth : (ℕ → Bool) → Tree → Bool) (expression : ℕ → Tree → List ℤ) (view : List Rule) (positions : List Position) (members : List ℕ) (ps : List Pair)
-    (of : AllByRecursion (IsOfMembers members) ps) (r : IsRefutationAt truth expression positions members view ps) where
+module _ (expression : ℕ → Tree → List ℤ) (view : List Rule) (positions : List Position) (members : List ℕ) (ps : List Pair)
+    (of : AllByRecursion (IsOfMembers members) ps) (r : IsRefutationAt expression positions members view ps) where
   abbrev heads : List Load
-  heads = map (head_load truth expression) ps
+  heads = map (head_load expression) ps
 
   abbrev called : List Load
-  called = map (call_load truth expression) ps
+  called = map (call_load expression) ps
 
   offset_order : (q : ℕ) → entry (gather q heads) 0 ≤ℤ entry (gather q called) 0
   offset_order q = elim (decide_member members q) [
     | inl i ↦ r.offsets q i
     | inr n ↦
-        let h = gather_none q 0 heads (each_load (head_load truth expression) (IsOfMembers members) (λ (h : Load). h.0 ≡ q → entry h.1 0 ≡ pos 0) ps (λ p k e. absurd (n (subst (λ (z : ℕ). In z members) e k.0))) of) in
-        let c = gather_none q 0 called (each_load (call_load truth expression) (IsOfMembers members) (λ (h : Load). h.0 ≡ q → entry h.1 0 ≡ pos 0) ps (λ p k e. absurd (n (subst (λ (z : ℕ). In z members) e k.1))) of) in
+        let h = gather_none q 0 heads (each_load (head_load expression) (IsOfMembers members) (λ (h : Load). h.0 ≡ q → entry h.1 0 ≡ pos 0) ps (λ p k e. absurd (n (subst (λ (z : ℕ). In z members) e k.0))) of) in
+        let c = gather_none q 0 called (each_load (call_load expression) (IsOfMembers members) (λ (h : Load). h.0 ≡ q → entry h.1 0 ≡ pos 0) ps (λ p k e. absurd (n (subst (λ (z : ℕ). In z members) e k.1))) of) in
         omega (arith, ints, h, c)
   ]
 
-  ordered : (l : Mapping) → IsAt positions l → (q i : ℕ) → 0 < coefficient (weights l q) i → entry (gather q heads) i ≤ℤ entry (gather q called) i
+  ordered : (l : Mapping) → IsZeroOutside positions l → (q i : ℕ) → 0 < coefficient (weights l q) i → entry (gather q heads) i ≤ℤ entry (gather q called) i
   ordered l at q zero k = offset_order q
   ordered l at q (suc a) k = r.columns q a (at q a k)
 
-  excludes : (l : Mapping) → IsAt positions l → Decreases truth expression view l → ⊥
-  excludes l at d = none_at truth expression view ps l r.pairs r.positive (ordered l at) d
+  excludes : (l : Mapping) → IsZeroOutside positions l → Decreases expression view l → ⊥
+  excludes l at d = none_at expression view ps l r.pairs r.positive (ordered l at) d
 
   abbrev HasAll : Pair → Type 0
   HasAll p = ((a : ℕ) → a < length p.rule.args → In (p.rule.member, a) positions) × ((a : ℕ) → a < length p.call.args → In (p.member, a) positions)
 
-  long_values : (n t : ℕ) (w : List ℕ) (ts : List Tree) → length (values_at truth expression n w t ts) ≡ suc (length ts)
+  long_values : (n t : ℕ) (w : List ℕ) (ts : List Tree) → length (values_at expression n w t ts) ≡ suc (length ts)
   long_values n t w ts = omega (arith, length-map ts (expression n), length-map (map (expression n) ts) (λ e. dot e (pos t ∷ map pos w)))
 
-  no_head : (q a : ℕ) → (In (q, a) positions → ⊥) → (p : Pair) → HasAll p → (head_load truth expression p).0 ≡ q → entry (head_load truth expression p).1 (suc a) ≡ pos 0
+  no_head : (q a : ℕ) → (In (q, a) positions → ⊥) → (p : Pair) → HasAll p → (head_load expression p).0 ≡ q → entry (head_load expression p).1 (suc a) ≡ pos 0
   no_head q a n p h e = elim (below_or a (length p.rule.args)) [
     | inl l ↦ absurd (n (subst (λ (z : ℕ). In (z, a) positions) e (h.0 a l)))
-    | inr l ↦ past_end (values_at truth expression p.rule.vars p.w p.t p.rule.args) (suc a) (omega (arith, long_values p.rule.vars p.t p.w p.rule.args))
+    | inr l ↦ past_end (values_at expression p.rule.vars p.w p.t p.rule.args) (suc a) (omega (arith, long_values p.rule.vars p.t p.w p.rule.args))
   ]
 
-  no_call : (q a : ℕ) → (In (q, a) positions → ⊥) → (p : Pair) → HasAll p → (call_load truth expression p).0 ≡ q → entry (call_load truth expression p).1 (suc a) ≡ pos 0
+  no_call : (q a : ℕ) → (In (q, a) positions → ⊥) → (p : Pair) → HasAll p → (call_load expression p).0 ≡ q → entry (call_load expression p).1 (suc a) ≡ pos 0
   no_call q a n p h e = elim (below_or a (length p.call.args)) [
     | inl l ↦ absurd (n (subst (λ (z : ℕ). In (z, a) positions) e (h.1 a l)))
-    | inr l ↦ past_end (values_at truth expression p.rule.vars p.w p.t p.call.args) (suc a) (omega (arith, long_values p.rule.vars p.t p.w p.call.args))
+    | inr l ↦ past_end (values_at expression p.rule.vars p.w p.t p.call.args) (suc a) (omega (arith, long_values p.rule.vars p.t p.w p.call.args))
   ]
 
   all_columns : AllByRecursion HasAll ps → (q i : ℕ) → entry (gather q heads) i ≤ℤ entry (gather q called) i
@@ -121,13 +121,13 @@ module _ (truth : (ℕ → Bool) → Tree → Bool) (expression : ℕ → Tree �
   all_columns all q (suc a) = elim (decide_position positions q a) [
     | inl i ↦ r.columns q a i
     | inr n ↦
-        let h = gather_none q (suc a) heads (each_load (head_load truth expression) HasAll (λ (h : Load). h.0 ≡ q → entry h.1 (suc a) ≡ pos 0) ps (no_head q a n) all) in
-        let c = gather_none q (suc a) called (each_load (call_load truth expression) HasAll (λ (h : Load). h.0 ≡ q → entry h.1 (suc a) ≡ pos 0) ps (no_call q a n) all) in
+        let h = gather_none q (suc a) heads (each_load (head_load expression) HasAll (λ (h : Load). h.0 ≡ q → entry h.1 (suc a) ≡ pos 0) ps (no_head q a n) all) in
+        let c = gather_none q (suc a) called (each_load (call_load expression) HasAll (λ (h : Load). h.0 ≡ q → entry h.1 (suc a) ≡ pos 0) ps (no_call q a n) all) in
         omega (arith, ints, h, c)
   ]
 
 pub excludes_at : ExcludesAt
-excludes_at truth expression view positions members ps l of r at d = excludes truth expression view positions members ps of r l at d
+excludes_at expression view positions members ps l of r at d = excludes expression view positions members ps of r l at d
 
 pub all_refute : AllRefute
-all_refute truth expression view positions members ps of all r = record { pairs = r.pairs; positive = r.positive; columns = all_columns truth expression view positions members ps of r all }
+all_refute expression view positions members ps of all r = record { pairs = r.pairs; positive = r.positive; columns = all_columns expression view positions members ps of r all }

@@ -12,12 +12,12 @@ use Rattle.linear_rows.specs.Proves.{Proves}
 use Rattle.linear_rows.specs.Step.{columns}
 use Rattle.linear_rows.proofs.Members.{to_All, in-left, in-right}
 use Rattle.linear_rows.proofs.Soundness.{law_holds}
-use Rattle.termination_model.specs.Best.{coefficient}
+use Rattle.termination_model.specs.Coefficients.{coefficient}
 use Rattle.termination_model.specs.Claims.{Mapping}
 use Rattle.termination_model.specs.Modes.{is_part}
 use Rattle.termination_model.specs.Refutation.{Pair, Decreases}
 use Rattle.termination_model.specs.View.{Member, Call, Rule, system_of, level_over, fall_over}
-use Rattle.termination_model.specs.Excluding.{IsAt, IsOfMembers, IsRefutationAt}
+use Rattle.termination_model.specs.Excluding.{IsZeroOutside, IsOfMembers, IsRefutationAt}
 use Rattle.termination_model.specs.OwnCalls.{OwnCall, Position, own_calls_from, own_calls, rows_before}
 use Rattle.termination_model.specs.SupportLaws.{AreFalls, HasFew, HasWidths}
 use Rattle.termination_model.specs.SupportSystem.{value_of_position, value_of_member, mapping_at}
@@ -122,15 +122,15 @@ coefficient_map f k (suc n) zero h = let e : k + 0 ≡ k = omega arith in rw e h
 coefficient_map f k (suc n) (suc a) h = let r = coefficient_map f (suc k) n a h in let e : k + suc a ≡ suc k + a = omega arith in rw e r
 
 -- ---- falls of all calls
-module _ (truth : (ℕ → Bool) → Tree → Bool) (expression : ℕ → Tree → List ℤ) (l : Mapping) where
+module _ (expression : ℕ → Tree → List ℤ) (l : Mapping) where
   abbrev Falls : OwnCall → Type 0
-  Falls o = HoldsOn (suc o.rule.vars) (rows_before expression o) (fall_over truth expression o.rule o.member o.call.args 1 l)
+  Falls o = HoldsOn (suc o.rule.vars) (rows_before expression o) (fall_over expression o.rule o.member o.call.args 1 l)
 
   abbrev FallsAt : Rule → Type 0
   FallsAt k = (j : ℕ) (b : Call) (q : ℕ) → slice_get k.body j ≡ Some b → b.place ≡ Member q
-      → HoldsOn (suc k.vars) (system_of expression k.vars (take j k.body)) (fall_over truth expression k q b.args 1 l)
+      → HoldsOn (suc k.vars) (system_of expression k.vars (take j k.body)) (fall_over expression k q b.args 1 l)
 
-  pub decreases : (view : List Rule) → ((o : OwnCall) → In o (own_calls view) → Falls o) → Decreases truth expression view l
+  pub decreases : (view : List Rule) → ((o : OwnCall) → In o (own_calls view) → Falls o) → Decreases expression view l
   decreases [] h = tt
   decreases (k ∷ ks) h = (
     (λ j b q at e.
@@ -145,56 +145,56 @@ natural [] z h = absurd h
 natural (m ∷ ms) z (inl e) = subst (λ (y : ℤ). pos 0 ≤ℤ y) e (omega (arith, ints))
 natural (m ∷ ms) z (inr h) = natural ms z h
 
-module _ (truth : (ℕ → Bool) → Tree → Bool) (expression : ℕ → Tree → List ℤ) (view : List Rule) (positions : List Position) (members : List ℕ) (arity : ℕ → ℕ) (width : HasWidths expression) where
+module _ (expression : ℕ → Tree → List ℤ) (view : List Rule) (positions : List Position) (members : List ℕ) (arity : ℕ → ℕ) (width : HasWidths expression) where
   module _ (l : Mapping) where
-    live_falls : (lives : List OwnCall) (ms : List ℕ) → AreFalls truth expression l lives ms → (o : OwnCall) → In o lives → Falls truth expression l o
+    live_falls : (lives : List OwnCall) (ms : List ℕ) → AreFalls expression l lives ms → (o : OwnCall) → In o lives → Falls expression l o
     live_falls [] ms h o i = absurd i
-    live_falls (x ∷ lives) ms h o (inl e) = subst (Falls truth expression l) e (here h.0)
+    live_falls (x ∷ lives) ms h o (inl e) = subst (Falls expression l) e (here h.0)
       where
-        here : Proves (rows_before expression x) (map pos (take (length (rows_before expression x)) ms)) (fall_over truth expression x.rule x.member x.call.args 1 l) (pos 1)
-            → Falls truth expression l x
+        here : Proves (rows_before expression x) (map pos (take (length (rows_before expression x)) ms)) (fall_over expression x.rule x.member x.call.args 1 l) (pos 1)
+            → Falls expression l x
         here p =
-            let target = fall_over truth expression x.rule x.member x.call.args 1 l in
+            let target = fall_over expression x.rule x.member x.call.args 1 l in
             let us = take (length (rows_before expression x)) ms in
-            subst (λ (n : ℕ). HoldsOn n (rows_before expression x) target) (fall_width truth expression l x width)
+            subst (λ (n : ℕ). HoldsOn n (rows_before expression x) target) (fall_width expression l x width)
             (law_holds (rows_before expression x) (map pos us) target 0 (to_All (λ z. pos 0 ≤ℤ z) (map pos us) (natural us)) p)
     live_falls (x ∷ lives) ms h o (inr i) = live_falls lives (drop (length (rows_before expression x)) ms) h.1 o i
 
-    all_fall : (lives : List OwnCall) (ms : List ℕ) → AreLives truth expression view positions lives → AreFalls truth expression l lives ms → Decreases truth expression view l
-    all_fall lives ms told h = decreases truth expression l view (λ o i. elim (told o i) [
+    all_fall : (lives : List OwnCall) (ms : List ℕ) → AreLives expression view positions lives → AreFalls expression l lives ms → Decreases expression view l
+    all_fall lives ms told h = decreases expression l view (λ o i. elim (told o i) [
       | inl k ↦ live_falls lives ms h o k
       | inr empty ↦ (λ t w ht lw hold. absurd (empty t w ht lw hold))
     ])
 
-  only_picked : (at : List Position) (cs os : List ℕ) → IsAt at (mapping_at arity at members cs os)
+  only_picked : (at : List Position) (cs os : List ℕ) → IsZeroOutside at (mapping_at arity at members cs os)
   only_picked at cs os q a h =
       let same : 0 + a ≡ a = omega arith in
       value_in at cs q a (rw same at (coefficient_map (value_of_position at cs q) 0 (arity q) a h))
 
-  has_part : AreDistinct positions → (s : List ℕ) (l : Mapping) → IsAt (picked_from 1 positions s) l → Decreases truth expression view l
-      → (is_part (support_from 1 positions l) s ≡ true) × HasSupport truth expression view positions (support_from 1 positions l)
+  has_part : AreDistinct positions → (s : List ℕ) (l : Mapping) → IsZeroOutside (picked_from 1 positions s) l → Decreases expression view l
+      → (is_part (support_from 1 positions l) s ≡ true) × HasSupport expression view positions (support_from 1 positions l)
   has_part distinct s l at d = (
     of_part (support_from 1 positions l) s (support_part positions l 1 s distinct (λ p i c. at p.0 p.1 c)),
     record { mapping = l; at = λ q a c. picked_in positions 1 s (q, a) (at q a c); decreases = d; is = refl },
   )
 
   no_part : (s : List ℕ) (at : List Position) (ps : List Pair) → ((x : Position) → In x (picked_from 1 positions s) → In x at)
-      → AllByRecursion (IsOfMembers members) ps → IsRefutationAt truth expression at members view ps → IsExcluded (HasSupport truth expression view positions) s
+      → AllByRecursion (IsOfMembers members) ps → IsRefutationAt expression at members view ps → IsExcluded (HasSupport expression view positions) s
   no_part s at ps within of r u part has =
       let l = has.mapping in
       let p : Part (support_from 1 positions l) s = subst (λ (z : List ℕ). Part z s) (sym has.is) (to_part u s part) in
-      excludes_at truth expression view at members ps l of r
+      excludes_at expression view at members ps l of r
       (λ q a c. within (q, a) (picked_at positions l 1 s p (q, a) (has.at q a c) c))
       has.decreases
 
-  sets : (s : List ℕ) → HasSupport truth expression view positions s → IsSet 1 (suc (length positions)) s
+  sets : (s : List ℕ) → HasSupport expression view positions s → IsSet 1 (suc (length positions)) s
   sets s h = subst (IsSet 1 (suc (length positions))) h.is (support_set positions h.mapping 1 (suc (length positions)) (omega arith))
 
 pub systems_give_mappings : SystemsGiveMappings
-systems_give_mappings truth expression view positions members arity lives width distinct told = record {
-  falls = λ l ms h. all_fall truth expression view positions members arity width l lives ms told h;
-  at = only_picked truth expression view positions members arity width;
-  found = has_part truth expression view positions members arity width distinct;
-  excluded = no_part truth expression view positions members arity width;
-  sets = sets truth expression view positions members arity width;
+systems_give_mappings expression view positions members arity lives width distinct told = record {
+  falls = λ l ms h. all_fall expression view positions members arity width l lives ms told h;
+  at = only_picked expression view positions members arity width;
+  found = has_part expression view positions members arity width distinct;
+  excluded = no_part expression view positions members arity width;
+  sets = sets expression view positions members arity width;
 }

@@ -2,7 +2,7 @@ pub mod Ackermann
 pub mod AllPositionsLaws
 pub mod Append
 pub mod AppendChain
-pub mod Better
+pub mod Covering
 pub mod Bound
 pub mod BuiltinLaws
 pub mod ChainHeads
@@ -45,6 +45,6 @@ pub mod TurnMakes
 pub mod TurnPoints
 pub mod TurnRefutes
 pub mod Values
-pub mod ViewLaws
+pub mod UpperRows
 pub mod Views
 pub mod Walk

@@ -84,31 +84,31 @@ pub length_zeros : (n : ℕ) → length (zeros n) ≡ n
 length_zeros zero = refl
 length_zeros (suc n) = ap suc (length_zeros n)
 
-module _ (truth : (ℕ → Bool) → Tree → Bool) (expression : ℕ → Tree → List ℤ) (l : Mapping) where
+module _ (expression : ℕ → Tree → List ℤ) (l : Mapping) where
   all_widths : HasWidths expression → (n : ℕ) (ts : List Tree) → AllByRecursion (λ (r : List ℤ). length r ≡ suc n) (map (expression n) ts)
   all_widths w n [] = tt
   all_widths w n (t ∷ ts) = (w n t, all_widths w n ts)
 
-  pub level_width : HasWidths expression → (n q : ℕ) (ts : List Tree) → length (level_over truth expression n q ts l) ≡ suc n
+  pub level_width : HasWidths expression → (n q : ℕ) (ts : List Tree) → length (level_over expression n q ts l) ≡ suc n
   level_width w n q ts = length-substituted n (map (expression n) ts) (pos (l.offset q) ∷ map pos (l.coefficients q)) (all_widths w n ts)
 
   -- the row of a fall has a number for each variable, and the constant
-  pub fall_width : (o : OwnCall) → HasWidths expression → length (fall_over truth expression o.rule o.member o.call.args 1 l) ≡ suc o.rule.vars
+  pub fall_width : (o : OwnCall) → HasWidths expression → length (fall_over expression o.rule o.member o.call.args 1 l) ≡ suc o.rule.vars
   fall_width o w =
-      let call = level_over truth expression o.rule.vars o.member o.call.args l in
+      let call = level_over expression o.rule.vars o.member o.call.args l in
       let a = level_width w o.rule.vars o.rule.member o.rule.args in
       let b = level_width w o.rule.vars o.member o.call.args in
       let c = length_added (suc o.rule.vars) call (pos 1 ∷ []) b (omega arith) in
       let d = length-map (added call (pos 1 ∷ [])) (λ x. negsuc 0 *ℤ x) in
-      length_added (suc o.rule.vars) (level_over truth expression o.rule.vars o.rule.member o.rule.args l) (scaled (negsuc 0) (added call (pos 1 ∷ []))) a (omega (arith, c, d))
+      length_added (suc o.rule.vars) (level_over expression o.rule.vars o.rule.member o.rule.args l) (scaled (negsuc 0) (added call (pos 1 ∷ []))) a (omega (arith, c, d))
 
-module _ (truth : (ℕ → Bool) → Tree → Bool) (expression : ℕ → Tree → List ℤ) (positions : List Position) (members : List ℕ) (arity : ℕ → ℕ) (cs os : List ℕ) where
+module _ (expression : ℕ → Tree → List ℤ) (positions : List Position) (members : List ℕ) (arity : ℕ → ℕ) (cs os : List ℕ) where
   abbrev l : Mapping
   l = mapping_at arity positions members cs os
 
   -- a level's number in a column
   pub level_entry : (n q : ℕ) (ts : List Tree) (x : ℕ) → length ts ≤ arity q → length os ≡ length members
-      → entry (level_over truth expression n q ts l) x ≡ dot (map (offset_share q x) members) (map pos os) +ℤ dot (map (share q (map (expression n) ts) x) positions) (map pos cs)
+      → entry (level_over expression n q ts l) x ≡ dot (map (offset_share q x) members) (map pos os) +ℤ dot (map (share q (map (expression n) ts) x) positions) (map pos cs)
   level_entry n q ts x few lo =
       let len = length-map ts (expression n) in
       let e = entry_substituted n (map (expression n) ts) (pos (l.offset q)) (map pos (l.coefficients q)) x in
@@ -141,11 +141,11 @@ module _ (truth : (ℕ → Bool) → Tree → Bool) (expression : ℕ → Tree �
 
   -- the number of the fall in a column
   fall_entry : (o : OwnCall) (x : ℕ) → HasFew arity o → length os ≡ length members
-      → entry (fall_over truth expression o.rule o.member o.call.args 1 l) x
+      → entry (fall_over expression o.rule o.member o.call.args 1 l) x
       ≡ less_one x +ℤ (dot (position_entries expression positions members o x) (map pos cs) +ℤ dot (offset_entries expression positions members o x) (map pos os))
   fall_entry o x few lo =
-      let head = level_over truth expression o.rule.vars o.rule.member o.rule.args l in
-      let call = level_over truth expression o.rule.vars o.member o.call.args l in
+      let head = level_over expression o.rule.vars o.rule.member o.rule.args l in
+      let call = level_over expression o.rule.vars o.member o.call.args l in
       let e1 = entry_added head (scaled (negsuc 0) (added call (pos 1 ∷ []))) x in
       let e2 = entry_scaled (negsuc 0) (added call (pos 1 ∷ [])) x in
       let e3 = entry_added call (pos 1 ∷ []) x in
@@ -160,14 +160,14 @@ module _ (truth : (ℕ → Bool) → Tree → Bool) (expression : ℕ → Tree �
       one_at zero = refl
       one_at (suc x) = refl
 
-  fall_long : (o : OwnCall) → HasWidths expression → length (fall_over truth expression o.rule o.member o.call.args 1 l) ≡ suc o.rule.vars
-  fall_long o w = fall_width truth expression l o w
+  fall_long : (o : OwnCall) → HasWidths expression → length (fall_over expression o.rule o.member o.call.args 1 l) ≡ suc o.rule.vars
+  fall_long o w = fall_width expression l o w
 
   -- the call's rows prove its fall
   call_falls : (o : OwnCall) (before after t : ℕ) (bs ms zs : List ℕ) → HasWidths expression → HasFew arity o → 1 ≤ t → length cs ≡ length positions → length os ≡ length members → length bs ≡ before
       → length ms ≡ length (rows_before expression o)
       → ((row : List ℤ) → In row (call_rows expression positions members before after o) → Holds row t (cs ++ (os ++ (bs ++ (ms ++ zs)))))
-      → Proves (rows_before expression o) (map pos ms) (fall_over truth expression o.rule o.member o.call.args 1 l) (pos 1)
+      → Proves (rows_before expression o) (map pos ms) (fall_over expression o.rule o.member o.call.args 1 l) (pos 1)
   call_falls o before after t bs ms zs width few ht lc lo lb lm holds x lx =
       let inside = in_columns (suc o.rule.vars) 0 x (omega arith) (below x lx) in
       let h = holds (call_row expression positions members before after o x) (in-map (call_row expression positions members before after o) (columns 0 (suc o.rule.vars)) x inside) in
@@ -176,7 +176,7 @@ module _ (truth : (ℕ → Bool) → Tree → Bool) (expression : ℕ → Tree �
       let one = no_more x t ht in
       omega (arith, ints, h, v, f, one)
     where
-      below : (x : ℕ) → x < length (fall_over truth expression o.rule o.member o.call.args 1 l) → x < 0 + suc o.rule.vars
+      below : (x : ℕ) → x < length (fall_over expression o.rule o.member o.call.args 1 l) → x < 0 + suc o.rule.vars
       below x lx = let e = fall_long o width in omega arith
 
       no_more : (x t : ℕ) → 1 ≤ t → (less_one x *ℤ pos t) ≤ℤ less_one x
@@ -206,7 +206,7 @@ module _ (truth : (ℕ → Bool) → Tree → Bool) (expression : ℕ → Tree �
   calls_fall : (calls : List OwnCall) (t : ℕ) (bs ms : List ℕ) → HasWidths expression → AllByRecursion (HasFew arity) calls → 1 ≤ t → length cs ≡ length positions → length os ≡ length members
       → length ms ≡ row_count expression positions members calls
       → ((row : List ℤ) → In row (rows_from expression positions members (length bs) calls) → Holds row t (cs ++ (os ++ (bs ++ ms))))
-      → AreFalls truth expression l calls ms
+      → AreFalls expression l calls ms
   calls_fall [] t bs ms width few ht lc lo lm holds = tt
   calls_fall (o ∷ calls) t bs ms width few ht lc lo lm holds =
       let n = length (rows_before expression o) in
@@ -223,6 +223,6 @@ module _ (truth : (ℕ → Bool) → Tree → Bool) (expression : ℕ → Tree �
       )
 
 pub points_fall : PointsFall
-points_fall truth expression positions members arity calls t cs os ms width few ht lc lo lm hold =
-    calls_fall truth expression positions members arity cs os calls t [] ms width few ht lc lo lm
+points_fall expression positions members arity calls t cs os ms width few ht lc lo lm hold =
+    calls_fall expression positions members arity cs os calls t [] ms width few ht lc lo lm
     (λ row i. from_All (λ r. Holds r t (cs ++ (os ++ ms))) (support_rows expression positions members calls) row hold i)

@@ -14,7 +14,8 @@ use Rattle.term_size.specs.Norm.{IsNorm}
 use Rattle.termination_model.proofs.Values.{values}
 use Rattle.termination_model.specs.Rows.{scaled, added, combined, substituted}
 use Rattle.termination_model.specs.Claims.{Mapping, Measure, Claims, sizes, IsInductive, level_row, fall_row, FallsOn, Descends, Serves}
-use Rattle.termination_model.specs.Systems.{row_over, system, row_fits, short_row, short_system}
+use Rattle.termination_model.specs.Systems.{row_over, system, row_fits}
+use Rattle.termination_model.specs.ShortSystems.{short_row, short_system}
 use Rattle.termination_model.specs.Short.{Provable, SizesProved, FallsProved, DescendsProved, ServesProved, ProofsShow}
 use Rattle.termination_model.proofs.SystemPoints.{Below, to_all, row_value, point_length, system_holds}
 

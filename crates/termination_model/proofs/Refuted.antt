@@ -9,7 +9,7 @@ use Rattle.exact128.specs.Sums.{dot, entry}
 use Rattle.linear_rows.specs.Rows.{AllHold, HoldsOn}
 use Rattle.cti_terms.specs.Tree.{Tree}
 use Rattle.termination_model.specs.Rows.{scaled, added, combined, substituted}
-use Rattle.termination_model.specs.Best.{coefficient}
+use Rattle.termination_model.specs.Coefficients.{coefficient}
 use Rattle.termination_model.specs.Claims.{Mapping, SomeOf}
 use Rattle.termination_model.specs.View.{Member, Call, Rule, system_of, level_over, fall_over}
 use Rattle.termination_model.specs.Refutation.{Pair, Load, gather, Decreases, head_load, call_load, IsPair, NoneDecreases}
@@ -187,15 +187,15 @@ from_in P [] x all i = absurd i
 from_in P (y ∷ xs) x all (inl e) = subst P e all.0
 from_in P (y ∷ xs) x all (inr i) = from_in P xs x all.1 i
 
-module _ (truth : (ℕ → Bool) → Tree → Bool) (expression : ℕ → Tree → List ℤ) (view : List Rule) (l : Mapping) (decreases : Decreases truth expression view l) where
+module _ (expression : ℕ → Tree → List ℤ) (view : List Rule) (l : Mapping) (decreases : Decreases expression view l) where
   abbrev Weighed : ℕ → List ℤ → ℤ
   Weighed q xs = dot (map pos (weights l q)) xs
 
-  row_here : (p : Pair) → IsPair truth expression view p → HoldsOn (suc p.rule.vars) (system_of expression p.rule.vars (take p.place p.rule.body)) (fall_over truth expression p.rule p.member p.call.args 1 l)
+  row_here : (p : Pair) → IsPair expression view p → HoldsOn (suc p.rule.vars) (system_of expression p.rule.vars (take p.place p.rule.body)) (fall_over expression p.rule p.member p.call.args 1 l)
   row_here p is = from_in (λ (k : Rule). (j : ℕ) (b : Call) (q : ℕ) → slice_get k.body j ≡ Some b → b.place ≡ Member q
-      → HoldsOn (suc k.vars) (system_of expression k.vars (take j k.body)) (fall_over truth expression k q b.args 1 l)) view p.rule decreases is.there p.place p.call p.member is.call is.member
+      → HoldsOn (suc k.vars) (system_of expression k.vars (take j k.body)) (fall_over expression k q b.args 1 l)) view p.rule decreases is.there p.place p.call p.member is.call is.member
 
-  at_point : (p : Pair) → IsPair truth expression view p → (t : ℕ) → t ≡ p.t → pos 0 ≤ℤ dot (fall_over truth expression p.rule p.member p.call.args 1 l) (pos t ∷ map pos p.w)
+  at_point : (p : Pair) → IsPair expression view p → (t : ℕ) → t ≡ p.t → pos 0 ≤ℤ dot (fall_over expression p.rule p.member p.call.args 1 l) (pos t ∷ map pos p.w)
   at_point p is t e = go t (subst (λ (x : ℕ). AllHold (system_of expression p.rule.vars (take p.place p.rule.body)) x p.w) (sym e) is.holds)
       (subst (λ (x : ℕ). (1 ≤ x) ⊎ ((w : List ℕ) × (t : ℕ) × (1 ≤ t) × (length w ≡ p.rule.vars) × AllHold (system_of expression p.rule.vars (take p.place p.rule.body)) t w)) (sym e) is.point)
     where
@@ -204,40 +204,40 @@ module _ (truth : (ℕ → Bool) → Tree → Bool) (expression : ℕ → Tree �
 
       go : (x : ℕ) → AllHold (system_of expression p.rule.vars (take p.place p.rule.body)) x p.w
           → (1 ≤ x) ⊎ ((w : List ℕ) × (t : ℕ) × (1 ≤ t) × (length w ≡ p.rule.vars) × AllHold (system_of expression p.rule.vars (take p.place p.rule.body)) t w)
-          → pos 0 ≤ℤ dot (fall_over truth expression p.rule p.member p.call.args 1 l) (pos x ∷ map pos p.w)
+          → pos 0 ≤ℤ dot (fall_over expression p.rule p.member p.call.args 1 l) (pos x ∷ map pos p.w)
       go (suc x) h point = row_here p is (suc x) p.w (omega arith) wide h
       go zero h (inl le) = absurd (omega arith)
-      go zero h (inr (w, s, ht, lw, hw)) = at_infinity (suc p.rule.vars) (system_of expression p.rule.vars (take p.place p.rule.body)) (fall_over truth expression p.rule p.member p.call.args 1 l) (row_here p is)
+      go zero h (inr (w, s, ht, lw, hw)) = at_infinity (suc p.rule.vars) (system_of expression p.rule.vars (take p.place p.rule.body)) (fall_over expression p.rule p.member p.call.args 1 l) (row_here p is)
           s w p.w ht (omega arith) (is.width ∙ sym lw) hw h
 
-  falls : (p : Pair) → IsPair truth expression view p → (Weighed p.member (call_load truth expression p).1 +ℤ pos p.t) ≤ℤ Weighed p.rule.member (head_load truth expression p).1
+  falls : (p : Pair) → IsPair expression view p → (Weighed p.member (call_load expression p).1 +ℤ pos p.t) ≤ℤ Weighed p.rule.member (head_load expression p).1
   falls p is =
       let ps = pos p.t ∷ map pos p.w in
       let n = p.rule.vars in
-      let head = level_over truth expression n p.rule.member p.rule.args l in
-      let call = level_over truth expression n p.member p.call.args l in
+      let head = level_over expression n p.rule.member p.rule.args l in
+      let call = level_over expression n p.member p.call.args l in
       let hv = dot_over n (map (expression n) p.rule.args) (pos (l.offset p.rule.member)) (map pos (l.coefficients p.rule.member)) (pos p.t) (map pos p.w) in
       let cv = dot_over n (map (expression n) p.call.args) (pos (l.offset p.member)) (map pos (l.coefficients p.member)) (pos p.t) (map pos p.w) in
       let f : (dot call ps +ℤ pos p.t) ≤ℤ dot head ps = plain_fall _ _ _ _ _ _ p.t (at_point p is p.t refl)
       (dot_added head (scaled (negsuc 0) (added call (pos 1 ∷ []))) ps) (dot_scaled (negsuc 0) (added call (pos 1 ∷ [])) ps) (dot_added call (pos 1 ∷ []) ps) (dot_unit p.t (map pos p.w)) in
-      subst (λ (z : ℤ). (Weighed p.member (call_load truth expression p).1 +ℤ pos p.t) ≤ℤ z) hv (subst (λ (z : ℤ). (z +ℤ pos p.t) ≤ℤ dot head ps) cv f)
+      subst (λ (z : ℤ). (Weighed p.member (call_load expression p).1 +ℤ pos p.t) ≤ℤ z) hv (subst (λ (z : ℤ). (z +ℤ pos p.t) ≤ℤ dot head ps) cv f)
 
-  all_fall : (ps : List Pair) → AllByRecursion (IsPair truth expression view) ps
-      → (summed (weights l) (map (call_load truth expression) ps) +ℤ pos (times ps)) ≤ℤ summed (weights l) (map (head_load truth expression) ps)
+  all_fall : (ps : List Pair) → AllByRecursion (IsPair expression view) ps
+      → (summed (weights l) (map (call_load expression) ps) +ℤ pos (times ps)) ≤ℤ summed (weights l) (map (head_load expression) ps)
   all_fall [] h = omega (arith, ints)
   all_fall (p ∷ ps) h =
       sum_step _ _ _ _ p.t (times ps) (falls p h.0) (all_fall ps h.1)
 
 -- only the coefficients and offsets that are positive have to be in order
-pub none_at : (truth : (ℕ → Bool) → Tree → Bool) (expression : ℕ → Tree → List ℤ) (view : List Rule) (ps : List Pair) (l : Mapping)
-    → AllByRecursion (IsPair truth expression view) ps → SomeOf (λ (p : Pair). 1 ≤ p.t) ps
-    → ((q i : ℕ) → 0 < coefficient (weights l q) i → entry (gather q (map (head_load truth expression) ps)) i ≤ℤ entry (gather q (map (call_load truth expression) ps)) i)
-    → Decreases truth expression view l → ⊥
-none_at truth expression view ps l pairs positive columns d =
-    let f = all_fall truth expression view l d ps pairs in
-    let o = lighter (weights l) (map (head_load truth expression) ps) (map (call_load truth expression) ps) columns in
+pub none_at : (expression : ℕ → Tree → List ℤ) (view : List Rule) (ps : List Pair) (l : Mapping)
+    → AllByRecursion (IsPair expression view) ps → SomeOf (λ (p : Pair). 1 ≤ p.t) ps
+    → ((q i : ℕ) → 0 < coefficient (weights l q) i → entry (gather q (map (head_load expression) ps)) i ≤ℤ entry (gather q (map (call_load expression) ps)) i)
+    → Decreases expression view l → ⊥
+none_at expression view ps l pairs positive columns d =
+    let f = all_fall expression view l d ps pairs in
+    let o = lighter (weights l) (map (head_load expression) ps) (map (call_load expression) ps) columns in
     let one = some_time ps positive in
     omega (arith, ints)
 
 pub none_decreases : NoneDecreases
-none_decreases truth expression view ps l r d = none_at truth expression view ps l r.pairs r.positive (λ q i k. r.columns q i) d
+none_decreases expression view ps l r d = none_at expression view ps l r.pairs r.positive (λ q i k. r.columns q i) d

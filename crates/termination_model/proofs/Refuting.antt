@@ -114,7 +114,7 @@ one_total n t w =
     let z = dot_none_over (map pos w) (columns 0 n) in
     omega (arith, ints, s, z)
 
-module _ (truth : (ℕ → Bool) → Tree → Bool) (expression : ℕ → Tree → List ℤ) (view : List Rule) (positions : List Position) (members : List ℕ) where
+module _ (expression : ℕ → Tree → List ℤ) (view : List Rule) (positions : List Position) (members : List ℕ) where
   -- the columns of positions, members and constants
   pub constant_entry : (b after : ℕ) (o : OwnCall) (x : ℕ) → entry (call_row expression positions members b after o x) 0 ≡ less_one x
   constant_entry b after o x = refl
@@ -138,21 +138,21 @@ module _ (truth : (ℕ → Bool) → Tree → Bool) (expression : ℕ → Tree �
       ∙ entry_map g members j q h
 
   -- sums of loads as totals
-  head_gathered : (q i : ℕ) (os : List OwnCall) (vs : List ℕ) → entry (gather q (map (head_load truth expression) (pairs_at os vs))) i
-      ≡ total (λ o t w. if o.rule.member == q then entry (values_at truth expression o.rule.vars w t o.rule.args) i else pos 0) os vs
+  head_gathered : (q i : ℕ) (os : List OwnCall) (vs : List ℕ) → entry (gather q (map (head_load expression) (pairs_at os vs))) i
+      ≡ total (λ o t w. if o.rule.member == q then entry (values_at expression o.rule.vars w t o.rule.args) i else pos 0) os vs
   head_gathered q i [] vs = refl
   head_gathered q i (o ∷ os) [] = refl
   head_gathered q i (o ∷ os) (t ∷ vs) =
-      gathered q i (o.rule.member, values_at truth expression o.rule.vars (take o.rule.vars vs) t o.rule.args) (map (head_load truth expression) (pairs_at os (drop o.rule.vars vs)))
-      ∙ ap (λ z. (if o.rule.member == q then entry (values_at truth expression o.rule.vars (take o.rule.vars vs) t o.rule.args) i else pos 0) +ℤ z) (head_gathered q i os (drop o.rule.vars vs))
+      gathered q i (o.rule.member, values_at expression o.rule.vars (take o.rule.vars vs) t o.rule.args) (map (head_load expression) (pairs_at os (drop o.rule.vars vs)))
+      ∙ ap (λ z. (if o.rule.member == q then entry (values_at expression o.rule.vars (take o.rule.vars vs) t o.rule.args) i else pos 0) +ℤ z) (head_gathered q i os (drop o.rule.vars vs))
 
-  call_gathered : (q i : ℕ) (os : List OwnCall) (vs : List ℕ) → entry (gather q (map (call_load truth expression) (pairs_at os vs))) i
-      ≡ total (λ o t w. if o.member == q then entry (values_at truth expression o.rule.vars w t o.call.args) i else pos 0) os vs
+  call_gathered : (q i : ℕ) (os : List OwnCall) (vs : List ℕ) → entry (gather q (map (call_load expression) (pairs_at os vs))) i
+      ≡ total (λ o t w. if o.member == q then entry (values_at expression o.rule.vars w t o.call.args) i else pos 0) os vs
   call_gathered q i [] vs = refl
   call_gathered q i (o ∷ os) [] = refl
   call_gathered q i (o ∷ os) (t ∷ vs) =
-      gathered q i (o.member, values_at truth expression o.rule.vars (take o.rule.vars vs) t o.call.args) (map (call_load truth expression) (pairs_at os (drop o.rule.vars vs)))
-      ∙ ap (λ z. (if o.member == q then entry (values_at truth expression o.rule.vars (take o.rule.vars vs) t o.call.args) i else pos 0) +ℤ z) (call_gathered q i os (drop o.rule.vars vs))
+      gathered q i (o.member, values_at expression o.rule.vars (take o.rule.vars vs) t o.call.args) (map (call_load expression) (pairs_at os (drop o.rule.vars vs)))
+      ∙ ap (λ z. (if o.member == q then entry (values_at expression o.rule.vars (take o.rule.vars vs) t o.call.args) i else pos 0) +ℤ z) (call_gathered q i os (drop o.rule.vars vs))
 
   -- the columns of multipliers
   abbrev place : ℕ → ℕ
@@ -248,12 +248,12 @@ module _ (truth : (ℕ → Bool) → Tree → Bool) (expression : ℕ → Tree �
       let own = none_at (suc n) (map pos (t ∷ take n us)) (λ x. entry (call_row expression positions members b (row_count expression positions members os) o x) (place ((b + m) + r))) (λ x. after_none b (row_count expression positions members os) o x r) in
       omega (arith, ints, low, split, own)
 
-  positive_or : (o : OwnCall) (t : ℕ) (w : List ℕ) → IsLive truth expression o
+  positive_or : (o : OwnCall) (t : ℕ) (w : List ℕ) → IsLive expression o
       → (1 ≤ t) ⊎ ((w : List ℕ) × (t : ℕ) × (1 ≤ t) × (length w ≡ o.rule.vars) × AllHold (rows_before expression o) t w)
   positive_or o t w live = inr (live.w, live.t, live.some, live.long, live.hold)
 
-  all_pairs : (b : ℕ) (os : List OwnCall) (us : List ℕ) → AllByRecursion (IsOwnCall view) os → AllByRecursion (IsLive truth expression) os → length us ≡ number_count os → AllLow b os us
-      → AllByRecursion (IsPair truth expression view) (pairs_at os us)
+  all_pairs : (b : ℕ) (os : List OwnCall) (us : List ℕ) → AllByRecursion (IsOwnCall view) os → AllByRecursion (IsLive expression) os → length us ≡ number_count os → AllLow b os us
+      → AllByRecursion (IsPair expression view) (pairs_at os us)
   all_pairs b [] us own live len h = tt
   all_pairs b (o ∷ os) [] own live len h = tt
   all_pairs b (o ∷ os) (t ∷ us) own live len h = (
@@ -294,13 +294,13 @@ module _ (truth : (ℕ → Bool) → Tree → Bool) (expression : ℕ → Tree �
     some_time (o ∷ os) (zero ∷ us) h = inr (some_time os (drop o.rule.vars us) (omega (arith, ints, h)))
     some_time (o ∷ os) (suc t ∷ us) h = inl (omega arith)
 
-    position_low : (q a : ℕ) → In (q, a) positions → entry (gather q (map (head_load truth expression) (pairs_at calls vs))) (suc a) ≤ℤ entry (gather q (map (call_load truth expression) (pairs_at calls vs))) (suc a)
+    position_low : (q a : ℕ) → In (q, a) positions → entry (gather q (map (head_load expression) (pairs_at calls vs))) (suc a) ≤ℤ entry (gather q (map (call_load expression) (pairs_at calls vs))) (suc a)
     position_low q a h =
         let at = at_place positions (q, a) h in
         let l = low at.0 (omega (arith, there positions at.0 (q, a) at.1)) in
         let f = λ (o : OwnCall) (x : ℕ). share o.rule.member (head_sizes expression o) x (q, a) -ℤ share o.member (call_sizes expression o) x (q, a) in
-        let heads = λ (o : OwnCall) (t : ℕ) (w : List ℕ). if o.rule.member == q then entry (values_at truth expression o.rule.vars w t o.rule.args) (suc a) else pos 0 in
-        let called = λ (o : OwnCall) (t : ℕ) (w : List ℕ). if o.member == q then entry (values_at truth expression o.rule.vars w t o.call.args) (suc a) else pos 0 in
+        let heads = λ (o : OwnCall) (t : ℕ) (w : List ℕ). if o.rule.member == q then entry (values_at expression o.rule.vars w t o.rule.args) (suc a) else pos 0 in
+        let called = λ (o : OwnCall) (t : ℕ) (w : List ℕ). if o.member == q then entry (values_at expression o.rule.vars w t o.call.args) (suc a) else pos 0 in
         let e = column_total expression positions members (suc at.0) f (position_entry at.0 (q, a) at.1) 0 calls vs long
         ∙ total_same (λ o t w. dot (map pos (t ∷ w)) (map (f o) (columns 0 (suc o.rule.vars)))) (λ o t w. heads o t w -ℤ called o t w) calls vs long (one_call q a)
         ∙ total_less heads called calls vs in
@@ -310,7 +310,7 @@ module _ (truth : (ℕ → Bool) → Tree → Bool) (expression : ℕ → Tree �
       where
         one_call : (q a : ℕ) (o : OwnCall) (t : ℕ) (w : List ℕ) → length w ≡ o.rule.vars
             → dot (map pos (t ∷ w)) (map (λ x. share o.rule.member (head_sizes expression o) x (q, a) -ℤ share o.member (call_sizes expression o) x (q, a)) (columns 0 (suc o.rule.vars)))
-            ≡ (if o.rule.member == q then entry (values_at truth expression o.rule.vars w t o.rule.args) (suc a) else pos 0) -ℤ (if o.member == q then entry (values_at truth expression o.rule.vars w t o.call.args) (suc a) else pos 0)
+            ≡ (if o.rule.member == q then entry (values_at expression o.rule.vars w t o.rule.args) (suc a) else pos 0) -ℤ (if o.member == q then entry (values_at expression o.rule.vars w t o.call.args) (suc a) else pos 0)
         one_call q a o t w l =
             let m = map_less (λ x. share o.rule.member (head_sizes expression o) x (q, a)) (λ x. share o.member (call_sizes expression o) x (q, a)) (map pos (t ∷ w)) (columns 0 (suc o.rule.vars)) in
             let h = share_total o.rule.member a o.rule.vars t w (head_sizes expression o) (q, a) l
@@ -319,7 +319,7 @@ module _ (truth : (ℕ → Bool) → Tree → Bool) (expression : ℕ → Tree �
             ∙ ap (λ z. if o.member == q then z else pos 0) (sym (entry_dots (call_sizes expression o) (map pos (t ∷ w)) a)) in
             m ∙ (λ i. h i -ℤ k i)
 
-    offset_low : (q : ℕ) → In q members → entry (gather q (map (head_load truth expression) (pairs_at calls vs))) 0 ≤ℤ entry (gather q (map (call_load truth expression) (pairs_at calls vs))) 0
+    offset_low : (q : ℕ) → In q members → entry (gather q (map (head_load expression) (pairs_at calls vs))) 0 ≤ℤ entry (gather q (map (call_load expression) (pairs_at calls vs))) 0
     offset_low q h =
         let at = at_place members q h in
         let l = low (length positions + at.0) (omega (arith, there members at.0 q at.1)) in
@@ -346,7 +346,7 @@ module _ (truth : (ℕ → Bool) → Tree → Bool) (expression : ℕ → Tree �
         let same : 0 + r ≡ r = omega arith in
         rw same (low (length positions + (length members + r)) (omega arith))
 
-    refutation : AllByRecursion (IsOwnCall view) calls → AllByRecursion (IsLive truth expression) calls → IsRefutationAt truth expression positions members view (pairs_at calls vs)
+    refutation : AllByRecursion (IsOwnCall view) calls → AllByRecursion (IsLive expression) calls → IsRefutationAt expression positions members view (pairs_at calls vs)
     refutation own live = record {
       pairs = all_pairs 0 calls vs own live long multipliers_low;
       positive = some_time calls vs (subst (λ (z : ℤ). z ≤ℤ negsuc 0) constants first_low);
@@ -355,4 +355,4 @@ module _ (truth : (ℕ → Bool) → Tree → Bool) (expression : ℕ → Tree �
     }
 
 pub multipliers_refute : MultipliersRefute
-multipliers_refute truth expression view positions members calls vs width own live long refutes = refutation truth expression view positions members calls vs long refutes own live
+multipliers_refute expression view positions members calls vs width own live long refutes = refutation expression view positions members calls vs long refutes own live

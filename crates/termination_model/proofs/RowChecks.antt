@@ -11,7 +11,7 @@ use Rattle.linear_rows.specs.Proves.{rest_number}
 use Rattle.linear_rows.specs.Irredundant.{Fails}
 use Rattle.linear_rows.proofs.Members.{to_All, from_All}
 use Rattle.linear_rows.proofs.Soundness.{law_holds}
-use Rattle.termination_model.specs.ChainRows.{HasPoint, HasPart}
+use Rattle.termination_model.specs.ChainRows.{HasPoint, HasSublist}
 
 le_true : (a b : ℤ) → int_le a b ≡ true → a ≤ℤ b
 le_true a b e = omega (arith, ints)
@@ -96,7 +96,7 @@ all_hold n rows (x ∷ all) (ms ∷ mss) e r (inr i) =
     all_hold n rows all mss (both (nat_eq (length x) n && (naturals_in ms && proves_in rows ms x 0 (length x))) (all_proved n rows all mss) e).1 r i
 
 -- a part on which all rows hold has exactly these rows
-pub part_same : (n : ℕ) (all rows : List (List ℤ)) → HasPart all rows → ((r : List ℤ) → In r all → HoldsOn n rows r) → (r : List ℤ) → HoldsOn n rows r ↔ HoldsOn n all r
+pub part_same : (n : ℕ) (all rows : List (List ℤ)) → HasSublist all rows → ((r : List ℤ) → In r all → HoldsOn n rows r) → (r : List ℤ) → HoldsOn n rows r ↔ HoldsOn n all r
 part_same n all rows part covers r = (there, back)
   where
     there : HoldsOn n rows r → HoldsOn n all r

@@ -74,6 +74,6 @@ pub record AckDescends : Type 0 where
   pub turns : AreTurns size_row (positions_of ack_view) (members_of ack_view) (own_calls ack_view) ack_turns
   pub all : remaining (own_calls ack_view) ack_turns ≡ []
   -- so their list descends
-  pub descends : ListDescends truth size_row ack_view (map (mapping_by arity (positions_of ack_view) (members_of ack_view)) ack_turns)
+  pub descends : ListDescends size_row ack_view (map (mapping_by arity (positions_of ack_view) (members_of ack_view)) ack_turns)
   -- the first mapping is that of the first argument, the second one that of the second argument
   pub coefficients : map (λ (l : Mapping). l.coefficients 0) (map (mapping_by arity (positions_of ack_view) (members_of ack_view)) ack_turns) ≡ (1 ∷ 0 ∷ 0 ∷ []) ∷ (0 ∷ 1 ∷ 0 ∷ []) ∷ []

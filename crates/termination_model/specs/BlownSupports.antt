@@ -33,7 +33,7 @@ is_found (Refuted ms) = false
 abbrev pub same_position : Position → Position → Bool
 same_position p r = (p.0 == r.0) && (p.1 == r.1)
 
-module _ (truth : (ℕ → Bool) → Tree → Bool) (expression : ℕ → Tree → List ℤ) (view : List Rule) (arity : ℕ → ℕ) where
+module _ (expression : ℕ → Tree → List ℤ) (view : List Rule) (arity : ℕ → ℕ) where
   -- the solution of the test whether the rows before a call are empty
   abbrev pub emptiness : OwnCall → Solution
   emptiness o = solution (o.rule.vars + 1) (test_rows o.rule.vars (rows_before expression o) (bottom_row o.rule.vars))
@@ -53,13 +53,13 @@ module _ (truth : (ℕ → Bool) → Tree → Bool) (expression : ℕ → Tree �
   abbrev pub FallsFit : Mapping → List OwnCall → List ℤ → Type 0
   FallsFit l [] ms = Unit {0}
   FallsFit l (o ∷ os) ms =
-      (row_fits (fall_over truth expression o.rule o.member o.call.args 1 l) ≡ true)
-      × AllColumnsFit (rows_before expression o) (take (length (rows_before expression o)) ms) (fall_over truth expression o.rule o.member o.call.args 1 l) (pos 1)
+      (row_fits (fall_over expression o.rule o.member o.call.args 1 l) ≡ true)
+      × AllColumnsFit (rows_before expression o) (take (length (rows_before expression o)) ms) (fall_over expression o.rule o.member o.call.args 1 l) (pos 1)
       × FallsFit l os (drop (length (rows_before expression o)) ms)
 
   -- the targets of calls that cannot be reached fit as well
   abbrev pub TargetsFit : Mapping → Type 0
-  TargetsFit l = AllByRecursion (λ (o : OwnCall). row_fits (fall_over truth expression o.rule o.member o.call.args 1 l) ≡ true) (own_calls view)
+  TargetsFit l = AllByRecursion (λ (o : OwnCall). row_fits (fall_over expression o.rule o.member o.call.args 1 l) ≡ true) (own_calls view)
 
   -- the rows before the call of a pair, and the sizes of its arguments
   abbrev pub pair_rows : Pair → List (List ℤ)
@@ -82,8 +82,8 @@ module _ (truth : (ℕ → Bool) → Tree → Bool) (expression : ℕ → Tree �
     pub values : AllByRecursion (λ p. AllByRecursion (FitsAt (pos p.t ∷ map pos p.w)) (pair_rows p ++ pair_sizes p)) ps
     pub seconds : AllByRecursion (λ p. (o : OwnCall) (t : ℤ) (w : List ℤ) → p.t ≡ 0 → In o (own_calls view) → o.rule ≡ p.rule → o.place ≡ p.place → emptiness o ≡ Found t w
         → AllByRecursion (FitsAt (last_first o.rule.vars w)) (pair_rows p)) ps
-    pub head_sums : (k q : ℕ) → row_fits (gather q (map (head_load truth expression) (take k ps))) ≡ true
-    pub call_sums : (k q : ℕ) → row_fits (gather q (map (call_load truth expression) (take k ps))) ≡ true
+    pub head_sums : (k q : ℕ) → row_fits (gather q (map (head_load expression) (take k ps))) ≡ true
+    pub call_sums : (k q : ℕ) → row_fits (gather q (map (call_load expression) (take k ps))) ≡ true
 
   -- the system of these positions is blown
   pub data IsBlownAt (ps : List Position) : Type 0 where

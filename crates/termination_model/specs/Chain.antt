@@ -83,6 +83,10 @@ abbrev pub is_number : ℕ → Option ℕ → Bool
 is_number c None = false
 is_number c (Some d) = d == c
 
+-- whether a predicate is in the component
+abbrev pub is_member : Partition → ℕ → ℕ → Bool
+is_member comps c q = is_number c (component_of comps q)
+
 -- the clauses of a component's predicates, in program order
 abbrev pub clauses_of : Listing → Partition → ℕ → List (ℕ × Clause)
 clauses_of p comps c = filter (λ k. is_number c (component_of comps k.1.head.pred.0)) (counted 1 p.clauses)

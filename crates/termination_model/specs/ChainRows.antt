@@ -1,4 +1,4 @@
--- A procedure, to believe for who is blown.
+-- To believe, for the modes.
 -- Lists of size rows in a chain: the row that holds nowhere, sublists, and joins.
 --
 -- The rows that a domain speaks of are given by a test, `speaks`: for polyhedra it is true of rows whose numbers fit.
@@ -25,8 +25,8 @@ Sieved Stays Goes [] ys = ys ≡ []
 Sieved Stays Goes (x ∷ xs) ys = (Stays x × (zs : List (List ℤ)) × (ys ≡ x ∷ zs) × Sieved Stays Goes xs zs) ⊎ (Goes x × Sieved Stays Goes xs ys)
 
 -- the second list is a sublist of the first
-abbrev pub HasPart : List (List ℤ) → List (List ℤ) → Type 0
-HasPart = Sieved (λ _. Unit {0}) (λ _. Unit {0})
+abbrev pub HasSublist : List (List ℤ) → List (List ℤ) → Type 0
+HasSublist = Sieved (λ _. Unit {0}) (λ _. Unit {0})
 
 -- something is blown, at some step
 abbrev pub IsBlown : Option (ℕ × Bool) → Type 0
@@ -39,7 +39,7 @@ AreSpoken speaks n rows = AllByRecursion (λ r. (length r ≡ suc n) × (speaks 
 -- an irredundant sublist of the join's rows, on which the same rows hold as on both
 pub record IsJoin (speaks : List ℤ → Bool) (n : ℕ) (first second rows : List (List ℤ)) : Type 0 where
   pub decided : join_blown n first second ≡ None
-  pub part : HasPart (join_left n first second) rows
+  pub part : HasSublist (join_left n first second) rows
   pub irredundant : IsIrredundant n rows
   pub spoken : AreSpoken speaks n rows
   pub same : (r : List ℤ) → length r ≡ suc n → speaks r ≡ true → HoldsOn (suc n) rows r ↔ (HoldsOn (suc n) first r × HoldsOn (suc n) second r)

@@ -1,12 +1,12 @@
--- A procedure, to believe for who is blown.
+-- To believe, for the modes.
 -- A step of a chain: what it notes of its clause, and what it may do to the rows of its head's predicate.
 --
 -- A step takes the image of its clause: rows of the sizes that the head's arguments have where the body's size rows
 -- hold. With the image it changes the rows of the head's predicate.
 --
 -- Systems of elimination and tests may be blown. An image whose system is blown is weak and has no rows. A step is weak
--- only where some test or join that it needs is blown; it keeps rows that hold, and loses only rows that fail or whose
--- test is blown.
+-- only where some test or join that it needs is blown (`ChainLicences.antt`); it keeps rows that hold, and loses only
+-- rows that fail or whose test is blown.
 --
 -- To believe: `IsImage`, `IsStrong`, `IsWeak`, `IsLegalStep`, over the words of `ChainRows.antt`.
 -- Source: the fixpoint of size relations with widening, as in Mesnard and Neumerkel 2001.
@@ -15,9 +15,10 @@ use Rattle.std.specs.List.{AllByRecursion}
 use Rattle.cti_terms.specs.Tree.{Tree}
 use Rattle.cti_terms.specs.declared.clauses.Clause.{Clause}
 use Rattle.linear_rows.specs.Rows.{HoldsOn, AreEmpty}
-use Rattle.linear_rows.specs.Systems.{image_blown, image_left, join_blown}
+use Rattle.linear_rows.specs.Systems.{image_blown, image_left}
 use Rattle.linear_rows.specs.Irredundant.{Fails, IsIrredundant, TestIsBlown}
-use Rattle.termination_model.specs.ChainRows.{bottom_row, HasPoint, Sieved, HasPart, IsBlown, AreSpoken, IsJoin}
+use Rattle.termination_model.specs.ChainRows.{bottom_row, HasPoint, Sieved, HasSublist, IsBlown, AreSpoken, IsJoin}
+use Rattle.termination_model.specs.ChainLicences.{IsLicensed}
 use Rattle.termination_model.specs.Claims.{SomeOf}
 use Rattle.termination_model.specs.Systems.{row_over, system}
 use Rattle.termination_model.specs.declared.how.How.{How}
@@ -38,6 +39,9 @@ module _ (speaks : List ℤ → Bool) (n : ℕ) (HoldsThere FailsThere IsBlownTh
   abbrev pub BothHavePoints : Type 0
   BothHavePoints = HasPoint n image × HasPoint n old
 
+  abbrev pub HasLicence : Type 0
+  HasLicence = IsLicensed n HoldsThere FailsThere IsBlownThere pass old image
+
   -- a step that is not weak, by the first case that fits
   abbrev pub IsStrong : How → List (List ℤ) → Type 0
   IsStrong Nothing new = AreEmpty (suc n) image × (new ≡ old)
@@ -46,23 +50,14 @@ module _ (speaks : List ℤ → Bool) (n : ℕ) (HoldsThere FailsThere IsBlownTh
   IsStrong Join new = (pass ≤ 3) × BothHavePoints × SomeOf FailsThere old × IsJoin speaks n old image new
   IsStrong Keep new = (3 < pass) × BothHavePoints × SomeOf FailsThere old × Sieved HoldsThere FailsThere old new
 
-  -- something that the step needs is blown
-  abbrev pub IsLicensed : Type 0
-  IsLicensed =
-      ((pass ≤ 3) × IsBlown (join_blown n old image))
-      ⊎ (SomeOf IsBlownThere old
-      ⊎ (IsBlownThere (bottom_row n)
-      ⊎ (TestIsBlown n old (bottom_row n)
-      ⊎ TestIsBlown n image (bottom_row n))))
-
   -- rows are lost only where they fail or their test is blown
   abbrev pub KeepsOf : List (List ℤ) → List (List ℤ) → Type 0
   KeepsOf base new = Sieved HoldsThere (λ r. FailsThere r ⊎ IsBlownThere r) base new
 
   -- a weak step keeps rows of the image where the old rows are the one row of constant -1, and old rows otherwise
   abbrev pub IsWeak : How → List (List ℤ) → Type 0
-  IsWeak First new = IsLicensed × (old ≡ bottom_row n ∷ []) × KeepsOf image new
-  IsWeak Keep new = IsLicensed × (old ≡ bottom_row n ∷ [] → ⊥) × KeepsOf old new
+  IsWeak First new = HasLicence × (old ≡ bottom_row n ∷ []) × KeepsOf image new
+  IsWeak Keep new = HasLicence × (old ≡ bottom_row n ∷ [] → ⊥) × KeepsOf old new
   IsWeak Nothing new = ⊥
   IsWeak Same new = ⊥
   IsWeak Join new = ⊥
@@ -100,7 +95,7 @@ module _ (speaks : List ℤ → Bool) (expression : ℕ → Tree → List ℤ) w
     -- an irredundant sublist of the rows that elimination leaves, on which the same rows hold as on the clause
     pub record IsImage (image : List (List ℤ)) : Type 0 where
       pub decided : image_blown k.vars heads body ≡ None
-      pub part : HasPart (image_left k.vars heads body) image
+      pub part : HasSublist (image_left k.vars heads body) image
       pub irredundant : IsIrredundant arity image
       pub spoken : AreSpoken speaks arity image
       pub same : (r : List ℤ) → length r ≡ suc arity → speaks r ≡ true → HoldsOn (suc arity) image r ↔ HoldsHere r

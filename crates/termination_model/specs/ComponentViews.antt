@@ -48,5 +48,5 @@ module _ (expression : ℕ → Tree → List ℤ) (p : Listing) (comps : Partiti
   component_view c = view_of p size_claims c itself
 
   -- a decreasing mapping of the component has exactly this support
-  abbrev pub Has : ℕ → List ℕ → Type 0
-  Has c s = HasSupport no_truth expression (component_view c) (positions_in p comps c) s
+  abbrev pub HasSupportIn : ℕ → List ℕ → Type 0
+  HasSupportIn c s = HasSupport expression (component_view c) (positions_in p comps c) s

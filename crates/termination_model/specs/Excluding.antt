@@ -10,7 +10,7 @@ use Rattle.cti_terms.specs.Tree.{Tree}
 use Rattle.linear_rows.specs.Members.{In}
 use Rattle.linear_rows.specs.Proves.{Refutes}
 use Rattle.linear_rows.specs.Rows.{AllHold}
-use Rattle.termination_model.specs.Best.{coefficient}
+use Rattle.termination_model.specs.Coefficients.{coefficient}
 use Rattle.termination_model.specs.Claims.{Mapping, SomeOf}
 use Rattle.termination_model.specs.Refutation.{Pair, Decreases, gather, head_load, call_load, IsPair, IsRefutation}
 use Rattle.termination_model.specs.View.{Rule, Call, Member}
@@ -19,8 +19,8 @@ use Rattle.termination_model.specs.SupportSystem.{support_rows, unknowns}
 use Rattle.termination_model.specs.SupportLaws.{HasWidths}
 
 -- each positive coefficient is at one of these positions
-abbrev pub IsAt : List Position → Mapping → Type 0
-IsAt positions l = (q a : ℕ) → 0 < coefficient (l.coefficients q) a → In (q, a) positions
+abbrev pub IsZeroOutside : List Position → Mapping → Type 0
+IsZeroOutside positions l = (q a : ℕ) → 0 < coefficient (l.coefficients q) a → In (q, a) positions
 
 -- a call of the view
 pub record IsOwnCall (view : List Rule) (o : OwnCall) : Type 0 where
@@ -40,7 +40,7 @@ abbrev pub number_count : List OwnCall → ℕ
 number_count [] = 0
 number_count (o ∷ os) = suc o.rule.vars + number_count os
 
-module _ (truth : (ℕ → Bool) → Tree → Bool) (expression : ℕ → Tree → List ℤ) where
+module _ (expression : ℕ → Tree → List ℤ) where
   -- some point shows that a call can be reached
   pub record IsLive (o : OwnCall) : Type 0 where
     pub t : ℕ
@@ -51,18 +51,18 @@ module _ (truth : (ℕ → Bool) → Tree → Bool) (expression : ℕ → Tree �
 
   -- a refutation of the mappings whose coefficients are positive at these positions alone
   pub record IsRefutationAt (positions : List Position) (members : List ℕ) (view : List Rule) (ps : List Pair) : Type 0 where
-    pub pairs : AllByRecursion (IsPair truth expression view) ps
+    pub pairs : AllByRecursion (IsPair expression view) ps
     pub positive : SomeOf (λ (p : Pair). 1 ≤ p.t) ps
-    pub offsets : (q : ℕ) → In q members → entry (gather q (map (head_load truth expression) ps)) 0 ≤ℤ entry (gather q (map (call_load truth expression) ps)) 0
-    pub columns : (q a : ℕ) → In (q, a) positions → entry (gather q (map (head_load truth expression) ps)) (suc a) ≤ℤ entry (gather q (map (call_load truth expression) ps)) (suc a)
+    pub offsets : (q : ℕ) → In q members → entry (gather q (map (head_load expression) ps)) 0 ≤ℤ entry (gather q (map (call_load expression) ps)) 0
+    pub columns : (q a : ℕ) → In (q, a) positions → entry (gather q (map (head_load expression) ps)) (suc a) ≤ℤ entry (gather q (map (call_load expression) ps)) (suc a)
 
 -- multipliers that refute the system of a support are a refutation at its positions
 abbrev pub MultipliersRefute : Type 0
 MultipliersRefute =
-    (truth : (ℕ → Bool) → Tree → Bool) (expression : ℕ → Tree → List ℤ) (view : List Rule) (positions : List Position) (members : List ℕ) (calls : List OwnCall) (vs : List ℕ)
-    → HasWidths expression → AllByRecursion (IsOwnCall view) calls → AllByRecursion (IsLive truth expression) calls → length vs ≡ number_count calls
+    (expression : ℕ → Tree → List ℤ) (view : List Rule) (positions : List Position) (members : List ℕ) (calls : List OwnCall) (vs : List ℕ)
+    → HasWidths expression → AllByRecursion (IsOwnCall view) calls → AllByRecursion (IsLive expression) calls → length vs ≡ number_count calls
     → Refutes (unknowns expression positions members calls) (support_rows expression positions members calls) (map pos vs)
-    → IsRefutationAt truth expression positions members view (pairs_at calls vs)
+    → IsRefutationAt expression positions members view (pairs_at calls vs)
 
 -- the members of a pair are among these
 abbrev pub IsOfMembers : List ℕ → Pair → Type 0
@@ -71,13 +71,13 @@ IsOfMembers members p = In p.rule.member members × In p.member members
 -- such a refutation excludes each mapping at these positions
 abbrev pub ExcludesAt : Type 0
 ExcludesAt =
-    (truth : (ℕ → Bool) → Tree → Bool) (expression : ℕ → Tree → List ℤ) (view : List Rule) (positions : List Position) (members : List ℕ) (ps : List Pair) (l : Mapping)
-    → AllByRecursion (IsOfMembers members) ps → IsRefutationAt truth expression positions members view ps → IsAt positions l → Decreases truth expression view l → ⊥
+    (expression : ℕ → Tree → List ℤ) (view : List Rule) (positions : List Position) (members : List ℕ) (ps : List Pair) (l : Mapping)
+    → AllByRecursion (IsOfMembers members) ps → IsRefutationAt expression positions members view ps → IsZeroOutside positions l → Decreases expression view l → ⊥
 
 -- with all positions it is a refutation of the component
 abbrev pub AllRefute : Type 0
 AllRefute =
-    (truth : (ℕ → Bool) → Tree → Bool) (expression : ℕ → Tree → List ℤ) (view : List Rule) (positions : List Position) (members : List ℕ) (ps : List Pair)
+    (expression : ℕ → Tree → List ℤ) (view : List Rule) (positions : List Position) (members : List ℕ) (ps : List Pair)
     → AllByRecursion (IsOfMembers members) ps
     → AllByRecursion (λ (p : Pair). ((a : ℕ) → a < length p.rule.args → In (p.rule.member, a) positions) × ((a : ℕ) → a < length p.call.args → In (p.member, a) positions)) ps
-    → IsRefutationAt truth expression positions members view ps → IsRefutation truth expression view ps
+    → IsRefutationAt expression positions members view ps → IsRefutation expression view ps

@@ -2,13 +2,14 @@ pub mod Ackermann
 pub mod AllPositions
 pub mod Append
 pub mod AppendChain
-pub mod Best
 pub mod BlownSupports
 pub mod Chain
 pub mod ChainKept
+pub mod ChainLicences
 pub mod ChainRows
 pub mod ChainSteps
 pub mod Claims
+pub mod Coefficients
 pub mod ComponentViews
 pub mod Descent
 pub mod Excluding
@@ -22,6 +23,7 @@ pub mod Refutation
 pub mod Replacing
 pub mod Rows
 pub mod Short
+pub mod ShortSystems
 pub mod Sizes
 pub mod Stuck
 pub mod SupportLaws

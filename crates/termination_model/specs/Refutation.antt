@@ -34,11 +34,11 @@ abbrev pub gather : ℕ → List Load → List ℤ
 gather q [] = []
 gather q (h ∷ hs) = if h.0 == q then added h.1 (gather q hs) else gather q hs
 
-module _ (truth : (ℕ → Bool) → Tree → Bool) (expression : ℕ → Tree → List ℤ) where
+module _ (expression : ℕ → Tree → List ℤ) where
   -- the mapping falls at each call of a member
   abbrev pub Decreases : List Rule → Mapping → Type 0
   Decreases view l = AllByRecursion (λ (k : Rule). (j : ℕ) (b : Call) (q : ℕ) → slice_get k.body j ≡ Some b → b.place ≡ Member q
-      → HoldsOn (suc k.vars) (system_of expression k.vars (take j k.body)) (fall_over truth expression k q b.args 1 l)) view
+      → HoldsOn (suc k.vars) (system_of expression k.vars (take j k.body)) (fall_over expression k q b.args 1 l)) view
 
   abbrev pub values_at : ℕ → List ℕ → ℕ → List Tree → List ℤ
   values_at n w t ts = pos t ∷ map (λ e. dot e (pos t ∷ map pos w)) (map (expression n) ts)
@@ -65,5 +65,5 @@ module _ (truth : (ℕ → Bool) → Tree → Bool) (expression : ℕ → Tree �
     pub columns : (q i : ℕ) → entry (gather q (map head_load ps)) i ≤ℤ entry (gather q (map call_load ps)) i
 
 abbrev pub NoneDecreases : Type 0
-NoneDecreases = (truth : (ℕ → Bool) → Tree → Bool) (expression : ℕ → Tree → List ℤ) (view : List Rule) (ps : List Pair) (l : Mapping)
-    → IsRefutation truth expression view ps → Decreases truth expression view l → ⊥
+NoneDecreases = (expression : ℕ → Tree → List ℤ) (view : List Rule) (ps : List Pair) (l : Mapping)
+    → IsRefutation expression view ps → Decreases expression view l → ⊥

@@ -3,7 +3,7 @@
 --
 -- To believe: `substituted`, `IsUpper`, `Covers`.
 use Rattle.std.specs.Prelude.{◌≡◌, ℕ, ◌<◌, Bool, true, List, [], ◌∷◌}
-pub use Rattle.linear_rows.specs.Elimination.{scaled, added}
+pub use Rattle.linear_rows.specs.RowSums.{scaled, added}
 pub use Rattle.linear_rows.specs.Replacing.{combined, substituted}
 
 -- as many places, and true wherever the other is

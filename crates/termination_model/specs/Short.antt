@@ -14,7 +14,8 @@ use Rattle.term_size.specs.Norm.{IsNorm}
 use Rattle.termination_model.specs.Grounds.{IsClosed}
 use Rattle.termination_model.specs.Claims.{Mapping, Measure, Claims, IsRanked, IsCovered, KeepsRule, fall_row, Shows}
 use Rattle.termination_model.specs.Stated.{AreStated}
-use Rattle.termination_model.specs.Systems.{row_over, short_system}
+use Rattle.termination_model.specs.Systems.{row_over}
+use Rattle.termination_model.specs.ShortSystems.{short_system}
 
 -- some multipliers show that the row holds where the rows do, or that these hold nowhere
 abbrev pub Provable : List (List ℤ) → List ℤ → Type 0

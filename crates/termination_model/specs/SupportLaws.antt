@@ -12,12 +12,12 @@ use Rattle.termination_model.specs.View.{fall_over}
 use Rattle.termination_model.specs.OwnCalls.{OwnCall, Position, rows_before}
 use Rattle.termination_model.specs.SupportSystem.{support_rows, row_count, mapping_at}
 
-module _ (truth : (ℕ → Bool) → Tree → Bool) (expression : ℕ → Tree → List ℤ) where
+module _ (expression : ℕ → Tree → List ℤ) where
   -- the multipliers show at each call that the mapping falls, with scale 1
   abbrev pub AreFalls : Mapping → List OwnCall → List ℕ → Type 0
   AreFalls l [] ms = Unit {0}
   AreFalls l (o ∷ os) ms =
-      Proves (rows_before expression o) (map pos (take (length (rows_before expression o)) ms)) (fall_over truth expression o.rule o.member o.call.args 1 l) (pos 1)
+      Proves (rows_before expression o) (map pos (take (length (rows_before expression o)) ms)) (fall_over expression o.rule o.member o.call.args 1 l) (pos 1)
       × AreFalls l os (drop (length (rows_before expression o)) ms)
 
 -- the atoms of a call have at most as many arguments as these
@@ -31,9 +31,9 @@ HasWidths expression = (n : ℕ) (t : Tree) → length (expression n t) ≡ suc 
 -- a point of the system gives a mapping, with multipliers that show its falls
 abbrev pub PointsFall : Type 0
 PointsFall =
-    (truth : (ℕ → Bool) → Tree → Bool) (expression : ℕ → Tree → List ℤ) (positions : List Position) (members : List ℕ) (arity : ℕ → ℕ) (calls : List OwnCall)
+    (expression : ℕ → Tree → List ℤ) (positions : List Position) (members : List ℕ) (arity : ℕ → ℕ) (calls : List OwnCall)
     (t : ℕ) (cs os ms : List ℕ)
     → HasWidths expression → AllByRecursion (HasFew arity) calls → 1 ≤ t
     → length cs ≡ length positions → length os ≡ length members → length ms ≡ row_count expression positions members calls
     → AllHold (support_rows expression positions members calls) t (cs ++ (os ++ ms))
-    → AreFalls truth expression (mapping_at arity positions members cs os) calls ms
+    → AreFalls expression (mapping_at arity positions members cs os) calls ms

@@ -9,12 +9,12 @@ use Rattle.std.specs.List.{AllByRecursion, list_any}
 use Rattle.cti_terms.specs.Tree.{Tree}
 use Rattle.linear_rows.specs.Members.{In}
 use Rattle.linear_rows.specs.Rows.{AllHold, AreEmpty}
-use Rattle.termination_model.specs.Best.{coefficient}
+use Rattle.termination_model.specs.Coefficients.{coefficient}
 use Rattle.termination_model.specs.Claims.{Mapping}
 use Rattle.termination_model.specs.Modes.{is_part}
 use Rattle.termination_model.specs.Refutation.{Pair, Decreases}
 use Rattle.termination_model.specs.View.{Rule}
-use Rattle.termination_model.specs.Excluding.{IsAt, IsOfMembers, IsRefutationAt}
+use Rattle.termination_model.specs.Excluding.{IsZeroOutside, IsOfMembers, IsRefutationAt}
 use Rattle.termination_model.specs.OwnCalls.{OwnCall, Position, own_calls, rows_before}
 use Rattle.termination_model.specs.SupportLaws.{AreFalls, HasFew, HasWidths}
 use Rattle.termination_model.specs.SupportSystem.{mapping_at}
@@ -35,12 +35,12 @@ abbrev pub AreDistinct : List Position → Type 0
 AreDistinct [] = Unit {0}
 AreDistinct (p ∷ ps) = (In p ps → ⊥) × AreDistinct ps
 
-module _ (truth : (ℕ → Bool) → Tree → Bool) (expression : ℕ → Tree → List ℤ) (view : List Rule) (positions : List Position) where
+module _ (expression : ℕ → Tree → List ℤ) (view : List Rule) (positions : List Position) where
   -- a decreasing mapping of the component has this very support
   pub record HasSupport (s : List ℕ) : Type 0 where
     pub mapping : Mapping
-    pub at : IsAt positions mapping
-    pub decreases : Decreases truth expression view mapping
+    pub at : IsZeroOutside positions mapping
+    pub decreases : Decreases expression view mapping
     pub is : support_from 1 positions mapping ≡ s
 
   -- each call of the view is one of these, or is never reached: the rows before it hold nowhere
@@ -50,20 +50,20 @@ module _ (truth : (ℕ → Bool) → Tree → Bool) (expression : ℕ → Tree �
   -- what falls and refutations at positions show of supports
   pub record MappingsFromSystems (members : List ℕ) (arity : ℕ → ℕ) (lives : List OwnCall) : Type 0 where
     -- a mapping that falls at each call that is reached decreases
-    pub falls : (l : Mapping) (ms : List ℕ) → AreFalls truth expression l lives ms → Decreases truth expression view l
+    pub falls : (l : Mapping) (ms : List ℕ) → AreFalls expression l lives ms → Decreases expression view l
     -- the values of positions are at these positions
-    pub at : (ps : List Position) (cs os : List ℕ) → IsAt ps (mapping_at arity ps members cs os)
+    pub at : (ps : List Position) (cs os : List ℕ) → IsZeroOutside ps (mapping_at arity ps members cs os)
     -- a decreasing mapping at the positions of a set has a support that is part of the set
-    pub found : (s : List ℕ) (l : Mapping) → IsAt (picked_from 1 positions s) l → Decreases truth expression view l
+    pub found : (s : List ℕ) (l : Mapping) → IsZeroOutside (picked_from 1 positions s) l → Decreases expression view l
         → (is_part (support_from 1 positions l) s ≡ true) × HasSupport (support_from 1 positions l)
     -- a refutation at the positions of a set excludes each support that is part of it
     pub excluded : (s : List ℕ) (at : List Position) (ps : List Pair) → ((x : Position) → In x (picked_from 1 positions s) → In x at)
-        → AllByRecursion (IsOfMembers members) ps → IsRefutationAt truth expression at members view ps → IsExcluded HasSupport s
+        → AllByRecursion (IsOfMembers members) ps → IsRefutationAt expression at members view ps → IsExcluded HasSupport s
     -- supports are sets of the positions' numbers
     pub sets : (s : List ℕ) → HasSupport s → IsSet 1 (suc (length positions)) s
 
 abbrev pub SystemsGiveMappings : Type 0
 SystemsGiveMappings =
-    (truth : (ℕ → Bool) → Tree → Bool) (expression : ℕ → Tree → List ℤ) (view : List Rule) (positions : List Position) (members : List ℕ) (arity : ℕ → ℕ) (lives : List OwnCall)
-    → HasWidths expression → AreDistinct positions → AreLives truth expression view positions lives
-    → MappingsFromSystems truth expression view positions members arity lives
+    (expression : ℕ → Tree → List ℤ) (view : List Rule) (positions : List Position) (members : List ℕ) (arity : ℕ → ℕ) (lives : List OwnCall)
+    → HasWidths expression → AreDistinct positions → AreLives expression view positions lives
+    → MappingsFromSystems expression view positions members arity lives

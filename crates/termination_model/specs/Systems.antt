@@ -1,13 +1,12 @@
--- A procedure, to believe for who is blown.
+-- To believe, for the modes.
 -- The system of a clause up to an atom: the size rows of the atoms before it, over the clause's variables.
 --
 -- A size row of a predicate speaks of the sizes of its arguments. In a clause each argument has a size expression over
--- the clause's variables, which is put in the argument's place. The short system has zeros in the place of each row
--- with a number that does not fit.
+-- the clause's variables, which is put in the argument's place.
 --
--- To believe: `row_over`, `system`, `short_system`. The expression is that of a norm, the rows are one list for each
--- predicate, by its number, and each list of numbers begins with the constant.
-use Rattle.std.specs.Prelude.{ℕ, ℤ, pos, if◌then◌else◌, List, [], ◌∷◌, ◌++◌, map}
+-- To believe: `row_over`, `system`. The expression is that of a norm, the rows are one list for each predicate, by its
+-- number, and each list of numbers begins with the constant.
+use Rattle.std.specs.Prelude.{ℕ, ℤ, List, [], ◌∷◌, ◌++◌, map}
 use Rattle.cti_terms.specs.Tree.{Tree}
 use Rattle.cti_terms.specs.declared.atom_list.Atom.{Atom}
 use Rattle.linear_rows.specs.Replacing.{substituted}
@@ -21,10 +20,3 @@ row_over expression n ts = substituted n (map (expression n) ts)
 abbrev pub system : (ℕ → Tree → List ℤ) → (ℕ → List (List ℤ)) → ℕ → List Atom → List (List ℤ)
 system expression rows n [] = []
 system expression rows n (b ∷ bs) = map (row_over expression n b.args) (rows b.pred.0) ++ system expression rows n bs
-
--- a row with a number that does not fit gives way to zeros
-abbrev pub short_row : List ℤ → List ℤ
-short_row r = if row_fits r then r else map (λ _. pos 0) r
-
-abbrev pub short_system : (ℕ → Tree → List ℤ) → (ℕ → List (List ℤ)) → ℕ → List Atom → List (List ℤ)
-short_system expression rows n bs = map short_row (system expression rows n bs)

@@ -4,7 +4,7 @@
 -- A view holds all that mappings and preconditions of a component depend on, so that two components with equal views
 -- have the same ones, whatever the numbers of their predicates and clauses are.
 --
--- To believe: `DescendsIn`, `KeepsRuleIn`, `upward_union`, where mappings or preconditions of a component are spoken of.
+-- To believe: all of this file, where mappings of a component are spoken of.
 use Rattle.std.specs.Prelude.{◌≡◌, ℕ, zero, suc, ◌==◌, ℤ, pos, negsuc, Bool, true, false, ◌&&◌, if◌then◌else◌, List, [], ◌∷◌, ◌++◌, map, filter, take, slice_get, Some}
 use Rattle.std.specs.List.{AllByRecursion, list_any}
 use Rattle.linear_rows.specs.Rows.{HoldsOn}
@@ -12,11 +12,11 @@ use Rattle.cti_terms.specs.Tree.{Tree}
 use Rattle.cti_terms.specs.declared.atom_list.Atom.{Atom}
 use Rattle.cti_terms.specs.declared.clauses.Clause.{Clause}
 use Rattle.cti_terms.specs.Listing.{Listing}
-use Rattle.termination_model.specs.Rows.{scaled, added, Covers}
+use Rattle.termination_model.specs.Rows.{scaled, added}
 use Rattle.termination_model.specs.Systems.{row_over}
-use Rattle.termination_model.specs.Claims.{Mapping, Measure, Claims, Serves}
+use Rattle.termination_model.specs.Claims.{Mapping, Claims}
 
--- a member, by its place among the members, or a predicate below, with the rows that it upward_union
+-- a member, by its place among the members, or a predicate below, with the rows that it admits
 pub data Place : Type 0 where
   Member : ℕ → Place
   Lower : (List Bool → Bool) → Place
@@ -38,7 +38,7 @@ abbrev pub system_of : (ℕ → Tree → List ℤ) → ℕ → List Call → Lis
 system_of expression n [] = []
 system_of expression n (b ∷ bs) = map (row_over expression n b.args) b.rows ++ system_of expression n bs
 
-module _ (truth : (ℕ → Bool) → Tree → Bool) (expression : ℕ → Tree → List ℤ) where
+module _ (expression : ℕ → Tree → List ℤ) where
   abbrev pub level_over : ℕ → ℕ → List Tree → Mapping → List ℤ
   level_over n q ts l = row_over expression n ts (pos (l.offset q) ∷ map pos (l.coefficients q))
 
@@ -49,27 +49,6 @@ module _ (truth : (ℕ → Bool) → Tree → Bool) (expression : ℕ → Tree �
   FallsOver k rows q ts i [] = ⊥
   FallsOver k rows q ts zero (l ∷ ls) = HoldsOn (suc k.vars) rows (fall_over k q ts 1 l)
   FallsOver k rows q ts (suc i) (l ∷ ls) = HoldsOn (suc k.vars) rows (fall_over k q ts 0 l) × FallsOver k rows q ts i ls
-
-  abbrev pub DescendsIn : Measure → Rule → Type 0
-  DescendsIn m k =
-      (j : ℕ) (b : Call) (q : ℕ) → slice_get k.body j ≡ Some b → b.place ≡ Member q
-      → (i : ℕ) × FallsOver k (system_of expression k.vars (take j k.body)) q b.args i m.mappings
-
-  abbrev pub IsAllowed : Measure → Place → List Bool → Type 0
-  IsAllowed m (Member q) bs = m.pre q bs ≡ true
-  IsAllowed m (Lower f) bs = f bs ≡ true
-
-  abbrev pub KeepsRuleIn : Measure → Rule → Type 0
-  KeepsRuleIn m k =
-      (v : ℕ → Bool) → m.pre k.member (map (truth v) k.args) ≡ true
-      → (j : ℕ) (b : Call) → slice_get k.body j ≡ Some b → AllByRecursion (λ (x : Call). x.grounds (map (truth v) x.args) ≡ true) (take j k.body)
-      → IsAllowed m b.place (map (truth v) b.args)
-
-  -- what is asked of a measure
-  pub record ServesIn (view : List Rule) (m : Measure) : Type 0 where
-    pub covered : (q : ℕ) (bs : List Bool) → m.pre q bs ≡ true → AllByRecursion (λ (l : Mapping). Covers (l.coefficients q) bs) m.mappings
-    pub descends : AllByRecursion (DescendsIn m) view
-    pub rule : AllByRecursion (KeepsRuleIn m) view
 
 -- f is true at each upper row
 abbrev pub all_upper : (List Bool → Bool) → List Bool → Bool
@@ -91,13 +70,3 @@ rule_of c r index k = record { member = index k.head.pred.0; args = k.head.args;
 
 abbrev pub view_of : Listing → Claims → ℕ → (ℕ → ℕ) → List Rule
 view_of p c r index = map (rule_of c r index) (filter (λ k. c.rank k.head.pred.0 == r) p.clauses)
-
--- a measure of members as one of predicates
-abbrev pub spread_mapping : (ℕ → ℕ) → Mapping → Mapping
-spread_mapping index l = record { coefficients = λ q. l.coefficients (index q); offset = λ q. l.offset (index q) }
-
-abbrev pub spread : (ℕ → ℕ) → Measure → Measure
-spread index m = record { mappings = map (spread_mapping index) m.mappings; pre = λ q. m.pre (index q) }
-
-abbrev pub ViewsServe : Type 0
-ViewsServe = (p : Listing) (c : Claims) (r : ℕ) (index : ℕ → ℕ) (m : Measure) → ServesIn c.truth c.expression (view_of p c r index) m → Serves p c r (spread index m)

@@ -6,7 +6,7 @@ ghost use Rattle.termination_model.specs.Modes.{chosen, chosen_up_to};
 use sequences::Sequence;
 use std::alloc::{AllocError, Global};
 
-// Adds the numbers as one more set.
+/// Adds the numbers as one more set.
 fn add_set(
     alloc: Global,
     sets: &mut Sequence<Sequence<u32>>,
@@ -18,7 +18,7 @@ fn add_set(
     sets.push(Sequence::from_vec(items))
 }
 
-// Adds the numbers with each ascending list of `count` of the `room` numbers from `from` on.
+/// Adds the numbers with each ascending list of `count` of the `room` numbers from `from` on.
 fn add_chosen(
     alloc: Global,
     sets: &mut Sequence<Sequence<u32>>,
@@ -28,7 +28,8 @@ fn add_chosen(
     room: u32,
 ) -> Result<(), AllocError>
     requires small { from + room < 2 ^ 32 }
-    ensures sets { OnOk result (sets.new ≡ sets.old ++ map (λ args. numbers.old.items ++ args) (chosen count from room)) }
+    ensures sets { OnOk result (sets.new ≡ sets.old ++ map (λ args. numbers.old.items ++ args)
+        (chosen count from room)) }
     ensures same { OnOk result (numbers.new.items ≡ numbers.old.items) }
 {
     if count == 0 {

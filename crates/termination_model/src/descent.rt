@@ -2,7 +2,6 @@
 
 ghost use Rattle.termination_model.specs.Descent.{ModesEnd, RowsEnd};
 ghost use Rattle.termination_model.specs.Short.{ProofsShow};
-ghost use Rattle.termination_model.specs.View.{ViewsServe};
 
 /// Where claims show it, each query that meets an admitted row, or an admitted mode, is bounded.
 pub fn a_query_is_bounded()
@@ -13,9 +12,4 @@ pub fn a_query_is_bounded()
 /// Claims whose size rows and falls are proved by multipliers over short systems show that queries end.
 pub fn proofs_show()
     ensures { ProofsShow }
-{}
-
-/// What serves the view of a component serves the component.
-pub fn views_serve()
-    ensures { ViewsServe }
 {}

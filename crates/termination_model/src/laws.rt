@@ -5,7 +5,6 @@ ghost use Rattle.cti_terms.specs.Listing.{Listing};
 ghost use Rattle.cti_terms.specs.Tree.{Tree};
 ghost use Rattle.termination_model.specs.Append.{AppendEnds};
 ghost use Rattle.termination_model.specs.AppendChain.{AppendHasThisChain};
-ghost use Rattle.termination_model.specs.Best.{SmallerIsBetter};
 ghost use Rattle.termination_model.specs.ChainKept.{ChainsKeep, ChainsState};
 ghost use Rattle.termination_model.specs.Loop.{LoopGoesOn};
 ghost use Rattle.termination_model.specs.Refutation.{NoneDecreases};
@@ -14,13 +13,16 @@ ghost use Rattle.termination_model.specs.Grounds.{Family, InEachClosedIsClosed, 
 /// What is in each closed family, and the least closed family.
 pub fn closed_families()
     // A truth row that clauses give from rows that are in each closed family is in each closed family.
-    ensures closed { (truth : (ℕ → Bool) → Tree → Bool) (p : Listing) → InEachClosedIsClosed truth p }
+    ensures closed { (truth : (ℕ → Bool) → Tree → Bool) (p : Listing)
+        → InEachClosedIsClosed truth p }
 
     // A family that is closed and has only such rows is the least one, and the least one has exactly them.
     ensures least { (truth : (ℕ → Bool) → Tree → Bool) (p : Listing) (family : Family)
         → IsLeast truth p family
-        ↔ (IsClosed truth p family × ((q : ℕ) (row : List Bool) → IsTrue (family q row) → IsInEachClosed truth p q row)) }
-    ensures exact { (truth : (ℕ → Bool) → Tree → Bool) (p : Listing) (family : Family) → IsLeast truth p family
+        ↔ (IsClosed truth p family × ((q : ℕ) (row : List Bool) → IsTrue (family q row)
+        → IsInEachClosed truth p q row)) }
+    ensures exact { (truth : (ℕ → Bool) → Tree → Bool) (p : Listing) (family : Family)
+        → IsLeast truth p family
         → (q : ℕ) (row : List Bool) → IsTrue (family q row) ↔ IsInEachClosed truth p q row }
 
     // So two least families have the same rows.
@@ -31,11 +33,6 @@ pub fn closed_families()
 /// Where a refutation stands, no mapping decreases.
 pub fn a_refutation_excludes_mappings()
     ensures { NoneDecreases }
-{}
-
-/// Measures with the smallest supports admit what any measures admit.
-pub fn smaller_supports_are_better()
-    ensures { SmallerIsBetter }
 {}
 
 /// An example: append's queries with a rigid first argument are bounded.

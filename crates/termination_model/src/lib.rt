@@ -22,7 +22,7 @@ mod systems;
 mod turns;
 
 pub use choosing::number_sets;
-pub use descent::{a_query_is_bounded, proofs_show, views_serve};
+pub use descent::{a_query_is_bounded, proofs_show};
 pub use how::How;
 pub use replacing::{add_expressions, columns, replaced};
 pub use sizes::{SizeRows, Sizes};

@@ -26,7 +26,8 @@ pub fn add_expressions<N: Norm>(
     requires wide { HaveWidth rows.old.width rows.old.list }
     ensures width { rows.new.width ≡ rows.old.width }
     ensures wide { HaveWidth rows.new.width rows.new.list }
-    ensures each { OnOk result (plain_rows rows.new.list ≡ plain_rows rows.old.list ++ map (N.expression norm.now rows.old.width) arguments.now) }
+    ensures each { OnOk result (plain_rows rows.new.list ≡ plain_rows rows.old.list
+        ++ map (N.expression norm.now rows.old.width) arguments.now) }
 {
     let vars = rows.width;
     for argument in arguments.as_slice() {
@@ -44,7 +45,8 @@ pub fn add_expressions<N: Norm>(
 /// Before a column's numbers stands what a row's own constant counts there, which is 1 in the first column and 0 in
 /// the others.
 pub fn columns(alloc: Global, expressions: &Rows) -> Result<Vec<Numbers>, AllocError>
-    ensures { IfOk result (λ columns. AreColumns (plain_rows expressions.now.list) expressions.now.width columns.items) }
+    ensures { IfOk result (λ columns. AreColumns
+        (plain_rows expressions.now.list) expressions.now.width columns.items) }
 {
     let mut columns = Vec::new(alloc);
     for x in 0..expressions.width as usize + 1 {
@@ -54,7 +56,7 @@ pub fn columns(alloc: Global, expressions: &Rows) -> Result<Vec<Numbers>, AllocE
     Ok(columns)
 }
 
-// One column, after what a row's own constant counts there.
+/// One column, after what a row's own constant counts there.
 fn column(alloc: Global, expressions: &Rows, x: usize) -> Result<Numbers, AllocError>
     ensures { IfOk result (λ numbers. numbers ≡ column_over (plain_rows expressions.now.list) x) }
 {
@@ -66,14 +68,14 @@ fn column(alloc: Global, expressions: &Rows, x: usize) -> Result<Numbers, AllocE
     Ok(numbers)
 }
 
-// What a row's own constant counts in a column.
+/// What a row's own constant counts in a column.
 fn unit_at(x: usize) -> i128
     ensures { result ≡ unit_at x }
 {
     if x == 0 { 1 } else { 0 }
 }
 
-// The number of a row in a column.
+/// The number of a row in a column.
 fn number_at(row: &Row, x: usize) -> i128
     ensures { result ≡ entry (plain_row row.now) x }
 {

@@ -8,7 +8,7 @@ use cti_terms::Builtin;
 use linear_rows::{Numbers, Row, Rows};
 use std::alloc::{AllocError, Global};
 
-// The row of `is`: the size of its first argument is at most 0.
+/// The row of `is`: the size of its first argument is at most 0.
 fn is_row(alloc: Global) -> Result<Row, AllocError>
     ensures row { IfOk result (λ r. plain_row r ≡ is_row) }
 {

@@ -10,7 +10,8 @@ ghost use Rattle.linear_rows.specs.declared.row.Row.{Row};
 ghost use Rattle.linear_rows.specs.declared.row.Rows.{Rows};
 ghost use Rattle.termination_model.specs.Replacing.{over_columns};
 ghost use Rattle.termination_model.specs.Sizes.{AreSizes, rows_of, wide_rows, wide_system};
-ghost use Rattle.termination_model.specs.Systems.{row_fits, row_over, short_row, short_system};
+ghost use Rattle.termination_model.specs.Systems.{row_fits, row_over};
+ghost use Rattle.termination_model.specs.ShortSystems.{short_row, short_system};
 
 use crate::replacing::{add_expressions, columns, replaced};
 use crate::sizes::{SizeRows, Sizes};
@@ -35,15 +36,18 @@ pub fn system<N: Norm>(
     requires last { k ≤ length p.now.clauses }
     requires body { (c : Clause) → slice_get p.now.clauses (k - 1) ≡ Some c → j ≤ length c.body }
     requires sizes { AreSizes p.now.preds sizes.now.rows }
-    ensures variables { IfOk result (λ s. (c : Clause) → slice_get p.now.clauses (k - 1) ≡ Some c → s.variables ≡ c.vars) }
+    ensures variables { IfOk result (λ s. (c : Clause) → slice_get p.now.clauses (k - 1) ≡ Some c
+        → s.variables ≡ c.vars) }
     ensures widths { IfOk result (λ s. (s.rows.width ≡ s.variables) × (s.head.width ≡ s.variables)
         × HaveWidth s.variables s.rows.list × HaveWidth s.variables s.head.list) }
 
     // The rows are the short system, and `wide` says whether a row was replaced.
     ensures rows { IfOk result (λ s. (c : Clause) → slice_get p.now.clauses (k - 1) ≡ Some c
-        → plain_rows s.rows.list ≡ short_system (N.expression norm.now) (rows_of sizes.now.rows) c.vars (take j c.body)) }
+        → plain_rows s.rows.list ≡ short_system (N.expression norm.now)
+        (rows_of sizes.now.rows) c.vars (take j c.body)) }
     ensures wide { IfOk result (λ s. (c : Clause) → slice_get p.now.clauses (k - 1) ≡ Some c
-        → s.wide ≡ wide_system (N.expression norm.now) (rows_of sizes.now.rows) c.vars (take j c.body)) }
+        → s.wide ≡ wide_system (N.expression norm.now) (rows_of sizes.now.rows) c.vars
+        (take j c.body)) }
 
     // The head's arguments have their size expressions.
     ensures head { IfOk result (λ s. (c : Clause) → slice_get p.now.clauses (k - 1) ≡ Some c
@@ -80,7 +84,8 @@ pub fn add_atom<N: Norm>(
     system: &mut System,
 ) -> Result<(), AllocError>
     requires there { atom.now.pred.0 < length sizes.now }
-    requires own { (r : Rows) → slice_get sizes.now atom.now.pred.0 ≡ Some r → HaveWidth (length atom.now.args) r.list }
+    requires own { (r : Rows) → slice_get sizes.now atom.now.pred.0 ≡ Some r
+        → HaveWidth (length atom.now.args) r.list }
     requires below { AllByRecursion (λ t. IsTrue (is_below system.old.variables t)) atom.now.args }
     requires few { system.old.variables ≤ MOST_VARIABLES }
     requires small { atom_nodes atom.now ≤ MOST_NODES }
@@ -91,9 +96,11 @@ pub fn add_atom<N: Norm>(
     ensures width { system.new.rows.width ≡ system.old.variables }
     ensures widths { HaveWidth system.old.variables system.new.rows.list }
     ensures rows { OnOk result (plain_rows system.new.rows.list ≡ plain_rows system.old.rows.list
-        ++ map short_row (map (row_over (N.expression norm.now) system.old.variables atom.now.args) (rows_of sizes.now atom.now.pred.0))) }
+        ++ map short_row (map (row_over (N.expression norm.now) system.old.variables atom.now.args)
+        (rows_of sizes.now atom.now.pred.0))) }
     ensures wide { OnOk result (system.new.wide ≡ (system.old.wide
-        || wide_rows (map (row_over (N.expression norm.now) system.old.variables atom.now.args) (rows_of sizes.now atom.now.pred.0)))) }
+        || wide_rows (map (row_over (N.expression norm.now) system.old.variables atom.now.args)
+        (rows_of sizes.now atom.now.pred.0)))) }
 {
     let mut expressions = Rows::new(alloc, system.variables);
     add_expressions(alloc, norm, &atom.args, &mut expressions)?;
@@ -102,7 +109,7 @@ pub fn add_atom<N: Norm>(
     add_rows(alloc, own, columns.as_slice(), system)
 }
 
-// Appends rows over arguments, with the expressions of these columns in the arguments' places.
+/// Appends rows over arguments, with the expressions of these columns in the arguments' places.
 fn add_rows(
     alloc: Global,
     own: &Rows,
@@ -110,7 +117,8 @@ fn add_rows(
     system: &mut System,
 ) -> Result<(), AllocError>
     requires count { length columns.now ≡ system.old.variables + 1 }
-    requires lengths { (r : Row) → Contains own.now.list r → All (λ c. length c ≡ length (plain_row r)) columns.now }
+    requires lengths { (r : Row) → Contains own.now.list r
+        → All (λ c. length c ≡ length (plain_row r)) columns.now }
     requires width { system.old.rows.width ≡ system.old.variables }
     requires rows { HaveWidth system.old.variables system.old.rows.list }
     ensures variables { system.new.variables ≡ system.old.variables }
@@ -137,12 +145,14 @@ struct ShortRow {
     wide: bool,
 }
 
-// The replaced row where it fits, and else zeros.
+/// The replaced row where it fits, and else zeros.
 fn short_row(alloc: Global, row: &Row, columns: &[Numbers]) -> Result<ShortRow, AllocError>
     requires some { 1 ≤ length columns.now }
     requires lengths { All (λ c. length c ≡ length (plain_row row.now)) columns.now }
-    ensures row { IfOk result (λ s. plain_row s.row ≡ short_row (over_columns columns.now (plain_row row.now))) }
-    ensures wide { IfOk result (λ s. s.wide ≡ not (row_fits (over_columns columns.now (plain_row row.now)))) }
+    ensures row { IfOk result
+        (λ s. plain_row s.row ≡ short_row (over_columns columns.now (plain_row row.now))) }
+    ensures wide { IfOk result
+        (λ s. s.wide ≡ not (row_fits (over_columns columns.now (plain_row row.now)))) }
 {
     let mut numbers = Vec::new(alloc);
     numbers.push(row.constant)?;
@@ -156,7 +166,7 @@ fn short_row(alloc: Global, row: &Row, columns: &[Numbers]) -> Result<ShortRow, 
     }
 }
 
-// The row of zeros.
+/// The row of zeros.
 fn zeros(alloc: Global, width: usize) -> Result<Row, AllocError>
     ensures { IfOk result (λ r. plain_row r ≡ replicate (width + 1) (pos 0)) }
 {

@@ -15,7 +15,7 @@ use Rattle.termination_model.specs.View.{all_upper, upward_union}
 use Rattle.truth_rows.specs.Rules.{KeepsSets}
 use Rattle.termination_model.proofs.Lists.{by_places}
 use Rattle.truth_rows.proofs.UpperLaws.{all_from_upper}
-use Rattle.termination_model.proofs.ViewLaws.{upper_all}
+use Rattle.termination_model.proofs.UpperRows.{upper_all}
 
 -- where two sets have the same rows of a length, so they do of all upper rows
 pub all_upper_same : (f g : List Bool → Bool) (row : List Bool) → ((us : List Bool) → length us ≡ length row → f us ≡ g us) → all_upper f row ≡ all_upper g row

@@ -6,7 +6,7 @@ use Rattle.bool_diagrams.specs.Tree.{with_value}
 use Rattle.termination_model.specs.Rows.{IsUpper}
 use Rattle.termination_model.specs.View.{all_upper}
 use Rattle.truth_rows.proofs.RowLaws.{both, same_bool, with_same, with_other, first_row, first_values, length-first}
-use Rattle.termination_model.proofs.ViewLaws.{upper_all}
+use Rattle.termination_model.proofs.UpperRows.{upper_all}
 
 pub all_from_upper : (f : List Bool → Bool) (bs : List Bool) → ((us : List Bool) → IsUpper us bs → f us ≡ true) → all_upper f bs ≡ true
 all_from_upper f [] h = h [] tt

@@ -36,7 +36,8 @@ pub fn argument_rows<N: Norm>(
     ensures keeps { Keeps table.old table.new }
     ensures known { IfOk result (IsDiagram table.new) }
     ensures rows { IfOk result (λ d. (row : ℕ → Bool)
-        → holds table.new d row ≡ truth_rows table.old set (map (N.truth norm.now row) arguments.now)) }
+        → holds table.new d row ≡ truth_rows table.old set
+        (map (N.truth norm.now row) arguments.now)) }
 {
     let count = arguments.len();
     let mut rows = table.rename(set, &ARGUMENTS[..count], &PLACES[..count])?;
@@ -61,7 +62,8 @@ pub fn atom_rows<N: Norm>(
     ensures keeps { Keeps table.old table.new }
     ensures known { IfOk result (IsDiagram table.new) }
     ensures rows { IfOk result (λ d. (row : ℕ → Bool)
-        → IsTrue (holds table.new d row) ↔ HasAtom (N.truth norm.now) table.old sets.now row atom.now) }
+        → IsTrue (holds table.new d row)
+        ↔ HasAtom (N.truth norm.now) table.old sets.now row atom.now) }
 {
     argument_rows(norm, table, sets[atom.pred.0 as usize], &atom.args, vars)
 }

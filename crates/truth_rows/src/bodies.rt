@@ -29,8 +29,10 @@ pub fn head_reaching_rows<N: Norm>(
         → HasAtoms (N.truth norm.now) table.old sets.now v clause.now.body (length clause.now.body)
         → IsTrue (holds table.new d v)) }
     ensures some { IfOk result (λ d. (row : ℕ → Bool) → IsTrue (holds table.new d row)
-        → (v : ℕ → Bool) × (truth_row (N.truth norm.now) v clause.now.head ≡ truth_row (N.truth norm.now) row clause.now.head)
-        × HasAtoms (N.truth norm.now) table.old sets.now v clause.now.body (length clause.now.body)) }
+        → (v : ℕ → Bool) × (truth_row (N.truth norm.now) v clause.now.head
+        ≡ truth_row (N.truth norm.now) row clause.now.head)
+        × HasAtoms (N.truth norm.now) table.old sets.now v clause.now.body
+        (length clause.now.body)) }
 {
     let mut ends = [0; MOST_VARIABLES as usize];
     put_body_off(norm, &mut ends, &clause.body, clause.vars);

@@ -31,14 +31,15 @@ pub fn is_closed_under<N: Norm>(
     requires last { k ≤ length p.now.clauses }
     ensures keeps { Keeps table.old table.new }
     ensures closed { IfOk result (λ closed. (c : Clause) → slice_get p.now.clauses (k - 1) ≡ Some c
-        → IsTrue closed ↔ IsClosedUnder (N.truth norm.now) (family_of p.now.preds table.old sets.now) c) }
+        → IsTrue closed ↔ IsClosedUnder (N.truth norm.now)
+        (family_of p.now.preds table.old sets.now) c) }
 {
     // What every program keeps is said by `clauses`: the sets of its atoms are there.
     let _count = p.clauses();
     head_follows(norm, table, sets, p.clause(k))
 }
 
-// Whether the head is in its set wherever the body is in its sets.
+/// Whether the head is in its set wherever the body is in its sets.
 fn head_follows<N: Norm>(
     norm: &N,
     table: &mut Table,
@@ -48,7 +49,8 @@ fn head_follows<N: Norm>(
     requires { IsReadyClause table.old sets.now clause.now }
     ensures keeps { Keeps table.old table.new }
     ensures follows { IfOk result (λ follows. IsTrue follows
-        ↔ ((v : ℕ → Bool) → HasAtoms (N.truth norm.now) table.old sets.now v clause.now.body (length clause.now.body)
+        ↔ ((v : ℕ → Bool) → HasAtoms (N.truth norm.now) table.old sets.now v clause.now.body
+        (length clause.now.body)
         → HasAtom (N.truth norm.now) table.old sets.now v clause.now.head)) }
 {
     let body = head_reaching_rows(norm, table, sets, clause)?;

@@ -18,7 +18,8 @@ pub fn is_covered(table: &mut Table, set: Diagram, positive: &[bool]) -> Result<
     requires reads { ReadsBelow table.old set (length positive.now) }
     requires narrow { length positive.now ≤ MOST_ARGUMENTS }
     ensures keeps { Keeps table.old table.new }
-    ensures covered { IfOk result (λ covered. (coefficients : List ℕ) → map (nat_lt 0) coefficients ≡ positive.now
+    ensures covered { IfOk result (λ covered. (coefficients : List ℕ)
+        → map (nat_lt 0) coefficients ≡ positive.now
         → IsTrue covered ↔ ((row : List Bool) → length row ≡ length positive.now
         → IsTrue (truth_rows table.old set row) → Covers coefficients row)) }
 {

@@ -44,7 +44,8 @@ pub fn put_all_off<N: Norm>(norm: &N, ends: &mut [usize], end: usize, terms: &Te
     requires each { MOST_VARIABLES ≤ length ends.old }
     ensures each { length ends.new ≡ length ends.old }
     ensures more { (n x : ℕ) → IsAsked ends.old n x → IsAsked ends.new n x }
-    ensures told { (n : ℕ) → n < end → AllByRecursion (IsTold (N.truth norm.now) ends.new n) terms.now }
+    ensures told { (n : ℕ) → n < end
+        → AllByRecursion (IsTold (N.truth norm.now) ends.new n) terms.now }
 {
     for t in terms.as_slice() {
         put_off(norm, ends, end, t, vars);
@@ -54,11 +55,14 @@ pub fn put_all_off<N: Norm>(norm: &N, ends: &mut [usize], end: usize, terms: &Te
 /// Puts off the ends of the variables of a body: each is after the last atom that asks for it.
 pub fn put_body_off<N: Norm>(norm: &N, ends: &mut [usize], body: &Atoms, vars: u32)
     requires few { vars ≤ MOST_VARIABLES }
-    requires below { (j : ℕ) (b : Atom) → slice_get body.now j ≡ Some b → AllByRecursion (λ t. IsTrue (is_below vars t)) b.args }
-    requires small { (j : ℕ) (b : Atom) → slice_get body.now j ≡ Some b → atom_nodes b ≤ MOST_NODES }
+    requires below { (j : ℕ) (b : Atom) → slice_get body.now j ≡ Some b
+        → AllByRecursion (λ t. IsTrue (is_below vars t)) b.args }
+    requires small { (j : ℕ) (b : Atom) → slice_get body.now j ≡ Some b
+        → atom_nodes b ≤ MOST_NODES }
     requires each { MOST_VARIABLES ≤ length ends.old }
     ensures each { length ends.new ≡ length ends.old }
-    ensures told { (j : ℕ) (b : Atom) → slice_get body.now j ≡ Some b → AllByRecursion (IsTold (N.truth norm.now) ends.new j) b.args }
+    ensures told { (j : ℕ) (b : Atom) → slice_get body.now j ≡ Some b
+        → AllByRecursion (IsTold (N.truth norm.now) ends.new j) b.args }
 {
     for (place, atom) in body.as_slice().iter().enumerate() {
         put_all_off(norm, ends, place + 1, &atom.args, vars);
@@ -78,7 +82,8 @@ pub fn without_ended(
     requires each { MOST_VARIABLES ≤ length ends.now }
     ensures keeps { Keeps table.old table.new }
     ensures known { IfOk result (IsDiagram table.new) }
-    ensures rows { IfOk result (λ d. SaysAsked ends.now place (λ v. IsTrue (holds table.old set v)) (holds table.new d)) }
+    ensures rows { IfOk result
+        (λ d. SaysAsked ends.now place (λ v. IsTrue (holds table.old set v)) (holds table.new d)) }
 {
     let mut rows = set;
     for x in 0..vars {

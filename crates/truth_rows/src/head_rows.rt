@@ -46,9 +46,9 @@ pub fn rows_of_head<N: Norm>(
     Ok(rows)
 }
 
-// The rows that also say, in the variables of places, which arguments of the head are rigid, as far as places tell.
-//
-// A variable is left out once no argument to come asks for it.
+/// The rows that also say, in the variables of places, which arguments of the head are rigid, as far as places tell.
+///
+/// A variable is left out once no argument to come asks for it.
 fn bound_head<N: Norm>(
     norm: &N,
     table: &mut Table,
@@ -80,21 +80,22 @@ fn bound_head<N: Norm>(
     Ok(rows)
 }
 
-// Puts off the ends of the variables of arguments: each is after the last argument that asks for it.
+/// Puts off the ends of the variables of arguments: each is after the last argument that asks for it.
 fn put_arguments_off<N: Norm>(norm: &N, ends: &mut [usize], arguments: &Terms, vars: u32)
     requires few { vars ≤ MOST_VARIABLES }
     requires below { AllByRecursion (λ t. IsTrue (is_below vars t)) arguments.now }
     requires small { sum_by nodes_of arguments.now ≤ MOST_NODES }
     requires each { MOST_VARIABLES ≤ length ends.old }
     ensures each { length ends.new ≡ length ends.old }
-    ensures told { (j : ℕ) (t : Tree) → slice_get arguments.now j ≡ Some t → IsTold (N.truth norm.now) ends.new j t }
+    ensures told { (j : ℕ) (t : Tree) → slice_get arguments.now j ≡ Some t
+        → IsTold (N.truth norm.now) ends.new j t }
 {
     for (place, argument) in arguments.as_slice().iter().enumerate() {
         put_off(norm, ends, place + 1, argument, vars);
     }
 }
 
-// The rows that have some values of the first variables in the set.
+/// The rows that have some values of the first variables in the set.
 fn somewhere(table: &mut Table, set: Diagram, vars: u32) -> Result<Diagram, AllocError>
     requires known { IsDiagram table.old set }
     requires few { vars ≤ MOST_VARIABLES }

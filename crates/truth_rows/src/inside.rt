@@ -12,7 +12,8 @@ pub fn is_inside(table: &mut Table, inner: Diagram, outer: Diagram) -> Result<bo
     requires outer { IsDiagram table.old outer }
     ensures keeps { Keeps table.old table.new }
     ensures rows { IfOk result (λ inside. IsTrue inside
-        ↔ ((row : ℕ → Bool) → IsTrue (holds table.old inner row) → IsTrue (holds table.old outer row))) }
+        ↔ ((row : ℕ → Bool) → IsTrue (holds table.old inner row)
+        → IsTrue (holds table.old outer row))) }
 {
     let shared = table.and(inner, outer)?;
     Ok(table.same(inner, shared))

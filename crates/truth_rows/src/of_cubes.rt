@@ -31,7 +31,7 @@ pub fn cube_rows(table: &mut Table, cubes: &[Cube], width: u32) -> Result<Diagra
     Ok(rows)
 }
 
-// The rows that agree with each cell.
+/// The rows that agree with each cell.
 fn cell_rows(table: &mut Table, cells: &[Cell]) -> Result<Diagram, AllocError>
     requires narrow { length cells.now ≤ VARIABLES }
     ensures keeps { Keeps table.old table.new }
@@ -46,7 +46,7 @@ fn cell_rows(table: &mut Table, cells: &[Cell]) -> Result<Diagram, AllocError>
     Ok(rows)
 }
 
-// The rows of a set that agree with a cell.
+/// The rows of a set that agree with a cell.
 fn agreeing_rows(
     table: &mut Table,
     set: Diagram,

@@ -20,7 +20,7 @@ pub fn admits(table: &Table, set: Diagram, mode: &[u32], arity: u32) -> bool
     table.eval(set, row_of_mode(mode, arity))
 }
 
-// The number of the row: bit i is argument i.
+/// The number of the row: bit i is argument i.
 fn row_of_mode(mode: &[u32], arity: u32) -> u64
     requires narrow { arity ≤ MOST_ARGUMENTS }
     ensures { (i : ℕ) → i < arity → bit_of result i ≡ list_any (λ j. j == i + 1) mode.now }

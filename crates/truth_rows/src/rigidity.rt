@@ -22,7 +22,8 @@ pub(crate) fn rigid_rows<N: Norm>(
     requires small { nodes_of (tree_of t.now) ≤ MOST_NODES }
     ensures keeps { Keeps table.old table.new }
     ensures known { IfOk result (IsDiagram table.new) }
-    ensures rows { IfOk result (λ d. (row : ℕ → Bool) → holds table.new d row ≡ N.truth norm.now row (tree_of t.now)) }
+    ensures rows { IfOk result (λ d. (row : ℕ → Bool)
+        → holds table.new d row ≡ N.truth norm.now row (tree_of t.now)) }
 {
     let listed = norm.rigid_vars(t, vars);
     let mut rows = table.truth(true);
@@ -53,7 +54,8 @@ pub fn bound_rows<N: Norm>(
     ensures keeps { Keeps table.old table.new }
     ensures known { IfOk result (IsDiagram table.new) }
     ensures rows { IfOk result (λ d. (row : ℕ → Bool)
-        → holds table.new d row ≡ (holds table.old set row && iff (row place) (N.truth norm.now row (tree_of t.now)))) }
+        → holds table.new d row ≡ (holds table.old set row
+        && iff (row place) (N.truth norm.now row (tree_of t.now)))) }
 {
     let rigid = rigid_rows(norm, table, t, vars)?;
     let variable = table.var(place)?;

@@ -50,7 +50,7 @@ pub fn keeps_rule<N: Norm>(
     calls_stay(norm, table, ranks, grounds, pre, allowed, p.clause(k))
 }
 
-// Whether each call that is reached from the head's set is in its own.
+/// Whether each call that is reached from the head's set is in its own.
 fn calls_stay<N: Norm>(
     norm: &N,
     table: &mut Table,
@@ -61,7 +61,8 @@ fn calls_stay<N: Norm>(
     clause: &Clause,
 ) -> Result<bool, AllocError>
     requires head { clause.now.head.pred.0 < length ranks.now }
-    requires body { (j : ℕ) (b : Atom) → slice_get clause.now.body j ≡ Some b → b.pred.0 < length ranks.now }
+    requires body { (j : ℕ) (b : Atom) → slice_get clause.now.body j ≡ Some b
+        → b.pred.0 < length ranks.now }
     requires grounds { IsReadyClause table.old grounds.now clause.now }
     requires pre { IsReadyClause table.old pre.now clause.now }
     requires allowed { IsReadyClause table.old allowed.now clause.now }
@@ -90,7 +91,7 @@ fn calls_stay<N: Norm>(
     Ok(true)
 }
 
-// Whether an atom is in its set on each of the rows.
+/// Whether an atom is in its set on each of the rows.
 fn call_stays<N: Norm>(
     norm: &N,
     table: &mut Table,
@@ -131,7 +132,8 @@ pub fn chosen_rows<N: Norm>(
     ensures known { IfOk result (IsDiagram table.new) }
     ensures rows { IfOk result (λ d. (row : ℕ → Bool)
         → IsTrue (holds table.new d row)
-        ↔ HasAtom (N.truth norm.now) table.old (if own then pre.now else allowed.now) row atom.now) }
+        ↔ HasAtom (N.truth norm.now) table.old
+        (if own then pre.now else allowed.now) row atom.now) }
 {
     if own {
         return atom_rows(norm, table, pre, atom, vars);

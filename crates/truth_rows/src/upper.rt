@@ -15,13 +15,15 @@ use std::alloc::AllocError;
 /// the other is.
 pub fn upward_union(table: &mut Table, sets: &[Diagram], width: u32) -> Result<Diagram, AllocError>
     requires known { (i : ℕ) (d : Diagram) → slice_get sets.now i ≡ Some d → IsDiagram table.old d }
-    requires reads { (i : ℕ) (d : Diagram) → slice_get sets.now i ≡ Some d → ReadsBelow table.old d width }
+    requires reads { (i : ℕ) (d : Diagram) → slice_get sets.now i ≡ Some d
+        → ReadsBelow table.old d width }
     requires narrow { width ≤ VARIABLES }
     ensures keeps { Keeps table.old table.new }
     ensures known { IfOk result (IsDiagram table.new) }
     ensures reads { IfOk result (λ d. ReadsBelow table.new d width) }
     ensures rows { IfOk result (λ d. (row : List Bool) → length row ≡ width
-        → truth_rows table.new d row ≡ list_any (λ s. all_upper (truth_rows table.old s) row) sets.now) }
+        → truth_rows table.new d row ≡ list_any
+        (λ s. all_upper (truth_rows table.old s) row) sets.now) }
 {
     let mut rows = table.truth(false);
     for set in sets {
@@ -49,14 +51,15 @@ pub fn upper_rows(table: &mut Table, set: Diagram, width: u32) -> Result<Diagram
     Ok(rows)
 }
 
-// The rows of a set that stay in it where an argument becomes true.
+/// The rows of a set that stay in it where an argument becomes true.
 fn raised_rows(table: &mut Table, set: Diagram, argument: u32) -> Result<Diagram, AllocError>
     requires known { IsDiagram table.old set }
     requires argument { argument < VARIABLES }
     ensures keeps { Keeps table.old table.new }
     ensures known { IfOk result (IsDiagram table.new) }
     ensures rows { IfOk result (λ d. (row : ℕ → Bool)
-        → holds table.new d row ≡ (holds table.old set row && holds table.old set (with_value row argument true))) }
+        → holds table.new d row ≡ (holds table.old set row
+        && holds table.old set (with_value row argument true))) }
 {
     let rigid = table.var(argument)?;
     let with_it = table.and(set, rigid)?;

@@ -75,8 +75,10 @@ impl<'p> Bindings<'p> {
     /// The term of a variable, where it is bound.
     pub fn value(&self, variable: usize) -> Option<RaisedTerm<'p>>
         ensures stored { option_map raised_tree result ≡ stored self.now variable }
-        ensures same { IfSome result (λ t. full self.now (raised_tree t) ≡ full self.now (Variable variable)) }
-        ensures falls { IfSome result (λ t. chain_of self.now (raised_tree t) < chain self.now variable) }
+        ensures same { IfSome result
+            (λ t. full self.now (raised_tree t) ≡ full self.now (Variable variable)) }
+        ensures falls { IfSome result
+            (λ t. chain_of self.now (raised_tree t) < chain self.now variable) }
     {
         self.slot(variable)
     }
@@ -129,7 +131,8 @@ impl<'p> Bindings<'p> {
     #[inline(always)]
     pub fn met(&self, term: RaisedTerm<'p>) -> Met<'p>
         ensures met { IsMet self.now result }
-        ensures same { full self.now (raised_tree result.term) ≡ full self.now (raised_tree term.entry) }
+        ensures same { full self.now (raised_tree result.term)
+            ≡ full self.now (raised_tree term.entry) }
     {
         let mut now = term;
         loop {

@@ -117,7 +117,9 @@ impl<'p> EqualPairs<'p> {
     /// Adds a pair to the equal ones.
     fn add(&mut self, pair: OpenPair<'p>) -> Result<(), AllocError>
         ensures under_way { self.new.under_way.items ≡ self.old.under_way.items }
-        ensures equal { OnOk result (self.new.equal.items ≡ self.old.equal.items ++ (pair.entry.left, pair.entry.right) ∷ []) }
+        ensures equal { OnOk result
+            (self.new.equal.items ≡ self.old.equal.items ++ (pair.entry.left, pair.entry.right)
+            ∷ []) }
     {
         if let Some(variables) = variables(pair.left, pair.right) {
             self.places.insert(variables, self.equal.len())?;
@@ -128,7 +130,8 @@ impl<'p> EqualPairs<'p> {
 
     /// Moves the pairs whose arguments are unified to the equal ones. At most `left` equations are left, and one more.
     fn settle(&mut self, left: usize) -> Result<(), AllocError>
-        ensures { OnOk result ((s : List Binding) (es : List Equation) → length es ≤ left + 1 → AreRemembered s es self.old → AreRemembered s es self.new) }
+        ensures { OnOk result ((s : List Binding) (es : List Equation) → length es ≤ left + 1
+            → AreRemembered s es self.old → AreRemembered s es self.new) }
     {
         while let Some(pair) = self.under_way.pop() {
             if pair.below <= left {
@@ -147,8 +150,10 @@ impl<'p> EqualPairs<'p> {
         right: RaisedTerm<'p>,
         others: usize,
     ) -> Result<bool, AllocError>
-        ensures kept { OnOk result ((s : List Binding) (es : List Equation) → length es ≤ others + 1 → AreRemembered s es self.old → AreRemembered s es self.new) }
-        ensures equal { IfOk result (λ known. known ≡ true → IsKnown self.new left.entry right.entry) }
+        ensures kept { OnOk result ((s : List Binding) (es : List Equation) → length es ≤ others + 1
+            → AreRemembered s es self.old → AreRemembered s es self.new) }
+        ensures equal { IfOk result (λ known. known ≡ true
+            → IsKnown self.new left.entry right.entry) }
     {
         // Before as many pairs were met, none is remembered.
         if self.met < UNREMEMBERED {
@@ -165,7 +170,10 @@ impl<'p> EqualPairs<'p> {
         right: RaisedTerm<'p>,
         below: usize,
     ) -> Result<(), AllocError>
-        ensures { OnOk result ((s : List Binding) (es : List Equation) → Entails (above below es) (full s (raised_tree left.entry)) (full s (raised_tree right.entry)) → AreRemembered s es self.old → AreRemembered s es self.new) }
+        ensures { OnOk result ((s : List Binding) (es : List Equation)
+            → Entails (above below es) (full s (raised_tree left.entry))
+            (full s (raised_tree right.entry)) → AreRemembered s es self.old
+            → AreRemembered s es self.new) }
     {
         if self.met < UNREMEMBERED {
             self.met += 1;

@@ -65,10 +65,21 @@ pub fn unify_terms<'p>(
     limit: &mut usize,
 ) -> Result<bool, AllocError>
     requires { TermBelow limit.old (full bindings.old (raised_tree left)) }
-    ensures unifier { IfOk result (IsUnified (made bindings.old) ((full bindings.old (raised_tree left.entry), full bindings.old (raised_tree right.entry)) ∷ []) (made bindings.new)) }
+    ensures unifier { IfOk result
+        (IsUnified (made bindings.old)
+        ((
+          full bindings.old (raised_tree left.entry),
+          full bindings.old
+              (raised_tree right.entry),
+        ) ∷ []) (made bindings.new)) }
     ensures limit { OnOk result (StaysBelow limit.old bindings.old limit.new bindings.new) }
     ensures extended { OnOk result (Extends bindings.new bindings.old) }
-    ensures free { OnOk result (KeepsFree ((full bindings.old (raised_tree left.entry), full bindings.old (raised_tree right.entry)) ∷ []) bindings.old bindings.new) }
+    ensures free { OnOk result
+        (KeepsFree ((
+          full bindings.old (raised_tree left.entry),
+          full bindings.old
+              (raised_tree right.entry),
+        ) ∷ []) bindings.old bindings.new) }
 {
     let l = bindings.met(left);
     let r = bindings.met(right);
@@ -115,9 +126,20 @@ pub fn unify_integer<'p>(
 ) -> Result<bool, AllocError>
     requires below { TermBelow limit (full bindings.old (raised_tree left)) }
     requires integer { IsIntegerTree (raised_tree right) }
-    ensures unifier { IfOk result (IsUnified (made bindings.old) ((full bindings.old (raised_tree left.entry), full bindings.old (raised_tree right.entry)) ∷ []) (made bindings.new)) }
+    ensures unifier { IfOk result
+        (IsUnified (made bindings.old)
+        ((
+          full bindings.old (raised_tree left.entry),
+          full bindings.old
+              (raised_tree right.entry),
+        ) ∷ []) (made bindings.new)) }
     ensures extended { OnOk result (Extends bindings.new bindings.old) }
-    ensures free { OnOk result (KeepsFree ((full bindings.old (raised_tree left.entry), full bindings.old (raised_tree right.entry)) ∷ []) bindings.old bindings.new) }
+    ensures free { OnOk result
+        (KeepsFree ((
+          full bindings.old (raised_tree left.entry),
+          full bindings.old
+              (raised_tree right.entry),
+        ) ∷ []) bindings.old bindings.new) }
 {
     let l = bindings.met(left);
     let r = bindings.met(right);
@@ -151,9 +173,15 @@ pub fn unify_head<'p>(
 ) -> Result<bool, AllocError>
     requires free { FreeFrom fresh bindings.old }
     requires below { ArgumentsBelow fresh (over (full bindings.old) (raised base atom.now)).args }
-    ensures unifier { IfOk result (IsUnified (made bindings.old) (head_equations (over (full bindings.old) (raised base atom.now)) fresh clause.now) (made bindings.new)) }
+    ensures unifier { IfOk result
+        (IsUnified (made bindings.old)
+        (head_equations (over (full bindings.old) (raised base atom.now)) fresh clause.now)
+        (made bindings.new)) }
     ensures extended { OnOk result (Extends bindings.new bindings.old) }
-    ensures free { OnOk result (KeepsFree (head_equations (over (full bindings.old) (raised base atom.now)) fresh clause.now) bindings.old bindings.new) }
+    ensures free { OnOk result
+        (KeepsFree (head_equations
+        (over (full bindings.old)
+        (raised base atom.now)) fresh clause.now) bindings.old bindings.new) }
 {
     bindings.reserve(fresh as usize + clause.vars as usize)?;
     let left = atom.args.as_slice();

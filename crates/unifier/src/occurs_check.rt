@@ -43,7 +43,8 @@ pub fn push_arguments<'p>(
     args: &'p [Term],
     base: u32,
 ) -> Result<(), AllocError>
-    ensures { OnOk result (raw stack.new.items ≡ raw stack.old.items ++ map (instance (raise base)) (map tree_of args.now)) }
+    ensures { OnOk result (raw stack.new.items ≡ raw stack.old.items ++ map (instance (raise base))
+        (map tree_of args.now)) }
 {
     for term in args {
         stack.push(RaisedTerm { term, base })?;
@@ -59,7 +60,8 @@ fn reached<'p>(
     term: RaisedTerm<'p>,
     visited: &mut Visited,
 ) -> Result<Option<RaisedTerm<'p>>, AllocError>
-    ensures { IfOk result (λ end. IsReached bindings.now visited.old (raised_tree term.entry) end visited.new) }
+    ensures { IfOk result (λ end. IsReached bindings.now visited.old
+        (raised_tree term.entry) end visited.new) }
 {
     let mut now = term;
     loop {
@@ -93,8 +95,13 @@ fn look<'p>(
     visited: &mut Visited,
 ) -> Result<bool, AllocError>
     ensures above { OnOk result (above.old ≤ above.new) }
-    ensures looked { IfOk result (λ found. IsLookedAt bindings.now variable (raised_tree term.entry) visited.old (raw_arguments stack.old.items) found above.new visited.new (raw_arguments stack.new.items)) }
-    ensures weight { OnOk result (weight bindings.now (raw_arguments stack.new.items) ≤ weight bindings.now (raw_arguments stack.old.items) + nodes_of (full bindings.now (raised_tree term.entry))) }
+    ensures looked { IfOk result
+        (λ found. IsLookedAt bindings.now variable (raised_tree term.entry) visited.old
+        (raw_arguments stack.old.items) found above.new visited.new
+        (raw_arguments stack.new.items)) }
+    ensures weight { OnOk result (weight bindings.now (raw_arguments stack.new.items)
+        ≤ weight bindings.now (raw_arguments stack.old.items) + nodes_of
+        (full bindings.now (raised_tree term.entry))) }
 {
     let Some(end) = reached(bindings, term, visited)? else {
         return Ok(false);
@@ -127,8 +134,14 @@ fn look_at_all<'p>(
     visited: &mut Visited,
 ) -> Result<bool, AllocError>
     ensures above { OnOk result (above.old ≤ above.new) }
-    ensures looked { IfOk result (λ found. IsLookedAt bindings.now variable (arguments_tree next.entry) visited.old (raw_arguments stack.old.items) found above.new visited.new (raw_arguments stack.new.items)) }
-    ensures weight { OnOk result (weight bindings.now (raw_arguments stack.new.items) < weight bindings.now (raw_arguments stack.old.items) + nodes_of (full bindings.now (arguments_tree next.entry))) }
+    ensures looked { IfOk result
+        (λ found. IsLookedAt bindings.now variable (arguments_tree next.entry) visited.old
+        (raw_arguments stack.old.items) found above.new visited.new
+        (raw_arguments stack.new.items)) }
+    ensures weight { OnOk result
+        (weight bindings.now (raw_arguments stack.new.items) < weight bindings.now
+        (raw_arguments stack.old.items) + nodes_of
+        (full bindings.now (arguments_tree next.entry))) }
 {
     let base = next.base;
     for term in next.args {

@@ -54,7 +54,8 @@ impl<'p> RaisedTerm<'p> {
     /// Whether the term is an integer, or a name without arguments. No variable occurs in such a term.
     #[inline]
     pub fn is_constant(self) -> bool
-        ensures { IsTrue result → (s : List Binding) (x : ℕ) → occurs x (full s (raised_tree self.entry)) ≡ false }
+        ensures { IsTrue result → (s : List Binding) (x : ℕ)
+            → occurs x (full s (raised_tree self.entry)) ≡ false }
     {
         match self.shape() {
             Shape::Variable(_) => false,

@@ -46,7 +46,10 @@ pub fn push_equations<'p>(
     right: &'p [Term],
     right_base: u32,
 ) -> Result<(), AllocError>
-    ensures { OnOk result (raw_equations stack.new.items ≡ pairs (all_instances (raise left_base) (trees_of left.now)) (all_instances (raise right_base) (trees_of right.now)) ++ raw_equations stack.old.items) }
+    ensures { OnOk result (raw_equations stack.new.items
+        ≡ pairs (all_instances (raise left_base) (trees_of left.now))
+        (all_instances (raise right_base) (trees_of right.now))
+        ++ raw_equations stack.old.items) }
 {
     let mut i = left.len().min(right.len());
     while i > 0 {
@@ -76,8 +79,14 @@ fn open_arguments<'p>(
     right: &'p [Term],
     right_base: u32,
 ) -> Result<(), AllocError>
-    ensures stack { OnOk result (raw_equations stack.new.items ≡ pairs (all_instances (raise left_base) (trees_of left.now)) (all_instances (raise right_base) (trees_of right.now)) ++ raw_equations stack.old.items) }
-    ensures known { OnOk result ((s : List Binding) (es : List Equation) → Entails (above (length stack.old.items) es) (full s (raised_tree terms.entry.0)) (full s (raised_tree terms.entry.1)) → AreRemembered s es known.old → AreRemembered s es known.new) }
+    ensures stack { OnOk result
+        (raw_equations stack.new.items ≡ pairs (all_instances (raise left_base) (trees_of left.now))
+        (all_instances (raise right_base) (trees_of right.now))
+        ++ raw_equations stack.old.items) }
+    ensures known { OnOk result ((s : List Binding) (es : List Equation)
+        → Entails (above (length stack.old.items) es) (full s (raised_tree terms.entry.0))
+        (full s (raised_tree terms.entry.1)) → AreRemembered s es known.old
+        → AreRemembered s es known.new) }
 {
     known.open(terms.0, terms.1, stack.len())?;
     push_equations(stack, left, left_base, right, right_base)?;
@@ -97,7 +106,9 @@ fn bound_or_clash<'p>(
     requires small { variable < 2 ^ 33 }
     requires free { stored bindings.now variable ≡ None }
     requires followed { IsOpen bindings.now (raised_tree term) }
-    ensures step { IfOk result (λ f. (n m : ℕ) → step_of bindings.now n m f ≡ bound variable (full bindings.now (raised_tree term.entry))) }
+    ensures step { IfOk result (λ f. (n m : ℕ)
+        → step_of bindings.now n m f
+        ≡ bound variable (full bindings.now (raised_tree term.entry))) }
     ensures fit { IfOk result (IsFit bindings.now) }
 {
     match occurs_in(bindings, variable, term, stack, visited)? {
@@ -120,7 +131,9 @@ fn apart_or_bound<'p>(
     requires small { variable < 2 ^ 33 }
     requires free { stored bindings.now variable ≡ None }
     requires followed { IsOpen bindings.now (raised_tree term) }
-    ensures step { IfOk result (λ f. (n m : ℕ) → step_of bindings.now n m f ≡ bound variable (full bindings.now (raised_tree term.entry))) }
+    ensures step { IfOk result (λ f. (n m : ℕ)
+        → step_of bindings.now n m f
+        ≡ bound variable (full bindings.now (raised_tree term.entry))) }
     ensures fit { IfOk result (IsFit bindings.now) }
 {
     if limit <= variable {
@@ -131,7 +144,9 @@ fn apart_or_bound<'p>(
 
 /// What two compound terms ask for.
 fn arguments_or_clash<'p>(f: Name, left: &'p [Term], g: Name, right: &'p [Term]) -> Found<'p>
-    ensures step { (s : List Binding) (n m : ℕ) → step_of s n m result ≡ first_step (Compound f.0 (args_full s n left.now)) (Compound g.0 (args_full s m right.now)) }
+    ensures step { (s : List Binding) (n m : ℕ)
+        → step_of s n m result ≡ first_step (Compound f.0 (args_full s n left.now))
+        (Compound g.0 (args_full s m right.now)) }
     ensures fit { (s : List Binding) → IsFit s result }
 {
     if f.0 == g.0 && left.len() == right.len() {
@@ -143,7 +158,8 @@ fn arguments_or_clash<'p>(f: Name, left: &'p [Term], g: Name, right: &'p [Term])
 
 /// What two integers ask for.
 fn nothing_or_clash<'p>(m: i128, n: i128) -> Found<'p>
-    ensures step { (s : List Binding) (i j : ℕ) → step_of s i j result ≡ first_step (Integer m) (Integer n) }
+    ensures step { (s : List Binding) (i j : ℕ)
+        → step_of s i j result ≡ first_step (Integer m) (Integer n) }
     ensures fit { (s : List Binding) → IsFit s result }
 {
     if m == n { Found::Nothing } else { Found::Clash }
@@ -152,8 +168,11 @@ fn nothing_or_clash<'p>(m: i128, n: i128) -> Found<'p>
 /// What two free variables ask for, of which the right one is this term.
 fn nothing_or_bound<'p>(x: usize, y: usize, term: RaisedTerm<'p>) -> Found<'p>
     requires { y < 2 ^ 33 }
-    ensures step { (s : List Binding) (i j : ℕ) → full s (raised_tree term.entry) ≡ Variable y → step_of s i j result ≡ first_step (Variable x) (Variable y) }
-    ensures fit { (s : List Binding) → x < 2 ^ 33 → stored s x ≡ None → IsOpen s (raised_tree term.entry) → full s (raised_tree term.entry) ≡ Variable y → IsFit s result }
+    ensures step { (s : List Binding) (i j : ℕ) → full s (raised_tree term.entry) ≡ Variable y
+        → step_of s i j result ≡ first_step (Variable x) (Variable y) }
+    ensures fit { (s : List Binding) → x < 2 ^ 33 → stored s x ≡ None
+        → IsOpen s (raised_tree term.entry) → full s (raised_tree term.entry) ≡ Variable y
+        → IsFit s result }
 {
     if x == y {
         Found::Nothing
@@ -175,7 +194,10 @@ pub fn step<'p>(
     requires below { TermBelow limit (full bindings.now (raised_tree left.term)) }
     requires left { IsMet bindings.now left }
     requires right { IsMet bindings.now right }
-    ensures step { IfOk result (λ f. step_of bindings.now left.entry.term.base right.entry.term.base f ≡ first_step (full bindings.now (raised_tree left.entry.term)) (full bindings.now (raised_tree right.entry.term))) }
+    ensures step { IfOk result
+        (λ f. step_of bindings.now left.entry.term.base right.entry.term.base f
+        ≡ first_step (full bindings.now (raised_tree left.entry.term))
+        (full bindings.now (raised_tree right.entry.term))) }
     ensures fit { IfOk result (IsFit bindings.now) }
 {
     match (left.shape, right.shape) {
@@ -205,10 +227,14 @@ fn next_binding<'p>(
     visited: &mut Visited,
 ) -> Result<Next<'p>, AllocError>
     requires left { LeftBelow limit (waiting bindings.now equations.old.items) }
-    requires pairs { AreRemembered bindings.now (waiting bindings.now equations.old.items) pairs.old }
+    requires pairs { AreRemembered bindings.now
+        (waiting bindings.now equations.old.items) pairs.old }
     ensures left { OnOk result (LeftBelow limit (waiting bindings.now equations.new.items)) }
-    ensures next { IfOk result (λ n. IsNext bindings.now (waiting bindings.now equations.old.items) n (waiting bindings.now equations.new.items)) }
-    ensures pairs { IfOk result (λ n. AreRememberedAfter bindings.now n equations.new.items pairs.new) }
+    ensures next { IfOk result
+        (λ n. IsNext bindings.now (waiting bindings.now equations.old.items) n
+        (waiting bindings.now equations.new.items)) }
+    ensures pairs { IfOk result
+        (λ n. AreRememberedAfter bindings.now n equations.new.items pairs.new) }
 {
     while let Some((l, r)) = equations.pop() {
         let below = equations.len();
@@ -250,10 +276,13 @@ pub fn solve<'p>(
     visited: &mut Visited,
 ) -> Result<bool, AllocError>
     requires { LeftBelow limit.old (waiting bindings.old equations.old.items) }
-    ensures unifier { IfOk result (IsUnified (made bindings.old) (waiting bindings.old equations.old.items) (made bindings.new)) }
+    ensures unifier { IfOk result
+        (IsUnified (made bindings.old) (waiting bindings.old equations.old.items)
+        (made bindings.new)) }
     ensures limit { OnOk result (StaysBelow limit.old bindings.old limit.new bindings.new) }
     ensures extended { OnOk result (Extends bindings.new bindings.old) }
-    ensures free { OnOk result (KeepsFree (waiting bindings.old equations.old.items) bindings.old bindings.new) }
+    ensures free { OnOk result
+        (KeepsFree (waiting bindings.old equations.old.items) bindings.old bindings.new) }
 {
     pairs.clear();
     loop {

@@ -10,7 +10,7 @@ use Rattle.number_tests.specs.declared.level_part.LevelPart.{LevelPart}
 use Rattle.linear_rows.specs.Plain.{plain_rows}
 use Rattle.linear_rows.specs.declared.multipliers.Multipliers.{Multipliers}
 use Rattle.termination_model.specs.Sizes.{rows_of}
-use Rattle.termination_model.specs.Systems.{short_system}
+use Rattle.termination_model.specs.ShortSystems.{short_system}
 use Rattle.termination_model.proofs.Lists.{at_place, by_places, one_element, place_below}
 use Rattle.number_tests.specs.Proved.{MappingsFall}
 use Rattle.cert_checker.specs.Proved.{CallsFall}

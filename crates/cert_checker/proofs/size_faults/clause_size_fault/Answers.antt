@@ -5,7 +5,8 @@ use Rattle.linear_rows.specs.Plain.{plain_row, plain_rows}
 use Rattle.linear_rows.specs.declared.multipliers.Multipliers.{Multipliers}
 use Rattle.linear_rows.specs.declared.row.Row.{Row}
 use Rattle.termination_model.specs.Replacing.{over_columns}
-use Rattle.termination_model.specs.Systems.{row_over, short_system}
+use Rattle.termination_model.specs.Systems.{row_over}
+use Rattle.termination_model.specs.ShortSystems.{short_system}
 use Rattle.cert_structure.specs.Order.{by_line}
 use Rattle.cert_checker.proofs.FindLaws.{before_ones, finds_item, finds_none}
 use Rattle.cert_checker.proofs.FlawLaws.{failing_row, kept_row, row_moved}

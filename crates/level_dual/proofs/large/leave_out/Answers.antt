@@ -1,9 +1,9 @@
 use Rattle.std.proofs.Common.{◌≡◌, ◌+◌, ◌≤◌, ◌++◌, ◌∷◌, [], suc, true, List, length, map, slice_get, get_or, Some, ap, sym, subst, ◌∙◌, arith}
 use Rattle.termination_model.specs.Minimal.{IsExcluded}
 use Rattle.termination_model.specs.Modes.{is_part}
-use Rattle.termination_model.specs.ComponentViews.{Has, positions_in}
+use Rattle.termination_model.specs.ComponentViews.{HasSupportIn, positions_in}
 use Rattle.termination_model.proofs.Lists.{there}
-use Rattle.level_systems.specs.Found.{IsBlownSet, without}
+use Rattle.level_systems.specs.Found.{IsBlownSet, without_number}
 use Rattle.level_systems.specs.Held.{spelled}
 use Rattle.level_dual.specs.Large.{AreTried}
 use Rattle.level_systems.specs.Mappings.{support_of}
@@ -25,8 +25,8 @@ loop-number-preserved c = λ size truth expression comps rows r h once.
     let (before, known) = c.loop-number.invariant size truth expression comps rows r h once in
     let answer = c.in_ok-mapping.ensures.answer size truth expression comps rows r h known in
     let later = c.search_unless_excluded.ensures.known size truth expression comps rows r h known in
-    let set : c.in_ok-set.set ≡ without i s = c.in_ok-set.ensures in
-    let slice : c.as_slice-in-loop-number-2.result.now ≡ without i s = c.as_slice-in-loop-number-2.ensures ∙ set in (
+    let set : c.in_ok-set.set ≡ without_number i s = c.in_ok-set.ensures in
+    let slice : c.as_slice-in-loop-number-2.result.now ≡ without_number i s = c.as_slice-in-loop-number-2.ensures ∙ set in (
       elim c.match-branch-4.branch [
         | in-Mapping+in_ok-smaller-in-Mapping+else-len-support+in_ok-push-in-Mapping w ↦
             subst (AreTried expression p comps rows r s (k + 1)) (sym (w.blown-is ∙ w.in_ok-push-in-Mapping.ensures.ok ∙ ap (λ t. c.loop-number.blown ++ t ∷ []) set))
@@ -43,7 +43,7 @@ loop-number-preserved c = λ size truth expression comps rows r h once.
         | in-Refuted w ↦
             subst (AreTried expression p comps rows r s (k + 1)) (sym w.blown-is)
             (excluded_too expression p comps rows r s k i at c.loop-number.blown before
-            (subst (IsExcluded (Has expression p comps rows r)) slice (subst (IsAnswer expression p comps rows r c.as_slice-in-loop-number-2.result.now) w.in-Refuted.is answer)))
+            (subst (IsExcluded (HasSupportIn expression p comps rows r)) slice (subst (IsAnswer expression p comps rows r c.as_slice-in-loop-number-2.result.now) w.in-Refuted.is answer)))
         | in-Blown+in_ok-push-in-Blown w ↦
             subst (AreTried expression p comps rows r s (k + 1)) (sym (w.blown-is ∙ w.in_ok-push-in-Blown.ensures.ok ∙ ap (λ t. c.loop-number.blown ++ t ∷ []) set))
             (given_up_too expression p comps rows r s k i at c.loop-number.blown before once

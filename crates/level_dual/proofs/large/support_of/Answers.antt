@@ -3,7 +3,7 @@ use Rattle.termination_model.specs.Supports.{support_from}
 use Rattle.termination_model.proofs.Lists.{append_assoc, there}
 use Rattle.level_systems.specs.Held.{spelled}
 use Rattle.level_dual.specs.Large.{has_coefficient}
-use Rattle.level_systems.specs.Mappings.{mapping_of}
+use Rattle.level_systems.specs.Mappings.{mapping_with}
 use Rattle.level_systems.specs.declared.measure.Measure.{Measure}
 use Rattle.level_systems.specs.declared.position.Position.{Position}
 use Rattle.level_systems.proofs.PairLists.{drop_at}
@@ -14,7 +14,7 @@ pub loop-i-preserved : goal.loop-i-preserved
 loop-i-preserved c =
     let positions = c.args.positions.now in
     let ms = c.args.mapping.now.measures in
-    let m = mapping_of ms in
+    let m = mapping_with ms in
     let i = c.loop-i.i in
     let x : Position = get_or positions i (record { pred = record { 0 = 0 }; argument = 0 }) in
     let at : slice_get positions i ≡ Some x = there positions i (record { pred = record { 0 = 0 }; argument = 0 }) c.loop-i-test.true in

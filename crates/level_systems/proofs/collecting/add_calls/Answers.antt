@@ -9,7 +9,7 @@ use Rattle.number_tests.specs.Refuting.{atom_or_none, clause_or_none}
 use Rattle.termination_model.specs.Sizes.{rows_of}
 use Rattle.termination_model.proofs.Lists.{append_assoc, at_place, map_push}
 use Rattle.level_systems.specs.Collected.{IsHeldIn}
-use Rattle.level_systems.specs.Held.{IsHeldAs, pair_of}
+use Rattle.level_systems.specs.Held.{IsHeldAs, numbers_of_call}
 use Rattle.level_systems.specs.Pairs.{call_at, calls_from, clause_at}
 use Rattle.level_systems.specs.declared.own_call.OwnCall.{OwnCall}
 use Rattle.level_systems.proofs.PairLists.{call_skipped, call_taken, call_there, drop_at, is_other, is_own}
@@ -29,7 +29,7 @@ loop-j-preserved-then-of-c g c =
     let step : calls_from comps c.args.c k j (drop j body) ≡ calls_from comps c.args.c k (j + 1) (drop (j + 1) body) =
     ap (calls_from comps c.args.c k j) (drop_at body j b at) ∙ call_skipped comps c.args.c k j b (drop (j + 1) body) (is_other comps c.args.c b.pred.0 c.of.result c.of.ensures c.if-of-c.true) in
     record {
-      pairs = ap (λ (s : List (ℕ × ℕ)). map pair_of c.loop-j.calls.items ++ s) (sym step) ∙ c.loop-j.invariant.pairs;
+      pairs = ap (λ (s : List (ℕ × ℕ)). map numbers_of_call c.loop-j.calls.items ++ s) (sym step) ∙ c.loop-j.invariant.pairs;
       held = c.loop-j.invariant.held;
     }
 
@@ -67,9 +67,9 @@ loop-j-preserved g c =
     let at : slice_get body j ≡ Some b = subst (λ (bs : List Atom). slice_get bs j ≡ Some b) whole (at_place c.as_slice.result.now j b (omega (arith, count, c.loop-j-test.true)) c.index-as_slice-j.is) in
     let told : IsHeldAs e p rows k (j + 1) own = subst (λ (o : Option OwnCall). IfSome o (IsHeldAs e p rows k (j + 1))) c.in-Some.is c.in_ok-own.ensures.held in
     let held = told.2 in
-    let before = map pair_of c.loop-j.calls.items in
+    let before = map numbers_of_call c.loop-j.calls.items in
     let rest = drop (j + 1) body in
-    let pair : pair_of own ≡ (k, j + 1) = λ i. (told.0 i, told.1 i) in
+    let pair : numbers_of_call own ≡ (k, j + 1) = λ i. (told.0 i, told.1 i) in
     let step : calls_from comps c.args.c k j (drop j body) ≡ (k, j + 1) ∷ calls_from comps c.args.c k (j + 1) rest =
     ap (calls_from comps c.args.c k j) (drop_at body j b at) ∙ call_taken comps c.args.c k j b rest (is_own comps c.args.c b.pred.0 c.of.result c.of.ensures c.if-of-c.false) in
     let one : j + 1 - 1 ≡ j = omega arith in
@@ -79,9 +79,9 @@ loop-j-preserved g c =
     let inside : IsIn comps c.args.c b.pred.0 = c.of.ensures ∙ ap (λ (n : ℕ). Some n) c.if-of-c.false in
     record {
       pairs =
-          ap (λ (os : List OwnCall). map pair_of os ++ calls_from comps c.args.c k (j + 1) rest) c.in_ok-push.ensures.items
-          ∙ ap (λ (s : List (ℕ × ℕ)). s ++ calls_from comps c.args.c k (j + 1) rest) (map_push pair_of c.loop-j.calls.items own)
-          ∙ append_assoc before (pair_of own ∷ []) (calls_from comps c.args.c k (j + 1) rest)
+          ap (λ (os : List OwnCall). map numbers_of_call os ++ calls_from comps c.args.c k (j + 1) rest) c.in_ok-push.ensures.items
+          ∙ ap (λ (s : List (ℕ × ℕ)). s ++ calls_from comps c.args.c k (j + 1) rest) (map_push numbers_of_call c.loop-j.calls.items own)
+          ∙ append_assoc before (numbers_of_call own ∷ []) (calls_from comps c.args.c k (j + 1) rest)
           ∙ ap (λ (x : ℕ × ℕ). before ++ (x ∷ calls_from comps c.args.c k (j + 1) rest)) pair
           ∙ ap (λ (s : List (ℕ × ℕ)). before ++ s) (sym step)
           ∙ c.loop-j.invariant.pairs;

@@ -3,7 +3,7 @@ use Rattle.cti_terms.specs.declared.clauses.Clause.{Clause}
 use Rattle.linear_rows.specs.Members.{In}
 use Rattle.number_tests.specs.Refuting.{clause_or_none}
 use Rattle.termination_model.proofs.Lists.{append_assoc}
-use Rattle.level_systems.specs.Held.{pair_of}
+use Rattle.level_systems.specs.Held.{numbers_of_call}
 use Rattle.level_systems.specs.Pairs.{calls_from, clause_at, pairs_from}
 use Rattle.level_systems.proofs.PairLists.{clause_skipped, clause_taken, drop_at, is_other, is_own, pair_there}
 use Rattle.level_systems.proofs.collecting.own_calls.Goals as goal
@@ -19,7 +19,7 @@ loop-k-preserved-then-of-c g c =
     let step : pairs_from comps c.args.c k (drop k clauses) ≡ pairs_from comps c.args.c (k + 1) (drop (k + 1) clauses) =
     ap (pairs_from comps c.args.c k) (drop_at clauses k x at) ∙ clause_skipped comps c.args.c k x (drop (k + 1) clauses) (is_other comps c.args.c x.head.pred.0 c.of.result c.of.ensures c.if-of-c.true) in
     record {
-      pairs = ap (λ (s : List (ℕ × ℕ)). map pair_of c.loop-k.calls.items ++ s) (sym step) ∙ c.loop-k.invariant.pairs;
+      pairs = ap (λ (s : List (ℕ × ℕ)). map numbers_of_call c.loop-k.calls.items ++ s) (sym step) ∙ c.loop-k.invariant.pairs;
       held = c.loop-k.invariant.held;
     }
 
@@ -48,7 +48,7 @@ loop-k-preserved g c =
     let one : k + 1 - 1 ≡ k = omega arith in
     let at : slice_get clauses k ≡ Some x = subst (λ (n : ℕ). slice_get clauses n ≡ Some x) one c.clause.ensures.there in
     let rest = pairs_from comps c.args.c (k + 1) (drop (k + 1) clauses) in
-    let before = map pair_of c.loop-k.calls.items in
+    let before = map numbers_of_call c.loop-k.calls.items in
     let same : clause_at p (k + 1) ≡ x = ap clause_or_none c.clause.ensures.there in
     let step : pairs_from comps c.args.c k (drop k clauses) ≡ calls_from comps c.args.c (k + 1) 0 x.body ++ rest =
     ap (pairs_from comps c.args.c k) (drop_at clauses k x at) ∙ clause_taken comps c.args.c k x (drop (k + 1) clauses) (is_own comps c.args.c x.head.pred.0 c.of.result c.of.ensures c.if-of-c.false) in

@@ -11,7 +11,7 @@ use Rattle.termination_model.specs.Supports.{AreDistinct}
 use Rattle.termination_model.proofs.Lists.{indexed}
 use Rattle.termination_model.proofs.Readiness.{positions_are_distinct}
 use Rattle.level_systems.specs.Collected.{IsHeldIn}
-use Rattle.level_systems.specs.Held.{IsHeld, pair_of, spelled}
+use Rattle.level_systems.specs.Held.{IsHeld, numbers_of_call, spelled}
 use Rattle.level_systems.specs.Ordered.{members_by_clauses}
 use Rattle.level_systems.specs.Pairs.{pairs_of}
 use Rattle.level_systems.specs.Searched.{IsSoundCall}
@@ -68,7 +68,7 @@ returns-clause-component g c =
       by_clauses = c.in_ok-by_clauses.ensures ∙ members_are e p comps rows number;
       order = c.in_ok-order.ensures ∙ ap (λ (ps : List PredId). positions_by (arity_in p) (map number_of ps)) c.as_slice.ensures.value;
       positions = c.requires.positions;
-      pairs = subst (λ o. IfSome o (λ os. map pair_of os.items ≡ pairs_of p comps number)) c.in-Some.is c.in_ok-calls.ensures.pairs;
+      pairs = subst (λ o. IfSome o (λ os. map numbers_of_call os.items ≡ pairs_of p comps number)) c.in-Some.is c.in_ok-calls.ensures.pairs;
       held = all_map (IsHeldIn e p rows comps number) (IsHeld e p rows) (λ own h. h.0) calls held;
       callers = all_map (IsHeldIn e p rows comps number) (λ (own : OwnCall). IsIn comps number own.caller.0) (λ own h. h.1) calls held;
       inside = all_map (IsHeldIn e p rows comps number) (λ (own : OwnCall). IsIn comps number own.callee.0) (λ own h. h.2) calls held;

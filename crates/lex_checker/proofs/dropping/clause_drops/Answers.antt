@@ -12,7 +12,7 @@ use Rattle.number_tests.specs.Shape.{list_at, row_count}
 use Rattle.number_tests.specs.Systems.{IsSizedAtom, IsSystemUpTo}
 use Rattle.termination_model.proofs.Lists.{at_place, by_places, one_element, place_below}
 use Rattle.termination_model.specs.Sizes.{rows_of}
-use Rattle.termination_model.specs.Systems.{short_system}
+use Rattle.termination_model.specs.ShortSystems.{short_system}
 use Rattle.lex_checker.specs.Proved.{CallsDrop, MeasuresDrop}
 use Rattle.lex_checker.specs.Shape.{AreListsAt}
 use Rattle.lex_checker.proofs.DropLists.{lists_at}

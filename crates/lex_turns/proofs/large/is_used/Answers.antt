@@ -1,7 +1,7 @@
 use Rattle.std.proofs.Common.{◌≡◌, List, Some, slice_get, true, map, ap, sym, subst, ◌∙◌}
 use Rattle.termination_model.proofs.Lists.{at_place}
 use Rattle.level_systems.specs.Held.{spelled}
-use Rattle.level_systems.specs.Mappings.{mapping_of}
+use Rattle.level_systems.specs.Mappings.{mapping_with}
 use Rattle.level_systems.specs.declared.measure.Measure.{Measure}
 use Rattle.level_dual.specs.Large.{has_coefficient}
 use Rattle.lex_turns.specs.FoundLists.{is_used}
@@ -16,4 +16,4 @@ returns-then-has_coefficient c =
     let ms = c.measures-item.result in
     let at : slice_get items i ≡ Some ms = at_place items i ms c.loop-measures-test.true c.measures-item.is in
     let yes : has_coefficient ms r ≡ true = ap (λ (ns : List Measure). has_coefficient ns r) (sym c.as_slice.ensures) ∙ sym c.has_coefficient.ensures ∙ c.if-has_coefficient.true in
-    sym (subst (λ (mss : List (List Measure)). is_used r (map mapping_of mss) ≡ true) c.as_slice-measures-items.ensures (used_there r items i ms at yes))
+    sym (subst (λ (mss : List (List Measure)). is_used r (map mapping_with mss) ≡ true) c.as_slice-measures-items.ensures (used_there r items i ms at yes))

@@ -2,7 +2,7 @@ use Rattle.std.proofs.Common.{◌≡◌, ◌+◌, ◌≤◌, ◌++◌, ◌∷◌
 use Rattle.termination_model.specs.ComponentViews.{positions_in}
 use Rattle.termination_model.specs.Modes.{is_part}
 use Rattle.termination_model.proofs.Lists.{there}
-use Rattle.level_systems.specs.Found.{without}
+use Rattle.level_systems.specs.Found.{without_number}
 use Rattle.level_systems.specs.Held.{spelled}
 use Rattle.level_systems.specs.declared.position.Position.{Position}
 use Rattle.level_dual.proofs.LargeLaws.{part_without, place_in, set_once}
@@ -25,8 +25,8 @@ loop-number-preserved c = λ size truth expression comps rows r h once.
     let at : slice_get s k ≡ Some i = there s k 0 c.loop-number-test.true in
     let before = c.loop-number.invariant size truth expression comps rows r h once in
     let answer = c.in_ok-other.ensures size truth expression comps rows r h in
-    let set : c.in_ok-set.set ≡ without i s = c.in_ok-set.ensures in
-    let slice : c.as_slice.result.now ≡ without i s = c.as_slice.ensures ∙ set in
+    let set : c.in_ok-set.set ≡ without_number i s = c.in_ok-set.ensures in
+    let slice : c.as_slice.result.now ≡ without_number i s = c.as_slice.ensures ∙ set in
     elim c.match-branch-3.branch [
       | in-List+in_ok-smaller-in-List+else-len-support+in_ok-push-in-List w ↦
           subst (AreTried expression p comps rows r s (k + 1)) (sym (w.blown-is ∙ w.in_ok-push-in-List.ensures.ok ∙ ap (λ t. c.loop-number.blown ++ t ∷ []) set))

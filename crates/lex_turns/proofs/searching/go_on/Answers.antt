@@ -4,7 +4,7 @@ use Rattle.std.specs.Prelude.{vec_len}
 use Rattle.std.proofs.lemmas.List.{length-map}
 use Rattle.level_systems.specs.Turned.{all_rows, held_of}
 use Rattle.level_systems.specs.declared.own_call.OwnCall.{OwnCall}
-use Rattle.lex_turns.specs.Coursing.{IsBlown, is_none}
+use Rattle.lex_turns.specs.Coursing.{CannotTurn, is_none}
 use Rattle.lex_turns.specs.Testing.{AreAmong}
 use Rattle.lex_turns.specs.Tracking.{kept, staying}
 use Rattle.lex_turns.specs.Turning.{IsMade, IsMadeStep, IsStep, IsTurnOf}
@@ -94,5 +94,5 @@ returns-clause-next c =
       omega (arith, long, some, many),
       λ size truth expression comps rows r h.
           let told = subst (IsStep expression p comps rows r x at rest first) c.in-Blown.is (c.in_ok-made.ensures.step size truth expression comps rows r h) in
-          subst (λ (os : List OwnCall). IsBlown expression p comps rows r x at (is_none c.args.course.now.measures) os) rest_is (subst (λ (f : Bool). IsBlown expression p comps rows r x at f rest) none told),
+          subst (λ (os : List OwnCall). CannotTurn expression p comps rows r x at (is_none c.args.course.now.measures) os) rest_is (subst (λ (f : Bool). CannotTurn expression p comps rows r x at f rest) none told),
     )

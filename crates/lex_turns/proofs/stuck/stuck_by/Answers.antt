@@ -11,7 +11,7 @@ use Rattle.level_systems.specs.Turned.{held_of}
 use Rattle.level_systems.specs.declared.own_call.OwnCall.{OwnCall}
 use Rattle.level_dual.proofs.RefuteLaws.{are_pairs}
 use Rattle.level_dual.proofs.Results.{if_ok}
-use Rattle.lex_turns.specs.Coursing.{IsBlown}
+use Rattle.lex_turns.specs.Coursing.{CannotTurn}
 use Rattle.lex_turns.specs.Sticking.{AreAccepted, ArePlainOf, AreRefuting, AreRefutingIf, IsUnrefuted, lines_of, unknowns_of}
 use Rattle.lex_turns.proofs.PlainPoints.{plain_calls}
 use Rattle.lex_turns.proofs.StickingLaws.{flawed_blown, stuck_if, unrefuted_blown}
@@ -30,7 +30,7 @@ returns-in_default-clause-blown g c = λ alone none comps r h gone is covers sto
     let calls = c.args.attempt.now.round.rest.now in
     let rest = held_of calls in
     let given = subst (AreRefutingIf rest (unknowns_of e p comps rows r x at rest) (lines_of e p comps rows r x at rest)) c.in_default.is (c.in_ok-points.ensures.exact alone size truth e comps rows r h) in
-    subst (IsBlown e p comps rows r x at first) is
+    subst (CannotTurn e p comps rows r x at first) is
     (unrefuted_blown size truth e p comps rows r x h at gone stopped covers
     (subst (λ (owns : List OwnCall). IsUnrefuted owns (unknowns_of e p comps rows r x at owns) (lines_of e p comps rows r x at owns)) (sym is) given) first)
 
@@ -78,7 +78,7 @@ returns-clause-blown g c = λ alone. if_ok c.accepted.result (λ o fails. λ non
     let rest = held_of calls in
     let given = subst (AreRefutingIf rest (unknowns_of e p comps rows r x at rest) (lines_of e p comps rows r x at rest)) c.in-Some.is (c.in_ok-points.ensures.exact alone size truth e comps rows r h) in
     let listed : map number_of c.as_slice.result.now ≡ members_in comps r = ap (map number_of) c.as_slice.ensures.value ∙ h.members in
-    subst (IsBlown e p comps rows r x at first) is
+    subst (CannotTurn e p comps rows r x at first) is
     (flawed_blown size truth e p comps rows r x h at gone stopped covers c.in-Some.points
     (subst (λ (owns : List OwnCall). AreRefuting owns (unknowns_of e p comps rows r x at owns) (lines_of e p comps rows r x at owns) c.in-Some.points) (sym is) given)
     (λ accepted. fails none (subst (λ ms. AreAccepted e p rows ms c.in-Some.points) (sym listed) accepted)) first)) c.accepted.ensures.none

@@ -4,7 +4,7 @@ use Rattle.termination_model.specs.Sizes.{rows_of}
 use Rattle.level_systems.specs.Turned.{held_of}
 use Rattle.level_systems.specs.declared.own_call.OwnCall.{OwnCall}
 use Rattle.level_dual.proofs.Results.{if_ok}
-use Rattle.lex_turns.specs.Coursing.{IsBlown, is_none}
+use Rattle.lex_turns.specs.Coursing.{CannotTurn, is_none}
 use Rattle.lex_turns.specs.Testing.{AreAmong}
 use Rattle.lex_turns.specs.Tracking.{kept}
 use Rattle.lex_turns.proofs.Courses.{blown_given_up}
@@ -40,4 +40,4 @@ returns-clause-given_up g c = if_ok c.stuck_by-2.result (λ o blown. λ none com
     let rest_is : held_of c.as_slice-2.result.now ≡ kept x.calls.items gone =
     ap (λ (bs : List (Bor OwnCall)). held_of bs) c.as_slice-2.ensures.value ∙ c.in_ok-rest.ensures ∙ ap (λ (owns : List OwnCall). kept owns gone) c.as_slice.ensures.value in
     let now = blown none comps r h gone (sym rest_is) covers stopped (is_none stopped.measures) in
-    blown_given_up size truth e p comps rows r x h at stopped.measures (kept x.calls.items gone) stopped.turns stopped.some (subst (IsBlown e p comps rows r x at (is_none stopped.measures)) rest_is now)) (c.stuck_by-2.ensures.blown refl)
+    blown_given_up size truth e p comps rows r x h at stopped.measures (kept x.calls.items gone) stopped.turns stopped.some (subst (CannotTurn e p comps rows r x at (is_none stopped.measures)) rest_is now)) (c.stuck_by-2.ensures.blown refl)

@@ -3,7 +3,8 @@ use Rattle.linear_rows.specs.Plain.{plain_rows}
 use Rattle.linear_rows.specs.declared.row.Row.{Row}
 use Rattle.termination_model.specs.Replacing.{AreColumns, over_columns}
 use Rattle.termination_model.specs.Sizes.{plain_or_none, rows_of, wide_rows}
-use Rattle.termination_model.specs.Systems.{row_over, short_row}
+use Rattle.termination_model.specs.Systems.{row_over}
+use Rattle.termination_model.specs.ShortSystems.{short_row}
 use Rattle.termination_model.proofs.SystemLaws.{rows_over}
 use Rattle.termination_model.proofs.systems.add_atom.Goals as goal
 
