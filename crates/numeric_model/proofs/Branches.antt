@@ -7,22 +7,23 @@ use Rattle.linear_rows.specs.Members.{In}
 use Rattle.linear_rows.specs.declared.multipliers.Multipliers.{Multipliers}
 use Rattle.linear_rows.specs.declared.system.System.{System}
 use Rattle.termination_model.specs.Claims.{SomeOf}
-use Rattle.termination_model.specs.ChainRows.{bottom_row, HasPoint, Sieved, IsJoin}
-use Rattle.termination_model.specs.ChainSteps.{IsLicensed}
+use Rattle.termination_model.specs.ChainRows.{bottom_row, HasPoint, Sieved, IsBlown, IsJoin}
+use Rattle.linear_rows.specs.Systems.{join_blown}
+use Rattle.linear_rows.specs.Irredundant.{TestIsBlown}
 use Rattle.linear_rows.specs.Showing.{Shows}
 use Rattle.polyhedra.specs.Telling.{IsSystem, at_head, IsBlownOn}
 use Rattle.termination_model.proofs.ChainHeads.{bottom_fails}
-use Rattle.polyhedra.specs.Making.{SaysImage, arity_of, HoldsFor, Fails, AreShown, IsLost, SaysKept, IsJoinOf}
+use Rattle.polyhedra.specs.Making.{SaysImage, arity_of, HoldsFor, Fails, AreShown, IsLost, SaysKept, SaysJoin, IsJoinOf}
 use Rattle.linear_rows.proofs.Members.{from_All, to_All}
-use Rattle.termination_model.proofs.ChainSieves.{of_all, goes_map, sieved_length, sieved_all, sieved_lost, sieved_in}
+use Rattle.termination_model.proofs.ChainSieves.{of_all, sieved_length, sieved_all, sieved_lost, sieved_in}
 use Rattle.numeric_model.specs.declared.filled.Filled.{Filled}
 use Rattle.numeric_model.specs.declared.filled.Filled.TheVariants.{Bottom, Unknown, Inhabited}
 use Rattle.termination_model.specs.declared.how.How.TheVariants.{None as Nought, First, Join, Keep, Same}
 use Rattle.numeric_model.specs.declared.stepped.Stepped.{Stepped}
 use Rattle.numeric_model.specs.Filling.{IsFilled, weight}
 use Rattle.linear_rows.specs.Solving.{zeros}
-use Rattle.numeric_model.specs.Stepping.{IsStep, IfNew}
-use Rattle.numeric_model.proofs.Kept.{not_bottom, filled_part, lighter, kept_hold, lost_cases, point_part, nothing_fails, shown_hold, shows_hold}
+use Rattle.numeric_model.specs.Stepping.{IsStep, IfNew, MayBeWeak}
+use Rattle.numeric_model.proofs.Kept.{not_bottom, filled_part, lighter, each_of, some_lost, fewer, kept_as, kept_hold, kept_all, only_fail, only_blown, point_part, nothing_fails, shown_hold, shows_hold}
 
 module _ {D : Type 0} (width : D → ℕ) (listed : D → List (List ℤ)) (speaks : List ℤ → Bool) (s : System) (sys : IsSystem s) (pass : ℕ) (old image : List (List ℤ)) where
   abbrev n : ℕ
@@ -31,12 +32,12 @@ module _ {D : Type 0} (width : D → ℕ) (listed : D → List (List ℤ)) (spea
   abbrev Step : Filled → Stepped D → Type 0
   Step = IsStep width listed speaks s pass old image
 
-  module _ (filled : Filled) (is : IsFilled n filled old) (begun : filled ≢ Bottom) (rows : List (List ℤ)) (weak : Bool) (by : List Multipliers) (kept : SaysKept s old rows weak by) where
+  module _ (filled : Filled) (is : IsFilled n filled old) (begun : filled ≢ Bottom) (rows : List (List ℤ)) (failed weak : Bool) (by : List Multipliers) (kept : SaysKept s old rows failed weak by) where
     sieve : Sieved (HoldsFor s) (λ (r : List ℤ). Fails s r ⊎ IsBlownOn s r) old rows
-    sieve = goes_map (HoldsFor s) (IsLost s weak) (λ (r : List ℤ). Fails s r ⊎ IsBlownOn s r) (lost_cases s sys weak) old rows (kept_hold s sys old rows weak by kept)
+    sieve = kept_hold s sys old rows failed weak by kept
 
     -- a weak step that keeps all old rows
-    pub weakly_all : IsLicensed speaks n (HoldsFor s) (Fails s) (IsBlownOn s) pass old image → length old ≡ length rows → Step filled (record { how = Keep; weak = true; next = None; filled = filled; by = by })
+    pub weakly_all : MayBeWeak s pass old image → length old ≡ length rows → Step filled (record { how = Keep; weak = true; next = None; filled = filled; by = by })
     weakly_all licence all =
         let same = sieved_all (HoldsFor s) (λ (r : List ℤ). Fails s r ⊎ IsBlownOn s r) old rows sieve all in
         record {
@@ -49,7 +50,7 @@ module _ {D : Type 0} (width : D → ℕ) (listed : D → List (List ℤ)) (spea
         }
 
     -- a weak step that keeps some
-    pub weakly_some : (d : D) → rows ≡ listed d → width d ≡ n → IsLicensed speaks n (HoldsFor s) (Fails s) (IsBlownOn s) pass old image → length old ≢ length rows → Step filled (record { how = Keep; weak = true; next = Some d; filled = filled; by = by })
+    pub weakly_some : (d : D) → rows ≡ listed d → width d ≡ n → MayBeWeak s pass old image → length old ≢ length rows → Step filled (record { how = Keep; weak = true; next = Some d; filled = filled; by = by })
     weakly_some d e wide licence some =
         let part : Sieved (HoldsFor s) (λ (r : List ℤ). Fails s r ⊎ IsBlownOn s r) old (listed d) = subst (Sieved (HoldsFor s) (λ (r : List ℤ). Fails s r ⊎ IsBlownOn s r) old) e sieve in
         let apart : length old ≢ length (listed d) = λ same. some (same ∙ ap length (sym e)) in
@@ -76,10 +77,10 @@ module _ {D : Type 0} (width : D → ℕ) (listed : D → List (List ℤ)) (spea
       shown = subst (λ (rs : List (List ℤ)). AreShown s rs (by ∷ [])) (sym is) (shows, tt);
     }
 
-    pub nought_all : (filled : Filled) → IsFilled n filled old → (rows : List (List ℤ)) (weak : Bool) (by : List Multipliers) → SaysKept s old rows weak by → length old ≡ length rows
+    pub nought_all : (filled : Filled) → IsFilled n filled old → (rows : List (List ℤ)) (failed weak : Bool) (by : List Multipliers) → SaysKept s old rows failed weak by → length old ≡ length rows
         → Step filled (record { how = Nought; weak = false; next = None; filled = filled; by = by })
-    nought_all filled is rows weak by kept all =
-        let same = sieved_all (λ _. Unit {0}) (IsLost s weak) old rows kept.kept all in
+    nought_all filled is rows failed weak by kept all =
+        let same = sieved_all (HoldsFor s) (λ (r : List ℤ). Fails s r ⊎ IsBlownOn s r) old rows (kept_hold s sys old rows failed weak by kept) all in
         record {
           legal = (is_empty, refl);
           sized = tt;
@@ -89,22 +90,36 @@ module _ {D : Type 0} (width : D → ℕ) (listed : D → List (List ℤ)) (spea
           shown = subst (λ (rs : List (List ℤ)). AreShown s rs by) same kept.shown;
         }
 
-  -- where the system is empty, a row that is lost has a blown test
-  pub nought_licence : (by : Multipliers) → Shows (plain_rows s.rows.list) (at_head s (bottom_row n)) by → (rows : List (List ℤ)) (weak : Bool) (bys : List Multipliers) → SaysKept s old rows weak bys → length old ≢ length rows
-      → IsLicensed speaks n (HoldsFor s) (Fails s) (IsBlownOn s) pass old image
-  nought_licence by shows rows false bys kept some = absurd (go old (sieved_lost (λ _. Unit {0}) (Fails s) old rows kept.kept some))
+  -- where the system is empty no row fails, so that each row that is lost has a blown test
+  pub nought_licence : (by : Multipliers) → Shows (plain_rows s.rows.list) (at_head s (bottom_row n)) by → (rows : List (List ℤ)) (failed weak : Bool) (bys : List Multipliers) → SaysKept s old rows failed weak bys → length old ≢ length rows
+      → MayBeWeak s pass old image
+  nought_licence by shows rows failed weak bys kept some =
+      let sieve = kept_as s sys (IsBlownOn s) old rows failed weak bys blown kept in
+      inr (inl (sieved_lost (HoldsFor s) (IsBlownOn s) old rows sieve some, inr (each_of (HoldsFor s) (IsBlownOn s) old rows sieve)))
     where
-      go : (xs : List (List ℤ)) → SomeOf (Fails s) xs → ⊥
-      go [] h = h
-      go (x ∷ xs) (inl f) = nothing_fails s sys by shows x f
-      go (x ∷ xs) (inr h) = go xs h
-  nought_licence by shows rows true bys kept some = inr (inl kept.cause)
+      blown : (r : List ℤ) → IsLost s failed weak r → IsBlownOn s r
+      blown r (inl h) = absurd (nothing_fails s sys by shows r h.1)
+      blown r (inr h) = h.1
+
+  -- where some test is blown, and the passes of joins are over or no row is known to fail
+  pub blown_licence : (rows : List (List ℤ)) (failed weak : Bool) (by : List Multipliers) → SaysKept s old rows failed weak by → weak ≡ true → (3 < pass) ⊎ (failed ≡ false) → MayBeWeak s pass old image
+  blown_licence rows failed weak by kept e (inl late) = inr (inl (some_lost (IsBlownOn s) old rows kept.lost kept.split (kept.blown e), inl late))
+  blown_licence rows failed weak by kept e (inr none) =
+      inr (inl (some_lost (IsBlownOn s) old rows kept.lost kept.split (kept.blown e), inr (each_of (HoldsFor s) (IsBlownOn s) old rows (kept_as s sys (IsBlownOn s) old rows failed weak by (only_blown s sys failed weak none) kept))))
+
+  -- where some row is known to fail, and the join is weak
+  pub join_licence : (rows new : List (List ℤ)) (failed weak : Bool) (by : List Multipliers) → SaysKept s old rows failed weak by → failed ≡ true → pass ≤ 3 → SaysJoin speaks n old image new true → MayBeWeak s pass old image
+  join_licence rows new failed weak by kept e early says = go says.1
+    where
+      go : IsBlown (join_blown n old image) ⊎ (TestIsBlown n old (bottom_row n) ⊎ TestIsBlown n image (bottom_row n)) → MayBeWeak s pass old image
+      go (inl b) = inl (early, some_lost (Fails s) old rows kept.lost kept.split (kept.fails e), b)
+      go (inr t) = inr (inr (inr t))
 
   -- ---- both have points
-  module _ (image_point : HasPoint n image) (old_point : HasPoint n old) (rows : List (List ℤ)) (by : List Multipliers) (kept : SaysKept s old rows false by) where
-    pub same_all : length old ≡ length rows → Step Inhabited (record { how = Same; weak = false; next = None; filled = Inhabited; by = by })
-    same_all all =
-        let same = sieved_all (λ _. Unit {0}) (Fails s) old rows kept.kept all in
+  module _ (image_point : HasPoint n image) (old_point : HasPoint n old) (rows : List (List ℤ)) (by : List Multipliers) where
+    pub same_all : SaysKept s old rows false false by → Step Inhabited (record { how = Same; weak = false; next = None; filled = Inhabited; by = by })
+    same_all kept =
+        let same = kept_all s sys old rows by kept in
         record {
           legal = ((image_point, old_point), subst (AllByRecursion (HoldsFor s)) same (shown_hold s sys rows by kept.shown), refl);
           sized = tt;
@@ -114,15 +129,15 @@ module _ {D : Type 0} (width : D → ℕ) (listed : D → List (List ℤ)) (spea
           shown = subst (λ (rs : List (List ℤ)). AreShown s rs by) same kept.shown;
         }
 
-    pub keep_some : 3 < pass → (d : D) → rows ≡ listed d → width d ≡ n → length old ≢ length rows → Step Inhabited (record { how = Keep; weak = false; next = Some d; filled = Inhabited; by = by })
-    keep_some late d e wide some =
-        let part : Sieved (HoldsFor s) (Fails s) old (listed d) = subst (Sieved (HoldsFor s) (Fails s) old) e (kept_hold s sys old rows false by kept) in
-        let apart : length old ≢ length (listed d) = λ same. some (same ∙ ap length (sym e)) in
-        let shorter : length (listed d) < length old = omega (arith, sieved_length (HoldsFor s) (Fails s) old (listed d) part) in
+    pub keep_some : SaysKept s old rows true false by → 3 < pass → (d : D) → rows ≡ listed d → width d ≡ n → Step Inhabited (record { how = Keep; weak = false; next = Some d; filled = Inhabited; by = by })
+    keep_some kept late d e wide =
+        let part : Sieved (HoldsFor s) (Fails s) old (listed d) = subst (Sieved (HoldsFor s) (Fails s) old) e (kept_as s sys (Fails s) old rows true false by (only_fail s sys true) kept) in
+        let less : length rows < length old = fewer (Fails s) old rows kept.lost kept.split (kept.fails refl) in
+        let shorter : length (listed d) < length old = subst (λ (rs : List (List ℤ)). length rs < length old) e less in
         record {
-          legal = (late, (image_point, old_point), sieved_lost (λ _. Unit {0}) (Fails s) old rows kept.kept some, part);
+          legal = (late, (image_point, old_point), some_lost (Fails s) old rows kept.lost kept.split (kept.fails refl), part);
           sized = wide;
-          new = λ same. apart (ap length (sym same));
+          new = λ same. let l : length (listed d) ≡ length old = ap length same in absurd (omega (arith, l, shorter));
           known = point_part n old (listed d) (sieved_in (HoldsFor s) (Fails s) old (listed d) part) old_point;
           less = λ _. shorter;
           shown = tt;
@@ -142,12 +157,12 @@ module _ {D : Type 0} (width : D → ℕ) (listed : D → List (List ℤ)) (spea
     }
 
     -- a row that fails here is not one of the join, which holds on the image and so here
-    pub join_some : pass ≤ 3 → (d : D) → (new : List (List ℤ)) → new ≡ listed d → width d ≡ n → IsJoinOf speaks n old image new → length old ≢ length rows
+    pub join_some : (failed weak : Bool) → SaysKept s old rows failed weak by → failed ≡ true → pass ≤ 3 → (d : D) → (new : List (List ℤ)) → new ≡ listed d → width d ≡ n → IsJoinOf speaks n old image new
         → ((r : List ℤ) → length r ≡ suc n → speaks r ≡ true → HoldsOn (suc n) image r → HoldsFor s r)
         → Step Inhabited (record { how = Join; weak = false; next = Some d; filled = Inhabited; by = [] })
-    join_some early d new e wide join some on_image =
+    join_some failed weak kept fails early d new e wide join on_image =
         let is : IsJoin speaks n old image (listed d) = subst (IsJoin speaks n old image) e (join.listed old_point image_point) in
-        let lost = sieved_lost (λ _. Unit {0}) (Fails s) old rows kept.kept some in
+        let lost = some_lost (Fails s) old rows kept.lost kept.split (kept.fails fails) in
         record {
           legal = (early, (image_point, old_point), lost, is);
           sized = wide;
@@ -190,11 +205,11 @@ module _ {D : Type 0} (width : D → ℕ) (listed : D → List (List ℤ)) (spea
       less Inhabited is = absurd (empty is.t is.w is.some (omega (arith, is.long)) is.hold)
 
   -- a weak first step
-  pub begins_weakly : old ≡ bottom_row n ∷ [] → IsBlownOn s (bottom_row n) → (rows : List (List ℤ)) (weak : Bool) (by : List Multipliers) → SaysKept s image rows weak by
+  pub begins_weakly : old ≡ bottom_row n ∷ [] → IsBlownOn s (bottom_row n) → (rows : List (List ℤ)) (failed weak : Bool) (by : List Multipliers) → SaysKept s image rows failed weak by
       → (In (bottom_row n) rows → ⊥) → (d : D) → rows ≡ listed d → width d ≡ n → length rows < 2 ^ 64
       → Step Bottom (record { how = First; weak = true; next = Some d; filled = Unknown; by = by })
-  begins_weakly is blown rows weak by kept none d e wide few =
-      let part = goes_map (HoldsFor s) (IsLost s weak) (λ (r : List ℤ). Fails s r ⊎ IsBlownOn s r) (lost_cases s sys weak) image rows (kept_hold s sys image rows weak by kept) in
+  begins_weakly is blown rows failed weak by kept none d e wide few =
+      let part = kept_hold s sys image rows failed weak by kept in
       let here : Sieved (HoldsFor s) (λ (r : List ℤ). Fails s r ⊎ IsBlownOn s r) image (listed d) = subst (Sieved (HoldsFor s) (λ (r : List ℤ). Fails s r ⊎ IsBlownOn s r) image) e part in
       let absent : In (bottom_row n) (listed d) → ⊥ = λ i. none (subst (In (bottom_row n)) (sym e) i) in
       let size : length (listed d) < 2 ^ 64 = subst (λ (rs : List (List ℤ)). length rs < 2 ^ 64) e few in
@@ -231,13 +246,13 @@ module _ {D : Type 0} (width : D → ℕ) (listed : D → List (List ℤ)) (spea
   length-zeros zero = refl
   length-zeros (suc m) = ap suc (length-zeros m)
 
-  pub nought_kept : ((m : ℕ) → speaks (bottom_row m) ≡ true) → (image_weak : Bool) → SaysImage speaks s image image_weak → old ≡ bottom_row n ∷ [] → (rows : List (List ℤ)) (weak : Bool) (by : List Multipliers) → SaysKept s image rows weak by
+  pub nought_kept : ((m : ℕ) → speaks (bottom_row m) ≡ true) → (image_weak : Bool) → SaysImage speaks s image image_weak → old ≡ bottom_row n ∷ [] → (rows : List (List ℤ)) (failed weak : Bool) (by : List Multipliers) → SaysKept s image rows failed weak by
       → (i m : ℕ) → slice_get rows i ≡ Some (bottom_row m) → (proof : Multipliers) → slice_get by i ≡ Some proof
       → Step Bottom (record { how = Nought; weak = false; next = None; filled = Bottom; by = proof ∷ [] })
-  nought_kept bottoms true says is rows weak by kept i m at proof proof_at =
-      absurd (subst (In (bottom_row m)) says.1 (sieved_in (λ _. Unit {0}) (IsLost s weak) image rows kept.kept (bottom_row m) (place_in rows i (bottom_row m) at)))
-  nought_kept bottoms false says is rows weak by kept i m at proof proof_at =
-      let there = sieved_in (λ _. Unit {0}) (IsLost s weak) image rows kept.kept (bottom_row m) (place_in rows i (bottom_row m) at) in
+  nought_kept bottoms true says is rows failed weak by kept i m at proof proof_at =
+      absurd (subst (In (bottom_row m)) says.1 (sieved_in (HoldsFor s) (λ (r : List ℤ). Fails s r ⊎ IsBlownOn s r) image rows (kept_hold s sys image rows failed weak by kept) (bottom_row m) (place_in rows i (bottom_row m) at)))
+  nought_kept bottoms false says is rows failed weak by kept i m at proof proof_at =
+      let there = sieved_in (HoldsFor s) (λ (r : List ℤ). Fails s r ⊎ IsBlownOn s r) image rows (kept_hold s sys image rows failed weak by kept) (bottom_row m) (place_in rows i (bottom_row m) at) in
       let spoken = of_all (λ (r : List ℤ). (length r ≡ suc n) × (speaks r ≡ true)) image (bottom_row m) says.spoken there in
       let same : m ≡ n = omega (arith, spoken.0, length-zeros m) in
       let shows : Shows (plain_rows s.rows.list) (at_head s (bottom_row n)) proof = subst (λ (k : ℕ). Shows (plain_rows s.rows.list) (at_head s (bottom_row k)) proof) same (shown_at rows by kept.shown i (bottom_row m) proof at proof_at) in

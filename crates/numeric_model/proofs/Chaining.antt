@@ -23,7 +23,8 @@ use Rattle.termination_model.specs.ChainRows.{AreSpoken}
 use Rattle.termination_model.specs.ChainSteps.{Step as PlainStep}
 use Rattle.termination_model.specs.Sizes.{plain_or_none}
 use Rattle.termination_model.specs.Stated.{stated_rows}
-use Rattle.termination_model.specs.Systems.{row_over, short_row, system}
+use Rattle.termination_model.specs.Systems.{row_over, system}
+use Rattle.termination_model.specs.ShortSystems.{short_row}
 use Rattle.termination_model.proofs.ChainLeaves.{body_before, head_before, number_is, of_own, not_head, passes_leave, placed, same_system, IsBefore}
 use Rattle.termination_model.proofs.ChainSieves.{of_all}
 use Rattle.termination_model.proofs.Lists.{map_push, place_below}

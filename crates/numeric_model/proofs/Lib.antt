@@ -16,3 +16,4 @@ pub mod Shown
 pub mod Starts
 pub mod Taking
 pub mod Translate
+pub mod Turns

@@ -3,15 +3,17 @@ use Rattle.std.proofs.Common.{◌≡◌, ℕ, suc, ◌<◌, ℤ, Bool, true, fal
 use Rattle.cti_terms.specs.Tree.{Tree}
 use Rattle.cti_terms.specs.declared.clauses.Clause.{Clause}
 use Rattle.termination_model.specs.Chain.{after, AreSteps, after_pass, AreUnchanged, ArePasses, after_passes}
-use Rattle.termination_model.specs.ChainSteps.{Step, IsLegalStep, IsStrong, IsWeak, IsLicensed, HasLegalRows}
+use Rattle.termination_model.specs.ChainSteps.{Step, IsLegalStep, IsStrong, IsWeak, HasLegalRows}
+use Rattle.termination_model.specs.ChainLicences.{IsLicensed}
 use Rattle.termination_model.specs.declared.how.How.{How}
 use Rattle.termination_model.specs.declared.how.How.TheVariants.{None as Nothing, First, Same, Join, Keep}
 
 -- after the third pass its number does not matter
 module _ (speaks : List ℤ → Bool) (n : ℕ) (HoldsThere FailsThere IsBlownThere : List ℤ → Type 0) (p q : ℕ) (late_p : 3 < p) (late_q : 3 < q) (old image : List (List ℤ)) where
-  licence : IsLicensed speaks n HoldsThere FailsThere IsBlownThere p old image → IsLicensed speaks n HoldsThere FailsThere IsBlownThere q old image
-  licence (inl (early, b)) = absurd (omega arith)
-  licence (inr b) = inr b
+  licence : IsLicensed n HoldsThere FailsThere IsBlownThere p old image → IsLicensed n HoldsThere FailsThere IsBlownThere q old image
+  licence (inl (early, some, b)) = absurd (omega arith)
+  licence (inr (inl (some, l))) = inr (inl (some, inl late_q))
+  licence (inr (inr l)) = inr (inr l)
 
   strong : (how : How) (new : List (List ℤ)) → IsStrong speaks n HoldsThere FailsThere IsBlownThere p old image how new → IsStrong speaks n HoldsThere FailsThere IsBlownThere q old image how new
   strong Nothing new s = s

@@ -12,7 +12,7 @@ use Rattle.linear_rows.specs.Rows.{HoldsOn}
 use Rattle.linear_rows.specs.Systems.{image_blown, image_left}
 use Rattle.linear_rows.specs.declared.multipliers.Multipliers.{Multipliers}
 use Rattle.linear_rows.specs.declared.system.System.{System}
-use Rattle.termination_model.specs.ChainRows.{HasPart, HasPoint, IsBlown}
+use Rattle.termination_model.specs.ChainRows.{HasSublist, HasPoint, IsBlown}
 use Rattle.termination_model.specs.ChainSteps.{Step as PlainStep, IsLegalImage, IsStrong, HasLegalRows, HoldsHere, FailsHere, IsBlownHere}
 use Rattle.termination_model.specs.Systems.{row_over, system}
 use Rattle.termination_model.specs.declared.how.How.{How}
@@ -47,7 +47,7 @@ module _ (speaks : List ℤ → Bool) (expression : ℕ → Tree → List ℤ) (
   image_stays true image i = (subst (λ (body : List (List ℤ)). IsBlown (image_blown k.vars (map (expression k.vars) k.head.args) body)) same_body i.0, i.1)
   image_stays false image i = record {
     decided = subst (λ (body : List (List ℤ)). image_blown k.vars (map (expression k.vars) k.head.args) body ≡ Nought) same_body i.decided;
-    part = subst (λ (body : List (List ℤ)). HasPart (image_left k.vars (map (expression k.vars) k.head.args) body) image) same_body i.part;
+    part = subst (λ (body : List (List ℤ)). HasSublist (image_left k.vars (map (expression k.vars) k.head.args) body) image) same_body i.part;
     irredundant = i.irredundant;
     spoken = i.spoken;
     same = λ r long spoken. subst (λ (body : List (List ℤ)). HoldsOn (suc (length k.head.args)) image r ↔ HoldsOn (suc k.vars) body (row_over expression k.vars k.head.args r)) same_body (i.same r long spoken);
@@ -100,10 +100,10 @@ got_last (y ∷ xs) t x (suc i) e = later (got_last xs t x i e)
 -- ---- the step again
 module _ {D : Type 0} (width : D → ℕ) (listed : D → List (List ℤ)) (speaks : List ℤ → Bool) (expression : ℕ → Tree → List ℤ) where
   pub again : (rows : ℕ → List (List ℤ)) (k : Clause) (s : System) (sys : IsSystem s) (is : IsOf expression rows k s) (d : D) (earlier : Step) → IsRepeatable speaks expression rows k (width d) (listed d) earlier
-      → earlier.step_weak ≡ false → earlier.how ≢ None → (kept : List (List ℤ)) (by : List Multipliers) → SaysKept s (listed d) kept false by → length (listed d) ≡ length kept
+      → earlier.step_weak ≡ false → earlier.how ≢ None → (kept : List (List ℤ)) (by : List Multipliers) → SaysKept s (listed d) kept false false by
       → (x : Noted D) → x.image.list ≡ earlier.image.list → x.image_weak ≡ earlier.image_weak → x.stepped ≡ record { how = Same; weak = false; next = Nought; filled = Inhabited; by = by } → (pass number : ℕ)
       → IsNoted width listed speaks expression pass rows k number Inhabited x
-  again rows k s sys is d earlier repeatable strong some kept by says all x image weak stepped pass number =
+  again rows k s sys is d earlier repeatable strong some kept by says x image weak stepped pass number =
       let was = repeatable.was_legal in
       let own = repeatable.head in
       let arity = arity_is expression rows k s is in
@@ -114,7 +114,7 @@ module _ {D : Type 0} (width : D → ℕ) (listed : D → List (List ℤ)) (spea
       let point : HasPoint (length k.head.args) (plain_rows x.image.list) = subst (HasPoint (length k.head.args)) plain (point_of speaks expression k (plain_step earlier) was strong some) in
       let image_point : HasPoint (arity_of s) (plain_rows x.image.list) = subst (λ (n : ℕ). HasPoint n (plain_rows x.image.list)) (sym arity) point in
       let old_point : HasPoint (arity_of s) (listed d) = subst (λ (n : ℕ). HasPoint n (listed d)) (sym arity) own.known in
-      let step = same_all width listed speaks s sys pass (listed d) (plain_rows x.image.list) image_point old_point kept by says all in
+      let step = same_all width listed speaks s sys pass (listed d) (plain_rows x.image.list) image_point old_point kept by says in
       noted_from width listed speaks expression pass rows k number s is Inhabited d own x legal (subst (IsStep width listed speaks s pass (listed d) (plain_rows x.image.list) Inhabited) (sym stepped) step)
 
   -- ---- steps that were legal, with one more

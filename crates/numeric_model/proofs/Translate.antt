@@ -19,9 +19,11 @@ use Rattle.termination_model.proofs.ChainSieves.{some_map}
 use Rattle.termination_model.specs.Claims.{SomeOf}
 use Rattle.linear_rows.specs.Replacing.{substituted}
 use Rattle.termination_model.specs.Sizes.{wide_rows, wide_system}
-use Rattle.termination_model.specs.Systems.{system, row_fits, short_row, short_system}
-use Rattle.termination_model.specs.ChainRows.{Sieved, IsBlown, bottom_row, HasPart, AreSpoken}
-use Rattle.termination_model.specs.ChainSteps.{HoldsHere, FailsHere, IsBlownHere, IsLegalImage, HasLegalRows, IsLicensed, IsLegalStep}
+use Rattle.termination_model.specs.Systems.{system, row_fits}
+use Rattle.termination_model.specs.ShortSystems.{short_row, short_system}
+use Rattle.termination_model.specs.ChainRows.{Sieved, IsBlown, bottom_row, HasSublist, AreSpoken}
+use Rattle.termination_model.specs.ChainSteps.{HoldsHere, FailsHere, IsBlownHere, IsLegalImage, HasLegalRows, IsLegalStep}
+use Rattle.termination_model.specs.ChainLicences.{IsLicensed}
 use Rattle.termination_model.specs.declared.how.How.{How}
 use Rattle.termination_model.specs.declared.how.How.TheVariants.{None as Nothing, First, Same, Join, Keep}
 use Rattle.linear_rows.specs.Irredundant.{IsIrredundant}
@@ -43,9 +45,14 @@ all_map P Q f [] h = tt
 all_map P Q f (x ∷ xs) h = (f x h.0, all_map P Q f xs h.1)
 
 module _ (speaks : List ℤ → Bool) (n : ℕ) (H F B H' F' B' : List ℤ → Type 0) (h : (r : List ℤ) → H r → H' r) (f : (r : List ℤ) → F r → F' r) (b : (r : List ℤ) → B r → B' r) (pass : ℕ) (old image : List (List ℤ)) where
-  licence_map : IsLicensed speaks n H F B pass old image → IsLicensed speaks n H' F' B' pass old image
-  licence_map (inl l) = inl l
-  licence_map (inr (inl l)) = inr (inl (some_map B B' b old l))
+  or_map : (r : List ℤ) → H r ⊎ B r → H' r ⊎ B' r
+  or_map r (inl x) = inl (h r x)
+  or_map r (inr x) = inr (b r x)
+
+  licence_map : IsLicensed n H F B pass old image → IsLicensed n H' F' B' pass old image
+  licence_map (inl (early, some, l)) = inl (early, some_map F F' f old some, l)
+  licence_map (inr (inl (some, inl late))) = inr (inl (some_map B B' b old some, inl late))
+  licence_map (inr (inl (some, inr all))) = inr (inl (some_map B B' b old some, inr (all_map (λ r. H r ⊎ B r) (λ r. H' r ⊎ B' r) or_map old all)))
   licence_map (inr (inr (inl l))) = inr (inr (inl (b (bottom_row n) l)))
   licence_map (inr (inr (inr l))) = inr (inr (inr l))
 
@@ -183,7 +190,7 @@ module _ (speaks : List ℤ → Bool) (expression : ℕ → Tree → List ℤ) (
       go false w = whole_parts (λ v body head. IsBlown (image_blown v head body)) w b
   image_is image false i = record {
     decided = whole_parts (λ v body head. image_blown v head body ≡ None) i.narrow i.decided;
-    part = whole_parts (λ v body head. HasPart (image_left v head body) image) i.narrow i.part;
+    part = whole_parts (λ v body head. HasSublist (image_left v head body) image) i.narrow i.part;
     irredundant = subst (λ (n : ℕ). IsIrredundant n image) arity_is i.irredundant;
     spoken = subst (λ (n : ℕ). AreSpoken speaks n image) arity_is i.spoken;
     same = λ r long spoken.

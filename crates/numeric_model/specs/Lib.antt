@@ -5,4 +5,5 @@ pub mod Proved
 pub mod Repeating
 pub mod Running
 pub mod States
+pub mod Turns
 pub mod Stepping

@@ -3,6 +3,7 @@
 use Rattle.std.specs.Prelude.{◌≡◌, ◌≢◌, ℕ, suc, ◌<◌, ℤ, Bool, true, List, length, slice_get, Option, None, Some}
 use Rattle.linear_rows.specs.declared.system.System.{System}
 use Rattle.termination_model.specs.ChainRows.{bottom_row}
+use Rattle.termination_model.specs.ChainLicences.{IsLicensed}
 use Rattle.termination_model.specs.ChainSteps.{HasLegalRows}
 use Rattle.linear_rows.specs.Rows.{HoldsOn}
 use Rattle.polyhedra.specs.Telling.{IsBlownOn}
@@ -14,6 +15,10 @@ use Rattle.numeric_model.specs.Filling.{IsFilled, weight}
 -- what holds on an image holds on its clause
 abbrev pub HoldsOnImage : (List ℤ → Bool) → System → List (List ℤ) → Type 0
 HoldsOnImage speaks s image = (r : List ℤ) → length r ≡ suc (arity_of s) → speaks r ≡ true → HoldsOn (suc (arity_of s)) image r → HoldsFor s r
+
+-- what allows a step on a clause's system to be weak
+abbrev pub MayBeWeak : System → ℕ → List (List ℤ) → List (List ℤ) → Type 0
+MayBeWeak s = IsLicensed (arity_of s) (HoldsFor s) (Fails s) (IsBlownOn s)
 
 -- the row at a place is that of constant -1 and zeros
 abbrev pub IsBottomAt : List (List ℤ) → ℕ → Type 0
@@ -44,3 +49,8 @@ module _ {D : Type 0} (width : D → ℕ) (listed : D → List (List ℤ)) (spea
     pub less : 3 < pass → IfNew (λ d. weight r.filled (listed d) < weight filled old) r.next
     -- rows that stay are proved
     pub shown : IfNone (AreShown s old r.by) r.next
+
+-- the same of two values: the old one, and the image
+abbrev pub IsStepOf : {D : Type 0} → (D → ℕ) → (D → List (List ℤ)) → (List ℤ → Bool)
+    → System → ℕ → D → D → Filled → Stepped D → Type 0
+IsStepOf width listed speaks s pass old image = IsStep width listed speaks s pass (listed old) (listed image)

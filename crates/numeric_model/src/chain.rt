@@ -1,3 +1,5 @@
+//! The chain that is found.
+
 use crate::step::Step;
 use sequences::Sequence;
 use termination_model::Sizes;

@@ -23,7 +23,8 @@ fn empty_lists(alloc: Global, count: u32) -> Result<Vec<Sequence<u32>>, AllocErr
 /// Puts the number of a clause last in the list of its component.
 fn push_own(lists: &mut Vec<Sequence<u32>>, c: u32, k: u32) -> Result<(), AllocError>
     requires { c < length lists.old.items }
-    ensures { OnOk result (lists.new.items ≡ slice_set lists.old.items c (slice_index_or lists.old.items c [] ++ k ∷ [])) }
+    ensures { OnOk result (lists.new.items ≡ slice_set lists.old.items c
+        (slice_index_or lists.old.items c [] ++ k ∷ [])) }
 {
     let own = &mut lists[c as usize];
     own.push(k)?;

@@ -1,4 +1,5 @@
-// One component above the rows of those that it calls.
+//! One component above the rows of those that it calls.
+
 ghost use Rattle.std.specs.Prelude.{◌≡◌, ◌<◌, ℕ, IfOk, OnOk, length, slice_get, slice_set, Some, if◌then◌else◌};
 ghost use Rattle.call_components.specs.Partition.{AreComponents};
 ghost use Rattle.linear_rows.specs.declared.row.Rows.{Rows as TheRows};
@@ -31,7 +32,8 @@ pub fn solve_component<D: Domain, N: Norm>(
     requires components { AreComponents p.now comps.now }
     requires inner { c < length comps.now.members }
     requires below { AreSizes p.now.preds below.now.rows }
-    ensures { IfOk result (IsPartOf D.speaks (N.expression norm.now) p.now comps.now c (rows_of below.now.rows)) }
+    ensures { IfOk result (IsPartOf D.speaks (N.expression norm.now) p.now comps.now c
+        (rows_of below.now.rows)) }
 {
     let _program = p.clauses();
     let own = own_clauses(alloc, p, comps)?;
@@ -49,7 +51,7 @@ pub fn solve_component<D: Domain, N: Norm>(
     Ok(state.into_chain())
 }
 
-// Puts in the rows of the predicates of earlier components.
+/// Puts in the rows of the predicates of earlier components.
 fn put_below(
     alloc: Global,
     p: &Program,
@@ -62,7 +64,9 @@ fn put_below(
     requires below { AreSizes p.now.preds below.now }
     requires rows { AreSizes p.now.preds rows.old }
     ensures sizes { OnOk result (AreSizes p.now.preds rows.new) }
-    ensures rows { OnOk result ((q : ℕ) → rows_of rows.new q ≡ (if is_before c (slice_get comps.now.of q) then rows_of below.now q else rows_of rows.old q)) }
+    ensures rows { OnOk result ((q : ℕ)
+        → rows_of rows.new q ≡ (if is_before c
+        (slice_get comps.now.of q) then rows_of below.now q else rows_of rows.old q)) }
 {
     for q in 0..p.preds() {
         put_if_below(alloc, comps, c, below, rows, PredId(q))?;
@@ -70,7 +74,7 @@ fn put_below(
     Ok(())
 }
 
-// The same for one predicate.
+/// The same for one predicate.
 fn put_if_below(
     alloc: Global,
     comps: &Components,
@@ -83,7 +87,8 @@ fn put_if_below(
     requires below { q.0 < length below.now }
     requires rows { q.0 < length rows.old }
     ensures { OnOk result ((r : TheRows) → slice_get below.now q.0 ≡ Some r
-        → rows.new ≡ (if is_before c (slice_get comps.now.of q.0) then slice_set rows.old q.0 r else rows.old)) }
+        → rows.new ≡ (if is_before c
+        (slice_get comps.now.of q.0) then slice_set rows.old q.0 r else rows.old)) }
 {
     if comps.of(q) < c {
         let own = below.get(q.0 as usize).copy(alloc)?;

@@ -1,4 +1,5 @@
-// The last steps of a chain: those on each clause, and those that changed each predicate's rows.
+//! The last steps of a chain: those on each clause, and those that changed each predicate's rows.
+
 ghost use Rattle.std.specs.Prelude.{◌≡◌, ◌≤◌, true, false, slice_set};
 ghost use Rattle.numeric_model.specs.Repeating.{HaveStayed};
 
@@ -35,7 +36,8 @@ impl Latest {
         requires clause { 1 ≤ k }
         requires some { 1 ≤ steps }
         ensures same { changed ≡ false → self.new.changes.items ≡ self.old.changes.items }
-        ensures set { changed ≡ true → self.new.changes.items ≡ slice_set self.old.changes.items pred.0 steps }
+        ensures set { changed ≡ true
+            → self.new.changes.items ≡ slice_set self.old.changes.items pred.0 steps }
     {
         let own = k as usize - 1;
         if own < self.places.len() {
@@ -43,6 +45,13 @@ impl Latest {
         }
         if changed {
             put(&mut self.changes, pred.0 as usize, steps);
+        }
+    }
+
+    /// The steps so far do not count any more, and no step has changed the rows of these predicates.
+    pub(crate) fn forget(&mut self, members: &[PredId]) {
+        for member in members {
+            put(&mut self.changes, member.0 as usize, 0);
         }
     }
 
@@ -72,7 +81,7 @@ impl Latest {
     }
 }
 
-// Puts a number in a place, if there is one.
+/// Puts a number in a place, if there is one.
 fn put(numbers: &mut Vec<usize>, place: usize, number: usize)
     ensures { numbers.new.items ≡ slice_set numbers.old.items place number }
 {

@@ -1,4 +1,5 @@
-// A step of the chain, on the clause of a number.
+//! A step of the chain, on the clause of a number.
+
 ghost use Rattle.std.specs.Prelude.{◌≡◌, ◌≤◌, ◌-◌, IfOk, length, map, slice_get, Some, take};
 ghost use Rattle.cti_terms.specs.declared.clauses.Clause.{Clause};
 ghost use Rattle.linear_rows.specs.Plain.{plain_rows};
@@ -27,7 +28,7 @@ pub(crate) struct Noted<D> {
     pub(crate) stepped: Stepped<D>,
 }
 
-// A step on the system of a clause's body.
+/// A step on the system of a clause's body.
 fn note_on<D: Domain>(
     alloc: Global,
     system: &System,
@@ -39,8 +40,10 @@ fn note_on<D: Domain>(
     requires head { HasNaturalHead system.now }
     requires old_width { D.width old.now ≡ arity_of system.now }
     requires filled { IsFilled (arity_of system.now) filled (D.listed old.now) }
-    ensures image { IfOk result (λ noted. SaysImage D.speaks system.now (plain_rows noted.image.list) noted.image_weak) }
-    ensures step { IfOk result (λ noted. IsStep D.width D.listed D.speaks system.now pass (D.listed old.now)
+    ensures image { IfOk result
+        (λ noted. SaysImage D.speaks system.now (plain_rows noted.image.list) noted.image_weak) }
+    ensures step { IfOk result
+        (λ noted. IsStep D.width D.listed D.speaks system.now pass (D.listed old.now)
         (plain_rows noted.image.list) filled noted.stepped) }
 {
     let made = D::image(alloc, system)?;
@@ -68,9 +71,11 @@ pub(crate) fn note_step<D: Domain, N: Norm>(
     requires first { 1 ≤ k }
     requires last { k ≤ length p.now.clauses }
     requires sizes { AreSizes p.now.preds sizes.now.rows }
-    requires old { (c : Clause) → slice_get p.now.clauses (k - 1) ≡ Some c → HasRowsOf (rows_of sizes.now.rows) c filled (D.width old.now) (D.listed old.now) }
+    requires old { (c : Clause) → slice_get p.now.clauses (k - 1) ≡ Some c
+        → HasRowsOf (rows_of sizes.now.rows) c filled (D.width old.now) (D.listed old.now) }
     ensures { IfOk result (λ noted. (c : Clause) → slice_get p.now.clauses (k - 1) ≡ Some c
-        → IsNoted D.width D.listed D.speaks (N.expression norm.now) pass (rows_of sizes.now.rows) c k filled noted) }
+        → IsNoted D.width D.listed D.speaks (N.expression norm.now) pass
+        (rows_of sizes.now.rows) c k filled noted) }
 {
     let clause = p.clause(k);
     let system = system(alloc, p, norm, sizes, k, clause.body.len() as u32)?;

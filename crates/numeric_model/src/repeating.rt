@@ -1,4 +1,5 @@
-// A step that repeats an earlier one: where the rows that it reads are the same, so is the image.
+//! A step that repeats an earlier one: where the rows that it reads are the same, so is the image.
+
 ghost use Rattle.std.specs.Prelude.{◌≡◌, ◌≢◌, ◌≤◌, ◌-◌, ℕ, true, false, IfOk, IfSome, length, slice_get, Some};
 ghost use Rattle.cti_terms.specs.declared.clauses.Clause.{Clause};
 ghost use Rattle.termination_model.specs.Sizes.{AreSizes, rows_of};
@@ -9,7 +10,6 @@ use crate::filled::Filled;
 use crate::noting::Noted;
 use crate::step::Step;
 use crate::stepped::Stepped;
-use crate::stepping::count;
 use cti_terms::Program;
 use polyhedra::Domain;
 use std::alloc::{AllocError, Global};
@@ -30,9 +30,12 @@ pub(crate) fn note_again<D: Domain, N: Norm>(
     requires last { earlier.now.clause ≤ length p.now.clauses }
     requires sizes { AreSizes p.now.preds sizes.now.rows }
     requires earlier { (c : Clause) → slice_get p.now.clauses (earlier.now.clause - 1) ≡ Some c
-        → IsRepeatable D.speaks (N.expression norm.now) (rows_of sizes.now.rows) c (D.width old.now) (D.listed old.now) earlier.now }
-    ensures { IfOk result (λ again. IfSome again (λ noted. (pass : ℕ) (c : Clause) → slice_get p.now.clauses (earlier.now.clause - 1) ≡ Some c
-        → IsNoted D.width D.listed D.speaks (N.expression norm.now) pass (rows_of sizes.now.rows) c earlier.now.clause Filled.Inhabited noted)) }
+        → IsRepeatable D.speaks (N.expression norm.now) (rows_of sizes.now.rows) c (D.width old.now)
+        (D.listed old.now) earlier.now }
+    ensures { IfOk result (λ again. IfSome again (λ noted. (pass : ℕ) (c : Clause)
+        → slice_get p.now.clauses (earlier.now.clause - 1) ≡ Some c
+        → IsNoted D.width D.listed D.speaks (N.expression norm.now) pass
+        (rows_of sizes.now.rows) c earlier.now.clause Filled.Inhabited noted)) }
 {
     if !has_point(earlier) {
         return Ok(None);
@@ -40,7 +43,7 @@ pub(crate) fn note_again<D: Domain, N: Norm>(
     let atoms = p.clause(earlier.clause).body.len() as u32;
     let system = system(alloc, p, norm, sizes, earlier.clause, atoms)?;
     let kept = old.widen(alloc, &system)?;
-    if kept.weak || count(old) != count(&kept.value) {
+    if kept.failed || kept.weak {
         return Ok(None);
     }
     let image = earlier.image.copy(alloc)?;
@@ -57,7 +60,7 @@ pub(crate) fn note_again<D: Domain, N: Norm>(
     }))
 }
 
-// Whether what a step did shows that its image has a point.
+/// Whether what a step did shows that its image has a point.
 fn has_point(step: &Step) -> bool
     ensures strong { result ≡ true → step.now.step_weak ≡ false }
     ensures some { result ≡ true → step.now.how ≢ How.None }

@@ -1,4 +1,5 @@
-// Steps, passes and components.
+//! Steps, passes and components.
+
 ghost use Rattle.std.specs.Prelude.{◌≡◌, ◌≤◌, ◌<◌, ◌-◌, ℕ, true, IfOk, OnOk, length, slice_get, Some};
 ghost use Rattle.std.specs.List.{AllByRecursion};
 ghost use Rattle.cti_terms.specs.declared.clauses.Clause.{Clause};
@@ -19,8 +20,8 @@ use polyhedra::Domain;
 use std::alloc::{AllocError, Global};
 use term_size::Norm;
 
-// What a step on clause `k` does to the value of its head's predicate. Where the rows that it reads are those that the last
-// one read, it takes that one's image, if the head's rows stay.
+/// What a step on clause `k` does to the value of its head's predicate. Where the rows that it reads are those that the last
+/// one read, it takes that one's image, if the head's rows stay.
 fn note<D: Domain, N: Norm>(
     alloc: Global,
     p: &Program,
@@ -35,9 +36,11 @@ fn note<D: Domain, N: Norm>(
     requires sizes { AreSizes p.now.preds state.now.sizes.rows }
     requires legal { WereLegal D.speaks (N.expression norm.now) p.now state.now }
     requires old { (c : Clause) → slice_get p.now.clauses (k - 1) ≡ Some c
-        → HasRowsOf (rows_of state.now.sizes.rows) c value.now.filled (D.width value.now.of) (D.listed value.now.of) }
+        → HasRowsOf (rows_of state.now.sizes.rows) c value.now.filled (D.width value.now.of)
+        (D.listed value.now.of) }
     ensures { IfOk result (λ noted. (c : Clause) → slice_get p.now.clauses (k - 1) ≡ Some c
-        → IsNoted D.width D.listed D.speaks (N.expression norm.now) pass (rows_of state.now.sizes.rows) c k value.now.filled noted) }
+        → IsNoted D.width D.listed D.speaks (N.expression norm.now) pass
+        (rows_of state.now.sizes.rows) c k value.now.filled noted) }
 {
     if let Filled::Inhabited = value.filled {
         if let Some(earlier) = state.last_step(k, p.clause(k).body.as_slice()) {
@@ -58,7 +61,7 @@ fn note<D: Domain, N: Norm>(
     )
 }
 
-// A step on clause `k`. It says whether rows changed.
+/// A step on clause `k`. It says whether rows changed.
 fn run_step<D: Domain, N: Norm>(
     alloc: Global,
     p: &Program,
@@ -71,12 +74,14 @@ fn run_step<D: Domain, N: Norm>(
 ) -> Result<bool, AllocError>
     requires first { 1 ≤ k }
     requires last { k ≤ length p.now.clauses }
-    requires head { (x : Clause) → slice_get p.now.clauses (k - 1) ≡ Some x → own_from comps.now c x.head.pred.0 ≡ true }
+    requires head { (x : Clause) → slice_get p.now.clauses (k - 1) ≡ Some x
+        → own_from comps.now c x.head.pred.0 ≡ true }
     requires state { IsState D.width D.listed (own_from comps.now c) p.now state.old }
     requires legal { WereLegal D.speaks (N.expression norm.now) p.now state.old }
     ensures state { OnOk result (IsState D.width D.listed (own_from comps.now c) p.now state.new) }
     ensures taken { IfOk result (λ changed. (x : Clause) → slice_get p.now.clauses (k - 1) ≡ Some x
-        → IsTaken D.width D.listed D.speaks (N.expression norm.now) pass (k, x) state.old state.new changed
+        → IsTaken D.width D.listed D.speaks (N.expression norm.now) pass
+        (k, x) state.old state.new changed
         × IsMarked x.head.pred.0 state.old state.new changed) }
 {
     let pred = p.clause(k).head.pred;
@@ -85,7 +90,7 @@ fn run_step<D: Domain, N: Norm>(
     state.accept(alloc, k, pred, noted)
 }
 
-// A step on each of these clauses, in order. It says whether rows changed.
+/// A step on each of these clauses, in order. It says whether rows changed.
 fn run_pass<D: Domain, N: Norm>(
     alloc: Global,
     p: &Program,
@@ -97,13 +102,15 @@ fn run_pass<D: Domain, N: Norm>(
     state: &mut State<D>,
 ) -> Result<bool, AllocError>
     requires own { AllByRecursion (λ k. (1 ≤ k) × (k ≤ length p.now.clauses)) own.now }
-    requires heads { (j k : ℕ) (x : Clause) → slice_get own.now j ≡ Some k → slice_get p.now.clauses (k - 1) ≡ Some x → own_from comps.now c x.head.pred.0 ≡ true }
+    requires heads { (j k : ℕ) (x : Clause) → slice_get own.now j ≡ Some k
+        → slice_get p.now.clauses (k - 1) ≡ Some x → own_from comps.now c x.head.pred.0 ≡ true }
     requires state { IsState D.width D.listed (own_from comps.now c) p.now state.old }
     requires legal { WereLegal D.speaks (N.expression norm.now) p.now state.old }
     ensures state { OnOk result (IsState D.width D.listed (own_from comps.now c) p.now state.new) }
     ensures legal { OnOk result (WereLegal D.speaks (N.expression norm.now) p.now state.new) }
     ensures passed { IfOk result
-        (IsPassed D.width D.listed D.speaks (N.expression norm.now) pass (with_clauses p.now.clauses own.now) state.old state.new) }
+        (IsPassed D.width D.listed D.speaks (N.expression norm.now) pass
+        (with_clauses p.now.clauses own.now) state.old state.new) }
 {
     let mut changed = false;
     for k in own {
@@ -124,12 +131,15 @@ pub(crate) fn run_component<D: Domain, N: Norm>(
     state: &mut State<D>,
 ) -> Result<(), AllocError>
     requires own { AllByRecursion (λ k. (1 ≤ k) × (k ≤ length p.now.clauses)) own.now }
-    requires heads { (j k : ℕ) (x : Clause) → slice_get own.now j ≡ Some k → slice_get p.now.clauses (k - 1) ≡ Some x → own_from comps.now c x.head.pred.0 ≡ true }
+    requires heads { (j k : ℕ) (x : Clause) → slice_get own.now j ≡ Some k
+        → slice_get p.now.clauses (k - 1) ≡ Some x → own_from comps.now c x.head.pred.0 ≡ true }
     requires state { IsState D.width D.listed (own_from comps.now c) p.now state.old }
     requires legal { WereLegal D.speaks (N.expression norm.now) p.now state.old }
     ensures state { OnOk result (IsState D.width D.listed (own_from comps.now c) p.now state.new) }
     ensures legal { OnOk result (WereLegal D.speaks (N.expression norm.now) p.now state.new) }
-    ensures run { OnOk result (IsRun D.width D.listed D.speaks (N.expression norm.now) (with_clauses p.now.clauses own.now) state.old state.new) }
+    ensures run { OnOk result
+        (IsRun D.width D.listed D.speaks (N.expression norm.now)
+        (with_clauses p.now.clauses own.now) state.old state.new) }
 {
     let mut number = 1;
     loop {

@@ -1,4 +1,5 @@
-// The chain of a program.
+//! The chain of a program.
+
 ghost use Rattle.std.specs.Prelude.{◌≡◌, ℕ, true, IfOk, All, length, map};
 ghost use Rattle.call_components.specs.Partition.{AreComponents};
 ghost use Rattle.linear_rows.specs.Replacing.{row_fits};
@@ -33,20 +34,24 @@ pub fn solve<D: Domain, N: Norm>(
     requires { AreComponents p.now comps.now }
 
     // The steps are legal, and end with these rows.
-    ensures chain { IfOk result (λ chain. IsLegalChain D.speaks (N.expression norm.now) p.now comps.now
+    ensures chain { IfOk result
+        (λ chain. IsLegalChain D.speaks (N.expression norm.now) p.now comps.now
         (map plain_step chain.steps) (rows_of chain.sizes.rows)) }
     ensures sizes { IfOk result (λ chain. AreSizes p.now.preds chain.sizes.rows) }
 
     // Each row of each clause's head has its proof, over the last rows, and each row fits.
-    ensures proofs { IfOk result (λ chain. AreProved (N.expression norm.now) (rows_of chain.sizes.rows) p.now.clauses chain.sizes.proofs) }
-    ensures fits { IfOk result (λ chain. (q : ℕ) → All (λ r. row_fits r ≡ true) (rows_of chain.sizes.rows q)) }
+    ensures proofs { IfOk result
+        (λ chain. AreProved (N.expression norm.now)
+        (rows_of chain.sizes.rows) p.now.clauses chain.sizes.proofs) }
+    ensures fits { IfOk result (λ chain. (q : ℕ)
+        → All (λ r. row_fits r ≡ true) (rows_of chain.sizes.rows q)) }
 {
     let _program = p.clauses();
     let state = run_all::<D, N>(alloc, p, comps, norm)?;
     Ok(state.into_chain())
 }
 
-// The state after all components.
+/// The state after all components.
 fn run_all<D: Domain, N: Norm>(
     alloc: Global,
     p: &Program,
@@ -54,8 +59,11 @@ fn run_all<D: Domain, N: Norm>(
     norm: &N,
 ) -> Result<State<D>, AllocError>
     requires { AreComponents p.now comps.now }
-    ensures state { IfOk result (IsState D.width D.listed (own_from comps.now (length comps.now.members)) p.now) }
-    ensures chained { IfOk result (IsChained D.width D.listed D.speaks (N.expression norm.now) p.now comps.now (length comps.now.members)) }
+    ensures state { IfOk result
+        (IsState D.width D.listed (own_from comps.now (length comps.now.members)) p.now) }
+    ensures chained { IfOk result
+        (IsChained D.width D.listed D.speaks (N.expression norm.now) p.now comps.now
+        (length comps.now.members)) }
 {
     let _program = p.clauses();
     let own = own_clauses(alloc, p, comps)?;

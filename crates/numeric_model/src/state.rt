@@ -1,5 +1,6 @@
-// The state of a chain: the rows of each predicate, and the steps so far.
-ghost use Rattle.std.specs.Prelude.{◌≡◌, ◌≤◌, ◌<◌, ◌-◌, IfOk, IfSome, OnOk, length, [], ◌∷◌, slice_get, Some};
+//! The state of a chain: the rows of each predicate, and the steps so far.
+
+ghost use Rattle.std.specs.Prelude.{◌≡◌, ◌≤◌, ◌<◌, ◌-◌, IfOk, IfSome, OnOk, length, [], ◌∷◌, slice_get, slice_set, Some};
 ghost use Rattle.cti_terms.specs.Listing.{IsProgram, Listing};
 ghost use Rattle.linear_rows.specs.declared.row.Rows.{Rows};
 ghost use Rattle.termination_model.specs.Chain.{start_rows};
@@ -15,14 +16,14 @@ use crate::step::Step;
 use crate::stepped::Stepped;
 use crate::value::Value;
 use cti_terms::{Atom, Builtin, PredId, Program};
-use linear_rows::Multipliers;
+use linear_rows::{Multipliers, Rows};
 use polyhedra::Domain;
 use sequences::Sequence;
 use std::alloc::{AllocError, Global};
 use termination_model::{SizeRows, Sizes, stated_rows};
 
 /// The rows of each predicate while a chain goes on.
-pub(crate) struct State<D> {
+pub struct State<D> {
     /// The rows, as the systems of clauses read them. There are no proofs here.
     pub(crate) sizes: Sizes,
     /// For each predicate the value that lists its rows.
@@ -49,7 +50,7 @@ impl<D: Drop> Drop for State<D> {
 
 impl<D: Domain> State<D> {
     /// Built-in predicates have their stated rows, all others are empty, and there are no steps.
-    pub(crate) fn start(alloc: Global, p: &Program) -> Result<State<D>, AllocError>
+    pub fn start(alloc: Global, p: &Program) -> Result<State<D>, AllocError>
         ensures state { IfOk result (IsState D.width D.listed every p.now) }
         ensures rows { IfOk result (λ s. rows_of s.sizes.rows ≡ start_rows p.now) }
         ensures steps { IfOk result (λ s. s.steps ≡ []) }
@@ -70,7 +71,7 @@ impl<D: Domain> State<D> {
         Ok(state)
     }
 
-    // Adds a value for each predicate, which is empty.
+    /// Adds a value for each predicate, which is empty.
     fn add_values(&mut self, alloc: Global, p: &Program) -> Result<(), AllocError>
         requires rows { self.old.sizes.rows ≡ [] }
         requires values { self.old.values.items ≡ [] }
@@ -84,7 +85,7 @@ impl<D: Domain> State<D> {
         Ok(())
     }
 
-    // Adds a value for one more predicate, which is empty.
+    /// Adds a value for one more predicate, which is empty.
     fn add_value(&mut self, alloc: Global, arity: u32) -> Result<(), AllocError>
         ensures added { OnOk result (IsAdded D.width D.listed arity self.old self.new) }
         ensures proofs { OnOk result (self.new.proofs ≡ self.old.proofs) }
@@ -100,10 +101,11 @@ impl<D: Domain> State<D> {
         Ok(())
     }
 
-    // Puts the stated rows in the place of those of built-in predicates.
+    /// Puts the stated rows in the place of those of built-in predicates.
     fn put_stated(&mut self, alloc: Global, p: &Program) -> Result<(), AllocError>
         requires fresh { IsFresh D.width D.listed p.now.preds self.old }
-        ensures stated { OnOk result (AreStatedTo D.width D.listed p.now (length p.now.preds) self.new) }
+        ensures stated { OnOk result
+            (AreStatedTo D.width D.listed p.now (length p.now.preds) self.new) }
         ensures sound { OnOk result (IsProgram p.now) }
         ensures proofs { OnOk result (self.new.proofs ≡ self.old.proofs) }
         ensures steps { OnOk result (self.new.steps ≡ self.old.steps) }
@@ -117,7 +119,7 @@ impl<D: Domain> State<D> {
         Ok(())
     }
 
-    // Puts the stated rows of a kind in the place of a predicate's.
+    /// Puts the stated rows of a kind in the place of a predicate's.
     fn put_rows(&mut self, alloc: Global, q: u32, kind: Builtin) -> Result<(), AllocError>
         requires { q < length self.old.sizes.rows }
         ensures put { OnOk result (IsStatedAt D.width D.listed q kind self.old self.new) }
@@ -129,7 +131,7 @@ impl<D: Domain> State<D> {
         Ok(())
     }
 
-    // Adds no proofs for each clause.
+    /// Adds no proofs for each clause.
     fn add_proofs(&mut self, alloc: Global, p: &Program) -> Result<(), AllocError>
         requires { self.old.proofs.items ≡ [] }
         ensures proofs { OnOk result (length self.new.proofs.items ≡ length p.now.clauses) }
@@ -155,7 +157,8 @@ impl<D: Domain> State<D> {
         requires last { k ≤ length self.old.proofs.items }
         requires rows { pred.0 < length self.old.sizes.rows }
         requires values { pred.0 < length self.old.values.items }
-        ensures accepted { IfOk result (IsAccepted D.width D.listed pred.0 k noted self.old self.new) }
+        ensures accepted { IfOk result
+            (IsAccepted D.width D.listed pred.0 k noted self.old self.new) }
         ensures marked { IfOk result (IsMarked pred.0 self.old self.new) }
     {
         let Noted {
@@ -200,7 +203,7 @@ impl<D: Domain> State<D> {
         Some(self.steps.get(place))
     }
 
-    // Puts a new value in the place of a predicate's, if there is one, and says whether there is.
+    /// Puts a new value in the place of a predicate's, if there is one, and says whether there is.
     fn replace(
         &mut self,
         alloc: Global,
@@ -210,7 +213,8 @@ impl<D: Domain> State<D> {
     ) -> Result<bool, AllocError>
         requires rows { pred.0 < length self.old.sizes.rows }
         requires values { pred.0 < length self.old.values.items }
-        ensures replaced { IfOk result (IfReplaced D.width D.listed pred.0 next filled self.old self.new) }
+        ensures replaced { IfOk result
+            (IfReplaced D.width D.listed pred.0 next filled self.old self.new) }
         ensures proofs { OnOk result (self.new.proofs ≡ self.old.proofs) }
         ensures steps { OnOk result (self.new.steps ≡ self.old.steps) }
         ensures latest { OnOk result (self.new.latest ≡ self.old.latest) }
@@ -224,6 +228,52 @@ impl<D: Domain> State<D> {
                 Ok(true)
             }
         }
+    }
+
+    /// The rows of all predicates.
+    pub fn rows(&self) -> &SizeRows
+        ensures { result.now ≡ self.now.sizes.rows }
+    {
+        &self.sizes.rows
+    }
+
+    /// Puts rows in the place of a predicate's.
+    pub fn set_rows(&mut self, pred: PredId, rows: Rows)
+        requires { pred.0 < length self.old.sizes.rows }
+        ensures rows { self.new.sizes.rows ≡ slice_set self.old.sizes.rows pred.0 rows }
+        ensures values { self.new.values ≡ self.old.values }
+        ensures proofs { self.new.proofs ≡ self.old.proofs }
+        ensures steps { self.new.steps ≡ self.old.steps }
+    {
+        self.sizes.rows.set(pred.0 as usize, rows);
+    }
+
+    /// Puts proofs in the place of those of clause `k`.
+    pub fn set_proofs(&mut self, k: u32, by: Sequence<Multipliers>)
+        requires first { 1 ≤ k }
+        requires last { k ≤ length self.old.proofs.items }
+        ensures proofs { self.new.proofs.items ≡ slice_set self.old.proofs.items (k - 1) by }
+        ensures sizes { self.new.sizes ≡ self.old.sizes }
+        ensures values { self.new.values ≡ self.old.values }
+        ensures steps { self.new.steps ≡ self.old.steps }
+    {
+        self.proofs[k as usize - 1] = by;
+    }
+
+    /// The rows, with the last proofs.
+    pub fn into_sizes(self) -> Sizes
+        ensures rows { result.rows ≡ self.sizes.rows }
+        ensures proofs { result.proofs ≡ self.proofs.items }
+    {
+        let State {
+            mut sizes,
+            values: _,
+            proofs,
+            steps: _,
+            latest: _,
+        } = self;
+        sizes.proofs = Sequence::from_vec(proofs);
+        sizes
     }
 
     /// The steps, and the rows with the last proofs.

@@ -1,3 +1,5 @@
+//! What is noted of a step of the chain.
+
 use linear_rows::Rows;
 use termination_model::How;
 

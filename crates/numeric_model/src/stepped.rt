@@ -1,3 +1,5 @@
+//! What a step does.
+
 use crate::filled::Filled;
 use linear_rows::Multipliers;
 use sequences::Sequence;

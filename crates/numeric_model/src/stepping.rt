@@ -1,16 +1,16 @@
-// A step of the chain.
-ghost use Rattle.std.specs.Prelude.{◌≡◌, ◌≢◌, ◌<◌, ◌^◌, ℕ, suc, IfOk, IfSome, IsTrue, ◌↔◌, length, map, slice_get, [], ◌∷◌, None, Some, false, pos};
+//! A step of the chain.
+
+ghost use Rattle.std.specs.Prelude.{◌≡◌, ◌≢◌, ◌<◌, ◌≤◌, ◌^◌, ℕ, suc, IfOk, IfSome, IsTrue, ◌↔◌, length, map, slice_get, [], ◌∷◌, None, Some, true, false, pos};
 ghost use Rattle.linear_rows.specs.Plain.{plain_row, plain_rows};
 ghost use Rattle.linear_rows.specs.Rows.{AreEmpty};
 ghost use Rattle.termination_model.specs.ChainRows.{bottom_row, HasPoint};
-ghost use Rattle.termination_model.specs.ChainSteps.{IsLicensed};
 ghost use Rattle.linear_rows.specs.Showing.{Shows};
 ghost use Rattle.polyhedra.specs.Telling.{IsSystem, HasNaturalHead, IsBlownOn, at_head};
-ghost use Rattle.polyhedra.specs.Making.{arity_of, SaysImage, SaysKept, HoldsFor, Fails};
+ghost use Rattle.polyhedra.specs.Making.{arity_of, SaysImage, SaysWidened};
 ghost use Rattle.numeric_model.specs.Filling.{IsFilled};
 ghost use Rattle.linear_rows.specs.Members.{In};
 ghost use Rattle.linear_rows.specs.Solving.{zeros};
-ghost use Rattle.numeric_model.specs.Stepping.{IsStep, HoldsOnImage, IsBottomAt};
+ghost use Rattle.numeric_model.specs.Stepping.{IsStepOf, MayBeWeak, HoldsOnImage, IsBottomAt};
 
 use crate::filled::Filled;
 use crate::stepped::Stepped;
@@ -22,13 +22,13 @@ use std::alloc::{AllocError, Global};
 use termination_model::How;
 
 /// How many rows a value lists.
-pub(crate) fn count<D: Domain>(value: &D) -> usize
+fn count<D: Domain>(value: &D) -> usize
     ensures { result ≡ length (D.listed value.now) }
 {
     value.rows().list.len()
 }
 
-// The row of constant -1 and zeros.
+/// The row of constant -1 and zeros.
 fn bottom_row(alloc: Global, n: usize) -> Result<Row, AllocError>
     ensures row { IfOk result (λ r. plain_row r ≡ bottom_row n) }
     ensures width { IfOk result (λ r. length r.coeffs ≡ n) }
@@ -40,7 +40,7 @@ fn bottom_row(alloc: Global, n: usize) -> Result<Row, AllocError>
     })
 }
 
-// A weak step keeps these of the old rows.
+/// A weak step keeps these of the old rows.
 fn kept_weakly<D: Domain>(
     system: &System,
     old: &D,
@@ -53,9 +53,9 @@ fn kept_weakly<D: Domain>(
     requires filled { IsFilled (arity_of system.now) filled (D.listed old.now) }
     requires begun { filled ≢ Filled.Bottom }
     requires width { D.width kept.value ≡ arity_of system.now }
-    requires kept { SaysKept system.now (D.listed old.now) (D.listed kept.value) kept.weak kept.by }
-    requires licence { IsLicensed D.speaks (arity_of system.now) (HoldsFor system.now) (Fails system.now) (IsBlownOn system.now) pass (D.listed old.now) (D.listed image.now) }
-    ensures { IsStep D.width D.listed D.speaks system.now pass (D.listed old.now) (D.listed image.now) filled result }
+    requires kept { SaysWidened D.listed system.now old.now kept }
+    requires licence { MayBeWeak system.now pass (D.listed old.now) (D.listed image.now) }
+    ensures { IsStepOf D.width D.listed D.speaks system.now pass old.now image.now filled result }
 {
     if count(old) == count(&kept.value) {
         return Stepped {
@@ -75,7 +75,7 @@ fn kept_weakly<D: Domain>(
     }
 }
 
-// A step whose image is empty leaves the rows, of which each is proved.
+/// A step whose image is empty leaves the rows, of which each is proved.
 fn empty<D: Domain>(
     alloc: Global,
     system: &System,
@@ -89,8 +89,9 @@ fn empty<D: Domain>(
     requires old_width { D.width old.now ≡ arity_of system.now }
     requires filled { IsFilled (arity_of system.now) filled (D.listed old.now) }
     requires image { AreEmpty (suc (arity_of system.now)) (D.listed image.now) }
-    requires by { Shows (plain_rows system.now.rows.list) (at_head system.now (bottom_row (arity_of system.now))) by }
-    ensures { IfOk result (IsStep D.width D.listed D.speaks system.now pass (D.listed old.now) (D.listed image.now) filled) }
+    requires by { Shows (plain_rows system.now.rows.list)
+        (at_head system.now (bottom_row (arity_of system.now))) by }
+    ensures { IfOk result (IsStepOf D.width D.listed D.speaks system.now pass old.now image.now filled) }
 {
     if filled == Filled::Bottom {
         let mut all = Sequence::new(alloc);
@@ -116,7 +117,7 @@ fn empty<D: Domain>(
     Ok(kept_weakly(system, old, filled, tested, image, pass))
 }
 
-// Both the image and the old rows have points.
+/// Both the image and the old rows have points.
 fn compared<D: Domain>(
     alloc: Global,
     system: &System,
@@ -130,23 +131,17 @@ fn compared<D: Domain>(
     requires on_image { HoldsOnImage D.speaks system.now (D.listed image.now) }
     requires old { HasPoint (arity_of system.now) (D.listed old.now) }
     requires image { HasPoint (arity_of system.now) (D.listed image.now) }
-    ensures { IfOk result (IsStep D.width D.listed D.speaks system.now pass (D.listed old.now) (D.listed image.now) Filled.Inhabited) }
+    ensures { IfOk result (IsStepOf D.width D.listed D.speaks system.now pass old.now image.now Filled.Inhabited) }
 {
     let filled = Filled::Inhabited;
     let kept = old.widen(alloc, system)?;
+    if are_joined(kept.failed, pass) {
+        return joined(alloc, system, old, image, pass, kept);
+    }
     if kept.weak {
         return Ok(kept_weakly(system, old, filled, kept, image, pass));
     }
-    if count(old) == count(&kept.value) {
-        return Ok(Stepped {
-            how: How::Same,
-            weak: false,
-            next: None,
-            filled,
-            by: kept.by,
-        });
-    }
-    if pass > 3 {
+    if kept.failed {
         return Ok(Stepped {
             how: How::Keep,
             weak: false,
@@ -155,6 +150,44 @@ fn compared<D: Domain>(
             by: kept.by,
         });
     }
+    Ok(Stepped {
+        how: How::Same,
+        weak: false,
+        next: None,
+        filled,
+        by: kept.by,
+    })
+}
+
+/// Whether rows are joined: one is known to fail, in one of the first three passes.
+fn are_joined(failed: bool, pass: u32) -> bool
+    ensures { IsTrue result ↔ ((failed ≡ true) × (pass ≤ 3)) }
+{
+    failed && pass <= 3
+}
+
+/// In one of the first three passes an old row is known to fail.
+fn joined<D: Domain>(
+    alloc: Global,
+    system: &System,
+    old: &D,
+    image: &D,
+    pass: u32,
+    kept: Widened<D>,
+) -> Result<Stepped<D>, AllocError>
+    requires system { IsSystem system.now }
+    requires old_width { D.width old.now ≡ arity_of system.now }
+    requires image_width { D.width image.now ≡ arity_of system.now }
+    requires on_image { HoldsOnImage D.speaks system.now (D.listed image.now) }
+    requires old { HasPoint (arity_of system.now) (D.listed old.now) }
+    requires image { HasPoint (arity_of system.now) (D.listed image.now) }
+    requires width { D.width kept.value ≡ arity_of system.now }
+    requires kept { SaysWidened D.listed system.now old.now kept }
+    requires early { pass ≤ 3 }
+    requires failed { kept.failed ≡ true }
+    ensures { IfOk result (IsStepOf D.width D.listed D.speaks system.now pass old.now image.now Filled.Inhabited) }
+{
+    let filled = Filled::Inhabited;
     let join = old.join(alloc, image)?;
     if join.weak {
         return Ok(kept_weakly(system, old, filled, kept, image, pass));
@@ -168,7 +201,7 @@ fn compared<D: Domain>(
     })
 }
 
-// The place of the row of constant -1 and zeros, if it is one of these rows.
+/// The place of the row of constant -1 and zeros, if it is one of these rows.
 fn bottom_place(rows: &[Row]) -> Option<usize>
     ensures found { IfSome result (λ i. i < length rows.now) }
     ensures bottom { IfSome result (λ i. IsBottomAt (map plain_row rows.now) i) }
@@ -182,14 +215,14 @@ fn bottom_place(rows: &[Row]) -> Option<usize>
     None
 }
 
-// Whether a row is that of constant -1 and zeros.
+/// Whether a row is that of constant -1 and zeros.
 fn is_bottom(row: &Row) -> bool
     ensures { IsTrue result ↔ (plain_row row.now ≡ bottom_row (length row.now.coeffs)) }
 {
     row.constant == -1 && are_zeros(&row.coeffs)
 }
 
-// Whether all numbers are 0.
+/// Whether all numbers are 0.
 fn are_zeros(numbers: &Numbers) -> bool
     ensures { IsTrue result ↔ (numbers.now ≡ zeros (length numbers.now)) }
 {
@@ -201,14 +234,14 @@ fn are_zeros(numbers: &Numbers) -> bool
     true
 }
 
-// Whether a number is 0.
+/// Whether a number is 0.
 fn is_nought(x: i128) -> bool
     ensures { IsTrue result ↔ (x ≡ pos 0) }
 {
     x == 0
 }
 
-// The image is not empty, or it is weak: it has a point.
+/// The image is not empty, or it is weak: it has a point.
 fn inhabited<D: Domain>(
     alloc: Global,
     system: &System,
@@ -225,7 +258,7 @@ fn inhabited<D: Domain>(
     requires filled { IsFilled (arity_of system.now) filled (D.listed old.now) }
     requires image { HasPoint (arity_of system.now) (D.listed image) }
     requires bottom { plain_row bottom.now ≡ bottom_row (arity_of system.now) }
-    ensures { IfOk result (IsStep D.width D.listed D.speaks system.now pass (D.listed old.now) (D.listed image) filled) }
+    ensures { IfOk result (IsStepOf D.width D.listed D.speaks system.now pass old.now image filled) }
 {
     match filled {
         Filled::Bottom => Ok(begun(alloc, system, old, filled, image, pass)),
@@ -241,7 +274,7 @@ fn inhabited<D: Domain>(
     }
 }
 
-// The proof at a place.
+/// The proof at a place.
 fn proof_at(proofs: Sequence<Multipliers>, place: usize) -> Multipliers
     requires { place < length proofs }
     ensures { slice_get proofs place ≡ Some result }
@@ -250,7 +283,7 @@ fn proof_at(proofs: Sequence<Multipliers>, place: usize) -> Multipliers
     items.swap_remove(place)
 }
 
-// The old rows are empty, and become the image's.
+/// The old rows are empty, and become the image's.
 fn begun<D: Domain>(
     alloc: Global,
     system: &System,
@@ -264,7 +297,7 @@ fn begun<D: Domain>(
     requires filled { IsFilled (arity_of system.now) filled (D.listed old.now) }
     requires empty { AreEmpty (suc (arity_of system.now)) (D.listed old.now) }
     requires image { HasPoint (arity_of system.now) (D.listed image) }
-    ensures { IsStep D.width D.listed D.speaks system.now pass (D.listed old.now) (D.listed image) filled result }
+    ensures { IsStepOf D.width D.listed D.speaks system.now pass old.now image filled result }
 {
     let _few = count(&image);
     Stepped {
@@ -276,7 +309,7 @@ fn begun<D: Domain>(
     }
 }
 
-// The test of emptiness is blown, and the old rows are the one row of constant -1.
+/// The test of emptiness is blown, and the old rows are the one row of constant -1.
 fn begun_weakly<D: Domain>(
     alloc: Global,
     system: &System,
@@ -289,7 +322,7 @@ fn begun_weakly<D: Domain>(
     requires image { SaysImage D.speaks system.now (D.listed image.now.value) image.now.weak }
     requires filled { IsFilled (arity_of system.now) Filled.Bottom (D.listed old.now) }
     requires blown { IsBlownOn system.now (bottom_row (arity_of system.now)) }
-    ensures { IfOk result (IsStep D.width D.listed D.speaks system.now pass (D.listed old.now) (D.listed image.now.value) Filled.Bottom) }
+    ensures { IfOk result (IsStepOf D.width D.listed D.speaks system.now pass old.now image.now.value Filled.Bottom) }
 {
     let kept = image.value.widen(alloc, system)?;
     let _few = count(&kept.value);
@@ -330,7 +363,7 @@ pub(crate) fn step_on<D: Domain>(
     requires filled { IsFilled (arity_of system.now) filled (D.listed old.now) }
     requires image_width { D.width image.value ≡ arity_of system.now }
     requires image { SaysImage D.speaks system.now (D.listed image.value) image.weak }
-    ensures { IfOk result (IsStep D.width D.listed D.speaks system.now pass (D.listed old.now) (D.listed image.value) filled) }
+    ensures { IfOk result (IsStepOf D.width D.listed D.speaks system.now pass old.now image.value filled) }
 {
     let bottom = bottom_row(alloc, system.head.list.len())?;
     match D::holds_on(alloc, system, &bottom)? {

@@ -1,3 +1,5 @@
+//! Values of predicates.
+
 use crate::filled::Filled;
 
 /// The value of a predicate, and what is known of the rows that it lists.

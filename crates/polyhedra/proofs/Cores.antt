@@ -14,7 +14,7 @@ use Rattle.linear_rows.specs.declared.row.Rows.{Rows}
 use Rattle.linear_rows.specs.declared.system.System.{System}
 use Rattle.linear_rows.proofs.Members.{from_All, to_All}
 use Rattle.linear_rows.proofs.Starts.{dot-zeros}
-use Rattle.termination_model.specs.ChainRows.{HasPart, HasPoint, AreSpoken, IsBlown, bottom_row}
+use Rattle.termination_model.specs.ChainRows.{HasSublist, HasPoint, AreSpoken, IsBlown, bottom_row}
 use Rattle.polyhedra.specs.Choosing.{IsCore}
 use Rattle.polyhedra.specs.Making.{arity_of, IsImageOf, ImageIsBlown, IsJoinOf, SaysImage, SaysJoin}
 use Rattle.polyhedra.specs.PolyLaws.{HaveFit}
@@ -32,7 +32,7 @@ core_same n all rows r core = (
   λ h t w some long hold. h t w some long (to_All (λ (y : List ℤ). Holds y t w) all (λ y i. core.covers y i t w some long hold)),
 )
 
-pub part_spoken : (n : ℕ) (xs ys : List (List ℤ)) → HasPart xs ys → AreSpoken (all_of fits) n xs → AreSpoken (all_of fits) n ys
+pub part_spoken : (n : ℕ) (xs ys : List (List ℤ)) → HasSublist xs ys → AreSpoken (all_of fits) n xs → AreSpoken (all_of fits) n ys
 part_spoken n [] ys p a = subst (AreSpoken (all_of fits) n) (sym p) tt
 part_spoken n (x ∷ xs) ys (inl (_, zs, e, more)) a = subst (AreSpoken (all_of fits) n) (sym e) (a.0, part_spoken n xs zs more a.1)
 part_spoken n (x ∷ xs) ys (inr (_, more)) a = part_spoken n xs ys more a.1

@@ -7,7 +7,7 @@ use Rattle.linear_rows.specs.Rows.{Holds, HoldsOn}
 use Rattle.linear_rows.specs.declared.row.Row.{Row}
 use Rattle.linear_rows.specs.declared.row.Rows.{Rows}
 use Rattle.linear_rows.proofs.Members.{from_All, to_All, in-left, in-right, of-append}
-use Rattle.termination_model.specs.ChainRows.{HasPart}
+use Rattle.termination_model.specs.ChainRows.{HasSublist}
 use Rattle.polyhedra.specs.declared.mark.Mark.{Mark}
 use Rattle.polyhedra.specs.declared.mark.Mark.TheVariants.{Waiting, Kept, Implied}
 use Rattle.polyhedra.specs.Inserting.{kept_of, AreKnown, IsKeptAt, IsInsertion}
@@ -135,7 +135,7 @@ starts n all kept width list marks is = record {
     waiting (x ∷ all) zero r e = refl
     waiting (x ∷ all) (suc i) r e = waiting all i r e
 
-part_kept : (marks : List Mark) (xs : List (List ℤ)) → HasPart xs (kept_of marks xs)
+part_kept : (marks : List Mark) (xs : List (List ℤ)) → HasSublist xs (kept_of marks xs)
 part_kept [] [] = refl
 part_kept [] (x ∷ xs) = inr (tt, part_kept [] xs)
 part_kept (m ∷ marks) [] = refl

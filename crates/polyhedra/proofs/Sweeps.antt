@@ -5,7 +5,7 @@ use Rattle.linear_rows.specs.Members.{In}
 use Rattle.linear_rows.specs.Rows.{Holds, AllHold, HoldsOn}
 use Rattle.linear_rows.specs.Irredundant.{without_place, IsIrredundant}
 use Rattle.linear_rows.proofs.Members.{from_All, to_All}
-use Rattle.termination_model.specs.ChainRows.{HasPart}
+use Rattle.termination_model.specs.ChainRows.{HasSublist}
 use Rattle.polyhedra.specs.Sweeping.{IsNeeded, IsSwept, IsLess}
 use Rattle.std.specs.Prelude.{◌≤ℤ◌, slice_get}
 use Rattle.std.proofs.Common.{negsuc, Some}
@@ -21,29 +21,29 @@ use Rattle.linear_rows.specs.declared.point.Point.{Point}
 use Rattle.linear_rows.specs.Showing.{Shows, FailsAt}
 
 -- ---- sublists
-pub part_self : (xs : List (List ℤ)) → HasPart xs xs
+pub part_self : (xs : List (List ℤ)) → HasSublist xs xs
 part_self [] = refl
 part_self (x ∷ xs) = inl (tt, xs, refl, part_self xs)
 
-pub part_nil : (xs : List (List ℤ)) → HasPart xs []
+pub part_nil : (xs : List (List ℤ)) → HasSublist xs []
 part_nil [] = refl
 part_nil (x ∷ xs) = inr (tt, part_nil xs)
 
-pub part_trans : (xs ys zs : List (List ℤ)) → HasPart xs ys → HasPart ys zs → HasPart xs zs
-part_trans [] ys zs h k = subst (λ (l : List (List ℤ)). HasPart l zs) h k
+pub part_trans : (xs ys zs : List (List ℤ)) → HasSublist xs ys → HasSublist ys zs → HasSublist xs zs
+part_trans [] ys zs h k = subst (λ (l : List (List ℤ)). HasSublist l zs) h k
 part_trans (x ∷ xs) ys zs (inr (u, h)) k = inr (tt, part_trans xs ys zs h k)
-part_trans (x ∷ xs) ys zs (inl (u, ws, e, h)) k = go (subst (λ (l : List (List ℤ)). HasPart l zs) e k) (λ vs. part_trans xs ws vs h)
+part_trans (x ∷ xs) ys zs (inl (u, ws, e, h)) k = go (subst (λ (l : List (List ℤ)). HasSublist l zs) e k) (λ vs. part_trans xs ws vs h)
   where
-    go : HasPart (x ∷ ws) zs → ((vs : List (List ℤ)) → HasPart ws vs → HasPart xs vs) → HasPart (x ∷ xs) zs
+    go : HasSublist (x ∷ ws) zs → ((vs : List (List ℤ)) → HasSublist ws vs → HasSublist xs vs) → HasSublist (x ∷ xs) zs
     go (inl (v, us, f, m)) rec = inl (tt, us, f, rec us m)
     go (inr (v, m)) rec = inr (tt, rec zs m)
 
-pub part_in : (xs ys : List (List ℤ)) → HasPart xs ys → (x : List ℤ) → In x ys → In x xs
+pub part_in : (xs ys : List (List ℤ)) → HasSublist xs ys → (x : List ℤ) → In x ys → In x xs
 part_in [] ys s x i = subst (In x) s i
 part_in (y ∷ xs) ys (inl (p, zs, e, s)) x i = elim (subst (In x) e i) [ inl is ↦ inl is | inr j ↦ inr (part_in xs zs s x j) ]
 part_in (y ∷ xs) ys (inr (q, s)) x i = inr (part_in xs ys s x i)
 
-without_part : (i : ℕ) (xs : List (List ℤ)) → HasPart xs (without_place i xs)
+without_part : (i : ℕ) (xs : List (List ℤ)) → HasSublist xs (without_place i xs)
 without_part zero [] = refl
 without_part (suc i) [] = refl
 without_part zero (x ∷ xs) = inr (tt, part_self xs)

@@ -5,6 +5,7 @@
 --
 -- To believe: `SaysImage`, `SaysJoin`, `SaysKept`.
 use Rattle.std.specs.Prelude.{◌≡◌, ℕ, suc, ◌⊎◌, ◌↔◌, ℤ, Bool, true, false, List, [], ◌∷◌, length, None}
+use Rattle.std.specs.List.{AllByRecursion}
 use Rattle.linear_rows.specs.Plain.{plain_rows}
 use Rattle.linear_rows.specs.Rows.{HoldsOn}
 use Rattle.linear_rows.specs.Systems.{image_blown, image_left, join_blown}
@@ -13,8 +14,9 @@ use Rattle.linear_rows.specs.declared.multipliers.Multipliers.{Multipliers}
 use Rattle.linear_rows.specs.declared.system.System.{System}
 use Rattle.linear_rows.specs.declared.point.Point.{Point}
 use Rattle.termination_model.specs.Claims.{SomeOf}
-use Rattle.termination_model.specs.ChainRows.{bottom_row, HasPoint, HasPart, Sieved, AreSpoken, IsBlown, IsJoin}
+use Rattle.termination_model.specs.ChainRows.{bottom_row, HasPoint, HasSublist, AreSpoken, IsBlown, IsJoin}
 use Rattle.linear_rows.specs.Showing.{Shows}
+use Rattle.polyhedra.specs.declared.widened.Widened.{Widened}
 use Rattle.polyhedra.specs.Telling.{FailsOn, IsBlownOn, at_head}
 
 abbrev pub arity_of : System → ℕ
@@ -28,7 +30,7 @@ HoldsFor s row = HoldsOn (suc s.variables) (plain_rows s.rows.list) (at_head s r
 pub record IsImageOf (speaks : List ℤ → Bool) (s : System) (rows : List (List ℤ)) : Type 0 where
   pub narrow : s.wide ≡ false
   pub decided : image_blown s.variables (plain_rows s.head.list) (plain_rows s.rows.list) ≡ None
-  pub part : HasPart (image_left s.variables (plain_rows s.head.list) (plain_rows s.rows.list)) rows
+  pub part : HasSublist (image_left s.variables (plain_rows s.head.list) (plain_rows s.rows.list)) rows
   pub irredundant : IsIrredundant (arity_of s) rows
   pub spoken : AreSpoken speaks (arity_of s) rows
   pub same : (r : List ℤ) → length r ≡ suc (arity_of s) → speaks r ≡ true → HoldsOn (suc (arity_of s)) rows r ↔ HoldsFor s r
@@ -64,18 +66,25 @@ AreShown s (r ∷ rs) (m ∷ ms) = Shows (plain_rows s.rows.list) (at_head s r) 
 abbrev pub Fails : System → List ℤ → Type 0
 Fails s row = (p : Point) × FailsOn s row p
 
--- why a row is left out: it fails, and where the result is weak its test may be blown
-abbrev pub IsLost : System → Bool → List ℤ → Type 0
-IsLost s false row = Fails s row
-IsLost s true row = Fails s row ⊎ IsBlownOn s row
+-- each row of the first list is in the second or in the third, in order
+abbrev pub Splits : List (List ℤ) → List (List ℤ) → List (List ℤ) → Type 0
+Splits [] kept lost = (kept ≡ []) × (lost ≡ [])
+Splits (x ∷ xs) kept lost =
+    ((ks : List (List ℤ)) × (kept ≡ x ∷ ks) × Splits xs ks lost)
+    ⊎ ((ls : List (List ℤ)) × (lost ≡ x ∷ ls) × Splits xs kept ls)
 
--- what makes a result weak: the test of one row is blown
-abbrev pub HasCause : System → Bool → List (List ℤ) → Type 0
-HasCause s false rows = Unit {0}
-HasCause s true rows = SomeOf (IsBlownOn s) rows
+-- why a row is lost: it fails, where some are known to fail, or its test is blown, where some are
+abbrev pub IsLost : System → Bool → Bool → List ℤ → Type 0
+IsLost s failed weak row = ((failed ≡ true) × Fails s row) ⊎ ((weak ≡ true) × IsBlownOn s row)
 
--- the rows that are kept, with their proofs
-pub record SaysKept (s : System) (old rows : List (List ℤ)) (weak : Bool) (by : List Multipliers) : Type 0 where
-  pub kept : Sieved (λ _. Unit {0}) (IsLost s weak) old rows
-  pub cause : HasCause s weak old
+-- the rows that are kept, with their proofs, and those that are lost: whether some fail, and the tests of some are blown
+pub record SaysKept (s : System) (old rows : List (List ℤ)) (failed weak : Bool) (by : List Multipliers) : Type 0 where
+  pub lost : List (List ℤ)
+  pub split : Splits old rows lost
+  pub why : AllByRecursion (IsLost s failed weak) lost
+  pub fails : failed ≡ true → SomeOf (Fails s) lost
+  pub blown : weak ≡ true → SomeOf (IsBlownOn s) lost
   pub shown : AreShown s rows by
+
+abbrev pub SaysWidened : {D : Type 0} → (D → List (List ℤ)) → System → D → Widened D → Type 0
+SaysWidened listed s old new = SaysKept s (listed old) (listed new.value) new.failed new.weak new.by

@@ -3,8 +3,8 @@
 use Rattle.std.specs.Prelude.{ℕ, suc, ◌<◌, ◌⊎◌, ℤ, List, [], length, slice_index_or}
 use Rattle.linear_rows.specs.Irredundant.{Fails, TestIsBlown, without_place}
 use Rattle.linear_rows.specs.Rows.{HoldsOn}
-use Rattle.polyhedra.specs.Choosing.{Covers}
-use Rattle.termination_model.specs.ChainRows.{HasPart}
+use Rattle.polyhedra.specs.Choosing.{AllHoldOn}
+use Rattle.termination_model.specs.ChainRows.{HasSublist}
 
 -- the row at a place fails at a point of the others, or its test there is blown
 abbrev pub IsNeeded : ℕ → List (List ℤ) → ℕ → Type 0
@@ -20,5 +20,5 @@ IsSwept n rows place = (i : ℕ) → i < place → i < length rows → IsNeeded 
 
 -- rows from which some were taken out that hold on the rest
 pub record IsLess (n : ℕ) (all rows : List (List ℤ)) : Type 0 where
-  pub part : HasPart all rows
-  pub covers : Covers n rows all
+  pub part : HasSublist all rows
+  pub covers : AllHoldOn n rows all

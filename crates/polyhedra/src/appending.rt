@@ -1,4 +1,5 @@
-// Numbers that are appended to lists of numbers.
+//! Numbers that are appended to lists of numbers.
+
 ghost use Rattle.std.specs.Prelude.{◌≡◌, ◌≢◌, ◌++◌, ◌∷◌, ◌-◌, ◌^◌, OnOk, All, negsuc, neg_ℤ};
 ghost use Rattle.linear_rows.specs.Solving.{zeros};
 ghost use Rattle.linear_rows.specs.Systems.{opposite};

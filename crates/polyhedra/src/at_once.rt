@@ -1,4 +1,5 @@
-// Answers to the test of a row that need no solving.
+//! Answers to the test of a row that need no solving.
+
 ghost use Rattle.std.specs.Prelude.{◌≡◌, ◌≤ℤ◌, ◌<◌, pos, IfOk, IfSome, All, length, true};
 ghost use Rattle.exact128.specs.Fits.{fits};
 ghost use Rattle.linear_rows.specs.Blown.{all_of};
@@ -47,7 +48,7 @@ pub(crate) fn shown_by_one(
     }
 }
 
-// Whether each number of a row fits.
+/// Whether each number of a row fits.
 fn row_fits(row: &Row) -> bool
     ensures { result ≡ true → all_of fits (plain_row row.now) ≡ true }
 {
@@ -62,7 +63,7 @@ fn row_fits(row: &Row) -> bool
     true
 }
 
-// Multipliers that may show a row: those of no row, or of one of which it is at least a multiple.
+/// Multipliers that may show a row: those of no row, or of one of which it is at least a multiple.
 fn candidate(alloc: Global, rows: &Rows, row: &Row) -> Result<Option<Multipliers>, AllocError>
     ensures { IfOk result (λ o. IfSome o (AreMultipliers (length rows.now.list))) }
 {
@@ -77,7 +78,7 @@ fn candidate(alloc: Global, rows: &Rows, row: &Row) -> Result<Option<Multipliers
     Ok(None)
 }
 
-// The multipliers 0, with the scale 1.
+/// The multipliers 0, with the scale 1.
 fn of_none(alloc: Global, count: usize) -> Result<Multipliers, AllocError>
     ensures { IfOk result (AreMultipliers count) }
 {
@@ -86,7 +87,7 @@ fn of_none(alloc: Global, count: usize) -> Result<Multipliers, AllocError>
     Ok(Multipliers { scale: 1, list })
 }
 
-// The multipliers 0 but for one.
+/// The multipliers 0 but for one.
 fn of_one(
     alloc: Global,
     count: usize,
@@ -104,7 +105,7 @@ fn of_one(
     Ok(Multipliers { scale, list })
 }
 
-// The multipliers, if they show the row.
+/// The multipliers, if they show the row.
 fn checked(rows: &Rows, row: &Row, by: Multipliers) -> Option<Multipliers>
     requires rows { HaveWidth rows.now.width rows.now.list }
     requires row { length row.now.coeffs ≡ rows.now.width }
@@ -119,10 +120,11 @@ fn checked(rows: &Rows, row: &Row, by: Multipliers) -> Option<Multipliers>
     }
 }
 
-// The origin, if the rows hold there and the row fails.
+/// The origin, if the rows hold there and the row fails.
 fn failing_at_origin(alloc: Global, rows: &Rows, row: &Row) -> Result<Option<Point>, AllocError>
     requires rows { HaveWidth rows.now.width rows.now.list }
-    ensures { IfOk result (λ o. IfSome o (FailsAt rows.now.width (plain_rows rows.now.list) (plain_row row.now))) }
+    ensures { IfOk result (λ o. IfSome o
+        (FailsAt rows.now.width (plain_rows rows.now.list) (plain_row row.now))) }
 {
     if row.constant >= 0 {
         return Ok(None);
@@ -135,7 +137,7 @@ fn failing_at_origin(alloc: Global, rows: &Rows, row: &Row) -> Result<Option<Poi
     Ok(Some(Point { t: 1, w }))
 }
 
-// Whether no row's constant is below 0.
+/// Whether no row's constant is below 0.
 fn hold_at_origin(rows: &Rows) -> bool
     ensures { result ≡ true → All (λ r. pos 0 ≤ℤ r.constant) rows.now.list }
 {

@@ -1,4 +1,5 @@
-// The row that holds nowhere.
+//! The row that holds nowhere.
+
 ghost use Rattle.std.specs.Prelude.{◌≡◌, IfOk, length};
 ghost use Rattle.linear_rows.specs.Plain.{plain_row};
 ghost use Rattle.termination_model.specs.ChainRows.{bottom_row};

@@ -1,11 +1,12 @@
-// What a domain of size rows is.
+//! What a domain of size rows is.
+
 ghost use Rattle.std.specs.Prelude.{◌≡◌, ℕ, suc, ℤ, Bool, true, List, [], ◌∷◌, IfOk, length, All};
 ghost use Rattle.linear_rows.specs.Plain.{HaveWidth, plain_row, plain_rows};
 ghost use Rattle.termination_model.specs.ChainRows.{bottom_row, AreSpoken};
 ghost use Rattle.linear_rows.specs.Replacing.{row_fits};
 ghost use Rattle.simplex.specs.Telling.{Tells};
 ghost use Rattle.polyhedra.specs.Telling.{TellsHead, IsSystem, HasNaturalHead};
-ghost use Rattle.polyhedra.specs.Making.{arity_of, SaysImage, SaysJoin, SaysKept};
+ghost use Rattle.polyhedra.specs.Making.{arity_of, SaysImage, SaysJoin, SaysWidened};
 
 use crate::made::Made;
 use crate::widened::Widened;
@@ -62,7 +63,8 @@ pub trait Domain: Drop + Sized {
         requires system { IsSystem system.now }
         requires head { HasNaturalHead system.now }
         ensures arity { IfOk result (λ made. width made.value ≡ arity_of system.now) }
-        ensures rows { IfOk result (λ made. SaysImage speaks system.now (listed made.value) made.weak) };
+        ensures rows { IfOk result
+            (λ made. SaysImage speaks system.now (listed made.value) made.weak) };
 
     /// The least value over both.
     ///
@@ -71,16 +73,19 @@ pub trait Domain: Drop + Sized {
     fn join(&self, alloc: Global, other: &Self) -> Result<Made<Self>, AllocError>
         requires { width other.now ≡ width self.now }
         ensures arity { IfOk result (λ made. width made.value ≡ width self.now) }
-        ensures rows { IfOk result (λ made. SaysJoin speaks (width self.now) (listed self.now) (listed other.now) (listed made.value) made.weak) };
+        ensures rows { IfOk result
+            (λ made. SaysJoin speaks (width self.now) (listed self.now) (listed other.now)
+            (listed made.value) made.weak) };
 
     /// The listed rows that hold on the head of a clause's system, each with multipliers that show it.
     ///
-    /// Each row that is left out fails there or, where the result is weak, has a blown test there, as some row then has.
+    /// Each row that is left out is known to fail there or has a blown test there. Of each of these two kinds the
+    /// answer tells whether there are some.
     fn widen(&self, alloc: Global, system: &System) -> Result<Widened<Self>, AllocError>
         requires system { IsSystem system.now }
         requires arity { width self.now ≡ arity_of system.now }
         ensures arity { IfOk result (λ made. width made.value ≡ width self.now) }
-        ensures rows { IfOk result (λ made. SaysKept system.now (listed self.now) (listed made.value) made.weak made.by) };
+        ensures rows { IfOk result (SaysWidened listed system.now self.now) };
 
     /// The row of constant -1 and zeros is spoken of, each row that a value lists has the value's arity and is spoken of,
     /// and rows that are spoken of fit.

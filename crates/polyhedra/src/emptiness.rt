@@ -1,4 +1,5 @@
-// Whether rows hold at some point.
+//! Whether rows hold at some point.
+
 ghost use Rattle.std.specs.Prelude.{IfOk};
 ghost use Rattle.linear_rows.specs.Plain.{plain_rows, HaveWidth};
 ghost use Rattle.polyhedra.specs.Filling.{IsEmptiness};

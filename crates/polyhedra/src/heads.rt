@@ -1,4 +1,5 @@
-// Tests of rows over a head's arguments on a clause's system.
+//! Tests of rows over a head's arguments on a clause's system.
+
 ghost use Rattle.std.specs.Prelude.{◌≡◌, ◌≤ℤ◌, ◌∷◌, pos, IfOk, IfSome, length, true};
 ghost use Rattle.exact128.specs.Sums.{dot};
 ghost use Rattle.linear_rows.specs.Plain.{plain_row, plain_rows, HaveWidth};
@@ -39,7 +40,7 @@ pub(crate) fn tested_on(
     }
 }
 
-// A row over the head's arguments with their size expressions in their places, where it fits.
+/// A row over the head's arguments with their size expressions in their places, where it fits.
 fn target_of(alloc: Global, system: &System, row: &Row) -> Result<Option<Row>, AllocError>
     requires system { IsSystem system.now }
     requires arity { length row.now.coeffs ≡ arity_of system.now }
@@ -52,7 +53,7 @@ fn target_of(alloc: Global, system: &System, row: &Row) -> Result<Option<Row>, A
     replaced(alloc, numbers.as_slice(), columns.as_slice())
 }
 
-// A copy of a remembered point, if a row fails there.
+/// A copy of a remembered point, if a row fails there.
 fn failing(alloc: Global, last: &Option<Point>, row: &Row) -> Result<Option<Point>, AllocError>
     ensures { IfOk result (λ o. IfSome o (IsFailing last.now (plain_row row.now))) }
 {
@@ -68,7 +69,7 @@ fn failing(alloc: Global, last: &Option<Point>, row: &Row) -> Result<Option<Poin
     }
 }
 
-// Whether a row's value at a point is below 0, by numbers that fit.
+/// Whether a row's value at a point is below 0, by numbers that fit.
 fn is_below(row: &Row, point: &Point) -> bool
     ensures { result ≡ true → pos 0 ≤ℤ dot (plain_row row.now) (point.now.t ∷ point.now.w) → ⊥ }
 {
@@ -84,7 +85,7 @@ fn is_below(row: &Row, point: &Point) -> bool
     }
 }
 
-// Whether there is a number below 0.
+/// Whether there is a number below 0.
 fn is_negative(number: Option<i128>) -> bool
     ensures { result ≡ true → HasNegative number }
 {

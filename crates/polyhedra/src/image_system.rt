@@ -1,5 +1,6 @@
-// The rows of an image's system: the variables are naturals, the head's arguments equal their size expressions, and the
-// body's rows hold.
+//! The rows of an image's system: the variables are naturals, the head's arguments equal their size expressions, and the
+//! body's rows hold.
+
 ghost use Rattle.std.specs.Prelude.{◌≡◌, ◌+◌, ◌≤◌, ◌<◌, ◌++◌, ◌∷◌, pos, ◌≤ℤ◌, IfOk, OnOk, All, length, map};
 ghost use Rattle.linear_rows.specs.Plain.{HaveWidth, plain_row, plain_rows};
 ghost use Rattle.linear_rows.specs.Solving.{units};
@@ -25,7 +26,9 @@ pub(crate) fn image_system(
     requires width { width ≡ arity + system.now.variables }
     ensures width { IfOk result (λ r. r.width ≡ width) }
     ensures widths { IfOk result (λ r. HaveWidth width r.list) }
-    ensures rows { IfOk result (λ r. plain_rows r.list ≡ image_rows system.now.variables (plain_rows system.now.head.list) (plain_rows system.now.rows.list)) }
+    ensures rows { IfOk result
+        (λ r. plain_rows r.list ≡ image_rows system.now.variables (plain_rows system.now.head.list)
+        (plain_rows system.now.rows.list)) }
 {
     let mut rows = Rows::new(alloc, width);
     push_naturals(alloc, &mut rows, system.variables as usize, arity as usize)?;
@@ -45,7 +48,8 @@ pub(crate) fn push_naturals(
     requires widths { HaveWidth rows.old.width rows.old.list }
     ensures width { rows.new.width ≡ rows.old.width }
     ensures widths { HaveWidth rows.old.width rows.new.list }
-    ensures rows { OnOk result (plain_rows rows.new.list ≡ plain_rows rows.old.list ++ naturals count from rows.old.width) }
+    ensures rows { OnOk result (plain_rows rows.new.list ≡ plain_rows rows.old.list
+        ++ naturals count from rows.old.width) }
 {
     let width = rows.width as usize;
     for i in 0..count {
@@ -54,7 +58,7 @@ pub(crate) fn push_naturals(
     Ok(())
 }
 
-// The row that says that one of the given number of columns is at least 0.
+/// The row that says that one of the given number of columns is at least 0.
 fn natural_row(alloc: Global, place: usize, width: usize) -> Result<Row, AllocError>
     requires { place < width }
     ensures row { IfOk result (λ r. plain_row r ≡ pos 0 ∷ units width place) }
@@ -68,7 +72,7 @@ fn natural_row(alloc: Global, place: usize, width: usize) -> Result<Row, AllocEr
     })
 }
 
-// Appends two rows for each argument: it is at least its expression, and at most it.
+/// Appends two rows for each argument: it is at least its expression, and at most it.
 fn push_equalities(
     alloc: Global,
     rows: &mut Rows,
@@ -82,7 +86,8 @@ fn push_equalities(
     requires widths { HaveWidth rows.old.width rows.old.list }
     ensures width { rows.new.width ≡ rows.old.width }
     ensures widths { HaveWidth rows.old.width rows.new.list }
-    ensures rows { OnOk result (plain_rows rows.new.list ≡ plain_rows rows.old.list ++ equalities arity 0 (plain_rows head.now.list)) }
+    ensures rows { OnOk result (plain_rows rows.new.list ≡ plain_rows rows.old.list
+        ++ equalities arity 0 (plain_rows head.now.list)) }
 {
     for i in 0..head.list.len() {
         let expression = head.list.get(i);
@@ -92,11 +97,12 @@ fn push_equalities(
     Ok(())
 }
 
-// The row that says that an argument is at least its expression.
+/// The row that says that an argument is at least its expression.
 fn at_least(alloc: Global, arity: usize, place: usize, expression: &Row) -> Result<Row, AllocError>
     requires place { place < arity }
     requires numbers { All IsNegatable (plain_row expression.now) }
-    ensures row { IfOk result (λ r. plain_row r ≡ difference arity place (plain_row expression.now)) }
+    ensures row { IfOk result
+        (λ r. plain_row r ≡ difference arity place (plain_row expression.now)) }
     ensures width { IfOk result (λ r. length r.coeffs ≡ arity + length expression.now.coeffs) }
 {
     let mut coeffs = Numbers::new(alloc);
@@ -108,10 +114,11 @@ fn at_least(alloc: Global, arity: usize, place: usize, expression: &Row) -> Resu
     })
 }
 
-// The row that says that an argument is at most its expression.
+/// The row that says that an argument is at most its expression.
 fn at_most(alloc: Global, arity: usize, place: usize, expression: &Row) -> Result<Row, AllocError>
     requires place { place < arity }
-    ensures row { IfOk result (λ r. plain_row r ≡ opposite (difference arity place (plain_row expression.now))) }
+    ensures row { IfOk result
+        (λ r. plain_row r ≡ opposite (difference arity place (plain_row expression.now))) }
     ensures width { IfOk result (λ r. length r.coeffs ≡ arity + length expression.now.coeffs) }
 {
     let mut coeffs = Numbers::new(alloc);
@@ -123,14 +130,15 @@ fn at_most(alloc: Global, arity: usize, place: usize, expression: &Row) -> Resul
     })
 }
 
-// Appends the body's rows, each with a place for each argument.
+/// Appends the body's rows, each with a place for each argument.
 fn push_body(alloc: Global, rows: &mut Rows, body: &Rows, arity: usize) -> Result<(), AllocError>
     requires room { rows.old.width ≡ arity + body.now.width }
     requires body { HaveWidth body.now.width body.now.list }
     requires widths { HaveWidth rows.old.width rows.old.list }
     ensures width { rows.new.width ≡ rows.old.width }
     ensures widths { HaveWidth rows.old.width rows.new.list }
-    ensures rows { OnOk result (plain_rows rows.new.list ≡ plain_rows rows.old.list ++ map (over_variables arity) (plain_rows body.now.list)) }
+    ensures rows { OnOk result (plain_rows rows.new.list ≡ plain_rows rows.old.list
+        ++ map (over_variables arity) (plain_rows body.now.list)) }
 {
     for row in body.list.as_slice() {
         rows.push(behind_arguments(alloc, arity, row)?)?;
@@ -138,7 +146,7 @@ fn push_body(alloc: Global, rows: &mut Rows, body: &Rows, arity: usize) -> Resul
     Ok(())
 }
 
-// A row over the variables, with a place for each argument.
+/// A row over the variables, with a place for each argument.
 fn behind_arguments(alloc: Global, arity: usize, row: &Row) -> Result<Row, AllocError>
     ensures row { IfOk result (λ r. plain_row r ≡ over_variables arity (plain_row row.now)) }
     ensures width { IfOk result (λ r. length r.coeffs ≡ arity + length row.now.coeffs) }

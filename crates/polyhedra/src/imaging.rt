@@ -1,4 +1,5 @@
-// The image of a clause's system.
+//! The image of a clause's system.
+
 ghost use Rattle.std.specs.Prelude.{◌≡◌, IfOk};
 ghost use Rattle.exact128.specs.Fits.{fits};
 ghost use Rattle.linear_rows.specs.Blown.{all_of};
@@ -18,7 +19,8 @@ pub(crate) fn imaged(alloc: Global, system: &System) -> Result<Made<Poly>, Alloc
     requires system { IsSystem system.now }
     requires head { HasNaturalHead system.now }
     ensures arity { IfOk result (λ made. made.value.rows.width ≡ arity_of system.now) }
-    ensures rows { IfOk result (λ made. SaysImage (all_of fits) system.now (plain_rows made.value.rows.list) made.weak) }
+    ensures rows { IfOk result
+        (λ made. SaysImage (all_of fits) system.now (plain_rows made.value.rows.list) made.weak) }
 {
     // There is no memory for that many arguments and variables.
     let Ok(arity) = u32::try_from(system.head.list.len()) else {

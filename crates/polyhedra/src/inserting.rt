@@ -1,4 +1,5 @@
-// Rows that are inserted one after the other, if those that were inserted before do not imply them.
+//! Rows that are inserted one after the other, if those that were inserted before do not imply them.
+
 ghost use Rattle.std.specs.Prelude.{◌≡◌, ◌≢◌, ◌<◌, ◌≤◌, ◌+◌, ◌++◌, [], ◌∷◌, suc, IfOk, OnOk, length, slice_get, Some, true, false};
 ghost use Rattle.linear_rows.specs.Plain.{plain_row, plain_rows, HaveWidth};
 ghost use Rattle.linear_rows.specs.Rows.{HoldsOn};
@@ -18,7 +19,8 @@ pub(crate) fn inserted(alloc: Global, rows: &Rows) -> Result<Rows, AllocError>
     requires { HaveWidth rows.now.width rows.now.list }
     ensures width { IfOk result (λ r. r.width ≡ rows.now.width) }
     ensures widths { IfOk result (λ r. HaveWidth rows.now.width r.list) }
-    ensures less { IfOk result (λ r. IsLess rows.now.width (plain_rows rows.now.list) (plain_rows r.list)) }
+    ensures less { IfOk result
+        (λ r. IsLess rows.now.width (plain_rows rows.now.list) (plain_rows r.list)) }
 {
     let most = rows.width as usize;
     let mut insertion = nothing_inserted(alloc, rows)?;
@@ -36,7 +38,7 @@ struct Insertion {
     kept: Rows,
 }
 
-// No row was inserted.
+/// No row was inserted.
 fn nothing_inserted(alloc: Global, rows: &Rows) -> Result<Insertion, AllocError>
     ensures { IfOk result (λ i. IsInsertion rows.now.width rows.now.list i.marks.items i.kept) }
 {
@@ -47,7 +49,7 @@ fn nothing_inserted(alloc: Global, rows: &Rows) -> Result<Insertion, AllocError>
     })
 }
 
-// Inserts the waiting rows of at most the given number of coefficients other than 0.
+/// Inserts the waiting rows of at most the given number of coefficients other than 0.
 fn insert_sparse(
     alloc: Global,
     rows: &Rows,
@@ -56,8 +58,10 @@ fn insert_sparse(
 ) -> Result<Insertion, AllocError>
     requires width { HaveWidth rows.now.width rows.now.list }
     requires insertion { IsInsertion rows.now.width rows.now.list insertion.marks.items insertion.kept }
-    ensures insertion { IfOk result (λ i. IsInsertion rows.now.width rows.now.list i.marks.items i.kept) }
-    ensures known { IfOk result (λ i. most ≡ rows.now.width → AreKnown i.marks.items (length rows.now.list)) }
+    ensures insertion { IfOk result
+        (λ i. IsInsertion rows.now.width rows.now.list i.marks.items i.kept) }
+    ensures known { IfOk result (λ i. most ≡ rows.now.width
+        → AreKnown i.marks.items (length rows.now.list)) }
 {
     let mut insertion = insertion;
     for place in 0..rows.list.len() {
@@ -66,7 +70,7 @@ fn insert_sparse(
     Ok(insertion)
 }
 
-// Inserts a row, if it waits and has at most the given number of coefficients other than 0.
+/// Inserts a row, if it waits and has at most the given number of coefficients other than 0.
 fn insert_due(
     alloc: Global,
     rows: &Rows,
@@ -77,8 +81,10 @@ fn insert_due(
     requires place { place < length rows.now.list }
     requires width { HaveWidth rows.now.width rows.now.list }
     requires insertion { IsInsertion rows.now.width rows.now.list insertion.marks.items insertion.kept }
-    ensures insertion { IfOk result (λ i. IsInsertion rows.now.width rows.now.list i.marks.items i.kept) }
-    ensures known { IfOk result (λ i. most ≡ rows.now.width → AreKnown insertion.marks.items place → AreKnown i.marks.items (place + 1)) }
+    ensures insertion { IfOk result
+        (λ i. IsInsertion rows.now.width rows.now.list i.marks.items i.kept) }
+    ensures known { IfOk result (λ i. most ≡ rows.now.width → AreKnown insertion.marks.items place
+        → AreKnown i.marks.items (place + 1)) }
 {
     if is_due(insertion.marks[place], rows.list.get(place), most) {
         return insert(alloc, rows, insertion, place);
@@ -86,7 +92,7 @@ fn insert_due(
     Ok(insertion)
 }
 
-// Whether a row waits and has at most the given number of coefficients other than 0.
+/// Whether a row waits and has at most the given number of coefficients other than 0.
 fn is_due(mark: Mark, row: &Row, most: usize) -> bool
     ensures waiting { result ≡ true → mark ≡ Mark.Waiting }
     ensures due { most ≡ length row.now.coeffs → result ≡ false → mark ≢ Mark.Waiting }
@@ -98,7 +104,7 @@ fn is_due(mark: Mark, row: &Row, most: usize) -> bool
     }
 }
 
-// How many coefficients of a row are not 0.
+/// How many coefficients of a row are not 0.
 fn nonzeros(row: &Row) -> usize
     ensures { result ≤ length row.now.coeffs }
 {
@@ -111,7 +117,7 @@ fn nonzeros(row: &Row) -> usize
     count
 }
 
-// Inserts a waiting row, if the rows that were inserted do not imply it.
+/// Inserts a waiting row, if the rows that were inserted do not imply it.
 fn insert(
     alloc: Global,
     rows: &Rows,
@@ -122,8 +128,10 @@ fn insert(
     requires waiting { slice_get insertion.marks.items place ≡ Some Mark.Waiting }
     requires width { HaveWidth rows.now.width rows.now.list }
     requires insertion { IsInsertion rows.now.width rows.now.list insertion.marks.items insertion.kept }
-    ensures insertion { IfOk result (λ i. IsInsertion rows.now.width rows.now.list i.marks.items i.kept) }
-    ensures known { IfOk result (λ i. AreKnown insertion.marks.items place → AreKnown i.marks.items (place + 1)) }
+    ensures insertion { IfOk result
+        (λ i. IsInsertion rows.now.width rows.now.list i.marks.items i.kept) }
+    ensures known { IfOk result (λ i. AreKnown insertion.marks.items place
+        → AreKnown i.marks.items (place + 1)) }
 {
     let Insertion {
         mut marks,
@@ -139,11 +147,12 @@ fn insert(
     Ok(Insertion { marks, kept })
 }
 
-// Whether a test shows that a row holds.
+/// Whether a test shows that a row holds.
 fn is_implied(alloc: Global, rows: &Rows, row: &Row) -> Result<bool, AllocError>
     requires width { HaveWidth rows.now.width rows.now.list }
     requires row { length row.now.coeffs ≡ rows.now.width }
-    ensures { IfOk result (λ b. b ≡ true → HoldsOn (suc rows.now.width) (plain_rows rows.now.list) (plain_row row.now)) }
+    ensures { IfOk result (λ b. b ≡ true
+        → HoldsOn (suc rows.now.width) (plain_rows rows.now.list) (plain_row row.now)) }
 {
     match tested(alloc, rows, row)? {
         Held::Yes(_) => Ok(true),
@@ -152,13 +161,14 @@ fn is_implied(alloc: Global, rows: &Rows, row: &Row) -> Result<bool, AllocError>
     }
 }
 
-// The rows that are marked as kept.
+/// The rows that are marked as kept.
 fn kept_rows(alloc: Global, rows: &Rows, marks: &[Mark]) -> Result<Rows, AllocError>
     requires width { HaveWidth rows.now.width rows.now.list }
     requires marks { length marks.now ≡ length rows.now.list }
     ensures width { IfOk result (λ r. r.width ≡ rows.now.width) }
     ensures widths { IfOk result (λ r. HaveWidth rows.now.width r.list) }
-    ensures rows { IfOk result (λ r. plain_rows r.list ≡ kept_of marks.now (plain_rows rows.now.list)) }
+    ensures rows { IfOk result
+        (λ r. plain_rows r.list ≡ kept_of marks.now (plain_rows rows.now.list)) }
 {
     let mut all = Rows::new(alloc, rows.width);
     for place in 0..rows.list.len() {
@@ -167,13 +177,14 @@ fn kept_rows(alloc: Global, rows: &Rows, marks: &[Mark]) -> Result<Rows, AllocEr
     Ok(all)
 }
 
-// Appends a copy of a row, if it is marked as kept.
+/// Appends a copy of a row, if it is marked as kept.
 fn push_kept(alloc: Global, all: &mut Rows, mark: Mark, row: &Row) -> Result<(), AllocError>
     requires row { length row.now.coeffs ≡ all.old.width }
     requires widths { HaveWidth all.old.width all.old.list }
     ensures width { all.new.width ≡ all.old.width }
     ensures widths { HaveWidth all.old.width all.new.list }
-    ensures rows { OnOk result (plain_rows all.new.list ≡ plain_rows all.old.list ++ kept_of (mark ∷ []) (plain_row row.now ∷ [])) }
+    ensures rows { OnOk result (plain_rows all.new.list ≡ plain_rows all.old.list
+        ++ kept_of (mark ∷ []) (plain_row row.now ∷ [])) }
 {
     match mark {
         Mark::Kept => all.push(row.copy(alloc)?),

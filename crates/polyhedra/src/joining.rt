@@ -1,4 +1,5 @@
-// The join of two polyhedra.
+//! The join of two polyhedra.
+
 ghost use Rattle.std.specs.Prelude.{◌≡◌, IfOk};
 ghost use Rattle.exact128.specs.Fits.{fits};
 ghost use Rattle.linear_rows.specs.Blown.{all_of};
@@ -17,7 +18,9 @@ use std::alloc::{AllocError, Global};
 pub(crate) fn joined(alloc: Global, first: &Poly, second: &Poly) -> Result<Made<Poly>, AllocError>
     requires { second.now.rows.width ≡ first.now.rows.width }
     ensures arity { IfOk result (λ made. made.value.rows.width ≡ first.now.rows.width) }
-    ensures rows { IfOk result (λ made. SaysJoin (all_of fits) first.now.rows.width (plain_rows first.now.rows.list) (plain_rows second.now.rows.list) (plain_rows made.value.rows.list) made.weak) }
+    ensures rows { IfOk result
+        (λ made. SaysJoin (all_of fits) first.now.rows.width (plain_rows first.now.rows.list)
+        (plain_rows second.now.rows.list) (plain_rows made.value.rows.list) made.weak) }
 {
     let own = emptiness_of(alloc, &first.rows)?;
     let others = emptiness_of(alloc, &second.rows)?;
@@ -36,13 +39,15 @@ pub(crate) fn joined(alloc: Global, first: &Poly, second: &Poly) -> Result<Made<
     }
 }
 
-// The least polyhedron over two that are not empty.
+/// The least polyhedron over two that are not empty.
 fn hull(alloc: Global, first: &Poly, second: &Poly) -> Result<Made<Poly>, AllocError>
     requires same { second.now.rows.width ≡ first.now.rows.width }
     requires first { HasPoint first.now.rows.width (plain_rows first.now.rows.list) }
     requires second { HasPoint first.now.rows.width (plain_rows second.now.rows.list) }
     ensures arity { IfOk result (λ made. made.value.rows.width ≡ first.now.rows.width) }
-    ensures rows { IfOk result (λ made. SaysJoin (all_of fits) first.now.rows.width (plain_rows first.now.rows.list) (plain_rows second.now.rows.list) (plain_rows made.value.rows.list) made.weak) }
+    ensures rows { IfOk result
+        (λ made. SaysJoin (all_of fits) first.now.rows.width (plain_rows first.now.rows.list)
+        (plain_rows second.now.rows.list) (plain_rows made.value.rows.list) made.weak) }
 {
     // There is no memory for that many columns.
     let arity = first.rows.width;

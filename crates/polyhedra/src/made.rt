@@ -1,4 +1,5 @@
-// A value that was made.
+//! A value that was made.
+
 ghost use Rattle.std.specs.Prelude.{◌≡◌, true, false, []};
 
 use crate::poly::Poly;

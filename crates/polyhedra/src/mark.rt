@@ -1,4 +1,4 @@
-// What is known of a row that is to be inserted.
+//! What is known of a row that is to be inserted.
 
 /// What is known of a row that is to be inserted.
 #[derive(Clone, Copy, PartialEq, Eq, Debug)]

@@ -1,4 +1,5 @@
-// Whether a row is at least a multiple of another one, so that it holds wherever the other does.
+//! Whether a row is at least a multiple of another one, so that it holds wherever the other does.
+
 ghost use Rattle.std.specs.Prelude.{◌≡◌, ◌≤ℤ◌, ◌*ℤ◌, ◌-ℤ◌, pos, IfSome, length, true};
 ghost use Rattle.exact128.specs.Sums.{entry};
 ghost use Rattle.linear_rows.specs.Plain.{plain_row};
@@ -28,7 +29,8 @@ pub(crate) fn is_natural(row: &Row) -> bool
 /// It tries the least number of times for which that is so in the columns where both rows are below 0. There is none
 /// also where a number does not fit.
 pub(crate) fn multiple(row: &Row, other: &Row) -> Option<Ratio>
-    ensures { IfSome result (λ r. IsMultiple (plain_row row.now) (plain_row other.now) r.num r.den) }
+    ensures { IfSome result (λ r. IsMultiple (plain_row row.now)
+        (plain_row other.now) r.num r.den) }
 {
     let Some(most) = greatest_quotient(row, other) else {
         return None;
@@ -40,7 +42,7 @@ pub(crate) fn multiple(row: &Row, other: &Row) -> Option<Ratio>
     }
 }
 
-// The greatest quotient of two numbers below 0 in one column, if the signs let the row be a multiple.
+/// The greatest quotient of two numbers below 0 in one column, if the signs let the row be a multiple.
 fn greatest_quotient(row: &Row, other: &Row) -> Option<Ratio> {
     let none = Quotient { num: 0, den: -1 };
     let Some(mut most) = none.or_greater(row.constant, other.constant) else {
@@ -66,8 +68,8 @@ struct Quotient {
 }
 
 impl Quotient {
-    // The greater one of this quotient and that of two numbers below 0, or none where a row with this number is no
-    // multiple of one with the other.
+    /// The greater one of this quotient and that of two numbers below 0, or none where a row with this number is no
+    /// multiple of one with the other.
     fn or_greater(self, number: i128, other: i128) -> Option<Quotient> {
         if number >= 0 {
             return if number == 0 && other > 0 {
@@ -90,9 +92,10 @@ impl Quotient {
     }
 }
 
-// Whether a row is at least a given multiple of another one, in each column, by numbers that fit.
+/// Whether a row is at least a given multiple of another one, in each column, by numbers that fit.
 fn is_at_least(row: &Row, other: &Row, ratio: Ratio) -> bool
-    ensures { result ≡ true → IsMultiple (plain_row row.now) (plain_row other.now) ratio.num ratio.den }
+    ensures { result ≡ true → IsMultiple (plain_row row.now)
+        (plain_row other.now) ratio.num ratio.den }
 {
     if ratio.num < 0 || !number_is_at_least(row.constant, other.constant, ratio) {
         return false;
@@ -105,7 +108,7 @@ fn is_at_least(row: &Row, other: &Row, ratio: Ratio) -> bool
     true
 }
 
-// Whether a number is at least a given multiple of another one, by numbers that fit.
+/// Whether a number is at least a given multiple of another one, by numbers that fit.
 fn number_is_at_least(number: i128, other: i128, ratio: Ratio) -> bool
     ensures { result ≡ true → (ratio.num *ℤ other) ≤ℤ (ratio.den *ℤ number) }
 {

@@ -1,4 +1,5 @@
-// Polyhedra.
+//! Polyhedra.
+
 ghost use Rattle.std.specs.Prelude.{◌≡◌, ◌+◌, suc, ℤ, List, length, IfOk, IfSome, SomeIff, true, false, Option, None, Some, [], ◌∷◌, ◌++◌, map, All};
 ghost use Rattle.exact128.specs.Fits.{fits};
 ghost use Rattle.linear_rows.specs.Blown.{all_of};
@@ -7,7 +8,7 @@ ghost use Rattle.termination_model.specs.ChainRows.{bottom_row};
 ghost use Rattle.linear_rows.specs.Replacing.{row_fits};
 ghost use Rattle.simplex.specs.Telling.{Tells};
 ghost use Rattle.polyhedra.specs.Telling.{TellsHead, IsSystem, HasNaturalHead, at_head, IsTarget};
-ghost use Rattle.polyhedra.specs.Making.{arity_of, SaysImage, SaysJoin, SaysKept};
+ghost use Rattle.polyhedra.specs.Making.{arity_of, SaysImage, SaysJoin, SaysWidened};
 ghost use Rattle.polyhedra.specs.PolyLaws.{HaveFit, law_of_bottoms, law_of_spoken, law_of_fits};
 
 use crate::at_once::tested;
@@ -79,11 +80,13 @@ impl Domain for Poly {
         let Kept {
             rows,
             by,
+            failed,
             weak,
             last: _,
         } = kept;
         Ok(Widened {
             value: Poly { rows },
+            failed,
             weak,
             by,
         })

@@ -1,4 +1,5 @@
-// Rows over the first columns, where the others are eliminated.
+//! Rows over the first columns, where the others are eliminated.
+
 ghost use Rattle.std.specs.Prelude.{◌≡◌, ◌+◌, ◌≤◌, suc, IfOk, length, map, take};
 ghost use Rattle.linear_rows.specs.Plain.{plain_row, plain_rows, HaveWidth};
 ghost use Rattle.polyhedra.specs.Choosing.{IsCore};
@@ -11,7 +12,7 @@ use fourier::{ElimFault, eliminate_all};
 use linear_rows::{Numbers, Row, Rows};
 use std::alloc::{AllocError, Global};
 
-// The first numbers of a row.
+/// The first numbers of a row.
 fn cut_row(alloc: Global, row: &Row, kept: usize) -> Result<Row, AllocError>
     requires { kept ≤ length row.now.coeffs }
     ensures row { IfOk result (λ r. plain_row r ≡ take (suc kept) (plain_row row.now)) }
@@ -25,11 +26,12 @@ fn cut_row(alloc: Global, row: &Row, kept: usize) -> Result<Row, AllocError>
     })
 }
 
-// The rows over the first columns.
+/// The rows over the first columns.
 fn cut(alloc: Global, rows: &Rows, kept: u32) -> Result<Rows, AllocError>
     requires kept { kept ≤ rows.now.width }
     requires width { HaveWidth rows.now.width rows.now.list }
-    ensures rows { IfOk result (λ r. plain_rows r.list ≡ map (take (suc kept)) (plain_rows rows.now.list)) }
+    ensures rows { IfOk result
+        (λ r. plain_rows r.list ≡ map (take (suc kept)) (plain_rows rows.now.list)) }
     ensures width { IfOk result (λ r. r.width ≡ kept) }
     ensures widths { IfOk result (λ r. HaveWidth kept r.list) }
 {
@@ -40,7 +42,7 @@ fn cut(alloc: Global, rows: &Rows, kept: u32) -> Result<Rows, AllocError>
     Ok(all)
 }
 
-// An irredundant part of rows, on which each of them holds.
+/// An irredundant part of rows, on which each of them holds.
 fn core(alloc: Global, rows: Rows) -> Result<Rows, AllocError>
     requires { HaveWidth rows.width rows.list }
     ensures width { IfOk result (λ r. r.width ≡ rows.width) }

@@ -1,10 +1,11 @@
-// Rows without those that the others imply.
+//! Rows without those that the others imply.
+
 ghost use Rattle.std.specs.Prelude.{◌≡◌, ◌+◌, ◌<◌, ◌≤◌, suc, IfOk, OnOk, IfSome, length, take, drop, slice_get, Some, [], ◌∷◌, ◌++◌, true, false, map};
 ghost use Rattle.linear_rows.specs.Plain.{plain_row, plain_rows, HaveWidth};
 ghost use Rattle.linear_rows.specs.Irredundant.{without_place};
-ghost use Rattle.polyhedra.specs.Choosing.{IsCore, Covers};
+ghost use Rattle.polyhedra.specs.Choosing.{IsCore, AllHoldOn};
 ghost use Rattle.polyhedra.specs.Sweeping.{IsSwept, IsNeeded, IsImplied, IsLess};
-ghost use Rattle.termination_model.specs.ChainRows.{HasPart};
+ghost use Rattle.termination_model.specs.ChainRows.{HasSublist};
 
 use crate::at_once::tested;
 use linear_rows::{Row, RowList, Rows};
@@ -18,7 +19,7 @@ struct Parted {
     row: Row,
 }
 
-// Takes the row at a place out.
+/// Takes the row at a place out.
 fn part(rows: Rows, place: usize) -> Parted
     requires place { place < length rows.list }
     requires width { HaveWidth rows.width rows.list }
@@ -40,11 +41,12 @@ fn part(rows: Rows, place: usize) -> Parted
     }
 }
 
-// Puts a row at a place.
+/// Puts a row at a place.
 fn put(others: Rows, place: usize, row: Row) -> Result<Rows, AllocError>
     requires place { place ≤ length others.list }
     ensures width { IfOk result (λ r. r.width ≡ others.width) }
-    ensures rows { IfOk result (λ r. r.list ≡ take place others.list ++ row ∷ drop place others.list) }
+    ensures rows { IfOk result
+        (λ r. r.list ≡ take place others.list ++ row ∷ drop place others.list) }
 {
     let width = others.width;
     let mut items = others.list.into_vec();
@@ -62,14 +64,17 @@ struct Swept {
     fewer: bool,
 }
 
-// Takes the row at a place out where it holds on the others.
+/// Takes the row at a place out where it holds on the others.
 fn try_row(alloc: Global, rows: Rows, place: usize) -> Result<Swept, AllocError>
     requires place { place < length rows.list }
     requires width { HaveWidth rows.width rows.list }
     ensures width { IfOk result (λ s. s.rows.width ≡ rows.width) }
     ensures widths { IfOk result (λ s. HaveWidth rows.width s.rows.list) }
-    ensures kept { IfOk result (λ s. s.fewer ≡ false → (s.rows.list ≡ rows.list) × IsNeeded rows.width (plain_rows rows.list) place) }
-    ensures out { IfOk result (λ s. s.fewer ≡ true → (plain_rows s.rows.list ≡ without_place place (plain_rows rows.list)) × IsImplied rows.width (plain_rows rows.list) place) }
+    ensures kept { IfOk result (λ s. s.fewer ≡ false → (s.rows.list ≡ rows.list)
+        × IsNeeded rows.width (plain_rows rows.list) place) }
+    ensures out { IfOk result (λ s. s.fewer ≡ true
+        → (plain_rows s.rows.list ≡ without_place place (plain_rows rows.list))
+        × IsImplied rows.width (plain_rows rows.list) place) }
 {
     let parted = part(rows, place);
     match tested(alloc, &parted.others, &parted.row)? {
@@ -88,13 +93,15 @@ fn try_row(alloc: Global, rows: Rows, place: usize) -> Result<Swept, AllocError>
     }
 }
 
-// Takes each row out that holds on the others that are left.
+/// Takes each row out that holds on the others that are left.
 fn sweep(alloc: Global, rows: Rows) -> Result<Swept, AllocError>
     requires width { HaveWidth rows.width rows.list }
     ensures width { IfOk result (λ s. s.rows.width ≡ rows.width) }
     ensures widths { IfOk result (λ s. HaveWidth s.rows.width s.rows.list) }
-    ensures less { IfOk result (λ s. IsLess rows.width (plain_rows rows.list) (plain_rows s.rows.list)) }
-    ensures swept { IfOk result (λ s. s.fewer ≡ false → IsSwept rows.width (plain_rows s.rows.list) (length (plain_rows s.rows.list))) }
+    ensures less { IfOk result
+        (λ s. IsLess rows.width (plain_rows rows.list) (plain_rows s.rows.list)) }
+    ensures swept { IfOk result (λ s. s.fewer ≡ false
+        → IsSwept rows.width (plain_rows s.rows.list) (length (plain_rows s.rows.list))) }
     ensures fewer { IfOk result (λ s. s.fewer ≡ true → length s.rows.list < length rows.list) }
 {
     let mut rows = rows;

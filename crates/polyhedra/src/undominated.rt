@@ -1,4 +1,5 @@
-// Rows without those that one other row implies.
+//! Rows without those that one other row implies.
+
 ghost use Rattle.std.specs.Prelude.{◌≡◌, ◌<◌, ◌≤◌, ◌+◌, ◌++◌, suc, take, drop, length, IfOk, true};
 ghost use Rattle.linear_rows.specs.Plain.{plain_rows, HaveWidth};
 ghost use Rattle.polyhedra.specs.Sweeping.{IsImplied, IsLess};
@@ -28,7 +29,7 @@ pub(crate) fn undominated(alloc: Global, rows: Rows) -> Result<Rows, AllocError>
     Ok(rows)
 }
 
-// The rows without the one at a place.
+/// The rows without the one at a place.
 fn without(rows: Rows, place: usize) -> Rows
     requires place { place < length rows.list }
     requires width { HaveWidth rows.width rows.list }
@@ -45,7 +46,7 @@ fn without(rows: Rows, place: usize) -> Rows
     }
 }
 
-// Whether a row holds everywhere, or is at least a multiple of one other row.
+/// Whether a row holds everywhere, or is at least a multiple of one other row.
 fn is_dominated(rows: &Rows, signs: &[Signs], place: usize) -> bool
     requires place { place < length rows.now.list }
     requires signs { length signs.now ≡ length rows.now.list }
@@ -64,7 +65,7 @@ fn is_dominated(rows: &Rows, signs: &[Signs], place: usize) -> bool
     false
 }
 
-// Whether a row is at least a multiple of the one at another place.
+/// Whether a row is at least a multiple of the one at another place.
 fn follows_from(rows: &Rows, signs: &[Signs], place: usize, other: usize) -> bool
     requires place { place < length rows.now.list }
     requires other { other < length rows.now.list }
@@ -92,7 +93,7 @@ struct Signs {
 }
 
 impl Signs {
-    // These signs, and that of a number in a column.
+    /// These signs, and that of a number in a column.
     fn with(self, column: usize, number: i128) -> Signs {
         let bit = 1 << (column % 64);
         if number < 0 {
@@ -110,13 +111,13 @@ impl Signs {
         self
     }
 
-    // Whether a row of these signs may be at least a multiple of one with those.
+    /// Whether a row of these signs may be at least a multiple of one with those.
     fn may_be_multiple(self, other: Signs) -> bool {
         self.below & other.below == self.below && other.above & self.above == other.above
     }
 }
 
-// The signs of each row.
+/// The signs of each row.
 fn signs_of(alloc: Global, rows: &Rows) -> Result<Vec<Signs>, AllocError>
     ensures { IfOk result (λ s. length s.items ≡ length rows.now.list) }
 {
@@ -127,7 +128,7 @@ fn signs_of(alloc: Global, rows: &Rows) -> Result<Vec<Signs>, AllocError>
     Ok(all)
 }
 
-// The signs of a row.
+/// The signs of a row.
 fn signs_in(row: &Row) -> Signs {
     let mut signs = Signs { below: 0, above: 0 }.with(0, row.constant);
     for k in 0..row.coeffs.len() {

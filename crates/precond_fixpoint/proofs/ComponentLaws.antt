@@ -21,7 +21,7 @@ use Rattle.precond_fixpoint.specs.Removing.{AreRanked, is_ranked}
 use Rattle.precond_fixpoint.specs.Solving.{AreLevels, AreMappingSets, AreUnions, IsColumn, IsSolution, IsSolved, allowed_family, is_member, pre_family}
 use Rattle.precond_fixpoint.proofs.AllowedLaws.{greatest_depends_below, greatest_depends_on_members}
 use Rattle.precond_fixpoint.proofs.FamilyLaws.{allowed_after, column_row, pre_after}
-use Rattle.precond_fixpoint.proofs.NoRows.{start_none, start_sets}
+use Rattle.groundness.proofs.NoRows.{start_none, start_sets}
 use Rattle.precond_fixpoint.proofs.PlaceLaws.{any_at, at_is, is_at_of, items_at, items_same, member_place, not_at, place_member, ranked_is, some_at}
 use Rattle.termination_model.specs.Grounds.{Family}
 use Rattle.termination_model.specs.View.{all_upper}

@@ -6,7 +6,6 @@ pub mod Depending
 pub mod FamilyLaws
 pub mod MemberLaws
 pub mod ModeLaws
-pub mod NoRows
 pub mod PlaceLaws
 pub mod RemoveLaws
 pub mod RoundLaws

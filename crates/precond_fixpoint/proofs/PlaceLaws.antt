@@ -9,7 +9,7 @@ use Rattle.cti_terms.specs.declared.predicates.PredId.{PredId}
 use Rattle.number_tests.specs.Levels.{coefficients_of, is_positive, items_of, natural, naturals}
 use Rattle.number_tests.specs.declared.level_part.LevelPart.{LevelPart}
 use Rattle.precond_fixpoint.specs.Removing.{is_ranked}
-use Rattle.precond_fixpoint.specs.Solving.{is_at, is_member}
+use Rattle.termination_model.specs.Chain.{is_member, is_number}
 
 pub items_at : {X : Type 0} → (xs : List (List X)) (q : ℕ) (ds : List X) → slice_get xs q ≡ Some ds → items_of xs q ≡ ds
 items_at xs q ds e = ap (λ o. unwrap_or o []) e
@@ -39,19 +39,19 @@ some_at (x ∷ xs) zero lt = (x, refl)
 some_at (x ∷ xs) (suc i) lt = some_at xs i (omega arith)
 
 -- components by the tests of their members
-pub at_is : (o : Option ℕ) (c : ℕ) → is_at o c ≡ true → o ≡ Some c
+pub at_is : (o : Option ℕ) (c : ℕ) → is_number c o ≡ true → o ≡ Some c
 at_is None c e = cc
 at_is (Some d) c e = ap Some (eqb-true d c e)
 
-pub is_at_of : (o : Option ℕ) (c : ℕ) → o ≡ Some c → is_at o c ≡ true
+pub is_at_of : (o : Option ℕ) (c : ℕ) → o ≡ Some c → is_number c o ≡ true
 is_at_of None c e = cc
 is_at_of (Some d) c e = let same : d ≡ c = cc in eq-eqb d c same
 
-pub not_at : (o : Option ℕ) (c : ℕ) → is_at o c ≡ false → o ≡ Some c → ⊥
+pub not_at : (o : Option ℕ) (c : ℕ) → is_number c o ≡ false → o ≡ Some c → ⊥
 not_at o c off on = let t = is_at_of o c on in cc
 
 -- ranks that are one more than components
-ranked_at : (of : List ℕ) (c q : ℕ) → (slice_index_or (map (λ d. d + 1) of) q 0 == c + 1) ≡ is_at (slice_get of q) c
+ranked_at : (of : List ℕ) (c q : ℕ) → (slice_index_or (map (λ d. d + 1) of) q 0 == c + 1) ≡ is_number c (slice_get of q)
 ranked_at [] c q = grind (arith, nat_tests)
 ranked_at (d ∷ of) c zero = elim (cases_eq d c) [
   | inl same ↦ eq-eqb (d + 1) (c + 1) (omega arith) ∙ sym (eq-eqb d c same)

@@ -10,7 +10,7 @@ use Rattle.termination_model.specs.Grounds.{Family, HasArity, truth_row, IsGroun
 use Rattle.termination_model.specs.Rows.{IsUpper}
 use Rattle.truth_rows.specs.Rules.{KeepsSets}
 use Rattle.precond_fixpoint.specs.Greatest.{KeepsIn, IsInsideIn, IsGreatestIn, IsBroken, AreAdmittedIn, IsWithinIn, Search, Searches, Solved, families, SomeSolved, SmallerIsBetterIn, LargerInside}
-use Rattle.termination_model.proofs.Better.{covered_at, covered_by}
+use Rattle.termination_model.proofs.Covering.{covered_at, covered_by}
 
 pub by_place : {X : Type 0} (P : X → Type 0) (xs : List X) → AllByRecursion P xs → (i : ℕ) (x : X) → slice_get xs i ≡ Some x → P x
 by_place P [] all i x e = cc

@@ -12,7 +12,7 @@ use Rattle.cti_terms.specs.Tree.{Tree}
 use Rattle.cti_terms.specs.Listing.{Listing}
 use Rattle.cti_terms.specs.declared.atom_list.Atom.{Atom}
 use Rattle.cti_terms.specs.declared.clauses.Clause.{Clause}
-use Rattle.termination_model.specs.Best.{coefficient}
+use Rattle.termination_model.specs.Coefficients.{coefficient}
 use Rattle.termination_model.specs.Grounds.{Family, HasArity, truth_row, IsGround}
 use Rattle.termination_model.specs.Rows.{Covers, IsUpper}
 use Rattle.truth_rows.specs.Rules.{KeepsSets}

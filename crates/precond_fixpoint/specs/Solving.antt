@@ -24,16 +24,8 @@ use Rattle.precond_fixpoint.specs.declared.mode.Mode.{Mode}
 use Rattle.termination_model.specs.Grounds.{Family, HasArity}
 use Rattle.termination_model.specs.Modes.{modes}
 use Rattle.termination_model.specs.View.{all_upper}
+pub use Rattle.termination_model.specs.Chain.{is_member}
 use Rattle.truth_rows.specs.Sets.{AreSets, family_of, has_row}
-
--- whether this is there and is the number
-abbrev pub is_at : Option ℕ → ℕ → Bool
-is_at None c = false
-is_at (Some d) c = d == c
-
--- whether a predicate is in the component
-abbrev pub is_member : Partition → ℕ → ℕ → Bool
-is_member comps c q = is_at (slice_get comps.of q) c
 
 -- the rows that the diagrams of the mapping of this number have, and none where there is no such mapping
 abbrev pub pre_family : List Pred → List Rows → List (List Diagram) → ℕ → Family

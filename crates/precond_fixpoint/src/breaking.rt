@@ -12,7 +12,7 @@ use std::alloc::AllocError;
 use term_size::Norm;
 use truth_rows::{atom_rows, chosen_rows, put_all_off, put_body_off, rows_of_head, without_ended};
 
-// The rows of a set on which an atom is not in one of two sets.
+/// The rows of a set on which an atom is not in one of two sets.
 fn leaving_rows<N: Norm>(
     norm: &N,
     table: &mut Table,
@@ -31,7 +31,9 @@ fn leaving_rows<N: Norm>(
     ensures known { IfOk result (IsDiagram table.new) }
     ensures rows { IfOk result (λ d. (v : ℕ → Bool)
         → IsTrue (holds table.new d v)
-        ↔ (IsTrue (holds table.old reached v) × (HasAtom (N.truth norm.now) table.old (if own then pre.now else allowed.now) v atom.now → ⊥))) }
+        ↔ (IsTrue (holds table.old reached v)
+        × (HasAtom (N.truth norm.now) table.old
+        (if own then pre.now else allowed.now) v atom.now → ⊥))) }
 {
     let wanted = chosen_rows(norm, table, own, pre, allowed, atom, vars)?;
     let outside = table.not(wanted)?;
@@ -39,10 +41,10 @@ fn leaving_rows<N: Norm>(
     Ok(rows)
 }
 
-// Values of a clause's variables that give its head just the truth rows that it has where its own row is in its set and a
-// call is reached that is not in its own, all values of the latter kind among them.
-//
-// A variable is left out once neither the head nor a call to come asks for it.
+/// Values of a clause's variables that give its head just the truth rows that it has where its own row is in its set and a
+/// call is reached that is not in its own, all values of the latter kind among them.
+///
+/// A variable is left out once neither the head nor a call to come asks for it.
 fn breaking_values<N: Norm>(
     norm: &N,
     table: &mut Table,
@@ -59,7 +61,8 @@ fn breaking_values<N: Norm>(
         → Breaks (N.truth norm.now) table.old ranks.now grounds.now pre.now allowed.now clause.now v
         → IsTrue (holds table.new d v)) }
     ensures some { IfOk result (λ d. (row : ℕ → Bool) → IsTrue (holds table.new d row)
-        → (v : ℕ → Bool) × (truth_row (N.truth norm.now) v clause.now.head ≡ truth_row (N.truth norm.now) row clause.now.head)
+        → (v : ℕ → Bool) × (truth_row (N.truth norm.now) v clause.now.head
+        ≡ truth_row (N.truth norm.now) row clause.now.head)
         × Breaks (N.truth norm.now) table.old ranks.now grounds.now pre.now allowed.now clause.now v) }
 {
     let mut ends = [0; MOST_VARIABLES as usize];
@@ -94,7 +97,8 @@ pub(crate) fn broken_rows<N: Norm>(
     ensures keeps { Keeps table.old table.new }
     ensures known { IfOk result (IsDiagram table.new) }
     ensures rows { IfOk result (λ d. (row : ℕ → Bool) → IsTrue (holds table.new d row)
-        ↔ ((v : ℕ → Bool) × Breaks (N.truth norm.now) table.old ranks.now grounds.now pre.now allowed.now clause.now v
+        ↔ ((v : ℕ → Bool) × Breaks
+        (N.truth norm.now) table.old ranks.now grounds.now pre.now allowed.now clause.now v
         × HasTruths (N.truth norm.now) v row clause.now.head.args (length clause.now.head.args))) }
 {
     let values = breaking_values(norm, table, ranks, grounds, pre, allowed, clause)?;

@@ -36,17 +36,23 @@ pub(crate) fn put_members(
     allowed: &mut [Diagram],
 ) -> Result<(), AllocError>
     requires program { IsProgram p.now }
-    requires there { (j : ℕ) (q : ThePred) → slice_get members.now j ≡ Some q → q.0 < length p.now.preds }
+    requires there { (j : ℕ) (q : ThePred) → slice_get members.now j ≡ Some q
+        → q.0 < length p.now.preds }
     requires each { length columns.now ≡ length members.now }
-    requires fit { (j : ℕ) (q : ThePred) (own : List TheDiagram) → slice_get members.now j ≡ Some q → slice_get columns.now j ≡ Some own → FitPredicate p.now.preds table.old q.0 own }
+    requires fit { (j : ℕ) (q : ThePred) (own : List TheDiagram) → slice_get members.now j ≡ Some q
+        → slice_get columns.now j ≡ Some own → FitPredicate p.now.preds table.old q.0 own }
     requires sets { AreMappingSets p.now.preds table.old sets.old }
     requires allowed { AreUnions p.now.preds table.old sets.old allowed.old }
     ensures keeps { Keeps table.old table.new }
     ensures sets { OnOk result (AreMappingSets p.now.preds table.new sets.new) }
     ensures allowed { OnOk result (AreUnions p.now.preds table.new sets.new allowed.new) }
-    ensures own { OnOk result ((families : List (List TheDiagram)) → AreColumns families members.now columns.now
-        → (j : ℕ) (q : ThePred) → slice_get members.now j ≡ Some q → IsColumn families q.0 (items_of sets.new q.0)) }
-    ensures others { OnOk result ((q : ℕ) → ((j : ℕ) (a : ThePred) → slice_get members.now j ≡ Some a → q ≡ a.0 → ⊥) → slice_get sets.new q ≡ slice_get sets.old q) }
+    ensures own { OnOk result ((families : List (List TheDiagram))
+        → AreColumns families members.now columns.now
+        → (j : ℕ) (q : ThePred) → slice_get members.now j ≡ Some q
+        → IsColumn families q.0 (items_of sets.new q.0)) }
+    ensures others { OnOk result ((q : ℕ)
+        → ((j : ℕ) (a : ThePred) → slice_get members.now j ≡ Some a → q ≡ a.0 → ⊥)
+        → slice_get sets.new q ≡ slice_get sets.old q) }
 {
     for (place, member) in members.iter().enumerate() {
         put_member(
@@ -62,7 +68,7 @@ pub(crate) fn put_members(
     Ok(())
 }
 
-// The same for one member.
+/// The same for one member.
 fn put_member(
     alloc: Global,
     p: &Program,
@@ -81,7 +87,8 @@ fn put_member(
     ensures sets { OnOk result (AreMappingSets p.now.preds table.new sets.new) }
     ensures allowed { OnOk result (AreUnions p.now.preds table.new sets.new allowed.new) }
     ensures own { OnOk result (items_of sets.new member.0 ≡ column.now) }
-    ensures others { OnOk result ((q : ℕ) → (q ≡ member.0 → ⊥) → slice_get sets.new q ≡ slice_get sets.old q) }
+    ensures others { OnOk result ((q : ℕ) → (q ≡ member.0 → ⊥)
+        → slice_get sets.new q ≡ slice_get sets.old q) }
 {
     let place = member.0 as usize;
     let arity = p.pred(member).arity;

@@ -28,14 +28,17 @@ pub(crate) fn put_covering(
     sets: &mut [Diagram],
 ) -> Result<(), AllocError>
     requires program { IsProgram p.now }
-    requires there { (j : ℕ) (a : ThePred) → slice_get members.now j ≡ Some a → a.0 < length p.now.preds }
+    requires there { (j : ℕ) (a : ThePred) → slice_get members.now j ≡ Some a
+        → a.0 < length p.now.preds }
     requires levels { HaveParts p.now.preds levels.now }
-    requires mapping { (j : ℕ) (a : ThePred) → slice_get members.now j ≡ Some a → m < length (items_of levels.now a.0) }
+    requires mapping { (j : ℕ) (a : ThePred) → slice_get members.now j ≡ Some a
+        → m < length (items_of levels.now a.0) }
     requires sets { AreSets p.now.preds table.old sets.old }
     ensures keeps { Keeps table.old table.new }
     ensures sets { OnOk result (AreSets p.now.preds table.new sets.new) }
     ensures covering { OnOk result ((j : ℕ) (a : ThePred) → slice_get members.now j ≡ Some a
-        → IsCovering p.now.preds (coefficients_of levels.now m) (family_of p.now.preds table.new sets.new) a.0) }
+        → IsCovering p.now.preds (coefficients_of levels.now m)
+        (family_of p.now.preds table.new sets.new) a.0) }
 {
     for member in members {
         cover_member(alloc, p, table, *member, levels, m, sets)?;
@@ -43,7 +46,7 @@ pub(crate) fn put_covering(
     Ok(())
 }
 
-// The same for one predicate.
+/// The same for one predicate.
 fn cover_member(
     alloc: Global,
     p: &Program,
@@ -60,8 +63,12 @@ fn cover_member(
     requires sets { AreSets p.now.preds table.old sets.old }
     ensures keeps { Keeps table.old table.new }
     ensures sets { OnOk result (AreSets p.now.preds table.new sets.new) }
-    ensures own { OnOk result (IsCovering p.now.preds (coefficients_of levels.now m) (family_of p.now.preds table.new sets.new) member.0) }
-    ensures others { OnOk result ((r : ℕ) → ((r ≡ member.0) → ⊥) → family_of p.now.preds table.new sets.new r ≡ family_of p.now.preds table.old sets.old r) }
+    ensures own { OnOk result
+        (IsCovering p.now.preds (coefficients_of levels.now m)
+        (family_of p.now.preds table.new sets.new) member.0) }
+    ensures others { OnOk result ((r : ℕ) → ((r ≡ member.0) → ⊥)
+        → family_of p.now.preds table.new sets.new r
+        ≡ family_of p.now.preds table.old sets.old r) }
 {
     let place = member.0 as usize;
     let signs = levels[place].as_slice()[m].signs(alloc)?;
@@ -70,16 +77,18 @@ fn cover_member(
     Ok(())
 }
 
-// Gives the rows that are true wherever a coefficient is positive.
-//
-// `positive` says of each argument whether its coefficient is: the clause holds for all coefficients with these signs.
+/// Gives the rows that are true wherever a coefficient is positive.
+///
+/// `positive` says of each argument whether its coefficient is: the clause holds for all coefficients with these signs.
 fn covering_rows(table: &mut Table, positive: &[bool]) -> Result<Diagram, AllocError>
     requires narrow { length positive.now ≤ MOST_ARGUMENTS }
     ensures keeps { Keeps table.old table.new }
     ensures known { IfOk result (λ d. IsDiagram table.new d) }
     ensures reads { IfOk result (λ d. ReadsBelow table.new d (length positive.now)) }
-    ensures covering { IfOk result (λ d. (coefficients : List ℕ) → map (nat_lt 0) coefficients ≡ positive.now
-        → (row : List Bool) → length row ≡ length positive.now → IsTrue (truth_rows table.new d row) ↔ Covers coefficients row) }
+    ensures covering { IfOk result (λ d. (coefficients : List ℕ)
+        → map (nat_lt 0) coefficients ≡ positive.now
+        → (row : List Bool) → length row ≡ length positive.now → IsTrue (truth_rows table.new d row)
+        ↔ Covers coefficients row) }
 {
     let mut covering = table.truth(true);
     for (argument, is_positive) in positive.iter().enumerate() {

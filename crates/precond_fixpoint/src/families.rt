@@ -34,12 +34,14 @@ pub(crate) fn member_sets<N: Norm>(
     requires setting { IsSetting setting.now table.old }
     requires component { IsComponent setting.now component.now table.old }
     requires marks { length marks.old ≡ length setting.now.program.now.clauses }
-    requires mappings { (j : ℕ) (a : ThePred) → slice_get component.now.members.now j ≡ Some a → length (items_of setting.now.levels.now a.0) ≡ count }
+    requires mappings { (j : ℕ) (a : ThePred) → slice_get component.now.members.now j ≡ Some a
+        → length (items_of setting.now.levels.now a.0) ≡ count }
     requires sets { AreSets setting.now.program.now.preds table.old sets.old }
     ensures keeps { Keeps table.old table.new }
     ensures marks { OnOk result (length marks.new ≡ length setting.now.program.now.clauses) }
     ensures sets { OnOk result (AreSets setting.now.program.now.preds table.new sets.new) }
-    ensures each { IfOk result (λ columns. length columns.items ≡ length component.now.members.now) }
+    ensures each { IfOk result
+        (λ columns. length columns.items ≡ length component.now.members.now) }
     ensures solutions { IfOk result (λ columns.
         AreSolutions (N.truth setting.now.norm.now) setting.now.program.now setting.now.ranks.now component.now.rank (rows_of setting.now table.old component.now.allowed.now) (rows_of setting.now table.old setting.now.grounds.now) setting.now.levels.now table.new count component.now.members.now columns.items) }
 {
@@ -51,16 +53,18 @@ pub(crate) fn member_sets<N: Norm>(
     Ok(columns)
 }
 
-// Adds the set of each member to its column.
+/// Adds the set of each member to its column.
 fn push_sets(
     members: &[PredId],
     sets: &[Diagram],
     columns: &mut [Sequence<Diagram>],
 ) -> Result<(), AllocError>
-    requires there { (j : ℕ) (a : ThePred) → slice_get members.now j ≡ Some a → a.0 < length sets.now }
+    requires there { (j : ℕ) (a : ThePred) → slice_get members.now j ≡ Some a
+        → a.0 < length sets.now }
     requires each { length columns.old ≡ length members.now }
     ensures each { length columns.new ≡ length columns.old }
-    ensures pushed { OnOk result ((families : List (List TheDiagram)) → AreColumns families members.now columns.old
+    ensures pushed { OnOk result ((families : List (List TheDiagram))
+        → AreColumns families members.now columns.old
         → AreColumns (families ++ sets.now ∷ []) members.now columns.new) }
 {
     for (place, member) in members.iter().enumerate() {
@@ -69,11 +73,13 @@ fn push_sets(
     Ok(())
 }
 
-// Adds a set to the column of this number.
+/// Adds a set to the column of this number.
 fn push_at(columns: &mut [Sequence<Diagram>], place: usize, set: Diagram) -> Result<(), AllocError>
     requires { place < length columns.old }
     ensures each { length columns.new ≡ length columns.old }
-    ensures pushed { OnOk result (columns.new ≡ slice_set columns.old place (slice_index_or columns.old place [] ++ set ∷ [])) }
+    ensures pushed { OnOk result
+        (columns.new ≡ slice_set columns.old place
+        (slice_index_or columns.old place [] ++ set ∷ [])) }
 {
     let column = &mut columns[place];
     column.push(set)?;

@@ -30,11 +30,13 @@ pub(crate) fn greatest_sets<N: Norm>(
     requires setting { IsSetting setting.now table.old }
     requires component { IsComponent setting.now component.now table.old }
     requires marks { length marks.old ≡ length setting.now.program.now.clauses }
-    requires mapping { (j : ℕ) (a : ThePred) → slice_get component.now.members.now j ≡ Some a → m < length (items_of setting.now.levels.now a.0) }
+    requires mapping { (j : ℕ) (a : ThePred) → slice_get component.now.members.now j ≡ Some a
+        → m < length (items_of setting.now.levels.now a.0) }
     requires sets { AreSets setting.now.program.now.preds table.old sets.old }
     ensures keeps { Keeps table.old table.new }
     ensures marks { OnOk result (length marks.new ≡ length setting.now.program.now.clauses) }
-    ensures solution { OnOk result (IsSolution (N.truth setting.now.norm.now) setting.now.program.now setting.now.ranks.now component.now.rank (rows_of setting.now table.old component.now.allowed.now) (rows_of setting.now table.old setting.now.grounds.now) setting.now.levels.now table.new m sets.new) }
+    ensures solution { OnOk result
+        (IsSolution (N.truth setting.now.norm.now) setting.now.program.now setting.now.ranks.now component.now.rank (rows_of setting.now table.old component.now.allowed.now) (rows_of setting.now table.old setting.now.grounds.now) setting.now.levels.now table.new m sets.new) }
 {
     put_covering(
         alloc,

@@ -23,4 +23,6 @@ mod solving;
 
 pub use mode::Mode;
 pub use preconditions::Preconditions;
+pub use ranks::component_ranks;
+pub use setting::Setting;
 pub use solving::{solve_component, solve_levels};

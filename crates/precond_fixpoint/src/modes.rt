@@ -55,7 +55,7 @@ pub(crate) fn minimal_modes(
     minimal_lists(alloc, admitted.as_slice())
 }
 
-// Those of the lists whose rows a set has.
+/// Those of the lists whose rows a set has.
 fn admitted_lists(
     alloc: Global,
     table: &Table,
@@ -66,7 +66,8 @@ fn admitted_lists(
     requires known { IsDiagram table.now set }
     requires reads { ReadsBelow table.now set arity }
     requires narrow { arity ≤ MOST_ARGUMENTS }
-    ensures { IfOk result (λ admitted. admitted.items ≡ filter (λ args. truth_rows table.now set (mode_row args 1 arity)) lists.items) }
+    ensures { IfOk result (λ admitted. admitted.items ≡ filter
+        (λ args. truth_rows table.now set (mode_row args 1 arity)) lists.items) }
 {
     let mut admitted = Vec::new(alloc);
     for args in lists {
@@ -77,10 +78,11 @@ fn admitted_lists(
     Ok(admitted)
 }
 
-// Those of the lists of which no shorter one is part.
+/// Those of the lists of which no shorter one is part.
 fn minimal_lists(alloc: Global, lists: &[Sequence<u32>]) -> Result<Sequence<Mode>, AllocError>
     ensures { IfOk result (λ list. map arguments_of list
-        ≡ filter (λ args. not (list_any (λ less. nat_lt (length less) (length args) && is_part less args) lists.now)) lists.now) }
+        ≡ filter (λ args. not (list_any (λ less. nat_lt (length less) (length args)
+        && is_part less args) lists.now)) lists.now) }
 {
     let mut minimal = Sequence::new(alloc);
     for args in lists {
@@ -92,7 +94,7 @@ fn minimal_lists(alloc: Global, lists: &[Sequence<u32>]) -> Result<Sequence<Mode
     Ok(minimal)
 }
 
-// Adds the mode of these arguments.
+/// Adds the mode of these arguments.
 fn add_mode(alloc: Global, list: &mut Sequence<Mode>, args: &[u32]) -> Result<(), AllocError>
     ensures { OnOk result (map arguments_of list.new ≡ map arguments_of list.old ++ args.now ∷ []) }
 {
@@ -102,9 +104,10 @@ fn add_mode(alloc: Global, list: &mut Sequence<Mode>, args: &[u32]) -> Result<()
     })
 }
 
-// Whether a shorter one of the lists is part of this one.
+/// Whether a shorter one of the lists is part of this one.
 fn has_less(lists: &[Sequence<u32>], args: &[u32]) -> bool
-    ensures { result ≡ list_any (λ less. nat_lt (length less) (length args.now) && is_part less args.now) lists.now }
+    ensures { result ≡ list_any (λ less. nat_lt (length less) (length args.now)
+        && is_part less args.now) lists.now }
 {
     for less in lists {
         if less.len() < args.len() && is_part(less.as_slice(), args) {
@@ -114,7 +117,7 @@ fn has_less(lists: &[Sequence<u32>], args: &[u32]) -> bool
     false
 }
 
-// Whether each number of a list is in another.
+/// Whether each number of a list is in another.
 fn is_part(part: &[u32], whole: &[u32]) -> bool
     ensures { result ≡ is_part part.now whole.now }
 {

@@ -8,7 +8,7 @@ use cti_terms::{PredId, Program};
 use std::alloc::{AllocError, Global};
 
 /// Gives for each predicate one more than the number of its component.
-pub(crate) fn component_ranks(
+pub fn component_ranks(
     alloc: Global,
     p: &Program,
     comps: &Components,

@@ -20,7 +20,7 @@ use groundness::{ClauseLists, Marks};
 use std::alloc::AllocError;
 use term_size::Norm;
 
-// Removes the rows of a clause's head from which the rule is broken, and says whether there was one.
+/// Removes the rows of a clause's head from which the rule is broken, and says whether there was one.
 fn remove_rows<N: Norm>(
     setting: &Setting<N>,
     component: &Component,
@@ -34,16 +34,27 @@ fn remove_rows<N: Norm>(
     requires first { 1 ≤ k }
     requires last { k ≤ length setting.now.program.now.clauses }
     ensures keeps { Keeps table.old table.new }
-    ensures sets { IfOk result (λ shrank. AreSets setting.now.program.now.preds table.new sets.new) }
-    ensures removed { IfOk result (λ shrank. (c : Clause) → slice_get setting.now.program.now.clauses (k - 1) ≡ Some c
+    ensures sets { IfOk result
+        (λ shrank. AreSets setting.now.program.now.preds table.new sets.new) }
+    ensures removed { IfOk result (λ shrank. (c : Clause)
+        → slice_get setting.now.program.now.clauses (k - 1) ≡ Some c
         → RemovesBroken (N.truth setting.now.norm.now) setting.now.program.now table.old table.new setting.now.ranks.now setting.now.grounds.now component.now.allowed.now sets.old sets.new c) }
-    ensures inside { IfOk result (λ shrank. IsInside (rows_of setting.now table.new sets.new) (rows_of setting.now table.old sets.old)) }
-    ensures less { IfOk result (λ shrank. shrank ≡ true → all_present setting.now.program.now.preds table.new sets.new < all_present setting.now.program.now.preds table.old sets.old) }
+    ensures inside { IfOk result
+        (λ shrank. IsInside (rows_of setting.now table.new sets.new)
+        (rows_of setting.now table.old sets.old)) }
+    ensures less { IfOk result (λ shrank. shrank ≡ true
+        → all_present setting.now.program.now.preds table.new sets.new < all_present setting.now.program.now.preds table.old sets.old) }
     ensures same { IfOk result (λ shrank. shrank ≡ false → sets.new ≡ sets.old) }
-    ensures others { IfOk result (λ shrank. (c : Clause) → slice_get setting.now.program.now.clauses (k - 1) ≡ Some c
-        → (r : ℕ) → ((r ≡ c.head.pred.0) → ⊥) → rows_of setting.now table.new sets.new r ≡ rows_of setting.now table.old sets.old r) }
-    ensures rule { IfOk result (λ shrank. (c : Clause) → slice_get setting.now.program.now.clauses (k - 1) ≡ Some c → (shrank ≡ true → IsApart c c.head.pred.0)
-        → KeepsSets (N.truth setting.now.norm.now) (rows_of setting.now table.new sets.new) (rows_of setting.now table.old component.now.allowed.now) (rows_of setting.now table.old setting.now.grounds.now)
+    ensures others { IfOk result (λ shrank. (c : Clause)
+        → slice_get setting.now.program.now.clauses (k - 1) ≡ Some c
+        → (r : ℕ) → ((r ≡ c.head.pred.0) → ⊥)
+        → rows_of setting.now table.new sets.new r ≡ rows_of setting.now table.old sets.old r) }
+    ensures rule { IfOk result (λ shrank. (c : Clause)
+        → slice_get setting.now.program.now.clauses (k - 1) ≡ Some c
+        → (shrank ≡ true → IsApart c c.head.pred.0)
+        → KeepsSets (N.truth setting.now.norm.now) (rows_of setting.now table.new sets.new)
+        (rows_of setting.now table.old component.now.allowed.now)
+        (rows_of setting.now table.old setting.now.grounds.now)
         (λ q. same_rank setting.now.ranks.now q c.head.pred.0) c) }
 {
     let _program = setting.program.preds();
@@ -67,7 +78,7 @@ fn remove_rows<N: Norm>(
     Ok(true)
 }
 
-// The same for a clause of the component. It does nothing for any other clause.
+/// The same for a clause of the component. It does nothing for any other clause.
 fn remove_member<N: Norm>(
     setting: &Setting<N>,
     component: &Component,
@@ -81,15 +92,27 @@ fn remove_member<N: Norm>(
     requires first { 1 ≤ k }
     requires last { k ≤ length setting.now.program.now.clauses }
     ensures keeps { Keeps table.old table.new }
-    ensures sets { IfOk result (λ shrank. AreSets setting.now.program.now.preds table.new sets.new) }
-    ensures needed { IfOk result (λ shrank. Needed (N.truth setting.now.norm.now) setting.now.program.now table.old table.new setting.now.ranks.now component.now.rank setting.now.grounds.now component.now.allowed.now sets.old sets.new) }
-    ensures inside { IfOk result (λ shrank. IsInside (rows_of setting.now table.new sets.new) (rows_of setting.now table.old sets.old)) }
-    ensures less { IfOk result (λ shrank. shrank ≡ true → all_present setting.now.program.now.preds table.new sets.new < all_present setting.now.program.now.preds table.old sets.old) }
+    ensures sets { IfOk result
+        (λ shrank. AreSets setting.now.program.now.preds table.new sets.new) }
+    ensures needed { IfOk result
+        (λ shrank. Needed (N.truth setting.now.norm.now) setting.now.program.now table.old table.new setting.now.ranks.now component.now.rank setting.now.grounds.now component.now.allowed.now sets.old sets.new) }
+    ensures inside { IfOk result
+        (λ shrank. IsInside (rows_of setting.now table.new sets.new)
+        (rows_of setting.now table.old sets.old)) }
+    ensures less { IfOk result (λ shrank. shrank ≡ true
+        → all_present setting.now.program.now.preds table.new sets.new < all_present setting.now.program.now.preds table.old sets.old) }
     ensures same { IfOk result (λ shrank. shrank ≡ false → sets.new ≡ sets.old) }
-    ensures others { IfOk result (λ shrank. (c : Clause) → slice_get setting.now.program.now.clauses (k - 1) ≡ Some c
-        → (r : ℕ) → ((r ≡ c.head.pred.0) → ⊥) → rows_of setting.now table.new sets.new r ≡ rows_of setting.now table.old sets.old r) }
-    ensures rule { IfOk result (λ shrank. (c : Clause) → slice_get setting.now.program.now.clauses (k - 1) ≡ Some c → (shrank ≡ true → IsApart c c.head.pred.0) → is_ranked setting.now.ranks.now component.now.rank c.head.pred.0 ≡ true
-        → KeepsSets (N.truth setting.now.norm.now) (rows_of setting.now table.new sets.new) (rows_of setting.now table.old component.now.allowed.now) (rows_of setting.now table.old setting.now.grounds.now)
+    ensures others { IfOk result (λ shrank. (c : Clause)
+        → slice_get setting.now.program.now.clauses (k - 1) ≡ Some c
+        → (r : ℕ) → ((r ≡ c.head.pred.0) → ⊥)
+        → rows_of setting.now table.new sets.new r ≡ rows_of setting.now table.old sets.old r) }
+    ensures rule { IfOk result (λ shrank. (c : Clause)
+        → slice_get setting.now.program.now.clauses (k - 1) ≡ Some c
+        → (shrank ≡ true → IsApart c c.head.pred.0)
+        → is_ranked setting.now.ranks.now component.now.rank c.head.pred.0 ≡ true
+        → KeepsSets (N.truth setting.now.norm.now) (rows_of setting.now table.new sets.new)
+        (rows_of setting.now table.old component.now.allowed.now)
+        (rows_of setting.now table.old setting.now.grounds.now)
         (is_ranked setting.now.ranks.now component.now.rank) c) }
 {
     let _program = setting.program.preds();
@@ -119,8 +142,14 @@ pub(crate) fn shrink<N: Norm>(
     ensures keeps { Keeps table.old table.new }
     ensures marks { OnOk result (length marks.new ≡ length setting.now.program.now.clauses) }
     ensures sets { OnOk result (AreSets setting.now.program.now.preds table.new sets.new) }
-    ensures greatest { OnOk result ((coefficients : ℕ → List ℕ) → AreCovering setting.now.program.now.preds (is_ranked setting.now.ranks.now component.now.rank) coefficients (rows_of setting.now table.old sets.old)
-        → IsGreatestIn (N.truth setting.now.norm.now) setting.now.program.now (is_ranked setting.now.ranks.now component.now.rank) (rows_of setting.now table.old component.now.allowed.now) (rows_of setting.now table.old setting.now.grounds.now) coefficients
+    ensures greatest { OnOk result ((coefficients : ℕ → List ℕ)
+        → AreCovering setting.now.program.now.preds
+        (is_ranked setting.now.ranks.now component.now.rank) coefficients
+        (rows_of setting.now table.old sets.old)
+        → IsGreatestIn (N.truth setting.now.norm.now) setting.now.program.now
+        (is_ranked setting.now.ranks.now component.now.rank)
+        (rows_of setting.now table.old component.now.allowed.now)
+        (rows_of setting.now table.old setting.now.grounds.now) coefficients
         (rows_of setting.now table.new sets.new)) }
 {
     mark_members(setting.heads, component.members, marks)?;
@@ -128,7 +157,7 @@ pub(crate) fn shrink<N: Norm>(
     Ok(())
 }
 
-// Marks the clauses of these predicates.
+/// Marks the clauses of these predicates.
 fn mark_members(
     heads: &ClauseLists,
     members: &[PredId],
@@ -136,7 +165,8 @@ fn mark_members(
 ) -> Result<(), AllocError>
     requires { (q j : ℕ) → HasUser heads.now q j → j < length marks.old }
     ensures each { length marks.new ≡ length marks.old }
-    ensures marked { OnOk result ((i j : ℕ) (a : ThePred) → slice_get members.now i ≡ Some a → HasUser heads.now a.0 j → IsMarked marks.new j) }
+    ensures marked { OnOk result ((i j : ℕ) (a : ThePred) → slice_get members.now i ≡ Some a
+        → HasUser heads.now a.0 j → IsMarked marks.new j) }
 {
     for member in members {
         marks.mark_all(heads.of(*member))?;
@@ -144,8 +174,8 @@ fn mark_members(
     Ok(())
 }
 
-// Takes the next mark away, removes the broken rows of its clause and marks the clauses that call the head's predicate
-// where there was one. It says whether there was a mark.
+/// Takes the next mark away, removes the broken rows of its clause and marks the clauses that call the head's predicate
+/// where there was one. It says whether there was a mark.
 fn remove_next<N: Norm>(
     setting: &Setting<N>,
     component: &Component,
@@ -157,14 +187,21 @@ fn remove_next<N: Norm>(
     requires component { IsComponent setting.now component.now table.old }
     requires marks { length marks.old ≡ length setting.now.program.now.clauses }
     requires sets { AreSets setting.now.program.now.preds table.old sets.old }
-    requires kept { UnmarkedKeep (N.truth setting.now.norm.now) setting.now.program.now setting.now.ranks.now component.now.rank marks.old (rows_of setting.now table.old sets.old) (rows_of setting.now table.old component.now.allowed.now) (rows_of setting.now table.old setting.now.grounds.now) }
+    requires kept { UnmarkedKeep
+        (N.truth setting.now.norm.now) setting.now.program.now setting.now.ranks.now component.now.rank marks.old (rows_of setting.now table.old sets.old) (rows_of setting.now table.old component.now.allowed.now) (rows_of setting.now table.old setting.now.grounds.now) }
     ensures keeps { Keeps table.old table.new }
-    ensures marks { IfOk result (λ more. length marks.new ≡ length setting.now.program.now.clauses) }
+    ensures marks { IfOk result
+        (λ more. length marks.new ≡ length setting.now.program.now.clauses) }
     ensures sets { IfOk result (λ more. AreSets setting.now.program.now.preds table.new sets.new) }
-    ensures needed { IfOk result (λ more. Needed (N.truth setting.now.norm.now) setting.now.program.now table.old table.new setting.now.ranks.now component.now.rank setting.now.grounds.now component.now.allowed.now sets.old sets.new) }
-    ensures inside { IfOk result (λ more. IsInside (rows_of setting.now table.new sets.new) (rows_of setting.now table.old sets.old)) }
-    ensures kept { IfOk result (λ more. UnmarkedKeep (N.truth setting.now.norm.now) setting.now.program.now setting.now.ranks.now component.now.rank marks.new (rows_of setting.now table.new sets.new) (rows_of setting.now table.old component.now.allowed.now) (rows_of setting.now table.old setting.now.grounds.now)) }
-    ensures less { IfOk result (λ more. more ≡ true → work setting.now.program.now.preds table.new sets.new marks.new < work setting.now.program.now.preds table.old sets.old marks.old) }
+    ensures needed { IfOk result
+        (λ more. Needed (N.truth setting.now.norm.now) setting.now.program.now table.old table.new setting.now.ranks.now component.now.rank setting.now.grounds.now component.now.allowed.now sets.old sets.new) }
+    ensures inside { IfOk result
+        (λ more. IsInside (rows_of setting.now table.new sets.new)
+        (rows_of setting.now table.old sets.old)) }
+    ensures kept { IfOk result
+        (λ more. UnmarkedKeep (N.truth setting.now.norm.now) setting.now.program.now setting.now.ranks.now component.now.rank marks.new (rows_of setting.now table.new sets.new) (rows_of setting.now table.old component.now.allowed.now) (rows_of setting.now table.old setting.now.grounds.now)) }
+    ensures less { IfOk result (λ more. more ≡ true
+        → work setting.now.program.now.preds table.new sets.new marks.new < work setting.now.program.now.preds table.old sets.old marks.old) }
     ensures done { IfOk result (λ more. more ≡ false → (j : ℕ) → IsMarked marks.new j → ⊥) }
 {
     let Some(k) = marks.take() else {

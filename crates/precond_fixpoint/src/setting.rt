@@ -7,21 +7,23 @@ use groundness::ClauseLists;
 use number_tests::LevelPart;
 use sequences::Sequence;
 
-/// A program with what stays the same while the preconditions of its predicates are searched for.
-pub(crate) struct Setting<'a, N> {
-    pub(crate) program: &'a Program,
-    pub(crate) comps: &'a Components,
-    pub(crate) norm: &'a N,
-    /// For each predicate one more than the number of its component.
-    pub(crate) ranks: &'a [u32],
+/// A program with what stays the same while the preconditions of its predicates are searched for, one component after
+/// the other.
+pub struct Setting<'a, N> {
+    pub program: &'a Program,
+    pub comps: &'a Components,
+    pub norm: &'a N,
+    /// For each predicate one more than the number of its component, as `component_ranks` gives them.
+    pub ranks: &'a [u32],
     /// For each predicate the clauses that have it in their heads.
-    pub(crate) heads: &'a ClauseLists,
+    pub heads: &'a ClauseLists,
     /// For each predicate the clauses that have it in their bodies.
-    pub(crate) users: &'a ClauseLists,
+    pub users: &'a ClauseLists,
     /// For each predicate its ground rows.
-    pub(crate) grounds: &'a [Diagram],
-    /// For each predicate its part in each mapping of its component.
-    pub(crate) levels: &'a [Sequence<LevelPart>],
+    pub grounds: &'a [Diagram],
+    /// For each predicate its part in each mapping of its component. It may be empty for
+    /// components that are not searched for.
+    pub levels: &'a [Sequence<LevelPart>],
 }
 
 impl<N> Drop for Setting<'_, N> {

@@ -46,8 +46,10 @@ pub fn solve_levels<N: Norm>(
     ensures keeps { Keeps table.old table.new }
     ensures sets { IfOk result (λ pre. AreMappingSets p.now.preds table.new pre.sets) }
     ensures greatest { IfOk result (λ pre. (c : ℕ) → c < length comps.now.members
-        → IsSolved (N.truth norm.now) p.now comps.now (family_of p.now.preds table.old grounds.now) levels.now table.new pre.sets c) }
-    ensures modes { IfOk result (λ pre. AreModes p.now.preds (allowed_family p.now.preds table.new pre.sets) pre.modes) }
+        → IsSolved (N.truth norm.now) p.now comps.now
+        (family_of p.now.preds table.old grounds.now) levels.now table.new pre.sets c) }
+    ensures modes { IfOk result
+        (λ pre. AreModes p.now.preds (allowed_family p.now.preds table.new pre.sets) pre.modes) }
 {
     let _program = p.preds();
     let ranks = component_ranks(alloc, p, comps)?;
@@ -66,7 +68,7 @@ pub fn solve_levels<N: Norm>(
     solve_components(alloc, &setting, table)
 }
 
-// The same in a setting.
+/// The same in a setting.
 fn solve_components<N: Norm>(
     alloc: Global,
     setting: &Setting<N>,
@@ -74,10 +76,14 @@ fn solve_components<N: Norm>(
 ) -> Result<Preconditions, AllocError>
     requires setting { IsSetting setting.now table.old }
     ensures keeps { Keeps table.old table.new }
-    ensures sets { IfOk result (λ pre. AreMappingSets setting.now.program.now.preds table.new pre.sets) }
+    ensures sets { IfOk result
+        (λ pre. AreMappingSets setting.now.program.now.preds table.new pre.sets) }
     ensures greatest { IfOk result (λ pre. (c : ℕ) → c < length setting.now.comps.now.members
-        → IsSolved (N.truth setting.now.norm.now) setting.now.program.now setting.now.comps.now (rows_of setting.now table.old setting.now.grounds.now) setting.now.levels.now table.new pre.sets c) }
-    ensures modes { IfOk result (λ pre. AreModes setting.now.program.now.preds (allowed_family setting.now.program.now.preds table.new pre.sets) pre.modes) }
+        → IsSolved (N.truth setting.now.norm.now) setting.now.program.now setting.now.comps.now
+        (rows_of setting.now table.old setting.now.grounds.now) setting.now.levels.now table.new pre.sets c) }
+    ensures modes { IfOk result
+        (λ pre. AreModes setting.now.program.now.preds
+        (allowed_family setting.now.program.now.preds table.new pre.sets) pre.modes) }
 {
     let mut sets = no_sets(alloc, setting.program.preds() as usize)?;
     let modes = solve_all(alloc, setting, table, &mut sets)?;
@@ -87,7 +93,7 @@ fn solve_components<N: Norm>(
     })
 }
 
-// Puts the sets of all components into their places, which are empty before, and gives the modes that they allow.
+/// Puts the sets of all components into their places, which are empty before, and gives the modes that they allow.
 fn solve_all<N: Norm>(
     alloc: Global,
     setting: &Setting<N>,
@@ -97,10 +103,14 @@ fn solve_all<N: Norm>(
     requires setting { IsSetting setting.now table.old }
     requires empty { sets.old ≡ replicate (length setting.now.program.now.preds) [] }
     ensures keeps { Keeps table.old table.new }
-    ensures sets { IfOk result (λ modes. AreMappingSets setting.now.program.now.preds table.new sets.new) }
+    ensures sets { IfOk result
+        (λ modes. AreMappingSets setting.now.program.now.preds table.new sets.new) }
     ensures solved { IfOk result (λ modes. (c : ℕ) → c < length setting.now.comps.now.members
-        → IsSolved (N.truth setting.now.norm.now) setting.now.program.now setting.now.comps.now (rows_of setting.now table.old setting.now.grounds.now) setting.now.levels.now table.new sets.new c) }
-    ensures modes { IfOk result (AreModes setting.now.program.now.preds (allowed_family setting.now.program.now.preds table.new sets.new)) }
+        → IsSolved (N.truth setting.now.norm.now) setting.now.program.now setting.now.comps.now
+        (rows_of setting.now table.old setting.now.grounds.now) setting.now.levels.now table.new sets.new c) }
+    ensures modes { IfOk result
+        (AreModes setting.now.program.now.preds
+        (allowed_family setting.now.program.now.preds table.new sets.new)) }
 {
     let count = setting.program.preds() as usize;
     let mut allowed = vec![in alloc; table.truth(false); count]?;
@@ -108,7 +118,7 @@ fn solve_all<N: Norm>(
     all_modes(alloc, table, setting.program, &allowed)
 }
 
-// Solves the components in turn, callees first.
+/// Solves the components in turn, callees first.
 fn solve_in_turn<N: Norm>(
     alloc: Global,
     setting: &Setting<N>,
@@ -121,16 +131,18 @@ fn solve_in_turn<N: Norm>(
     requires allowed { AreUnions setting.now.program.now.preds table.old sets.old allowed.old }
     ensures keeps { Keeps table.old table.new }
     ensures sets { OnOk result (AreMappingSets setting.now.program.now.preds table.new sets.new) }
-    ensures allowed { OnOk result (AreUnions setting.now.program.now.preds table.new sets.new allowed.new) }
+    ensures allowed { OnOk result
+        (AreUnions setting.now.program.now.preds table.new sets.new allowed.new) }
     ensures solved { OnOk result ((c : ℕ) → c < length setting.now.comps.now.members
-        → IsSolved (N.truth setting.now.norm.now) setting.now.program.now setting.now.comps.now (rows_of setting.now table.old setting.now.grounds.now) setting.now.levels.now table.new sets.new c) }
+        → IsSolved (N.truth setting.now.norm.now) setting.now.program.now setting.now.comps.now
+        (rows_of setting.now table.old setting.now.grounds.now) setting.now.levels.now table.new sets.new c) }
 {
     let mut marks = Marks::none(alloc, setting.program.clauses())?;
     let mut pre = Vec::from_slice(alloc, allowed)?;
     solve_each(alloc, setting, table, &mut marks, &mut pre, sets, allowed)
 }
 
-// The same with marks and sets for the search of one component after the other. What they hold before does not matter.
+/// The same with marks and sets for the search of one component after the other. What they hold before does not matter.
 fn solve_each<N: Norm>(
     alloc: Global,
     setting: &Setting<N>,
@@ -147,21 +159,24 @@ fn solve_each<N: Norm>(
     requires allowed { AreUnions setting.now.program.now.preds table.old sets.old allowed.old }
     ensures keeps { Keeps table.old table.new }
     ensures sets { OnOk result (AreMappingSets setting.now.program.now.preds table.new sets.new) }
-    ensures allowed { OnOk result (AreUnions setting.now.program.now.preds table.new sets.new allowed.new) }
+    ensures allowed { OnOk result
+        (AreUnions setting.now.program.now.preds table.new sets.new allowed.new) }
     ensures solved { OnOk result ((c : ℕ) → c < length setting.now.comps.now.members
-        → IsSolved (N.truth setting.now.norm.now) setting.now.program.now setting.now.comps.now (rows_of setting.now table.old setting.now.grounds.now) setting.now.levels.now table.new sets.new c) }
+        → IsSolved (N.truth setting.now.norm.now) setting.now.program.now setting.now.comps.now
+        (rows_of setting.now table.old setting.now.grounds.now) setting.now.levels.now table.new sets.new c) }
 {
     for c in 0..setting.comps.count() {
-        solve_in(alloc, setting, table, c, marks, pre, sets, allowed)?;
+        solve_component(alloc, setting, table, c, marks, pre, sets, allowed)?;
     }
     Ok(())
 }
 
-// Puts into the places of a component's members the greatest sets for each of its mappings, and what these allow.
-//
-// `sets` and `allowed` are those of the components that it calls; the places of other predicates stay. `pre` has a set for
-// each predicate, and is used for the members' sets of one mapping at a time.
-fn solve_in<N: Norm>(
+/// Puts into the places of a component's members its greatest preconditions for each of its mappings, and what these allow.
+///
+/// `sets` and `allowed` are those of the components that it calls. What the places of members hold before counts nothing,
+/// nor which marks there are, and the places of other predicates stay. `pre` has a set for each predicate, whatever it is,
+/// and is used for the members' sets of one mapping at a time. Out of memory, the table keeps its earlier diagrams.
+pub fn solve_component<N: Norm>(
     alloc: Global,
     setting: &Setting<N>,
     table: &mut Table,
@@ -181,9 +196,13 @@ fn solve_in<N: Norm>(
     ensures marks { OnOk result (length marks.new ≡ length setting.now.program.now.clauses) }
     ensures pre { OnOk result (AreSets setting.now.program.now.preds table.new pre.new) }
     ensures sets { OnOk result (AreMappingSets setting.now.program.now.preds table.new sets.new) }
-    ensures allowed { OnOk result (AreUnions setting.now.program.now.preds table.new sets.new allowed.new) }
-    ensures solved { OnOk result (IsSolved (N.truth setting.now.norm.now) setting.now.program.now setting.now.comps.now (rows_of setting.now table.old setting.now.grounds.now) setting.now.levels.now table.new sets.new c) }
-    ensures others { OnOk result ((q : ℕ) → (IsIn setting.now.comps.now c q → ⊥) → slice_get sets.new q ≡ slice_get sets.old q) }
+    ensures allowed { OnOk result
+        (AreUnions setting.now.program.now.preds table.new sets.new allowed.new) }
+    ensures solved { OnOk result
+        (IsSolved (N.truth setting.now.norm.now) setting.now.program.now setting.now.comps.now
+        (rows_of setting.now table.old setting.now.grounds.now) setting.now.levels.now table.new sets.new c) }
+    ensures others { OnOk result ((q : ℕ) → (IsIn setting.now.comps.now c q → ⊥)
+        → slice_get sets.new q ≡ slice_get sets.old q) }
 {
     let _count = setting.comps.count();
     let members = setting.comps.members(c);
@@ -204,53 +223,4 @@ fn solve_in<N: Norm>(
         allowed,
     )?;
     Ok(())
-}
-
-/// Puts into the places of a component's members its greatest preconditions for each of its mappings, and what these allow.
-///
-/// `sets` and `allowed` are those of the components that it calls, `grounds` and `levels` its members' too. The places of
-/// other predicates stay. Out of memory, the table keeps its earlier diagrams.
-pub fn solve_component<N: Norm>(
-    alloc: Global,
-    p: &Program,
-    comps: &Components,
-    c: u32,
-    norm: &N,
-    table: &mut Table,
-    grounds: &[Diagram],
-    levels: &[Sequence<LevelPart>],
-    sets: &mut [Sequence<Diagram>],
-    allowed: &mut [Diagram],
-) -> Result<(), AllocError>
-    requires components { AreComponents p.now comps.now }
-    requires inner { c < length comps.now.members }
-    requires grounds { AreSets p.now.preds table.old grounds.now }
-    requires levels { AreLevels p.now comps.now levels.now }
-    requires sets { AreMappingSets p.now.preds table.old sets.old }
-    requires allowed { AreUnions p.now.preds table.old sets.old allowed.old }
-    ensures keeps { Keeps table.old table.new }
-    ensures sets { OnOk result (AreMappingSets p.now.preds table.new sets.new) }
-    ensures allowed { OnOk result (AreUnions p.now.preds table.new sets.new allowed.new) }
-    ensures solved { OnOk result (IsSolved (N.truth norm.now) p.now comps.now (family_of p.now.preds table.old grounds.now) levels.now table.new sets.new c) }
-    ensures others { OnOk result ((q : ℕ) → (IsIn comps.now c q → ⊥) → slice_get sets.new q ≡ slice_get sets.old q) }
-{
-    let _program = p.preds();
-    let ranks = component_ranks(alloc, p, comps)?;
-    let heads = heads(alloc, p)?;
-    let users = users(alloc, p)?;
-    let setting = Setting {
-        program: p,
-        comps,
-        norm,
-        ranks: &ranks,
-        heads: &heads,
-        users: &users,
-        grounds,
-        levels,
-    };
-    let mut marks = Marks::none(alloc, p.clauses())?;
-    let mut pre = Vec::from_slice(alloc, allowed)?;
-    solve_in(
-        alloc, &setting, table, c, &mut marks, &mut pre, sets, allowed,
-    )
 }

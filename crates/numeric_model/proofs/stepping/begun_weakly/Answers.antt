@@ -33,7 +33,7 @@ returns-in_ok-push-in-Some g c =
     let bottom : IsBottomAt (map plain_row items) c.in-Some.place = c.in-Some.ensures.bottom in
     let at : slice_get rows c.in-Some.place ≡ Some (bottom_row bottom.0) = ap (λ (rs : List (List ℤ)). slice_get rs c.in-Some.place) (sym same) ∙ bottom.1 in
     let step = nought_kept g.D.Domain.width g.D.Domain.listed g.D.Domain.speaks c.args.system.now c.requires.system c.args.pass old image
-    (g.met.D.Domain.laws.0) c.args.image.now.weak c.requires.image c.requires.filled rows c.in_ok-kept.kept.weak c.in_ok-kept.kept.by c.in_ok-kept.ensures.rows c.in-Some.place bottom.0 at c.proof_at.result c.proof_at.ensures in
+    (g.met.D.Domain.laws.0) c.args.image.now.weak c.requires.image c.requires.filled rows c.in_ok-kept.kept.failed c.in_ok-kept.kept.weak c.in_ok-kept.kept.by c.in_ok-kept.ensures.rows c.in-Some.place bottom.0 at c.proof_at.result c.proof_at.ensures in
     let by : c.push.new.self ≡ c.proof_at.result ∷ [] = c.in_ok-push-in-Some.ensures.ok ∙ ap (λ (xs : List Multipliers). xs ++ c.proof_at.result ∷ []) c.new-by.ensures in
     subst (λ (b : List Multipliers). IsStep g.D.Domain.width g.D.Domain.listed g.D.Domain.speaks c.args.system.now c.args.pass old image Bottom (record { how = Nought; weak = false; next = None; filled = Bottom; by = b })) (sym by) step
 
@@ -46,5 +46,5 @@ returns-in-None g c =
     let items : List Row = c.as_slice.result.now in
     let same : map plain_row items ≡ rows = ap plain_rows c.as_slice.ensures ∙ c.rows.ensures.rows in
     let few : length rows < 2 ^ 64 = omega (arith, c.count-few.ensures, c.count-few.type_inv) in
-    begins_weakly g.D.Domain.width g.D.Domain.listed g.D.Domain.speaks c.args.system.now c.requires.system c.args.pass old image c.requires.filled c.requires.blown rows c.in_ok-kept.kept.weak c.in_ok-kept.kept.by c.in_ok-kept.ensures.rows
+    begins_weakly g.D.Domain.width g.D.Domain.listed g.D.Domain.speaks c.args.system.now c.requires.system c.args.pass old image c.requires.filled c.requires.blown rows c.in_ok-kept.kept.failed c.in_ok-kept.kept.weak c.in_ok-kept.kept.by c.in_ok-kept.ensures.rows
     (subst (λ (rs : List (List ℤ)). In (bottom_row n) rs → ⊥) same (c.in-None.ensures.none refl n)) c.in_ok-kept.kept.value refl (c.in_ok-kept.ensures.arity ∙ c.requires.image_width) few

@@ -1,5 +1,5 @@
-use Rattle.std.proofs.Common.{◌≡◌, ◌<◌, ◌∙◌, length, arith, subst, rules}
-use Rattle.std.specs.Prelude.{slice_get, slice_index_or, Some}
+use Rattle.std.proofs.Common.{◌<◌, ◌∙◌, length, arith, subst}
+use Rattle.std.specs.Prelude.{slice_index_or}
 use Rattle.std.proofs.lemmas.Option.{slice_get-get_or}
 use Rattle.linear_rows.specs.Plain.{plain_rows, HaveWidth}
 use Rattle.polyhedra.specs.Inserting.{kept_of}

@@ -2,7 +2,7 @@ use Rattle.std.proofs.Common.{◌≡◌, ℕ, ◌+◌, ℤ, List, [], ◌∷◌,
 use Rattle.linear_rows.specs.Plain.{plain_row, plain_rows, HaveWidth}
 use Rattle.linear_rows.specs.declared.row.Row.{Row}
 use Rattle.termination_model.proofs.Lists.{at_place, taken_more}
-use Rattle.polyhedra.specs.Making.{SaysKept}
+use Rattle.polyhedra.specs.Keeping.{IsKept}
 use Rattle.simplex.proofs.RowLists.{map_push}
 use Rattle.polyhedra.proofs.Keeps.{kept_more}
 use Rattle.polyhedra.proofs.Remembered.{remembered}
@@ -22,6 +22,6 @@ loop-row-preserved c =
       width = c.in_ok-keep.ensures.width ∙ i.width;
       widths = subst (λ (n : ℕ). HaveWidth n k.rows.list) i.width c.in_ok-keep.ensures.widths;
       last = remembered c.args.system.now (plain_row c.row-item.result) c.in_ok-held.held c.loop-row.kept.last k.last c.in_ok-held.ensures c.in_ok-keep.ensures.last i.last;
-      says = subst (λ (rs : List (List ℤ)). SaysKept c.args.system.now rs (plain_rows k.rows.list) k.weak k.by) (sym plain)
-          (kept_more c.args.system.now (plain_row c.row-item.result) c.in_ok-held.held c.in_ok-held.ensures (plain_rows (take c.loop-row.row-index l)) (plain_rows c.loop-row.kept.rows.list) (plain_rows k.rows.list) c.loop-row.kept.by k.by c.loop-row.kept.weak k.weak i.says c.in_ok-keep.ensures.more);
+      says = subst (λ (rs : List (List ℤ)). IsKept c.args.system.now rs k) (sym plain)
+          (kept_more c.args.system.now (plain_row c.row-item.result) c.in_ok-held.held c.in_ok-held.ensures (plain_rows (take c.loop-row.row-index l)) c.loop-row.kept k i.says c.in_ok-keep.ensures.more);
     }

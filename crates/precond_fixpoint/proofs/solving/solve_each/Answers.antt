@@ -19,8 +19,8 @@ loop-c-init g c = record {
   solved = λ d lt. absurd (omega arith);
 }
 
-pub solve_in-requires-clause-setting : goal.solve_in-requires-clause-setting
-solve_in-requires-clause-setting g c = setting_later c.args.setting.now c.args.table.now c.loop-c.table c.loop-c.invariant.keeps c.requires.setting
+pub solve_component-requires-clause-setting : goal.solve_component-requires-clause-setting
+solve_component-requires-clause-setting g c = setting_later c.args.setting.now c.args.table.now c.loop-c.table c.loop-c.invariant.keeps c.requires.setting
 
 pub loop-c-preserved : goal.loop-c-preserved
 loop-c-preserved g c =
@@ -32,19 +32,19 @@ loop-c-preserved g c =
     let grounds = c.args.setting.now.grounds.now in
     let T = c.args.table.now in
     let T1 = c.loop-c.table in
-    let T2 = c.solve_in.new.table in
-    let new = c.solve_in.new.sets in
-    let one = c.in_ok-solve_in.ensures in
+    let T2 = c.solve_component.new.table in
+    let new = c.solve_component.new.sets in
+    let one = c.in_ok-solve_component.ensures in
     let here = subst (λ (f : Family). IsSolved truth p comps f levels T2 new c.loop-c.c) (family_later p.preds T T1 i.keeps grounds c.requires.setting.grounds.known) one.solved in
     record {
-      keeps = keeps_twice _ _ _ i.keeps c.solve_in.ensures.keeps;
+      keeps = keeps_twice _ _ _ i.keeps c.solve_component.ensures.keeps;
       marks = one.marks;
       pre = one.pre;
       sets = one.sets;
       allowed = one.allowed;
       solved = λ d lt. elim (cases_eq d c.loop-c.c) [
         | inl same ↦ subst (λ (k : ℕ). IsSolved truth p comps (family_of p.preds T grounds) levels T2 new k) (sym same) here
-        | inr other ↦ solved_after truth p comps (family_of p.preds T grounds) levels T1 T2 c.solve_in.ensures.keeps c.loop-c.sets new i.sets c.loop-c.c one.others
+        | inr other ↦ solved_after truth p comps (family_of p.preds T grounds) levels T1 T2 c.solve_component.ensures.keeps c.loop-c.sets new i.sets c.loop-c.c one.others
             c.requires.setting.program c.requires.setting.components d (omega arith) (i.solved d (omega arith))
       ];
     }

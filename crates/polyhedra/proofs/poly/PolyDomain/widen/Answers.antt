@@ -1,5 +1,6 @@
 use Rattle.linear_rows.specs.Plain.{plain_rows}
 use Rattle.polyhedra.specs.Making.{IsLost}
+use Rattle.polyhedra.proofs.Keeps.{sieved_of}
 use Rattle.polyhedra.proofs.Fitting.{fits_all, fits_kept, have_fit}
 use Rattle.polyhedra.proofs.poly.PolyDomain.widen.Goals as goal
 
@@ -7,4 +8,6 @@ pub invariant_of-result-clause-fit : goal.invariant_of-result-clause-fit
 invariant_of-result-clause-fit c =
     let list = c.args.self.now.rows.list in
     let k = c.in_ok-kept.kept in
-    have_fit k.rows.list (fits_kept (IsLost c.args.system.now k.weak) (plain_rows list) (plain_rows k.rows.list) c.in_ok-kept.ensures.says.kept (fits_all list c.args.self.now.fit))
+    let says = c.in_ok-kept.ensures.says in
+    let lost = IsLost c.args.system.now k.failed k.weak in
+    have_fit k.rows.list (fits_kept lost (plain_rows list) (plain_rows k.rows.list) (sieved_of lost (plain_rows list) (plain_rows k.rows.list) says.lost says.split says.why) (fits_all list c.args.self.now.fit))
