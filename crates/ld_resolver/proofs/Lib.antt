@@ -6,6 +6,7 @@ pub mod ChainLaws
 pub mod ItselfLaws
 pub mod OrderLaws
 pub mod FirstLaws
+pub mod FirstAnswers
 pub mod FirstArgumentLaws
 pub mod CountLaws
 pub mod ProgressLaws

@@ -1,6 +1,6 @@
 -- Private.
 -- How far a run has come. Nothing here has to be believed.
-use Rattle.std.specs.Prelude.{◌≡◌, ℕ, zero, suc, ◌<◌, Bool, true, false, ◌+◌, ◌-◌, ◌≤◌, List, [], ◌++◌, map, length, None}
+use Rattle.std.specs.Prelude.{◌≡◌, ℕ, zero, suc, ◌<◌, Bool, true, false, if◌then◌else◌, ◌+◌, ◌-◌, ◌≤◌, List, [], ◌∷◌, ◌++◌, map, length, Option, None, Some}
 use Rattle.std.specs.List.{cons_option, list_any}
 use Rattle.cti_terms.specs.declared.derivation.Goal.{Goal}
 use Rattle.cti_terms.specs.Arithmetic.{begins_wide}
@@ -10,8 +10,13 @@ use Rattle.cti_terms.specs.Answers.{answer_by, answers, visited_nodes, HasWide}
 use Rattle.ld_resolver.specs.declared.answer.Answer.{Answer}
 use Rattle.ld_resolver.specs.declared.running.Ending.{Ending}
 use Rattle.ld_resolver.specs.declared.running.Ending.TheVariants.{Finished, Stopped, Overflow}
-use Rattle.ld_resolver.specs.declared.running.Ran.{Ran}
+use Rattle.ld_resolver.specs.declared.running.Totals.{Totals}
+use Rattle.ld_resolver.specs.declared.running.Found.{Found}
+use Rattle.ld_resolver.specs.declared.running.Found.TheVariants.{Answer as TheAnswer, End}
+use Rattle.ld_resolver.specs.declared.running.Running.{Running}
 use Rattle.ld_resolver.specs.declared.search.Search.{Search}
+use Rattle.ld_resolver.specs.Chain.{IsChain}
+use Rattle.ld_resolver.specs.Runs.{IsGoalOf}
 use Rattle.ld_resolver.specs.Told.{told}
 use Rattle.ld_resolver.specs.Walk.{Visit, walk, most_steps, met_answers}
 use Rattle.ld_resolver.specs.Searches.{AreWithin, IsSearch, left_of, choices_of, attempts_left}
@@ -42,11 +47,6 @@ pub record IsUnderWay (p : Listing) (g : Goal) (n : ℕ) (x : Search) (steps mos
   pub begins : begins_wide p.arithmetic g.atoms ≡ false
   pub depth : AreWithin steps (choices_of x)
 
--- the query is entered: it is wide, or its answer is told, if it has one
-abbrev pub HasBegun : Listing → Goal → ℕ → Search → List Answer → Bool → Type 0
-HasBegun p g n x told_now false = (told_now ≡ []) × (answer_by g.atoms [] g.atoms ≡ None) × (begins_wide p.arithmetic g.atoms ≡ true)
-HasBegun p g n x told_now true = IsUnderWay p g n x 0 0 told_now
-
 -- a number that falls at each attempt
 abbrev pub to_do : Listing → ℕ → Search → ℕ → ℕ
 to_do p n x steps = scaled (n - steps) (suc (suc (length p.clauses))) + attempts_left x
@@ -64,7 +64,51 @@ pub record HasEnded (p : Listing) (g : Goal) (n : ℕ) (ending : Ending) (steps 
   pub most_of_all : most ≡ longest (visited_nodes p g n)
   pub ended : EndsAs p g n ending
 
--- after an attempt a run goes on, with less to be done, or has ended
-abbrev pub HasAdvanced : Listing → Goal → ℕ → Search → ℕ → Search → Ran → Bool → Type 0
-HasAdvanced p g n old steps new ran true = IsUnderWay p g n new ran.steps ran.longest ran.answers × (to_do p n new ran.steps < to_do p n old steps)
-HasAdvanced p g n old steps new ran false = HasEnded p g n ran.ending ran.steps ran.longest ran.answers
+-- entering the query finds nothing, the first answer, or the end
+abbrev pub HasBegun : Listing → Goal → ℕ → Search → Option Found → Type 0
+HasBegun p g n new None = IsUnderWay p g n new 0 0 []
+HasBegun p g n new (Some (TheAnswer a)) = IsUnderWay p g n new 0 0 (a ∷ [])
+HasBegun p g n new (Some (End m)) = HasEnded p g n m.ending m.steps m.longest []
+
+-- after an attempt a run goes on, with less to be done and perhaps one more answer, or has ended
+abbrev pub HasAdvanced : Listing → Goal → ℕ → Search → ℕ → Search → Totals → List Answer → Option Found → Type 0
+HasAdvanced p g n old steps new totals given None = IsUnderWay p g n new totals.steps totals.longest given × (to_do p n new totals.steps < to_do p n old steps)
+HasAdvanced p g n old steps new totals given (Some (TheAnswer a)) = IsUnderWay p g n new totals.steps totals.longest (given ++ a ∷ []) × (to_do p n new totals.steps < to_do p n old steps)
+HasAdvanced p g n old steps new totals given (Some (End m)) = HasEnded p g n m.ending m.steps m.longest given
+
+-- before the query is entered nothing is bound or counted, and there is nothing to be tried
+pub record IsFresh (p : Listing) (g : Goal) (x : Search) (totals : Totals) : Type 0 where
+  pub goal : IsGoalOf p g
+  pub bindings : x.bindings ≡ []
+  pub tails : x.tails ≡ []
+  pub choices : x.choices.items ≡ []
+  pub steps : totals.steps ≡ 0
+  pub longest : totals.longest ≡ 0
+
+-- the state of a run that has given these answers, before and after the query is entered
+abbrev pub IsAt : Listing → Goal → ℕ → Search → Totals → List Answer → Bool → Type 0
+IsAt p g n x totals given false = IsFresh p g x totals × (given ≡ [])
+IsAt p g n x totals given true = IsUnderWay p g n x totals.steps totals.longest given
+
+-- a run of this goal within n nodes has given these answers
+pub record HasGiven (p : Listing) (g : Goal) (n : ℕ) (run : Running) (given : List Answer) : Type 0 where
+  pub program : run.search.program.now ≡ p
+  pub goal : run.goal.now ≡ g
+  pub budget : run.budget ≡ n
+  pub chain : IsChain run.search.program.now run.chain
+  pub at : IsAt run.search.program.now run.goal.now run.budget run.search run.totals given run.has_begun
+
+-- a run that has given some answers, and can give more
+abbrev pub IsRunning : Running → Type 0
+IsRunning run = (given : List Answer) × HasGiven run.search.program.now run.goal.now run.budget run given
+
+-- a number that falls at each answer
+abbrev pub answers_ahead : Running → ℕ
+answers_ahead run = if run.has_begun
+    then to_do run.search.program.now run.budget run.search run.totals.steps
+    else suc (scaled (suc run.budget) (suc (suc (length run.search.program.now.clauses))))
+
+-- a run that has given some answers gives one more, or has given all
+abbrev pub GoesOn : Listing → Goal → ℕ → Running → List Answer → Found → Running → Type 0
+GoesOn p g n old given (TheAnswer a) new = HasGiven p g n new (given ++ a ∷ []) × (answers_ahead new < answers_ahead old)
+GoesOn p g n old given (End m) new = HasEnded p g n m.ending m.steps m.longest given

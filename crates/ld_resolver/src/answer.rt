@@ -48,7 +48,9 @@ fn push_parts<'p>(
     stack: &mut Vec<RaisedTerm<'p>>,
 ) -> Result<(), AllocError>
     requires { IsMet bindings.now met }
-    ensures { OnOk result (weight bindings.now (raw stack.new.items) + 1 ≡ weight bindings.now (raw stack.old.items) + nodes_of (full bindings.now (raised_tree met.entry.term))) }
+    ensures { OnOk result (weight bindings.now (raw stack.new.items) + 1
+        ≡ weight bindings.now (raw stack.old.items) + nodes_of
+        (full bindings.now (raised_tree met.entry.term))) }
 {
     let _ = bindings;
     match met.shape {
@@ -67,7 +69,8 @@ fn has_many_nodes<'p>(
     query: &'p [Atom],
     stack: &mut Vec<RaisedTerm<'p>>,
 ) -> Result<bool, AllocError>
-    ensures { IfOk result (λ many. many ≡ nat_lt MOST_ANSWER_NODES (all_nodes (answered_terms bindings.now query.now))) }
+    ensures { IfOk result (λ many. many ≡ nat_lt MOST_ANSWER_NODES
+        (all_nodes (answered_terms bindings.now query.now))) }
 {
     let mut nodes = query.len();
     if nodes > MOST_ANSWER_NODES as usize {
@@ -88,7 +91,8 @@ fn has_many_nodes<'p>(
 /// Whether a term is too deep under the given number of levels. It looks no deeper than that takes.
 fn is_deep<'p>(bindings: &Bindings<'p>, term: RaisedTerm<'p>, above: u32) -> bool
     requires { above ≤ MOST_ANSWER_DEPTH }
-    ensures { result ≡ nat_lt MOST_ANSWER_DEPTH (above + depth_of (full bindings.now (raised_tree term.entry))) }
+    ensures { result ≡ nat_lt MOST_ANSWER_DEPTH
+        (above + depth_of (full bindings.now (raised_tree term.entry))) }
 {
     if above == MOST_ANSWER_DEPTH {
         return true;
@@ -111,7 +115,8 @@ fn is_deep<'p>(bindings: &Bindings<'p>, term: RaisedTerm<'p>, above: u32) -> boo
 
 /// Whether one of an atom's arguments is too deep.
 fn has_deep_argument<'p>(bindings: &Bindings<'p>, args: &'p [Term]) -> bool
-    ensures { result ≡ nat_lt MOST_ANSWER_DEPTH (1 + greatest_depth (args_full bindings.now 0 args.now)) }
+    ensures { result ≡ nat_lt MOST_ANSWER_DEPTH
+        (1 + greatest_depth (args_full bindings.now 0 args.now)) }
 {
     for term in args {
         if is_deep(bindings, RaisedTerm { term, base: 0 }, 1) {
@@ -123,7 +128,8 @@ fn has_deep_argument<'p>(bindings: &Bindings<'p>, args: &'p [Term]) -> bool
 
 /// Whether one of the query's atoms is too deep.
 fn has_deep_atom<'p>(bindings: &Bindings<'p>, query: &'p [Atom]) -> bool
-    ensures { result ≡ nat_lt MOST_ANSWER_DEPTH (greatest_depth (answered_terms bindings.now query.now)) }
+    ensures { result ≡ nat_lt MOST_ANSWER_DEPTH
+        (greatest_depth (answered_terms bindings.now query.now)) }
 {
     for atom in query {
         if has_deep_argument(bindings, atom.args.as_slice()) {
@@ -136,7 +142,8 @@ fn has_deep_atom<'p>(bindings: &Bindings<'p>, query: &'p [Atom]) -> bool
 /// The number of a variable: its place among those that were met, to which it is added where it is new.
 fn number_of(variables: &mut IndexSet<usize>, variable: usize) -> Result<u32, AllocError>
     requires { length variables.old.keys + 1 < 2 ^ 32 }
-    ensures variables { OnOk result (variables.new.keys ≡ with_variable variables.old.keys variable) }
+    ensures variables { OnOk result
+        (variables.new.keys ≡ with_variable variables.old.keys variable) }
     ensures number { IfOk result (λ n. n ≡ position_or_len (nat_eq variable) variables.old.keys) }
 {
     let (number, _) = variables.insert_full(variable)?;
@@ -151,9 +158,13 @@ fn told_term<'p>(
     term: RaisedTerm<'p>,
     variables: &mut IndexSet<usize>,
 ) -> Result<Term, AllocError>
-    requires { length variables.old.keys + nodes_of (full bindings.now (raised_tree term)) < 2 ^ 32 }
-    ensures variables { OnOk result (variables.new.keys ≡ met variables.old.keys (full bindings.now (raised_tree term.entry))) }
-    ensures term { IfOk result (λ u. (more : List ℕ) → tree_of u ≡ numbered_by (variables.new.keys ++ more) (full bindings.now (raised_tree term.entry))) }
+    requires { length variables.old.keys + nodes_of
+        (full bindings.now (raised_tree term)) < 2 ^ 32 }
+    ensures variables { OnOk result
+        (variables.new.keys ≡ met variables.old.keys (full bindings.now (raised_tree term.entry))) }
+    ensures term { IfOk result (λ u. (more : List ℕ)
+        → tree_of u ≡ numbered_by (variables.new.keys ++ more)
+        (full bindings.now (raised_tree term.entry))) }
 {
     let met = bindings.met(term);
     match met.shape {
@@ -175,9 +186,13 @@ fn told_terms<'p>(
     base: u32,
     variables: &mut IndexSet<usize>,
 ) -> Result<Vec<Term>, AllocError>
-    requires { length variables.old.keys + all_nodes (args_full bindings.now base args.now) < 2 ^ 32 }
-    ensures variables { OnOk result (variables.new.keys ≡ all_met variables.old.keys (args_full bindings.now base args.now)) }
-    ensures terms { IfOk result (λ us. (more : List ℕ) → trees_of us.items ≡ all_numbered_by (variables.new.keys ++ more) (args_full bindings.now base args.now)) }
+    requires { length variables.old.keys + all_nodes
+        (args_full bindings.now base args.now) < 2 ^ 32 }
+    ensures variables { OnOk result
+        (variables.new.keys ≡ all_met variables.old.keys (args_full bindings.now base args.now)) }
+    ensures terms { IfOk result (λ us. (more : List ℕ)
+        → trees_of us.items ≡ all_numbered_by (variables.new.keys ++ more)
+        (args_full bindings.now base args.now)) }
 {
     let mut terms = Vec::new(alloc);
     for term in args {
@@ -193,9 +208,14 @@ fn told_atom<'p>(
     atom: &'p Atom,
     variables: &mut IndexSet<usize>,
 ) -> Result<Atom, AllocError>
-    requires { length variables.old.keys + all_nodes (trees (map (full bindings.now) atom.now.args)) < 2 ^ 32 }
-    ensures variables { OnOk result (variables.new.keys ≡ all_met variables.old.keys (trees (map (full bindings.now) atom.now.args))) }
-    ensures atom { IfOk result (λ a. (more : List ℕ) → a ≡ over (numbered_by (variables.new.keys ++ more)) (over (full bindings.now) atom.now)) }
+    requires { length variables.old.keys + all_nodes
+        (trees (map (full bindings.now) atom.now.args)) < 2 ^ 32 }
+    ensures variables { OnOk result
+        (variables.new.keys ≡ all_met variables.old.keys
+        (trees (map (full bindings.now) atom.now.args))) }
+    ensures atom { IfOk result (λ a. (more : List ℕ)
+        → a ≡ over (numbered_by (variables.new.keys ++ more))
+        (over (full bindings.now) atom.now)) }
 {
     let terms = told_terms(alloc, bindings, atom.args.as_slice(), 0, variables)?;
     Ok(Atom {
@@ -211,7 +231,8 @@ fn told_query<'p>(
     query: &'p [Atom],
 ) -> Result<Atoms, AllocError>
     requires { all_nodes (answered_terms bindings.now query.now) < 2 ^ 32 }
-    ensures { IfOk result (λ atoms. atoms ≡ numbered_atoms (answered_atoms bindings.now query.now)) }
+    ensures { IfOk result (λ atoms. atoms
+        ≡ numbered_atoms (answered_atoms bindings.now query.now)) }
 {
     let mut variables = IndexSet::new(alloc);
     let mut atoms = Atoms::new(alloc);

@@ -23,9 +23,14 @@ pub fn unify_value<'p>(
 ) -> Result<bool, AllocError>
     requires below { ArgumentsBelow choice.fresh (args_of bindings.old choice) }
     requires integer { IsInteger (value_of choice) }
-    ensures unifier { IfOk result (IsUnified (made bindings.old) (value_equations (value_of choice.entry) (args_of bindings.old choice.entry)) (made bindings.new)) }
+    ensures unifier { IfOk result
+        (IsUnified (made bindings.old)
+        (value_equations (value_of choice.entry) (args_of bindings.old choice.entry))
+        (made bindings.new)) }
     ensures extended { OnOk result (Extends bindings.new bindings.old) }
-    ensures free { OnOk result (KeepsFree (value_equations (value_of choice.entry) (args_of bindings.old choice.entry)) bindings.old bindings.new) }
+    ensures free { OnOk result
+        (KeepsFree (value_equations (value_of choice.entry)
+        (args_of bindings.old choice.entry)) bindings.old bindings.new) }
 {
     let Some(value) = choice.value else {
         return Ok(true);

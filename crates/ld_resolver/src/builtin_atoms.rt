@@ -97,7 +97,8 @@ fn judge_as<'p>(
     args: &'p [Term],
     base: u32,
 ) -> Result<FirstAtom<'p>, AllocError>
-    ensures { IfOk result (IsJudgedAs names kind (map (full bindings.now) (map (instance (raise base)) (map tree_of args.now)))) }
+    ensures { IfOk result (IsJudgedAs names kind
+        (map (full bindings.now) (map (instance (raise base)) (map tree_of args.now)))) }
 {
     let [left, right] = args else {
         return Ok(FirstAtom::Fails);
@@ -121,7 +122,8 @@ pub fn judge<'p>(
     base: u32,
 ) -> Result<FirstAtom<'p>, AllocError>
     ensures sound { IsProgram program.now }
-    ensures judged { IfOk result (IsJudged program.now.arithmetic (over (full bindings.now) (raised base atom.now))) }
+    ensures judged { IfOk result
+        (IsJudged program.now.arithmetic (over (full bindings.now) (raised base atom.now))) }
 {
     match kind_of(program, atom.pred) {
         Some(kind) => judge_as(

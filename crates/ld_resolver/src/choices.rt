@@ -45,7 +45,8 @@ fn rest_number<'p>(
     next: usize,
 ) -> Result<usize, AllocError>
     requires { next ≤ length tails.old }
-    ensures rest { IfOk result (λ n. tail_at tails.new n ≡ map (raised base) atoms.now ++ tail_at tails.old next) }
+    ensures rest { IfOk result
+        (λ n. tail_at tails.new n ≡ map (raised base) atoms.now ++ tail_at tails.old next) }
     ensures within { IfOk result (λ n. n ≤ length tails.new) }
     ensures grown { OnOk result (GrowsTo tails.old tails.new) }
 {
@@ -64,7 +65,8 @@ fn start_of<'p>(
 ) -> Result<Option<Start<'p>>, AllocError>
     requires atoms { 0 < length atoms.now }
     requires rest { next ≤ length tails.old }
-    ensures start { IfOk result (IsStart (map (raised base) atoms.now ++ tail_at tails.old next) tails.new) }
+    ensures start { IfOk result
+        (IsStart (map (raised base) atoms.now ++ tail_at tails.old next) tails.new) }
     ensures grown { OnOk result (GrowsTo tails.old tails.new) }
 {
     let (atom, after) = (&atoms[0], &atoms[1..]);
@@ -80,7 +82,8 @@ pub fn goal_start<'p>(
     next: usize,
 ) -> Result<Option<Start<'p>>, AllocError>
     requires { next ≤ length tails.old }
-    ensures start { IfOk result (IsStart (map (raised base) body.now ++ tail_at tails.old next) tails.new) }
+    ensures start { IfOk result
+        (IsStart (map (raised base) body.now ++ tail_at tails.old next) tails.new) }
     ensures grown { OnOk result (GrowsTo tails.old tails.new) }
 {
     if !body.is_empty() {

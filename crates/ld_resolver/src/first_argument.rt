@@ -19,7 +19,9 @@ use unifier::raised_term::{RaisedTerm, Shape};
 
 /// Whether two compound terms clash, by their names and arities.
 fn compounds_clash(f: Name, left: &[Term], g: Name, right: &[Term]) -> bool
-    ensures { IsTrue result → (s : List Binding) (n m : ℕ) → first_step (Compound f.0 (args_full s n left.now)) (Compound g.0 (all_instances (raise m) (trees_of right.now))) ≡ Step.Failed }
+    ensures { IsTrue result → (s : List Binding) (n m : ℕ)
+        → first_step (Compound f.0 (args_full s n left.now))
+        (Compound g.0 (all_instances (raise m) (trees_of right.now))) ≡ Step.Failed }
 {
     if f.0 == g.0 && left.len() == right.len() {
         return false;
@@ -81,7 +83,9 @@ pub fn next_match<'p>(
     requires chain { IsChain program.now chain.now }
     requires next { 1 ≤ choice.next }
     requires ordinary { kind_of program.now.arithmetic choice.atom.now.pred.0 ≡ None }
-    ensures { (k : ℕ) → IsNext program.now choice.entry.atom.now.pred.0 k choice.entry.next → IsNextMatch program.now bindings.now (raised choice.entry.base choice.entry.atom.now) choice.entry.fresh k result }
+    ensures { (k : ℕ) → IsNext program.now choice.entry.atom.now.pred.0 k choice.entry.next
+        → IsNextMatch program.now bindings.now
+        (raised choice.entry.base choice.entry.atom.now) choice.entry.fresh k result }
 {
     let mut number = choice.next;
     if program.clauses() < number {

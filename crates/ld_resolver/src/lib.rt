@@ -28,4 +28,4 @@ mod values;
 
 pub use answer::Answer;
 pub use answer_list::Answers;
-pub use running::{Ending, Ran, run};
+pub use running::{Ending, Found, Ran, Running, Totals, run};

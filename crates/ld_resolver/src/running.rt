@@ -1,13 +1,18 @@
 //! The run of a query.
 
-ghost use Rattle.std.specs.Prelude.{◌≡◌, ◌↔◌, ℕ, ◌+◌, [], IfOk, map, length};
+ghost use Rattle.std.specs.Prelude.{◌≡◌, ◌↔◌, true, ℕ, ◌+◌, ◌≤◌, List, [], IfOk, OnOk, map, length};
+ghost use Rattle.cti_terms.specs.declared.derivation.Goal.{Goal as TheGoal};
+ghost use Rattle.cti_terms.specs.Listing.{Listing};
 ghost use Rattle.cti_terms.specs.Nodes.{HasMoreNodes, longest};
 ghost use Rattle.cti_terms.specs.Answers.{answers, visited_nodes, HasWide};
 ghost use Rattle.ld_resolver.specs.Chain.{IsChain};
 ghost use Rattle.ld_resolver.specs.Told.{told};
 ghost use Rattle.ld_resolver.specs.Runs.{IsGoalOf};
-ghost use Rattle.ld_resolver.specs.Progress.{HasBegun, HasAdvanced, IsUnderWay};
+ghost use Rattle.ld_resolver.specs.Searches.{attempts_left};
+ghost use Rattle.ld_resolver.specs.declared.answer.Answer.{Answer as TheAnswer};
+ghost use Rattle.ld_resolver.specs.Progress.{HasBegun, HasAdvanced, HasGiven, GoesOn, IsRunning, IsUnderWay};
 
+use crate::answer::Answer;
 use crate::answer_list::Answers;
 use crate::clause_chain::ClauseChain;
 use crate::search::{Attempt, Entered, Search};
@@ -29,6 +34,27 @@ pub enum Ending {
     Overflow,
 }
 
+/// What a run has looked at, and how it ended.
+#[derive(Clone, Copy, Drop)]
+pub struct Totals {
+    /// How many nodes were looked at: derivations that are not empty.
+    pub steps: u64,
+
+    /// The length of the longest derivation that was looked at, 0 where there was none.
+    pub longest: u64,
+
+    pub ending: Ending,
+}
+
+/// What a run finds next.
+#[derive(Drop)]
+pub enum Found {
+    Answer(Answer),
+
+    /// There are no more answers.
+    End(Totals),
+}
+
 /// What a run has found.
 #[derive(Drop)]
 pub struct Ran {
@@ -44,6 +70,31 @@ pub struct Ran {
     pub ending: Ending,
 }
 
+/// A run between two of its answers, which it gives one at a time.
+pub struct Running<'p> {
+    alloc: Global,
+    chain: ClauseChain,
+    search: Search<'p>,
+    goal: &'p Goal,
+    budget: u64,
+    has_begun: bool,
+    totals: Totals,
+}
+
+impl Drop for Running<'_> {
+    fn drop(self) {
+        let Running {
+            alloc: _,
+            chain: _,
+            search: _,
+            goal: _,
+            budget: _,
+            has_begun: _,
+            totals: _,
+        } = self;
+    }
+}
+
 /// The counter of the goal that a clause leaves. Above all variables that can be numbered, it is out of memory.
 fn counter_after(fresh: u32, vars: u32) -> Result<u32, AllocError>
     ensures { IfOk result (λ n. n ≡ fresh + vars) }
@@ -54,76 +105,150 @@ fn counter_after(fresh: u32, vars: u32) -> Result<u32, AllocError>
     }
 }
 
-/// Enters the query, and adds the answer of the empty derivation if it has one. Whether the run goes on: it does not where
-/// the query is wide.
+/// Enters the query: finds the answer of the empty derivation if it has one, and the end where the query is wide.
 #[inline(never)]
 fn begin<'p>(
     alloc: Global,
     search: &mut Search<'p>,
     chain: &ClauseChain,
     goal: &'p Goal,
-    answers: &mut Answers,
-) -> Result<bool, AllocError>
+) -> Result<Option<Found>, AllocError>
     requires chain { IsChain search.old.program.now chain.now }
     requires bindings { search.old.bindings ≡ [] }
     requires tails { search.old.tails ≡ [] }
     requires choices { search.old.choices.items ≡ [] }
     requires goal { IsGoalOf search.old.program.now goal.now }
-    requires answers { answers.old ≡ [] }
-    ensures { IfOk result (λ going. (n : ℕ) → HasBegun search.old.program.now goal.now n search.new answers.new going) }
+    ensures program { search.new.program.now ≡ search.old.program.now }
+    ensures attempts { OnOk result
+        (attempts_left search.new ≤ length search.old.program.now.clauses + 2) }
+    ensures begun { IfOk result (λ found. (n : ℕ)
+        → HasBegun search.old.program.now goal.now n search.new found) }
 {
     match search.enter(chain, goal.atoms.as_slice(), 0, 0, goal.fresh, 0)? {
         Entered::Empty => {
-            answers.push(search.answer(alloc, goal.atoms.as_slice())?)?;
-            Ok(true)
+            let answer = search.answer(alloc, goal.atoms.as_slice())?;
+            Ok(Some(Found::Answer(answer)))
         }
-        Entered::Open => Ok(true),
-        Entered::Wide => Ok(false),
+        Entered::Open => Ok(None),
+        Entered::Wide => Ok(Some(Found::End(Totals {
+            steps: 0,
+            longest: 0,
+            ending: Ending::Overflow,
+        }))),
     }
 }
 
-/// Goes on by one attempt: looks at the node that it finds, if any, and adds the node's answer if it has one. Whether the
-/// run goes on after it.
+/// Goes on by one attempt: looks at the node that it finds, if any, and finds the node's answer if it has one, or the end.
 fn advance<'p>(
     alloc: Global,
     search: &mut Search<'p>,
     chain: &ClauseChain,
     goal: &'p Goal,
     budget: u64,
-    ran: &mut Ran,
-) -> Result<bool, AllocError>
+    totals: &mut Totals,
+) -> Result<Option<Found>, AllocError>
     requires chain { IsChain search.old.program.now chain.now }
-    requires under_way { IsUnderWay search.old.program.now goal.now budget search.old ran.old.steps ran.old.longest ran.old.answers }
+    requires under_way { (given : List TheAnswer)
+        × IsUnderWay search.old.program.now goal.now budget search.old totals.old.steps totals.old.longest given }
     ensures program { search.new.program.now ≡ search.old.program.now }
-    ensures advanced { IfOk result (HasAdvanced search.old.program.now goal.now budget search.old ran.old.steps search.new ran.new) }
+    ensures advanced { IfOk result (λ found. (given : List TheAnswer)
+        → IsUnderWay search.old.program.now goal.now budget search.old totals.old.steps totals.old.longest given
+        → HasAdvanced search.old.program.now goal.now budget search.old totals.old.steps search.new totals.new given found) }
 {
     match search.attempt(chain)? {
         Attempt::Ended => {
-            ran.ending = Ending::Finished;
-            Ok(false)
+            totals.ending = Ending::Finished;
+            Ok(Some(Found::End(*totals)))
         }
-        Attempt::Failed => Ok(true),
+        Attempt::Failed => Ok(None),
         Attempt::Resolved(choice, body, vars) => {
-            if ran.steps == budget {
-                ran.ending = Ending::Stopped;
-                return Ok(false);
+            if totals.steps == budget {
+                totals.ending = Ending::Stopped;
+                return Ok(Some(Found::End(*totals)));
             }
-            ran.steps += 1;
+            totals.steps += 1;
             let depth = choice.depth + 1;
-            ran.longest = ran.longest.max(depth);
+            totals.longest = totals.longest.max(depth);
             let fresh = counter_after(choice.fresh, vars)?;
             match search.enter(chain, body, choice.fresh, choice.rest, fresh, depth)? {
                 Entered::Empty => {
-                    ran.answers
-                        .push(search.answer(alloc, goal.atoms.as_slice())?)?;
-                    Ok(true)
+                    let answer = search.answer(alloc, goal.atoms.as_slice())?;
+                    Ok(Some(Found::Answer(answer)))
                 }
-                Entered::Open => Ok(true),
+                Entered::Open => Ok(None),
                 Entered::Wide => {
-                    ran.ending = Ending::Overflow;
-                    Ok(false)
+                    totals.ending = Ending::Overflow;
+                    Ok(Some(Found::End(*totals)))
                 }
             }
+        }
+    }
+}
+
+impl<'p> Running<'p> {
+    /// The run of a goal that has given no answer yet: it will look at the empty derivation and at the first `budget` others.
+    /// What it binds lies in the arena.
+    pub fn new(
+        alloc: Global,
+        program: &'p Program,
+        goal: &'p Goal,
+        budget: u64,
+        arena: &'p Bump,
+    ) -> Result<Running<'p>, AllocError>
+        requires { IsGoalOf program.now goal.now }
+        ensures { IfOk result (λ run. HasGiven program.now goal.now budget run []) }
+    {
+        let chain = ClauseChain::new(alloc, program)?;
+        Ok(Running {
+            alloc,
+            chain,
+            search: Search::new(alloc, program, arena),
+            goal,
+            budget,
+            has_begun: false,
+            totals: Totals {
+                steps: 0,
+                longest: 0,
+                ending: Ending::Overflow,
+            },
+        })
+    }
+
+    /// Goes on to the next answer or to the end, after the query is entered.
+    fn go_on(&mut self) -> Result<Found, AllocError>
+        requires running { IsRunning self.old }
+        requires begun { self.old.has_begun ≡ true }
+        ensures { IfOk result (λ found. (p : Listing) (g : TheGoal) (n : ℕ) (given : List TheAnswer)
+            → HasGiven p g n self.old given → GoesOn p g n self.old given found self.new) }
+    {
+        loop {
+            let found = advance(
+                self.alloc,
+                &mut self.search,
+                &self.chain,
+                self.goal,
+                self.budget,
+                &mut self.totals,
+            )?;
+            if let Some(found) = found {
+                return Ok(found);
+            }
+        }
+    }
+
+    /// The next answer, or the end after the last one. After the end, and out of memory, it is not called again.
+    pub fn next(&mut self) -> Result<Found, AllocError>
+        requires { IsRunning self.old }
+        ensures { IfOk result (λ found. (p : Listing) (g : TheGoal) (n : ℕ) (given : List TheAnswer)
+            → HasGiven p g n self.old given → GoesOn p g n self.old given found self.new) }
+    {
+        if self.has_begun {
+            return self.go_on();
+        }
+        self.has_begun = true;
+        match begin(self.alloc, &mut self.search, &self.chain, self.goal)? {
+            Some(found) => Ok(found),
+            None => self.go_on(),
         }
     }
 }
@@ -138,30 +263,37 @@ pub fn run(alloc: Global, program: &Program, goal: &Goal, budget: u64) -> Result
     requires { IsGoalOf program.now goal.now }
 
     // The answers, reported in order, and the measures of what was looked at.
-    ensures answers { IfOk result (λ ran. ran.answers ≡ map told (answers program.now goal.now budget)) }
-    ensures steps { IfOk result (λ ran. ran.steps ≡ length (visited_nodes program.now goal.now budget)) }
-    ensures longest { IfOk result (λ ran. ran.longest ≡ longest (visited_nodes program.now goal.now budget)) }
+    ensures answers { IfOk result
+        (λ ran. ran.answers ≡ map told (answers program.now goal.now budget)) }
+    ensures steps { IfOk result
+        (λ ran. ran.steps ≡ length (visited_nodes program.now goal.now budget)) }
+    ensures longest { IfOk result
+        (λ ran. ran.longest ≡ longest (visited_nodes program.now goal.now budget)) }
 
     // Stopped comes exactly where there are more nodes than the budget, and Finished exactly where there are not.
-    ensures stopped { IfOk result (λ ran. (ran.ending ≡ Ending.Stopped) ↔ ((¬ HasWide program.now goal.now budget) × HasMoreNodes program.now goal.now budget)) }
-    ensures finished { IfOk result (λ ran. (ran.ending ≡ Ending.Finished) ↔ ((¬ HasWide program.now goal.now budget) × (¬ HasMoreNodes program.now goal.now budget))) }
-    ensures overflow { IfOk result (λ ran. (ran.ending ≡ Ending.Overflow) ↔ HasWide program.now goal.now budget) }
+    ensures stopped { IfOk result (λ ran. (ran.ending ≡ Ending.Stopped)
+        ↔ ((¬ HasWide program.now goal.now budget)
+        × HasMoreNodes program.now goal.now budget)) }
+    ensures finished { IfOk result (λ ran. (ran.ending ≡ Ending.Finished)
+        ↔ ((¬ HasWide program.now goal.now budget)
+        × (¬ HasMoreNodes program.now goal.now budget))) }
+    ensures overflow { IfOk result (λ ran. (ran.ending ≡ Ending.Overflow)
+        ↔ HasWide program.now goal.now budget) }
 {
-    let chain = ClauseChain::new(alloc, program)?;
     let arena = Bump::new(alloc);
-    let mut search = Search::new(alloc, program, &arena);
-    let mut ran = Ran {
-        answers: Answers::new(alloc),
-        steps: 0,
-        longest: 0,
-        ending: Ending::Overflow,
-    };
-    if !begin(alloc, &mut search, &chain, goal, &mut ran.answers)? {
-        return Ok(ran);
-    }
+    let mut running = Running::new(alloc, program, goal, budget, &arena)?;
+    let mut answers = Answers::new(alloc);
     loop {
-        if !advance(alloc, &mut search, &chain, goal, budget, &mut ran)? {
-            return Ok(ran);
+        match running.next()? {
+            Found::Answer(answer) => answers.push(answer)?,
+            Found::End(totals) => {
+                return Ok(Ran {
+                    answers,
+                    steps: totals.steps,
+                    longest: totals.longest,
+                    ending: totals.ending,
+                });
+            }
         }
     }
 }

@@ -80,7 +80,8 @@ fn put_back<'p>(
     choices: &mut Vec<Choice<'p>>,
     choice: Choice<'p>,
 ) -> Result<(), AllocError>
-    ensures { OnOk result (IsPutBack program.now (reverse choices.old.items) choice.entry (reverse choices.new.items)) }
+    ensures { OnOk result (IsPutBack program.now (reverse choices.old.items) choice.entry
+        (reverse choices.new.items)) }
 {
     if choice.next <= program.clauses() {
         choices.push(choice)?;
@@ -99,7 +100,8 @@ fn take_clause<'p>(
     requires chain { IsChain program.now chain.now }
     requires numbered { AreNumbered program.now (reverse choices.old.items) }
     requires marked { AreMarked (length bindings.old) (reverse choices.old.items) }
-    ensures { IfOk result (λ t. IsTaken program.now bindings.old (reverse choices.old.items) t bindings.new (reverse choices.new.items)) }
+    ensures { IfOk result (λ t. IsTaken program.now bindings.old
+        (reverse choices.old.items) t bindings.new (reverse choices.new.items)) }
 {
     let choice = match choices.pop() {
         Some(choice) => choice,
@@ -144,7 +146,8 @@ impl<'p> Search<'p> {
         ensures search { OnOk result (IsSearch self.new) }
         ensures program { self.new.program.now ≡ self.old.program.now }
         ensures attempt { IfOk result (λ a. IsAttempt self.old a self.new) }
-        ensures depths { OnOk result ((d : ℕ) → AreWithin d (choices_of self.old) → AreWithin d (choices_of self.new)) }
+        ensures depths { OnOk result ((d : ℕ) → AreWithin d (choices_of self.old)
+            → AreWithin d (choices_of self.new)) }
     {
         match take_clause(self.program, chain, &mut self.bindings, &mut self.choices)? {
             Taken::Nothing => Ok(Attempt::Ended),
@@ -185,9 +188,13 @@ impl<'p> Search<'p> {
         ensures search { OnOk result (IsSearch self.new) }
         ensures program { self.new.program.now ≡ self.old.program.now }
         ensures bindings { self.new.bindings ≡ self.old.bindings }
-        ensures entered { IfOk result (λ entered. IsEntered self.old choice.entry.depth (goal_at self.old choice.entry) entered self.new) }
-        ensures attempts { OnOk result (attempts_left self.new ≤ attempts_left self.old + length self.old.program.now.clauses + 2) }
-        ensures depths { OnOk result ((d : ℕ) → AreWithin d (choices_of self.old) → choice.entry.depth ≤ d → AreWithin d (choices_of self.new)) }
+        ensures entered { IfOk result
+            (λ entered. IsEntered self.old choice.entry.depth
+            (goal_at self.old choice.entry) entered self.new) }
+        ensures attempts { OnOk result
+            (attempts_left self.new ≤ attempts_left self.old + length self.old.program.now.clauses + 2) }
+        ensures depths { OnOk result ((d : ℕ) → AreWithin d (choices_of self.old)
+            → choice.entry.depth ≤ d → AreWithin d (choices_of self.new)) }
     {
         match judge(
             &mut self.calculator,
@@ -231,13 +238,20 @@ impl<'p> Search<'p> {
         requires chain { IsChain self.old.program.now chain.now }
         requires rest { rest ≤ length self.old.tails }
         requires free { FreeFrom fresh self.old.bindings }
-        requires below { AtomsBelow fresh (goal_with self.old.bindings (map (raised base) atoms.now) (tail_at self.old.tails rest) fresh).atoms }
+        requires below { AtomsBelow fresh
+            (goal_with self.old.bindings (map (raised base) atoms.now)
+            (tail_at self.old.tails rest) fresh).atoms }
         ensures search { OnOk result (IsSearch self.new) }
         ensures program { self.new.program.now ≡ self.old.program.now }
         ensures bindings { self.new.bindings ≡ self.old.bindings }
-        ensures entered { IfOk result (λ entered. IsEntered self.old depth (goal_with self.old.bindings (map (raised base) atoms.now) (tail_at self.old.tails rest) fresh) entered self.new) }
-        ensures attempts { OnOk result (attempts_left self.new ≤ attempts_left self.old + length self.old.program.now.clauses + 2) }
-        ensures depths { OnOk result ((d : ℕ) → AreWithin d (choices_of self.old) → depth ≤ d → AreWithin d (choices_of self.new)) }
+        ensures entered { IfOk result
+            (λ entered. IsEntered self.old depth
+            (goal_with self.old.bindings (map (raised base) atoms.now)
+            (tail_at self.old.tails rest) fresh) entered self.new) }
+        ensures attempts { OnOk result
+            (attempts_left self.new ≤ attempts_left self.old + length self.old.program.now.clauses + 2) }
+        ensures depths { OnOk result ((d : ℕ) → AreWithin d (choices_of self.old) → depth ≤ d
+            → AreWithin d (choices_of self.new)) }
     {
         match goal_start(&mut self.tails, atoms, base, rest)? {
             Some(start) => {

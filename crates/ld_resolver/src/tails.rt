@@ -68,7 +68,9 @@ impl<'p> Tails<'p> {
         requires atoms { 0 < length tail.atoms.now }
         requires earlier { tail.next ≤ length self.old }
         ensures number { IfOk result (λ n. n ≡ length self.new) }
-        ensures rests { OnOk result (self.new ≡ self.old ++ (map (raised tail.entry.base) tail.entry.atoms.now ++ tail_at self.old tail.entry.next) ∷ []) }
+        ensures rests { OnOk result
+            (self.new ≡ self.old ++ (map (raised tail.entry.base) tail.entry.atoms.now
+            ++ tail_at self.old tail.entry.next) ∷ []) }
     {
         self.items.push(tail)?;
         Ok(self.items.len())
@@ -78,7 +80,8 @@ impl<'p> Tails<'p> {
     pub fn get(&self, number: usize) -> Tail<'p>
         requires first { 1 ≤ number }
         requires last { number ≤ length self.now }
-        ensures rest { tail_at self.now number ≡ map (raised result.base) result.atoms.now ++ tail_at self.now result.next }
+        ensures rest { tail_at self.now number ≡ map (raised result.base) result.atoms.now
+            ++ tail_at self.now result.next }
         ensures atoms { 0 < length result.atoms.now }
         ensures earlier { result.next < number }
     {

@@ -81,7 +81,8 @@ fn list_operators<'p>(
     stack: &mut Vec<RaisedTerm<'p>>,
     operators: &mut Vec<Operator>,
 ) -> Result<bool, AllocError>
-    ensures { IfOk result (λ found. HasOperators names (full bindings.now (raised_tree term.entry)) found operators.new.items) }
+    ensures { IfOk result (λ found. HasOperators names
+        (full bindings.now (raised_tree term.entry)) found operators.new.items) }
 {
     stack.clear();
     operators.clear();

@@ -1,3 +1,4 @@
 pub mod SpellingLemmas
 pub mod LeftLemmas
+pub mod RunningLemmas
 mod Examples

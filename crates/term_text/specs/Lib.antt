@@ -1,3 +1,4 @@
 pub mod Spelling
 pub mod RunLines
+pub mod WholeRun
 pub mod Left

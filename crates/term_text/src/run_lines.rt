@@ -6,7 +6,7 @@ ghost use Rattle.term_text.specs.RunLines.{predicate_name, atom_text, atoms_text
 use crate::part::Part;
 use crate::spelling::{begin_compound, name_text, push_number, write_parts};
 use cti_terms::{Atom, Name, Names, PredId, Program};
-use ld_resolver::{Answer, Ending, Ran};
+use ld_resolver::{Answer, Ending, Ran, Totals};
 use std::alloc::{AllocError, Global};
 
 /// The name of a predicate, which is the first name for a number that the program does not have.
@@ -29,7 +29,8 @@ fn push_atom<'t>(
     out: &mut Vec<u8>,
 ) -> Result<(), AllocError>
     requires { stack.old.items ≡ [] }
-    ensures text { OnOk result (out.new.items ≡ out.old.items ++ atom_text names.now program.now.preds atom.now) }
+    ensures text { OnOk result
+        (out.new.items ≡ out.old.items ++ atom_text names.now program.now.preds atom.now) }
     ensures done { OnOk result (stack.new.items ≡ []) }
 {
     let name = name_text(names, predicate_name(program, atom.pred));
@@ -46,7 +47,8 @@ fn push_other_atoms<'t>(
     out: &mut Vec<u8>,
 ) -> Result<(), AllocError>
     requires { stack.old.items ≡ [] }
-    ensures { OnOk result (out.new.items ≡ out.old.items ++ flat_map (λ a. codes "," ++ atom_text names.now program.now.preds a) atoms.now) }
+    ensures { OnOk result (out.new.items ≡ out.old.items ++ flat_map
+        (λ a. codes "," ++ atom_text names.now program.now.preds a) atoms.now) }
 {
     for atom in atoms {
         out.push(b',')?;
@@ -63,7 +65,8 @@ fn push_atoms(
     atoms: &[Atom],
     out: &mut Vec<u8>,
 ) -> Result<(), AllocError>
-    ensures { OnOk result (out.new.items ≡ out.old.items ++ atoms_text names.now program.now.preds atoms.now) }
+    ensures { OnOk result (out.new.items ≡ out.old.items
+        ++ atoms_text names.now program.now.preds atoms.now) }
 {
     let Some((first, others)) = atoms.split_first() else {
         return Ok(());
@@ -74,14 +77,15 @@ fn push_atoms(
 }
 
 /// Appends the line of an answer.
-fn push_answer(
+pub(crate) fn push_answer(
     alloc: Global,
     names: &Names,
     program: &Program,
     answer: &Answer,
     out: &mut Vec<u8>,
 ) -> Result<(), AllocError>
-    ensures { OnOk result (out.new.items ≡ out.old.items ++ answer_line names.now program.now.preds answer.now) }
+    ensures { OnOk result (out.new.items ≡ out.old.items
+        ++ answer_line names.now program.now.preds answer.now) }
 {
     match answer {
         Answer::Atoms(atoms) => {
@@ -101,7 +105,8 @@ fn push_answers(
     answers: &[Answer],
     out: &mut Vec<u8>,
 ) -> Result<(), AllocError>
-    ensures { OnOk result (out.new.items ≡ out.old.items ++ flat_map (answer_line names.now program.now.preds) answers.now) }
+    ensures { OnOk result (out.new.items ≡ out.old.items
+        ++ flat_map (answer_line names.now program.now.preds) answers.now) }
 {
     for answer in answers {
         push_answer(alloc, names, program, answer, out)?;
@@ -121,15 +126,16 @@ fn ending_word(ending: Ending) -> &'static [u8]
 }
 
 /// Appends the last line.
-fn push_ran(ran: &Ran, out: &mut Vec<u8>) -> Result<(), AllocError>
-    ensures { OnOk result (out.new.items ≡ out.old.items ++ ran_line ran.now.steps ran.now.longest ran.now.ending) }
+pub(crate) fn push_ran(totals: Totals, out: &mut Vec<u8>) -> Result<(), AllocError>
+    ensures { OnOk result (out.new.items ≡ out.old.items
+        ++ ran_line totals.steps totals.longest totals.ending) }
 {
     out.extend_from_slice(b"ran(")?;
-    push_number(ran.steps, out)?;
+    push_number(totals.steps, out)?;
     out.push(b',')?;
-    push_number(ran.longest, out)?;
+    push_number(totals.longest, out)?;
     out.push(b',')?;
-    out.extend_from_slice(ending_word(ran.ending))?;
+    out.extend_from_slice(ending_word(totals.ending))?;
     out.extend_from_slice(b").\n")
 }
 
@@ -144,10 +150,16 @@ pub fn run_text(
     program: &Program,
     ran: &Ran,
 ) -> Result<Vec<u8>, AllocError>
-    ensures { IfOk result (λ text. text.items ≡ run_lines names.now program.now ran.now.answers ran.now.steps ran.now.longest ran.now.ending) }
+    ensures { IfOk result (λ text. text.items
+        ≡ run_lines names.now program.now ran.now.answers ran.now.steps ran.now.longest ran.now.ending) }
 {
     let mut out = Vec::new(alloc);
     push_answers(alloc, names, program, ran.answers.as_slice(), &mut out)?;
-    push_ran(ran, &mut out)?;
+    let totals = Totals {
+        steps: ran.steps,
+        longest: ran.longest,
+        ending: ran.ending,
+    };
+    push_ran(totals, &mut out)?;
     Ok(out)
 }

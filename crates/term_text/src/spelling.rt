@@ -66,8 +66,12 @@ fn push_both<'t>(
     second: Part<'t>,
     stack: &mut Vec<Part<'t>>,
 ) -> Result<(), AllocError>
-    ensures text { OnOk result ((names : List (List ℕ)) → left_text names stack.new.items ≡ part_text names first.entry ++ part_text names second.entry ++ left_text names stack.old.items) }
-    ensures work { OnOk result (left_work stack.new.items ≡ part_work first.entry + part_work second.entry + left_work stack.old.items) }
+    ensures text { OnOk result ((names : List (List ℕ))
+        → left_text names stack.new.items ≡ part_text names first.entry
+        ++ part_text names second.entry ++ left_text names stack.old.items) }
+    ensures work { OnOk result
+        (left_work stack.new.items
+        ≡ part_work first.entry + part_work second.entry + left_work stack.old.items) }
 {
     stack.push(second)?;
     stack.push(first)?;
@@ -82,8 +86,14 @@ fn begin_cell<'t>(
     stack: &mut Vec<Part<'t>>,
     out: &mut Vec<u8>,
 ) -> Result<(), AllocError>
-    ensures text { OnOk result ((names : List (List ℕ)) → out.new.items ++ left_text names stack.new.items ≡ out.old.items ++ (before ∷ (spelled names (tree_of head.now)).alone ++ (spelled names (tree_of tail.now)).as_tail) ++ left_text names stack.old.items) }
-    ensures work { OnOk result (left_work stack.new.items ≡ 3 * (nodes_of (tree_of head.now) + nodes_of (tree_of tail.now)) + left_work stack.old.items) }
+    ensures text { OnOk result ((names : List (List ℕ))
+        → out.new.items ++ left_text names stack.new.items ≡ out.old.items
+        ++ (before ∷ (spelled names (tree_of head.now)).alone
+        ++ (spelled names (tree_of tail.now)).as_tail) ++ left_text names stack.old.items) }
+    ensures work { OnOk result
+        (left_work stack.new.items
+        ≡ 3 * (nodes_of (tree_of head.now) + nodes_of
+        (tree_of tail.now)) + left_work stack.old.items) }
 {
     out.push(before)?;
     push_both(Part::Alone(head), Part::Tail(tail), stack)?;
@@ -98,8 +108,15 @@ fn begin_functional<'t>(
     stack: &mut Vec<Part<'t>>,
     out: &mut Vec<u8>,
 ) -> Result<(), AllocError>
-    ensures text { OnOk result ((names : List (List ℕ)) → out.new.items ++ left_text names stack.new.items ≡ out.old.items ++ (functional name.now (spelled names (tree_of first.now)) (all_spelled names (trees_of others.now))).alone ++ left_text names stack.old.items) }
-    ensures work { OnOk result (left_work stack.new.items ≡ 3 * (nodes_of (tree_of first.now) + all_nodes (trees_of others.now)) + left_work stack.old.items) }
+    ensures text { OnOk result ((names : List (List ℕ))
+        → out.new.items ++ left_text names stack.new.items ≡ out.old.items
+        ++ (functional name.now (spelled names (tree_of first.now))
+        (all_spelled names (trees_of others.now))).alone
+        ++ left_text names stack.old.items) }
+    ensures work { OnOk result
+        (left_work stack.new.items
+        ≡ 3 * (nodes_of (tree_of first.now) + all_nodes
+        (trees_of others.now)) + left_work stack.old.items) }
 {
     quote(name, out)?;
     out.push(b'(')?;
@@ -109,7 +126,8 @@ fn begin_functional<'t>(
 
 /// The head and the tail of a list, where a name has these arguments.
 fn cell_of<'t>(name: &[u8], args: &'t [Term]) -> Option<(&'t Term, &'t Term)>
-    ensures { MatchOption result ((length args.now == 2 && is_dot name.now) ≡ false) (λ p. (args.now ≡ p.0.now ∷ p.1.now ∷ []) × (is_dot name.now ≡ true)) }
+    ensures { MatchOption result ((length args.now == 2 && is_dot name.now) ≡ false)
+        (λ p. (args.now ≡ p.0.now ∷ p.1.now ∷ []) × (is_dot name.now ≡ true)) }
 {
     match args {
         [head, tail] if is_dot(name) => Some((head, tail)),
@@ -132,8 +150,13 @@ pub fn begin_compound<'t>(
     stack: &mut Vec<Part<'t>>,
     out: &mut Vec<u8>,
 ) -> Result<(), AllocError>
-    ensures text { OnOk result ((names : List (List ℕ)) → out.new.items ++ left_text names stack.new.items ≡ out.old.items ++ (compound name.now (all_spelled names (trees_of args.now))).alone ++ left_text names stack.old.items) }
-    ensures work { OnOk result (left_work stack.new.items ≤ 3 * all_nodes (trees_of args.now) + left_work stack.old.items) }
+    ensures text { OnOk result ((names : List (List ℕ))
+        → out.new.items ++ left_text names stack.new.items ≡ out.old.items
+        ++ (compound name.now (all_spelled names (trees_of args.now))).alone
+        ++ left_text names stack.old.items) }
+    ensures work { OnOk result
+        (left_work stack.new.items
+        ≤ 3 * all_nodes (trees_of args.now) + left_work stack.old.items) }
 {
     if let Some((head, tail)) = cell_of(name, args) {
         return begin_cell(b'[', head, tail, stack, out);
@@ -151,8 +174,12 @@ fn begin_term<'t>(
     stack: &mut Vec<Part<'t>>,
     out: &mut Vec<u8>,
 ) -> Result<(), AllocError>
-    ensures text { OnOk result (out.new.items ++ left_text names.now stack.new.items ≡ out.old.items ++ (spelled names.now (tree_of term.now)).alone ++ left_text names.now stack.old.items) }
-    ensures work { OnOk result (left_work stack.new.items < 3 * nodes_of (tree_of term.now) - 1 + left_work stack.old.items) }
+    ensures text { OnOk result (out.new.items ++ left_text names.now stack.new.items ≡ out.old.items
+        ++ (spelled names.now (tree_of term.now)).alone
+        ++ left_text names.now stack.old.items) }
+    ensures work { OnOk result
+        (left_work stack.new.items < 3 * nodes_of
+        (tree_of term.now) - 1 + left_work stack.old.items) }
 {
     match term {
         Term::Var(number) => {
@@ -170,8 +197,12 @@ fn begin_other_tail<'t>(
     stack: &mut Vec<Part<'t>>,
     out: &mut Vec<u8>,
 ) -> Result<(), AllocError>
-    ensures text { OnOk result ((names : List (List ℕ)) → out.new.items ++ left_text names stack.new.items ≡ out.old.items ++ (no_list (spelled names (tree_of tail.now)).alone).as_tail ++ left_text names stack.old.items) }
-    ensures work { OnOk result (left_work stack.new.items ≡ 3 * nodes_of (tree_of tail.now) + left_work stack.old.items) }
+    ensures text { OnOk result ((names : List (List ℕ))
+        → out.new.items ++ left_text names stack.new.items ≡ out.old.items
+        ++ (no_list (spelled names (tree_of tail.now)).alone).as_tail
+        ++ left_text names stack.old.items) }
+    ensures work { OnOk result
+        (left_work stack.new.items ≡ 3 * nodes_of (tree_of tail.now) + left_work stack.old.items) }
 {
     out.push(b'|')?;
     push_both(Part::Alone(tail), Part::ListEnd, stack)?;
@@ -187,9 +218,13 @@ fn begin_compound_tail<'t>(
     stack: &mut Vec<Part<'t>>,
     out: &mut Vec<u8>,
 ) -> Result<(), AllocError>
-    ensures text { OnOk result ((names : List (List ℕ)) → spelled names (tree_of tail.now) ≡ compound name.now (all_spelled names (trees_of args.now))
-        → out.new.items ++ left_text names stack.new.items ≡ out.old.items ++ (spelled names (tree_of tail.now)).as_tail ++ left_text names stack.old.items) }
-    ensures work { OnOk result (left_work stack.new.items ≤ 3 * max (all_nodes (trees_of args.now)) (nodes_of (tree_of tail.now)) + left_work stack.old.items) }
+    ensures text { OnOk result ((names : List (List ℕ))
+        → spelled names (tree_of tail.now)
+        ≡ compound name.now (all_spelled names (trees_of args.now))
+        → out.new.items ++ left_text names stack.new.items ≡ out.old.items
+        ++ (spelled names (tree_of tail.now)).as_tail ++ left_text names stack.old.items) }
+    ensures work { OnOk result (left_work stack.new.items ≤ 3 * max (all_nodes (trees_of args.now))
+        (nodes_of (tree_of tail.now)) + left_work stack.old.items) }
 {
     if let Some((head, rest)) = cell_of(name, args) {
         return begin_cell(b',', head, rest, stack, out);
@@ -207,8 +242,11 @@ fn begin_tail<'t>(
     stack: &mut Vec<Part<'t>>,
     out: &mut Vec<u8>,
 ) -> Result<(), AllocError>
-    ensures text { OnOk result (out.new.items ++ left_text names.now stack.new.items ≡ out.old.items ++ (spelled names.now (tree_of tail.now)).as_tail ++ left_text names.now stack.old.items) }
-    ensures work { OnOk result (left_work stack.new.items ≤ 3 * nodes_of (tree_of tail.now) + left_work stack.old.items) }
+    ensures text { OnOk result (out.new.items ++ left_text names.now stack.new.items ≡ out.old.items
+        ++ (spelled names.now (tree_of tail.now)).as_tail
+        ++ left_text names.now stack.old.items) }
+    ensures work { OnOk result
+        (left_work stack.new.items ≤ 3 * nodes_of (tree_of tail.now) + left_work stack.old.items) }
 {
     match tail {
         Term::Fun(name, args) => begin_compound_tail(
@@ -228,8 +266,12 @@ fn begin_arguments<'t>(
     stack: &mut Vec<Part<'t>>,
     out: &mut Vec<u8>,
 ) -> Result<(), AllocError>
-    ensures text { OnOk result ((names : List (List ℕ)) → out.new.items ++ left_text names stack.new.items ≡ out.old.items ++ other_arguments (all_spelled names (trees_of args.now)) ++ left_text names stack.old.items) }
-    ensures work { OnOk result (left_work stack.new.items ≤ 3 * all_nodes (trees_of args.now) + left_work stack.old.items) }
+    ensures text { OnOk result ((names : List (List ℕ))
+        → out.new.items ++ left_text names stack.new.items ≡ out.old.items ++ other_arguments
+        (all_spelled names (trees_of args.now)) ++ left_text names stack.old.items) }
+    ensures work { OnOk result
+        (left_work stack.new.items
+        ≤ 3 * all_nodes (trees_of args.now) + left_work stack.old.items) }
 {
     match args {
         [] => out.extend_from_slice(b")"),
@@ -248,8 +290,10 @@ fn begin_part<'t>(
     stack: &mut Vec<Part<'t>>,
     out: &mut Vec<u8>,
 ) -> Result<(), AllocError>
-    ensures text { OnOk result (out.new.items ++ left_text names.now stack.new.items ≡ out.old.items ++ part_text names.now part.entry ++ left_text names.now stack.old.items) }
-    ensures work { OnOk result (left_work stack.new.items < part_work part.entry + left_work stack.old.items) }
+    ensures text { OnOk result (out.new.items ++ left_text names.now stack.new.items ≡ out.old.items
+        ++ part_text names.now part.entry ++ left_text names.now stack.old.items) }
+    ensures work { OnOk result
+        (left_work stack.new.items < part_work part.entry + left_work stack.old.items) }
 {
     match part {
         Part::Alone(term) => begin_term(names, term, stack, out),
@@ -265,7 +309,8 @@ pub fn write_parts<'t>(
     stack: &mut Vec<Part<'t>>,
     out: &mut Vec<u8>,
 ) -> Result<(), AllocError>
-    ensures text { OnOk result (out.new.items ≡ out.old.items ++ left_text names.now stack.old.items) }
+    ensures text { OnOk result
+        (out.new.items ≡ out.old.items ++ left_text names.now stack.old.items) }
     ensures done { OnOk result (stack.new.items ≡ []) }
 {
     while let Some(part) = stack.pop() {

@@ -1,8 +1,8 @@
-use Rattle.ld_resolver.specs.Progress.{IsUnderWay, to_do}
+use Rattle.ld_resolver.specs.Progress.{HasGiven, answers_ahead}
 use Rattle.ld_resolver.proofs.running.run.Given as goal
 
-abbrev pub invariant-loop-ran : goal.invariant-loop-ran
-invariant-loop-ran l = IsUnderWay l.program l.goal l.budget l.search l.ran.steps l.ran.longest l.ran.answers
+abbrev pub invariant-loop-answers : goal.invariant-loop-answers
+invariant-loop-answers l = HasGiven l.program l.goal l.budget l.running l.answers
 
-abbrev pub decreases-loop-ran : goal.decreases-loop-ran
-decreases-loop-ran l = to_do l.program l.budget l.search l.ran.steps
+abbrev pub decreases-loop-answers : goal.decreases-loop-answers
+decreases-loop-answers l = answers_ahead l.running
