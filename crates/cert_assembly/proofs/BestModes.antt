@@ -15,7 +15,7 @@ use Rattle.cti_terms.specs.Tree.{Tree}
 use Rattle.cti_terms.specs.declared.predicates.Pred.{Pred}
 use Rattle.precond_fixpoint.proofs.Searching.{larger_inside, upper_length}
 use Rattle.precond_fixpoint.specs.Greatest.{IsGreatestIn, IsInsideIn, IsWithinIn, KeepsIn, Solved, SomeSolved}
-use Rattle.termination_model.proofs.ViewLaws.{upper_all}
+use Rattle.termination_model.proofs.UpperRows.{upper_all}
 use Rattle.termination_model.specs.Descent.{mode_row}
 use Rattle.termination_model.specs.Grounds.{Family, HasArity}
 use Rattle.termination_model.specs.Modes.{chosen_up_to, is_part, modes}

@@ -32,7 +32,8 @@ use Rattle.termination_model.proofs.Lists.{by_places, indexed, place_below}
 use Rattle.termination_model.specs.Grounds.{HasArity}
 use Rattle.termination_model.specs.Sizes.{AreSizes, plain_or_none, rows_of}
 use Rattle.termination_model.specs.Stated.{stated_rows}
-use Rattle.termination_model.specs.Systems.{row_over, short_row, short_system, system}
+use Rattle.termination_model.specs.Systems.{row_over, system}
+use Rattle.termination_model.specs.ShortSystems.{short_row, short_system}
 use Rattle.cert_assembly.specs.Sizing.{SizesHold}
 use Rattle.cert_assembly.specs.Ranges.{AreBelow, AreMultipliersBelow}
 use Rattle.cert_assembly.proofs.ModeLaws.{each_from, each_in, there}
@@ -55,7 +56,7 @@ pub amounts_of : (zs : List ℤ) → All (λ z. pos 0 ≤ℤ z) zs → AreBelow 
 amounts_of [] h b = tt
 amounts_of (z ∷ zs) h b = ((All-head (λ z. pos 0 ≤ℤ z) z zs h, b.0), amounts_of zs (All-tail (λ z. pos 0 ≤ℤ z) z zs h) b.1)
 
-pub multipliers_of : (n k : ℕ) (m : Multipliers) → n ≡ k → AreMultipliers n m → AreMultipliersBelow m → shape.AreMultipliers k m
+pub multipliers_of : (n k : ℕ) (m : Multipliers) → n ≡ k → AreMultipliers n m → AreMultipliersBelow m → shape.HaveMultipliers k m
 multipliers_of n k m same are below = (are.each ∙ same, (are.scale, below.0), amounts_of m.list are.naturals below.1)
 
 -- ---- rows
@@ -160,7 +161,7 @@ module _ (expression : ℕ → Tree → List ℤ) (p : Listing) (rows : List Row
   clause_there : (k : ℕ) (ms : List Multipliers) → slice_get proofs k ≡ Some ms → (c : Clause) × (slice_get p.clauses k ≡ Some c)
   clause_there k ms e = let l = place_below proofs k ms e in let n = proved_count expression (rows_of rows) p.clauses proofs proved in there p.clauses k (omega arith)
 
-  proof_shape : (k : ℕ) (ms : List Multipliers) → slice_get proofs k ≡ Some ms → AreEach (shape.rows_of rows (shape.head_of p k)) (λ _. shape.AreMultipliers (shape.rows_of_atoms rows (shape.body_of p k))) ms
+  proof_shape : (k : ℕ) (ms : List Multipliers) → slice_get proofs k ≡ Some ms → AreEach (shape.rows_of rows (shape.head_of p k)) (λ _. shape.HaveMultipliers (shape.rows_of_atoms rows (shape.body_of p k))) ms
   proof_shape k ms e =
       let c = clause_there k ms e in
       let is = proved_at expression (rows_of rows) p.clauses proofs proved k c.0 ms c.1 e in
@@ -168,7 +169,7 @@ module _ (expression : ℕ → Tree → List ℤ) (p : Listing) (rows : List Row
       let over = row_over expression c.0.vars c.0.head.args in
       let head = sym (clause_head p k c.0 c.1) in
       let atoms = short_count expression rows c.0.vars c.0.body ∙ ap (shape.rows_of_atoms rows) (sym (clause_body p k c.0 c.1)) in
-      are_each (shape.rows_of rows (shape.head_of p k)) (λ _. shape.AreMultipliers (shape.rows_of_atoms rows (shape.body_of p k))) ms
+      are_each (shape.rows_of rows (shape.head_of p k)) (λ _. shape.HaveMultipliers (shape.rows_of_atoms rows (shape.body_of p k))) ms
       (shown_count body over (rows_of rows c.0.head.pred.0) ms is ∙ row_count_is rows c.0.head.pred.0 ∙ ap (shape.rows_of rows) head)
       (λ i m f. multipliers_of (length body) (shape.rows_of_atoms rows (shape.body_of p k)) m atoms (shown_numbers body over (rows_of rows c.0.head.pred.0) ms is i m f) (by_places AreMultipliersBelow ms (by_places (AllByRecursion AreMultipliersBelow) proofs below k ms e) i m f))
 
@@ -184,7 +185,7 @@ module _ (expression : ℕ → Tree → List ℤ) (p : Listing) (rows : List Row
   pub chain_sizes_hold : SizesHold expression p rows proofs
   chain_sizes_hold = record {
     shape = are_each (length p.preds) (λ q r. (r.width ≡ shape.arity_in p q) × AllByRecursion (shape.IsSizeRow (shape.arity_in p q)) r.list) rows sizes.each rows_shape;
-    proofs_shape = are_each (length p.clauses) (λ k. AreEach (shape.rows_of rows (shape.head_of p k)) (λ _. shape.AreMultipliers (shape.rows_of_atoms rows (shape.body_of p k)))) proofs
+    proofs_shape = are_each (length p.clauses) (λ k. AreEach (shape.rows_of rows (shape.head_of p k)) (λ _. shape.HaveMultipliers (shape.rows_of_atoms rows (shape.body_of p k)))) proofs
         (proved_count expression (rows_of rows) p.clauses proofs proved) proof_shape;
     stated = λ q b e. subst (λ (rs : List (List ℤ)). AllByRecursion (λ r. In r (stated_rows b)) rs) (sym (ends q b e)) (each_in (λ r. In r (stated_rows b)) (stated_rows b) (λ r h. h));
     hold = keeps;

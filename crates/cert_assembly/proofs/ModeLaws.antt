@@ -23,6 +23,7 @@ use Rattle.truth_rows.specs.Rules.{KeepsSets}
 use Rattle.linear_rows.specs.Members.{In}
 use Rattle.linear_rows.proofs.Members.{of-filter}
 use Rattle.cert_modes.specs.Modes.{allowed, coefficients_of, cube_row, grounds_of, is_row, precondition}
+use Rattle.termination_model.specs.Chain.{is_number}
 use Rattle.termination_model.specs.Descent.{mode_row}
 use Rattle.termination_model.specs.Grounds.{HasArity, truth_row, IsGround, IsClosed, IsClosedUnder}
 use Rattle.termination_model.specs.Modes.{modes, chosen_up_to, is_part}
@@ -31,6 +32,11 @@ use Rattle.termination_model.proofs.Sets.{up_to_set}
 use Rattle.termination_model.specs.Minimal.{IsSet}
 use Rattle.cert_assembly.specs.ExactModes.{is_member, PreIsGreatest, ModesAreExact, AreCounted, HoldWithShape, ExactModesHold}
 use Rattle.precond_fixpoint.proofs.Searching.{by_place}
+
+-- a predicate of a component, by either test
+same_number : (o : Option ℕ) (c : ℕ) → is_same o (Some c) ≡ is_number c o
+same_number None c = refl
+same_number (Some d) c = refl
 
 from_places : {X : Type 0} (P : X → Type 0) (xs : List X) → ((i : ℕ) (x : X) → slice_get xs i ≡ Some x → P x) → AllByRecursion P xs
 from_places P [] h = tt
@@ -159,7 +165,7 @@ module _ (truth : (ℕ → Bool) → Tree → Bool) (p : Listing) (program : IsP
   in_component q d e = let l = place_below p.preds q d e in let each = components.each in there comps.of q (omega arith)
 
   pub member_is : (c q : ℕ) → IsIn comps c q → is_member comps c q ≡ true
-  member_is c q h = ap (λ (o : Option ℕ). is_same o (Some c)) h ∙ self c
+  member_is c q h = ap (λ (o : Option ℕ). is_number c o) h ∙ self c
     where
       self : (c : ℕ) → (c == c) ≡ true
       self c = grind (arith, nat_tests)
@@ -167,7 +173,7 @@ module _ (truth : (ℕ → Bool) → Tree → Bool) (p : Listing) (program : IsP
   pub of_member : (c q : ℕ) → is_member comps c q ≡ true → IsIn comps c q
   of_member c q h = go (slice_get comps.of q) refl h
     where
-      go : (o : Option ℕ) → slice_get comps.of q ≡ o → is_same o (Some c) ≡ true → slice_get comps.of q ≡ Some c
+      go : (o : Option ℕ) → slice_get comps.of q ≡ o → is_number c o ≡ true → slice_get comps.of q ≡ Some c
       go None e k = cc
       go (Some d) e k = e ∙ ap Some (eqb-true d c k)
 
@@ -198,7 +204,7 @@ module _ (truth : (ℕ → Bool) → Tree → Bool) (p : Listing) (program : IsP
         atom_is = by_place (IsAtom p.preds k.vars) k.body is.body j b at
 
         together_is : is_together comps b.pred.0 k.head.pred.0 ≡ is_member comps c b.pred.0
-        together_is = ap (λ (o : Option ℕ). is_same (slice_get comps.of b.pred.0) o) inh
+        together_is = ap (λ (o : Option ℕ). is_same (slice_get comps.of b.pred.0) o) inh ∙ same_number (slice_get comps.of b.pred.0) c
 
         go : (t : Bool) → is_member comps c b.pred.0 ≡ t → IsGround truth (if is_member comps c b.pred.0 then pre.family else allowed p parts) v b
             → IsGround truth (if is_together comps b.pred.0 k.head.pred.0 then precondition p parts m else allowed p parts) v b

@@ -11,7 +11,7 @@ use Rattle.bool_diagrams.specs.declared.cube.Cell.{Cell}
 use Rattle.bool_diagrams.specs.declared.diagram.Diagram.{Diagram}
 use Rattle.call_components.specs.Partition.{AreComponents, IsIn, Partition}
 use Rattle.cert_modes.specs.Modes.{allowed, coefficients_of, cube_row, grounds_of, is_row, natural, naturals}
-use Rattle.cert_structure.specs.Shape.{is_same, items_of}
+use Rattle.cert_structure.specs.Shape.{items_of}
 use Rattle.cert_structure.specs.declared.parts.Parts.{Parts}
 use Rattle.cti_terms.specs.Listing.{Listing}
 use Rattle.cti_terms.specs.Tree.{Tree}
@@ -21,7 +21,7 @@ use Rattle.number_tests.specs.Levels as parted
 use Rattle.number_tests.specs.declared.level_part.LevelPart.{LevelPart}
 use Rattle.precond_fixpoint.specs.Greatest.{IsGreatestIn}
 use Rattle.precond_fixpoint.specs.Solving as solving
-use Rattle.precond_fixpoint.specs.Solving.{allowed_family, arguments_of, is_at, pre_family}
+use Rattle.precond_fixpoint.specs.Solving.{allowed_family, arguments_of, pre_family}
 use Rattle.precond_fixpoint.specs.declared.mode.Mode.{Mode}
 use Rattle.termination_model.proofs.Lists.{mapped_place, place_below}
 use Rattle.termination_model.specs.Grounds.{Family}
@@ -68,10 +68,6 @@ any_mapped f g [] = refl
 any_mapped f g (x ∷ xs) = ap (λ b. f (g x) || b) (any_mapped f g xs)
 
 -- ---- the same words
-is_member_same : (o : Option ℕ) (c : ℕ) → is_at o c ≡ is_same o (Some c)
-is_member_same None c = refl
-is_member_same (Some d) c = refl
-
 natural_same : (z : ℤ) → parted.natural z ≡ natural z
 natural_same (pos n) = refl
 natural_same (negsuc n) = refl
@@ -175,7 +171,7 @@ module _ (truth : (ℕ → Bool) → Tree → Bool) (p : Listing) (comps : Parti
   coefficients_same m = ap (λ (ls : List (List LevelPart)). parted.coefficients_of ls m) (sym parts_are.levels_are) ∙ (λ i q. naturals_same (slice_get (items_of parts.levels q) m) i)
 
   members_same : (c : ℕ) → solving.is_member comps c ≡ is_member comps c
-  members_same c = λ i q. is_member_same (slice_get comps.of q) c i
+  members_same c = refl
 
   level_count : (q : ℕ) → length (items_of parts.levels q) ≡ length (items_of levels q)
   level_count q = ap (λ (ls : List (List LevelPart)). length (items_of ls q)) parts_are.levels_are

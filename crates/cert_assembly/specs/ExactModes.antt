@@ -9,19 +9,16 @@ use Rattle.bool_diagrams.specs.Cubes.{cubes}
 use Rattle.bool_diagrams.specs.declared.cube.Cell.{Cell}
 use Rattle.call_components.specs.Partition.{Partition, AreComponents, IsIn}
 use Rattle.cert_structure.specs.Numbered.{AreEach}
-use Rattle.cert_structure.specs.Shape.{arity_in, HasWidth, is_same, IsMode, items_of}
+use Rattle.cert_structure.specs.Shape.{arity_in, HasWidth, IsMode, items_of}
 use Rattle.cert_structure.specs.declared.parts.Parts.{Parts}
 use Rattle.cti_terms.specs.Listing.{Listing, IsProgram}
 use Rattle.cti_terms.specs.Tree.{Tree}
 use Rattle.cti_terms.specs.declared.predicates.Pred.{Pred}
 use Rattle.cert_modes.specs.Modes.{allowed, coefficients_of, grounds_of, ModesHold}
+pub use Rattle.termination_model.specs.Chain.{is_member}
 use Rattle.termination_model.specs.Grounds.{Family, IsLeast}
 use Rattle.termination_model.specs.Modes.{modes}
 use Rattle.precond_fixpoint.specs.Greatest.{IsGreatestIn}
-
--- whether a predicate is of the component c
-abbrev pub is_member : Partition → ℕ → ℕ → Bool
-is_member comps c q = is_same (slice_get comps.of q) (Some c)
 
 module _ (truth : (ℕ → Bool) → Tree → Bool) (p : Listing) (comps : Partition) (parts : Parts) where
   -- the ground rows are those of the least family

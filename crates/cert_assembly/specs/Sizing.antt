@@ -6,7 +6,7 @@ use Rattle.std.specs.Prelude.{◌≡◌, ℕ, ℤ, List, All, Some, length, map,
 use Rattle.std.specs.List.{AllByRecursion}
 use Rattle.call_components.specs.Partition.{Partition}
 use Rattle.cert_structure.specs.Numbered.{AreEach}
-use Rattle.cert_structure.specs.Shape.{arity_in, AreMultipliers, body_of, head_of, IsSizeRow, rows_of, rows_of_atoms}
+use Rattle.cert_structure.specs.Shape.{arity_in, HaveMultipliers, body_of, head_of, IsSizeRow, rows_of, rows_of_atoms}
 use Rattle.cert_structure.specs.declared.parts.Parts.{Parts}
 use Rattle.cti_terms.specs.Listing.{Listing}
 use Rattle.cti_terms.specs.Tree.{Tree}
@@ -36,7 +36,7 @@ pub record IsSolvedChain (expression : ℕ → Tree → List ℤ) (p : Listing) 
 -- what the model of sizes gives: the shape of its parts, that built-in predicates have their stated rows, and that its numbers hold
 pub record SizesHold (expression : ℕ → Tree → List ℤ) (p : Listing) (rows : List Rows) (proofs : List (List Multipliers)) : Type 0 where
   pub shape : AreEach (length p.preds) (λ a r. (r.width ≡ arity_in p a) × AllByRecursion (IsSizeRow (arity_in p a)) r.list) rows
-  pub proofs_shape : AreEach (length p.clauses) (λ k. AreEach (rows_of rows (head_of p k)) (λ _. AreMultipliers (rows_of_atoms rows (body_of p k)))) proofs
+  pub proofs_shape : AreEach (length p.clauses) (λ k. AreEach (rows_of rows (head_of p k)) (λ _. HaveMultipliers (rows_of_atoms rows (body_of p k)))) proofs
   pub stated : AreStated p.arithmetic (size_rows_of rows)
   pub hold : (k : ℕ) (c : Clause) → slice_get p.clauses k ≡ Some c → RowsAreKept expression rows c (list_at proofs k)
 

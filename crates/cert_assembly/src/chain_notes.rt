@@ -32,9 +32,10 @@ fn head_of(p: &Program, clause: u32) -> PredId
 fn row_numbers(alloc: Global, row: &Row) -> Result<Sequence<i128>, AllocError>
     ensures { IfOk result (λ numbers. numbers ≡ plain_row row.now) }
 {
-    let mut numbers = Vec::new(alloc);
+    let coeffs = row.coeffs.as_slice();
+    let mut numbers = Vec::with_capacity(alloc, coeffs.len() + 1)?;
     numbers.push(row.constant)?;
-    numbers.extend_from_slice(row.coeffs.as_slice())?;
+    numbers.extend_from_slice(coeffs)?;
     Ok(Sequence::from_vec(numbers))
 }
 
@@ -70,7 +71,9 @@ fn image_note(
     number: u64,
     step: &Step,
 ) -> Result<Fact, AllocError>
-    ensures { IfOk result (λ note. note ≡ fact.Image number step.now.clause (pred_text p.now names.now (head_of p.now (step.now.clause - 1))) (plain_rows step.now.image.list)) }
+    ensures { IfOk result (λ note. note ≡ fact.Image number step.now.clause
+        (pred_text p.now names.now (head_of p.now (step.now.clause - 1)))
+        (plain_rows step.now.image.list)) }
 {
     Ok(Fact::Image {
         step: number,
@@ -88,7 +91,9 @@ fn rows_note(
     number: u64,
     step: &Step,
 ) -> Result<Fact, AllocError>
-    ensures { IfOk result (λ note. note ≡ fact.Step number (pred_text p.now names.now (head_of p.now (step.now.clause - 1))) (how_noted step.now.how) (plain_rows step.now.rows.list)) }
+    ensures { IfOk result (λ note. note
+        ≡ fact.Step number (pred_text p.now names.now (head_of p.now (step.now.clause - 1)))
+        (how_noted step.now.how) (plain_rows step.now.rows.list)) }
 {
     Ok(Fact::Step {
         step: number,
@@ -114,7 +119,8 @@ fn note_step(
     step: &Step,
     out: &mut Sequence<Fact>,
 ) -> Result<(), AllocError>
-    ensures { OnOk result (out.new ≡ out.old ++ step_notes p.now names.now number (plain_step step.now)) }
+    ensures { OnOk result (out.new ≡ out.old ++ step_notes p.now names.now number
+        (plain_step step.now)) }
 {
     out.push(image_note(alloc, p, names, number, step)?)?;
     out.push(rows_note(alloc, p, names, number, step)?)?;
@@ -122,18 +128,22 @@ fn note_step(
     note_if(step.step_weak, Fact::WeakStep { step: number }, out)
 }
 
-/// Puts the notes of a chain after others.
+/// Puts the notes of a chain after others. Each step is dropped once it is noted, so that no image is held twice.
 pub fn note_chain(
     alloc: Global,
     p: &Program,
     names: &Names,
-    steps: &[Step],
+    steps: Sequence<Step>,
     out: &mut Sequence<Fact>,
 ) -> Result<(), AllocError>
-    ensures { OnOk result (out.new ≡ out.old ++ chain_notes p.now names.now (map plain_step steps.now)) }
+    ensures { OnOk result (out.new ≡ out.old ++ chain_notes p.now names.now
+        (map plain_step steps)) }
 {
-    for (index, step) in steps.iter().enumerate() {
-        note_step(alloc, p, names, index as u64 + 1, step, out)?;
+    let _count = steps.len();
+    let mut number = 0;
+    for step in steps.into_vec() {
+        number += 1;
+        note_step(alloc, p, names, number, &step, out)?;
     }
     Ok(())
 }

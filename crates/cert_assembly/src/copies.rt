@@ -28,7 +28,7 @@ pub fn copied_part(alloc: Global, part: &LevelPart) -> Result<LevelPart, AllocEr
     })
 }
 
-// The same point once more.
+/// The same point once more.
 fn copied_point(alloc: Global, point: &Point) -> Result<Point, AllocError>
     ensures { IfOk result (λ copy. copy ≡ point.now) }
 {
@@ -38,7 +38,7 @@ fn copied_point(alloc: Global, point: &Point) -> Result<Point, AllocError>
     })
 }
 
-// The same second point once more, if there is one.
+/// The same second point once more, if there is one.
 fn copied_second(alloc: Global, at: &Option<Point>) -> Result<Option<Point>, AllocError>
     ensures { IfOk result (λ copy. copy ≡ at.now) }
 {
@@ -48,7 +48,7 @@ fn copied_second(alloc: Global, at: &Option<Point>) -> Result<Option<Point>, All
     }
 }
 
-// The same pair with its points once more.
+/// The same pair with its points once more.
 fn copied_pair(alloc: Global, pair: &PairPoint) -> Result<PairPoint, AllocError>
     ensures { IfOk result (λ copy. copy ≡ pair.now) }
 {

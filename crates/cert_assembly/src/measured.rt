@@ -50,7 +50,8 @@ impl Measured<'_> {
         requires levels { AreLevels self.now.p.now self.now.comps.now parts.old.levels }
         ensures numbers { OnOk result (KeepsNumbers parts.old parts.new) }
         ensures grounds { OnOk result (parts.new.grounds ≡ parts.old.grounds) }
-        ensures preconditions { OnOk result (HavePreconditions (any_truth self.now.norm) self.now.p.now self.now.comps.now
+        ensures preconditions { OnOk result
+            (HavePreconditions (any_truth self.now.norm) self.now.p.now self.now.comps.now
             table.old table.new grounds.now parts.old.levels parts.new) }
     {
         let pre = solve_levels(
@@ -72,7 +73,8 @@ impl Measured<'_> {
         requires components { AreComponents self.now.p.now self.now.comps.now }
         requires levels { AreLevels self.now.p.now self.now.comps.now parts.old.levels }
         ensures numbers { OnOk result (KeepsNumbers parts.old parts.new) }
-        ensures sets { OnOk result (HaveSets (any_truth self.now.norm) self.now.p.now self.now.comps.now parts.new) }
+        ensures sets { OnOk result
+            (HaveSets (any_truth self.now.norm) self.now.p.now self.now.comps.now parts.new) }
     {
         let mut table = Table::new(alloc)?;
         let grounds = groundness::solve(alloc, self.p, self.comps, &self.norm, &mut table)?;

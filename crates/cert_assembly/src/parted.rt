@@ -30,7 +30,8 @@ pub fn part_of(
     q: PredId,
 ) -> Result<LevelPart, AllocError>
     requires { q.0 < length p.now.preds }
-    ensures { IfOk result (λ part. part ≡ part_or_zero (arity_in p.now q.0) (level_in measures.now q.0)) }
+    ensures { IfOk result (λ part. part ≡ part_or_zero (arity_in p.now q.0)
+        (level_in measures.now q.0)) }
 {
     for measure in measures {
         if measure.pred.0 == q.0 {

@@ -24,7 +24,8 @@ fn spelled(
 ) -> Result<Sequence<Cube>, AllocError>
     requires sets { AreSets p.now.preds table.now sets.now }
     requires there { q < length p.now.preds }
-    ensures { IfOk result (λ list. list ≡ spelled (slice_get p.now.preds q) table.now (slice_get sets.now q)) }
+    ensures { IfOk result (λ list. list ≡ spelled (slice_get p.now.preds q) table.now
+        (slice_get sets.now q)) }
 {
     let set = sets[q as usize];
     let cubes = table.paths(set, p.pred(PredId(q)).arity)?;
@@ -55,9 +56,12 @@ fn spelled_each(
     arity: u32,
     sets: &[Diagram],
 ) -> Result<Sequence<Sequence<Cube>>, AllocError>
-    requires known { (m : ℕ) (d : TheDiagram) → slice_get sets.now m ≡ Some d → IsDiagram table.now d }
-    requires reads { (m : ℕ) (d : TheDiagram) → slice_get sets.now m ≡ Some d → ReadsBelow table.now d arity }
-    ensures { IfOk result (λ lists. lists ≡ map (λ d. cubes arity (truth_rows table.now d)) sets.now) }
+    requires known { (m : ℕ) (d : TheDiagram) → slice_get sets.now m ≡ Some d
+        → IsDiagram table.now d }
+    requires reads { (m : ℕ) (d : TheDiagram) → slice_get sets.now m ≡ Some d
+        → ReadsBelow table.now d arity }
+    ensures { IfOk result (λ lists. lists ≡ map
+        (λ d. cubes arity (truth_rows table.now d)) sets.now) }
 {
     let mut lists = Sequence::new(alloc);
     for set in sets {
@@ -76,7 +80,8 @@ fn spelled_at(
 ) -> Result<Sequence<Sequence<Cube>>, AllocError>
     requires sets { AreMappingSets p.now.preds table.now sets.now }
     requires there { q < length p.now.preds }
-    ensures { IfOk result (λ lists. lists ≡ spelled_each p.now.preds table.now (slice_get p.now.preds q) (items_of sets.now q)) }
+    ensures { IfOk result (λ lists. lists ≡ spelled_each p.now.preds table.now
+        (slice_get p.now.preds q) (items_of sets.now q)) }
 {
     let own = &sets[q as usize];
     spelled_each(alloc, table, p.pred(PredId(q)).arity, own.as_slice())

@@ -45,7 +45,7 @@ use Rattle.term_size.specs.Occurrences.{size_row}
 use Rattle.termination_model.proofs.ChainKeeping.{chains_state}
 use Rattle.termination_model.specs.Chain.{IsLegalChain}
 use Rattle.termination_model.specs.Sizes.{AreSizes, rows_of}
-use Rattle.termination_model.specs.Systems.{short_system}
+use Rattle.termination_model.specs.ShortSystems.{short_system}
 use Rattle.termination_model.specs.declared.sizes.Sizes.{Sizes}
 use Rattle.lex_measures.proofs.DropShapes.{drops_are_shown, drops_shape}
 use Rattle.lex_measures.proofs.FoundExact.{component_is_exact}
@@ -134,8 +134,8 @@ module _ (p : Listing) (names : List (List ℕ)) (comps : Partition) (sizes : Si
   have_shape = record {
     modes = same_each parts.modes modes_hold.modes;
     rows = same_each parts.rows sizes_hold.shape;
-    row_proofs = weaker_each (λ k. old.AreEach (shape.rows_of parts.rows (head_of p k)) (λ _. shape.AreMultipliers (rows_of_atoms parts.rows (body_of p k))))
-        (λ k. AreEach (shape.rows_of parts.rows (head_of p k)) (λ _. shape.AreMultipliers (rows_of_atoms parts.rows (body_of p k)))) (λ k ms is. same_each ms is) parts.row_proofs sizes_hold.proofs_shape;
+    row_proofs = weaker_each (λ k. old.AreEach (shape.rows_of parts.rows (head_of p k)) (λ _. shape.HaveMultipliers (rows_of_atoms parts.rows (body_of p k))))
+        (λ k. AreEach (shape.rows_of parts.rows (head_of p k)) (λ _. shape.HaveMultipliers (rows_of_atoms parts.rows (body_of p k)))) (λ k ms is. same_each ms is) parts.row_proofs sizes_hold.proofs_shape;
     grounds = same_each parts.grounds modes_hold.grounds;
     lists = lists_are;
     drops = drops_are;

@@ -17,7 +17,7 @@ use Rattle.cert_structure.specs.Shape.{arity_in, first_of, is_recursive, items_o
 use Rattle.cti_terms.specs.Listing.{IsProgram, Listing}
 use Rattle.cti_terms.specs.Tree.{truth}
 use Rattle.cti_terms.specs.declared.predicates.Pred.{Pred}
-use Rattle.level_systems.specs.Mappings.{HasMeasures, level_in, mapping_of}
+use Rattle.level_systems.specs.Mappings.{HasMeasures, level_in, mapping_with}
 use Rattle.level_systems.specs.declared.measure.Measure.{Measure}
 use Rattle.lex_certificate.specs.Flat.{flat, union_part, united, united_coefficients}
 use Rattle.lex_certificate.specs.Order.{drop_facts, ground_facts, level_facts, listed, mode_facts, pre_facts, proof_facts, size_facts, stuck_facts}
@@ -40,10 +40,10 @@ use Rattle.term_size.specs.Occurrences.{size_row}
 use Rattle.termination_model.proofs.Lists.{by_places, mapped_place, place_below}
 use Rattle.termination_model.proofs.Points.{in_columns}
 use Rattle.termination_model.proofs.Sets.{Part, set_lower, to_part, within}
-use Rattle.termination_model.specs.Best.{IsSupported, coefficient}
+use Rattle.termination_model.specs.Coefficients.{IsSupported, coefficient}
 use Rattle.termination_model.specs.Claims.{Mapping}
 use Rattle.termination_model.specs.ComponentViews.{members_in, positions_in}
-use Rattle.termination_model.specs.Excluding.{IsAt}
+use Rattle.termination_model.specs.Excluding.{IsZeroOutside}
 use Rattle.termination_model.specs.Minimal.{IsSet}
 use Rattle.termination_model.specs.Modes.{modes}
 use Rattle.termination_model.specs.OwnCalls.{Position}
@@ -72,7 +72,7 @@ used_supported (l ∷ ls) r h = elim (or_cases (nat_lt 0 (coefficient (l.coeffic
   | inr more ↦ inr (used_supported ls r more)
 ]
 
-supported_at : (positions : List Position) (ls : List Mapping) → AllByRecursion (IsAt positions) ls → (r i : ℕ) → IsSupported ls r i → In {X = Position} (r, i) positions
+supported_at : (positions : List Position) (ls : List Mapping) → AllByRecursion (IsZeroOutside positions) ls → (r i : ℕ) → IsSupported ls r i → In {X = Position} (r, i) positions
 supported_at positions [] h r i s = absurd s
 supported_at positions (l ∷ ls) h r i (inl one) = h.0 r i one
 supported_at positions (l ∷ ls) h r i (inr more) = supported_at positions ls h.1 r i more
@@ -163,13 +163,13 @@ united_right (x ∷ xs) (y ∷ ys) (suc i) h = united_right xs ys i h
 -- ---- printed parts of a predicate, and the mappings that they are of
 module _ (p : Listing) (members : List ℕ) (r : ℕ) where
   -- a printed part has the coefficients of its mapping
-  same_coefficients : (ms : List Measure) (x : LevelPart) → HasMeasures p members ms → Some x ≡ level_in ms r → map natural x.coeffs ≡ (mapping_of ms).coefficients r
+  same_coefficients : (ms : List Measure) (x : LevelPart) → HasMeasures p members ms → Some x ≡ level_in ms r → map natural x.coeffs ≡ (mapping_with ms).coefficients r
   same_coefficients ms x has e =
       let is = measured (λ (y : ℕ) (l : LevelPart). IsLevelPart (arity_in p y) l) ms r x has.parts (sym e) in
       sym (naturals_are x.coeffs is.naturals) ∙ ap natural_coefficients e
 
   union_supported : (own : List LevelPart) (mss : List (List Measure)) → map Some own ≡ map (λ (ms : List Measure). level_in ms r) mss → AllByRecursion (HasMeasures p members) mss
-      → (i : ℕ) → 0 < coefficient (map natural (united_coefficients own)) i → IsSupported (map mapping_of mss) r i
+      → (i : ℕ) → 0 < coefficient (map natural (united_coefficients own)) i → IsSupported (map mapping_with mss) r i
   union_supported [] mss e has i h = absurd (omega (arith, h))
   union_supported (x ∷ own) [] e has i h = cc
   union_supported (x ∷ own) (ms ∷ mss) e has i h =
@@ -181,7 +181,7 @@ module _ (p : Listing) (members : List ℕ) (r : ℕ) where
       ]
 
   supported_union : (own : List LevelPart) (mss : List (List Measure)) → map Some own ≡ map (λ (ms : List Measure). level_in ms r) mss → AllByRecursion (HasMeasures p members) mss
-      → (i : ℕ) → IsSupported (map mapping_of mss) r i → 0 < coefficient (map natural (united_coefficients own)) i
+      → (i : ℕ) → IsSupported (map mapping_with mss) r i → 0 < coefficient (map natural (united_coefficients own)) i
   supported_union own [] e has i s = absurd s
   supported_union [] (ms ∷ mss) e has i s = cc
   supported_union (x ∷ own) (ms ∷ mss) e has i s =
@@ -303,12 +303,12 @@ module _ (p : Listing) (names : List (List ℕ)) (facts : List LexFact) (program
   coefficients_are : (r m : ℕ) (own : List LevelPart) → slice_get (items_of parts.lists r) m ≡ Some own → coefficients_of (map (map union_part) parts.lists) m r ≡ map natural (united_coefficients own)
   coefficients_are r m own e = ap naturals (ap (λ (z : List LevelPart). slice_get z m) (union_items parts.lists r) ∙ mapped_place union_part (items_of parts.lists r) m own e)
 
-  printed_supported : (r i m : ℕ) (l : MeasureList) → IsIn comps c r → slice_get found.lists m ≡ Some l → 0 < coefficient (coefficients_of (map (map union_part) parts.lists) m r) i → IsSupported (map mapping_of l.measures) r i
+  printed_supported : (r i m : ℕ) (l : MeasureList) → IsIn comps c r → slice_get found.lists m ≡ Some l → 0 < coefficient (coefficients_of (map (map union_part) parts.lists) m r) i → IsSupported (map mapping_with l.measures) r i
   printed_supported r i m l ir e h =
       let (own, eo, same) = own_list r m l ir e in
       union_supported p (members_in comps c) r own l.measures same (descends m l e).measures i (subst (λ (cs : List ℕ). 0 < coefficient cs i) (coefficients_are r m own eo) h)
 
-  supported_printed : (r i m : ℕ) (l : MeasureList) → IsIn comps c r → slice_get found.lists m ≡ Some l → IsSupported (map mapping_of l.measures) r i → 0 < coefficient (coefficients_of (map (map union_part) parts.lists) m r) i
+  supported_printed : (r i m : ℕ) (l : MeasureList) → IsIn comps c r → slice_get found.lists m ≡ Some l → IsSupported (map mapping_with l.measures) r i → 0 < coefficient (coefficients_of (map (map union_part) parts.lists) m r) i
   supported_printed r i m l ir e s =
       let (own, eo, same) = own_list r m l ir e in
       subst (λ (cs : List ℕ). 0 < coefficient cs i) (sym (coefficients_are r m own eo)) (supported_union p (members_in comps c) r own l.measures same (descends m l e).measures i s)
@@ -336,10 +336,10 @@ module _ (p : Listing) (names : List (List ℕ)) (facts : List LexFact) (program
           omega (arith, count, below),
           λ r2 i in_c h.
               let sup = printed_supported r2 i m l (member r2 in_c) e h in
-              let at = supported_at places (map mapping_of l.measures) (descends m l e).at r2 i sup in
-              let whole : Part (list_support_from 1 places (map mapping_of l.measures)) (list_support_from 1 places solved.has.list) =
-              subst (Part (list_support_from 1 places (map mapping_of l.measures))) (sym solved.has.is) (subst (λ (z : List ℕ). Part z solved.support) (sym same) (to_part t solved.support part)) in
-              (solved.same r2 i in_c).1 (used_supported solved.has.list (r2, i) (used_too places 1 (map mapping_of l.measures) solved.has.list whole (r2, i) at (supported_used (map mapping_of l.measures) (r2, i) sup))),
+              let at = supported_at places (map mapping_with l.measures) (descends m l e).at r2 i sup in
+              let whole : Part (list_support_from 1 places (map mapping_with l.measures)) (list_support_from 1 places solved.has.list) =
+              subst (Part (list_support_from 1 places (map mapping_with l.measures))) (sym solved.has.is) (subst (λ (z : List ℕ). Part z solved.support) (sym same) (to_part t solved.support part)) in
+              (solved.same r2 i in_c).1 (used_supported solved.has.list (r2, i) (used_too places 1 (map mapping_with l.measures) solved.has.list whole (r2, i) at (supported_used (map mapping_with l.measures) (r2, i) sup))),
         )
   ]
 
@@ -358,9 +358,9 @@ module _ (p : Listing) (names : List (List ℕ)) (facts : List LexFact) (program
         λ r2 i in_c positive.
             let sup = (solved.same r2 i in_c).0 positive in
             let at = supported_at places solved.has.list solved.has.at r2 i sup in
-            let whole : Part (list_support_from 1 places solved.has.list) (list_support_from 1 places (map mapping_of l.measures)) =
+            let whole : Part (list_support_from 1 places solved.has.list) (list_support_from 1 places (map mapping_with l.measures)) =
             subst (λ (z : List ℕ). Part z s) (sym (solved.has.is ∙ h.1)) (λ x j. j) in
-            supported_printed r2 i m l (member r2 in_c) e (used_supported (map mapping_of l.measures) (r2, i) (used_too places 1 solved.has.list (map mapping_of l.measures) whole (r2, i) at (supported_used solved.has.list (r2, i) sup))),
+            supported_printed r2 i m l (member r2 in_c) e (used_supported (map mapping_with l.measures) (r2, i) (used_too places 1 solved.has.list (map mapping_with l.measures) whole (r2, i) at (supported_used solved.has.list (r2, i) sup))),
       )) ns (each s had)
 
   pub best : (r : ℕ) (d : Pred) → IsIn comps c r → slice_get p.preds r ≡ Some d

@@ -37,7 +37,7 @@ use Rattle.number_tests.specs.declared.level_part.LevelPart.{LevelPart}
 use Rattle.termination_model.proofs.Lists.{by_places, from_places, indexed, place_below}
 use Rattle.termination_model.specs.ComponentViews.{members_in}
 use Rattle.termination_model.specs.Sizes.{rows_of}
-use Rattle.termination_model.specs.Systems.{short_system}
+use Rattle.termination_model.specs.ShortSystems.{short_system}
 use Rattle.lex_measures.proofs.ComponentLaws.{atom_counts, atom_in, body_is, clause_is, head_is, member_below, rank_is, recursive_at, recursive_here}
 use Rattle.lex_measures.proofs.ListParts.{are_each, found_at, level_there, lists_are, printed_deep, printed_is}
 use Rattle.lex_measures.proofs.PlaceParts.{deep_at, drops_there, mapped_list, place_at, place_few, place_some}
@@ -127,7 +127,7 @@ module _ (expression : ℕ → Tree → List ℤ) (p : Listing) (comps : Partiti
         subst (IsPlace (rows_of_atoms rows (take j x.body)) (length l.measures)) (sym same) (
           place_some expression p (rows_of rows) (suc k, suc j) l.measures bys has,
           few,
-          from_places (shape.AreMultipliers (rows_of_atoms rows (take j x.body))) bys
+          from_places (shape.HaveMultipliers (rows_of_atoms rows (take j x.body))) bys
               (λ i by eb.
               let less = place_below bys i by eb in
               let (ms, em) = there l.measures i (omega (arith, less, few)) in

@@ -17,7 +17,7 @@ use Rattle.cti_terms.specs.declared.atom_list.Atom.{Atom}
 use Rattle.cti_terms.specs.declared.clauses.Clause.{Clause}
 use Rattle.fact_reading.specs.Numbered.{AreEach}
 use Rattle.level_systems.specs.Found.{HasSecondPoint, IsOwnPair}
-use Rattle.level_systems.specs.Mappings.{mapping_of}
+use Rattle.level_systems.specs.Mappings.{mapping_with}
 use Rattle.lex_certificate.specs.Shape.{IsStuckPoint, IsStuckSet}
 use Rattle.lex_turns.specs.FoundLists.{AreFoundLists, HasList, IsDescendingList, support_of_list}
 use Rattle.lex_turns.specs.declared.found_lists.FoundLists.{FoundLists}
@@ -79,8 +79,8 @@ module _ (expression : ℕ → Tree → List ℤ) (p : Listing) (comps : Partiti
   -- a list that is found is had
   has_of : (c : ℕ) (l : MeasureList) → IsDescendingList expression p comps (rows_of rows) c l → HasList expression p comps (rows_of rows) c (support_of_list (positions_in p comps c) l)
   has_of c l il = record {
-    list = map mapping_of l.measures;
-    some = subst (λ (k : ℕ). 1 ≤ k) (sym (length-map l.measures mapping_of)) il.some;
+    list = map mapping_with l.measures;
+    some = subst (λ (k : ℕ). 1 ≤ k) (sym (length-map l.measures mapping_with)) il.some;
     at = il.at;
     descends = il.descends;
     is = refl;

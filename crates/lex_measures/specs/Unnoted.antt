@@ -22,7 +22,7 @@ use Rattle.lex_turns.specs.FoundLists.{HasList}
 use Rattle.linear_rows.specs.Members.{In}
 use Rattle.precond_fixpoint.specs.Greatest.{IsGreatestIn, Solved, SomeSolved}
 use Rattle.term_size.specs.Occurrences.{size_row}
-use Rattle.termination_model.specs.Best.{IsSupported, coefficient}
+use Rattle.termination_model.specs.Coefficients.{IsSupported, coefficient}
 use Rattle.termination_model.specs.ComponentViews.{positions_in}
 use Rattle.termination_model.specs.Modes.{modes}
 use Rattle.termination_model.specs.Sizes.{rows_of}

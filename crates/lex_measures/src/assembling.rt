@@ -95,7 +95,8 @@ fn find_all(
 ) -> Result<Sequence<FoundLists>, AllocError>
     requires components { AreComponents measured.now.p.now measured.now.comps.now }
     requires sizes { AreSizes measured.now.p.now.preds sizes.now.rows }
-    ensures { IfOk result (AreFound (any_row measured.now.norm) measured.now.p.now measured.now.comps.now
+    ensures { IfOk result (AreFound
+        (any_row measured.now.norm) measured.now.p.now measured.now.comps.now
         sizes.now.rows) }
 {
     let mut found = Sequence::new(alloc);
@@ -138,8 +139,10 @@ fn flat_of(
     stuck: Sequence<Option<Refutation>>,
 ) -> Result<Parts, AllocError>
     requires components { AreComponents measured.now.p.now measured.now.comps.now }
-    requires levels { AreLevels measured.now.p.now measured.now.comps.now (map (map union_part) lists.now) }
-    ensures { IfOk result (IsFlatOf (any_truth measured.now.norm) measured.now.p.now measured.now.comps.now
+    requires levels { AreLevels measured.now.p.now measured.now.comps.now
+        (map (map union_part) lists.now) }
+    ensures { IfOk result (IsFlatOf
+        (any_truth measured.now.norm) measured.now.p.now measured.now.comps.now
         sizes.now lists.now stuck) }
 {
     let mut parts = with_levels(alloc, flat_levels(alloc, lists)?, stuck);
@@ -179,7 +182,8 @@ fn parts_of(
     requires components { AreComponents measured.now.p.now measured.now.comps.now }
     requires found { AreFound (any_row measured.now.norm) measured.now.p.now measured.now.comps.now
         sizes.now.rows found.now }
-    ensures { IfOk result (ArePartsOf (any_truth measured.now.norm) measured.now.p.now measured.now.comps.now
+    ensures { IfOk result (ArePartsOf
+        (any_truth measured.now.norm) measured.now.p.now measured.now.comps.now
         sizes.now found.now) }
 {
     let _program = measured.p.preds();
@@ -209,14 +213,16 @@ fn are_bounded(parts: &LexParts)
 fn notes_of(
     alloc: Global,
     described: &Described,
-    steps: &[Step],
+    steps: Sequence<Step>,
     found: &[FoundLists],
 ) -> Result<Sequence<LexFact>, AllocError>
     requires components { AreComponents described.now.p.now described.now.comps.now }
     requires each { length found.now ≡ length described.now.comps.now.members }
     ensures { IfOk result (λ notes. notes
-        ≡ flat_map noted (chain_notes described.now.p.now described.now.names.now (map plain_step steps.now))
-        ++ component_notes described.now.p.now described.now.names.now described.now.comps.now (found_of found.now)) }
+        ≡ flat_map noted (chain_notes described.now.p.now described.now.names.now
+        (map plain_step steps))
+        ++ component_notes described.now.p.now described.now.names.now described.now.comps.now
+        (found_of found.now)) }
 {
     let mut chain = Sequence::new(alloc);
     note_chain(alloc, described.p, described.names, steps, &mut chain)?;
@@ -231,11 +237,12 @@ fn assembled_over(
     alloc: Global,
     measured: &Measured,
     names: &Names,
-    chain: &Chain,
+    mut chain: Chain,
 ) -> Result<Assembled, AllocError>
     requires components { AreComponents measured.now.p.now measured.now.comps.now }
     requires norm { measured.now.norm ≡ Terms (record {}) }
-    requires chain { IsSolvedChain (any_row measured.now.norm) measured.now.p.now measured.now.comps.now chain.now }
+    requires chain { IsSolvedChain
+        (any_row measured.now.norm) measured.now.p.now measured.now.comps.now chain }
     ensures { IfOk result (IsAssembled measured.now.p.now names.now measured.now.comps.now) }
 {
     let (p, comps) = (measured.p, measured.comps);
@@ -244,7 +251,8 @@ fn assembled_over(
     let parts = parts_of(alloc, measured, &chain.sizes, found.as_slice())?;
     are_bounded(&parts);
     let described = Described { p, names, comps };
-    let notes = notes_of(alloc, &described, chain.steps.as_slice(), found.as_slice())?;
+    let steps = mem::replace(&mut chain.steps, Sequence::new(alloc));
+    let notes = notes_of(alloc, &described, steps, found.as_slice())?;
     Ok(Assembled { parts, notes })
 }
 
@@ -261,5 +269,5 @@ pub(crate) fn assemble(
     let _program = p.preds();
     let norm = AnyNorm::Terms(TermSize);
     let chain = numeric_model::solve::<Poly, AnyNorm>(alloc, p, comps, &norm)?;
-    assembled_over(alloc, &Measured { p, comps, norm }, names, &chain)
+    assembled_over(alloc, &Measured { p, comps, norm }, names, chain)
 }

@@ -104,7 +104,8 @@ impl Described<'_> {
         blown: &[Sequence<u32>],
         out: &mut Sequence<LexFact>,
     ) -> Result<(), AllocError>
-        ensures { OnOk result (out.new ≡ out.old ++ note_if self.now.p.now self.now.names.now q.0 blown.now) }
+        ensures { OnOk result (out.new
+            ≡ out.old ++ note_if self.now.p.now self.now.names.now q.0 blown.now) }
     {
         if blown.is_empty() {
             return Ok(());
@@ -126,7 +127,8 @@ impl Described<'_> {
         requires there { q.0 < length self.now.p.now.preds }
         requires each { length found.now ≡ length self.now.comps.now.members }
         ensures { OnOk result (out.new ≡ out.old
-            ++ note_at self.now.p.now self.now.names.now (found_of found.now) q.0 (led_by self.now.comps.now q.0)) }
+            ++ note_at self.now.p.now self.now.names.now (found_of found.now) q.0
+            (led_by self.now.comps.now q.0)) }
     {
         match led_by(self.p, self.comps, q) {
             Some(c) => {
@@ -147,7 +149,8 @@ impl Described<'_> {
         requires components { AreComponents self.now.p.now self.now.comps.now }
         requires each { length found.now ≡ length self.now.comps.now.members }
         ensures { OnOk result (out.new ≡ out.old
-            ++ component_notes self.now.p.now self.now.names.now self.now.comps.now (found_of found.now)) }
+            ++ component_notes self.now.p.now self.now.names.now self.now.comps.now
+            (found_of found.now)) }
     {
         for q in 0..self.p.preds() {
             self.note_at(alloc, PredId(q), found, out)?;

@@ -67,7 +67,8 @@ impl Printed<'_> {
         requires components { AreComponents self.now.p.now self.now.comps.now }
         requires each { length self.now.found.now ≡ length self.now.comps.now.members }
         requires there { q.0 < length self.now.p.now.preds }
-        ensures { IfOk result (λ lists. lists ≡ printed_at self.now.p.now self.now.comps.now self.now.found.now q.0) }
+        ensures { IfOk result (λ lists. lists
+            ≡ printed_at self.now.p.now self.now.comps.now self.now.found.now q.0) }
     {
         if self.comps.recursive(self.comps.of(q)) {
             lists_of(alloc, self.p, self.lists_at(q), q)
@@ -83,7 +84,8 @@ impl Printed<'_> {
     ) -> Result<Sequence<Sequence<Sequence<LevelPart>>>, AllocError>
         requires components { AreComponents self.now.p.now self.now.comps.now }
         requires each { length self.now.found.now ≡ length self.now.comps.now.members }
-        ensures { IfOk result (λ lists. lists ≡ printed_lists self.now.p.now self.now.comps.now self.now.found.now) }
+        ensures { IfOk result (λ lists. lists
+            ≡ printed_lists self.now.p.now self.now.comps.now self.now.found.now) }
     {
         let mut lists = Sequence::new(alloc);
         for q in 0..self.p.preds() {
@@ -106,7 +108,8 @@ impl Printed<'_> {
         requires place { place < 4294967295 }
         requires call { call.now.pred.0 < length self.now.p.now.preds }
         ensures { IfOk result (λ drops. drops
-            ≡ drops_at self.now.p.now self.now.comps.now self.now.found.now clause place (Some call.now)) }
+            ≡ drops_at self.now.p.now self.now.comps.now self.now.found.now clause place
+            (Some call.now)) }
     {
         let _program = self.p.clauses();
         let head = self.p.clause(clause + 1).head.pred;
@@ -127,7 +130,8 @@ impl Printed<'_> {
         requires each { length self.now.found.now ≡ length self.now.comps.now.members }
         requires clause { clause < length self.now.p.now.clauses }
         ensures { IfOk result (λ drops. drops
-            ≡ drops_from self.now.p.now self.now.comps.now self.now.found.now clause 0 (body_of self.now.p.now clause)) }
+            ≡ drops_from self.now.p.now self.now.comps.now self.now.found.now clause 0
+            (body_of self.now.p.now clause)) }
     {
         let _program = self.p.clauses();
         let body = self.p.clause(clause + 1).body.as_slice();
@@ -145,7 +149,8 @@ impl Printed<'_> {
     ) -> Result<Sequence<Sequence<Sequence<Sequence<Multipliers>>>>, AllocError>
         requires components { AreComponents self.now.p.now self.now.comps.now }
         requires each { length self.now.found.now ≡ length self.now.comps.now.members }
-        ensures { IfOk result (λ drops. drops ≡ printed_drops self.now.p.now self.now.comps.now self.now.found.now) }
+        ensures { IfOk result (λ drops. drops
+            ≡ printed_drops self.now.p.now self.now.comps.now self.now.found.now) }
     {
         let mut drops = Sequence::new(alloc);
         for clause in 0..self.p.clauses() {
@@ -159,7 +164,8 @@ impl Printed<'_> {
         requires components { AreComponents self.now.p.now self.now.comps.now }
         requires each { length self.now.found.now ≡ length self.now.comps.now.members }
         requires there { q.0 < length self.now.p.now.preds }
-        ensures { IfOk result (λ stuck. stuck ≡ stuck_of self.now.found.now (led_by self.now.comps.now q.0)) }
+        ensures { IfOk result (λ stuck. stuck ≡ stuck_of self.now.found.now
+            (led_by self.now.comps.now q.0)) }
     {
         match led_by(self.p, self.comps, q) {
             Some(c) => copied_if(alloc, &self.found[c as usize].refutation),
@@ -171,7 +177,8 @@ impl Printed<'_> {
     pub(crate) fn stuck(&self, alloc: Global) -> Result<Sequence<Option<Refutation>>, AllocError>
         requires components { AreComponents self.now.p.now self.now.comps.now }
         requires each { length self.now.found.now ≡ length self.now.comps.now.members }
-        ensures { IfOk result (λ stuck. stuck ≡ printed_stuck self.now.p.now self.now.comps.now self.now.found.now) }
+        ensures { IfOk result (λ stuck. stuck
+            ≡ printed_stuck self.now.p.now self.now.comps.now self.now.found.now) }
     {
         let mut stuck = Sequence::new(alloc);
         for q in 0..self.p.preds() {

@@ -36,7 +36,7 @@ use Rattle.termination_model.specs.Chain.{IsLegalChain}
 use Rattle.termination_model.specs.ChainSteps.{Step as Plain}
 use Rattle.termination_model.specs.ComponentViews.{positions_in}
 use Rattle.termination_model.specs.Sizes.{AreSizes, rows_of}
-use Rattle.termination_model.specs.Systems.{short_system}
+use Rattle.termination_model.specs.ShortSystems.{short_system}
 use Rattle.termination_model.specs.declared.sizes.Sizes.{Sizes}
 use Rattle.cert_assembly.proofs.ChainParts.{chain_sizes_hold}
 use Rattle.report.proofs.ExactParts.{components_are_exact}
@@ -127,10 +127,10 @@ module _ (n : AnyNorm) (named : Option CertNorm) (p : Listing) (names : List (Li
     falls =
         subst (λ (ls : List (List LevelPart)).
         AreEach (length p.clauses)
-        (λ k. AreEach (length (body_of p k)) (λ j. AreEach (proofs_of_call comps ls (head_of p k) (slice_get (body_of p k) j)) (λ _. shape.AreMultipliers (rows_of_atoms parts.rows (take j (body_of p k)))))) parts.falls) (sym are.levels)
+        (λ k. AreEach (length (body_of p k)) (λ j. AreEach (proofs_of_call comps ls (head_of p k) (slice_get (body_of p k) j)) (λ _. shape.HaveMultipliers (rows_of_atoms parts.rows (take j (body_of p k)))))) parts.falls) (sym are.levels)
         (subst (λ (fs : List (List (List Multipliers))).
         AreEach (length p.clauses)
-        (λ k. AreEach (length (body_of p k)) (λ j. AreEach (proofs_of_call comps (level_list p comps found) (head_of p k) (slice_get (body_of p k) j)) (λ _. shape.AreMultipliers (rows_of_atoms parts.rows (take j (body_of p k)))))) fs) (sym are.falls)
+        (λ k. AreEach (length (body_of p k)) (λ j. AreEach (proofs_of_call comps (level_list p comps found) (head_of p k) (slice_get (body_of p k) j)) (λ _. shape.HaveMultipliers (rows_of_atoms parts.rows (take j (body_of p k)))))) fs) (sym are.falls)
         (falls_shape (any_row n) p comps parts.rows found program components founds_here (subst (AllByRecursion (AllByRecursion (AllByRecursion AreMultipliersBelow))) are.falls bounded.falls)));
     refutations =
         subst (λ (ls : List (List LevelPart)). AreEach (length p.preds) (shape.IsRefutation p comps ls) parts.refutations) (sym are.levels)

@@ -10,7 +10,7 @@ use Rattle.cti_terms.specs.Tree.{Tree}
 use Rattle.cti_terms.specs.declared.predicates.Pred.{Pred}
 use Rattle.linear_rows.specs.Members.{In}
 use Rattle.cert_modes.specs.Modes.{allowed, coefficients_of, grounds_of}
-use Rattle.termination_model.specs.Best.{coefficient}
+use Rattle.termination_model.specs.Coefficients.{coefficient}
 use Rattle.termination_model.specs.Claims.{Mapping}
 use Rattle.termination_model.specs.Grounds.{HasArity}
 use Rattle.termination_model.specs.Modes.{is_part, modes}

@@ -11,7 +11,7 @@ use Rattle.cti_terms.specs.Tree.{Tree}
 use Rattle.cti_terms.specs.declared.atom_list.Atom.{Atom}
 use Rattle.cti_terms.specs.declared.clauses.Clause.{Clause}
 use Rattle.level_systems.specs.Mappings as dual
-use Rattle.level_systems.specs.Mappings.{IsMappingOf, level_in, mapping_of}
+use Rattle.level_systems.specs.Mappings.{IsMappingOf, level_in, mapping_with}
 use Rattle.level_systems.specs.declared.found.Found.{Found}
 use Rattle.level_systems.specs.declared.mapping.Mapping.{Mapping}
 use Rattle.level_systems.specs.declared.measure.Measure.{Measure}
@@ -25,16 +25,17 @@ use Rattle.number_tests.specs.Proved.{fall_of, level_of}
 use Rattle.number_tests.specs.Shape.{IsLevelPart}
 use Rattle.number_tests.specs.declared.level_part.LevelPart.{LevelPart}
 use Rattle.termination_model.proofs.Proved.{length-substituted}
-use Rattle.termination_model.specs.ComponentViews.{component_view, no_truth, positions_in, rank_in, size_claims, members_in}
-use Rattle.termination_model.specs.Excluding.{IsAt}
+use Rattle.termination_model.specs.ComponentViews.{component_view, positions_in, rank_in, size_claims, members_in}
+use Rattle.termination_model.specs.Excluding.{IsZeroOutside}
 use Rattle.linear_rows.specs.Step.{columns}
-use Rattle.termination_model.specs.Best.{coefficient}
+use Rattle.termination_model.specs.Coefficients.{coefficient}
 use Rattle.termination_model.specs.Ready.{arity_in, itself, positions_by}
 use Rattle.termination_model.specs.Refutation.{Decreases}
 use Rattle.termination_model.specs.Rows.{added, scaled}
 use Rattle.termination_model.specs.Sizes.{rows_of}
 use Rattle.termination_model.specs.SupportLaws.{HasWidths}
-use Rattle.termination_model.specs.Systems.{row_over, short_row, short_system, system}
+use Rattle.termination_model.specs.Systems.{row_over, system}
+use Rattle.termination_model.specs.ShortSystems.{short_row, short_system}
 use Rattle.termination_model.specs.View.{Call, Lower, Member, Rule, fall_over, rule_of, system_of, upward_union}
 use Rattle.termination_model.specs.View as view
 use Rattle.cert_assembly.proofs.PartShapes.{measured, unmapped}
@@ -120,7 +121,7 @@ module _ (expression : ℕ → Tree → List ℤ) (p : Listing) (comps : Partiti
   part_natural c q m im l e = measured (λ (x : ℕ) (l : LevelPart). IsLevelPart (arity_in p x) l) m.measures q l im.measures.parts e
 
   -- the coefficients of a mapping are at positions of its component
-  pub mapping_at : (c : ℕ) (m : Mapping) → IsMappingOf expression p (rows_of rows) comps c m → IsAt (positions_in p comps c) (mapping_of m.measures)
+  pub mapping_at : (c : ℕ) (m : Mapping) → IsMappingOf expression p (rows_of rows) comps c m → IsZeroOutside (positions_in p comps c) (mapping_with m.measures)
   mapping_at c m im q a positive = go (level_in m.measures q) refl positive
     where
       go : (o : Option LevelPart) → level_in m.measures q ≡ o → 0 < coefficient (dual.natural_coefficients o) a → In {X = ℕ × ℕ} (q, a) (positions_in p comps c)
@@ -136,13 +137,13 @@ module _ (expression : ℕ → Tree → List ℤ) (p : Listing) (comps : Partiti
           in_positions (arity_in p) (members_in comps c) q a (subst (In q) im.measures.each (level_member m.measures q l e)) (omega arith)
 
   -- and a mapping falls at each call of its component
-  pub mapping_decreases : (c : ℕ) (m : Mapping) → c < length comps.members → IsMappingOf expression p (rows_of rows) comps c m → Decreases no_truth expression (component_view expression p comps (rows_of rows) c) (mapping_of m.measures)
+  pub mapping_decreases : (c : ℕ) (m : Mapping) → c < length comps.members → IsMappingOf expression p (rows_of rows) comps c m → Decreases expression (component_view expression p comps (rows_of rows) c) (mapping_with m.measures)
   mapping_decreases c m inner im =
       kept_all (λ (k : Clause). rank_in comps k.head.pred.0 == c) (rule_of (size_claims expression p comps (rows_of rows)) c itself)
       (λ (k : Rule). (j : ℕ) (b : Call) (q : ℕ) → slice_get k.body j ≡ Some b → b.place ≡ Member q
-      → HoldsOn (suc k.vars) (system_of expression k.vars (take j k.body)) (fall_over no_truth expression k q b.args 1 (mapping_of m.measures))) p.clauses (λ i k at passes j b q ej place.
+      → HoldsOn (suc k.vars) (system_of expression k.vars (take j k.body)) (fall_over expression k q b.args 1 (mapping_with m.measures))) p.clauses (λ i k at passes j b q ej place.
       let claims = size_claims expression p comps (rows_of rows) in
-      let l = mapping_of m.measures in
+      let l = mapping_with m.measures in
       let (a, ea, same) = unmapped (view.call_of claims c itself) k.body j b ej in
       let head : IsIn comps c k.head.pred.0 = in_range comps.of k.head.pred.0 (length comps.members) c (eqb-true (rank_in comps k.head.pred.0) c passes) inner in
       let (own, number) = place_is (rank_in comps a.pred.0 == c) a.pred.0 q (upward_union claims a.pred.0) (ap (λ (x : Call). x.place) same ∙ place) in
@@ -156,10 +157,10 @@ module _ (expression : ℕ → Tree → List ℤ) (p : Listing) (comps : Partiti
       let holds = shown_holds (suc k.vars) body (fall_of expression k a hl cl) by.list (unsigned_abs by.scale) (fall_width expression widths k a hl cl) is.0.naturals (subst (Proves (short_system expression (rows_of rows) k.vars (take j k.body)) by.list (fall_of expression k a hl cl)) (sym scale) is.1.proves) in
       let one = level_same expression k.vars k.head hl (level_in m.measures k.head.pred.0) (arity_in p k.head.pred.0) ehl (part_natural c k.head.pred.0 m im hl ehl) in
       let two = level_same expression k.vars a cl (level_in m.measures a.pred.0) (arity_in p a.pred.0) ecl (part_natural c a.pred.0 m im cl ecl) in
-      let fall : fall_over no_truth expression (rule_of claims c itself k) a.pred.0 a.args 1 l ≡ fall_of expression k a hl cl = λ i. added (one i) (scaled (negsuc 0) (added (two i) (pos 1 ∷ []))) in
+      let fall : fall_over expression (rule_of claims c itself k) a.pred.0 a.args 1 l ≡ fall_of expression k a hl cl = λ i. added (one i) (scaled (negsuc 0) (added (two i) (pos 1 ∷ []))) in
       let rows_same : body ≡ system_of expression k.vars (take j (map (view.call_of claims c itself) k.body)) =
       sym (ap (system_of expression k.vars) (take_mapped (view.call_of claims c itself) j k.body) ∙ system_same expression p comps (rows_of rows) c k.vars (take j k.body)) in
-      subst (λ (rs : List (List ℤ)). HoldsOn (suc k.vars) rs (fall_over no_truth expression (rule_of claims c itself k) q b.args 1 l)) rows_same
-      (subst (λ (x : Call). HoldsOn (suc k.vars) body (fall_over no_truth expression (rule_of claims c itself k) q x.args 1 l)) same
-      (subst (λ (n : ℕ). HoldsOn (suc k.vars) body (fall_over no_truth expression (rule_of claims c itself k) n a.args 1 l)) number
+      subst (λ (rs : List (List ℤ)). HoldsOn (suc k.vars) rs (fall_over expression (rule_of claims c itself k) q b.args 1 l)) rows_same
+      (subst (λ (x : Call). HoldsOn (suc k.vars) body (fall_over expression (rule_of claims c itself k) q x.args 1 l)) same
+      (subst (λ (n : ℕ). HoldsOn (suc k.vars) body (fall_over expression (rule_of claims c itself k) n a.args 1 l)) number
       (subst (HoldsOn (suc k.vars) body) (sym fall) holds))))

@@ -7,13 +7,13 @@ use Rattle.std.proofs.lemmas.List.{length-map}
 use Rattle.call_components.specs.Partition.{AreComponents, IsIn, Partition}
 use Rattle.cert_checker.specs.Claimed as claimed
 use Rattle.cert_modes.specs.Modes.{coefficients_of, natural, naturals}
-use Rattle.cert_structure.specs.Shape.{arity_in, first_of, is_recursive, is_same, items_of}
+use Rattle.cert_structure.specs.Shape.{arity_in, first_of, is_recursive, items_of}
 use Rattle.cert_structure.specs.declared.parts.Parts.{Parts}
 use Rattle.cti_terms.specs.Listing.{IsProgram, Listing}
 use Rattle.cti_terms.specs.Tree.{Tree}
 use Rattle.level_systems.specs.Found.{IsFound}
 use Rattle.level_systems.specs.Mappings as dual
-use Rattle.level_systems.specs.Mappings.{IsMappingOf, level_in, mapping_of, support_of}
+use Rattle.level_systems.specs.Mappings.{IsMappingOf, level_in, mapping_with, support_of}
 use Rattle.level_systems.specs.declared.found.Found.{Found}
 use Rattle.level_systems.specs.declared.mapping.Mapping.{Mapping}
 use Rattle.linear_rows.specs.Members.{In}
@@ -21,9 +21,10 @@ use Rattle.linear_rows.specs.Step.{columns}
 use Rattle.number_tests.specs.Shape.{IsLevelPart}
 use Rattle.number_tests.specs.declared.level_part.LevelPart.{LevelPart}
 use Rattle.number_tests.specs.declared.refutation.Refutation.{Refutation}
+use Rattle.termination_model.specs.Chain.{is_number}
 use Rattle.termination_model.proofs.Lists.{by_places, indexed, mapped_place, place_below}
-use Rattle.termination_model.specs.ComponentViews.{members_in, no_truth, positions_in}
-use Rattle.termination_model.specs.Excluding.{IsAt}
+use Rattle.termination_model.specs.ComponentViews.{members_in, positions_in}
+use Rattle.termination_model.specs.Excluding.{IsZeroOutside}
 use Rattle.termination_model.specs.Minimal.{IsAbove}
 use Rattle.termination_model.specs.Modes.{chosen_up_to, is_part}
 use Rattle.termination_model.specs.Refutation.{Decreases}
@@ -88,12 +89,12 @@ naturals_are (z ∷ zs) h =
 member_true : (comps : Partition) (c q : ℕ) → is_member comps c q ≡ true → IsIn comps c q
 member_true comps c q h = go (slice_get comps.of q) refl h
   where
-    go : (o : Option ℕ) → slice_get comps.of q ≡ o → is_same o (Some c) ≡ true → slice_get comps.of q ≡ Some c
+    go : (o : Option ℕ) → slice_get comps.of q ≡ o → is_number c o ≡ true → slice_get comps.of q ≡ Some c
     go None e k = cc
     go (Some d) e k = e ∙ ap Some (eqb-true d c k)
 
 in_member : (comps : Partition) (c q : ℕ) → IsIn comps c q → is_member comps c q ≡ true
-in_member comps c q h = ap (λ (o : Option ℕ). is_same o (Some c)) h ∙ eq-eqb c c refl
+in_member comps c q h = ap (λ (o : Option ℕ). is_number c o) h ∙ eq-eqb c c refl
 
 module _ (expression : ℕ → Tree → List ℤ) (p : Listing) (comps : Partition) (parts : Parts) (found : List Found)
     (program : IsProgram p) (components : AreComponents p comps) (founds : AreFound expression p comps parts.rows found) (widths : HasWidths expression)
@@ -128,7 +129,7 @@ module _ (expression : ℕ → Tree → List ℤ) (p : Listing) (comps : Partiti
           let own = in_member comps c r ((components.members c ms row r).0 (contains_in ms r member)) in
           cc
 
-  mapping_same : (m : ℕ) (mm : Mapping) → slice_get f.mappings m ≡ Some mm → mapping_in expression p comps parts c m ≡ mapping_of mm.measures
+  mapping_same : (m : ℕ) (mm : Mapping) → slice_get f.mappings m ≡ Some mm → mapping_in expression p comps parts c m ≡ mapping_with mm.measures
   mapping_same m mm em = λ i. record { coefficients = λ r. coefficients r i; offset = λ r. offsets r i }
     where
       im : IsMappingOf expression p (rows_of parts.rows) comps c mm
@@ -174,13 +175,13 @@ module _ (expression : ℕ → Tree → List ℤ) (p : Listing) (comps : Partiti
   mapping_there : (m : ℕ) → m < length (items_of parts.levels q) → (mm : Mapping) × (slice_get f.mappings m ≡ Some mm)
   mapping_there m few = let same = count in there f.mappings m (omega arith)
 
-  at_positions : (m : ℕ) → m < length (items_of parts.levels q) → IsAt (positions_in p comps c) (mapping_in expression p comps parts c m)
-  at_positions m few = let (mm, em) = mapping_there m few in subst (IsAt (positions_in p comps c)) (sym (mapping_same m mm em)) (mapping_at expression p comps parts.rows found program components founds widths c mm (mapping_is m mm em))
+  at_positions : (m : ℕ) → m < length (items_of parts.levels q) → IsZeroOutside (positions_in p comps c) (mapping_in expression p comps parts c m)
+  at_positions m few = let (mm, em) = mapping_there m few in subst (IsZeroOutside (positions_in p comps c)) (sym (mapping_same m mm em)) (mapping_at expression p comps parts.rows found program components founds widths c mm (mapping_is m mm em))
 
-  decreasing : (m : ℕ) → m < length (items_of parts.levels q) → Decreases no_truth expression (view expression p comps parts c) (mapping_in expression p comps parts c m)
+  decreasing : (m : ℕ) → m < length (items_of parts.levels q) → Decreases expression (view expression p comps parts c) (mapping_in expression p comps parts c m)
   decreasing m few =
       let (mm, em) = mapping_there m few in
-      subst (Decreases no_truth expression (view expression p comps parts c)) (sym (mapping_same m mm em))
+      subst (Decreases expression (view expression p comps parts c)) (sym (mapping_same m mm em))
       (mapping_decreases expression p comps parts.rows found program components founds widths c mm (components.within c q inside) (mapping_is m mm em))
 
   support_in : (m : ℕ) → m < length (items_of parts.levels q) → In (printed_support expression p comps parts c m) (map (support_of (positions_in p comps c)) f.mappings)

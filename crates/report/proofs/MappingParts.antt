@@ -34,7 +34,7 @@ use Rattle.precond_fixpoint.specs.Solving.{AreLevels}
 use Rattle.termination_model.proofs.Lists.{by_places, indexed, place_below}
 use Rattle.termination_model.specs.ComponentViews.{members_in, rank_in}
 use Rattle.termination_model.specs.Sizes.{rows_of}
-use Rattle.termination_model.specs.Systems.{short_system}
+use Rattle.termination_model.specs.ShortSystems.{short_system}
 use Rattle.cert_assembly.proofs.ChainParts.{are_each, multipliers_of, row_count_is}
 use Rattle.cert_assembly.proofs.ModeLaws.{there}
 use Rattle.cert_assembly.proofs.PartShapes.{all_mapped, all_weaker, all_in, unmapped, in_contains, list_is, zeros_zero, zero_is, part_is, level_is, measured, measure_there, in_calls, in_pairs, together_in}
@@ -292,16 +292,16 @@ module _ (expression : ℕ → Tree → List ℤ) (p : Listing) (comps : Partiti
 
   module _ (below : AllByRecursion (AllByRecursion (AllByRecursion AreMultipliersBelow)) (fall_list p comps found)) where
     call_shape : (k j : ℕ) (x : Clause) (b : Atom) → slice_get p.clauses k ≡ Some x → slice_get x.body j ≡ Some b → AllByRecursion AreMultipliersBelow (falls_at p comps found k j (Some b))
-        → AreEach (proofs_of_call comps levels x.head.pred.0 (Some b)) (λ _. shape.AreMultipliers (rows_of_atoms rows (take j x.body))) (falls_at p comps found k j (Some b))
+        → AreEach (proofs_of_call comps levels x.head.pred.0 (Some b)) (λ _. shape.HaveMultipliers (rows_of_atoms rows (take j x.body))) (falls_at p comps found k j (Some b))
     call_shape k j x b ek ej bel = go (is_together comps x.head.pred.0 b.pred.0) refl
       where
         is : IsClause p.preds x
         is = clause_is k x ek
 
-        go : (t : Bool) → is_together comps x.head.pred.0 b.pred.0 ≡ t → AreEach (if is_together comps x.head.pred.0 b.pred.0 then length (items_of levels x.head.pred.0) else 0) (λ _. shape.AreMultipliers (rows_of_atoms rows (take j x.body))) (falls_at p comps found k j (Some b))
+        go : (t : Bool) → is_together comps x.head.pred.0 b.pred.0 ≡ t → AreEach (if is_together comps x.head.pred.0 b.pred.0 then length (items_of levels x.head.pred.0) else 0) (λ _. shape.HaveMultipliers (rows_of_atoms rows (take j x.body))) (falls_at p comps found k j (Some b))
         go false e =
             let none = falls_none k j b (ap (λ q. is_together comps q b.pred.0) (head_is k x ek) ∙ e) in
-            are_each (if is_together comps x.head.pred.0 b.pred.0 then length (items_of levels x.head.pred.0) else 0) (λ _. shape.AreMultipliers (rows_of_atoms rows (take j x.body))) (falls_at p comps found k j (Some b))
+            are_each (if is_together comps x.head.pred.0 b.pred.0 then length (items_of levels x.head.pred.0) else 0) (λ _. shape.HaveMultipliers (rows_of_atoms rows (take j x.body))) (falls_at p comps found k j (Some b))
             (ap length none ∙ sym (λ i. if e i then length (items_of levels x.head.pred.0) else 0))
             (λ m by at. let gone : slice_get {X = Multipliers} [] m ≡ Some by = ap (λ (ms : List Multipliers). slice_get ms m) (sym none) ∙ at in absurd (empty m by gone))
           where
@@ -316,7 +316,7 @@ module _ (expression : ℕ → Tree → List ℤ) (p : Listing) (comps : Partiti
             let found_f = founds.are c f at answer in
             let all = falls_deep c k j x b f ek ih ib at in
             let g = λ (m : Mapping). by_or_none (fall_in m.falls (suc k) (suc j)) in
-            are_each (if is_together comps x.head.pred.0 b.pred.0 then length (items_of levels x.head.pred.0) else 0) (λ _. shape.AreMultipliers (rows_of_atoms rows (take j x.body))) (falls_at p comps found k j (Some b))
+            are_each (if is_together comps x.head.pred.0 b.pred.0 then length (items_of levels x.head.pred.0) else 0) (λ _. shape.HaveMultipliers (rows_of_atoms rows (take j x.body))) (falls_at p comps found k j (Some b))
             (ap length all ∙ length-map f.mappings g ∙ sym (count_deep c x.head.pred.0 f ih at deep) ∙ sym (λ i. if e i then length (items_of levels x.head.pred.0) else 0))
             (λ m by eb.
             let (mm, em, same) = unmapped g f.mappings m by (ap (λ (ms : List Multipliers). slice_get ms m) (sym all) ∙ eb) in
@@ -330,9 +330,9 @@ module _ (expression : ℕ → Tree → List ℤ) (p : Listing) (comps : Partiti
             (by_places AreMultipliersBelow (falls_at p comps found k j (Some b)) bel m by eb))
 
     body_shape : (k : ℕ) (x : Clause) → slice_get p.clauses k ≡ Some x → AllByRecursion (AllByRecursion AreMultipliersBelow) (falls_from p comps found k 0 x.body)
-        → AreEach (length x.body) (λ j. AreEach (proofs_of_call comps levels x.head.pred.0 (slice_get x.body j)) (λ _. shape.AreMultipliers (rows_of_atoms rows (take j x.body)))) (falls_from p comps found k 0 x.body)
+        → AreEach (length x.body) (λ j. AreEach (proofs_of_call comps levels x.head.pred.0 (slice_get x.body j)) (λ _. shape.HaveMultipliers (rows_of_atoms rows (take j x.body)))) (falls_from p comps found k 0 x.body)
     body_shape k x ek bel =
-        are_each (length x.body) (λ j. AreEach (proofs_of_call comps levels x.head.pred.0 (slice_get x.body j)) (λ _. shape.AreMultipliers (rows_of_atoms rows (take j x.body)))) (falls_from p comps found k 0 x.body)
+        are_each (length x.body) (λ j. AreEach (proofs_of_call comps levels x.head.pred.0 (slice_get x.body j)) (λ _. shape.HaveMultipliers (rows_of_atoms rows (take j x.body)))) (falls_from p comps found k 0 x.body)
         (falls_count p comps found k 0 x.body)
         (λ j ms ej.
         let less = place_below (falls_from p comps found k 0 x.body) j ms ej in
@@ -341,12 +341,12 @@ module _ (expression : ℕ → Tree → List ℤ) (p : Listing) (comps : Partiti
         let zero_j : 0 + j ≡ j = omega arith in
         let made = falls_there p comps found k 0 x.body j b eb ∙ ap (λ i. Some (falls_at p comps found k i (Some b))) zero_j in
         let same : falls_at p comps found k j (Some b) ≡ ms = cc in
-        subst (λ (o : Option Atom). AreEach (proofs_of_call comps levels x.head.pred.0 o) (λ _. shape.AreMultipliers (rows_of_atoms rows (take j x.body))) ms) (sym eb)
-        (subst (AreEach (proofs_of_call comps levels x.head.pred.0 (Some b)) (λ _. shape.AreMultipliers (rows_of_atoms rows (take j x.body)))) same
+        subst (λ (o : Option Atom). AreEach (proofs_of_call comps levels x.head.pred.0 o) (λ _. shape.HaveMultipliers (rows_of_atoms rows (take j x.body))) ms) (sym eb)
+        (subst (AreEach (proofs_of_call comps levels x.head.pred.0 (Some b)) (λ _. shape.HaveMultipliers (rows_of_atoms rows (take j x.body)))) same
         (call_shape k j x b ek eb (subst (AllByRecursion AreMultipliersBelow) (sym same) (by_places (AllByRecursion AreMultipliersBelow) (falls_from p comps found k 0 x.body) bel j ms ej)))))
 
     clause_shape : (k : ℕ) (mss : List (List Multipliers)) → slice_get (fall_list p comps found) k ≡ Some mss
-        → AreEach (length (body_of p k)) (λ j. AreEach (proofs_of_call comps levels (head_of p k) (slice_get (body_of p k) j)) (λ _. shape.AreMultipliers (rows_of_atoms rows (take j (body_of p k))))) mss
+        → AreEach (length (body_of p k)) (λ j. AreEach (proofs_of_call comps levels (head_of p k) (slice_get (body_of p k) j)) (λ _. shape.HaveMultipliers (rows_of_atoms rows (take j (body_of p k))))) mss
     clause_shape k mss e =
         let f = λ (k : ℕ). falls_from p comps found k 0 (body_of p k) in
         let l = place_below (fall_list p comps found) k mss e in
@@ -357,16 +357,16 @@ module _ (expression : ℕ → Tree → List ℤ) (p : Listing) (comps : Partiti
         let (x, ek) = there p.clauses k less in
         let head = sym (head_is k x ek) in
         let body = sym (body_is k x ek) in
-        subst (AreEach (length (body_of p k)) (λ j. AreEach (proofs_of_call comps levels (head_of p k) (slice_get (body_of p k) j)) (λ _. shape.AreMultipliers (rows_of_atoms rows (take j (body_of p k)))))) same
-        (subst (λ (h : ℕ). AreEach (length (body_of p k)) (λ j. AreEach (proofs_of_call comps levels h (slice_get (body_of p k) j)) (λ _. shape.AreMultipliers (rows_of_atoms rows (take j (body_of p k))))) (falls_from p comps found k 0 (body_of p k))) head
-        (subst (λ (bs : List Atom). AreEach (length bs) (λ j. AreEach (proofs_of_call comps levels x.head.pred.0 (slice_get bs j)) (λ _. shape.AreMultipliers (rows_of_atoms rows (take j bs)))) (falls_from p comps found k 0 bs)) body
+        subst (AreEach (length (body_of p k)) (λ j. AreEach (proofs_of_call comps levels (head_of p k) (slice_get (body_of p k) j)) (λ _. shape.HaveMultipliers (rows_of_atoms rows (take j (body_of p k)))))) same
+        (subst (λ (h : ℕ). AreEach (length (body_of p k)) (λ j. AreEach (proofs_of_call comps levels h (slice_get (body_of p k) j)) (λ _. shape.HaveMultipliers (rows_of_atoms rows (take j (body_of p k))))) (falls_from p comps found k 0 (body_of p k))) head
+        (subst (λ (bs : List Atom). AreEach (length bs) (λ j. AreEach (proofs_of_call comps levels x.head.pred.0 (slice_get bs j)) (λ _. shape.HaveMultipliers (rows_of_atoms rows (take j bs)))) (falls_from p comps found k 0 bs)) body
         (body_shape k x ek (subst (λ (bs : List Atom). AllByRecursion (AllByRecursion AreMultipliersBelow) (falls_from p comps found k 0 bs)) (sym body) (subst (AllByRecursion (AllByRecursion AreMultipliersBelow)) (sym same) (by_places (AllByRecursion (AllByRecursion AreMultipliersBelow)) (fall_list p comps found) below k mss e))))))
 
     pub falls_shape : AreEach (length p.clauses)
-        (λ k. AreEach (length (body_of p k)) (λ j. AreEach (proofs_of_call comps levels (head_of p k) (slice_get (body_of p k) j)) (λ _. shape.AreMultipliers (rows_of_atoms rows (take j (body_of p k))))))
+        (λ k. AreEach (length (body_of p k)) (λ j. AreEach (proofs_of_call comps levels (head_of p k) (slice_get (body_of p k) j)) (λ _. shape.HaveMultipliers (rows_of_atoms rows (take j (body_of p k))))))
         (fall_list p comps found)
     falls_shape =
-        are_each (length p.clauses) (λ k. AreEach (length (body_of p k)) (λ j. AreEach (proofs_of_call comps levels (head_of p k) (slice_get (body_of p k) j)) (λ _. shape.AreMultipliers (rows_of_atoms rows (take j (body_of p k))))))
+        are_each (length p.clauses) (λ k. AreEach (length (body_of p k)) (λ j. AreEach (proofs_of_call comps levels (head_of p k) (slice_get (body_of p k) j)) (λ _. shape.HaveMultipliers (rows_of_atoms rows (take j (body_of p k))))))
         (fall_list p comps found) (mapped_count (λ k. falls_from p comps found k 0 (body_of p k)) (length p.clauses)) clause_shape
 
   -- the falls that are listed at a call

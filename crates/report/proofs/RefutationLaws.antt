@@ -33,26 +33,26 @@ naturals_are (x ∷ xs) h =
 numbers_are : (x : Point) → IsNatural x → (pos (unsigned_abs x.t) ∷ map pos (map unsigned_abs x.w)) ≡ numbers_of x
 numbers_are x is = λ i. natural_is x.t is.t i ∷ naturals_are x.w is.w i
 
-values_same : (truth : (ℕ → Bool) → Tree → Bool) (expression : ℕ → Tree → List ℤ) (n : ℕ) (ts : List Tree) (x : Point) → length x.w ≡ n → IsNatural x
-    → values_at truth expression n (map unsigned_abs x.w) (unsigned_abs x.t) ts ≡ values_of (map (expression (length x.w)) ts) x
-values_same truth expression n ts x same is =
+values_same : (expression : ℕ → Tree → List ℤ) (n : ℕ) (ts : List Tree) (x : Point) → length x.w ≡ n → IsNatural x
+    → values_at expression n (map unsigned_abs x.w) (unsigned_abs x.t) ts ≡ values_of (map (expression (length x.w)) ts) x
+values_same expression n ts x same is =
     (λ i. natural_is x.t is.t i ∷ map (λ e. dot e (numbers_are x is i)) (map (expression n) ts)) ∙ ap (λ (k : ℕ). values_of (map (expression k) ts) x) (sym same)
 
 module _ (size : (ℕ → ℕ) → Tree → ℕ) (truth : (ℕ → Bool) → Tree → Bool) (expression : ℕ → Tree → List ℤ) (p : Listing) (comps : Partition) (parts : Parts) (grounds : Family) (pre : ℕ → Family) (r : ℕ) where
   abbrev c : Claims
   c = claims_of size truth expression comps parts grounds pre
 
-  heads : (xs : List PairPoint) → AllByRecursion (IsPointOf p) xs → map (head_load truth expression) (map (pair_of p c r) xs) ≡ head_loads expression p xs
+  heads : (xs : List PairPoint) → AllByRecursion (IsPointOf p) xs → map (head_load expression) (map (pair_of p c r) xs) ≡ head_loads expression p xs
   heads [] h = refl
   heads (x ∷ xs) h =
-      let vs = values_same truth expression (clause_of p x).vars (clause_of p x).head.args x.point h.0.width h.0.natural in
+      let vs = values_same expression (clause_of p x).vars (clause_of p x).head.args x.point h.0.width h.0.natural in
       let rest = heads xs h.1 in
       λ i. ((clause_of p x).head.pred.0, vs i) ∷ rest i
 
-  calls : (xs : List PairPoint) → AllByRecursion (IsPointOf p) xs → map (call_load truth expression) (map (pair_of p c r) xs) ≡ call_loads expression p xs
+  calls : (xs : List PairPoint) → AllByRecursion (IsPointOf p) xs → map (call_load expression) (map (pair_of p c r) xs) ≡ call_loads expression p xs
   calls [] h = refl
   calls (x ∷ xs) h =
-      let vs = values_same truth expression (clause_of p x).vars (call_of p x).args x.point h.0.width h.0.natural in
+      let vs = values_same expression (clause_of p x).vars (call_of p x).args x.point h.0.width h.0.natural in
       let rest = calls xs h.1 in
       λ i. ((call_of p x).pred.0, vs i) ∷ rest i
 
@@ -71,6 +71,6 @@ refutations_are_shown size truth expression p comps parts grounds pre r members 
   fit = fit;
   columns = λ q _ i.
       subst (λ (hs : List Load). entry (gather q hs) i ≤ℤ entry (gather q (call_loads expression p xs)) i) (heads size truth expression p comps parts grounds pre r xs points)
-      (subst (λ (hs : List Load). entry (gather q (map (head_load truth expression) (map (pair_of p (claims_of size truth expression comps parts grounds pre) r) xs))) i ≤ℤ entry (gather q hs) i)
+      (subst (λ (hs : List Load). entry (gather q (map (head_load expression) (map (pair_of p (claims_of size truth expression comps parts grounds pre) r) xs))) i ≤ℤ entry (gather q hs) i)
       (calls size truth expression p comps parts grounds pre r xs points) (is.columns q i));
 }

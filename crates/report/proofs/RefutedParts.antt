@@ -10,7 +10,7 @@ use Rattle.cti_terms.specs.Tree.{Tree}
 use Rattle.cti_terms.specs.declared.atom_list.Atom.{Atom}
 use Rattle.cti_terms.specs.declared.clauses.Clause.{Clause}
 use Rattle.level_systems.specs.Found.{HasSecondPoint, IsFound, IsOwnPair}
-use Rattle.level_systems.specs.Mappings.{IsMappingOf, mapping_of, support_of}
+use Rattle.level_systems.specs.Mappings.{IsMappingOf, mapping_with, support_of}
 use Rattle.level_systems.specs.declared.found.Found.{Found}
 use Rattle.level_systems.specs.declared.mapping.Mapping.{Mapping}
 use Rattle.linear_rows.specs.declared.point.Point.{Point}
@@ -21,7 +21,7 @@ use Rattle.number_tests.specs.declared.level_part.LevelPart.{LevelPart}
 use Rattle.number_tests.specs.declared.pair_point.PairPoint.{PairPoint}
 use Rattle.number_tests.specs.declared.refutation.Refutation.{Refutation}
 use Rattle.termination_model.proofs.Lists.{by_places, indexed, place_below}
-use Rattle.termination_model.specs.ComponentViews.{Has, members_in, positions_in}
+use Rattle.termination_model.specs.ComponentViews.{HasSupportIn, members_in, positions_in}
 use Rattle.termination_model.specs.Sizes.{rows_of}
 use Rattle.termination_model.specs.SupportLaws.{HasWidths}
 use Rattle.report.proofs.Decreasing.{mapping_at, mapping_decreases}
@@ -78,11 +78,11 @@ module _ (expression : ℕ → Tree → List ℤ) (p : Listing) (comps : Partiti
   levels = level_list p comps found
 
   -- a mapping that is found is had
-  pub had_of : (c : ℕ) (f : Found) → c < length comps.members → IsFound expression p comps (rows_of rows) c f → (m : Mapping) (i : ℕ) → slice_get f.mappings i ≡ Some m → Has expression p comps (rows_of rows) c (support_of (positions_in p comps c) m)
+  pub had_of : (c : ℕ) (f : Found) → c < length comps.members → IsFound expression p comps (rows_of rows) c f → (m : Mapping) (i : ℕ) → slice_get f.mappings i ≡ Some m → HasSupportIn expression p comps (rows_of rows) c (support_of (positions_in p comps c) m)
   had_of c f inner is m i e =
       let im = by_places (IsMappingOf expression p (rows_of rows) comps c) f.mappings is.mappings i m e in
       record {
-        mapping = mapping_of m.measures;
+        mapping = mapping_with m.measures;
         at = mapping_at expression p comps rows found program components founds widths c m im;
         decreases = mapping_decreases expression p comps rows found program components founds widths c m inner im;
         is = refl;

@@ -26,7 +26,7 @@ use Rattle.termination_model.specs.Modes.{chosen_up_to, modes}
 use Rattle.report.specs.Exact.{IsExact}
 use Rattle.report.specs.ExactMappings.{admitted_by, HaveEachSupport, IsSolvedMapping, MappingsAreExact, printed_support}
 use Rattle.cert_assembly.specs.ExactModes.{AreCounted}
-use Rattle.report.specs.SupportNotes.{arguments_of, blown_at, blown_note, blown_notes, large_at, large_notes, support_notes}
+use Rattle.report.specs.SupportNotes.{arguments_by_member, blown_at, blown_note, blown_notes, large_at, large_notes, support_notes}
 use Rattle.cert_assembly.specs.Leading.{led_by}
 use Rattle.report.specs.Unnoted.{IsUnnoted, UnnotedAreBest}
 use Rattle.report.proofs.BestLaws.{best_modes_are_printed}
@@ -137,7 +137,7 @@ module _ (p : Listing) (names : List (List ℕ)) (facts : List Fact) (program : 
   none_blown : (ss : List (List ℕ)) → exact.exact.blown c ≡ ss → ss ≡ []
   none_blown [] e = refl
   none_blown (s ∷ ss) e =
-      absurd (unnoted.blown (arguments_of p s 1 (members_in exact.comps c)) (among _ (support_noted p names exact.comps exact.exact.blown c q less lead s (subst (In s) (sym e) (inl refl)))))
+      absurd (unnoted.blown (arguments_by_member p s 1 (members_in exact.comps c)) (among _ (support_noted p names exact.comps exact.exact.blown c q less lead s (subst (In s) (sym e) (inl refl)))))
 
   few : length (positions_in p exact.comps c) ≤ 12
   few = elim (few_or 12 (length (positions_in p exact.comps c))) [

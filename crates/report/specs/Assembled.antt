@@ -7,7 +7,7 @@ use Rattle.call_components.specs.Partition.{Partition, AreComponents}
 use Rattle.certificate.specs.declared.fact.Fact.{Fact}
 use Rattle.cert_structure.specs.Numbered.{AreEach}
 use Rattle.cert_structure.specs.Order.{listed}
-use Rattle.cert_structure.specs.Shape.{arity_in, AreMultipliers, body_of, head_of, IsLevel, IsRefutation, mappings_of, proofs_of_call, rows_of_atoms}
+use Rattle.cert_structure.specs.Shape.{arity_in, HaveMultipliers, body_of, head_of, IsLevel, IsRefutation, mappings_of, proofs_of_call, rows_of_atoms}
 use Rattle.cert_structure.specs.Structure.{AreNotes}
 use Rattle.cert_structure.specs.declared.parts.Parts.{Parts}
 use Rattle.cert_checker.specs.Norms.{norm_in}
@@ -24,7 +24,7 @@ use Rattle.cert_assembly.specs.ExactModes.{AreCounted, ModesAreExact}
 pub record MappingsHold (expression : ℕ → Tree → List ℤ) (p : Listing) (comps : Partition) (parts : Parts) : Type 0 where
   pub levels : AreEach (length p.preds) (λ a ls. (length ls ≡ mappings_of comps parts.levels a) × AllByRecursion (IsLevel (arity_in p a)) ls) parts.levels
   pub falls : AreEach (length p.clauses)
-      (λ k. AreEach (length (body_of p k)) (λ j. AreEach (proofs_of_call comps parts.levels (head_of p k) (slice_get (body_of p k) j)) (λ _. AreMultipliers (rows_of_atoms parts.rows (take j (body_of p k))))))
+      (λ k. AreEach (length (body_of p k)) (λ j. AreEach (proofs_of_call comps parts.levels (head_of p k) (slice_get (body_of p k) j)) (λ _. HaveMultipliers (rows_of_atoms parts.rows (take j (body_of p k))))))
       parts.falls
   pub refutations : AreEach (length p.preds) (IsRefutation p comps parts.levels) parts.refutations
   pub measures_hold : MeasuresAreZero comps parts

@@ -16,7 +16,7 @@ use Rattle.cert_structure.specs.declared.parts.Parts.{Parts}
 use Rattle.cti_terms.specs.Listing.{Listing}
 use Rattle.cti_terms.specs.Tree.{Tree}
 use Rattle.exact128.specs.Fits.{fits}
-use Rattle.level_systems.specs.Found.{without}
+use Rattle.level_systems.specs.Found.{without_number}
 use Rattle.level_systems.specs.Subsequences.{AreOnce}
 use Rattle.linear_rows.specs.Members.{In}
 use Rattle.linear_rows.specs.Step.{columns}
@@ -24,8 +24,8 @@ use Rattle.number_tests.specs.declared.refutation.Refutation.{Refutation}
 use Rattle.linear_rows.specs.Blown.{all_of}
 use Rattle.term_size.specs.AnyNorm.{any_row, any_truth}
 use Rattle.termination_model.specs.BlownSupports.{IsBlownAt}
-use Rattle.termination_model.specs.ComponentViews.{no_truth, positions_in}
-use Rattle.termination_model.specs.Excluding.{IsAt}
+use Rattle.termination_model.specs.ComponentViews.{positions_in}
+use Rattle.termination_model.specs.Excluding.{IsZeroOutside}
 use Rattle.termination_model.specs.Minimal.{IsExcluded, IsSet}
 use Rattle.termination_model.specs.Modes.{is_part}
 use Rattle.termination_model.specs.Ready.{arity_in}
@@ -48,12 +48,12 @@ module _ (expression : ℕ → Tree → List ℤ) (p : Listing) (comps : Partiti
   -- a component of more than 12 positions: one mapping at most, none of whose positions can be left out, or a refutation
   pub record LargeIsExact (c q : ℕ) (blown : List (List ℕ)) : Type 0 where
     pub few : length (items_of parts.levels q) ≤ 1
-    pub at : (m : ℕ) → m < length (items_of parts.levels q) → IsAt (positions_in p comps c) (mapping_in expression p comps parts c m)
-    pub decreases : (m : ℕ) → m < length (items_of parts.levels q) → Decreases no_truth expression (view expression p comps parts c) (mapping_in expression p comps parts c m)
+    pub at : (m : ℕ) → m < length (items_of parts.levels q) → IsZeroOutside (positions_in p comps c) (mapping_in expression p comps parts c m)
+    pub decreases : (m : ℕ) → m < length (items_of parts.levels q) → Decreases expression (view expression p comps parts c) (mapping_in expression p comps parts c m)
     pub decided : (1 ≤ length (items_of parts.levels q)) ⊎ IsRefuted parts q ⊎ In (full c) blown
     pub needed : (m i : ℕ) → m < length (items_of parts.levels q) → In i (printed_support expression p comps parts c m)
-        → In (without i (printed_support expression p comps parts c m)) blown
-        ⊎ IsExcluded (HasMapping expression p comps parts c) (without i (printed_support expression p comps parts c m))
+        → In (without_number i (printed_support expression p comps parts c m)) blown
+        ⊎ IsExcluded (HasMapping expression p comps parts c) (without_number i (printed_support expression p comps parts c m))
 
   -- a recursive component whose first member is q
   pub record ComponentIsExact (c q : ℕ) (blown : List (List ℕ)) : Type 0 where
@@ -66,7 +66,7 @@ module _ (expression : ℕ → Tree → List ℤ) (p : Listing) (comps : Partiti
     pub once : AreOnce blown
     -- no such set is above the support of a printed mapping
     pub apart : (s : List ℕ) → In s blown → (m : ℕ) → m < length (items_of parts.levels q) → is_part (printed_support expression p comps parts c m) s ≡ true → ⊥
-    pub given_up : (s : List ℕ) → In s blown → IsBlownAt no_truth expression (view expression p comps parts c) (arity_in p) (picked_from 1 (positions_in p comps c) s)
+    pub given_up : (s : List ℕ) → In s blown → IsBlownAt expression (view expression p comps parts c) (arity_in p) (picked_from 1 (positions_in p comps c) s)
 
 -- the parts and the notes are exact
 pub record IsExactOf (p : Listing) (names : List (List ℕ)) (comps : Partition) (parts : Parts) (notes : List Fact) : Type 0 where

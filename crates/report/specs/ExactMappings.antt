@@ -17,8 +17,8 @@ use Rattle.cert_modes.specs.Modes.{allowed, coefficients_of, grounds_of}
 use Rattle.level_systems.specs.Subsequences.{IsSubsequence}
 use Rattle.linear_rows.specs.Step.{columns}
 use Rattle.termination_model.specs.Claims.{Mapping}
-use Rattle.termination_model.specs.ComponentViews.{Has, component_view, no_truth, positions_in}
-use Rattle.termination_model.specs.Excluding.{IsAt}
+use Rattle.termination_model.specs.ComponentViews.{HasSupportIn, component_view, positions_in}
+use Rattle.termination_model.specs.Excluding.{IsZeroOutside}
 use Rattle.termination_model.specs.Grounds.{HasArity}
 use Rattle.termination_model.specs.Minimal.{IsAbove, IsMinimal}
 use Rattle.termination_model.specs.Modes.{chosen_up_to, is_part, modes}
@@ -37,7 +37,7 @@ module _ (expression : ℕ → Tree → List ℤ) (p : Listing) (comps : Partiti
 
   -- a decreasing mapping of the component has exactly this support
   abbrev pub HasMapping : ℕ → List ℕ → Type 0
-  HasMapping c = Has expression p comps (rows_of parts.rows) c
+  HasMapping c = HasSupportIn expression p comps (rows_of parts.rows) c
 
   -- the printed mapping of number m of the component: that of its members, and nothing of other predicates
   abbrev pub mapping_in : ℕ → ℕ → Mapping
@@ -51,8 +51,8 @@ module _ (expression : ℕ → Tree → List ℤ) (p : Listing) (comps : Partiti
 
   -- a component of at most 12 positions, some supports of which were given up
   pub record MappingsAreExact (c q : ℕ) (blown : List (List ℕ)) : Type 0 where
-    pub at : (m : ℕ) → m < length (items_of parts.levels q) → IsAt (positions_in p comps c) (mapping_in c m)
-    pub decreases : (m : ℕ) → m < length (items_of parts.levels q) → Decreases no_truth expression (view c) (mapping_in c m)
+    pub at : (m : ℕ) → m < length (items_of parts.levels q) → IsZeroOutside (positions_in p comps c) (mapping_in c m)
+    pub decreases : (m : ℕ) → m < length (items_of parts.levels q) → Decreases expression (view c) (mapping_in c m)
     pub minimal : (m : ℕ) → m < length (items_of parts.levels q) → IsMinimal (HasMapping c) (printed_support c m)
     pub within : (s : List ℕ) → HasMapping c s → ((m : ℕ) × (m < length (items_of parts.levels q)) × (is_part (printed_support c m) s ≡ true)) ⊎ IsAbove blown s
     -- the supports stand in the order of all sets: the shorter ones first, and by their numbers

@@ -28,4 +28,4 @@ RefutationsAreShown =
     (r : ℕ) (members : List ℕ) (xs : List PairPoint)
     → AllByRecursion (IsPointOf p) xs
     → (let c = claims_of size truth expression comps parts grounds pre in
-    IsRefutation truth expression (view_of p c r itself) (map (pair_of p c r) xs) → PairsFit expression p xs → SumsRefute expression p members xs)
+    IsRefutation expression (view_of p c r itself) (map (pair_of p c r) xs) → PairsFit expression p xs → SumsRefute expression p members xs)

@@ -20,15 +20,15 @@ arguments_in s i a zero = []
 arguments_in s i a (suc n) = (if list_any (λ x. nat_eq i x) s then a ∷ [] else []) ++ arguments_in s (suc i) (suc a) n
 
 -- one list of arguments for each member
-abbrev pub arguments_of : Listing → List ℕ → ℕ → List ℕ → List (List ℕ)
-arguments_of p s i [] = []
-arguments_of p s i (q ∷ qs) = arguments_in s i 1 (arity_in p q) ∷ arguments_of p s (i + arity_in p q) qs
+abbrev pub arguments_by_member : Listing → List ℕ → ℕ → List ℕ → List (List ℕ)
+arguments_by_member p s i [] = []
+arguments_by_member p s i (q ∷ qs) = arguments_in s i 1 (arity_in p q) ∷ arguments_by_member p s (i + arity_in p q) qs
 
 -- the notes of all components, by their first members
 module _ (p : Listing) (names : List (List ℕ)) (comps : Partition) where
   -- a support of the component c, whose first member is q, was given up
   abbrev pub blown_note : ℕ → ℕ → List ℕ → Fact
-  blown_note c q s = fact.Blown (pred_text p names q) (arguments_of p s 1 (members_in comps c))
+  blown_note c q s = fact.Blown (pred_text p names q) (arguments_by_member p s 1 (members_in comps c))
 
   abbrev pub blown_at : (ℕ → List (List ℕ)) → ℕ → Option ℕ → List Fact
   blown_at blown q None = []

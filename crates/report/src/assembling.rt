@@ -29,6 +29,7 @@ use numeric_model::{Chain, Step};
 use polyhedra::Poly;
 use sequences::Sequence;
 use std::alloc::{AllocError, Global};
+use std::mem;
 use term_size::{AnyNorm, NormName};
 use termination_model::{SizeRows, Sizes};
 
@@ -111,7 +112,8 @@ fn find(alloc: Global, measured: &Measured, c: u32, sizes: &Sizes) -> Result<Fou
     requires inner { c < length measured.now.comps.now.members }
     requires sizes { AreSizes measured.now.p.now.preds sizes.now.rows }
     ensures { IfOk result (λ f. slice_get measured.now.comps.now.recursive c ≡ Some true
-        → IsFound (any_row measured.now.norm) measured.now.p.now measured.now.comps.now (rows_of sizes.now.rows) c f) }
+        → IsFound (any_row measured.now.norm) measured.now.p.now measured.now.comps.now
+        (rows_of sizes.now.rows) c f) }
 {
     if !measured.comps.recursive(c) {
         return Ok(nothing(alloc));
@@ -127,7 +129,8 @@ fn find_all(
 ) -> Result<Sequence<Found>, AllocError>
     requires components { AreComponents measured.now.p.now measured.now.comps.now }
     requires sizes { AreSizes measured.now.p.now.preds sizes.now.rows }
-    ensures { IfOk result (AreFound (any_row measured.now.norm) measured.now.p.now measured.now.comps.now sizes.now.rows) }
+    ensures { IfOk result (AreFound
+        (any_row measured.now.norm) measured.now.p.now measured.now.comps.now sizes.now.rows) }
 {
     let mut found = Sequence::new(alloc);
     for c in 0..measured.comps.count() {
@@ -145,7 +148,8 @@ fn parts_of(
     found: &[Found],
 ) -> Result<Parts, AllocError>
     requires components { AreComponents measured.now.p.now measured.now.comps.now }
-    requires found { AreFound (any_row measured.now.norm) measured.now.p.now measured.now.comps.now sizes.now.rows found.now }
+    requires found { AreFound
+        (any_row measured.now.norm) measured.now.p.now measured.now.comps.now sizes.now.rows found.now }
     ensures { IfOk result (ArePartsOf measured.now.norm named measured.now.p.now measured.now.comps.now sizes.now found.now) }
 {
     let _program = measured.p.preds();
@@ -162,19 +166,21 @@ fn assembled_over(
     measured: &Measured,
     names: &Names,
     named: Option<CertNorm>,
-    chain: &Chain,
+    mut chain: Chain,
 ) -> Result<Assembled, AllocError>
     requires components { AreComponents measured.now.p.now measured.now.comps.now }
     requires norm { measured.now.norm ≡ norm_in names.now named }
-    requires chain { IsSolvedChain (any_row measured.now.norm) measured.now.p.now measured.now.comps.now chain.now }
-    ensures assembled { IfOk result (IsAssembled measured.now.p.now names.now measured.now.comps.now) }
+    requires chain { IsSolvedChain
+        (any_row measured.now.norm) measured.now.p.now measured.now.comps.now chain }
+    ensures assembled { IfOk result
+        (IsAssembled measured.now.p.now names.now measured.now.comps.now) }
     ensures norm { IfOk result (λ a. a.parts.norm ≡ named) }
 {
     let _program = measured.p.preds();
     let found = find_all(alloc, measured, &chain.sizes)?;
     let parts = parts_of(alloc, measured, named, &chain.sizes, found.as_slice())?;
     are_bounded(&parts);
-    let steps = chain.steps.as_slice();
+    let steps = mem::replace(&mut chain.steps, Sequence::new(alloc));
     let notes = notes_of(
         alloc,
         measured.p,
@@ -202,12 +208,13 @@ fn notes_of(
     p: &Program,
     names: &Names,
     comps: &Components,
-    steps: &[Step],
+    steps: Sequence<Step>,
     found: &[Found],
 ) -> Result<Sequence<Fact>, AllocError>
     requires components { AreComponents p.now comps.now }
     requires each { length found.now ≡ length comps.now.members }
-    ensures { IfOk result (λ notes. notes ≡ chain_notes p.now names.now (map plain_step steps.now) ++ support_notes p.now names.now comps.now (given_up found.now)) }
+    ensures { IfOk result (λ notes. notes ≡ chain_notes p.now names.now (map plain_step steps)
+        ++ support_notes p.now names.now comps.now (given_up found.now)) }
 {
     let mut notes = Sequence::new(alloc);
     note_chain(alloc, p, names, steps, &mut notes)?;
@@ -241,5 +248,5 @@ pub(crate) fn assemble(
     let named = certificate_norm(norm);
     let norm = norm_of(names, named);
     let chain = numeric_model::solve::<Poly, AnyNorm>(alloc, p, comps, &norm)?;
-    assembled_over(alloc, &Measured { p, comps, norm }, names, named, &chain)
+    assembled_over(alloc, &Measured { p, comps, norm }, names, named, chain)
 }

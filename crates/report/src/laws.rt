@@ -18,9 +18,11 @@ pub fn exact_modes_hold()
 
 /// Where no support was given up, the printed mappings admit what any decreasing mapping admits.
 pub fn exact_modes_are_best()
-    ensures admitted { (truth : (ℕ → Bool) → Tree → Bool) (expression : ℕ → Tree → List ℤ) (p : Listing) (comps : Partition) (parts : Parts)
+    ensures admitted { (truth : (ℕ → Bool) → Tree → Bool) (expression : ℕ → Tree
+        → List ℤ) (p : Listing) (comps : Partition) (parts : Parts)
         → BestOverMappings expression p comps parts truth }
-    ensures modes { (truth : (ℕ → Bool) → Tree → Bool) (expression : ℕ → Tree → List ℤ) (p : Listing) (comps : Partition) (parts : Parts)
+    ensures modes { (truth : (ℕ → Bool) → Tree → Bool) (expression : ℕ → Tree
+        → List ℤ) (p : Listing) (comps : Partition) (parts : Parts)
         → BestModes expression p comps parts truth }
 {}
 

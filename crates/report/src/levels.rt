@@ -45,7 +45,8 @@ fn parts_of(
     q: PredId,
 ) -> Result<Sequence<LevelPart>, AllocError>
     requires { q.0 < length p.now.preds }
-    ensures { IfOk result (λ parts. parts ≡ map (λ m. part_or_zero (arity_in p.now q.0) (level_in m.measures q.0)) mappings.now) }
+    ensures { IfOk result (λ parts. parts ≡ map
+        (λ m. part_or_zero (arity_in p.now q.0) (level_in m.measures q.0)) mappings.now) }
 {
     let mut parts = Sequence::new(alloc);
     for mapping in mappings {
@@ -61,7 +62,8 @@ fn falls_of(
     clause: u32,
     call: u32,
 ) -> Result<Sequence<Multipliers>, AllocError>
-    ensures { IfOk result (λ falls. falls ≡ map (λ m. by_or_none (fall_in m.falls clause call)) mappings.now) }
+    ensures { IfOk result (λ falls. falls ≡ map
+        (λ m. by_or_none (fall_in m.falls clause call)) mappings.now) }
 {
     let mut falls = Sequence::new(alloc);
     for mapping in mappings {
@@ -107,7 +109,8 @@ impl Mapped<'_> {
         requires components { AreComponents self.now.p.now self.now.comps.now }
         requires each { length self.now.found.now ≡ length self.now.comps.now.members }
         requires there { q.0 < length self.now.p.now.preds }
-        ensures { IfOk result (λ levels. levels ≡ levels_at self.now.p.now self.now.comps.now self.now.found.now q.0) }
+        ensures { IfOk result (λ levels. levels
+            ≡ levels_at self.now.p.now self.now.comps.now self.now.found.now q.0) }
     {
         if self.comps.recursive(self.comps.of(q)) {
             parts_of(alloc, self.p, self.mappings_at(q), q)
@@ -122,7 +125,8 @@ impl Mapped<'_> {
     pub(crate) fn levels(&self, alloc: Global) -> Result<Sequence<Sequence<LevelPart>>, AllocError>
         requires components { AreComponents self.now.p.now self.now.comps.now }
         requires each { length self.now.found.now ≡ length self.now.comps.now.members }
-        ensures { IfOk result (λ levels. levels ≡ level_list self.now.p.now self.now.comps.now self.now.found.now) }
+        ensures { IfOk result (λ levels. levels
+            ≡ level_list self.now.p.now self.now.comps.now self.now.found.now) }
     {
         let mut levels = Sequence::new(alloc);
         for q in 0..self.p.preds() {
@@ -144,7 +148,9 @@ impl Mapped<'_> {
         requires clause { clause < length self.now.p.now.clauses }
         requires place { place < 4294967295 }
         requires call { call.now.pred.0 < length self.now.p.now.preds }
-        ensures { IfOk result (λ falls. falls ≡ falls_at self.now.p.now self.now.comps.now self.now.found.now clause place (Some call.now)) }
+        ensures { IfOk result (λ falls. falls
+            ≡ falls_at self.now.p.now self.now.comps.now self.now.found.now clause place
+            (Some call.now)) }
     {
         let _program = self.p.clauses();
         let head = self.p.clause(clause + 1).head.pred;
@@ -164,7 +170,9 @@ impl Mapped<'_> {
         requires components { AreComponents self.now.p.now self.now.comps.now }
         requires each { length self.now.found.now ≡ length self.now.comps.now.members }
         requires clause { clause < length self.now.p.now.clauses }
-        ensures { IfOk result (λ falls. falls ≡ falls_from self.now.p.now self.now.comps.now self.now.found.now clause 0 (body_of self.now.p.now clause)) }
+        ensures { IfOk result (λ falls. falls
+            ≡ falls_from self.now.p.now self.now.comps.now self.now.found.now clause 0
+            (body_of self.now.p.now clause)) }
     {
         let _program = self.p.clauses();
         let body = self.p.clause(clause + 1).body.as_slice();
@@ -182,7 +190,8 @@ impl Mapped<'_> {
     ) -> Result<Sequence<Sequence<Sequence<Multipliers>>>, AllocError>
         requires components { AreComponents self.now.p.now self.now.comps.now }
         requires each { length self.now.found.now ≡ length self.now.comps.now.members }
-        ensures { IfOk result (λ falls. falls ≡ fall_list self.now.p.now self.now.comps.now self.now.found.now) }
+        ensures { IfOk result (λ falls. falls
+            ≡ fall_list self.now.p.now self.now.comps.now self.now.found.now) }
     {
         let mut falls = Sequence::new(alloc);
         for clause in 0..self.p.clauses() {
@@ -196,7 +205,8 @@ impl Mapped<'_> {
         requires components { AreComponents self.now.p.now self.now.comps.now }
         requires each { length self.now.found.now ≡ length self.now.comps.now.members }
         requires there { q.0 < length self.now.p.now.preds }
-        ensures { IfOk result (λ refutation. refutation ≡ refutation_of self.now.found.now (led_by self.now.comps.now q.0)) }
+        ensures { IfOk result (λ refutation. refutation ≡ refutation_of self.now.found.now
+            (led_by self.now.comps.now q.0)) }
     {
         match led_by(self.p, self.comps, q) {
             Some(c) => copied_if(alloc, &self.found[c as usize].refutation),
@@ -211,7 +221,8 @@ impl Mapped<'_> {
     ) -> Result<Sequence<Option<Refutation>>, AllocError>
         requires components { AreComponents self.now.p.now self.now.comps.now }
         requires each { length self.now.found.now ≡ length self.now.comps.now.members }
-        ensures { IfOk result (λ refutations. refutations ≡ refutation_list self.now.p.now self.now.comps.now self.now.found.now) }
+        ensures { IfOk result (λ refutations. refutations
+            ≡ refutation_list self.now.p.now self.now.comps.now self.now.found.now) }
     {
         let mut refutations = Sequence::new(alloc);
         for q in 0..self.p.preds() {

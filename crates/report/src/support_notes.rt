@@ -7,7 +7,7 @@ ghost use Rattle.call_components.specs.Partition.{AreComponents};
 ghost use Rattle.certificate.specs.declared.fact.Fact.TheVariants as fact;
 ghost use Rattle.cert_structure.specs.Order.{pred_text};
 ghost use Rattle.report.specs.Levels.{given_up};
-ghost use Rattle.report.specs.SupportNotes.{arguments_in, arguments_of, blown_at, blown_note, blown_notes, large_at, large_notes, support_notes};
+ghost use Rattle.report.specs.SupportNotes.{arguments_in, arguments_by_member, blown_at, blown_note, blown_notes, large_at, large_notes, support_notes};
 ghost use Rattle.cert_assembly.specs.Leading.{led_by};
 ghost use Rattle.termination_model.specs.Ready.{arity_in, positions_by};
 
@@ -60,7 +60,7 @@ fn arguments_in(
 }
 
 /// For each member its arguments whose positions are in a set.
-fn arguments_of(
+fn arguments_by_member(
     alloc: Global,
     p: &Program,
     members: &[PredId],
@@ -68,7 +68,8 @@ fn arguments_of(
 ) -> Result<Sequence<Sequence<u32>>, AllocError>
     requires members { AllByRecursion (λ q. q < length p.now.preds) (map number_of members.now) }
     requires few { length members.now < 2 ^ 32 }
-    ensures { IfOk result (λ support. support ≡ arguments_of p.now set.now 1 (map number_of members.now)) }
+    ensures { IfOk result (λ support. support ≡ arguments_by_member p.now set.now 1
+        (map number_of members.now)) }
 {
     let mut support = Sequence::new(alloc);
     let mut first = 1;
@@ -113,7 +114,8 @@ impl Described<'_> {
     ) -> Result<(), AllocError>
         requires components { AreComponents self.now.p.now self.now.comps.now }
         requires within { c < length self.now.comps.now.members }
-        ensures { OnOk result (out.new ≡ out.old ++ map (blown_note self.now.p.now self.now.names.now self.now.comps.now c q.0) sets.now) }
+        ensures { OnOk result (out.new
+            ≡ out.old ++ map (blown_note self.now.p.now self.now.names.now self.now.comps.now c q.0) sets.now) }
     {
         for set in sets {
             out.push(self.blown_note(alloc, q, c, set.as_slice())?)?;
@@ -125,12 +127,13 @@ impl Described<'_> {
     fn blown_note(&self, alloc: Global, q: PredId, c: u32, set: &[u32]) -> Result<Fact, AllocError>
         requires components { AreComponents self.now.p.now self.now.comps.now }
         requires within { c < length self.now.comps.now.members }
-        ensures { IfOk result (λ note. note ≡ blown_note self.now.p.now self.now.names.now self.now.comps.now c q.0 set.now) }
+        ensures { IfOk result (λ note. note
+            ≡ blown_note self.now.p.now self.now.names.now self.now.comps.now c q.0 set.now) }
     {
         let _program = self.p.clauses();
         Ok(Fact::Blown {
             pred: pred_text(alloc, self.p, self.names, q)?,
-            support: arguments_of(alloc, self.p, self.comps.members(c), set)?,
+            support: arguments_by_member(alloc, self.p, self.comps.members(c), set)?,
         })
     }
 
@@ -143,7 +146,9 @@ impl Described<'_> {
     ) -> Result<(), AllocError>
         requires components { AreComponents self.now.p.now self.now.comps.now }
         requires each { length found.now ≡ length self.now.comps.now.members }
-        ensures { OnOk result (out.new ≡ out.old ++ blown_notes self.now.p.now self.now.names.now self.now.comps.now (given_up found.now)) }
+        ensures { OnOk result (out.new
+            ≡ out.old ++ blown_notes self.now.p.now self.now.names.now self.now.comps.now
+            (given_up found.now)) }
     {
         for q in 0..self.p.preds() {
             self.note_blown_at(alloc, PredId(q), found, out)?;
@@ -162,7 +167,9 @@ impl Described<'_> {
         requires components { AreComponents self.now.p.now self.now.comps.now }
         requires there { q.0 < length self.now.p.now.preds }
         requires each { length found.now ≡ length self.now.comps.now.members }
-        ensures { OnOk result (out.new ≡ out.old ++ blown_at self.now.p.now self.now.names.now self.now.comps.now (given_up found.now) q.0 (led_by self.now.comps.now q.0)) }
+        ensures { OnOk result (out.new
+            ≡ out.old ++ blown_at self.now.p.now self.now.names.now self.now.comps.now
+            (given_up found.now) q.0 (led_by self.now.comps.now q.0)) }
     {
         match led_by(self.p, self.comps, q) {
             Some(c) => {
@@ -183,7 +190,9 @@ impl Described<'_> {
     ) -> Result<(), AllocError>
         requires components { AreComponents self.now.p.now self.now.comps.now }
         requires within { c < length self.now.comps.now.members }
-        ensures { OnOk result (out.new ≡ out.old ++ large_at self.now.p.now self.now.names.now self.now.comps.now q.0 (Some c)) }
+        ensures { OnOk result (out.new
+            ≡ out.old ++ large_at self.now.p.now self.now.names.now self.now.comps.now q.0
+            (Some c)) }
     {
         let _program = self.p.clauses();
         let positions = positions_count(self.p, self.comps.members(c));
@@ -199,7 +208,8 @@ impl Described<'_> {
     /// Puts the notes of all components with many argument positions after others.
     fn note_large(&self, alloc: Global, out: &mut Sequence<Fact>) -> Result<(), AllocError>
         requires components { AreComponents self.now.p.now self.now.comps.now }
-        ensures { OnOk result (out.new ≡ out.old ++ large_notes self.now.p.now self.now.names.now self.now.comps.now) }
+        ensures { OnOk result (out.new
+            ≡ out.old ++ large_notes self.now.p.now self.now.names.now self.now.comps.now) }
     {
         for q in 0..self.p.preds() {
             self.note_large_at(alloc, PredId(q), out)?;
@@ -216,7 +226,9 @@ impl Described<'_> {
     ) -> Result<(), AllocError>
         requires components { AreComponents self.now.p.now self.now.comps.now }
         requires there { q.0 < length self.now.p.now.preds }
-        ensures { OnOk result (out.new ≡ out.old ++ large_at self.now.p.now self.now.names.now self.now.comps.now q.0 (led_by self.now.comps.now q.0)) }
+        ensures { OnOk result (out.new
+            ≡ out.old ++ large_at self.now.p.now self.now.names.now self.now.comps.now q.0
+            (led_by self.now.comps.now q.0)) }
     {
         match led_by(self.p, self.comps, q) {
             Some(c) => self.note_if_large(alloc, q, c, out),
@@ -233,7 +245,9 @@ impl Described<'_> {
     ) -> Result<(), AllocError>
         requires components { AreComponents self.now.p.now self.now.comps.now }
         requires each { length found.now ≡ length self.now.comps.now.members }
-        ensures { OnOk result (out.new ≡ out.old ++ support_notes self.now.p.now self.now.names.now self.now.comps.now (given_up found.now)) }
+        ensures { OnOk result (out.new
+            ≡ out.old ++ support_notes self.now.p.now self.now.names.now self.now.comps.now
+            (given_up found.now)) }
     {
         self.note_blown(alloc, found, out)?;
         self.note_large(alloc, out)

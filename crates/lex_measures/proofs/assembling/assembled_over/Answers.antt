@@ -18,12 +18,12 @@ returns c =
     let names = c.args.names.now in
     let comps = c.args.measured.now.comps.now in
     let norm = c.args.measured.now.norm in
-    let chain = c.args.chain.now in
+    let chain = c.args.chain in
     let found = c.in_ok-found.found in
     let parts = c.in_ok-parts.parts in
     let solved = subst (λ (n : AnyNorm). IsSolvedChain (any_row n) p comps chain) c.requires.norm c.requires.chain in
     let founds = subst (λ (n : AnyNorm). AreFound (any_row n) p comps chain.sizes.rows found) c.requires.norm c.in_ok-found.ensures in
     let own = subst (λ (fs : List FoundLists). ArePartsOf (any_truth norm) p comps chain.sizes fs parts) c.as_slice.ensures c.in_ok-parts.ensures in
     let are = subst (λ (n : AnyNorm). ArePartsOf (any_truth n) p comps chain.sizes found parts) c.requires.norm own in
-    let notes = c.in_ok-notes.ensures ∙ (λ i. flat_map noted (chain_notes p names (map plain_step (c.as_slice-2.ensures i))) ++ component_notes p names comps (found_of (c.as_slice-3.ensures i))) in
+    let notes = c.in_ok-notes.ensures ∙ (λ i. flat_map noted (chain_notes p names (map plain_step (c.replace-steps.ensures.value i))) ++ component_notes p names comps (found_of (c.as_slice-2.ensures i))) in
     assembled p names comps chain.sizes found parts c.in_ok-notes.notes chain.steps c.preds-program.ensures.sound c.requires.components solved.legal solved.sizes solved.proofs solved.fits founds are c.are_bounded.ensures notes

@@ -14,9 +14,9 @@ returns-clause-assembled c =
     let names = c.args.names.now in
     let comps = c.args.measured.now.comps.now in
     let norm = c.args.measured.now.norm in
-    let chain = c.args.chain.now in
+    let chain = c.args.chain in
     let parts = subst (λ (found : List Found). ArePartsOf norm c.args.named p comps chain.sizes found c.in_ok-parts.parts) c.as_slice.ensures c.in_ok-parts.ensures in
-    let notes = c.in_ok-notes.ensures ∙ (λ i. chain_notes p names (map plain_step (c.as_slice-steps.ensures i)) ++ support_notes p names comps (given_up (c.as_slice-2.ensures i))) in
+    let notes = c.in_ok-notes.ensures ∙ (λ i. chain_notes p names (map plain_step (c.replace-steps.ensures.value i)) ++ support_notes p names comps (given_up (c.as_slice-2.ensures i))) in
     assembled norm c.args.named p names comps chain.sizes c.in_ok-found.found c.in_ok-parts.parts c.in_ok-notes.notes chain.steps
     c.preds-program.ensures.sound c.requires.components c.requires.chain.legal c.requires.chain.sizes c.requires.chain.proofs c.requires.chain.fits
     c.in_ok-found.ensures parts c.are_bounded.ensures notes c.requires.norm

@@ -2,7 +2,7 @@ use Rattle.std.proofs.Common.{◌≡◌, ◌<◌, ℕ, Some, get_or, length, map
 use Rattle.call_components.specs.Numbers.{number_of}
 use Rattle.cti_terms.specs.declared.predicates.PredId.{PredId}
 use Rattle.termination_model.proofs.Lists.{by_places, mapped_place, there}
-use Rattle.report.proofs.support_notes.arguments_of.Goals as goal
+use Rattle.report.proofs.support_notes.arguments_by_member.Goals as goal
 
 pub pred-requires : goal.pred-requires
 pred-requires c =
