@@ -29,7 +29,7 @@ use Rattle.linear_rows.specs.Step.{columns}
 use Rattle.prolog_reader.specs.Names.{Extends}
 use Rattle.report.specs.Exact.{IsExact, ComponentIsExact}
 use Rattle.report.specs.OfNorm.{IsOfNorm}
-use Rattle.report.specs.SupportNotes.{arguments_of, blown_at, blown_notes, large_at, large_notes, support_notes}
+use Rattle.report.specs.SupportNotes.{arguments_by_member, blown_at, blown_notes, large_at, large_notes, support_notes}
 use Rattle.term_size.specs.AnyNorm.{any_row, any_truth}
 use Rattle.term_size.specs.declared.any_norm.AnyNorm.{AnyNorm}
 use Rattle.term_size.specs.declared.any_norm.NormName.TheVariants as norm
@@ -99,7 +99,7 @@ module _ (names later : List (List ℕ)) (ext : Extends names later) (p : Listin
   module _ (comps : Partition) where
     blown_stays : (blown : ℕ → List (List ℕ)) (q : ℕ) (o : Option ℕ) → blown_at p later comps blown q o ≡ blown_at p names comps blown q o
     blown_stays blown q None = refl
-    blown_stays blown q (Some c) = ap (λ (t : ℕ → PredText). map (λ (s : List ℕ). fact.Blown (t q) (arguments_of p s 1 (members_in comps c))) (blown c)) texts
+    blown_stays blown q (Some c) = ap (λ (t : ℕ → PredText). map (λ (s : List ℕ). fact.Blown (t q) (arguments_by_member p s 1 (members_in comps c))) (blown c)) texts
 
     large_stays : (q : ℕ) (o : Option ℕ) → large_at p later comps q o ≡ large_at p names comps q o
     large_stays q None = refl

@@ -76,7 +76,8 @@ enum Word {
 
 /// The word that this text is.
 fn word_of(text: &[u8]) -> Word
-    ensures { (names : List (List ℕ)) (vars : ℕ) (t : Tree) → asked_by names vars text.now t ≡ asked_as names vars result t }
+    ensures { (names : List (List ℕ)) (vars : ℕ) (t : Tree)
+        → asked_by names vars text.now t ≡ asked_as names vars result t }
 {
     if text == b":-".as_slice() {
         Word::Directive
@@ -110,7 +111,8 @@ fn asked_by(names: &Names, vars: u32, text: &[u8], term: ReadTerm) -> Edit
 /// What a directive with this goal asks for.
 fn directive(names: &Names, goal: &ReadTerm) -> Edit
     requires { IsTrue (is_known (length names.now) (tree_of goal.now)) }
-    ensures { edit_seen result ≡ (if is_silent_goal names.now (tree_of goal.now) then nothing else no_edit) }
+    ensures { edit_seen result
+        ≡ (if is_silent_goal names.now (tree_of goal.now) then nothing else no_edit) }
 {
     if is_silent_goal(names, goal) {
         Edit::Nothing

@@ -67,8 +67,10 @@ pub(crate) fn infer_with(
     names: &mut Names,
 ) -> Result<Inferred, AllocError>
     requires at { at ≤ vec_len clauses.old }
-    requires fit { AreFit (length names.old) (inserted (map clause_of clauses.old.items) at (clause_of clause)) }
-    requires definite { AreDefinite names.old (inserted (map clause_of clauses.old.items) at (clause_of clause)) }
+    requires fit { AreFit (length names.old)
+        (inserted (map clause_of clauses.old.items) at (clause_of clause)) }
+    requires definite { AreDefinite names.old
+        (inserted (map clause_of clauses.old.items) at (clause_of clause)) }
     requires operations { HasOperations names.old }
     requires room { length names.old < 2 ^ 32 - 3 }
     ensures clauses { OnOk result (map clause_of clauses.new.items

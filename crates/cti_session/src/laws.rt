@@ -11,9 +11,11 @@ use cert_checker::valid_certificates_bound_their_modes;
 /// A session stays one where names are added, as those of a clause that is to be added.
 pub fn sessions_stay()
     // This is what edits ask for.
-    ensures program { (names later : List (List ℕ)) (s : Snapshot) → Extends names later → HasProgram names s
+    ensures program { (names later : List (List ℕ)) (s : Snapshot) → Extends names later
+        → HasProgram names s
         → HasProgram later s }
-    ensures session { (names later : List (List ℕ)) (s : Snapshot) → IsProgram s.program → AllPairs (λ a b. a ≢ b) later
+    ensures session { (names later : List (List ℕ)) (s : Snapshot) → IsProgram s.program
+        → AllPairs (λ a b. a ≢ b) later
         → Extends names later → IsSession names s → IsSession later s }
 {
     valid_certificates_bound_their_modes();

@@ -1,7 +1,8 @@
 //! Edit sessions: a program whose clauses come and go, with its certificate.
 //!
 //! After each edit the certificate of a session is valid and exact for the program of the session's clauses, by term
-//! size. `specs/Session.antt` says what that is.
+//! size. `specs/Session.antt` says what that is. `play` does the edits of a text, one after the other, and gives what they
+//! tell; `specs/Edits.antt` says which edits a text has, and what each of them does.
 //!
 //! This version infers the whole program anew at each edit. So nothing is said of predicates that an edit does not
 //! reach: that they keep their size rows, their ground rows, their measures and their preconditions is missing here. A

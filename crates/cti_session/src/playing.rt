@@ -5,6 +5,7 @@ ghost use Rattle.certificate.specs.Text.{fact_text};
 ghost use Rattle.certificate.specs.declared.fact.Fact.TheVariants.{Terminates};
 ghost use Rattle.clause_normal.specs.Numbering.{operation_texts};
 ghost use Rattle.prolog_reader.specs.Fit.{AreFit, IsFit};
+ghost use Rattle.prolog_reader.specs.Names.{Extends};
 ghost use Rattle.prolog_reader.specs.Naming.{with_names};
 ghost use Rattle.prolog_terms.specs.Clauses.{nodes, place};
 ghost use Rattle.prolog_terms.specs.Terms.{clause_of, tree_of};
@@ -134,7 +135,8 @@ impl Playing {
 
     /// Puts a clause last.
     fn push(&mut self, clause: ReadClause) -> Result<(), AllocError>
-        ensures clauses { OnOk result (clauses_in self.new ≡ clauses_in self.old ++ clause_of clause ∷ []) }
+        ensures clauses { OnOk result (clauses_in self.new ≡ clauses_in self.old ++ clause_of clause
+            ∷ []) }
         ensures stale { OnOk result (self.new.is_current ≡ false) }
         ensures lines { self.new.lines ≡ self.old.lines }
     {
@@ -148,8 +150,10 @@ impl Playing {
         requires under_way { IsUnderWay names.now self.old }
         requires fit { IsFit (length names.now) (clause_of clause) }
         requires small { nodes_in (clauses_in self.old) + nodes (tree_of clause.term) ≤ 2097152 }
-        ensures step { (at : ℕ) → AnswersStep names.now self.old self.new (done names.now (clauses_in self.old) at (add (clause_of clause))) result }
-        ensures clauses { OnOk result (clauses_in self.new ≡ clauses_in self.old ++ clause_of clause ∷ []) }
+        ensures step { (at : ℕ) → AnswersStep names.now self.old self.new
+            (done names.now (clauses_in self.old) at (add (clause_of clause))) result }
+        ensures clauses { OnOk result (clauses_in self.new ≡ clauses_in self.old ++ clause_of clause
+            ∷ []) }
     {
         let alloc = *self.clauses.allocator();
         check_added(alloc, &clause, names, self.clauses.len())?;
@@ -160,8 +164,10 @@ impl Playing {
     /// Removes the clause of this number.
     fn remove(&mut self, number: i128, at: u32) -> Result<(), EditsFault>
         ensures step { (names : List (List ℕ)) → IsUnderWay names self.old
-            → AnswersStep names self.old self.new (done names (clauses_in self.old) at (remove number)) result }
-        ensures fewer { OnOk result (nodes_in (clauses_in self.new) ≤ nodes_in (clauses_in self.old)) }
+            → AnswersStep names self.old self.new
+            (done names (clauses_in self.old) at (remove number)) result }
+        ensures fewer { OnOk result
+            (nodes_in (clauses_in self.new) ≤ nodes_in (clauses_in self.old)) }
     {
         match place_in(self.clauses.len(), number) {
             Some(place) => {
@@ -195,7 +201,9 @@ impl Playing {
     fn push_line(&mut self, p: PredId) -> Result<(), AllocError>
         requires { HasModesAt self.old.inferred.certificate.facts (suc p.0) }
         ensures line { OnOk result (IsToldAs self.old self.new p.0) }
-        ensures others { (self.new.clauses ≡ self.old.clauses) × (self.new.inferred ≡ self.old.inferred) × (self.new.is_current ≡ self.old.is_current) }
+        ensures others { (self.new.clauses ≡ self.old.clauses)
+            × (self.new.inferred ≡ self.old.inferred)
+            × (self.new.is_current ≡ self.old.is_current) }
     {
         let alloc = *self.clauses.allocator();
         let (pred, modes) = modes_of(self.inferred.certificate.facts.as_slice(), p);
@@ -214,7 +222,8 @@ impl Playing {
         requires under_way { IsUnderWay names.old self.old }
         requires room { length names.old < 2 ^ 32 - 3 }
         ensures names { names.new ≡ names.old }
-        ensures step { AnswersStep names.old self.old self.new (done names.old (clauses_in self.old) at (tell name.0 arity)) result }
+        ensures step { AnswersStep names.old self.old self.new
+            (done names.old (clauses_in self.old) at (tell name.0 arity)) result }
         ensures clauses { self.new.clauses ≡ self.old.clauses }
     {
         self.infer(names)?;
@@ -235,8 +244,11 @@ impl Playing {
         requires room { length names.old < 2 ^ 32 - 3 }
         ensures names { names.new ≡ names.old }
         ensures step { let e = clause_of clause in
-            AnswersStep names.old self.old self.new (done names.old (clauses_in self.old) (place e.term) (edit_of names.old e)) result }
-        ensures small { OnOk result (nodes_in (clauses_in self.new) ≤ nodes_in (clauses_in self.old) + nodes (tree_of clause.term)) }
+            AnswersStep names.old self.old self.new
+            (done names.old (clauses_in self.old) (place e.term) (edit_of names.old e)) result }
+        ensures small { OnOk result
+            (nodes_in (clauses_in self.new) ≤ nodes_in (clauses_in self.old) + nodes
+            (tree_of clause.term)) }
     {
         let at = clause.term.at;
         match edit_of(names, clause) {
@@ -260,8 +272,11 @@ fn play_all(
     requires empty { playing.old.lines.items ≡ [] }
     requires fit { AreFit (length names.old) (map clause_of edits.items) }
     requires room { length names.old < 2 ^ 32 - 3 }
-    ensures played { OnOk result (IsPlayed names.old (map clause_of edits.items) playing.new.lines.items) }
-    ensures refused { IfErr result (λ e. IfRefused e (λ r. outcome names.old [] (map clause_of edits.items) ≡ Err r)) }
+    ensures names { names.new ≡ names.old }
+    ensures played { OnOk result
+        (IsPlayed names.old (map clause_of edits.items) playing.new.lines.items) }
+    ensures refused { IfErr result
+        (λ e. IfRefused e (λ r. outcome names.old [] (map clause_of edits.items) ≡ Err r)) }
 {
     for edit in edits {
         playing.play(edit, names)?;
@@ -276,8 +291,12 @@ fn play_all(
 pub fn play(alloc: Global, edits: ReadClauses, names: &mut Names) -> Result<Vec<u8>, EditsFault>
     requires fit { AreFit (length names.old) edits }
     requires room { length names.old < 2 ^ 32 - 6 }
-    ensures played { IfOk result (λ lines. IsPlayed (with_names names.old operation_texts) edits lines.items) }
-    ensures refused { IfErr result (λ e. IfRefused e (λ r. outcome (with_names names.old operation_texts) [] edits ≡ Err r)) }
+    ensures kept { Extends names.old names.new }
+    ensures names { OnOk result (names.new ≡ with_names names.old operation_texts) }
+    ensures played { IfOk result
+        (λ lines. IsPlayed (with_names names.old operation_texts) edits lines.items) }
+    ensures refused { IfErr result
+        (λ e. IfRefused e (λ r. outcome (with_names names.old operation_texts) [] edits ≡ Err r)) }
 {
     let clauses = Vec::new(alloc);
     let inferred = infer_clauses(alloc, clauses.as_slice(), names)?;

@@ -90,11 +90,13 @@ impl Session {
         requires room { length names.old < 2 ^ 32 - 3 }
 
         // The certificate is valid and exact for the program of the clauses.
-        ensures clauses { OnOk result (self.new.clauses ≡ self.old.clauses ++ clause_of clause.clause ∷ []) }
+        ensures clauses { OnOk result
+            (self.new.clauses ≡ self.old.clauses ++ clause_of clause.clause ∷ []) }
         ensures session { OnOk result (IsSession names.new self.new) }
 
         // The clause is refused exactly where it has a fault as the last one, and with the first fault.
-        ensures exact { let fault = added_fault names.old (length self.old.clauses) (clause_of clause.clause) in
+        ensures exact { let fault = added_fault names.old (length self.old.clauses)
+            (clause_of clause.clause) in
             MatchResult result (λ _. fault ≡ None) (λ e. IfNorm e (λ f. fault ≡ Some f)) }
         ensures err { OnErr result (self.new ≡ self.old) }
         ensures names { names.new ≡ names.old }
@@ -113,11 +115,13 @@ impl Session {
         requires room { length names.old < 2 ^ 32 - 3 }
 
         // The certificate is valid and exact for the program of the clauses.
-        ensures clauses { OnOk result (self.new.clauses ≡ inserted self.old.clauses (k - 1) (clause_of clause.clause)) }
+        ensures clauses { OnOk result
+            (self.new.clauses ≡ inserted self.old.clauses (k - 1) (clause_of clause.clause)) }
         ensures session { OnOk result (IsSession names.new self.new) }
 
         // The clause is refused exactly where it has a fault, wherever it stands, and with the first fault.
-        ensures exact { let fault = added_fault names.old (length self.old.clauses) (clause_of clause.clause) in
+        ensures exact { let fault = added_fault names.old (length self.old.clauses)
+            (clause_of clause.clause) in
             MatchResult result (λ _. fault ≡ None) (λ e. IfNorm e (λ f. fault ≡ Some f)) }
         ensures err { OnErr result (self.new ≡ self.old) }
         ensures names { names.new ≡ names.old }
@@ -132,9 +136,11 @@ impl Session {
         requires fit { IsFit (length names.old) (clause_of clause.clause) }
         requires small { nodes_in self.old.clauses + nodes (tree_of clause.clause.term) ≤ 2097152 }
         requires room { length names.old < 2 ^ 32 - 3 }
-        ensures clauses { OnOk result (self.new.clauses ≡ inserted self.old.clauses at (clause_of clause.clause)) }
+        ensures clauses { OnOk result
+            (self.new.clauses ≡ inserted self.old.clauses at (clause_of clause.clause)) }
         ensures session { OnOk result (IsSession names.new self.new) }
-        ensures exact { let fault = added_fault names.old (length self.old.clauses) (clause_of clause.clause) in
+        ensures exact { let fault = added_fault names.old (length self.old.clauses)
+            (clause_of clause.clause) in
             MatchResult result (λ _. fault ≡ None) (λ e. IfNorm e (λ f. fault ≡ Some f)) }
         ensures err { OnErr result (self.new ≡ self.old) }
         ensures names { names.new ≡ names.old }

@@ -14,6 +14,7 @@ pub mod CheckLemmas
 pub mod OutcomeLemmas
 pub mod MeetsLemmas
 pub mod OneAnswer
+pub mod GeneratedLemmas
 pub mod OneSession
 pub mod OneCertificate
 pub mod RefusedLemmas

@@ -72,7 +72,7 @@ command_line =
 
 -- what is asked for, by its texts: the modes of a file's program by a norm, the check of a file's certificate of it, a query of it with a
 -- number of nodes, how many modes the generated program of this many predicates has, the modes of a file's program by lists of mappings, a
--- loop of a query of a file's program among its derivations of so many steps, or what the edits of a file tell
+-- loop of a query of a file's program among its derivations of a number of steps, or what the edits of a file tell
 pub data Ask : Type 0 where
   infer : Text → NormName → Ask
   check : Text → Text → Ask

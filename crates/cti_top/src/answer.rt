@@ -19,7 +19,8 @@ pub struct Answer {
 
 /// The answer that refuses a text that is too long.
 pub fn too_long(alloc: Global, subject: Subject) -> Result<Answer, AllocError>
-    ensures { IfOk result (λ a. (a.status ≡ Status.Refused) × (a.text.items ≡ refusal_line subject 1 1 8)) }
+    ensures { IfOk result (λ a. (a.status ≡ Status.Refused)
+        × (a.text.items ≡ refusal_line subject 1 1 8)) }
 {
     Ok(Answer {
         status: Status::Refused,

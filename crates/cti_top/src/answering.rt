@@ -38,15 +38,20 @@ fn answer_program<F: Files>(
     request: Request,
     files: &mut F,
 ) -> Result<Answer, Status>
-    requires known { AllByRecursion (λ (q : ThePred). q.name.0 < length source.names) source.program.preds }
-    requires room { position (is_equality source.names) source.program.preds ≡ None → length source.program.clauses < 16385 }
+    requires known { AllByRecursion
+        (λ (q : ThePred). q.name.0 < length source.names) source.program.preds }
+    requires room { position (is_equality source.names) source.program.preds ≡ None
+        → length source.program.clauses < 16385 }
     requires arithmetic { NamesBuiltins source.names source.program }
     requires range { IsAskInRange (ask_of request) }
     requires program { (name : List ℕ) → ask_of request ≢ session name }
-    ensures answered { IfOk result (λ a. (bytes : List ℕ) → IsKnown bytes (known_of source) → AnswersAsk (F.told files.old) bytes (ask_of request.entry) a.status a.text.items) }
-    ensures file_fault { IsErrOf result Status.FileFault → CertificateRose (ask_of request.entry) (F.faults files.old) (F.faults files.new) }
+    ensures answered { IfOk result (λ a. (bytes : List ℕ) → IsKnown bytes (known_of source)
+        → AnswersAsk (F.told files.old) bytes (ask_of request.entry) a.status a.text.items) }
+    ensures file_fault { IsErrOf result Status.FileFault
+        → CertificateRose (ask_of request.entry) (F.faults files.old) (F.faults files.new) }
     ensures others { IfErr result (λ e. (e ≡ Status.FileFault) ⊎ (e ≡ Status.Memory)) }
-    ensures kept { Keeps (F.told files.old) (F.told files.new) (F.faults files.old) (F.faults files.new) }
+    ensures kept { Keeps (F.told files.old) (F.told files.new) (F.faults files.old)
+        (F.faults files.new) }
 {
     match request {
         Request::Infer(_, norm) => Ok(infer_of(alloc, &source, norm)?),
@@ -69,10 +74,14 @@ fn answer_text<F: Files>(
 ) -> Result<Answer, Status>
     requires short { length bytes.now ≤ 1048576 }
     requires range { IsAskInRange (ask_of request) }
-    ensures answered { IfOk result (λ a. AnswersProgram (F.told files.old) bytes.now (ask_of request.entry) a.status a.text.items) }
-    ensures file_fault { IsErrOf result Status.FileFault → (known : Known) × IsKnown bytes.now known × CertificateRose (ask_of request.entry) (F.faults files.old) (F.faults files.new) }
+    ensures answered { IfOk result
+        (λ a. AnswersProgram (F.told files.old) bytes.now
+        (ask_of request.entry) a.status a.text.items) }
+    ensures file_fault { IsErrOf result Status.FileFault → (known : Known) × IsKnown bytes.now known
+        × CertificateRose (ask_of request.entry) (F.faults files.old) (F.faults files.new) }
     ensures others { IfErr result (λ e. (e ≡ Status.FileFault) ⊎ (e ≡ Status.Memory)) }
-    ensures kept { Keeps (F.told files.old) (F.told files.new) (F.faults files.old) (F.faults files.new) }
+    ensures kept { Keeps (F.told files.old) (F.told files.new) (F.faults files.old)
+        (F.faults files.new) }
 {
     if let Request::Session(_) = request {
         return Ok(session_of(alloc, bytes)?);
@@ -103,11 +112,15 @@ fn generated(alloc: Global, predicates: u32) -> Result<Vec<u8>, LoadFault>
 /// The text of this origin.
 fn text_of<F: Files>(alloc: Global, origin: Origin, files: &mut F) -> Result<Vec<u8>, LoadFault>
     requires { IsInRange (origin_of origin) }
-    ensures text { IfOk result (λ text. TellsText (F.told files.old) (origin_of origin.entry) text.items) }
+    ensures text { IfOk result
+        (λ text. TellsText (F.told files.old) (origin_of origin.entry) text.items) }
     ensures short { IfOk result (λ text. length text.items ≤ 1048576) }
-    ensures long { IsErrOf result LoadFault.TooLong → TellsLong (F.told files.old) (origin_of origin.entry) }
-    ensures cause { IsErrOf result LoadFault.Failed → OriginRose (origin_of origin.entry) (F.faults files.old) (F.faults files.new) }
-    ensures calm { (IsErrOf result LoadFault.Failed → ⊥) → (name : List ℕ) → F.faults files.new name ≡ F.faults files.old name }
+    ensures long { IsErrOf result LoadFault.TooLong
+        → TellsLong (F.told files.old) (origin_of origin.entry) }
+    ensures cause { IsErrOf result LoadFault.Failed
+        → OriginRose (origin_of origin.entry) (F.faults files.old) (F.faults files.new) }
+    ensures calm { (IsErrOf result LoadFault.Failed → ⊥) → (name : List ℕ)
+        → F.faults files.new name ≡ F.faults files.old name }
     ensures later { (name : List ℕ) → F.faults files.old name ≤ F.faults files.new name }
     ensures stays { F.told files.new ≡ F.told files.old }
 {
@@ -125,10 +138,14 @@ fn answer_request<F: Files>(
     files: &mut F,
 ) -> Result<Answer, Status>
     requires { IsAskInRange (ask_of request) }
-    ensures answered { IfOk result (λ a. AnswersRequest (F.told files.old) (ask_of request.entry) a.status a.text.items) }
-    ensures file_fault { IsErrOf result Status.FileFault → FileRose (F.told files.old) (ask_of request.entry) (F.faults files.old) (F.faults files.new) }
+    ensures answered { IfOk result
+        (λ a. AnswersRequest (F.told files.old) (ask_of request.entry) a.status a.text.items) }
+    ensures file_fault { IsErrOf result Status.FileFault
+        → FileRose (F.told files.old) (ask_of request.entry) (F.faults files.old)
+        (F.faults files.new) }
     ensures others { IfErr result (λ e. (e ≡ Status.FileFault) ⊎ (e ≡ Status.Memory)) }
-    ensures kept { Keeps (F.told files.old) (F.told files.new) (F.faults files.old) (F.faults files.new) }
+    ensures kept { Keeps (F.told files.old) (F.told files.new) (F.faults files.old)
+        (F.faults files.new) }
 {
     match text_of(alloc, request.origin(), files) {
         Ok(program) => answer_text(alloc, &program, request, files),
@@ -155,11 +172,15 @@ pub fn answer_words<F: Files>(
     words: &[&str],
     files: &mut F,
 ) -> Result<Answer, Status>
-    ensures answered { IfOk result (λ a. IsAnswer (F.told files.old) (map (λ w. w.now) words.entry.now) a.status a.text.items) }
+    ensures answered { IfOk result
+        (λ a. IsAnswer (F.told files.old)
+        (map (λ w. w.now) words.entry.now) a.status a.text.items) }
     ensures file_fault { IsErrOf result Status.FileFault
-        → (ask : Ask) × (asks (map (λ w. w.now) words.entry.now) ≡ Some ask) × FileRose (F.told files.old) ask (F.faults files.old) (F.faults files.new) }
+        → (ask : Ask) × (asks (map (λ w. w.now) words.entry.now) ≡ Some ask)
+        × FileRose (F.told files.old) ask (F.faults files.old) (F.faults files.new) }
     ensures others { IfErr result (λ e. (e ≡ Status.FileFault) ⊎ (e ≡ Status.Memory)) }
-    ensures kept { Keeps (F.told files.old) (F.told files.new) (F.faults files.old) (F.faults files.new) }
+    ensures kept { Keeps (F.told files.old) (F.told files.new) (F.faults files.old)
+        (F.faults files.new) }
 {
     match request_in(alloc, words) {
         Ok(request) => answer_request(alloc, request, files),

@@ -36,7 +36,8 @@ fn status_of(verdict: Verdict) -> Status
 
 /// The answer to a certificate: whether it is valid.
 fn checked(alloc: Global, source: &Source, certificate: &Certificate) -> Result<Answer, AllocError>
-    requires known { AllByRecursion (λ (q : ThePred). q.name.0 < length source.now.names) source.now.program.preds }
+    requires known { AllByRecursion
+        (λ (q : ThePred). q.name.0 < length source.now.names) source.now.program.preds }
     ensures { IfOk result (λ a. IsVerdictOn source.now.program source.now.names certificate.now.facts a.status a.text.items) }
 {
     let verdict = check(alloc, &source.program, &source.names, certificate)?;
@@ -48,7 +49,8 @@ fn checked(alloc: Global, source: &Source, certificate: &Certificate) -> Result<
 
 /// The answer that refuses a certificate's text for a line that is not a fact.
 fn not_a_fact(alloc: Global, line: u32) -> Result<Answer, AllocError>
-    ensures { IfOk result (λ a. (a.status ≡ Status.Refused) × (a.text.items ≡ refusal_line Subject.Certificate line 1 16)) }
+    ensures { IfOk result (λ a. (a.status ≡ Status.Refused)
+        × (a.text.items ≡ refusal_line Subject.Certificate line 1 16)) }
 {
     Ok(Answer {
         status: Status::Refused,
@@ -58,7 +60,8 @@ fn not_a_fact(alloc: Global, line: u32) -> Result<Answer, AllocError>
 
 /// The answer to a certificate's text.
 fn answer_to(alloc: Global, source: &Source, text: &[u8]) -> Result<Answer, AllocError>
-    requires known { AllByRecursion (λ (q : ThePred). q.name.0 < length source.now.names) source.now.program.preds }
+    requires known { AllByRecursion
+        (λ (q : ThePred). q.name.0 < length source.now.names) source.now.program.preds }
     requires short { length text.now ≤ most_bytes }
     ensures { IfOk result (λ a. AnswersText (known_of source.now) text.now a.status a.text.items) }
 {
@@ -78,11 +81,16 @@ pub fn check_of<F: Files>(
     name: &str,
     files: &mut F,
 ) -> Result<Answer, Status>
-    requires known { AllByRecursion (λ (q : ThePred). q.name.0 < length source.now.names) source.now.program.preds }
-    ensures answered { IfOk result (λ a. AnswersCertificate (F.told files.old) (known_of source.now) name.now a.status a.text.items) }
-    ensures file_fault { IsErrOf result Status.FileFault → Rose (F.faults files.old name.now) (F.faults files.new name.now) }
+    requires known { AllByRecursion
+        (λ (q : ThePred). q.name.0 < length source.now.names) source.now.program.preds }
+    ensures answered { IfOk result
+        (λ a. AnswersCertificate (F.told files.old)
+        (known_of source.now) name.now a.status a.text.items) }
+    ensures file_fault { IsErrOf result Status.FileFault
+        → Rose (F.faults files.old name.now) (F.faults files.new name.now) }
     ensures others { IfErr result (λ e. (e ≡ Status.FileFault) ⊎ (e ≡ Status.Memory)) }
-    ensures kept { Keeps (F.told files.old) (F.told files.new) (F.faults files.old) (F.faults files.new) }
+    ensures kept { Keeps (F.told files.old) (F.told files.new) (F.faults files.old)
+        (F.faults files.new) }
 {
     match files.load(alloc, name, MOST_BYTES as u64) {
         Ok(text) => Ok(answer_to(alloc, source, &text)?),

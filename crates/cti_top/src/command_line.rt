@@ -38,7 +38,8 @@ fn with_argument<'a>(command: Command<'a>, arg: Arg<'a>) -> Result<Command<'a>, 
 fn with_command<'a>(command: Command<'a>, sub: Command<'a>) -> Result<Command<'a>, AllocError>
     requires local { (out-Command sub).has_globals ≡ false }
     requires globals { (out-Command command).has_globals ≡ false }
-    ensures { IfOk result (IsCommandLine (with_subcommand (app_of command.entry) (app_of sub.entry).top)) }
+    ensures { IfOk result (IsCommandLine
+        (with_subcommand (app_of command.entry) (app_of sub.entry).top)) }
 {
     command.subcommand(sub)
 }
@@ -111,7 +112,8 @@ fn session<'a>(alloc: Global) -> Result<Command<'a>, AllocError>
 
 /// The command line of `infer` and `check`.
 fn first_commands<'a>(alloc: Global) -> Result<Command<'a>, AllocError>
-    ensures { IfOk result (IsCommandLine (with_subcommand (with_subcommand top_command infer_command.top) check_command.top)) }
+    ensures { IfOk result (IsCommandLine
+        (with_subcommand (with_subcommand top_command infer_command.top) check_command.top)) }
 {
     let command = with_command(top(alloc), infer(alloc)?)?;
     with_command(command, check(alloc)?)

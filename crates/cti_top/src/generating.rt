@@ -65,9 +65,11 @@ fn summary_text(
 
 /// The answer to the generated program of this many predicates, which was read.
 pub fn gen_of(alloc: Global, source: &Source, predicates: u32) -> Result<Answer, AllocError>
-    requires known { AllByRecursion (λ (q : ThePred). q.name.0 < length source.now.names) source.now.program.preds }
+    requires known { AllByRecursion
+        (λ (q : ThePred). q.name.0 < length source.now.names) source.now.program.preds }
     ensures { IfOk result (λ a. (a.status ≡ Status.Done)
-        × ((bytes : List ℕ) → IsProgramOf bytes source.now.names source.now.program (table_of source.now.ops) → IsSummary bytes predicates a.text.items)) }
+        × ((bytes : List ℕ) → IsProgramOf bytes source.now.names source.now.program
+        (table_of source.now.ops) → IsSummary bytes predicates a.text.items)) }
 {
     let certificate = infer(alloc, &source.program, &source.names, NormName::Term)?;
     let modes = mode_count(certificate.facts.as_slice());

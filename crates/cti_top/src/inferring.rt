@@ -16,9 +16,11 @@ use term_size::NormName;
 
 /// The answer to a program that was read: the certificate of its modes by a norm.
 pub fn infer_of(alloc: Global, source: &Source, norm: NormName) -> Result<Answer, AllocError>
-    requires known { AllByRecursion (λ (q : ThePred). q.name.0 < length source.now.names) source.now.program.preds }
+    requires known { AllByRecursion
+        (λ (q : ThePred). q.name.0 < length source.now.names) source.now.program.preds }
     ensures { IfOk result (λ a. (a.status ≡ Status.Done)
-        × ((bytes : List ℕ) → IsProgramOf bytes source.now.names source.now.program (table_of source.now.ops) → IsInferred norm bytes a.text.items)) }
+        × ((bytes : List ℕ) → IsProgramOf bytes source.now.names source.now.program
+        (table_of source.now.ops) → IsInferred norm bytes a.text.items)) }
 {
     let certificate = infer(alloc, &source.program, &source.names, norm)?;
     Ok(Answer {

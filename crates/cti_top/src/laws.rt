@@ -31,9 +31,11 @@ use ld_resolver::laws::{a_budget_of_all_nodes_finishes, bounded_goals_have_finit
 ///
 /// The names are those of the program's predicates, and no two are alike.
 pub fn valid_certificates_bound_their_nodes()
-    ensures finished { (p : Listing) (names : List (List ℕ)) (facts : List Fact) → IsProgram p → AreNamed names p.preds → AllPairs (λ a b. a ≢ b) names
+    ensures finished { (p : Listing) (names : List (List ℕ)) (facts : List Fact) → IsProgram p
+        → AreNamed names p.preds → AllPairs (λ a b. a ≢ b) names
         → IsValid p names facts → (a : Atom) (counter : ℕ) → MeetsMode p names facts a
-        → (n : ℕ) × HasNodes p (query a counter) n × ((budget : ℕ) → n ≤ budget → IsFinished p (query a counter) budget) }
+        → (n : ℕ) × HasNodes p (query a counter) n
+        × ((budget : ℕ) → n ≤ budget → IsFinished p (query a counter) budget) }
 {
     valid_certificates_bound_their_modes();
     bounded_goals_have_finitely_many_nodes();
@@ -42,59 +44,82 @@ pub fn valid_certificates_bound_their_nodes()
 
 /// What words ask for where files, the query and the norm are not empty and do not begin with a dash.
 pub fn plain_words_ask()
-    ensures infer { (c : ℕ) (cs : List ℕ) → nat_eq c 45 ≡ false → asks (codes "infer" ∷ (c ∷ cs) ∷ []) ≡ Some (infer (c ∷ cs) norm.Term) }
+    ensures infer { (c : ℕ) (cs : List ℕ) → nat_eq c 45 ≡ false
+        → asks (codes "infer" ∷ (c ∷ cs) ∷ []) ≡ Some (infer (c ∷ cs) norm.Term) }
     ensures norm { (c d : ℕ) (cs ds : List ℕ) → nat_eq c 45 ≡ false → nat_eq d 45 ≡ false
-        → asks (codes "infer" ∷ (c ∷ cs) ∷ codes "--norm" ∷ (d ∷ ds) ∷ []) ≡ option_map (infer (c ∷ cs)) (norm_in (d ∷ ds)) }
+        → asks (codes "infer" ∷ (c ∷ cs) ∷ codes "--norm" ∷ (d ∷ ds) ∷ [])
+        ≡ option_map (infer (c ∷ cs)) (norm_in (d ∷ ds)) }
     ensures check { (c d : ℕ) (cs ds : List ℕ) → nat_eq c 45 ≡ false → nat_eq d 45 ≡ false
         → asks (codes "check" ∷ (c ∷ cs) ∷ (d ∷ ds) ∷ []) ≡ Some (check (c ∷ cs) (d ∷ ds)) }
     ensures run { (c d : ℕ) (cs ds : List ℕ) → nat_eq c 45 ≡ false → nat_eq d 45 ≡ false
         → asks (codes "run" ∷ (c ∷ cs) ∷ (d ∷ ds) ∷ []) ≡ Some (run (c ∷ cs) (d ∷ ds) 100000) }
-    ensures lex { (c : ℕ) (cs : List ℕ) → nat_eq c 45 ≡ false → asks (codes "lex" ∷ (c ∷ cs) ∷ []) ≡ Some (lex (c ∷ cs)) }
+    ensures lex { (c : ℕ) (cs : List ℕ) → nat_eq c 45 ≡ false
+        → asks (codes "lex" ∷ (c ∷ cs) ∷ []) ≡ Some (lex (c ∷ cs)) }
     ensures find_loop { (c d : ℕ) (cs ds : List ℕ) → nat_eq c 45 ≡ false → nat_eq d 45 ≡ false
         → asks (codes "loop" ∷ (c ∷ cs) ∷ (d ∷ ds) ∷ []) ≡ Some (loop (c ∷ cs) (d ∷ ds) 8) }
-    ensures session { (c : ℕ) (cs : List ℕ) → nat_eq c 45 ≡ false → asks (codes "session" ∷ (c ∷ cs) ∷ []) ≡ Some (session (c ∷ cs)) }
+    ensures session { (c : ℕ) (cs : List ℕ) → nat_eq c 45 ≡ false
+        → asks (codes "session" ∷ (c ∷ cs) ∷ []) ≡ Some (session (c ∷ cs)) }
 {}
 
 /// Bytes are exactly one program, with its names and operators, or they are refused, for one fault at one place; and never both. The same of
 /// a query of a program. No two names of a program have the same text.
 pub fn a_text_has_one_answer()
-    ensures some { (bytes : List ℕ) → ((known : Known) × IsKnown bytes known) ⊎ ((kind : ℕ) × (at : ℕ) × IsRefused bytes kind at) }
-    ensures program { (bytes : List ℕ) (known other : Known) → IsKnown bytes known → IsKnown bytes other → known ≡ other }
-    ensures refused { (bytes : List ℕ) (kind at other place : ℕ) → IsRefused bytes kind at → IsRefused bytes other place → (kind ≡ other) × (at ≡ place) }
-    ensures distinct { (bytes : List ℕ) (known : Known) → IsKnown bytes known → AllPairs (λ a b. a ≢ b) known.names }
-    ensures apart { (bytes : List ℕ) (known : Known) → IsKnown bytes known → (kind at : ℕ) → IsRefused bytes kind at → ⊥ }
-    ensures some_goal { (known : Known) (query : List ℕ) → ((names : List (List ℕ)) × (p : Listing) × (g : Goal) × IsQueryOf known query names p g)
+    ensures some { (bytes : List ℕ) → ((known : Known) × IsKnown bytes known)
+        ⊎ ((kind : ℕ) × (at : ℕ) × IsRefused bytes kind at) }
+    ensures program { (bytes : List ℕ) (known other : Known) → IsKnown bytes known
+        → IsKnown bytes other → known ≡ other }
+    ensures refused { (bytes : List ℕ) (kind at other place : ℕ) → IsRefused bytes kind at
+        → IsRefused bytes other place → (kind ≡ other) × (at ≡ place) }
+    ensures distinct { (bytes : List ℕ) (known : Known) → IsKnown bytes known
+        → AllPairs (λ a b. a ≢ b) known.names }
+    ensures apart { (bytes : List ℕ) (known : Known) → IsKnown bytes known → (kind at : ℕ)
+        → IsRefused bytes kind at → ⊥ }
+    ensures some_goal { (known : Known) (query : List ℕ)
+        → ((names : List (List ℕ)) × (p : Listing) × (g : Goal) × IsQueryOf known query names p g)
         ⊎ ((kind : ℕ) × (at : ℕ) × IsQueryRefused known query kind at) }
-    ensures goal { (known : Known) (query : List ℕ) (names other : List (List ℕ)) (p q : Listing) (g h : Goal) → IsQueryOf known query names p g → IsQueryOf known query other q h
+    ensures goal { (known : Known) (query : List ℕ) (names other : List (List ℕ)) (p q : Listing)
+        (g h : Goal) → IsQueryOf known query names p g → IsQueryOf known query other q h
         → (names ≡ other) × (p ≡ q) × (g ≡ h) }
-    ensures query_refused { (known : Known) (query : List ℕ) (kind at other place : ℕ) → IsQueryRefused known query kind at → IsQueryRefused known query other place
+    ensures query_refused { (known : Known) (query : List ℕ) (kind at other place : ℕ)
+        → IsQueryRefused known query kind at → IsQueryRefused known query other place
         → (kind ≡ other) × (at ≡ place) }
-    ensures query_apart { (known : Known) (query : List ℕ) (names : List (List ℕ)) (p : Listing) (g : Goal) (kind at : ℕ) → IsQueryOf known query names p g
+    ensures query_apart { (known : Known) (query : List ℕ) (names : List (List ℕ)) (p : Listing)
+        (g : Goal) (kind at : ℕ) → IsQueryOf known query names p g
         → IsQueryRefused known query kind at → ⊥ }
 {}
 
 /// The edits of a text tell exactly one thing, by its names, or the text is refused, for one fault at one place; and never both.
 pub fn edits_have_one_outcome()
-    ensures some { (bytes : List ℕ) → ((names : List (List ℕ)) × (told : List Told) × IsToldBy bytes names told)
+    ensures some { (bytes : List ℕ)
+        → ((names : List (List ℕ)) × (told : List Told) × IsToldBy bytes names told)
         ⊎ ((kind : ℕ) × (at : ℕ) × IsRefusedSession bytes kind at) }
-    ensures told { (bytes : List ℕ) (names other : List (List ℕ)) (told more : List Told) → IsToldBy bytes names told → IsToldBy bytes other more
+    ensures told { (bytes : List ℕ) (names other : List (List ℕ)) (told more : List Told)
+        → IsToldBy bytes names told → IsToldBy bytes other more
         → (names ≡ other) × (told ≡ more) }
-    ensures refused { (bytes : List ℕ) (kind at other place : ℕ) → IsRefusedSession bytes kind at → IsRefusedSession bytes other place
+    ensures refused { (bytes : List ℕ) (kind at other place : ℕ) → IsRefusedSession bytes kind at
+        → IsRefusedSession bytes other place
         → (kind ≡ other) × (at ≡ place) }
-    ensures apart { (bytes : List ℕ) (names : List (List ℕ)) (told : List Told) (kind at : ℕ) → IsToldBy bytes names told
+    ensures apart { (bytes : List ℕ) (names : List (List ℕ)) (told : List Told) (kind at : ℕ)
+        → IsToldBy bytes names told
         → IsRefusedSession bytes kind at → ⊥ }
 {}
 
 /// A text within the limit is that of one certificate at most, or it is refused, at one line; and never both. A longer one is neither.
 pub fn a_certificate_has_one_answer()
-    ensures certificate { (text : List ℕ) (c d : TheCertificate) → IsTextOf c text → IsTextOf d text → c ≡ d }
-    ensures refused { (text : List ℕ) (line other : ℕ) → IsRefusedCertificate text line → IsRefusedCertificate text other → line ≡ other }
-    ensures apart { (text : List ℕ) (c : TheCertificate) (line : ℕ) → IsTextOf c text → IsRefusedCertificate text line → ⊥ }
-    ensures long { (text : List ℕ) → most_bytes < length text → ((c : TheCertificate) → IsTextOf c text → ⊥) × ((line : ℕ) → IsRefusedCertificate text line → ⊥) }
+    ensures certificate { (text : List ℕ) (c d : TheCertificate) → IsTextOf c text → IsTextOf d text
+        → c ≡ d }
+    ensures refused { (text : List ℕ) (line other : ℕ) → IsRefusedCertificate text line
+        → IsRefusedCertificate text other → line ≡ other }
+    ensures apart { (text : List ℕ) (c : TheCertificate) (line : ℕ) → IsTextOf c text
+        → IsRefusedCertificate text line → ⊥ }
+    ensures long { (text : List ℕ) → most_bytes < length text
+        → ((c : TheCertificate) → IsTextOf c text → ⊥)
+        × ((line : ℕ) → IsRefusedCertificate text line → ⊥) }
 {}
 
 /// The place of a refusal is one of the text, or its end.
 pub fn refusals_stand_in_their_texts()
     ensures text { (bytes : List ℕ) (kind at : ℕ) → IsRefused bytes kind at → at ≤ length bytes }
-    ensures query { (known : Known) (query : List ℕ) (kind at : ℕ) → IsQueryRefused known query kind at → at ≤ length query }
+    ensures query { (known : Known) (query : List ℕ) (kind at : ℕ)
+        → IsQueryRefused known query kind at → at ≤ length query }
 {}

@@ -15,9 +15,11 @@ use std::alloc::{AllocError, Global};
 
 /// The answer to a program that was read: the certificate of its modes by lists of mappings.
 pub fn lex_of(alloc: Global, source: &Source) -> Result<Answer, AllocError>
-    requires known { AllByRecursion (λ (q : ThePred). q.name.0 < length source.now.names) source.now.program.preds }
+    requires known { AllByRecursion
+        (λ (q : ThePred). q.name.0 < length source.now.names) source.now.program.preds }
     ensures { IfOk result (λ a. (a.status ≡ Status.Done)
-        × ((bytes : List ℕ) → IsProgramOf bytes source.now.names source.now.program (table_of source.now.ops) → IsLexed bytes a.text.items)) }
+        × ((bytes : List ℕ) → IsProgramOf bytes source.now.names source.now.program
+        (table_of source.now.ops) → IsLexed bytes a.text.items)) }
 {
     let certificate = infer(alloc, &source.program, &source.names)?;
     Ok(Answer {

@@ -5,6 +5,7 @@ mod answer;
 mod answering;
 mod checking;
 mod command_line;
+pub mod generated_laws;
 mod generating;
 mod inferring;
 pub mod laws;

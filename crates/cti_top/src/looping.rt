@@ -34,7 +34,8 @@ fn status_of(looked: &Looked) -> Status
 
 /// Appends the numbers, each with a comma before it.
 fn push_others(text: &mut Vec<u8>, numbers: &[u32]) -> Result<(), AllocError>
-    ensures { OnOk result (text.new.items ≡ text.old.items ++ flat_map (λ n. codes "," ++ decimal n) numbers.now) }
+    ensures { OnOk result (text.new.items ≡ text.old.items ++ flat_map
+        (λ n. codes "," ++ decimal n) numbers.now) }
 {
     for number in numbers {
         text.push(b',')?;
@@ -111,12 +112,15 @@ pub fn loop_of(
     query: &[u8],
     depth: u32,
 ) -> Result<Answer, AllocError>
-    requires known { AllByRecursion (λ (q : ThePred). q.name.0 < length source.names) source.program.preds }
-    requires room { position (is_equality source.names) source.program.preds ≡ None → length source.program.clauses < 16385 }
+    requires known { AllByRecursion
+        (λ (q : ThePred). q.name.0 < length source.names) source.program.preds }
+    requires room { position (is_equality source.names) source.program.preds ≡ None
+        → length source.program.clauses < 16385 }
     requires arithmetic { NamesBuiltins source.names source.program }
     requires first { 1 ≤ depth }
     requires last { depth ≤ 12 }
-    ensures { IfOk result (λ a. (bytes : List ℕ) → IsKnown bytes (known_of source) → AnswersLoop bytes query.now depth a.status a.text.items) }
+    ensures { IfOk result (λ a. (bytes : List ℕ) → IsKnown bytes (known_of source)
+        → AnswersLoop bytes query.now depth a.status a.text.items) }
 {
     match query_in(alloc, &mut source, query) {
         Ok(goal) => looked(alloc, &source, &goal, depth),

@@ -20,10 +20,13 @@ const MOST_KNOWN: u32 = 4_290_000_000;
 
 /// Reads a query of a program, and adds what it needs to the program and its names.
 pub fn query_in(alloc: Global, source: &mut Source, query: &[u8]) -> Result<Goal, SourceFault>
-    requires known { AllByRecursion (λ (q : ThePred). q.name.0 < length source.old.names) source.old.program.preds }
-    requires room { position (is_equality source.old.names) source.old.program.preds ≡ None → length source.old.program.clauses < 16385 }
+    requires known { AllByRecursion
+        (λ (q : ThePred). q.name.0 < length source.old.names) source.old.program.preds }
+    requires room { position (is_equality source.old.names) source.old.program.preds ≡ None
+        → length source.old.program.clauses < 16385 }
     requires arithmetic { NamesBuiltins source.old.names source.old.program }
-    ensures query { IfOk result (λ g. IsQueryOf (known_of source.old) query.now source.new.names source.new.program g) }
+    ensures query { IfOk result
+        (λ g. IsQueryOf (known_of source.old) query.now source.new.names source.new.program g) }
     ensures goal { IfOk result (λ g. IsGoalOf source.new.program g) }
     ensures refused { IfErr result (λ fault. IsQueryFault (known_of source.old) query.now fault) }
 {

@@ -69,9 +69,13 @@ impl<'a> Request<'a> {
 
 /// The matches of the words, or why there are none.
 fn matches_of<'a>(alloc: Global, words: &'a [&'a str]) -> Result<ArgMatches<'a>, Refusal>
-    ensures usage { IsErrOf result Refusal.Usage → fault_of command_line (map (λ w. w.now) words.entry.now) ≢ [] }
-    ensures taken { IfOk result (λ _. fault_of command_line (map (λ w. w.now) words.entry.now) ≡ []) }
-    ensures rows { IfOk result (λ m. subcommand_rows_of m ≡ subcommand_of command_line (map (λ w. w.now) words.entry.now)) }
+    ensures usage { IsErrOf result Refusal.Usage
+        → fault_of command_line (map (λ w. w.now) words.entry.now) ≢ [] }
+    ensures taken { IfOk result (λ _. fault_of command_line (map (λ w. w.now) words.entry.now)
+        ≡ []) }
+    ensures rows { IfOk result
+        (λ m. subcommand_rows_of m ≡ subcommand_of command_line
+        (map (λ w. w.now) words.entry.now)) }
 {
     let Ok(command) = command_line(alloc) else {
         return Err(Refusal::Memory);
@@ -88,7 +92,8 @@ fn matches_of<'a>(alloc: Global, words: &'a [&'a str]) -> Result<ArgMatches<'a>,
 /// The subcommand that was used, and its matches.
 fn entered<'a, 'm>(matches: &'m ArgMatches<'a>) -> Option<(&'a str, &'m ArgMatches<'a>)>
     ensures none { IfNone result (subcommand_rows_of matches.now ≡ None) }
-    ensures some { IfSome result (λ p. subcommand_rows_of matches.now ≡ Some (p.0.now, rows_of (found_of p.1.now))) }
+    ensures some { IfSome result
+        (λ p. subcommand_rows_of matches.now ≡ Some (p.0.now, rows_of (found_of p.1.now))) }
 {
     matches.subcommand()
 }
@@ -112,8 +117,13 @@ fn word<'a>(matches: &ArgMatches<'a>, id: &str) -> &'a str
 
 /// What `gen` asks for by its word, or why it is not a command.
 fn generation<'a>(matches: &ArgMatches<'a>) -> Result<Request<'a>, Refusal>
-    ensures asked { IfOk result (λ r. option_map asked_gen (predicates_in (given (codes "count") (rows_of (found_of matches.now)))) ≡ Some (ask_of r)) }
-    ensures usage { IfErr result (λ e. (e ≡ Refusal.Usage) × (option_map asked_gen (predicates_in (given (codes "count") (rows_of (found_of matches.now)))) ≡ None)) }
+    ensures asked { IfOk result
+        (λ r. option_map asked_gen
+        (predicates_in (given (codes "count") (rows_of (found_of matches.now))))
+        ≡ Some (ask_of r)) }
+    ensures usage { IfErr result (λ e. (e ≡ Refusal.Usage)
+        × (option_map asked_gen (predicates_in
+        (given (codes "count") (rows_of (found_of matches.now)))) ≡ None)) }
     ensures range { IfOk result (λ r. IsAskInRange (ask_of r)) }
 {
     match predicates_in(word(matches, "count")) {
@@ -124,9 +134,11 @@ fn generation<'a>(matches: &ArgMatches<'a>) -> Result<Request<'a>, Refusal>
 
 /// What `infer` asks for by its words, or why it is not a command.
 fn inference<'a>(matches: &ArgMatches<'a>) -> Result<Request<'a>, Refusal>
-    ensures asked { IfOk result (λ r. option_map (asked_infer (given (codes "file") (rows_of (found_of matches.now))))
+    ensures asked { IfOk result
+        (λ r. option_map (asked_infer (given (codes "file") (rows_of (found_of matches.now))))
         (norm_of (first_of (codes "norm") (rows_of (found_of matches.now)))) ≡ Some (ask_of r)) }
-    ensures usage { IfErr result (λ e. (e ≡ Refusal.Usage) × (option_map (asked_infer (given (codes "file") (rows_of (found_of matches.now))))
+    ensures usage { IfErr result (λ e. (e ≡ Refusal.Usage)
+        × (option_map (asked_infer (given (codes "file") (rows_of (found_of matches.now))))
         (norm_of (first_of (codes "norm") (rows_of (found_of matches.now)))) ≡ None)) }
     ensures range { IfOk result (λ r. IsAskInRange (ask_of r)) }
 {
@@ -138,10 +150,15 @@ fn inference<'a>(matches: &ArgMatches<'a>) -> Result<Request<'a>, Refusal>
 
 /// What `loop` asks for by its words, or why it is not a command.
 fn loop_search<'a>(matches: &ArgMatches<'a>) -> Result<Request<'a>, Refusal>
-    ensures asked { IfOk result (λ r. option_map (asked_loop (given (codes "file") (rows_of (found_of matches.now)))
-        (given (codes "query") (rows_of (found_of matches.now)))) (depth_of (first_of (codes "depth") (rows_of (found_of matches.now)))) ≡ Some (ask_of r)) }
-    ensures usage { IfErr result (λ e. (e ≡ Refusal.Usage) × (option_map (asked_loop (given (codes "file") (rows_of (found_of matches.now)))
-        (given (codes "query") (rows_of (found_of matches.now)))) (depth_of (first_of (codes "depth") (rows_of (found_of matches.now)))) ≡ None)) }
+    ensures asked { IfOk result
+        (λ r. option_map (asked_loop (given (codes "file") (rows_of (found_of matches.now)))
+        (given (codes "query") (rows_of (found_of matches.now))))
+        (depth_of (first_of (codes "depth") (rows_of (found_of matches.now))))
+        ≡ Some (ask_of r)) }
+    ensures usage { IfErr result (λ e. (e ≡ Refusal.Usage)
+        × (option_map (asked_loop (given (codes "file") (rows_of (found_of matches.now)))
+        (given (codes "query") (rows_of (found_of matches.now))))
+        (depth_of (first_of (codes "depth") (rows_of (found_of matches.now)))) ≡ None)) }
     ensures range { IfOk result (λ r. IsAskInRange (ask_of r)) }
 {
     match depth_of(value(matches, "depth")) {
@@ -152,8 +169,10 @@ fn loop_search<'a>(matches: &ArgMatches<'a>) -> Result<Request<'a>, Refusal>
 
 /// What a command asks for by its arguments, or why it is not a command.
 fn request_by<'a>(name: &str, given: &ArgMatches<'a>) -> Result<Request<'a>, Refusal>
-    ensures asked { IfOk result (λ r. ask_by name.now (rows_of (found_of given.now)) ≡ Some (ask_of r)) }
-    ensures usage { IfErr result (λ e. (e ≡ Refusal.Usage) × (ask_by name.now (rows_of (found_of given.now)) ≡ None)) }
+    ensures asked { IfOk result
+        (λ r. ask_by name.now (rows_of (found_of given.now)) ≡ Some (ask_of r)) }
+    ensures usage { IfErr result (λ e. (e ≡ Refusal.Usage)
+        × (ask_by name.now (rows_of (found_of given.now)) ≡ None)) }
     ensures range { IfOk result (λ r. IsAskInRange (ask_of r)) }
 {
     if name == "gen" {

@@ -15,9 +15,9 @@ use crate::refusal::Subject;
 use crate::source::{Source, SourceFault};
 use crate::status::Status;
 use cti_terms::Goal;
-use ld_resolver::{Ending, run};
+use ld_resolver::Ending;
 use std::alloc::{AllocError, Global};
-use term_text::run_text;
+use term_text::text_of_run;
 
 /// The status of a run that ended so.
 fn status_of(ending: Ending) -> Status
@@ -35,10 +35,10 @@ fn ran(alloc: Global, source: &Source, goal: &Goal, steps: u64) -> Result<Answer
     requires { IsGoalOf source.now.program goal.now }
     ensures { IfOk result (λ a. IsTextOfRun source.now.names source.now.program goal.now steps a.status a.text.items) }
 {
-    let ran = run(alloc, &source.program, goal, steps)?;
+    let ran = text_of_run(alloc, &source.names, &source.program, goal, steps)?;
     Ok(Answer {
         status: status_of(ran.ending),
-        text: run_text(alloc, &source.names, &source.program, &ran)?,
+        text: ran.text,
     })
 }
 
@@ -49,10 +49,13 @@ pub fn run_of(
     query: &[u8],
     steps: u64,
 ) -> Result<Answer, AllocError>
-    requires known { AllByRecursion (λ (q : ThePred). q.name.0 < length source.names) source.program.preds }
-    requires room { position (is_equality source.names) source.program.preds ≡ None → length source.program.clauses < 16385 }
+    requires known { AllByRecursion
+        (λ (q : ThePred). q.name.0 < length source.names) source.program.preds }
+    requires room { position (is_equality source.names) source.program.preds ≡ None
+        → length source.program.clauses < 16385 }
     requires arithmetic { NamesBuiltins source.names source.program }
-    ensures { IfOk result (λ a. (bytes : List ℕ) → IsKnown bytes (known_of source) → AnswersQuery bytes query.now steps a.status a.text.items) }
+    ensures { IfOk result (λ a. (bytes : List ℕ) → IsKnown bytes (known_of source)
+        → AnswersQuery bytes query.now steps a.status a.text.items) }
 {
     match query_in(alloc, &mut source, query) {
         Ok(goal) => ran(alloc, &source, &goal, steps),

@@ -107,9 +107,11 @@ pub fn normal_fault(fault: NormFault) -> SourceFault
 pub fn program_in(alloc: Global, bytes: &[u8]) -> Result<Source, SourceFault>
     requires short { length bytes.now ≤ 1048576 }
     ensures program { IfOk result (λ s. IsProgramOf bytes.now s.names s.program (table_of s.ops)) }
-    ensures known { IfOk result (λ s. AllByRecursion (λ (q : ThePred). q.name.0 < length s.names) s.program.preds) }
+    ensures known { IfOk result
+        (λ s. AllByRecursion (λ (q : ThePred). q.name.0 < length s.names) s.program.preds) }
     ensures sound { IfOk result (λ s. IsProgram s.program) }
-    ensures room { IfOk result (λ s. position (is_equality s.names) s.program.preds ≡ None → length s.program.clauses < 16385) }
+    ensures room { IfOk result (λ s. position (is_equality s.names) s.program.preds ≡ None
+        → length s.program.clauses < 16385) }
     ensures arithmetic { IfOk result (λ s. NamesBuiltins s.names s.program) }
     ensures refused { IfErr result (λ fault. IsProgramFault bytes.now fault) }
 {

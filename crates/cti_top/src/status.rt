@@ -10,11 +10,11 @@ use std::alloc::AllocError;
 pub enum Status {
     /// The answer was written.
     Done,
-    /// The certificate is not valid; the line that says why was written.
+    /// The certificate is not valid, or no loop was found; the line that says so was written.
     No,
     /// The words are not a command; the usage was written.
     Usage,
-    /// The program, the certificate or the query was refused; the line that says why was written.
+    /// The program, the certificate, the query or an edit was refused; the line that says why was written.
     Refused,
     /// A file could not be loaded; nothing was written.
     FileFault,
@@ -22,7 +22,7 @@ pub enum Status {
     OutFault,
     /// There was no memory; nothing was written.
     Memory,
-    /// The query has more nodes than were asked for; the answers among those were written.
+    /// The query has more nodes than were asked for: the answers among those were written, or that no loop is among them.
     Stopped,
     /// A value in an integer test was too large, where the search ended; the answers before it were written. It comes only where a
     /// program or a query has integer tests.

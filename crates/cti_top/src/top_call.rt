@@ -12,7 +12,6 @@ ghost use Rattle.cti_top.specs.Queries.{IsQueryOf, Known};
 ghost use Rattle.cti_top.specs.Runs.{IsKnown, IsRefusedQuery};
 ghost use Rattle.outside.specs.Told.{Keeps};
 ghost use Rattle.term_size.specs.declared.any_norm.NormName.{NormName};
-ghost use Rattle.report.specs.Generated.{generated};
 ghost use Rattle.cti_terms.specs.Listing.{Listing};
 ghost use Rattle.cti_terms.specs.declared.derivation.Goal.{Goal};
 
@@ -42,60 +41,88 @@ pub fn command<F: Files, S: Sink>(
     files: &mut F,
     out: &mut S,
 ) -> Status
-    ensures outcome { Outcome (F.told files.old) (map (λ w. w.now) words.entry.now) (S.taken out.old) (S.taken out.new) result }
+    ensures outcome { Outcome (F.told files.old) (map (λ w. w.now) words.entry.now)
+        (S.taken out.old) (S.taken out.new) result }
 
     // A fault of a file comes only from a failed load of a file that the words name, of the certificate's only where the program is read;
     // and one of the sink only from a failed write.
     ensures file_fault { result ≡ Status.FileFault
-        → (ask : Ask) × (asks (map (λ w. w.now) words.entry.now) ≡ Some ask) × FileRose (F.told files.old) ask (F.faults files.old) (F.faults files.new) }
+        → (ask : Ask) × (asks (map (λ w. w.now) words.entry.now) ≡ Some ask)
+        × FileRose (F.told files.old) ask (F.faults files.old) (F.faults files.new) }
     ensures out_fault { result ≡ Status.OutFault → Rose (S.faults out.old) (S.faults out.new) }
 
     // The store keeps its map, and no count of faults falls.
-    ensures kept { Keeps (F.told files.old) (F.told files.new) (F.faults files.old) (F.faults files.new) }
+    ensures kept { Keeps (F.told files.old) (F.told files.new) (F.faults files.old)
+        (F.faults files.new) }
     ensures later { S.faults out.old ≤ S.faults out.new }
 
     // A file that is visible to contracts and is a program is answered, unless memory runs out or a count of faults rises.
-    ensures complete { (name bytes : List ℕ) (norm : NormName) (known : Known) → asks (map (λ w. w.now) words.entry.now) ≡ Some (infer name norm) → HasFile (F.told files.old) name bytes → IsKnown bytes known
-        → (Rose (F.faults files.old name) (F.faults files.new name) → ⊥) → (Rose (S.faults out.old) (S.faults out.new) → ⊥) → IsDoneOrMemory result }
+    ensures complete { (name bytes : List ℕ) (norm : NormName) (known : Known)
+        → asks (map (λ w. w.now) words.entry.now) ≡ Some (infer name norm)
+        → HasFile (F.told files.old) name bytes → IsKnown bytes known
+        → (Rose (F.faults files.old name) (F.faults files.new name) → ⊥)
+        → (Rose (S.faults out.old) (S.faults out.new) → ⊥) → IsDoneOrMemory result }
 
     // The same where lists of mappings are searched.
-    ensures complete_lex { (name bytes : List ℕ) (known : Known) → asks (map (λ w. w.now) words.entry.now) ≡ Some (lex name)
+    ensures complete_lex { (name bytes : List ℕ) (known : Known)
+        → asks (map (λ w. w.now) words.entry.now) ≡ Some (lex name)
         → HasFile (F.told files.old) name bytes → IsKnown bytes known
-        → (Rose (F.faults files.old name) (F.faults files.new name) → ⊥) → (Rose (S.faults out.old) (S.faults out.new) → ⊥) → IsDoneOrMemory result }
+        → (Rose (F.faults files.old name) (F.faults files.new name) → ⊥)
+        → (Rose (S.faults out.old) (S.faults out.new) → ⊥) → IsDoneOrMemory result }
 
     // The same of a certificate's text within its limit: it is checked.
-    ensures complete_check { (name certificate bytes certified : List ℕ) (known : Known) (c : TheCertificate) → asks (map (λ w. w.now) words.entry.now) ≡ Some (check name certificate)
-        → HasFile (F.told files.old) name bytes → IsKnown bytes known → HasFile (F.told files.old) certificate certified → IsTextOf c certified
-        → (Rose (F.faults files.old name) (F.faults files.new name) → ⊥) → (Rose (F.faults files.old certificate) (F.faults files.new certificate) → ⊥)
+    ensures complete_check { (name certificate bytes certified : List ℕ) (known : Known)
+        (c : TheCertificate) → asks (map (λ w. w.now) words.entry.now)
+        ≡ Some (check name certificate)
+        → HasFile (F.told files.old) name bytes → IsKnown bytes known
+        → HasFile (F.told files.old) certificate certified → IsTextOf c certified
+        → (Rose (F.faults files.old name) (F.faults files.new name) → ⊥)
+        → (Rose (F.faults files.old certificate) (F.faults files.new certificate) → ⊥)
         → (Rose (S.faults out.old) (S.faults out.new) → ⊥) → IsCheckedOrMemory result }
 
     // The same of a query that is a goal of the program: it is run, and its search may be stopped, or meet a value that is too large.
-    ensures complete_run { (name query bytes : List ℕ) (steps : ℕ) (known : Known) (names : List (List ℕ)) (program : Listing) (goal : Goal)
-        → asks (map (λ w. w.now) words.entry.now) ≡ Some (run name query steps) → HasFile (F.told files.old) name bytes → IsKnown bytes known → IsQueryOf known query names program goal
-        → (Rose (F.faults files.old name) (F.faults files.new name) → ⊥) → (Rose (S.faults out.old) (S.faults out.new) → ⊥) → IsRanOrMemory result }
+    ensures complete_run { (name query bytes : List ℕ) (steps : ℕ) (known : Known)
+        (names : List (List ℕ)) (program : Listing) (goal : Goal)
+        → asks (map (λ w. w.now) words.entry.now) ≡ Some (run name query steps)
+        → HasFile (F.told files.old) name bytes → IsKnown bytes known
+        → IsQueryOf known query names program goal
+        → (Rose (F.faults files.old name) (F.faults files.new name) → ⊥)
+        → (Rose (S.faults out.old) (S.faults out.new) → ⊥) → IsRanOrMemory result }
 
     // The same where a loop of a query is looked for.
-    ensures complete_loop { (name query bytes : List ℕ) (depth : ℕ) (known : Known) (names : List (List ℕ)) (program : Listing) (goal : Goal)
-        → asks (map (λ w. w.now) words.entry.now) ≡ Some (loop name query depth) → HasFile (F.told files.old) name bytes
+    ensures complete_loop { (name query bytes : List ℕ) (depth : ℕ) (known : Known)
+        (names : List (List ℕ)) (program : Listing) (goal : Goal)
+        → asks (map (λ w. w.now) words.entry.now) ≡ Some (loop name query depth)
+        → HasFile (F.told files.old) name bytes
         → IsKnown bytes known → IsQueryOf known query names program goal
-        → (Rose (F.faults files.old name) (F.faults files.new name) → ⊥) → (Rose (S.faults out.old) (S.faults out.new) → ⊥)
+        → (Rose (F.faults files.old name) (F.faults files.new name) → ⊥)
+        → (Rose (S.faults out.old) (S.faults out.new) → ⊥)
         → IsLoopedOrMemory result }
 
     // The same of edits that can be done.
-    ensures complete_session { (name bytes : List ℕ) (names : List (List ℕ)) (told : List Told) → asks (map (λ w. w.now) words.entry.now) ≡ Some (session name)
+    ensures complete_session { (name bytes : List ℕ) (names : List (List ℕ)) (told : List Told)
+        → asks (map (λ w. w.now) words.entry.now) ≡ Some (session name)
         → HasFile (F.told files.old) name bytes → IsToldBy bytes names told
-        → (Rose (F.faults files.old name) (F.faults files.new name) → ⊥) → (Rose (S.faults out.old) (S.faults out.new) → ⊥) → IsDoneOrMemory result }
+        → (Rose (F.faults files.old name) (F.faults files.new name) → ⊥)
+        → (Rose (S.faults out.old) (S.faults out.new) → ⊥) → IsDoneOrMemory result }
 
-    // The same of a generated text that is a program, for which no file is loaded.
-    ensures complete_gen { (n : ℕ) (known : Known) → asks (map (λ w. w.now) words.entry.now) ≡ Some (gen n) → IsKnown (generated n) known
+    // The same of a generated text, which is a program, and for which no file is loaded.
+    ensures complete_gen { (n : ℕ) → asks (map (λ w. w.now) words.entry.now) ≡ Some (gen n)
         → (Rose (S.faults out.old) (S.faults out.new) → ⊥) → IsDoneOrMemory result }
 
     // A text that is refused is answered by its refusal, in the same way, and so is a query.
-    ensures complete_refused { (ask : Ask) (bytes : List ℕ) (kind at : ℕ) → asks (map (λ w. w.now) words.entry.now) ≡ Some ask → HasText (F.told files.old) (origin ask) bytes
-        → IsRefusedFor ask bytes kind at → (OriginRose (origin ask) (F.faults files.old) (F.faults files.new) → ⊥) → (Rose (S.faults out.old) (S.faults out.new) → ⊥) → IsRefusedOrMemory result }
-    ensures complete_query_refused { (ask : Ask) (query bytes : List ℕ) (kind at : ℕ) → asks (map (λ w. w.now) words.entry.now) ≡ Some ask
-        → query_of ask ≡ Some query → HasText (F.told files.old) (origin ask) bytes → IsRefusedQuery bytes query kind at
-        → (OriginRose (origin ask) (F.faults files.old) (F.faults files.new) → ⊥) → (Rose (S.faults out.old) (S.faults out.new) → ⊥)
+    ensures complete_refused { (ask : Ask) (bytes : List ℕ) (kind at : ℕ)
+        → asks (map (λ w. w.now) words.entry.now) ≡ Some ask
+        → HasText (F.told files.old) (origin ask) bytes
+        → IsRefusedFor ask bytes kind at
+        → (OriginRose (origin ask) (F.faults files.old) (F.faults files.new) → ⊥)
+        → (Rose (S.faults out.old) (S.faults out.new) → ⊥) → IsRefusedOrMemory result }
+    ensures complete_query_refused { (ask : Ask) (query bytes : List ℕ) (kind at : ℕ)
+        → asks (map (λ w. w.now) words.entry.now) ≡ Some ask
+        → query_of ask ≡ Some query → HasText (F.told files.old) (origin ask) bytes
+        → IsRefusedQuery bytes query kind at
+        → (OriginRose (origin ask) (F.faults files.old) (F.faults files.new) → ⊥)
+        → (Rose (S.faults out.old) (S.faults out.new) → ⊥)
         → IsRefusedOrMemory result }
 {
     match answer_words(alloc, words, files) {

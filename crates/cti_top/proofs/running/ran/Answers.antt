@@ -1,7 +1,6 @@
-use Rattle.std.proofs.Common.{◌∙◌, sym, subst}
+use Rattle.std.proofs.Common.{sym, subst}
 use Rattle.cti_top.specs.Runs.{Ends}
 use Rattle.cti_top.specs.declared.status.Status.{Status}
-use Rattle.term_text.specs.RunLines.{run_lines}
 use Rattle.cti_top.proofs.RunLemmas.{ends_as}
 use Rattle.cti_top.proofs.running.ran.Goals as goal
 
@@ -14,5 +13,5 @@ returns c =
     record {
       ending = ran.ending;
       ends = subst (λ (s : Status). Ends source.program g c.args.steps s ran.ending) (sym c.status_of.ensures) (ends_as source.program g c.args.steps ran.ending h.stopped h.finished h.overflow);
-      printed = c.in_ok-run_text.ensures ∙ (λ i. run_lines source.names source.program (h.answers i) (h.steps i) (h.longest i) ran.ending);
+      printed = h.lines;
     }

@@ -3,6 +3,7 @@ use Rattle.report.specs.Generated.{generated}
 use Rattle.cti_top.specs.Outcome.{IsAnswer}
 use Rattle.cti_top.specs.declared.status.Status.{Status}
 use Rattle.cti_top.proofs.OneAnswer.{is_short, none_refused, no_query_refused}
+use Rattle.cti_top.proofs.GeneratedLemmas.{asked_known}
 use Rattle.cti_top.proofs.OneSession.{told_or_refused, told_short}
 use Rattle.cti_top.proofs.RefusedLemmas.{refused_answer, refused_or_memory, query_refused_answer}
 use Rattle.cti_top.proofs.OutcomeLemmas.{not_file, outcome_of, done_or_memory, lexed_or_memory, played_or_memory, summed_or_memory, ran_or_memory, looped_or_memory, checked_or_memory}
@@ -47,8 +48,10 @@ returns-in-Ok-write_text-clause-complete_session g c name bytes names told asked
     (told_short bytes names told is) (λ kind at. told_or_refused bytes names told kind at is)
 
 pub returns-in-Ok-write_text-clause-complete_gen : goal.returns-in-Ok-write_text-clause-complete_gen
-returns-in-Ok-write_text-clause-complete_gen g c n known asked is still =
-    summed_or_memory (g.F.Files.told c.args.files.now) (map (λ w. w.now) c.args.words.now) c.in-Ok.answer.status c.in-Ok.answer.text.items n c.in-Ok.ensures.answered asked (is_short (generated n) known is) (none_refused (generated n) known is)
+returns-in-Ok-write_text-clause-complete_gen g c n asked still =
+    let words = map (λ w. w.now) c.args.words.now in
+    let it = asked_known words n asked in
+    summed_or_memory (g.F.Files.told c.args.files.now) words c.in-Ok.answer.status c.in-Ok.answer.text.items n c.in-Ok.ensures.answered asked (is_short (generated n) it.0 it.1) (none_refused (generated n) it.0 it.1)
 
 pub returns-in-Ok-clause-outcome : goal.returns-in-Ok-clause-outcome
 returns-in-Ok-clause-outcome g c = (c.in-Ok.answer.status, c.in-Ok.answer.text.items, c.in-Ok.ensures.answered, rw c.deref.ensures.value at c.in-Err-write_text.ensures.part)
