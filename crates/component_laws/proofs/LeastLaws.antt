@@ -1,5 +1,5 @@
 -- The least family, component by component, and wherever its members stand.
-use Rattle.std.proofs.Common.{◌≡◌, ℕ, zero, suc, ◌<◌, ◌≤◌, Bool, true, false, ◌&&◌, if◌then◌else◌, IsTrue, inl, inr, List, [], ◌∷◌, map, length, slice_get, slice_index_or, Option, None, Some, refl, ap, sym, subst, ◌∙◌, arith, eqb-true}
+use Rattle.std.proofs.Common.{◌≡◌, ℕ, zero, suc, ◌<◌, ◌≤◌, Bool, true, false, ◌&&◌, if◌then◌else◌, IsTrue, inl, inr, List, [], ◌∷◌, map, length, slice_index_or, Option, None, Some, refl, ap, sym, subst, ◌∙◌, arith, eqb-true}
 use Rattle.std.specs.List.{AllByRecursion}
 use Rattle.std.proofs.lemmas.Bool.{and_parts, cases_eq}
 use Rattle.call_components.proofs.Lists.{some_within}
@@ -256,7 +256,7 @@ module _ (truth : (ℕ → Bool) → Tree → Bool) (Known : ℕ → Type 0) (f 
       builtins = λ r b is on.
           let from = s.from r on in
           let q = from.0 in
-          let kind : kind_of p.arithmetic q ≡ Some b = sym (s.kinds q from.1) ∙ ap (kind_of new.arithmetic) from.3 ∙ is in
+          let kind : kind_of p.arithmetic q ≡ Some b = sym (s.kinds q from.2) ∙ ap (kind_of new.arithmetic) from.3 ∙ is in
           subst (λ (x : ℕ). IsTrue (over truth new n new_below h x (true ∷ (true ∷ [])))) from.3
           (subst (λ (u : List Bool → Bool). IsTrue (u (true ∷ (true ∷ [])))) (sym (over_agree g h agree q from.1)) (k.builtins q b kind from.2));
     }
@@ -275,10 +275,10 @@ module _ (truth : (ℕ → Bool) → Tree → Bool) (Known : ℕ → Type 0) (f 
       clauses = clauses_here g h agree k;
       builtins = λ q b is on.
           let known = s.known q on in
-          subst (λ (u : List Bool → Bool). IsTrue (u (true ∷ (true ∷ [])))) (over_agree g h agree q known) (k.builtins (f q) b (s.kinds q known ∙ is) (s.members q known ∙ on));
+          subst (λ (u : List Bool → Bool). IsTrue (u (true ∷ (true ∷ [])))) (over_agree g h agree q known) (k.builtins (f q) b (s.kinds q on ∙ is) (s.members q known ∙ on));
     }
 
-    carried : AgreeOn Known f family new_family → IsLeastOver truth p m below family → IsLeastOver truth new n new_below new_family
+    pub carried : AgreeOn Known f family new_family → IsLeastOver truth p m below family → IsLeastOver truth new n new_below new_family
     carried agree l = record {
       closed = to_closed truth new n new_below new_family (closed_there family new_family agree (of_closed truth p m below family l.closed));
       least = λ other k r row is h.

@@ -19,7 +19,7 @@ use Rattle.termination_model.proofs.ChainSieves.{of_all}
 use Rattle.termination_model.proofs.Lists.{indexed, place_below, there}
 use Rattle.groundness.specs.Components.{is_member}
 use Rattle.component_laws.specs.Renaming.{IsOver, StandIn, own_clauses, renamed, renamed_atom}
-use Rattle.component_laws.specs.Untouched.{AreUntouched, FindsByName, IsKnown, NamedAtom, NamedClause, UntouchedStand, clauses_in, is_in, named, named_atom}
+use Rattle.component_laws.specs.Untouched.{AreUntouched, FindsByName, IsKnown, KeepKinds, NamedAtom, NamedClause, UntouchedStand, clauses_in, is_in, named, named_atom}
 use Rattle.component_laws.proofs.LeastLaws.{number_of}
 use Rattle.component_laws.proofs.BlownLaws.{filter_map}
 
@@ -350,17 +350,17 @@ module _ (p new : Listing) (comps new_comps : Partition) (f : ℕ → ℕ) (set 
           body = λ b j. let on = call_on k.head.pred.0 head.0 b.pred.0 head.1 (call_is p comps prog are k b own.0 j) in known_of b.pred.0 on.0 on.1;
         }
 
-    stand : StandIn Known f p new (is_member comps c) (is_member new_comps d)
-    stand = record {
+    stand : KeepKinds p new (is_member comps c) → StandIn Known f p new (is_member comps c) (is_member new_comps d)
+    stand same_kinds = record {
       known = known_member;
       apart = apart;
       members = members_agree;
-      kinds = λ q k. let number = finds q k.number k.pred k.here k.there in ap (kind_of new.arithmetic) number ∙ un.kinds q k.number k.pred k.here k.there k.among;
+      kinds = λ q m. (let k = known_member q m in ap (kind_of new.arithmetic) (finds q k.number k.pred k.here k.there) ∙ same_kinds q k.number k.pred k.here k.there m);
       from = members_from;
       clauses = clauses_same;
       over = own_over;
     }
 
 pub untouched_stand : UntouchedStand
-untouched_stand p new comps new_comps f set c d q r x prog new_prog are new_are finds un here there among i j =
-    stand p new comps new_comps f set prog new_prog are new_are finds un c d q r (x, here, there, among) i j
+untouched_stand p new comps new_comps f set c d q r x prog new_prog are new_are finds un kinds here there among i j =
+    stand p new comps new_comps f set prog new_prog are new_are finds un c d q r (x, here, there, among) i j kinds

@@ -43,8 +43,8 @@ pub record StandIn (Known : ℕ → Type 0) (f : ℕ → ℕ) (p new : Listing) 
   pub known : (q : ℕ) → is_member q ≡ true → Known q
   pub apart : KeepsApart Known f
   pub members : AgreeOn Known f is_member is_new_member
-  -- what is built in is so in both
-  pub kinds : AgreeOn Known f (kind_of p.arithmetic) (kind_of new.arithmetic)
+  -- a member that is built in is so in both
+  pub kinds : AgreeOn (Those is_member) f (kind_of p.arithmetic) (kind_of new.arithmetic)
   -- each new member is one of them
   pub from : (r : ℕ) → is_new_member r ≡ true → (q : ℕ) × Known q × (is_member q ≡ true) × (f q ≡ r)
   pub clauses : own_clauses new is_new_member ≡ map (renamed f) (own_clauses p is_member)

@@ -46,8 +46,6 @@ pub record AreUntouched (p new : Listing) (set : Pred → Bool) : Type 0 where
   pub before : IsClosedUnderCalls set p
   pub after : IsClosedUnderCalls set new
   pub same : clauses_in set new ≡ clauses_in set p
-  -- what is built in is so in both
-  pub kinds : (q r : ℕ) (x : Pred) → slice_get p.preds q ≡ Some x → slice_get new.preds r ≡ Some x → set x ≡ true → kind_of new.arithmetic r ≡ kind_of p.arithmetic q
 
 -- a predicate of the set, in both programs
 pub record IsKnown (p new : Listing) (set : Pred → Bool) (q : ℕ) : Type 0 where
@@ -57,6 +55,10 @@ pub record IsKnown (p new : Listing) (set : Pred → Bool) (q : ℕ) : Type 0 wh
   pub there : slice_get new.preds number ≡ Some pred
   pub among : set pred ≡ true
 
+-- of these predicates, what is built in is so in both programs
+abbrev pub KeepKinds : Listing → Listing → (ℕ → Bool) → Type 0
+KeepKinds p new those = (q r : ℕ) (x : Pred) → slice_get p.preds q ≡ Some x → slice_get new.preds r ≡ Some x → those q ≡ true → kind_of new.arithmetic r ≡ kind_of p.arithmetic q
+
 -- numbers are found by name
 abbrev pub FindsByName : Listing → Listing → (ℕ → ℕ) → Type 0
 FindsByName p new f = (q r : ℕ) (x : Pred) → slice_get p.preds q ≡ Some x → slice_get new.preds r ≡ Some x → f q ≡ r
@@ -64,6 +66,6 @@ FindsByName p new f = (q r : ℕ) (x : Pred) → slice_get p.preds q ≡ Some x 
 -- the component of an untouched predicate stands in the new program
 abbrev pub UntouchedStand : Type 0
 UntouchedStand = (p new : Listing) (comps new_comps : Partition) (f : ℕ → ℕ) (set : Pred → Bool) (c d q r : ℕ) (x : Pred)
-    → IsProgram p → IsProgram new → AreComponents p comps → AreComponents new new_comps → FindsByName p new f → AreUntouched p new set
+    → IsProgram p → IsProgram new → AreComponents p comps → AreComponents new new_comps → FindsByName p new f → AreUntouched p new set → KeepKinds p new (is_member comps c)
     → slice_get p.preds q ≡ Some x → slice_get new.preds r ≡ Some x → set x ≡ true → IsIn comps c q → IsIn new_comps d r
     → StandIn (IsKnown p new set) f p new (is_member comps c) (is_member new_comps d)

@@ -25,13 +25,15 @@ use Rattle.termination_model.specs.Grounds.{HasArity}
 use Rattle.termination_model.specs.Sizes.{AreSizes, plain_or_none, rows_of}
 use Rattle.termination_model.proofs.Lists.{mapped_place, place_below}
 use Rattle.solved_program.specs.Carried.{AreLaterCarried}
+use Rattle.solved_program.specs.Marks.{AreMarked}
 use Rattle.solved_program.specs.Resolving.{AreResolvedTo, AreSources, IsSolvedAnew, Stands}
 use Rattle.solved_program.specs.declared.resolving.Sources.{Sources}
 use Rattle.solved_program.specs.Solved.{AreSolvedTo, IsPartAt}
 use Rattle.solved_program.specs.Standing.{KeepValuesTo}
-use Rattle.solved_program.specs.Taken.{is_among, place_of}
+use Rattle.solved_program.specs.Taken.{AreTaken, is_among, place_of}
 use Rattle.solved_program.specs.declared.solved_sizes.SolvedSizes.{SolvedSizes}
 use Rattle.solved_program.proofs.Clauses.{Numbered, own_at, own_component}
+use Rattle.solved_program.proofs.MemberMarks.{marked_more}
 use Rattle.solved_program.proofs.Parts.{part_moved}
 use Rattle.solved_program.proofs.Resolved.{last_or_before, one_longer}
 use Rattle.solved_program.proofs.Stands.{stands_same}
@@ -189,7 +191,8 @@ module _ (speaks : List ℤ → Bool) (expression : ℕ → Tree → List ℤ) (
 
 -- one more component of an edited program, which stands for no old one
 module _ (speaks : List ℤ → Bool) (expression : ℕ → Tree → List ℤ) (s : Sources) (sources : AreSources s) (prog : IsProgram s.edit.now.after.now) (c : ℕ) (members own : List ℕ) (at : slice_get s.own.now c ≡ Some own) (old now : SolvedSizes)
-    (to : AreResolvedTo speaks expression s c old) (none : (b : ℕ) → Stands s old.sizes.rows b c → ⊥) (is : IsSolvedAnew speaks expression s.edit.now.after.now s.edit.now.components.now c members own old now) where
+    (marks more : List Bool) (to : AreResolvedTo speaks expression s c old marks) (none : (b : ℕ) → Stands s old.sizes.rows b c → ⊥) (is : IsSolvedAnew speaks expression s.edit.now.after.now s.edit.now.components.now c members own old now)
+    (marked : AreMarked s.edit.now.components.now c (λ r. rows_of now.sizes.rows r ≡ rows_of old.sizes.rows r) marks more) where
   abbrev new : Listing
   new = s.edit.now.after.now
 
@@ -217,12 +220,33 @@ module _ (speaks : List ℤ → Bool) (expression : ℕ → Tree → List ℤ) (
     | inr ne ↦ kept_row r (outside r e i ne) ∙ to.stayed b e (omega arith) (stood b e lt h) q r x here there' i
   ]
 
-  pub one_resolved : AreResolvedTo speaks expression s (c + 1) now
+  pub one_resolved : AreResolvedTo speaks expression s (c + 1) now more
   one_resolved = record {
     solved = one_solved speaks expression new comps prog sources.edit.components c members own own_is old now to.solved is;
+    marked = marked_more s.edit.now c (rows_of s.old.now.sizes.rows) (rows_of old.sizes.rows) (rows_of now.sizes.rows) marks more (λ r. rows_of now.sizes.rows r ≡ rows_of old.sizes.rows r) to.marked marked kept_row
+        (λ q r x here there i. (λ same. same ∙ to.later.rows_are q r c x here there i (omega arith), λ same. same ∙ sym (to.later.rows_are q r c x here there i (omega arith))));
     stayed = stayed;
     later = later_kept speaks expression new comps prog sources.edit.components c members own own_is old now to.solved is s.edit.now.before.now s.edit.now.kept.now s.old.now.sizes.rows s.old.now.sizes.proofs to.later;
   }
+
+-- rows of members that are taken from a table are those of that table
+pub taken_rows : (p : Listing) (comps : Partition) → AreComponents p comps → (c : ℕ) (members : List ℕ) → slice_get comps.members c ≡ Some members → (from old new : List Rows) → AreTaken members from old new
+    → (r : ℕ) → IsIn comps c r → rows_of new r ≡ rows_of from r
+taken_rows p cs are c members at from old new taken r i =
+    let place = contains_has members r ((are.members c members at r).1 i) in
+    ap plain_or_none (at_taken members from old new r taken (among_of members place.0 r place.1))
+
+-- where the taken rows are marked, the rows in their places are
+pub taken_marked : (p : Listing) (comps : Partition) → AreComponents p comps → (c : ℕ) (members : List ℕ) → slice_get comps.members c ≡ Some members → (from old new : List Rows) → AreTaken members from old new
+    → (marks more : List Bool) → AreMarked comps c (λ r. rows_of from r ≡ rows_of old r) marks more → AreMarked comps c (λ r. rows_of new r ≡ rows_of old r) marks more
+taken_marked p cs are c members at from old new taken marks more is = record {
+  each = is.each;
+  members = λ r i.
+      let m = is.members r i in
+      let same = taken_rows p cs are c members at from old new taken r i in
+      (λ t. same ∙ m.0 t, λ h. m.1 (sym same ∙ h));
+  others = is.others;
+}
 
 -- members are predicates of a table for the whole program
 pub members_below : (p : Listing) (comps : Partition) → AreComponents p comps → (c : ℕ) (members : List PredId) (rows : List Rows) → slice_get comps.members c ≡ Some (map number_of members) → length rows ≡ length p.preds

@@ -23,16 +23,17 @@ use Rattle.numeric_model.specs.Parts.{IsPartOf, is_before, starting}
 use Rattle.numeric_model.specs.Proved.{IsProved}
 use Rattle.numeric_model.specs.States.{plain_step}
 use Rattle.numeric_model.specs.declared.step.Step.{Step}
-use Rattle.component_laws.specs.Renaming.{renamed, AgreeOn, IsOver, KeepsApart}
+use Rattle.component_laws.specs.Renaming.{AgreeOn, IsOver, KeepsApart}
 use Rattle.component_laws.specs.Runs.{AreRenamed, renumbered}
-use Rattle.component_laws.specs.Untouched.{NamedAtom, NamedClause, named, named_atom}
+use Rattle.component_laws.specs.Untouched.{NamedAtom, NamedClause, named}
 use Rattle.component_laws.proofs.RunLaws.{passes_agree, passes_carry}
 use Rattle.component_laws.proofs.UntouchedLaws.{one_number}
 use Rattle.solved_program.specs.Kept.{AreKept}
 use Rattle.solved_program.specs.Renumbered.{in_turn}
 use Rattle.solved_program.specs.Standing.{AreSameCalls, AreSameClauses, IsSameCall, IsSameClause, StandsFor}
-use Rattle.solved_program.proofs.Clauses.{Numbered, head_kind, member_clause, of_program, own_at, own_component}
-use Rattle.solved_program.proofs.Names.{clause_is, finds_number, head_in, new_number, pred_in}
+use Rattle.solved_program.proofs.Clauses.{Numbered, head_kind, member_clause, of_program, own_component}
+use Rattle.solved_program.proofs.Names.{finds_number, head_in, new_number, pred_in}
+use Rattle.solved_program.proofs.Pairs.{all_renamed, body_pair, pair_back, pair_on, same_named, same_renamed}
 use Rattle.solved_program.proofs.Parts.{Rowed, proved_renamed}
 use Rattle.solved_program.proofs.Turns.{passes_length, run_in_turn}
 
@@ -72,51 +73,17 @@ module _ (p new : Listing) (comps new_comps : Partition) (prog : IsProgram p) (n
   abbrev SameCalls : List Atom → List Atom → Type 0
   SameCalls = AreSameCalls comps new_comps c d old now
 
-  -- ---- pairs
-  pair_on : (xs ys : List Numbered) → SameClauses xs ys → (k : Numbered) → In k xs → (l : Numbered) × In l ys × SameClause k l
-  pair_on [] ys h k i = absurd i
-  pair_on (x ∷ xs) [] h k i = absurd h
-  pair_on (x ∷ xs) (y ∷ ys) h k (inl is) = (y, inl refl, subst (λ (z : Numbered). SameClause z y) is h.0)
-  pair_on (x ∷ xs) (y ∷ ys) h k (inr i) = let m = pair_on xs ys h.1 k i in (m.0, inr m.1, m.2)
-
-  pair_back : (xs ys : List Numbered) → SameClauses xs ys → (l : Numbered) → In l ys → (k : Numbered) × In k xs × SameClause k l
-  pair_back xs [] h l i = absurd i
-  pair_back [] (y ∷ ys) h l i = absurd h
-  pair_back (x ∷ xs) (y ∷ ys) h l (inl is) = (x, inl refl, subst (λ (z : Numbered). SameClause x z) is h.0)
-  pair_back (x ∷ xs) (y ∷ ys) h l (inr i) = let m = pair_back xs ys h.1 l i in (m.0, inr m.1, m.2)
-
-  body_pair : (bs es : List Atom) → map (named_atom p) bs ≡ map (named_atom new) es → SameCalls bs es → (b : Atom) → In b bs → (e : Atom) × In e es × (named_atom p b ≡ named_atom new e) × SameCall b.pred.0 e.pred.0
-  body_pair [] es n h b i = absurd i
-  body_pair (x ∷ bs) [] n h b i = absurd h
-  body_pair (x ∷ bs) (y ∷ es) n h b (inl is) =
-      let first : named_atom p x ≡ named_atom new y = cc in
-      (y, inl refl, ap (named_atom p) (sym is) ∙ first, subst (λ (z : Atom). SameCall z.pred.0 y.pred.0) is h.0)
-  body_pair (x ∷ bs) (y ∷ es) n h b (inr i) =
-      let rest : map (named_atom p) bs ≡ map (named_atom new) es = cc in
-      let m = body_pair bs es rest h.1 b i in
-      (m.0, inr m.1, m.2, m.3)
-
-  -- kept clauses are the same but for the numbers of predicates
-  same_named : (k l : Numbered) → In k ks → In l ls → SameClause k l → named p k.1 ≡ named new l.1
-  same_named k l i j s =
-      let is = are_kept.same (l.0 - 1) k.0 l.1 s.kept_as (own_at new new_comps new_prog new_are d l j) in
-      let at = own_at p comps prog are c k i in
-      let there = is.at in
-      let same : is.clause ≡ k.1 = cc in
-      ap (named p) (sym same) ∙ is.same
-
-  same_renamed : (k l : Numbered) → In k ks → In l ls → SameClause k l → l.1 ≡ renamed f k.1
-  same_renamed k l i j s = clause_is p new f (finds_number p new new_prog) new_prog l.1 k.1 (of_program new new_comps new_prog new_are d l j) (same_named k l i j s)
-
-  all_renamed : (xs ys : List Numbered) → SameClauses xs ys → ((k : Numbered) → In k xs → In k ks) → ((l : Numbered) → In l ys → In l ls) → AreRenamed f xs ys
-  all_renamed [] [] h i j = tt
-  all_renamed [] (y ∷ ys) h i j = absurd h
-  all_renamed (x ∷ xs) [] h i j = absurd h
-  all_renamed (x ∷ xs) (y ∷ ys) h i j =
-      (same_renamed x y (i x (inl refl)) (j y (inl refl)) h.0, all_renamed xs ys h.1 (λ k m. i k (inr m)) (λ l m. j l (inr m)))
-
   module _ (stands : StandsFor comps new_comps c d old now p new kept)
       (members : (q r : ℕ) (x : Pred) → slice_get p.preds q ≡ Some x → slice_get new.preds r ≡ Some x → IsIn new_comps d r → now r ≡ old q) where
+    pair_of : (k : Numbered) → In k ks → (l : Numbered) × In l ls × SameClause k l
+    pair_of = pair_on p new comps new_comps prog new_prog are new_are kept are_kept c d old now ks ls stands.clauses
+
+    pair_from : (l : Numbered) → In l ls → (k : Numbered) × In k ks × SameClause k l
+    pair_from = pair_back p new comps new_comps prog new_prog are new_are kept are_kept c d old now ks ls stands.clauses
+
+    names_same : (k l : Numbered) → In k ks → In l ls → SameClause k l → named p k.1 ≡ named new l.1
+    names_same = same_named p new comps new_comps prog new_prog are new_are kept are_kept c d old now
+
     abbrev start : Rowed
     start = starting p comps c old
 
@@ -165,12 +132,12 @@ module _ (p new : Listing) (comps new_comps : Partition) (prog : IsProgram p) (n
     shared_head : (k l : Numbered) → In k ks → In l ls → SameClause k l → IsShared k.1.head.pred.0
     shared_head k l i j s =
         let at = head_in p prog k.1 (of_program p comps prog are c k i) in
-        let there = ap (λ (n : NamedClause). n.head.pred) (sym (same_named k l i j s)) ∙ at.1 in
+        let there = ap (λ (n : NamedClause). n.head.pred) (sym (names_same k l i j s)) ∙ at.1 in
         shared_member k l i j k.1.head.pred.0 l.1.head.pred.0 at.0 at.1 there (own_component p comps prog are c k i) (own_component new new_comps new_prog new_are d l j)
 
     shared_body : (k l : Numbered) → In k ks → In l ls → SameClause k l → (b : Atom) → In b k.1.body → IsShared b.pred.0
     shared_body k l i j s b m =
-        let pair = body_pair k.1.body l.1.body (ap (λ (n : NamedClause). n.body) (same_named k l i j s)) s.calls b m in
+        let pair = body_pair p new comps new_comps prog new_prog are new_are kept are_kept c d old now k.1.body l.1.body (ap (λ (n : NamedClause). n.body) (names_same k l i j s)) s.calls b m in
         let e = pair.0 in
         let at = pred_in p prog k.1 (of_program p comps prog are c k i) b m in
         let there = ap (λ (n : NamedAtom). n.pred) (sym pair.2) ∙ at.1 in
@@ -193,7 +160,7 @@ module _ (p new : Listing) (comps new_comps : Partition) (prog : IsProgram p) (n
 
     over : (k : Numbered) → In k ks → IsOver IsShared k.1
     over k i =
-        let pair = pair_on ks ls stands.clauses k i in
+        let pair = pair_of k i in
         record { head = shared_head k pair.0 i pair.1 pair.2; body = λ b m. shared_body k pair.0 i pair.1 pair.2 b m }
 
     apart : KeepsApart IsShared f
@@ -207,16 +174,16 @@ module _ (p new : Listing) (comps new_comps : Partition) (prog : IsProgram p) (n
     agree q s = s.start_same
 
     renames : AreRenamed f ks ls
-    renames = all_renamed ks ls stands.clauses (λ k i. i) (λ l i. i)
+    renames = all_renamed p new comps new_comps prog new_prog are new_are kept are_kept c d old now ks ls stands.clauses (λ k i. i) (λ l i. i)
 
     -- each member is a head, and so an old member under its new number
     from_old : (l : Numbered) → In l ls → (r : ℕ) → IsIn new_comps d r → (q : ℕ) × IsShared q × IsIn comps c q × (f q ≡ r)
     from_old l i r m =
         let h = member_clause new new_comps new_prog new_are d r l i m in
-        let pair = pair_back ks ls stands.clauses h.0 h.1 in
+        let pair = pair_from h.0 h.1 in
         let k = pair.0 in
         let at = head_in p prog k.1 (of_program p comps prog are c k pair.1) in
-        let there : slice_get new.preds h.0.1.head.pred.0 ≡ Some at.0 = ap (λ (n : NamedClause). n.head.pred) (sym (same_named k h.0 pair.1 h.1 pair.2)) ∙ at.1 in
+        let there : slice_get new.preds h.0.1.head.pred.0 ≡ Some at.0 = ap (λ (n : NamedClause). n.head.pred) (sym (names_same k h.0 pair.1 h.1 pair.2)) ∙ at.1 in
         (k.1.head.pred.0, shared_head k h.0 pair.1 h.1 pair.2, own_component p comps prog are c k pair.1, moves k.1.head.pred.0 h.0.1.head.pred.0 at.0 at.1 there ∙ h.2)
 
     module _ (speaks : List ℤ → Bool) (expression : ℕ → Tree → List ℤ) (old_steps : List Step) (old_sizes : Sizes) (rows_are : old ≡ rows_of old_sizes.rows)
@@ -249,12 +216,12 @@ module _ (p new : Listing) (comps new_comps : Partition) (prog : IsProgram p) (n
 
       one_proved : (l : Numbered) → In l ls → (by : List Multipliers) → slice_get sizes.proofs (l.0 - 1) ≡ Some by → IsProved expression now l.1 by
       one_proved l j by at =
-          let pair = pair_back ks ls stands.clauses l j in
+          let pair = pair_from l j in
           let k = pair.0 in
           let here = part.proved k pair.1 by (proofs k l by pair.1 j pair.2.kept_as at) in
           let before : IsProved expression old k.1 by = subst (λ (g : Rowed). IsProved expression g k.1 by) rows_old here in
           let known = over k pair.1 in
-          subst (λ (x : Clause). IsProved expression now x by) (sym (same_renamed k l pair.1 j pair.2))
+          subst (λ (x : Clause). IsProved expression now x by) (sym (same_renamed p new comps new_comps prog new_prog are new_are kept are_kept c d old now k l pair.1 j pair.2))
           (proved_renamed f expression old now k.1 by known.head.last_same (λ b m. (known.body b m).last_same) before)
 
       pub part_carried : IsPartOf speaks expression new new_comps d now (record { steps = steps; sizes = sizes })

@@ -32,7 +32,7 @@ carried_some p new_preds prog rows sizes r q x own there_x here_x at = record {
       sym (ap (rows_of rows) number ∙ ap plain_or_none at);
 }
 
-contained : (xs : List Pred) (i : ℕ) (x : Pred) → slice_get xs i ≡ Some x → Contains xs x
+pub contained : (xs : List Pred) (i : ℕ) (x : Pred) → slice_get xs i ≡ Some x → Contains xs x
 contained xs i x e = (i, place_below xs i x e, indexed xs i x x e)
 
 pub carried_none : (preds new_preds : List Pred) (rows : List Rows) (r : ℕ) (x : Pred) (own : Rows) → slice_get new_preds r ≡ Some x → own.width ≡ x.arity → own.list ≡ [] → (Contains preds x → ⊥)

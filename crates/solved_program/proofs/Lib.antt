@@ -4,10 +4,16 @@ pub mod CarriedRows
 pub mod Clauses
 pub mod Comparisons
 pub mod Empty
+pub mod GroundRows
+pub mod MemberMarks
+pub mod Marks
 pub mod Names
+pub mod Pairs
 pub mod Parts
+pub mod PredMarks
 pub mod Resolved
 pub mod SolvedLaws
 pub mod Stands
+pub mod StandsIn
 pub mod Tables
 pub mod Turns

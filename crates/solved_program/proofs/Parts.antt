@@ -11,7 +11,8 @@ use Rattle.linear_rows.specs.Replacing.{row_fits}
 use Rattle.linear_rows.specs.declared.multipliers.Multipliers.{Multipliers}
 use Rattle.termination_model.specs.Chain.{after_passes, clauses_of, component_of, start_rows, ArePasses}
 use Rattle.termination_model.specs.Sizes.{AreSizes, rows_of}
-use Rattle.termination_model.specs.Systems.{row_over, short_row, system}
+use Rattle.termination_model.specs.Systems.{row_over, system}
+use Rattle.termination_model.specs.ShortSystems.{short_row}
 use Rattle.termination_model.specs.declared.sizes.Sizes.{Sizes}
 use Rattle.termination_model.proofs.ChainLeaves.{body_before, head_before, IsBefore}
 use Rattle.numeric_model.specs.Parts.{IsPartOf, is_before, starting}

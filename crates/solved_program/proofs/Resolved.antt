@@ -16,6 +16,7 @@ use Rattle.termination_model.specs.Chain.{clauses_of}
 use Rattle.termination_model.specs.Sizes.{AreSizes, plain_or_none, rows_of}
 use Rattle.termination_model.proofs.Lists.{place_below, there}
 use Rattle.solved_program.specs.Carried.{AreCarriedProofs, AreCarriedRows}
+use Rattle.solved_program.specs.Marks.{Always, AreMarked}
 use Rattle.solved_program.specs.Resolving.{AreResolvedTo, AreSources, IsCarriedPart}
 use Rattle.solved_program.specs.Solved.{AreSolved, IsPartAt}
 use Rattle.solved_program.specs.Standing.{StandsFor}
@@ -23,6 +24,7 @@ use Rattle.solved_program.specs.declared.resolving.Sources.{Sources}
 use Rattle.solved_program.specs.declared.solved_sizes.SolvedSizes.{SolvedSizes}
 use Rattle.solved_program.proofs.CarriedParts.{part_carried}
 use Rattle.solved_program.proofs.Clauses.{Numbered, own_at, own_component}
+use Rattle.solved_program.proofs.MemberMarks.{marked_more}
 
 -- ---- one more at the end
 pub last_or_before : {X : Type 0} (xs : List X) (x : X) (i : ℕ) (y : X) → slice_get (xs ++ x ∷ []) i ≡ Some y → ((i < length xs) × (slice_get xs i ≡ Some y)) ⊎ ((i ≡ length xs) × (x ≡ y))
@@ -81,9 +83,9 @@ module _ (speaks : List ℤ → Bool) (expression : ℕ → Tree → List ℤ) (
   abbrev new_comps : Partition
   new_comps = s.edit.now.components.now
 
-  module _ (solved_before : AreSolved speaks expression p comps s.old.now) (c : ℕ) (old now : SolvedSizes) (to : AreResolvedTo speaks expression s c old) (before : ℕ)
+  module _ (solved_before : AreSolved speaks expression p comps s.old.now) (c : ℕ) (old now : SolvedSizes) (marks more : List Bool) (to : AreResolvedTo speaks expression s c old marks) (before : ℕ)
       (stands : StandsFor comps new_comps before c (rows_of s.old.now.sizes.rows) (rows_of old.sizes.rows) p new s.edit.now.kept.now)
-      (steps : List Step) (at_steps : slice_get s.old.now.steps before ≡ Some steps) (own : List ℕ) (at_own : slice_get s.own.now c ≡ Some own) (carried : IsCarriedPart steps own old now) where
+      (steps : List Step) (at_steps : slice_get s.old.now.steps before ≡ Some steps) (own : List ℕ) (at_own : slice_get s.own.now c ≡ Some own) (carried : IsCarriedPart steps own old now) (marked : AreMarked new_comps c Always marks more) where
     own_is : with_clauses new.clauses own ≡ clauses_of new new_comps c
     own_is = sources.own.clauses c own at_own
 
@@ -118,7 +120,7 @@ module _ (speaks : List ℤ → Bool) (expression : ℕ → Tree → List ℤ) (
     abbrev made : SolvedSizes
     made = record { steps = old.steps ++ carried.carried ∷ []; sizes = old.sizes }
 
-    made_to : AreResolvedTo speaks expression s (c + 1) made
+    made_to : AreResolvedTo speaks expression s (c + 1) made more
     made_to = record {
       solved = record {
         rows = to.solved.rows;
@@ -126,6 +128,8 @@ module _ (speaks : List ℤ → Bool) (expression : ℕ → Tree → List ℤ) (
         each = one_longer old.steps carried.carried ∙ ap (λ (n : ℕ). n + 1) to.solved.each;
         parts = parts;
       };
+      marked = marked_more s.edit.now c (rows_of s.old.now.sizes.rows) (rows_of old.sizes.rows) (rows_of old.sizes.rows) marks more Always to.marked marked (λ r off. refl)
+          (λ q r x here there i. (λ any. to.later.rows_are q r c x here there i (omega arith), λ same. tt));
       stayed = λ b e lt is q r x here there i. elim (cases_eq e c) [
         | inl same ↦ to.later.rows_are q r e x here there i (omega arith)
         | inr ne ↦ to.stayed b e (omega arith) is q r x here there i
@@ -136,20 +140,21 @@ module _ (speaks : List ℤ → Bool) (expression : ℕ → Tree → List ℤ) (
       };
     }
 
-    pub one_carried : AreResolvedTo speaks expression s (c + 1) now
-    one_carried = subst (AreResolvedTo speaks expression s (c + 1)) (λ i. record { steps = sym carried.steps_are i; sizes = sym carried.sizes i }) made_to
+    pub one_carried : AreResolvedTo speaks expression s (c + 1) now more
+    one_carried = subst (λ (x : SolvedSizes). AreResolvedTo speaks expression s (c + 1) x more) (λ i. record { steps = sym carried.steps_are i; sizes = sym carried.sizes i }) made_to
 
 -- ---- nothing is solved yet
-pub none_resolved : (speaks : List ℤ → Bool) (expression : ℕ → Tree → List ℤ) (s : Sources) (begun : SolvedSizes) → AreSizes s.edit.now.after.now.preds begun.sizes.rows → length begun.sizes.proofs ≡ length s.edit.now.after.now.clauses
+pub none_resolved : (speaks : List ℤ → Bool) (expression : ℕ → Tree → List ℤ) (s : Sources) (begun : SolvedSizes) (marks : List Bool) → length marks ≡ length s.edit.now.after.now.preds → AreSizes s.edit.now.after.now.preds begun.sizes.rows → length begun.sizes.proofs ≡ length s.edit.now.after.now.clauses
     → AreCarriedRows s.edit.now.before.now.preds s.edit.now.after.now.preds s.old.now.sizes.rows begun.sizes.rows → AreCarriedProofs s.edit.now.kept.now s.old.now.sizes.proofs begun.sizes.proofs → begun.steps ≡ []
-    → AreResolvedTo speaks expression s 0 begun
-none_resolved speaks expression s begun rows count carried proofs none = record {
+    → AreResolvedTo speaks expression s 0 begun marks
+none_resolved speaks expression s begun marks each rows count carried proofs none = record {
   solved = record {
     rows = rows;
     proofs = count;
     each = ap length none;
     parts = λ e x at. absurd (empty e x (ap (λ (xs : List (List Step)). slice_get xs e) (sym none) ∙ at));
   };
+  marked = record { each = each; exact = λ q r d x here there i lt. absurd (omega arith) };
   stayed = λ b e lt is q r x here there i. absurd (omega arith);
   later = record {
     rows_are = λ q r e x here there i le. go q r x here there (slice_get begun.sizes.rows r) refl;

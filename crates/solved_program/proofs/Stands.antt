@@ -1,20 +1,19 @@
 -- Which values standing looks at, and where the first clause of a component that stands was before.
-use Rattle.std.proofs.Common.{◌≡◌, ℕ, suc, ◌-◌, ◌<◌, ℤ, inl, inr, List, [], ◌∷◌, ◌++◌, length, slice_get, Option, Some, refl, ap, sym, subst, ◌∙◌, arith}
+use Rattle.std.proofs.Common.{◌≡◌, ℕ, suc, ◌-◌, ◌<◌, Bool, inl, inr, List, [], ◌∷◌, ◌++◌, length, slice_get, Option, Some, refl, ap, sym, subst, ◌∙◌, arith}
 use Rattle.std.proofs.lemmas.Bool.{cases_eq}
 use Rattle.call_components.specs.Partition.{Partition, AreComponents, IsIn}
 use Rattle.cti_terms.specs.Listing.{Listing, IsProgram}
 use Rattle.cti_terms.specs.declared.atom_list.Atom.{Atom}
 use Rattle.cti_terms.specs.declared.clauses.Clause.{Clause}
 use Rattle.linear_rows.specs.Members.{In}
-use Rattle.linear_rows.specs.declared.row.Rows.{Rows}
 use Rattle.numeric_model.specs.Running.{paired, with_clauses}
 use Rattle.termination_model.specs.Chain.{clauses_of}
-use Rattle.termination_model.specs.Sizes.{rows_of}
 use Rattle.termination_model.proofs.ChainLeaves.{body_before}
 use Rattle.solved_program.specs.Comparing.{AreNumbersIn}
-use Rattle.solved_program.specs.Resolving.{AreSources, IsFirstKeptOf, Stands}
+use Rattle.solved_program.specs.EditClauses.{AreEditClauses, IsFirstKeptOf}
+use Rattle.solved_program.specs.Marks.{StandsMarked, is_marked, itself}
 use Rattle.solved_program.specs.Standing.{AreSameCalls, AreSameClauses, IsSameCall, IsSameClause, StandsFor}
-use Rattle.solved_program.specs.declared.resolving.Sources.{Sources}
+use Rattle.solved_program.specs.declared.edit_clauses.EditClauses.{EditClauses}
 use Rattle.solved_program.proofs.Clauses.{Numbered, own_at, own_component}
 use Rattle.solved_program.proofs.Comparisons.{clause_at, has_clauses}
 
@@ -56,7 +55,7 @@ head_pair : {X : Type 0} (comps new_comps : Partition) (b c : ℕ) (old now : �
 head_pair comps new_comps b c old now kept [] l ls h = absurd h
 head_pair comps new_comps b c old now kept (k ∷ ks) l ls h = (k, inl refl, h.0)
 
-module _ (s : Sources) (sources : AreSources s) where
+module _ (s : EditClauses) (sources : AreEditClauses s) where
   abbrev p : Listing
   p = s.edit.now.before.now
 
@@ -69,40 +68,37 @@ module _ (s : Sources) (sources : AreSources s) where
   abbrev new_comps : Partition
   new_comps = s.edit.now.components.now
 
-  abbrev old : ℕ → List (List ℤ)
-  old = rows_of s.old.now.sizes.rows
-
-  abbrev AreSame : ℕ → ℕ → List Rows → List Numbered → List Numbered → Type 0
-  AreSame b c rows = AreSameClauses comps new_comps b c old (rows_of rows) s.edit.now.kept.now
+  abbrev AreSame : ℕ → ℕ → List Bool → List Numbered → List Numbered → Type 0
+  AreSame b c marks = AreSameClauses comps new_comps b c itself (is_marked marks) s.edit.now.kept.now
 
   -- two components whose clauses have these numbers
-  module _ (b c : ℕ) (rows : List Rows) (own_before own : List ℕ) (at_before : slice_get s.own_before.now b ≡ Some own_before) (at : slice_get s.own.now c ≡ Some own) where
+  module _ (b c : ℕ) (marks : List Bool) (own_before own : List ℕ) (at_before : slice_get s.own_before.now b ≡ Some own_before) (at : slice_get s.own.now c ≡ Some own) where
     before_is : with_clauses p.clauses own_before ≡ clauses_of p comps b
     before_is = sources.own_before.clauses b own_before at_before
 
     after_is : with_clauses new.clauses own ≡ clauses_of new new_comps c
     after_is = sources.own.clauses c own at
 
-    pub stands_of : 0 < length own → AreSame b c rows (with_clauses p.clauses own_before) (with_clauses new.clauses own) → Stands s rows b c
+    pub stands_of : 0 < length own → AreSame b c marks (with_clauses p.clauses own_before) (with_clauses new.clauses own) → StandsMarked s.edit.now marks b c
     stands_of some same = record {
       some = has_clauses new.clauses own (clauses_of new new_comps c) (sources.own.within c own at) some after_is;
-      clauses = subst (λ ks. AreSame b c rows ks (clauses_of new new_comps c)) before_is (subst (AreSame b c rows (with_clauses p.clauses own_before)) after_is same);
+      clauses = subst (λ ks. AreSame b c marks ks (clauses_of new new_comps c)) before_is (subst (AreSame b c marks (with_clauses p.clauses own_before)) after_is same);
     }
 
-    pub of_stands : Stands s rows b c → AreSame b c rows (with_clauses p.clauses own_before) (with_clauses new.clauses own)
-    of_stands h = subst (AreSame b c rows (with_clauses p.clauses own_before)) (sym after_is) (subst (λ ks. AreSame b c rows ks (clauses_of new new_comps c)) (sym before_is) h.clauses)
+    pub of_stands : StandsMarked s.edit.now marks b c → AreSame b c marks (with_clauses p.clauses own_before) (with_clauses new.clauses own)
+    of_stands h = subst (AreSame b c marks (with_clauses p.clauses own_before)) (sym after_is) (subst (λ ks. AreSame b c marks ks (clauses_of new new_comps c)) (sym before_is) h.clauses)
 
   -- the first clause of a component that stands was kept
-  pub first_standing : IsProgram p → (b c : ℕ) (rows : List Rows) (own : List ℕ) → slice_get s.own.now c ≡ Some own → Stands s rows b c → IsFirstKeptOf s own b
-  first_standing prog b c rows own at stands = go own (sources.own.within c own at) (sources.own.clauses c own at)
+  pub first_standing : IsProgram p → (b c : ℕ) (marks : List Bool) (own : List ℕ) → slice_get s.own.now c ≡ Some own → StandsMarked s.edit.now marks b c → IsFirstKeptOf s own b
+  first_standing prog b c marks own at stands = go own (sources.own.within c own at) (sources.own.clauses c own at)
     where
       go : (own : List ℕ) → AreNumbersIn new own → with_clauses new.clauses own ≡ clauses_of new new_comps c → IsFirstKeptOf s own b
       go [] numbers is = absurd (stands.some (sym is))
       go (l ∷ own) numbers is =
           let y = clause_at new.clauses l numbers.0.0 numbers.0.1 in
           let first : with_clauses new.clauses (l ∷ own) ≡ (l, y.0) ∷ with_clauses new.clauses own = ap (λ (o : Option Clause). paired l o ++ with_clauses new.clauses own) y.1 in
-          let pair = head_pair comps new_comps b c old (rows_of rows) s.edit.now.kept.now (clauses_of p comps b) (l, y.0) (with_clauses new.clauses own)
-          (subst (AreSame b c rows (clauses_of p comps b)) (sym is ∙ first) stands.clauses) in
+          let pair = head_pair comps new_comps b c itself (is_marked marks) s.edit.now.kept.now (clauses_of p comps b) (l, y.0) (with_clauses new.clauses own)
+          (subst (AreSame b c marks (clauses_of p comps b)) (sym is ∙ first) stands.clauses) in
           let k = pair.0 in
           record {
             number = l;
@@ -115,7 +111,7 @@ module _ (s : Sources) (sources : AreSources s) where
           }
 
 -- it was a clause of one component
-pub one_first : (s : Sources) (own : List ℕ) (b d : ℕ) → IsFirstKeptOf s own b → IsFirstKeptOf s own d → b ≡ d
+pub one_first : (s : EditClauses) (own : List ℕ) (b d : ℕ) → IsFirstKeptOf s own b → IsFirstKeptOf s own d → b ≡ d
 one_first s own b d x y =
     let first = x.first in
     let first_too = y.first in

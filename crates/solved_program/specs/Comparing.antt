@@ -6,8 +6,8 @@ use Rattle.cti_terms.specs.Listing.{Listing}
 use Rattle.cti_terms.specs.declared.atom_list.Atom.{Atom}
 use Rattle.cti_terms.specs.declared.clauses.Clause.{Clause}
 use Rattle.numeric_model.specs.Running.{with_clauses}
-use Rattle.termination_model.specs.Sizes.{AreSizes, rows_of}
 use Rattle.solved_program.specs.Kept.{IsEdit}
+use Rattle.solved_program.specs.Marks.{is_marked, itself}
 use Rattle.solved_program.specs.Standing.{AreSameCalls, AreSameClauses, IsSameCall, IsSameClause}
 use Rattle.solved_program.specs.declared.standing.Compared.{Compared}
 
@@ -15,23 +15,22 @@ use Rattle.solved_program.specs.declared.standing.Compared.{Compared}
 abbrev pub AreNumbersIn : Listing → List ℕ → Type 0
 AreNumbersIn p own = AllByRecursion (λ k. (1 ≤ k) × (k ≤ length p.clauses)) own
 
--- an edit, with rows for each predicate of both programs
+-- an edit, with a mark or none for each new predicate
 pub record IsCompared (s : Compared) : Type 0 where
   pub edit : IsEdit s.edit.now
-  pub rows_before : AreSizes s.edit.now.before.now.preds s.rows_before.now
-  pub rows : AreSizes s.edit.now.after.now.preds s.rows.now
+  pub each : length s.stayed.now ≡ length s.edit.now.after.now.preds
 
 abbrev pub IsTheSameCall : Compared → ℕ → ℕ → Type 0
-IsTheSameCall s = IsSameCall s.edit.now.components_before.now s.edit.now.components.now s.before s.after (rows_of s.rows_before.now) (rows_of s.rows.now)
+IsTheSameCall s = IsSameCall s.edit.now.components_before.now s.edit.now.components.now s.before s.after itself (is_marked s.stayed.now)
 
 abbrev pub AreTheSameCalls : Compared → List Atom → List Atom → Type 0
-AreTheSameCalls s = AreSameCalls s.edit.now.components_before.now s.edit.now.components.now s.before s.after (rows_of s.rows_before.now) (rows_of s.rows.now)
+AreTheSameCalls s = AreSameCalls s.edit.now.components_before.now s.edit.now.components.now s.before s.after itself (is_marked s.stayed.now)
 
 abbrev pub IsTheSameClause : Compared → ℕ × Clause → ℕ × Clause → Type 0
-IsTheSameClause s = IsSameClause s.edit.now.components_before.now s.edit.now.components.now s.before s.after (rows_of s.rows_before.now) (rows_of s.rows.now) s.edit.now.kept.now
+IsTheSameClause s = IsSameClause s.edit.now.components_before.now s.edit.now.components.now s.before s.after itself (is_marked s.stayed.now) s.edit.now.kept.now
 
 abbrev pub AreTheSameClauses : Compared → List (ℕ × Clause) → List (ℕ × Clause) → Type 0
-AreTheSameClauses s = AreSameClauses s.edit.now.components_before.now s.edit.now.components.now s.before s.after (rows_of s.rows_before.now) (rows_of s.rows.now) s.edit.now.kept.now
+AreTheSameClauses s = AreSameClauses s.edit.now.components_before.now s.edit.now.components.now s.before s.after itself (is_marked s.stayed.now) s.edit.now.kept.now
 
 -- the clauses of two numbers are the same
 abbrev pub HaveSameClause : Compared → ℕ → ℕ → Type 0

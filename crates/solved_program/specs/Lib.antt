@@ -1,6 +1,9 @@
 pub mod Carried
 pub mod Comparing
+pub mod EditClauses
+pub mod Grounds
 pub mod Kept
+pub mod Marks
 pub mod Renumbered
 pub mod Resolving
 pub mod Solved

@@ -1,10 +1,9 @@
 -- Private.
 -- How far the size rows of a program after an edit have come.
-use Rattle.std.specs.Prelude.{◌≡◌, ℕ, ◌-◌, ℤ, Bool, List, [], ◌∷◌, ◌++◌, length, map, slice_get, Some}
-use Rattle.call_components.specs.Partition.{Partition, IsIn}
+use Rattle.std.specs.Prelude.{◌≡◌, ℕ, ℤ, Bool, List, [], ◌∷◌, ◌++◌, length, map, slice_get, Some}
+use Rattle.call_components.specs.Partition.{Partition}
 use Rattle.cti_terms.specs.Listing.{Listing}
 use Rattle.cti_terms.specs.Tree.{Tree}
-use Rattle.cti_terms.specs.declared.clauses.Clause.{Clause}
 use Rattle.numeric_model.specs.Parts.{IsPartOf}
 use Rattle.numeric_model.specs.Running.{AreOwnClauses}
 use Rattle.numeric_model.specs.States.{plain_step}
@@ -14,6 +13,7 @@ use Rattle.linear_rows.specs.declared.row.Rows.{Rows}
 use Rattle.termination_model.specs.Sizes.{AreSizes, rows_of}
 use Rattle.solved_program.specs.Carried.{AreLaterCarried}
 use Rattle.solved_program.specs.Kept.{IsEdit}
+use Rattle.solved_program.specs.Marks.{AreMarkedTo}
 use Rattle.solved_program.specs.Renumbered.{in_turn}
 use Rattle.solved_program.specs.Solved.{AreSolvedTo}
 use Rattle.solved_program.specs.Standing.{KeepValuesTo, StandsFor}
@@ -34,20 +34,11 @@ pub record AreSources (s : Sources) : Type 0 where
 abbrev pub Stands : Sources → List Rows → ℕ → ℕ → Type 0
 Stands s rows b c = StandsFor s.edit.now.components_before.now s.edit.now.components.now b c (rows_of s.old.now.sizes.rows) (rows_of rows) s.edit.now.before.now s.edit.now.after.now s.edit.now.kept.now
 
--- the first of these clauses was kept, and was one of the component b
-pub record IsFirstKeptOf (s : Sources) (own : List ℕ) (b : ℕ) : Type 0 where
-  pub number : ℕ
-  pub number_before : ℕ
-  pub clause : Clause
-  pub first : slice_get own 0 ≡ Some number
-  pub kept_as : slice_get s.edit.now.kept.now (number - 1) ≡ Some (Some number_before)
-  pub at : slice_get s.edit.now.before.now.clauses (number_before - 1) ≡ Some clause
-  pub among : IsIn s.edit.now.components_before.now b clause.head.pred.0
-
--- The components below n are solved, and those of them that stand for old ones have kept their rows. All later ones still have
--- what they had before the edit.
-pub record AreResolvedTo (speaks : List ℤ → Bool) (expression : ℕ → Tree → List ℤ) (s : Sources) (n : ℕ) (now : SolvedSizes) : Type 0 where
+-- The components below n are solved, and those of them that stand for old ones have kept their rows. Their members have marks
+-- where their rows stayed. All later ones still have what they had before the edit.
+pub record AreResolvedTo (speaks : List ℤ → Bool) (expression : ℕ → Tree → List ℤ) (s : Sources) (n : ℕ) (now : SolvedSizes) (marks : List Bool) : Type 0 where
   pub solved : AreSolvedTo speaks expression s.edit.now.after.now s.edit.now.components.now n now
+  pub marked : AreMarkedTo s.edit.now n (rows_of s.old.now.sizes.rows) (rows_of now.sizes.rows) marks
   pub stayed : KeepValuesTo s.edit.now n (rows_of s.old.now.sizes.rows) (rows_of now.sizes.rows)
   pub later : AreLaterCarried s.edit.now.before.now s.edit.now.after.now s.edit.now.components.now s.edit.now.kept.now s.old.now.sizes.rows s.old.now.sizes.proofs n now.sizes.rows now.sizes.proofs
 

@@ -14,7 +14,7 @@ use sequences::Sequence;
 use std::alloc::{AllocError, Global};
 use termination_model::{SizeRows, Sizes};
 
-// The rows that the predicate of this name and arity had, if it was there, and else no rows.
+/// The rows that the predicate of this name and arity had, if it was there, and else no rows.
 fn carried_row(
     alloc: Global,
     edit: &Edit<'_>,
@@ -33,11 +33,12 @@ fn carried_row(
     }
 }
 
-// The same for each predicate.
+/// The same for each predicate.
 fn carried_rows(alloc: Global, edit: &Edit<'_>, rows: &SizeRows) -> Result<SizeRows, AllocError>
     requires { AreSizes edit.now.before.now.preds rows.now }
     ensures each { IfOk result (λ carried. length carried ≡ length edit.now.after.now.preds) }
-    ensures rows { IfOk result (AreCarriedRows edit.now.before.now.preds edit.now.after.now.preds rows.now) }
+    ensures rows { IfOk result
+        (AreCarriedRows edit.now.before.now.preds edit.now.after.now.preds rows.now) }
 {
     let mut carried = SizeRows::new(alloc);
     for q in 0..edit.after.preds() {
@@ -47,7 +48,7 @@ fn carried_rows(alloc: Global, edit: &Edit<'_>, rows: &SizeRows) -> Result<SizeR
     Ok(carried)
 }
 
-// The proofs that a clause had, if it was kept, and else none.
+/// The proofs that a clause had, if it was kept, and else none.
 fn carried_by(
     alloc: Global,
     kept: Option<u32>,
@@ -62,7 +63,7 @@ fn carried_by(
     }
 }
 
-// The same for each clause.
+/// The same for each clause.
 fn carried_proofs(
     alloc: Global,
     edit: &Edit<'_>,
@@ -92,9 +93,11 @@ pub(crate) fn carried(
     requires each { length old.now.sizes.proofs ≡ length edit.now.before.now.clauses }
     ensures sizes { IfOk result (λ s. AreSizes edit.now.after.now.preds s.sizes.rows) }
     ensures count { IfOk result (λ s. length s.sizes.proofs ≡ length edit.now.after.now.clauses) }
-    ensures rows { IfOk result (λ s. AreCarriedRows edit.now.before.now.preds edit.now.after.now.preds
+    ensures rows { IfOk result
+        (λ s. AreCarriedRows edit.now.before.now.preds edit.now.after.now.preds
         old.now.sizes.rows s.sizes.rows) }
-    ensures proofs { IfOk result (λ s. AreCarriedProofs edit.now.kept.now old.now.sizes.proofs s.sizes.proofs) }
+    ensures proofs { IfOk result
+        (λ s. AreCarriedProofs edit.now.kept.now old.now.sizes.proofs s.sizes.proofs) }
     ensures steps { IfOk result (λ s. s.steps ≡ []) }
 {
     let rows = carried_rows(alloc, edit, &old.sizes.rows)?;

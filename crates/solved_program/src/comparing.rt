@@ -5,7 +5,7 @@ ghost use Rattle.linear_rows.specs.Plain.{plain_row, plain_rows};
 
 use linear_rows::{Row, Rows};
 
-// Whether two rows have the same numbers.
+/// Whether two rows have the same numbers.
 fn is_same_row(a: &Row, b: &Row) -> bool
     ensures { IsTrue result ↔ (plain_row a.now ≡ plain_row b.now) }
 {

@@ -9,7 +9,7 @@ use numeric_model::Step;
 use sequences::Sequence;
 use std::alloc::{AllocError, Global};
 
-// The same multipliers once more.
+/// The same multipliers once more.
 fn copied_multipliers(alloc: Global, by: &Multipliers) -> Result<Multipliers, AllocError>
     ensures { IfOk result (λ copy. copy ≡ by.now) }
 {

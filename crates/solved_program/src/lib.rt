@@ -11,18 +11,24 @@
 //! clause which old clause it is, and components are compared by these numbers. A component without clauses is solved
 //! each time.
 //!
-//! `StandsFor` says when a component stands for an old one, over any value for each predicate, so that it serves other
-//! engines too.
+//! `solve_grounds` and `resolve_grounds` do the same with ground rows, in a table of diagrams that goes from one edit to
+//! the next.
 //!
-//! Depends on `numeric_model`, which solves one component above others, and on `component_laws`, whose laws carry a
-//! part from one program to another.
+//! `StandsFor` says when a component stands for an old one, over any value for each predicate, so that it serves other
+//! engines too. `stayed_rows` and `Sources::standing` decide it by the size rows that have come out.
+//!
+//! Depends on `numeric_model` and `groundness`, which solve one component above others, and on `component_laws`, whose
+//! laws carry a part from one program to another.
 #![tactic(auto)]
 
 mod carrying;
 mod comparing;
 mod copies;
 mod edit;
+mod edit_clauses;
+mod grounds;
 pub mod laws;
+mod marking;
 mod renumbering;
 mod resolving;
 mod solved_sizes;
@@ -31,6 +37,8 @@ mod standing;
 mod taking;
 
 pub use edit::Edit;
-pub use resolving::resolve_sizes;
+pub use grounds::{resolve_grounds, solve_grounds};
+pub use marking::stayed_rows;
+pub use resolving::{Sources, resolve_sizes};
 pub use solved_sizes::SolvedSizes;
 pub use solving::solve_sizes;

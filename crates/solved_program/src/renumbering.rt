@@ -9,7 +9,7 @@ use numeric_model::Step;
 use sequences::Sequence;
 use std::alloc::{AllocError, Global};
 
-// The place after this one, where the first comes after the last.
+/// The place after this one, where the first comes after the last.
 fn next_place(count: usize, place: usize) -> usize
     requires { place < count }
     ensures next { result ≡ next_place count place }
@@ -25,7 +25,8 @@ pub(crate) fn renumbered(
     own: &[u32],
 ) -> Result<Sequence<Step>, AllocError>
     requires { 0 < length own.now }
-    ensures { IfOk result (λ copy. map plain_step copy ≡ in_turn own.now 0 (map plain_step steps.now)) }
+    ensures { IfOk result (λ copy. map plain_step copy
+        ≡ in_turn own.now 0 (map plain_step steps.now)) }
 {
     let mut copy = Sequence::new(alloc);
     let mut place = 0;

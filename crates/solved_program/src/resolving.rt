@@ -4,18 +4,19 @@ ghost use Rattle.std.specs.Prelude.{◌≡◌, ◌≤◌, ◌<◌, ◌+◌, ℕ,
 ghost use Rattle.std.specs.Prelude.{slice_get};
 ghost use Rattle.call_components.specs.Numbers.{number_of};
 ghost use Rattle.termination_model.specs.Sizes.{AreSizes, rows_of};
-ghost use Rattle.solved_program.specs.Comparing.{AreNumbersIn};
 ghost use Rattle.solved_program.specs.Kept.{IsEdit};
-ghost use Rattle.solved_program.specs.Resolving.{AreResolvedTo, AreSources, IsCarriedFrom, IsFirstKeptOf, IsPartTaken};
-ghost use Rattle.solved_program.specs.Resolving.{IsSolvedAt, Stands};
+ghost use Rattle.solved_program.specs.Marks.{AreMarked, StandsMarked};
+ghost use Rattle.solved_program.specs.Resolving.{AreResolvedTo, AreSources, IsCarriedFrom, IsPartTaken};
+ghost use Rattle.solved_program.specs.Resolving.{IsSolvedAt};
 ghost use Rattle.solved_program.specs.Solved.{AreSolved};
 ghost use Rattle.solved_program.specs.Standing.{KeepValues};
 
 use crate::carrying::carried;
 use crate::edit::Edit;
+use crate::edit_clauses::EditClauses;
+use crate::marking::{mark_all, mark_same_rows};
 use crate::renumbering::renumbered;
 use crate::solved_sizes::SolvedSizes;
-use crate::standing::Compared;
 use crate::taking::{take_proofs, take_rows};
 use cti_terms::PredId;
 use numeric_model::{Chain, own_clauses, solve_component};
@@ -24,20 +25,19 @@ use sequences::Sequence;
 use std::alloc::{AllocError, Global};
 use std::mem;
 use term_size::Norm;
-use termination_model::SizeRows;
 
 /// What the size rows after an edit are made from.
 #[derive(Clone, Copy)]
-pub(crate) struct Sources<'a> {
-    pub(crate) edit: &'a Edit<'a>,
-    pub(crate) old: &'a SolvedSizes,
+pub struct Sources<'a> {
+    pub edit: &'a Edit<'a>,
+    pub old: &'a SolvedSizes,
     /// For each component before the edit the numbers of its clauses.
-    pub(crate) own_before: &'a [Sequence<u32>],
+    pub own_before: &'a [Sequence<u32>],
     /// The same after the edit.
-    pub(crate) own: &'a [Sequence<u32>],
+    pub own: &'a [Sequence<u32>],
 }
 
-// Takes the rows of these members, the proofs of these clauses, and the steps.
+/// Takes the rows of these members, the proofs of these clauses, and the steps.
 fn take_part(
     alloc: Global,
     members: &[PredId],
@@ -49,7 +49,8 @@ fn take_part(
     requires own { All (λ k. (1 ≤ k) × (k ≤ length chain.old.sizes.proofs)) own.now }
     requires rows { length chain.old.sizes.rows ≡ length solved.old.sizes.rows }
     requires proofs { length chain.old.sizes.proofs ≡ length solved.old.sizes.proofs }
-    ensures { OnOk result (IsPartTaken (map number_of members.now) own.now chain.old solved.old solved.new) }
+    ensures { OnOk result (IsPartTaken
+        (map number_of members.now) own.now chain.old solved.old solved.new) }
 {
     let sizes = &mut solved.sizes;
     take_rows(alloc, members, &chain.sizes.rows, &mut sizes.rows)?;
@@ -59,55 +60,26 @@ fn take_part(
 }
 
 impl Sources<'_> {
-    // The component of the old clause that the first of these clauses is.
-    fn component_before(&self, own: &[u32]) -> Option<u32>
-        requires edit { IsEdit self.now.edit.now }
-        requires own { AreNumbersIn self.now.edit.now.after.now own.now }
-        ensures below { IfSome result (λ b. b < length self.now.edit.now.components_before.now.members) }
-        ensures kept { IfSome result (IsFirstKeptOf self.now own.now) }
-        ensures lost { IsNone result → (b : ℕ) → IsFirstKeptOf self.now own.now b → ⊥ }
-    {
-        if own.is_empty() {
-            return None;
-        }
-        let first = own[0] as usize - 1;
-        match self.edit.kept[first] {
-            Some(kept) => {
-                let pred = self.edit.before.clause(kept).head.pred;
-                Some(self.edit.components_before.of(pred))
-            }
-            None => None,
-        }
-    }
-
-    // The old component that the component `c` stands for, if it stands, where size rows have come out so far.
-    fn standing(&self, c: u32, rows: &SizeRows) -> Option<u32>
+    /// The old component that the component `c` stands for, if it stands, where these predicates have stayed so far.
+    pub fn standing(&self, c: u32, stayed: &[bool]) -> Option<u32>
         requires sources { AreSources self.now }
-        requires rows { AreSizes self.now.edit.now.after.now.preds rows.now }
+        requires each { length stayed.now ≡ length self.now.edit.now.after.now.preds }
         requires inner { c < length self.now.edit.now.components.now.members }
-        ensures below { IfSome result (λ b. b < length self.now.edit.now.components_before.now.members) }
-        ensures stands { IfSome result (λ b. Stands self.now rows.now b c) }
-        ensures none { IsNone result → (b : ℕ) → Stands self.now rows.now b c → ⊥ }
+        ensures below { IfSome result
+            (λ b. b < length self.now.edit.now.components_before.now.members) }
+        ensures stands { IfSome result (λ b. StandsMarked self.now.edit.now stayed.now b c) }
+        ensures none { IsNone result
+            → (b : ℕ) → StandsMarked self.now.edit.now stayed.now b c → ⊥ }
     {
-        let _program = self.edit.before.clauses();
-        let own = self.own[c as usize].as_slice();
-        let before = self.component_before(own)?;
-        let compared = Compared {
+        let clauses = EditClauses {
             edit: self.edit,
-            before,
-            after: c,
-            rows_before: &self.old.sizes.rows,
-            rows,
+            own_before: self.own_before,
+            own: self.own,
         };
-        let own_before = self.own_before[before as usize].as_slice();
-        if compared.are_same_clauses(own_before, own) {
-            Some(before)
-        } else {
-            None
-        }
+        clauses.standing(c, stayed)
     }
 
-    // Takes over the part of an old component, whose rows and proofs are there already.
+    /// Takes over the part of an old component, whose rows and proofs are there already.
     fn carry(
         &self,
         alloc: Global,
@@ -126,19 +98,26 @@ impl Sources<'_> {
         solved.steps.push(carried)
     }
 
-    // Solves a component above the rows so far.
+    /// Solves a component above the rows so far, and marks the members whose rows stayed.
     fn solve_anew<D: Domain, N: Norm>(
         &self,
         alloc: Global,
         norm: &N,
         c: u32,
         solved: &mut SolvedSizes,
+        stayed: &mut [bool],
     ) -> Result<(), AllocError>
         requires sources { AreSources self.now }
         requires rows { AreSizes self.now.edit.now.after.now.preds solved.old.sizes.rows }
-        requires proofs { length solved.old.sizes.proofs ≡ length self.now.edit.now.after.now.clauses }
+        requires proofs { length solved.old.sizes.proofs
+            ≡ length self.now.edit.now.after.now.clauses }
         requires inner { c < length self.now.edit.now.components.now.members }
-        ensures { OnOk result (IsSolvedAt D.speaks (N.expression norm.now) self.now c solved.old solved.new) }
+        requires each { length stayed.old ≡ length self.now.edit.now.after.now.preds }
+        ensures solved { OnOk result
+            (IsSolvedAt D.speaks (N.expression norm.now) self.now c solved.old solved.new) }
+        ensures marks { OnOk result (AreMarked self.now.edit.now.components.now c
+            (λ r. rows_of solved.new.sizes.rows r
+            ≡ rows_of solved.old.sizes.rows r) stayed.old stayed.new) }
     {
         let components = self.edit.components;
         let mut chain = solve_component::<D, N>(
@@ -149,34 +128,68 @@ impl Sources<'_> {
             norm,
             &solved.sizes,
         )?;
+        mark_same_rows(self.edit, c, &solved.sizes.rows, &chain.sizes.rows, stayed);
         let own = self.own[c as usize].as_slice();
-        take_part(alloc, components.members(c), own, &mut chain, solved)
+        take_part(alloc, components.members(c), own, &mut chain, solved)?;
+        Ok(())
     }
 
-    // Takes over one more component, or solves it.
+    /// Takes over one more component, or solves it. Members whose rows stay are marked.
     fn resolve<D: Domain, N: Norm>(
         &self,
         alloc: Global,
         norm: &N,
         c: u32,
         solved: &mut SolvedSizes,
+        stayed: &mut [bool],
     ) -> Result<(), AllocError>
         requires sources { AreSources self.now }
         requires old { AreSolved D.speaks (N.expression norm.now) self.now.edit.now.before.now
             self.now.edit.now.components_before.now self.now.old.now }
         requires inner { c < length self.now.edit.now.components.now.members }
-        requires solved { AreResolvedTo D.speaks (N.expression norm.now) self.now c solved.old }
-        ensures { OnOk result (AreResolvedTo D.speaks (N.expression norm.now) self.now (c + 1) solved.new) }
+        requires solved { AreResolvedTo D.speaks
+            (N.expression norm.now) self.now c solved.old stayed.old }
+        ensures { OnOk result (AreResolvedTo D.speaks (N.expression norm.now) self.now
+            (c + 1) solved.new stayed.new) }
     {
         let _before = self.edit.before.clauses();
         let _after = self.edit.after.clauses();
-        match self.standing(c, &solved.sizes.rows) {
-            Some(before) => self.carry(alloc, before, c, solved),
-            None => self.solve_anew::<D, N>(alloc, norm, c, solved),
+        match self.standing(c, stayed) {
+            Some(before) => {
+                self.carry(alloc, before, c, solved)?;
+                mark_all(self.edit, c, stayed);
+                Ok(())
+            }
+            None => {
+                self.solve_anew::<D, N>(alloc, norm, c, solved, stayed)?;
+                Ok(())
+            }
         }
     }
 
-    // The same for each component, callees first.
+    /// The same for each component, callees first.
+    fn resolve_each<D: Domain, N: Norm>(
+        &self,
+        alloc: Global,
+        norm: &N,
+        solved: &mut SolvedSizes,
+        stayed: &mut [bool],
+    ) -> Result<(), AllocError>
+        requires sources { AreSources self.now }
+        requires old { AreSolved D.speaks (N.expression norm.now) self.now.edit.now.before.now
+            self.now.edit.now.components_before.now self.now.old.now }
+        requires begun { AreResolvedTo D.speaks
+            (N.expression norm.now) self.now 0 solved.old stayed.old }
+        ensures { OnOk result (AreResolvedTo D.speaks (N.expression norm.now) self.now
+            (length self.now.edit.now.components.now.members) solved.new stayed.new) }
+    {
+        for c in 0..self.edit.components.count() {
+            self.resolve::<D, N>(alloc, norm, c, solved, stayed)?;
+        }
+        Ok(())
+    }
+
+    /// The same from what was there before.
     fn resolve_all<D: Domain, N: Norm>(
         &self,
         alloc: Global,
@@ -185,13 +198,16 @@ impl Sources<'_> {
         requires sources { AreSources self.now }
         requires old { AreSolved D.speaks (N.expression norm.now) self.now.edit.now.before.now
             self.now.edit.now.components_before.now self.now.old.now }
-        ensures { IfOk result (AreResolvedTo D.speaks (N.expression norm.now) self.now
-            (length self.now.edit.now.components.now.members)) }
+        ensures solved { IfOk result
+            (AreSolved D.speaks (N.expression norm.now) self.now.edit.now.after.now
+            self.now.edit.now.components.now) }
+        ensures kept { IfOk result
+            (λ now. KeepValues self.now.edit.now (rows_of self.now.old.now.sizes.rows)
+            (rows_of now.sizes.rows)) }
     {
         let mut solved = carried(alloc, self.edit, self.old)?;
-        for c in 0..self.edit.components.count() {
-            self.resolve::<D, N>(alloc, norm, c, &mut solved)?;
-        }
+        let mut stayed = vec![in alloc; false; self.edit.after.preds() as usize]?;
+        self.resolve_each::<D, N>(alloc, norm, &mut solved, &mut stayed)?;
         Ok(solved)
     }
 }
@@ -207,13 +223,15 @@ pub fn resolve_sizes<D: Domain, N: Norm>(
     old: &SolvedSizes,
 ) -> Result<SolvedSizes, AllocError>
     requires edit { IsEdit edit.now }
-    requires old { AreSolved D.speaks (N.expression norm.now) edit.now.before.now edit.now.components_before.now
+    requires old { AreSolved D.speaks
+        (N.expression norm.now) edit.now.before.now edit.now.components_before.now
         old.now }
 
     // Each component is solved, also where it was taken over. One that stands for an old one has the rows that it had.
     ensures solved { IfOk result (AreSolved D.speaks (N.expression norm.now) edit.now.after.now
         edit.now.components.now) }
-    ensures kept { IfOk result (λ now. KeepValues edit.now (rows_of old.now.sizes.rows) (rows_of now.sizes.rows)) }
+    ensures kept { IfOk result
+        (λ now. KeepValues edit.now (rows_of old.now.sizes.rows) (rows_of now.sizes.rows)) }
 {
     let own_before = own_clauses(alloc, edit.before, edit.components_before)?;
     let own = own_clauses(alloc, edit.after, edit.components)?;

@@ -5,12 +5,10 @@ ghost use Rattle.std.specs.List.{AllByRecursion};
 ghost use Rattle.solved_program.specs.Comparing.{AreNumbersIn, AreTheSameCalls, HaveSameClause, HaveSameClauses};
 ghost use Rattle.solved_program.specs.Comparing.{IsCompared, IsTheSameCall};
 
-use crate::comparing::are_same_rows;
 use crate::edit::Edit;
 use cti_terms::{Atom, PredId};
-use termination_model::SizeRows;
 
-/// A component from before an edit and one from after it, with the size rows then and now.
+/// A component from before an edit and one from after it, with marks of what has stayed.
 #[derive(Clone, Copy)]
 pub(crate) struct Compared<'a> {
     pub(crate) edit: &'a Edit<'a>,
@@ -18,11 +16,11 @@ pub(crate) struct Compared<'a> {
     pub(crate) before: u32,
     /// The component after it.
     pub(crate) after: u32,
-    pub(crate) rows_before: &'a SizeRows,
-    pub(crate) rows: &'a SizeRows,
+    /// For each new predicate whether what was found of it has stayed.
+    pub(crate) stayed: &'a [bool],
 }
 
-// Whether a clause was kept, and had this number.
+/// Whether a clause was kept, and had this number.
 fn is_kept_as(kept: Option<u32>, number: u32) -> bool
     ensures { IsTrue result ↔ (kept ≡ Some number) }
 {
@@ -33,7 +31,7 @@ fn is_kept_as(kept: Option<u32>, number: u32) -> bool
 }
 
 impl Compared<'_> {
-    // Whether both are members of the components, or neither is one and they have the same rows.
+    /// Whether both are members of the components, or neither is one and what was found of it has stayed.
     fn is_same_call(&self, before: PredId, after: PredId) -> bool
         requires compared { IsCompared self.now }
         requires before { before.0 < length self.now.edit.now.before.now.preds }
@@ -46,16 +44,16 @@ impl Compared<'_> {
         if self.edit.components.of(after) == self.after {
             return false;
         }
-        let rows_before = self.rows_before.get(before.0 as usize);
-        let rows = self.rows.get(after.0 as usize);
-        are_same_rows(rows, rows_before)
+        self.stayed[after.0 as usize]
     }
 
-    // The same for the atoms of two bodies, in order.
+    /// The same for the atoms of two bodies, in order.
     fn are_same_calls(&self, before: &[Atom], after: &[Atom]) -> bool
         requires compared { IsCompared self.now }
-        requires before { AllByRecursion (λ b. b.pred.0 < length self.now.edit.now.before.now.preds) before.now }
-        requires after { AllByRecursion (λ b. b.pred.0 < length self.now.edit.now.after.now.preds) after.now }
+        requires before { AllByRecursion
+            (λ b. b.pred.0 < length self.now.edit.now.before.now.preds) before.now }
+        requires after { AllByRecursion
+            (λ b. b.pred.0 < length self.now.edit.now.after.now.preds) after.now }
         ensures { IsTrue result ↔ AreTheSameCalls self.now before.now after.now }
     {
         if before.len() != after.len() {
@@ -69,7 +67,7 @@ impl Compared<'_> {
         true
     }
 
-    // Whether the clause `after` is the clause `before`, and has the same calls.
+    /// Whether the clause `after` is the clause `before`, and has the same calls.
     fn is_same_clause(&self, before: u32, after: u32) -> bool
         requires compared { IsCompared self.now }
         requires first_before { 1 ≤ before }

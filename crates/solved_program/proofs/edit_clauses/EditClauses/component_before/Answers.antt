@@ -1,7 +1,7 @@
 use Rattle.std.proofs.Common.{◌≡◌, ◌<◌, ◌-◌, ◌∙◌, ℕ, ap, arith, get_or, length, None, rules, slice_get, Some}
 use Rattle.termination_model.proofs.Lists.{there}
 use Rattle.solved_program.proofs.Comparisons.{first_kept, first_place, head_below}
-use Rattle.solved_program.proofs.resolving.Sources.component_before.Goals as goal
+use Rattle.solved_program.proofs.edit_clauses.EditClauses.component_before.Goals as goal
 
 pub clause-requires-clause-first : goal.clause-requires-clause-first
 clause-requires-clause-first c =

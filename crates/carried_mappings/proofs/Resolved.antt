@@ -1,0 +1,210 @@
+-- The mappings of a program after an edit, component by component.
+use Rattle.std.proofs.Common.{◌≡◌, ℕ, zero, suc, ◌+◌, ◌-◌, ◌<◌, ◌⊎◌, ℤ, inl, inr, List, [], ◌∷◌, ◌++◌, map, length, slice_get, Bor, Option, None, Some, Ok, Err, refl, ap, sym, subst, ◌∙◌, arith}
+use Rattle.std.specs.Prelude.{IfOk, IfSome, Result}
+use Rattle.std.specs.List.{AllByRecursion}
+use Rattle.call_components.specs.Partition.{Partition, AreComponents, IsIn}
+use Rattle.cti_terms.specs.Listing.{Listing, IsProgram}
+use Rattle.cti_terms.specs.declared.clauses.Clause.{Clause}
+use Rattle.linear_rows.specs.Members.{In}
+use Rattle.cti_terms.specs.Tree.{Tree}
+use Rattle.numeric_model.specs.Running.{AreOwnClauses}
+use Rattle.termination_model.specs.Chain.{clauses_of}
+use Rattle.termination_model.specs.ComponentViews.{members_in}
+use Rattle.termination_model.specs.Sizes.{rows_of}
+use Rattle.level_systems.specs.Mappings.{IsMappingOf}
+use Rattle.level_systems.specs.declared.found.Found.{Found}
+use Rattle.level_systems.specs.declared.mapping.Mapping.{Mapping}
+use Rattle.level_systems.specs.declared.measure.Measure.{Measure}
+use Rattle.solved_program.specs.Resolving.{Stands}
+use Rattle.solved_program.specs.Standing.{AreSameClauses, StandsFor}
+use Rattle.solved_program.specs.Kept.{AreKept}
+use Rattle.solved_program.specs.declared.edit.Edit.{Edit}
+use Rattle.solved_program.proofs.Pairs.{pair_back}
+use Rattle.solved_program.proofs.Clauses.{own_at, own_component}
+use Rattle.carried_mappings.specs.Carrying.{AreOwn, CarriesOver, IsStanding, new_number}
+use Rattle.carried_mappings.specs.Moved.{moved, moved_found}
+use Rattle.carried_mappings.specs.Order.{HaveSameOrder}
+use Rattle.carried_mappings.specs.FoundMappings.{AreFoundTo, AreKeptFound, AreMappingSources, IsCarriedAt, IsFoundAt, IsKept, carried_over, number_in}
+use Rattle.carried_mappings.specs.declared.resolving.MappingSources.{MappingSources}
+use Rattle.carried_mappings.specs.declared.standing.Standing.{Standing}
+use Rattle.carried_mappings.proofs.Carries.{own_numbers}
+use Rattle.carried_mappings.proofs.Numbers.{Numbered, numbers_of}
+
+pub own_of : (p : Listing) (comps : Partition) (lists : List (List ℕ)) → AreOwnClauses p comps lists → (c : ℕ) (own : List ℕ) → slice_get lists c ≡ Some own → AreOwn p comps c own
+own_of p comps lists are c own at = record { within = are.within c own at; clauses = are.clauses c own at }
+
+pub if_some_is : {X : Type 0} (o : Option X) (P Q : X → Type 0) → ((x : X) → P x → Q x) → IfSome o P → IfSome o Q
+if_some_is None P Q h i = i
+if_some_is (Some x) P Q h i = h x i
+
+-- clauses that are the same are as many
+as_many : {X : Type 0} (comps new_comps : Partition) (b c : ℕ) (old now : ℕ → X) (kept : List (Option ℕ)) (ks ls : List Numbered) → AreSameClauses comps new_comps b c old now kept ks ls
+    → length (numbers_of ks) ≡ length (numbers_of ls)
+as_many comps new_comps b c old now kept [] [] h = refl
+as_many comps new_comps b c old now kept [] (l ∷ ls) h = absurd h
+as_many comps new_comps b c old now kept (k ∷ ks) [] h = absurd h
+as_many comps new_comps b c old now kept (k ∷ ks) (l ∷ ls) h = ap suc (as_many comps new_comps b c old now kept ks ls h.1)
+
+-- a component that stands, as it is carried
+abbrev pub standing_at : MappingSources → ℕ → ℕ → Bor (List ℕ) → Bor (List ℕ) → Standing
+standing_at s b c own_before own = record {
+  edit = s.sources.edit;
+  before = b;
+  after = c;
+  own_before = own_before;
+  own = own;
+}
+
+-- ---- a component stands for one old component at most
+one_before : (p new : Listing) (comps new_comps : Partition) (prog : IsProgram p) (new_prog : IsProgram new) (are : AreComponents p comps) (new_are : AreComponents new new_comps)
+    (kept : List (Option ℕ)) (are_kept : AreKept p new kept) (b d c : ℕ) (old now : ℕ → List (List ℤ)) → StandsFor comps new_comps b c old now p new kept → StandsFor comps new_comps d c old now p new kept → b ≡ d
+one_before p new comps new_comps prog new_prog are new_are kept are_kept b d c old now x y = go (clauses_of new new_comps c) refl
+  where
+    go : (ls : List Numbered) → clauses_of new new_comps c ≡ ls → b ≡ d
+    go [] e = absurd (x.some e)
+    go (l ∷ ls) e =
+        let i : In l (clauses_of new new_comps c) = subst (In l) (sym e) (inl refl) in
+        let k = pair_back p new comps new_comps prog new_prog are new_are kept are_kept b c old now (clauses_of p comps b) (clauses_of new new_comps c) x.clauses l i in
+        let j = pair_back p new comps new_comps prog new_prog are new_are kept are_kept d c old now (clauses_of p comps d) (clauses_of new new_comps c) y.clauses l i in
+        let first = k.2.kept_as in
+        let second = j.2.kept_as in
+        let number : k.0.0 ≡ j.0.0 = cc in
+        let at = own_at p comps prog are b k.0 k.1 in
+        let there : slice_get p.clauses (k.0.0 - 1) ≡ Some j.0.1 = ap (λ (n : ℕ). slice_get p.clauses (n - 1)) number ∙ own_at p comps prog are d j.0 j.1 in
+        let clause : k.0.1 ≡ j.0.1 = cc in
+        let here = own_component p comps prog are b k.0 k.1 in
+        let also : IsIn comps d k.0.1.head.pred.0 = ap (λ (z : Clause). slice_get comps.of z.head.pred.0) clause ∙ own_component p comps prog are d j.0 j.1 in
+        cc
+
+module _ (s : MappingSources) (are : AreMappingSources s) (b c : ℕ) (stands : Stands s.sources s.sizes.now.rows b c)
+    (prog : IsProgram s.sources.edit.now.before.now) (new_prog : IsProgram s.sources.edit.now.after.now) where
+  one_standing : (d : ℕ) → Stands s.sources s.sizes.now.rows d c → d ≡ b
+  one_standing d other =
+      let e = s.sources.edit.now in
+      one_before e.before.now e.after.now e.components_before.now e.components.now prog new_prog are.sources.edit.components_before are.sources.edit.components e.kept.now are.sources.edit.kept d b c
+      (rows_of s.sources.old.now.sizes.rows) (rows_of s.sizes.now.rows) other stands
+
+  -- where nothing was found of the old component, there is nothing to keep
+  pub none_kept : slice_get s.found.now b ≡ Some None → IsKept s c None
+  none_kept none d x other order found =
+      let here : slice_get s.found.now b ≡ Some (Some x) = ap (slice_get s.found.now) (sym (one_standing d other)) ∙ found in
+      cc
+
+module _ (s : MappingSources) (are : AreMappingSources s) (b c : ℕ) (inner_before : b < length s.sources.edit.now.components_before.now.members) (inner : c < length s.sources.edit.now.components.now.members)
+    (stands : Stands s.sources s.sizes.now.rows b c) (own_before own : Bor (List ℕ)) (at_before : slice_get s.sources.own_before.now b ≡ Some own_before.now) (at : slice_get s.sources.own.now c ≡ Some own.now) where
+  abbrev p : Listing
+  p = s.sources.edit.now.before.now
+
+  abbrev new : Listing
+  new = s.sources.edit.now.after.now
+
+  abbrev comps : Partition
+  comps = s.sources.edit.now.components_before.now
+
+  abbrev new_comps : Partition
+  new_comps = s.sources.edit.now.components.now
+
+  pub standing_is : IsStanding (standing_at s b c own_before own)
+  standing_is =
+      let old_own = own_of p comps s.sources.own_before.now are.sources.own_before b own_before.now at_before in
+      let new_own = own_of new new_comps s.sources.own.now are.sources.own c own.now at in
+      record {
+        edit = are.sources.edit;
+        before = inner_before;
+        after = inner;
+        own_before = old_own;
+        own = new_own;
+        each = ap length (own_numbers p comps b own_before.now old_own)
+            ∙ as_many comps new_comps b c (rows_of s.sources.old.now.sizes.rows) (rows_of s.sizes.now.rows) s.sources.edit.now.kept.now (clauses_of p comps b) (clauses_of new new_comps c) stands.clauses
+            ∙ sym (ap length (own_numbers new new_comps c own.now new_own));
+      }
+
+  pub carried_is : (x y : Found) → slice_get s.found.now b ≡ Some (Some x) → CarriesOver (standing_at s b c own_before own) x y → IsCarriedAt s c y
+  carried_is x y found over expression old kept =
+      over expression (rows_of s.sources.old.now.sizes.rows) (rows_of s.sizes.now.rows) stands (kept b c inner stands) (old.found b (Some x) found)
+
+  -- ---- what is kept
+  module _ (prog : IsProgram p) (new_prog : IsProgram new) where
+    abbrev e : Edit
+    e = s.sources.edit.now
+
+    one : (d : ℕ) → Stands s.sources s.sizes.now.rows d c → d ≡ b
+    one d other = one_standing s are b c stands prog new_prog d other
+
+    numbers_same : number_in e b c ≡ new_number (standing_at s b c own_before own)
+    numbers_same =
+        let old_own = own_of p comps s.sources.own_before.now are.sources.own_before b own_before.now at_before in
+        let new_own = own_of new new_comps s.sources.own.now are.sources.own c own.now at in
+        let first = own_numbers p comps b own_before.now old_own in
+        let second = own_numbers new new_comps c own.now new_own in
+        (λ i n. moved (sym first i) (sym second i) n)
+
+    moved_kept : (y z : Found) → slice_get s.found.now b ≡ Some (Some y) → z ≡ moved_found (new_number (standing_at s b c own_before own)) (members_in new_comps c) y → IsKept s c (Some z)
+    moved_kept y z at_y is d x other order found =
+        let same = one d other in
+        let here : slice_get s.found.now b ≡ Some (Some x) = ap (slice_get s.found.now) (sym same) ∙ found in
+        let equal : y ≡ x = cc in
+        ap Some (is ∙ ap (λ (g : ℕ → ℕ). moved_found g (members_in new_comps c) y) (sym numbers_same) ∙ ap (carried_over e b c) equal ∙ ap (λ (n : ℕ). carried_over e n c x) (sym same))
+
+    pub carry_kept : {E : Type 0} (y : Found) → slice_get s.found.now b ≡ Some (Some y) → (r : Result (Option Found) E)
+        → IfOk r (λ o. IfSome o (λ z. z ≡ moved_found (new_number (standing_at s b c own_before own)) (members_in new_comps c) y))
+        → IfOk r (λ o. o ≡ None → HaveSameOrder e b c → ⊥) → IfOk r (IsKept s c)
+    carry_kept y at_y (Ok (Some z)) is out = moved_kept y z at_y is
+    carry_kept y at_y (Ok None) is out = λ d x other order found. absurd (out refl (subst (λ (n : ℕ). HaveSameOrder e n c) (one d other) order))
+    carry_kept y at_y (Err f) is out = tt
+
+-- what is searched, where there is none to carry
+pub search_kept : {E : Type 0} (s : MappingSources) (c : ℕ) → IsKept s c None → (r : Result (Option Found) E) → IfOk r (IsKept s c)
+search_kept s c none (Ok o) = λ d x stands order found. let no_one = none d x stands order found in cc
+search_kept s c none (Err f) = tt
+
+pub if_ok_some : {X E : Type 0} (P Q : X → Type 0) → ((x : X) → P x → Q x) → (r : Result (Option X) E) → IfOk r (λ o. IfSome o P) → IfOk r (λ o. IfSome o Q)
+if_ok_some P Q to (Ok None) h = tt
+if_ok_some P Q to (Ok (Some x)) h = to x h
+if_ok_some P Q to (Err e) h = tt
+
+-- ---- one more component
+pushed : {X : Type 0} (xs : List X) (y : X) (i : ℕ) (x : X) → slice_get (xs ++ y ∷ []) i ≡ Some x → (slice_get xs i ≡ Some x) ⊎ ((i ≡ length xs) × (y ≡ x))
+pushed [] y zero x e = inr (refl, cc)
+pushed [] y (suc i) x e = cc
+pushed (z ∷ xs) y zero x e = inl e
+pushed (z ∷ xs) y (suc i) x e = elim (pushed xs y i x e) [
+  | inl old ↦ inl old
+  | inr last ↦ inr (ap suc last.0, last.1)
+]
+
+longer : {X : Type 0} (xs : List X) (y : X) → length (xs ++ y ∷ []) ≡ length xs + 1
+longer [] y = refl
+longer (x ∷ xs) y = let more = longer xs y in omega arith
+
+module _ (expression : ℕ → Tree → List ℤ) (p : Listing) (comps : Partition) (rows : ℕ → List (List ℤ)) where
+  pub none_found : AreFoundTo expression p comps rows 0 []
+  none_found = record { each = refl; found = λ c o at. cc }
+
+  pub found_more : (n : ℕ) (fs : List (Option Found)) (o : Option Found) → AreFoundTo expression p comps rows n fs → IsFoundAt expression p comps rows n o → AreFoundTo expression p comps rows (n + 1) (fs ++ o ∷ [])
+  found_more n fs o are is = record {
+    each = longer fs o ∙ (let e = are.each in omega arith);
+    found = λ c x at. elim (pushed fs o c x at) [
+      | inl old ↦ are.found c x old
+      | inr last ↦
+          let place : n ≡ c = sym are.each ∙ sym last.0 in
+          subst (λ (z : ℕ). IsFoundAt expression p comps rows z x) place (subst (IsFoundAt expression p comps rows n) last.1 is)
+    ];
+  }
+
+-- ---- parts for each member
+module _ (expression : ℕ → Tree → List ℤ) (p : Listing) (comps : Partition) (rows : ℕ → List (List ℤ)) (c : ℕ) where
+  pub parts_of : (ms : List Mapping) → AllByRecursion (IsMappingOf expression p rows comps c) ms → AllByRecursion (λ (m : Mapping). map (λ (y : Measure). y.pred.0) m.measures ≡ members_in comps c) ms
+  parts_of [] h = tt
+  parts_of (m ∷ ms) h = (h.0.measures.each, parts_of ms h.1)
+
+pub kept_none : (s : MappingSources) → AreKeptFound s []
+kept_none s c o at = cc
+
+pub kept_more : (s : MappingSources) (n : ℕ) (fs : List (Option Found)) (o : Option Found) → length fs ≡ n → AreKeptFound s fs → IsKept s n o → AreKeptFound s (fs ++ o ∷ [])
+kept_more s n fs o l are is c x at = elim (pushed fs o c x at) [
+  | inl old ↦ are c x old
+  | inr last ↦
+      let place : n ≡ c = sym l ∙ sym last.0 in
+      subst (λ (z : ℕ). IsKept s z x) place (subst (IsKept s n) last.1 is)
+]

@@ -1,0 +1,97 @@
+-- Private.
+-- What is found of the mappings of a program's components.
+--
+-- To believe: `AreFound`, `KeepFound`.
+use Rattle.std.specs.Prelude.{◌≡◌, ℕ, ℤ, false, List, length, map, slice_get, Option, None, Some}
+use Rattle.std.specs.List.{AllByRecursion}
+use Rattle.call_components.specs.Partition.{Partition}
+use Rattle.cti_terms.specs.Listing.{Listing}
+use Rattle.cti_terms.specs.Tree.{Tree}
+use Rattle.cti_terms.specs.declared.clauses.Clause.{Clause}
+use Rattle.termination_model.specs.Chain.{clauses_of}
+use Rattle.termination_model.specs.ComponentViews.{members_in}
+use Rattle.termination_model.specs.Sizes.{AreSizes, rows_of}
+use Rattle.level_systems.specs.Found.{IsFound}
+use Rattle.level_systems.specs.declared.found.Found.{Found}
+use Rattle.level_systems.specs.declared.mapping.Mapping.{Mapping}
+use Rattle.level_systems.specs.declared.measure.Measure.{Measure}
+use Rattle.solved_program.specs.Marks.{AreMarkedTo}
+use Rattle.solved_program.specs.Resolving.{AreSources}
+use Rattle.solved_program.specs.Standing.{KeepValues, StandsFor}
+use Rattle.solved_program.specs.declared.edit.Edit.{Edit}
+use Rattle.carried_mappings.specs.Moved.{moved, moved_found}
+use Rattle.carried_mappings.specs.Order.{HaveSameOrder}
+use Rattle.carried_mappings.specs.declared.resolving.MappingSources.{MappingSources}
+
+module _ (expression : ℕ → Tree → List ℤ) (p : Listing) (comps : Partition) (rows : ℕ → List (List ℤ)) where
+  -- what is found of a component: nothing, where it is not recursive
+  abbrev pub IsFoundAt : ℕ → Option Found → Type 0
+  IsFoundAt c None = slice_get comps.recursive c ≡ Some false
+  IsFoundAt c (Some f) = IsFound expression p comps rows c f
+
+  -- what is found of the components below n
+  pub record AreFoundTo (n : ℕ) (fs : List (Option Found)) : Type 0 where
+    pub each : length fs ≡ n
+    pub found : (c : ℕ) (o : Option Found) → slice_get fs c ≡ Some o → IsFoundAt c o
+
+  -- of all of them
+  abbrev pub AreFound : List (Option Found) → Type 0
+  AreFound fs = AreFoundTo (length comps.members) fs
+
+-- an edit with the size rows of both programs, marks of the predicates whose rows stayed, and what was found of the old
+-- components, whose mappings have a part for each member
+pub record AreMappingSources (s : MappingSources) : Type 0 where
+  pub sources : AreSources s.sources
+  pub rows : AreSizes s.sources.edit.now.after.now.preds s.sizes.now.rows
+  pub stayed : AreMarkedTo s.sources.edit.now (length s.sources.edit.now.components.now.members)
+      (rows_of s.sources.old.now.sizes.rows) (rows_of s.sizes.now.rows) s.stayed.now
+  pub each : length s.found.now ≡ length s.sources.edit.now.components_before.now.members
+  pub parts : (c : ℕ) (x : Found) → slice_get s.found.now c ≡ Some (Some x)
+      → AllByRecursion (λ (m : Mapping).
+      map (λ (y : Measure). y.pred.0) m.measures ≡ members_in s.sources.edit.now.components_before.now c) x.mappings
+
+abbrev pub FoundBefore : (ℕ → Tree → List ℤ) → MappingSources → Type 0
+FoundBefore expression s =
+    AreFound expression s.sources.edit.now.before.now s.sources.edit.now.components_before.now (rows_of s.sources.old.now.sizes.rows)
+    s.found.now
+
+abbrev pub ValuesAreKept : MappingSources → Type 0
+ValuesAreKept s = KeepValues s.sources.edit.now (rows_of s.sources.old.now.sizes.rows) (rows_of s.sizes.now.rows)
+
+-- this is found of the component c, by each norm by which the old ones were found
+abbrev pub IsCarriedAt : MappingSources → ℕ → Found → Type 0
+IsCarriedAt s c x = (expression : ℕ → Tree → List ℤ) → FoundBefore expression s → ValuesAreKept s
+    → IsFound expression s.sources.edit.now.after.now s.sources.edit.now.components.now (rows_of s.sizes.now.rows) c x
+
+-- the numbers of a component's clauses
+abbrev pub clause_numbers : Listing → Partition → ℕ → List ℕ
+clause_numbers p comps c = map (λ (k : ℕ × Clause). k.0) (clauses_of p comps c)
+
+-- the number in the second component of a clause that both have
+abbrev pub number_in : Edit → ℕ → ℕ → ℕ → ℕ
+number_in e b c = moved (clause_numbers e.before.now e.components_before.now b) (clause_numbers e.after.now e.components.now c)
+
+-- what was found of the component b, under the numbers of the component c
+abbrev pub carried_over : Edit → ℕ → ℕ → Found → Found
+carried_over e b c x = moved_found (number_in e b c) (members_in e.components.now c) x
+
+-- Where the component c stands for an old one, with its members in the same order, this is what was found of that one.
+abbrev pub IsKeptAt : Edit → (ℕ → List (List ℤ)) → (ℕ → List (List ℤ)) → List (Option Found) → ℕ → Option Found → Type 0
+IsKeptAt e rows_before rows found c o =
+    (b : ℕ) (x : Found)
+    → StandsFor e.components_before.now e.components.now b c rows_before rows e.before.now e.after.now e.kept.now
+    → HaveSameOrder e b c → slice_get found b ≡ Some (Some x)
+    → o ≡ Some (carried_over e b c x)
+
+-- so it is with each of these
+abbrev pub KeepFound : Edit → (ℕ → List (List ℤ)) → (ℕ → List (List ℤ)) → List (Option Found) → List (Option Found) → Type 0
+KeepFound e rows_before rows found now =
+    (c : ℕ) (o : Option Found) → slice_get now c ≡ Some o → IsKeptAt e rows_before rows found c o
+
+-- the same of what mappings are made from
+abbrev pub IsKept : MappingSources → ℕ → Option Found → Type 0
+IsKept s c o = IsKeptAt s.sources.edit.now (rows_of s.sources.old.now.sizes.rows) (rows_of s.sizes.now.rows) s.found.now c o
+
+abbrev pub AreKeptFound : MappingSources → List (Option Found) → Type 0
+AreKeptFound s now =
+    KeepFound s.sources.edit.now (rows_of s.sources.old.now.sizes.rows) (rows_of s.sizes.now.rows) s.found.now now

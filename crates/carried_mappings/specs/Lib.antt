@@ -1,0 +1,4 @@
+pub mod Carrying
+pub mod FoundMappings
+pub mod Moved
+pub mod Order
