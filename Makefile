@@ -13,9 +13,7 @@ CONVERTER = $(SHARE)/cti/swi
 CONVERTER_FILES = components.pl cti.pl cti_file.pl pure_program.pl real_builtins.pl real_goals.pl real_source.pl
 
 bin/cti: $(shell find crates -name '*.rt' -o -name '*.antt' | grep -v /out/) crates.txt
-	@echo "Every function is proved before the program is built: about half an hour on four processors the first time, and only"
-	@echo "what changed after that. Each line says which crate is proved."
-	rt all check --jobs $(JOBS)
+	@tools/build.py $(JOBS)
 	cd crates/cti && rt run -- infer ../../examples/facts.pl
 	mkdir -p bin
 	cp crates/cti/out/cti bin/cti

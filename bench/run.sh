@@ -1,9 +1,9 @@
 #!/usr/bin/env bash
 # Times `cti run` beside SWI-Prolog with its occurs check on, outside the gate: naive reverse of 900 elements, all permutations of 8,
 # six queens, and all splits of a list of 600. Both go through all answers of the same query, once without writing any and once writing
-# all. Then it times `cti run` alone on what once took it long: a counter beside a result that stays a variable, and two terms of 200
-# levels that share their parts. Times are the least of seven runs, in seconds of the processor; those of `cti` are of the whole
-# process, and so is its memory, from which that of a run of one step is taken.
+# all. Then it times `cti run` alone on what once took it long or much memory: a counter beside a result that stays a variable, answers
+# that share a great term, and two terms of 200 levels that share their parts. Times are the least of seven runs, in seconds of the
+# processor; those of `cti` are of the whole process, and so is its memory, from which that of a run of one step is taken.
 # Usage: bench/run.sh [PROGRAM]     (PROGRAM is bin/cti where none is named)
 set -eu
 cd "$(dirname "$0")/.."
@@ -28,6 +28,7 @@ QUEENS = PERM + (
     "diff(0,s(_)).\ndiff(s(_),0).\ndiff(s(X),s(Y)) :- diff(X,Y).\nplus(0,Y,Y).\nplus(s(X),Y,s(Z)) :- plus(X,Y,Z).\n"
 )
 COUNTER = "c(R,N) :- c(R,s(N)).\n"
+DOUBLED = "d0(a).\n" + "".join(f"d{k + 1}(f(T,T)) :- d{k}(T).\n" for k in range(15)) + "n(0).\nn(s(X)) :- n(X).\n"
 SHARED = "pair(0,X,X).\npair(s(N),X,T) :- pair(N,f(X,X),T).\nboth(N) :- pair(N,_,S), pair(N,_,T), S = T.\n"
 RUNS = 7
 
@@ -48,6 +49,7 @@ CASES = [
 ]
 ALONE = [
     ("counter beside a result", COUNTER, "c(R,0)", 100_000),
+    ("answers that share a term of 65,535 nodes", DOUBLED, "d15(T), n(X)", 450),
     ("shared terms of 200 levels", SHARED, f"both({number(200)})", 1_000_000),
 ]
 

@@ -4,6 +4,9 @@
 usage: tools/believe.py            a count of lines for each rank, and the files of each rank
        tools/believe.py --names    each definition by itself
        tools/believe.py --mark     writes each file's rank into its first line
+       tools/believe.py --text RANK [RANK ..]
+                                   the definitions of these ranks (yes, modes, reading, command, lists, loop, sessions, procedures), each behind
+                                   those that it uses; with `yes` the worked examples of terms, unification and resolution behind them
 
 The ranks, each without those before: *for a Yes* (queries that meet a printed mode end), *for the modes* (the printed modes are exactly
 the minimal ones), *for reading* (which program or query a text is, or where its fault is), *for the command* (all else that `command`
@@ -27,7 +30,7 @@ SESSIONS = [("cti_top", "Sessions", None)]
 LOOP = [("cti_top", "Loops", None), ("loop_finder", "Finding", ["IsLooked"]), ("loop_finder", "Loop", ["GoesOn"]), ("cti_terms", "MostGeneral", None)]
 PROCEDURES = {
     "linear_rows": {"Elimination", "Equation", "Cleaning", "Step", "Blown", "Solving", "Systems", "Irredundant"},
-    "termination_model": {"BlownSupports", "SupportSystem", "ChainSteps", "Replacing", "Systems"},
+    "termination_model": {"BlownSupports", "SupportSystem", "ChainLicences", "Replacing", "ShortSystems"},
     "fourier": None,
 }
 
@@ -116,6 +119,58 @@ def mark(specs, ranks):
         path.write_text("\n".join([MARKS[rank]] + lines))
 
 
+# The words of the command line for the ranks, and the worked examples of what a Yes rests on.
+WORDS = {
+    "yes": "for a Yes", "modes": "for the modes", "reading": "for reading", "command": "for the command", "procedures": "procedures",
+    "lists": "for the modes by lists", "loop": "for a loop", "sessions": "for sessions",
+}
+EXAMPLES = [("cti_terms", "Examples"), ("cti_terms", "ArithmeticExamples")]
+
+
+def in_order(specs, wanted):
+    """The files of some definitions, each behind those whose wanted definitions it uses."""
+    keys = sorted({key for key, _ in wanted})
+    before = {key: {(crate, module) for crate, module, name in specs.uses[key].values() if ((crate, module), name) in wanted} - {key} for key in keys}
+    order, seen = [], set()
+
+    def visit(key):
+        if key not in seen:
+            seen.add(key)
+            for other in sorted(before[key]):
+                visit(other)
+            order.append(key)
+
+    for key in keys:
+        visit(key)
+    return order
+
+
+def head(path):
+    """A file's first comment."""
+    lines = []
+    for line in path.read_text().split("\n"):
+        if not line.startswith("--"):
+            break
+        lines.append(line)
+    return lines
+
+
+def print_text(specs, wanted, examples):
+    """Prints definitions file by file, in the order of in_order, and then the worked examples."""
+    for key in in_order(specs, wanted):
+        path = top / "crates" / key[0] / "specs" / f"{key[1]}.antt"
+        print(f"\n-- ==== {key[0]}/specs/{key[1]}.antt")
+        first = head(path)
+        print("\n".join(line for line in first if line not in MARKS.values() and not line.startswith("-- To believe")))
+        for name, lines in specs.files[key].items():
+            if (key, name) in wanted:
+                print("\n" + "\n".join(lines[len(first):] if lines[:len(first)] == first else lines))
+    for crate, module in examples:
+        path = top / "crates" / crate / "proofs" / f"{module}.antt"
+        print(f"\n-- ==== {crate}/proofs/{module}.antt")
+        print("\n".join(line for line in path.read_text().split("\n") if not line.startswith("use ")))
+
+
 def main():
     specs = Specs()
 
@@ -139,6 +194,12 @@ def main():
     ranks.append(("private", everything - known - command - procedures - lists - loop - sessions))
     if "--mark" in sys.argv:
         mark(specs, ranks)
+        return
+    if "--text" in sys.argv:
+        words = sys.argv[sys.argv.index("--text") + 1:]
+        titles = {WORDS[word] for word in words}
+        wanted = set().union(*(found for title, found in ranks if title in titles))
+        print_text(specs, wanted, EXAMPLES if "yes" in words else [])
         return
     for title, found in ranks:
         lines = sum(len(specs.files[key][name]) for key, name in found)

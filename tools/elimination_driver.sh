@@ -1,5 +1,5 @@
 #!/usr/bin/env bash
-# Builds a program that eliminates and solves systems of rows, for the bench and for comparisons, outside the gate.
+# Builds a program that eliminates and solves systems of rows, for the bench, outside the gate.
 # It reads lines `kind width variable numbers ..`: kind 0 is an elimination, kind 1 a solving by elimination, kind 2 one by
 # pivots, and kind 3 only reads the line; each row is its constant and then its coefficients. It answers a line for each.
 # Usage: tools/elimination_driver.sh FOLDER      (prints the program's path)
