@@ -197,6 +197,8 @@ def main():
         return
     if "--text" in sys.argv:
         words = sys.argv[sys.argv.index("--text") + 1:]
+        if not words or not set(words) <= set(WORDS):
+            sys.exit(f"--text takes ranks: {' '.join(WORDS)}")
         titles = {WORDS[word] for word in words}
         wanted = set().union(*(found for title, found in ranks if title in titles))
         print_text(specs, wanted, EXAMPLES if "yes" in words else [])

@@ -29,14 +29,15 @@ def main():
     else:
         print("From nothing that takes about half an hour on four processors, and about two hours on one.")
     begun = time.monotonic()
-    name, said = "", {}
+    name, begun_crates, said = "", 0, {}
     run = subprocess.Popen(["rt", "all", "check", "--jobs", jobs], cwd=top, stdout=subprocess.PIPE, stderr=subprocess.STDOUT, text=True)
     for line in run.stdout:
         if line.startswith("== "):
             name = line[3:].strip()
             said[name] = []
             if name != "summary":
-                print(f"[{len(said)} of {count}] {name}, after {minutes(time.monotonic() - begun)}", flush=True)
+                begun_crates += 1
+                print(f"[{begun_crates} of {count}] {name}, after {minutes(time.monotonic() - begun)}", flush=True)
         said.setdefault(name, []).append(line)
     if run.wait():
         well = {line.split(":")[0] for line in said.get("summary", []) if line.strip().endswith(": ok")}
