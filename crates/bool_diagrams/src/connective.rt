@@ -1,4 +1,5 @@
-// What joins two truth values to one, and its answers that need no node.
+//! What joins two truth values to one, and its answers that need no node.
+
 ghost use Rattle.std.specs.Prelude.{◌≡◌, ◌<◌, ◌≤◌, IfNone, IfSome, List, ℕ};
 ghost use Rattle.bool_diagrams.specs.Joins.{IsDecided, Joins, absorbing, neutral, with_itself};
 ghost use Rattle.bool_diagrams.specs.Rows.{IsOf};
@@ -12,7 +13,7 @@ pub(crate) enum Connective {
 }
 
 impl Connective {
-    // The constant that leaves the other operand as it is.
+    /// The constant that leaves the other operand as it is.
     fn neutral(self) -> u64
         ensures { result ≡ neutral self }
     {
@@ -22,7 +23,7 @@ impl Connective {
         }
     }
 
-    // The constant that decides alone, where there is one.
+    /// The constant that decides alone, where there is one.
     fn absorbing(self) -> Option<u64>
         ensures { result ≡ absorbing self }
     {
@@ -33,7 +34,7 @@ impl Connective {
         }
     }
 
-    // What a diagram and itself give.
+    /// What a diagram and itself give.
     pub(crate) fn with_itself(self, a: u64) -> u64
         ensures { result ≡ with_itself self a }
     {
@@ -43,7 +44,7 @@ impl Connective {
         }
     }
 
-    // The answer where an operand is a constant that decides, or both are the same.
+    /// The answer where an operand is a constant that decides, or both are the same.
     pub(crate) fn decided(self, a: u64, b: u64) -> Option<u64>
         ensures some { IfSome result (IsDecided self a b) }
         ensures none { IfNone result (a < 2 → 2 ≤ b) }

@@ -1,4 +1,5 @@
-// A way through a diagram to the constant that has every row.
+//! A way through a diagram to the constant that has every row.
+
 ghost use Rattle.std.specs.Prelude.{◌≡◌};
 
 use std::marker::Model;

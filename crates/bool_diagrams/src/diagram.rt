@@ -1,4 +1,4 @@
-// What a table hands out.
+//! What a table hands out.
 
 /// A set of rows, by its number in the table that gave it.
 #[derive(Clone, Copy, PartialEq, Eq)]

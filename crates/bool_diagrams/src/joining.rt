@@ -1,4 +1,5 @@
-// Joining two diagrams row by row.
+//! Joining two diagrams row by row.
+
 ghost use Rattle.std.specs.Prelude.{◌≡◌, ◌&&◌, ◌||◌, Bool, IfOk, IfSome, not, ℕ};
 ghost use Rattle.bool_diagrams.specs.Joins.{IsRight, Joins};
 ghost use Rattle.bool_diagrams.specs.Rows.{IsDiagram, IsOf, Keeps, holds, iff};
@@ -60,7 +61,7 @@ impl Table {
         self.joined(Connective::Iff, a, nothing)
     }
 
-    // A whole operation.
+    /// A whole operation.
     fn joined(
         &mut self,
         connective: Connective,
@@ -75,7 +76,7 @@ impl Table {
         Ok(Diagram(self.join(connective, a.0, b.0)?))
     }
 
-    // The diagram that joins two.
+    /// The diagram that joins two.
     pub(crate) fn join(&mut self, connective: Connective, a: u64, b: u64) -> Result<u64, AllocError>
         requires left { IsOf self.old a }
         requires right { IsOf self.old b }
@@ -85,10 +86,10 @@ impl Table {
         self.join_down(connective, a, b, true)
     }
 
-    // The diagram that joins two, by their first variable. It goes one variable deeper at each call.
-    //
-    // The memo serves every second step: one between is taken anew in less time than an answer takes to be kept, and
-    // leads to two steps that the memo serves.
+    /// The diagram that joins two, by their first variable. It goes one variable deeper at each call.
+    ///
+    /// The memo serves every second step: one between is taken anew in less time than an answer takes to be kept, and
+    /// leads to two steps that the memo serves.
     fn join_down(
         &mut self,
         connective: Connective,
@@ -118,7 +119,7 @@ impl Table {
         Ok(number)
     }
 
-    // What the memo has, at a step that it serves.
+    /// What the memo has, at a step that it serves.
     fn recall_where(&mut self, served: bool, key: Key) -> Option<u64>
         ensures same { self.new ≡ self.old }
         ensures right { IfSome result (IsRight self.old key) }
@@ -126,7 +127,7 @@ impl Table {
         if served { self.recall(key) } else { None }
     }
 
-    // Keeps an answer in the memo, at a step that it serves.
+    /// Keeps an answer in the memo, at a step that it serves.
     fn remember_where(&mut self, served: bool, key: Key, number: u64)
         requires { IsRight self.old key number }
         ensures { self.new ≡ self.old }

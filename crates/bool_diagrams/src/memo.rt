@@ -1,4 +1,5 @@
-// The answers that a table's operations have found so far, by operation and operands.
+//! The answers that a table's operations have found so far, by operation and operands.
+
 ghost use Rattle.std.specs.Prelude.{◌≡◌, ◌⊎◌, ℕ, Contains, IfOk, IfSome, []};
 ghost use Rattle.std.specs.Hash as fed;
 ghost use Rattle.bool_diagrams.specs.Joins.{operands};
@@ -21,7 +22,7 @@ pub(crate) enum Key {
 }
 
 impl Key {
-    // The operands as one number.
+    /// The operands as one number.
     fn operands(self) -> u128
         ensures { result ≡ operands self }
     {
@@ -55,6 +56,7 @@ pub(crate) struct Memo {
 }
 
 impl Memo {
+    /// A memo without answers.
     pub(crate) fn new(alloc: Global) -> Result<Memo, AllocError>
         ensures { IfOk result (λ memo. memo.answers.entries ≡ []) }
     {

@@ -1,4 +1,5 @@
-// A node of a table.
+//! A node of a table.
+
 ghost use Rattle.std.specs.Prelude.{◌≡◌};
 ghost use Rattle.std.specs.Hash as fed;
 ghost use Rattle.std.specs.Cmp.Rules.{hashing};
@@ -16,7 +17,7 @@ pub(crate) struct Node {
 }
 
 impl Node {
-    // The node as one number.
+    /// The node as one number.
     fn mixed(self) -> u128
         ensures { result ≡ mixed self }
     {

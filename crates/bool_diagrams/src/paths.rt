@@ -1,4 +1,5 @@
-// The paths of a diagram.
+//! The paths of a diagram.
+
 ghost use Rattle.std.specs.Prelude.{◌≡◌, ◌++◌, ◌-◌, ◌≤◌, Bool, IfOk, List, OnOk, length, map};
 ghost use Rattle.bool_diagrams.specs.Cubes.{covered, cubes, truth_rows};
 ghost use Rattle.bool_diagrams.specs.Paths.{DependsBelow, rows_from};
@@ -29,7 +30,7 @@ impl Table {
         Ok(found)
     }
 
-    // Adds the paths from a number on, each after the prefix. It goes one variable deeper at each call.
+    /// Adds the paths from a number on, each after the prefix. It goes one variable deeper at each call.
     fn walk(
         &self,
         number: u64,

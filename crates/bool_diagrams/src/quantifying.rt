@@ -1,4 +1,5 @@
-// Diagrams without one of their variables.
+//! Diagrams without one of their variables.
+
 ghost use Rattle.std.specs.Prelude.{◌≡◌, ◌&&◌, ◌||◌, ◌<◌, Bool, IfOk, false, true, ℕ};
 ghost use Rattle.bool_diagrams.specs.Joins.{Quantifies};
 ghost use Rattle.bool_diagrams.specs.Rows.{IsDiagram, IsOf, Keeps, holds};
@@ -39,7 +40,7 @@ impl Table {
         self.quantified(Connective::And, a, v)
     }
 
-    // A whole operation.
+    /// A whole operation.
     fn quantified(
         &mut self,
         connective: Connective,
@@ -54,7 +55,7 @@ impl Table {
         Ok(Diagram(self.quantify(connective, a.0, variable)?))
     }
 
-    // Joins what the diagram is where the variable is false and where it is true. It goes one variable deeper at each call.
+    /// Joins what the diagram is where the variable is false and where it is true. It goes one variable deeper at each call.
     fn quantify(&mut self, connective: Connective, a: u64, variable: u32) -> Result<u64, AllocError>
         requires known { IsOf self.old a }
         requires in_range { variable < VARIABLES }

@@ -1,4 +1,5 @@
-// What a table says of its diagrams, without memory.
+//! What a table says of its diagrams, without memory.
+
 ghost use Rattle.std.specs.Prelude.{◌≡◌, Bool, ℕ};
 ghost use Rattle.bool_diagrams.specs.Rows.{IsDiagram, IsOf, bit_of, holds, tree};
 ghost use Rattle.bool_diagrams.specs.Tree.{value};
@@ -23,7 +24,7 @@ impl Table {
         self.has(a.0, row)
     }
 
-    // Goes down one variable at each call.
+    /// Goes down one variable at each call.
     fn has(&self, number: u64, row: u64) -> bool
         requires { IsOf self.now number }
         ensures { result ≡ value (tree self.now number) (bit_of row) }

@@ -1,4 +1,5 @@
-// Diagrams with other variables.
+//! Diagrams with other variables.
+
 ghost use Rattle.std.specs.HashMap.{get};
 ghost use Rattle.std.specs.Prelude.{◌≡◌, ◌<◌, ◌≤◌, Bool, IfOk, OnOk, Some, if◌then◌else◌, length, nat_eq, ℕ};
 ghost use Rattle.std.specs.List.{All};
@@ -30,8 +31,8 @@ impl Table {
         Ok(Diagram(self.rename_in(&mut made, a.0, from, to)?))
     }
 
-    // Renames each node once: what was made of a node speaks of these names, and so is kept for this renaming alone. It
-    // goes one variable deeper at each call.
+    /// Renames each node once: what was made of a node speaks of these names, and so is kept for this renaming alone. It
+    /// goes one variable deeper at each call.
     fn rename_in(
         &mut self,
         made: &mut HashMap<u64, u64>,
@@ -62,7 +63,7 @@ impl Table {
         Ok(number)
     }
 
-    // One diagram where the variable is false and another where it is true, whatever they ask.
+    /// One diagram where the variable is false and another where it is true, whatever they ask.
     fn choose(&mut self, variable: u32, low: u64, high: u64) -> Result<u64, AllocError>
         requires in_range { variable < VARIABLES }
         requires low_of { IsOf self.old low }
@@ -85,14 +86,14 @@ impl Table {
     }
 }
 
-// What a renaming has made of a diagram.
+/// What a renaming has made of a diagram.
 fn made_of(made: &HashMap<u64, u64>, a: u64) -> Option<u64>
     ensures { result ≡ get nat_eq made.now a }
 {
     made.get(&a).copied()
 }
 
-// The new name of a variable.
+/// The new name of a variable.
 fn new_name(variable: u32, from: &[u32], to: &[u32]) -> u32
     requires lengths { length from.now ≡ length to.now }
     ensures { result ≡ renamed from.now to.now variable }

@@ -1,4 +1,5 @@
-// The table of shared nodes, and the steps that read and grow it.
+//! The table of shared nodes, and the steps that read and grow it.
+
 ghost use Rattle.std.specs.HashMap.{get, IsUnchanged, Updates};
 ghost use Rattle.std.specs.Prelude.{◌≡◌, ◌↔◌, ◌+◌, ◌∷◌, ◌++◌, ◌<◌, ◌≤◌, Bool, ℕ, [], IfOk, IfSome, IsTrue, OnErr, OnOk, Some, if◌then◌else◌, is_ok, length};
 ghost use Rattle.bool_diagrams.specs.Joins.{Chooses, IsFirst, IsRight, Splits, Stands};
@@ -62,6 +63,13 @@ impl Table {
         })
     }
 
+    /// How many nodes there are beside the two constants. What no diagram in use has is counted, too.
+    pub fn count(&self) -> usize
+        ensures { result ≡ length self.now }
+    {
+        self.nodes.as_slice().len()
+    }
+
     /// Gives the rows on which a variable is true.
     pub fn var(&mut self, v: u32) -> Result<Diagram, AllocError>
         requires { v < VARIABLES }
@@ -88,7 +96,7 @@ impl Table {
         a.0 == b.0
     }
 
-    // The number of a node, which is made where the table lacks it.
+    /// The number of a node, which is made where the table lacks it.
     pub(crate) fn node(&mut self, variable: u32, low: u64, high: u64) -> Result<u64, AllocError>
         requires in_range { variable < VARIABLES }
         requires low_of { IsOf self.old low }
@@ -112,7 +120,7 @@ impl Table {
         add(&mut self.nodes, &mut self.unique, node)
     }
 
-    // The node with a number.
+    /// The node with a number.
     pub(crate) fn node_of(&self, number: u64) -> Node
         requires above { 2 ≤ number }
         requires of { IsOf self.now number }
@@ -122,7 +130,7 @@ impl Table {
         self.nodes[(number - 2) as usize]
     }
 
-    // The first variable of a diagram, or 64 for a constant.
+    /// The first variable of a diagram, or 64 for a constant.
     pub(crate) fn first_of(&self, number: u64) -> u32
         requires of { IsOf self.now number }
         ensures constant { number < 2 → result ≡ VARIABLES }
@@ -137,7 +145,7 @@ impl Table {
         self.node_of(number).variable
     }
 
-    // The first variable of two diagrams, of which one at least is not a constant.
+    /// The first variable of two diagrams, of which one at least is not a constant.
     pub(crate) fn first(&self, a: u64, b: u64) -> u32
         requires left { IsOf self.now a }
         requires right { IsOf self.now b }
@@ -147,7 +155,7 @@ impl Table {
         self.first_of(a).min(self.first_of(b))
     }
 
-    // The diagram where the variable is false, and where it is true.
+    /// The diagram where the variable is false, and where it is true.
     pub(crate) fn split(&self, number: u64, variable: u32) -> (u64, u64)
         requires of { IsOf self.now number }
         requires from { IsFrom variable (tree self.now number) }
@@ -164,7 +172,7 @@ impl Table {
         }
     }
 
-    // What the memo has.
+    /// What the memo has.
     pub(crate) fn recall(&mut self, key: Key) -> Option<u64>
         ensures same { self.new ≡ self.old }
         ensures right { IfSome result (IsRight self.old key) }
@@ -172,7 +180,7 @@ impl Table {
         self.memo.answer(key)
     }
 
-    // Keeps an answer in the memo, where there is memory for it.
+    /// Keeps an answer in the memo, where there is memory for it.
     pub(crate) fn remember(&mut self, key: Key, number: u64)
         requires { IsRight self.old key number }
         ensures { self.new ≡ self.old }
@@ -180,20 +188,20 @@ impl Table {
         self.memo.keep(key, number);
     }
 
-    // Where the table takes its memory.
+    /// Where the table takes its memory.
     pub(crate) fn alloc(&self) -> Global {
         *self.nodes.allocator()
     }
 }
 
-// The number of a node that is there.
+/// The number of a node that is there.
 fn look_up(unique: &HashMap<Node, u64>, node: Node) -> Option<u64>
     ensures { result ≡ get same_node unique.now node }
 {
     unique.get(&node).copied()
 }
 
-// Adds a node, or leaves both as they were.
+/// Adds a node, or leaves both as they were.
 fn add(
     nodes: &mut Vec<Node>,
     unique: &mut HashMap<Node, u64>,

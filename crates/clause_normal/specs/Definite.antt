@@ -1,4 +1,4 @@
--- To believe, for reading.
+-- To believe, for sessions.
 -- The program of definite clauses, whose bodies are conjunctions.
 --
 -- A disjunction is impure here, at its own place, and no directive is a clause. So each clause is one of the program, in order, and only

@@ -4,8 +4,8 @@
 -- A binding takes a variable out of the equations, and every other step takes nodes out. So the function counts
 -- two numbers down: how many variables occur, and how many nodes are there until the next binding.
 --
--- Nothing here has to be believed: `unification_is_a_function` of `src/laws.rt` says that `unify` gives what
--- `Unifies` says, and that neither number runs out before.
+-- What it computes is what `Unifies` says: `unification_is_a_function` of `src/laws.rt` proves that, and that neither
+-- number runs out before.
 use Rattle.std.specs.Prelude.{ℕ, zero, suc, max, ◌+◌, Bool, false, ◌||◌, cond, List, [], ◌∷◌, ◌++◌, Option, None, Some, option_map}
 use Rattle.cti_terms.specs.Tree.{Tree, Trees, Variable, Integer, Compound, End, More, nodes_of}
 use Rattle.cti_terms.specs.Unify.{Equation, Binding, Step, Dropped, Bound, Split, Failed, first_step, replaced, occurs}

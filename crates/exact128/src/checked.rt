@@ -1,4 +1,5 @@
-// Sums, differences and products that fit.
+//! Sums, differences and products that fit.
+
 ghost use Rattle.std.specs.Prelude.{◌≡◌, ◌*ℤ◌, ◌+ℤ◌, ◌-ℤ◌, SomeIff};
 ghost use Rattle.exact128.specs.Fits.{Fits, fits};
 

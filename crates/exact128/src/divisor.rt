@@ -1,4 +1,5 @@
-// The greatest common divisor, and divisions that leave no rest.
+//! The greatest common divisor, and divisions that leave no rest.
+
 ghost use Rattle.std.specs.Prelude.{◌≡◌, ◌<◌, ◌≤◌, ◌^◌, ◌/◌, pos, ◌≤ℤ◌, unsigned_abs, int_div};
 ghost use Rattle.std.specs.Int.{IsGcd};
 ghost use Rattle.exact128.specs.Gcd.{gcd};

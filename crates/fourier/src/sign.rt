@@ -9,18 +9,21 @@ ghost use Rattle.fourier.specs.Small.{small};
 // One more than the greatest absolute value of a small number: 2^62.
 const SMALL_LIMIT: u128 = 0x4000_0000_0000_0000;
 
+/// Whether a number is above 0.
 pub fn is_positive(x: i128) -> bool
     ensures { result ≡ is_positive x }
 {
     x > 0
 }
 
+/// Whether a number is below 0.
 pub fn is_negative(x: i128) -> bool
     ensures { result ≡ is_negative x }
 {
     x < 0
 }
 
+/// Whether a number is 0.
 pub fn is_zero(x: i128) -> bool
     ensures { result ≡ is_zero x }
 {

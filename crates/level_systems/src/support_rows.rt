@@ -58,7 +58,7 @@ fn position_of(own: &OwnCall, x: usize, position: &Position) -> i128
         - share_of(own.callee, &own.callee_sizes, x, position)
 }
 
-// What the coefficients of positions count in a column of a call's row.
+/// What the coefficients of positions count in a column of a call's row.
 pub(crate) fn add_positions(
     row: &mut Vec<i128>,
     own: &OwnCall,
@@ -88,7 +88,7 @@ fn offset_of(own: &OwnCall, x: usize, member: PredId) -> i128
     i128::from(own.caller == member) - i128::from(own.callee == member)
 }
 
-// What the offsets of members count in a column of a call's row.
+/// What the offsets of members count in a column of a call's row.
 pub(crate) fn add_offsets(
     row: &mut Vec<i128>,
     own: &OwnCall,
@@ -104,7 +104,7 @@ pub(crate) fn add_offsets(
     Ok(())
 }
 
-// The given number of zeros.
+/// The given number of zeros.
 pub(crate) fn add_zeros(row: &mut Vec<i128>, count: usize) -> Result<(), AllocError>
     ensures { OnOk result (row.new.items ≡ row.old.items ++ zeros count) }
 {
@@ -123,7 +123,7 @@ fn negated(row: &Row, x: usize) -> i128
     -number(row, x)
 }
 
-// What the multipliers of the rows before a call count in a column of its row.
+/// What the multipliers of the rows before a call count in a column of its row.
 pub(crate) fn add_multipliers(row: &mut Vec<i128>, rows: &[Row], x: usize) -> Result<(), AllocError>
     requires there { All (λ r. x < length (plain_row r)) rows.now }
     requires fits { All (λ r. fits (entry (plain_row r) x) ≡ true) rows.now }
@@ -136,7 +136,7 @@ pub(crate) fn add_multipliers(row: &mut Vec<i128>, rows: &[Row], x: usize) -> Re
     Ok(())
 }
 
-// The 1 by which levels fall, in a column.
+/// The 1 by which levels fall, in a column.
 pub(crate) fn less_one(x: usize) -> i128
     ensures { result ≡ less_one x }
 {
@@ -237,7 +237,7 @@ fn count_of(calls: &[OwnCall]) -> Result<usize, AllocError>
     Ok(count)
 }
 
-// How many unknowns a system has. More than 2^32 have no memory.
+/// How many unknowns a system has. More than 2^32 have no memory.
 pub(crate) fn width_of(positions: usize, members: usize, count: usize) -> Result<u32, AllocError>
     ensures { IfOk result (λ n. n ≡ positions + (members + count)) }
 {

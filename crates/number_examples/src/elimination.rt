@@ -32,7 +32,7 @@ pub fn rows(alloc: Global, width: u32, list: &[&[i128]]) -> Result<Rows, Fail>
     Ok(rows)
 }
 
-// The given number of rows that bound the first variable from below, and as many from above, all different.
+/// The given number of rows that bound the first variable from below, and as many from above, all different.
 pub fn crowd(alloc: Global, many: u8) -> Result<Rows, Fail>
     ensures rows { IfOk result (λ rows. HaveWidth rows.width rows.list) }
     ensures width { IfOk result (λ rows. rows.width ≡ 3) }

@@ -1,5 +1,7 @@
 //! The chain that is found.
 
+ghost use Rattle.std.specs.Prelude.{◌≡◌};
+
 use crate::step::Step;
 use sequences::Sequence;
 use termination_model::Sizes;
@@ -13,5 +15,15 @@ pub struct Chain {
 impl Drop for Chain {
     fn drop(self) {
         let Chain { steps: _, sizes: _ } = self;
+    }
+}
+
+impl Chain {
+    /// The steps, and the size rows.
+    pub fn into_parts(self) -> (Sequence<Step>, Sizes)
+        ensures { (result.0 ≡ self.steps) × (result.1 ≡ self.sizes) }
+    {
+        let Chain { steps, sizes } = self;
+        (steps, sizes)
     }
 }

@@ -1,3 +1,5 @@
+//! What is known of rows.
+
 /// What is known of a predicate's rows.
 #[derive(Clone, Copy, PartialEq, Eq)]
 pub(crate) enum Filled {

@@ -22,6 +22,7 @@ mod setting;
 mod solving;
 
 pub use mode::Mode;
+pub use modes::{all_modes, minimal_modes};
 pub use preconditions::Preconditions;
 pub use ranks::component_ranks;
 pub use setting::Setting;

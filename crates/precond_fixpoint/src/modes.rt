@@ -19,7 +19,7 @@ use termination_model::number_sets;
 use truth_rows::admits;
 
 /// The minimal modes of each predicate, in order, where these are the sets of its rows.
-pub(crate) fn all_modes(
+pub fn all_modes(
     alloc: Global,
     table: &Table,
     p: &Program,
@@ -39,7 +39,7 @@ pub(crate) fn all_modes(
 }
 
 /// The minimal modes of a set, by length and then in lexicographic order.
-pub(crate) fn minimal_modes(
+pub fn minimal_modes(
     alloc: Global,
     table: &Table,
     set: Diagram,

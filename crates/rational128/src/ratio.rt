@@ -1,4 +1,5 @@
-// Fractions in lowest terms.
+//! Fractions in lowest terms.
+
 ghost use Rattle.std.specs.Prelude.{◌≡◌, ◌≢◌, pos, ◌*ℤ◌, ◌+ℤ◌, ◌≤ℤ◌, ◌<◌, ◌^◌, SomeIff, IfOk, OnErr, unsigned_abs};
 ghost use Rattle.std.specs.Ordering.{int_cmp};
 ghost use Rattle.exact128.specs.Fits.{Fits};
@@ -113,7 +114,7 @@ impl Ratio {
         self.mul(other.inverse())
     }
 
-    // One over a fraction that is not 0.
+    /// One over a fraction that is not 0.
     fn inverse(self) -> Ratio
         requires { self.num ≢ pos 0 }
         ensures num { result.num ≡ signed_of (unsigned_abs self.den) (pos 1) self.num }
@@ -146,7 +147,7 @@ impl Ratio {
     }
 }
 
-// What a number shares with a denominator.
+/// What a number shares with a denominator.
 #[tactic(auto, unfolding(exact128::specs::Fractions::shared_of))]
 fn shared(b: i128, d: i128) -> u128
     requires d { pos 1 ≤ℤ d }
@@ -157,7 +158,7 @@ fn shared(b: i128, d: i128) -> u128
     gcd(b.unsigned_abs(), d.unsigned_abs())
 }
 
-// `a` times what is left of `d` without `part`.
+/// `a` times what is left of `d` without `part`.
 #[tactic(auto, unfolding(exact128::specs::Fractions::scaled_of))]
 fn scaled(a: i128, d: i128, part: u128) -> Option<i128>
     requires d { pos 1 ≤ℤ d }
@@ -167,7 +168,7 @@ fn scaled(a: i128, d: i128, part: u128) -> Option<i128>
     times(a, quotient(d, part))
 }
 
-// The number of this size whose sign is that of `a / b`.
+/// The number of this size whose sign is that of `a / b`.
 fn signed(size: u128, a: i128, b: i128) -> i128
     requires { size < 2 ^ 127 }
     ensures { result ≡ signed_of size a b }

@@ -19,7 +19,7 @@ pub(crate) struct Counts {
 }
 
 impl Counts {
-    // Counts in a term.
+    /// Counts in a term.
     pub(crate) fn of(t: &Term) -> Counts
         requires below { IsTrue (is_below MOST_VARIABLES (tree_of t.now)) }
         requires small { nodes_of (tree_of t.now) ≤ MOST_NODES }
@@ -54,6 +54,7 @@ impl Counts {
         }
     }
 
+    /// Counts the occurrences in some terms.
     #[cycle(counting)]
     fn add_all(&mut self, terms: &[Term])
         requires below { AreBelow MOST_VARIABLES (trees_of terms.now) }
@@ -65,7 +66,7 @@ impl Counts {
         }
     }
 
-    // How often each of the first variables occurs.
+    /// How often each of the first variables occurs.
     pub(crate) fn first_variables(
         &self,
         alloc: Global,
@@ -81,7 +82,7 @@ impl Counts {
         Ok(Coefficients::from_vec(items))
     }
 
-    // Which of the first variables occur.
+    /// Which of the first variables occur.
     pub(crate) fn occurring(&self, vars: u32) -> VarSet
         requires { vars ≤ MOST_VARIABLES }
         ensures { (x : ℕ) → Contains (members result) x

@@ -1,3 +1,5 @@
+//! The kinds of steps.
+
 /// What a step of a chain does to the rows of its clause's head.
 #[derive(Clone, Copy, PartialEq, Eq)]
 pub enum How {
