@@ -5,6 +5,10 @@
 use Rattle.std.specs.Prelude.{◌≤ℤ◌, ℤ, pos, List, IfSome}
 use Rattle.std.specs.List.{AllByRecursion}
 use Rattle.certificate.specs.Range.{most_127}
+use Rattle.level_systems.specs.declared.fall.Fall.{Fall}
+use Rattle.level_systems.specs.declared.found.Found.{Found}
+use Rattle.level_systems.specs.declared.mapping.Mapping.{Mapping}
+use Rattle.level_systems.specs.declared.measure.Measure.{Measure}
 use Rattle.linear_rows.specs.declared.multipliers.Multipliers.{Multipliers}
 use Rattle.linear_rows.specs.declared.point.Point.{Point}
 use Rattle.number_tests.specs.declared.level_part.LevelPart.{LevelPart}
@@ -31,3 +35,15 @@ IsPairBelow x = IsPointBelow x.point × IfSome x.at IsPointBelow
 
 abbrev pub IsRefutationBelow : Refutation → Type 0
 IsRefutationBelow r = AllByRecursion IsPairBelow r.points
+
+abbrev pub IsMeasureBelow : Measure → Type 0
+IsMeasureBelow m = IsPartBelow m.part
+
+abbrev pub IsFallBelow : Fall → Type 0
+IsFallBelow f = AreMultipliersBelow f.by
+
+abbrev pub IsMappingBelow : Mapping → Type 0
+IsMappingBelow m = AllByRecursion IsMeasureBelow m.measures × AllByRecursion IsFallBelow m.falls
+
+abbrev pub IsFoundBelow : Found → Type 0
+IsFoundBelow f = AllByRecursion IsMappingBelow f.mappings × IfSome f.refutation IsRefutationBelow

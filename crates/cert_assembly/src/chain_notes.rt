@@ -1,7 +1,9 @@
 //! The notes of a chain.
 
-ghost use Rattle.std.specs.Prelude.{◌≡◌, ◌+◌, ◌-◌, ◌<◌, ◌++◌, IfOk, OnOk, map};
+ghost use Rattle.std.specs.Prelude.{◌≡◌, ◌+◌, ◌-◌, ◌<◌, ◌≤◌, ◌++◌, IfOk, OnOk, length, map};
+ghost use Rattle.std.specs.List.{flat_map};
 ghost use Rattle.certificate.specs.declared.fact.Fact.TheVariants as fact;
+ghost use Rattle.cert_structure.specs.Numbered.{facts_from};
 ghost use Rattle.cert_structure.specs.Order.{pred_text};
 ghost use Rattle.cert_structure.specs.Shape.{head_of};
 ghost use Rattle.linear_rows.specs.Plain.{plain_row, plain_rows};
@@ -139,11 +141,57 @@ pub fn note_chain(
     ensures { OnOk result (out.new ≡ out.old ++ chain_notes p.now names.now
         (map plain_step steps)) }
 {
+    // For the prover alone: so many steps there are, and their numbers are no more.
     let _count = steps.len();
     let mut number = 0;
     for step in steps.into_vec() {
         number += 1;
         note_step(alloc, p, names, number, &step, out)?;
+    }
+    Ok(())
+}
+
+/// Puts the notes of the steps of a component after others, and gives the number of its last step. The steps before it
+/// have been noted: so many, with two notes each at least.
+fn note_own(
+    alloc: Global,
+    p: &Program,
+    names: &Names,
+    before: u64,
+    steps: &[Step],
+    out: &mut Sequence<Fact>,
+) -> Result<u64, AllocError>
+    requires noted { before + before ≤ length out.old }
+    ensures notes { OnOk result (out.new ≡ out.old ++ facts_from (before + 1)
+        (step_notes p.now names.now) (map plain_step steps.now)) }
+    ensures number { IfOk result (λ number. number ≡ before + length steps.now) }
+    ensures noted { IfOk result (λ number. number + number ≤ length out.new) }
+{
+    let mut number = before;
+    for step in steps {
+        // For the prover alone: there are twice as many notes as steps, so the numbers of steps are no more than these.
+        let _count = out.len();
+        number += 1;
+        note_step(alloc, p, names, number, step, out)?;
+    }
+    Ok(number)
+}
+
+/// Puts the notes of the steps of all components after others. The steps are borrowed, and are numbered on from one component
+/// to the next.
+pub fn note_components(
+    alloc: Global,
+    p: &Program,
+    names: &Names,
+    steps: &[Sequence<Step>],
+    out: &mut Sequence<Fact>,
+) -> Result<(), AllocError>
+    ensures { OnOk result (out.new ≡ out.old ++ chain_notes p.now names.now
+        (map plain_step (flat_map (λ own. own) steps.now))) }
+{
+    let mut number = 0;
+    for own in steps {
+        number = note_own(alloc, p, names, number, own.as_slice(), out)?;
     }
     Ok(())
 }

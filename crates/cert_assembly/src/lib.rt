@@ -14,7 +14,7 @@ mod parted;
 mod ranges;
 mod sets;
 
-pub use chain_notes::note_chain;
+pub use chain_notes::{note_chain, note_components};
 pub use copies::{
     copied_list, copied_multipliers, copied_part, copied_proofs, copied_refutation, copied_rows,
 };
@@ -23,4 +23,4 @@ pub use measured::{Measured, put_sizes};
 pub use named::pred_text;
 pub use parted::{part_of, zero_part};
 pub use ranges::{Bounded, all_bounded};
-pub use sets::{mode_lists, spelled_list, spelled_lists};
+pub use sets::{arguments_of, mode_lists, spelled_list, spelled_lists};

@@ -3,7 +3,9 @@
 ghost use Rattle.std.specs.Prelude.{IfSome};
 ghost use Rattle.std.specs.List.{AllByRecursion};
 ghost use Rattle.cert_assembly.specs.Ranges.{AreBelow, AreMultipliersBelow, IsBelow, IsPairBelow, IsPartBelow, IsPointBelow, IsRefutationBelow};
+ghost use Rattle.cert_assembly.specs.Ranges.{IsFallBelow, IsFoundBelow, IsMappingBelow, IsMeasureBelow};
 
+use level_systems::{Fall, Found, Mapping, Measure};
 use linear_rows::{Multipliers, Point};
 use number_tests::{LevelPart, PairPoint, Refutation};
 use sequences::Sequence;
@@ -92,6 +94,40 @@ impl Bounded for Refutation {
 
     fn bounded(&self) {
         all_bounded(self.points.as_slice());
+    }
+}
+
+impl Bounded for Measure {
+    ghost is_below = { IsMeasureBelow };
+
+    fn bounded(&self) {
+        self.part.bounded();
+    }
+}
+
+impl Bounded for Fall {
+    ghost is_below = { IsFallBelow };
+
+    fn bounded(&self) {
+        self.by.bounded();
+    }
+}
+
+impl Bounded for Mapping {
+    ghost is_below = { IsMappingBelow };
+
+    fn bounded(&self) {
+        self.measures.bounded();
+        self.falls.bounded();
+    }
+}
+
+impl Bounded for Found {
+    ghost is_below = { IsFoundBelow };
+
+    fn bounded(&self) {
+        self.mappings.bounded();
+        self.refutation.bounded();
     }
 }
 

@@ -105,7 +105,7 @@ pub fn spelled_lists(
 }
 
 /// The arguments of modes.
-fn arguments_of(alloc: Global, modes: &[Mode]) -> Result<Sequence<Sequence<u32>>, AllocError>
+pub fn arguments_of(alloc: Global, modes: &[Mode]) -> Result<Sequence<Sequence<u32>>, AllocError>
     ensures { IfOk result (λ lists. lists ≡ map arguments_of modes.now) }
 {
     let mut lists = Sequence::new(alloc);

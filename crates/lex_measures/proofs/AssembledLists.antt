@@ -1,5 +1,5 @@
 -- The parts of a certificate of lists that the engines give are valid and exact, with their notes.
-use Rattle.std.proofs.Common.{◌≡◌, ◌++◌, ◌-◌, ℕ, zero, true, List, [], ◌∷◌, All, length, map, take, slice_get, Some, None, Option, refl, ap, sym, subst, ◌∙◌}
+use Rattle.std.proofs.Common.{◌≡◌, ◌++◌, ℕ, true, List, [], ◌∷◌, All, length, map, take, slice_get, Some, None, Option, refl, ap, sym, subst, ◌∙◌}
 use Rattle.std.specs.Prelude.{IfSome}
 use Rattle.std.specs.List.{AllByRecursion, flat_map}
 use Rattle.std.proofs.lemmas.List.{length-map}

@@ -237,7 +237,7 @@ fn assembled_over(
     alloc: Global,
     measured: &Measured,
     names: &Names,
-    mut chain: Chain,
+    chain: Chain,
 ) -> Result<Assembled, AllocError>
     requires components { AreComponents measured.now.p.now measured.now.comps.now }
     requires norm { measured.now.norm ≡ Terms (record {}) }
@@ -247,11 +247,11 @@ fn assembled_over(
 {
     let (p, comps) = (measured.p, measured.comps);
     let _program = p.preds();
-    let found = find_all(alloc, measured, &chain.sizes)?;
-    let parts = parts_of(alloc, measured, &chain.sizes, found.as_slice())?;
+    let (steps, sizes) = chain.into_parts();
+    let found = find_all(alloc, measured, &sizes)?;
+    let parts = parts_of(alloc, measured, &sizes, found.as_slice())?;
     are_bounded(&parts);
     let described = Described { p, names, comps };
-    let steps = mem::replace(&mut chain.steps, Sequence::new(alloc));
     let notes = notes_of(alloc, &described, steps, found.as_slice())?;
     Ok(Assembled { parts, notes })
 }

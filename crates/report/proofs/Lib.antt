@@ -1,4 +1,5 @@
 pub mod AssembledParts
+pub mod BelowLaws
 pub mod BestLaws
 pub mod Decreasing
 pub mod ExactParts
@@ -9,5 +10,6 @@ pub mod NoteLaws
 pub mod PartLaws
 pub mod RefutationLaws
 pub mod RefutedParts
+pub mod SolutionLaws
 pub mod UnnotedLaws
 pub mod ValidParts

@@ -1,5 +1,5 @@
 -- The refutations that are found are those of a certificate.
-use Rattle.std.proofs.Common.{◌≡◌, ℕ, ◌-◌, ◌<◌, ◌≤◌, ◌≤ℤ◌, ◌&&◌, ℤ, pos, true, List, [], ◌∷◌, length, slice_get, Some, None, Option, refl, ap, sym, subst, ◌∙◌, arith}
+use Rattle.std.proofs.Common.{◌≡◌, ℕ, ◌-◌, ◌<◌, ◌≤ℤ◌, ◌&&◌, ℤ, pos, true, List, [], ◌∷◌, length, slice_get, Some, None, Option, refl, ap, sym, subst, ◌∙◌, arith}
 use Rattle.std.specs.Prelude.{IfSome, option_map, unwrap_or}
 use Rattle.std.specs.List.{AllByRecursion}
 use Rattle.call_components.specs.Partition.{AreComponents, IsIn, Partition}

@@ -6,5 +6,6 @@ pub mod Generated
 pub mod Levels
 pub mod OfNorm
 pub mod Refuted
+pub mod Solution
 pub mod SupportNotes
 pub mod Unnoted

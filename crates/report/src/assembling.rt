@@ -29,7 +29,6 @@ use numeric_model::{Chain, Step};
 use polyhedra::Poly;
 use sequences::Sequence;
 use std::alloc::{AllocError, Global};
-use std::mem;
 use term_size::{AnyNorm, NormName};
 use termination_model::{SizeRows, Sizes};
 
@@ -71,7 +70,7 @@ fn nothing(alloc: Global) -> Found {
 }
 
 /// No parts, of a certificate that names its norm so.
-fn no_parts(alloc: Global, norm: Option<CertNorm>) -> Parts
+pub(crate) fn no_parts(alloc: Global, norm: Option<CertNorm>) -> Parts
     ensures { result.norm ≡ norm }
 {
     Parts {
@@ -88,7 +87,7 @@ fn no_parts(alloc: Global, norm: Option<CertNorm>) -> Parts
 }
 
 /// Puts in the mappings, their falls and the refutations.
-fn put_mappings(
+pub(crate) fn put_mappings(
     alloc: Global,
     p: &Program,
     comps: &Components,
@@ -166,7 +165,7 @@ fn assembled_over(
     measured: &Measured,
     names: &Names,
     named: Option<CertNorm>,
-    mut chain: Chain,
+    chain: Chain,
 ) -> Result<Assembled, AllocError>
     requires components { AreComponents measured.now.p.now measured.now.comps.now }
     requires norm { measured.now.norm ≡ norm_in names.now named }
@@ -177,10 +176,10 @@ fn assembled_over(
     ensures norm { IfOk result (λ a. a.parts.norm ≡ named) }
 {
     let _program = measured.p.preds();
-    let found = find_all(alloc, measured, &chain.sizes)?;
-    let parts = parts_of(alloc, measured, named, &chain.sizes, found.as_slice())?;
+    let (steps, sizes) = chain.into_parts();
+    let found = find_all(alloc, measured, &sizes)?;
+    let parts = parts_of(alloc, measured, named, &sizes, found.as_slice())?;
     are_bounded(&parts);
-    let steps = mem::replace(&mut chain.steps, Sequence::new(alloc));
     let notes = notes_of(
         alloc,
         measured.p,

@@ -9,7 +9,10 @@ ghost use Rattle.report.specs.Assembled.{PartsAreValid};
 ghost use Rattle.report.specs.ExactMappings.{BestModes, BestOverMappings};
 ghost use Rattle.cert_assembly.specs.ExactModes.{ExactModesHold};
 ghost use Rattle.report.specs.Refuted.{RefutationsAreShown};
+ghost use Rattle.report.specs.Solution.{SolutionsAreExact, SolutionsPrintModes};
 ghost use Rattle.report.specs.Unnoted.{UnnotedAreBest};
+
+use cert_checker::valid_certificates_bound_their_modes;
 
 /// Exact modes hold.
 pub fn exact_modes_hold()
@@ -40,4 +43,19 @@ pub fn assembled_parts_are_valid()
 /// A refutation of the model can fail the check of a certificate only by a number that does not fit.
 pub fn refutations_are_shown()
     ensures { RefutationsAreShown }
+{}
+
+/// The facts of a solution, which `certificate_of` gives, are a certificate that is valid and exact, by term size, and whose
+/// modes bound their queries.
+///
+/// The names are those of the program's predicates, and no two are alike.
+pub fn solutions_are_exact()
+    ensures { SolutionsAreExact }
+{
+    valid_certificates_bound_their_modes();
+}
+
+/// The modes of each predicate in a solution are those that its certificate prints.
+pub fn solutions_print_modes()
+    ensures { SolutionsPrintModes }
 {}

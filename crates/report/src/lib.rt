@@ -10,7 +10,9 @@ mod generating;
 mod inferring;
 pub mod laws;
 mod levels;
+mod solution;
 mod support_notes;
 
 pub use generating::gen_source;
 pub use inferring::infer;
+pub use solution::{Solution, certificate_of, levels_of};

@@ -1,4 +1,4 @@
-use Rattle.std.proofs.Common.{◌≡◌, ◌∙◌, ◌+◌, ◌++◌, ◌∷◌, suc, List, length, map, ap, arith}
+use Rattle.std.proofs.Common.{◌≡◌, ◌∙◌, ◌+◌, ◌++◌, ◌∷◌, suc, length, map, ap, arith}
 use Rattle.std.specs.Vec.Iter.{into_iter_items}
 use Rattle.cert_structure.specs.Numbered.{facts_from}
 use Rattle.numeric_model.specs.States.{plain_step}

@@ -1,4 +1,4 @@
-use Rattle.std.proofs.Common.{◌++◌, List, map, subst, ◌∙◌}
+use Rattle.std.proofs.Common.{◌≡◌, ◌++◌, List, map, ap, subst, sym, ◌∙◌}
 use Rattle.std.specs.List.{flat_map}
 use Rattle.cert_assembly.specs.ChainNotes.{chain_notes}
 use Rattle.cert_assembly.specs.Sizing.{IsSolvedChain}
@@ -18,12 +18,16 @@ returns c =
     let names = c.args.names.now in
     let comps = c.args.measured.now.comps.now in
     let norm = c.args.measured.now.norm in
-    let chain = c.args.chain in
     let found = c.in_ok-found.found in
     let parts = c.in_ok-parts.parts in
-    let solved = subst (λ (n : AnyNorm). IsSolvedChain (any_row n) p comps chain) c.requires.norm c.requires.chain in
-    let founds = subst (λ (n : AnyNorm). AreFound (any_row n) p comps chain.sizes.rows found) c.requires.norm c.in_ok-found.ensures in
-    let own = subst (λ (fs : List FoundLists). ArePartsOf (any_truth norm) p comps chain.sizes fs parts) c.as_slice.ensures c.in_ok-parts.ensures in
-    let are = subst (λ (n : AnyNorm). ArePartsOf (any_truth n) p comps chain.sizes found parts) c.requires.norm own in
-    let notes = c.in_ok-notes.ensures ∙ (λ i. flat_map noted (chain_notes p names (map plain_step (c.replace-steps.ensures.value i))) ++ component_notes p names comps (found_of (c.as_slice-2.ensures i))) in
-    assembled p names comps chain.sizes found parts c.in_ok-notes.notes chain.steps c.preds-program.ensures.sound c.requires.components solved.legal solved.sizes solved.proofs solved.fits founds are c.are_bounded.ensures notes
+    let steps = c.into_parts-steps.result.0 in
+    let sizes = c.into_parts-steps.result.1 in
+    let is = c.into_parts-steps.ensures in
+    let same : c.args.chain ≡ record { steps = steps; sizes = sizes } = λ i. record { steps = sym is.0 i; sizes = sym is.1 i } in
+    let chain = subst (IsSolvedChain (any_row norm) p comps) same c.requires.chain in
+    let solved = subst (λ (n : AnyNorm). IsSolvedChain (any_row n) p comps (record { steps = steps; sizes = sizes })) c.requires.norm chain in
+    let founds = subst (λ (n : AnyNorm). AreFound (any_row n) p comps sizes.rows found) c.requires.norm c.in_ok-found.ensures in
+    let own = subst (λ (fs : List FoundLists). ArePartsOf (any_truth norm) p comps sizes fs parts) c.as_slice.ensures c.in_ok-parts.ensures in
+    let are = subst (λ (n : AnyNorm). ArePartsOf (any_truth n) p comps sizes found parts) c.requires.norm own in
+    let notes = c.in_ok-notes.ensures ∙ ap (λ fs. flat_map noted (chain_notes p names (map plain_step steps)) ++ component_notes p names comps (found_of fs)) c.as_slice-2.ensures in
+    assembled p names comps sizes found parts c.in_ok-notes.notes steps c.preds-program.ensures.sound c.requires.components solved.legal solved.sizes solved.proofs solved.fits founds are c.are_bounded.ensures notes

@@ -1,4 +1,4 @@
-use Rattle.std.proofs.Common.{List, ap, map, subst, sym, ◌∙◌}
+use Rattle.std.proofs.Common.{List, map, subst, sym, ◌∙◌}
 use Rattle.lex_certificate.specs.Flat.{union_part}
 use Rattle.number_tests.specs.declared.level_part.LevelPart.{LevelPart}
 use Rattle.precond_fixpoint.specs.Solving.{AreLevels}
