@@ -12,12 +12,12 @@ use sequences::Sequence;
 
 /// An edit, with lists that are made once for all components.
 #[derive(Clone, Copy)]
-pub(crate) struct EditClauses<'a> {
-    pub(crate) edit: &'a Edit<'a>,
+pub struct EditClauses<'a> {
+    pub edit: &'a Edit<'a>,
     /// For each component before the edit the numbers of its clauses.
-    pub(crate) own_before: &'a [Sequence<u32>],
+    pub own_before: &'a [Sequence<u32>],
     /// The same after the edit.
-    pub(crate) own: &'a [Sequence<u32>],
+    pub own: &'a [Sequence<u32>],
 }
 
 impl EditClauses<'_> {
@@ -44,7 +44,7 @@ impl EditClauses<'_> {
     }
 
     /// The old component that the component `c` stands for, if it stands, where these predicates have stayed so far.
-    pub(crate) fn standing(&self, c: u32, stayed: &[bool]) -> Option<u32>
+    pub fn standing(&self, c: u32, stayed: &[bool]) -> Option<u32>
         requires clauses { AreEditClauses self.now }
         requires each { length stayed.now ≡ length self.now.edit.now.after.now.preds }
         requires inner { c < length self.now.edit.now.components.now.members }

@@ -39,7 +39,7 @@ pub fn solve_grounds<N: Norm>(
 }
 
 /// The diagram that the predicate of this name and arity had, if it was there.
-fn carried_set(edit: &Edit<'_>, old: &[Diagram], none: Diagram, pred: PredId) -> Diagram
+pub fn carried_set(edit: &Edit<'_>, old: &[Diagram], none: Diagram, pred: PredId) -> Diagram
     requires pred { pred.0 < length edit.now.after.now.preds }
     requires each { length old.now ≡ length edit.now.before.now.preds }
     ensures { IsCarriedSet edit.now old.now none pred.0 result }

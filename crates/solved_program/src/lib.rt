@@ -37,7 +37,8 @@ mod standing;
 mod taking;
 
 pub use edit::Edit;
-pub use grounds::{resolve_grounds, solve_grounds};
+pub use edit_clauses::EditClauses;
+pub use grounds::{carried_set, resolve_grounds, solve_grounds};
 pub use marking::stayed_rows;
 pub use resolving::{Sources, resolve_sizes};
 pub use solved_sizes::SolvedSizes;

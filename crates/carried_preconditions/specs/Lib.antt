@@ -1,0 +1,6 @@
+pub mod Carried
+pub mod Carries
+pub mod Modes
+pub mod Resolving
+pub mod Same
+pub mod Solved
