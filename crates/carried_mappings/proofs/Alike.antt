@@ -1,7 +1,6 @@
--- A component that stands for an old one with its members in the same order: its members, positions, view and pairs are those of
--- the old one, under other numbers.
-use Rattle.std.proofs.Common.{◌≡◌, ℕ, zero, suc, ◌+◌, ◌-◌, ◌<◌, ◌==◌, ◌⊎◌, ℤ, Bool, true, false, if◌then◌else◌, inl, inr, List, [], ◌∷◌, ◌++◌, map, length, slice_get, slice_index_or, Option, None, Some, refl, ap, sym, subst, ◌∙◌, arith, eq-eqb, eqb-true}
-use Rattle.std.specs.Prelude.{Contains, cond, filter, option_map, unwrap_or}
+-- A component that stands for an old one: its members, positions, view and pairs are those of the old one, under other numbers.
+use Rattle.std.proofs.Common.{◌≡◌, ℕ, suc, ◌+◌, ◌-◌, ◌<◌, ◌==◌, ℤ, Bool, true, false, if◌then◌else◌, inl, inr, List, [], ◌∷◌, ◌++◌, map, length, slice_get, Option, Some, refl, ap, sym, subst, ◌∙◌, arith}
+use Rattle.std.specs.Prelude.{cond, filter}
 use Rattle.std.specs.List.{AllByRecursion, flat_map}
 use Rattle.call_components.specs.Partition.{Partition, AreComponents, IsIn}
 use Rattle.cti_terms.specs.Listing.{Listing, IsProgram}
@@ -10,87 +9,31 @@ use Rattle.cti_terms.specs.declared.atom_list.Atom.{Atom}
 use Rattle.cti_terms.specs.declared.clauses.Clause.{Clause}
 use Rattle.cti_terms.specs.declared.predicates.Pred.{Pred}
 use Rattle.linear_rows.specs.Members.{In}
-use Rattle.linear_rows.proofs.Members.{in-map, of-filter, of-flat_map, of-map}
+use Rattle.linear_rows.proofs.Members.{of-filter, of-flat_map, of-map}
 use Rattle.termination_model.specs.Chain.{clauses_of, component_of, counted, is_number}
 use Rattle.termination_model.specs.Claims.{Claims}
-use Rattle.termination_model.specs.ComponentViews.{component_view, members_in, positions_in, rank_in, size_claims}
-use Rattle.termination_model.specs.OwnCalls.{Position}
-use Rattle.termination_model.specs.Ready.{arity_in, itself, positions_by}
+use Rattle.termination_model.specs.ComponentViews.{component_view, rank_in, size_claims}
+use Rattle.termination_model.specs.Ready.{itself}
 use Rattle.termination_model.specs.View.{Call, Lower, Member, call_of, rule_of}
 use Rattle.termination_model.proofs.ChainSieves.{all_of}
-use Rattle.termination_model.proofs.Lists.{indexed, place_below, there}
 use Rattle.level_systems.specs.Pairs.{calls_from, pairs_from, pairs_of}
 use Rattle.component_laws.specs.Mapped.{IsOfMembers, renamed_call, renamed_place, renamed_rule}
-use Rattle.component_laws.specs.Renaming.{KeepsApart, renamed, renamed_atom}
+use Rattle.component_laws.specs.Renaming.{renamed, renamed_atom}
 use Rattle.component_laws.specs.Untouched.{FindsByName, NamedAtom, NamedClause}
 use Rattle.component_laws.proofs.BlownLaws.{filter_map}
-use Rattle.component_laws.proofs.UntouchedLaws.{one_number}
 use Rattle.solved_program.specs.Kept.{AreKept}
 use Rattle.solved_program.specs.Standing.{AreSameClauses, IsSameClause, StandsFor}
 use Rattle.solved_program.proofs.Pairs.{body_pair, same_named, same_renamed}
 use Rattle.solved_program.proofs.Clauses.{of_program, own_at, own_clause, own_component}
 use Rattle.solved_program.proofs.Names.{finds_number, new_number, pred_in}
+use Rattle.carried_mappings.proofs.Members.{same_members}
+use Rattle.carried_mappings.proofs.MembersAlike.{AreMembersAlike, members_alike}
 use Rattle.carried_mappings.proofs.Numbers.{AreMoved, Numbered, Rises, numbers_of, rises_counted}
-use Rattle.carried_mappings.proofs.Renamed.{map_joined, position_pred, positions_renamed, renamed_position}
+use Rattle.carried_mappings.proofs.Ranked.{in_ranked, out_ranked, tests_same}
+use Rattle.carried_mappings.proofs.Renamed.{map_joined}
 
 abbrev pub Rowed : Type 0
 Rowed = ℕ → List (List ℤ)
-
--- ---- the component of a predicate, and what is tested of it
-or_cases : (xs : List ℕ) (q d : ℕ) → (slice_get xs q ≡ Some (slice_index_or xs q d)) ⊎ ((slice_get xs q ≡ None) × (slice_index_or xs q d ≡ d))
-or_cases [] q d = inr (refl, refl)
-or_cases (x ∷ xs) zero d = inl refl
-or_cases (x ∷ xs) (suc q) d = or_cases xs q d
-
-module _ (comps : Partition) (c : ℕ) (inner : c < length comps.members) where
-  pub ranked_in : (q : ℕ) → (rank_in comps q == c) ≡ true → IsIn comps c q
-  ranked_in q e = elim (or_cases comps.of q (length comps.members)) [
-    | inl some ↦ some ∙ ap Some (eqb-true (rank_in comps q) c e)
-    | inr none ↦ let same : rank_in comps q ≡ c = eqb-true (rank_in comps q) c e in let past = none.1 in absurd (omega arith)
-  ]
-
-  pub in_ranked : (q : ℕ) → IsIn comps c q → (rank_in comps q == c) ≡ true
-  in_ranked q e = eq-eqb (rank_in comps q) c (indexed comps.of q c (length comps.members) e)
-
-  pub out_ranked : (q : ℕ) → (IsIn comps c q → ⊥) → (rank_in comps q == c) ≡ false
-  out_ranked q out = go (rank_in comps q == c) refl
-    where
-      go : (t : Bool) → (rank_in comps q == c) ≡ t → t ≡ false
-      go true e = absurd (out (ranked_in q e))
-      go false e = refl
-
-  pub tests_same : (q : ℕ) → is_number c (component_of comps q) ≡ (rank_in comps q == c)
-  tests_same q = elim (or_cases comps.of q (length comps.members)) [
-    | inl some ↦ ap (is_number c) some
-    | inr none ↦ ap (is_number c) none.0 ∙ sym (out_ranked q (λ here. let no_one : None ≡ Some c = sym none.0 ∙ here in cc))
-  ]
-
-pub of_contains : (xs : List ℕ) (x : ℕ) → Contains xs x → In x xs
-of_contains [] x (i, l, e) = absurd (omega arith)
-of_contains (z ∷ xs) x (zero, l, e) = inl e
-of_contains (z ∷ xs) x (suc i, l, e) = inr (of_contains xs x (i, omega arith, e))
-
-pub to_contains : (xs : List ℕ) (x : ℕ) → In x xs → Contains xs x
-to_contains [] x h = absurd h
-to_contains (y ∷ xs) x (inl e) = (0, omega arith, e)
-to_contains (y ∷ xs) x (inr h) = let more = to_contains xs x h in (suc more.0, omega (arith, more.1), more.2)
-
-module _ (p : Listing) (comps : Partition) (are : AreComponents p comps) (c : ℕ) (inner : c < length comps.members) where
-  members_at : slice_get comps.members c ≡ Some (members_in comps c)
-  members_at = there comps.members c [] inner
-
-  pub member_in : (q : ℕ) → IsIn comps c q → In q (members_in comps c)
-  member_in q i = of_contains (members_in comps c) q ((are.members c (members_in comps c) members_at q).1 i)
-
-  pub in_member : (q : ℕ) → In q (members_in comps c) → IsIn comps c q
-  in_member q i = (are.members c (members_in comps c) members_at q).0 (to_contains (members_in comps c) q i)
-
-  pub pred_of : (q : ℕ) → IsIn comps c q → (x : Pred) × (slice_get p.preds q ≡ Some x)
-  pred_of q i =
-      let below = place_below comps.of q c i in
-      let each = are.each in
-      let none : Pred = record { name = record { 0 = 0 }; arity = 0 } in
-      (slice_index_or p.preds q none, there p.preds q none (omega arith))
 
 -- ---- the clauses of a component, without and with their numbers
 plain_counted : (n : ℕ) (ks : List Clause) → map (λ (k : Numbered). k.1) (counted n ks) ≡ ks
@@ -181,16 +124,7 @@ module _ (p : Listing) (comps : Partition) (c : ℕ) (inner : c < length comps.m
 
 -- ---- two components that are alike, but for numbers
 pub record AreAlike (p new : Listing) (comps new_comps : Partition) (b c : ℕ) (rows new_rows : Rowed) (f back : ℕ → ℕ) : Type 0 where
-  pub members : members_in new_comps c ≡ map f (members_in comps b)
-  pub member : (q : ℕ) → In q (members_in comps b) → (rank_in comps q == b) ≡ true
-  pub new_member : (r : ℕ) → In r (members_in new_comps c) → (rank_in new_comps r == c) ≡ true
-  pub to : (q : ℕ) → (rank_in comps q == b) ≡ true → (rank_in new_comps (f q) == c) ≡ true
-  pub from : (r : ℕ) → (rank_in new_comps r == c) ≡ true → (q : ℕ) × ((rank_in comps q == b) ≡ true) × (f q ≡ r)
-  pub back_of : (q : ℕ) → (rank_in comps q == b) ≡ true → back (f q) ≡ q
-  pub apart : KeepsApart (λ q. (rank_in comps q == b) ≡ true) f
-  pub arity : (q : ℕ) → (rank_in comps q == b) ≡ true → arity_in new (f q) ≡ arity_in p q
-  pub positions : positions_in new new_comps c ≡ map (renamed_position f) (positions_in p comps b)
-  pub own_positions : (x : Position) → In x (positions_in p comps b) → (rank_in comps x.0 == b) ≡ true
+  pub all : AreMembersAlike p new comps new_comps b c f back
   pub rules : (expression : ℕ → Tree → List ℤ) → AllByRecursion (IsOfMembers (λ q. rank_in comps q == b)) (component_view expression p comps rows b)
   pub view : (expression : ℕ → Tree → List ℤ) → component_view expression new new_comps new_rows c ≡ map (renamed_rule f) (component_view expression p comps rows b)
   -- where g gives clauses their new numbers, so it gives pairs theirs
@@ -203,9 +137,6 @@ pub record AreAlike (p new : Listing) (comps new_comps : Partition) (b c : ℕ) 
   pub here : (k : Numbered) → In k (clauses_of p comps b) → (slice_get p.clauses (k.0 - 1) ≡ Some k.1) × ((rank_in comps k.1.head.pred.0 == b) ≡ true)
   pub there : (l : Numbered) → In l (clauses_of new new_comps c) → (slice_get new.clauses (l.0 - 1) ≡ Some l.1) × IsIn new_comps c l.1.head.pred.0
   pub own_clause : (j : ℕ) (k : Clause) → slice_get p.clauses j ≡ Some k → IsIn comps b k.head.pred.0 → In (1 + j, k) (clauses_of p comps b)
-  pub own_call : (q : ℕ) → IsIn comps b q → (rank_in comps q == b) ≡ true
-  pub new_call : (q : ℕ) → (rank_in comps q == b) ≡ true → IsIn new_comps c (f q)
-  pub contained : (q : ℕ) → (rank_in comps q == b) ≡ true → Contains (members_in comps b) q
   pub rises : Rises 1 (numbers_of (clauses_of p comps b))
   pub new_rises : Rises 1 (numbers_of (clauses_of new new_comps c))
 
@@ -213,8 +144,7 @@ pub record AreAlike (p new : Listing) (comps new_comps : Partition) (b c : ℕ) 
 module _ (p new : Listing) (comps new_comps : Partition) (prog : IsProgram p) (new_prog : IsProgram new) (are : AreComponents p comps) (new_are : AreComponents new new_comps)
     (kept : List (Option ℕ)) (are_kept : AreKept p new kept) (b c : ℕ) (inner : b < length comps.members) (new_inner : c < length new_comps.members) (rows new_rows : Rowed)
     (stands : StandsFor comps new_comps b c rows new_rows p new kept)
-    (keeps : (q r : ℕ) (x : Pred) → slice_get p.preds q ≡ Some x → slice_get new.preds r ≡ Some x → IsIn new_comps c r → new_rows r ≡ rows q)
-    (order : map (slice_get p.preds) (members_in comps b) ≡ map (slice_get new.preds) (members_in new_comps c)) where
+    (keeps : (q r : ℕ) (x : Pred) → slice_get p.preds q ≡ Some x → slice_get new.preds r ≡ Some x → IsIn new_comps c r → new_rows r ≡ rows q) where
   abbrev pub f : ℕ → ℕ
   f = new_number p.preds new.preds
 
@@ -227,64 +157,8 @@ module _ (p new : Listing) (comps new_comps : Partition) (prog : IsProgram p) (n
   finds : FindsByName p new f
   finds = finds_number p new new_prog
 
-  -- ---- members
-  -- a predicate has its name there too
-  named_there : (qs rs : List ℕ) → map (slice_get p.preds) qs ≡ map (slice_get new.preds) rs → ((q : ℕ) → In q qs → (x : Pred) × (slice_get p.preds q ≡ Some x))
-      → (rs ≡ map f qs) × ((q : ℕ) → In q qs → slice_get new.preds (f q) ≡ slice_get p.preds q)
-  named_there [] [] e h = (refl, λ q i. absurd i)
-  named_there [] (r ∷ rs) e h = cc
-  named_there (q ∷ qs) [] e h = cc
-  named_there (q ∷ qs) (r ∷ rs) e h =
-      let first : slice_get p.preds q ≡ slice_get new.preds r = cc in
-      let rest : map (slice_get p.preds) qs ≡ map (slice_get new.preds) rs = cc in
-      let x = h q (inl refl) in
-      let number : f q ≡ r = finds q r x.0 x.1 (sym first ∙ x.1) in
-      let here : slice_get new.preds (f q) ≡ slice_get p.preds q = ap (slice_get new.preds) number ∙ sym first in
-      let more = named_there qs rs rest (λ z i. h z (inr i)) in
-      ((λ i. sym number i ∷ more.0 i), one q qs here more.1)
-    where
-      one : (q : ℕ) (qs : List ℕ) → slice_get new.preds (f q) ≡ slice_get p.preds q → ((z : ℕ) → In z qs → slice_get new.preds (f z) ≡ slice_get p.preds z) → (z : ℕ) → In z (q ∷ qs) → slice_get new.preds (f z) ≡ slice_get p.preds z
-      one q qs here more z (inl e) = subst (λ (y : ℕ). slice_get new.preds (f y) ≡ slice_get p.preds y) e here
-      one q qs here more z (inr i) = more z i
-
-  both : (members_in new_comps c ≡ map f (members_in comps b)) × ((q : ℕ) → In q (members_in comps b) → slice_get new.preds (f q) ≡ slice_get p.preds q)
-  both = named_there (members_in comps b) (members_in new_comps c) order (λ q i. pred_of p comps are b inner q (in_member p comps are b inner q i))
-
-  pub members_renamed : members_in new_comps c ≡ map f (members_in comps b)
-  members_renamed = both.0
-
-  pub name_there : (q : ℕ) → IsIn comps b q → slice_get new.preds (f q) ≡ slice_get p.preds q
-  name_there q i = both.1 q (member_in p comps are b inner q i)
-
-  pub member_there : (q : ℕ) → IsIn comps b q → IsIn new_comps c (f q)
-  member_there q i = in_member new new_comps new_are c new_inner (f q) (subst (In (f q)) (sym members_renamed) (in-map f (members_in comps b) q (member_in p comps are b inner q i)))
-
-  pub member_from : (r : ℕ) → IsIn new_comps c r → (q : ℕ) × IsIn comps b q × (f q ≡ r)
-  member_from r i =
-      let from = of-map f (members_in comps b) r (subst (In r) members_renamed (member_in new new_comps new_are c new_inner r i)) in
-      (from.0, in_member p comps are b inner from.0 from.1, from.2)
-
-  pub apart : KeepsApart (λ q. m q ≡ true) f
-  apart q r a a' e =
-      let i = ranked_in comps b inner q a in
-      let j = ranked_in comps b inner r a' in
-      let x = pred_of p comps are b inner q i in
-      one_number p.preds prog.distinct q r x.0 x.1 (sym (name_there r j) ∙ ap (slice_get new.preds) (sym e) ∙ name_there q i ∙ x.1)
-
-  pub arity_there : (q : ℕ) → m q ≡ true → arity_in new (f q) ≡ arity_in p q
-  arity_there q a = ap (λ (o : Option Pred). unwrap_or (option_map (λ (d : Pred). d.arity) o) 0) (name_there q (ranked_in comps b inner q a))
-
-  pub ranks_alike : (q : ℕ) → IsIn comps b q → nm (f q) ≡ m q
-  ranks_alike q i = in_ranked new_comps c new_inner (f q) (member_there q i) ∙ sym (in_ranked comps b inner q i)
-
-  -- ---- positions
-  pub positions_there : positions_in new new_comps c ≡ map (renamed_position f) (positions_in p comps b)
-  positions_there =
-      ap (λ (qs : List ℕ). positions_by (arity_in new) qs) members_renamed
-      ∙ positions_renamed f (arity_in p) (arity_in new) (members_in comps b) (λ q i. arity_there q (in_ranked comps b inner q (in_member p comps are b inner q i)))
-
-  pub positions_of_members : (x : Position) → In x (positions_in p comps b) → m x.0 ≡ true
-  positions_of_members x i = in_ranked comps b inner x.0 (in_member p comps are b inner x.0 (position_pred (arity_in p) (members_in comps b) x i))
+  all_named : AreMembersAlike p new comps new_comps b c f (new_number new.preds p.preds)
+  all_named = members_alike p new comps new_comps prog new_prog are new_are b c inner new_inner (same_members p new comps new_comps prog new_prog are new_are kept are_kept b c rows new_rows stands)
 
   -- ---- clauses
   abbrev pub ks : List Numbered
@@ -449,24 +323,9 @@ module _ (p new : Listing) (comps new_comps : Partition) (prog : IsProgram p) (n
   bodies (x ∷ xs) (y ∷ ys) h k (inl e) a j = (h.0.body a (subst (λ (z : Numbered). In a z.1.body) (sym e) j)).rows_same
   bodies (x ∷ xs) (y ∷ ys) h k (inr i) a j = bodies xs ys h.1 k i a j
 
-  back_there : (q : ℕ) → m q ≡ true → new_number new.preds p.preds (f q) ≡ q
-  back_there q a =
-      let i = ranked_in comps b inner q a in
-      let x = pred_of p comps are b inner q i in
-      finds_number new p prog (f q) q x.0 (name_there q i ∙ x.1) x.1
-
   pub alike : AreAlike p new comps new_comps b c rows new_rows f (new_number new.preds p.preds)
   alike = record {
-    members = members_renamed;
-    member = λ q i. in_ranked comps b inner q (in_member p comps are b inner q i);
-    new_member = λ r i. in_ranked new_comps c new_inner r (in_member new new_comps new_are c new_inner r i);
-    to = λ q a. in_ranked new_comps c new_inner (f q) (member_there q (ranked_in comps b inner q a));
-    from = λ r a. let q = member_from r (ranked_in new_comps c new_inner r a) in (q.0, in_ranked comps b inner q.0 q.1, q.2);
-    back_of = back_there;
-    apart = apart;
-    arity = arity_there;
-    positions = positions_there;
-    own_positions = positions_of_members;
+    all = all_named;
     rules = λ expression. view_of_members p comps b inner expression rows;
     view = view_there;
     pairs = pairs_there;
@@ -476,9 +335,6 @@ module _ (p new : Listing) (comps new_comps : Partition) (prog : IsProgram p) (n
     here = λ k i. (own_at p comps prog are b k i, in_ranked comps b inner k.1.head.pred.0 (own_component p comps prog are b k i));
     there = λ l i. (own_at new new_comps new_prog new_are c l i, own_component new new_comps new_prog new_are c l i);
     own_clause = λ j k at own. own_clause p comps prog are b j k at own;
-    own_call = λ q i. in_ranked comps b inner q i;
-    new_call = λ q a. member_there q (ranked_in comps b inner q a);
-    contained = λ q a. to_contains (members_in comps b) q (member_in p comps are b inner q (ranked_in comps b inner q a));
     rises = rises_counted (λ k. is_number b (component_of comps k.1.head.pred.0)) 1 p.clauses;
     new_rises = rises_counted (λ k. is_number c (component_of new_comps k.1.head.pred.0)) 1 new.clauses;
   }

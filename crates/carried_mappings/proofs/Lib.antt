@@ -1,8 +1,17 @@
 pub mod Alike
+pub mod BySets
 pub mod Carried
 pub mod Carries
+pub mod Members
+pub mod MembersAlike
 pub mod Numbers
 pub mod Orders
+pub mod Parts
+pub mod Placing
 pub mod Points
+pub mod Ranked
 pub mod Renamed
+pub mod Renumbering
+pub mod Reordered
 pub mod Resolved
+pub mod SameMappings

@@ -26,9 +26,10 @@ use Rattle.level_systems.specs.Found.{IsOwnPair, IsRefutationOf}
 use Rattle.component_laws.specs.Renaming.{KeepsApart, renamed, renamed_atom}
 use Rattle.component_laws.proofs.RunLaws.{renamed_system}
 use Rattle.carried_mappings.specs.Moved.{moved_pair, moved_refutation}
-use Rattle.carried_mappings.proofs.Alike.{AreAlike, Rowed, of_contains}
-use Rattle.carried_mappings.proofs.Carried.{in_taken, take_mapped}
+use Rattle.carried_mappings.proofs.Alike.{AreAlike, Rowed}
 use Rattle.carried_mappings.proofs.Numbers.{AreMoved, Numbered, moved_after, moved_in, numbers_of, rises_over}
+use Rattle.carried_mappings.proofs.Parts.{in_taken, take_mapped}
+use Rattle.carried_mappings.proofs.Ranked.{of_contains}
 use Rattle.carried_mappings.proofs.Renamed.{map_alike, map_twice, tests_alike}
 
 -- ---- loads of members
@@ -115,8 +116,8 @@ module _ (p new : Listing) (comps new_comps : Partition) (b c : ℕ) (rows new_r
         call = ap (λ (z : Clause). atom_or_none (slice_get z.body (x.call - 1))) clause ∙ renamed_at (clause_of p x).body (x.call - 1) (omega arith);
         number = in-map (λ (z : Numbered). z.0) (clauses_of p comps b) (x.clause, k) among;
         body = λ a j. h.body_rows (x.clause, k) among a (subst (λ (z : Clause). In a z.body) is j);
-        head_member = h.own_call (clause_of p x).head.pred.0 own.head;
-        call_member = h.own_call (call_of p x).pred.0 own.call;
+        head_member = h.all.own_call (clause_of p x).head.pred.0 own.head;
+        call_member = h.all.own_call (call_of p x).pred.0 own.call;
       }
 
   -- ---- all points
@@ -185,8 +186,8 @@ module _ (p new : Listing) (comps new_comps : Partition) (b c : ℕ) (rows new_r
     own_there x i own =
         let moved = moved_all x i in
         record {
-          head = ap (λ (z : Clause). slice_get new_comps.of z.head.pred.0) moved.clause ∙ h.new_call (clause_of p x).head.pred.0 moved.head_member;
-          call = ap (λ (z : Atom). slice_get new_comps.of z.pred.0) moved.call ∙ h.new_call (call_of p x).pred.0 moved.call_member;
+          head = ap (λ (z : Clause). slice_get new_comps.of z.head.pred.0) moved.clause ∙ h.all.new_call (clause_of p x).head.pred.0 moved.head_member;
+          call = ap (λ (z : Atom). slice_get new_comps.of z.pred.0) moved.call ∙ h.all.new_call (call_of p x).pred.0 moved.call_member;
           natural = own.natural;
           second = own.second;
         }
@@ -218,17 +219,17 @@ module _ (p new : Listing) (comps new_comps : Partition) (b c : ℕ) (rows new_r
       positive = some_there xs sums.positive;
       fit = record {
         values = each_there (PairFits expression p) (PairFits expression new) fits_there sums.fit.values;
-        heads = subst SumsFit (sym heads_there) (sums_fit f m h.apart (λ r. rank_in new_comps r == c) h.from h.to heads heads_of sums.fit.heads);
-        calls = subst SumsFit (sym calls_there) (sums_fit f m h.apart (λ r. rank_in new_comps r == c) h.from h.to calls calls_of sums.fit.calls);
+        heads = subst SumsFit (sym heads_there) (sums_fit f m h.all.apart (λ r. rank_in new_comps r == c) h.all.from h.all.to heads heads_of sums.fit.heads);
+        calls = subst SumsFit (sym calls_there) (sums_fit f m h.all.apart (λ r. rank_in new_comps r == c) h.all.from h.all.to calls calls_of sums.fit.calls);
       };
       columns = λ r has i.
-          let q = h.from r (h.new_member r (of_contains (members_in new_comps c) r has)) in
+          let q = h.all.from r (h.all.new_member r (of_contains (members_in new_comps c) r has)) in
           let head : gather r (head_loads expression new new_xs) ≡ gather q.0 heads =
-          ap (gather r) heads_there ∙ ap (λ (z : ℕ). gather z (map (renamed_load f) heads)) (sym q.2) ∙ gather_renamed f m h.apart heads heads_of q.0 q.1 in
+          ap (gather r) heads_there ∙ ap (λ (z : ℕ). gather z (map (renamed_load f) heads)) (sym q.2) ∙ gather_renamed f m h.all.apart heads heads_of q.0 q.1 in
           let call : gather r (call_loads expression new new_xs) ≡ gather q.0 calls =
-          ap (gather r) calls_there ∙ ap (λ (z : ℕ). gather z (map (renamed_load f) calls)) (sym q.2) ∙ gather_renamed f m h.apart calls calls_of q.0 q.1 in
+          ap (gather r) calls_there ∙ ap (λ (z : ℕ). gather z (map (renamed_load f) calls)) (sym q.2) ∙ gather_renamed f m h.all.apart calls calls_of q.0 q.1 in
           subst (λ (z : List ℤ). entry z i ≤ℤ entry (gather r (call_loads expression new new_xs)) i) (sym head)
-          (subst (λ (z : List ℤ). entry (gather q.0 heads) i ≤ℤ entry z i) (sym call) (sums.columns q.0 (h.contained q.0 q.1) i));
+          (subst (λ (z : List ℤ). entry (gather q.0 heads) i ≤ℤ entry z i) (sym call) (sums.columns q.0 (h.all.contained q.0 q.1) i));
     }
       where
         some_there : (ys : List PairPoint) → SomeOf (λ (x : PairPoint). pos 1 ≤ℤ x.point.t) ys → SomeOf (λ (x : PairPoint). pos 1 ≤ℤ x.point.t) (map (moved_pair g) ys)

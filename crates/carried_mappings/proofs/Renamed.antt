@@ -1,5 +1,5 @@
 -- Positions, supports and parts of mappings, where members have other numbers and stand in the same order.
-use Rattle.std.proofs.Common.{◌≡◌, ℕ, suc, ◌<◌, ◌==◌, ℤ, Bool, true, false, if◌then◌else◌, inl, inr, List, [], ◌∷◌, ◌++◌, map, Option, None, Some, refl, ap, sym, subst, ◌∙◌, arith, nat_lt, nat_eq, eq-eqb, eqb-true}
+use Rattle.std.proofs.Common.{◌≡◌, ℕ, suc, ◌<◌, ◌==◌, ℤ, Bool, true, false, if◌then◌else◌, inl, inr, List, [], ◌∷◌, ◌++◌, map, length, Option, None, Some, refl, ap, sym, subst, ◌∙◌, arith, nat_lt, nat_eq, eq-eqb, eqb-true}
 use Rattle.std.specs.List.{AllByRecursion, list_any}
 use Rattle.cti_terms.specs.Tree.{Tree}
 use Rattle.linear_rows.specs.Members.{In}
@@ -29,6 +29,10 @@ map_twice g h (x ∷ xs) = ap (λ zs. g (h x) ∷ zs) (map_twice g h xs)
 pub map_joined : {X Y : Type 0} (g : X → Y) (xs ys : List X) → map g (xs ++ ys) ≡ map g xs ++ map g ys
 map_joined g [] ys = refl
 map_joined g (x ∷ xs) ys = ap (λ zs. g x ∷ zs) (map_joined g xs ys)
+
+pub length_mapped : {X Y : Type 0} (g : X → Y) (xs : List X) → length (map g xs) ≡ length xs
+length_mapped g [] = refl
+length_mapped g (x ∷ xs) = ap suc (length_mapped g xs)
 
 pub map_alike : {X Y : Type 0} (g h : X → Y) (xs : List X) → ((x : X) → In x xs → g x ≡ h x) → map g xs ≡ map h xs
 map_alike g h [] e = refl
@@ -174,7 +178,7 @@ module _ (f : ℕ → ℕ) (m : ℕ → Bool) (apart : KeepsApart (λ q. m q ≡
           go true is = ap natural_offset (level_renamed ms of q is)
           go false out = ap natural_offset (sym (level_none ms of q out))
 
-  level_from : (ms : List Measure) → AreParts ms → (r : ℕ) (part : LevelPart) → level_in (map (renamed_measure f) ms) r ≡ Some part → (q : ℕ) × (m q ≡ true) × (f q ≡ r)
+  pub level_from : (ms : List Measure) → AreParts ms → (r : ℕ) (part : LevelPart) → level_in (map (renamed_measure f) ms) r ≡ Some part → (q : ℕ) × (m q ≡ true) × (f q ≡ r)
   level_from [] of r part e = cc
   level_from (x ∷ ms) of r part e = go (f x.pred.0 == r) refl (λ more. level_from ms (λ y j. of y (inr j)) r part more) e
     where

@@ -1,5 +1,5 @@
 -- The mappings of a program after an edit, component by component.
-use Rattle.std.proofs.Common.{◌≡◌, ℕ, zero, suc, ◌+◌, ◌-◌, ◌<◌, ◌⊎◌, ℤ, inl, inr, List, [], ◌∷◌, ◌++◌, map, length, slice_get, Bor, Option, None, Some, Ok, Err, refl, ap, sym, subst, ◌∙◌, arith}
+use Rattle.std.proofs.Common.{◌≡◌, ℕ, zero, suc, ◌+◌, ◌-◌, ◌<◌, ◌⊎◌, ℤ, Bool, true, false, inl, inr, List, [], ◌∷◌, ◌++◌, map, length, slice_get, slice_index_or, Bor, Option, None, Some, Ok, Err, refl, ap, sym, subst, ◌∙◌, arith}
 use Rattle.std.specs.Prelude.{IfOk, IfSome, Result}
 use Rattle.std.specs.List.{AllByRecursion}
 use Rattle.call_components.specs.Partition.{Partition, AreComponents, IsIn}
@@ -11,6 +11,7 @@ use Rattle.numeric_model.specs.Running.{AreOwnClauses}
 use Rattle.termination_model.specs.Chain.{clauses_of}
 use Rattle.termination_model.specs.ComponentViews.{members_in}
 use Rattle.termination_model.specs.Sizes.{rows_of}
+use Rattle.termination_model.proofs.Lists.{place_below, there}
 use Rattle.level_systems.specs.Mappings.{IsMappingOf}
 use Rattle.level_systems.specs.declared.found.Found.{Found}
 use Rattle.level_systems.specs.declared.mapping.Mapping.{Mapping}
@@ -23,11 +24,12 @@ use Rattle.solved_program.proofs.Pairs.{pair_back}
 use Rattle.solved_program.proofs.Clauses.{own_at, own_component}
 use Rattle.carried_mappings.specs.Carrying.{AreOwn, CarriesOver, IsStanding, new_number}
 use Rattle.carried_mappings.specs.Moved.{moved, moved_found}
-use Rattle.carried_mappings.specs.Order.{HaveSameOrder}
-use Rattle.carried_mappings.specs.FoundMappings.{AreFoundTo, AreKeptFound, AreMappingSources, IsCarriedAt, IsFoundAt, IsKept, carried_over, number_in}
+use Rattle.carried_mappings.specs.Order.{AreSameMappings, HaveSameMembers, HaveSameOrder}
+use Rattle.carried_mappings.specs.FoundMappings.{AreFound, AreFoundTo, AreKeptFound, AreMappingSources, IsCarriedAt, IsFoundAt, IsKept, IsKeptFrom, nothing, number_in}
 use Rattle.carried_mappings.specs.declared.resolving.MappingSources.{MappingSources}
 use Rattle.carried_mappings.specs.declared.standing.Standing.{Standing}
 use Rattle.carried_mappings.proofs.Carries.{own_numbers}
+use Rattle.carried_mappings.proofs.Members.{recursive_alike, same_members}
 use Rattle.carried_mappings.proofs.Numbers.{Numbered, numbers_of}
 
 pub own_of : (p : Listing) (comps : Partition) (lists : List (List ℕ)) → AreOwnClauses p comps lists → (c : ℕ) (own : List ℕ) → slice_get lists c ≡ Some own → AreOwn p comps c own
@@ -84,11 +86,20 @@ module _ (s : MappingSources) (are : AreMappingSources s) (b c : ℕ) (stands : 
       one_before e.before.now e.after.now e.components_before.now e.components.now prog new_prog are.sources.edit.components_before are.sources.edit.components e.kept.now are.sources.edit.kept d b c
       (rows_of s.sources.old.now.sizes.rows) (rows_of s.sizes.now.rows) other stands
 
-  -- where nothing was found of the old component, there is nothing to keep
-  pub none_kept : slice_get s.found.now b ≡ Some None → IsKept s c None
-  none_kept none d x other order found =
-      let here : slice_get s.found.now b ≡ Some (Some x) = ap (slice_get s.found.now) (sym (one_standing d other)) ∙ found in
-      cc
+-- where the component is not recursive, nothing was found of the old one
+pub nothing_kept : (s : MappingSources) → AreMappingSources s → IsProgram s.sources.edit.now.before.now → IsProgram s.sources.edit.now.after.now
+    → (c : ℕ) → slice_get s.sources.edit.now.components.now.recursive c ≡ Some false → IsKept s c nothing
+nothing_kept s are prog new_prog c not_so b x stands found =
+    let e = s.sources.edit.now in
+    let inner = place_below s.found.now b x found in
+    let before = there e.components_before.now.recursive b true (let l = are.sources.edit.components_before.answers in let k = are.each in omega arith) in
+    let alike = recursive_alike e.before.now e.after.now e.components_before.now e.components.now prog new_prog are.sources.edit.components_before are.sources.edit.components e.kept.now are.sources.edit.kept b c
+    (rows_of s.sources.old.now.sizes.rows) (rows_of s.sizes.now.rows) stands (slice_index_or e.components_before.now.recursive b true) false before not_so in
+    let none : x ≡ nothing = are.others b x found (before ∙ ap Some alike) in
+    subst (λ (y : Found). IsKeptFrom e b c y nothing) (sym none) (record {
+      mappings = record { there = λ y i. absurd i; before = λ y i. absurd i };
+      moved = λ order. refl;
+    })
 
 module _ (s : MappingSources) (are : AreMappingSources s) (b c : ℕ) (inner_before : b < length s.sources.edit.now.components_before.now.members) (inner : c < length s.sources.edit.now.components.now.members)
     (stands : Stands s.sources s.sizes.now.rows b c) (own_before own : Bor (List ℕ)) (at_before : slice_get s.sources.own_before.now b ≡ Some own_before.now) (at : slice_get s.sources.own.now c ≡ Some own.now) where
@@ -119,9 +130,13 @@ module _ (s : MappingSources) (are : AreMappingSources s) (b c : ℕ) (inner_bef
             ∙ sym (ap length (own_numbers new new_comps c own.now new_own));
       }
 
-  pub carried_is : (x y : Found) → slice_get s.found.now b ≡ Some (Some x) → CarriesOver (standing_at s b c own_before own) x y → IsCarriedAt s c y
-  carried_is x y found over expression old kept =
-      over expression (rows_of s.sources.old.now.sizes.rows) (rows_of s.sizes.now.rows) stands (kept b c inner stands) (old.found b (Some x) found)
+  pub carried_is : IsProgram p → IsProgram new → slice_get new_comps.recursive c ≡ Some true → (x y : Found) → slice_get s.found.now b ≡ Some x
+      → CarriesOver (standing_at s b c own_before own) x y → IsCarriedAt s c y
+  carried_is prog new_prog so x y found over expression old kept =
+      let before = there comps.recursive b true (let l = are.sources.edit.components_before.answers in omega arith) in
+      let alike = recursive_alike p new comps new_comps prog new_prog are.sources.edit.components_before are.sources.edit.components s.sources.edit.now.kept.now are.sources.edit.kept b c
+      (rows_of s.sources.old.now.sizes.rows) (rows_of s.sizes.now.rows) stands (slice_index_or comps.recursive b true) true before so in
+      over expression (rows_of s.sources.old.now.sizes.rows) (rows_of s.sizes.now.rows) stands (kept b c inner stands) ((old.found b x found).recursive (before ∙ ap Some alike))
 
   -- ---- what is kept
   module _ (prog : IsProgram p) (new_prog : IsProgram new) where
@@ -139,29 +154,32 @@ module _ (s : MappingSources) (are : AreMappingSources s) (b c : ℕ) (inner_bef
         let second = own_numbers new new_comps c own.now new_own in
         (λ i n. moved (sym first i) (sym second i) n)
 
-    moved_kept : (y z : Found) → slice_get s.found.now b ≡ Some (Some y) → z ≡ moved_found (new_number (standing_at s b c own_before own)) (members_in new_comps c) y → IsKept s c (Some z)
-    moved_kept y z at_y is d x other order found =
-        let same = one d other in
-        let here : slice_get s.found.now b ≡ Some (Some x) = ap (slice_get s.found.now) (sym same) ∙ found in
+    pub carry_kept : {E : Type 0} (y : Found) → slice_get s.found.now b ≡ Some y → (r : Result Found E)
+        → (HaveSameOrder e b c → IfOk r (λ z. z ≡ moved_found (new_number (standing_at s b c own_before own)) (members_in new_comps c) y))
+        → IfOk r (λ z. AreSameMappings e b y.mappings z.mappings) → IfOk r (IsKept s c)
+    carry_kept y at_y (Ok z) moves same = λ d x other found.
+        let one_only = one d other in
+        let here : slice_get s.found.now b ≡ Some x = ap (slice_get s.found.now) (sym one_only) ∙ found in
         let equal : y ≡ x = cc in
-        ap Some (is ∙ ap (λ (g : ℕ → ℕ). moved_found g (members_in new_comps c) y) (sym numbers_same) ∙ ap (carried_over e b c) equal ∙ ap (λ (n : ℕ). carried_over e n c x) (sym same))
+        let kept : IsKeptFrom e b c y z = record {
+          mappings = same;
+          moved = λ order. moves order ∙ ap (λ (g : ℕ → ℕ). moved_found g (members_in new_comps c) y) (sym numbers_same);
+        } in
+        subst (λ (n : ℕ). IsKeptFrom e n c x z) (sym one_only) (subst (λ (w : Found). IsKeptFrom e b c w z) equal kept)
+    carry_kept y at_y (Err f) moves same = tt
 
-    pub carry_kept : {E : Type 0} (y : Found) → slice_get s.found.now b ≡ Some (Some y) → (r : Result (Option Found) E)
-        → IfOk r (λ o. IfSome o (λ z. z ≡ moved_found (new_number (standing_at s b c own_before own)) (members_in new_comps c) y))
-        → IfOk r (λ o. o ≡ None → HaveSameOrder e b c → ⊥) → IfOk r (IsKept s c)
-    carry_kept y at_y (Ok (Some z)) is out = moved_kept y z at_y is
-    carry_kept y at_y (Ok None) is out = λ d x other order found. absurd (out refl (subst (λ (n : ℕ). HaveSameOrder e n c) (one d other) order))
-    carry_kept y at_y (Err f) is out = tt
+    pub members_same : HaveSameMembers e b c
+    members_same =
+        same_members p new comps new_comps prog new_prog are.sources.edit.components_before are.sources.edit.components e.kept.now are.sources.edit.kept b c
+        (rows_of s.sources.old.now.sizes.rows) (rows_of s.sizes.now.rows) stands
 
--- what is searched, where there is none to carry
-pub search_kept : {E : Type 0} (s : MappingSources) (c : ℕ) → IsKept s c None → (r : Result (Option Found) E) → IfOk r (IsKept s c)
-search_kept s c none (Ok o) = λ d x stands order found. let no_one = none d x stands order found in cc
-search_kept s c none (Err f) = tt
+pub if_ok_to : {X E : Type 0} (P Q : X → Type 0) → ((x : X) → P x → Q x) → (r : Result X E) → IfOk r P → IfOk r Q
+if_ok_to P Q to (Ok x) h = to x h
+if_ok_to P Q to (Err e) h = tt
 
-pub if_ok_some : {X E : Type 0} (P Q : X → Type 0) → ((x : X) → P x → Q x) → (r : Result (Option X) E) → IfOk r (λ o. IfSome o P) → IfOk r (λ o. IfSome o Q)
-if_ok_some P Q to (Ok None) h = tt
-if_ok_some P Q to (Ok (Some x)) h = to x h
-if_ok_some P Q to (Err e) h = tt
+pub if_ok_is : {X E : Type 0} (P : X → Type 0) → ((x : X) → P x) → (r : Result X E) → IfOk r P
+if_ok_is P all (Ok x) = all x
+if_ok_is P all (Err e) = tt
 
 -- ---- one more component
 pushed : {X : Type 0} (xs : List X) (y : X) (i : ℕ) (x : X) → slice_get (xs ++ y ∷ []) i ≡ Some x → (slice_get xs i ≡ Some x) ⊎ ((i ≡ length xs) × (y ≡ x))
@@ -181,7 +199,7 @@ module _ (expression : ℕ → Tree → List ℤ) (p : Listing) (comps : Partiti
   pub none_found : AreFoundTo expression p comps rows 0 []
   none_found = record { each = refl; found = λ c o at. cc }
 
-  pub found_more : (n : ℕ) (fs : List (Option Found)) (o : Option Found) → AreFoundTo expression p comps rows n fs → IsFoundAt expression p comps rows n o → AreFoundTo expression p comps rows (n + 1) (fs ++ o ∷ [])
+  pub found_more : (n : ℕ) (fs : List Found) (o : Found) → AreFoundTo expression p comps rows n fs → IsFoundAt expression p comps rows n o → AreFoundTo expression p comps rows (n + 1) (fs ++ o ∷ [])
   found_more n fs o are is = record {
     each = longer fs o ∙ (let e = are.each in omega arith);
     found = λ c x at. elim (pushed fs o c x at) [
@@ -194,14 +212,22 @@ module _ (expression : ℕ → Tree → List ℤ) (p : Listing) (comps : Partiti
 
 -- ---- parts for each member
 module _ (expression : ℕ → Tree → List ℤ) (p : Listing) (comps : Partition) (rows : ℕ → List (List ℤ)) (c : ℕ) where
-  pub parts_of : (ms : List Mapping) → AllByRecursion (IsMappingOf expression p rows comps c) ms → AllByRecursion (λ (m : Mapping). map (λ (y : Measure). y.pred.0) m.measures ≡ members_in comps c) ms
+  parts_of : (ms : List Mapping) → AllByRecursion (IsMappingOf expression p rows comps c) ms → AllByRecursion (λ (m : Mapping). map (λ (y : Measure). y.pred.0) m.measures ≡ members_in comps c) ms
   parts_of [] h = tt
   parts_of (m ∷ ms) h = (h.0.measures.each, parts_of ms h.1)
+
+pub parts_at : (expression : ℕ → Tree → List ℤ) (p : Listing) (comps : Partition) (rows : ℕ → List (List ℤ)) → AreComponents p comps → (fs : List Found) → AreFound expression p comps rows fs
+    → (c : ℕ) (x : Found) → slice_get fs c ≡ Some x → AllByRecursion (λ (m : Mapping). map (λ (y : Measure). y.pred.0) m.measures ≡ members_in comps c) x.mappings
+parts_at expression p comps rows are fs found c x at = go (slice_index_or comps.recursive c true) (there comps.recursive c true (let l = place_below fs c x at in let k = found.each in let n = are.answers in omega arith))
+  where
+    go : (t : Bool) → slice_get comps.recursive c ≡ Some t → AllByRecursion (λ (m : Mapping). map (λ (y : Measure). y.pred.0) m.measures ≡ members_in comps c) x.mappings
+    go true is = parts_of expression p comps rows c x.mappings ((found.found c x at).recursive is).mappings
+    go false is = subst (λ (z : Found). AllByRecursion (λ (m : Mapping). map (λ (y : Measure). y.pred.0) m.measures ≡ members_in comps c) z.mappings) (sym ((found.found c x at).other is)) tt
 
 pub kept_none : (s : MappingSources) → AreKeptFound s []
 kept_none s c o at = cc
 
-pub kept_more : (s : MappingSources) (n : ℕ) (fs : List (Option Found)) (o : Option Found) → length fs ≡ n → AreKeptFound s fs → IsKept s n o → AreKeptFound s (fs ++ o ∷ [])
+pub kept_more : (s : MappingSources) (n : ℕ) (fs : List Found) (o : Found) → length fs ≡ n → AreKeptFound s fs → IsKept s n o → AreKeptFound s (fs ++ o ∷ [])
 kept_more s n fs o l are is c x at = elim (pushed fs o c x at) [
   | inl old ↦ are c x old
   | inr last ↦

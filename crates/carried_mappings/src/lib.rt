@@ -4,9 +4,11 @@
 //! under the new numbers of predicates and clauses, with the same falls, the same refutation and the same supports
 //! given up. No term is looked at, and no system is solved.
 //!
-//! So it is where the members stand in the same order in both programs. Then the numbers of argument positions are the
-//! same, and so are supports. `Standing::carry` carries what is found of one component, and `resolve_mappings` goes
-//! through all of them and searches those that have none to carry.
+//! Where the members stand in the same order in both programs, the numbers of argument positions are the same, and so
+//! are supports. An edit can change their order, since predicates are numbered as they first occur. Then the parts of a
+//! mapping, the numbers of positions and the mappings themselves are put in the new order, and they are the same mappings.
+//! Clauses keep their order, and so do falls and points. `Standing::carry` carries what is found of one component, and
+//! `resolve_mappings` goes through all of them and searches those that have none to carry.
 //!
 //! Depends on `component_laws`, whose laws say that mappings decrease wherever a component stands, on `level_systems`
 //! for what is found of mappings, on `level_dual` for a search, and on `solved_program` for edits.
@@ -15,7 +17,10 @@
 mod copies;
 mod moving;
 mod order;
+mod places;
+mod reordering;
 mod resolving;
+mod sets;
 mod standing;
 
 pub use resolving::resolve_mappings;

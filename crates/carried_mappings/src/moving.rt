@@ -48,7 +48,11 @@ impl Standing<'_> {
     }
 
     /// Falls, under the new numbers of clauses.
-    fn moved_falls(&self, alloc: Global, falls: &[Fall]) -> Result<Sequence<Fall>, AllocError>
+    pub(crate) fn moved_falls(
+        &self,
+        alloc: Global,
+        falls: &[Fall],
+    ) -> Result<Sequence<Fall>, AllocError>
         requires { IsStanding self.now }
         ensures { IfOk result (λ moved. moved ≡ map (moved_fall (new_number self.now)) falls.now) }
     {
@@ -126,7 +130,7 @@ impl Standing<'_> {
     }
 
     /// A refutation under the new numbers, if there is one.
-    fn moved_refutation(
+    pub(crate) fn moved_refutation(
         &self,
         alloc: Global,
         refutation: &Option<Refutation>,

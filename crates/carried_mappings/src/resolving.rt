@@ -1,6 +1,6 @@
 //! The mappings of a program after an edit.
 
-ghost use Rattle.std.specs.Prelude.{◌<◌, ℕ, IfOk, IfSome, IsNone, length};
+ghost use Rattle.std.specs.Prelude.{◌≡◌, ◌<◌, ℕ, IfOk, IfSome, IsNone, Some, length, slice_get, true};
 ghost use Rattle.termination_model.specs.Sizes.{AreSizes, rows_of};
 ghost use Rattle.solved_program.specs.Kept.{IsEdit};
 ghost use Rattle.solved_program.specs.Resolving.{Stands};
@@ -8,6 +8,7 @@ ghost use Rattle.solved_program.specs.Solved.{AreSolved};
 ghost use Rattle.solved_program.specs.Standing.{KeepValues};
 ghost use Rattle.carried_mappings.specs.FoundMappings.{AreFound, AreKeptFound, AreMappingSources, FoundBefore};
 ghost use Rattle.carried_mappings.specs.FoundMappings.{IsCarriedAt, IsFoundAt, IsKept, KeepFound, ValuesAreKept};
+ghost use Rattle.carried_mappings.specs.FoundMappings.{nothing};
 
 use crate::standing::Standing;
 use level_dual::mappings;
@@ -20,12 +21,24 @@ use std::alloc::{AllocError, Global};
 use term_size::Norm;
 use termination_model::Sizes;
 
+/// Nothing, where no mappings are searched.
+fn nothing(alloc: Global) -> Found
+    ensures { result ≡ nothing }
+{
+    Found {
+        mappings: Sequence::new(alloc),
+        refutation: None,
+        blown: Sequence::new(alloc),
+        large: false,
+    }
+}
+
 /// What the mappings after an edit are made from.
 #[derive(Clone, Copy)]
 pub(crate) struct MappingSources<'a> {
     pub(crate) sources: Sources<'a>,
     /// What was found of each component before the edit.
-    pub(crate) found: &'a [Option<Found>],
+    pub(crate) found: &'a [Found],
     /// The size rows after the edit.
     pub(crate) sizes: &'a Sizes,
     /// For each predicate after it whether it has the size rows that it had.
@@ -50,22 +63,20 @@ impl MappingSources<'_> {
         self.sources.standing(c, self.stayed)
     }
 
-    /// What was found of the old component that the component `c` stands for, under the new numbers.
-    fn carried(&self, alloc: Global, c: u32) -> Result<Option<Found>, AllocError>
+    /// What was found of an old component, for the component `c` that stands for it.
+    fn carried(&self, alloc: Global, before: u32, c: u32) -> Result<Found, AllocError>
         requires sources { AreMappingSources self.now }
+        requires before { before < length self.now.sources.edit.now.components_before.now.members }
         requires inner { c < length self.now.sources.edit.now.components.now.members }
-        ensures carried { IfOk result (λ o. IfSome o (IsCarriedAt self.now c)) }
+        requires stands { Stands self.now.sources self.now.sizes.now.rows before c }
+        requires recursive { slice_get self.now.sources.edit.now.components.now.recursive c
+            ≡ Some true }
+        ensures carried { IfOk result (IsCarriedAt self.now c) }
         ensures kept { IfOk result (IsKept self.now c) }
     {
         // What every program keeps.
         let _old = self.sources.edit.before.preds();
         let _new = self.sources.edit.after.preds();
-        let Some(before) = self.standing(c) else {
-            return Ok(None);
-        };
-        let Some(found) = &self.found[before as usize] else {
-            return Ok(None);
-        };
         let own_before = self.sources.own_before[before as usize].as_slice();
         let own = self.sources.own[c as usize].as_slice();
         let standing = Standing {
@@ -75,32 +86,11 @@ impl MappingSources<'_> {
             own_before,
             own,
         };
-        standing.carry(alloc, found)
+        standing.carry(alloc, &self.found[before as usize])
     }
 
-    /// What is found of a component that has none to carry.
-    fn searched<N: Norm>(
-        &self,
-        alloc: Global,
-        norm: &N,
-        c: u32,
-    ) -> Result<Option<Found>, AllocError>
-        requires sources { AreMappingSources self.now }
-        requires inner { c < length self.now.sources.edit.now.components.now.members }
-        ensures { IfOk result (IsFoundAt (N.expression norm.now)
-            self.now.sources.edit.now.after.now self.now.sources.edit.now.components.now
-            (rows_of self.now.sizes.now.rows) c) }
-    {
-        let edit = self.sources.edit;
-        if !edit.components.recursive(c) {
-            return Ok(None);
-        }
-        let found = mappings(alloc, edit.after, edit.components, c, norm, self.sizes)?;
-        Ok(Some(found))
-    }
-
-    /// What is found of one component, carried or searched.
-    fn resolve<N: Norm>(&self, alloc: Global, norm: &N, c: u32) -> Result<Option<Found>, AllocError>
+    /// What is found of one component: nothing where it is not recursive, and else carried or searched.
+    fn resolve<N: Norm>(&self, alloc: Global, norm: &N, c: u32) -> Result<Found, AllocError>
         requires sources { AreMappingSources self.now }
         requires inner { c < length self.now.sources.edit.now.components.now.members }
         requires found { FoundBefore (N.expression norm.now) self.now }
@@ -110,18 +100,21 @@ impl MappingSources<'_> {
             (rows_of self.now.sizes.now.rows) c) }
         ensures kept { IfOk result (IsKept self.now c) }
     {
-        match self.carried(alloc, c)? {
-            Some(found) => Ok(Some(found)),
-            None => self.searched(alloc, norm, c),
+        let edit = self.sources.edit;
+        // What every program keeps.
+        let _old = edit.before.preds();
+        let _new = edit.after.preds();
+        if !edit.components.recursive(c) {
+            return Ok(nothing(alloc));
+        }
+        match self.standing(c) {
+            Some(before) => self.carried(alloc, before, c),
+            None => mappings(alloc, edit.after, edit.components, c, norm, self.sizes),
         }
     }
 
     /// The same for each component.
-    fn resolve_all<N: Norm>(
-        &self,
-        alloc: Global,
-        norm: &N,
-    ) -> Result<Sequence<Option<Found>>, AllocError>
+    fn resolve_all<N: Norm>(&self, alloc: Global, norm: &N) -> Result<Sequence<Found>, AllocError>
         requires sources { AreMappingSources self.now }
         requires found { FoundBefore (N.expression norm.now) self.now }
         requires kept { ValuesAreKept self.now }
@@ -141,17 +134,17 @@ impl MappingSources<'_> {
 
 /// What is found of the mappings of a program's components after an edit, from what was found before it.
 ///
-/// A component that stands for an old one, with its members in the same order, has what was found of that one. Each
-/// other recursive component is searched. `sizes` are the size rows after the edit, as `resolve_sizes` gives them from
-/// `old`.
+/// A component that stands for an old one has what was found of that one, also where its members stand in another order.
+/// Each other recursive component is searched, and of one that is not recursive nothing is found. `sizes` are the size
+/// rows after the edit, as `resolve_sizes` gives them from `old`.
 pub fn resolve_mappings<'a, D: Domain, N: Norm>(
     alloc: Global,
     norm: &N,
     edit: &'a Edit<'a>,
     old: &'a SolvedSizes,
-    found: &'a [Option<Found>],
+    found: &'a [Found],
     sizes: &'a SolvedSizes,
-) -> Result<Sequence<Option<Found>>, AllocError>
+) -> Result<Sequence<Found>, AllocError>
     requires edit { IsEdit edit.now }
     requires old { AreSolved D.speaks (N.expression norm.now) edit.now.before.now
         edit.now.components_before.now old.now }
@@ -161,8 +154,8 @@ pub fn resolve_mappings<'a, D: Domain, N: Norm>(
     requires kept { KeepValues edit.now (rows_of old.now.sizes.rows)
         (rows_of sizes.now.sizes.rows) }
 
-    // Each component has what is found of it, carried or searched. One that stands for an old one, with its members in
-    // the same order, has what was found of that one.
+    // Each component has what is found of it, carried or searched. One that stands for an old one has the mappings of
+    // that one, and with its members in the same order it has all that was found of that one.
     ensures found { IfOk result (AreFound (N.expression norm.now) edit.now.after.now
         edit.now.components.now (rows_of sizes.now.sizes.rows)) }
     ensures kept { IfOk result (KeepFound edit.now (rows_of old.now.sizes.rows)

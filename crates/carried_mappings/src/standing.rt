@@ -1,14 +1,16 @@
 //! Components that stand for old ones.
 
-ghost use Rattle.std.specs.Prelude.{◌≡◌, IfOk, IfSome, None};
+ghost use Rattle.std.specs.Prelude.{◌≡◌, IfOk};
 ghost use Rattle.std.specs.List.{AllByRecursion};
 ghost use Rattle.termination_model.specs.ComponentViews.{members_in};
 ghost use Rattle.carried_mappings.specs.Carrying.{CarriesOver, HasParts, IsStanding, new_number};
 ghost use Rattle.carried_mappings.specs.Moved.{moved_found};
-ghost use Rattle.carried_mappings.specs.Order.{HaveSameOrder};
+ghost use Rattle.carried_mappings.specs.Order.{AreSameMappings, HaveSameMembers, HaveSameOrder};
 
 use crate::order::have_same_names;
-use level_systems::Found;
+use crate::places::{numbers_before, places_before};
+use crate::reordering::Reordered;
+use level_systems::{Found, component_positions};
 use solved_program::Edit;
 use std::alloc::{AllocError, Global};
 
@@ -27,20 +29,55 @@ pub struct Standing<'a> {
 }
 
 impl Standing<'_> {
-    /// What is found of the component's mappings, from what was found of the old component's.
-    ///
-    /// There is none where the members do not stand in the order in which they stood.
-    pub fn carry(&self, alloc: Global, found: &Found) -> Result<Option<Found>, AllocError>
+    /// What is found of the component's mappings, where its members stand in another order.
+    fn reorder(&self, alloc: Global, found: &Found) -> Result<Found, AllocError>
         requires standing { IsStanding self.now }
+        requires members { HaveSameMembers self.now.edit.now self.now.before self.now.after }
+        requires parts { AllByRecursion (HasParts self.now) found.now.mappings }
+        ensures carried { IfOk result (CarriesOver self.now found.now) }
+        ensures mappings { IfOk result (λ x. AreSameMappings
+            self.now.edit.now self.now.before found.now.mappings x.mappings) }
+    {
+        // What every program keeps.
+        let edit = self.edit;
+        let _old = edit.before.preds();
+        let _new = edit.after.preds();
+        let members = edit.components.members(self.after);
+        let members_before = edit.components_before.members(self.before);
+        let places = places_before(alloc, edit, members_before, members)?;
+        let positions_before = component_positions(
+            alloc,
+            edit.before,
+            edit.components_before,
+            self.before,
+        )?;
+        let positions = component_positions(alloc, edit.after, edit.components, self.after)?;
+        let stood = positions_before.as_slice();
+        let numbers = numbers_before(alloc, edit, stood, positions.as_slice())?;
+        let reordered = Reordered {
+            standing: self,
+            members,
+            places: places.as_slice(),
+            positions: stood,
+            numbers: numbers.as_slice(),
+        };
+        reordered.found(alloc, found)
+    }
+
+    /// What is found of the component's mappings, from what was found of the old component's.
+    pub fn carry(&self, alloc: Global, found: &Found) -> Result<Found, AllocError>
+        requires standing { IsStanding self.now }
+        requires members { HaveSameMembers self.now.edit.now self.now.before self.now.after }
         requires parts { AllByRecursion (HasParts self.now) found.now.mappings }
 
-        // By each norm it is what is found of the component, where the component stands for the old one. It is the same
-        // under the new numbers.
-        ensures carried { IfOk result (λ o. IfSome o (CarriesOver self.now found.now)) }
-        ensures moved { IfOk result (λ o. IfSome o (λ x. x ≡ moved_found (new_number self.now)
-            (members_in self.now.edit.now.components.now self.now.after) found.now)) }
-        ensures order { IfOk result (λ o. o ≡ None
-            → HaveSameOrder self.now.edit.now self.now.before self.now.after → ⊥) }
+        // By each norm it is what is found of the component, where the component stands for the old one. With the
+        // members in the same order it is the same under the new numbers. In any order it is the same mappings.
+        ensures carried { IfOk result (CarriesOver self.now found.now) }
+        ensures moved { HaveSameOrder self.now.edit.now self.now.before self.now.after
+            → IfOk result (λ x. x ≡ moved_found (new_number self.now)
+            (members_in self.now.edit.now.components.now self.now.after) found.now) }
+        ensures mappings { IfOk result (λ x. AreSameMappings
+            self.now.edit.now self.now.before found.now.mappings x.mappings) }
     {
         // What every program keeps.
         let _old = self.edit.before.preds();
@@ -48,9 +85,8 @@ impl Standing<'_> {
         let before = self.edit.components_before.members(self.before);
         let after = self.edit.components.members(self.after);
         if !have_same_names(self.edit, before, after) {
-            return Ok(None);
+            return self.reorder(alloc, found);
         }
-        let moved = self.moved_found(alloc, after, found)?;
-        Ok(Some(moved))
+        self.moved_found(alloc, after, found)
     }
 }

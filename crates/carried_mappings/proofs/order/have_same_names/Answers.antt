@@ -1,4 +1,4 @@
-use Rattle.std.proofs.Common.{◌≡◌, ◌∙◌, ap, arith, get_or, length, refl, Some, subst, sym}
+use Rattle.std.proofs.Common.{◌≡◌, arith, get_or, length, refl, subst}
 use Rattle.cti_terms.specs.declared.predicates.PredId.{PredId}
 use Rattle.termination_model.proofs.Lists.{there}
 use Rattle.solved_program.proofs.Comparisons.{SameTo, none_same, same_more}
@@ -18,9 +18,8 @@ loop-i-preserved c =
     let xs = c.args.before.now in
     let ys = c.args.after.now in
     let n = c.loop-i.i in
-    let same = c.is_same_pred.ensures.0 c.if-not-is_same_pred.false in
     same_more (AreNamesakes p new) n xs ys (get_or xs n none) (get_or ys n none) c.loop-i.invariant (there xs n none (omega arith)) (there ys n none (omega arith))
-    (c.pred-old.ensures ∙ ap Some same ∙ sym c.pred-new.ensures)
+    (c.is_namesake.ensures.0 c.if-not-is_namesake.false)
 
 pub returns-then-before-after : goal.returns-then-before-after
 returns-then-before-after c = (
@@ -28,8 +27,8 @@ returns-then-before-after c = (
   λ same. absurd (c.if-before-after.true (named_length c.args.edit.now.before.now c.args.edit.now.after.now c.args.before.now c.args.after.now same)),
 )
 
-pub returns-then-not-is_same_pred : goal.returns-then-not-is_same_pred
-returns-then-not-is_same_pred c =
+pub returns-then-not-is_namesake : goal.returns-then-not-is_namesake
+returns-then-not-is_namesake c =
     let p = c.args.edit.now.before.now in
     let new = c.args.edit.now.after.now in
     let xs = c.args.before.now in
@@ -38,14 +37,10 @@ returns-then-not-is_same_pred c =
       λ is. cc,
       λ same.
           let names = named_at p new xs ys same n (get_or xs n none) (get_or ys n none) (there xs n none (omega arith)) (there ys n none (omega arith)) in
-          let both : Some c.pred-old.result.now ≡ Some c.pred-new.result.now = sym c.pred-old.ensures ∙ names ∙ c.pred-new.ensures in
-          let right = c.is_same_pred.ensures.1 (some_same both) in
-          let wrong = c.if-not-is_same_pred.true in
+          let right = c.is_namesake.ensures.1 names in
+          let wrong = c.if-not-is_namesake.true in
           cc,
     )
-  where
-    some_same : {X : Type 0} {x y : X} → Some x ≡ Some y → x ≡ y
-    some_same e = cc
 
 pub returns : goal.returns
 returns c =
