@@ -1,0 +1,5 @@
+use Rattle.kept_clauses.proofs.UntouchedValues.{untouched_have_stayed}
+use Rattle.kept_clauses.proofs.laws.untouched_have_stayed.Goals as goal
+
+pub returns : goal.returns
+returns g c = untouched_have_stayed _

@@ -1,0 +1,3 @@
+pub mod AllKept
+pub mod KeptLists
+pub mod KeptPrograms
