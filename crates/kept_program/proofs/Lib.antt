@@ -1,0 +1,10 @@
+pub mod Alone
+pub mod SameLevels
+pub mod SameMeasures
+pub mod SameParts
+pub mod SameRows
+pub mod Standing
+pub mod UntouchedParts
+pub mod Families
+pub mod KeptLaws
+pub mod NothingLaws
