@@ -1,13 +1,17 @@
 -- Lemmas on clauses that come and go.
-use Rattle.std.proofs.Common.{◌≡◌, ◌∙◌, ℕ, ◌+◌, ◌<◌, ◌≤◌, IsTrue, nat_lt, List, [], ◌∷◌, length, map, get_or, ap, sym, arith}
+use Rattle.std.proofs.Common.{◌≡◌, ◌∙◌, ℕ, ◌+◌, ◌-◌, ◌<◌, ◌≤◌, zero, suc, None, Option, Some, slice_get, refl, IsTrue, nat_lt, List, [], ◌∷◌, ◌++◌, length, map, get_or, ap, sym, arith}
 use Rattle.std.specs.List.{AllByRecursion, remove}
 use Rattle.std.proofs.lemmas.Bool.{and_parts, and_from, lt-ltb, ltb-true}
+use Rattle.std.proofs.lemmas.List.{length_push}
 use Rattle.std.proofs.lemmas.List.Sums.{sum_by-remove}
 use Rattle.prolog_grammar.specs.Placed.{Tree, tree, Shape, Var, Int, Fun, Trees, no_trees, more_trees}
 use Rattle.prolog_reader.specs.Fit.{IsFit, AreFit}
 use Rattle.prolog_terms.specs.Clauses.{Clause, nodes, is_known, shape_known, all_known}
 use Rattle.prolog_terms.specs.Terms.{tree_of, clause_of}
 use Rattle.prolog_terms.specs.declared.clause.ReadClause.{ReadClause}
+use Rattle.kept_clauses.proofs.KeptListLaws.{from_at, length_from}
+use Rattle.kept_clauses.specs.KeptLists.{AreKeptList, kept_from}
+use Rattle.termination_model.proofs.Lists.{place_below}
 use Rattle.cti_session.specs.Session.{nodes_in}
 use Rattle.cti_session.proofs.Lists.{all_remove, map_get, map_length}
 
@@ -39,6 +43,57 @@ module _ (m n : ℕ) (le : m ≤ n) where
   -- clauses of fewer names are clauses of more
   pub fit_more : (cs : List Clause) → AreFit m cs → AreFit n cs
   fit_more cs h = record { each = each_more cs h.each; small = h.small }
+
+-- ---- no clause less
+
+-- each clause of a list is one of it
+pub all_list : {X : Type 0} (xs : List X) → AreKeptList xs xs (kept_from 1 (length xs))
+all_list xs = record {
+  each = length_from 1 (length xs);
+  same = λ i j at.
+      let lt : i < length xs = omega (arith, place_below (kept_from 1 (length xs)) i (Some j) at, length_from 1 (length xs)) in
+      let there = from_at 1 (length xs) i lt in
+      let both : Some (Some j) ≡ Some (Some (1 + i)) = sym at ∙ there in
+      let number : j ≡ 1 + i = cc in
+      let before : j - 1 ≡ i = omega (arith, number) in
+      (omega (arith, number), ap (λ (k : ℕ). slice_get xs k) before);
+}
+
+-- ---- what is kept where one more is put last, or one is taken out
+module _ {X : Type 0} (old : List X) where
+  abbrev Same : List X → List (Option ℕ) → Type 0
+  Same xs since = (i j : ℕ) → slice_get since i ≡ Some (Some j) → (1 ≤ j) × (slice_get old (j - 1) ≡ slice_get xs i)
+
+  push_same : (xs : List X) (x : X) (since : List (Option ℕ)) → length since ≡ length xs → Same xs since → Same (xs ++ x ∷ []) (since ++ None ∷ [])
+  push_same [] x [] l h zero j e = cc
+  push_same [] x [] l h (suc i) j e = cc
+  push_same [] x (o ∷ since) l h i j e = absurd (omega arith)
+  push_same (y ∷ xs) x [] l h i j e = absurd (omega arith)
+  push_same (y ∷ xs) x (o ∷ since) l h zero j e = h 0 j e
+  push_same (y ∷ xs) x (o ∷ since) l h (suc i) j e = push_same xs x since (omega (arith, l)) (λ n m. h (suc n) m) i j e
+
+  take_same : (xs : List X) (since : List (Option ℕ)) (k : ℕ) → length since ≡ length xs → Same xs since → Same (remove xs k) (remove since k)
+  take_same [] [] zero l h i j e = h i j e
+  take_same [] [] (suc k) l h i j e = h i j e
+  take_same [] (o ∷ since) k l h i j e = absurd (omega arith)
+  take_same (y ∷ xs) [] k l h i j e = absurd (omega arith)
+  take_same (y ∷ xs) (o ∷ since) zero l h i j e = h (suc i) j e
+  take_same (y ∷ xs) (o ∷ since) (suc k) l h zero j e = h 0 j e
+  take_same (y ∷ xs) (o ∷ since) (suc k) l h (suc i) j e = take_same xs since k (omega (arith, l)) (λ n m. h (suc n) m) i j e
+
+  take_each : (xs : List X) (since : List (Option ℕ)) (k : ℕ) → length since ≡ length xs → length (remove since k) ≡ length (remove xs k)
+  take_each [] [] zero l = refl
+  take_each [] [] (suc k) l = refl
+  take_each [] (o ∷ since) k l = absurd (omega arith)
+  take_each (y ∷ xs) [] k l = absurd (omega arith)
+  take_each (y ∷ xs) (o ∷ since) zero l = omega (arith, l)
+  take_each (y ∷ xs) (o ∷ since) (suc k) l = omega (arith, take_each xs since k (omega (arith, l)))
+
+  pub kept_push : (xs : List X) (x : X) (since : List (Option ℕ)) → AreKeptList old xs since → AreKeptList old (xs ++ x ∷ []) (since ++ None ∷ [])
+  kept_push xs x since h = record { each = omega (arith, h.each, length_push since None, length_push xs x); same = push_same xs x since h.each h.same }
+
+  pub kept_remove : (xs : List X) (since : List (Option ℕ)) (k : ℕ) → AreKeptList old xs since → AreKeptList old (remove xs k) (remove since k)
+  kept_remove xs since k h = record { each = take_each xs since k h.each; same = take_same xs since k h.each h.same }
 
 -- ---- one clause less
 

@@ -1,8 +1,8 @@
+mod Answered
+mod BuiltAlike
 mod Clauses
 mod EditLemmas
-mod Later
 mod Lists
-mod ModeFacts
 mod NodeLemmas
 mod PlayLemmas
 mod Staying

@@ -1,16 +1,16 @@
 -- Lemmas on the edits of a text, one after another.
-use Rattle.std.proofs.Common.{◌≡◌, ◌∙◌, ℕ, zero, suc, ◌+◌, ◌≤◌, ◌<◌, ℤ, pos, negsuc, Bool, true, false, ◌&&◌, ◌||◌, nat_eq, List, [], ◌∷◌, ◌++◌, length, map, Option, Some, None, position, Result, Ok, Err, if◌then◌else◌, refl, ap, sym, subst, arith, Vec, Global}
-use Rattle.std.specs.Prelude.{OnOk, nat_le}
+use Rattle.std.proofs.Common.{◌≡◌, ◌∙◌, ℕ, zero, suc, ◌+◌, ◌≤◌, ◌<◌, ℤ, pos, negsuc, Bool, true, false, ◌&&◌, ◌||◌, nat_eq, List, [], ◌∷◌, ◌++◌, length, map, Option, Some, None, position, Ok, Err, if◌then◌else◌, refl, ap, sym, subst, arith, Vec, Global}
+use Rattle.std.specs.Prelude.{nat_le}
 use Rattle.std.specs.List.{AllByRecursion, list_any, remove}
 use Rattle.std.proofs.lemmas.Bool.Decides.{nat_tests}
 use Rattle.std.proofs.lemmas.List.Sums.{sum_by-append}
-use Rattle.clause_normal.specs.Definite.{AreDefinite, parted_fault}
+use Rattle.clause_normal.specs.Definite.{AreDefinite, parted_fault, program_of}
 use Rattle.cti_terms.specs.Listing.{is_pred}
 use Rattle.cti_terms.specs.declared.limits.TheConstants.{MOST_ARGUMENTS}
 use Rattle.cti_terms.specs.declared.predicates.Pred.{Pred}
 use Rattle.cti_terms.proofs.Places.{position-found}
 use Rattle.cti_terms.specs.Numbers.{with_text}
-use Rattle.prolog_reader.specs.Fit.{AreFit}
+use Rattle.prolog_reader.specs.Fit.{AreFit, IsFit}
 use Rattle.prolog_reader.specs.Naming.{with_names}
 use Rattle.prolog_reader.proofs.NameLemmas.{length-with_text}
 use Rattle.prolog_terms.specs.Clauses.{Clause, nodes, place}
@@ -18,10 +18,10 @@ use Rattle.prolog_terms.specs.Terms.{clause_of}
 use Rattle.prolog_terms.specs.declared.clause.ReadClause.{ReadClause}
 use Rattle.cti_session.specs.Edits.{Outcome, Refusal, Step, Told, done, edit_of, number_in, outcome, telling, then_done}
 use Rattle.cti_session.proofs.Lists.{all_remove}
-use Rattle.cti_session.specs.Inferring.{snapshot}
+use Rattle.cti_session.specs.Following.{IsBefore}
+use Rattle.kept_program.specs.ProgramParts.{ProgramParts}
 use Rattle.cti_session.specs.Playing.{HasDone, HasPlayed, IsUnderWay, clauses_in}
-use Rattle.cti_session.specs.Session.{IsSession, nodes_in}
-use Rattle.cti_session.specs.declared.inferring.Inferred.{Inferred}
+use Rattle.cti_session.specs.Session.{nodes_in}
 use Rattle.cti_session.specs.declared.playing.Playing.{Playing}
 use Rattle.cti_session.specs.Told.{AreLines, IsLine, IsPlayed}
 
@@ -130,23 +130,29 @@ fewer_nodes [] (suc i) = omega arith
 fewer_nodes (c ∷ cs) zero = omega (arith, nodes_more c cs)
 fewer_nodes (c ∷ cs) (suc i) = omega (arith, nodes_more c cs, nodes_more c (remove cs i), fewer_nodes cs i)
 
+-- clauses of a text stay within what one has where one is put last
+each_push : (n : ℕ) (cs : List Clause) (d : Clause) → AllByRecursion (IsFit n) cs → IsFit n d → AllByRecursion (IsFit n) (cs ++ d ∷ [])
+each_push n [] d h k = (k, tt)
+each_push n (c ∷ cs) d h k = (h.0, each_push n cs d h.1 k)
+
+pub fit_push : (n : ℕ) (cs : List Clause) (d : Clause) → AreFit n cs → IsFit n d → nodes_in cs + nodes d.term ≤ 2097152 → AreFit n (cs ++ d ∷ [])
+fit_push n cs d h k few = record { each = each_push n cs d h.each k; small = (let both = nodes_both cs (d ∷ []) in omega (arith, both, few)) }
+
 -- ---- edits under way
 
 -- what is so where nothing but the lines has changed
-pub stays : (names : List (List ℕ)) (old new : Playing) → new.clauses ≡ old.clauses → new.inferred ≡ old.inferred → new.is_current ≡ old.is_current → IsUnderWay names old → IsUnderWay names new
-stays names old new e f g u = record {
+pub stays : (names : List (List ℕ)) (old new : Playing) → new.clauses ≡ old.clauses → new.kept ≡ old.kept → new.since ≡ old.since → new.count ≡ old.count → new.is_current ≡ old.is_current → IsUnderWay names old → IsUnderWay names new
+stays names old new e f s n g u = record {
   fit = subst (λ (v : Vec ReadClause Global). AreFit (length names) (map clause_of v.items)) (sym e) u.fit;
   definite = subst (λ (v : Vec ReadClause Global). AreDefinite names (map clause_of v.items)) (sym e) u.definite;
   operations = u.operations;
-  inferred = λ k.
-      subst (λ (v : Vec ReadClause Global). IsSession names (snapshot v.items new.inferred)) (sym e)
-      (subst (λ (i : Inferred). IsSession names (snapshot old.clauses.items i)) (sym f) (u.inferred (sym g ∙ k)));
+  before = subst (λ (v : Vec ReadClause Global). IsBefore names new.kept.program new.count (map clause_of v.items) new.since.items) (sym e)
+      (subst (λ (k : ProgramParts). IsBefore names k.program new.count (clauses_in old) new.since.items) (sym f)
+      (subst (λ (v : Vec (Option ℕ) Global). IsBefore names old.kept.program new.count (clauses_in old) v.items) (sym s)
+      (subst (λ (k : ℕ). IsBefore names old.kept.program k (clauses_in old) old.since.items) (sym n) u.before)));
+  current = λ k.
+      ap (λ (x : ProgramParts). x.program) f ∙ u.current (sym g ∙ k) ∙ ap (λ (v : Vec ReadClause Global). program_of names (map clause_of v.items)) (sym e);
 }
-
--- what follows from an answer follows where there is one
-pub on_ok : {A E P Q : Type 0} (r : Result A E) → (P → Q) → OnOk r P → OnOk r Q
-on_ok (Ok a) f h = f h
-on_ok (Err e) f h = tt
 
 -- ---- all edits
 

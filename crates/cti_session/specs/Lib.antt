@@ -2,7 +2,7 @@ pub mod EditViews
 pub mod Edits
 pub mod EditsFaults
 pub mod Faults
-pub mod Inferring
+pub mod Following
 pub mod Playing
 pub mod Session
 pub mod SnapshotCode

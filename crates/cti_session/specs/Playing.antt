@@ -3,18 +3,18 @@
 use Rattle.std.specs.Prelude.{◌≡◌, ◌≤◌, ◌+◌, ℕ, suc, true, List, [], ◌++◌, Result, Ok, Err, Some, length, map, slice_get}
 use Rattle.std.specs.List.{AllByRecursion}
 use Rattle.certificate.specs.Text.{fact_text}
-use Rattle.certificate.specs.declared.fact.Fact.{Fact}
 use Rattle.certificate.specs.declared.fact.Fact.TheVariants.{Terminates}
-use Rattle.certificate.specs.declared.pred_text.PredText.{PredText}
 use Rattle.clause_normal.specs.ChoiceNames.{HasOperations}
-use Rattle.clause_normal.specs.Definite.{AreDefinite}
+use Rattle.clause_normal.specs.Definite.{AreDefinite, program_of}
+use Rattle.cert_structure.specs.Order.{pred_text}
+use Rattle.kept_program.specs.ProgramParts.{certificate_facts}
 use Rattle.prolog_reader.specs.Fit.{AreFit, IsFit}
 use Rattle.prolog_terms.specs.Clauses.{Clause}
 use Rattle.prolog_terms.specs.Terms.{clause_of}
 use Rattle.cti_session.specs.Edits.{Step, Told, outcome, telling}
 use Rattle.cti_session.specs.EditsFaults.{IfRefused}
-use Rattle.cti_session.specs.Inferring.{snapshot}
-use Rattle.cti_session.specs.Session.{IsSession, nodes_in}
+use Rattle.cti_session.specs.Following.{IsBefore}
+use Rattle.cti_session.specs.Session.{nodes_in}
 use Rattle.cti_session.specs.Told.{AreLines}
 use Rattle.cti_session.specs.declared.edits_fault.EditsFault.{EditsFault}
 use Rattle.cti_session.specs.declared.playing.Playing.{Playing}
@@ -23,12 +23,13 @@ use Rattle.cti_session.specs.declared.playing.Playing.{Playing}
 abbrev pub clauses_in : Playing → List Clause
 clauses_in s = map clause_of s.clauses.items
 
--- the clauses are definite; and where what was inferred is current, it is theirs
+-- the clauses are definite, and the program that is kept is that of earlier ones; where it is current, it is theirs
 pub record IsUnderWay (names : List (List ℕ)) (s : Playing) : Type 0 where
   pub fit : AreFit (length names) (clauses_in s)
   pub definite : AreDefinite names (clauses_in s)
   pub operations : HasOperations names
-  pub inferred : s.is_current ≡ true → IsSession names (snapshot s.clauses.items s.inferred)
+  pub before : IsBefore names s.kept.program s.count (clauses_in s) s.since.items
+  pub current : s.is_current ≡ true → s.kept.program ≡ program_of names (clauses_in s)
 
 -- what a step leaves: the clauses that it says, and one line more for each that it tells
 pub record HasDone (names : List (List ℕ)) (old new : Playing) (step : Step) : Type 0 where
@@ -44,18 +45,11 @@ abbrev pub AnswersStep : List (List ℕ) → Playing → Playing → Step → Re
 AnswersStep names old new step (Ok done) = HasDone names old new step
 AnswersStep names old new step (Err fault) = IfRefused fault (λ r. step ≡ Err r)
 
--- the fact of this number has modes
-pub record HasModesAt (facts : List Fact) (k : ℕ) : Type 0 where
-  pub pred : PredText
-  pub modes : List (List ℕ)
-  pub at : slice_get facts k ≡ Some (Terminates pred modes)
-
 -- the line of a predicate's modes is added
-pub record IsToldAs (old new : Playing) (q : ℕ) : Type 0 where
-  pub pred : PredText
+pub record IsToldAs (names : List (List ℕ)) (old new : Playing) (q : ℕ) : Type 0 where
   pub modes : List (List ℕ)
-  pub at : slice_get old.inferred.certificate.facts (suc q) ≡ Some (Terminates pred modes)
-  pub lines : new.lines.items ≡ old.lines.items ++ fact_text (Terminates pred modes)
+  pub at : slice_get (certificate_facts names old.kept) (suc q) ≡ Some (Terminates (pred_text old.kept.program names q) modes)
+  pub lines : new.lines.items ≡ old.lines.items ++ fact_text (Terminates (pred_text old.kept.program names q) modes)
 
 -- Of all edits these are left, and those before them are done. What there is of nodes is no more than a text has.
 pub record HasPlayed (names : List (List ℕ)) (all rest : List Clause) (s : Playing) : Type 0 where

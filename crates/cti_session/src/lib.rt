@@ -4,18 +4,17 @@
 //! size. `specs/Session.antt` says what that is. `play` does the edits of a text, one after the other, and gives what they
 //! tell; `specs/Edits.antt` says which edits a text has, and what each of them does.
 //!
-//! This version infers the whole program anew at each edit. So nothing is said of predicates that an edit does not
-//! reach: that they keep their size rows, their ground rows, their measures and their preconditions is missing here. A
-//! later version will keep what is found of components, over the crate `solved_program`, and promise it.
+//! An edit solves again only the components that it reaches: `kept_program` keeps what was found of the others.
 //!
-//! Depends on `clause_normal` for the program of clauses, and on `report` for its certificate.
+//! Depends on `clause_normal` for the program of clauses, on `kept_clauses` for which of them an edit keeps, and on
+//! `kept_program` for what is kept of the program.
 #![tactic(auto)]
 
 mod counting;
 mod edit;
 mod edits;
 mod edits_fault;
-mod inferring;
+mod following;
 pub mod laws;
 mod playing;
 mod session;

@@ -1,6 +1,6 @@
 //! The edits of a text, one after another.
 
-ghost use Rattle.std.specs.Prelude.{◌≡◌, ◌≤◌, ◌<◌, ◌+◌, ◌-◌, ◌^◌, ◌++◌, ◌∷◌, [], ℕ, List, suc, Some, Err, true, false, IfOk, IfErr, IfSome, OnOk, length, map, option_map, slice_get};
+ghost use Rattle.std.specs.Prelude.{◌≡◌, ◌≤◌, ◌<◌, ◌+◌, ◌-◌, ◌^◌, ◌++◌, ◌∷◌, [], ℕ, List, suc, Some, None, Err, true, false, IfOk, IfErr, IfSome, OnOk, length, map, option_map, slice_get};
 ghost use Rattle.certificate.specs.Text.{fact_text};
 ghost use Rattle.certificate.specs.declared.fact.Fact.TheVariants.{Terminates};
 ghost use Rattle.clause_normal.specs.Numbering.{operation_texts};
@@ -11,17 +11,22 @@ ghost use Rattle.prolog_terms.specs.Clauses.{nodes, place};
 ghost use Rattle.prolog_terms.specs.Terms.{clause_of, tree_of};
 ghost use Rattle.cti_session.specs.Edits.{add, done, edit_of, number_in, outcome, predicate_in, remove, tell};
 ghost use Rattle.cti_session.specs.EditsFaults.{IfRefused};
-ghost use Rattle.cti_session.specs.Playing.{AnswersStep, HasModesAt, IsToldAs, IsUnderWay, clauses_in};
+ghost use Rattle.cert_structure.specs.Order.{pred_text};
+ghost use Rattle.precond_fixpoint.specs.Solving.{arguments_of};
+ghost use Rattle.cti_session.specs.Playing.{AnswersStep, IsToldAs, IsUnderWay, clauses_in};
 ghost use Rattle.cti_session.specs.Session.{nodes_in};
 ghost use Rattle.cti_session.specs.Told.{IsPlayed};
 
 use crate::edits::{Edit, edit_of};
 use crate::edits_fault::{EditKind, EditsFault};
-use crate::inferring::{Inferred, infer_clauses};
-use cert_structure::copied_modes;
-use certificate::{Certificate, Fact, PredText};
+use crate::following::{first_program, follow};
+use cert_assembly::{arguments_of, pred_text};
+use certificate::{Certificate, Fact};
 use clause_normal::check_added;
 use cti_terms::{Name, Names, PredId, Program};
+use kept_clauses::all_kept;
+use kept_program::KeptProgram;
+use precond_fixpoint::Mode;
 use prolog_terms::{ReadClause, ReadClauses};
 use sequences::Sequence;
 use std::alloc::{AllocError, Global};
@@ -29,9 +34,13 @@ use std::alloc::{AllocError, Global};
 /// The edits of a text under way.
 struct Playing {
     clauses: Vec<ReadClause>,
-    /// What was inferred last.
-    inferred: Inferred,
-    /// Whether that is of the clauses as they stand.
+    /// The program of the clauses when modes were last asked for, with what is kept of it.
+    kept: KeptProgram,
+    /// How many clauses there were then.
+    count: usize,
+    /// Which of those each of the clauses is.
+    since: Vec<Option<u32>>,
+    /// Whether it is the program of the clauses as they stand.
     is_current: bool,
     /// What is printed.
     lines: Vec<u8>,
@@ -41,7 +50,9 @@ impl Drop for Playing {
     fn drop(self) {
         let Playing {
             clauses: _,
-            inferred: _,
+            kept: _,
+            count: _,
+            since: _,
             is_current: _,
             lines: _,
         } = self;
@@ -81,40 +92,22 @@ fn predicate_in(program: &Program, name: Name, arity: i128) -> Option<PredId>
     }
 }
 
-/// The predicate and the modes of the fact that has those of a predicate.
-fn modes_of(facts: &[Fact], p: PredId) -> (&PredText, &[Sequence<u32>])
-    requires { HasModesAt facts.now (suc p.0) }
-    ensures { slice_get facts.now (suc p.0) ≡ Some (Terminates result.0.now result.1.now) }
-{
-    match &facts[p.0 as usize + 1] {
-        Fact::Terminates { pred, modes } => (pred, modes.as_slice()),
-        _ => unreachable!(),
-    }
-}
-
-/// A fact of a predicate's modes.
-fn modes_fact(alloc: Global, pred: &PredText, modes: &[Sequence<u32>]) -> Result<Fact, AllocError>
-    ensures { IfOk result (λ fact. fact ≡ Terminates pred.now modes.now) }
-{
-    Ok(Fact::Terminates {
-        pred: PredText {
-            name: pred.name.copy(alloc)?,
-            arity: pred.arity,
-        },
-        modes: copied_modes(alloc, modes)?,
-    })
-}
-
 /// The line of a predicate's modes.
 fn modes_line(
     alloc: Global,
-    pred: &PredText,
-    modes: &[Sequence<u32>],
+    program: &Program,
+    names: &Names,
+    p: PredId,
+    modes: &[Mode],
 ) -> Result<Vec<u8>, AllocError>
-    ensures { IfOk result (λ line. line.items ≡ fact_text (Terminates pred.now modes.now)) }
+    ensures { IfOk result (λ line. line.items ≡ fact_text
+        (Terminates (pred_text program.now names.now p.0) (map arguments_of modes.now))) }
 {
     let mut facts = Sequence::new(alloc);
-    facts.push(modes_fact(alloc, pred, modes)?)?;
+    facts.push(Fact::Terminates {
+        pred: pred_text(alloc, program, names, p)?,
+        modes: arguments_of(alloc, modes)?,
+    })?;
     let told = Certificate { facts };
     told.print(alloc)
 }
@@ -126,7 +119,9 @@ impl Playing {
     {
         let Playing {
             clauses: _,
-            inferred: _,
+            kept: _,
+            count: _,
+            since: _,
             is_current: _,
             lines,
         } = self;
@@ -137,9 +132,12 @@ impl Playing {
     fn push(&mut self, clause: ReadClause) -> Result<(), AllocError>
         ensures clauses { OnOk result (clauses_in self.new ≡ clauses_in self.old ++ clause_of clause
             ∷ []) }
+        ensures since { OnOk result (self.new.since.items ≡ self.old.since.items ++ None ∷ []) }
         ensures stale { OnOk result (self.new.is_current ≡ false) }
-        ensures lines { self.new.lines ≡ self.old.lines }
+        ensures others { (self.new.kept ≡ self.old.kept) × (self.new.count ≡ self.old.count)
+            × (self.new.lines ≡ self.old.lines) }
     {
+        self.since.push(None)?;
         self.clauses.push(clause)?;
         self.is_current = false;
         Ok(())
@@ -163,6 +161,7 @@ impl Playing {
 
     /// Removes the clause of this number.
     fn remove(&mut self, number: i128, at: u32) -> Result<(), EditsFault>
+        requires each { length self.old.since.items ≡ length self.old.clauses.items }
         ensures step { (names : List (List ℕ)) → IsUnderWay names self.old
             → AnswersStep names self.old self.new
             (done names (clauses_in self.old) at (remove number)) result }
@@ -172,6 +171,7 @@ impl Playing {
         match place_in(self.clauses.len(), number) {
             Some(place) => {
                 let _removed = self.clauses.remove(place);
+                let _number = self.since.remove(place);
                 self.is_current = false;
                 Ok(())
             }
@@ -179,8 +179,8 @@ impl Playing {
         }
     }
 
-    /// Infers the program of the clauses, unless that was done.
-    fn infer(&mut self, names: &mut Names) -> Result<(), AllocError>
+    /// Solves the program of the clauses, unless that was done.
+    fn catch_up(&mut self, names: &mut Names) -> Result<(), AllocError>
         requires under_way { IsUnderWay names.old self.old }
         requires room { length names.old < 2 ^ 32 - 3 }
         ensures names { names.new ≡ names.old }
@@ -190,24 +190,32 @@ impl Playing {
         ensures under_way { OnOk result (IsUnderWay names.new self.new) }
     {
         if !self.is_current {
-            let alloc = *self.clauses.allocator();
-            self.inferred = infer_clauses(alloc, self.clauses.as_slice(), names)?;
+            follow(
+                &mut self.kept,
+                &self.clauses,
+                self.count,
+                &self.since,
+                names,
+            )?;
+            self.count = self.clauses.len();
+            self.since = all_kept(*self.clauses.allocator(), self.count)?;
             self.is_current = true;
         }
         Ok(())
     }
 
     /// Adds the line of a predicate's modes.
-    fn push_line(&mut self, p: PredId) -> Result<(), AllocError>
-        requires { HasModesAt self.old.inferred.certificate.facts (suc p.0) }
-        ensures line { OnOk result (IsToldAs self.old self.new p.0) }
+    fn push_line(&mut self, p: PredId, names: &Names) -> Result<(), AllocError>
+        requires { p.0 < length self.old.kept.program.preds }
+        ensures line { OnOk result (IsToldAs names.now self.old self.new p.0) }
         ensures others { (self.new.clauses ≡ self.old.clauses)
-            × (self.new.inferred ≡ self.old.inferred)
+            × (self.new.kept ≡ self.old.kept)
+            × (self.new.since ≡ self.old.since)
+            × (self.new.count ≡ self.old.count)
             × (self.new.is_current ≡ self.old.is_current) }
     {
         let alloc = *self.clauses.allocator();
-        let (pred, modes) = modes_of(self.inferred.certificate.facts.as_slice(), p);
-        let line = modes_line(alloc, pred, modes)?;
+        let line = modes_line(alloc, self.kept.program(), names, p, self.kept.modes(p))?;
         self.lines.extend_from_slice(&line)
     }
 
@@ -226,10 +234,11 @@ impl Playing {
             (done names.old (clauses_in self.old) at (tell name.0 arity)) result }
         ensures clauses { self.new.clauses ≡ self.old.clauses }
     {
-        self.infer(names)?;
-        match predicate_in(&self.inferred.program, name, arity) {
+        self.catch_up(names)?;
+        self.kept.certified(names);
+        match predicate_in(self.kept.program(), name, arity) {
             Some(p) => {
-                self.push_line(p)?;
+                self.push_line(p, names)?;
                 Ok(())
             }
             None => bad_edit(at),
@@ -298,11 +307,12 @@ pub fn play(alloc: Global, edits: ReadClauses, names: &mut Names) -> Result<Vec<
     ensures refused { IfErr result
         (λ e. IfRefused e (λ r. outcome (with_names names.old operation_texts) [] edits ≡ Err r)) }
 {
-    let clauses = Vec::new(alloc);
-    let inferred = infer_clauses(alloc, clauses.as_slice(), names)?;
+    let kept = first_program(alloc, names)?;
     let mut playing = Playing {
-        clauses,
-        inferred,
+        clauses: Vec::new(alloc),
+        kept,
+        count: 0,
+        since: Vec::new(alloc),
         is_current: true,
         lines: Vec::new(alloc),
     };

@@ -1,7 +1,7 @@
 //! Sessions.
 
 ghost use Rattle.std.specs.Prelude.{◌≡◌, ◌≤◌, ◌<◌, ◌+◌, ◌-◌, ◌^◌, ◌++◌, ◌∷◌, [], ℕ, List, suc, Some, None};
-ghost use Rattle.std.specs.Prelude.{IfOk, OnOk, OnErr, MatchResult, length, slice_get};
+ghost use Rattle.std.specs.Prelude.{IfOk, OnOk, OnErr, MatchResult, length, map, slice_get};
 ghost use Rattle.std.specs.List.{insert as inserted, remove as removed};
 ghost use Rattle.cert_structure.specs.Order.{pred_text};
 ghost use Rattle.certificate.specs.declared.fact.Fact.TheVariants.{Terminates};
@@ -12,28 +12,32 @@ ghost use Rattle.prolog_reader.specs.Names.{Extends};
 ghost use Rattle.prolog_reader.specs.Naming.{with_names};
 ghost use Rattle.prolog_terms.specs.Clauses.{nodes};
 ghost use Rattle.prolog_terms.specs.Terms.{clause_of, tree_of};
+ghost use Rattle.kept_program.specs.ProgramParts.{certificate_facts};
+ghost use Rattle.precond_fixpoint.specs.Solving.{arguments_of};
 ghost use Rattle.cti_session.specs.Faults.{IfNorm};
-ghost use Rattle.cti_session.specs.Session.{HasProgram, IsSession, nodes_in};
+ghost use Rattle.cti_session.specs.Session.{HasProgram, IsSession, KeepUntouched, nodes_in};
 
 use crate::counting::term_nodes;
 use crate::edit::{EditClause, EditFault};
-use crate::inferring::{Inferred, infer_clauses, infer_with, infer_without};
-use certificate::{Certificate, Fact};
+use crate::following::{first_program, follow_with, follow_without};
+use certificate::Certificate;
 use clause_normal::check_added;
 use cti_terms::{Names, PredId, Program};
+use kept_program::KeptProgram;
+use precond_fixpoint::Mode;
 use prolog_terms::ReadClause;
-use sequences::Sequence;
 use std::alloc::{AllocError, Global};
 use std::marker::Model;
 
-/// A program whose clauses come and go, with its certificate.
+/// A program whose clauses come and go, with what is found of it.
 ///
-/// Contracts see the clauses, their program and its certificate. The names are the caller's, who may add to them
-/// between edits: the law `sessions_stay` says that the session stays one. Clauses count from 1.
+/// Contracts see the clauses, and their program with what its certificate is made of. The names are the caller's, who
+/// may add to them between edits: the law `sessions_stay` says that the program stays that of the clauses. Clauses count
+/// from 1.
 pub struct Session {
     clauses: Vec<ReadClause>,
     nodes: u32,
-    inferred: Inferred,
+    kept: KeptProgram,
 }
 
 impl Drop for Session {
@@ -41,7 +45,7 @@ impl Drop for Session {
         let Session {
             clauses: _,
             nodes: _,
-            inferred: _,
+            kept: _,
         } = self;
     }
 }
@@ -54,12 +58,12 @@ impl Model for Session {
 
     ghost coded = { coded_snapshot };
 
-    ghost use Rattle.cti_session.specs.Inferring.{snapshot, IsKept};
+    ghost use Rattle.cti_session.specs.Following.{snapshot, IsCounted};
 
-    ghost view = { λ s. snapshot s.clauses.items s.inferred };
+    ghost view = { λ s. snapshot s.clauses.items s.kept };
 
-    // It is a session for some names, those of the last edit.
-    ghost invariant = { λ s. IsKept s.nodes (snapshot s.clauses.items s.inferred) };
+    // The program is that of the clauses for some names, those of the last edit.
+    ghost invariant = { λ s. IsCounted s.nodes (snapshot s.clauses.items s.kept) };
 }
 
 impl Session {
@@ -73,12 +77,12 @@ impl Session {
         ensures names { OnOk result (names.new ≡ with_names names.old operation_texts) }
         ensures kept { Extends names.old names.new }
     {
-        let clauses = Vec::new(alloc);
-        let inferred = infer_clauses(alloc, clauses.as_slice(), names)?;
+        let kept = first_program(alloc, names)?;
+        kept.certified(names);
         Ok(Session {
-            clauses,
+            clauses: Vec::new(alloc),
             nodes: 0,
-            inferred,
+            kept,
         })
     }
 
@@ -89,10 +93,13 @@ impl Session {
         requires small { nodes_in self.old.clauses + nodes (tree_of clause.clause.term) ≤ 2097152 }
         requires room { length names.old < 2 ^ 32 - 3 }
 
-        // The certificate is valid and exact for the program of the clauses.
+        // What its certificate is made of makes one that is valid and exact for the program of the clauses.
         ensures clauses { OnOk result
             (self.new.clauses ≡ self.old.clauses ++ clause_of clause.clause ∷ []) }
         ensures session { OnOk result (IsSession names.new self.new) }
+
+        // What the edit leaves untouched keeps its size rows, ground rows and measures.
+        ensures untouched { OnOk result (KeepUntouched self.old.kept self.new.kept) }
 
         // The clause is refused exactly where it has a fault as the last one, and with the first fault.
         ensures exact { let fault = added_fault names.old (length self.old.clauses)
@@ -114,10 +121,13 @@ impl Session {
         requires small { nodes_in self.old.clauses + nodes (tree_of clause.clause.term) ≤ 2097152 }
         requires room { length names.old < 2 ^ 32 - 3 }
 
-        // The certificate is valid and exact for the program of the clauses.
+        // What its certificate is made of makes one that is valid and exact for the program of the clauses.
         ensures clauses { OnOk result
             (self.new.clauses ≡ inserted self.old.clauses (k - 1) (clause_of clause.clause)) }
         ensures session { OnOk result (IsSession names.new self.new) }
+
+        // What the edit leaves untouched keeps its size rows, ground rows and measures.
+        ensures untouched { OnOk result (KeepUntouched self.old.kept self.new.kept) }
 
         // The clause is refused exactly where it has a fault, wherever it stands, and with the first fault.
         ensures exact { let fault = added_fault names.old (length self.old.clauses)
@@ -139,6 +149,7 @@ impl Session {
         ensures clauses { OnOk result
             (self.new.clauses ≡ inserted self.old.clauses at (clause_of clause.clause)) }
         ensures session { OnOk result (IsSession names.new self.new) }
+        ensures untouched { OnOk result (KeepUntouched self.old.kept self.new.kept) }
         ensures exact { let fault = added_fault names.old (length self.old.clauses)
             (clause_of clause.clause) in
             MatchResult result (λ _. fault ≡ None) (λ e. IfNorm e (λ f. fault ≡ Some f)) }
@@ -149,9 +160,9 @@ impl Session {
         let clause = clause.clause;
         check_added(alloc, &clause, names, self.clauses.len())?;
         let more = term_nodes(alloc, &clause.term)?;
-        let inferred = infer_with(&mut self.clauses, at, clause, names)?;
-        self.inferred = inferred;
+        follow_with(&mut self.kept, &mut self.clauses, at, clause, names)?;
         self.nodes += more;
+        self.kept.certified(names);
         Ok(())
     }
 
@@ -162,18 +173,21 @@ impl Session {
         requires known { HasProgram names.old self.old }
         requires room { length names.old < 2 ^ 32 - 3 }
 
-        // The certificate is valid and exact for the program of the clauses.
+        // What its certificate is made of makes one that is valid and exact for the program of the clauses.
         ensures clauses { OnOk result (self.new.clauses ≡ removed self.old.clauses (k - 1)) }
         ensures session { OnOk result (IsSession names.new self.new) }
+
+        // What the edit leaves untouched keeps its size rows, ground rows and measures.
+        ensures untouched { OnOk result (KeepUntouched self.old.kept self.new.kept) }
         ensures err { OnErr result (self.new ≡ self.old) }
         ensures names { names.new ≡ names.old }
     {
         let alloc = *self.clauses.allocator();
         let at = k as usize - 1;
         let fewer = term_nodes(alloc, &self.clauses[at].term)?;
-        let inferred = infer_without(&mut self.clauses, at, names)?;
-        self.inferred = inferred;
+        follow_without(&mut self.kept, &mut self.clauses, at, names)?;
         self.nodes -= fewer;
+        self.kept.certified(names);
         Ok(())
     }
 
@@ -193,30 +207,32 @@ impl Session {
 
     /// The program of the clauses.
     pub fn program(&self) -> &Program
-        ensures { result.now ≡ self.now.program }
+        ensures { result.now ≡ self.now.kept.program }
     {
-        &self.inferred.program
+        self.kept.program()
     }
 
     /// The modes of a predicate, as the certificate prints them. It takes no memory.
-    pub fn modes(&self, p: PredId) -> &[Sequence<u32>]
-        requires { p.0 < length self.now.program.preds }
+    pub fn modes(&self, p: PredId) -> &[Mode]
+        requires { p.0 < length self.now.kept.program.preds }
 
         // After its version a certificate has one fact for each predicate.
-        ensures { (names : List (List ℕ)) → IsSession names self.now
-            → slice_get self.now.certificate.facts (suc p.0)
-            ≡ Some (Terminates (pred_text self.now.program names p.0) result.now) }
+        ensures { (names : List (List ℕ)) → slice_get (certificate_facts names self.now.kept) (suc p.0)
+            ≡ Some (Terminates (pred_text self.now.kept.program names p.0) (map arguments_of result.now)) }
     {
-        match self.inferred.certificate.facts.get(p.0 as usize + 1) {
-            Fact::Terminates { pred: _, modes } => modes.as_slice(),
-            _ => unreachable!(),
-        }
+        self.kept.modes(p)
     }
 
-    /// The certificate of the program. It takes no memory.
-    pub fn certificate(&self) -> &Certificate
-        ensures { result.now ≡ self.now.certificate }
+    /// The certificate of the program, by the texts of names. It is made each time.
+    pub fn certificate(&self, names: &Names) -> Result<Certificate, AllocError>
+        requires known { HasProgram names.now self.now }
+
+        // It is valid and exact for the program of the clauses.
+        ensures facts { IfOk result (λ c. c.facts ≡ certificate_facts names.now self.now.kept) }
+        ensures session { IsSession names.now self.now }
     {
-        &self.inferred.certificate
+        self.kept.certified(names);
+        let alloc = *self.clauses.allocator();
+        self.kept.certificate(alloc, names)
     }
 }

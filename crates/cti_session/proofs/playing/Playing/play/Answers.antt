@@ -8,7 +8,8 @@ use Rattle.prolog_terms.specs.Terms.{clause_of, tree_of}
 use Rattle.cti_session.specs.Edits.{Edit, done, tell}
 use Rattle.cti_session.specs.Playing.{AnswersStep, clauses_in}
 use Rattle.cti_session.specs.Session.{nodes_in}
-use Rattle.cti_session.proofs.PlayLemmas.{nodes_both, on_ok}
+use Rattle.cti_session.proofs.Answered.{on_ok}
+use Rattle.cti_session.proofs.PlayLemmas.{nodes_both}
 use Rattle.cti_session.proofs.playing.Playing.play.Goals as goal
 
 pub returns-in-Add-clause-step : goal.returns-in-Add-clause-step
