@@ -1,6 +1,8 @@
 #!/usr/bin/env bash
 # Times `cti session` outside the gate: texts of 2,000 and of 16,000 clauses that are added, one clause that comes and goes a thousand times, and a
-# library of 300 predicates whose modes are asked for after each of 20 edits, beside `cti infer` of the whole library.
+# library of 300 predicates whose modes are asked for after each of 20 edits, beside `cti infer` of the whole library. Then the generated
+# program of 300 predicates, in which a clause of one that three predicates reach comes and goes, with modes after each edit: what one edit
+# takes beside `cti infer` of the whole program.
 # Usage: bench/session.sh [PROGRAM]     (PROGRAM is bin/cti where none is named)
 set -eu
 cd "$(dirname "$0")/.."
@@ -42,8 +44,61 @@ for name, edits in texts.items():
     (folder / f"{name}.pl").write_text(edits)
 (folder / "library.pl").write_text("\n".join(library) + "\n")
 PYTHON
+python3 - "$folder" <<'PYTHON'
+import sys
+from pathlib import Path
+
+folder = Path(sys.argv[1])
+
+
+def predicate(k):
+    """The clauses of predicate k of the program that `cti gen` makes."""
+    if k % 3 == 1:
+        return [f"p{k}([],L,L).", f"p{k}([H|T],L,[H|R]) :- p{k}(T,L,R)."]
+    if k % 3 == 2:
+        return [f"p{k}([],[]).", f"p{k}([H|T],R) :- p{k}(T,S), p{k - 1}(S,[H],R)."]
+    return [f"p{k}(X,Y) :- p{k - 1}(X,Z), p{k - 1}(Z,Y)."]
+
+
+clauses = [line for k in range(1, 301) for line in predicate(k)]
+(folder / "generated.pl").write_text("\n".join(clauses) + "\n")
+grown = "".join(f"add(({line[:-1]})).\n" for line in clauses) + "modes(p300/2).\n"
+leaf = "p298([],L,L)"
+place = clauses.index(leaf + ".") + 1
+first = f"del({place}).\nmodes(p300/2).\nadd(({leaf})).\nmodes(p300/2).\n"
+again = f"del({len(clauses)}).\nmodes(p300/2).\nadd(({leaf})).\nmodes(p300/2).\n"
+(folder / "grown.pl").write_text(grown)
+(folder / "edited.pl").write_text(grown + first + again * 99)
+PYTHON
 
 python3 bench/timed.py "$folder/library.pl" "$program" infer "$folder/library.pl"
 for name in adds_2000 adds_16000 once thousand asked; do
     python3 bench/timed.py "$folder/$name.pl" "$program" session "$folder/$name.pl"
 done
+python3 bench/timed.py "$folder/generated.pl" "$program" infer "$folder/generated.pl"
+for name in grown edited; do
+    python3 bench/timed.py "$folder/$name.pl" "$program" session "$folder/$name.pl"
+done
+python3 - "$program" "$folder" <<'PYTHON'
+import resource
+import subprocess
+import sys
+
+program, folder = sys.argv[1:]
+
+
+def seconds(command, name):
+    """The least processor time of five runs."""
+    times = []
+    for _ in range(5):
+        before = resource.getrusage(resource.RUSAGE_CHILDREN)
+        subprocess.run([program, command, f"{folder}/{name}.pl"], stdout=subprocess.DEVNULL, check=True)
+        after = resource.getrusage(resource.RUSAGE_CHILDREN)
+        times.append(after.ru_utime + after.ru_stime - before.ru_utime - before.ru_stime)
+    return min(times)
+
+
+whole = seconds("infer", "generated")
+edit = (seconds("session", "edited") - seconds("session", "grown")) / 200
+print(f"one edit, with the modes after it: {edit * 1000:.2f} ms, {edit / whole:.3f} of infer")
+PYTHON
