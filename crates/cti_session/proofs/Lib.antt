@@ -2,6 +2,7 @@ mod Answered
 mod BuiltAlike
 mod Clauses
 mod EditLemmas
+mod ExtendLemmas
 mod Lists
 mod NodeLemmas
 mod PlayLemmas

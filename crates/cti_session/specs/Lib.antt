@@ -1,6 +1,7 @@
 pub mod EditViews
 pub mod Edits
 pub mod EditsFaults
+pub mod Extending
 pub mod Faults
 pub mod Following
 pub mod Playing

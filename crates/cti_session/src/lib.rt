@@ -14,6 +14,7 @@ mod counting;
 mod edit;
 mod edits;
 mod edits_fault;
+mod extending;
 mod following;
 pub mod laws;
 mod playing;

@@ -2,7 +2,7 @@
 
 ghost use Rattle.std.specs.Prelude.{◌≡◌, ◌≤◌, ◌<◌, ◌+◌, ◌-◌, ◌^◌, ◌++◌, ◌∷◌, [], ℕ, List, suc, Some, None};
 ghost use Rattle.std.specs.Prelude.{IfOk, OnOk, OnErr, MatchResult, length, map, slice_get};
-ghost use Rattle.std.specs.List.{insert as inserted, remove as removed};
+ghost use Rattle.std.specs.List.{AllByRecursion, insert as inserted, remove as removed};
 ghost use Rattle.cert_structure.specs.Order.{pred_text};
 ghost use Rattle.certificate.specs.declared.fact.Fact.TheVariants.{Terminates};
 ghost use Rattle.clause_normal.specs.Definite.{added_fault};
@@ -14,11 +14,13 @@ ghost use Rattle.prolog_terms.specs.Clauses.{nodes};
 ghost use Rattle.prolog_terms.specs.Terms.{clause_of, tree_of};
 ghost use Rattle.kept_program.specs.ProgramParts.{certificate_facts};
 ghost use Rattle.precond_fixpoint.specs.Solving.{arguments_of};
+ghost use Rattle.cti_session.specs.Extending.{first_fault};
 ghost use Rattle.cti_session.specs.Faults.{IfNorm};
 ghost use Rattle.cti_session.specs.Session.{HasProgram, IsSession, KeepUntouched, nodes_in};
 
 use crate::counting::term_nodes;
 use crate::edit::{EditClause, EditFault};
+use crate::extending::extend;
 use crate::following::{first_program, follow_with, follow_without};
 use certificate::Certificate;
 use clause_normal::check_added;
@@ -110,6 +112,35 @@ impl Session {
     {
         let at = self.clauses.len();
         self.put(at, clause, names)
+    }
+
+    /// Adds clauses after the others, all in one edit: for a file of them, or what is put in at once. After an error the
+    /// session is as before.
+    pub fn extend(&mut self, clauses: Vec<ReadClause>, names: &mut Names) -> Result<(), EditFault>
+        requires known { HasProgram names.old self.old }
+        requires fit { AllByRecursion (IsFit (length names.old)) (map clause_of clauses.items) }
+        requires small { nodes_in self.old.clauses + nodes_in (map clause_of clauses.items) ≤ 2097152 }
+        requires room { length names.old < 2 ^ 32 - 3 }
+
+        // What its certificate is made of makes one that is valid and exact for the program of the clauses.
+        ensures clauses { OnOk result
+            (self.new.clauses ≡ self.old.clauses ++ map clause_of clauses.items) }
+        ensures session { OnOk result (IsSession names.new self.new) }
+
+        // What the edit leaves untouched keeps its size rows, ground rows and measures.
+        ensures untouched { OnOk result (KeepUntouched self.old.kept self.new.kept) }
+
+        // The clauses are refused exactly where one of them has a fault after those before it, and with the first fault.
+        ensures exact { let fault = first_fault names.old (length self.old.clauses)
+            (map clause_of clauses.items) in
+            MatchResult result (λ _. fault ≡ None) (λ e. IfNorm e (λ f. fault ≡ Some f)) }
+        ensures err { OnErr result (self.new ≡ self.old) }
+        ensures names { names.new ≡ names.old }
+    {
+        let more = extend(&mut self.kept, &mut self.clauses, clauses, names)?;
+        self.nodes += more;
+        self.kept.certified(names);
+        Ok(())
     }
 
     /// Puts in a clause, which is then the one of number `k`. After an error the session is as before.

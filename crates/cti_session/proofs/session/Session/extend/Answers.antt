@@ -1,0 +1,8 @@
+use Rattle.std.proofs.Common.{ap, subst}
+use Rattle.cti_session.specs.Session.{KeepUntouched, Snapshot}
+use Rattle.kept_program.specs.ProgramParts.{ProgramParts}
+use Rattle.cti_session.proofs.session.Session.extend.Goals as goal
+
+pub returns-clause-untouched : goal.returns-clause-untouched
+returns-clause-untouched c =
+    subst (λ (k : ProgramParts). KeepUntouched k c.extend.new.kept) (ap (λ (s : Snapshot). s.kept) c.self.view_is) c.in_ok-more.ensures.untouched
