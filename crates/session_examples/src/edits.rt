@@ -1,0 +1,149 @@
+//! Programs whose clauses come and go, with ample memory.
+//!
+//! The modes are those that the definitions give, and the certificate is that of the program where it is read anew.
+
+use crate::desk::{Desk, Step};
+use clause_normal::NormKind;
+use cti_session::EditFault;
+use report::infer;
+use samples::program_of;
+use std::alloc::Global;
+use std::test::Fail;
+use term_size::NormName;
+
+/// A list library: three clauses of 33 nodes, in 87 bytes.
+const LIBRARY: &str =
+    "app([],L,L). app([H|T],L,[H|R]) :- app(T,L,R). rev([H|T],R) :- rev(T,S), app(S,[H],R). ";
+
+/// Its modes.
+const MODES: &str = "terminates(app/3,[[1],[3]]).\nterminates(rev/2,[[1]]).\n";
+
+/// Its first clause, its second one, and what is left without that.
+const FIRST: &str = "app([],L,L). ";
+
+const SECOND: &str = "app([H|T],L,[H|R]) :- app(T,L,R). ";
+
+const OTHERS: &str = "app([],L,L). rev([H|T],R) :- rev(T,S), app(S,[H],R).";
+
+/// A clause of 49 variables.
+const MANY: &str =
+    "p(f(_,_,_,_,_,_,_,_,_,_,_,_,_,_,_,_,_,_,_,_,_,_,_,_,_,_,_,_,_,_,_,_,_,_,_,_,_,_,_,_,_,_,_,_,_,_,_,_,_)).";
+
+/// The certificate of a program that is read anew.
+fn anew(alloc: Global, program: &str) -> Result<Vec<u8>, Fail> {
+    let sample = program_of(alloc, program).ok_or("no program")?;
+    let certificate = infer(alloc, &sample.program, &sample.names, NormName::Term)?;
+    Ok(certificate.print(alloc)?)
+}
+
+/// Whether a session has the certificate of this program where it is read anew, and these modes.
+fn stands(alloc: Global, desk: &Desk, program: &str, modes: &str) -> Result<bool, Fail> {
+    let certificate = anew(alloc, program)?;
+    Ok(desk.certificate(alloc)? == certificate && desk.modes(alloc)?.as_slice() == modes.as_bytes())
+}
+
+/// A session with the first clauses of a text, this many.
+fn after(alloc: Global, text: &str, count: u32) -> Result<Desk, Fail> {
+    let mut desk = Desk::of(alloc, text)?;
+    for _ in 0..count {
+        if desk.play(Step::Add) != Some(Ok(())) {
+            return Err(Fail::new("a clause is not added"));
+        }
+    }
+    Ok(desk)
+}
+
+/// An edit, with its outcome, and the program and its modes after it.
+type Row<'a> = (Step, Result<(), EditFault>, &'a str, &'a str);
+
+/// Does edits, each with its outcome; at last there are so many clauses and nodes.
+fn play(alloc: Global, desk: &mut Desk, rows: &[Row<'_>], size: (u32, u32)) -> Result<(), Fail> {
+    for (step, outcome, program, modes) in rows {
+        if desk.play(*step) != Some(*outcome) || !stands(alloc, desk, program, modes)? {
+            return Err(Fail::new(format_args!("not so: {program}")));
+        }
+    }
+    if desk.size() != size {
+        return Err(Fail::new("another size"));
+    }
+    Ok(())
+}
+
+/// A list library grows. Then its second clause goes, and comes back in its place, fifty times.
+#[test]
+fn a_list_library(rt: HostRuntime) -> Result<(), Fail> {
+    let alloc = rt.alloc();
+    let mut text = format!(in alloc; "{FIRST}{LIBRARY}")?;
+    for _ in 0..50 {
+        text.push_str(SECOND)?;
+    }
+    let mut desk = after(alloc, text.as_str(), 0)?;
+    let append = "app([],L,L). app([H|T],L,[H|R]) :- app(T,L,R).";
+    let growth = [
+        (Step::Add, Ok(()), FIRST, "terminates(app/3,[[]]).\n"),
+        (Step::Remove(1), Ok(()), "", ""),
+        (Step::Add, Ok(()), FIRST, "terminates(app/3,[[]]).\n"),
+        (Step::Add, Ok(()), append, "terminates(app/3,[[1],[3]]).\n"),
+        (Step::Add, Ok(()), LIBRARY, MODES),
+    ];
+    play(alloc, &mut desk, growth.as_slice(), (3, 33))?;
+    let less = "terminates(app/3,[[]]).\nterminates(rev/2,[[1]]).\n";
+    let round = [
+        (Step::Remove(2), Ok(()), OTHERS, less),
+        (Step::Insert(2), Ok(()), LIBRARY, MODES),
+    ];
+    for _ in 0..50 {
+        play(alloc, &mut desk, round.as_slice(), (3, 33))?;
+    }
+    Ok(())
+}
+
+/// Without the first clause `p` stands before `q`. In the second program the two mappings change their places with them.
+#[test]
+fn predicates_change_their_order(rt: HostRuntime) -> Result<(), Fail> {
+    let alloc = rt.alloc();
+    for (first, others, modes, size) in [
+        (
+            "r(X) :- q(X), p(X). ",
+            "p(s(X)) :- q(X). q(s(X)) :- p(X). p(0). q(0). ",
+            "terminates(p/1,[[1]]).\nterminates(q/1,[[1]]).\n",
+            (4, 16),
+        ),
+        (
+            "r(X,Y) :- q(X,Y), p(X,Y). ",
+            "p(s(X),s(Y)) :- q(Y,X). q(s(X),s(Y)) :- p(Y,X). p(0,_). q(0,_). ",
+            "terminates(p/2,[[1],[2]]).\nterminates(q/2,[[1],[2]]).\n",
+            (4, 24),
+        ),
+    ] {
+        let text = format!(in alloc; "{first}{others}")?;
+        let mut desk = after(alloc, text.as_str(), 5)?;
+        let rows = [(Step::Remove(1), Ok(()), others, modes)];
+        play(alloc, &mut desk, rows.as_slice(), size)?;
+    }
+    Ok(())
+}
+
+/// A clause with a fault is refused, wherever it is to stand. Its place counts from the first byte of the text.
+#[test]
+fn clauses_with_faults(rt: HostRuntime) -> Result<(), Fail> {
+    let alloc = rt.alloc();
+    for (clause, kind, at) in [
+        ("p(a,b,c,d,e,f,g,h,i,j,k,l,m).", NormKind::Arity, 87),
+        (MANY, NormKind::ManyVariables, 87),
+        ("p(X) :- !, q(X).", NormKind::NotPure, 95),
+        ("p :- q, (q ; r).", NormKind::NotPure, 95),
+        ("app(X,Y,Z) :- app(X,Y,Z), 1.", NormKind::NotPure, 113),
+        ("true :- p.", NormKind::BadHead, 87),
+        (":- discontiguous(p/1).", NormKind::Directive, 87),
+    ] {
+        let text = format!(in alloc; "{LIBRARY}{clause}")?;
+        for step in [Step::Add, Step::Insert(1)] {
+            let mut desk = after(alloc, text.as_str(), 3)?;
+            let fault = EditFault::Norm { kind, at };
+            let rows = [(step, Err(fault), LIBRARY, MODES)];
+            play(alloc, &mut desk, rows.as_slice(), (3, 33))?;
+        }
+    }
+    Ok(())
+}
