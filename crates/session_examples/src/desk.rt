@@ -12,12 +12,15 @@ use prolog_terms::ReadClause;
 use sequences::Sequence;
 use std::alloc::{AllocError, Global};
 use std::marker::Model;
+use std::mem;
 use std::test::Fail;
 
-/// An edit: the next clause of the text is put last, or becomes that of this number, or the clause of this number is taken out.
+/// An edit: the next clause of the text is put last, or all that are left are, or the next one becomes that of this
+/// number, or the clause of this number is taken out.
 #[derive(Clone, Copy)]
 pub(crate) enum Step {
     Add,
+    Extend,
     Insert(u32),
     Remove(u32),
 }
@@ -104,6 +107,13 @@ impl Desk {
         Some(self.session.add(clause, &mut self.names))
     }
 
+    /// Adds the clauses of the text that are left, all in one edit.
+    fn extend(&mut self) -> Result<(), EditFault> {
+        let alloc = *self.left.allocator();
+        let more = mem::replace(&mut self.left, Vec::new(alloc));
+        self.session.extend(more, &mut self.names)
+    }
+
     /// Puts in the next clause of the text.
     fn insert(&mut self, k: u32) -> Option<Result<(), EditFault>> {
         if k < 1 || k - 1 > self.session.clauses() {
@@ -128,6 +138,7 @@ impl Desk {
     pub(crate) fn play(&mut self, step: Step) -> Option<Result<(), EditFault>> {
         match step {
             Step::Add => self.add(),
+            Step::Extend => Some(self.extend()),
             Step::Insert(k) => self.insert(k),
             Step::Remove(k) => self.remove(k),
         }

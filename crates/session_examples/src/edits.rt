@@ -147,3 +147,37 @@ fn clauses_with_faults(rt: HostRuntime) -> Result<(), Fail> {
     }
     Ok(())
 }
+
+/// All the clauses that are left are added in one edit, however many stand there; then there are none, and nothing changes.
+#[test]
+fn clauses_in_one_edit(rt: HostRuntime) -> Result<(), Fail> {
+    let alloc = rt.alloc();
+    let whole = (Step::Extend, Ok(()), LIBRARY, MODES);
+    for count in 0..4 {
+        let mut desk = after(alloc, LIBRARY, count)?;
+        play(alloc, &mut desk, [whole, whole].as_slice(), (3, 33))?;
+    }
+    Ok(())
+}
+
+/// Where one of them has a fault none is added, and the first fault is told.
+#[test]
+fn clauses_in_one_edit_with_faults(rt: HostRuntime) -> Result<(), Fail> {
+    let alloc = rt.alloc();
+    for (more, kind, at) in [
+        ("p(X) :- !, q(X).", NormKind::NotPure, 95),
+        ("p(a). true :- p.", NormKind::BadHead, 93),
+        (
+            "true :- p. :- discontiguous(p/1). p(X) :- !.",
+            NormKind::BadHead,
+            87,
+        ),
+    ] {
+        let text = format!(in alloc; "{LIBRARY}{more}")?;
+        let mut desk = after(alloc, text.as_str(), 1)?;
+        let fault = EditFault::Norm { kind, at };
+        let rows = [(Step::Extend, Err(fault), FIRST, "terminates(app/3,[[]]).\n")];
+        play(alloc, &mut desk, rows.as_slice(), (1, 4))?;
+    }
+    Ok(())
+}
