@@ -6,7 +6,7 @@ ghost use Rattle.linear_rows.specs.Plain.{HaveWidth};
 use crate::elimination::{crowd, row, rows};
 use fourier::{ElimFault, Solved};
 use linear_rows::Rows;
-use simplex::{Held, holds};
+use simplex::{Basis, Held, holds, holds_from};
 use std::alloc::Global;
 use std::test::Fail;
 
@@ -119,11 +119,16 @@ fn held(alloc: Global, given: &Rows, numbers: &[i128]) -> Result<Option<bool>, F
     requires { HaveWidth given.now.width given.now.list }
 {
     let target = row(alloc, given.width, numbers)?;
-    Ok(match holds(alloc, given, &target)? {
+    Ok(answer_of(holds(alloc, given, &target)?))
+}
+
+/// What the test of a row says, or None where it is blown.
+fn answer_of(held: Held) -> Option<bool> {
+    match held {
         Held::Yes(_) => Some(true),
         Held::No(_) => Some(false),
         Held::Blown => None,
-    })
+    }
 }
 
 /// The third variable is at least 2, and at most twice the first.
@@ -148,6 +153,59 @@ fn tests_of_rows(rt: HostRuntime) -> Result<(), Fail> {
             held(alloc, &given, numbers.as_slice())?,
             want,
             "{numbers:?}"
+        );
+    }
+    Ok(())
+}
+
+/// The same by a basis.
+fn held_from(
+    alloc: Global,
+    given: &Rows,
+    numbers: &[i128],
+    basis: &mut Basis,
+) -> Result<Option<bool>, Fail>
+    requires { HaveWidth given.now.width given.now.list }
+{
+    let target = row(alloc, given.width, numbers)?;
+    Ok(answer_of(holds_from(alloc, given, &target, basis)?))
+}
+
+/// Each of two variables is at least 1, and the second at most twice the first; then one of the last two rows bounds both or
+/// only their difference. The second half of the tests begins with a basis of other rows.
+#[test]
+fn tests_from_a_basis(rt: HostRuntime) -> Result<(), Fail> {
+    let alloc = rt.alloc();
+    let mut basis = Basis::new(alloc, 2, None)?;
+    for (last, numbers, want) in [
+        ([6, -1, -1], [-2, 1, 1], Some(true)),
+        ([6, -1, -1], [-3, 1, 1], Some(false)),
+        ([6, -1, -1], [5, -1, 0], Some(true)),
+        ([6, -1, -1], [4, -1, 0], Some(false)),
+        ([6, -1, -1], [4, 0, -1], Some(true)),
+        ([6, -1, -1], [3, 0, -1], Some(false)),
+        ([6, -1, -1], [i128::MIN, 0, 1], None),
+        ([3, 1, -1], [4, 0, -1], Some(false)),
+        ([3, 1, -1], [4, 1, -1], Some(true)),
+        ([3, 1, -1], [2, 1, -1], Some(false)),
+        ([-3, -1, -1], [-9, 1, 1], Some(true)),
+        ([-3, -1, -1], [-1, 0, 0], Some(true)),
+    ] {
+        let given = rows(
+            alloc,
+            2,
+            [
+                [-1, 1, 0].as_slice(),
+                [-1, 0, 1].as_slice(),
+                [0, 2, -1].as_slice(),
+                last.as_slice(),
+            ]
+            .as_slice(),
+        )?;
+        assert_eq!(rt;
+            held_from(alloc, &given, numbers.as_slice(), &mut basis)?,
+            want,
+            "{last:?} {numbers:?}"
         );
     }
     Ok(())

@@ -1,0 +1,143 @@
+//! Worked rows: whole numbers of 256 bits, their products and quotients.
+
+use exact256::{Divisor, Integer, Natural, is_less_product, sum_of_products};
+use std::test::Fail;
+
+// The greatest number of 127 bits.
+const MOST: i128 = i128::MAX;
+
+// The high digit of 2^255.
+const TOP: u128 = 1 << 127;
+
+// All bits of a digit.
+const ALL: u128 = u128::MAX;
+
+/// A number of the given digits, the high one first.
+fn whole(negative: bool, high: u128, low: u128) -> Integer {
+    Integer {
+        negative,
+        magnitude: Natural { low, high },
+    }
+}
+
+fn digits(x: Option<Integer>) -> Option<(bool, u128, u128)> {
+    let found = x?;
+    Some((found.negative, found.magnitude.high, found.magnitude.low))
+}
+
+#[test]
+fn edges(rt: HostRuntime) -> Result<(), Fail> {
+    assert_eq!(rt; Integer::new(-MOST).narrowed(), Some(-MOST));
+    assert_eq!(rt; Integer::new(i128::MIN).narrowed(), None);
+    assert_eq!(rt; whole(false, 1, 0).narrowed(), None);
+    assert!(rt; !whole(true, 0, 0).is_negative(), "a 0 of either sign");
+    assert!(rt; Integer::ONE.negated().is_less(Integer::ZERO));
+    assert!(rt; !Integer::ZERO.is_less(whole(true, 0, 0)));
+    Ok(())
+}
+
+#[test]
+fn sums_of_products(rt: HostRuntime) -> Result<(), Fail> {
+    let big = whole(false, TOP, 0);
+    assert_eq!(rt;
+        digits(sum_of_products([Integer::new(MOST)].as_slice(), [-MOST].as_slice())),
+        Some((true, ALL >> 2, 1))
+    );
+    assert_eq!(rt;
+        digits(sum_of_products([big, Integer::ONE, big].as_slice(), [4, 7, -4].as_slice())),
+        Some((false, 0, 7)),
+        "only the finished sum counts"
+    );
+    assert_eq!(rt;
+        digits(sum_of_products([big].as_slice(), [2].as_slice())),
+        None
+    );
+    Ok(())
+}
+
+#[test]
+fn order_of_products(rt: HostRuntime) -> Result<(), Fail> {
+    for (a, b, c, d, want) in [
+        (whole(false, TOP, 0), 3, whole(false, TOP / 2, 0), 6, false),
+        (whole(false, TOP, 0), 3, whole(false, TOP / 2, 1), 6, true),
+        (whole(true, ALL, ALL), MOST, whole(false, 0, 1), 1, true),
+        (whole(true, 0, 0), 1, whole(false, 1, 0), 0, false),
+    ] {
+        assert_eq!(rt; is_less_product(a, b, c, d), want);
+    }
+    Ok(())
+}
+
+/// Each row gives the quotient of `x * p - y * q` by a number.
+#[test]
+fn quotients(rt: HostRuntime) -> Result<(), Fail> {
+    let zero = Integer::ZERO;
+    let all = whole(false, ALL, ALL);
+    for (x, p, y, q, by, want) in [
+        (
+            Integer::new(MOST),
+            Integer::new(-MOST),
+            zero,
+            zero,
+            Integer::new(MOST),
+            Some((true, 0, ALL >> 1)),
+        ),
+        // -5^60 times 3^50 * 2^130, by the latter.
+        (
+            whole(true, 0x9f4, 0xf272_6179_a224_501d_7624_22c9_4659_0d91),
+            whole(false, 0x2_6015_4fc3_6cbf_4277_8f24, 0),
+            zero,
+            zero,
+            whole(false, 0x2_6015_4fc3_6cbf_4277_8f24, 0),
+            Some((true, 0x9f4, 0xf272_6179_a224_501d_7624_22c9_4659_0d91)),
+        ),
+        // A determinant of three rows, by its minors.
+        (
+            whole(false, 0x20, 0xa712_2893_bd6a_b56a_417d_a5a6_2dd4_0a0f),
+            whole(false, 0x1d, 0x6329_f1c3_5ca4_c08d_c855_6b64_a2e7_ffdc),
+            whole(true, 0, 0x1d_1ce2_d389_b0ad_2139),
+            whole(false, 0x2, 0xf050_fe93_8943_adfa_ff1e_b7a8_ac47_ffac),
+            whole(false, 0, 0x5_6bc7_5e2d_6310_0027),
+            Some((
+                false,
+                0xb1_029d_4418_a9d7_3b9a,
+                0xcdfd_357b_4d28_5a35_697e_4823_5276_2550,
+            )),
+        ),
+        // Products of 511 bits, of which little is left.
+        (
+            whole(false, TOP, 0),
+            whole(false, TOP, 0),
+            whole(false, TOP, 0),
+            whole(false, TOP - 1, ALL),
+            whole(false, TOP / 2, 0),
+            Some((false, 0, 2)),
+        ),
+        // 15 by 2, 2^256 by 1, and a difference of 513 bits.
+        (
+            Integer::new(3),
+            Integer::new(5),
+            zero,
+            zero,
+            Integer::new(2),
+            None,
+        ),
+        (
+            whole(false, TOP, 0),
+            Integer::new(2),
+            zero,
+            zero,
+            Integer::ONE,
+            None,
+        ),
+        (all, all, all.negated(), all, all, None),
+    ] {
+        let found = match Divisor::new(by) {
+            Some(divisor) => divisor.crossed_quotient(x, p, y, q),
+            None => None,
+        };
+        assert_eq!(rt; digits(found), want);
+    }
+    assert!(rt; Divisor::new(zero).is_none());
+    Ok(())
+}
