@@ -54,6 +54,23 @@ known_more marks p m w ne known i l = elim (same_or_not i p) [
     some : Some m ≡ Some Waiting → m ≡ Waiting
     some e = cc
 
+-- a place whose row does not wait is known
+pub known_here : (marks : List Mark) (p : ℕ) → slice_get marks p ≢ Some Waiting → AreKnown marks p → AreKnown marks (p + 1)
+known_here marks p ne known i l = elim (same_or_not i p) [
+  | inl e ↦ λ h. ne (subst (λ (n : ℕ). slice_get marks n ≡ Some Waiting) e h)
+  | inr other ↦ known i (omega arith)
+]
+
+-- a place where a mark is written stays known, and so do the others
+pub known_still : (marks : List Mark) (p k : ℕ) (m : Mark) → slice_get marks p ≡ Some Waiting → m ≢ Waiting → AreKnown marks k → AreKnown (set marks p m) k
+known_still marks p k m w ne known i l = elim (same_or_not i p) [
+  | inl e ↦ λ h. ne (some (sym (get_same marks p m Waiting w) ∙ subst (λ (n : ℕ). slice_get (set marks p m) n ≡ Some Waiting) e h))
+  | inr other ↦ λ h. known i l (sym (get_other marks p i m other) ∙ h)
+]
+  where
+    some : Some m ≡ Some Waiting → m ≡ Waiting
+    some e = cc
+
 pub known_on : (marks : List Mark) (p : ℕ) (m : Mark) → slice_get marks p ≡ Some m → m ≢ Waiting → AreKnown marks p → AreKnown marks (p + 1)
 known_on marks p m at ne known i l = elim (same_or_not i p) [
   | inl e ↦ λ h. ne (some (sym at ∙ subst (λ (n : ℕ). slice_get marks n ≡ Some Waiting) e h))

@@ -1,6 +1,6 @@
 -- Private.
 -- Rows that are inserted one after the other. Nothing here has to be believed.
-use Rattle.std.specs.Prelude.{◌≡◌, ◌≢◌, ℕ, suc, ◌<◌, ℤ, List, [], ◌∷◌, length, slice_get, Some}
+use Rattle.std.specs.Prelude.{◌≡◌, ◌≢◌, ℕ, suc, ◌<◌, ℤ, List, [], ◌∷◌, length, slice_get, Option, None, Some}
 use Rattle.linear_rows.specs.Members.{In}
 use Rattle.linear_rows.specs.Plain.{plain_row, plain_rows, HaveWidth}
 use Rattle.linear_rows.specs.Rows.{HoldsOn}
@@ -36,3 +36,8 @@ pub record IsInsertion (n : ℕ) (all : List Row) (marks : List Mark) (kept : Ro
   pub count : length marks ≡ length all
   pub hold : (i : ℕ) (row : Row) → slice_get all i ≡ Some row → slice_get marks i ≢ Some Waiting → HoldsOn (suc n) (plain_rows kept.list) (plain_row row)
   pub kept_at : (row : List ℤ) → In row (plain_rows kept.list) → IsKeptAt all marks row
+
+-- the row that is inserted next waits; where there is none, the rows that were inserted imply the one at a place
+abbrev pub IsNext : ℕ → List Row → List Mark → Rows → ℕ → Option ℕ → Type 0
+IsNext n all marks kept place None = (row : Row) × (slice_get all place ≡ Some row) × HoldsOn (suc n) (plain_rows kept.list) (plain_row row)
+IsNext n all marks kept place (Some next) = slice_get marks next ≡ Some Waiting

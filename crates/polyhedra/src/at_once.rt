@@ -9,9 +9,10 @@ ghost use Rattle.simplex.specs.Telling.{Tells};
 
 use crate::appending::{push_alone, push_zeros};
 use crate::multiple::{is_natural, multiple};
+use crate::points::copied;
 use exact128::fits;
 use linear_rows::{Multipliers, Numbers, Point, Proof, Row, Rows, proves};
-use simplex::{Held, holds};
+use simplex::{Basis, Held, fails_at, holds, holds_from};
 use std::alloc::{AllocError, Global};
 
 /// Tests whether a row holds wherever rows hold, without solving where one row shows it or it fails at the origin.
@@ -27,6 +28,60 @@ pub(crate) fn tested(alloc: Global, rows: &Rows, row: &Row) -> Result<Held, Allo
         Some(point) => Ok(Held::No(point)),
         None => holds(alloc, rows, row),
     }
+}
+
+/// Tests a row, of which none of the rows is known to show it alone, beginning with the basis of the last test.
+pub(crate) fn tested_from(
+    alloc: Global,
+    rows: &Rows,
+    row: &Row,
+    basis: &mut Basis,
+) -> Result<Held, AllocError>
+    requires rows { HaveWidth rows.now.width rows.now.list }
+    requires row { length row.now.coeffs ≡ rows.now.width }
+    ensures { IfOk result (Tells rows.now.width (plain_rows rows.now.list) (plain_row row.now)) }
+{
+    match failing_at_origin(alloc, rows, row)? {
+        Some(point) => Ok(Held::No(point)),
+        None => holds_from(alloc, rows, row, basis),
+    }
+}
+
+/// Tests a row, first at a point where one may fail it.
+pub(crate) fn tested_at(
+    alloc: Global,
+    rows: &Rows,
+    row: &Row,
+    point: &Option<Point>,
+) -> Result<Held, AllocError>
+    requires rows { HaveWidth rows.now.width rows.now.list }
+    requires row { length row.now.coeffs ≡ rows.now.width }
+    ensures { IfOk result (Tells rows.now.width (plain_rows rows.now.list) (plain_row row.now)) }
+{
+    if let Some(point) = point {
+        if let Some(point) = failing_at(alloc, rows, row, point)? {
+            return Ok(Held::No(point));
+        }
+    }
+    tested(alloc, rows, row)
+}
+
+/// A copy of a point, if the rows hold there and the row fails.
+pub(crate) fn failing_at(
+    alloc: Global,
+    rows: &Rows,
+    row: &Row,
+    point: &Point,
+) -> Result<Option<Point>, AllocError>
+    requires rows { HaveWidth rows.now.width rows.now.list }
+    requires row { length row.now.coeffs ≡ rows.now.width }
+    ensures { IfOk result (λ o. IfSome o
+        (FailsAt rows.now.width (plain_rows rows.now.list) (plain_row row.now))) }
+{
+    if !fails_at(rows, row, point) {
+        return Ok(None);
+    }
+    Ok(Some(copied(alloc, point)?))
 }
 
 /// Multipliers that show a row with no number below 0, or one that is at least a multiple of one of the rows.

@@ -89,5 +89,6 @@ pub trait Domain: Drop + Sized {
 
     /// The row of constant -1 and zeros is spoken of, each row that a value lists has the value's arity and is spoken of,
     /// and rows that are spoken of fit.
-    ghost laws: { ((n : ℕ) → speaks (bottom_row n) ≡ true) × ((d : Self) → AreSpoken speaks (width d) (listed d)) × ((r : List ℤ) → speaks r ≡ true → row_fits r ≡ true) };
+    ghost laws: { ((n : ℕ) → speaks (bottom_row n) ≡ true) × ((d : Self) → AreSpoken speaks (width d)
+        (listed d)) × ((r : List ℤ) → speaks r ≡ true → row_fits r ≡ true) };
 }

@@ -4,9 +4,9 @@ ghost use Rattle.std.specs.Prelude.{IfOk};
 ghost use Rattle.linear_rows.specs.Plain.{plain_rows, HaveWidth};
 ghost use Rattle.polyhedra.specs.Filling.{IsEmptiness};
 
-use crate::at_once::tested;
+use crate::at_once::tested_at;
 use crate::bottom::bottom_row;
-use linear_rows::Rows;
+use linear_rows::{Point, Rows};
 use simplex::Held;
 use std::alloc::{AllocError, Global};
 
@@ -21,13 +21,17 @@ pub(crate) enum Emptiness {
     Unknown,
 }
 
-/// Tests whether rows hold at some point.
-pub(crate) fn emptiness_of(alloc: Global, rows: &Rows) -> Result<Emptiness, AllocError>
+/// Tests whether rows hold at some point, first at one where they may hold.
+pub(crate) fn emptiness_of(
+    alloc: Global,
+    rows: &Rows,
+    inside: &Option<Point>,
+) -> Result<Emptiness, AllocError>
     requires { HaveWidth rows.now.width rows.now.list }
     ensures { IfOk result (λ e. IsEmptiness rows.now.width (plain_rows rows.now.list) e) }
 {
     let nowhere = bottom_row(alloc, rows.width as usize)?;
-    match tested(alloc, rows, &nowhere)? {
+    match tested_at(alloc, rows, &nowhere, inside)? {
         Held::Yes(_) => Ok(Emptiness::Empty),
         Held::No(_) => Ok(Emptiness::Inhabited),
         Held::Blown => Ok(Emptiness::Unknown),

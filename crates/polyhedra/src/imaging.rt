@@ -8,14 +8,32 @@ ghost use Rattle.polyhedra.specs.Making.{arity_of, SaysImage};
 ghost use Rattle.polyhedra.specs.Telling.{IsSystem, HasNaturalHead};
 
 use crate::image_system::image_system;
-use crate::made::{Made, everything, strong};
+use crate::made::{Made, about, everything, strong};
+use crate::points::point_of_head;
 use crate::poly::Poly;
 use crate::projecting::projected;
-use linear_rows::System;
+use linear_rows::{Point, System};
 use std::alloc::{AllocError, Global};
 
 /// The sizes that the head's arguments have over a clause's system.
 pub(crate) fn imaged(alloc: Global, system: &System) -> Result<Made<Poly>, AllocError>
+    requires system { IsSystem system.now }
+    requires head { HasNaturalHead system.now }
+    ensures arity { IfOk result (λ made. made.value.rows.width ≡ arity_of system.now) }
+    ensures rows { IfOk result
+        (λ made. SaysImage (all_of fits) system.now (plain_rows made.value.rows.list) made.weak) }
+{
+    let inside = point_of_head(alloc, system)?;
+    let made = image_about(alloc, system, &inside)?;
+    Ok(about(made, inside))
+}
+
+/// The sizes that the head's arguments have over a clause's system, among which there may be a point.
+fn image_about(
+    alloc: Global,
+    system: &System,
+    inside: &Option<Point>,
+) -> Result<Made<Poly>, AllocError>
     requires system { IsSystem system.now }
     requires head { HasNaturalHead system.now }
     ensures arity { IfOk result (λ made. made.value.rows.width ≡ arity_of system.now) }
@@ -33,8 +51,8 @@ pub(crate) fn imaged(alloc: Global, system: &System) -> Result<Made<Poly>, Alloc
         return Ok(everything(alloc, arity));
     }
     let rows = image_system(alloc, system, arity, width)?;
-    match projected(alloc, &rows, arity, system.variables)? {
-        Some(rows) => Ok(strong(Poly { rows })),
+    match projected(alloc, &rows, arity, system.variables, inside)? {
+        Some(rows) => Ok(strong(Poly { rows, inside: None })),
         None => Ok(everything(alloc, arity)),
     }
 }

@@ -9,9 +9,11 @@ ghost use Rattle.polyhedra.specs.Making.{SaysJoin};
 
 use crate::emptiness::{Emptiness, emptiness_of};
 use crate::join_system::join_system;
-use crate::made::{Made, everything, strong};
+use crate::made::{Made, about, everything, strong};
+use crate::points::between;
 use crate::poly::Poly;
 use crate::projecting::projected;
+use linear_rows::Point;
 use std::alloc::{AllocError, Global};
 
 /// The least polyhedron over both.
@@ -22,8 +24,8 @@ pub(crate) fn joined(alloc: Global, first: &Poly, second: &Poly) -> Result<Made<
         (λ made. SaysJoin (all_of fits) first.now.rows.width (plain_rows first.now.rows.list)
         (plain_rows second.now.rows.list) (plain_rows made.value.rows.list) made.weak) }
 {
-    let own = emptiness_of(alloc, &first.rows)?;
-    let others = emptiness_of(alloc, &second.rows)?;
+    let own = emptiness_of(alloc, &first.rows, &first.inside)?;
+    let others = emptiness_of(alloc, &second.rows, &second.inside)?;
     match own {
         Emptiness::Empty => Ok(strong(second.copy(alloc)?)),
         Emptiness::Inhabited => match others {
@@ -49,6 +51,26 @@ fn hull(alloc: Global, first: &Poly, second: &Poly) -> Result<Made<Poly>, AllocE
         (λ made. SaysJoin (all_of fits) first.now.rows.width (plain_rows first.now.rows.list)
         (plain_rows second.now.rows.list) (plain_rows made.value.rows.list) made.weak) }
 {
+    let inside = between(alloc, &first.inside, &second.inside)?;
+    let made = hull_about(alloc, first, second, &inside)?;
+    Ok(about(made, inside))
+}
+
+/// The least polyhedron over two that are not empty, in which there may be a point.
+fn hull_about(
+    alloc: Global,
+    first: &Poly,
+    second: &Poly,
+    inside: &Option<Point>,
+) -> Result<Made<Poly>, AllocError>
+    requires same { second.now.rows.width ≡ first.now.rows.width }
+    requires first { HasPoint first.now.rows.width (plain_rows first.now.rows.list) }
+    requires second { HasPoint first.now.rows.width (plain_rows second.now.rows.list) }
+    ensures arity { IfOk result (λ made. made.value.rows.width ≡ first.now.rows.width) }
+    ensures rows { IfOk result
+        (λ made. SaysJoin (all_of fits) first.now.rows.width (plain_rows first.now.rows.list)
+        (plain_rows second.now.rows.list) (plain_rows made.value.rows.list) made.weak) }
+{
     // There is no memory for that many columns.
     let arity = first.rows.width;
     let Some(count) = arity.checked_add(1) else {
@@ -58,8 +80,8 @@ fn hull(alloc: Global, first: &Poly, second: &Poly) -> Result<Made<Poly>, AllocE
         return Err(AllocError);
     };
     let rows = join_system(alloc, &first.rows, &second.rows, width)?;
-    match projected(alloc, &rows, arity, count)? {
-        Some(rows) => Ok(strong(Poly { rows })),
+    match projected(alloc, &rows, arity, count, inside)? {
+        Some(rows) => Ok(strong(Poly { rows, inside: None })),
         None => Ok(everything(alloc, arity)),
     }
 }

@@ -19,17 +19,25 @@ use crate::imaging::imaged;
 use crate::joining::joined;
 use crate::keeping::{Kept, kept_on};
 use crate::made::Made;
+use crate::points::copied_if_known;
 use crate::widened::Widened;
-use linear_rows::{Row, Rows, System};
+use linear_rows::{Point, Row, Rows, System};
 use simplex::Held;
 use std::alloc::{AllocError, Global};
 
 /// A polyhedron: the sizes at which all of its rows hold. It speaks of every row whose numbers fit.
-#[derive(Drop)]
 pub struct Poly {
     pub(crate) rows: Rows,
+    // A hint: a point inside, where one is known.
+    pub(crate) inside: Option<Point>,
     ghost widths: { HaveWidth rows.width rows.list },
     ghost fit: { HaveFit rows.list },
+}
+
+impl Drop for Poly {
+    fn drop(self) {
+        let Poly { rows: _, inside: _ } = self;
+    }
 }
 
 impl Poly {
@@ -38,7 +46,8 @@ impl Poly {
         ensures { IfOk result (λ d. d.rows ≡ self.now.rows) }
     {
         let rows = self.rows.copy(alloc)?;
-        Ok(Poly { rows })
+        let inside = copied_if_known(alloc, &self.inside)?;
+        Ok(Poly { rows, inside })
     }
 }
 
@@ -52,7 +61,7 @@ impl Domain for Poly {
     fn bottom(alloc: Global, arity: u32) -> Result<Self, AllocError> {
         let mut rows = Rows::new(alloc, arity);
         rows.push(bottom_row(alloc, arity as usize)?)?;
-        Ok(Poly { rows })
+        Ok(Poly { rows, inside: None })
     }
 
     fn rows(&self) -> &Rows {
@@ -84,8 +93,9 @@ impl Domain for Poly {
             weak,
             last: _,
         } = kept;
+        let inside = copied_if_known(alloc, &self.inside)?;
         Ok(Widened {
-            value: Poly { rows },
+            value: Poly { rows, inside },
             failed,
             weak,
             by,

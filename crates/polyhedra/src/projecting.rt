@@ -5,11 +5,12 @@ ghost use Rattle.linear_rows.specs.Plain.{plain_row, plain_rows, HaveWidth};
 ghost use Rattle.polyhedra.specs.Choosing.{IsCore};
 ghost use Rattle.polyhedra.specs.Projecting.{IsProjected};
 
+use crate::hints::Hints;
 use crate::inserting::inserted;
 use crate::sweeping::irredundant;
 use crate::undominated::undominated;
 use fourier::{ElimFault, eliminate_all};
-use linear_rows::{Numbers, Row, Rows};
+use linear_rows::{Numbers, Point, Row, Rows};
 use std::alloc::{AllocError, Global};
 
 /// The first numbers of a row.
@@ -43,23 +44,27 @@ fn cut(alloc: Global, rows: &Rows, kept: u32) -> Result<Rows, AllocError>
 }
 
 /// An irredundant part of rows, on which each of them holds.
-fn core(alloc: Global, rows: Rows) -> Result<Rows, AllocError>
+fn core(alloc: Global, rows: Rows, inside: &Option<Point>) -> Result<Rows, AllocError>
     requires { HaveWidth rows.width rows.list }
     ensures width { IfOk result (λ r. r.width ≡ rows.width) }
     ensures widths { IfOk result (λ r. HaveWidth rows.width r.list) }
     ensures core { IfOk result (λ r. IsCore rows.width (plain_rows rows.list) (plain_rows r.list)) }
 {
     let few = undominated(alloc, rows)?;
-    let fewer = inserted(alloc, &few)?;
-    irredundant(alloc, fewer)
+    let mut hints = Hints::new(alloc, &few, inside)?;
+    let fewer = inserted(alloc, &few, &mut hints)?;
+    irredundant(alloc, fewer, &mut hints)
 }
 
 /// An irredundant part of the rows that the elimination of the last columns leaves, or none where it is blown.
+///
+/// `inside` may be a point of these rows.
 pub(crate) fn projected(
     alloc: Global,
     rows: &Rows,
     kept: u32,
     count: u32,
+    inside: &Option<Point>,
 ) -> Result<Option<Rows>, AllocError>
     requires columns { rows.now.width ≡ kept + count }
     requires width { HaveWidth rows.now.width rows.now.list }
@@ -68,7 +73,7 @@ pub(crate) fn projected(
     match eliminate_all(alloc, rows, kept, count) {
         Ok(left) => {
             let short = cut(alloc, &left, kept)?;
-            Ok(Some(core(alloc, short)?))
+            Ok(Some(core(alloc, short, inside)?))
         }
         Err(ElimFault::Blown { .. }) => Ok(None),
         Err(ElimFault::Memory) => Err(AllocError),

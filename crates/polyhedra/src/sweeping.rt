@@ -7,7 +7,7 @@ ghost use Rattle.polyhedra.specs.Choosing.{IsCore, AllHoldOn};
 ghost use Rattle.polyhedra.specs.Sweeping.{IsSwept, IsNeeded, IsImplied, IsLess};
 ghost use Rattle.termination_model.specs.ChainRows.{HasSublist};
 
-use crate::at_once::tested;
+use crate::hints::Hints;
 use linear_rows::{Row, RowList, Rows};
 use simplex::Held;
 use std::alloc::{AllocError, Global};
@@ -64,8 +64,8 @@ struct Swept {
     fewer: bool,
 }
 
-/// Takes the row at a place out where it holds on the others.
-fn try_row(alloc: Global, rows: Rows, place: usize) -> Result<Swept, AllocError>
+/// Takes the row at a place out where it holds on the others. It is not tested where a point is known at which it alone fails.
+fn try_row(alloc: Global, rows: Rows, place: usize, hints: &Hints) -> Result<Swept, AllocError>
     requires place { place < length rows.list }
     requires width { HaveWidth rows.width rows.list }
     ensures width { IfOk result (λ s. s.rows.width ≡ rows.width) }
@@ -77,7 +77,7 @@ fn try_row(alloc: Global, rows: Rows, place: usize) -> Result<Swept, AllocError>
         × IsImplied rows.width (plain_rows rows.list) place) }
 {
     let parted = part(rows, place);
-    match tested(alloc, &parted.others, &parted.row)? {
+    match hints.test_apart(alloc, &parted.others, &parted.row, place)? {
         Held::Yes(_) => Ok(Swept {
             rows: parted.others,
             fewer: true,
@@ -94,7 +94,7 @@ fn try_row(alloc: Global, rows: Rows, place: usize) -> Result<Swept, AllocError>
 }
 
 /// Takes each row out that holds on the others that are left.
-fn sweep(alloc: Global, rows: Rows) -> Result<Swept, AllocError>
+fn sweep(alloc: Global, rows: Rows, hints: &mut Hints) -> Result<Swept, AllocError>
     requires width { HaveWidth rows.width rows.list }
     ensures width { IfOk result (λ s. s.rows.width ≡ rows.width) }
     ensures widths { IfOk result (λ s. HaveWidth s.rows.width s.rows.list) }
@@ -108,10 +108,11 @@ fn sweep(alloc: Global, rows: Rows) -> Result<Swept, AllocError>
     let mut fewer = false;
     let mut place = 0;
     while place < rows.list.len() {
-        let tried = try_row(alloc, rows, place)?;
+        let tried = try_row(alloc, rows, place, hints)?;
         rows = tried.rows;
         if tried.fewer {
             fewer = true;
+            hints.forget(place);
         } else {
             place += 1;
         }
@@ -122,7 +123,7 @@ fn sweep(alloc: Global, rows: Rows) -> Result<Swept, AllocError>
 /// An irredundant part of the rows, on which each of them holds.
 ///
 /// Sweeps go on until one takes nothing out, since a test that was blown may be decided once there are fewer rows.
-pub(crate) fn irredundant(alloc: Global, rows: Rows) -> Result<Rows, AllocError>
+pub(crate) fn irredundant(alloc: Global, rows: Rows, hints: &mut Hints) -> Result<Rows, AllocError>
     requires width { HaveWidth rows.width rows.list }
     ensures width { IfOk result (λ r. r.width ≡ rows.width) }
     ensures widths { IfOk result (λ r. HaveWidth r.width r.list) }
@@ -130,7 +131,7 @@ pub(crate) fn irredundant(alloc: Global, rows: Rows) -> Result<Rows, AllocError>
 {
     let mut left = rows;
     loop {
-        let swept = sweep(alloc, left)?;
+        let swept = sweep(alloc, left, hints)?;
         left = swept.rows;
         if !swept.fewer {
             return Ok(left);

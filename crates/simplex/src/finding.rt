@@ -31,7 +31,7 @@ pub fn found(alloc: Global, rows: &Rows) -> Result<Option<Solved>, AllocError>
 }
 
 /// The most pivots for rows of this number and width.
-fn most_pivots(width: usize, many: usize) -> Option<usize>
+pub fn most_pivots(width: usize, many: usize) -> Option<usize>
     ensures { IfSome result (λ _. width + many < 2 ^ 64) }
 {
     width.checked_add(many)?.checked_mul(8)?.checked_add(64)
@@ -57,7 +57,7 @@ fn point_of(rows: &Rows, values: Numbers) -> Option<Solved>
 }
 
 /// Whether numbers are a point at which each row holds, as far as this is seen in numbers that fit.
-fn is_point(rows: &Rows, t: i128, w: &[i128]) -> bool
+pub fn is_point(rows: &Rows, t: i128, w: &[i128]) -> bool
     requires { HaveWidth rows.now.width rows.now.list }
     ensures { result ≡ true → IsPoint rows.now.width (plain_rows rows.now.list) t w.now }
 {
@@ -73,7 +73,7 @@ fn is_point(rows: &Rows, t: i128, w: &[i128]) -> bool
 }
 
 /// Whether no number is below 0.
-fn are_natural(numbers: &[i128]) -> bool
+pub fn are_natural(numbers: &[i128]) -> bool
     ensures { result ≡ true → All (λ x. pos 0 ≤ℤ x) numbers.now }
 {
     for number in numbers {
@@ -96,7 +96,7 @@ fn holds_at(row: &Row, t: i128, w: &[i128]) -> bool
 }
 
 /// The value of a row, where the numbers that it is formed of fit.
-fn value_at(row: &Row, t: i128, w: &[i128]) -> Option<i128>
+pub fn value_at(row: &Row, t: i128, w: &[i128]) -> Option<i128>
     requires { length w.now ≡ length row.now.coeffs }
     ensures { IfSome result (λ value. value ≡ dot (plain_row row.now) (t ∷ w.now)) }
 {

@@ -10,8 +10,11 @@ ghost use Rattle.linear_rows.specs.Proves.{Refutes};
 ghost use Rattle.fourier.specs.Solves.{Decides};
 ghost use Rattle.simplex.specs.Telling.{IsTest, Tells, TellsIfFits, ShowsIfFits};
 
+use crate::basis::Basis;
+use crate::cone::searched;
 use crate::finding::found;
 use crate::held::Held;
+use crate::showing::{fails_at, shows};
 use crate::systems::test_system;
 use fourier::Solved;
 use linear_rows::{Multipliers, Numbers, Point, Proof, Row, Rows, proves};
@@ -126,5 +129,77 @@ pub fn holds(alloc: Global, rows: &Rows, row: &Row) -> Result<Held, AllocError>
     match by_pivots(alloc, rows, row, &system)? {
         Some(held) => Ok(held),
         None => by_elimination(alloc, rows, row, &system),
+    }
+}
+
+/// What a search in the cone of the rows tells, if it finds something that stands its test.
+fn by_cone(
+    alloc: Global,
+    rows: &Rows,
+    row: &Row,
+    basis: &mut Basis,
+) -> Result<Option<Held>, AllocError>
+    requires width { HaveWidth rows.now.width rows.now.list }
+    requires row { length row.now.coeffs ≡ rows.now.width }
+    ensures { IfOk result (λ o. IfSome o
+        (Tells rows.now.width (plain_rows rows.now.list) (plain_row row.now))) }
+{
+    if rows.list.len() <= rows.width as usize {
+        return Ok(None);
+    }
+    let tested = match searched(alloc, rows, row, basis)? {
+        Some(held) => tested(rows, row, held),
+        None => None,
+    };
+    if tested.is_none() {
+        basis.reset();
+    }
+    Ok(tested)
+}
+
+/// What was found of a row, if it stands its test.
+fn tested(rows: &Rows, row: &Row, held: Held) -> Option<Held>
+    requires width { HaveWidth rows.now.width rows.now.list }
+    requires row { length row.now.coeffs ≡ rows.now.width }
+    ensures { IfSome result (Tells rows.now.width (plain_rows rows.now.list) (plain_row row.now)) }
+{
+    match held {
+        Held::Yes(by) => {
+            if shows(rows, row, &by) {
+                Some(Held::Yes(by))
+            } else {
+                None
+            }
+        }
+        Held::No(point) => {
+            if fails_at(rows, row, &point) {
+                Some(Held::No(point))
+            } else {
+                None
+            }
+        }
+        Held::Blown => None,
+    }
+}
+
+/// Tests whether a row holds wherever rows hold, as `holds` does, but begins at the basis where another test ended.
+///
+/// Where the rows are at least as many as the columns, it first searches in the cone of the rows, and tests what it finds.
+/// The multipliers and the points may be others than those of `holds`.
+pub fn holds_from(
+    alloc: Global,
+    rows: &Rows,
+    row: &Row,
+    basis: &mut Basis,
+) -> Result<Held, AllocError>
+    requires rows { HaveWidth rows.now.width rows.now.list }
+    requires row { length row.now.coeffs ≡ rows.now.width }
+
+    // Yes with multipliers that show the row, No with a point at which it fails, and Blown only where its test is.
+    ensures { IfOk result (Tells rows.now.width (plain_rows rows.now.list) (plain_row row.now)) }
+{
+    match by_cone(alloc, rows, row, basis)? {
+        Some(held) => Ok(held),
+        None => holds(alloc, rows, row),
     }
 }

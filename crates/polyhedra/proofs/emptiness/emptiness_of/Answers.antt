@@ -12,5 +12,5 @@ returns-in-Yes c =
     let n = c.args.rows.now.width in
     let rows = plain_rows c.args.rows.now.list in
     let row = plain_row c.in_ok-nowhere.nowhere in
-    let told = subst (λ (h : Held). Tells n rows row h) c.in-Yes.is c.in_ok-tested.ensures in
+    let told = subst (λ (h : Held). Tells n rows row h) c.in-Yes.is c.in_ok-tested_at.ensures in
     bottom_empty n rows (subst (HoldsOn (suc n) rows) c.in_ok-nowhere.ensures.row (yes_holds n rows row c.in-Yes.field-0 (ap suc c.in_ok-nowhere.ensures.width) told))

@@ -17,7 +17,7 @@ returns-in-Yes-clause-out c = λ _.
     let parted = c.part-parted.result in
     let same : plain_rows parted.others.list ≡ without_place p (plain_rows l) = ap plain_rows c.part-parted.ensures.others ∙ plain_without p l in
     let at : slice_index_or (plain_rows l) p [] ≡ plain_row parted.row = plain_at p l parted.row c.part-parted.ensures.row in
-    let told = subst (λ (h : Held). Tells parted.others.width (plain_rows parted.others.list) (plain_row parted.row) h) c.in-Yes.is c.in_ok-tested.ensures in
+    let told = subst (λ (h : Held). Tells parted.others.width (plain_rows parted.others.list) (plain_row parted.row) h) c.in-Yes.is c.in_ok-test_apart.ensures in
     let holds = yes_holds n (plain_rows parted.others.list) (plain_row parted.row) c.in-Yes.field-0 (ap suc c.part-parted.ensures.row_width) told in
     (same, subst (λ (r : List ℤ). HoldsOn (suc n) (without_place p (plain_rows l)) r) (sym at) (subst (λ (rs : List (List ℤ)). HoldsOn (suc n) rs (plain_row parted.row)) same holds))
 
@@ -44,7 +44,7 @@ needed n w p l others r we e at P h =
 pub returns-in_ok-put-in-No-clause-kept : goal.returns-in_ok-put-in-No-clause-kept
 returns-in_ok-put-in-No-clause-kept c = λ _.
     let parted = c.part-parted.result in
-    let told = subst (λ (h : Held). Tells parted.others.width (plain_rows parted.others.list) (plain_row parted.row) h) c.in-No.is c.in_ok-tested.ensures in (
+    let told = subst (λ (h : Held). Tells parted.others.width (plain_rows parted.others.list) (plain_row parted.row) h) c.in-No.is c.in_ok-test_apart.ensures in (
       back c.args.place c.args.rows.list parted.others.list c.in_ok-put-in-No.field-0.list parted.row c.part-parted.ensures.others c.in_ok-put-in-No.ensures.rows c.part-parted.ensures.row,
       inl (needed c.args.rows.width parted.others.width c.args.place c.args.rows.list parted.others.list parted.row c.part-parted.ensures.width c.part-parted.ensures.others c.part-parted.ensures.row Fails (no_fails parted.others.width (plain_rows parted.others.list) (plain_row parted.row) c.in-No.field-0 told)),
     )
@@ -52,7 +52,7 @@ returns-in_ok-put-in-No-clause-kept c = λ _.
 pub returns-in_ok-put-in-Blown-clause-kept : goal.returns-in_ok-put-in-Blown-clause-kept
 returns-in_ok-put-in-Blown-clause-kept c = λ _.
     let parted = c.part-parted.result in
-    let told = subst (λ (h : Held). Tells parted.others.width (plain_rows parted.others.list) (plain_row parted.row) h) c.in-Blown.is c.in_ok-tested.ensures in (
+    let told = subst (λ (h : Held). Tells parted.others.width (plain_rows parted.others.list) (plain_row parted.row) h) c.in-Blown.is c.in_ok-test_apart.ensures in (
       back c.args.place c.args.rows.list parted.others.list c.in_ok-put-in-Blown.field-0.list parted.row c.part-parted.ensures.others c.in_ok-put-in-Blown.ensures.rows c.part-parted.ensures.row,
       inr (needed c.args.rows.width parted.others.width c.args.place c.args.rows.list parted.others.list parted.row c.part-parted.ensures.width c.part-parted.ensures.others c.part-parted.ensures.row TestIsBlown told),
     )

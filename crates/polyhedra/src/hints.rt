@@ -1,0 +1,177 @@
+//! What is remembered of the tests of rows, to save others. All of it may be wrong.
+
+ghost use Rattle.std.specs.Prelude.{◌≡◌, ◌≢◌, length, IfOk, slice_get, Some, true, false};
+ghost use Rattle.linear_rows.specs.Plain.{plain_row, plain_rows, HaveWidth};
+ghost use Rattle.simplex.specs.Telling.{Tells};
+
+use crate::at_once::{failing_at, tested_from};
+use crate::mark::Mark;
+use crate::points::copied_if_known;
+use crate::shooting::{Facet, first_met};
+use linear_rows::{Point, Row, Rows};
+use simplex::{Basis, Held};
+use std::alloc::{AllocError, Global};
+
+/// A point inside of the rows, the basis of the last test, and for each row a point at which it alone fails, as far as
+/// they are known.
+pub(crate) struct Hints {
+    inside: Option<Point>,
+    basis: Basis,
+    witnesses: Vec<Option<Point>>,
+}
+
+impl Drop for Hints {
+    fn drop(self) {
+        let Hints {
+            inside: _,
+            basis: _,
+            witnesses: _,
+        } = self;
+    }
+}
+
+impl Hints {
+    /// Nothing is known of the rows but a point inside.
+    pub(crate) fn new(
+        alloc: Global,
+        rows: &Rows,
+        inside: &Option<Point>,
+    ) -> Result<Hints, AllocError> {
+        let mut witnesses = Vec::new(alloc);
+        for place in 0..rows.list.len() {
+            witnesses.push(None)?;
+        }
+        Ok(Hints {
+            inside: copied_if_known(alloc, inside)?,
+            basis: fresh_basis(alloc, rows.width, inside)?,
+            witnesses,
+        })
+    }
+
+    /// Tests a row on rows of which each is one of those of the last test, or comes after them.
+    pub(crate) fn test(&mut self, alloc: Global, rows: &Rows, row: &Row) -> Result<Held, AllocError>
+        requires rows { HaveWidth rows.now.width rows.now.list }
+        requires row { length row.now.coeffs ≡ rows.now.width }
+        ensures { IfOk result (Tells rows.now.width (plain_rows rows.now.list) (plain_row row.now)) }
+    {
+        tested_from(alloc, rows, row, &mut self.basis)
+    }
+
+    /// The place of the row that is kept next, where the one at `place` fails at a point outside.
+    pub(crate) fn next(
+        &mut self,
+        alloc: Global,
+        rows: &Rows,
+        marks: &[Mark],
+        place: usize,
+        outside: &Point,
+    ) -> Result<usize, AllocError>
+        requires marks { length marks.now ≡ length rows.now.list }
+        requires waiting { slice_get marks.now place ≡ Some Mark.Waiting }
+        ensures { IfOk result (λ next. slice_get marks.now next ≡ Some Mark.Waiting) }
+    {
+        let Some(facet) = shot(alloc, rows, marks, &self.inside, outside)? else {
+            return Ok(place);
+        };
+        let next = facet.place;
+        if !is_waiting(marks, next) {
+            return Ok(place);
+        }
+        self.remember(facet);
+        Ok(next)
+    }
+
+    /// Remembers the point at which a row alone fails.
+    fn remember(&mut self, facet: Facet) {
+        let Facet { place, witness } = facet;
+        if place < self.witnesses.len() {
+            self.witnesses[place] = witness;
+        }
+    }
+
+    /// The row at a place is gone.
+    pub(crate) fn forget(&mut self, place: usize) {
+        if place < self.witnesses.len() {
+            self.witnesses.remove(place);
+        }
+    }
+
+    /// Only the rows that are marked as kept are left.
+    pub(crate) fn leave(&mut self, marks: &[Mark]) {
+        let mut place = 0;
+        for k in 0..marks.len() {
+            if is_kept(marks[k]) {
+                place += 1;
+            } else {
+                self.forget(place);
+            }
+        }
+    }
+
+    /// Tests the row at a place on the others.
+    pub(crate) fn test_apart(
+        &self,
+        alloc: Global,
+        others: &Rows,
+        row: &Row,
+        place: usize,
+    ) -> Result<Held, AllocError>
+        requires rows { HaveWidth others.now.width others.now.list }
+        requires row { length row.now.coeffs ≡ others.now.width }
+        ensures { IfOk result
+            (Tells others.now.width (plain_rows others.now.list) (plain_row row.now)) }
+    {
+        if let Some(Some(witness)) = self.witnesses.get(place) {
+            if let Some(point) = failing_at(alloc, others, row, witness)? {
+                return Ok(Held::No(point));
+            }
+        }
+        let mut basis = fresh_basis(alloc, others.width, &self.inside)?;
+        tested_from(alloc, others, row, &mut basis)
+    }
+}
+
+/// The basis of a first test.
+fn fresh_basis(alloc: Global, width: u32, inside: &Option<Point>) -> Result<Basis, AllocError> {
+    Basis::new(alloc, width, copied_if_known(alloc, inside)?)
+}
+
+/// The row that is met alone on the way from the point inside, where one is known, to one outside.
+fn shot(
+    alloc: Global,
+    rows: &Rows,
+    marks: &[Mark],
+    inside: &Option<Point>,
+    outside: &Point,
+) -> Result<Option<Facet>, AllocError>
+    requires marks { length marks.now ≡ length rows.now.list }
+{
+    match inside {
+        Some(inside) => first_met(alloc, rows, marks, inside, outside),
+        None => Ok(None),
+    }
+}
+
+/// Whether a row waits at a place.
+pub(crate) fn is_waiting(marks: &[Mark], place: usize) -> bool
+    ensures waiting { result ≡ true → slice_get marks.now place ≡ Some Mark.Waiting }
+    ensures other { result ≡ false → slice_get marks.now place ≢ Some Mark.Waiting }
+{
+    match marks.get(place) {
+        Some(mark) => match mark {
+            Mark::Waiting => true,
+            Mark::Kept => false,
+            Mark::Implied => false,
+        },
+        None => false,
+    }
+}
+
+/// Whether a row was inserted.
+fn is_kept(mark: Mark) -> bool {
+    match mark {
+        Mark::Waiting => false,
+        Mark::Kept => true,
+        Mark::Implied => false,
+    }
+}
