@@ -8,9 +8,11 @@ ghost use Rattle.cert_structure.specs.Order.{pred_text};
 ghost use Rattle.cert_structure.specs.Shape.{head_of};
 ghost use Rattle.linear_rows.specs.Plain.{plain_row, plain_rows};
 ghost use Rattle.numeric_model.specs.States.{plain_step};
+ghost use Rattle.certificate.specs.Text.{text_of};
 ghost use Rattle.cert_assembly.specs.ChainNotes.{chain_notes, how_noted, noted_if, step_notes};
 
 use crate::named::pred_text;
+use crate::printed::print_facts;
 use certificate::{CertHow, Fact};
 use cti_terms::{Names, PredId, Program};
 use linear_rows::{Row, Rows};
@@ -75,7 +77,7 @@ fn image_note(
 ) -> Result<Fact, AllocError>
     ensures { IfOk result (λ note. note ≡ fact.Image number step.now.clause
         (pred_text p.now names.now (head_of p.now (step.now.clause - 1)))
-        (plain_rows step.now.image.list)) }
+        (plain_rows step.now.image.value.list)) }
 {
     Ok(Fact::Image {
         step: number,
@@ -95,7 +97,7 @@ fn rows_note(
 ) -> Result<Fact, AllocError>
     ensures { IfOk result (λ note. note
         ≡ fact.Step number (pred_text p.now names.now (head_of p.now (step.now.clause - 1)))
-        (how_noted step.now.how) (plain_rows step.now.rows.list)) }
+        (how_noted step.now.how) (plain_rows step.now.rows.value.list)) }
 {
     Ok(Fact::Step {
         step: number,
@@ -147,6 +149,44 @@ pub fn note_chain(
     for step in steps.into_vec() {
         number += 1;
         note_step(alloc, p, names, number, &step, out)?;
+    }
+    Ok(())
+}
+
+/// Appends the text of the notes of a step.
+fn print_step(
+    alloc: Global,
+    p: &Program,
+    names: &Names,
+    number: u64,
+    step: &Step,
+    out: &mut Vec<u8>,
+) -> Result<(), AllocError>
+    ensures { OnOk result (out.new.items ≡ out.old.items ++ text_of
+        (step_notes p.now names.now number (plain_step step.now))) }
+{
+    let mut facts = Sequence::new(alloc);
+    note_step(alloc, p, names, number, step, &mut facts)?;
+    print_facts(alloc, facts, out)
+}
+
+/// Appends the text of the notes of a chain. Each step is dropped once it is printed, and its notes are not held.
+pub fn print_chain(
+    alloc: Global,
+    p: &Program,
+    names: &Names,
+    steps: Sequence<Step>,
+    out: &mut Vec<u8>,
+) -> Result<(), AllocError>
+    ensures { OnOk result (out.new.items ≡ out.old.items ++ text_of
+        (chain_notes p.now names.now (map plain_step steps))) }
+{
+    // For the prover alone: so many steps there are, and their numbers are no more.
+    let _count = steps.len();
+    let mut number = 0;
+    for step in steps.into_vec() {
+        number += 1;
+        print_step(alloc, p, names, number, &step, out)?;
     }
     Ok(())
 }

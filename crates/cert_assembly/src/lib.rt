@@ -11,16 +11,18 @@ mod leading;
 mod measured;
 mod named;
 mod parted;
+mod printed;
 mod ranges;
 mod sets;
 
-pub use chain_notes::{note_chain, note_components};
+pub use chain_notes::{note_chain, note_components, print_chain};
 pub use copies::{
     copied_list, copied_multipliers, copied_part, copied_proofs, copied_refutation, copied_rows,
 };
 pub use leading::led_by;
-pub use measured::{Measured, put_sizes};
+pub use measured::{Measured, move_sizes, put_sizes};
 pub use named::pred_text;
 pub use parted::{part_of, zero_part};
+pub use printed::print_facts;
 pub use ranges::{Bounded, all_bounded};
 pub use sets::{arguments_of, mode_lists, spelled_list, spelled_lists};

@@ -15,17 +15,27 @@ use call_components::Components;
 use cert_structure::Parts;
 use cti_terms::Program;
 use precond_fixpoint::solve_levels;
+use sequences::Sequence;
 use std::alloc::{AllocError, Global};
+use std::mem;
 use term_size::AnyNorm;
-use termination_model::Sizes;
+use termination_model::{SizeRows, Sizes};
 
-/// Puts in the size rows and their proofs.
+/// Puts in the size rows and their proofs. They are copied.
 pub fn put_sizes(alloc: Global, sizes: &Sizes, parts: &mut Parts) -> Result<(), AllocError>
     ensures { OnOk result (parts.new ≡ with_sizes sizes.now parts.old) }
 {
     parts.rows = copied_rows(alloc, &sizes.rows)?;
     parts.row_proofs = copied_proofs(alloc, sizes.proofs.as_slice())?;
     Ok(())
+}
+
+/// Puts in the size rows and their proofs. They are moved out of the others.
+pub fn move_sizes(alloc: Global, sizes: &mut Sizes, parts: &mut Parts)
+    ensures { parts.new ≡ with_sizes sizes.old parts.old }
+{
+    parts.rows = mem::replace(&mut sizes.rows, SizeRows::new(alloc));
+    parts.row_proofs = mem::replace(&mut sizes.proofs, Sequence::new(alloc));
 }
 
 /// A program by its components, and the norm of its terms.

@@ -101,21 +101,21 @@ got_last (y ∷ xs) t x (suc i) e = later (got_last xs t x i e)
 module _ {D : Type 0} (width : D → ℕ) (listed : D → List (List ℤ)) (speaks : List ℤ → Bool) (expression : ℕ → Tree → List ℤ) where
   pub again : (rows : ℕ → List (List ℤ)) (k : Clause) (s : System) (sys : IsSystem s) (is : IsOf expression rows k s) (d : D) (earlier : Step) → IsRepeatable speaks expression rows k (width d) (listed d) earlier
       → earlier.step_weak ≡ false → earlier.how ≢ None → (kept : List (List ℤ)) (by : List Multipliers) → SaysKept s (listed d) kept false false by
-      → (x : Noted D) → x.image.list ≡ earlier.image.list → x.image_weak ≡ earlier.image_weak → x.stepped ≡ record { how = Same; weak = false; next = Nought; filled = Inhabited; by = by } → (pass number : ℕ)
+      → (x : Noted D) → x.image.value.list ≡ earlier.image.value.list → x.image_weak ≡ earlier.image_weak → x.stepped ≡ record { how = Same; weak = false; next = Nought; filled = Inhabited; by = by } → (pass number : ℕ)
       → IsNoted width listed speaks expression pass rows k number Inhabited x
   again rows k s sys is d earlier repeatable strong some kept by says x image weak stepped pass number =
       let was = repeatable.was_legal in
       let own = repeatable.head in
       let arity = arity_is expression rows k s is in
-      let plain : plain_rows earlier.image.list ≡ plain_rows x.image.list = ap plain_rows (sym image) in
-      let legal : IsLegalImage speaks expression rows k x.image_weak (plain_rows x.image.list) =
-      subst (λ (w : Bool). IsLegalImage speaks expression rows k w (plain_rows x.image.list)) (sym weak)
-      (subst (IsLegalImage speaks expression rows k earlier.image_weak) plain (image_stays speaks expression was.rows rows k repeatable.same earlier.image_weak (plain_rows earlier.image.list) was.legal.image)) in
-      let point : HasPoint (length k.head.args) (plain_rows x.image.list) = subst (HasPoint (length k.head.args)) plain (point_of speaks expression k (plain_step earlier) was strong some) in
-      let image_point : HasPoint (arity_of s) (plain_rows x.image.list) = subst (λ (n : ℕ). HasPoint n (plain_rows x.image.list)) (sym arity) point in
+      let plain : plain_rows earlier.image.value.list ≡ plain_rows x.image.value.list = ap plain_rows (sym image) in
+      let legal : IsLegalImage speaks expression rows k x.image_weak (plain_rows x.image.value.list) =
+      subst (λ (w : Bool). IsLegalImage speaks expression rows k w (plain_rows x.image.value.list)) (sym weak)
+      (subst (IsLegalImage speaks expression rows k earlier.image_weak) plain (image_stays speaks expression was.rows rows k repeatable.same earlier.image_weak (plain_rows earlier.image.value.list) was.legal.image)) in
+      let point : HasPoint (length k.head.args) (plain_rows x.image.value.list) = subst (HasPoint (length k.head.args)) plain (point_of speaks expression k (plain_step earlier) was strong some) in
+      let image_point : HasPoint (arity_of s) (plain_rows x.image.value.list) = subst (λ (n : ℕ). HasPoint n (plain_rows x.image.value.list)) (sym arity) point in
       let old_point : HasPoint (arity_of s) (listed d) = subst (λ (n : ℕ). HasPoint n (listed d)) (sym arity) own.known in
-      let step = same_all width listed speaks s sys pass (listed d) (plain_rows x.image.list) image_point old_point kept by says in
-      noted_from width listed speaks expression pass rows k number s is Inhabited d own x legal (subst (IsStep width listed speaks s pass (listed d) (plain_rows x.image.list) Inhabited) (sym stepped) step)
+      let step = same_all width listed speaks s sys pass (listed d) (plain_rows x.image.value.list) image_point old_point kept by says in
+      noted_from width listed speaks expression pass rows k number s is Inhabited d own x legal (subst (IsStep width listed speaks s pass (listed d) (plain_rows x.image.value.list) Inhabited) (sym stepped) step)
 
   -- ---- steps that were legal, with one more
   module _ (p : Listing) (pass : ℕ) (k : ℕ × Clause) (old new : State D) (changed : Bool) (taken : IsTaken width listed speaks expression pass k old new changed) (marked : IsMarked k.1.head.pred.0 old new changed) where

@@ -20,7 +20,7 @@ pub record HasRowsOf (rows : ℕ → List (List ℤ)) (c : Clause) (filled : Fil
 module _ {D : Type 0} (width : D → ℕ) (listed : D → List (List ℤ)) (speaks : List ℤ → Bool) (expression : ℕ → Tree → List ℤ) (pass : ℕ) (rows : ℕ → List (List ℤ)) (c : Clause) (k : ℕ) where
   -- the note of a step
   abbrev pub note : Noted D → Step
-  note r = record { clause = k; image = plain_rows r.image.list; image_weak = r.image_weak; how = r.stepped.how; rows = rows_after listed (rows c.head.pred.0) r.stepped.next; weak = r.stepped.weak }
+  note r = record { clause = k; image = plain_rows r.image.value.list; image_weak = r.image_weak; how = r.stepped.how; rows = rows_after listed (rows c.head.pred.0) r.stepped.next; weak = r.stepped.weak }
 
   pub record IsNoted (filled : Filled) (r : Noted D) : Type 0 where
     pub legal : IsLegalStep speaks expression pass rows c (note r)

@@ -34,7 +34,7 @@ every q = true
 
 -- a step, over plain lists
 abbrev pub plain_step : Step → PlainStep
-plain_step s = record { clause = s.clause; image = plain_rows s.image.list; image_weak = s.image_weak; how = s.how; rows = plain_rows s.rows.list; weak = s.step_weak }
+plain_step s = record { clause = s.clause; image = plain_rows s.image.value.list; image_weak = s.image_weak; how = s.how; rows = plain_rows s.rows.value.list; weak = s.step_weak }
 
 module _ {D : Type 0} (width : D → ℕ) (listed : D → List (List ℤ)) where
   abbrev pub value_weight : Value D → ℕ
@@ -125,9 +125,9 @@ module _ {D : Type 0} (width : D → ℕ) (listed : D → List (List ℤ)) where
     pub replaced : IfReplaced q noted.stepped.next noted.stepped.filled old new changed
     pub steps : new.steps ≡ old.steps ++ step ∷ []
     pub clause : step.clause ≡ k
-    pub image : step.image.list ≡ noted.image.list
+    pub image : step.image.value.list ≡ noted.image.value.list
     pub image_weak : step.image_weak ≡ noted.image_weak
     pub how : step.how ≡ noted.stepped.how
-    pub rows : plain_rows step.rows.list ≡ rows_of new.sizes.rows q
+    pub rows : plain_rows step.rows.value.list ≡ rows_of new.sizes.rows q
     pub weak : step.step_weak ≡ noted.stepped.weak
     pub proofs : new.proofs.items ≡ slice_set old.proofs.items (k - 1) noted.stepped.by

@@ -20,6 +20,7 @@ mod noting;
 mod repeating;
 mod running;
 mod setting;
+mod sharing;
 mod solving;
 mod state;
 mod step;

@@ -17,13 +17,14 @@ use cti_terms::Program;
 use linear_rows::{Rows, System};
 use polyhedra::Domain;
 use std::alloc::{AllocError, Global};
+use std::rc::Rc;
 use term_size::Norm;
 use termination_model::{Sizes, system};
 
 /// What a step does to its head's value, and the image that it notes.
 #[derive(Drop)]
 pub(crate) struct Noted<D> {
-    pub(crate) image: Rows,
+    pub(crate) image: Rc<Rows>,
     pub(crate) image_weak: bool,
     pub(crate) stepped: Stepped<D>,
 }
@@ -41,13 +42,13 @@ fn note_on<D: Domain>(
     requires old_width { D.width old.now ≡ arity_of system.now }
     requires filled { IsFilled (arity_of system.now) filled (D.listed old.now) }
     ensures image { IfOk result
-        (λ noted. SaysImage D.speaks system.now (plain_rows noted.image.list) noted.image_weak) }
+        (λ noted. SaysImage D.speaks system.now (plain_rows noted.image.value.list) noted.image_weak) }
     ensures step { IfOk result
         (λ noted. IsStep D.width D.listed D.speaks system.now pass (D.listed old.now)
-        (plain_rows noted.image.list) filled noted.stepped) }
+        (plain_rows noted.image.value.list) filled noted.stepped) }
 {
     let made = D::image(alloc, system)?;
-    let image = made.value.rows().copy(alloc)?;
+    let image = Rc::new(alloc, made.value.rows().copy(alloc)?)?;
     let image_weak = made.weak;
     let stepped = step_on(alloc, system, old, filled, made, pass)?;
     Ok(Noted {

@@ -46,7 +46,7 @@ pub(crate) fn note_again<D: Domain, N: Norm>(
     if kept.failed || kept.weak {
         return Ok(None);
     }
-    let image = earlier.image.copy(alloc)?;
+    let image = earlier.image.clone()?;
     Ok(Some(Noted {
         image,
         image_weak: earlier.image_weak,

@@ -2,6 +2,7 @@
 
 ghost use Rattle.std.specs.Prelude.{◌≡◌, ◌≤◌, ◌<◌, ◌-◌, IfOk, IfSome, OnOk, length, [], ◌∷◌, slice_get, slice_set, Some};
 ghost use Rattle.cti_terms.specs.Listing.{IsProgram, Listing};
+ghost use Rattle.linear_rows.specs.Plain.{plain_rows};
 ghost use Rattle.linear_rows.specs.declared.row.Rows.{Rows};
 ghost use Rattle.termination_model.specs.Chain.{start_rows};
 ghost use Rattle.termination_model.specs.Sizes.{rows_of};
@@ -12,6 +13,7 @@ use crate::chain::Chain;
 use crate::filled::Filled;
 use crate::latest::Latest;
 use crate::noting::Noted;
+use crate::sharing::are_same_rows;
 use crate::step::Step;
 use crate::stepped::Stepped;
 use crate::value::Value;
@@ -20,6 +22,7 @@ use linear_rows::{Multipliers, Rows};
 use polyhedra::Domain;
 use sequences::Sequence;
 use std::alloc::{AllocError, Global};
+use std::rc::Rc;
 use termination_model::{SizeRows, Sizes, stated_rows};
 
 /// The rows of each predicate while a chain goes on.
@@ -174,7 +177,7 @@ impl<D: Domain> State<D> {
             by,
         } = stepped;
         let changed = self.replace(alloc, pred, next, filled)?;
-        let rows = self.sizes.rows.get(pred.0 as usize).copy(alloc)?;
+        let rows = self.shared_rows(alloc, pred)?;
         self.steps.push(Step {
             clause: k,
             image,
@@ -186,6 +189,21 @@ impl<D: Domain> State<D> {
         self.latest.note(k, pred, self.steps.len(), changed);
         self.proofs[k as usize - 1] = by;
         Ok(changed)
+    }
+
+    /// The rows of a predicate, for one more step: those of the last step, where they are the same.
+    fn shared_rows(&self, alloc: Global, pred: PredId) -> Result<Rc<Rows>, AllocError>
+        requires { pred.0 < length self.now.sizes.rows }
+        ensures { IfOk result (λ rows. plain_rows rows.value.list
+            ≡ rows_of self.now.sizes.rows pred.0) }
+    {
+        let rows = self.sizes.rows.get(pred.0 as usize);
+        if let Some(step) = self.steps.as_slice().last() {
+            if are_same_rows(step.rows.list.as_slice(), rows.list.as_slice()) {
+                return step.rows.clone();
+            }
+        }
+        Ok(Rc::new(alloc, rows.copy(alloc)?)?)
     }
 
     /// The last step on clause `k`, if it had one and the rows of these atoms' predicates are still those that it read.

@@ -102,13 +102,12 @@ module _ (p : Listing) (names : List (List ℕ)) (comps : Partition) (blown : �
       (flat_notes (λ q. large_at p names comps q (led_by comps q)) (λ q. large_is q (led_by comps q)) (columns 0 (length p.preds)))
 
 -- ---- all together
-module _ (n : AnyNorm) (named : Option CertNorm) (p : Listing) (names : List (List ℕ)) (comps : Partition) (sizes : Sizes) (found : List Found) (parts : Parts) (notes : List Fact) (steps : List Step)
+module _ (n : AnyNorm) (named : Option CertNorm) (p : Listing) (names : List (List ℕ)) (comps : Partition) (sizes : Sizes) (found : List Found) (parts : Parts) (steps : List Step)
     (program : IsProgram p) (components : AreComponents p comps)
     (legal : IsLegalChain (all_of fits) (any_row n) p comps (map plain_step steps) (rows_of sizes.rows))
     (are_sizes : AreSizes p.preds sizes.rows) (proved : AreProved (any_row n) (rows_of sizes.rows) p.clauses sizes.proofs)
     (fit : (q : ℕ) → All (λ r. row_fits r ≡ true) (rows_of sizes.rows q))
     (founds : AreFound (any_row n) p comps sizes.rows found) (are : ArePartsOf n named p comps sizes found parts) (bounded : AreBounded parts)
-    (noted : notes ≡ chain_notes p names (map plain_step steps) ++ support_notes p names comps (given_up found))
     (force : n ≡ norm_in names named) where
   founds_here : AreFound (any_row n) p comps parts.rows found
   founds_here = subst (λ (rows : List Rows). AreFound (any_row n) p comps rows found) (sym are.rows) founds
@@ -149,11 +148,12 @@ module _ (n : AnyNorm) (named : Option CertNorm) (p : Listing) (names : List (Li
   here : n ≡ norm_in names parts.norm
   here = force ∙ ap (norm_in names) (sym are.norm)
 
-  pub assembled : IsAssembled p names comps (record { parts = parts; notes = notes })
+  pub assembled : IsAssembled p names comps (record { parts = parts; steps = steps; found = found })
   assembled =
       let s = are.sets in
       record {
-        are_notes = subst AreNotes (sym noted) (notes_append (chain_notes p names (map plain_step steps)) (support_notes p names comps (given_up found)) (steps_are p names 1 (map plain_step steps)) (supports_are p names comps (given_up found)));
+        each = founds.each;
+        are_notes = notes_append (chain_notes p names (map plain_step steps)) (support_notes p names comps (given_up found)) (steps_are p names 1 (map plain_step steps)) (supports_are p names comps (given_up found));
         counted = parts_are_counted (any_truth n) p comps parts parts.levels s.first s.last s.grounds s.sets s.lists components s.solved s.spelled;
         numbers = subst (λ (m : AnyNorm). NumbersHold (any_row m) p comps parts) here (record { sizes = sizes_hold; mappings = mappings_hold });
         exact = record {
@@ -170,6 +170,6 @@ module _ (n : AnyNorm) (named : Option CertNorm) (p : Listing) (names : List (Li
                 (subst (λ (rows : List Rows). IsLegalChain (all_of fits) (any_row n) p comps (map plain_step steps) (rows_of rows)) (sym are.rows) legal);
             are = refl;
           };
-          are = noted;
+          are = refl;
         };
       }

@@ -5,12 +5,12 @@ use Rattle.call_components.specs.Partition.{AreComponents, Partition}
 use Rattle.certificate.specs.declared.fact.Fact.{Fact}
 use Rattle.cert_checker.specs.Norms.{norm_in}
 use Rattle.cert_checker.specs.Valid.{IsValid}
-use Rattle.cert_structure.specs.Order.{fall_facts, ground_facts, head_facts, level_facts, listed, mode_facts, pre_facts, proof_facts, refuted_facts, size_facts}
+use Rattle.cert_structure.specs.Order.{fall_facts, ground_facts, head_facts, level_facts, mode_facts, pre_facts, proof_facts, refuted_facts, size_facts}
 use Rattle.cert_structure.specs.declared.parts.Parts.{Parts}
 use Rattle.certificate.specs.declared.norm.CertNorm.{CertNorm}
 use Rattle.cti_terms.specs.Listing.{IsProgram, Listing}
 use Rattle.report.proofs.ValidParts.{parts_are_valid, parts_have_shape}
-use Rattle.report.specs.Assembly.{IsAssembled}
+use Rattle.report.specs.Assembly.{IsAssembled, facts_in, notes_in}
 use Rattle.report.specs.Exact.{IsExact}
 use Rattle.report.specs.OfNorm.{IsOfNorm, certificate_norm}
 use Rattle.term_size.specs.declared.any_norm.NormName.{NormName}
@@ -34,9 +34,9 @@ after_head p names parts notes =
     ++ notes)))))))
 
 module _ (p : Listing) (names : List (List ℕ)) (comps : Partition) (program : IsProgram p) (components : AreComponents p comps) (a : Assembled) (is : IsAssembled p names comps a) (facts : List Fact)
-    (same : facts ≡ listed p names a.parts a.notes) where
+    (same : facts ≡ facts_in p names comps a) where
   pub valid_facts : IsValid p names facts
-  valid_facts = subst (IsValid p names) (sym same) (parts_are_valid p names comps a.parts a.notes program components is.are_notes is.counted is.numbers is.exact.modes)
+  valid_facts = subst (IsValid p names) (sym same) (parts_are_valid p names comps a.parts (notes_in p names comps a) program components is.are_notes is.counted is.numbers is.exact.modes)
 
   pub exact_facts : IsExact p names facts
   exact_facts = record {
@@ -44,7 +44,7 @@ module _ (p : Listing) (names : List (List ℕ)) (comps : Partition) (program : 
     components = components;
     parts = a.parts;
     structured = record {
-      notes = a.notes;
+      notes = notes_in p names comps a;
       are_notes = is.are_notes;
       shape = parts_have_shape (norm_in names a.parts.norm) p comps a.parts program components is.counted is.numbers is.exact.modes;
       is = same;
@@ -53,4 +53,4 @@ module _ (p : Listing) (names : List (List ℕ)) (comps : Partition) (program : 
   }
 
   pub norm_facts : (asked : NormName) → a.parts.norm ≡ certificate_norm asked → IsOfNorm asked facts
-  norm_facts asked named = (after_head p names a.parts a.notes, same ∙ ap (λ (n : Option CertNorm). head_facts n ++ after_head p names a.parts a.notes) named)
+  norm_facts asked named = (after_head p names a.parts (notes_in p names comps a), same ∙ ap (λ (n : Option CertNorm). head_facts n ++ after_head p names a.parts (notes_in p names comps a)) named)

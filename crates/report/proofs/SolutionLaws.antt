@@ -28,7 +28,7 @@ use Rattle.termination_model.proofs.Lists.{mapped_place}
 
 module _ (p : Listing) (names : List (List ℕ)) (comps : Partition) (s : Findings) (program : IsProgram p) (components : AreComponents p comps) (is : IsSolution p comps s) where
   abbrev parts_here : Assembled
-  parts_here = record { parts = solution_parts p comps s; notes = solution_notes p names comps s }
+  parts_here = record { parts = solution_parts p comps s; steps = flat_map (λ own. own) s.steps; found = s.found }
 
   sets_here : HaveSets truth p comps (solution_parts p comps s)
   sets_here = record {
@@ -52,10 +52,10 @@ module _ (p : Listing) (names : List (List ℕ)) (comps : Partition) (s : Findin
     refutations = refutations_below s.found is.below.found p comps;
   }
 
-  solution_is_assembled : IsAssembled p names comps (record { parts = solution_parts p comps s; notes = solution_notes p names comps s })
+  solution_is_assembled : IsAssembled p names comps parts_here
   solution_is_assembled =
-      assembled (Terms (record {})) None p names comps s.sizes s.found (solution_parts p comps s) (solution_notes p names comps s) (flat_map (λ own. own) s.steps)
-      program components is.chain.legal is.chain.sizes is.chain.proofs is.chain.fits is.found parts_are parts_below refl refl
+      assembled (Terms (record {})) None p names comps s.sizes s.found (solution_parts p comps s) (flat_map (λ own. own) s.steps)
+      program components is.chain.legal is.chain.sizes is.chain.proofs is.chain.fits is.found parts_are parts_below refl
 
   module _ (named : AreNamed names p.preds) (distinct : AllPairs (λ a b. a ≢ b) names)
       (bounds : (p : Listing) (names : List (List ℕ)) (facts : List Fact) → IsProgram p → AreNamed names p.preds → AllPairs (λ a b. a ≢ b) names → IsValid p names facts → ModesAreBounded p names facts) where

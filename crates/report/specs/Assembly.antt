@@ -2,12 +2,14 @@
 -- How the parts of a certificate come from what the engines give.
 --
 -- Nothing here has to be believed.
-use Rattle.std.specs.Prelude.{◌≡◌, ℕ, ℤ, true, List, length, slice_get, Option, Some, IfSome}
+use Rattle.std.specs.Prelude.{◌≡◌, ◌++◌, ℕ, ℤ, true, List, length, map, slice_get, Option, Some, IfSome}
 use Rattle.std.specs.List.{AllByRecursion}
 use Rattle.call_components.specs.Partition.{Partition}
 use Rattle.cert_checker.specs.Norms.{norm_in}
+use Rattle.cert_structure.specs.Order.{listed}
 use Rattle.cert_structure.specs.Structure.{AreNotes}
 use Rattle.cert_structure.specs.declared.parts.Parts.{Parts}
+use Rattle.certificate.specs.declared.fact.Fact.{Fact}
 use Rattle.certificate.specs.declared.norm.CertNorm.{CertNorm}
 use Rattle.cti_terms.specs.Listing.{Listing}
 use Rattle.cti_terms.specs.Tree.{Tree}
@@ -21,9 +23,12 @@ use Rattle.termination_model.specs.Sizes.{rows_of}
 use Rattle.termination_model.specs.declared.sizes.Sizes.{Sizes}
 use Rattle.report.specs.Assembled.{NumbersHold}
 use Rattle.report.specs.Exact.{IsExactOf}
+use Rattle.numeric_model.specs.States.{plain_step}
 use Rattle.cert_assembly.specs.Assembly.{HaveSets}
+use Rattle.cert_assembly.specs.ChainNotes.{chain_notes}
 use Rattle.cert_assembly.specs.ExactModes.{AreCounted}
-use Rattle.report.specs.Levels.{fall_list, level_list, refutation_list}
+use Rattle.report.specs.Levels.{fall_list, given_up, level_list, refutation_list}
+use Rattle.report.specs.SupportNotes.{support_notes}
 use Rattle.cert_assembly.specs.Ranges.{AreMultipliersBelow, IsPartBelow, IsRefutationBelow}
 use Rattle.report.specs.declared.assembling.Assembled.{Assembled}
 
@@ -63,9 +68,18 @@ pub record AreBounded (parts : Parts) : Type 0 where
   pub falls : AllByRecursion (AllByRecursion (AllByRecursion AreMultipliersBelow)) parts.falls
   pub refutations : AllByRecursion (λ (o : Option Refutation). IfSome o IsRefutationBelow) parts.refutations
 
+-- the notes of a certificate: of its chain, and of what was found of its components
+abbrev pub notes_in : Listing → List (List ℕ) → Partition → Assembled → List Fact
+notes_in p names comps a = chain_notes p names (map plain_step a.steps) ++ support_notes p names comps (given_up a.found)
+
+-- its facts
+abbrev pub facts_in : Listing → List (List ℕ) → Partition → Assembled → List Fact
+facts_in p names comps a = listed p names a.parts (notes_in p names comps a)
+
 -- what makes a certificate valid and exact
 pub record IsAssembled (p : Listing) (names : List (List ℕ)) (comps : Partition) (a : Assembled) : Type 0 where
-  pub are_notes : AreNotes a.notes
+  pub each : length a.found ≡ length comps.members
+  pub are_notes : AreNotes (notes_in p names comps a)
   pub counted : AreCounted p comps a.parts
   pub numbers : NumbersHold (any_row (norm_in names a.parts.norm)) p comps a.parts
-  pub exact : IsExactOf p names comps a.parts a.notes
+  pub exact : IsExactOf p names comps a.parts (notes_in p names comps a)

@@ -3,6 +3,7 @@ pub mod Assembly
 pub mod Exact
 pub mod ExactMappings
 pub mod Generated
+pub mod InferredText
 pub mod Levels
 pub mod OfNorm
 pub mod Refuted

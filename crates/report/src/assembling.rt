@@ -1,12 +1,13 @@
 //! The assembly of a certificate from what the engines give.
 
-ghost use Rattle.std.specs.Prelude.{◌≡◌, ◌<◌, ◌++◌, IfOk, OnOk, Some, length, map, slice_get, true};
+ghost use Rattle.std.specs.Prelude.{◌≡◌, ◌<◌, ◌++◌, [], IfOk, OnOk, Some, length, map, slice_get, true};
 ghost use Rattle.call_components.specs.Partition.{AreComponents};
 ghost use Rattle.cert_checker.specs.Norms.{norm_in};
+ghost use Rattle.certificate.specs.Text.{text_of};
 ghost use Rattle.cert_structure.specs.Order.{listed};
 ghost use Rattle.level_systems.specs.Found.{IsFound};
 ghost use Rattle.numeric_model.specs.States.{plain_step};
-ghost use Rattle.report.specs.Assembly.{AreBounded, AreFound, ArePartsOf, IsAssembled, with_mappings};
+ghost use Rattle.report.specs.Assembly.{AreBounded, AreFound, ArePartsOf, IsAssembled, facts_in, with_mappings};
 ghost use Rattle.cert_assembly.specs.Sizing.{IsSolvedChain};
 ghost use Rattle.cert_assembly.specs.ChainNotes.{chain_notes};
 ghost use Rattle.report.specs.Levels.{given_up};
@@ -18,7 +19,7 @@ ghost use Rattle.termination_model.specs.Sizes.{AreSizes, rows_of};
 use crate::levels::Mapped;
 use crate::support_notes::Described;
 use call_components::Components;
-use cert_assembly::{Bounded, Measured, note_chain, put_sizes};
+use cert_assembly::{Bounded, Measured, move_sizes, note_chain, print_chain, print_facts};
 use cert_checker::norm_of;
 use cert_structure::Parts;
 use cert_writing::facts_of;
@@ -32,15 +33,21 @@ use std::alloc::{AllocError, Global};
 use term_size::{AnyNorm, NormName};
 use termination_model::{SizeRows, Sizes};
 
-/// What a certificate is made of: its parts, and the notes after their facts.
+/// What a certificate is made of: its parts, and what its notes tell, which are the steps of its chain and what was found of
+/// each component.
 pub(crate) struct Assembled {
     pub(crate) parts: Parts,
-    pub(crate) notes: Sequence<Fact>,
+    pub(crate) steps: Sequence<Step>,
+    pub(crate) found: Sequence<Found>,
 }
 
 impl Drop for Assembled {
     fn drop(self) {
-        let Assembled { parts: _, notes: _ } = self;
+        let Assembled {
+            parts: _,
+            steps: _,
+            found: _,
+        } = self;
     }
 }
 
@@ -49,14 +56,72 @@ impl Assembled {
     pub(crate) fn certificate(
         self,
         alloc: Global,
-        p: &Program,
-        names: &Names,
+        described: &Described,
     ) -> Result<Certificate, AllocError>
-        ensures { IfOk result (λ c. c.facts ≡ listed p.now names.now self.parts self.notes) }
+        requires components { AreComponents described.now.p.now described.now.comps.now }
+        requires each { length self.found ≡ length described.now.comps.now.members }
+        ensures { IfOk result (λ c. c.facts
+            ≡ facts_in described.now.p.now described.now.names.now described.now.comps.now self) }
     {
-        let Assembled { parts, notes } = self;
-        facts_of(alloc, p, names, &parts, notes.into_vec())
+        let Assembled {
+            parts,
+            steps,
+            found,
+        } = self;
+        let notes = notes_of(alloc, described, steps, found.as_slice())?;
+        facts_of(
+            alloc,
+            described.p,
+            described.names,
+            &parts,
+            notes.into_vec(),
+        )
     }
+
+    /// The text of this certificate. Its notes are printed one after the other, and are not held.
+    pub(crate) fn text(self, alloc: Global, described: &Described) -> Result<Vec<u8>, AllocError>
+        requires components { AreComponents described.now.p.now described.now.comps.now }
+        requires each { length self.found ≡ length described.now.comps.now.members }
+        ensures { IfOk result (λ text. text.items ≡ text_of
+            (facts_in described.now.p.now described.now.names.now described.now.comps.now self)) }
+    {
+        let Assembled {
+            parts,
+            steps,
+            found,
+        } = self;
+        let mut text = parts_text(alloc, described, parts)?;
+        print_chain(alloc, described.p, described.names, steps, &mut text)?;
+        print_supports(alloc, described, found.as_slice(), &mut text)?;
+        Ok(text)
+    }
+}
+
+/// The text of a certificate with these parts and no notes.
+fn parts_text(alloc: Global, described: &Described, parts: Parts) -> Result<Vec<u8>, AllocError>
+    ensures { IfOk result (λ text. text.items ≡ text_of
+        (listed described.now.p.now described.now.names.now parts [])) }
+{
+    let head = facts_of(alloc, described.p, described.names, &parts, Vec::new(alloc))?;
+    head.print(alloc)
+}
+
+/// Appends the text of the notes of what was found of all components.
+fn print_supports(
+    alloc: Global,
+    described: &Described,
+    found: &[Found],
+    out: &mut Vec<u8>,
+) -> Result<(), AllocError>
+    requires components { AreComponents described.now.p.now described.now.comps.now }
+    requires each { length found.now ≡ length described.now.comps.now.members }
+    ensures { OnOk result (out.new.items ≡ out.old.items ++ text_of
+        (support_notes described.now.p.now described.now.names.now described.now.comps.now
+        (given_up found.now))) }
+{
+    let mut notes = Sequence::new(alloc);
+    described.note_supports(alloc, found, &mut notes)?;
+    print_facts(alloc, notes, out)
 }
 
 /// No mappings, where none are searched.
@@ -138,22 +203,24 @@ fn find_all(
     Ok(found)
 }
 
-/// The parts of a certificate that names its norm so, of what the model of sizes and the search for mappings give.
+/// The parts of a certificate that names its norm so, of what the model of sizes and the search for mappings give. The size
+/// rows are moved into them.
 fn parts_of(
     alloc: Global,
     measured: &Measured,
     named: Option<CertNorm>,
-    sizes: &Sizes,
+    sizes: &mut Sizes,
     found: &[Found],
 ) -> Result<Parts, AllocError>
     requires components { AreComponents measured.now.p.now measured.now.comps.now }
     requires found { AreFound
-        (any_row measured.now.norm) measured.now.p.now measured.now.comps.now sizes.now.rows found.now }
-    ensures { IfOk result (ArePartsOf measured.now.norm named measured.now.p.now measured.now.comps.now sizes.now found.now) }
+        (any_row measured.now.norm) measured.now.p.now measured.now.comps.now sizes.old.rows found.now }
+    ensures { IfOk result (ArePartsOf
+        measured.now.norm named measured.now.p.now measured.now.comps.now sizes.old found.now) }
 {
     let _program = measured.p.preds();
     let mut parts = no_parts(alloc, named);
-    put_sizes(alloc, sizes, &mut parts)?;
+    move_sizes(alloc, sizes, &mut parts);
     put_mappings(alloc, measured.p, measured.comps, found, &mut parts)?;
     measured.put_sets(alloc, &mut parts)?;
     Ok(parts)
@@ -176,19 +243,15 @@ fn assembled_over(
     ensures norm { IfOk result (λ a. a.parts.norm ≡ named) }
 {
     let _program = measured.p.preds();
-    let (steps, sizes) = chain.into_parts();
+    let (steps, mut sizes) = chain.into_parts();
     let found = find_all(alloc, measured, &sizes)?;
-    let parts = parts_of(alloc, measured, named, &sizes, found.as_slice())?;
+    let parts = parts_of(alloc, measured, named, &mut sizes, found.as_slice())?;
     are_bounded(&parts);
-    let notes = notes_of(
-        alloc,
-        measured.p,
-        names,
-        measured.comps,
+    Ok(Assembled {
+        parts,
         steps,
-        found.as_slice(),
-    )?;
-    Ok(Assembled { parts, notes })
+        found,
+    })
 }
 
 /// Says that the numbers of parts are below 2^127.
@@ -204,20 +267,20 @@ fn are_bounded(parts: &Parts)
 /// The notes of a chain, and of all components.
 fn notes_of(
     alloc: Global,
-    p: &Program,
-    names: &Names,
-    comps: &Components,
+    described: &Described,
     steps: Sequence<Step>,
     found: &[Found],
 ) -> Result<Sequence<Fact>, AllocError>
-    requires components { AreComponents p.now comps.now }
-    requires each { length found.now ≡ length comps.now.members }
-    ensures { IfOk result (λ notes. notes ≡ chain_notes p.now names.now (map plain_step steps)
-        ++ support_notes p.now names.now comps.now (given_up found.now)) }
+    requires components { AreComponents described.now.p.now described.now.comps.now }
+    requires each { length found.now ≡ length described.now.comps.now.members }
+    ensures { IfOk result (λ notes. notes
+        ≡ chain_notes described.now.p.now described.now.names.now (map plain_step steps)
+        ++ support_notes described.now.p.now described.now.names.now described.now.comps.now
+        (given_up found.now)) }
 {
     let mut notes = Sequence::new(alloc);
-    note_chain(alloc, p, names, steps, &mut notes)?;
-    Described { p, names, comps }.note_supports(alloc, found, &mut notes)?;
+    note_chain(alloc, described.p, described.names, steps, &mut notes)?;
+    described.note_supports(alloc, found, &mut notes)?;
     Ok(notes)
 }
 

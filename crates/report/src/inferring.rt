@@ -5,9 +5,11 @@ ghost use Rattle.cert_checker.specs.Bounding.{ModesAreBounded};
 ghost use Rattle.cert_checker.specs.Valid.{IsValid};
 ghost use Rattle.cert_structure.specs.Structure.{AreNamed};
 ghost use Rattle.report.specs.Exact.{IsExact};
+ghost use Rattle.report.specs.InferredText.{IsInferredText};
 ghost use Rattle.report.specs.OfNorm.{IsOfNorm};
 
 use crate::assembling::assemble;
+use crate::support_notes::Described;
 use call_components::components;
 use cert_checker::valid_certificates_bound_their_modes;
 use certificate::Certificate;
@@ -44,5 +46,38 @@ pub fn infer(
     let _names = names.count();
     let comps = components(alloc, p)?;
     let assembled = assemble(alloc, p, names, &comps, norm)?;
-    assembled.certificate(alloc, p, names)
+    assembled.certificate(
+        alloc,
+        &Described {
+            p,
+            names,
+            comps: &comps,
+        },
+    )
+}
+
+/// The text of the certificate that [`infer`] gives. It holds neither the certificate nor its notes, which take more than the
+/// text.
+pub fn infer_text(
+    alloc: Global,
+    p: &Program,
+    names: &Names,
+    norm: NormName,
+) -> Result<Vec<u8>, AllocError>
+    requires { AreNamed names.now p.now.preds }
+    ensures { IfOk result (λ text. IsInferredText p.now names.now norm text.items) }
+{
+    valid_certificates_bound_their_modes();
+    let _program = p.preds();
+    let _names = names.count();
+    let comps = components(alloc, p)?;
+    let assembled = assemble(alloc, p, names, &comps, norm)?;
+    assembled.text(
+        alloc,
+        &Described {
+            p,
+            names,
+            comps: &comps,
+        },
+    )
 }

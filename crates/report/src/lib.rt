@@ -14,5 +14,5 @@ mod solution;
 mod support_notes;
 
 pub use generating::gen_source;
-pub use inferring::infer;
+pub use inferring::{infer, infer_text};
 pub use solution::{Solution, certificate_of, levels_of};

@@ -9,7 +9,7 @@ ghost use Rattle.report.specs.Levels.{level_list};
 ghost use Rattle.report.specs.Solution.{AreFindingsBelow, HaveShapeOfFound, findings, solution_facts, solution_notes, solution_parts, with_sets};
 ghost use Rattle.truth_rows.specs.Sets.{AreSets};
 
-use crate::assembling::{Assembled, no_parts, put_mappings};
+use crate::assembling::{no_parts, put_mappings};
 use crate::levels::Mapped;
 use crate::support_notes::Described;
 use bool_diagrams::{Diagram, Table};
@@ -18,6 +18,7 @@ use cert_assembly::{
     Bounded, all_bounded, mode_lists, note_components, put_sizes, spelled_list, spelled_lists,
 };
 use cert_structure::Parts;
+use cert_writing::facts_of;
 use certificate::{Certificate, Fact};
 use cti_terms::{Names, Program};
 use level_dual::Found;
@@ -139,5 +140,5 @@ pub fn certificate_of(
 {
     let parts = solution.parts(alloc, p, comps)?;
     let notes = solution.notes(alloc, p, names, comps)?;
-    Assembled { parts, notes }.certificate(alloc, p, names)
+    facts_of(alloc, p, names, &parts, notes.into_vec())
 }

@@ -56,7 +56,7 @@ returns g c =
     let width = g.D.Domain.width in
     let listed = g.D.Domain.listed in
     let speaks = g.D.Domain.speaks in
-    ok_two (λ x. SaysImage speaks s (plain_rows x.image.list) x.image_weak) (λ x. IsStep width listed speaks s c.args.pass (listed d) (plain_rows x.image.list) c.args.filled x.stepped)
+    ok_two (λ x. SaysImage speaks s (plain_rows x.image.value.list) x.image_weak) (λ x. IsStep width listed speaks s c.args.pass (listed d) (plain_rows x.image.value.list) c.args.filled x.stepped)
     (λ x. (k' : Clause) → slice_get c.args.p.now.clauses (c.args.k - 1) ≡ Some k' → IsNoted width listed speaks e c.args.pass rows k' c.args.k c.args.filled x)
     (λ x says step k' at.
     subst (λ (y : Clause). IsNoted width listed speaks e c.args.pass rows y c.args.k c.args.filled x) (one_element c.args.p.now.clauses (c.args.k - 1) k k' there at)

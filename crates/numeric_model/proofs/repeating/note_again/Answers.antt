@@ -45,4 +45,4 @@ returns g c = λ pass k' at.
     (subst (λ (b : Bool). SaysKept s (listed d) kept b c.in_ok-kept.kept.weak by) c.if-kept.false c.in_ok-kept.ensures.rows) in
     let x : Noted g.row.D.Denot = record { image = c.in_ok-image.image; image_weak = c.args.earlier.now.image_weak; stepped = record { how = Same; weak = false; next = None; filled = Inhabited; by = c.in_ok-kept.kept.by } } in
     subst (λ (y : Clause). IsNoted width listed speaks e pass rows y number Inhabited x) (one_element c.args.p.now.clauses (number - 1) k k' there at)
-    (again width listed speaks e rows k s (system_is s f.widths) is d c.args.earlier.now (c.requires.earlier k there) (c.if-not-has_point.ensures.strong refl) (c.if-not-has_point.ensures.some refl) kept by says x (ap (λ (r : Rows). r.list) c.in_ok-image.ensures) refl refl pass number)
+    (again width listed speaks e rows k s (system_is s f.widths) is d c.args.earlier.now (c.requires.earlier k there) (c.if-not-has_point.ensures.strong refl) (c.if-not-has_point.ensures.some refl) kept by says x (ap (λ (r : Rows). r.list) c.in_ok-image.ensures.cases) refl refl pass number)

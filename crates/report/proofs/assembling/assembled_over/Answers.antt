@@ -1,13 +1,9 @@
-use Rattle.std.proofs.Common.{◌≡◌, ◌++◌, List, map, ap, subst, sym, ◌∙◌}
+use Rattle.std.proofs.Common.{◌≡◌, List, subst, sym}
 use Rattle.level_systems.specs.declared.found.Found.{Found}
-use Rattle.numeric_model.specs.States.{plain_step}
 use Rattle.report.proofs.AssembledParts.{assembled}
 use Rattle.report.specs.Assembly.{ArePartsOf}
-use Rattle.cert_assembly.specs.ChainNotes.{chain_notes}
 use Rattle.cert_assembly.specs.Sizing.{IsSolvedChain}
 use Rattle.term_size.specs.AnyNorm.{any_row}
-use Rattle.report.specs.Levels.{given_up}
-use Rattle.report.specs.SupportNotes.{support_notes}
 use Rattle.report.proofs.assembling.assembled_over.Goals as goal
 
 pub returns-clause-assembled : goal.returns-clause-assembled
@@ -22,7 +18,6 @@ returns-clause-assembled c =
     let same : c.args.chain ≡ record { steps = steps; sizes = sizes } = λ i. record { steps = sym are.0 i; sizes = sym are.1 i } in
     let chain = subst (IsSolvedChain (any_row norm) p comps) same c.requires.chain in
     let parts = subst (λ (found : List Found). ArePartsOf norm c.args.named p comps sizes found c.in_ok-parts.parts) c.as_slice.ensures c.in_ok-parts.ensures in
-    let notes = c.in_ok-notes.ensures ∙ ap (λ found. chain_notes p names (map plain_step steps) ++ support_notes p names comps (given_up found)) c.as_slice-2.ensures in
-    assembled norm c.args.named p names comps sizes c.in_ok-found.found c.in_ok-parts.parts c.in_ok-notes.notes steps
+    assembled norm c.args.named p names comps sizes c.in_ok-found.found c.in_ok-parts.parts steps
     c.preds-program.ensures.sound c.requires.components chain.legal chain.sizes chain.proofs chain.fits
-    c.in_ok-found.ensures parts c.are_bounded.ensures notes c.requires.norm
+    c.in_ok-found.ensures parts c.are_bounded.ensures c.requires.norm
