@@ -23,7 +23,7 @@ use Rattle.cert_checker.specs.Fault.{ClaimFails, FactFails, IsFault, IsFirstAt, 
 use Rattle.cert_checker.specs.Finding.{Finds}
 use Rattle.cert_checker.specs.Norms.{norm_in}
 use Rattle.cert_checker.specs.StructureFaults.{HasStructureFault, structure_fault}
-use Rattle.cert_structure.specs.declared.fault.StructureReason.{StructureReason}
+use Rattle.fact_reading.specs.declared.stop.StructureReason.{StructureReason}
 use Rattle.cert_checker.specs.declared.fault.Fault.{Fault}
 use Rattle.cert_checker.specs.declared.reason.Reason.{Reason}
 use Rattle.cert_checker.specs.declared.reason.Reason.TheVariants as reason

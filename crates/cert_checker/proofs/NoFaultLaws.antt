@@ -6,10 +6,11 @@ use Rattle.call_components.specs.Partition.{AreComponents, Partition}
 use Rattle.certificate.specs.declared.fact.Fact.{Fact}
 use Rattle.cert_structure.proofs.ComponentLemmas.{structure, texts_differ}
 use Rattle.cert_structure.proofs.FaultLemmas.{left_fits, no_fault, read_fault}
-use Rattle.cert_structure.proofs.SectionLemmas.{same_ok}
+use Rattle.fact_reading.proofs.SectionLemmas.{same_ok}
 use Rattle.cert_structure.proofs.WholeLemmas.{whole_back, whole_sound}
 use Rattle.cert_structure.specs.Structure.{AreNamed, IsStructured}
-use Rattle.cert_structure.specs.Walk.{Wrong, read_whole}
+use Rattle.cert_structure.specs.Walk.{read_whole}
+use Rattle.fact_reading.specs.Walk.{Wrong}
 use Rattle.cert_structure.specs.declared.parts.Parts.{Parts}
 use Rattle.cti_terms.specs.Listing.{IsProgram, Listing}
 use Rattle.term_size.specs.AnyNorm.{any_row, any_truth}

@@ -6,7 +6,7 @@ use Rattle.cert_structure.proofs.ComponentLemmas.{structure}
 use Rattle.cert_structure.proofs.FaultLemmas.{fault_moved, no_fault, one_fault}
 use Rattle.cert_structure.specs.Structure.{AreNamed}
 use Rattle.cert_structure.specs.declared.parts.Parts.{Parts}
-use Rattle.cert_structure.specs.declared.fault.StructureReason.{StructureReason}
+use Rattle.fact_reading.specs.declared.stop.StructureReason.{StructureReason}
 use Rattle.cti_terms.specs.Listing.{IsProgram, Listing}
 use Rattle.term_size.specs.AnyNorm.{any_row, any_truth}
 use Rattle.cert_checker.specs.Fault.{ClaimFails, IsFault, IsFirstAt, IsValueFault, failing_fact, wrong_structure}

@@ -2,7 +2,7 @@
 use Rattle.std.proofs.Common.{◌≡◌, ◌⊎◌, inl, inr, sym, ◌∙◌, ℕ}
 use Rattle.cert_structure.specs.declared.fault.PartsFault.{PartsFault}
 use Rattle.cert_structure.specs.declared.fault.PartsFault.TheVariants.{Memory, Wrong}
-use Rattle.cert_structure.specs.declared.fault.StructureReason.{StructureReason}
+use Rattle.fact_reading.specs.declared.stop.StructureReason.{StructureReason}
 use Rattle.cert_checker.specs.StructureFaults.{structure_fault}
 
 pub same_fault : (fault : PartsFault) (line other : ℕ) (why because : StructureReason) → fault ≡ Wrong line why → (fault ≡ Memory) ⊎ (fault ≡ Wrong other because)

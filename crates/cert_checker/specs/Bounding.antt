@@ -41,11 +41,11 @@ pub record IsOf (p : Listing) (names : List (List ℕ)) (text : PredText) (a : A
 abbrev pub ModeIsBounded : Listing → List (List ℕ) → (Tree → Bool) → PredText → List ℕ → Type 0
 ModeIsBounded p names rigid text mode = (a : Atom) (counter : ℕ) → IsOf p names text a → NamedAreRigid rigid mode 1 a.args → Bounded p (query a counter)
 
--- so it is with each mode that a fact prints
+-- each mode of a `terminates` fact is bounded; of other facts nothing is said here
 abbrev pub FactIsBounded : Listing → List (List ℕ) → (Tree → Bool) → Fact → Type 0
 FactIsBounded p names rigid (Terminates text modes) = AllByRecursion (ModeIsBounded p names rigid text) modes
 FactIsBounded p names rigid _ = Unit {0}
 
--- and with each that the facts print
+-- each mode that the facts print is bounded
 abbrev pub ModesAreBounded : Listing → List (List ℕ) → List Fact → Type 0
 ModesAreBounded p names facts = AllByRecursion (FactIsBounded p names (rigid_in names facts)) facts

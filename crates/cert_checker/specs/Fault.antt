@@ -10,7 +10,7 @@ use Rattle.certificate.specs.declared.pred_text.PredText.{PredText}
 use Rattle.cert_structure.specs.Order.{pred_text}
 use Rattle.cert_structure.specs.Structure.{IsStructured}
 use Rattle.cert_structure.specs.declared.parts.Parts.{Parts}
-use Rattle.cert_structure.specs.declared.fault.StructureReason.{StructureReason}
+use Rattle.fact_reading.specs.declared.stop.StructureReason.{StructureReason}
 use Rattle.cert_modes.specs.Failing.{ModesFail}
 use Rattle.cert_modes.specs.declared.fault.ModeReason.{ModeReason}
 use Rattle.cti_terms.specs.Arithmetic.{kind_of}

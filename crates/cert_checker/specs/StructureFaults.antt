@@ -6,8 +6,8 @@ use Rattle.std.specs.Prelude.{ℕ, List}
 use Rattle.call_components.specs.Partition.{AreComponents, Partition}
 use Rattle.certificate.specs.declared.fact.Fact.{Fact}
 use Rattle.cert_structure.specs.StructureFault.{IsStructureFault}
-use Rattle.cert_structure.specs.declared.fault.StructureReason.{StructureReason}
-use Rattle.cert_structure.specs.declared.fault.StructureReason.TheVariants as structure
+use Rattle.fact_reading.specs.declared.stop.StructureReason.{StructureReason}
+use Rattle.fact_reading.specs.declared.stop.StructureReason.TheVariants as structure
 use Rattle.cti_terms.specs.Listing.{Listing}
 use Rattle.cert_checker.specs.declared.fault.Fault.{Fault}
 use Rattle.cert_checker.specs.declared.reason.Reason.{Reason}

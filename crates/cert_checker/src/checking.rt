@@ -7,7 +7,7 @@ ghost use Rattle.certificate.specs.declared.fact.Fact.{Fact as TheFact};
 ghost use Rattle.cert_structure.specs.Order.{listed};
 ghost use Rattle.cert_structure.specs.Shape.{HaveShape};
 ghost use Rattle.cert_structure.specs.Structure.{AreNamed, AreNotes};
-ghost use Rattle.cert_structure.specs.declared.fault.StructureReason.{StructureReason as TheStructureReason};
+ghost use Rattle.fact_reading.specs.declared.stop.StructureReason.{StructureReason as TheStructureReason};
 ghost use Rattle.cert_checker.specs.Bounding.{ModesAreBounded};
 ghost use Rattle.cert_checker.specs.Fault.{FactFails, IsFault, IsValueFault};
 ghost use Rattle.cert_checker.specs.Finding.{Finds};

@@ -18,7 +18,7 @@ use Rattle.cert_structure.specs.declared.parts.Parts.{Parts}
 use Rattle.cert_structure.specs.Order.{text_or_none, pred_text}
 use Rattle.cert_structure.specs.Shape.{head_of, body_of, is_same, is_together, is_recursive, first_of, mappings_of, proofs_of_call, is_own_call, is_own_clause, is_pair, IsPairPoint, IsRefutation, HaveShape}
 use Rattle.cert_structure.specs.Structure.{AreNamed, IsStructured}
-use Rattle.cert_structure.proofs.SectionLemmas.{same_some, all_weaker, each_weaker}
+use Rattle.fact_reading.proofs.SectionLemmas.{same_some, all_weaker, each_weaker}
 
 -- places of lists
 found : {A : Type 0} (xs : List A) (i : ℕ) → i < length xs → (x : A) × (slice_get xs i ≡ Some x)
@@ -163,10 +163,10 @@ module _ (p : Listing) (one other : Partition) (h : AreComponents p one) (k : Ar
   same_together : (a b : ℕ) → is_together one a b ≡ is_together other a b
   same_together a b = is_true (is_together one a b) (is_together other a b) (together_moved p one other h k a b) (together_moved p other one k h a b)
 
-  same_recursive : (a : ℕ) → is_recursive one a ≡ is_recursive other a
+  pub same_recursive : (a : ℕ) → is_recursive one a ≡ is_recursive other a
   same_recursive a = is_true (is_recursive one a) (is_recursive other a) (recursive_moved p one other h k a) (recursive_moved p other one k h a)
 
-  same_first : (a : ℕ) → first_of one a ≡ first_of other a
+  pub same_first : (a : ℕ) → first_of one a ≡ first_of other a
   same_first a = go (nat_lt a (length p.preds)) refl
     where
       go : (b : Bool) → nat_lt a (length p.preds) ≡ b → first_of one a ≡ first_of other a
@@ -182,7 +182,7 @@ module _ (p : Listing) (one other : Partition) (h : AreComponents p one) (k : Ar
   same_mappings : (levels : List (List LevelPart)) (a : ℕ) → mappings_of one levels a ≡ mappings_of other levels a
   same_mappings levels a = rw (same_recursive a, same_first a) refl
 
-  same_own : (a : ℕ) (o : Option Atom) → is_own_call one a o ≡ is_own_call other a o
+  pub same_own : (a : ℕ) (o : Option Atom) → is_own_call one a o ≡ is_own_call other a o
   same_own a None = refl
   same_own a (Some b) = same_together a b.pred.0
 
@@ -193,7 +193,7 @@ module _ (p : Listing) (one other : Partition) (h : AreComponents p one) (k : Ar
   same_clause a call None = refl
   same_clause a call (Some c) = rw (same_together a c.head.pred.0, same_own a (numbered c.body call)) refl
 
-  same_pair : (a clause call : ℕ) → is_pair p one a clause call ≡ is_pair p other a clause call
+  pub same_pair : (a clause call : ℕ) → is_pair p one a clause call ≡ is_pair p other a clause call
   same_pair a clause call = same_clause a call (numbered p.clauses clause)
 
   pair_point : (a : ℕ) (x : PairPoint) → IsPairPoint p one a x → IsPairPoint p other a x

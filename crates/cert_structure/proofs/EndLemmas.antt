@@ -16,16 +16,17 @@ use Rattle.linear_rows.specs.declared.multipliers.Multipliers.{Multipliers}
 use Rattle.linear_rows.specs.declared.row.Row.{Row}
 use Rattle.linear_rows.specs.declared.row.Rows.{Rows}
 use Rattle.number_tests.specs.declared.level_part.LevelPart.{LevelPart}
-use Rattle.cert_structure.specs.declared.fault.StructureReason.{StructureReason}
-use Rattle.cert_structure.specs.declared.fault.StructureReason.TheVariants as reason
-use Rattle.cert_structure.specs.Numbered.{facts_from, lines_from, EachFrom, AreEach}
+use Rattle.fact_reading.specs.declared.stop.StructureReason.{StructureReason}
+use Rattle.fact_reading.specs.declared.stop.StructureReason.TheVariants as reason
+use Rattle.fact_reading.specs.Numbered.{facts_from, lines_from, EachFrom, AreEach}
 use Rattle.cert_structure.specs.Order.{mode_facts, size_facts, proof_facts, ground_facts, fall_facts, pre_facts, pred_text, size_line, by_line, grounds_line, measure_line, falls_line, pre_line}
 use Rattle.cert_structure.specs.Shape.{arity_in, head_of, body_of, rows_of, rows_of_atoms, items_of, is_recursive, first_of, mappings_of, proofs_of_call, IsMode, IsSizeRow, HaveMultipliers, HasWidth, IsLevel}
 use Rattle.cert_structure.specs.StructureFault.{HaveOnePlace, content_fault}
 use Rattle.cert_structure.specs.StructureFault as place
-use Rattle.cert_structure.specs.Walk.{Wrong, Read, Taken, at_place, item_of, go_on, result_map, with_first, same_pred, kept, is_mode, are_entries, row_read, multipliers_read, cube_read, level_read, take_modes, take_row, take_proof, take_ground, take_level, take_fall, take_pre, read_next, read_many, read_each, read_modes, read_rows, read_proofs, read_grounds, read_level, read_levels, read_call, read_calls, read_falls, read_cubes, read_pre}
+use Rattle.cert_structure.specs.Walk.{at_place, same_pred, kept, is_mode, are_entries, row_read, multipliers_read, cube_read, level_read, take_modes, take_row, take_proof, take_ground, take_level, take_fall, take_pre, read_modes, read_rows, read_proofs, read_grounds, read_level, read_levels, read_call, read_calls, read_falls, read_cubes, read_pre}
+use Rattle.fact_reading.specs.Walk.{Wrong, Read, Taken, item_of, go_on, result_map, with_first, read_next, read_many, read_each}
 use Rattle.cert_structure.proofs.KindLemmas.{split_modes, split_row, split_proof, split_ground, split_level, split_fall, split_pre, IsTerminates, IsSize, IsBy, IsGrounds, IsMeasure, IsFalls, IsPre}
-use Rattle.cert_structure.proofs.SectionLemmas.{err_ok, mapped, IsTaken, next_sound, many_sound, counted_sound, each_all}
+use Rattle.fact_reading.proofs.SectionLemmas.{err_ok, mapped, IsTaken, next_sound, many_sound, counted_sound, each_all}
 use Rattle.cert_structure.proofs.TakeLemmas.{same_is, amount_is, entries_are, modes_taken, row_taken, proof_taken, ground_taken, level_taken, fall_taken, pre_taken}
 use Rattle.cert_structure.proofs.LevelLemmas.{arity_text, place_behind, front, one_longer, IsCall, IsLevels, IsCounted, calls_sound, level_sound, count_is, rows_more}
 use Rattle.cert_structure.proofs.StructureLemmas.{cubes_section}
@@ -97,7 +98,7 @@ after_these P zs s w e = record {
 pub after_read : (P : List Fact → Type 0) (r zs s : List Fact) (w : Wrong) → r ≡ zs ++ s → Ends (λ l. P (zs ++ l)) s w → Ends P r w
 after_read P r zs s w e h = subst (λ z. Ends P z w) (sym e) (after_these P zs s w h)
 
-pub at_wrong : {A : Type 0} (P : List Fact → Type 0) (s : List Fact) (v w : Wrong) → ◌≡◌ {A = Read A} (Err v) (Err w) → Ends P s v → Ends P s w
+pub at_wrong : {A : Type 0} (P : List Fact → Type 0) (s : List Fact) (v w : Wrong) → ◌≡◌ {A = Read Fact A} (Err v) (Err w) → Ends P s v → Ends P s w
 at_wrong {A = A} P s v w e h = subst (λ z. Ends P s z) (same_err {A = A × List Fact} v w e) h
 
 -- facts of one kind
@@ -160,7 +161,7 @@ fill good m some i (suc n) fits =
     (x ∷ xs, ap suc count, (right, each))
 
 -- numbered items
-module _ {A : Type 0} (item : ℕ → List Fact → Read A) (facts : ℕ → A → List Fact) (good : ℕ → A → Type 0) (m : ℕ) (some : (i : ℕ) → i < m → (x : A) × good i x) where
+module _ {A : Type 0} (item : ℕ → List Fact → Read Fact A) (facts : ℕ → A → List Fact) (good : ℕ → A → Type 0) (m : ℕ) (some : (i : ℕ) → i < m → (x : A) × good i x) where
   module _ (sound : (i : ℕ) (s t : List Fact) (x : A) → item i s ≡ Ok (x, t) → (s ≡ facts i x ++ t) × good i x)
       (ends : (i : ℕ) (s : List Fact) (w : Wrong) → i < m → item i s ≡ Err w → Ends (λ l. (x : A) × (l ≡ facts i x) × good i x) s w) where
     pub each_ends : (i n : ℕ) (s : List Fact) (w : Wrong) → i + n ≤ m → read_each item i n s ≡ Err w

@@ -17,10 +17,10 @@ use Rattle.linear_rows.specs.declared.row.Row.{Row}
 use Rattle.termination_model.specs.Append.{append, append_cons}
 use Rattle.number_tests.specs.declared.level_part.LevelPart.{LevelPart}
 use Rattle.number_tests.specs.declared.pair_point.PairPoint.{PairPoint}
-use Rattle.cert_structure.specs.declared.fault.StructureReason.{StructureReason}
-use Rattle.cert_structure.specs.declared.fault.StructureReason.TheVariants as reason
+use Rattle.fact_reading.specs.declared.stop.StructureReason.{StructureReason}
+use Rattle.fact_reading.specs.declared.stop.StructureReason.TheVariants as reason
 use Rattle.cert_structure.specs.declared.parts.Parts.{Parts}
-use Rattle.cert_structure.specs.Numbered.{lines_from}
+use Rattle.fact_reading.specs.Numbered.{lines_from}
 use Rattle.cert_structure.specs.Order.{pred_text, head_facts, mode_facts, listed, refutation_facts, is_note}
 use Rattle.cert_structure.specs.Shape.{rows_of_atoms, mappings_of, proofs_of_call, is_pair, HaveShape}
 use Rattle.cert_structure.specs.Structure.{IsStructured}

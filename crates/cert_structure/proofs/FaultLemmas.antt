@@ -15,18 +15,19 @@ use Rattle.linear_rows.specs.declared.row.Rows.{Rows}
 use Rattle.linear_rows.specs.declared.point.Point.{Point}
 use Rattle.number_tests.specs.declared.pair_point.PairPoint.{PairPoint}
 use Rattle.number_tests.specs.declared.refutation.Refutation.{Refutation}
-use Rattle.cert_structure.specs.declared.fault.StructureReason.{StructureReason}
-use Rattle.cert_structure.specs.declared.fault.StructureReason.TheVariants as reason
+use Rattle.fact_reading.specs.declared.stop.StructureReason.{StructureReason}
+use Rattle.fact_reading.specs.declared.stop.StructureReason.TheVariants as reason
 use Rattle.cert_structure.specs.declared.parts.Parts.{Parts}
-use Rattle.cert_structure.specs.Numbered.{facts_from, EachFrom, AreEach}
+use Rattle.fact_reading.specs.Numbered.{facts_from, EachFrom, AreEach}
 use Rattle.cert_structure.specs.Order.{pred_text, head_facts, mode_facts, size_facts, proof_facts, ground_facts, level_facts, fall_facts, pre_facts, refuted_facts, refutation_facts, point_facts, at_facts, listed, is_note}
 use Rattle.cert_structure.specs.Shape.{IsPairPoint, PairsAscend, place_of_pair, arity_in, mappings_of, is_recursive, is_pair, IsLevel, IsRefutation, HaveShape}
 use Rattle.cert_structure.specs.Structure.{IsStructured, AreNotes}
-use Rattle.cert_structure.specs.StructureFault.{HaveOnePlace, content_fault, claimed, IsBeginning, whole, short, IsStructureFault, missing, extra, content}
+use Rattle.cert_structure.specs.StructureFault.{HaveOnePlace, content_fault, IsBeginning, whole, short, IsStructureFault, missing, extra, content}
 use Rattle.cert_structure.specs.StructureFault as place
-use Rattle.cert_structure.specs.Walk.{◌>>=◌, Wrong, Read, result_map, wrong_at, with_first, take_refuted, is_open, read_point, read_points, read_group, item_of, take_norm, named_norm, by_version, read_head, read_each, read_modes, read_rows, read_proofs, read_grounds, read_levels, read_falls, read_pre, read_refutation, read_parts, with_notes, read_whole}
+use Rattle.cert_structure.specs.Walk.{take_refuted, is_open, read_point, read_points, read_group, take_norm, named_norm, by_version, read_head, read_modes, read_rows, read_proofs, read_grounds, read_levels, read_falls, read_pre, read_refutation, read_parts, with_notes, read_whole}
+use Rattle.fact_reading.specs.Walk.{◌>>=◌, Wrong, Read, result_map, wrong_at, with_first, item_of, read_each}
 use Rattle.cert_structure.proofs.KindLemmas.{kind, IsVersion, split_version, IsNorm, split_norm}
-use Rattle.cert_structure.proofs.SectionLemmas.{err_ok, all_both, all_from, others_from, all_weaker}
+use Rattle.fact_reading.proofs.SectionLemmas.{err_ok, all_both, all_from, others_from, all_weaker}
 use Rattle.cert_structure.proofs.TakeLemmas.{refuted_given}
 use Rattle.cert_structure.proofs.PointLemmas.{point_given, open_back, refutation_given}
 use Rattle.cert_structure.proofs.ComponentLemmas.{first_le, shape, structure}
@@ -597,11 +598,11 @@ module _ (p : Listing) (names : List (List ℕ)) (comps : Partition) (h : AreCom
   Quiet (Err w) = w.0 ≡ 0
 
   -- nothing is left, or a fact is missing
-  abbrev QuietEnd : {A : Type 0} → Read A → Type 0
+  abbrev QuietEnd : {A : Type 0} → Read Fact A → Type 0
   QuietEnd (Ok x) = x.1 ≡ []
   QuietEnd (Err w) = w.0 ≡ 0
 
-  quiet_map : {A B : Type 0} (c : A → B) (o : Read A) → QuietEnd o → QuietEnd (result_map (with_made c) o)
+  quiet_map : {A B : Type 0} (c : A → B) (o : Read Fact A) → QuietEnd o → QuietEnd (result_map (with_made c) o)
   quiet_map c (Ok x) q = q
   quiet_map c (Err w) q = q
 
@@ -628,7 +629,7 @@ module _ (p : Listing) (names : List (List ℕ)) (comps : Partition) (h : AreCom
   unfolding read_refutation read_group
   none_left levels a = go (is_open comps levels a)
     where
-      go : (b : Bool) → if◌then◌else◌ {A = Read (Option Refutation)} b (Ok (None, [])) (Ok (None, [])) ≡ Ok (None, [])
+      go : (b : Bool) → if◌then◌else◌ {A = Read Fact (Option Refutation)} b (Ok (None, [])) (Ok (None, [])) ≡ Ok (None, [])
       go true = refl
       go false = refl
 
@@ -639,7 +640,7 @@ module _ (p : Listing) (names : List (List ℕ)) (comps : Partition) (h : AreCom
       subst (λ z. QuietEnd (z >>= λ x. result_map (with_first x.0) (read_each (read_refutation p names comps levels) (suc i) n x.1))) (sym (none_left levels i))
       (quiet_map (λ ys. None ∷ ys) (read_each (read_refutation p names comps levels) (suc i) n []) (all_left levels (suc i) n))
 
-  then_left : (levels : Levels) (i n : ℕ) (o : Read (Option Refutation)) → QuietEnd o
+  then_left : (levels : Levels) (i n : ℕ) (o : Read Fact (Option Refutation)) → QuietEnd o
       → QuietEnd (o >>= λ x. result_map (with_first x.0) (read_each (read_refutation p names comps levels) i n x.1))
   then_left levels i n (Err w) q = q
   then_left levels i n (Ok x) q =
@@ -739,7 +740,7 @@ module _ (p : Listing) (names : List (List ℕ)) (comps : Partition) (h : AreCom
         second clause call None = tt
         second clause call (Some x) = (omega arith, tt)
 
-    whole_quiet : (o : Read Refutations) (make : Refutations → Parts) → QuietEnd o → Quiet ((o >>= λ x. Ok (make x.0, x.1)) >>= with_notes)
+    whole_quiet : (o : Read Fact Refutations) (make : Refutations → Parts) → QuietEnd o → Quiet ((o >>= λ x. Ok (make x.0, x.1)) >>= with_notes)
     whole_quiet (Err w) make q = q
     whole_quiet (Ok x) make q = subst (λ z. Quiet (with_notes (make x.0, z))) (sym q) tt
 

@@ -8,8 +8,9 @@ use Rattle.certificate.specs.declared.pred_text.PredText.{PredText}
 use Rattle.certificate.specs.declared.fact.Fact.{Fact}
 use Rattle.certificate.specs.declared.fact.Fact.TheVariants as fact
 use Rattle.cti_terms.specs.Listing.{Listing}
-use Rattle.cert_structure.specs.declared.fault.StructureReason.TheVariants as reason
-use Rattle.cert_structure.specs.Walk.{wrong_at, read_head, take_norm, take_modes, take_row, take_proof, take_ground, take_level, take_fall, take_pre, take_refuted, take_point, take_second}
+use Rattle.fact_reading.specs.declared.stop.StructureReason.TheVariants as reason
+use Rattle.cert_structure.specs.Walk.{read_head, take_norm, take_modes, take_row, take_proof, take_ground, take_level, take_fall, take_pre, take_refuted, take_point, take_second}
+use Rattle.fact_reading.specs.Walk.{wrong_at}
 
 -- the place of a fact's kind in the order of the format
 abbrev pub kind : Fact → ℕ

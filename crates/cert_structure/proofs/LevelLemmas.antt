@@ -12,11 +12,12 @@ use Rattle.cti_terms.specs.Listing.{Listing}
 use Rattle.linear_rows.specs.declared.multipliers.Multipliers.{Multipliers}
 use Rattle.linear_rows.specs.declared.row.Rows.{Rows}
 use Rattle.number_tests.specs.declared.level_part.LevelPart.{LevelPart}
-use Rattle.cert_structure.specs.Numbered.{facts_from, lines_from, EachFrom, AreEach}
+use Rattle.fact_reading.specs.Numbered.{facts_from, lines_from, EachFrom, AreEach}
 use Rattle.cert_structure.specs.Order.{text_or_none, pred_text, measure_line, falls_line}
 use Rattle.cert_structure.specs.Shape.{arity_in, rows_of, rows_of_atoms, items_of, is_recursive, first_of, mappings_of, proofs_of_call, HaveMultipliers, IsLevel}
-use Rattle.cert_structure.specs.Walk.{same_pred, result_map, with_first, take_level, take_fall, read_each, read_next, read_many, read_level, read_levels, read_call, read_calls}
-use Rattle.cert_structure.proofs.SectionLemmas.{same_ok, bound, mapped, all_both, all_from, others_from, each_all, all_each, counted_sound, counted_back, many_sound, many_back}
+use Rattle.cert_structure.specs.Walk.{same_pred, take_level, take_fall, read_level, read_levels, read_call, read_calls}
+use Rattle.fact_reading.specs.Walk.{result_map, with_first, read_each, read_next, read_many}
+use Rattle.fact_reading.proofs.SectionLemmas.{same_ok, bound, mapped, all_both, all_from, others_from, each_all, all_each, counted_sound, counted_back, many_sound, many_back}
 use Rattle.cert_structure.proofs.TakeLemmas.{same_is, level_taken, level_given, fall_taken, fall_given}
 
 -- the arity of a predicate's text is the predicate's

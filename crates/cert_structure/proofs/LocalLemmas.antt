@@ -16,17 +16,18 @@ use Rattle.linear_rows.specs.declared.point.Point.{Point}
 use Rattle.linear_rows.specs.declared.row.Rows.{Rows}
 use Rattle.number_tests.specs.declared.level_part.LevelPart.{LevelPart}
 use Rattle.number_tests.specs.declared.refutation.Refutation.{Refutation}
-use Rattle.cert_structure.specs.declared.fault.StructureReason.{StructureReason}
-use Rattle.cert_structure.specs.declared.fault.StructureReason.TheVariants as reason
+use Rattle.fact_reading.specs.declared.stop.StructureReason.{StructureReason}
+use Rattle.fact_reading.specs.declared.stop.StructureReason.TheVariants as reason
 use Rattle.cert_structure.specs.declared.parts.Parts.{Parts}
 use Rattle.cert_structure.specs.declared.refutations.FirstPoint.{FirstPoint}
 use Rattle.cert_structure.specs.Order.{pred_text}
 use Rattle.cert_structure.specs.Shape.{is_pair, arity_in, head_of, body_of, vars_of, rows_of, rows_of_atoms, items_of, is_recursive, first_of, proofs_of_call}
 use Rattle.cert_structure.specs.StructureFault.{HaveOnePlace}
 use Rattle.cert_structure.specs.StructureFault as place
-use Rattle.cert_structure.specs.Walk.{◌>>=◌, Wrong, Read, Taken, result_map, wrong_at, with_first, item_of, go_on, kept, at_place, same_pred, is_mode, is_entry, are_entries, is_amount, are_amounts, is_before, cell_read, pair_end, pair_point, point_read, row_read, multipliers_read, level_read, paired, take_modes, take_row, take_proof, take_ground, take_level, take_fall, take_pre, take_refuted, take_point, take_second, read_next, read_many, read_each, read_second, read_point, read_points, refutation_read, read_group, is_open, read_refutation, read_modes, read_rows, read_proofs, read_grounds, read_level, read_levels, read_call, read_calls, read_falls, read_cubes, read_pre, take_norm, named_norm, by_version, read_head, read_sections, read_parts}
+use Rattle.cert_structure.specs.Walk.{kept, at_place, same_pred, is_mode, is_entry, are_entries, is_amount, are_amounts, is_before, cell_read, pair_end, pair_point, point_read, row_read, multipliers_read, level_read, paired, take_modes, take_row, take_proof, take_ground, take_level, take_fall, take_pre, take_refuted, take_point, take_second, read_second, read_point, read_points, refutation_read, read_group, is_open, read_refutation, read_modes, read_rows, read_proofs, read_grounds, read_level, read_levels, read_call, read_calls, read_falls, read_cubes, read_pre, take_norm, named_norm, by_version, read_head, read_sections, read_parts}
+use Rattle.fact_reading.specs.Walk.{◌>>=◌, Wrong, Read, Taken, result_map, wrong_at, with_first, item_of, go_on, read_next, read_many, read_each}
 use Rattle.cert_structure.proofs.KindLemmas.{IsVersion, split_version}
-use Rattle.cert_structure.proofs.SectionLemmas.{same_some, same_ok, err_ok, bound, mapped}
+use Rattle.fact_reading.proofs.SectionLemmas.{same_some, same_ok, err_ok, bound, mapped}
 
 pub same_err : {A : Type 0} (v w : Wrong) → ◌≡◌ {A = Result A Wrong} (Err v) (Err w) → v ≡ w
 same_err v w e = cc
@@ -55,7 +56,7 @@ one_place reason.Missing f g h = subst (λ z. HaveOnePlace f z) h place.itself
 one_place reason.Shape f g h = subst (λ z. HaveOnePlace f z) h place.itself
 
 -- a value is read up to a fact, whatever comes from there on
-pub record After {A : Type 0} (o : List Fact → Read A) (s : List Fact) (x : A) (f : Fact) (t : List Fact) : Type 0 where
+pub record After {A : Type 0} (o : List Fact → Read Fact A) (s : List Fact) (x : A) (f : Fact) (t : List Fact) : Type 0 where
   pub front : List Fact
   pub split : s ≡ front ++ f ∷ t
   pub again : (g : Fact) (v : List Fact) → HaveOnePlace f g → o (front ++ g ∷ v) ≡ Ok (x, g ∷ v)
@@ -69,7 +70,7 @@ pub record Fails {A : Type 0} (o : List Fact → Result A Wrong) (s : List Fact)
   pub left : length more ≡ n
   pub again : (g : Fact) (v : List Fact) → MayReplace why wrong g → o (front ++ g ∷ v) ≡ Err (suc (length v), why)
 
-pub record IsLocal {A : Type 0} (o : List Fact → Read A) : Type 0 where
+pub record IsLocal {A : Type 0} (o : List Fact → Read Fact A) : Type 0 where
   pub ok : (s t : List Fact) (x : A) (f : Fact) → o s ≡ Ok (x, f ∷ t) → After o s x f t
   pub err : (s : List Fact) (n : ℕ) (why : StructureReason) → o s ≡ Err (suc n, why) → Fails o s n why
 
@@ -85,12 +86,12 @@ here {A = A} o c s r n why e again =
 local_ok : {A : Type 0} (x : A) → IsLocal (λ s. Ok (x, s))
 local_ok {A = A} x = record { ok = found; err = λ s n why e. err_ok (suc n, why) (x, s) (sym e) }
   where
-    found : (s t : List Fact) (y : A) (f : Fact) → ◌≡◌ {A = Read A} (Ok (x, s)) (Ok (y, f ∷ t)) → After (λ s. Ok (x, s)) s y f t
+    found : (s t : List Fact) (y : A) (f : Fact) → ◌≡◌ {A = Read Fact A} (Ok (x, s)) (Ok (y, f ∷ t)) → After (λ s. Ok (x, s)) s y f t
     found s t y f e =
         let both : (x, s) ≡ (y, f ∷ t) = same_ok _ _ e in
         record { front = []; split = ap (λ z. z.1) both; again = λ g v h. ap (λ z. Ok (z, g ∷ v)) (ap (λ z. z.0) both) }
 
-module _ {A B : Type 0} (o : List Fact → Read A) (k : A → List Fact → Read B) (h : IsLocal o) (j : (x : A) → IsLocal (k x)) where
+module _ {A B : Type 0} (o : List Fact → Read Fact A) (k : A → List Fact → Read Fact B) (h : IsLocal o) (j : (x : A) → IsLocal (k x)) where
   join_ok : (s t : List Fact) (y : B) (f : Fact) (p : A × List Fact) → o s ≡ Ok p → (front : List Fact) → p.1 ≡ front ++ f ∷ t
       → ((g : Fact) (v : List Fact) → HaveOnePlace f g → k p.0 (front ++ g ∷ v) ≡ Ok (y, g ∷ v)) → After (λ s. o s >>= λ p. k p.0 p.1) s y f t
   join_ok s t y f p first [] split again =
@@ -143,7 +144,7 @@ module _ {A B : Type 0} (o : List Fact → Read A) (k : A → List Fact → Read
 abbrev pub with_made : {A B : Type 0} → (A → B) → A × List Fact → B × List Fact
 with_made c p = (c p.0, p.1)
 
-local_map : {A B : Type 0} (c : A → B) (o : List Fact → Read A) → IsLocal o → IsLocal (λ s. result_map (with_made c) (o s))
+local_map : {A B : Type 0} (c : A → B) (o : List Fact → Read Fact A) → IsLocal o → IsLocal (λ s. result_map (with_made c) (o s))
 local_map {A = A} {B = B} c o h = record { ok = found; err = failed }
   where
     found : (s t : List Fact) (y : B) (f : Fact) → result_map (with_made c) (o s) ≡ Ok (y, f ∷ t) → After (λ s. result_map (with_made c) (o s)) s y f t
@@ -159,7 +160,7 @@ local_map {A = A} {B = B} c o h = record { ok = found; err = failed }
         let a = h.err s n why (mapped_err (with_made c) (o s) (suc n, why) e) in
         record { front = a.front; wrong = a.wrong; more = a.more; split = a.split; left = a.left; again = λ g v m. ap (λ z. result_map (with_made c) z) (a.again g v m) }
 
-local_if : {A : Type 0} (b : Bool) (o q : List Fact → Read A) → IsLocal o → IsLocal q → IsLocal (λ s. if b then o s else q s)
+local_if : {A : Type 0} (b : Bool) (o q : List Fact → Read Fact A) → IsLocal o → IsLocal q → IsLocal (λ s. if b then o s else q s)
 local_if true o q h j = h
 local_if false o q h j = j
 
@@ -254,7 +255,7 @@ module _ {A : Type 0} (taken : ℕ → Fact → Taken A) (stays : Stays taken) w
   pub local_many : (i : ℕ) → IsLocal (read_many taken i)
   local_many i = record { ok = many_found i; err = many_failed i }
 
-local_each : {A : Type 0} (item : ℕ → List Fact → Read A) → ((i : ℕ) → IsLocal (item i)) → (i n : ℕ) → IsLocal (read_each item i n)
+local_each : {A : Type 0} (item : ℕ → List Fact → Read Fact A) → ((i : ℕ) → IsLocal (item i)) → (i n : ℕ) → IsLocal (read_each item i n)
 unfolding read_each
 local_each item h i zero = local_ok []
 local_each item h i (suc n) =
@@ -610,28 +611,28 @@ made norm modes rows proofs grounds levels falls cubes refutations =
     record { norm = norm; modes = modes; rows = rows; row_proofs = proofs; grounds = grounds; levels = levels; falls = falls; preconditions = cubes; refutations = refutations }
 
 module _ (p : Listing) (names : List (List ℕ)) (comps : Partition) where
-  abbrev pub from_refutations : Levels → (Refutations → Parts) → List Fact → Read Parts
+  abbrev pub from_refutations : Levels → (Refutations → Parts) → List Fact → Read Fact Parts
   from_refutations levels make s = read_each (read_refutation p names comps levels) 0 (length p.preds) s >>= λ x. Ok (make x.0, x.1)
 
-  abbrev pub from_cubes : Levels → (Cubes → Refutations → Parts) → List Fact → Read Parts
+  abbrev pub from_cubes : Levels → (Cubes → Refutations → Parts) → List Fact → Read Fact Parts
   from_cubes levels make s = read_each (read_pre p names levels) 0 (length p.preds) s >>= λ x. from_refutations levels (make x.0) x.1
 
-  abbrev pub from_falls : List Rows → Levels → (Falls → Cubes → Refutations → Parts) → List Fact → Read Parts
+  abbrev pub from_falls : List Rows → Levels → (Falls → Cubes → Refutations → Parts) → List Fact → Read Fact Parts
   from_falls rows levels make s = read_each (read_falls p comps rows levels) 0 (length p.clauses) s >>= λ x. from_cubes levels (make x.0) x.1
 
-  abbrev pub from_levels : List Rows → (Levels → Falls → Cubes → Refutations → Parts) → List Fact → Read Parts
+  abbrev pub from_levels : List Rows → (Levels → Falls → Cubes → Refutations → Parts) → List Fact → Read Fact Parts
   from_levels rows make s = read_levels p names comps [] 0 (length p.preds) s >>= λ x. from_falls rows x.0 (make x.0) x.1
 
-  abbrev pub from_grounds : List Rows → (Grounds → Levels → Falls → Cubes → Refutations → Parts) → List Fact → Read Parts
+  abbrev pub from_grounds : List Rows → (Grounds → Levels → Falls → Cubes → Refutations → Parts) → List Fact → Read Fact Parts
   from_grounds rows make s = read_each (read_grounds p names) 0 (length p.preds) s >>= λ x. from_levels rows (make x.0) x.1
 
-  abbrev pub from_proofs : List Rows → (Proofs → Grounds → Levels → Falls → Cubes → Refutations → Parts) → List Fact → Read Parts
+  abbrev pub from_proofs : List Rows → (Proofs → Grounds → Levels → Falls → Cubes → Refutations → Parts) → List Fact → Read Fact Parts
   from_proofs rows make s = read_each (read_proofs p rows) 0 (length p.clauses) s >>= λ x. from_grounds rows (make x.0) x.1
 
-  abbrev pub from_rows : (List Rows → Proofs → Grounds → Levels → Falls → Cubes → Refutations → Parts) → List Fact → Read Parts
+  abbrev pub from_rows : (List Rows → Proofs → Grounds → Levels → Falls → Cubes → Refutations → Parts) → List Fact → Read Fact Parts
   from_rows make s = read_each (read_rows p names) 0 (length p.preds) s >>= λ x. from_proofs x.0 (make x.0) x.1
 
-  abbrev pub from_modes : Option CertNorm → List Fact → Read Parts
+  abbrev pub from_modes : Option CertNorm → List Fact → Read Fact Parts
   from_modes norm s = read_each (read_modes p names) 0 (length p.preds) s >>= λ x. from_rows (made norm x.0) x.1
 
   pub parts_are : (s : List Fact) → read_parts p names comps s ≡ (read_head s >>= λ x. from_modes x.0 x.1)

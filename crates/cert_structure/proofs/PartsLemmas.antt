@@ -9,7 +9,8 @@ use Rattle.linear_rows.specs.declared.multipliers.Multipliers.{Multipliers}
 use Rattle.linear_rows.specs.declared.row.Rows.{Rows}
 use Rattle.number_tests.specs.declared.level_part.LevelPart.{LevelPart}
 use Rattle.number_tests.specs.declared.refutation.Refutation.{Refutation}
-use Rattle.cert_structure.specs.Walk.{Wrong, read_modes, read_rows, read_proofs, read_grounds, read_levels, read_falls, read_pre, read_refutation, read_each, read_sections}
+use Rattle.cert_structure.specs.Walk.{read_modes, read_rows, read_proofs, read_grounds, read_levels, read_falls, read_pre, read_refutation, read_sections}
+use Rattle.fact_reading.specs.Walk.{Wrong, read_each}
 
 -- The counts of the code and its copies of rows and levels are the program's and those that were read.
 module _ (p : Listing) (names : List (List ℕ)) (comps : Partition) (norm : Option CertNorm) (s : List Fact) (n k : ℕ) (preds : n ≡ length p.preds)

@@ -16,14 +16,14 @@ use Rattle.linear_rows.specs.declared.point.Point.{Point}
 use Rattle.number_tests.specs.declared.pair_point.PairPoint.{PairPoint}
 use Rattle.number_tests.specs.declared.refutation.Refutation.{Refutation}
 use Rattle.cert_structure.specs.declared.refutations.FirstPoint.{FirstPoint}
-use Rattle.cert_structure.specs.Numbered.{facts_from, EachFrom}
+use Rattle.fact_reading.specs.Numbered.{facts_from, EachFrom}
 use Rattle.cert_structure.specs.Order.{pred_text, point_facts, refutation_facts}
 use Rattle.cert_structure.specs.Shape.{vars_of, is_recursive, is_pair, IsBefore, PairsAscend, IsPoint, IsPairPoint, IsRefutation}
-use Rattle.cert_structure.specs.StructureFault.{HaveOnePlace, content_fault}
 use Rattle.cert_structure.specs.StructureFault as place
-use Rattle.cert_structure.specs.Walk.{Wrong, Taken, item_of, result_map, with_first, same_pred, kept, is_before, pair_end, pair_point, paired, point_read, take_refuted, take_point, take_second, read_next, read_second, read_point, read_points, refutation_read, read_group, is_open, read_refutation, read_each}
+use Rattle.cert_structure.specs.Walk.{same_pred, kept, is_before, pair_end, pair_point, paired, point_read, take_refuted, take_point, take_second, read_second, read_point, read_points, refutation_read, read_group, is_open, read_refutation}
+use Rattle.fact_reading.specs.Walk.{Wrong, Taken, item_of, result_map, with_first, read_next, read_each}
 use Rattle.cert_structure.proofs.KindLemmas.{split_refuted, split_point, split_second, IsRefuted, IsPoint as IsPointFact, IsAt}
-use Rattle.cert_structure.proofs.SectionLemmas.{err_ok, next_sound}
+use Rattle.fact_reading.proofs.SectionLemmas.{err_ok, next_sound}
 use Rattle.cert_structure.proofs.TakeLemmas.{same_is, amount_is, refuted_taken}
 use Rattle.cert_structure.proofs.PointLemmas.{before_is, IsFirst, first_taken, second_taken, point_sound, open_is, refutation_sound}
 use Rattle.cert_structure.proofs.LocalLemmas.{bound_err, mapped_err, with_made}

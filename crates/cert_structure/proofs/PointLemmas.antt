@@ -15,12 +15,13 @@ use Rattle.linear_rows.specs.declared.point.Point.{Point}
 use Rattle.number_tests.specs.declared.pair_point.PairPoint.{PairPoint}
 use Rattle.number_tests.specs.declared.refutation.Refutation.{Refutation}
 use Rattle.cert_structure.specs.declared.refutations.FirstPoint.{FirstPoint}
-use Rattle.cert_structure.specs.Numbered.{facts_from}
+use Rattle.fact_reading.specs.Numbered.{facts_from}
 use Rattle.cert_structure.specs.Order.{pred_text, at_facts, point_facts, refutation_facts}
 use Rattle.cert_structure.specs.Shape.{vars_of, items_of, first_of, is_recursive, is_pair, IsBefore, place_of_pair, PairsAscend, IsPoint, HasSecond, IsPairPoint, IsOpen, IsRefutation}
-use Rattle.cert_structure.specs.Walk.{Taken, is_amount, are_amounts, is_before, pair_end, paired, point_read, pair_point, result_map, with_first, read_next, take_point, take_second, take_refuted, read_second, read_point, read_points, read_group, refutation_read, is_open, read_refutation}
+use Rattle.cert_structure.specs.Walk.{is_amount, are_amounts, is_before, pair_end, paired, point_read, pair_point, take_point, take_second, take_refuted, read_second, read_point, read_points, read_group, refutation_read, is_open, read_refutation}
+use Rattle.fact_reading.specs.Walk.{Taken, result_map, with_first, read_next}
 use Rattle.cert_structure.proofs.KindLemmas.{split_point, split_second, IsPoint as IsPointFact, IsAt}
-use Rattle.cert_structure.proofs.SectionLemmas.{same_some, same_ok, err_ok, bound, mapped, IsTaken, IsBack, next_sound, next_back}
+use Rattle.fact_reading.proofs.SectionLemmas.{same_some, same_ok, err_ok, bound, mapped, IsTaken, IsBack, next_sound, next_back}
 use Rattle.cert_structure.proofs.TakeLemmas.{other_taken, placed, kept_is, amount_is, amount_back, amounts_are, amounts_back, refuted_taken, refuted_given}
 
 -- pairs in order

@@ -15,13 +15,14 @@ use Rattle.linear_rows.specs.declared.row.Rows.{Rows}
 use Rattle.number_tests.specs.declared.level_part.LevelPart.{LevelPart}
 use Rattle.linear_rows.specs.declared.point.Point.{Point}
 use Rattle.number_tests.specs.declared.refutation.Refutation.{Refutation}
-use Rattle.cert_structure.specs.Numbered.{facts_from, lines_from, AreEach}
+use Rattle.fact_reading.specs.Numbered.{facts_from, lines_from, AreEach}
 use Rattle.cert_structure.specs.Order.{pred_text, size_line, by_line, grounds_line, measure_line, falls_line, pre_line, at_facts, point_facts, refutation_facts, mode_facts, size_facts, proof_facts, ground_facts, level_facts, fall_facts, pre_facts, refuted_facts, is_note}
 use Rattle.cert_structure.specs.Shape.{arity_in, head_of, body_of, rows_of, rows_of_atoms, items_of, IsMode, IsSizeRow, HaveMultipliers, HasWidth, IsRefutation}
 use Rattle.cert_structure.specs.Structure.{AreNotes}
-use Rattle.cert_structure.specs.Walk.{take_modes, take_row, take_proof, take_ground, take_level, take_pre, take_refuted, read_many, read_each, read_modes, read_rows, read_proofs, read_grounds, read_falls, read_cubes, read_pre, read_refutation}
+use Rattle.cert_structure.specs.Walk.{take_modes, take_row, take_proof, take_ground, take_level, take_pre, take_refuted, read_modes, read_rows, read_proofs, read_grounds, read_falls, read_cubes, read_pre, read_refutation}
+use Rattle.fact_reading.specs.Walk.{read_many, read_each}
 use Rattle.cert_structure.proofs.KindLemmas.{kind, split_row, split_ground, split_level, split_pre, split_refuted, IsSize, IsGrounds, IsMeasure, IsPre, IsRefuted}
-use Rattle.cert_structure.proofs.SectionLemmas.{mapped, all_from, all_weaker, next_sound, next_back, counted_sound, counted_back, many_sound, many_back, each_sound, each_back}
+use Rattle.fact_reading.proofs.SectionLemmas.{mapped, all_from, all_weaker, next_sound, next_back, counted_sound, counted_back, many_sound, many_back, each_sound, each_back}
 use Rattle.cert_structure.proofs.TakeLemmas.{modes_taken, modes_given, row_taken, row_given, proof_taken, proof_given, ground_taken, ground_given, pre_taken, pre_given, same_itself}
 use Rattle.cert_structure.proofs.PointLemmas.{refutation_sound, refutation_given}
 use Rattle.cert_structure.proofs.LevelLemmas.{arity_text, not_same, NoLevel, IsCall, calls_sound, calls_back}

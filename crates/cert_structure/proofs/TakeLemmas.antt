@@ -17,9 +17,10 @@ use Rattle.linear_rows.specs.declared.row.Row.{Row}
 use Rattle.number_tests.specs.declared.level_part.LevelPart.{LevelPart}
 use Rattle.cert_structure.specs.Order.{cell_of, size_line, by_line, grounds_line, measure_line, falls_line, pre_line}
 use Rattle.cert_structure.specs.Shape.{Ascend, IsMode, IsSizeRow, HaveMultipliers, HasWidth, IsLevel}
-use Rattle.cert_structure.specs.Walk.{Taken, at_place, kept, same_pred, is_amount, is_entry, are_amounts, are_entries, is_mode, cell_read, row_read, multipliers_read, cube_read, level_read, take_modes, take_row, take_proof, take_ground, take_level, take_fall, take_pre, take_refuted}
+use Rattle.cert_structure.specs.Walk.{at_place, kept, same_pred, is_amount, is_entry, are_amounts, are_entries, is_mode, cell_read, row_read, multipliers_read, cube_read, level_read, take_modes, take_row, take_proof, take_ground, take_level, take_fall, take_pre, take_refuted}
+use Rattle.fact_reading.specs.Walk.{Taken}
 use Rattle.cert_structure.proofs.KindLemmas.{split_modes, split_row, split_proof, split_ground, split_level, split_fall, split_pre, split_refuted, IsTerminates, IsSize, IsBy, IsGrounds, IsMeasure, IsFalls, IsPre, IsRefuted}
-use Rattle.cert_structure.proofs.SectionLemmas.{same_some, IsTaken, IsBack}
+use Rattle.fact_reading.proofs.SectionLemmas.{same_some, IsTaken, IsBack}
 
 pub other_taken : {A : Type 0} {C : Type 0} (o : Taken A) (x : A) → o ≡ Some None → o ≡ Some (Some x) → C
 other_taken o x none some =
@@ -102,11 +103,11 @@ mode_back : (arity last : ℕ) (mode : List ℕ) → Ascend last mode → AllByR
 mode_back arity last [] h k = refl
 mode_back arity last (a ∷ more) h k = rw (lt-ltb last a h.0, le-leb a arity k.0, mode_back arity a more h.1 k.1) refl
 
-modes_are : (arity : ℕ) (modes : List (List ℕ)) → list_all (is_mode arity 0) modes ≡ true → AllByRecursion (IsMode arity) modes
+pub modes_are : (arity : ℕ) (modes : List (List ℕ)) → list_all (is_mode arity 0) modes ≡ true → AllByRecursion (IsMode arity) modes
 modes_are arity [] e = tt
 modes_are arity (m ∷ ms) e = let (one, more) = and_parts (is_mode arity 0 m) (list_all (is_mode arity 0) ms) e in (mode_is arity 0 m one, modes_are arity ms more)
 
-modes_back : (arity : ℕ) (modes : List (List ℕ)) → AllByRecursion (IsMode arity) modes → list_all (is_mode arity 0) modes ≡ true
+pub modes_back : (arity : ℕ) (modes : List (List ℕ)) → AllByRecursion (IsMode arity) modes → list_all (is_mode arity 0) modes ≡ true
 modes_back arity [] h = refl
 modes_back arity (m ∷ ms) h = rw (mode_back arity 0 m h.0.0 h.0.1, modes_back arity ms h.1) refl
 
@@ -138,7 +139,7 @@ many_read [] = refl
 many_read (c ∷ cs) = ap suc (many_read cs)
 
 -- the parts of facts
-row_is : (arity : ℕ) (row : List ℤ) (x : Row) → row_read arity row ≡ Some (Some x) → (row ≡ x.constant ∷ x.coeffs) × IsSizeRow arity x
+pub row_is : (arity : ℕ) (row : List ℤ) (x : Row) → row_read arity row ≡ Some (Some x) → (row ≡ x.constant ∷ x.coeffs) × IsSizeRow arity x
 row_is arity [] x e = absurd (cc e)
 row_is arity (b ∷ bs) x e =
     let (right, same) = kept_is ((length bs == arity) && (is_entry b && are_entries bs)) (record { constant = b; coeffs = bs }) x e in
@@ -146,10 +147,10 @@ row_is arity (b ∷ bs) x e =
     let (one, others) = and_parts (is_entry b) (are_entries bs) more in
     rw (← same) (refl, (eqb-true (length bs) arity wide, (entry_is b one, entries_are bs others)))
 
-row_back : (arity : ℕ) (x : Row) → IsSizeRow arity x → row_read arity (x.constant ∷ x.coeffs) ≡ Some (Some x)
+pub row_back : (arity : ℕ) (x : Row) → IsSizeRow arity x → row_read arity (x.constant ∷ x.coeffs) ≡ Some (Some x)
 row_back arity x h = rw (eq-eqb (length x.coeffs) arity h.0, entry_back x.constant h.1.0, entries_back x.coeffs h.1.1) refl
 
-multipliers_are : (rows : ℕ) (scale : ℤ) (list : List ℤ) (x : Multipliers) → multipliers_read rows scale list ≡ Some (Some x)
+pub multipliers_are : (rows : ℕ) (scale : ℤ) (list : List ℤ) (x : Multipliers) → multipliers_read rows scale list ≡ Some (Some x)
     → (record { scale = scale; list = list } ≡ x) × HaveMultipliers rows x
 multipliers_are rows scale list x e =
     let (right, same) = kept_is ((length list == rows) && (is_amount scale && are_amounts list)) (record { scale = scale; list = list }) x e in
@@ -157,18 +158,18 @@ multipliers_are rows scale list x e =
     let (one, others) = and_parts (is_amount scale) (are_amounts list) more in
     rw (← same) (refl, (eqb-true (length list) rows wide, amount_is scale one, amounts_are list others))
 
-multipliers_back : (rows : ℕ) (x : Multipliers) → HaveMultipliers rows x → multipliers_read rows x.scale x.list ≡ Some (Some x)
+pub multipliers_back : (rows : ℕ) (x : Multipliers) → HaveMultipliers rows x → multipliers_read rows x.scale x.list ≡ Some (Some x)
 multipliers_back rows x h = rw (eq-eqb (length x.list) rows h.0, amount_back x.scale h.1, amounts_back x.list h.2) refl
 
-cube_is : (arity : ℕ) (cells : List CertCell) (x : List Cell) → cube_read arity cells ≡ Some (Some x) → (cells ≡ map cell_of x) × HasWidth arity x
+pub cube_is : (arity : ℕ) (cells : List CertCell) (x : List Cell) → cube_read arity cells ≡ Some (Some x) → (cells ≡ map cell_of x) × HasWidth arity x
 cube_is arity cells x e =
     let (right, same) = kept_is (length cells == arity) (map cell_read cells) x e in
     rw (← same) (sym (cells_shown cells), many_read cells ∙ eqb-true (length cells) arity right)
 
-cube_back : (arity : ℕ) (x : List Cell) → HasWidth arity x → cube_read arity (map cell_of x) ≡ Some (Some x)
+pub cube_back : (arity : ℕ) (x : List Cell) → HasWidth arity x → cube_read arity (map cell_of x) ≡ Some (Some x)
 cube_back arity x h = rw (eq-eqb (length (map cell_of x)) arity (many_cells x ∙ h), cells_again x) refl
 
-level_is : (arity : ℕ) (coeffs : List ℤ) (offset : ℤ) (x : LevelPart) → level_read arity coeffs offset ≡ Some (Some x)
+pub level_is : (arity : ℕ) (coeffs : List ℤ) (offset : ℤ) (x : LevelPart) → level_read arity coeffs offset ≡ Some (Some x)
     → (record { coeffs = coeffs; offset = offset } ≡ x) × IsLevel arity x
 level_is arity coeffs offset x e =
     let (right, same) = kept_is ((length coeffs == arity) && (are_amounts coeffs && is_amount offset)) (record { coeffs = coeffs; offset = offset }) x e in
@@ -176,7 +177,7 @@ level_is arity coeffs offset x e =
     let (others, one) = and_parts (are_amounts coeffs) (is_amount offset) more in
     rw (← same) (refl, (eqb-true (length coeffs) arity wide, amounts_are coeffs others, amount_is offset one))
 
-level_back : (arity : ℕ) (x : LevelPart) → IsLevel arity x → level_read arity x.coeffs x.offset ≡ Some (Some x)
+pub level_back : (arity : ℕ) (x : LevelPart) → IsLevel arity x → level_read arity x.coeffs x.offset ≡ Some (Some x)
 level_back arity x h = rw (eq-eqb (length x.coeffs) arity h.0, amounts_back x.coeffs h.1, amount_back x.offset h.2) refl
 
 -- the facts

@@ -9,15 +9,16 @@ use Rattle.certificate.specs.declared.fact.Fact.{Fact}
 use Rattle.certificate.specs.declared.fact.Fact.TheVariants as fact
 use Rattle.certificate.specs.declared.norm.CertNorm.{CertNorm}
 use Rattle.cti_terms.specs.Listing.{Listing}
-use Rattle.cert_structure.specs.declared.fault.StructureReason.TheVariants as reason
+use Rattle.fact_reading.specs.declared.stop.StructureReason.TheVariants as reason
 use Rattle.cert_structure.specs.declared.parts.Parts.{Parts}
 use Rattle.cert_structure.specs.Order.{pred_text, head_facts, mode_facts, size_facts, proof_facts, ground_facts, level_facts, fall_facts, pre_facts, refuted_facts, listed, is_note}
 use Rattle.cert_structure.specs.Shape.{HaveShape}
 use Rattle.cert_structure.specs.Structure.{IsStructured, AreNotes}
-use Rattle.cert_structure.specs.Walk.{◌>>=◌, Wrong, wrong_at, item_of, result_map, take_norm, named_norm, by_version, with_notes, read_whole, read_head, read_sections, read_modes, read_rows, read_proofs, read_grounds, read_levels, read_falls, read_pre, read_refutation, read_each, read_parts}
+use Rattle.cert_structure.specs.Walk.{take_norm, named_norm, by_version, with_notes, read_whole, read_head, read_sections, read_modes, read_rows, read_proofs, read_grounds, read_levels, read_falls, read_pre, read_refutation, read_parts}
+use Rattle.fact_reading.specs.Walk.{◌>>=◌, Wrong, wrong_at, item_of, result_map, read_each}
 use Rattle.cert_structure.proofs.LoopLemmas.{are_notes, all_notes}
 use Rattle.cert_structure.proofs.KindLemmas.{kind, IsVersion, split_version, IsNorm, split_norm}
-use Rattle.cert_structure.proofs.SectionLemmas.{same_ok, err_ok, bound, all_both, all_weaker}
+use Rattle.fact_reading.proofs.SectionLemmas.{same_ok, err_ok, bound, all_both, all_weaker}
 use Rattle.cert_structure.proofs.LevelLemmas.{NoLevel, levels_sound, levels_back}
 use Rattle.cert_structure.proofs.StructureLemmas.{AreLater, proofs_later, grounds_later, levels_later, falls_later, pre_later, refuted_later, notes_later, no_level, modes_section, modes_listed, rows_section, rows_listed, proofs_section, proofs_listed, grounds_section, grounds_listed, falls_section, falls_listed, pre_section, pre_listed, refuted_section, refuted_listed}
 use Rattle.cert_structure.proofs.ComponentLemmas.{first_le}

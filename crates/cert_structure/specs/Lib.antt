@@ -1,4 +1,3 @@
-pub mod Filling
 pub mod Numbered
 pub mod Order
 pub mod Shape

@@ -21,7 +21,7 @@ use Rattle.linear_rows.specs.declared.point.Point.{Point}
 use Rattle.number_tests.specs.declared.pair_point.PairPoint.{PairPoint}
 use Rattle.number_tests.specs.declared.refutation.Refutation.{Refutation}
 use Rattle.cert_structure.specs.declared.parts.Parts.{Parts}
-use Rattle.cert_structure.specs.Numbered.{facts_from, lines_from}
+use Rattle.fact_reading.specs.Numbered.{facts_from, lines_from}
 
 -- a predicate by its name's text; where there is none, no name and no arguments
 abbrev pub text_or_none : List (List ℕ) → Option Pred → PredText

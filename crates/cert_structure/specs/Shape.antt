@@ -20,7 +20,7 @@ use Rattle.number_tests.specs.declared.pair_point.PairPoint.{PairPoint}
 pub use Rattle.termination_model.specs.Ready.{arity_in}
 use Rattle.number_tests.specs.declared.refutation.Refutation.{Refutation}
 use Rattle.cert_structure.specs.declared.parts.Parts.{Parts}
-use Rattle.cert_structure.specs.Numbered.{AreEach}
+use Rattle.fact_reading.specs.Numbered.{AreEach}
 
 -- the predicate of a clause's head, its body, and how many variables it has
 abbrev pub head_of : Listing → ℕ → ℕ

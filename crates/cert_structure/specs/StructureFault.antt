@@ -13,10 +13,10 @@ use Rattle.cti_terms.specs.Listing.{Listing}
 use Rattle.number_tests.specs.declared.refutation.Refutation.{Refutation}
 use Rattle.cert_structure.specs.declared.fault.PartsFault.{PartsFault}
 use Rattle.cert_structure.specs.declared.fault.PartsFault.TheVariants as fault
-use Rattle.cert_structure.specs.declared.fault.StructureReason.{StructureReason}
-use Rattle.cert_structure.specs.declared.fault.StructureReason.TheVariants as reason
+use Rattle.fact_reading.specs.declared.stop.StructureReason.{StructureReason}
+use Rattle.fact_reading.specs.declared.stop.StructureReason.TheVariants as reason
 use Rattle.cert_structure.specs.declared.parts.Parts.{Parts}
-use Rattle.cert_structure.specs.Numbered.{facts_from}
+use Rattle.fact_reading.specs.Numbered.{facts_from}
 use Rattle.cert_structure.specs.Order.{pred_text, point_facts, listed}
 use Rattle.cert_structure.specs.Shape.{HaveShape}
 use Rattle.cert_structure.specs.Structure.{AreNotes, IsStructured}

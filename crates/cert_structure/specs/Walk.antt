@@ -2,7 +2,6 @@
 -- How the parts are read: fact by fact, from the front, up to the first wrong one. Nothing here has to be believed.
 use Rattle.std.specs.Prelude.{◌≡◌, ℕ, zero, suc, ◌+◌, ℤ, pos, negsuc, Bool, true, false, ◌&&◌, ◌||◌, ◌==◌, ◌-◌, nat_eq, nat_lt, nat_le, if◌then◌else◌, List, [], ◌∷◌, ◌++◌, map, length, Option, None, Some, option_map, Result, Ok, Err}
 use Rattle.std.specs.Ordering.{int_eq}
-use Rattle.std.specs.Borrow.{Bor}
 use Rattle.std.specs.List.{list_all, prefix_len}
 use Rattle.std.specs.Cmp.Lexicographic.{pointwise}
 use Rattle.bool_diagrams.specs.declared.cube.Cell.{Cell}
@@ -25,41 +24,17 @@ use Rattle.linear_rows.specs.declared.point.Point.{Point}
 use Rattle.number_tests.specs.declared.pair_point.PairPoint.{PairPoint}
 use Rattle.number_tests.specs.declared.refutation.Refutation.{Refutation}
 use Rattle.cert_structure.specs.declared.parts.Parts.{Parts}
-use Rattle.cert_structure.specs.declared.fault.StructureReason.{StructureReason}
-use Rattle.cert_structure.specs.declared.fault.StructureReason.TheVariants as reason
+use Rattle.fact_reading.specs.declared.stop.StructureReason.TheVariants as reason
 use Rattle.cert_structure.specs.declared.named.Named.{Named}
 use Rattle.cert_structure.specs.declared.pair.Pair.{Pair}
 use Rattle.cert_structure.specs.declared.refutations.FirstPoint.{FirstPoint}
-use Rattle.cert_structure.specs.declared.stop.FactFault.{FactFault}
-use Rattle.cert_structure.specs.declared.stop.FactFault.TheVariants as fault
-use Rattle.cert_structure.specs.declared.stop.Stop.{Stop}
-use Rattle.cert_structure.specs.declared.stop.Stop.TheVariants as stop
+use Rattle.fact_reading.specs.declared.stop.FactFault.{FactFault}
+use Rattle.fact_reading.specs.declared.stop.FactFault.TheVariants as fault
+use Rattle.fact_reading.specs.declared.stop.Stop.{Stop}
+use Rattle.fact_reading.specs.declared.stop.Stop.TheVariants as stop
+use Rattle.fact_reading.specs.Walk.{◌>>=◌, Wrong, Read, Taken, result_map, wrong_at, with_first, read_each, read_next, read_many}
 use Rattle.cert_structure.specs.Order.{pred_text, is_note}
 use Rattle.cert_structure.specs.Shape.{arity_in, head_of, body_of, vars_of, rows_of, rows_of_atoms, items_of, is_recursive, first_of, proofs_of_call, is_pair}
-
--- how many facts are left from the first wrong one on, and what is wrong with it
-abbrev pub Wrong : Type 0
-Wrong = ℕ × StructureReason
-
--- a value and the facts after it, or the first wrong fact
-abbrev pub Read : Type 0 → Type 0
-Read A = Result (A × List Fact) Wrong
-
--- what a fact is to a reader: an item, a fact that is not the one that the reader looks for (`Some None`), or that fact with a wrong length or number (`None`)
-abbrev pub Taken : Type 0 → Type 0
-Taken A = Option (Option A)
-
--- the code read what it should, or found the first wrong fact; running out of memory is free
-abbrev pub Agrees : {A : Type 0} → Result (A × Bor (List Fact)) Stop → Read A → Type 0
-Agrees (Ok p) o = o ≡ Ok (p.0, p.1.now)
-Agrees (Err (stop.Wrong left why)) o = o ≡ Err (left, why)
-Agrees (Err stop.Memory) o = Unit {0}
-
--- the same of one fact
-abbrev pub AgreesFact : {A : Type 0} → Result (Option A) FactFault → Taken A → Type 0
-AgreesFact (Ok x) o = o ≡ Some x
-AgreesFact (Err fault.Shape) o = o ≡ None
-AgreesFact (Err fault.Memory) o = Unit {0}
 
 -- the code took an item of a right shape
 abbrev pub AgreesKept : {A : Type 0} → Result A FactFault → Taken A → Type 0
@@ -80,52 +55,6 @@ named n = record { name = n.name.now; arity = n.arity }
 -- a pair of the code
 abbrev pub pair_end : Pair → ℕ × ℕ
 pair_end q = (q.clause, q.call)
-
-infixl 10 ◌>>=◌
-abbrev pub ◌>>=◌ : {A B : Type 0} → Result A Wrong → (A → Result B Wrong) → Result B Wrong
-(Ok x) >>= f = f x
-(Err w) >>= f = Err w
-
-abbrev pub result_map : {A B : Type 0} → (A → B) → Result A Wrong → Result B Wrong
-result_map f (Ok x) = Ok (f x)
-result_map f (Err w) = Err w
-
--- the first of these facts is wrong
-abbrev pub wrong_at : {A : Type 0} → List Fact → StructureReason → Result A Wrong
-wrong_at s why = Err (length s, why)
-
--- one more in front
-abbrev pub with_first : {A : Type 0} → A → List A × List Fact → List A × List Fact
-with_first x p = (x ∷ p.0, p.1)
-
--- these items in front of those that are read
-abbrev pub with_all : {A : Type 0} → List A → Read (List A) → Read (List A)
-with_all xs o = result_map (λ p. (xs ++ p.0, p.1)) o
-
--- the given number of items, the first of which has this number
-unfoldable pub read_each : {A : Type 0} → (ℕ → List Fact → Read A) → ℕ → ℕ → List Fact → Read (List A)
-read_each item i zero s = Ok ([], s)
-read_each item i (suc n) s = item i s >>= λ p. result_map (with_first p.0) (read_each item (suc i) n p.1)
-
--- the item of the fact in front, which must be there
-abbrev pub item_of : {A : Type 0} → Fact → List Fact → Taken A → Read A
-item_of f s None = wrong_at (f ∷ s) reason.Shape
-item_of f s (Some None) = wrong_at (f ∷ s) reason.Extra
-item_of f s (Some (Some x)) = Ok (x, s)
-
-abbrev pub read_next : {A : Type 0} → (ℕ → Fact → Taken A) → ℕ → List Fact → Read A
-read_next taken i [] = wrong_at [] reason.Missing
-read_next taken i (f ∷ s) = item_of f s (taken i f)
-
--- the items of the facts in front, as long as they are of the kind
-abbrev pub go_on : {A : Type 0} → Read (List A) → Fact → List Fact → Taken A → Read (List A)
-go_on more f s None = wrong_at (f ∷ s) reason.Shape
-go_on more f s (Some None) = Ok ([], f ∷ s)
-go_on more f s (Some (Some x)) = result_map (with_first x) more
-
-unfoldable pub read_many : {A : Type 0} → (ℕ → Fact → Taken A) → ℕ → List Fact → Read (List A)
-read_many taken i [] = Ok ([], [])
-read_many taken i (f ∷ s) = go_on (read_many taken (suc i) s) f s (taken i f)
 
 -- an item, where its shape is right
 abbrev pub kept : {A : Type 0} → Bool → A → Taken A
@@ -234,27 +163,27 @@ abbrev pub pair_point : FirstPoint → Option Point → PairPoint
 pair_point x at = record { clause = x.pair.clause; call = x.pair.call; point = x.point; at = at }
 
 -- a point and, where its t is 0, the second one
-unfoldable pub read_second : Listing → FirstPoint → List Fact → Read PairPoint
+unfoldable pub read_second : Listing → FirstPoint → List Fact → Read Fact PairPoint
 read_second p x s =
     if int_eq x.point.t (pos 0)
     then result_map (λ y. (pair_point x (Some y.0), y.1)) (read_next (take_second (pair_end x.pair) (vars_of (numbered p.clauses x.pair.clause))) 0 s)
     else Ok (pair_point x None, s)
 
-unfoldable pub read_point : Listing → Partition → ℕ → ℕ × ℕ → List Fact → Read PairPoint
+unfoldable pub read_point : Listing → Partition → ℕ → ℕ × ℕ → List Fact → Read Fact PairPoint
 read_point p comps a last s = read_next (take_point p comps a last) 0 s >>= λ x. read_second p x.0 x.1
 
-unfoldable pub read_points : Listing → Partition → ℕ → ℕ × ℕ → ℕ → List Fact → Read (List PairPoint)
+unfoldable pub read_points : Listing → Partition → ℕ → ℕ × ℕ → ℕ → List Fact → Read Fact (List PairPoint)
 read_points p comps a last zero s = Ok ([], s)
 read_points p comps a last (suc n) s =
     read_point p comps a last s >>= λ x. result_map (with_first x.0) (read_points p comps a (x.0.clause, x.0.call) n x.1)
 
 -- the refutation that a fact begins
-abbrev pub refutation_read : (ℕ → Read (List PairPoint)) → Fact → List Fact → Taken ℕ → Read (Option Refutation)
+abbrev pub refutation_read : (ℕ → Read Fact (List PairPoint)) → Fact → List Fact → Taken ℕ → Read Fact (Option Refutation)
 refutation_read points f s None = wrong_at (f ∷ s) reason.Shape
 refutation_read points f s (Some None) = Ok (None, f ∷ s)
 refutation_read points f s (Some (Some n)) = result_map (λ x. (Some (record { points = x.0 }), x.1)) (points n)
 
-unfoldable pub read_group : Listing → List (List ℕ) → Partition → ℕ → List Fact → Read (Option Refutation)
+unfoldable pub read_group : Listing → List (List ℕ) → Partition → ℕ → List Fact → Read Fact (Option Refutation)
 read_group p names comps a [] = Ok (None, [])
 read_group p names comps a (f ∷ s) = refutation_read (λ n. read_points p comps a (0, 0) n s) f s (take_refuted (pred_text p names a) 0 f)
 
@@ -262,24 +191,24 @@ read_group p names comps a (f ∷ s) = refutation_read (λ n. read_points p comp
 abbrev pub is_open : Partition → List (List LevelPart) → ℕ → Bool
 is_open comps levels a = is_recursive comps a && ((first_of comps a == a) && (length (items_of levels a) == 0))
 
-unfoldable pub read_refutation : Listing → List (List ℕ) → Partition → List (List LevelPart) → ℕ → List Fact → Read (Option Refutation)
+unfoldable pub read_refutation : Listing → List (List ℕ) → Partition → List (List LevelPart) → ℕ → List Fact → Read Fact (Option Refutation)
 read_refutation p names comps levels a s = if is_open comps levels a then read_group p names comps a s else Ok (None, s)
 
-unfoldable pub read_modes : Listing → List (List ℕ) → ℕ → List Fact → Read (List (List ℕ))
+unfoldable pub read_modes : Listing → List (List ℕ) → ℕ → List Fact → Read Fact (List (List ℕ))
 read_modes p names a s = read_next (take_modes (pred_text p names a)) 0 s
 
-unfoldable pub read_rows : Listing → List (List ℕ) → ℕ → List Fact → Read Rows
+unfoldable pub read_rows : Listing → List (List ℕ) → ℕ → List Fact → Read Fact Rows
 read_rows p names a s =
     result_map (λ x. (record { width = arity_in p a; list = x.0 }, x.1)) (read_many (take_row (pred_text p names a)) 0 s)
 
-unfoldable pub read_proofs : Listing → List Rows → ℕ → List Fact → Read (List Multipliers)
+unfoldable pub read_proofs : Listing → List Rows → ℕ → List Fact → Read Fact (List Multipliers)
 read_proofs p rows k s = read_each (read_next (take_proof k (rows_of_atoms rows (body_of p k)))) 0 (rows_of rows (head_of p k)) s
 
-unfoldable pub read_grounds : Listing → List (List ℕ) → ℕ → List Fact → Read (List (List Cell))
+unfoldable pub read_grounds : Listing → List (List ℕ) → ℕ → List Fact → Read Fact (List (List Cell))
 read_grounds p names a s = read_many (take_ground (pred_text p names a)) 0 s
 
 -- the levels of a predicate, given those of the predicates before it
-unfoldable pub read_level : Listing → List (List ℕ) → Partition → List (List LevelPart) → ℕ → List Fact → Read (List LevelPart)
+unfoldable pub read_level : Listing → List (List ℕ) → Partition → List (List LevelPart) → ℕ → List Fact → Read Fact (List LevelPart)
 read_level p names comps earlier a s =
     if is_recursive comps a
     then if first_of comps a == a
@@ -287,49 +216,49 @@ read_level p names comps earlier a s =
     else read_each (read_next (take_level (pred_text p names a))) 0 (length (items_of earlier (first_of comps a))) s
     else read_each (read_next (take_level (pred_text p names a))) 0 1 s
 
-unfoldable pub read_levels : Listing → List (List ℕ) → Partition → List (List LevelPart) → ℕ → ℕ → List Fact → Read (List (List LevelPart))
+unfoldable pub read_levels : Listing → List (List ℕ) → Partition → List (List LevelPart) → ℕ → ℕ → List Fact → Read Fact (List (List LevelPart))
 read_levels p names comps earlier a zero s = Ok (earlier, s)
 read_levels p names comps earlier a (suc n) s =
     read_level p names comps earlier a s >>= λ x. read_levels p names comps (earlier ++ x.0 ∷ []) (suc a) n x.1
 
 -- the proofs for a call, where the atoms before it have the given number of rows
-unfoldable pub read_call : Partition → List (List LevelPart) → ℕ → ℕ → ℕ → ℕ → Option Atom → List Fact → Read (List Multipliers)
+unfoldable pub read_call : Partition → List (List LevelPart) → ℕ → ℕ → ℕ → ℕ → Option Atom → List Fact → Read Fact (List Multipliers)
 read_call comps levels head k j rows call s = read_each (read_next (take_fall k j rows)) 0 (proofs_of_call comps levels head call) s
 
-unfoldable pub read_calls : Partition → List Rows → List (List LevelPart) → ℕ → ℕ → ℕ → ℕ → List Atom → List Fact → Read (List (List Multipliers))
+unfoldable pub read_calls : Partition → List Rows → List (List LevelPart) → ℕ → ℕ → ℕ → ℕ → List Atom → List Fact → Read Fact (List (List Multipliers))
 read_calls comps rows levels head k j before [] s = Ok ([], s)
 read_calls comps rows levels head k j before (b ∷ bs) s =
     read_call comps levels head k j before (Some b) s
     >>= λ x. result_map (with_first x.0) (read_calls comps rows levels head k (suc j) (before + rows_of rows b.pred.0) bs x.1)
 
-unfoldable pub read_falls : Listing → Partition → List Rows → List (List LevelPart) → ℕ → List Fact → Read (List (List Multipliers))
+unfoldable pub read_falls : Listing → Partition → List Rows → List (List LevelPart) → ℕ → List Fact → Read Fact (List (List Multipliers))
 read_falls p comps rows levels k s = read_calls comps rows levels (head_of p k) k 0 0 (body_of p k) s
 
-unfoldable pub read_cubes : Listing → List (List ℕ) → ℕ → ℕ → List Fact → Read (List (List Cell))
+unfoldable pub read_cubes : Listing → List (List ℕ) → ℕ → ℕ → List Fact → Read Fact (List (List Cell))
 read_cubes p names a m s = read_many (take_pre (pred_text p names a) m) 0 s
 
-unfoldable pub read_pre : Listing → List (List ℕ) → List (List LevelPart) → ℕ → List Fact → Read (List (List (List Cell)))
+unfoldable pub read_pre : Listing → List (List ℕ) → List (List LevelPart) → ℕ → List Fact → Read Fact (List (List (List Cell)))
 read_pre p names levels a s = read_each (read_cubes p names a) 0 (length (items_of levels a)) s
 
 unfoldable pub take_norm : ℕ → Fact → Taken CertNorm
 take_norm i (fact.Norm norm) = Some (Some norm)
 take_norm i _ = Some None
 
-abbrev pub named_norm : List Fact → Read (Option CertNorm)
+abbrev pub named_norm : List Fact → Read Fact (Option CertNorm)
 named_norm s = result_map (λ x. (Some x.0, x.1)) (read_next take_norm 0 s)
 
 -- the norm that follows a version, which is 1 or 2 as the tests say
-abbrev pub by_version : ℤ → Bool → Bool → List Fact → Read (Option CertNorm)
+abbrev pub by_version : ℤ → Bool → Bool → List Fact → Read Fact (Option CertNorm)
 by_version version one two s = if one then Ok (None, s) else if two then named_norm s else wrong_at (fact.Cti version ∷ s) reason.Version
 
 -- the norm that the facts name in front, and the facts after it
-unfoldable pub read_head : List Fact → Read (Option CertNorm)
-read_head [] = wrong_at [] reason.Missing
+unfoldable pub read_head : List Fact → Read Fact (Option CertNorm)
+read_head [] = wrong_at {F = Fact} [] reason.Missing
 read_head (fact.Cti version ∷ s) = by_version version (int_eq version (pos 1)) (int_eq version (pos 2)) s
 read_head (f ∷ s) = wrong_at (f ∷ s) reason.Extra
 
 -- the parts of this norm, and the notes after them
-unfoldable pub read_sections : Listing → List (List ℕ) → Partition → Option CertNorm → List Fact → Read Parts
+unfoldable pub read_sections : Listing → List (List ℕ) → Partition → Option CertNorm → List Fact → Read Fact Parts
 read_sections p names comps norm s = do
   modes ← read_each (read_modes p names) 0 (length p.preds) s
   rows ← read_each (read_rows p names) 0 (length p.preds) modes.1
@@ -342,7 +271,7 @@ read_sections p names comps norm s = do
   Ok (record { norm = norm; modes = modes.0; rows = rows.0; row_proofs = proofs.0; grounds = grounds.0; levels = levels.0; falls = falls.0; preconditions = cubes.0; refutations = refutations.0 }, refutations.1)
 
 -- all parts, and the notes after them
-unfoldable pub read_parts : Listing → List (List ℕ) → Partition → List Fact → Read Parts
+unfoldable pub read_parts : Listing → List (List ℕ) → Partition → List Fact → Read Fact Parts
 read_parts p names comps s = read_head s >>= λ x. read_sections p names comps x.0 x.1
 
 -- the parts, where all of the facts after them are notes

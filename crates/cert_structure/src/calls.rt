@@ -9,9 +9,9 @@ use cti_terms::{PredId, Program};
 
 /// A program, and the components of its calls.
 #[derive(Clone, Copy)]
-pub(crate) struct Calls<'a> {
-    pub(crate) p: &'a Program,
-    pub(crate) comps: &'a Components,
+pub struct Calls<'a> {
+    pub p: &'a Program,
+    pub comps: &'a Components,
     ghost each: { length comps.now.of ≡ length p.now.preds },
     ghost within: { (c a : ℕ) → IsIn comps.now c a → c < length comps.now.members },
 }
@@ -29,7 +29,7 @@ impl<'a> Calls<'a> {
     }
 
     /// Whether two predicates are in one component.
-    pub(crate) fn together(&self, a: u64, b: u64) -> bool
+    pub fn together(&self, a: u64, b: u64) -> bool
         ensures { result ≡ is_together self.now.comps.now a b }
     {
         match (self.component(a), self.component(b)) {
@@ -39,7 +39,7 @@ impl<'a> Calls<'a> {
     }
 
     /// Whether a predicate's component is recursive.
-    pub(crate) fn recursive(&self, pred: u64) -> bool
+    pub fn recursive(&self, pred: u64) -> bool
         ensures { result ≡ is_recursive self.now.comps.now pred }
     {
         match self.component(pred) {
@@ -49,7 +49,7 @@ impl<'a> Calls<'a> {
     }
 
     /// The first predicate of a predicate's component.
-    pub(crate) fn first(&self, pred: u64) -> u64
+    pub fn first(&self, pred: u64) -> u64
         ensures { result ≡ first_of self.now.comps.now pred }
     {
         let Some(c) = self.component(pred) else {

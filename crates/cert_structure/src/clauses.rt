@@ -6,7 +6,7 @@ ghost use Rattle.cert_structure.specs.Shape.{head_of, body_of};
 use cti_terms::{Atom, Clause, PredId, Program};
 
 /// The clause of a number, which counts from 0 here, if it is there.
-pub(crate) fn clause_at(p: &Program, number: u64) -> Option<&Clause>
+fn clause_at(p: &Program, number: u64) -> Option<&Clause>
     ensures { option_map (λ c. c.now) result ≡ slice_get p.now.clauses number }
 {
     if number < u64::from(p.clauses()) {
@@ -17,7 +17,7 @@ pub(crate) fn clause_at(p: &Program, number: u64) -> Option<&Clause>
 }
 
 /// The predicate of a clause's head; 0 where there is no clause.
-pub(crate) fn head_at(p: &Program, number: u64) -> PredId
+pub fn head_at(p: &Program, number: u64) -> PredId
     ensures { result.0 ≡ head_of p.now number }
 {
     match clause_at(p, number) {
@@ -27,7 +27,7 @@ pub(crate) fn head_at(p: &Program, number: u64) -> PredId
 }
 
 /// The body of a clause; empty where there is no clause.
-pub(crate) fn body_at(p: &Program, number: u64) -> &[Atom]
+pub fn body_at(p: &Program, number: u64) -> &[Atom]
     ensures { result.now ≡ body_of p.now number }
 {
     match clause_at(p, number) {

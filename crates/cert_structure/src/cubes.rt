@@ -3,9 +3,9 @@
 ghost use Rattle.std.specs.Prelude.{◌≡◌, IfOk, map};
 ghost use Rattle.cert_structure.specs.Walk.{AgreesKept, cell_read, cube_read};
 
-use crate::stop::FactFault;
 use bool_diagrams::{Cell, Cube};
 use certificate::CertCell;
+use fact_reading::FactFault;
 use std::alloc::{AllocError, Global};
 
 /// A cell of a cube.
@@ -31,7 +31,7 @@ fn cells(alloc: Global, cells: &[CertCell]) -> Result<Vec<Cell>, AllocError>
 }
 
 /// A cube with a cell for each of `arity` arguments.
-pub(crate) fn cube(alloc: Global, arity: u32, places: &[CertCell]) -> Result<Cube, FactFault>
+pub fn cube(alloc: Global, arity: u32, places: &[CertCell]) -> Result<Cube, FactFault>
     ensures { AgreesKept result (cube_read arity places.now) }
 {
     if places.len() != arity as usize {

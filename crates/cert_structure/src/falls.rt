@@ -2,19 +2,18 @@
 
 ghost use Rattle.std.specs.Prelude.{◌≡◌, Some};
 ghost use Rattle.cert_structure.specs.Shape.{proofs_of_call, is_own_call};
-ghost use Rattle.cert_structure.specs.Walk.{Agrees, take_fall, read_call, read_calls, read_falls};
+ghost use Rattle.cert_structure.specs.Walk.{take_fall, read_call, read_calls, read_falls};
+ghost use Rattle.fact_reading.specs.Walk.{Agrees};
 
 use crate::calls::Calls;
 use crate::clauses::{body_at, head_at};
-use crate::kind::{Kind, Next};
-use crate::levels::mappings;
+use crate::items::count_of;
 use crate::named::is_number;
 use crate::numbers::multipliers;
-use crate::reader::{Reader, each};
 use crate::sizes::rows_of;
-use crate::stop::{FactFault, Stop};
 use certificate::Fact;
 use cti_terms::Atom;
+use fact_reading::{FactFault, Kind, Next, Reader, Stop, each};
 use linear_rows::Multipliers;
 use number_tests::LevelPart;
 use sequences::Sequence;
@@ -29,7 +28,7 @@ struct FallFact {
     rows: u128,
 }
 
-impl Kind for FallFact {
+impl Kind<Fact> for FallFact {
     type Item = Multipliers;
 
     ghost takes = { λ r number fact. take_fall r.clause r.call r.rows number fact };
@@ -76,7 +75,7 @@ impl Falls<'_> {
             (Some call.now) }
     {
         if self.calls.together(head, u64::from(call.pred.0)) {
-            mappings(self.levels, head)
+            count_of(self.levels, head)
         } else {
             0
         }
@@ -91,7 +90,9 @@ impl Falls<'_> {
         body: &[Atom],
         facts: &'f [Fact],
     ) -> Result<(Sequence<Sequence<Multipliers>>, &'f [Fact]), Stop>
-        ensures { Agrees result (read_calls self.now.calls.comps.now self.now.rows.now self.now.levels.now head clause 0 0 body.now facts.now) }
+        ensures { Agrees result
+            (read_calls self.now.calls.comps.now self.now.rows.now self.now.levels.now head clause 0 0
+            body.now facts.now) }
     {
         let mut proofs = Sequence::new(alloc);
         let mut rest = facts;
@@ -112,7 +113,7 @@ impl Falls<'_> {
     }
 }
 
-impl Reader for Falls<'_> {
+impl Reader<Fact> for Falls<'_> {
     type Item = Sequence<Sequence<Multipliers>>;
 
     ghost reads = { λ r number facts. read_falls r.calls.p.now r.calls.comps.now r.rows.now r.levels.now number facts };

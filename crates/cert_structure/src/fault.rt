@@ -1,24 +1,8 @@
 //! Why a certificate has no parts.
 
+use fact_reading::StructureReason;
 use std::alloc::AllocError;
 use thiserror::Error;
-
-/// What is wrong with the first wrong fact of a certificate.
-#[derive(Clone, Copy, Debug, PartialEq, Eq, Error)]
-pub enum StructureReason {
-    /// The first fact is `cti` with another version than 1 and 2.
-    #[error("the version is neither 1 nor 2")]
-    Version,
-    /// The facts end where another must come.
-    #[error("a fact is missing")]
-    Missing,
-    /// The fact may not stand at its place.
-    #[error("the fact may not stand here")]
-    Extra,
-    /// The fact may stand at its place, and a length or a number of it is wrong.
-    #[error("a length or a number is wrong")]
-    Shape,
-}
 
 /// Why a certificate has no parts.
 #[derive(Clone, Copy, Debug, PartialEq, Eq, Error)]

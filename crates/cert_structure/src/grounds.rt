@@ -4,13 +4,11 @@ ghost use Rattle.std.specs.Prelude.{◌≡◌};
 ghost use Rattle.cert_structure.specs.Walk.{named, take_ground, read_grounds};
 
 use crate::cubes::cube;
-use crate::kind::{Kind, many};
 use crate::named::{Named, is_number};
-use crate::reader::Reader;
-use crate::stop::{FactFault, Stop};
 use bool_diagrams::Cube;
 use certificate::Fact;
 use cti_terms::{Names, Program};
+use fact_reading::{FactFault, Kind, Reader, Stop, many};
 use sequences::Sequence;
 use std::alloc::Global;
 
@@ -20,7 +18,7 @@ struct GroundFact<'a> {
     pred: Named<'a>,
 }
 
-impl Kind for GroundFact<'_> {
+impl Kind<Fact> for GroundFact<'_> {
     type Item = Cube;
 
     ghost takes = { λ r number fact. take_ground (named r.pred) number fact };
@@ -49,7 +47,7 @@ pub(crate) struct Grounds<'a> {
     pub(crate) names: &'a Names,
 }
 
-impl Reader for Grounds<'_> {
+impl Reader<Fact> for Grounds<'_> {
     type Item = Sequence<Cube>;
 
     ghost reads = { λ r number facts. read_grounds r.p.now r.names.now number facts };

@@ -1,34 +1,21 @@
 //! The parts of predicates in level mappings.
 
 ghost use Rattle.std.specs.Prelude.{◌≡◌, length, [], ◌++◌, ◌∷◌};
-ghost use Rattle.cert_structure.specs.Filling.{Fills};
+ghost use Rattle.fact_reading.specs.Filling.{Fills};
 ghost use Rattle.cert_structure.specs.Shape.{items_of};
-ghost use Rattle.cert_structure.specs.Walk.{Agrees, AgreesKept, named, level_read, take_level, read_level, read_levels};
+ghost use Rattle.cert_structure.specs.Walk.{AgreesKept, named, level_read, take_level, read_level, read_levels};
+ghost use Rattle.fact_reading.specs.Walk.{Agrees};
 
 use crate::calls::Calls;
-use crate::kind::{Kind, Next, many};
+use crate::items::count_of;
 use crate::named::{Named, is_number};
-use crate::numbers::{are_amounts, copied, is_amount};
-use crate::reader::each;
-use crate::stop::{FactFault, Stop};
+use crate::numbers::level;
 use certificate::Fact;
 use cti_terms::Names;
+use fact_reading::{FactFault, Kind, Next, Stop, each, many};
 use number_tests::LevelPart;
 use sequences::Sequence;
 use std::alloc::Global;
-
-/// A level with a coefficient for each of `arity` arguments.
-fn level(alloc: Global, arity: u32, coeffs: &[i128], offset: i128) -> Result<LevelPart, FactFault>
-    ensures { AgreesKept result (level_read arity coeffs.now offset) }
-{
-    if coeffs.len() != arity as usize || !are_amounts(coeffs) || !is_amount(offset) {
-        return Err(FactFault::Shape);
-    }
-    Ok(LevelPart {
-        coeffs: copied(alloc, coeffs)?,
-        offset,
-    })
-}
 
 /// The facts of a predicate's levels.
 #[derive(Drop)]
@@ -36,7 +23,7 @@ struct LevelFact<'a> {
     pred: Named<'a>,
 }
 
-impl Kind for LevelFact<'_> {
+impl Kind<Fact> for LevelFact<'_> {
     type Item = LevelPart;
 
     ghost takes = { λ r number fact. take_level (named r.pred) number fact };
@@ -64,16 +51,6 @@ impl Kind for LevelFact<'_> {
     }
 }
 
-/// How many items there are for a predicate.
-pub(crate) fn mappings(levels: &[Sequence<LevelPart>], pred: u64) -> u64
-    ensures { result ≡ length (items_of levels.now pred) }
-{
-    match levels.get(pred as usize) {
-        Some(items) => items.len() as u64,
-        None => 0,
-    }
-}
-
 /// The levels of a predicate, given those of the predicates before it.
 #[tactic(auto, unfolding(crate::specs::Walk::read_level))]
 fn pred_levels<'f>(
@@ -96,7 +73,7 @@ fn pred_levels<'f>(
     if first == pred {
         many(alloc, &kind, facts)
     } else {
-        each(alloc, &Next { kind }, mappings(earlier, first), facts)
+        each(alloc, &Next { kind }, count_of(earlier, first), facts)
     }
 }
 

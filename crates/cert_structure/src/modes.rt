@@ -4,12 +4,10 @@ ghost use Rattle.std.specs.Prelude.{◌≡◌, IfOk};
 ghost use Rattle.std.specs.List.{list_all};
 ghost use Rattle.cert_structure.specs.Walk.{named, is_mode, read_modes, take_modes};
 
-use crate::kind::{Kind, first_item};
 use crate::named::Named;
-use crate::reader::Reader;
-use crate::stop::{FactFault, Stop};
 use certificate::Fact;
 use cti_terms::{Names, Program};
+use fact_reading::{FactFault, Kind, Reader, Stop, first_item};
 use sequences::Sequence;
 use std::alloc::{AllocError, Global};
 
@@ -28,7 +26,7 @@ fn is_mode(arity: u32, mode: &[u32]) -> bool
 }
 
 /// Whether each mode has argument numbers from 1 to the arity, in ascending order.
-fn are_modes(arity: u32, modes: &[Sequence<u32>]) -> bool
+pub fn are_modes(arity: u32, modes: &[Sequence<u32>]) -> bool
     ensures { result ≡ list_all (is_mode arity 0) modes.now }
 {
     modes.iter().all(|mode| is_mode(arity, mode.as_slice()))
@@ -55,7 +53,7 @@ struct ModesFact<'a> {
     pred: Named<'a>,
 }
 
-impl Kind for ModesFact<'_> {
+impl Kind<Fact> for ModesFact<'_> {
     type Item = Sequence<Sequence<u32>>;
 
     ghost takes = { λ r number fact. take_modes (named r.pred) number fact };
@@ -87,7 +85,7 @@ pub(crate) struct Modes<'a> {
     pub(crate) names: &'a Names,
 }
 
-impl Reader for Modes<'_> {
+impl Reader<Fact> for Modes<'_> {
     type Item = Sequence<Sequence<u32>>;
 
     ghost reads = { λ r number facts. read_modes r.p.now r.names.now number facts };

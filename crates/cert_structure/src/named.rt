@@ -49,7 +49,7 @@ impl<'a> Named<'a> {
     }
 
     /// Whether a fact's predicate is this one.
-    pub(crate) fn is(&self, pred: &PredText) -> bool
+    pub fn is(&self, pred: &PredText) -> bool
         ensures { result ≡ same_pred pred.now (named self.now) }
     {
         pred.name.as_slice() == self.name && pred.arity == self.arity
@@ -57,7 +57,7 @@ impl<'a> Named<'a> {
 }
 
 /// Whether a number that counts from 1 is that of an item, which counts from 0.
-pub(crate) fn is_number(counted: u64, number: u64) -> bool
+pub fn is_number(counted: u64, number: u64) -> bool
     ensures { result ≡ (counted == suc number) }
 {
     counted > 0 && counted - 1 == number

@@ -10,21 +10,21 @@ use cti_terms::Clause;
 
 /// A pair of a clause and one of its calls, both counted from 1.
 #[derive(Clone, Copy)]
-pub(crate) struct Pair {
-    pub(crate) clause: u32,
-    pub(crate) call: u32,
+pub struct Pair {
+    pub clause: u32,
+    pub call: u32,
 }
 
 impl Pair {
     /// Whether another pair comes after this one: by clauses, and then by calls.
-    pub(crate) fn is_before(self, other: Pair) -> bool
+    pub fn is_before(self, other: Pair) -> bool
         ensures { result ≡ is_before (pair_end self) (pair_end other) }
     {
         self.clause < other.clause || (self.clause == other.clause && self.call < other.call)
     }
 
     /// Whether the clause and the call are of a predicate's component.
-    pub(crate) fn is_of(self, calls: &Calls, pred: u64) -> bool
+    pub fn is_of(self, calls: &Calls, pred: u64) -> bool
         ensures { result ≡ is_pair calls.now.p.now calls.now.comps.now pred self.clause self.call }
     {
         match numbered(calls, self.clause) {
@@ -61,7 +61,7 @@ fn is_own_call(calls: &Calls, pred: u64, clause: &Clause, call: u32) -> bool
 }
 
 /// How many variables a clause has, which counts from 1.
-pub(crate) fn vars(calls: &Calls, clause: u32) -> u32
+pub fn vars(calls: &Calls, clause: u32) -> u32
     ensures { result ≡ vars_of (numbered calls.now.p.now.clauses clause) }
 {
     match numbered(calls, clause) {

@@ -4,14 +4,12 @@ ghost use Rattle.std.specs.Prelude.{◌≡◌};
 ghost use Rattle.cert_structure.specs.Walk.{named, take_pre, read_cubes, read_pre};
 
 use crate::cubes::cube;
-use crate::kind::{Kind, many};
-use crate::levels::mappings;
+use crate::items::count_of;
 use crate::named::{Named, is_number};
-use crate::reader::{Reader, each};
-use crate::stop::{FactFault, Stop};
 use bool_diagrams::Cube;
 use certificate::Fact;
 use cti_terms::{Names, Program};
+use fact_reading::{FactFault, Kind, Reader, Stop, each, many};
 use number_tests::LevelPart;
 use sequences::Sequence;
 use std::alloc::Global;
@@ -23,7 +21,7 @@ struct PreFact<'a> {
     mapping: u64,
 }
 
-impl Kind for PreFact<'_> {
+impl Kind<Fact> for PreFact<'_> {
     type Item = Cube;
 
     ghost takes = { λ r number fact. take_pre (named r.pred) r.mapping number fact };
@@ -57,7 +55,7 @@ struct PredCubes<'a> {
     pred: u64,
 }
 
-impl Reader for PredCubes<'_> {
+impl Reader<Fact> for PredCubes<'_> {
     type Item = Sequence<Cube>;
 
     ghost reads = { λ r number facts. read_cubes r.p.now r.names.now r.pred number facts };
@@ -85,7 +83,7 @@ pub(crate) struct Preconditions<'a> {
     pub(crate) levels: &'a [Sequence<LevelPart>],
 }
 
-impl Reader for Preconditions<'_> {
+impl Reader<Fact> for Preconditions<'_> {
     type Item = Sequence<Sequence<Cube>>;
 
     ghost reads = { λ r number facts. read_pre r.p.now r.names.now r.levels.now number facts };
@@ -102,6 +100,6 @@ impl Reader for Preconditions<'_> {
             names: self.names,
             pred: number,
         };
-        each(alloc, &cubes, mappings(self.levels, number), facts)
+        each(alloc, &cubes, count_of(self.levels, number), facts)
     }
 }

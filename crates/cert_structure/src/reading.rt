@@ -6,29 +6,29 @@ ghost use Rattle.call_components.specs.Partition.{Partition, AreComponents};
 ghost use Rattle.certificate.specs.declared.fact.Fact.{Fact as TheFact};
 ghost use Rattle.cti_terms.specs.Listing.{Listing};
 ghost use Rattle.cert_structure.specs.declared.fault.PartsFault.TheVariants.{Memory, Wrong as IsWrong};
-ghost use Rattle.cert_structure.specs.declared.fault.StructureReason.{StructureReason as TheReason};
+ghost use Rattle.fact_reading.specs.declared.stop.StructureReason.{StructureReason as TheReason};
 ghost use Rattle.cert_structure.specs.declared.parts.Parts.{Parts as TheParts};
-ghost use Rattle.cert_structure.specs.Filling.{Fills};
+ghost use Rattle.fact_reading.specs.Filling.{Fills};
 ghost use Rattle.cert_structure.specs.Order.{is_note, pred_text};
 ghost use Rattle.cert_structure.specs.Structure.{IsStructured, AreNamed};
 ghost use Rattle.cert_structure.specs.StructureFault.{IsFirstWrong, IsStructureFault};
-ghost use Rattle.cert_structure.specs.Walk.{Agrees, AgreesWhole, named_norm, read_head, read_sections, read_parts, read_whole};
+ghost use Rattle.cert_structure.specs.Walk.{AgreesWhole, named_norm, read_head, read_sections, read_parts, read_whole};
+ghost use Rattle.fact_reading.specs.Walk.{Agrees};
 
 use crate::calls::Calls;
 use crate::falls::Falls;
-use crate::fault::{PartsFault, StructureReason};
+use crate::fault::PartsFault;
 use crate::grounds::Grounds;
 use crate::levels::levels_into;
 use crate::modes::Modes;
 use crate::parts::Parts;
 use crate::preconditions::Preconditions;
-use crate::reader::each_into;
 use crate::refutations::Refutations;
 use crate::sizes::{PredRows, Proofs, rows_into};
-use crate::stop::{Stop, wrong};
 use call_components::Components;
 use certificate::{CertNorm, Certificate, Fact};
 use cti_terms::{Names, Program};
+use fact_reading::{Stop, StructureReason, each_into, wrong};
 use std::alloc::Global;
 
 /// The norm of the fact in front, and the facts after it.

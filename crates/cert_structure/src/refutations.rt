@@ -1,36 +1,21 @@
 //! Refutations of recursive components.
 
 ghost use Rattle.std.specs.Prelude.{◌≡◌};
-ghost use Rattle.cert_structure.specs.Walk.{Agrees, AgreesKept, named, pair_end, is_open, point_read, take_refuted, take_point, take_second, read_second, read_point, read_points, read_group, read_refutation};
+ghost use Rattle.cert_structure.specs.Walk.{AgreesKept, named, pair_end, is_open, point_read, take_refuted, take_point, take_second, read_second, read_point, read_points, read_group, read_refutation};
+ghost use Rattle.fact_reading.specs.Walk.{Agrees};
 
 use crate::calls::Calls;
-use crate::fault::StructureReason;
-use crate::kind::{Kind, first_item};
-use crate::levels::mappings;
+use crate::items::count_of;
 use crate::named::Named;
-use crate::numbers::{are_amounts, copied, is_amount};
+use crate::numbers::scaled_point;
 use crate::pair::{Pair, vars};
-use crate::reader::Reader;
-use crate::stop::{FactFault, Stop, wrong};
 use certificate::Fact;
 use cti_terms::Names;
+use fact_reading::{FactFault, Kind, Reader, Stop, StructureReason, first_item, wrong};
 use linear_rows::Point;
 use number_tests::{LevelPart, PairPoint, Refutation};
 use sequences::Sequence;
 use std::alloc::Global;
-
-/// A point with a value for each of `vars` variables.
-fn scaled_point(alloc: Global, vars: u32, t: i128, w: &[i128]) -> Result<Point, FactFault>
-    ensures { AgreesKept result (point_read vars t w.now) }
-{
-    if w.len() != vars as usize || !is_amount(t) || !are_amounts(w) {
-        return Err(FactFault::Shape);
-    }
-    Ok(Point {
-        t,
-        w: copied(alloc, w)?,
-    })
-}
 
 /// A pair with its first point.
 #[derive(Drop)]
@@ -47,7 +32,7 @@ struct PointFact<'a> {
     last: Pair,
 }
 
-impl Kind for PointFact<'_> {
+impl Kind<Fact> for PointFact<'_> {
     type Item = FirstPoint;
 
     ghost takes = { λ r number fact. take_point r.calls.p.now r.calls.comps.now r.pred (pair_end r.last) number fact };
@@ -81,7 +66,7 @@ struct SecondFact {
     vars: u32,
 }
 
-impl Kind for SecondFact {
+impl Kind<Fact> for SecondFact {
     type Item = Point;
 
     ghost takes = { λ r number fact. take_second (pair_end r.pair) r.vars number fact };
@@ -186,7 +171,7 @@ struct RefutedFact<'a> {
     pred: Named<'a>,
 }
 
-impl Kind for RefutedFact<'_> {
+impl Kind<Fact> for RefutedFact<'_> {
     type Item = u64;
 
     ghost takes = { λ r number fact. take_refuted (named r.pred) number fact };
@@ -221,7 +206,7 @@ impl Refutations<'_> {
     {
         self.calls.recursive(pred)
             && self.calls.first(pred) == pred
-            && mappings(self.levels, pred) == 0
+            && count_of(self.levels, pred) == 0
     }
 
     /// The refutation that the first fact begins, if it begins one for the predicate.
@@ -232,7 +217,8 @@ impl Refutations<'_> {
         pred: u64,
         facts: &'f [Fact],
     ) -> Result<(Option<Refutation>, &'f [Fact]), Stop>
-        ensures { Agrees result (read_group self.now.calls.p.now self.now.names.now self.now.calls.comps.now pred facts.now) }
+        ensures { Agrees result
+            (read_group self.now.calls.p.now self.now.names.now self.now.calls.comps.now pred facts.now) }
     {
         let Some((first, rest)) = facts.split_first() else {
             return Ok((None, facts));
@@ -252,10 +238,11 @@ impl Refutations<'_> {
     }
 }
 
-impl Reader for Refutations<'_> {
+impl Reader<Fact> for Refutations<'_> {
     type Item = Option<Refutation>;
 
-    ghost reads = { λ r number facts. read_refutation r.calls.p.now r.names.now r.calls.comps.now r.levels.now number facts };
+    ghost reads = { λ r number facts. read_refutation r.calls.p.now r.names.now r.calls.comps.now
+        r.levels.now number facts };
 
     #[tactic(auto, unfolding(crate::specs::Walk::read_refutation))]
     fn read<'f>(

@@ -1,38 +1,21 @@
 //! The size rows of predicates, and their proofs.
 
 ghost use Rattle.std.specs.Prelude.{◌≡◌, ◌++◌, map, length, sum_by};
-ghost use Rattle.cert_structure.specs.Filling.{Fills};
+ghost use Rattle.fact_reading.specs.Filling.{Fills};
 ghost use Rattle.cert_structure.specs.Shape.{arity_in, rows_of, rows_of_atoms};
-ghost use Rattle.cert_structure.specs.Walk.{AgreesKept, named, read_each, row_read, take_row, read_rows, take_proof, read_proofs};
+ghost use Rattle.cert_structure.specs.Walk.{AgreesKept, named, row_read, take_row, read_rows, take_proof, read_proofs};
+ghost use Rattle.fact_reading.specs.Walk.{read_each};
 
 use crate::clauses::{body_at, head_at};
-use crate::kind::{Kind, Next, many};
 use crate::named::{Named, is_number};
-use crate::numbers::{are_entries, copied, is_entry, multipliers};
-use crate::reader::{Reader, each};
-use crate::stop::{FactFault, Stop};
+use crate::numbers::{multipliers, size_row};
 use certificate::Fact;
 use cti_terms::{Atom, Names, PredId, Program};
+use fact_reading::{FactFault, Kind, Next, Reader, Stop, each, many};
 use linear_rows::{Multipliers, Row, RowList, Rows};
 use sequences::Sequence;
 use std::alloc::Global;
 use termination_model::SizeRows;
-
-/// A row with a constant and a coefficient for each of `arity` arguments.
-fn size_row(alloc: Global, arity: u32, row: &[i128]) -> Result<Row, FactFault>
-    ensures { AgreesKept result (row_read arity row.now) }
-{
-    let Some((constant, coeffs)) = row.split_first() else {
-        return Err(FactFault::Shape);
-    };
-    if coeffs.len() != arity as usize || !is_entry(*constant) || !are_entries(coeffs) {
-        return Err(FactFault::Shape);
-    }
-    Ok(Row {
-        constant: *constant,
-        coeffs: copied(alloc, coeffs)?,
-    })
-}
 
 /// The facts of a predicate's size rows.
 #[derive(Drop)]
@@ -40,7 +23,7 @@ struct RowFact<'a> {
     pred: Named<'a>,
 }
 
-impl Kind for RowFact<'_> {
+impl Kind<Fact> for RowFact<'_> {
     type Item = Row;
 
     ghost takes = { λ r number fact. take_row (named r.pred) number fact };
@@ -64,7 +47,7 @@ pub(crate) struct PredRows<'a> {
     pub(crate) names: &'a Names,
 }
 
-impl Reader for PredRows<'_> {
+impl Reader<Fact> for PredRows<'_> {
     type Item = Rows;
 
     ghost reads = { λ r number facts. read_rows r.p.now r.names.now number facts };
@@ -106,7 +89,7 @@ pub(crate) fn rows_into<'f>(
 }
 
 /// How many size rows a predicate has.
-pub(crate) fn rows_of(rows: &SizeRows, pred: PredId) -> u64
+pub fn rows_of(rows: &SizeRows, pred: PredId) -> u64
     ensures { result ≡ rows_of rows.now pred.0 }
 {
     let place = pred.0 as usize;
@@ -124,7 +107,7 @@ struct ProofFact {
     rows: u128,
 }
 
-impl Kind for ProofFact {
+impl Kind<Fact> for ProofFact {
     type Item = Multipliers;
 
     ghost takes = { λ r number fact. take_proof r.clause r.rows number fact };
@@ -153,7 +136,7 @@ impl Kind for ProofFact {
 }
 
 /// How many rows the system of atoms has.
-fn rows_of_atoms(rows: &SizeRows, atoms: &[Atom]) -> u128
+pub fn rows_of_atoms(rows: &SizeRows, atoms: &[Atom]) -> u128
     ensures { result ≡ rows_of_atoms rows.now atoms.now }
 {
     let mut count = 0;
@@ -170,7 +153,7 @@ pub(crate) struct Proofs<'a> {
     pub(crate) rows: &'a SizeRows,
 }
 
-impl Reader for Proofs<'_> {
+impl Reader<Fact> for Proofs<'_> {
     type Item = Sequence<Multipliers>;
 
     ghost reads = { λ r number facts. read_proofs r.p.now r.rows.now number facts };

@@ -81,7 +81,8 @@ pub(crate) struct Pres<'a> {
 impl Writer for Pres<'_> {
     type Item = Sequence<Sequence<Cube>>;
 
-    ghost facts = { λ w a ms. facts_from 0 (λ m cs. lines_from 0 (pre_line (pred_text w.p.now w.names.now a) m) cs) ms };
+    ghost facts = { λ w a ms. facts_from 0 (λ m cs. lines_from 0 (pre_line
+        (pred_text w.p.now w.names.now a) m) cs) ms };
 
     fn write(
         &self,

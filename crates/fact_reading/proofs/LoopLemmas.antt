@@ -2,7 +2,7 @@
 use Rattle.std.proofs.Common.{◌≡◌, ℕ, suc, List, [], ◌∷◌, ◌++◌, length, Some, None, Result, Ok, Err, refl, ap, arith, append-nil, append_assoc, IsErr, IsErrAnd}
 use Rattle.std.proofs.lemmas.Bool.{false≢true}
 use Rattle.std.specs.Borrow.{Bor}
-use Rattle.fact_reading.specs.declared.stop.Reason.TheVariants as reason
+use Rattle.fact_reading.specs.declared.stop.StructureReason.TheVariants as reason
 use Rattle.fact_reading.specs.declared.stop.Stop.{Stop}
 use Rattle.fact_reading.specs.declared.stop.Stop.TheVariants as stop
 use Rattle.fact_reading.specs.Filling.{Fills}

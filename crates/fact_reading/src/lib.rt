@@ -11,4 +11,4 @@ mod stop;
 
 pub use kind::{Kind, Next, first_item, many};
 pub use reader::{Reader, each, each_into};
-pub use stop::{FactFault, Reason, Stop, wrong};
+pub use stop::{FactFault, Stop, StructureReason, wrong};

@@ -6,7 +6,7 @@ use Rattle.call_components.specs.Partition.{Partition}
 use Rattle.cert_structure.specs.Shape.{items_of, rows_of, rows_of_atoms, HaveMultipliers}
 use Rattle.cert_structure.proofs.LevelLemmas.{place_behind, front, one_longer, rows_more}
 use Rattle.cti_terms.specs.declared.atom_list.Atom.{Atom}
-use Rattle.fact_reading.specs.declared.stop.Reason.TheVariants as reason
+use Rattle.fact_reading.specs.declared.stop.StructureReason.TheVariants as reason
 use Rattle.fact_reading.specs.Numbered.{facts_from, lines_from, EachFrom}
 use Rattle.fact_reading.specs.Walk.{Read, result_map, wrong_at, with_first, read_many}
 use Rattle.fact_reading.proofs.SectionLemmas.{same_ok, err_ok, bound, mapped, all_both, all_from, all_weaker, many_sound, many_back, each_sound, each_back}

@@ -13,7 +13,7 @@ use Rattle.cti_terms.specs.declared.atom_list.Atom.{Atom}
 use Rattle.cti_terms.specs.Listing.{Listing, numbered}
 use Rattle.fact_reading.specs.declared.stop.FactFault.{FactFault}
 use Rattle.fact_reading.specs.declared.stop.FactFault.TheVariants as fault
-use Rattle.fact_reading.specs.declared.stop.Reason.TheVariants as reason
+use Rattle.fact_reading.specs.declared.stop.StructureReason.TheVariants as reason
 use Rattle.fact_reading.specs.Walk.{◌>>=◌, Read, Taken, result_map, wrong_at, with_first, read_each, read_next, read_many}
 use Rattle.linear_rows.specs.declared.multipliers.Multipliers.{Multipliers}
 use Rattle.linear_rows.specs.declared.point.Point.{Point}

@@ -14,7 +14,7 @@ use crate::named::is_number;
 use crate::numbers::multipliers;
 use crate::sizes::rows_of;
 use cti_terms::Atom;
-use fact_reading::{FactFault, Kind, Reader, Reason, Stop, each, many, wrong};
+use fact_reading::{FactFault, Kind, Reader, Stop, StructureReason, each, many, wrong};
 use linear_rows::Multipliers;
 use number_tests::LevelPart;
 use sequences::Sequence;
@@ -80,7 +80,8 @@ struct Places<'a> {
 impl Reader<LexFact> for Places<'_> {
     type Item = Sequence<Multipliers>;
 
-    ghost reads = { λ r list facts. read_place r.at.clause r.at.call r.at.rows list (length (items_of r.own.now list)) facts };
+    ghost reads = { λ r list facts. read_place r.at.clause r.at.call r.at.rows list (length
+        (items_of r.own.now list)) facts };
 
     #[tactic(auto, unfolding(crate::specs::Walk::read_place))]
     fn read<'f>(
@@ -96,7 +97,7 @@ impl Reader<LexFact> for Places<'_> {
         let (proofs, rest) = many(alloc, &kind, facts)?;
         let count = proofs.len() as u64;
         if count < 1 || count > count_of(self.own, number) {
-            return Err(wrong(rest, Reason::Extra));
+            return Err(wrong(rest, StructureReason::Extra));
         }
         Ok((proofs, rest))
     }
@@ -146,7 +147,8 @@ impl Drops<'_> {
         facts: &'f [LexFact],
     ) -> Result<(Sequence<Sequence<Sequence<Multipliers>>>, &'f [LexFact]), Stop>
         ensures { Agrees result
-            (read_calls self.now.calls.comps.now self.now.rows.now self.now.lists.now head clause 0 0 body.now facts.now) }
+            (read_calls self.now.calls.comps.now self.now.rows.now self.now.lists.now head clause 0 0
+            body.now facts.now) }
     {
         let mut proofs = Sequence::new(alloc);
         let mut rest = facts;

@@ -13,7 +13,7 @@ use crate::numbers::{are_amounts, copied, is_amount};
 use crate::pair::{Pair, vars};
 use cert_structure::Named;
 use cti_terms::Names;
-use fact_reading::{FactFault, Kind, Reader, Reason, Stop, first_item, wrong};
+use fact_reading::{FactFault, Kind, Reader, Stop, StructureReason, first_item, wrong};
 use linear_rows::Point;
 use number_tests::{LevelPart, PairPoint, Refutation};
 use sequences::Sequence;
@@ -172,7 +172,8 @@ impl StuckSets<'_> {
         pred: u64,
         facts: &'f [LexFact],
     ) -> Result<(Option<Refutation>, &'f [LexFact]), Stop>
-        ensures { Agrees result (read_set self.now.calls.p.now self.now.names.now self.now.calls.comps.now pred facts.now) }
+        ensures { Agrees result
+            (read_set self.now.calls.p.now self.now.names.now self.now.calls.comps.now pred facts.now) }
     {
         let Some((first, rest)) = facts.split_first() else {
             return Ok((None, facts));
@@ -186,7 +187,7 @@ impl StuckSets<'_> {
                 Ok((Some(Refutation { points }), rest))
             }
             Ok(None) => Ok((None, facts)),
-            Err(FactFault::Shape) => Err(wrong(facts, Reason::Shape)),
+            Err(FactFault::Shape) => Err(wrong(facts, StructureReason::Shape)),
             Err(FactFault::Memory) => Err(Stop::Memory),
         }
     }

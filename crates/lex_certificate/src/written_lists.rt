@@ -85,7 +85,8 @@ pub(crate) struct WrittenLists<'a> {
 impl Writer for WrittenLists<'_> {
     type Item = Sequence<Sequence<LevelPart>>;
 
-    ghost facts = { λ w a own. facts_from 0 (λ m ls. lines_from 0 (level_line (pred_text w.p.now w.names.now a) m) ls) own };
+    ghost facts = { λ w a own. facts_from 0 (λ m ls. lines_from 0 (level_line
+        (pred_text w.p.now w.names.now a) m) ls) own };
 
     fn write(
         &self,
@@ -170,7 +171,8 @@ impl Writer for DropsOf {
     type Item = Sequence<Sequence<Multipliers>>;
 
     ghost facts = { λ w j lists.
-        facts_from 0 (λ m ms. lines_from 0 (λ i x. lex.Drops w.clause (suc j) (suc m) (suc i) x.scale x.list) ms) lists };
+        facts_from 0 (λ m ms. lines_from 0 (λ i x. lex.Drops w.clause (suc j) (suc m)
+        (suc i) x.scale x.list) ms) lists };
 
     fn write(
         &self,
@@ -195,7 +197,8 @@ pub(crate) struct WrittenDrops {}
 impl Writer for WrittenDrops {
     type Item = Sequence<Sequence<Sequence<Multipliers>>>;
 
-    ghost facts = { λ w k calls. facts_from 0 (λ j lists. facts_from 0 (λ m ms. lines_from 0 (drops_line k j m) ms) lists) calls };
+    ghost facts = { λ w k calls. facts_from 0 (λ j lists. facts_from 0 (λ m ms. lines_from 0
+        (drops_line k j m) ms) lists) calls };
 
     fn write(
         &self,
@@ -275,7 +278,8 @@ pub(crate) struct WrittenPres<'a> {
 impl Writer for WrittenPres<'_> {
     type Item = Sequence<Sequence<Cube>>;
 
-    ghost facts = { λ w a ms. facts_from 0 (λ m cs. lines_from 0 (pre_line (pred_text w.p.now w.names.now a) m) cs) ms };
+    ghost facts = { λ w a ms. facts_from 0 (λ m cs. lines_from 0 (pre_line
+        (pred_text w.p.now w.names.now a) m) cs) ms };
 
     fn write(
         &self,

@@ -12,7 +12,7 @@ use Rattle.number_tests.proofs.CallFacts.{if_ok_more}
 use Rattle.cert_checker.specs.Refutes.{RefutedHaveNoMapping}
 use Rattle.cert_checker.proofs.NoMapping.{refuted_have_none}
 use Rattle.cert_checker.specs.StructureFaults.{HasStructureFault, structure_fault}
-use Rattle.cert_structure.specs.declared.fault.StructureReason.{StructureReason}
+use Rattle.fact_reading.specs.declared.stop.StructureReason.{StructureReason}
 use Rattle.cert_checker.proofs.StructureLaws.{same_fault}
 use Rattle.cert_checker.specs.Fault.{FactFails, IsFault, IsValueFault, wrong_structure}
 use Rattle.cert_checker.specs.Finding.{Finds}

@@ -1,5 +1,6 @@
 use Rattle.std.proofs.Common.{◌∙◌, sym, arith, ◌+◌, ◌-◌, length}
-use Rattle.cert_structure.proofs.LoopLemmas.{part_err, levels_end, levels_err, levels_more}
+use Rattle.cert_structure.proofs.LoopLemmas.{levels_end, levels_err, levels_more}
+use Rattle.fact_reading.proofs.LoopLemmas.{part_err}
 use Rattle.cert_structure.proofs.levels.levels.Goals as goal
 
 pub returns-in_err-items : goal.returns-in_err-items

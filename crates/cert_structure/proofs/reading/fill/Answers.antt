@@ -1,5 +1,5 @@
 use Rattle.std.proofs.Common.{◌∙◌, refl}
-use Rattle.cert_structure.proofs.LoopLemmas.{fills_err, fills_last}
+use Rattle.fact_reading.proofs.LoopLemmas.{fills_err, fills_last}
 use Rattle.cert_structure.proofs.PartsLemmas.{modes_err, rows_err, proofs_err, grounds_err, levels_err, falls_err, cubes_err, refutations_err, all_read}
 use Rattle.cert_structure.proofs.reading.fill.Goals as goal
 

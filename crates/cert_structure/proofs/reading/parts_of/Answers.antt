@@ -2,7 +2,7 @@ use Rattle.std.proofs.Common.{◌≡◌, ◌∙◌, ◌+◌, suc, length, Ok, re
 use Rattle.cert_structure.specs.declared.fault.PartsFault.TheVariants as fault
 use Rattle.cert_structure.specs.StructureFault.{IsStructureFault}
 use Rattle.cert_structure.specs.Walk.{read_whole}
-use Rattle.cert_structure.proofs.SectionLemmas.{same_ok, err_ok}
+use Rattle.fact_reading.proofs.SectionLemmas.{same_ok, err_ok}
 use Rattle.cert_structure.proofs.WholeLemmas.{whole_sound, whole_back}
 use Rattle.cert_structure.proofs.FaultLemmas.{read_fault, left_fits, one_fault, no_fault}
 use Rattle.cert_structure.proofs.reading.parts_of.Goals as goal

@@ -1,5 +1,6 @@
 use Rattle.std.proofs.Common.{◌∙◌, sym, arith, ◌+◌, ◌-◌}
-use Rattle.cert_structure.proofs.LoopLemmas.{part_err, points_end, points_err, points_more}
+use Rattle.cert_structure.proofs.LoopLemmas.{points_end, points_err, points_more}
+use Rattle.fact_reading.proofs.LoopLemmas.{part_err}
 use Rattle.cert_structure.proofs.refutations.points.Goals as goal
 
 pub returns-in_err-point : goal.returns-in_err-point

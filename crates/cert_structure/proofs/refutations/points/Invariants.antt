@@ -1,5 +1,6 @@
 use Rattle.std.proofs.Common.{◌≡◌, ◌-◌}
-use Rattle.cert_structure.specs.Walk.{read_points, with_all}
+use Rattle.cert_structure.specs.Walk.{read_points}
+use Rattle.fact_reading.specs.Walk.{with_all}
 use Rattle.cert_structure.proofs.refutations.points.Given as goal
 
 -- what is read in all is the points so far and what is read of the rest

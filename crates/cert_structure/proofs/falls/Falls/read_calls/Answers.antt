@@ -1,6 +1,7 @@
 use Rattle.std.proofs.Common.{◌∙◌, sym, ap, arith, add-one, ◌+◌}
 use Rattle.cert_structure.specs.Walk.{read_call}
-use Rattle.cert_structure.proofs.LoopLemmas.{length_more, part_err, calls_end, calls_err, calls_more}
+use Rattle.cert_structure.proofs.LoopLemmas.{calls_end, calls_err, calls_more}
+use Rattle.fact_reading.proofs.LoopLemmas.{length_more, part_err}
 use Rattle.cert_structure.proofs.falls.Falls.read_calls.Goals as goal
 
 pub returns-in_err-items : goal.returns-in_err-items

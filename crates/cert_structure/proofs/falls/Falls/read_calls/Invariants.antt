@@ -1,5 +1,6 @@
 use Rattle.std.proofs.Common.{◌≡◌, ◌≤◌, ◌*◌, drop, length}
-use Rattle.cert_structure.specs.Walk.{read_calls, with_all}
+use Rattle.cert_structure.specs.Walk.{read_calls}
+use Rattle.fact_reading.specs.Walk.{with_all}
 use Rattle.cert_structure.proofs.falls.Falls.read_calls.Given as goal
 
 -- what is read in all is the proofs so far and what is read of the rest; each atom has fewer than 2 to the power of 64 rows
