@@ -153,7 +153,8 @@ fn advance<'p>(
     ensures program { search.new.program.now ≡ search.old.program.now }
     ensures advanced { IfOk result (λ found. (given : List TheAnswer)
         → IsUnderWay search.old.program.now goal.now budget search.old totals.old.steps totals.old.longest given
-        → HasAdvanced search.old.program.now goal.now budget search.old totals.old.steps search.new totals.new given found) }
+        → HasAdvanced search.old.program.now goal.now budget search.old totals.old.steps search.new
+        totals.new given found) }
 {
     match search.attempt(chain)? {
         Attempt::Ended => {

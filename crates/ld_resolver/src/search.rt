@@ -179,7 +179,8 @@ impl<'p> Search<'p> {
     }
 
     /// Adds a choice where its atom has to be resolved: with the first clause that can match, or by itself where it is
-    /// built in and can succeed.
+    /// built in and can succeed. It is compiled into the loop of a run.
+    #[inline(always)]
     fn add(&mut self, chain: &ClauseChain, choice: Choice<'p>) -> Result<Entered, AllocError>
         requires search { IsSearch self.old }
         requires chain { IsChain self.old.program.now chain.now }

@@ -7,8 +7,8 @@ ghost use Rattle.cti_terms.specs.Resolve.{over, raised, head_equations};
 ghost use Rattle.unifier.specs.Store.{full, made};
 ghost use Rattle.unifier.specs.Heads.{IsIntegerTree};
 ghost use Rattle.unifier.specs.Raised.{raised_tree};
-ghost use Rattle.unifier.specs.Pending.{IsUnified, StaysBelow, Extends, KeepsFree};
-ghost use Rattle.unifier.specs.Below.{TermBelow, ArgumentsBelow, FreeFrom};
+ghost use Rattle.unifier.specs.Pending.{IsUnified, StaysBelow, Extends, KeepsFree, waiting_from};
+ghost use Rattle.unifier.specs.Below.{TermBelow, ArgumentsBelow, LeftBelow, FreeFrom};
 
 use crate::bindings::Bindings;
 use crate::equal_pairs::EqualPairs;
@@ -53,11 +53,12 @@ impl<'p> Stacks<'p> {
     }
 }
 
-/// Unifies two terms, by bindings that are added. Where it fails, some may have been added.
+/// Unifies two arguments of compound terms, by bindings that are added. Where it fails, some may have been added. Only where
+/// two compound terms meet are equations put on a stack.
 ///
 /// The left term has variables below the limit alone, and the limit goes up with the bindings.
 #[inline(always)]
-pub fn unify_terms<'p>(
+fn unify_parts<'p>(
     bindings: &mut Bindings<'p>,
     stacks: &mut Stacks<'p>,
     left: RaisedTerm<'p>,
@@ -114,9 +115,111 @@ pub fn unify_terms<'p>(
     }
 }
 
+/// Unifies the arguments of two compound terms, one pair after the other, so that most are never put on a stack.
+///
+/// The left arguments have variables below the limit alone, and the limit goes up with the bindings.
+#[inline(always)]
+fn unify_arguments<'p>(
+    bindings: &mut Bindings<'p>,
+    stacks: &mut Stacks<'p>,
+    left: Arguments<'p>,
+    right: Arguments<'p>,
+    limit: &mut usize,
+) -> Result<bool, AllocError>
+    requires { LeftBelow limit.old (waiting_from bindings.old left.base right.base left.args.now right.args.now 0) }
+    ensures unifier { IfOk result
+        (IsUnified (made bindings.old)
+        (waiting_from bindings.old left.entry.base right.entry.base left.entry.args.now right.entry.args.now 0)
+        (made bindings.new)) }
+    ensures limit { OnOk result (StaysBelow limit.old bindings.old limit.new bindings.new) }
+    ensures extended { OnOk result (Extends bindings.new bindings.old) }
+    ensures free { OnOk result
+        (KeepsFree
+        (waiting_from bindings.old left.entry.base right.entry.base left.entry.args.now right.entry.args.now 0)
+        bindings.old bindings.new) }
+{
+    let count = left.args.len().min(right.args.len());
+    let mut i = 0;
+    while i < count {
+        let l = RaisedTerm {
+            term: &left.args[i],
+            base: left.base,
+        };
+        let r = RaisedTerm {
+            term: &right.args[i],
+            base: right.base,
+        };
+        if !unify_parts(bindings, stacks, l, r, limit)? {
+            return Ok(false);
+        }
+        i += 1;
+    }
+    Ok(true)
+}
+
+/// Unifies two terms, by bindings that are added. Where it fails, some may have been added.
+///
+/// The left term has variables below the limit alone, and the limit goes up with the bindings.
+#[inline(always)]
+fn unify_terms<'p>(
+    bindings: &mut Bindings<'p>,
+    stacks: &mut Stacks<'p>,
+    left: RaisedTerm<'p>,
+    right: RaisedTerm<'p>,
+    limit: &mut usize,
+) -> Result<bool, AllocError>
+    requires { TermBelow limit.old (full bindings.old (raised_tree left)) }
+    ensures unifier { IfOk result
+        (IsUnified (made bindings.old)
+        ((
+          full bindings.old (raised_tree left.entry),
+          full bindings.old
+              (raised_tree right.entry),
+        ) ∷ []) (made bindings.new)) }
+    ensures limit { OnOk result (StaysBelow limit.old bindings.old limit.new bindings.new) }
+    ensures extended { OnOk result (Extends bindings.new bindings.old) }
+    ensures free { OnOk result
+        (KeepsFree ((
+          full bindings.old (raised_tree left.entry),
+          full bindings.old
+              (raised_tree right.entry),
+        ) ∷ []) bindings.old bindings.new) }
+{
+    let l = bindings.met(left);
+    let r = bindings.met(right);
+    match step(
+        bindings,
+        l,
+        r,
+        *limit,
+        &mut stacks.arguments,
+        &mut stacks.visited,
+    )? {
+        Found::Nothing => Ok(true),
+        Found::Binds(x, term, above) => {
+            *limit = (*limit).max(above);
+            bindings.bind(x, term)?;
+            Ok(true)
+        }
+        Found::Arguments(ts, us) => {
+            let left = Arguments {
+                args: ts,
+                base: l.term.base,
+            };
+            let right = Arguments {
+                args: us,
+                base: r.term.base,
+            };
+            let solved = unify_arguments(bindings, stacks, left, right, limit)?;
+            Ok(solved)
+        }
+        Found::Clash => Ok(false),
+    }
+}
+
 /// Unifies a term, which has variables below the limit alone, with an integer, by a binding that is added if one is needed.
 ///
-/// No equations of arguments come up. So `solve` is called from `unify_head` alone, and compiled into it.
+/// No equations of arguments come up. So `solve` is called from `unify_parts` alone.
 pub fn unify_integer<'p>(
     bindings: &mut Bindings<'p>,
     stacks: &mut Stacks<'p>,
@@ -162,7 +265,8 @@ pub fn unify_integer<'p>(
 }
 
 /// Unifies an atom, whose variables are raised by its base, with the head of a clause, whose variables are raised by a goal's
-/// counter. Only where two compound terms meet are equations put on a stack, and they are solved before the next argument.
+/// counter. Arguments of compound terms are unified one after the other too. Only where two compound terms meet among these
+/// are equations put on a stack, and they are solved before the next argument.
 pub fn unify_head<'p>(
     bindings: &mut Bindings<'p>,
     stacks: &mut Stacks<'p>,

@@ -9,6 +9,9 @@ use crate::slot::Slot;
 use std::alloc::{AllocError, Global};
 use std::marker::Model;
 
+/// How many slots are made beyond those that are needed, so that few steps of a run make any.
+const SPARE: usize = 64;
+
 /// The terms of bound variables. Contracts see a list that has the tree of each bound variable, and nothing for each other one.
 #[derive(Drop)]
 pub struct Slots<'p> {
@@ -39,13 +42,26 @@ impl<'p> Slots<'p> {
         }
     }
 
+    /// Makes slots for the variables below this number, which are more than there are, and some to spare. Most bindings need
+    /// none, so it is not compiled into them.
+    #[inline(never)]
+    fn grow(&mut self, count: usize) -> Result<(), AllocError>
+        requires { length self.old ≤ count }
+        ensures room { OnOk result (count ≤ length self.new) }
+        ensures same { (x : ℕ) → slot self.new x ≡ slot self.old x }
+    {
+        self.items.resize(count.saturating_add(SPARE), Slot::Free)?;
+        Ok(())
+    }
+
     /// Makes slots for the variables below this number.
+    #[inline(always)]
     pub fn reserve(&mut self, count: usize) -> Result<(), AllocError>
         ensures room { OnOk result (count ≤ length self.new) }
         ensures same { (x : ℕ) → slot self.new x ≡ slot self.old x }
     {
         if count > self.items.len() {
-            self.items.resize(count, Slot::Free)?;
+            return self.grow(count);
         }
         Ok(())
     }

@@ -1,29 +1,32 @@
-use Rattle.std.proofs.Common.{List, [], ◌∷◌, ◌++◌, true, append-nil, ap, sym, ◌∙◌, subst, arith}
+use Rattle.std.proofs.Common.{List, [], ◌∷◌, true, append-nil, ap, sym, ◌∙◌, subst, arith}
+use Rattle.cti_terms.specs.Tree.{all_instances}
+use Rattle.cti_terms.specs.Spell.{trees_of}
 use Rattle.cti_terms.specs.Unify.{Equation, Dropped, Bound, Split, pairs}
 use Rattle.cti_terms.specs.UnifyFunction.{unify}
-use Rattle.unifier.specs.declared.raised_term.RaisedTerm.{RaisedTerm}
-use Rattle.unifier.specs.Raised.{raised_tree}
+use Rattle.unifier.specs.Raised.{raise, raised_tree}
 use Rattle.unifier.specs.Store.{full, made}
 use Rattle.unifier.specs.Below.{TermBelow, LeftBelow}
-use Rattle.unifier.specs.Pending.{waiting, args_full, step_of, IsFit, IsUnified, StaysBelow, KeepsFree}
-use Rattle.unifier.proofs.BelowLaws.{left_append, left_split}
-use Rattle.unifier.proofs.PendingLaws.{waiting_pushed}
+use Rattle.unifier.specs.Pending.{waiting_from, args_full, step_of, IsFit, IsUnified, StaysBelow, KeepsFree}
+use Rattle.unifier.proofs.BelowLaws.{left_split}
+use Rattle.unifier.proofs.PendingLaws.{under_bindings-pairs}
 use Rattle.unifier.proofs.UnifySteps.{unify_step}
 use Rattle.unifier.proofs.HeadSteps.{bound_below, split_free, unified_same}
 use Rattle.unifier.proofs.heads.unify_terms.Goals as goal
 
-pub solve-requires : goal.solve-requires
-solve-requires c =
+pub unify_arguments-requires : goal.unify_arguments-requires
+unify_arguments-requires c =
     let s = c.args.bindings.now in
     let l = c.met-l.result in
     let r = c.met-r.result in
     let t = full s (raised_tree l.term) in
     let u = full s (raised_tree r.term) in
-    let qs = pairs (args_full s l.term.base c.in-Arguments.ts.now) (args_full s r.term.base c.in-Arguments.us.now) in
+    let ts = c.in-Arguments.ts.now in
+    let us = c.in-Arguments.us.now in
+    let qs = pairs (args_full s l.term.base ts) (args_full s r.term.base us) in
     let h = sym c.in_ok-step.ensures.step ∙ ap (step_of s l.term.base r.term.base) c.in-Arguments.is in
-    let waits = waiting_pushed s l.term.base r.term.base c.in-Arguments.ts.now c.in-Arguments.us.now c.push_equations.new.stack.items c.clear.new.self.items c.in_ok-push_equations-in-Arguments.ensures ∙ ap (λ (ps : List (RaisedTerm × RaisedTerm)). qs ++ waiting s ps) c.clear.ensures.items in
+    let waits = under_bindings-pairs s (all_instances (raise l.term.base) (trees_of ts)) (all_instances (raise r.term.base) (trees_of us)) in
     let below = subst (TermBelow c.args.limit.now) (sym c.met-l.ensures.same) c.requires in
-    subst (LeftBelow c.args.limit.now) (sym waits) (left_append c.args.limit.now qs [] (left_split c.args.limit.now t u qs h below) tt)
+    subst (LeftBelow c.args.limit.now) (sym waits) (left_split c.args.limit.now t u qs h below)
 
 pub returns-in-Nothing-clause-unifier : goal.returns-in-Nothing-clause-unifier
 returns-in-Nothing-clause-unifier c =
@@ -68,12 +71,14 @@ returns-in_ok-solved-in-Arguments-clause-unifier c =
     let r = c.met-r.result in
     let t = full s (raised_tree l.term) in
     let u = full s (raised_tree r.term) in
-    let stack = c.push_equations.new.stack.items in
-    let qs = pairs (args_full s l.term.base c.in-Arguments.ts.now) (args_full s r.term.base c.in-Arguments.us.now) in
+    let ts = c.in-Arguments.ts.now in
+    let us = c.in-Arguments.us.now in
+    let new = c.unify_arguments.new.bindings in
+    let qs = pairs (args_full s l.term.base ts) (args_full s r.term.base us) in
     let h = sym c.in_ok-step.ensures.step ∙ ap (step_of s l.term.base r.term.base) c.in-Arguments.is in
-    let waits = waiting_pushed s l.term.base r.term.base c.in-Arguments.ts.now c.in-Arguments.us.now stack c.clear.new.self.items c.in_ok-push_equations-in-Arguments.ensures ∙ ap (λ (ps : List (RaisedTerm × RaisedTerm)). qs ++ waiting s ps) c.clear.ensures.items in
-    subst (λ (e : Equation). IsUnified (made s) (e ∷ []) (made c.solve.new.bindings) c.in_ok-solved-in-Arguments.solved) (λ i. (c.met-l.ensures.same i, c.met-r.ensures.same i))
-    (unified_same (made s) (made c.solve.new.bindings) (waiting s stack) ((t, u) ∷ []) c.in_ok-solved-in-Arguments.solved (unify_step t u [] (Split qs) h ∙ ap unify (sym waits)) c.in_ok-solved-in-Arguments.ensures.unifier)
+    let waits = under_bindings-pairs s (all_instances (raise l.term.base) (trees_of ts)) (all_instances (raise r.term.base) (trees_of us)) ∙ sym (append-nil qs) in
+    subst (λ (e : Equation). IsUnified (made s) (e ∷ []) (made new) c.in_ok-solved-in-Arguments.solved) (λ i. (c.met-l.ensures.same i, c.met-r.ensures.same i))
+    (unified_same (made s) (made new) (waiting_from s l.term.base r.term.base ts us 0) ((t, u) ∷ []) c.in_ok-solved-in-Arguments.solved (unify_step t u [] (Split qs) h ∙ ap unify (sym waits)) c.in_ok-solved-in-Arguments.ensures.unifier)
 
 pub returns-in_ok-solved-in-Arguments-clause-free : goal.returns-in_ok-solved-in-Arguments-clause-free
 returns-in_ok-solved-in-Arguments-clause-free c =
@@ -82,9 +87,11 @@ returns-in_ok-solved-in-Arguments-clause-free c =
     let r = c.met-r.result in
     let t = full s (raised_tree l.term) in
     let u = full s (raised_tree r.term) in
-    let stack = c.push_equations.new.stack.items in
-    let qs = pairs (args_full s l.term.base c.in-Arguments.ts.now) (args_full s r.term.base c.in-Arguments.us.now) in
+    let ts = c.in-Arguments.ts.now in
+    let us = c.in-Arguments.us.now in
+    let new = c.unify_arguments.new.bindings in
+    let qs = pairs (args_full s l.term.base ts) (args_full s r.term.base us) in
     let h = sym c.in_ok-step.ensures.step ∙ ap (step_of s l.term.base r.term.base) c.in-Arguments.is in
-    let waits = waiting_pushed s l.term.base r.term.base c.in-Arguments.ts.now c.in-Arguments.us.now stack c.clear.new.self.items c.in_ok-push_equations-in-Arguments.ensures ∙ ap (λ (ps : List (RaisedTerm × RaisedTerm)). qs ++ waiting s ps) c.clear.ensures.items in
-    subst (λ (e : Equation). KeepsFree (e ∷ []) s c.solve.new.bindings) (λ i. (c.met-l.ensures.same i, c.met-r.ensures.same i))
-    (split_free s c.solve.new.bindings t u qs h (subst (λ (es : List Equation). KeepsFree es s c.solve.new.bindings) waits c.in_ok-solved-in-Arguments.ensures.free))
+    let waits = under_bindings-pairs s (all_instances (raise l.term.base) (trees_of ts)) (all_instances (raise r.term.base) (trees_of us)) ∙ sym (append-nil qs) in
+    subst (λ (e : Equation). KeepsFree (e ∷ []) s new) (λ i. (c.met-l.ensures.same i, c.met-r.ensures.same i))
+    (split_free s new t u qs h (subst (λ (es : List Equation). KeepsFree es s new) waits c.in_ok-solved-in-Arguments.ensures.free))
