@@ -18,3 +18,4 @@ pub mod GeneratedLemmas
 pub mod OneSession
 pub mod OneCertificate
 pub mod RefusedLemmas
+pub mod UnfailedLemmas

@@ -1,5 +1,5 @@
 -- A text that is refused is answered by its refusal, and so is a query.
-use Rattle.std.proofs.Common.{◌≡◌, ◌⊎◌, ℕ, List, Some, inl, inr, refl, ap, sym, ◌∙◌, subst}
+use Rattle.std.proofs.Common.{◌≡◌, ℕ, List, Some, inl, inr, refl, ap, sym, ◌∙◌, subst}
 use Rattle.std.proofs.lemmas.Option.{none-some}
 use Rattle.outside.specs.Told.{Map}
 use Rattle.cti_top.specs.Words.{Ask, infer, check, run, gen, lex, loop, session, Origin, file, origin, query_of, asks}
@@ -10,9 +10,9 @@ use Rattle.cti_terms.specs.Listing.{Listing}
 use Rattle.cti_terms.specs.declared.derivation.Goal.{Goal}
 use Rattle.cti_top.specs.Queries.{Known, IsQueryOf}
 use Rattle.cti_top.specs.Runs.{IsKnown, IsRefusedQuery}
-use Rattle.cti_top.specs.Outcome.{TellsText, CertificateRose, FileRose, OriginRose, HasText, IsAnswer, IsRefusedOrMemory, usage, inferred, lexed, summed, ran, looped, played, checked, program_too_long, program_refused, query_refused, certificate_too_long, certificate_refused}
+use Rattle.cti_top.specs.Outcome.{TellsText, CertificateRose, FileRose, OriginRose, HasText, IsAnswer, usage, inferred, lexed, summed, ran, looped, played, checked, program_too_long, program_refused, query_refused, certificate_too_long, certificate_refused}
 use Rattle.cti_top.specs.declared.status.Status.{Status}
-use Rattle.cti_top.specs.declared.status.Status.TheVariants.{FileFault, Memory, Refused}
+use Rattle.cti_top.specs.declared.status.Status.TheVariants.{Refused}
 use Rattle.cti_top.proofs.OneAnswer.{none_refused, no_query_refused}
 use Rattle.cti_top.proofs.OneSession.{told_or_refused}
 use Rattle.cti_top.proofs.OutcomeLemmas.{same_text, one_ask, one_text, one_query, no_query}
@@ -40,20 +40,12 @@ module _ (told : Map) (words : List (List ℕ)) where
   no_certificate_rose ask (loop f q d) bytes b kind at known before after asked a has t r is rose = rose
   no_certificate_rose ask (session f) bytes b kind at known before after asked a has t r is rose = rose
 
-  -- nor any other, but that of the program's
-  none_rose : (ask k : Ask) (bytes : List ℕ) (kind at : ℕ) (before after : List ℕ → ℕ) → asks words ≡ Some ask → HasText told (origin ask) bytes
-      → IsRefusedFor ask bytes kind at → (OriginRose (origin ask) before after → ⊥) → asks words ≡ Some k → FileRose told k before after → ⊥
-  none_rose ask k bytes kind at before after asked has r calm a (inl rose) =
-      calm (subst (λ (o : Origin). OriginRose o before after) (ap origin (one_ask words k ask a asked)) rose)
-  none_rose ask k bytes kind at before after asked has r calm a (inr (b, known, tells, is, rose)) =
-      no_certificate_rose ask k bytes b kind at known before after asked a has tells (refused_as ask k bytes kind at asked a r) is rose
-
-  pub refused_or_memory : (status : Status) (ask : Ask) (bytes : List ℕ) (kind at : ℕ) (before after : List ℕ → ℕ) → asks words ≡ Some ask → HasText told (origin ask) bytes
-      → IsRefusedFor ask bytes kind at → (OriginRose (origin ask) before after → ⊥) → (status ≡ FileFault → (k : Ask) × (asks words ≡ Some k) × FileRose told k before after)
-      → (status ≡ FileFault) ⊎ (status ≡ Memory) → IsRefusedOrMemory status
-  refused_or_memory status ask bytes kind at before after asked has r calm fault (inl e) =
-      absurd (none_rose ask (fault e).0 bytes kind at before after asked has r calm (fault e).1 (fault e).2)
-  refused_or_memory status ask bytes kind at before after asked has r calm fault (inr e) = inr e
+  -- so that a fault is one of the program's file
+  pub unloaded : (ask : Ask) (bytes : List ℕ) (kind at : ℕ) (before after : List ℕ → ℕ) → asks words ≡ Some ask → HasText told (origin ask) bytes
+      → IsRefusedFor ask bytes kind at → FileRose told ask before after → OriginRose (origin ask) before after
+  unloaded ask bytes kind at before after asked has r (inl rose) = rose
+  unloaded ask bytes kind at before after asked has r (inr (b, known, tells, is, rose)) =
+      absurd (no_certificate_rose ask ask bytes b kind at known before after asked asked has tells r is rose)
 
 module _ (told : Map) (words : List (List ℕ)) (status : Status) (text : List ℕ) where
   pub refused_answer : (ask : Ask) (bytes : List ℕ) (kind at : ℕ) → IsAnswer told words status text → asks words ≡ Some ask → HasText told (origin ask) bytes

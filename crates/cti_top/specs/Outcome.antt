@@ -2,7 +2,7 @@
 -- What each status of the top call says.
 --
 -- To believe: all of this file.
-use Rattle.std.specs.Prelude.{ℕ, ◌≡◌, ◌⊎◌, List, Option, Some, None}
+use Rattle.std.specs.Prelude.{ℕ, ◌≡◌, ◌≢◌, ◌⊎◌, List, Option, Some, None}
 use Rattle.outside.specs.Told.{Map, TellsAt, TellsMore, Takes, TakesPart}
 use Rattle.cti_top.specs.Words.{Ask, infer, check, run, gen, lex, loop, session, Origin, file, generated, origin, query_of, asks, usage_lines}
 use Rattle.cti_top.specs.Places.{line_of, column_of}
@@ -74,6 +74,14 @@ Outcome told words before after OutFault = (status : Status) × (text : List ℕ
 Outcome told words before after FileFault = after ≡ before
 Outcome told words before after Memory = after ≡ before
 Outcome told words before after status = (text : List ℕ) × IsAnswer told words status text × Takes before text after
+
+-- a call in which no load and no write failed
+pub record IsUnfailed (told : Map) (words : List (List ℕ)) (status : Status) : Type 0 where
+  pub before : Option (List ℕ)
+  pub after : Option (List ℕ)
+  pub outcome : Outcome told words before after status
+  pub loaded : status ≢ FileFault
+  pub written : status ≢ OutFault
 
 -- the map is visible, and has these bytes at the name
 abbrev pub HasFile : Map → List ℕ → List ℕ → Type 0

@@ -38,7 +38,8 @@ fn status_of(verdict: Verdict) -> Status
 fn checked(alloc: Global, source: &Source, certificate: &Certificate) -> Result<Answer, AllocError>
     requires known { AllByRecursion
         (λ (q : ThePred). q.name.0 < length source.now.names) source.now.program.preds }
-    ensures { IfOk result (λ a. IsVerdictOn source.now.program source.now.names certificate.now.facts a.status a.text.items) }
+    ensures { IfOk result
+        (λ a. IsVerdictOn source.now.program source.now.names certificate.now.facts a.status a.text.items) }
 {
     let verdict = check(alloc, &source.program, &source.names, certificate)?;
     Ok(Answer {

@@ -122,7 +122,8 @@ fn first_commands<'a>(alloc: Global) -> Result<Command<'a>, AllocError>
 /// The command line of `infer`, `check`, `run` and `gen`.
 fn more_commands<'a>(alloc: Global) -> Result<Command<'a>, AllocError>
     ensures { IfOk result (IsCommandLine (with_subcommand (with_subcommand
-        (with_subcommand (with_subcommand top_command infer_command.top) check_command.top) run_command.top) gen_command.top)) }
+        (with_subcommand
+        (with_subcommand top_command infer_command.top) check_command.top) run_command.top) gen_command.top)) }
 {
     let command = with_command(first_commands(alloc)?, run(alloc)?)?;
     with_command(command, generate(alloc)?)

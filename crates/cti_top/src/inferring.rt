@@ -10,7 +10,7 @@ ghost use Rattle.cti_top.specs.Programs.{IsProgramOf};
 use crate::answer::Answer;
 use crate::source::Source;
 use crate::status::Status;
-use report::infer;
+use report::infer_text;
 use std::alloc::{AllocError, Global};
 use term_size::NormName;
 
@@ -22,9 +22,8 @@ pub fn infer_of(alloc: Global, source: &Source, norm: NormName) -> Result<Answer
         × ((bytes : List ℕ) → IsProgramOf bytes source.now.names source.now.program
         (table_of source.now.ops) → IsInferred norm bytes a.text.items)) }
 {
-    let certificate = infer(alloc, &source.program, &source.names, norm)?;
     Ok(Answer {
         status: Status::Done,
-        text: certificate.print(alloc)?,
+        text: infer_text(alloc, &source.program, &source.names, norm)?,
     })
 }

@@ -2,6 +2,7 @@
 #![tactic(auto)]
 
 mod answer;
+pub mod answered_laws;
 mod answering;
 mod checking;
 mod command_line;

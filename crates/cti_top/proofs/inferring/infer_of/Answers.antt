@@ -5,18 +5,18 @@ use Rattle.cti_top.proofs.inferring.infer_of.Goals as goal
 pub returns : goal.returns
 returns c =
     let s = c.args.source.now in
-    let certificate = c.in_ok-certificate in (
+    let text = c.in_ok-infer_text.ensures in (
       refl,
       λ bytes is. record {
         names = s.names;
         program = s.program;
         table = table_of s.ops;
         is = is;
-        facts = certificate.certificate.facts;
-        printed = c.in_ok-print.ensures;
-        of_norm = certificate.ensures.norm;
-        valid = certificate.ensures.valid;
-        exact = certificate.ensures.exact;
-        bounded = certificate.ensures.bounded;
+        facts = text.facts;
+        printed = text.printed;
+        of_norm = text.of_norm;
+        valid = text.valid;
+        exact = text.exact;
+        bounded = text.bounded;
       },
     )

@@ -1,0 +1,14 @@
+use Rattle.cti_top.proofs.RefusedLemmas.{unloaded}
+use Rattle.cti_top.proofs.UnfailedLemmas.{answered, refusal_answered, query_refusal_answered}
+use Rattle.cti_top.proofs.answered_laws.refusals_are_answered.Goals as goal
+
+pub returns-clause-text : goal.returns-clause-text
+returns-clause-text c told words status u ask bytes kind at asked has refused =
+    refusal_answered told words status ask bytes kind at asked has refused (answered told words status u)
+
+pub returns-clause-query : goal.returns-clause-query
+returns-clause-query c told words status u ask query bytes kind at asked with_query has refused =
+    query_refusal_answered told words status ask bytes kind at query asked with_query has refused (answered told words status u)
+
+pub returns-clause-unloaded : goal.returns-clause-unloaded
+returns-clause-unloaded c told words ask bytes kind at before after asked has refused rose = unloaded told words ask bytes kind at before after asked has refused rose
