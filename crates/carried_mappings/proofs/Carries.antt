@@ -20,7 +20,7 @@ use Rattle.level_systems.specs.declared.found.Found.{Found}
 use Rattle.level_systems.specs.declared.mapping.Mapping.{Mapping}
 use Rattle.level_systems.specs.declared.measure.Measure.{Measure}
 use Rattle.level_systems.specs.declared.position.Position.{Position}
-use Rattle.carried_mappings.specs.Carrying.{AreOwn, CarriesOver, HasParts, IsStanding, new_number}
+use Rattle.carried_mappings.specs.Carrying.{AreClauseNumbers, CarriesOver, HasParts, IsStanding, new_number}
 use Rattle.carried_mappings.specs.Moved.{moved_found, moved_mapping}
 use Rattle.carried_mappings.specs.Order.{AreSameMappings, HaveSameMembers, HaveSameOrder}
 use Rattle.carried_mappings.specs.Reordered.{AreOldNumbers, ArePlaces, HasOldNumber, HasPlace, reordered_found}
@@ -48,10 +48,10 @@ numbers_are clauses (k ∷ own) h =
     let at = there clauses (k - 1) none (omega arith) in
     ap (λ (o : Option Clause). numbers_of (paired k o ++ with_clauses clauses own)) at ∙ ap (λ (z : List ℕ). k ∷ z) (numbers_are clauses own h.1)
 
-pub own_numbers : (p : Listing) (comps : Partition) (c : ℕ) (own : List ℕ) → AreOwn p comps c own → own ≡ numbers_of (clauses_of p comps c)
+pub own_numbers : (p : Listing) (comps : Partition) (c : ℕ) (own : List ℕ) → AreClauseNumbers p comps c own → own ≡ numbers_of (clauses_of p comps c)
 own_numbers p comps c own are = sym (numbers_are p.clauses own are.within) ∙ ap numbers_of are.clauses
 
-pub own_rises : (p : Listing) (comps : Partition) (c : ℕ) (own : List ℕ) → AreOwn p comps c own → Rises 1 own
+pub own_rises : (p : Listing) (comps : Partition) (c : ℕ) (own : List ℕ) → AreClauseNumbers p comps c own → Rises 1 own
 own_rises p comps c own are = subst (Rises 1) (sym (own_numbers p comps c own are)) (rises_counted (λ (k : Numbered). is_number c (component_of comps k.1.head.pred.0)) 1 p.clauses)
 
 module _ (s : Standing) (is : IsStanding s) (prog : IsProgram s.edit.now.before.now) (new_prog : IsProgram s.edit.now.after.now) where

@@ -22,7 +22,7 @@ use Rattle.solved_program.specs.Kept.{AreKept}
 use Rattle.solved_program.specs.declared.edit.Edit.{Edit}
 use Rattle.solved_program.proofs.Pairs.{pair_back}
 use Rattle.solved_program.proofs.Clauses.{own_at, own_component}
-use Rattle.carried_mappings.specs.Carrying.{AreOwn, CarriesOver, IsStanding, new_number}
+use Rattle.carried_mappings.specs.Carrying.{AreClauseNumbers, CarriesOver, IsStanding, new_number}
 use Rattle.carried_mappings.specs.Moved.{moved, moved_found}
 use Rattle.carried_mappings.specs.Order.{AreSameMappings, HaveSameMembers, HaveSameOrder}
 use Rattle.carried_mappings.specs.FoundMappings.{AreFound, AreFoundTo, AreKeptFound, AreMappingSources, IsCarriedAt, IsFoundAt, IsKept, IsKeptFrom, nothing, number_in}
@@ -32,7 +32,7 @@ use Rattle.carried_mappings.proofs.Carries.{own_numbers}
 use Rattle.carried_mappings.proofs.Members.{recursive_alike, same_members}
 use Rattle.carried_mappings.proofs.Numbers.{Numbered, numbers_of}
 
-pub own_of : (p : Listing) (comps : Partition) (lists : List (List ℕ)) → AreOwnClauses p comps lists → (c : ℕ) (own : List ℕ) → slice_get lists c ≡ Some own → AreOwn p comps c own
+pub own_of : (p : Listing) (comps : Partition) (lists : List (List ℕ)) → AreOwnClauses p comps lists → (c : ℕ) (own : List ℕ) → slice_get lists c ≡ Some own → AreClauseNumbers p comps c own
 own_of p comps lists are c own at = record { within = are.within c own at; clauses = are.clauses c own at }
 
 pub if_some_is : {X : Type 0} (o : Option X) (P Q : X → Type 0) → ((x : X) → P x → Q x) → IfSome o P → IfSome o Q

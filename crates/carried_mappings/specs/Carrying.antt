@@ -21,7 +21,7 @@ use Rattle.carried_mappings.specs.Moved.{moved}
 use Rattle.carried_mappings.specs.declared.standing.Standing.{Standing}
 
 -- the numbers of a component's clauses, in order
-pub record AreOwn (p : Listing) (comps : Partition) (c : ℕ) (own : List ℕ) : Type 0 where
+pub record AreClauseNumbers (p : Listing) (comps : Partition) (c : ℕ) (own : List ℕ) : Type 0 where
   pub within : AllByRecursion (λ k. (1 ≤ k) × (k ≤ length p.clauses)) own
   pub clauses : with_clauses p.clauses own ≡ clauses_of p comps c
 
@@ -30,8 +30,8 @@ pub record IsStanding (s : Standing) : Type 0 where
   pub edit : IsEdit s.edit.now
   pub before : s.before < length s.edit.now.components_before.now.members
   pub after : s.after < length s.edit.now.components.now.members
-  pub own_before : AreOwn s.edit.now.before.now s.edit.now.components_before.now s.before s.own_before.now
-  pub own : AreOwn s.edit.now.after.now s.edit.now.components.now s.after s.own.now
+  pub own_before : AreClauseNumbers s.edit.now.before.now s.edit.now.components_before.now s.before s.own_before.now
+  pub own : AreClauseNumbers s.edit.now.after.now s.edit.now.components.now s.after s.own.now
   pub each : length s.own_before.now ≡ length s.own.now
 
 -- the number that a clause has now

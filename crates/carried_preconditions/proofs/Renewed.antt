@@ -28,7 +28,7 @@ use Rattle.solved_program.proofs.MemberMarks.{marked_more}
 use Rattle.solved_program.proofs.Stands.{stands_same}
 use Rattle.solved_program.proofs.StandsIn.{IsShared, f, stand_in}
 use Rattle.carried_preconditions.specs.Carries.{KeepOwn}
-use Rattle.carried_preconditions.specs.Resolving.{AreOld, AreSolvedTo, AreSources, HasStayed, HaveStayed, StandsKept, values_before, values_now}
+use Rattle.carried_preconditions.specs.Resolving.{AreOld, AreSolvedTo, AreSources, HasStayed, MembersHaveStayed, StandsKept, values_before, values_now}
 use Rattle.carried_preconditions.specs.Same.{input_values}
 use Rattle.carried_preconditions.specs.Solved.{KeepSetsTo}
 use Rattle.carried_preconditions.specs.declared.sources.PreconditionSources.{PreconditionSources}
@@ -117,7 +117,7 @@ module _ {N : Type 0} (truth : (ℕ → Bool) → Tree → Bool) (s : Preconditi
       λ j. (g j, a j)
 
   -- ---- taken over
-  own_kept : HaveStayed s T c → KeepOwn e c I0 I
+  own_kept : MembersHaveStayed s T c → KeepOwn e c I0 I
   own_kept h q r x here there i = same_here e I0 I prog r (h r i) q x here there
 
   pub taken_over : StandsKept s T marks c → AreSolvedTo truth s (c + 1) T sets allowed
@@ -147,7 +147,7 @@ module _ {N : Type 0} (truth : (ℕ → Bool) → Tree → Bool) (s : Preconditi
           (O.greatest k.component (stands_below p new comps new_comps prog is.components_before e.kept.now k.component c V0 V by_value))
 
   -- ---- each member was there
-  were_there : (b : ℕ) → StandsFor comps new_comps b c V0 V p new e.kept.now → KeepOwn e c I0 I → HaveStayed s T c
+  were_there : (b : ℕ) → StandsFor comps new_comps b c V0 V p new e.kept.now → KeepOwn e c I0 I → MembersHaveStayed s T c
   were_there b h own r i =
       let members = values_kept own in
       let standing : StandIn (IsShared p new comps new_comps prog new_prog is.components_before is.components e.kept.now is.kept b c V0 V h members) (f p new comps new_comps prog new_prog is.components_before is.components e.kept.now is.kept b c V0 V h members) p new (is_member comps b) (is_member new_comps c)

@@ -47,8 +47,8 @@ module _ {N : Type 0} (s : PreconditionSources N) (trees : List Rows) where
   HasStayed allowed = IsSameAs s.clauses.now.edit.now values_before (values_now allowed)
 
   -- each member of a component has the ground rows and the coefficients that it had
-  abbrev pub HaveStayed : ℕ → Type 0
-  HaveStayed c = (r : ℕ) → IsIn s.clauses.now.edit.now.components.now c r → IsSameAs s.clauses.now.edit.now
+  abbrev pub MembersHaveStayed : ℕ → Type 0
+  MembersHaveStayed c = (r : ℕ) → IsIn s.clauses.now.edit.now.components.now c r → IsSameAs s.clauses.now.edit.now
       (input_values s.clauses.now.edit.now.before.now.preds trees s.before.now.inputs)
       (input_values s.clauses.now.edit.now.after.now.preds trees s.inputs.now) r
 
@@ -56,7 +56,7 @@ module _ {N : Type 0} (s : PreconditionSources N) (trees : List Rows) where
   pub record StandsKept (stayed : List Bool) (c : ℕ) : Type 0 where
     pub component : ℕ
     pub stands : StandsMarked s.clauses.now.edit.now stayed component c
-    pub own : HaveStayed c
+    pub own : MembersHaveStayed c
 
 module _ {N : Type 0} (truth : (ℕ → Bool) → Tree → Bool) (s : PreconditionSources N) where
   -- the sets from before the edit are those of the old program

@@ -3,6 +3,8 @@
 --
 -- A predicate is known by its name and arity. It is untouched where some set of predicates has it, is closed under calls in both programs,
 -- and has the same clauses in both, in their order. (The least such set are the predicates that it reaches.)
+--
+-- To believe: `AreUntouched`, and what it uses.
 use Rattle.std.specs.Prelude.{◌≡◌, ℕ, Bool, true, false, List, map, filter, slice_get, Option, None, Some}
 use Rattle.call_components.specs.Calls.{Calls}
 use Rattle.call_components.specs.Partition.{Partition, AreComponents, IsIn}

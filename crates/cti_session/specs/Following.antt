@@ -20,7 +20,7 @@ pub record IsCounted (count : ℕ) (s : Snapshot) : Type 0 where
   pub program : HasProgram names s
   pub counted : count ≡ nodes_in s.clauses
 
--- the program is that of so many earlier clauses, and of later ones those of these numbers were kept
+-- the program is that of `count` earlier clauses, and of later ones those of these numbers were kept
 pub record IsBefore (names : List (List ℕ)) (program : Listing) (count : ℕ) (later : List Clause) (since : List (Option ℕ)) : Type 0 where
   pub clauses : List Clause
   pub many : length clauses ≡ count
@@ -29,7 +29,7 @@ pub record IsBefore (names : List (List ℕ)) (program : Listing) (count : ℕ) 
   pub named : AreNamed names program.preds
   pub kept : AreKeptList clauses later since
 
--- clauses were only put in, or only taken out, of so many
+-- clauses were only put into a list of `count`, or only taken out of it
 pub record IsOneEdit (count : ℕ) (since : List (Option ℕ)) : Type 0 where
   pub order : IsIncreasing since
   pub all : IsTotal since ⊎ IsOnto count since

@@ -65,15 +65,15 @@ abbrev pub HaveStart : {X : Type 0} → Listing → Listing → (Pred → Bool) 
 HaveStart p new set old now = (q r : ℕ) (x : Pred) → slice_get p.preds q ≡ Some x → slice_get new.preds r ≡ Some x → set x ≡ true → IsWithoutClause p q → IsWithoutClause new r → now r ≡ old q
 
 -- all predicates of the set have the values that they had
-abbrev pub HaveStayed : {X : Type 0} → Listing → Listing → (Pred → Bool) → (ℕ → X) → (ℕ → X) → Type 0
-HaveStayed p new set old now = (q r : ℕ) (x : Pred) → slice_get p.preds q ≡ Some x → slice_get new.preds r ≡ Some x → set x ≡ true → now r ≡ old q
+abbrev pub SetKeepsValues : {X : Type 0} → Listing → Listing → (Pred → Bool) → (ℕ → X) → (ℕ → X) → Type 0
+SetKeepsValues p new set old now = (q r : ℕ) (x : Pred) → slice_get p.preds q ≡ Some x → slice_get new.preds r ≡ Some x → set x ≡ true → now r ≡ old q
 
 -- Where components that stand keep their values, untouched predicates have the values that they had.
 abbrev pub UntouchedHaveStayed : Type 0 → Type 0
 UntouchedHaveStayed X = (e : Edit) (set : Pred → Bool) (old now : ℕ → X) → IsProgram e.before.now → IsProgram e.after.now → IsEdit e
     → AreUntouched e.before.now e.after.now set → AllKept e.before.now e.after.now set e.kept.now
     → KeepValues e old now → HaveStart e.before.now e.after.now set old now
-    → HaveStayed e.before.now e.after.now set old now
+    → SetKeepsValues e.before.now e.after.now set old now
 
 -- each member of the new component is a predicate of the set, and was a member of the old one
 abbrev pub IsOfSet : Edit → (Pred → Bool) → ℕ → ℕ → Type 0
@@ -91,4 +91,4 @@ abbrev pub UntouchedOfSetHaveStayed : Type 0 → Type 0
 UntouchedOfSetHaveStayed X = (e : Edit) (set : Pred → Bool) (old now : ℕ → X) → IsProgram e.before.now → IsProgram e.after.now → IsEdit e
     → AreUntouched e.before.now e.after.now set → AllKept e.before.now e.after.now set e.kept.now
     → KeepValuesOf e set old now → HaveStart e.before.now e.after.now set old now
-    → HaveStayed e.before.now e.after.now set old now
+    → SetKeepsValues e.before.now e.after.now set old now

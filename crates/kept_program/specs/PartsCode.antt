@@ -1,3 +1,4 @@
+-- Private.
 -- How proofs distinguish programs with what is kept of them. Nothing here has to be believed.
 use Rattle.std.specs.Prelude.{List, refl}
 use Rattle.std.specs.Coded.{Coded, code_by, coded×, coded_list}

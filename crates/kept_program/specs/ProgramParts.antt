@@ -1,4 +1,4 @@
--- To believe, for sessions.
+-- Private.
 -- What contracts see of a program with what is kept of it, and the facts of its certificate.
 --
 -- To believe: all of this file, over `listed`, `chain_notes` and `support_notes`, which say how parts and notes are written.

@@ -1,4 +1,4 @@
--- To believe, for sessions.
+-- Private.
 -- What an edit of a program keeps of the predicates that it leaves untouched.
 --
 -- A predicate is known by its name and arity: after the edit it may have another number, and its mappings may have others, too.

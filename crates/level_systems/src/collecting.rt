@@ -65,42 +65,67 @@ fn own_call<N: Norm>(
     }))
 }
 
+/// What the calls of a component are collected from: a program with its components, a norm, and sizes of its predicates.
+struct Setting<'a, N> {
+    program: &'a Program,
+    comps: &'a Components,
+    norm: &'a N,
+    sizes: &'a Sizes,
+}
+
+impl<N> Drop for Setting<'_, N> {
+    fn drop(self) {
+        let Setting {
+            program: _,
+            comps: _,
+            norm: _,
+            sizes: _,
+        } = self;
+    }
+}
+
 /// Adds the calls of a clause, and says whether none was given up.
 fn add_calls<N: Norm>(
     alloc: Global,
-    p: &Program,
-    comps: &Components,
+    setting: &Setting<N>,
     c: u32,
-    norm: &N,
-    sizes: &Sizes,
     k: u32,
     calls: &mut Vec<OwnCall>,
 ) -> Result<bool, AllocError>
-    requires components { AreComponents p.now comps.now }
+    requires components { AreComponents setting.now.program.now setting.now.comps.now }
     requires first { 1 ≤ k }
-    requires last { k ≤ length p.now.clauses }
-    requires inside { IsIn comps.now c (clause_at p.now k).head.pred.0 }
-    requires sizes { AreSizes p.now.preds sizes.now.rows }
+    requires last { k ≤ length setting.now.program.now.clauses }
+    requires inside { IsIn setting.now.comps.now c (clause_at setting.now.program.now k).head.pred.0 }
+    requires sizes { AreSizes setting.now.program.now.preds setting.now.sizes.now.rows }
     requires held { AllByRecursion
-        (IsHeldIn (N.expression norm.now) p.now
-        (rows_of sizes.now.rows) comps.now c) calls.old.items }
+        (IsHeldIn (N.expression setting.now.norm.now) setting.now.program.now
+        (rows_of setting.now.sizes.now.rows) setting.now.comps.now c) calls.old.items }
     ensures pairs { IfOk result (λ all. all ≡ true
         → map numbers_of_call calls.new.items ≡ map numbers_of_call calls.old.items
-        ++ calls_from comps.now c k 0 (clause_at p.now k).body) }
+        ++ calls_from setting.now.comps.now c k 0 (clause_at setting.now.program.now k).body) }
     ensures held { IfOk result
-        (λ all. AllByRecursion (IsHeldIn (N.expression norm.now) p.now
-        (rows_of sizes.now.rows) comps.now c) calls.new.items) }
+        (λ all. AllByRecursion (IsHeldIn (N.expression setting.now.norm.now) setting.now.program.now
+        (rows_of setting.now.sizes.now.rows) setting.now.comps.now c) calls.new.items) }
     ensures given_up { IfOk result (λ all. all ≡ false
-        → SomeGivenUp (N.expression norm.now) p.now (rows_of sizes.now.rows)
-        (calls_from comps.now c k 0 (clause_at p.now k).body)) }
+        → SomeGivenUp (N.expression setting.now.norm.now) setting.now.program.now
+        (rows_of setting.now.sizes.now.rows)
+        (calls_from setting.now.comps.now c k 0 (clause_at setting.now.program.now k).body)) }
 {
-    let clause = p.clause(k);
+    let clause = setting.program.clause(k);
     for j in 0..clause.body.len() {
         let call = &clause.body.as_slice()[j];
-        if comps.of(call.pred) != c {
+        if setting.comps.of(call.pred) != c {
             continue;
         }
-        let Some(own) = own_call(alloc, p, norm, sizes, k, j as u32 + 1)? else {
+        let Some(own) = own_call(
+            alloc,
+            setting.program,
+            setting.norm,
+            setting.sizes,
+            k,
+            j as u32 + 1,
+        )?
+        else {
             return Ok(false);
         };
         calls.push(own)?;
@@ -132,12 +157,18 @@ pub fn own_calls<N: Norm>(
         → SomeGivenUp (N.expression norm.now) p.now (rows_of sizes.now.rows)
         (pairs_of p.now comps.now c)) }
 {
+    let setting = Setting {
+        program: p,
+        comps,
+        norm,
+        sizes,
+    };
     let mut calls = Vec::new(alloc);
     for k in 0..p.clauses() {
         if comps.of(p.clause(k + 1).head.pred) != c {
             continue;
         }
-        if !add_calls(alloc, p, comps, c, norm, sizes, k + 1, &mut calls)? {
+        if !add_calls(alloc, &setting, c, k + 1, &mut calls)? {
             return Ok(None);
         }
     }

@@ -34,95 +34,79 @@ fn add_drops(row: &mut Vec<i128>, earlier: usize, later: usize, x: usize) -> Res
     add_zeros(row, later)
 }
 
-/// The numbers after the constant in the row of a call and a column, with the drops and multipliers of other calls around
-/// its own.
-fn turn_numbers(
-    alloc: Global,
-    own: &OwnCall,
-    positions: &[Position],
-    members: &[PredId],
+/// The unknowns of a turn's system, as one of its calls finds them: the coefficients at positions and the offsets of
+/// members, and how many drops and multipliers other calls have around its own.
+#[derive(Clone, Copy)]
+struct Unknowns<'a> {
+    positions: &'a [Position],
+    members: &'a [PredId],
+    /// How many drops stand before that of the call, and how many after it.
     earlier: usize,
     later: usize,
+    /// How many multipliers stand before those of the call, and how many after them.
     before: usize,
     after: usize,
-    x: usize,
-) -> Result<Vec<i128>, AllocError>
-    requires head { AreSizes x own.now.caller_sizes }
-    requires call { AreSizes x own.now.callee_sizes }
-    requires there { All (λ r. x < length (plain_row r)) own.now.rows.list }
-    requires fits { All (λ r. fits (entry (plain_row r) x) ≡ true) own.now.rows.list }
-    ensures { IfOk result (λ row. row.items
-        ≡ turned_numbers own.now positions.now members.now earlier later before after x) }
-{
-    let mut row = Vec::new(alloc);
-    add_positions(&mut row, own, x, positions)?;
-    add_offsets(&mut row, own, x, members)?;
-    add_drops(&mut row, earlier, later, x)?;
-    add_zeros(&mut row, before)?;
-    add_multipliers(&mut row, own.rows.list.as_slice(), x)?;
-    add_zeros(&mut row, after)?;
-    Ok(row)
 }
 
-/// The row of a call and a column.
-fn turn_row(
-    alloc: Global,
-    own: &OwnCall,
-    positions: &[Position],
-    members: &[PredId],
-    earlier: usize,
-    later: usize,
-    before: usize,
-    after: usize,
-    x: usize,
-) -> Result<Row, AllocError>
-    requires head { AreSizes x own.now.caller_sizes }
-    requires call { AreSizes x own.now.callee_sizes }
-    requires there { All (λ r. x < length (plain_row r)) own.now.rows.list }
-    requires fits { All (λ r. fits (entry (plain_row r) x) ≡ true) own.now.rows.list }
-    ensures { IfOk result (λ row. plain_row row
-        ≡ pos 0 ∷ turned_numbers own.now positions.now members.now earlier later before after x) }
-{
-    let row = turn_numbers(
-        alloc, own, positions, members, earlier, later, before, after, x,
-    )?;
-    Ok(Row {
-        constant: 0,
-        coeffs: Numbers::from_vec(row),
-    })
-}
-
-/// The rows of a call, one for each column, with the drops and multipliers of other calls around its own.
-fn add_turn(
-    alloc: Global,
-    own: &OwnCall,
-    positions: &[Position],
-    members: &[PredId],
-    earlier: usize,
-    later: usize,
-    before: usize,
-    after: usize,
-    system: &mut Rows,
-) -> Result<(), AllocError>
-    requires numbers { HasNumbers own.now }
-    requires width { length positions.now +
-        (length members.now + ((earlier + (later + 1)) +
-        (before + (length own.now.rows.list + after)))) ≡ system.old.width }
-    ensures width { system.new.width ≡ system.old.width }
-    ensures widths { HaveWidth system.old.width system.old.list
-        → HaveWidth system.new.width system.new.list }
-    ensures rows { OnOk result ((expression : ℕ → Tree → List ℤ) (o : Recalled)
-        → Recalls expression o own.now
-        → plain_rows system.new.list ≡ plain_rows system.old.list ++ call_turn_rows expression
-        (map spelled positions.now) (map number_of members.now) earlier later before after o) }
-{
-    for x in 0..own.rows.width as usize + 1 {
-        let row = turn_row(
-            alloc, own, positions, members, earlier, later, before, after, x,
-        )?;
-        system.push(row)?;
+impl Unknowns<'_> {
+    /// The numbers after the constant in the row of the call and a column.
+    fn turn_numbers(&self, alloc: Global, own: &OwnCall, x: usize) -> Result<Vec<i128>, AllocError>
+        requires head { AreSizes x own.now.caller_sizes }
+        requires call { AreSizes x own.now.callee_sizes }
+        requires there { All (λ r. x < length (plain_row r)) own.now.rows.list }
+        requires fits { All (λ r. fits (entry (plain_row r) x) ≡ true) own.now.rows.list }
+        ensures { IfOk result (λ row. row.items
+            ≡ turned_numbers own.now self.now.positions.now self.now.members.now self.now.earlier self.now.later
+            self.now.before self.now.after x) }
+    {
+        let mut row = Vec::new(alloc);
+        add_positions(&mut row, own, x, self.positions)?;
+        add_offsets(&mut row, own, x, self.members)?;
+        add_drops(&mut row, self.earlier, self.later, x)?;
+        add_zeros(&mut row, self.before)?;
+        add_multipliers(&mut row, own.rows.list.as_slice(), x)?;
+        add_zeros(&mut row, self.after)?;
+        Ok(row)
     }
-    Ok(())
+
+    /// The row of the call and a column.
+    fn turn_row(&self, alloc: Global, own: &OwnCall, x: usize) -> Result<Row, AllocError>
+        requires head { AreSizes x own.now.caller_sizes }
+        requires call { AreSizes x own.now.callee_sizes }
+        requires there { All (λ r. x < length (plain_row r)) own.now.rows.list }
+        requires fits { All (λ r. fits (entry (plain_row r) x) ≡ true) own.now.rows.list }
+        ensures { IfOk result (λ row. plain_row row
+            ≡ pos 0 ∷ turned_numbers own.now self.now.positions.now self.now.members.now self.now.earlier
+            self.now.later self.now.before self.now.after x) }
+    {
+        let row = self.turn_numbers(alloc, own, x)?;
+        Ok(Row {
+            constant: 0,
+            coeffs: Numbers::from_vec(row),
+        })
+    }
+
+    /// The rows of the call, one for each column.
+    fn add_turn(&self, alloc: Global, own: &OwnCall, system: &mut Rows) -> Result<(), AllocError>
+        requires numbers { HasNumbers own.now }
+        requires width { length self.now.positions.now +
+            (length self.now.members.now + ((self.now.earlier + (self.now.later + 1)) +
+            (self.now.before + (length own.now.rows.list + self.now.after)))) ≡ system.old.width }
+        ensures width { system.new.width ≡ system.old.width }
+        ensures widths { HaveWidth system.old.width system.old.list
+            → HaveWidth system.new.width system.new.list }
+        ensures rows { OnOk result ((expression : ℕ → Tree → List ℤ) (o : Recalled)
+            → Recalls expression o own.now
+            → plain_rows system.new.list ≡ plain_rows system.old.list ++ call_turn_rows expression
+            (map spelled self.now.positions.now) (map number_of self.now.members.now) self.now.earlier
+            self.now.later self.now.before self.now.after o) }
+    {
+        for x in 0..own.rows.width as usize + 1 {
+            let row = self.turn_row(alloc, own, x)?;
+            system.push(row)?;
+        }
+        Ok(())
+    }
 }
 
 /// The given number of ones.
@@ -198,18 +182,15 @@ pub fn turn_system(
     let mut earlier = 0;
     for own in calls {
         let rows = own.rows.list.len();
-        let later = calls.len() - earlier - 1;
-        add_turn(
-            alloc,
-            own,
+        let unknowns = Unknowns {
             positions,
             members,
             earlier,
-            later,
+            later: calls.len() - earlier - 1,
             before,
-            count - before - rows,
-            &mut system,
-        )?;
+            after: count - before - rows,
+        };
+        unknowns.add_turn(alloc, own, &mut system)?;
         before += rows;
         earlier += 1;
     }

@@ -23,7 +23,7 @@ pub record AreMovedSets (preds : List Pred) (trees : List Rows) (sets : List Dia
   pub at : (q : ℕ) (e : Diagram) → slice_get new_sets q ≡ Some e → IsMovedOf preds trees sets new_trees q e
 
 -- diagrams of a table over variables below a number
-pub record AreOwn (trees : List Rows) (arity : ℕ) (sets : List Diagram) : Type 0 where
+pub record AreDiagramsBelow (trees : List Rows) (arity : ℕ) (sets : List Diagram) : Type 0 where
   pub known : (m : ℕ) (d : Diagram) → slice_get sets m ≡ Some d → IsDiagram trees d
   pub reads : (m : ℕ) (d : Diagram) → slice_get sets m ≡ Some d → ReadsBelow trees d arity
 
@@ -35,7 +35,7 @@ pub record AreMovedOwn (arity : ℕ) (trees : List Rows) (sets : List Diagram) (
 -- diagrams for each predicate, over its arguments alone
 pub record AreLists (preds : List Pred) (trees : List Rows) (lists : List (List Diagram)) : Type 0 where
   pub each : length lists ≡ length preds
-  pub own : (q : ℕ) (x : Pred) (sets : List Diagram) → slice_get preds q ≡ Some x → slice_get lists q ≡ Some sets → AreOwn trees x.arity sets
+  pub own : (q : ℕ) (x : Pred) (sets : List Diagram) → slice_get preds q ≡ Some x → slice_get lists q ≡ Some sets → AreDiagramsBelow trees x.arity sets
 
 -- those of a predicate in another table
 abbrev pub IsMovedList : List Pred → List Rows → List (List Diagram) → List Rows → ℕ → List Diagram → Type 0

@@ -4,7 +4,8 @@ ghost use Rattle.std.specs.Prelude.{◌≡◌, ◌≤◌, ◌<◌, ℕ, IfOk, On
 ghost use Rattle.bool_diagrams.specs.Rows.{IsDiagram, Keeps, ReadsBelow};
 ghost use Rattle.bool_diagrams.specs.declared.diagram.Diagram.{Diagram as TheDiagram};
 ghost use Rattle.truth_rows.specs.Sets.{AreSets};
-ghost use Rattle.moved_diagrams.specs.Moved.{AreMovedLists, AreMovedOwn, AreMovedSets, AreOwn, AreLists, IsMoved};
+ghost use Rattle.moved_diagrams.specs.Moved.{AreDiagramsBelow, AreLists, AreMovedLists, AreMovedOwn, AreMovedSets};
+ghost use Rattle.moved_diagrams.specs.Moved.{IsMoved};
 
 use bool_diagrams::{Diagram, Table, VARIABLES};
 use cti_terms::{PredId, Program};
@@ -58,7 +59,7 @@ fn moved_own(
     arity: u32,
     into: &mut Table,
 ) -> Result<Sequence<Diagram>, AllocError>
-    requires sets { AreOwn table.now arity sets.now }
+    requires sets { AreDiagramsBelow table.now arity sets.now }
     requires narrow { arity ≤ VARIABLES }
     ensures keeps { Keeps into.old into.new }
     ensures moved { IfOk result (AreMovedOwn arity table.now sets.now into.new) }

@@ -69,15 +69,29 @@ fn play(alloc: Global, desk: &mut Desk, rows: &[Row<'_>], size: (u32, u32)) -> R
     Ok(())
 }
 
-/// A list library grows. Then its second clause goes, and comes back in its place, fifty times.
-#[test]
-fn a_list_library(rt: HostRuntime) -> Result<(), Fail> {
-    let alloc = rt.alloc();
+/// Does edits in a session with the first clauses of a text, this many; at last there are so many clauses and nodes.
+fn plays(
+    alloc: Global,
+    text: &str,
+    count: u32,
+    rows: &[Row<'_>],
+    size: (u32, u32),
+) -> Result<(), Fail> {
+    let mut desk = after(alloc, text, count)?;
+    play(alloc, &mut desk, rows, size)
+}
+
+/// The library, behind its first clause and before its second one, fifty times.
+fn growing(alloc: Global) -> Result<String, Fail> {
     let mut text = format!(in alloc; "{FIRST}{LIBRARY}")?;
     for _ in 0..50 {
         text.push_str(SECOND)?;
     }
-    let mut desk = after(alloc, text.as_str(), 0)?;
+    Ok(text)
+}
+
+/// A list library grows.
+fn grow(alloc: Global, desk: &mut Desk) -> Result<(), Fail> {
     let append = "app([],L,L). app([H|T],L,[H|R]) :- app(T,L,R).";
     let growth = [
         (Step::Add, Ok(()), FIRST, "terminates(app/3,[[]]).\n"),
@@ -86,45 +100,77 @@ fn a_list_library(rt: HostRuntime) -> Result<(), Fail> {
         (Step::Add, Ok(()), append, "terminates(app/3,[[1],[3]]).\n"),
         (Step::Add, Ok(()), LIBRARY, MODES),
     ];
-    play(alloc, &mut desk, growth.as_slice(), (3, 33))?;
+    play(alloc, desk, growth.as_slice(), (3, 33))
+}
+
+/// Its second clause goes, and comes back in its place.
+fn go_and_come(alloc: Global, desk: &mut Desk) -> Result<(), Fail> {
     let less = "terminates(app/3,[[]]).\nterminates(rev/2,[[1]]).\n";
     let round = [
         (Step::Remove(2), Ok(()), OTHERS, less),
         (Step::Insert(2), Ok(()), LIBRARY, MODES),
     ];
+    play(alloc, desk, round.as_slice(), (3, 33))
+}
+
+/// A list library grows. Then its second clause goes, and comes back in its place, fifty times.
+#[test]
+fn a_list_library(rt: HostRuntime) -> Result<(), Fail> {
+    let alloc = rt.alloc();
+    let text = growing(alloc)?;
+    let mut desk = after(alloc, text.as_str(), 0)?;
+    grow(alloc, &mut desk)?;
     for _ in 0..50 {
-        play(alloc, &mut desk, round.as_slice(), (3, 33))?;
+        go_and_come(alloc, &mut desk)?;
     }
     Ok(())
+}
+
+/// A program loses its first clause, and then it is these others, with these modes.
+fn without_first(
+    alloc: Global,
+    first: &str,
+    others: &str,
+    modes: &str,
+    size: (u32, u32),
+) -> Result<(), Fail> {
+    let text = format!(in alloc; "{first}{others}")?;
+    let rows = [(Step::Remove(1), Ok(()), others, modes)];
+    plays(alloc, text.as_str(), 5, rows.as_slice(), size)
 }
 
 /// Without the first clause `p` stands before `q`. In the second program the two mappings change their places with them.
 #[test]
 fn predicates_change_their_order(rt: HostRuntime) -> Result<(), Fail> {
     let alloc = rt.alloc();
-    for (first, others, modes, size) in [
-        (
-            "r(X) :- q(X), p(X). ",
-            "p(s(X)) :- q(X). q(s(X)) :- p(X). p(0). q(0). ",
-            "terminates(p/1,[[1]]).\nterminates(q/1,[[1]]).\n",
-            (4, 16),
-        ),
-        (
-            "r(X,Y) :- q(X,Y), p(X,Y). ",
-            "p(s(X),s(Y)) :- q(Y,X). q(s(X),s(Y)) :- p(Y,X). p(0,_). q(0,_). ",
-            "terminates(p/2,[[1],[2]]).\nterminates(q/2,[[1],[2]]).\n",
-            (4, 24),
-        ),
-    ] {
-        let text = format!(in alloc; "{first}{others}")?;
-        let mut desk = after(alloc, text.as_str(), 5)?;
-        let rows = [(Step::Remove(1), Ok(()), others, modes)];
-        play(alloc, &mut desk, rows.as_slice(), size)?;
+    without_first(
+        alloc,
+        "r(X) :- q(X), p(X). ",
+        "p(s(X)) :- q(X). q(s(X)) :- p(X). p(0). q(0). ",
+        "terminates(p/1,[[1]]).\nterminates(q/1,[[1]]).\n",
+        (4, 16),
+    )?;
+    without_first(
+        alloc,
+        "r(X,Y) :- q(X,Y), p(X,Y). ",
+        "p(s(X),s(Y)) :- q(Y,X). q(s(X),s(Y)) :- p(Y,X). p(0,_). q(0,_). ",
+        "terminates(p/2,[[1],[2]]).\nterminates(q/2,[[1],[2]]).\n",
+        (4, 24),
+    )
+}
+
+/// A clause after the library has this fault, and is refused, wherever it is to stand.
+fn is_refused(alloc: Global, clause: &str, kind: NormKind, at: u32) -> Result<(), Fail> {
+    let text = format!(in alloc; "{LIBRARY}{clause}")?;
+    let fault = EditFault::Norm { kind, at };
+    for step in [Step::Add, Step::Insert(1)] {
+        let rows = [(step, Err(fault), LIBRARY, MODES)];
+        plays(alloc, text.as_str(), 3, rows.as_slice(), (3, 33))?;
     }
     Ok(())
 }
 
-/// A clause with a fault is refused, wherever it is to stand. Its place counts from the first byte of the text.
+/// A clause with a fault is refused. Its place counts from the first byte of the text.
 #[test]
 fn clauses_with_faults(rt: HostRuntime) -> Result<(), Fail> {
     let alloc = rt.alloc();
@@ -137,13 +183,7 @@ fn clauses_with_faults(rt: HostRuntime) -> Result<(), Fail> {
         ("true :- p.", NormKind::BadHead, 87),
         (":- discontiguous(p/1).", NormKind::Directive, 87),
     ] {
-        let text = format!(in alloc; "{LIBRARY}{clause}")?;
-        for step in [Step::Add, Step::Insert(1)] {
-            let mut desk = after(alloc, text.as_str(), 3)?;
-            let fault = EditFault::Norm { kind, at };
-            let rows = [(step, Err(fault), LIBRARY, MODES)];
-            play(alloc, &mut desk, rows.as_slice(), (3, 33))?;
-        }
+        is_refused(alloc, clause, kind, at)?;
     }
     Ok(())
 }
@@ -154,30 +194,29 @@ fn clauses_in_one_edit(rt: HostRuntime) -> Result<(), Fail> {
     let alloc = rt.alloc();
     let whole = (Step::Extend, Ok(()), LIBRARY, MODES);
     for count in 0..4 {
-        let mut desk = after(alloc, LIBRARY, count)?;
-        play(alloc, &mut desk, [whole, whole].as_slice(), (3, 33))?;
+        plays(alloc, LIBRARY, count, [whole, whole].as_slice(), (3, 33))?;
     }
     Ok(())
+}
+
+/// Clauses of which one has this fault are not added in one edit.
+fn are_refused(alloc: Global, more: &str, kind: NormKind, at: u32) -> Result<(), Fail> {
+    let text = format!(in alloc; "{LIBRARY}{more}")?;
+    let fault = EditFault::Norm { kind, at };
+    let rows = [(Step::Extend, Err(fault), FIRST, "terminates(app/3,[[]]).\n")];
+    plays(alloc, text.as_str(), 1, rows.as_slice(), (1, 4))
 }
 
 /// Where one of them has a fault none is added, and the first fault is told.
 #[test]
 fn clauses_in_one_edit_with_faults(rt: HostRuntime) -> Result<(), Fail> {
     let alloc = rt.alloc();
-    for (more, kind, at) in [
-        ("p(X) :- !, q(X).", NormKind::NotPure, 95),
-        ("p(a). true :- p.", NormKind::BadHead, 93),
-        (
-            "true :- p. :- discontiguous(p/1). p(X) :- !.",
-            NormKind::BadHead,
-            87,
-        ),
-    ] {
-        let text = format!(in alloc; "{LIBRARY}{more}")?;
-        let mut desk = after(alloc, text.as_str(), 1)?;
-        let fault = EditFault::Norm { kind, at };
-        let rows = [(Step::Extend, Err(fault), FIRST, "terminates(app/3,[[]]).\n")];
-        play(alloc, &mut desk, rows.as_slice(), (1, 4))?;
-    }
-    Ok(())
+    are_refused(alloc, "p(X) :- !, q(X).", NormKind::NotPure, 95)?;
+    are_refused(alloc, "p(a). true :- p.", NormKind::BadHead, 93)?;
+    are_refused(
+        alloc,
+        "true :- p. :- discontiguous(p/1). p(X) :- !.",
+        NormKind::BadHead,
+        87,
+    )
 }

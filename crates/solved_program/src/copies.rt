@@ -37,8 +37,8 @@ pub(crate) fn copied_proofs(
 pub(crate) fn copied_step(alloc: Global, step: &Step, clause: u32) -> Result<Step, AllocError>
     ensures { IfOk result (λ copy. plain_step copy ≡ with_number clause (plain_step step.now)) }
 {
-    let image = step.image.copy(alloc)?;
-    let rows = step.rows.copy(alloc)?;
+    let image = step.image.clone()?;
+    let rows = step.rows.clone()?;
     Ok(Step {
         clause,
         image,

@@ -17,12 +17,12 @@ use Rattle.level_systems.proofs.collecting.add_calls.Goals as goal
 
 pub loop-j-preserved-then-of-c : goal.loop-j-preserved-then-of-c
 loop-j-preserved-then-of-c g c =
-    let comps = c.args.comps.now in
+    let comps = c.args.setting.now.comps.now in
     let k = c.args.k in
     let j = c.loop-j.j in
     let b : Atom = c.index-as_slice-j.result in
-    let same : clause_at c.args.p.now k ≡ c.clause-clause.result.now = ap clause_or_none c.clause-clause.ensures.there in
-    let body = (clause_at c.args.p.now k).body in
+    let same : clause_at c.args.setting.now.program.now k ≡ c.clause-clause.result.now = ap clause_or_none c.clause-clause.ensures.there in
+    let body = (clause_at c.args.setting.now.program.now k).body in
     let whole : c.as_slice.result.now ≡ body = c.as_slice.ensures ∙ ap (λ (x : Clause). x.body) (sym same) in
     let count : length c.as_slice.result.now ≡ c.len-j-end.result = ap length c.as_slice.ensures ∙ sym c.len-j-end.ensures in
     let at : slice_get body j ≡ Some b = subst (λ (bs : List Atom). slice_get bs j ≡ Some b) whole (at_place c.as_slice.result.now j b (omega (arith, count, c.loop-j-test.true)) c.index-as_slice-j.is) in
@@ -35,12 +35,12 @@ loop-j-preserved-then-of-c g c =
 
 pub returns-in_default-clause-given_up : goal.returns-in_default-clause-given_up
 returns-in_default-clause-given_up g c = λ _.
-    let comps = c.args.comps.now in
+    let comps = c.args.setting.now.comps.now in
     let k = c.args.k in
     let j = c.loop-j.j in
     let b : Atom = c.index-as_slice-j.result in
-    let same : clause_at c.args.p.now k ≡ c.clause-clause.result.now = ap clause_or_none c.clause-clause.ensures.there in
-    let body = (clause_at c.args.p.now k).body in
+    let same : clause_at c.args.setting.now.program.now k ≡ c.clause-clause.result.now = ap clause_or_none c.clause-clause.ensures.there in
+    let body = (clause_at c.args.setting.now.program.now k).body in
     let whole : c.as_slice.result.now ≡ body = c.as_slice.ensures ∙ ap (λ (x : Clause). x.body) (sym same) in
     let count : length c.as_slice.result.now ≡ c.len-j-end.result = ap length c.as_slice.ensures ∙ sym c.len-j-end.ensures in
     let at : slice_get body j ≡ Some b = subst (λ (bs : List Atom). slice_get bs j ≡ Some b) whole (at_place c.as_slice.result.now j b (omega (arith, count, c.loop-j-test.true)) c.index-as_slice-j.is) in
@@ -52,12 +52,12 @@ returns-in_default-clause-given_up g c = λ _.
 
 pub loop-j-preserved : goal.loop-j-preserved
 loop-j-preserved g c =
-    let comps = c.args.comps.now in
-    let p = c.args.p.now in
+    let comps = c.args.setting.now.comps.now in
+    let p = c.args.setting.now.program.now in
     let k = c.args.k in
     let j = c.loop-j.j in
-    let e = g.N.Norm.expression c.args.norm.now in
-    let rows = rows_of c.args.sizes.now.rows in
+    let e = g.N.Norm.expression c.args.setting.now.norm.now in
+    let rows = rows_of c.args.setting.now.sizes.now.rows in
     let b : Atom = c.index-as_slice-j.result in
     let own : OwnCall = c.in-Some.own in
     let same : clause_at p k ≡ c.clause-clause.result.now = ap clause_or_none c.clause-clause.ensures.there in

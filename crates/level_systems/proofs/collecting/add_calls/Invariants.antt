@@ -9,6 +9,6 @@ use Rattle.level_systems.proofs.collecting.add_calls.Given as goal
 abbrev pub invariant-loop-j : goal.invariant-loop-j
 invariant-loop-j g l =
     record {
-      pairs : map numbers_of_call l.calls.items ++ calls_from l.comps l.c l.k l.j (drop l.j (clause_at l.p l.k).body) ≡ map numbers_of_call l.fn.calls.items ++ calls_from l.comps l.c l.k 0 (clause_at l.p l.k).body;
-      held : AllByRecursion (IsHeldIn (g.N.Norm.expression l.norm) l.p (rows_of l.sizes.rows) l.comps l.c) l.calls.items;
+      pairs : map numbers_of_call l.calls.items ++ calls_from l.setting.comps.now l.c l.k l.j (drop l.j (clause_at l.setting.program.now l.k).body) ≡ map numbers_of_call l.fn.calls.items ++ calls_from l.setting.comps.now l.c l.k 0 (clause_at l.setting.program.now l.k).body;
+      held : AllByRecursion (IsHeldIn (g.N.Norm.expression l.setting.norm.now) l.setting.program.now (rows_of l.setting.sizes.now.rows) l.setting.comps.now l.c) l.calls.items;
     }
