@@ -5,8 +5,9 @@ usage: tools/believe.py            a count of lines for each rank, and the files
        tools/believe.py --names    each definition by itself
        tools/believe.py --mark     writes each file's rank into its first line
        tools/believe.py --text RANK [RANK ..]
-                                   the definitions of these ranks (yes, modes, reading, command, lists, loop, sessions, procedures), each behind
-                                   those that it uses; with `yes` the worked examples of terms, unification and resolution behind them
+                                   the definitions of these ranks (yes, modes, reading, command, lists, loop, sessions, procedures), each after
+                                   those that it uses, and before them the types of the code that they name; with `yes` the worked examples of
+                                   terms, unification and resolution at the end
 
 The ranks, each without those before: *for a Yes* (queries that meet a printed mode end), *for the modes* (the printed modes are exactly
 the minimal ones), *for reading* (which program or query a text is, or where its fault is), *for the command* (all else that `command`
@@ -16,6 +17,7 @@ not fit), *for the modes by lists* (what `lex` prints), *for a loop* (what `loop
 """
 import re
 import sys
+import textwrap
 from pathlib import Path
 
 top = Path(__file__).resolve().parent.parent
@@ -155,13 +157,53 @@ def head(path):
     return lines
 
 
+def shown(first):
+    """A file's first comment without its rank and without the sentence on what in it has to be believed."""
+    parts, part = [], []
+    for line in [line for line in first if line not in MARKS.values()] + ["--"]:
+        if line == "--" or line.startswith(("-- Source:", "-- To believe")):
+            parts.append(part)
+            part = []
+        if line != "--":
+            part.append(line)
+    parts.append(part)
+    for n, part in enumerate(parts):
+        if part and part[0].startswith("-- To believe"):
+            rest = re.sub(r"^To believe.*?\.(?:\s+(?=[A-Z`])|$)", "", " ".join(line[3:] for line in part))
+            parts[n] = textwrap.wrap(rest, 117, initial_indent="-- ", subsequent_indent="-- ")
+    return "\n--\n".join("\n".join(part) for part in parts if part)
+
+
+def types_of(specs, wanted):
+    """The types of the code that the definitions name, each with the text that declares it, in the order of crates.txt."""
+    found = {}
+    for key, name in sorted(wanted):
+        words = set(re.findall(r"\w+", "\n".join(specs.files[key][name])))
+        for word, (crate, module, plain) in specs.uses[key].items():
+            if module.startswith("declared.") and word in words:
+                found[module.split(".")[2] if module.endswith("TheVariants") else plain] = (crate, module.split(".")[1])
+    order = [line.split(":")[0] for line in (top / "crates.txt").read_text().split("\n")]
+    for name, (crate, module) in sorted(found.items(), key=lambda it: (order.index(it[1][0]), it[1][1], it[0])):
+        path = top / "crates" / crate / "src" / f"{module}.rt"
+        text = path.read_text() if path.exists() else ""
+        match = re.search(rf"(?m)((?:^///.*\n)*)(?:^#.*\n)*(^pub (?:struct|enum) {name}\b(?:[^{{;]*\{{[\s\S]*?^\}}|.*;))", text)
+        if match:
+            yield f"{crate}/src/{module}.rt", match[1] + match[2]
+
+
 def print_text(specs, wanted, examples):
-    """Prints definitions file by file, in the order of in_order, and then the worked examples."""
+    """Prints the types of the code, definitions file by file, in the order of in_order, and then the worked examples."""
+    print("-- ==== the types of the code that the definitions name. There a list type, as Terms or Atoms, is seen as the list, and a number")
+    print("-- of a machine's width as a whole number.")
+    last = None
+    for where, text in types_of(specs, wanted):
+        print(("" if where == last else f"\n-- {where}") + "\n" + text)
+        last = where
     for key in in_order(specs, wanted):
         path = top / "crates" / key[0] / "specs" / f"{key[1]}.antt"
         print(f"\n-- ==== {key[0]}/specs/{key[1]}.antt")
         first = head(path)
-        print("\n".join(line for line in first if line not in MARKS.values() and not line.startswith("-- To believe")))
+        print(shown(first))
         for name, lines in specs.files[key].items():
             if (key, name) in wanted:
                 print("\n" + "\n".join(lines[len(first):] if lines[:len(first)] == first else lines))

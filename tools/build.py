@@ -1,5 +1,5 @@
 #!/usr/bin/env python3
-"""Proves every crate, as `rt all check` does, and says how far it is.
+"""Proves every crate that the program needs, as `rt all check` does, and says how far it is.
 
 usage: tools/build.py JOBS
 
@@ -20,17 +20,30 @@ def minutes(seconds):
     return f"{int(seconds) // 60}:{int(seconds) % 60:02}"
 
 
+def below(name):
+    """The names of a crate and of all crates of the repository that it depends on."""
+    lines = (line.split(":") for line in (top / "crates.txt").read_text().splitlines() if ":" in line and not line.startswith("#"))
+    uses = {crate: rest.split() for crate, rest in lines}
+    found, left = set(), [name]
+    while left:
+        crate = left.pop()
+        if crate in uses and crate not in found:
+            found.add(crate)
+            left += uses[crate]
+    return found
+
+
 def main():
     jobs = sys.argv[1]
-    count = sum(1 for line in (top / "crates.txt").read_text().splitlines() if ":" in line and not line.startswith("#"))
-    print(f"Every function of {count} crates is proved before the program is built.", end=" ")
+    count = len(below("cti"))
+    print(f"Every function of the {count} crates that the program is made of is proved before it is built.", end=" ")
     if kept.exists():
         print(f"The last build here took {kept.read_text().strip()} minutes; only what changed since then is proved again.")
     else:
-        print("From nothing that takes about half an hour on four processors, and about two hours on one.")
+        print("From nothing that takes half an hour to an hour on four processors, and two to three hours on one.")
     begun = time.monotonic()
     name, begun_crates, said = "", 0, {}
-    run = subprocess.Popen(["rt", "all", "check", "--jobs", jobs], cwd=top, stdout=subprocess.PIPE, stderr=subprocess.STDOUT, text=True)
+    run = subprocess.Popen(["rt", "all", "check", "--jobs", jobs], cwd=top / "crates" / "cti", stdout=subprocess.PIPE, stderr=subprocess.STDOUT, text=True)
     for line in run.stdout:
         if line.startswith("== "):
             name = line[3:].strip()

@@ -24,13 +24,13 @@ pub record IsPartition (comps : Partition) : Type 0 where
 
 -- these are the program's components
 pub record AreComponents (p : Listing) (comps : Partition) : Type 0 where
-  -- each predicate is in one of them, and their members are in ascending order, and not none
+  -- each predicate is in one of them, and their members are in ascending order, and each has one
   pub each : length comps.of ≡ length p.preds
   pub answers : length comps.recursive ≡ length comps.members
   pub within : (c a : ℕ) → IsIn comps c a → c < length comps.members
   pub members : (c : ℕ) (ms : List ℕ) → slice_get comps.members c ≡ Some ms → (a : ℕ) → Contains ms a ↔ IsIn comps c a
   pub ascending : (c : ℕ) (ms : List ℕ) → slice_get comps.members c ≡ Some ms → IsStrictlyIncreasing ms × (0 < length ms)
-  -- two predicates are together exactly where each reaches the other
+  -- two predicates are in one component exactly where each reaches the other
   pub together : (a b c d : ℕ) → IsIn comps c a → IsIn comps d b
       → (c ≡ d) ↔ (Reaches (Calls p) a b × Reaches (Calls p) b a)
   -- a component stands after those that it calls

@@ -23,7 +23,7 @@ use Rattle.cti_terms.specs.declared.predicates.PredId.{PredId}
 
 -- ---- values
 
--- the value of an operation's name at these values
+-- the value of the operation with this name at these numbers
 abbrev pub result_of : Arith → ℕ → List ℤ → Option ℤ
 result_of o f [] = None
 result_of o f (a ∷ []) = if f == o.minus.0 then Some (neg_ℤ a) else None
@@ -75,7 +75,7 @@ abbrev mutual
 
 -- ---- built-in atoms
 
--- whether a comparison of two values is true
+-- whether a comparison of two values is true; of `is`, which compares nothing, this is never asked
 abbrev pub compares : Builtin → ℤ → ℤ → Bool
 compares Is a b = true
 compares Equal a b = int_eq a b
@@ -91,7 +91,7 @@ tested b None n = None
 tested b (Some m) None = None
 tested b (Some m) (Some n) = if compares b m n then Some [] else None
 
--- what makes a term the same as a value
+-- the bindings that make a term equal to a value
 abbrev pub assigned : Tree → Option ℤ → Option (List Binding)
 assigned t None = None
 assigned t (Some n) = unify ((t, Integer n) ∷ [])
@@ -110,7 +110,7 @@ evaluated b t u = t ∷ (u ∷ [])
 abbrev pub is_wide_of : Option Arith → Builtin → Tree → Tree → Bool
 is_wide_of o b t u = list_all (λ x. is_some (value o x)) (evaluated b t u) && list_any (has_wide o) (evaluated b t u)
 
--- what is said of two arguments; of another number of them, what stands for none
+-- f of a list of two; z of any other list
 abbrev pub at_two : {X : Type 0} → (Tree → Tree → X) → X → List Tree → X
 at_two f z [] = z
 at_two f z (t ∷ []) = z
@@ -142,7 +142,7 @@ abbrev pub passes_as : Option Arith → Option Builtin → List Tree → Option 
 passes_as o None ts = None
 passes_as o (Some b) ts = at_two (succeeds o b) None ts
 
--- the bindings by which an atom succeeds by itself
+-- the bindings by which a built-in atom succeeds
 abbrev pub passes : Arithmetic → Atom → Option (List Binding)
 passes ar a = passes_as ar.names (kind_of ar a.pred.0) a.args
 

@@ -31,7 +31,7 @@ raised n a = over (instance (λ x. Variable (x + n))) a
 abbrev pub head_equations : Atom → ℕ → Clause → List Equation
 head_equations a n c = pairs (trees a.args) (trees (raised n c.head).args)
 
--- the goal that a clause leaves in the place of the first atom, by bs
+-- the goal that a clause leaves in the place of the first atom, under the bindings bs
 abbrev pub left_by : List Binding → List Atom → ℕ → Clause → Goal
 left_by bs rest n c = record { atoms = map (over (applied bs)) (map (raised n) c.body ++ rest); fresh = n + c.vars }
 
@@ -39,7 +39,7 @@ left_by bs rest n c = record { atoms = map (over (applied bs)) (map (raised n) c
 abbrev pub answered : List Atom → ℕ → Clause → List Binding → List Binding × Goal
 answered rest n c bs = (bs, left_by bs rest n c)
 
--- what a clause answers at the atoms and the counter of a goal
+-- the unifier and the goal that is left, if a clause resolves a goal of these atoms and this counter
 abbrev pub resolve_by : List Atom → ℕ → Clause → Option (List Binding × Goal)
 resolve_by [] n c = None
 resolve_by (a ∷ rest) n c =
@@ -47,15 +47,16 @@ resolve_by (a ∷ rest) n c =
     then option_map (answered rest n c) (unify (head_equations a n c))
     else None
 
--- what a built-in atom answers at the front of a goal: its bindings, applied to the other atoms
+-- the bindings of a built-in atom at the front of a goal, and the goal that is left: the other atoms under them
 abbrev pub passed : List Atom → ℕ → List Binding → List Binding × Goal
 passed rest n bs = (bs, record { atoms = map (over (applied bs)) rest; fresh = n })
 
+-- the same, if the first atom is built in and succeeds
 abbrev pub resolve_itself : Arithmetic → List Atom → ℕ → Option (List Binding × Goal)
 resolve_itself ar [] n = None
 resolve_itself ar (a ∷ rest) n = option_map (passed rest n) (passes ar a)
 
--- what a number answers at a goal: the unifier and the goal that is left. Number 0 is that of a built-in atom, the others are those of clauses
+-- the unifier and the goal that is left, if the clause of this number resolves a goal; number 0 stands for the built-in atom at its front
 abbrev pub resolve : Listing → Goal → ℕ → Option (List Binding × Goal)
 resolve p g zero = resolve_itself p.arithmetic g.atoms g.fresh
 resolve p g (suc i) = option_and_then (resolve_by g.atoms g.fresh) (slice_get p.clauses i)

@@ -255,7 +255,8 @@ fn add_next<N: Norm>(
         (is_member setting.now.comps.now c) marks.new
         (family_of setting.now.program.now.preds table.new sets.new)) }
     ensures less { IfOk result (λ more. more ≡ true
-        → work setting.now.program.now.preds table.new sets.new marks.new < work setting.now.program.now.preds table.old sets.old marks.old) }
+        → work setting.now.program.now.preds table.new sets.new marks.new < work
+        setting.now.program.now.preds table.old sets.old marks.old) }
     ensures done { IfOk result (λ more. more ≡ false → (j : ℕ) → IsMarked marks.new j → ⊥) }
 {
     let Some(k) = marks.take() else {

@@ -2,7 +2,8 @@
 -- Linear rows over naturals, and the points at which they hold.
 --
 -- A row is one list of whole numbers: its constant b and then its coefficients a1 .. an. A point is a natural t of
--- at least 1 and naturals w1 .. wn, and stands for the rationals w1/t .. wn/t. Numbers are without bound here.
+-- at least 1 and naturals w1 .. wn, and stands for the rationals w1/t .. wn/t. Numbers are without bound here. The row
+-- [0,-1,-1,1] holds at 1, 2, 3, with t = 1: 3 - 1 - 2 is at least 0.
 --
 -- To believe: `value`, `Holds`, `HoldsOn`, `AreEmpty`. Every promise on sizes and levels is said in these words.
 -- Source: linear inequalities as in Schrijver 1986, with one common denominator t for the rationals of a point.

@@ -1,7 +1,5 @@
 -- To believe, for the modes.
 -- The shapes of what multipliers and points are tested on: how many numbers there are, and that they are natural.
---
--- Nothing here has to be believed.
 use Rattle.std.specs.Prelude.{◌≡◌, ℕ, ◌+◌, ◌-◌, ◌≤◌, ◌<◌, ◌⊎◌, ◌≤ℤ◌, ℤ, pos, List, [], ◌∷◌, All, IfSome, length, slice_get, slice_index_or, Some}
 use Rattle.cti_terms.specs.Listing.{Listing}
 use Rattle.cti_terms.specs.declared.atom_list.Atom.{Atom}

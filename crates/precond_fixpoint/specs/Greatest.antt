@@ -4,7 +4,7 @@
 -- A component is given by the test of its members, a mapping by its coefficients. What is allowed of lower predicates
 -- is given. A row of a predicate has as many values as the predicate has arguments.
 --
--- To believe: `KeepsIn`, `IsGreatestIn`. To move to truth_rows, beside `KeepsSets`.
+-- To believe: `KeepsIn`, `IsGreatestIn`.
 -- Source: preconditions as in Mesnard and Neumerkel 2001, one greatest solution for each mapping.
 use Rattle.std.specs.Prelude.{◌≡◌, ℕ, ◌<◌, Bool, true, if◌then◌else◌, IsTrue, List, [], ◌∷◌, length, map, take, slice_get, Some, ◌⊎◌}
 use Rattle.std.specs.List.{AllByRecursion}

@@ -43,7 +43,11 @@ pub(crate) fn member_sets<N: Norm>(
     ensures each { IfOk result
         (λ columns. length columns.items ≡ length component.now.members.now) }
     ensures solutions { IfOk result (λ columns.
-        AreSolutions (N.truth setting.now.norm.now) setting.now.program.now setting.now.ranks.now component.now.rank (rows_of setting.now table.old component.now.allowed.now) (rows_of setting.now table.old setting.now.grounds.now) setting.now.levels.now table.new count component.now.members.now columns.items) }
+        AreSolutions
+        (N.truth setting.now.norm.now) setting.now.program.now setting.now.ranks.now component.now.rank
+        (rows_of setting.now table.old component.now.allowed.now)
+        (rows_of setting.now table.old setting.now.grounds.now) setting.now.levels.now table.new count
+        component.now.members.now columns.items) }
 {
     let mut columns = no_sets(alloc, component.members.len())?;
     for m in 0..count {

@@ -36,7 +36,10 @@ pub(crate) fn greatest_sets<N: Norm>(
     ensures keeps { Keeps table.old table.new }
     ensures marks { OnOk result (length marks.new ≡ length setting.now.program.now.clauses) }
     ensures solution { OnOk result
-        (IsSolution (N.truth setting.now.norm.now) setting.now.program.now setting.now.ranks.now component.now.rank (rows_of setting.now table.old component.now.allowed.now) (rows_of setting.now table.old setting.now.grounds.now) setting.now.levels.now table.new m sets.new) }
+        (IsSolution
+        (N.truth setting.now.norm.now) setting.now.program.now setting.now.ranks.now component.now.rank
+        (rows_of setting.now table.old component.now.allowed.now)
+        (rows_of setting.now table.old setting.now.grounds.now) setting.now.levels.now table.new m sets.new) }
 {
     put_covering(
         alloc,

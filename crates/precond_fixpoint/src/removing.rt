@@ -38,12 +38,15 @@ fn remove_rows<N: Norm>(
         (λ shrank. AreSets setting.now.program.now.preds table.new sets.new) }
     ensures removed { IfOk result (λ shrank. (c : Clause)
         → slice_get setting.now.program.now.clauses (k - 1) ≡ Some c
-        → RemovesBroken (N.truth setting.now.norm.now) setting.now.program.now table.old table.new setting.now.ranks.now setting.now.grounds.now component.now.allowed.now sets.old sets.new c) }
+        → RemovesBroken
+        (N.truth setting.now.norm.now) setting.now.program.now table.old table.new setting.now.ranks.now
+        setting.now.grounds.now component.now.allowed.now sets.old sets.new c) }
     ensures inside { IfOk result
         (λ shrank. IsInside (rows_of setting.now table.new sets.new)
         (rows_of setting.now table.old sets.old)) }
     ensures less { IfOk result (λ shrank. shrank ≡ true
-        → all_present setting.now.program.now.preds table.new sets.new < all_present setting.now.program.now.preds table.old sets.old) }
+        → all_present setting.now.program.now.preds table.new sets.new < all_present
+        setting.now.program.now.preds table.old sets.old) }
     ensures same { IfOk result (λ shrank. shrank ≡ false → sets.new ≡ sets.old) }
     ensures others { IfOk result (λ shrank. (c : Clause)
         → slice_get setting.now.program.now.clauses (k - 1) ≡ Some c
@@ -95,12 +98,15 @@ fn remove_member<N: Norm>(
     ensures sets { IfOk result
         (λ shrank. AreSets setting.now.program.now.preds table.new sets.new) }
     ensures needed { IfOk result
-        (λ shrank. Needed (N.truth setting.now.norm.now) setting.now.program.now table.old table.new setting.now.ranks.now component.now.rank setting.now.grounds.now component.now.allowed.now sets.old sets.new) }
+        (λ shrank. Needed
+        (N.truth setting.now.norm.now) setting.now.program.now table.old table.new setting.now.ranks.now
+        component.now.rank setting.now.grounds.now component.now.allowed.now sets.old sets.new) }
     ensures inside { IfOk result
         (λ shrank. IsInside (rows_of setting.now table.new sets.new)
         (rows_of setting.now table.old sets.old)) }
     ensures less { IfOk result (λ shrank. shrank ≡ true
-        → all_present setting.now.program.now.preds table.new sets.new < all_present setting.now.program.now.preds table.old sets.old) }
+        → all_present setting.now.program.now.preds table.new sets.new < all_present
+        setting.now.program.now.preds table.old sets.old) }
     ensures same { IfOk result (λ shrank. shrank ≡ false → sets.new ≡ sets.old) }
     ensures others { IfOk result (λ shrank. (c : Clause)
         → slice_get setting.now.program.now.clauses (k - 1) ≡ Some c
@@ -188,20 +194,30 @@ fn remove_next<N: Norm>(
     requires marks { length marks.old ≡ length setting.now.program.now.clauses }
     requires sets { AreSets setting.now.program.now.preds table.old sets.old }
     requires kept { UnmarkedKeep
-        (N.truth setting.now.norm.now) setting.now.program.now setting.now.ranks.now component.now.rank marks.old (rows_of setting.now table.old sets.old) (rows_of setting.now table.old component.now.allowed.now) (rows_of setting.now table.old setting.now.grounds.now) }
+        (N.truth setting.now.norm.now) setting.now.program.now setting.now.ranks.now component.now.rank
+        marks.old (rows_of setting.now table.old sets.old)
+        (rows_of setting.now table.old component.now.allowed.now)
+        (rows_of setting.now table.old setting.now.grounds.now) }
     ensures keeps { Keeps table.old table.new }
     ensures marks { IfOk result
         (λ more. length marks.new ≡ length setting.now.program.now.clauses) }
     ensures sets { IfOk result (λ more. AreSets setting.now.program.now.preds table.new sets.new) }
     ensures needed { IfOk result
-        (λ more. Needed (N.truth setting.now.norm.now) setting.now.program.now table.old table.new setting.now.ranks.now component.now.rank setting.now.grounds.now component.now.allowed.now sets.old sets.new) }
+        (λ more. Needed
+        (N.truth setting.now.norm.now) setting.now.program.now table.old table.new setting.now.ranks.now
+        component.now.rank setting.now.grounds.now component.now.allowed.now sets.old sets.new) }
     ensures inside { IfOk result
         (λ more. IsInside (rows_of setting.now table.new sets.new)
         (rows_of setting.now table.old sets.old)) }
     ensures kept { IfOk result
-        (λ more. UnmarkedKeep (N.truth setting.now.norm.now) setting.now.program.now setting.now.ranks.now component.now.rank marks.new (rows_of setting.now table.new sets.new) (rows_of setting.now table.old component.now.allowed.now) (rows_of setting.now table.old setting.now.grounds.now)) }
+        (λ more. UnmarkedKeep
+        (N.truth setting.now.norm.now) setting.now.program.now setting.now.ranks.now component.now.rank
+        marks.new (rows_of setting.now table.new sets.new)
+        (rows_of setting.now table.old component.now.allowed.now)
+        (rows_of setting.now table.old setting.now.grounds.now)) }
     ensures less { IfOk result (λ more. more ≡ true
-        → work setting.now.program.now.preds table.new sets.new marks.new < work setting.now.program.now.preds table.old sets.old marks.old) }
+        → work setting.now.program.now.preds table.new sets.new marks.new < work
+        setting.now.program.now.preds table.old sets.old marks.old) }
     ensures done { IfOk result (λ more. more ≡ false → (j : ℕ) → IsMarked marks.new j → ⊥) }
 {
     let Some(k) = marks.take() else {

@@ -26,7 +26,7 @@ use Rattle.termination_model.specs.Stated.{stated_rows}
 abbrev pub after : Clause → Step → (ℕ → List (List ℤ)) → ℕ → List (List ℤ)
 after k s rows q = if k.head.pred.0 == q then s.rows else rows q
 
--- the rows after a pass, after several, and after components
+-- the rows after a pass over these clauses, whose steps these are
 abbrev pub after_pass : (ℕ → List (List ℤ)) → List (ℕ × Clause) → List Step → ℕ → List (List ℤ)
 after_pass rows [] ss = rows
 after_pass rows (k ∷ ks) [] = rows
@@ -38,6 +38,7 @@ AreUnchanged rows [] ss = Unit {0}
 AreUnchanged rows (k ∷ ks) [] = Unit {0}
 AreUnchanged rows (k ∷ ks) (s ∷ ss) = (s.rows ≡ rows k.1.head.pred.0) × AreUnchanged rows ks ss
 
+-- the rows after the passes over these clauses, and after the runs of components: a run is the passes of one
 abbrev pub after_passes : (ℕ → List (List ℤ)) → List (ℕ × Clause) → List (List Step) → ℕ → List (List ℤ)
 after_passes rows ks [] = rows
 after_passes rows ks (ss ∷ sss) = after_passes (after_pass rows ks ss) ks sss
@@ -101,6 +102,7 @@ abbrev pub start_as : Option Builtin → Option Pred → List (List ℤ)
 start_as None o = start_or_none o
 start_as (Some b) o = stated_rows b
 
+-- the rows that a predicate starts with
 abbrev pub start_rows : Listing → ℕ → List (List ℤ)
 start_rows p q = start_as (kind_of p.arithmetic q) (slice_get p.preds q)
 

@@ -28,7 +28,7 @@ Sieved Stays Goes (x ∷ xs) ys = (Stays x × (zs : List (List ℤ)) × (ys ≡ 
 abbrev pub HasSublist : List (List ℤ) → List (List ℤ) → Type 0
 HasSublist = Sieved (λ _. Unit {0}) (λ _. Unit {0})
 
--- something is blown, at some step
+-- elimination is blown: at a step, and because a number does not fit, or because too many rows are left
 abbrev pub IsBlown : Option (ℕ × Bool) → Type 0
 IsBlown blown = (at : ℕ × Bool) × (blown ≡ Some at)
 

@@ -36,9 +36,11 @@ pub record Step : Type 0 where
 -- What a step may do to the n-ary rows of its head's predicate. What it knows of its clause are three facts of a row over
 -- the head's arguments: it holds there, it fails at a point of it, its test there is blown.
 module _ (speaks : List ℤ → Bool) (n : ℕ) (HoldsThere FailsThere IsBlownThere : List ℤ → Type 0) (pass : ℕ) (old image : List (List ℤ)) where
+  -- neither the image nor the old rows are empty
   abbrev pub BothHavePoints : Type 0
   BothHavePoints = HasPoint n image × HasPoint n old
 
+  -- the step may be weak: a test or a join that it needs is blown
   abbrev pub HasLicence : Type 0
   HasLicence = IsLicensed n HoldsThere FailsThere IsBlownThere pass old image
 
@@ -62,12 +64,14 @@ module _ (speaks : List ℤ → Bool) (n : ℕ) (HoldsThere FailsThere IsBlownTh
   IsWeak Same new = ⊥
   IsWeak Join new = ⊥
 
+  -- the rows that a step may leave, weak or not
   abbrev pub HasLegalRows : Bool → How → List (List ℤ) → Type 0
   HasLegalRows false = IsStrong
   HasLegalRows true = IsWeak
 
 module _ (speaks : List ℤ → Bool) (expression : ℕ → Tree → List ℤ) where
   module _ (rows : ℕ → List (List ℤ)) (k : Clause) where
+    -- how many arguments the head has
     abbrev pub arity : ℕ
     arity = length k.head.args
 
@@ -105,6 +109,7 @@ module _ (speaks : List ℤ → Bool) (expression : ℕ → Tree → List ℤ) w
     IsLegalImage false image = IsImage image
     IsLegalImage true image = IsBlown (image_blown k.vars heads body) × (image ≡ [])
 
+  -- a step that a chain may take in this pass: its image and its rows are legal
   pub record IsLegalStep (pass : ℕ) (rows : ℕ → List (List ℤ)) (k : Clause) (s : Step) : Type 0 where
     pub image : IsLegalImage rows k s.image_weak s.image
     pub legal : HasLegalRows speaks (arity rows k) (HoldsHere rows k) (FailsHere rows k) (IsBlownHere rows k) pass (rows k.head.pred.0) s.image s.weak s.how s.rows

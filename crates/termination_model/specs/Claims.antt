@@ -30,7 +30,8 @@ pub record Measure : Type 0 where
   pub mappings : List Mapping
   pub pre : Family
 
--- Predicates of one rank are a component
+-- A norm, by its size, its truth and its size expression; the rank of each predicate, which is its component; and what is claimed of
+-- predicates and components: size rows, ground rows, measures
 pub record Claims : Type 0 where
   pub size : (ℕ → ℕ) → Tree → ℕ
   pub truth : (ℕ → Bool) → Tree → Bool
@@ -45,10 +46,11 @@ abbrev pub SomeOf : {X : Type 0} → (X → Type 0) → List X → Type 0
 SomeOf P [] = ⊥
 SomeOf P (x ∷ xs) = P x ⊎ SomeOf P xs
 
+-- the sizes of an atom's arguments
 abbrev pub sizes : Claims → (ℕ → ℕ) → Atom → List ℕ
 sizes c s a = map (c.size s) a.args
 
--- the predicate's size rows hold, and its ground rows have the truth row
+-- the size rows of an atom's predicate hold at the sizes of its arguments
 abbrev pub IsSized : Claims → (ℕ → ℕ) → Atom → Type 0
 IsSized c s a = AllByRecursion (λ (r : List ℤ). Holds r 1 (sizes c s a)) (c.rows a.pred.0)
 
@@ -60,6 +62,7 @@ IsInductive c k = (s : ℕ → ℕ) → AllByRecursion (IsSized c s) k.body → 
 abbrev pub IsRanked : Claims → Clause → Type 0
 IsRanked c k = AllByRecursion (λ (b : Atom). c.rank b.pred.0 ≤ c.rank k.head.pred.0) k.body
 
+-- the level of an atom, as a row over so many variables
 abbrev pub level_row : Claims → ℕ → Mapping → Atom → List ℤ
 level_row c vars l a = row_over c.expression vars a.args (pos (l.offset a.pred.0) ∷ map pos (l.coefficients a.pred.0))
 

@@ -1,5 +1,5 @@
 -- To believe, for the modes.
--- The theorem: a query whose rigid arguments make an admitted row has short derivations alone.
+-- The theorem: of a query whose rigid arguments make an admitted row, all derivations are shorter than some bound.
 --
 -- To believe: `mode_row`, `Meets`. Queries are atoms with any terms and any counter.
 use Rattle.std.specs.Prelude.{ℕ, zero, suc, ◌==◌, Bool, false, List, [], ◌∷◌, length}

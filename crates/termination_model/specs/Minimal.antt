@@ -1,7 +1,7 @@
 -- To believe, for the modes.
 -- Minimal sets of numbers: ascending lists from 1 on, as modes are.
 --
--- `Has s` says that something is had with exactly this set.
+-- `Has s` says that there is something with exactly the set s: a decreasing mapping whose support it is, say.
 --
 -- To believe: `IsMinimal`.
 use Rattle.std.specs.Prelude.{◌≡◌, ℕ, suc, ◌<◌, ◌≤◌, ◌⊎◌, true, List, [], ◌∷◌}
@@ -18,11 +18,11 @@ abbrev pub IsAbove : List (List ℕ) → List ℕ → Type 0
 IsAbove list s = (t : List ℕ) × In t list × (is_part t s ≡ true)
 
 module _ (Has : List ℕ → Type 0) where
-  -- no part of the set is had
+  -- there is nothing with a part of the set
   abbrev pub IsExcluded : List ℕ → Type 0
   IsExcluded s = (u : List ℕ) → is_part u s ≡ true → Has u → ⊥
 
-  -- the set is had, and no other part of it is
+  -- there is something with the set, and nothing with any other part of it
   pub record IsMinimal (s : List ℕ) : Type 0 where
     pub had : Has s
     pub least : (u : List ℕ) → is_part u s ≡ true → Has u → u ≡ s

@@ -6,7 +6,7 @@ use Rattle.std.specs.Prelude.{ℕ, zero, suc, ◌&&◌, not, nat_lt, nat_eq, Boo
 use Rattle.std.specs.List.{list_all, list_any}
 use Rattle.termination_model.specs.Descent.{mode_row}
 
--- the ascending lists of that many of the m arguments from number i on, in lexicographic order
+-- the ascending lists of k of the m numbers from i on, in lexicographic order: `chosen 2 1 3` is [1,2], [1,3], [2,3]
 abbrev pub chosen : ℕ → ℕ → ℕ → List (List ℕ)
 chosen zero i m = [] ∷ []
 chosen (suc k) i zero = []

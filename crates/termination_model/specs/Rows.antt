@@ -1,12 +1,12 @@
 -- To believe, for the modes.
 -- Sums and multiples of rows, rows over expressions, and rows of truth values.
 --
--- To believe: `substituted`, `IsUpper`, `Covers`.
+-- To believe: `IsUpper`, `Covers`.
 use Rattle.std.specs.Prelude.{◌≡◌, ℕ, ◌<◌, Bool, true, List, [], ◌∷◌}
 pub use Rattle.linear_rows.specs.RowSums.{scaled, added}
 pub use Rattle.linear_rows.specs.Replacing.{combined, substituted}
 
--- as many places, and true wherever the other is
+-- the first row is as long as the second, and true wherever that one is: 110 is upper to 100
 abbrev pub IsUpper : List Bool → List Bool → Type 0
 IsUpper [] [] = Unit {0}
 IsUpper [] (b ∷ bs) = ⊥

@@ -21,12 +21,14 @@ pub data Place : Type 0 where
   Member : ℕ → Place
   Lower : (List Bool → Bool) → Place
 
+-- a call in a body: its arguments, the size rows and the ground rows of its predicate, and whether that is a member
 pub record Call : Type 0 where
   pub args : List Tree
   pub rows : List (List ℤ)
   pub grounds : List Bool → Bool
   pub place : Place
 
+-- a clause: its head's predicate as a member, its head's arguments, how many variables it has, and its calls
 pub record Rule : Type 0 where
   pub member : ℕ
   pub args : List Tree
@@ -39,29 +41,35 @@ system_of expression n [] = []
 system_of expression n (b ∷ bs) = map (row_over expression n b.args) b.rows ++ system_of expression n bs
 
 module _ (expression : ℕ → Tree → List ℤ) where
+  -- the level by a mapping of an atom of member q with arguments ts, as a row over n variables
   abbrev pub level_over : ℕ → ℕ → List Tree → Mapping → List ℤ
   level_over n q ts l = row_over expression n ts (pos (l.offset q) ∷ map pos (l.coefficients q))
 
+  -- the level of a clause's head, less that of a call, less d
   abbrev pub fall_over : Rule → ℕ → List Tree → ℕ → Mapping → List ℤ
   fall_over k q ts d l = added (level_over k.vars k.member k.args l) (scaled (negsuc 0) (added (level_over k.vars q ts l) (pos d ∷ [])))
 
+  -- where the rows hold, the mapping at place i falls from the head to the call, and none before it rises
   abbrev pub FallsOver : Rule → List (List ℤ) → ℕ → List Tree → ℕ → List Mapping → Type 0
   FallsOver k rows q ts i [] = ⊥
   FallsOver k rows q ts zero (l ∷ ls) = HoldsOn (suc k.vars) rows (fall_over k q ts 1 l)
   FallsOver k rows q ts (suc i) (l ∷ ls) = HoldsOn (suc k.vars) rows (fall_over k q ts 0 l) × FallsOver k rows q ts i ls
 
--- f is true at each upper row
+-- f is true at this row and at each row that is true wherever this one is
 abbrev pub all_upper : (List Bool → Bool) → List Bool → Bool
 all_upper f [] = f []
 all_upper f (true ∷ bs) = all_upper (λ us. f (true ∷ us)) bs
 all_upper f (false ∷ bs) = all_upper (λ us. f (true ∷ us)) bs && all_upper (λ us. f (false ∷ us)) bs
 
+-- the rows that some measure of a predicate's component admits
 abbrev pub upward_union : Claims → ℕ → List Bool → Bool
 upward_union c q bs = list_any (λ m. all_upper (m.pre q) bs) (c.measures (c.rank q))
 
+-- a predicate as component r sees it, whose members `index` numbers
 abbrev pub place_of : Claims → ℕ → (ℕ → ℕ) → ℕ → Place
 place_of c r index q = if c.rank q == r then Member (index q) else Lower (upward_union c q)
 
+-- an atom, a clause, and all clauses of the component, as it sees them
 abbrev pub call_of : Claims → ℕ → (ℕ → ℕ) → Atom → Call
 call_of c r index a = record { args = a.args; rows = c.rows a.pred.0; grounds = c.grounds a.pred.0; place = place_of c r index a.pred.0 }
 
