@@ -1,7 +1,7 @@
 #!/usr/bin/env bash
 # Times `cti infer`, outside the gate: 1 MB of facts (long ones, and of different names) and half as much, quicksort, generated programs
-# of 150 and 300 predicates, a chain of 3,000 predicates and a ring of 80 in a shuffled order, a clause of 48 variables, and facts whose
-# arguments have sizes that differ at random; and `cti check` on the certificates of the generated ones.
+# of 150 and 300 predicates, a chain of 3,000 predicates and a ring of 80 in a shuffled order, a clause of 48 variables, 8 predicates
+# that call each other at random, and facts whose arguments have sizes that differ at random; and `cti check` on the certificates of the generated ones.
 # Usage: bench/infer.sh [PROGRAM]     (PROGRAM is bin/cti where none is named)
 set -eu
 cd "$(dirname "$0")/.."
@@ -51,14 +51,32 @@ def nested(size):
     return "f(" * size + "a" + ")" * size
 
 
-def points(count, arity):
-    """Facts whose arguments have sizes that differ at random from 0 to 9."""
+def points(count, arity, most):
+    """Facts whose arguments have sizes that differ at random from 0 to the greatest."""
     pick = random.Random(count * 100 + arity)
-    return "".join("p(" + ",".join(nested(pick.randint(0, 9)) for _ in range(arity)) + ").\n" for _ in range(count))
+    return "".join("p(" + ",".join(nested(pick.randint(0, most)) for _ in range(arity)) + ").\n" for _ in range(count))
 
 
-for count, arity in [(80, 3), (20, 4), (9, 5)]:
-    write(f"points_{count}_{arity}", points(count, arity))
+def calls(count, arity):
+    """Predicates in a ring, each of which also calls two others at random, with its arguments permuted."""
+    pick = random.Random(1)
+    clauses = []
+    for k in range(count):
+        own = [f"X{place}" for place in range(arity)]
+        for _ in range(2):
+            called, others, head, place = pick.randrange(count), list(own), list(own), pick.randrange(arity)
+            pick.shuffle(others)
+            if pick.random() < 0.7:
+                head[place] = f"s({own[place]})"
+            clauses.append(f"p{k}({','.join(head)}) :- p{called}({','.join(others)}).")
+        clauses.append(f"p{k}({','.join(['0'] * arity)}).")
+        clauses.append(f"p{k}(s({own[0]}),{','.join(own[1:])}) :- p{(k + 1) % count}({','.join(own)}).")
+    return "\n".join(clauses) + "\n"
+
+
+for count, arity, most in [(80, 3, 9), (20, 4, 9), (9, 5, 9), (10, 5, 9), (14, 5, 9), (40, 3, 99)]:
+    write(f"points_{count}_{arity}_{most}", points(count, arity, most))
+write("calls_8_3", calls(8, 3))
 long_fact = "p(" + ",".join(["abcd"] * 11) + ").\n"
 different = "".join(f"p{n:05}(" + ",".join(f"a{n:05}x{k}" for k in range(6)) + ").\n" for n in range(16384))
 for name, text in [("long", long_fact * 16384), ("different", different)]:
@@ -85,7 +103,8 @@ write(
 )
 PYTHON
 
-for name in long_half long different_half different quicksort generated_150 generated_300 chain ring wide points_80_3 points_20_4 points_9_5; do
+for name in long_half long different_half different quicksort generated_150 generated_300 chain ring wide calls_8_3 \
+    points_80_3_9 points_20_4_9 points_9_5_9 points_10_5_9 points_14_5_9 points_40_3_99; do
     python3 bench/timed.py "$folder/$name.pl" "$program" infer "$folder/$name.pl"
 done
 for name in generated_150 generated_300; do

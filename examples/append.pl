@@ -1,5 +1,5 @@
-% Appends two lists, and splits one. Either the first list or the whole is enough, since each call
-% takes an element from both.
+% Appends two lists, and splits one. The first list or the third is enough, since each call takes
+% an element from both.
 %
 % Modes:
 % app/3  [[1],[3]]

@@ -1,8 +1,8 @@
 % A transitive closure that calls itself first. tc has no mode: it calls itself with its own first
-% argument, before any edge is looked for, so it never ends.
+% argument before it looks for an edge, so no query of it ends.
 %
 % Modes:
-% tc/2    none
+% tc/2    []
 % edge/2  [[]]
 
 tc(X,Y) :- edge(X,Y).

@@ -1,4 +1,11 @@
-% Edges, paths of two edges, and paths of any length.
+% Edges, paths of two edges, and paths of any length. reach ends here, since the graph has no cycle,
+% but no size shows that.
+%
+% Modes:
+% edge/2   [[]]
+% path2/2  [[]]
+% reach/2  []
+
 edge(a, b).
 edge(b, c).
 

@@ -1,5 +1,5 @@
-% The towers of Hanoi, with the list of moves. The pegs have to be known too: they stand in the list
-% of moves, and app ends where that list is ground.
+% The towers of Hanoi, with the list of moves. The pegs have to be known too: they are in the list
+% of moves, and app ends if that list is ground.
 %
 % Modes:
 % hanoi/5  [[1,2,3,4]]

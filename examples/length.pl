@@ -1,5 +1,5 @@
-% The length of a list, and the element at a place. What is counted is an integer, which has the size 0:
-% the list is what gets smaller.
+% The length of a list, and the element at a place. Integers have the size 0; what gets smaller is
+% the list.
 %
 % Modes:
 % len/2  [[1]]

@@ -1,5 +1,5 @@
-% Merge sort over the same numbers. The head takes two elements off the list before split, so that
-% each half with one of them is still smaller than the whole.
+% Merge sort of the numbers 0, s(0), s(s(0)) and so on. The head takes two elements off the list
+% before split, so that each half with one of them is still smaller than the whole.
 %
 % Modes:
 % msort/2  [[1]]

@@ -1,5 +1,5 @@
-% Addition, multiplication and factorials. times needs both factors, since its sum would else go on
-% with an unknown number.
+% Addition, multiplication and factorials of the numbers 0, s(0), s(s(0)) and so on. times needs
+% both factors, since otherwise plus would get an unknown number.
 %
 % Modes:
 % plus/3   [[1],[3]]

@@ -1,5 +1,5 @@
-% Permutations of a list. That select leaves a shorter list is a size relation; without it no mode
-% of perm could be found.
+% Permutations of a list. That select leaves a shorter list is a size relation; without it perm
+% would have no mode.
 %
 % Modes:
 % perm/2    [[1]]

@@ -1,5 +1,5 @@
-% Reverses a list by appending. Only the first argument helps: where it is not known, rev calls
-% itself with a free list for ever.
+% Reverses a list by appending. Only the first argument helps: if it is not known, rev calls itself
+% with an unknown list for ever.
 %
 % Modes:
 % rev/2  [[1]]

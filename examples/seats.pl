@@ -1,6 +1,6 @@
-% Guests in a row of four seats, which are not known. beside and member look down the row: what has to
-% be known of it is that it is a list, and not who sits where. So the modes are those of --norm list;
-% by the size of terms, which is the norm without the option, seats/1 has [[1]] only.
+% Guests in a row of four seats. beside and member look down the row: it has to be a list of known
+% length, but who sits where need not be known. So the modes are those of --norm list; by term size,
+% the norm without the option, seats/1 has [[1]] only.
 %
 % Modes, with --norm list:
 % seats/1   [[]]

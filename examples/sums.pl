@@ -1,4 +1,4 @@
-% The sum and the greatest of a list of integers.
+% The sum and the greatest element of a list of integers.
 %
 % Modes:
 % sum/2       [[1]]

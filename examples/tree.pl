@@ -1,5 +1,5 @@
-% Insertion into a search tree, and the list of its elements. insert ends where either tree is
-% known, and so inserts into one and takes out of the other.
+% Insertion into a search tree, and the list of its elements. insert ends if either tree is known:
+% it inserts into the first, or takes out of the second.
 %
 % Modes:
 % insert/3   [[2],[3]]
