@@ -8,13 +8,21 @@ use crate::multiple::{is_natural, multiple};
 use linear_rows::{Row, RowList, Rows};
 use std::alloc::{AllocError, Global};
 
-/// The rows without those that hold everywhere, and those that are at least a multiple of one other row.
+/// The most rows of which each is compared with each other one. Of more, most are implied by a few, and the tests that come
+/// after find them sooner.
+const MOST_COMPARED: usize = 64;
+
+/// The rows without those that hold everywhere, and those that are at least a multiple of one other row. Many rows are left
+/// as they are.
 pub(crate) fn undominated(alloc: Global, rows: Rows) -> Result<Rows, AllocError>
     requires { HaveWidth rows.width rows.list }
     ensures width { IfOk result (λ r. r.width ≡ rows.width) }
     ensures widths { IfOk result (λ r. HaveWidth rows.width r.list) }
     ensures less { IfOk result (λ r. IsLess rows.width (plain_rows rows.list) (plain_rows r.list)) }
 {
+    if rows.list.len() > MOST_COMPARED {
+        return Ok(rows);
+    }
     let mut signs = signs_of(alloc, &rows)?;
     let mut rows = rows;
     let mut place = 0;

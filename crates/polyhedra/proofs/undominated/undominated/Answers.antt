@@ -4,6 +4,9 @@ use Rattle.polyhedra.specs.Sweeping.{IsImplied}
 use Rattle.polyhedra.proofs.Sweeps.{less_self, less_out, fewer_rows, plain_without}
 use Rattle.polyhedra.proofs.undominated.undominated.Goals as goal
 
+pub returns-then-len-gt-MOST_COMPARED-clause-less : goal.returns-then-len-gt-MOST_COMPARED-clause-less
+returns-then-len-gt-MOST_COMPARED-clause-less c = less_self c.args.rows.width (plain_rows c.args.rows.list)
+
 pub loop-place-init : goal.loop-place-init
 loop-place-init c = record { width = refl; widths = c.requires; signs = c.in_ok-signs.ensures; less = less_self c.args.rows.width (plain_rows c.args.rows.list) }
 
