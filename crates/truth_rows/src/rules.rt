@@ -47,72 +47,99 @@ pub fn keeps_rule<N: Norm>(
 {
     // What every program keeps is said by `clauses`: the sets of its atoms are there.
     let _count = p.clauses();
-    calls_stay(norm, table, ranks, grounds, pre, allowed, p.clause(k))
+    let rule = ClauseRule {
+        ranks,
+        grounds,
+        pre,
+        allowed,
+        clause: p.clause(k),
+    };
+    rule.calls_stay(norm, table)
 }
 
-/// Whether each call that is reached from the head's set is in its own.
-fn calls_stay<N: Norm>(
-    norm: &N,
-    table: &mut Table,
-    ranks: &[u32],
-    grounds: &[Diagram],
-    pre: &[Diagram],
-    allowed: &[Diagram],
-    clause: &Clause,
-) -> Result<bool, AllocError>
-    requires head { clause.now.head.pred.0 < length ranks.now }
-    requires body { (j : ℕ) (b : Atom) → slice_get clause.now.body j ≡ Some b
-        → b.pred.0 < length ranks.now }
-    requires grounds { IsReadyClause table.old grounds.now clause.now }
-    requires pre { IsReadyClause table.old pre.now clause.now }
-    requires allowed { IsReadyClause table.old allowed.now clause.now }
-    ensures keeps { Keeps table.old table.new }
-    ensures stay { IfOk result (λ kept. IsTrue kept
-        ↔ ((v : ℕ → Bool) → HasAtom (N.truth norm.now) table.old pre.now v clause.now.head
-        → (j : ℕ) (b : Atom) → slice_get clause.now.body j ≡ Some b
-        → HasAtoms (N.truth norm.now) table.old grounds.now v clause.now.body j
-        → HasAtom (N.truth norm.now) table.old
-        (if same_rank ranks.now b.pred.0 clause.now.head.pred.0 then pre.now else allowed.now) v b)) }
-{
-    let mut ends = [0; MOST_VARIABLES as usize];
-    put_body_off(norm, &mut ends, &clause.body, clause.vars);
-    let rank = ranks[clause.head.pred.0 as usize];
-    let mut reached = atom_rows(norm, table, pre, &clause.head, clause.vars)?;
-    for (place, atom) in clause.body.as_slice().iter().enumerate() {
-        reached = without_ended(table, reached, &ends, place, clause.vars)?;
-        let own = ranks[atom.pred.0 as usize] == rank;
-        let stays = call_stays(norm, table, reached, own, pre, allowed, atom, clause.vars)?;
-        if !stays {
-            return Ok(false);
+/// A clause, and the sets of truth rows by which it keeps or breaks the rule of preconditions.
+///
+/// Each list has a place for each predicate.
+#[derive(Clone, Copy)]
+pub struct ClauseRule<'a> {
+    /// Predicates of one component have the same number.
+    pub ranks: &'a [u32],
+    /// A call is reached where each atom before it is in its set here.
+    pub grounds: &'a [Diagram],
+    /// The head's set, and those in which calls of its component have to be.
+    pub pre: &'a [Diagram],
+    /// The sets in which all other calls have to be.
+    pub allowed: &'a [Diagram],
+    pub clause: &'a Clause,
+}
+
+impl ClauseRule<'_> {
+    /// Whether each call that is reached from the head's set is in its own.
+    fn calls_stay<N: Norm>(&self, norm: &N, table: &mut Table) -> Result<bool, AllocError>
+        requires head { self.now.clause.now.head.pred.0 < length self.now.ranks.now }
+        requires body { (j : ℕ) (b : Atom) → slice_get self.now.clause.now.body j ≡ Some b
+            → b.pred.0 < length self.now.ranks.now }
+        requires grounds { IsReadyClause table.old self.now.grounds.now self.now.clause.now }
+        requires pre { IsReadyClause table.old self.now.pre.now self.now.clause.now }
+        requires allowed { IsReadyClause table.old self.now.allowed.now self.now.clause.now }
+        ensures keeps { Keeps table.old table.new }
+        ensures stay { IfOk result (λ kept. IsTrue kept
+            ↔ ((v : ℕ → Bool)
+            → HasAtom (N.truth norm.now) table.old self.now.pre.now v self.now.clause.now.head
+            → (j : ℕ) (b : Atom) → slice_get self.now.clause.now.body j ≡ Some b
+            → HasAtoms (N.truth norm.now) table.old self.now.grounds.now v self.now.clause.now.body j
+            → HasAtom (N.truth norm.now) table.old
+            (if same_rank self.now.ranks.now b.pred.0 self.now.clause.now.head.pred.0
+            then self.now.pre.now else self.now.allowed.now) v b)) }
+    {
+        let clause = self.clause;
+        let mut ends = [0; MOST_VARIABLES as usize];
+        put_body_off(norm, &mut ends, &clause.body, clause.vars);
+        let rank = self.ranks[clause.head.pred.0 as usize];
+        let mut reached = atom_rows(norm, table, self.pre, &clause.head, clause.vars)?;
+        for (place, atom) in clause.body.as_slice().iter().enumerate() {
+            reached = without_ended(table, reached, &ends, place, clause.vars)?;
+            let own = self.ranks[atom.pred.0 as usize] == rank;
+            let stays = self.call_stays(norm, table, reached, own, atom)?;
+            if !stays {
+                return Ok(false);
+            }
+            let holding = atom_rows(norm, table, self.grounds, atom, clause.vars)?;
+            reached = table.and(reached, holding)?;
         }
-        let holding = atom_rows(norm, table, grounds, atom, clause.vars)?;
-        reached = table.and(reached, holding)?;
+        Ok(true)
     }
-    Ok(true)
-}
 
-/// Whether an atom is in its set on each of the rows.
-fn call_stays<N: Norm>(
-    norm: &N,
-    table: &mut Table,
-    reached: Diagram,
-    own: bool,
-    pre: &[Diagram],
-    allowed: &[Diagram],
-    atom: &Atom,
-    vars: u32,
-) -> Result<bool, AllocError>
-    requires few { vars ≤ MOST_VARIABLES }
-    requires known { IsDiagram table.old reached }
-    requires pre { IsReady table.old pre.now vars atom.now }
-    requires allowed { IsReady table.old allowed.now vars atom.now }
-    ensures keeps { Keeps table.old table.new }
-    ensures stays { IfOk result (λ stays. IsTrue stays
-        ↔ ((v : ℕ → Bool) → IsTrue (holds table.old reached v)
-        → HasAtom (N.truth norm.now) table.old (if own then pre.now else allowed.now) v atom.now)) }
-{
-    let wanted = chosen_rows(norm, table, own, pre, allowed, atom, vars)?;
-    is_inside(table, reached, wanted)
+    /// Whether an atom is in its set on each of the rows.
+    fn call_stays<N: Norm>(
+        &self,
+        norm: &N,
+        table: &mut Table,
+        reached: Diagram,
+        own: bool,
+        atom: &Atom,
+    ) -> Result<bool, AllocError>
+        requires few { self.now.clause.now.vars ≤ MOST_VARIABLES }
+        requires known { IsDiagram table.old reached }
+        requires pre { IsReady table.old self.now.pre.now self.now.clause.now.vars atom.now }
+        requires allowed { IsReady table.old self.now.allowed.now self.now.clause.now.vars atom.now }
+        ensures keeps { Keeps table.old table.new }
+        ensures stays { IfOk result (λ stays. IsTrue stays
+            ↔ ((v : ℕ → Bool) → IsTrue (holds table.old reached v)
+            → HasAtom (N.truth norm.now) table.old
+            (if own then self.now.pre.now else self.now.allowed.now) v atom.now)) }
+    {
+        let wanted = chosen_rows(
+            norm,
+            table,
+            own,
+            self.pre,
+            self.allowed,
+            atom,
+            self.clause.vars,
+        )?;
+        is_inside(table, reached, wanted)
+    }
 }
 
 /// The rows on which an atom is in one of two sets.
