@@ -1,9 +1,10 @@
 #!/usr/bin/env bash
 # Times `cti run` beside SWI-Prolog with its occurs check on, outside the gate: naive reverse of 900 elements, all permutations of 8,
-# six queens, and all splits of a list of 600. Both go through all answers of the same query, once without writing any and once writing
-# all. Then it times `cti run` alone on what once took it long or much memory: a counter beside a result that stays a variable, answers
-# that share a great term, and two terms of 200 levels that share their parts. Times are the least of seven runs, in seconds of the
-# processor; those of `cti` are of the whole process, and so is its memory, from which that of a run of one step is taken.
+# six queens, the towers of Hanoi with 13 discs, and all splits of a list of 600. Both go through all answers of the same query, once
+# without writing any and once writing all. Then it times `cti run` alone on what once took it long or much memory: a counter beside
+# a result that stays a variable, answers that share a great term, and two terms of 200 levels that share their parts. Times are the
+# least of seven runs, in seconds of the processor; those of `cti` are of the whole process, and so is its memory, from which that of
+# a run of one step is taken.
 # Usage: bench/run.sh [PROGRAM]     (PROGRAM is bin/cti where none is named)
 set -eu
 cd "$(dirname "$0")/.."
@@ -27,6 +28,7 @@ QUEENS = PERM + (
     "noatt(Q,D,[P|Ps]) :- plus(P,D,S), diff(Q,S), plus(Q,D,T), diff(P,T), noatt(Q,s(D),Ps).\n"
     "diff(0,s(_)).\ndiff(s(_),0).\ndiff(s(X),s(Y)) :- diff(X,Y).\nplus(0,Y,Y).\nplus(s(X),Y,s(Z)) :- plus(X,Y,Z).\n"
 )
+HANOI = APP + "hanoi(0,_,_,_,[]).\nhanoi(s(N),A,B,C,M) :- hanoi(N,A,C,B,L), hanoi(N,C,B,A,R), app(L,[A-B|R],M).\n"
 COUNTER = "c(R,N) :- c(R,s(N)).\n"
 DOUBLED = "d0(a).\n" + "".join(f"d{k + 1}(f(T,T)) :- d{k}(T).\n" for k in range(15)) + "n(0).\nn(s(X)) :- n(X).\n"
 SHARED = "pair(0,X,X).\npair(s(N),X,T) :- pair(N,f(X,X),T).\nboth(N) :- pair(N,_,S), pair(N,_,T), S = T.\n"
@@ -45,6 +47,7 @@ CASES = [
     ("reverse of 900", REV, f"rev({elements(900)},R)"),
     ("permutations of 8", PERM, f"perm({elements(8)},P)"),
     ("six queens", QUEENS, f"queens([{','.join(number(n) for n in range(1, 7))}],Q)"),
+    ("towers of Hanoi with 13 discs", HANOI, f"hanoi({number(13)},a,b,c,M)"),
     ("splits of 600", APP, f"app(X,Y,{elements(600)})"),
 ]
 ALONE = [
