@@ -7,35 +7,44 @@ ghost use Rattle.precond_fixpoint.specs.Breaking.{AreReadyFor, Breaks};
 ghost use Rattle.termination_model.specs.Grounds.{truth_row};
 
 use bool_diagrams::{Diagram, Table};
-use cti_terms::{Atom, Clause, MOST_VARIABLES};
+use cti_terms::{Atom, MOST_VARIABLES};
 use std::alloc::AllocError;
 use term_size::Norm;
-use truth_rows::{atom_rows, chosen_rows, put_all_off, put_body_off, rows_of_head, without_ended};
+use truth_rows::{
+    ClauseRule, atom_rows, chosen_rows, put_all_off, put_body_off, rows_of_head, without_ended,
+};
 
-/// The rows of a set on which an atom is not in one of two sets.
+/// The rows of a set on which an atom of the clause is not in its own set: in `pre` if it is of the head's component, else
+/// in `allowed`.
 fn leaving_rows<N: Norm>(
     norm: &N,
     table: &mut Table,
+    rule: &ClauseRule,
     reached: Diagram,
     own: bool,
-    pre: &[Diagram],
-    allowed: &[Diagram],
     atom: &Atom,
-    vars: u32,
 ) -> Result<Diagram, AllocError>
-    requires few { vars ≤ MOST_VARIABLES }
+    requires few { rule.now.clause.now.vars ≤ MOST_VARIABLES }
     requires known { IsDiagram table.old reached }
-    requires pre { IsReady table.old pre.now vars atom.now }
-    requires allowed { IsReady table.old allowed.now vars atom.now }
+    requires pre { IsReady table.old rule.now.pre.now rule.now.clause.now.vars atom.now }
+    requires allowed { IsReady table.old rule.now.allowed.now rule.now.clause.now.vars atom.now }
     ensures keeps { Keeps table.old table.new }
     ensures known { IfOk result (IsDiagram table.new) }
     ensures rows { IfOk result (λ d. (v : ℕ → Bool)
         → IsTrue (holds table.new d v)
         ↔ (IsTrue (holds table.old reached v)
         × (HasAtom (N.truth norm.now) table.old
-        (if own then pre.now else allowed.now) v atom.now → ⊥))) }
+        (if own then rule.now.pre.now else rule.now.allowed.now) v atom.now → ⊥))) }
 {
-    let wanted = chosen_rows(norm, table, own, pre, allowed, atom, vars)?;
+    let wanted = chosen_rows(
+        norm,
+        table,
+        own,
+        rule.pre,
+        rule.allowed,
+        atom,
+        rule.clause.vars,
+    )?;
     let outside = table.not(wanted)?;
     let rows = table.and(reached, outside)?;
     Ok(rows)
@@ -48,36 +57,36 @@ fn leaving_rows<N: Norm>(
 fn breaking_values<N: Norm>(
     norm: &N,
     table: &mut Table,
-    ranks: &[u32],
-    grounds: &[Diagram],
-    pre: &[Diagram],
-    allowed: &[Diagram],
-    clause: &Clause,
+    rule: &ClauseRule,
 ) -> Result<Diagram, AllocError>
-    requires { AreReadyFor table.old ranks.now grounds.now pre.now allowed.now clause.now }
+    requires { AreReadyFor table.old rule.now.ranks.now rule.now.grounds.now rule.now.pre.now
+        rule.now.allowed.now rule.now.clause.now }
     ensures keeps { Keeps table.old table.new }
     ensures known { IfOk result (IsDiagram table.new) }
     ensures all { IfOk result (λ d. (v : ℕ → Bool)
-        → Breaks (N.truth norm.now) table.old ranks.now grounds.now pre.now allowed.now clause.now v
+        → Breaks (N.truth norm.now) table.old rule.now.ranks.now rule.now.grounds.now rule.now.pre.now
+        rule.now.allowed.now rule.now.clause.now v
         → IsTrue (holds table.new d v)) }
     ensures some { IfOk result (λ d. (row : ℕ → Bool) → IsTrue (holds table.new d row)
-        → (v : ℕ → Bool) × (truth_row (N.truth norm.now) v clause.now.head
-        ≡ truth_row (N.truth norm.now) row clause.now.head)
-        × Breaks (N.truth norm.now) table.old ranks.now grounds.now pre.now allowed.now clause.now v) }
+        → (v : ℕ → Bool) × (truth_row (N.truth norm.now) v rule.now.clause.now.head
+        ≡ truth_row (N.truth norm.now) row rule.now.clause.now.head)
+        × Breaks (N.truth norm.now) table.old rule.now.ranks.now rule.now.grounds.now rule.now.pre.now
+        rule.now.allowed.now rule.now.clause.now v) }
 {
+    let clause = rule.clause;
     let mut ends = [0; MOST_VARIABLES as usize];
     put_body_off(norm, &mut ends, &clause.body, clause.vars);
     put_all_off(norm, &mut ends, usize::MAX, &clause.head.args, clause.vars);
-    let rank = ranks[clause.head.pred.0 as usize];
+    let rank = rule.ranks[clause.head.pred.0 as usize];
     let mut broken = table.truth(false);
-    let mut reached = atom_rows(norm, table, pre, &clause.head, clause.vars)?;
+    let mut reached = atom_rows(norm, table, rule.pre, &clause.head, clause.vars)?;
     for (place, atom) in clause.body.as_slice().iter().enumerate() {
         reached = without_ended(table, reached, &ends, place, clause.vars)?;
         broken = without_ended(table, broken, &ends, place, clause.vars)?;
-        let own = ranks[atom.pred.0 as usize] == rank;
-        let leaving = leaving_rows(norm, table, reached, own, pre, allowed, atom, clause.vars)?;
+        let own = rule.ranks[atom.pred.0 as usize] == rank;
+        let leaving = leaving_rows(norm, table, rule, reached, own, atom)?;
         broken = table.or(broken, leaving)?;
-        let holding = atom_rows(norm, table, grounds, atom, clause.vars)?;
+        let holding = atom_rows(norm, table, rule.grounds, atom, clause.vars)?;
         reached = table.and(reached, holding)?;
     }
     Ok(broken)
@@ -87,21 +96,21 @@ fn breaking_values<N: Norm>(
 pub(crate) fn broken_rows<N: Norm>(
     norm: &N,
     table: &mut Table,
-    ranks: &[u32],
-    grounds: &[Diagram],
-    pre: &[Diagram],
-    allowed: &[Diagram],
-    clause: &Clause,
+    rule: &ClauseRule,
 ) -> Result<Diagram, AllocError>
-    requires { AreReadyFor table.old ranks.now grounds.now pre.now allowed.now clause.now }
+    requires { AreReadyFor table.old rule.now.ranks.now rule.now.grounds.now rule.now.pre.now
+        rule.now.allowed.now rule.now.clause.now }
     ensures keeps { Keeps table.old table.new }
     ensures known { IfOk result (IsDiagram table.new) }
     ensures rows { IfOk result (λ d. (row : ℕ → Bool) → IsTrue (holds table.new d row)
         ↔ ((v : ℕ → Bool) × Breaks
-        (N.truth norm.now) table.old ranks.now grounds.now pre.now allowed.now clause.now v
-        × HasTruths (N.truth norm.now) v row clause.now.head.args (length clause.now.head.args))) }
+        (N.truth norm.now) table.old rule.now.ranks.now rule.now.grounds.now rule.now.pre.now
+        rule.now.allowed.now rule.now.clause.now v
+        × HasTruths (N.truth norm.now) v row rule.now.clause.now.head.args
+        (length rule.now.clause.now.head.args))) }
 {
-    let values = breaking_values(norm, table, ranks, grounds, pre, allowed, clause)?;
-    let rows = rows_of_head(norm, table, values, &clause.head.args, clause.vars)?;
+    let values = breaking_values(norm, table, rule)?;
+    let head = &rule.clause.head;
+    let rows = rows_of_head(norm, table, values, &head.args, rule.clause.vars)?;
     Ok(rows)
 }

@@ -19,6 +19,7 @@ use cti_terms::PredId;
 use groundness::{ClauseLists, Marks};
 use std::alloc::AllocError;
 use term_size::Norm;
+use truth_rows::ClauseRule;
 
 /// Removes the rows of a clause's head from which the rule is broken, and says whether there was one.
 fn remove_rows<N: Norm>(
@@ -62,15 +63,14 @@ fn remove_rows<N: Norm>(
 {
     let _program = setting.program.preds();
     let clause = setting.program.clause(k);
-    let broken = broken_rows(
-        setting.norm,
-        table,
-        setting.ranks,
-        setting.grounds,
-        sets,
-        component.allowed,
+    let rule = ClauseRule {
+        ranks: setting.ranks,
+        grounds: setting.grounds,
+        pre: sets,
+        allowed: component.allowed,
         clause,
-    )?;
+    };
+    let broken = broken_rows(setting.norm, table, &rule)?;
     let unbroken = table.not(broken)?;
     let place = clause.head.pred.0 as usize;
     let kept = table.and(sets[place], unbroken)?;

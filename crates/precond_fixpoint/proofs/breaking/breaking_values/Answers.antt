@@ -31,37 +31,37 @@ pub leaving_rows-requires-clause-pre : goal.leaving_rows-requires-clause-pre
 leaving_rows-requires-clause-pre g c =
     let n = c.loop-place.place in
     let b = c.atom-item.result in
-    let at : slice_get c.args.clause.now.body n ≡ Some b = ap (λ (bs : List Atom). slice_get bs n) (sym c.as_slice-atom-items.ensures) ∙ at_place c.as_slice-atom-items.result.now n b c.loop-place-test.true c.atom-item.is in
-    ready_later c.args.table.now c.without_ended-in-loop-place.new.table (keeps_twice _ _ _ c.loop-place.invariant.keeps (keeps_twice _ _ _ c.without_ended.ensures.keeps c.without_ended-in-loop-place.ensures.keeps)) c.args.pre.now c.args.clause.now.vars b (c.requires.pre_ready.body n b at)
+    let at : slice_get c.args.rule.now.clause.now.body n ≡ Some b = ap (λ (bs : List Atom). slice_get bs n) (sym c.as_slice-atom-items.ensures) ∙ at_place c.as_slice-atom-items.result.now n b c.loop-place-test.true c.atom-item.is in
+    ready_later c.args.table.now c.without_ended-in-loop-place.new.table (keeps_twice _ _ _ c.loop-place.invariant.keeps (keeps_twice _ _ _ c.without_ended.ensures.keeps c.without_ended-in-loop-place.ensures.keeps)) c.args.rule.now.pre.now c.args.rule.now.clause.now.vars b (c.requires.pre_ready.body n b at)
 
 pub leaving_rows-requires-clause-allowed : goal.leaving_rows-requires-clause-allowed
 leaving_rows-requires-clause-allowed g c =
     let n = c.loop-place.place in
     let b = c.atom-item.result in
-    let at : slice_get c.args.clause.now.body n ≡ Some b = ap (λ (bs : List Atom). slice_get bs n) (sym c.as_slice-atom-items.ensures) ∙ at_place c.as_slice-atom-items.result.now n b c.loop-place-test.true c.atom-item.is in
-    ready_later c.args.table.now c.without_ended-in-loop-place.new.table (keeps_twice _ _ _ c.loop-place.invariant.keeps (keeps_twice _ _ _ c.without_ended.ensures.keeps c.without_ended-in-loop-place.ensures.keeps)) c.args.allowed.now c.args.clause.now.vars b (c.requires.allowed_ready.body n b at)
+    let at : slice_get c.args.rule.now.clause.now.body n ≡ Some b = ap (λ (bs : List Atom). slice_get bs n) (sym c.as_slice-atom-items.ensures) ∙ at_place c.as_slice-atom-items.result.now n b c.loop-place-test.true c.atom-item.is in
+    ready_later c.args.table.now c.without_ended-in-loop-place.new.table (keeps_twice _ _ _ c.loop-place.invariant.keeps (keeps_twice _ _ _ c.without_ended.ensures.keeps c.without_ended-in-loop-place.ensures.keeps)) c.args.rule.now.allowed.now c.args.rule.now.clause.now.vars b (c.requires.allowed_ready.body n b at)
 
 pub atom_rows-requires-in-loop-place-clause-ready :
     goal.atom_rows-requires-in-loop-place-clause-ready
 atom_rows-requires-in-loop-place-clause-ready g c =
     let n = c.loop-place.place in
     let b = c.atom-item.result in
-    let at : slice_get c.args.clause.now.body n ≡ Some b = ap (λ (bs : List Atom). slice_get bs n) (sym c.as_slice-atom-items.ensures) ∙ at_place c.as_slice-atom-items.result.now n b c.loop-place-test.true c.atom-item.is in
+    let at : slice_get c.args.rule.now.clause.now.body n ≡ Some b = ap (λ (bs : List Atom). slice_get bs n) (sym c.as_slice-atom-items.ensures) ∙ at_place c.as_slice-atom-items.result.now n b c.loop-place-test.true c.atom-item.is in
     let ended = keeps_twice _ _ _ c.without_ended.ensures.keeps c.without_ended-in-loop-place.ensures.keeps in
-    ready_later c.args.table.now c.or.new.self (keeps_twice _ _ _ c.loop-place.invariant.keeps (keeps_twice _ _ _ ended (keeps_twice _ _ _ c.leaving_rows.ensures.keeps c.or.ensures.keeps))) c.args.grounds.now c.args.clause.now.vars b (c.requires.grounds_ready.body n b at)
+    ready_later c.args.table.now c.or.new.self (keeps_twice _ _ _ c.loop-place.invariant.keeps (keeps_twice _ _ _ ended (keeps_twice _ _ _ c.leaving_rows.ensures.keeps c.or.ensures.keeps))) c.args.rule.now.grounds.now c.args.rule.now.clause.now.vars b (c.requires.grounds_ready.body n b at)
 
 pub loop-place-preserved : goal.loop-place-preserved
 loop-place-preserved g c =
     let n = c.loop-place.place in
     let b = c.atom-item.result in
-    let k = c.args.clause.now in
+    let k = c.args.rule.now.clause.now in
     let i = c.loop-place.invariant in
     let truth = g.N.Norm.truth c.args.norm.now in
     let old = c.args.table.now in
-    let ranks = c.args.ranks.now in
-    let grounds = c.args.grounds.now in
-    let pre = c.args.pre.now in
-    let allowed = c.args.allowed.now in
+    let ranks = c.args.rule.now.ranks.now in
+    let grounds = c.args.rule.now.grounds.now in
+    let pre = c.args.rule.now.pre.now in
+    let allowed = c.args.rule.now.allowed.now in
     let ends = c.put_all_off.new.ends in
     let T0 = c.loop-place.table in
     let T1 = c.without_ended.new.table in
@@ -133,16 +133,16 @@ loop-place-preserved g c =
 pub returns-clause-all : goal.returns-clause-all
 returns-clause-all g c = λ v breaks.
     c.loop-place.invariant.broken.all v
-    (breaks_all (g.N.Norm.truth c.args.norm.now) c.args.table.now c.args.ranks.now c.args.grounds.now c.args.pre.now c.args.allowed.now c.args.clause.now v c.loop-place.place
+    (breaks_all (g.N.Norm.truth c.args.norm.now) c.args.table.now c.args.rule.now.ranks.now c.args.rule.now.grounds.now c.args.rule.now.pre.now c.args.rule.now.allowed.now c.args.rule.now.clause.now v c.loop-place.place
     (omega (arith, c.loop-place-test.false, ap length c.as_slice-atom-items.ensures)) breaks)
 
 pub returns-clause-some : goal.returns-clause-some
 returns-clause-some g c = λ row t.
     let s = c.loop-place.invariant.broken.some row t in
     let truth = g.N.Norm.truth c.args.norm.now in
-    let k = c.args.clause.now in (
+    let k = c.args.rule.now.clause.now in (
       s.0,
       row_told truth c.put_all_off.new.ends c.loop-place.place k.head.args (c.put_all_off.ensures.told c.loop-place.place (omega arith)) s.0 row s.1,
-      all_breaks truth c.args.table.now c.args.ranks.now c.args.grounds.now c.args.pre.now c.args.allowed.now k s.0 c.loop-place.place
+      all_breaks truth c.args.table.now c.args.rule.now.ranks.now c.args.rule.now.grounds.now c.args.rule.now.pre.now c.args.rule.now.allowed.now k s.0 c.loop-place.place
           (omega (arith, c.loop-place-test.false, ap length c.as_slice-atom-items.ensures)) s.2,
     )

@@ -12,9 +12,9 @@ invariant-loop-place g l =
       known : IsDiagram l.table l.reached;
       kept : IsDiagram l.table l.broken;
       reached : SaysAsked l.ends l.place
-          (λ (v : ℕ → Bool). HasAtom (g.N.Norm.truth l.norm) l.fn.table l.pre v l.clause.head × HasAtoms (g.N.Norm.truth l.norm) l.fn.table l.grounds v l.clause.body l.place)
+          (λ (v : ℕ → Bool). HasAtom (g.N.Norm.truth l.norm) l.fn.table l.rule.pre.now v l.rule.clause.now.head × HasAtoms (g.N.Norm.truth l.norm) l.fn.table l.rule.grounds.now v l.rule.clause.now.body l.place)
           (holds l.table l.reached);
       broken : SaysAsked l.ends l.place
-          (λ (v : ℕ → Bool). BreaksBelow (g.N.Norm.truth l.norm) l.fn.table l.ranks l.grounds l.pre l.allowed l.clause l.place v)
+          (λ (v : ℕ → Bool). BreaksBelow (g.N.Norm.truth l.norm) l.fn.table l.rule.ranks.now l.rule.grounds.now l.rule.pre.now l.rule.allowed.now l.rule.clause.now l.place v)
           (holds l.table l.broken);
     }

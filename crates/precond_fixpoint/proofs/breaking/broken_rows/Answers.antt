@@ -5,7 +5,7 @@ use Rattle.precond_fixpoint.proofs.breaking.broken_rows.Goals as goal
 pub returns-clause-rows : goal.returns-clause-rows
 returns-clause-rows g c = λ row.
     let truth = g.N.Norm.truth c.args.norm.now in
-    let k = c.args.clause.now in (
+    let k = c.args.rule.now.clause.now in (
       λ t.
           let s = c.in_ok-rows.ensures.some row t in
           let b = c.in_ok-values.ensures.some s.0 s.1 in
@@ -13,6 +13,6 @@ returns-clause-rows g c = λ row.
       λ s. c.in_ok-rows.ensures.all s.0 row
           (λ w agree. c.in_ok-values.ensures.all w
           (breaks_agree (g.N.Norm.size c.args.norm.now) truth (g.N.Norm.expression c.args.norm.now) (g.met.N.Norm.laws c.args.norm.now)
-          c.args.table.now c.args.ranks.now c.args.grounds.now c.args.pre.now c.args.allowed.now k c.requires.grounds_ready s.0 w agree s.1))
+          c.args.table.now c.args.rule.now.ranks.now c.args.rule.now.grounds.now c.args.rule.now.pre.now c.args.rule.now.allowed.now k c.requires.grounds_ready s.0 w agree s.1))
           s.2,
     )
