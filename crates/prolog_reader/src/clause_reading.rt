@@ -105,48 +105,55 @@ fn end_kind(refusal: Refusal) -> ReadKind
     }
 }
 
+/// A clause that is to be read: the text, the operators in force, the names that the syntax makes terms of, the first token, and whether
+/// the clause is a query.
+#[derive(Clone, Copy)]
+pub struct ClauseStart<'a> {
+    pub text: &'a [u8],
+    pub ops: &'a Ops,
+    pub known: Known,
+    pub first: Token,
+    pub is_query: bool,
+}
+
 /// Reads a clause from its first token on, or says why there is none. A query ends also where its text does.
 pub fn read_clause(
     alloc: Global,
-    text: &[u8],
+    start: &ClauseStart,
     lexer: &mut Lexer,
     names: &mut Names,
-    ops: &Ops,
-    known: Known,
-    first: Token,
-    is_query: bool,
 ) -> Result<Found, AllocError>
-    requires short { length text.now ≤ most_bytes }
-    requires same { lexer.old.text ≡ text.now }
-    requires behind { lexer.old.at ≡ first.end }
-    requires given { IsTokenOf text.now first }
-    requires within { IsWithin text.now first }
-    requires known { AreKnown names.old known }
-    requires room { length names.old + length text.now ≤ 4294967000 + first.start }
+    requires short { length start.now.text.now ≤ most_bytes }
+    requires same { lexer.old.text ≡ start.now.text.now }
+    requires behind { lexer.old.at ≡ start.now.first.end }
+    requires given { IsTokenOf start.now.text.now start.now.first }
+    requires within { IsWithin start.now.text.now start.now.first }
+    requires known { AreKnown names.old start.now.known }
+    requires room { length names.old + length start.now.text.now ≤ 4294967000 + start.now.first.start }
     ensures found { IfOk result
         (λ found. (later : List (List ℕ)) (ts : List TextToken) (fault : Option LexFault)
         → Extends names.new later → Lexes lexer.old ts fault
-        → Finds later text.now fault (closing_of is_query fault) (table_of ops.now)
-        (first ∷ ts) lexer.new found) }
+        → Finds later start.now.text.now fault (closing_of start.now.is_query fault)
+        (table_of start.now.ops.now) (start.now.first ∷ ts) lexer.new found) }
     ensures added { IfOk result (λ found. (ts : List TextToken) (fault : Option LexFault)
         → Lexes lexer.old ts fault
-        → ReadNames text.now names.old names.new (first ∷ ts) fault lexer.new found) }
+        → ReadNames start.now.text.now names.old names.new (start.now.first ∷ ts) fault lexer.new found) }
     ensures fit { IfOk result (λ found. (count : ℕ) → length names.new ≤ count
-        → IsFoundFit count (2 * first.start) (2 * lexer.new.at) found) }
-    ensures same { lexer.new.text ≡ text.now }
-    ensures on { (lexer.old.at ≤ lexer.new.at) × (lexer.new.at ≤ length text.now) }
+        → IsFoundFit count (2 * start.now.first.start) (2 * lexer.new.at) found) }
+    ensures same { lexer.new.text ≡ start.now.text.now }
+    ensures on { (lexer.old.at ≤ lexer.new.at) × (lexer.new.at ≤ length start.now.text.now) }
     ensures kept { Extends names.old names.new }
-    ensures few { length names.new + first.start ≤ length names.old + lexer.new.at }
+    ensures few { length names.new + start.now.first.start ≤ length names.old + lexer.new.at }
 {
-    let parser = Parser::new(alloc, ops, known);
+    let parser = Parser::new(alloc, start.ops, start.known);
     let variables = Variables::new(alloc);
     let mut reader = ClauseReader {
-        text,
+        text: start.text,
         parser,
         variables,
         before: None,
-        token: first,
-        is_query,
+        token: start.first,
+        is_query: start.is_query,
     };
     let found = reader.read(lexer, names)?;
     Ok(found)

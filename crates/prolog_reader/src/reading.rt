@@ -17,7 +17,7 @@ ghost use Rattle.prolog_terms.specs.Clauses.{Clause};
 ghost use Rattle.prolog_reader.specs.Fit.{AreFit, IsQueryFit};
 ghost use Rattle.prolog_reader.specs.Answers.{AnswersText, AnswersQuery, RefusesText, RefusesQuery, SaysText, SaysQuery};
 
-use crate::clause_reading::{Found, read_clause};
+use crate::clause_reading::{ClauseStart, Found, read_clause};
 use crate::directives::obey;
 use crate::fault::{ReadFault, ReadKind};
 use crate::limits::MOST_BYTES;
@@ -131,16 +131,14 @@ fn read_clauses(
                 });
             }
         };
-        match read_clause(
-            alloc,
+        let start = ClauseStart {
             text,
-            &mut lexer,
-            names,
-            &ops,
-            words.known,
+            ops: &ops,
+            known: words.known,
             first,
-            false,
-        )? {
+            is_query: false,
+        };
+        match read_clause(alloc, &start, &mut lexer, names)? {
             Found::Clause(clause) => {
                 if !obey(&mut ops, &words, &clause.term)? {
                     return Err(ReadFault::Fault {
@@ -263,7 +261,14 @@ fn read_term(
             });
         }
     };
-    let clause = match read_clause(alloc, text, &mut lexer, names, ops, known, first, true)? {
+    let start = ClauseStart {
+        text,
+        ops,
+        known,
+        first,
+        is_query: true,
+    };
+    let clause = match read_clause(alloc, &start, &mut lexer, names)? {
         Found::Clause(clause) => clause,
         Found::Refused { kind, at } => return Err(ReadFault::Fault { kind, at }),
     };

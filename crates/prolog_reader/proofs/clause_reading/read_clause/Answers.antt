@@ -28,7 +28,7 @@ read-requires c =
 
 pub returns-clause-found : goal.returns-clause-found
 returns-clause-found c = λ later ts fault ext lexes.
-    subst (λ (o : Ops). Finds later c.args.text.now fault (closing_of c.args.is_query fault) (table_of o) (c.args.first ∷ ts) c.read.new.lexer c.in_ok-found.found) c.new-parser.ensures.0
+    subst (λ (o : Ops). Finds later c.args.start.now.text.now fault (closing_of c.args.start.now.is_query fault) (table_of o) (c.args.start.now.first ∷ ts) c.read.new.lexer c.in_ok-found.found) c.new-parser.ensures.0
     (c.in_ok-found.ensures.found.found later ts fault ext lexes)
 
 pub returns-clause-added : goal.returns-clause-added
