@@ -1,13 +1,12 @@
 -- Elements of lists of lists by their places, and components by their members.
-use Rattle.std.proofs.Common.{◌≡◌, inl, inr, ℕ, ℤ, nat_lt, zero, suc, ◌+◌, ◌<◌, ◌==◌, Bool, true, false, List, [], ◌∷◌, ◌++◌, length, map, take, slice_get, slice_index_or, Option, None, Some, unwrap_or, refl, ap, sym, ◌∙◌, arith, eqb-true}
+use Rattle.std.proofs.Common.{◌≡◌, inl, inr, ℕ, zero, suc, ◌+◌, ◌<◌, ◌==◌, Bool, true, false, List, [], ◌∷◌, ◌++◌, length, map, take, slice_get, slice_index_or, Option, None, Some, unwrap_or, refl, ap, sym, ◌∙◌, arith, eqb-true}
 use Rattle.std.specs.List.{Any, Contains}
 use Rattle.std.proofs.lemmas.Bool.{cases_eq, cases_lt, eq-eqb}
 use Rattle.std.proofs.lemmas.Bool.Decides.{nat_tests}
 use Rattle.call_components.specs.Numbers.{number_of}
 use Rattle.call_components.specs.Partition.{Partition}
 use Rattle.cti_terms.specs.declared.predicates.PredId.{PredId}
-use Rattle.number_tests.specs.Levels.{coefficients_of, is_positive, items_of, natural, naturals}
-use Rattle.number_tests.specs.declared.level_part.LevelPart.{LevelPart}
+use Rattle.number_tests.specs.Levels.{items_of}
 use Rattle.precond_fixpoint.specs.Removing.{is_ranked}
 use Rattle.termination_model.specs.Chain.{is_member, is_number}
 
@@ -87,14 +86,3 @@ pub any_at : {X : Type 0} → (P : X → Type 0) (xs : List X) (i : ℕ) (x : X)
 any_at P [] i x e h = cc
 any_at P (y ∷ xs) zero x e h = let same : y ≡ x = cc in (0, x, omega arith, same, h)
 any_at P (y ∷ xs) (suc i) x e h = let r = any_at P xs i x e h in (suc r.0, r.1, omega arith, r.3, r.4)
-
-signs_of : (xs : List ℤ) → map (nat_lt 0) (map natural xs) ≡ map is_positive xs
-signs_of [] = refl
-signs_of (x ∷ xs) = let rest = signs_of xs in λ i. is_positive x ∷ rest i
-
--- the signs of a predicate's coefficients, where the mapping has a part
-pub coefficient_signs : (levels : List (List LevelPart)) (m q : ℕ) (s : List Bool) → m < length (items_of levels q)
-    → ((part : LevelPart) → slice_get (items_of levels q) m ≡ Some part → s ≡ map is_positive part.coeffs) → map (nat_lt 0) (coefficients_of levels m q) ≡ s
-coefficient_signs levels m q s lt is =
-    let part = some_at (items_of levels q) m lt in
-    ap (λ (o : Option LevelPart). map (nat_lt 0) (naturals o)) part.1 ∙ signs_of part.0.coeffs ∙ sym (is part.0 part.1)

@@ -22,5 +22,6 @@ setting_later s T T2 K is = record {
 pub component_later : {N : Type 0} (s : Setting N) (k : Component) (T T2 : List Rows) → Keeps T T2 → IsComponent s k T → IsComponent s k T2
 component_later s k T T2 K is = record {
   members = is.members;
+  mappings = is.mappings;
   allowed = sets_later s.program.now.preds T T2 K k.allowed.now is.allowed;
 }

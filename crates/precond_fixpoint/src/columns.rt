@@ -12,6 +12,7 @@ use bool_diagrams::{Diagram, Table};
 use cti_terms::{PredId, Program};
 use sequences::Sequence;
 use std::alloc::{AllocError, Global};
+use std::mem;
 use truth_rows::upward_union;
 
 /// The given number of empty columns.
@@ -25,29 +26,28 @@ pub(crate) fn no_sets(alloc: Global, count: usize) -> Result<Vec<Sequence<Diagra
     Ok(sets)
 }
 
-/// Puts into the places of the members their columns, and what these allow.
+/// Puts into the places of the members their columns, and what these allow. A column becomes what its place held.
 pub(crate) fn put_members(
-    alloc: Global,
     p: &Program,
     table: &mut Table,
     members: &[PredId],
-    columns: &[Sequence<Diagram>],
+    columns: &mut [Sequence<Diagram>],
     sets: &mut [Sequence<Diagram>],
     allowed: &mut [Diagram],
 ) -> Result<(), AllocError>
     requires program { IsProgram p.now }
     requires there { (j : ℕ) (q : ThePred) → slice_get members.now j ≡ Some q
         → q.0 < length p.now.preds }
-    requires each { length columns.now ≡ length members.now }
+    requires each { length columns.old ≡ length members.now }
     requires fit { (j : ℕ) (q : ThePred) (own : List TheDiagram) → slice_get members.now j ≡ Some q
-        → slice_get columns.now j ≡ Some own → FitPredicate p.now.preds table.old q.0 own }
+        → slice_get columns.old j ≡ Some own → FitPredicate p.now.preds table.old q.0 own }
     requires sets { AreMappingSets p.now.preds table.old sets.old }
     requires allowed { AreUnions p.now.preds table.old sets.old allowed.old }
     ensures keeps { Keeps table.old table.new }
     ensures sets { OnOk result (AreMappingSets p.now.preds table.new sets.new) }
     ensures allowed { OnOk result (AreUnions p.now.preds table.new sets.new allowed.new) }
     ensures own { OnOk result ((families : List (List TheDiagram))
-        → AreColumns families members.now columns.now
+        → AreColumns families members.now columns.old
         → (j : ℕ) (q : ThePred) → slice_get members.now j ≡ Some q
         → IsColumn families q.0 (items_of sets.new q.0)) }
     ensures others { OnOk result ((q : ℕ)
@@ -55,46 +55,36 @@ pub(crate) fn put_members(
         → slice_get sets.new q ≡ slice_get sets.old q) }
 {
     for (place, member) in members.iter().enumerate() {
-        put_member(
-            alloc,
-            p,
-            table,
-            columns[place].as_slice(),
-            *member,
-            sets,
-            allowed,
-        )?;
+        put_member(p, table, *member, &mut columns[place], sets, allowed)?;
     }
     Ok(())
 }
 
 /// The same for one member.
 fn put_member(
-    alloc: Global,
     p: &Program,
     table: &mut Table,
-    column: &[Diagram],
     member: PredId,
+    column: &mut Sequence<Diagram>,
     sets: &mut [Sequence<Diagram>],
     allowed: &mut [Diagram],
 ) -> Result<(), AllocError>
     requires program { IsProgram p.now }
     requires there { member.0 < length p.now.preds }
-    requires fit { FitPredicate p.now.preds table.old member.0 column.now }
+    requires fit { FitPredicate p.now.preds table.old member.0 column.old }
     requires sets { AreMappingSets p.now.preds table.old sets.old }
     requires allowed { AreUnions p.now.preds table.old sets.old allowed.old }
     ensures keeps { Keeps table.old table.new }
     ensures sets { OnOk result (AreMappingSets p.now.preds table.new sets.new) }
     ensures allowed { OnOk result (AreUnions p.now.preds table.new sets.new allowed.new) }
-    ensures own { OnOk result (items_of sets.new member.0 ≡ column.now) }
+    ensures own { OnOk result (items_of sets.new member.0 ≡ column.old) }
     ensures others { OnOk result ((q : ℕ) → (q ≡ member.0 → ⊥)
         → slice_get sets.new q ≡ slice_get sets.old q) }
 {
     let place = member.0 as usize;
     let arity = p.pred(member).arity;
-    let own = Sequence::from_vec(Vec::from_slice(alloc, column)?);
-    let upper = upward_union(table, own.as_slice(), arity)?;
-    sets[place] = own;
+    let upper = upward_union(table, column.as_slice(), arity)?;
+    mem::swap(&mut sets[place], column);
     allowed[place] = upper;
     Ok(())
 }

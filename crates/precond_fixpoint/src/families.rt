@@ -4,7 +4,6 @@ ghost use Rattle.std.specs.Prelude.{◌≡◌, ◌<◌, ◌++◌, ◌∷◌, [],
 ghost use Rattle.bool_diagrams.specs.Rows.{Keeps};
 ghost use Rattle.bool_diagrams.specs.declared.diagram.Diagram.{Diagram as TheDiagram};
 ghost use Rattle.cti_terms.specs.declared.predicates.PredId.{PredId as ThePred};
-ghost use Rattle.number_tests.specs.Levels.{items_of};
 ghost use Rattle.precond_fixpoint.specs.Setting.{IsComponent, IsSetting, rows_of};
 ghost use Rattle.precond_fixpoint.specs.Solving.{AreColumns, AreSolutions};
 ghost use Rattle.truth_rows.specs.Sets.{AreSets};
@@ -19,7 +18,7 @@ use sequences::Sequence;
 use std::alloc::{AllocError, Global};
 use term_size::Norm;
 
-/// Gives for each member of a component its greatest sets for each of the given number of mappings.
+/// Gives for each member of a component its greatest sets for each of its mappings.
 ///
 /// `sets` has a set for each predicate; those of the members are made anew for each mapping.
 pub(crate) fn member_sets<N: Norm>(
@@ -28,14 +27,11 @@ pub(crate) fn member_sets<N: Norm>(
     component: &Component,
     table: &mut Table,
     marks: &mut Marks,
-    count: usize,
     sets: &mut [Diagram],
 ) -> Result<Vec<Sequence<Diagram>>, AllocError>
     requires setting { IsSetting setting.now table.old }
     requires component { IsComponent setting.now component.now table.old }
     requires marks { length marks.old ≡ length setting.now.program.now.clauses }
-    requires mappings { (j : ℕ) (a : ThePred) → slice_get component.now.members.now j ≡ Some a
-        → length (items_of setting.now.levels.now a.0) ≡ count }
     requires sets { AreSets setting.now.program.now.preds table.old sets.old }
     ensures keeps { Keeps table.old table.new }
     ensures marks { OnOk result (length marks.new ≡ length setting.now.program.now.clauses) }
@@ -46,12 +42,12 @@ pub(crate) fn member_sets<N: Norm>(
         AreSolutions
         (N.truth setting.now.norm.now) setting.now.program.now setting.now.ranks.now component.now.rank
         (rows_of setting.now table.old component.now.allowed.now)
-        (rows_of setting.now table.old setting.now.grounds.now) setting.now.levels.now table.new count
-        component.now.members.now columns.items) }
+        (rows_of setting.now table.old setting.now.grounds.now) setting.now.levels.now table.new
+        component.now.mappings component.now.members.now columns.items) }
 {
     let mut columns = no_sets(alloc, component.members.len())?;
-    for m in 0..count {
-        greatest_sets(alloc, setting, component, table, marks, m, sets)?;
+    for m in 0..component.mappings {
+        greatest_sets(setting, component, table, marks, m, sets)?;
         push_sets(component.members, sets, &mut columns)?;
     }
     Ok(columns)

@@ -1,9 +1,7 @@
 //! The greatest sets of a component for one mapping.
 
-ghost use Rattle.std.specs.Prelude.{◌≡◌, ◌<◌, ℕ, OnOk, length, slice_get, Some};
+ghost use Rattle.std.specs.Prelude.{◌≡◌, ◌<◌, OnOk, length};
 ghost use Rattle.bool_diagrams.specs.Rows.{Keeps};
-ghost use Rattle.cti_terms.specs.declared.predicates.PredId.{PredId as ThePred};
-ghost use Rattle.number_tests.specs.Levels.{items_of};
 ghost use Rattle.precond_fixpoint.specs.Setting.{IsComponent, IsSetting, rows_of};
 ghost use Rattle.precond_fixpoint.specs.Solving.{IsSolution};
 ghost use Rattle.truth_rows.specs.Sets.{AreSets};
@@ -13,13 +11,12 @@ use crate::removing::shrink;
 use crate::setting::{Component, Setting};
 use bool_diagrams::{Diagram, Table};
 use groundness::Marks;
-use std::alloc::{AllocError, Global};
+use std::alloc::AllocError;
 use term_size::Norm;
 
 /// Puts into the places of a component's members their greatest sets for the mapping of this number. The places of other
 /// predicates stay.
 pub(crate) fn greatest_sets<N: Norm>(
-    alloc: Global,
     setting: &Setting<N>,
     component: &Component,
     table: &mut Table,
@@ -30,8 +27,7 @@ pub(crate) fn greatest_sets<N: Norm>(
     requires setting { IsSetting setting.now table.old }
     requires component { IsComponent setting.now component.now table.old }
     requires marks { length marks.old ≡ length setting.now.program.now.clauses }
-    requires mapping { (j : ℕ) (a : ThePred) → slice_get component.now.members.now j ≡ Some a
-        → m < length (items_of setting.now.levels.now a.0) }
+    requires mapping { m < component.now.mappings }
     requires sets { AreSets setting.now.program.now.preds table.old sets.old }
     ensures keeps { Keeps table.old table.new }
     ensures marks { OnOk result (length marks.new ≡ length setting.now.program.now.clauses) }
@@ -42,7 +38,6 @@ pub(crate) fn greatest_sets<N: Norm>(
         (rows_of setting.now table.old setting.now.grounds.now) setting.now.levels.now table.new m sets.new) }
 {
     put_covering(
-        alloc,
         setting.program,
         table,
         component.members,

@@ -46,6 +46,8 @@ impl<N> Drop for Setting<'_, N> {
 pub(crate) struct Component<'a> {
     pub(crate) rank: u32,
     pub(crate) members: &'a [PredId],
+    /// How many level mappings each member has a part in.
+    pub(crate) mappings: usize,
     /// For each predicate what is allowed of it. What members have here does not matter.
     pub(crate) allowed: &'a [Diagram],
 }

@@ -137,24 +137,38 @@ fn solve_in_turn<N: Norm>(
         → IsSolved (N.truth setting.now.norm.now) setting.now.program.now setting.now.comps.now
         (rows_of setting.now table.old setting.now.grounds.now) setting.now.levels.now table.new sets.new c) }
 {
-    let mut marks = Marks::none(alloc, setting.program.clauses())?;
-    let mut pre = Vec::from_slice(alloc, allowed)?;
-    solve_each(alloc, setting, table, &mut marks, &mut pre, sets, allowed)
+    let marks = Marks::none(alloc, setting.program.clauses())?;
+    let pre = Vec::from_slice(alloc, allowed)?;
+    let mut state = SearchState { marks, pre };
+    solve_each(alloc, setting, table, &mut state, sets, allowed)
 }
 
-/// The same with marks and sets for the search of one component after the other. What they hold before does not matter.
+/// Marks and sets that the search uses for one component after the other. What they hold before does not matter.
+struct SearchState {
+    /// The clauses that are still to be tried.
+    marks: Marks,
+    /// The sets of all predicates for one mapping.
+    pre: Vec<Diagram>,
+}
+
+impl Drop for SearchState {
+    fn drop(self) {
+        let SearchState { marks: _, pre: _ } = self;
+    }
+}
+
+/// The same with marks and sets for the search.
 fn solve_each<N: Norm>(
     alloc: Global,
     setting: &Setting<N>,
     table: &mut Table,
-    marks: &mut Marks,
-    pre: &mut [Diagram],
+    state: &mut SearchState,
     sets: &mut [Sequence<Diagram>],
     allowed: &mut [Diagram],
 ) -> Result<(), AllocError>
     requires setting { IsSetting setting.now table.old }
-    requires marks { length marks.old ≡ length setting.now.program.now.clauses }
-    requires pre { AreSets setting.now.program.now.preds table.old pre.old }
+    requires marks { length state.old.marks ≡ length setting.now.program.now.clauses }
+    requires pre { AreSets setting.now.program.now.preds table.old state.old.pre.items }
     requires sets { AreMappingSets setting.now.program.now.preds table.old sets.old }
     requires allowed { AreUnions setting.now.program.now.preds table.old sets.old allowed.old }
     ensures keeps { Keeps table.old table.new }
@@ -166,7 +180,16 @@ fn solve_each<N: Norm>(
         (rows_of setting.now table.old setting.now.grounds.now) setting.now.levels.now table.new sets.new c) }
 {
     for c in 0..setting.comps.count() {
-        solve_component(alloc, setting, table, c, marks, pre, sets, allowed)?;
+        solve_component(
+            alloc,
+            setting,
+            table,
+            c,
+            &mut state.marks,
+            &mut state.pre,
+            sets,
+            allowed,
+        )?;
     }
     Ok(())
 }
@@ -206,21 +229,14 @@ pub fn solve_component<N: Norm>(
 {
     let _count = setting.comps.count();
     let members = setting.comps.members(c);
-    let count = setting.levels[members[0].0 as usize].len();
+    let mappings = setting.levels[members[0].0 as usize].len();
     let component = Component {
         rank: c + 1,
         members,
+        mappings,
         allowed,
     };
-    let columns = member_sets(alloc, setting, &component, table, marks, count, pre)?;
-    put_members(
-        alloc,
-        setting.program,
-        table,
-        members,
-        &columns,
-        sets,
-        allowed,
-    )?;
+    let mut columns = member_sets(alloc, setting, &component, table, marks, pre)?;
+    put_members(setting.program, table, members, &mut columns, sets, allowed)?;
     Ok(())
 }

@@ -1,4 +1,4 @@
-use Rattle.std.proofs.Common.{ℕ, sym, subst}
+use Rattle.std.proofs.Common.{ℕ, sym, subst, arith}
 use Rattle.number_tests.specs.Levels.{coefficients_of}
 use Rattle.termination_model.specs.Grounds.{Family}
 use Rattle.truth_rows.specs.Sets.{family_of}
@@ -7,6 +7,9 @@ use Rattle.precond_fixpoint.specs.Greatest.{IsGreatestIn}
 use Rattle.precond_fixpoint.specs.Removing.{IsCovering, is_ranked}
 use Rattle.precond_fixpoint.proofs.SettingLaws.{component_later, setting_later}
 use Rattle.precond_fixpoint.proofs.greatest.greatest_sets.Goals as goal
+
+pub put_covering-requires-clause-mapping : goal.put_covering-requires-clause-mapping
+put_covering-requires-clause-mapping g c = λ j a at. omega (arith, c.requires.component.mappings j a at, c.requires.mapping)
 
 pub shrink-requires-clause-setting : goal.shrink-requires-clause-setting
 shrink-requires-clause-setting g c = setting_later c.args.setting.now c.args.table.now c.put_covering.new.table c.put_covering.ensures.keeps c.requires.setting

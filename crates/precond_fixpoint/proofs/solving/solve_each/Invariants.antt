@@ -9,8 +9,8 @@ abbrev pub invariant-loop-c : goal.invariant-loop-c
 invariant-loop-c g l =
     record {
       keeps : Keeps l.fn.table l.table;
-      marks : length l.marks ≡ length l.setting.program.now.clauses;
-      pre : AreSets l.setting.program.now.preds l.table l.pre;
+      marks : length l.state.marks ≡ length l.setting.program.now.clauses;
+      pre : AreSets l.setting.program.now.preds l.table l.state.pre.items;
       sets : AreMappingSets l.setting.program.now.preds l.table l.sets;
       allowed : AreUnions l.setting.program.now.preds l.table l.sets l.allowed;
       solved : (d : ℕ) → d < l.c → IsSolved (g.N.Norm.truth l.setting.norm.now) l.setting.program.now l.setting.comps.now (family_of l.setting.program.now.preds l.fn.table l.setting.grounds.now) l.setting.levels.now l.table l.sets d;
