@@ -143,30 +143,38 @@ fn add_fact<'a>(
     check_count(made, term.at)
 }
 
-/// Adds the clauses that a call of a head with these variables and a body with these become.
-fn add_with_variables<'a, 'v>(
+/// A clause of a text that is a head with a body: its term, how many variables it has, and its two sides.
+#[derive(Clone, Copy)]
+struct Implication<'a> {
+    term: &'a ReadTerm,
+    vars: u32,
+    head: &'a ReadTerm,
+    body: &'a ReadTerm,
+}
+
+/// Adds the clauses that a head with a body becomes, where the head is also given as a call and has these variables. Answers the number
+/// of the next disjunction, or the first fault of the body.
+fn add_with_variables<'a>(
     alloc: Global,
     names: &Names,
     made: &mut Vec<Rule<'a>>,
     next: u64,
-    vars: u32,
     call: Call<'a>,
     args: &[u32],
-    own: &'v [u32],
-    body: &'a ReadTerm,
+    implication: &Implication<'a>,
 ) -> Result<u64, NormFault>
-    requires room { next + nodes (tree_of body.now) + 1 < 2 ^ 64 }
-    requires body { IsTermFit (length names.now) vars body.now }
-    requires args { AllByRecursion (λ x. x < vars) args.now }
-    requires own { own.now ≡ occurrences (tree_of body.now) }
-    ensures { let goals = goals_of names.now body.now
-        (args.now ++ occurrences (tree_of body.now)) in
+    requires room { next + nodes (tree_of implication.now.body.now) + 1 < 2 ^ 64 }
+    requires body { IsTermFit (length names.now) implication.now.vars implication.now.body.now }
+    requires args { AllByRecursion (λ x. x < implication.now.vars) args.now }
+    ensures { let goals = goals_of names.now implication.now.body.now
+        (args.now ++ occurrences (tree_of implication.now.body.now)) in
         let made_then = map rule_of made.old.items ++ rules next (call_of call.entry) goals in
         AnswersMade (goals_fault goals) made_then (after next goals)
         (map rule_of made.new.items) result }
 {
-    let outline = outlined(alloc, names, body, own)?;
-    let mut places = Places::new(alloc, vars)?;
+    let own = term_variables(alloc, implication.body)?;
+    let outline = outlined(alloc, names, implication.body, &own)?;
+    let mut places = Places::new(alloc, implication.vars)?;
     add_rules(alloc, &mut places, made, next, call, args, &outline)
 }
 
@@ -177,23 +185,21 @@ fn add_body<'a>(
     names: &Names,
     made: &mut Vec<Rule<'a>>,
     next: u64,
-    vars: u32,
     call: Call<'a>,
-    head: &ReadTerm,
-    body: &'a ReadTerm,
+    implication: &Implication<'a>,
 ) -> Result<u64, NormFault>
-    requires room { next + nodes (tree_of body.now) + 1 < 2 ^ 64 }
-    requires head { IsTermFit (length names.now) vars head.now }
-    requires body { IsTermFit (length names.now) vars body.now }
-    ensures { let goals = goals_of names.now body.now
-        (occurrences (tree_of head.now) ++ occurrences (tree_of body.now)) in
+    requires room { next + nodes (tree_of implication.now.body.now) + 1 < 2 ^ 64 }
+    requires head { IsTermFit (length names.now) implication.now.vars implication.now.head.now }
+    requires body { IsTermFit (length names.now) implication.now.vars implication.now.body.now }
+    ensures { let goals = goals_of names.now implication.now.body.now
+        (occurrences (tree_of implication.now.head.now)
+        ++ occurrences (tree_of implication.now.body.now)) in
         let made_then = map rule_of made.old.items ++ rules next (call_of call.entry) goals in
         AnswersMade (goals_fault goals) made_then (after next goals)
         (map rule_of made.new.items) result }
 {
-    let args = term_variables(alloc, head)?;
-    let own = term_variables(alloc, body)?;
-    add_with_variables(alloc, names, made, next, vars, call, &args, &own, body)
+    let args = term_variables(alloc, implication.head)?;
+    add_with_variables(alloc, names, made, next, call, &args, implication)
 }
 
 /// Adds the clauses that a head with a body becomes, and answers the number of the next disjunction.
@@ -202,39 +208,37 @@ fn add_implication<'a>(
     names: &Names,
     made: &mut Vec<Rule<'a>>,
     next: u64,
-    term: &ReadTerm,
-    vars: u32,
-    head: &'a ReadTerm,
-    body: &'a ReadTerm,
+    implication: &Implication<'a>,
 ) -> Result<u64, NormFault>
-    requires room { next + nodes (tree_of body.now) + 1 < 2 ^ 64 }
-    requires head { IsTermFit (length names.now) vars head.now }
-    requires body { IsTermFit (length names.now) vars body.now }
+    requires room { next + nodes (tree_of implication.now.body.now) + 1 < 2 ^ 64 }
+    requires head { IsTermFit (length names.now) implication.now.vars implication.now.head.now }
+    requires body { IsTermFit (length names.now) implication.now.vars implication.now.body.now }
     ensures made { AnswersNumber
         (with_form names.now (map rule_of made.old.items) next
-        (record { term = tree_of term.now; vars = vars })
-        (clause (tree_of head.now)
-        (goals_of names.now body.now
-        (occurrences (tree_of head.now) ++ occurrences (tree_of body.now)))))
+        (record { term = tree_of implication.now.term.now; vars = implication.now.vars })
+        (clause (tree_of implication.now.head.now)
+        (goals_of names.now implication.now.body.now
+        (occurrences (tree_of implication.now.head.now)
+        ++ occurrences (tree_of implication.now.body.now)))))
         (map rule_of made.new.items) result }
-    ensures few { IfOk result (λ n. n ≤ next + nodes (tree_of body.now)) }
+    ensures few { IfOk result (λ n. n ≤ next + nodes (tree_of implication.now.body.now)) }
     ensures count { OnOk result (length made.new.items ≤ 16384) }
     ensures fit { OnOk result (AllByRecursion (RuleIsFit (length names.now)) made.old.items
         → AllByRecursion (RuleIsFit (length names.now)) made.new.items) }
 {
-    let call = match head_call(names, head) {
+    let call = match head_call(names, implication.head) {
         Ok(call) => call,
         Err(fault) => return Err(fault),
     };
-    let after = match add_body(alloc, names, made, next, vars, call, head, body) {
+    let after = match add_body(alloc, names, made, next, call, implication) {
         Ok(after) => after,
         Err(fault) => return Err(fault),
     };
-    match check_term(alloc, term) {
+    match check_term(alloc, implication.term) {
         Ok(()) => {}
         Err(fault) => return Err(fault),
     }
-    match check_count(made, term.at) {
+    match check_count(made, implication.term.at) {
         Ok(()) => Ok(after),
         Err(fault) => Err(fault),
     }
@@ -268,16 +272,15 @@ fn add_clause<'a>(
             Ok(()) => Ok(next),
             Err(fault) => Err(fault),
         },
-        Form::Rule(head, body) => add_implication(
-            alloc,
-            names,
-            made,
-            next,
-            &clause.term,
-            clause.vars,
-            head,
-            body,
-        ),
+        Form::Rule(head, body) => {
+            let implication = Implication {
+                term: &clause.term,
+                vars: clause.vars,
+                head,
+                body,
+            };
+            add_implication(alloc, names, made, next, &implication)
+        }
     }
 }
 

@@ -15,28 +15,28 @@ use Rattle.clause_normal.proofs.clauses.add_implication.Goals as goal
 
 pub returns-in-Ok-check_count-clause-few : goal.returns-in-Ok-check_count-clause-few
 returns-in-Ok-check_count-clause-few c =
-    let body = tree_of c.args.body.now in
-    let all = occurrences (tree_of c.args.head.now) ++ occurrences body in
+    let body = tree_of c.args.implication.now.body.now in
+    let all = occurrences (tree_of c.args.implication.now.head.now) ++ occurrences body in
     omega (arith, c.in-Ok-add_body.ensures.2, (body_fit c.args.names.now body c.requires.body.known).few_goals all)
 
 pub returns-in-Ok-check_count-clause-fit : goal.returns-in-Ok-check_count-clause-fit
 returns-in-Ok-check_count-clause-fit c =
     let names = c.args.names.now in
-    let body = tree_of c.args.body.now in
-    let all = occurrences (tree_of c.args.head.now) ++ occurrences body in
-    made_fit (length names) c.args.made.now.items c.add_body.new.made.items c.args.next c.in-Ok.call (goals_of names c.args.body.now all) c.in-Ok-add_body.ensures.1 c.in-Ok.ensures.2
+    let body = tree_of c.args.implication.now.body.now in
+    let all = occurrences (tree_of c.args.implication.now.head.now) ++ occurrences body in
+    made_fit (length names) c.args.made.now.items c.add_body.new.made.items c.args.next c.in-Ok.call (goals_of names c.args.implication.now.body.now all) c.in-Ok-add_body.ensures.1 c.in-Ok.ensures.2
     ((body_fit names body c.requires.body.known).goals all)
 
 pub returns-in-Err-check_count-clause-made : goal.returns-in-Err-check_count-clause-made
 returns-in-Err-check_count-clause-made c =
     let names = c.args.names.now in
-    let t = c.args.term.now in
-    let h = tree_of c.args.head.now in
-    let gs = goals_of names c.args.body.now (occurrences h ++ occurrences (tree_of c.args.body.now)) in
+    let t = c.args.implication.now.term.now in
+    let h = tree_of c.args.implication.now.head.now in
+    let gs = goals_of names c.args.implication.now.body.now (occurrences h ++ occurrences (tree_of c.args.implication.now.body.now)) in
     let old = map rule_of c.args.made.now.items in
     let new = c.add_body.new.made.items in
     let n = c.args.next in
-    let form = with_form names old n (record { term = tree_of t; vars = c.args.vars }) (clause h gs) in
+    let form = with_form names old n (record { term = tree_of t; vars = c.args.implication.now.vars }) (clause h gs) in
     let at : place (tree_of t) ≡ t.at = ap place (tree_of_parts t) in
     let made : old ++ rules n (head_call h) gs ≡ map rule_of new = ap (λ (k : Call). old ++ rules n k gs) (sym c.in-Ok.ensures.1) ∙ sym c.in-Ok-add_body.ensures.1 in
     let same : form ≡ made_or_fault None (place (tree_of t)) (old ++ rules n (head_call h) gs) (after n gs) =

@@ -5,12 +5,11 @@ use Rattle.clause_normal.specs.OutlineViews.{OutlineIsBelow}
 use Rattle.clause_normal.specs.Rules.{after}
 use Rattle.clause_normal.specs.Terms.{occurrences}
 use Rattle.clause_normal.proofs.FitLemmas.{body_fit}
-use Rattle.clause_normal.proofs.TermLemmas.{below_occurrences}
 use Rattle.clause_normal.proofs.clauses.add_with_variables.Goals as goal
 
 pub add_rules-requires-clause-room : goal.add_rules-requires-clause-room
 add_rules-requires-clause-room c =
-    let body = tree_of c.args.body.now in
+    let body = tree_of c.args.implication.now.body.now in
     let all = c.args.args.now ++ occurrences body in
     omega (arith, ap (after c.args.next) (c.in_ok-outline.ensures.goals c.args.args.now), (body_fit c.args.names.now body c.requires.body.known).few_goals all, c.requires.room)
 
@@ -21,7 +20,7 @@ add_rules-requires-clause-args c =
 
 pub add_rules-requires-clause-body : goal.add_rules-requires-clause-body
 add_rules-requires-clause-body c =
-    let A : List ℕ → Type 0 = λ xs. AllByRecursion (λ (x : ℕ). x < c.args.vars) xs in
+    let A : List ℕ → Type 0 = λ xs. AllByRecursion (λ (x : ℕ). x < c.args.implication.now.vars) xs in
     let B : ℕ → Type 0 = λ n. OutlineIsBelow n c.in_ok-outline.outline in
-    let own = subst A (sym c.requires.own) (below_occurrences c.args.vars (tree_of c.args.body.now) c.requires.body.below) in
-    subst B (sym c.in_ok-places.ensures.firsts) (c.in_ok-outline.ensures.below c.args.vars own)
+    let own = subst A (sym c.deref.ensures.value) (c.in_ok-own.ensures.below c.args.implication.now.vars c.requires.body.below) in
+    subst B (sym c.in_ok-places.ensures.firsts) (c.in_ok-outline.ensures.below c.args.implication.now.vars own)
