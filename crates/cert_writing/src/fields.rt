@@ -10,7 +10,7 @@ use sequences::Sequence;
 use std::alloc::{AllocError, Global};
 
 /// The number from 1 of an item that counts from 0. Where it does not fit, memory cannot hold that many items.
-pub(crate) fn counted(number: u64) -> Result<u32, AllocError>
+pub fn counted(number: u64) -> Result<u32, AllocError>
     requires { number + 1 < 2 ^ 64 }
     ensures { IfOk result (λ n. n ≡ suc number) }
 {
@@ -18,14 +18,14 @@ pub(crate) fn counted(number: u64) -> Result<u32, AllocError>
 }
 
 /// Numbers, for a fact.
-pub(crate) fn numbers(alloc: Global, numbers: &[i128]) -> Result<Sequence<i128>, AllocError>
+pub fn numbers(alloc: Global, numbers: &[i128]) -> Result<Sequence<i128>, AllocError>
     ensures { IfOk result (λ copy. copy ≡ numbers.now) }
 {
     Ok(Sequence::from_vec(Vec::from_slice(alloc, numbers)?))
 }
 
 /// A row's numbers, the constant first.
-pub(crate) fn row_numbers(alloc: Global, row: &Row) -> Result<Sequence<i128>, AllocError>
+pub fn row_numbers(alloc: Global, row: &Row) -> Result<Sequence<i128>, AllocError>
     ensures { IfOk result (λ copy. copy ≡ row.now.constant ∷ row.now.coeffs) }
 {
     let mut numbers = Vec::new(alloc);
@@ -35,7 +35,7 @@ pub(crate) fn row_numbers(alloc: Global, row: &Row) -> Result<Sequence<i128>, Al
 }
 
 /// A cell of a cube, for a fact.
-pub(crate) fn cell(cell: Cell) -> CertCell
+fn cell(cell: Cell) -> CertCell
     ensures { result ≡ cell_of cell }
 {
     match cell {
@@ -46,7 +46,7 @@ pub(crate) fn cell(cell: Cell) -> CertCell
 }
 
 /// A cube, for a fact.
-pub(crate) fn cells(alloc: Global, cube: &Cube) -> Result<Sequence<CertCell>, AllocError>
+pub fn cells(alloc: Global, cube: &Cube) -> Result<Sequence<CertCell>, AllocError>
     ensures { IfOk result (λ copy. copy ≡ map cell_of cube.now) }
 {
     let mut copy = Sequence::new(alloc);

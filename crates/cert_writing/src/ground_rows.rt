@@ -1,7 +1,7 @@
 //! The facts of ground rows.
 
 ghost use Rattle.std.specs.Prelude.{◌∷◌, []};
-ghost use Rattle.cert_structure.specs.Numbered.{lines_from};
+ghost use Rattle.fact_reading.specs.Numbered.{lines_from};
 ghost use Rattle.cert_structure.specs.Order.{pred_text, grounds_line};
 ghost use Rattle.cert_structure.specs.Walk.{named};
 
@@ -20,7 +20,7 @@ pub(crate) struct GroundsOf<'a> {
     pub(crate) pred: Named<'a>,
 }
 
-impl Writer for GroundsOf<'_> {
+impl Writer<Fact> for GroundsOf<'_> {
     type Item = Cube;
 
     ghost facts = { λ w i cube. grounds_line (named w.pred) i cube ∷ [] };
@@ -48,7 +48,7 @@ pub(crate) struct Grounds<'a> {
     pub(crate) names: &'a Names,
 }
 
-impl Writer for Grounds<'_> {
+impl Writer<Fact> for Grounds<'_> {
     type Item = Sequence<Cube>;
 
     ghost facts = { λ w a cs. lines_from 0 (grounds_line (pred_text w.p.now w.names.now a)) cs };

@@ -2,7 +2,7 @@
 
 ghost use Rattle.std.specs.Prelude.{◌∷◌, [], suc};
 ghost use Rattle.certificate.specs.declared.fact.Fact.TheVariants as fact;
-ghost use Rattle.cert_structure.specs.Numbered.{facts_from, lines_from};
+ghost use Rattle.fact_reading.specs.Numbered.{facts_from, lines_from};
 ghost use Rattle.cert_structure.specs.Order.{pred_text, measure_line, falls_line};
 ghost use Rattle.cert_structure.specs.Walk.{named};
 
@@ -22,7 +22,7 @@ pub(crate) struct LevelsOf<'a> {
     pub(crate) pred: Named<'a>,
 }
 
-impl Writer for LevelsOf<'_> {
+impl Writer<Fact> for LevelsOf<'_> {
     type Item = LevelPart;
 
     ghost facts = { λ w m level. measure_line (named w.pred) m level ∷ [] };
@@ -51,7 +51,7 @@ pub(crate) struct Levels<'a> {
     pub(crate) names: &'a Names,
 }
 
-impl Writer for Levels<'_> {
+impl Writer<Fact> for Levels<'_> {
     type Item = Sequence<LevelPart>;
 
     ghost facts = { λ w a ls. lines_from 0 (measure_line (pred_text w.p.now w.names.now a)) ls };
@@ -75,7 +75,7 @@ pub(crate) struct FallsOfCall {
     pub(crate) call: u32,
 }
 
-impl Writer for FallsOfCall {
+impl Writer<Fact> for FallsOfCall {
     type Item = Multipliers;
 
     ghost facts = { λ w m x. fact.Falls w.clause w.call (suc m) x.scale x.list ∷ [] };
@@ -104,7 +104,7 @@ pub(crate) struct FallsOf {
     pub(crate) clause: u32,
 }
 
-impl Writer for FallsOf {
+impl Writer<Fact> for FallsOf {
     type Item = Sequence<Multipliers>;
 
     ghost facts = { λ w j ms. lines_from 0 (λ m x. fact.Falls w.clause (suc j) (suc m) x.scale x.list) ms };
@@ -129,7 +129,7 @@ impl Writer for FallsOf {
 #[derive(Drop)]
 pub(crate) struct Falls {}
 
-impl Writer for Falls {
+impl Writer<Fact> for Falls {
     type Item = Sequence<Sequence<Multipliers>>;
 
     ghost facts = { λ w k calls. facts_from 0 (λ j ms. lines_from 0 (falls_line k j) ms) calls };

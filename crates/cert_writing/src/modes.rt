@@ -18,7 +18,7 @@ pub(crate) struct Modes<'a> {
     pub(crate) names: &'a Names,
 }
 
-impl Writer for Modes<'_> {
+impl Writer<Fact> for Modes<'_> {
     type Item = Sequence<Sequence<u32>>;
 
     ghost facts = { λ w a ms. fact.Terminates (pred_text w.p.now w.names.now a) ms ∷ [] };

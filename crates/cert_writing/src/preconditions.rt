@@ -2,7 +2,7 @@
 
 ghost use Rattle.std.specs.Prelude.{◌∷◌, [], suc, map};
 ghost use Rattle.certificate.specs.declared.fact.Fact.TheVariants as fact;
-ghost use Rattle.cert_structure.specs.Numbered.{facts_from, lines_from};
+ghost use Rattle.fact_reading.specs.Numbered.{facts_from, lines_from};
 ghost use Rattle.cert_structure.specs.Order.{pred_text, cell_of, pre_line};
 ghost use Rattle.cert_structure.specs.Walk.{named};
 
@@ -22,7 +22,7 @@ pub(crate) struct PreOf<'a> {
     pub(crate) mapping: u32,
 }
 
-impl Writer for PreOf<'_> {
+impl Writer<Fact> for PreOf<'_> {
     type Item = Cube;
 
     ghost facts = { λ w i cube. fact.Pre (named w.pred) w.mapping (suc i) (map cell_of cube) ∷ [] };
@@ -50,7 +50,7 @@ pub(crate) struct PresOf<'a> {
     pub(crate) pred: Named<'a>,
 }
 
-impl Writer for PresOf<'_> {
+impl Writer<Fact> for PresOf<'_> {
     type Item = Sequence<Cube>;
 
     ghost facts = { λ w m cs. lines_from 0 (pre_line (named w.pred) m) cs };
@@ -78,7 +78,7 @@ pub(crate) struct Pres<'a> {
     pub(crate) names: &'a Names,
 }
 
-impl Writer for Pres<'_> {
+impl Writer<Fact> for Pres<'_> {
     type Item = Sequence<Sequence<Cube>>;
 
     ghost facts = { λ w a ms. facts_from 0 (λ m cs. lines_from 0 (pre_line

@@ -15,7 +15,7 @@ use std::alloc::{AllocError, Global};
 #[derive(Drop)]
 pub(crate) struct Points {}
 
-impl Writer for Points {
+impl Writer<Fact> for Points {
     type Item = PairPoint;
 
     ghost facts = { λ w i x. point_facts x };
@@ -54,7 +54,7 @@ pub(crate) struct Refutations<'a> {
     pub(crate) names: &'a Names,
 }
 
-impl Writer for Refutations<'_> {
+impl Writer<Fact> for Refutations<'_> {
     type Item = Option<Refutation>;
 
     ghost facts = { λ w a r. refutation_facts (pred_text w.p.now w.names.now a) r };

@@ -2,7 +2,7 @@
 
 ghost use Rattle.std.specs.Prelude.{◌∷◌, [], suc};
 ghost use Rattle.certificate.specs.declared.fact.Fact.TheVariants as fact;
-ghost use Rattle.cert_structure.specs.Numbered.{lines_from};
+ghost use Rattle.fact_reading.specs.Numbered.{lines_from};
 ghost use Rattle.cert_structure.specs.Order.{pred_text, size_line, by_line};
 ghost use Rattle.cert_structure.specs.Walk.{named};
 
@@ -21,7 +21,7 @@ pub(crate) struct SizeRowsOf<'a> {
     pub(crate) pred: Named<'a>,
 }
 
-impl Writer for SizeRowsOf<'_> {
+impl Writer<Fact> for SizeRowsOf<'_> {
     type Item = Row;
 
     ghost facts = { λ w i r. size_line (named w.pred) i r ∷ [] };
@@ -49,7 +49,7 @@ pub(crate) struct Sizes<'a> {
     pub(crate) names: &'a Names,
 }
 
-impl Writer for Sizes<'_> {
+impl Writer<Fact> for Sizes<'_> {
     type Item = Rows;
 
     ghost facts = { λ w a r. lines_from 0 (size_line (pred_text w.p.now w.names.now a)) r.list };
@@ -72,7 +72,7 @@ pub(crate) struct ProofsOf {
     pub(crate) clause: u32,
 }
 
-impl Writer for ProofsOf {
+impl Writer<Fact> for ProofsOf {
     type Item = Multipliers;
 
     ghost facts = { λ w i m. fact.By w.clause (suc i) m.scale m.list ∷ [] };
@@ -98,7 +98,7 @@ impl Writer for ProofsOf {
 #[derive(Drop)]
 pub(crate) struct Proofs {}
 
-impl Writer for Proofs {
+impl Writer<Fact> for Proofs {
     type Item = Sequence<Multipliers>;
 
     ghost facts = { λ w k ms. lines_from 0 (by_line k) ms };

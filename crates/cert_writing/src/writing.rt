@@ -10,7 +10,7 @@ use crate::modes::Modes;
 use crate::preconditions::Pres;
 use crate::refutations::Refutations;
 use crate::size_rows::{Proofs, Sizes};
-use crate::writer::write_each;
+use crate::writer::{append, write_each};
 use cert_structure::Parts;
 use certificate::{CertNorm, Certificate, Fact};
 use cti_terms::{Names, Program};
@@ -70,16 +70,6 @@ fn write_mappings(
         parts.refutations.as_slice(),
         out,
     )
-}
-
-/// Puts facts after others.
-fn append(facts: Vec<Fact>, out: &mut Sequence<Fact>) -> Result<(), AllocError>
-    ensures { OnOk result (out.new ≡ out.old ++ facts.items) }
-{
-    for fact in facts {
-        out.push(fact)?;
-    }
-    Ok(())
 }
 
 /// The certificate of parts, with notes after their facts: `parts_of` finds these parts in it, where they have the shape

@@ -1,6 +1,6 @@
 use Rattle.std.proofs.Common.{◌++◌, take, ap, ◌∙◌}
 use Rattle.std.proofs.lemmas.List.{append_assoc}
-use Rattle.cert_structure.specs.Numbered.{facts_from}
+use Rattle.fact_reading.specs.Numbered.{facts_from}
 use Rattle.cert_writing.proofs.WritingLemmas.{facts_next}
 use Rattle.cert_writing.proofs.writer.write_each.Goals as goal
 

@@ -1,5 +1,5 @@
 use Rattle.std.proofs.Common.{◌≡◌, ◌++◌, take}
-use Rattle.cert_structure.specs.Numbered.{facts_from}
+use Rattle.fact_reading.specs.Numbered.{facts_from}
 use Rattle.cert_writing.proofs.writer.write_each.Given as goal
 
 -- the facts of the items so far are there

@@ -1,6 +1,6 @@
 use Rattle.std.proofs.Common.{◌≡◌, ◌++◌}
-use Rattle.cert_writing.proofs.writing.append.Given as goal
+use Rattle.cert_writing.proofs.writer.append.Given as goal
 
 -- what is yielded stands after the facts that were there
 abbrev pub invariant-loop-fact : goal.invariant-loop-fact
-invariant-loop-fact l = l.out ≡ l.fn.out ++ l.yielded
+invariant-loop-fact g l = l.out ≡ l.fn.out ++ l.yielded
