@@ -8,11 +8,12 @@ use Rattle.cti_terms.specs.Spell.{tree_of, trees_of}
 use Rattle.cti_terms.specs.Unify.{Equation, Binding, Dropped, Split, Failed, first_step, occurs, pairs}
 use Rattle.cti_terms.specs.UnifyFunction.{unify, occurs_in}
 use Rattle.cti_terms.proofs.UnifyLaws.{unify_finds}
-use Rattle.unifier.specs.Raised.{raise}
+use Rattle.unifier.specs.declared.raised_term.RaisedTerm.{RaisedTerm}
+use Rattle.unifier.specs.Raised.{raise, raised_tree}
 use Rattle.unifier.specs.Store.{made, full}
 use Rattle.unifier.specs.Below.{TermBelow, LeftBelow}
 use Rattle.unifier.specs.Pending.{under_bindings, waiting_from, IsUnified, StaysBelow, Extends, KeepsFree}
-use Rattle.unifier.specs.Heads.{IsUnifiedTo}
+use Rattle.unifier.specs.Heads.{pair, IsPairUnified, IsUnifiedTo}
 use Rattle.unifier.proofs.BelowLaws.{left_bound, left_wider}
 use Rattle.unifier.proofs.PendingLaws.{under_more, pairs_ended, pairs_pushed}
 use Rattle.unifier.proofs.UnifySteps.{occur_split, option_map_same}
@@ -33,6 +34,16 @@ split_free s now t u qs h keeps y gone free = keeps y (go (occurs_in y (qs ++ []
     go : (b : Bool) → occurs_in y (qs ++ []) ≡ b → occurs_in y (qs ++ []) ≡ false
     go true e = absurd (true≢false (sym (occur_split t u qs [] h y e) ∙ gone))
     go false e = e
+
+-- the same of terms that are the same under the bindings
+pub pair_same : (s now : List Binding) (l r k m : RaisedTerm) (b : Bool) → full s (raised_tree l) ≡ full s (raised_tree k) → full s (raised_tree r) ≡ full s (raised_tree m) → IsPairUnified s l r now b → IsPairUnified s k m now b
+pair_same s now l r k m b e d h =
+    let same : pair s l r ≡ pair s k m = λ i. (e i, d i) ∷ [] in
+    record {
+      unifier = subst (λ (es : List Equation). IsUnified (made s) es (made now) b) same h.unifier;
+      extended = h.extended;
+      free = subst (λ (es : List Equation). KeepsFree es s now) same h.free;
+    }
 
 -- an integer asks for no equations of arguments
 pub never_split : (t : Tree) (n : ℤ) (qs : List Equation) → first_step t (Integer n) ≡ Split qs → ⊥

@@ -1,6 +1,7 @@
 pub mod BelowLaws
 pub mod ConstantLaws
 pub mod CoverLaws
+pub mod FlatLaws
 pub mod HeadLaws
 pub mod HeadSteps
 pub mod LeadLaws

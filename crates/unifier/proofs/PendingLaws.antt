@@ -13,7 +13,7 @@ use Rattle.unifier.specs.declared.raised_term.RaisedTerm.{RaisedTerm}
 use Rattle.unifier.specs.declared.raised_term.Shape.{Shape}
 use Rattle.unifier.specs.declared.raised_term.Shape.TheVariants.{Variable as OfVariable, Integer as OfInteger, Compound as OfCompound}
 use Rattle.unifier.specs.Raised.{raised_tree, raise}
-use Rattle.unifier.specs.Shapes.{shape_tree, shape_full, IsFree}
+use Rattle.unifier.specs.Shapes.{shape_tree, shape_full, IsSmall, IsFree, IsMet}
 use Rattle.unifier.specs.Store.{made, full, all_full, IsOpen}
 use Rattle.unifier.specs.Pending.{raw, weight, occurs_left, equation_of, raw_equations, under_bindings, waiting, args_full}
 use Rattle.unifier.proofs.StoreLaws.{full_free, full_more, eqb_same}
@@ -41,6 +41,15 @@ pub shape_open : (s : List Binding) (n : ℕ) (t : Tree) (h : Shape) → t ≡ s
 shape_open s n t (OfVariable x) e o = absurd (o x refl)
 shape_open s n t (OfInteger i) e o = subst (IsOpen s) (sym e) tt
 shape_open s n t (OfCompound f args) e o = subst (IsOpen s) (sym e) tt
+
+-- a term that is not a bound variable, with its kind
+pub is_met : (s : List Binding) (r : RaisedTerm) (h : Shape) → raised_tree r ≡ shape_tree r.base h → IsSmall h → IsOpen s (raised_tree r) → IsMet s (record { term = r; shape = h })
+is_met s r h e small o = record {
+  tree = shape_is s r.base (raised_tree r) h e o;
+  followed = o;
+  small = small;
+  free = shape_free s r.base (raised_tree r) h e o;
+}
 
 pub weight-append : (s : List Binding) (ts us : List Tree) → weight s (ts ++ us) ≡ weight s ts + weight s us
 weight-append s [] us = omega arith

@@ -64,6 +64,11 @@ step_of s n m (Binds x t above) = Step.Bound x (full s (raised_tree t))
 step_of s n m (Arguments ts us) = Step.Split (pairs (args_full s n ts.now) (args_full s m us.now))
 step_of s n m Clash = Step.Failed
 
+-- whether the step of two compound terms is to these equations of their arguments, or fails
+abbrev pub AgreeAs : Bool → Step → List Equation → Type 0
+AgreeAs true found qs = Step.Split qs ≡ found
+AgreeAs false found qs = Step.Failed ≡ found
+
 -- the binding that was found may be made, and its number is above the variables of its term
 abbrev pub IsFit : List Binding → Found → Type 0
 IsFit s Nothing = Unit {0}

@@ -71,6 +71,10 @@ abbrev pub IsOccurrence : ℕ → Tree → Occurrence → Type 0
 IsOccurrence x t Found = occurs x t ≡ true
 IsOccurrence x t (Below m) = (occurs x t ≡ false) × TermBelow m t
 
+-- a variable does not occur in a term under the bindings, and a number is above those that do
+abbrev pub IsFlat : List Binding → ℕ → Tree → ℕ → Type 0
+IsFlat s x t m = (occurs x (full s t) ≡ false) × TermBelow m (full s t)
+
 -- a variable occurs in a term, or else what is put on a stack comes in the term's place, for the variables that are wanted
 abbrev pub IsLookedAt : List Binding → ℕ → Tree → List ℕ → List Tree → Bool → ℕ → List ℕ → List Tree → Type 0
 IsLookedAt s v t ys ts true above zs us = occurs v (full s t) ≡ true

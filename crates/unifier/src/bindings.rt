@@ -146,4 +146,18 @@ impl<'p> Bindings<'p> {
             }
         }
     }
+    /// A term that is a free variable, with its kind.
+    #[inline(always)]
+    pub fn met_free(&self, term: RaisedTerm<'p>) -> Option<Met<'p>>
+        ensures { IfSome result (λ m. IsMet self.now m × (m.term ≡ term.entry)) }
+    {
+        let shape = term.shape();
+        let Shape::Variable(x) = shape else {
+            return None;
+        };
+        match self.value(x) {
+            Some(_) => None,
+            None => Some(Met { term, shape }),
+        }
+    }
 }

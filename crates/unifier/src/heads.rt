@@ -5,7 +5,8 @@ ghost use Rattle.std.specs.List.{AllByRecursion};
 ghost use Rattle.cti_terms.specs.Tree.{is_below};
 ghost use Rattle.cti_terms.specs.Resolve.{over, raised, head_equations};
 ghost use Rattle.unifier.specs.Store.{full, made};
-ghost use Rattle.unifier.specs.Heads.{IsIntegerTree};
+ghost use Rattle.unifier.specs.Heads.{IsIntegerTree, IsPairUnified};
+ghost use Rattle.unifier.specs.Shapes.{IsMet};
 ghost use Rattle.unifier.specs.Raised.{raised_tree};
 ghost use Rattle.unifier.specs.Pending.{IsUnified, StaysBelow, Extends, KeepsFree, waiting_from};
 ghost use Rattle.unifier.specs.Below.{TermBelow, ArgumentsBelow, LeftBelow, FreeFrom};
@@ -13,8 +14,8 @@ ghost use Rattle.unifier.specs.Below.{TermBelow, ArgumentsBelow, LeftBelow, Free
 use crate::bindings::Bindings;
 use crate::equal_pairs::EqualPairs;
 use crate::occurs_check::Arguments;
-use crate::raised_term::RaisedTerm;
-use crate::unification::{Found, push_equations, solve, step};
+use crate::raised_term::{Met, RaisedTerm, Shape};
+use crate::unification::{Found, agree, push_equations, solve, step};
 use crate::visited::Visited;
 use cti_terms::{Atom, Clause};
 use std::alloc::{AllocError, Global};
@@ -53,41 +54,29 @@ impl<'p> Stacks<'p> {
     }
 }
 
-/// Unifies two arguments of compound terms, by bindings that are added. Where it fails, some may have been added. Only where
-/// two compound terms meet are equations put on a stack.
+/// Unifies two terms that are not bound variables, by bindings that are added. Where it fails, some may have been added. Only
+/// where two compound terms meet are equations put on a stack.
 ///
 /// The left term has variables below the limit alone, and the limit goes up with the bindings.
 #[inline(always)]
-fn unify_parts<'p>(
+fn unify_met<'p>(
     bindings: &mut Bindings<'p>,
     stacks: &mut Stacks<'p>,
-    left: RaisedTerm<'p>,
-    right: RaisedTerm<'p>,
+    left: Met<'p>,
+    right: Met<'p>,
     limit: &mut usize,
 ) -> Result<bool, AllocError>
-    requires { TermBelow limit.old (full bindings.old (raised_tree left)) }
-    ensures unifier { IfOk result
-        (IsUnified (made bindings.old)
-        ((
-          full bindings.old (raised_tree left.entry),
-          full bindings.old
-              (raised_tree right.entry),
-        ) ∷ []) (made bindings.new)) }
+    requires below { TermBelow limit.old (full bindings.old (raised_tree left.term)) }
+    requires left { IsMet bindings.old left }
+    requires right { IsMet bindings.old right }
+    ensures unified { IfOk result
+        (IsPairUnified bindings.old left.entry.term right.entry.term bindings.new) }
     ensures limit { OnOk result (StaysBelow limit.old bindings.old limit.new bindings.new) }
-    ensures extended { OnOk result (Extends bindings.new bindings.old) }
-    ensures free { OnOk result
-        (KeepsFree ((
-          full bindings.old (raised_tree left.entry),
-          full bindings.old
-              (raised_tree right.entry),
-        ) ∷ []) bindings.old bindings.new) }
 {
-    let l = bindings.met(left);
-    let r = bindings.met(right);
     match step(
         bindings,
-        l,
-        r,
+        left,
+        right,
         *limit,
         &mut stacks.arguments,
         &mut stacks.visited,
@@ -100,7 +89,13 @@ fn unify_parts<'p>(
         }
         Found::Arguments(ts, us) => {
             stacks.equations.clear();
-            push_equations(&mut stacks.equations, ts, l.term.base, us, r.term.base)?;
+            push_equations(
+                &mut stacks.equations,
+                ts,
+                left.term.base,
+                us,
+                right.term.base,
+            )?;
             let solved = solve(
                 bindings,
                 &mut stacks.equations,
@@ -113,6 +108,74 @@ fn unify_parts<'p>(
         }
         Found::Clash => Ok(false),
     }
+}
+
+/// Unifies two terms. Few terms of heads that come here are integers or variables that are bound by now, so it is not
+/// compiled into its callers.
+#[inline(never)]
+fn unify_any<'p>(
+    bindings: &mut Bindings<'p>,
+    stacks: &mut Stacks<'p>,
+    left: RaisedTerm<'p>,
+    right: RaisedTerm<'p>,
+    limit: &mut usize,
+) -> Result<bool, AllocError>
+    requires { TermBelow limit.old (full bindings.old (raised_tree left)) }
+    ensures unified { IfOk result
+        (IsPairUnified bindings.old left.entry right.entry bindings.new) }
+    ensures limit { OnOk result (StaysBelow limit.old bindings.old limit.new bindings.new) }
+{
+    let l = bindings.met(left);
+    let r = bindings.met(right);
+    let unified = unify_met(bindings, stacks, l, r, limit)?;
+    Ok(unified)
+}
+
+/// Unifies two terms, of which the right one is no compound term of a head, and most often a free variable.
+#[inline(always)]
+fn unify_variable<'p>(
+    bindings: &mut Bindings<'p>,
+    stacks: &mut Stacks<'p>,
+    left: RaisedTerm<'p>,
+    right: RaisedTerm<'p>,
+    limit: &mut usize,
+) -> Result<bool, AllocError>
+    requires { TermBelow limit.old (full bindings.old (raised_tree left)) }
+    ensures unified { IfOk result
+        (IsPairUnified bindings.old left.entry right.entry bindings.new) }
+    ensures limit { OnOk result (StaysBelow limit.old bindings.old limit.new bindings.new) }
+{
+    if let Some(r) = bindings.met_free(right) {
+        let l = bindings.met(left);
+        let free = unify_met(bindings, stacks, l, r, limit)?;
+        return Ok(free);
+    }
+    let unified = unify_any(bindings, stacks, left, right, limit)?;
+    Ok(unified)
+}
+
+/// Unifies two arguments of compound terms. The kind of the right one, which is a term of a head, is asked first: it is
+/// most often known without a look at the bindings.
+#[inline(always)]
+fn unify_parts<'p>(
+    bindings: &mut Bindings<'p>,
+    stacks: &mut Stacks<'p>,
+    left: RaisedTerm<'p>,
+    right: RaisedTerm<'p>,
+    limit: &mut usize,
+) -> Result<bool, AllocError>
+    requires { TermBelow limit.old (full bindings.old (raised_tree left)) }
+    ensures unified { IfOk result
+        (IsPairUnified bindings.old left.entry right.entry bindings.new) }
+    ensures limit { OnOk result (StaysBelow limit.old bindings.old limit.new bindings.new) }
+{
+    if let Some(r) = right.met_compound() {
+        let l = bindings.met(left);
+        let compound = unify_met(bindings, stacks, l, r, limit)?;
+        return Ok(compound);
+    }
+    let unified = unify_variable(bindings, stacks, left, right, limit)?;
+    Ok(unified)
 }
 
 /// Unifies the arguments of two compound terms, one pair after the other, so that most are never put on a stack.
@@ -157,9 +220,46 @@ fn unify_arguments<'p>(
     Ok(true)
 }
 
-/// Unifies two terms, by bindings that are added. Where it fails, some may have been added.
-///
-/// The left term has variables below the limit alone, and the limit goes up with the bindings.
+/// Unifies two terms that are not bound variables. The arguments of compound terms are unified one after the other.
+#[inline(always)]
+fn unify_compounds<'p>(
+    bindings: &mut Bindings<'p>,
+    stacks: &mut Stacks<'p>,
+    left: Met<'p>,
+    right: Met<'p>,
+    limit: &mut usize,
+) -> Result<bool, AllocError>
+    requires below { TermBelow limit.old (full bindings.old (raised_tree left.term)) }
+    requires left { IsMet bindings.old left }
+    requires right { IsMet bindings.old right }
+    ensures unified { IfOk result
+        (IsPairUnified bindings.old left.entry.term right.entry.term bindings.new) }
+    ensures limit { OnOk result (StaysBelow limit.old bindings.old limit.new bindings.new) }
+{
+    match (left.shape, right.shape) {
+        (Shape::Compound(f, ts), Shape::Compound(g, us)) => {
+            if !agree(f, ts, g, us) {
+                return Ok(false);
+            }
+            let l = Arguments {
+                args: ts,
+                base: left.term.base,
+            };
+            let r = Arguments {
+                args: us,
+                base: right.term.base,
+            };
+            let unified = unify_arguments(bindings, stacks, l, r, limit)?;
+            Ok(unified)
+        }
+        _ => {
+            let unified = unify_met(bindings, stacks, left, right, limit)?;
+            Ok(unified)
+        }
+    }
+}
+
+/// Unifies two terms, of which the right one is a term of a head.
 #[inline(always)]
 fn unify_terms<'p>(
     bindings: &mut Bindings<'p>,
@@ -169,57 +269,22 @@ fn unify_terms<'p>(
     limit: &mut usize,
 ) -> Result<bool, AllocError>
     requires { TermBelow limit.old (full bindings.old (raised_tree left)) }
-    ensures unifier { IfOk result
-        (IsUnified (made bindings.old)
-        ((
-          full bindings.old (raised_tree left.entry),
-          full bindings.old
-              (raised_tree right.entry),
-        ) ∷ []) (made bindings.new)) }
+    ensures unified { IfOk result
+        (IsPairUnified bindings.old left.entry right.entry bindings.new) }
     ensures limit { OnOk result (StaysBelow limit.old bindings.old limit.new bindings.new) }
-    ensures extended { OnOk result (Extends bindings.new bindings.old) }
-    ensures free { OnOk result
-        (KeepsFree ((
-          full bindings.old (raised_tree left.entry),
-          full bindings.old
-              (raised_tree right.entry),
-        ) ∷ []) bindings.old bindings.new) }
 {
-    let l = bindings.met(left);
-    let r = bindings.met(right);
-    match step(
-        bindings,
-        l,
-        r,
-        *limit,
-        &mut stacks.arguments,
-        &mut stacks.visited,
-    )? {
-        Found::Nothing => Ok(true),
-        Found::Binds(x, term, above) => {
-            *limit = (*limit).max(above);
-            bindings.bind(x, term)?;
-            Ok(true)
-        }
-        Found::Arguments(ts, us) => {
-            let left = Arguments {
-                args: ts,
-                base: l.term.base,
-            };
-            let right = Arguments {
-                args: us,
-                base: r.term.base,
-            };
-            let solved = unify_arguments(bindings, stacks, left, right, limit)?;
-            Ok(solved)
-        }
-        Found::Clash => Ok(false),
+    if let Some(r) = right.met_compound() {
+        let l = bindings.met(left);
+        let compound = unify_compounds(bindings, stacks, l, r, limit)?;
+        return Ok(compound);
     }
+    let unified = unify_variable(bindings, stacks, left, right, limit)?;
+    Ok(unified)
 }
 
 /// Unifies a term, which has variables below the limit alone, with an integer, by a binding that is added if one is needed.
 ///
-/// No equations of arguments come up. So `solve` is called from `unify_parts` alone.
+/// No equations of arguments come up. So `solve` is called from `unify_met` alone.
 pub fn unify_integer<'p>(
     bindings: &mut Bindings<'p>,
     stacks: &mut Stacks<'p>,

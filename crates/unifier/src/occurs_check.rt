@@ -1,12 +1,12 @@
 //! Whether a variable occurs in a term under the bindings.
 
-ghost use Rattle.std.specs.Prelude.{◌≡◌, ℕ, ◌≤◌, ◌<◌, ◌+◌, ◌^◌, ◌++◌, IfOk, OnOk, map};
+ghost use Rattle.std.specs.Prelude.{◌≡◌, ℕ, ◌≤◌, ◌<◌, ◌+◌, ◌^◌, ◌++◌, IfOk, IfSome, OnOk, map};
 ghost use Rattle.cti_terms.specs.Tree.{instance, nodes_of};
 ghost use Rattle.cti_terms.specs.Spell.{tree_of};
 ghost use Rattle.unifier.specs.Raised.{raise, raised_tree};
 ghost use Rattle.unifier.specs.Store.{full};
 ghost use Rattle.unifier.specs.Pending.{raw, weight};
-ghost use Rattle.unifier.specs.Visits.{IsOccurrence, IsReached, IsLookedAt, arguments_tree, raw_arguments};
+ghost use Rattle.unifier.specs.Visits.{IsOccurrence, IsFlat, IsReached, IsLookedAt, arguments_tree, raw_arguments};
 
 use crate::bindings::Bindings;
 use crate::raised_term::{RaisedTerm, Shape};
@@ -186,4 +186,77 @@ pub fn occurs_in<'p>(
         }
     }
     Ok(Occurrence::Below(above))
+}
+
+/// A number above the variables of a flat term, and as great as the one given: of a constant, a variable that is bound to a
+/// constant, or a free variable other than this one.
+#[inline(always)]
+fn past_flat<'p>(
+    bindings: &Bindings<'p>,
+    variable: usize,
+    term: RaisedTerm<'p>,
+    above: usize,
+) -> Option<usize>
+    ensures greater { IfSome result (λ m. above ≤ m) }
+    ensures flat { IfSome result (IsFlat bindings.now variable (raised_tree term.entry)) }
+{
+    let Shape::Variable(other) = term.shape() else {
+        return if term.is_constant() {
+            Some(above)
+        } else {
+            None
+        };
+    };
+    match bindings.value(other) {
+        Some(bound) => {
+            if bound.is_constant() {
+                return Some(above);
+            }
+            None
+        }
+        None => {
+            if variable == other {
+                return None;
+            }
+            Some(past(above, other))
+        }
+    }
+}
+
+/// A number above the variables of arguments, where each is flat and this variable is none of them.
+#[inline(always)]
+fn above_flat<'p>(
+    bindings: &Bindings<'p>,
+    variable: usize,
+    arguments: Arguments<'p>,
+) -> Option<usize>
+    ensures { IfSome result (IsFlat bindings.now variable (arguments_tree arguments.entry)) }
+{
+    let base = arguments.base;
+    let mut above = 0;
+    for term in arguments.args {
+        above = past_flat(bindings, variable, RaisedTerm { term, base }, above)?;
+    }
+    Some(above)
+}
+
+/// Whether a free variable occurs in a term under the bindings, or else a number above all that occur. Most terms that are
+/// bound have flat arguments, and these need no stack.
+#[inline(always)]
+pub fn look_for<'p>(
+    bindings: &Bindings<'p>,
+    variable: usize,
+    term: RaisedTerm<'p>,
+    stack: &mut Vec<Arguments<'p>>,
+    visited: &mut Visited,
+) -> Result<Occurrence, AllocError>
+    ensures { IfOk result (IsOccurrence variable (full bindings.now (raised_tree term.entry))) }
+{
+    if let Shape::Compound(_, args) = term.shape() {
+        let base = term.base;
+        if let Some(above) = above_flat(bindings, variable, Arguments { args, base }) {
+            return Ok(Occurrence::Below(above));
+        }
+    }
+    occurs_in(bindings, variable, term, stack, visited)
 }

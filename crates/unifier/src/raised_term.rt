@@ -1,10 +1,10 @@
 //! Terms of the program with raised variables.
 
-ghost use Rattle.std.specs.Prelude.{◌≡◌, ℕ, ◌+◌, ◌<◌, ◌^◌, List, IsTrue, false};
+ghost use Rattle.std.specs.Prelude.{◌≡◌, ℕ, ◌+◌, ◌<◌, ◌^◌, List, IsTrue, IfSome, false};
 ghost use Rattle.cti_terms.specs.Unify.{Binding, occurs};
 ghost use Rattle.unifier.specs.Store.{full};
 ghost use Rattle.unifier.specs.Raised.{raised_tree};
-ghost use Rattle.unifier.specs.Shapes.{shape_tree, IsSmall};
+ghost use Rattle.unifier.specs.Shapes.{shape_tree, IsSmall, IsMet};
 
 use cti_terms::{Name, Term};
 
@@ -48,6 +48,18 @@ impl<'p> RaisedTerm<'p> {
             Term::Var(x) => Shape::Variable(raised_variable(*x, self.base)),
             Term::Int(n) => Shape::Integer(n),
             Term::Fun(f, args) => Shape::Compound(*f, args.as_slice()),
+        }
+    }
+
+    /// A compound term, with its kind.
+    #[inline(always)]
+    pub fn met_compound(self) -> Option<Met<'p>>
+        ensures { IfSome result (λ m. ((s : List Binding) → IsMet s m) × (m.term ≡ self.entry)) }
+    {
+        let shape = self.shape();
+        match shape {
+            Shape::Compound(_, _) => Some(Met { term: self, shape }),
+            _ => None,
         }
     }
 

@@ -9,12 +9,12 @@ ghost use Rattle.unifier.specs.Raised.{raise, raised_tree};
 ghost use Rattle.unifier.specs.Shapes.{IsMet};
 ghost use Rattle.unifier.specs.Store.{stored, full, made, IsOpen};
 ghost use Rattle.unifier.specs.Below.{TermBelow, LeftBelow};
-ghost use Rattle.unifier.specs.Pending.{args_full, raw_equations, waiting, step_of, IsFit, IsNext, IsUnified, StaysBelow, Extends, KeepsFree};
+ghost use Rattle.unifier.specs.Pending.{args_full, raw_equations, waiting, step_of, AgreeAs, IsFit, IsNext, IsUnified, StaysBelow, Extends, KeepsFree};
 ghost use Rattle.unifier.specs.Remembered.{Entails, above, AreRemembered, AreRememberedAfter};
 
 use crate::bindings::Bindings;
 use crate::equal_pairs::EqualPairs;
-use crate::occurs_check::{Arguments, Occurrence, occurs_in};
+use crate::occurs_check::{Arguments, Occurrence, look_for};
 use crate::raised_term::{Met, RaisedTerm, Shape};
 use crate::visited::Visited;
 use cti_terms::{Name, Term};
@@ -111,7 +111,7 @@ fn bound_or_clash<'p>(
         ≡ bound variable (full bindings.now (raised_tree term.entry))) }
     ensures fit { IfOk result (IsFit bindings.now) }
 {
-    match occurs_in(bindings, variable, term, stack, visited)? {
+    match look_for(bindings, variable, term, stack, visited)? {
         Occurrence::Found => Ok(Found::Clash),
         Occurrence::Below(above) => Ok(Found::Binds(variable, term, above)),
     }
@@ -142,6 +142,20 @@ fn apart_or_bound<'p>(
     bound_or_clash(bindings, variable, term, stack, visited)
 }
 
+/// Whether two compound terms have the same name and as many arguments.
+#[inline(always)]
+pub fn agree(f: Name, left: &[Term], g: Name, right: &[Term]) -> bool
+    ensures { (s : List Binding) (n m : ℕ) → AgreeAs result
+        (first_step (Compound f.0 (args_full s n left.now)) (Compound g.0 (args_full s m right.now)))
+        (pairs (args_full s n left.now) (args_full s m right.now)) }
+{
+    if f.0 == g.0 && left.len() == right.len() {
+        true
+    } else {
+        false
+    }
+}
+
 /// What two compound terms ask for.
 fn arguments_or_clash<'p>(f: Name, left: &'p [Term], g: Name, right: &'p [Term]) -> Found<'p>
     ensures step { (s : List Binding) (n m : ℕ)
@@ -149,7 +163,7 @@ fn arguments_or_clash<'p>(f: Name, left: &'p [Term], g: Name, right: &'p [Term])
         (Compound g.0 (args_full s m right.now)) }
     ensures fit { (s : List Binding) → IsFit s result }
 {
-    if f.0 == g.0 && left.len() == right.len() {
+    if agree(f, left, g, right) {
         Found::Arguments(left, right)
     } else {
         Found::Clash

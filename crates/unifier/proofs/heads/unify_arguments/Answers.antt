@@ -33,10 +33,10 @@ loop-i-preserved c =
     let new = c.unify_parts.new.bindings in
     let t = full s (instance (raise n) (tree_of a)) in
     let u = full s (instance (raise m) (tree_of b)) in
-    let unified = subst (λ (found : Bool). IsUnified (made s) ((t, u) ∷ []) (made new) found) c.if-not-branch.false c.in_ok-unify_parts.ensures.unifier in
+    let unified = subst (λ (found : Bool). IsUnified (made s) ((t, u) ∷ []) (made new) found) c.if-not-branch.false c.in_ok-unify_parts.ensures.unified.unifier in
     record {
       within = omega (arith, less);
-      unified = pair_unified k s n m ts us i c.loop-i.limit c.loop-i.invariant.unified t u e new c.in_ok-unify_parts.ensures.extended c.in_ok-unify_parts.ensures.free c.unify_parts.new.limit unified c.in_ok-unify_parts.ensures.limit;
+      unified = pair_unified k s n m ts us i c.loop-i.limit c.loop-i.invariant.unified t u e new c.in_ok-unify_parts.ensures.unified.extended c.in_ok-unify_parts.ensures.unified.free c.unify_parts.new.limit unified c.in_ok-unify_parts.ensures.limit;
       stays = λ es h. c.in_ok-unify_parts.ensures.limit es (c.loop-i.invariant.stays es h);
     }
 
@@ -56,7 +56,7 @@ returns-then-not-branch-clause-unifier c =
     let new = c.unify_parts.new.bindings in
     let t = full s (instance (raise n) (tree_of a)) in
     let u = full s (instance (raise m) (tree_of b)) in
-    let fails = subst (λ (found : Bool). IsUnified (made s) ((t, u) ∷ []) (made new) found) c.if-not-branch.true c.in_ok-unify_parts.ensures.unifier in
+    let fails = subst (λ (found : Bool). IsUnified (made s) ((t, u) ∷ []) (made new) found) c.if-not-branch.true c.in_ok-unify_parts.ensures.unified.unifier in
     pair_fails k s n m ts us i c.loop-i.limit c.loop-i.invariant.unified t u e fails
 
 pub returns-then-not-branch-clause-limit : goal.returns-then-not-branch-clause-limit
@@ -77,7 +77,7 @@ returns-then-not-branch-clause-extended c =
     let e = pair_at s n m i ts us a b (omega (arith, less)) (omega (arith, less)) (ap (get_or ts i) c.index-left-i.is) (ap (get_or us i) c.index-right-i.is) in
     let t = full s (instance (raise n) (tree_of a)) in
     let u = full s (instance (raise m) (tree_of b)) in
-    pair_extended k s n m ts us i c.loop-i.limit c.loop-i.invariant.unified t u e c.unify_parts.new.bindings c.in_ok-unify_parts.ensures.extended c.in_ok-unify_parts.ensures.free
+    pair_extended k s n m ts us i c.loop-i.limit c.loop-i.invariant.unified t u e c.unify_parts.new.bindings c.in_ok-unify_parts.ensures.unified.extended c.in_ok-unify_parts.ensures.unified.free
 
 pub returns-then-not-branch-clause-free : goal.returns-then-not-branch-clause-free
 returns-then-not-branch-clause-free c =
@@ -95,7 +95,7 @@ returns-then-not-branch-clause-free c =
     let new = c.unify_parts.new.bindings in
     let t = full s (instance (raise n) (tree_of a)) in
     let u = full s (instance (raise m) (tree_of b)) in
-    pair_free k s n m ts us i c.loop-i.limit c.loop-i.invariant.unified t u e new c.in_ok-unify_parts.ensures.extended c.in_ok-unify_parts.ensures.free
+    pair_free k s n m ts us i c.loop-i.limit c.loop-i.invariant.unified t u e new c.in_ok-unify_parts.ensures.unified.extended c.in_ok-unify_parts.ensures.unified.free
 
 pub returns-clause-unifier : goal.returns-clause-unifier
 returns-clause-unifier c =

@@ -42,10 +42,10 @@ loop-i-preserved c =
     let new = c.unify_terms.new.bindings in
     let t = full s (instance (raise n) (tree_of c.index-left-i.result)) in
     let u = full s (instance (raise m) (tree_of c.index-right-i.result)) in
-    let unified = subst (λ (b : Bool). IsUnified (made s) ((t, u) ∷ []) (made new) b) c.if-not-branch.false c.in_ok-unify_terms.ensures.unifier in
+    let unified = subst (λ (b : Bool). IsUnified (made s) ((t, u) ∷ []) (made new) b) c.if-not-branch.false c.in_ok-unify_terms.ensures.unified.unifier in
     record {
       within = omega (arith, less);
-      unified = pair_unified k s n m ts us i c.loop-i.limit c.loop-i.invariant.unified t u e new c.in_ok-unify_terms.ensures.extended c.in_ok-unify_terms.ensures.free c.unify_terms.new.limit unified c.in_ok-unify_terms.ensures.limit;
+      unified = pair_unified k s n m ts us i c.loop-i.limit c.loop-i.invariant.unified t u e new c.in_ok-unify_terms.ensures.unified.extended c.in_ok-unify_terms.ensures.unified.free c.unify_terms.new.limit unified c.in_ok-unify_terms.ensures.limit;
     }
 
 pub returns-then-not-branch-clause-unifier : goal.returns-then-not-branch-clause-unifier
@@ -63,7 +63,7 @@ returns-then-not-branch-clause-unifier c =
     let new = c.unify_terms.new.bindings in
     let t = full s (instance (raise n) (tree_of c.index-left-i.result)) in
     let u = full s (instance (raise m) (tree_of c.index-right-i.result)) in
-    let fails = subst (λ (b : Bool). IsUnified (made s) ((t, u) ∷ []) (made new) b) c.if-not-branch.true c.in_ok-unify_terms.ensures.unifier in
+    let fails = subst (λ (b : Bool). IsUnified (made s) ((t, u) ∷ []) (made new) b) c.if-not-branch.true c.in_ok-unify_terms.ensures.unified.unifier in
     subst (λ (es : List Equation). IsUnified (made k) es (made new) false) waits (pair_fails k s n m ts us i c.loop-i.limit c.loop-i.invariant.unified t u e fails)
 
 pub returns-then-not-branch-clause-extended : goal.returns-then-not-branch-clause-extended
@@ -79,7 +79,7 @@ returns-then-not-branch-clause-extended c =
     let e = pair_at s n m i ts us c.index-left-i.result c.index-right-i.result (omega (arith, less)) (omega (arith, less)) c.index-left-i.is c.index-right-i.is in
     let t = full s (instance (raise n) (tree_of c.index-left-i.result)) in
     let u = full s (instance (raise m) (tree_of c.index-right-i.result)) in
-    pair_extended k s n m ts us i c.loop-i.limit c.loop-i.invariant.unified t u e c.unify_terms.new.bindings c.in_ok-unify_terms.ensures.extended c.in_ok-unify_terms.ensures.free
+    pair_extended k s n m ts us i c.loop-i.limit c.loop-i.invariant.unified t u e c.unify_terms.new.bindings c.in_ok-unify_terms.ensures.unified.extended c.in_ok-unify_terms.ensures.unified.free
 
 pub returns-then-not-branch-clause-free : goal.returns-then-not-branch-clause-free
 returns-then-not-branch-clause-free c =
@@ -97,7 +97,7 @@ returns-then-not-branch-clause-free c =
     let t = full s (instance (raise n) (tree_of c.index-left-i.result)) in
     let u = full s (instance (raise m) (tree_of c.index-right-i.result)) in
     subst (λ (es : List Equation). KeepsFree es k new) waits
-    (pair_free k s n m ts us i c.loop-i.limit c.loop-i.invariant.unified t u e new c.in_ok-unify_terms.ensures.extended c.in_ok-unify_terms.ensures.free)
+    (pair_free k s n m ts us i c.loop-i.limit c.loop-i.invariant.unified t u e new c.in_ok-unify_terms.ensures.unified.extended c.in_ok-unify_terms.ensures.unified.free)
 
 pub returns-clause-unifier : goal.returns-clause-unifier
 returns-clause-unifier c =

@@ -1,90 +1,19 @@
-use Rattle.std.proofs.Common.{List, [], ◌∷◌, ◌++◌, true, append-nil, ap, sym, ◌∙◌, subst, arith}
-use Rattle.cti_terms.specs.Unify.{Equation, Dropped, Bound, Split, pairs}
-use Rattle.cti_terms.specs.UnifyFunction.{unify}
+use Rattle.std.proofs.Common.{ap, sym, subst}
 use Rattle.unifier.specs.declared.raised_term.RaisedTerm.{RaisedTerm}
 use Rattle.unifier.specs.Raised.{raised_tree}
-use Rattle.unifier.specs.Store.{full, made}
-use Rattle.unifier.specs.Below.{TermBelow, LeftBelow}
-use Rattle.unifier.specs.Pending.{waiting, args_full, step_of, IsFit, IsUnified, StaysBelow, KeepsFree}
-use Rattle.unifier.proofs.BelowLaws.{left_append, left_split}
-use Rattle.unifier.proofs.PendingLaws.{waiting_pushed}
-use Rattle.unifier.proofs.UnifySteps.{unify_step}
-use Rattle.unifier.proofs.HeadSteps.{bound_below, split_free, unified_same}
+use Rattle.unifier.specs.Store.{full}
+use Rattle.unifier.specs.Below.{TermBelow}
+use Rattle.unifier.proofs.HeadSteps.{pair_same}
 use Rattle.unifier.proofs.heads.unify_parts.Goals as goal
 
-pub solve-requires : goal.solve-requires
-solve-requires c =
-    let s = c.args.bindings.now in
-    let l = c.met-l.result in
-    let r = c.met-r.result in
-    let t = full s (raised_tree l.term) in
-    let u = full s (raised_tree r.term) in
-    let qs = pairs (args_full s l.term.base c.in-Arguments.ts.now) (args_full s r.term.base c.in-Arguments.us.now) in
-    let h = sym c.in_ok-step.ensures.step ∙ ap (step_of s l.term.base r.term.base) c.in-Arguments.is in
-    let waits = waiting_pushed s l.term.base r.term.base c.in-Arguments.ts.now c.in-Arguments.us.now c.push_equations.new.stack.items c.clear.new.self.items c.in_ok-push_equations-in-Arguments.ensures ∙ ap (λ (ps : List (RaisedTerm × RaisedTerm)). qs ++ waiting s ps) c.clear.ensures.items in
-    let below = subst (TermBelow c.args.limit.now) (sym c.met-l.ensures.same) c.requires in
-    subst (LeftBelow c.args.limit.now) (sym waits) (left_append c.args.limit.now qs [] (left_split c.args.limit.now t u qs h below) tt)
+pub unify_met-requires-clause-below : goal.unify_met-requires-clause-below
+unify_met-requires-clause-below c = subst (TermBelow c.args.limit.now) (sym c.met-l.ensures.same) c.requires
 
-pub returns-in-Nothing-clause-unifier : goal.returns-in-Nothing-clause-unifier
-returns-in-Nothing-clause-unifier c =
-    let s = c.args.bindings.now in
-    let l = c.met-l.result in
-    let r = c.met-r.result in
-    let t = full s (raised_tree l.term) in
-    let u = full s (raised_tree r.term) in
-    let h = sym c.in_ok-step.ensures.step ∙ ap (step_of s l.term.base r.term.base) c.in-Nothing.is in
-    subst (λ (e : Equation). IsUnified (made s) (e ∷ []) (made s) true) (λ i. (c.met-l.ensures.same i, c.met-r.ensures.same i))
-    ([], unify_step t u [] Dropped h, sym (append-nil (made s)))
+pub unify_met-requires-clause-right : goal.unify_met-requires-clause-right
+unify_met-requires-clause-right c = c.in-Some.ensures.0 c.args.bindings.now
 
-pub returns-in_ok-bind-in-Binds-clause-unifier : goal.returns-in_ok-bind-in-Binds-clause-unifier
-returns-in_ok-bind-in-Binds-clause-unifier c =
+pub returns-in-Some-clause-unified : goal.returns-in-Some-clause-unified
+returns-in-Some-clause-unified c =
     let s = c.args.bindings.now in
-    let l = c.met-l.result in
-    let r = c.met-r.result in
-    let t = full s (raised_tree l.term) in
-    let u = full s (raised_tree r.term) in
-    let x = c.in-Binds.x in
-    let v = full s (raised_tree c.in-Binds.term) in
-    let h = sym c.in_ok-step.ensures.step ∙ ap (step_of s l.term.base r.term.base) c.in-Binds.is in
-    subst (λ (e : Equation). IsUnified (made s) (e ∷ []) (made c.bind.new.self) true) (λ i. (c.met-l.ensures.same i, c.met-r.ensures.same i))
-    ((x, v) ∷ [], unify_step t u [] (Bound x v) h, ap made c.in_ok-bind-in-Binds.ensures)
-
-pub returns-in_ok-bind-in-Binds-clause-limit : goal.returns-in_ok-bind-in-Binds-clause-limit
-returns-in_ok-bind-in-Binds-clause-limit c =
-    let s = c.args.bindings.now in
-    let limit = c.args.limit.now in
-    let now = c.max.result in
-    let fit = subst (IsFit s) c.in-Binds.is c.in_ok-step.ensures.fit in
-    subst (StaysBelow limit s now) (sym c.in_ok-bind-in-Binds.ensures)
-    (bound_below s c.in-Binds.x (raised_tree c.in-Binds.term) limit c.in-Binds.above now (omega (arith, c.max.ensures)) (omega (arith, c.max.ensures)) fit.2)
-
-pub returns-in_ok-bind-in-Binds-clause-extended : goal.returns-in_ok-bind-in-Binds-clause-extended
-returns-in_ok-bind-in-Binds-clause-extended c = ((c.in-Binds.x, raised_tree c.in-Binds.term) ∷ [], c.in_ok-bind-in-Binds.ensures)
-
-pub returns-in_ok-solved-in-Arguments-clause-unifier : goal.returns-in_ok-solved-in-Arguments-clause-unifier
-returns-in_ok-solved-in-Arguments-clause-unifier c =
-    let s = c.args.bindings.now in
-    let l = c.met-l.result in
-    let r = c.met-r.result in
-    let t = full s (raised_tree l.term) in
-    let u = full s (raised_tree r.term) in
-    let stack = c.push_equations.new.stack.items in
-    let qs = pairs (args_full s l.term.base c.in-Arguments.ts.now) (args_full s r.term.base c.in-Arguments.us.now) in
-    let h = sym c.in_ok-step.ensures.step ∙ ap (step_of s l.term.base r.term.base) c.in-Arguments.is in
-    let waits = waiting_pushed s l.term.base r.term.base c.in-Arguments.ts.now c.in-Arguments.us.now stack c.clear.new.self.items c.in_ok-push_equations-in-Arguments.ensures ∙ ap (λ (ps : List (RaisedTerm × RaisedTerm)). qs ++ waiting s ps) c.clear.ensures.items in
-    subst (λ (e : Equation). IsUnified (made s) (e ∷ []) (made c.solve.new.bindings) c.in_ok-solved-in-Arguments.solved) (λ i. (c.met-l.ensures.same i, c.met-r.ensures.same i))
-    (unified_same (made s) (made c.solve.new.bindings) (waiting s stack) ((t, u) ∷ []) c.in_ok-solved-in-Arguments.solved (unify_step t u [] (Split qs) h ∙ ap unify (sym waits)) c.in_ok-solved-in-Arguments.ensures.unifier)
-
-pub returns-in_ok-solved-in-Arguments-clause-free : goal.returns-in_ok-solved-in-Arguments-clause-free
-returns-in_ok-solved-in-Arguments-clause-free c =
-    let s = c.args.bindings.now in
-    let l = c.met-l.result in
-    let r = c.met-r.result in
-    let t = full s (raised_tree l.term) in
-    let u = full s (raised_tree r.term) in
-    let stack = c.push_equations.new.stack.items in
-    let qs = pairs (args_full s l.term.base c.in-Arguments.ts.now) (args_full s r.term.base c.in-Arguments.us.now) in
-    let h = sym c.in_ok-step.ensures.step ∙ ap (step_of s l.term.base r.term.base) c.in-Arguments.is in
-    let waits = waiting_pushed s l.term.base r.term.base c.in-Arguments.ts.now c.in-Arguments.us.now stack c.clear.new.self.items c.in_ok-push_equations-in-Arguments.ensures ∙ ap (λ (ps : List (RaisedTerm × RaisedTerm)). qs ++ waiting s ps) c.clear.ensures.items in
-    subst (λ (e : Equation). KeepsFree (e ∷ []) s c.solve.new.bindings) (λ i. (c.met-l.ensures.same i, c.met-r.ensures.same i))
-    (split_free s c.solve.new.bindings t u qs h (subst (λ (es : List Equation). KeepsFree es s c.solve.new.bindings) waits c.in_ok-solved-in-Arguments.ensures.free))
+    let r = c.in-Some.r in
+    pair_same s c.unify_met.new.bindings c.met-l.result.term r.term c.args.left c.args.right c.in_ok-compound.compound c.met-l.ensures.same (ap (λ (x : RaisedTerm). full s (raised_tree x)) c.in-Some.ensures.1) c.in_ok-compound.ensures.unified

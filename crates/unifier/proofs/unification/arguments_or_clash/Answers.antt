@@ -1,13 +1,17 @@
-use Rattle.unifier.proofs.PendingLaws.{step_splits, step_clashes}
+use Rattle.std.proofs.Common.{Bool, subst}
+use Rattle.cti_terms.specs.Tree.{Compound}
+use Rattle.cti_terms.specs.Unify.{first_step, pairs}
+use Rattle.unifier.specs.Pending.{args_full, AgreeAs}
 use Rattle.unifier.proofs.unification.arguments_or_clash.Goals as goal
-use Rattle.unifier.proofs.unification.arguments_or_clash.Goals.{else-f-g-via-then-f-g+else-left-right, else-f-g-via-else-f-g}
 
-pub returns-then-left-right-clause-step : goal.returns-then-left-right-clause-step
-returns-then-left-right-clause-step c = λ s n m. step_splits s c.args.f.0 c.args.g.0 n m c.args.left.now c.args.right.now c.if-f-g.true c.if-left-right.true
+pub returns-then-agree-clause-step : goal.returns-then-agree-clause-step
+returns-then-agree-clause-step c = λ s n m.
+    let ts = args_full s n c.args.left.now in
+    let us = args_full s m c.args.right.now in
+    subst (λ (b : Bool). AgreeAs b (first_step (Compound c.args.f.0 ts) (Compound c.args.g.0 us)) (pairs ts us)) c.if-agree.true (c.agree.ensures s n m)
 
-pub returns-else-f-g-clause-step : goal.returns-else-f-g-clause-step
-returns-else-f-g-clause-step c = λ s n m. step_clashes s c.args.f.0 c.args.g.0 n m c.args.left.now c.args.right.now (λ h.
-    elim c.else-f-g.branch [
-      | else-f-g-via-then-f-g+else-left-right w ↦ w.if-left-right.false h.1
-      | else-f-g-via-else-f-g w ↦ w.if-f-g.false h.0
-    ])
+pub returns-else-agree-clause-step : goal.returns-else-agree-clause-step
+returns-else-agree-clause-step c = λ s n m.
+    let ts = args_full s n c.args.left.now in
+    let us = args_full s m c.args.right.now in
+    subst (λ (b : Bool). AgreeAs b (first_step (Compound c.args.f.0 ts) (Compound c.args.g.0 us)) (pairs ts us)) c.if-agree.false (c.agree.ensures s n m)
