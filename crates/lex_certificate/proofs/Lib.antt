@@ -7,6 +7,5 @@ pub mod ListLemmas
 pub mod DropLemmas
 pub mod StructureLemmas
 pub mod WholeLemmas
-pub mod WritingLemmas
 pub mod ComponentLemmas
 pub mod FlatLemmas

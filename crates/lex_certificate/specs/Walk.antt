@@ -1,6 +1,6 @@
 -- Private.
 -- How the parts are read: fact by fact, from the front. Nothing here has to be believed.
-use Rattle.std.specs.Prelude.{◌≡◌, ℕ, zero, suc, ◌+◌, ℤ, pos, Bool, ◌&&◌, ◌==◌, nat_le, if◌then◌else◌, List, [], ◌∷◌, ◌++◌, length, Option, None, Some, option_map, Result, Ok, Err}
+use Rattle.std.specs.Prelude.{ℕ, zero, suc, ◌+◌, ℤ, pos, Bool, ◌&&◌, ◌==◌, nat_le, if◌then◌else◌, List, [], ◌∷◌, ◌++◌, length, Option, None, Some, option_map, Ok, Err}
 use Rattle.std.specs.Ordering.{int_eq}
 use Rattle.std.specs.List.{list_all}
 use Rattle.bool_diagrams.specs.declared.cube.Cell.{Cell}
@@ -11,8 +11,6 @@ use Rattle.cert_structure.specs.Walk.{kept, at_place, same_pred, is_mode, is_bef
 use Rattle.certificate.specs.declared.pred_text.PredText.{PredText}
 use Rattle.cti_terms.specs.declared.atom_list.Atom.{Atom}
 use Rattle.cti_terms.specs.Listing.{Listing, numbered}
-use Rattle.fact_reading.specs.declared.stop.FactFault.{FactFault}
-use Rattle.fact_reading.specs.declared.stop.FactFault.TheVariants as fault
 use Rattle.fact_reading.specs.declared.stop.StructureReason.TheVariants as reason
 use Rattle.fact_reading.specs.Walk.{◌>>=◌, Read, Taken, result_map, wrong_at, with_first, read_each, read_next, read_many}
 use Rattle.linear_rows.specs.declared.multipliers.Multipliers.{Multipliers}
@@ -24,20 +22,9 @@ use Rattle.number_tests.specs.declared.pair_point.PairPoint.{PairPoint}
 use Rattle.number_tests.specs.declared.refutation.Refutation.{Refutation}
 use Rattle.lex_certificate.specs.declared.fact.LexFact.{LexFact}
 use Rattle.lex_certificate.specs.declared.fact.LexFact.TheVariants as lex
-use Rattle.lex_certificate.specs.declared.pair.Pair.{Pair}
 use Rattle.lex_certificate.specs.declared.parts.LexParts.{LexParts}
 use Rattle.lex_certificate.specs.Order.{is_note}
 use Rattle.lex_certificate.specs.Shape.{lists_of_call}
-
--- the code took an item of a right shape
-abbrev pub AgreesKept : {A : Type 0} → Result A FactFault → Taken A → Type 0
-AgreesKept (Ok x) o = o ≡ Some (Some x)
-AgreesKept (Err fault.Shape) o = o ≡ None
-AgreesKept (Err fault.Memory) o = Unit {0}
-
--- a pair of the code
-abbrev pub pair_end : Pair → ℕ × ℕ
-pair_end q = (q.clause, q.call)
 
 -- the version of the format, which is 1
 unfoldable pub take_version : ℕ → LexFact → Taken ℤ

@@ -6,13 +6,9 @@ ghost use Rattle.fact_reading.specs.Walk.{Agrees};
 ghost use Rattle.lex_certificate.specs.Shape.{lists_of_call};
 ghost use Rattle.lex_certificate.specs.Walk.{take_drop, read_place, read_call, read_calls, read_drops};
 
-use crate::calls::Calls;
-use crate::clauses::{body_at, head_at};
 use crate::fact::LexFact;
-use crate::lists::{count_of, lists_at};
-use crate::named::is_number;
-use crate::numbers::multipliers;
-use crate::sizes::rows_of;
+use crate::lists::lists_at;
+use cert_structure::{Calls, body_at, count_of, head_at, is_number, multipliers, rows_of};
 use cti_terms::Atom;
 use fact_reading::{FactFault, Kind, Reader, Stop, StructureReason, each, many, wrong};
 use linear_rows::Multipliers;

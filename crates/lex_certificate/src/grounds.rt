@@ -4,11 +4,9 @@ ghost use Rattle.std.specs.Prelude.{◌≡◌};
 ghost use Rattle.cert_structure.specs.Walk.{named};
 ghost use Rattle.lex_certificate.specs.Walk.{take_ground, read_grounds};
 
-use crate::cubes::cube;
 use crate::fact::LexFact;
-use crate::named::{is_number, is_pred};
 use bool_diagrams::Cube;
-use cert_structure::Named;
+use cert_structure::{Named, cube, is_number};
 use cti_terms::{Names, Program};
 use fact_reading::{FactFault, Kind, Reader, Stop, many};
 use sequences::Sequence;
@@ -35,7 +33,7 @@ impl Kind<LexFact> for GroundFact<'_> {
         else {
             return Ok(None);
         };
-        if !is_pred(&self.pred, pred) || !is_number(*index, number) {
+        if !self.pred.is(pred) || !is_number(*index, number) {
             return Ok(None);
         }
         Ok(Some(cube(alloc, self.pred.arity, cells.as_slice())?))

@@ -6,9 +6,6 @@
 //! true is not asked here.
 #![tactic(auto)]
 
-mod calls;
-mod clauses;
-mod cubes;
 mod drops;
 mod fact;
 mod field;
@@ -17,18 +14,13 @@ mod grounds;
 mod list_certificate;
 mod lists;
 mod modes;
-mod named;
-mod numbers;
-mod pair;
 mod parts;
 mod preconditions;
 mod printing;
 mod reading;
 mod sizes;
 mod stuck;
-mod writer;
 mod writing;
-mod written_fields;
 mod written_lists;
 mod written_sets;
 

@@ -1,35 +1,19 @@
 //! The parts of predicates in lists of mappings.
 
-ghost use Rattle.std.specs.Prelude.{◌≡◌, length, [], ◌++◌, ◌∷◌};
+ghost use Rattle.std.specs.Prelude.{◌≡◌, length, []};
 ghost use Rattle.cert_structure.specs.Shape.{items_of};
-ghost use Rattle.cert_structure.specs.Walk.{named, level_read};
+ghost use Rattle.cert_structure.specs.Walk.{named};
 ghost use Rattle.fact_reading.specs.Filling.{Fills};
 ghost use Rattle.fact_reading.specs.Walk.{Agrees, read_each, read_next};
-ghost use Rattle.lex_certificate.specs.Walk.{AgreesKept, take_level, read_lists, read_like, read_one, read_own, read_levels};
+ghost use Rattle.lex_certificate.specs.Walk.{take_level, read_lists, read_like, read_one, read_own, read_levels};
 
-use crate::calls::Calls;
 use crate::fact::LexFact;
-use crate::named::{is_number, is_pred};
-use crate::numbers::{are_amounts, copied, is_amount};
-use cert_structure::Named;
+use cert_structure::{Calls, Named, count_of, is_number, level};
 use cti_terms::Names;
 use fact_reading::{FactFault, Kind, Next, Reader, Stop, each, many};
 use number_tests::LevelPart;
 use sequences::Sequence;
 use std::alloc::Global;
-
-/// A level with a coefficient for each of `arity` arguments.
-fn level(alloc: Global, arity: u32, coeffs: &[i128], offset: i128) -> Result<LevelPart, FactFault>
-    ensures { AgreesKept result (level_read arity coeffs.now offset) }
-{
-    if coeffs.len() != arity as usize || !are_amounts(coeffs) || !is_amount(offset) {
-        return Err(FactFault::Shape);
-    }
-    Ok(LevelPart {
-        coeffs: copied(alloc, coeffs)?,
-        offset,
-    })
-}
 
 /// The facts of a predicate's measures in a list.
 #[derive(Drop)]
@@ -60,23 +44,13 @@ impl Kind<LexFact> for LevelFact<'_> {
         else {
             return Ok(None);
         };
-        if !is_pred(&self.pred, pred)
+        if !self.pred.is(pred)
             || !is_number(u64::from(*list), self.list)
             || !is_number(*index, number)
         {
             return Ok(None);
         }
         Ok(Some(level(alloc, self.pred.arity, coeffs.as_slice(), *offset)?))
-    }
-}
-
-/// How many items there are of a number.
-pub(crate) fn count_of<T>(items: &[Sequence<T>], number: u64) -> u64
-    ensures { result ≡ length (items_of items.now number) }
-{
-    match items.get(number as usize) {
-        Some(own) => own.len() as u64,
-        None => 0,
     }
 }
 

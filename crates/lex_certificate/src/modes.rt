@@ -1,38 +1,15 @@
 //! The modes of predicates.
 
 ghost use Rattle.std.specs.Prelude.{◌≡◌};
-ghost use Rattle.std.specs.List.{list_all};
-ghost use Rattle.cert_structure.specs.Walk.{named, is_mode};
+ghost use Rattle.cert_structure.specs.Walk.{named};
 ghost use Rattle.lex_certificate.specs.Walk.{read_modes, take_modes};
 
 use crate::fact::LexFact;
-use crate::named::is_pred;
-use cert_structure::{Named, copied_modes};
+use cert_structure::{Named, are_modes, copied_modes};
 use cti_terms::{Names, Program};
 use fact_reading::{FactFault, Kind, Reader, Stop, first_item};
 use sequences::Sequence;
 use std::alloc::Global;
-
-/// Whether a mode has argument numbers from 1 to the arity, in ascending order.
-fn is_mode(arity: u32, mode: &[u32]) -> bool
-    ensures { result ≡ is_mode arity 0 mode.now }
-{
-    let mut last = 0;
-    for argument in mode {
-        if *argument <= last || *argument > arity {
-            return false;
-        }
-        last = *argument;
-    }
-    true
-}
-
-/// Whether each mode has argument numbers from 1 to the arity, in ascending order.
-fn are_modes(arity: u32, modes: &[Sequence<u32>]) -> bool
-    ensures { result ≡ list_all (is_mode arity 0) modes.now }
-{
-    modes.iter().all(|mode| is_mode(arity, mode.as_slice()))
-}
 
 /// The facts of a predicate's modes.
 #[derive(Drop)]
@@ -55,7 +32,7 @@ impl Kind<LexFact> for ModesFact<'_> {
         let LexFact::Terminates { pred, modes } = fact else {
             return Ok(None);
         };
-        if !is_pred(&self.pred, pred) {
+        if !self.pred.is(pred) {
             return Ok(None);
         }
         if !are_modes(self.pred.arity, modes.as_slice()) {

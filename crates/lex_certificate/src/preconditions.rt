@@ -4,12 +4,9 @@ ghost use Rattle.std.specs.Prelude.{◌≡◌};
 ghost use Rattle.cert_structure.specs.Walk.{named};
 ghost use Rattle.lex_certificate.specs.Walk.{take_pre, read_cubes, read_pre};
 
-use crate::cubes::cube;
 use crate::fact::LexFact;
-use crate::lists::count_of;
-use crate::named::{is_number, is_pred};
 use bool_diagrams::Cube;
-use cert_structure::Named;
+use cert_structure::{Named, count_of, cube, is_number};
 use cti_terms::{Names, Program};
 use fact_reading::{FactFault, Kind, Reader, Stop, each, many};
 use number_tests::LevelPart;
@@ -39,7 +36,7 @@ impl Kind<LexFact> for PreFact<'_> {
         else {
             return Ok(None);
         };
-        if !is_pred(&self.pred, pred)
+        if !self.pred.is(pred)
             || !is_number(u64::from(*list), self.list)
             || !is_number(*index, number)
         {

@@ -14,7 +14,6 @@ ghost use Rattle.lex_certificate.specs.Walk.{take_version, read_sections, read_p
 ghost use Rattle.lex_certificate.specs.declared.fact.LexFact.{LexFact as TheFact};
 ghost use Rattle.lex_certificate.specs.declared.parts.LexParts.{LexParts as TheParts};
 
-use crate::calls::Calls;
 use crate::drops::Drops;
 use crate::fact::LexFact;
 use crate::grounds::Grounds;
@@ -26,6 +25,7 @@ use crate::preconditions::Preconditions;
 use crate::sizes::{PredRows, Proofs, rows_into};
 use crate::stuck::StuckSets;
 use call_components::Components;
+use cert_structure::Calls;
 use cti_terms::{Names, Program};
 use fact_reading::{FactFault, Kind, Stop, each_into, first_item};
 use std::alloc::{AllocError, Global};

@@ -1,39 +1,20 @@
 //! The size rows of predicates, and their proofs.
 
-ghost use Rattle.std.specs.Prelude.{◌≡◌, ◌++◌, map, length, sum_by};
 ghost use Rattle.fact_reading.specs.Filling.{Fills};
-ghost use Rattle.cert_structure.specs.Shape.{arity_in, rows_of, rows_of_atoms};
-ghost use Rattle.cert_structure.specs.Walk.{named, row_read};
+ghost use Rattle.cert_structure.specs.Walk.{named};
 ghost use Rattle.fact_reading.specs.Walk.{read_each};
-ghost use Rattle.lex_certificate.specs.Walk.{AgreesKept, take_row, read_rows, take_proof, read_proofs};
+ghost use Rattle.lex_certificate.specs.Walk.{take_row, read_rows, take_proof, read_proofs};
 
-use crate::clauses::{body_at, head_at};
 use crate::fact::LexFact;
-use crate::named::{is_number, is_pred};
-use crate::numbers::{are_entries, copied, is_entry, multipliers};
-use cert_structure::Named;
-use cti_terms::{Atom, Names, PredId, Program};
+use cert_structure::{
+    Named, body_at, head_at, is_number, multipliers, rows_of, rows_of_atoms, size_row,
+};
+use cti_terms::{Names, Program};
 use fact_reading::{FactFault, Kind, Next, Reader, Stop, each, many};
 use linear_rows::{Multipliers, Row, RowList, Rows};
 use sequences::Sequence;
 use std::alloc::Global;
 use termination_model::SizeRows;
-
-/// A row with a constant and a coefficient for each of `arity` arguments.
-fn size_row(alloc: Global, arity: u32, row: &[i128]) -> Result<Row, FactFault>
-    ensures { AgreesKept result (row_read arity row.now) }
-{
-    let Some((constant, coeffs)) = row.split_first() else {
-        return Err(FactFault::Shape);
-    };
-    if coeffs.len() != arity as usize || !is_entry(*constant) || !are_entries(coeffs) {
-        return Err(FactFault::Shape);
-    }
-    Ok(Row {
-        constant: *constant,
-        coeffs: copied(alloc, coeffs)?,
-    })
-}
 
 /// The facts of a predicate's size rows.
 #[derive(Drop)]
@@ -51,7 +32,7 @@ impl Kind<LexFact> for RowFact<'_> {
         let LexFact::Size { pred, index, row } = fact else {
             return Ok(None);
         };
-        if !is_pred(&self.pred, pred) || !is_number(*index, number) {
+        if !self.pred.is(pred) || !is_number(*index, number) {
             return Ok(None);
         }
         Ok(Some(size_row(alloc, self.pred.arity, row.as_slice())?))
@@ -106,18 +87,6 @@ pub(crate) fn rows_into<'f>(
     Ok(rest)
 }
 
-/// How many size rows a predicate has.
-pub(crate) fn rows_of(rows: &SizeRows, pred: PredId) -> u64
-    ensures { result ≡ rows_of rows.now pred.0 }
-{
-    let place = pred.0 as usize;
-    if place < rows.len() {
-        rows.get(place).list.len() as u64
-    } else {
-        0
-    }
-}
-
 /// The facts of the proofs for a clause, each with `rows` multipliers.
 #[derive(Drop)]
 struct ProofFact {
@@ -151,17 +120,6 @@ impl Kind<LexFact> for ProofFact {
         }
         Ok(Some(multipliers(alloc, self.rows, *scale, list.as_slice())?))
     }
-}
-
-/// How many rows the system of atoms has.
-fn rows_of_atoms(rows: &SizeRows, atoms: &[Atom]) -> u128
-    ensures { result ≡ rows_of_atoms rows.now atoms.now }
-{
-    let mut count = 0;
-    for atom in atoms {
-        count += u128::from(rows_of(rows, atom.pred));
-    }
-    count
 }
 
 /// The proofs for each clause.

@@ -1,36 +1,17 @@
 //! The stuck sets of recursive components.
 
 ghost use Rattle.std.specs.Prelude.{◌≡◌};
-ghost use Rattle.cert_structure.specs.Walk.{named, point_read};
+ghost use Rattle.cert_structure.specs.Walk.{AgreesKept, named, pair_end};
 ghost use Rattle.fact_reading.specs.Walk.{Agrees};
-ghost use Rattle.lex_certificate.specs.Walk.{AgreesKept, pair_end, is_open, take_refuted, take_point, stuck_read, read_points, read_set, read_stuck};
+ghost use Rattle.lex_certificate.specs.Walk.{is_open, take_refuted, take_point, stuck_read, read_points, read_set, read_stuck};
 
-use crate::calls::Calls;
 use crate::fact::LexFact;
-use crate::lists::count_of;
-use crate::named::is_pred;
-use crate::numbers::{are_amounts, copied, is_amount};
-use crate::pair::{Pair, vars};
-use cert_structure::Named;
+use cert_structure::{Calls, Named, Pair, count_of, scaled_point, vars};
 use cti_terms::Names;
 use fact_reading::{FactFault, Kind, Reader, Stop, StructureReason, first_item, wrong};
-use linear_rows::Point;
 use number_tests::{LevelPart, PairPoint, Refutation};
 use sequences::Sequence;
 use std::alloc::Global;
-
-/// A point with a value for each of `vars` variables.
-fn scaled_point(alloc: Global, vars: u32, t: i128, w: &[i128]) -> Result<Point, FactFault>
-    ensures { AgreesKept result (point_read vars t w.now) }
-{
-    if w.len() != vars as usize || !is_amount(t) || !are_amounts(w) {
-        return Err(FactFault::Shape);
-    }
-    Ok(Point {
-        t,
-        w: copied(alloc, w)?,
-    })
-}
 
 /// A pair with a point whose t is at least 1, and a value for each of `vars` variables.
 fn stuck_point(
@@ -136,7 +117,7 @@ impl Kind<LexFact> for RefutedFact<'_> {
         let LexFact::Refuted { pred, points } = fact else {
             return Ok(None);
         };
-        if !is_pred(&self.pred, pred) {
+        if !self.pred.is(pred) {
             return Ok(None);
         }
         if *points == 0 {

@@ -7,9 +7,9 @@ ghost use Rattle.lex_certificate.specs.Written.{set_facts, list_facts};
 use crate::fact::LexFact;
 use crate::list_certificate::LexCertificate;
 use crate::parts::LexParts;
-use crate::writer::write_each;
 use crate::written_lists::{WrittenDrops, WrittenLists, WrittenPres, WrittenSets};
 use crate::written_sets::{WrittenGrounds, WrittenModes, WrittenProofs, WrittenSizes};
+use cert_writing::{append, write_each};
 use cti_terms::{Names, Program};
 use sequences::Sequence;
 use std::alloc::{AllocError, Global};
@@ -74,16 +74,6 @@ fn write_lists(
         parts.stuck.as_slice(),
         out,
     )
-}
-
-/// Puts facts after others.
-fn append(facts: Vec<LexFact>, out: &mut Sequence<LexFact>) -> Result<(), AllocError>
-    ensures { OnOk result (out.new ≡ out.old ++ facts.items) }
-{
-    for fact in facts {
-        out.push(fact)?;
-    }
-    Ok(())
 }
 
 /// The certificate of parts, with notes after their facts: `parts_of` finds these parts in it, where they have the shape

@@ -8,10 +8,9 @@ ghost use Rattle.lex_certificate.specs.Order.{level_line, drops_line, pre_line, 
 ghost use Rattle.lex_certificate.specs.declared.fact.LexFact.TheVariants as lex;
 
 use crate::fact::LexFact;
-use crate::writer::{Writer, write_each};
-use crate::written_fields::{cells, counted, numbers};
 use bool_diagrams::Cube;
 use cert_structure::Named;
+use cert_writing::{Writer, cells, counted, numbers, write_each};
 use cti_terms::{Names, Program};
 use linear_rows::Multipliers;
 use number_tests::{LevelPart, PairPoint, Refutation};
@@ -25,7 +24,7 @@ pub(crate) struct LevelsOf<'a> {
     pub(crate) list: u32,
 }
 
-impl Writer for LevelsOf<'_> {
+impl Writer<LexFact> for LevelsOf<'_> {
     type Item = LevelPart;
 
     ghost facts = { λ w i level. lex.Level (named w.pred) w.list (suc i) level.coeffs level.offset ∷ [] };
@@ -54,7 +53,7 @@ pub(crate) struct ListsOf<'a> {
     pub(crate) pred: Named<'a>,
 }
 
-impl Writer for ListsOf<'_> {
+impl Writer<LexFact> for ListsOf<'_> {
     type Item = Sequence<LevelPart>;
 
     ghost facts = { λ w m ls. lines_from 0 (level_line (named w.pred) m) ls };
@@ -82,7 +81,7 @@ pub(crate) struct WrittenLists<'a> {
     pub(crate) names: &'a Names,
 }
 
-impl Writer for WrittenLists<'_> {
+impl Writer<LexFact> for WrittenLists<'_> {
     type Item = Sequence<Sequence<LevelPart>>;
 
     ghost facts = { λ w a own. facts_from 0 (λ m ls. lines_from 0 (level_line
@@ -108,7 +107,7 @@ pub(crate) struct DropsOfList {
     pub(crate) list: u32,
 }
 
-impl Writer for DropsOfList {
+impl Writer<LexFact> for DropsOfList {
     type Item = Multipliers;
 
     ghost facts = { λ w i x. lex.Drops w.clause w.call w.list (suc i) x.scale x.list ∷ [] };
@@ -139,7 +138,7 @@ pub(crate) struct DropsOfCall {
     pub(crate) call: u32,
 }
 
-impl Writer for DropsOfCall {
+impl Writer<LexFact> for DropsOfCall {
     type Item = Sequence<Multipliers>;
 
     ghost facts = { λ w m ms. lines_from 0 (λ i x. lex.Drops w.clause w.call (suc m) (suc i) x.scale x.list) ms };
@@ -167,7 +166,7 @@ pub(crate) struct DropsOf {
     pub(crate) clause: u32,
 }
 
-impl Writer for DropsOf {
+impl Writer<LexFact> for DropsOf {
     type Item = Sequence<Sequence<Multipliers>>;
 
     ghost facts = { λ w j lists.
@@ -194,7 +193,7 @@ impl Writer for DropsOf {
 #[derive(Drop)]
 pub(crate) struct WrittenDrops {}
 
-impl Writer for WrittenDrops {
+impl Writer<LexFact> for WrittenDrops {
     type Item = Sequence<Sequence<Sequence<Multipliers>>>;
 
     ghost facts = { λ w k calls. facts_from 0 (λ j lists. facts_from 0 (λ m ms. lines_from 0
@@ -219,7 +218,7 @@ pub(crate) struct PreOf<'a> {
     pub(crate) list: u32,
 }
 
-impl Writer for PreOf<'_> {
+impl Writer<LexFact> for PreOf<'_> {
     type Item = Cube;
 
     ghost facts = { λ w i cube. lex.Pre (named w.pred) w.list (suc i) (map cell_of cube) ∷ [] };
@@ -247,7 +246,7 @@ pub(crate) struct PresOf<'a> {
     pub(crate) pred: Named<'a>,
 }
 
-impl Writer for PresOf<'_> {
+impl Writer<LexFact> for PresOf<'_> {
     type Item = Sequence<Cube>;
 
     ghost facts = { λ w m cs. lines_from 0 (pre_line (named w.pred) m) cs };
@@ -275,7 +274,7 @@ pub(crate) struct WrittenPres<'a> {
     pub(crate) names: &'a Names,
 }
 
-impl Writer for WrittenPres<'_> {
+impl Writer<LexFact> for WrittenPres<'_> {
     type Item = Sequence<Sequence<Cube>>;
 
     ghost facts = { λ w a ms. facts_from 0 (λ m cs. lines_from 0 (pre_line
@@ -297,7 +296,7 @@ impl Writer for WrittenPres<'_> {
 #[derive(Drop)]
 pub(crate) struct Points {}
 
-impl Writer for Points {
+impl Writer<LexFact> for Points {
     type Item = PairPoint;
 
     ghost facts = { λ w i x. point_line x ∷ [] };
@@ -326,7 +325,7 @@ pub(crate) struct WrittenSets<'a> {
     pub(crate) names: &'a Names,
 }
 
-impl Writer for WrittenSets<'_> {
+impl Writer<LexFact> for WrittenSets<'_> {
     type Item = Option<Refutation>;
 
     ghost facts = { λ w a r. stuck_lines (pred_text w.p.now w.names.now a) r };

@@ -8,10 +8,9 @@ ghost use Rattle.lex_certificate.specs.Order.{size_line, by_line, grounds_line};
 ghost use Rattle.lex_certificate.specs.declared.fact.LexFact.TheVariants as lex;
 
 use crate::fact::LexFact;
-use crate::writer::{Writer, write_each};
-use crate::written_fields::{cells, counted, numbers, row_numbers};
 use bool_diagrams::Cube;
 use cert_structure::{Named, copied_modes};
+use cert_writing::{Writer, cells, counted, numbers, row_numbers, write_each};
 use cti_terms::{Names, Program};
 use linear_rows::{Multipliers, Row, Rows};
 use sequences::Sequence;
@@ -24,7 +23,7 @@ pub(crate) struct WrittenModes<'a> {
     pub(crate) names: &'a Names,
 }
 
-impl Writer for WrittenModes<'_> {
+impl Writer<LexFact> for WrittenModes<'_> {
     type Item = Sequence<Sequence<u32>>;
 
     ghost facts = { λ w a ms. lex.Terminates (pred_text w.p.now w.names.now a) ms ∷ [] };
@@ -50,7 +49,7 @@ pub(crate) struct SizeRowsOf<'a> {
     pub(crate) pred: Named<'a>,
 }
 
-impl Writer for SizeRowsOf<'_> {
+impl Writer<LexFact> for SizeRowsOf<'_> {
     type Item = Row;
 
     ghost facts = { λ w i r. size_line (named w.pred) i r ∷ [] };
@@ -78,7 +77,7 @@ pub(crate) struct WrittenSizes<'a> {
     pub(crate) names: &'a Names,
 }
 
-impl Writer for WrittenSizes<'_> {
+impl Writer<LexFact> for WrittenSizes<'_> {
     type Item = Rows;
 
     ghost facts = { λ w a r. lines_from 0 (size_line (pred_text w.p.now w.names.now a)) r.list };
@@ -101,7 +100,7 @@ pub(crate) struct ProofsOf {
     pub(crate) clause: u32,
 }
 
-impl Writer for ProofsOf {
+impl Writer<LexFact> for ProofsOf {
     type Item = Multipliers;
 
     ghost facts = { λ w i m. lex.By w.clause (suc i) m.scale m.list ∷ [] };
@@ -127,7 +126,7 @@ impl Writer for ProofsOf {
 #[derive(Drop)]
 pub(crate) struct WrittenProofs {}
 
-impl Writer for WrittenProofs {
+impl Writer<LexFact> for WrittenProofs {
     type Item = Sequence<Multipliers>;
 
     ghost facts = { λ w k ms. lines_from 0 (by_line k) ms };
@@ -150,7 +149,7 @@ pub(crate) struct GroundsOf<'a> {
     pub(crate) pred: Named<'a>,
 }
 
-impl Writer for GroundsOf<'_> {
+impl Writer<LexFact> for GroundsOf<'_> {
     type Item = Cube;
 
     ghost facts = { λ w i cube. grounds_line (named w.pred) i cube ∷ [] };
@@ -178,7 +177,7 @@ pub(crate) struct WrittenGrounds<'a> {
     pub(crate) names: &'a Names,
 }
 
-impl Writer for WrittenGrounds<'_> {
+impl Writer<LexFact> for WrittenGrounds<'_> {
     type Item = Sequence<Cube>;
 
     ghost facts = { λ w a cs. lines_from 0 (grounds_line (pred_text w.p.now w.names.now a)) cs };
