@@ -1,9 +1,10 @@
 -- Laws of clauses that cannot match a goal by its first argument.
-use Rattle.std.proofs.Common.{◌≡◌, ◌≢◌, ℕ, zero, suc, ◌<◌, ◌≤◌, Bool, true, false, ◌&&◌, ◌==◌, if◌then◌else◌, List, [], ◌∷◌, map, length, slice_get, Option, None, Some, option_map, option_and_then, inl, inr, refl, ap, sym, ◌∙◌, subst, arith, eqb-true}
+use Rattle.std.proofs.Common.{◌≡◌, ◌≢◌, ℕ, ℤ, zero, suc, ◌<◌, ◌≤◌, Bool, true, false, ◌&&◌, ◌==◌, if◌then◌else◌, List, [], ◌∷◌, map, length, slice_get, Option, None, Some, option_map, option_and_then, inl, inr, refl, ap, sym, ◌∙◌, subst, arith, eqb-true}
 use Rattle.std.proofs.lemmas.Bool.{cases_eq, cases_lt}
-use Rattle.cti_terms.specs.Tree.{Tree, Compound, arity, trees, instance, all_instances}
+use Rattle.cti_terms.specs.declared.naming.Name.{Name}
+use Rattle.cti_terms.specs.Tree.{Tree, Trees, Compound, End, More, arity, trees, instance, all_instances}
 use Rattle.cti_terms.specs.declared.syntax.Term.{Term}
-use Rattle.cti_terms.specs.Spell.{tree_of, trees_of}
+use Rattle.cti_terms.specs.Spell.{tree_of}
 use Rattle.cti_terms.specs.declared.atom_list.Atom.{Atom}
 use Rattle.cti_terms.specs.declared.clauses.Clause.{Clause}
 use Rattle.cti_terms.specs.Arithmetic.{kind_of, passes_as}
@@ -16,31 +17,16 @@ use Rattle.cti_terms.specs.Resolve.{over, raised, head_equations, answered, pass
 use Rattle.unifier.specs.declared.raised_term.Met.{Met}
 use Rattle.unifier.specs.declared.raised_term.Shape.{Shape}
 use Rattle.unifier.specs.Raised.{raised_tree, raise}
-use Rattle.unifier.specs.Shapes.{shape_tree, shape_full, IsMet}
+use Rattle.unifier.specs.Shapes.{shape_full, IsMet}
 use Rattle.unifier.specs.Store.{full}
 use Rattle.unifier.specs.Pending.{args_full}
 use Rattle.ld_resolver.specs.Chain.{IsNext}
 use Rattle.ld_resolver.specs.Choices.{goal_from}
-use Rattle.ld_resolver.specs.FirstArguments.{HasFirst, Clash, IsRuledOut, IsNextMatch}
-use Rattle.unifier.proofs.PendingLaws.{arity-all_full}
+use Rattle.ld_resolver.specs.declared.first_kind.FirstKind.{FirstKind}
+use Rattle.ld_resolver.specs.FirstArguments.{HasFirst, IsRuledOut, RulesOut, IsNextMatch}
+use Rattle.unifier.proofs.PendingLaws.{arity-all_full, step_two_integers}
 use Rattle.ld_resolver.proofs.SearchLaws.{another_pred}
 use Rattle.unifier.proofs.UnifySteps.{unify_step}
-
-arity-raised : (n : ℕ) (ts : List Term) → arity (all_instances (raise n) (trees_of ts)) ≡ length ts
-arity-raised n [] = refl
-arity-raised n (t ∷ ts) = ap suc (arity-raised n ts)
-
--- two compound terms of different names or arities
-pub two_compounds : (s : List Binding) (f g n m : ℕ) (ts us : List Term) → ((f ≡ g) × (length ts ≡ length us) → ⊥) → first_step (Compound f (args_full s n ts)) (Compound g (all_instances (raise m) (trees_of us))) ≡ Step.Failed
-two_compounds s f g n m ts us h = by_length ∙ go (f == g) (length ts == length us) refl refl
-  where
-    by_length : first_step (Compound f (args_full s n ts)) (Compound g (all_instances (raise m) (trees_of us))) ≡ (if (f == g) && (length ts == length us) then Step.Split (pairs (args_full s n ts) (all_instances (raise m) (trees_of us))) else Step.Failed)
-    by_length = λ i. if (f == g) && (arity-all_full s n ts i == arity-raised m us i) then Step.Split (pairs (args_full s n ts) (all_instances (raise m) (trees_of us))) else Step.Failed
-
-    go : (a b : Bool) → (f == g) ≡ a → (length ts == length us) ≡ b → (if (f == g) && (length ts == length us) then Step.Split (pairs (args_full s n ts) (all_instances (raise m) (trees_of us))) else Step.Failed) ≡ Step.Failed
-    go true true p q = absurd (h (eqb-true f g p, eqb-true (length ts) (length us) q))
-    go true false p q = λ i. if (p i) && (q i) then Step.Split (pairs (args_full s n ts) (all_instances (raise m) (trees_of us))) else Step.Failed
-    go false b p q = λ i. if (p i) && (length ts == length us) then Step.Split (pairs (args_full s n ts) (all_instances (raise m) (trees_of us))) else Step.Failed
 
 -- the first argument of a raised atom has the kind that its term was found to have
 pub has_first : (s : List Binding) (a : Atom) (base : ℕ) (ts : List Term) (t : Term) (m : Met) → map tree_of ts ≡ a.args → Some t ≡ slice_get ts 0 → full s (raised_tree m.term) ≡ full s (instance (raise base) (tree_of t)) → IsMet s m → HasFirst s (raised base a) m.shape
@@ -57,8 +43,8 @@ has_first s a base (u ∷ ts) t m e h same met = record {
     it = cc
 
 -- a clause whose first argument clashes is ruled out
-pub ruled_out : (n : ℕ) (h g : Shape) (c : Clause) (u : Tree) (us : List Tree) → c.head.args ≡ u ∷ us → instance (raise n) u ≡ shape_tree n g → Clash n h g → IsRuledOut n h c
-ruled_out n h g c u us e r clash s a rest first =
+ruled_out : (n : ℕ) (h : Shape) (c : Clause) (u : Tree) (us : List Tree) → c.head.args ≡ u ∷ us → ((s : List Binding) (m : ℕ) → first_step (shape_full s m h) (instance (raise n) u) ≡ Step.Failed) → IsRuledOut n h c
+ruled_out n h c u us e clash s a rest first =
     ap (λ (o : Option (List Binding)). if a.pred.0 == c.head.pred.0 then option_map (answered (map (over (full s)) rest) n c) o else None) none
     ∙ either_way (a.pred.0 == c.head.pred.0)
   where
@@ -66,13 +52,41 @@ ruled_out n h g c u us e r clash s a rest first =
     either_way true = refl
     either_way false = refl
 
-    begins : head_equations (over (full s) a) n c ≡ (shape_full s first.base h, shape_tree n g) ∷ pairs (trees first.others) (trees (map (instance (raise n)) us))
-    begins =
-        (λ i. pairs (trees (first.are i)) (trees (map (instance (raise n)) (e i))))
-        ∙ (λ i. (shape_full s first.base h, r i) ∷ pairs (trees first.others) (trees (map (instance (raise n)) us)))
+    begins : head_equations (over (full s) a) n c ≡ (shape_full s first.base h, instance (raise n) u) ∷ pairs (trees first.others) (trees (map (instance (raise n)) us))
+    begins = λ i. pairs (trees (first.are i)) (trees (map (instance (raise n)) (e i)))
 
     none : unify (head_equations (over (full s) a) n c) ≡ None
-    none = ap unify begins ∙ unify_step (shape_full s first.base h) (shape_tree n g) (pairs (trees first.others) (trees (map (instance (raise n)) us))) Step.Failed (clash s first.base)
+    none = ap unify begins ∙ unify_step (shape_full s first.base h) (instance (raise n) u) (pairs (trees first.others) (trees (map (instance (raise n)) us))) Step.Failed (clash s first.base)
+
+-- two integers that differ
+pub integer_integer : (h : Shape) (m n : ℤ) → ((s : List Binding) (k : ℕ) → shape_full s k h ≡ Tree.Integer m) → (m ≡ n → ⊥) → RulesOut h (FirstKind.Integer n)
+integer_integer h m n is d = λ k c has. ruled_out k h c (Tree.Integer n) has.0 has.1 (λ s j. ap (λ (t : Tree). first_step t (Tree.Integer n)) (is s j) ∙ sym (step_two_integers m n d))
+
+-- an integer and a compound term
+pub integer_compound : (h : Shape) (m : ℤ) (f : Name) (count : ℕ) → ((s : List Binding) (k : ℕ) → shape_full s k h ≡ Tree.Integer m) → RulesOut h (FirstKind.Compound f count)
+integer_compound h m f count is = λ k c has. ruled_out k h c (Compound f.0 has.0) has.1 has.2 (λ s j. ap (λ (t : Tree). first_step t (instance (raise k) (Compound f.0 has.0))) (is s j))
+
+-- a compound term and an integer
+pub compound_integer : (h : Shape) (f : ℕ) (ts : List Term) (n : ℤ) → ((s : List Binding) (k : ℕ) → shape_full s k h ≡ Compound f (args_full s k ts)) → RulesOut h (FirstKind.Integer n)
+compound_integer h f ts n is = λ k c has. ruled_out k h c (Tree.Integer n) has.0 has.1 (λ s j. ap (λ (t : Tree). first_step t (Tree.Integer n)) (is s j))
+
+arity-instances : (a : ℕ → Tree) (ts : Trees) → arity (all_instances a ts) ≡ arity ts
+arity-instances a End = refl
+arity-instances a (More t ts) = ap suc (arity-instances a ts)
+
+-- two compound terms of different names or arities
+two_compounds : (f g n m : ℕ) (ts us : Trees) → arity ts ≡ n → arity us ≡ m → ((f ≡ g) × (n ≡ m) → ⊥) → first_step (Compound f ts) (Compound g us) ≡ Step.Failed
+two_compounds f g n m ts us p q d = go (f == g) (arity ts == arity us) refl refl
+  where
+    go : (a b : Bool) → (f == g) ≡ a → (arity ts == arity us) ≡ b → (if (f == g) && (arity ts == arity us) then Step.Split (pairs ts us) else Step.Failed) ≡ Step.Failed
+    go true true x y = absurd (d (eqb-true f g x, sym p ∙ eqb-true (arity ts) (arity us) y ∙ q))
+    go true false x y = λ i. if (x i) && (y i) then Step.Split (pairs ts us) else Step.Failed
+    go false b x y = λ i. if (x i) && (arity ts == arity us) then Step.Split (pairs ts us) else Step.Failed
+
+pub compound_compound : (h : Shape) (f : ℕ) (ts : List Term) (g : Name) (count : ℕ) → ((s : List Binding) (k : ℕ) → shape_full s k h ≡ Compound f (args_full s k ts)) → ((f ≡ g.0) × (length ts ≡ count) → ⊥) → RulesOut h (FirstKind.Compound g count)
+compound_compound h f ts g count is d = λ k c has. ruled_out k h c (Compound g.0 has.0) has.1 has.2 (λ s j.
+    ap (λ (t : Tree). first_step t (instance (raise k) (Compound g.0 has.0))) (is s j)
+    ∙ two_compounds f g.0 (length ts) count (args_full s j ts) (all_instances (raise k) has.0) (arity-all_full s j ts) (arity-instances (raise k) has.0 ∙ has.3) d)
 
 -- a clause's number resolves by the clause
 pub resolve_of : (p : Listing) (g : Goal) (k : ℕ) (c : Clause) → numbered p.clauses k ≡ Some c → resolve p g k ≡ resolve_by g.atoms g.fresh c

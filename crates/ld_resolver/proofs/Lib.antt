@@ -8,6 +8,7 @@ pub mod OrderLaws
 pub mod FirstLaws
 pub mod FirstAnswers
 pub mod FirstArgumentLaws
+pub mod FirstKindLaws
 pub mod CountLaws
 pub mod ProgressLaws
 pub mod SearchLaws

@@ -1,9 +1,12 @@
 -- Private.
 -- The clauses of each predicate, one after the other. Nothing here has to be believed.
-use Rattle.std.specs.Prelude.{◌≡◌, ◌≢◌, ℕ, suc, ◌≤◌, ◌<◌, List, length, get_or, Some}
+use Rattle.std.specs.Prelude.{◌≡◌, ◌≢◌, ℕ, suc, ◌≤◌, ◌<◌, List, length, get_or, slice_get, Some}
 use Rattle.std.specs.List.{AllByRecursion}
 use Rattle.cti_terms.specs.declared.clauses.Clause.{Clause}
 use Rattle.cti_terms.specs.Listing.{Listing, IsClause, numbered}
+use Rattle.ld_resolver.specs.declared.first_kind.FirstKind.{FirstKind}
+use Rattle.ld_resolver.specs.declared.first_kind.FirstKind.TheVariants.{Any}
+use Rattle.ld_resolver.specs.FirstKinds.{HasKind}
 use Rattle.ld_resolver.specs.declared.clause_chain.ClauseChain.{ClauseChain}
 
 -- no clause from number k on and before number m has the predicate f
@@ -29,8 +32,18 @@ pub record AreChained (p : Listing) (n : ℕ) (first next : List ℕ) : Type 0 w
   pub firsts : (f : ℕ) → f < length first → IsNext p f (suc n) (get_or first f 0)
   pub nexts : (i : ℕ) → n ≤ i → IsAfter p (suc i) (get_or next i 0)
 
+-- each kind is that of its clause's first argument
+pub record AreKinds (p : Listing) (kinds : List FirstKind) : Type 0 where
+  pub each_clause : length kinds ≡ length p.clauses
+  pub are : (i : ℕ) (c : Clause) → slice_get p.clauses i ≡ Some c → HasKind c.head.args (get_or kinds i Any)
+
+-- the clause of number k is there, and its first argument has this kind
+abbrev pub IsKindAt : Listing → ℕ → FirstKind → Type 0
+IsKindAt p k kind = (c : Clause) × (numbered p.clauses k ≡ Some c) × HasKind c.head.args kind
+
 -- all clauses are
 pub record IsChain (p : Listing) (x : ClauseChain) : Type 0 where
   pub clauses : AllByRecursion (IsClause p.preds) p.clauses
   pub chained : AreChained p 0 x.first.items x.next.items
+  pub kinds : AreKinds p x.kinds.items
   pub none : x.none ≡ suc (length p.clauses)

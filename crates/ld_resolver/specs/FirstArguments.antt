@@ -5,12 +5,14 @@ use Rattle.cti_terms.specs.Tree.{Tree}
 use Rattle.cti_terms.specs.declared.atom_list.Atom.{Atom}
 use Rattle.cti_terms.specs.declared.clauses.Clause.{Clause}
 use Rattle.cti_terms.specs.Listing.{Listing, numbered}
-use Rattle.cti_terms.specs.Unify.{Binding, Step, first_step}
+use Rattle.cti_terms.specs.Unify.{Binding}
 use Rattle.cti_terms.specs.Resolve.{resolve_by, resolve}
 use Rattle.unifier.specs.declared.raised_term.Shape.{Shape}
-use Rattle.unifier.specs.Shapes.{shape_tree, shape_full}
+use Rattle.unifier.specs.Shapes.{shape_full}
 use Rattle.unifier.specs.Store.{full}
 use Rattle.ld_resolver.specs.Choices.{goal_from}
+use Rattle.ld_resolver.specs.declared.first_kind.FirstKind.{FirstKind}
+use Rattle.ld_resolver.specs.FirstKinds.{HasKind}
 
 -- under the bindings an atom has a first argument of this kind
 pub record HasFirst (s : List Binding) (a : Atom) (h : Shape) : Type 0 where
@@ -18,13 +20,13 @@ pub record HasFirst (s : List Binding) (a : Atom) (h : Shape) : Type 0 where
   pub others : List Tree
   pub are : map (full s) a.args ≡ shape_full s base h ∷ others
 
--- no bindings make a term of the left kind and a term of the right kind equal
-abbrev pub Clash : ℕ → Shape → Shape → Type 0
-Clash m left right = (s : List Binding) (n : ℕ) → first_step (shape_full s n left) (shape_tree m right) ≡ Step.Failed
-
 -- a clause whose variables are raised by n resolves no goal with a first argument of this kind
 abbrev pub IsRuledOut : ℕ → Shape → Clause → Type 0
 IsRuledOut n h c = (s : List Binding) (a : Atom) (rest : List Atom) → HasFirst s a h → resolve_by (goal_from s n a rest).atoms n c ≡ None
+
+-- nor does any clause whose first argument has that kind
+abbrev pub RulesOut : Shape → FirstKind → Type 0
+RulesOut h kind = (n : ℕ) (c : Clause) → HasKind c.head.args kind → IsRuledOut n h c
 
 -- the clause of a number is there, and is ruled out
 abbrev pub IsSkipped : Listing → ℕ → Shape → ℕ → Type 0

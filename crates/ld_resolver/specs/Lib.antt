@@ -2,6 +2,7 @@ pub mod Walk
 pub mod Tails
 pub mod Chain
 pub mod Choices
+pub mod FirstKinds
 pub mod FirstArguments
 pub mod Searches
 pub mod Measured

@@ -1,66 +1,55 @@
 //! Clauses that cannot match a goal, by the kinds of its first argument and of theirs.
 
-ghost use Rattle.std.specs.Prelude.{◌≡◌, ℕ, ◌≤◌, List, IsTrue, IfSome, None};
+ghost use Rattle.std.specs.Prelude.{◌≡◌, ℕ, ◌≤◌, IsTrue, IfSome, None, length};
 ghost use Rattle.cti_terms.specs.Arithmetic.{kind_of};
-ghost use Rattle.cti_terms.specs.Tree.{Compound, all_instances};
-ghost use Rattle.cti_terms.specs.Spell.{trees_of};
-ghost use Rattle.cti_terms.specs.Unify.{Binding, Step, first_step};
+ghost use Rattle.cti_terms.specs.Listing.{Listing};
 ghost use Rattle.cti_terms.specs.Resolve.{raised};
-ghost use Rattle.unifier.specs.Raised.{raise};
-ghost use Rattle.unifier.specs.Pending.{args_full};
 ghost use Rattle.ld_resolver.specs.Chain.{IsChain, IsNext};
-ghost use Rattle.ld_resolver.specs.FirstArguments.{Clash, HasFirst, IsRuledOut, IsSkipped, IsNextMatch};
+ghost use Rattle.ld_resolver.specs.FirstArguments.{HasFirst, RulesOut, IsSkipped, IsNextMatch};
 
 use crate::choices::Choice;
 use crate::clause_chain::ClauseChain;
-use cti_terms::{Atom, Clause, Name, Program, Term};
+use crate::first_kind::FirstKind;
+use cti_terms::{Atom, Name, Program, Term};
 use unifier::bindings::Bindings;
 use unifier::raised_term::{RaisedTerm, Shape};
 
-/// Whether two compound terms clash, by their names and arities.
-fn compounds_clash(f: Name, left: &[Term], g: Name, right: &[Term]) -> bool
-    ensures { IsTrue result → (s : List Binding) (n m : ℕ)
-        → first_step (Compound f.0 (args_full s n left.now))
-        (Compound g.0 (all_instances (raise m) (trees_of right.now))) ≡ Step.Failed }
+/// Whether compound terms differ in their names or in their numbers of arguments.
+fn compounds_differ(f: Name, args: &[Term], g: Name, count: usize) -> bool
+    ensures { IsTrue result → ¬ ((f.0 ≡ g.0) × (length args.now ≡ count)) }
 {
-    if f.0 == g.0 && left.len() == right.len() {
+    if f.0 == g.0 && args.len() == count {
         return false;
     }
     true
 }
 
-/// Whether terms of two kinds clash. A variable clashes with nothing.
-fn clash(left: Shape<'_>, right: Shape<'_>) -> bool
-    ensures { IsTrue result → (m : ℕ) → Clash m left.entry right.entry }
+/// Whether a clause whose first argument has this kind cannot match a goal with a first argument of that kind. A variable
+/// rules nothing out.
+fn is_ruled_out(shape: Shape<'_>, kind: FirstKind) -> bool
+    ensures { IsTrue result → RulesOut shape.entry kind }
 {
-    match (left, right) {
-        (Shape::Integer(m), Shape::Integer(n)) => *m != *n,
-        (Shape::Integer(_), Shape::Compound(_, _)) => true,
-        (Shape::Compound(_, _), Shape::Integer(_)) => true,
-        (Shape::Compound(f, ts), Shape::Compound(g, us)) => compounds_clash(f, ts, g, us),
+    match (shape, kind) {
+        (Shape::Integer(m), FirstKind::Integer(n)) => *m != n,
+        (Shape::Integer(_), FirstKind::Compound(_, _)) => true,
+        (Shape::Compound(_, _), FirstKind::Integer(_)) => true,
+        (Shape::Compound(f, ts), FirstKind::Compound(g, count)) => compounds_differ(
+            f, ts, g, count,
+        ),
         _ => false,
     }
 }
 
-/// Whether a clause whose variables are raised cannot match a goal with a first argument of this kind.
-fn is_ruled_out(shape: Shape<'_>, clause: &Clause, fresh: u32) -> bool
-    ensures { IsTrue result → IsRuledOut fresh shape.entry clause.now }
+/// Whether there is a clause of this number, and it cannot match such a goal.
+fn is_skipped(chain: &ClauseChain, shape: Shape<'_>, number: u32) -> bool
+    requires { 1 ≤ number }
+    ensures { IsTrue result → (p : Listing) → IsChain p chain.now
+        → (fresh : ℕ) → IsSkipped p fresh shape.entry number }
 {
-    match clause.head.args.as_slice().first() {
-        Some(term) => clash(shape, RaisedTerm { term, base: fresh }.shape()),
+    match chain.kind(number) {
+        Some(kind) => is_ruled_out(shape, kind),
         None => false,
     }
-}
-
-/// Whether there is a clause of this number, and it cannot match such a goal.
-fn is_skipped(program: &Program, shape: Shape<'_>, number: u32, fresh: u32) -> bool
-    requires { 1 ≤ number }
-    ensures { IsTrue result → IsSkipped program.now fresh shape.entry number }
-{
-    if program.clauses() < number {
-        return false;
-    }
-    is_ruled_out(shape, program.clause(number), fresh)
 }
 
 /// The kind of an atom's first argument under the bindings, where it has one.
@@ -92,7 +81,7 @@ pub fn next_match<'p>(
         return number;
     }
     if let Some(shape) = first_shape(bindings, choice.atom, choice.base) {
-        while is_skipped(program, shape, number, choice.fresh) {
+        while is_skipped(chain, shape, number) {
             number = chain.after(number);
         }
     }

@@ -19,6 +19,7 @@ mod builtin_atoms;
 mod choices;
 mod clause_chain;
 mod first_argument;
+mod first_kind;
 pub mod laws;
 mod operators;
 mod running;

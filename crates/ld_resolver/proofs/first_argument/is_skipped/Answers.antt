@@ -1,5 +1,6 @@
-use Rattle.ld_resolver.proofs.ChainLaws.{clause_at}
 use Rattle.ld_resolver.proofs.first_argument.is_skipped.Goals as goal
 
-pub returns : goal.returns
-returns c = λ yes. (c.clause.result.now, clause_at c.args.program.now.clauses c.args.number c.clause.result.now c.requires c.clause.ensures.there, c.is_ruled_out.ensures yes)
+pub returns-in-Some : goal.returns-in-Some
+returns-in-Some c = λ yes p chain fresh.
+    let at = c.in-Some.ensures p chain in
+    (at.0, at.1, c.is_ruled_out.ensures yes fresh at.0 at.2)

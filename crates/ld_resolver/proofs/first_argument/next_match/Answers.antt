@@ -1,5 +1,6 @@
 use Rattle.std.proofs.Common.{arith}
 use Rattle.cti_terms.specs.Resolve.{raised}
+use Rattle.ld_resolver.proofs.ChainLaws.{numbered_within}
 use Rattle.ld_resolver.proofs.FirstArgumentLaws.{next_later, next_matches}
 use Rattle.ld_resolver.proofs.first_argument.next_match.Goals as goal
 
@@ -26,9 +27,24 @@ loop-shape-preserved c =
     let p = c.args.program.now in
     let choice = c.args.choice in
     let number = c.loop-shape.number in
-    let out = c.is_skipped.ensures c.loop-shape-test.true in
+    let out = c.is_skipped.ensures c.loop-shape-test.true p c.requires.chain choice.fresh in
     let after = c.after-number.ensures p c.requires.chain out.0 out.1 in
     record {
       from_one = omega (arith, after.from);
       next = λ k first. next_later p c.args.bindings.now (raised choice.base choice.atom.now) choice.fresh k number c.after-number.result c.in-Some.shape out.0 c.requires.ordinary (c.loop-shape.invariant.next k first) out.1 out.2 c.in-Some.ensures after;
     }
+
+pub after-number-requires-clause-last : goal.after-number-requires-clause-last
+after-number-requires-clause-last c =
+    let p = c.args.program.now in
+    let out = c.is_skipped.ensures c.loop-shape-test.true p c.requires.chain c.args.choice.fresh in
+    let within = numbered_within p.clauses c.loop-shape.number out.0 out.1 in
+    omega (arith, within, c.requires.chain.chained.each_clause)
+
+pub loop-shape-smaller : goal.loop-shape-smaller
+loop-shape-smaller c =
+    let p = c.args.program.now in
+    let out = c.is_skipped.ensures c.loop-shape-test.true p c.requires.chain c.args.choice.fresh in
+    let within = numbered_within p.clauses c.loop-shape.number out.0 out.1 in
+    let after = c.after-number.ensures p c.requires.chain out.0 out.1 in
+    omega (arith, within, after.from)
