@@ -5,6 +5,7 @@ ghost use Rattle.linear_rows.specs.Plain.{plain_row, plain_rows, HaveWidth};
 ghost use Rattle.simplex.specs.Telling.{Tells};
 
 use crate::at_once::{failing_at, tested_from};
+use crate::beside::failing_beside;
 use crate::mark::Mark;
 use crate::points::copied_if_known;
 use crate::shooting::{Facet, first_met};
@@ -54,7 +55,10 @@ impl Hints {
         requires row { length row.now.coeffs ≡ rows.now.width }
         ensures { IfOk result (Tells rows.now.width (plain_rows rows.now.list) (plain_row row.now)) }
     {
-        tested_from(alloc, rows, row, &mut self.basis)
+        match failing_beside(alloc, rows, row, &self.inside)? {
+            Some(point) => Ok(Held::No(point)),
+            None => tested_from(alloc, rows, row, &mut self.basis),
+        }
     }
 
     /// The place of the row that is kept next, where the one at `place` fails at a point outside.
@@ -125,6 +129,9 @@ impl Hints {
             if let Some(point) = failing_at(alloc, others, row, witness)? {
                 return Ok(Held::No(point));
             }
+        }
+        if let Some(point) = failing_beside(alloc, others, row, &self.inside)? {
+            return Ok(Held::No(point));
         }
         let mut basis = fresh_basis(alloc, others.width, &self.inside)?;
         tested_from(alloc, others, row, &mut basis)

@@ -8,6 +8,7 @@
 
 mod appending;
 mod at_once;
+mod beside;
 mod bottom;
 mod domain;
 mod emptiness;
