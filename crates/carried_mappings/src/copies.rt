@@ -3,7 +3,6 @@
 ghost use Rattle.std.specs.Prelude.{◌≡◌, IfOk};
 
 use linear_rows::{Multipliers, Point};
-use number_tests::LevelPart;
 use sequences::Sequence;
 use std::alloc::{AllocError, Global};
 
@@ -40,17 +39,6 @@ pub(crate) fn copied_second(
         }
         None => Ok(None),
     }
-}
-
-/// The same part of a mapping once more.
-pub(crate) fn copied_part(alloc: Global, part: &LevelPart) -> Result<LevelPart, AllocError>
-    ensures { IfOk result (λ copy. copy ≡ part.now) }
-{
-    let coeffs = part.coeffs.copy(alloc)?;
-    Ok(LevelPart {
-        coeffs,
-        offset: part.offset,
-    })
 }
 
 /// The same sets of numbers once more.

@@ -7,7 +7,7 @@ ghost use Rattle.carried_mappings.specs.Carrying.{IsStanding, new_number};
 ghost use Rattle.carried_mappings.specs.Moved.{moved_fall, moved_found, moved_mapping, moved_pair, moved_refutation};
 ghost use Rattle.carried_mappings.specs.Moved.{with_members};
 
-use crate::copies::{copied_multipliers, copied_part, copied_point, copied_second, copied_sets};
+use crate::copies::{copied_multipliers, copied_point, copied_second, copied_sets};
 use crate::standing::Standing;
 use cti_terms::PredId;
 use level_systems::{Fall, Found, Mapping, Measure};
@@ -26,7 +26,7 @@ fn moved_measures(
 {
     let mut moved = Sequence::new(alloc);
     for i in 0..measures.len() {
-        let part = copied_part(alloc, &measures[i].part)?;
+        let part = measures[i].part.copy(alloc)?;
         moved.push(Measure {
             pred: members[i],
             part,

@@ -7,7 +7,6 @@ ghost use Rattle.carried_mappings.specs.Moved.{moved_fall};
 ghost use Rattle.carried_mappings.specs.Reordered.{by_sets, of_set, placed};
 ghost use Rattle.carried_mappings.specs.Reorderings.{HasPlaces, IsReordered, found_now, mapping_now, set_now};
 
-use crate::copies::copied_part;
 use crate::sets::{all_renumbered, is_same_set, renumbered, support_of};
 use crate::standing::Standing;
 use cti_terms::PredId;
@@ -40,7 +39,7 @@ impl Reordered<'_> {
     {
         let mut parts = Sequence::new(alloc);
         for i in 0..self.members.len() {
-            let part = copied_part(alloc, &measures[self.places[i]].part)?;
+            let part = measures[self.places[i]].part.copy(alloc)?;
             parts.push(Measure {
                 pred: self.members[i],
                 part,

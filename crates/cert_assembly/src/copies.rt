@@ -3,7 +3,7 @@
 ghost use Rattle.std.specs.Prelude.{◌≡◌, IfOk};
 
 use linear_rows::{Multipliers, Point};
-use number_tests::{LevelPart, PairPoint, Refutation};
+use number_tests::{PairPoint, Refutation};
 use sequences::Sequence;
 use std::alloc::{AllocError, Global};
 use termination_model::SizeRows;
@@ -15,16 +15,6 @@ pub fn copied_multipliers(alloc: Global, by: &Multipliers) -> Result<Multipliers
     Ok(Multipliers {
         scale: by.scale,
         list: by.list.copy(alloc)?,
-    })
-}
-
-/// The same part once more.
-pub fn copied_part(alloc: Global, part: &LevelPart) -> Result<LevelPart, AllocError>
-    ensures { IfOk result (λ copy. copy ≡ part.now) }
-{
-    Ok(LevelPart {
-        coeffs: part.coeffs.copy(alloc)?,
-        offset: part.offset,
     })
 }
 

@@ -5,7 +5,6 @@ ghost use Rattle.cert_assembly.specs.Parted.{part_or_zero, zero_part};
 ghost use Rattle.cert_structure.specs.Shape.{arity_in};
 ghost use Rattle.level_systems.specs.Mappings.{level_in};
 
-use crate::copies::copied_part;
 use cti_terms::{PredId, Program};
 use level_systems::Measure;
 use linear_rows::zeros;
@@ -35,7 +34,7 @@ pub fn part_of(
 {
     for measure in measures {
         if measure.pred.0 == q.0 {
-            return copied_part(alloc, &measure.part);
+            return measure.part.copy(alloc);
         }
     }
     zero_part(alloc, p.pred(q).arity)

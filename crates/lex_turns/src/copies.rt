@@ -4,7 +4,6 @@ ghost use Rattle.std.specs.Prelude.{◌≡◌, IfOk};
 
 use level_dual::copied;
 use level_systems::Measure;
-use number_tests::LevelPart;
 use sequences::Sequence;
 use std::alloc::{AllocError, Global};
 
@@ -14,10 +13,7 @@ fn copied_measure(alloc: Global, measure: &Measure) -> Result<Measure, AllocErro
 {
     Ok(Measure {
         pred: measure.pred,
-        part: LevelPart {
-            coeffs: measure.part.coeffs.copy(alloc)?,
-            offset: measure.part.offset,
-        },
+        part: measure.part.copy(alloc)?,
     })
 }
 
