@@ -22,5 +22,4 @@ pub mod StickingLaws
 pub mod StuckWithin
 pub mod TrackedCalls
 pub mod TurnMaking
-pub mod TurnRefutes
 pub mod WholeTurns

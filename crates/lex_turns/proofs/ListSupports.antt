@@ -19,7 +19,7 @@ use Rattle.termination_model.specs.Refutation.{Decreases}
 use Rattle.termination_model.specs.Stuck.{ListDescends}
 use Rattle.termination_model.specs.View.{Rule}
 use Rattle.termination_model.specs.Supports.{AreDistinct, picked_from, support_from}
-use Rattle.termination_model.proofs.Having.{picked_in}
+use Rattle.termination_model.proofs.Having.{in_here, in_then, part_head, part_tail, picked_in}
 use Rattle.termination_model.proofs.Sets.{Part, any_in, in_any, of_part, set_lower, to_part}
 use Rattle.level_systems.specs.Mappings.{mapping_with}
 use Rattle.level_systems.specs.declared.measure.Measure.{Measure}
@@ -33,7 +33,7 @@ set_case : (b : Bool) (i hi : ℕ) (rest : List ℕ) → i < hi → IsSet (suc i
 set_case true i hi rest l h = (omega arith, l, h)
 set_case false i hi rest l h = set_lower i hi rest h
 
-list_set : (ps : List Position) (ls : List Mapping) (i hi : ℕ) → hi ≡ i + length ps → IsSet i hi (list_support_from i ps ls)
+pub list_set : (ps : List Position) (ls : List Mapping) (i hi : ℕ) → hi ≡ i + length ps → IsSet i hi (list_support_from i ps ls)
 list_set [] ls i hi e = tt
 list_set (r ∷ ps) ls i hi e = set_case (is_used r ls) i hi (list_support_from (suc i) ps ls) (omega arith) (list_set ps ls (suc i) hi (omega arith))
 
@@ -69,22 +69,6 @@ used_at P r (l ∷ ls) all h = elim (or_cases (nat_lt 0 (coefficient (l.coeffici
 ]
 
 -- ---- lists at picked positions
-in_then : (b : Bool) (r : Position) (xs : List Position) (q : Position) → In q xs → In q (if b then r ∷ xs else xs)
-in_then true r xs q h = inr h
-in_then false r xs q h = h
-
-in_here : (b : Bool) (r : Position) (xs : List Position) → b ≡ true → In r (if b then r ∷ xs else xs)
-in_here true r xs h = inl refl
-in_here false r xs h = cc
-
-part_tail : (b : Bool) (i : ℕ) (rest s : List ℕ) → Part (if b then i ∷ rest else rest) s → Part rest s
-part_tail true i rest s h x k = h x (inr k)
-part_tail false i rest s h x k = h x k
-
-part_head : (b : Bool) (i : ℕ) (rest s : List ℕ) → b ≡ true → Part (if b then i ∷ rest else rest) s → In i s
-part_head true i rest s e h = h i (inl refl)
-part_head false i rest s e h = cc
-
 used_picked : (ps : List Position) (ls : List Mapping) (i : ℕ) (s : List ℕ) → Part (list_support_from i ps ls) s → (r : Position) → In r ps → is_used r ls ≡ true → In r (picked_from i ps s)
 used_picked [] ls i s part r h u = absurd h
 used_picked (x ∷ ps) ls i s part r (inl e) u =

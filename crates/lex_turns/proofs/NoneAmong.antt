@@ -32,7 +32,7 @@ use Rattle.lex_turns.specs.Descending.{NoneDescends, positions_at}
 use Rattle.lex_turns.specs.Tracking.{kept}
 use Rattle.lex_turns.proofs.NoneWithin.{split_last, within}
 use Rattle.lex_turns.proofs.StuckWithin.{none_within}
-use Rattle.lex_turns.proofs.TurnRefutes.{all_times, rows_long, some_pair, support_refutes, times}
+use Rattle.termination_model.proofs.TurnRefutes.{all_times, rows_long, some_pair, support_refutes, times}
 
 module _ (size : (ℕ → ℕ) → Tree → ℕ) (truth : (ℕ → Bool) → Tree → Bool) (expression : ℕ → Tree → List ℤ) (p : Listing) (comps : Partition) (rows : ℕ → List (List ℤ)) (c : ℕ) (x : Component)
     (h : IsComponent size truth expression p comps rows c x) where

@@ -40,7 +40,7 @@ use Rattle.lex_turns.specs.Coursing.{IsStopped}
 use Rattle.lex_turns.specs.Descending.{NoneDescends, positions_at}
 use Rattle.lex_turns.specs.Tracking.{kept}
 use Rattle.lex_turns.proofs.StuckWithin.{none_within}
-use Rattle.lex_turns.proofs.TurnRefutes.{all_times, rows_long, some_pair, support_refutes, times}
+use Rattle.termination_model.proofs.TurnRefutes.{all_times, rows_long, some_pair, support_refutes, times}
 
 -- ---- calls that turns leave
 left_in : (rest : List Recalled) (ds : List ℕ) (o : Recalled) → In o (left rest ds) → In o rest

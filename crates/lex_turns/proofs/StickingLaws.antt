@@ -62,7 +62,7 @@ use Rattle.lex_turns.proofs.NoneWithin.{of_mine, pairs_mine, pairs_positive, pai
 use Rattle.lex_turns.proofs.PlainPoints.{enough_numbers, plain_calls, plain_count, plain_single, plain_stand}
 use Rattle.lex_turns.proofs.TrackedCalls.{kept_among}
 use Rattle.lex_turns.proofs.TurnMaking.{pick}
-use Rattle.lex_turns.proofs.TurnRefutes.{rows_long, some_pair}
+use Rattle.termination_model.proofs.TurnRefutes.{rows_long, some_pair}
 
 bottom_long : (n : ℕ) → length (bottom_row n) ≡ n + 1
 bottom_long n = omega (arith, length-zeros n)

@@ -27,7 +27,7 @@ either a b = go (a == b) refl
 self : (a b : ℕ) → (a == b) ≡ false → a ≡ b → ⊥
 self a b h e = grind (arith, nat_tests)
 
-decide_member : (ms : List ℕ) (q : ℕ) → In q ms ⊎ (In q ms → ⊥)
+pub decide_member : (ms : List ℕ) (q : ℕ) → In q ms ⊎ (In q ms → ⊥)
 decide_member [] q = inr (λ h. h)
 decide_member (m ∷ ms) q = go (either m q) (decide_member ms q)
   where
@@ -47,7 +47,7 @@ decide_position (p ∷ ps) q a = go (either p.0 q) (either p.1 a) (decide_positi
     go (inl e) (inr n) (inr r) = inr (λ h. elim h [ inl e ↦ self p.1 a n (ap (λ (z : Position). z.1) e) | inr i ↦ r i ])
 
 -- what no load of the member has in a column is 0 in the sum
-gather_none : (q i : ℕ) (hs : List Load) → AllByRecursion (λ (h : Load). h.0 ≡ q → entry h.1 i ≡ pos 0) hs → entry (gather q hs) i ≡ pos 0
+pub gather_none : (q i : ℕ) (hs : List Load) → AllByRecursion (λ (h : Load). h.0 ≡ q → entry h.1 i ≡ pos 0) hs → entry (gather q hs) i ≡ pos 0
 gather_none q i [] a = refl
 gather_none q i (h ∷ hs) a = go (h.0 == q) refl (gather_none q i hs a.1)
   where
@@ -62,7 +62,7 @@ all_loads : (f : Pair → Load) (P : Load → Type 0) (ps : List Pair) → ((p :
 all_loads f P [] h = tt
 all_loads f P (p ∷ ps) h = (h p, all_loads f P ps h)
 
-each_load : (f : Pair → Load) (Q : Pair → Type 0) (P : Load → Type 0) (ps : List Pair) → ((p : Pair) → Q p → P (f p)) → AllByRecursion Q ps → AllByRecursion P (map f ps)
+pub each_load : (f : Pair → Load) (Q : Pair → Type 0) (P : Load → Type 0) (ps : List Pair) → ((p : Pair) → Q p → P (f p)) → AllByRecursion Q ps → AllByRecursion P (map f ps)
 each_load f Q P [] h a = tt
 each_load f Q P (p ∷ ps) h a = (h p a.0, each_load f Q P ps h a.1)
 

@@ -38,19 +38,19 @@ support_set [] l i hi e = tt
 support_set (p ∷ ps) l i hi e = support_set_case (nat_lt 0 (coefficient (l.coefficients p.0) p.1)) i hi (support_from (suc i) ps l) (omega arith) (support_set ps l (suc i) hi (omega arith))
 
 -- ---- positive coefficients are at picked positions
-in_then : (b : Bool) (p : Position) (xs : List Position) (q : Position) → In q xs → In q (if b then p ∷ xs else xs)
+pub in_then : (b : Bool) (p : Position) (xs : List Position) (q : Position) → In q xs → In q (if b then p ∷ xs else xs)
 in_then true p xs q h = inr h
 in_then false p xs q h = h
 
-in_here : (b : Bool) (p : Position) (xs : List Position) → b ≡ true → In p (if b then p ∷ xs else xs)
+pub in_here : (b : Bool) (p : Position) (xs : List Position) → b ≡ true → In p (if b then p ∷ xs else xs)
 in_here true p xs h = inl refl
 in_here false p xs h = cc
 
-part_tail : (b : Bool) (i : ℕ) (rest s : List ℕ) → Part (if b then i ∷ rest else rest) s → Part rest s
+pub part_tail : (b : Bool) (i : ℕ) (rest s : List ℕ) → Part (if b then i ∷ rest else rest) s → Part rest s
 part_tail true i rest s h x k = h x (inr k)
 part_tail false i rest s h x k = h x k
 
-part_head : (b : Bool) (i : ℕ) (rest s : List ℕ) → b ≡ true → Part (if b then i ∷ rest else rest) s → In i s
+pub part_head : (b : Bool) (i : ℕ) (rest s : List ℕ) → b ≡ true → Part (if b then i ∷ rest else rest) s → In i s
 part_head true i rest s e h = h i (inl refl)
 part_head false i rest s e h = cc
 
