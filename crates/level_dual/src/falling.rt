@@ -17,7 +17,7 @@ use std::alloc::{AllocError, Global};
 use termination_model::replaced;
 
 /// The part of a member.
-pub(crate) fn find_part(measures: &[Measure], pred: PredId) -> Option<&LevelPart>
+pub fn find_part(measures: &[Measure], pred: PredId) -> Option<&LevelPart>
     ensures some { IfSome result (λ part. level_in measures.now pred.0 ≡ Some part.now) }
     ensures none { result ≡ None → level_in measures.now pred.0 ≡ None }
 {

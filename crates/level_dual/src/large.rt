@@ -30,7 +30,7 @@ pub fn has_coefficient(measures: &[Measure], position: Position) -> bool
 }
 
 /// The numbers of the positions at which a mapping has a positive coefficient.
-fn support_of(
+pub fn support_of(
     alloc: Global,
     positions: &[Position],
     mapping: &Mapping,

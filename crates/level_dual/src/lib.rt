@@ -20,11 +20,12 @@ mod vanishing;
 mod walked;
 mod walking;
 
+pub use falling::find_part;
 pub use finding::{all_numbers, count_of, is_large, mappings, one_set};
-pub use large::{find_large, has_coefficient, without_number};
+pub use large::{find_large, has_coefficient, support_of, without_number};
 pub use level_systems::{Fall, Found, Mapping, Measure};
 pub use number_tests::{LevelPart, PairPoint, Refutation};
 pub use refuting::are_formed;
-pub use searching::search;
+pub use searching::{measures_at, positions_at, search};
 pub use small::{is_below, with_full};
 pub use walking::{copied, is_above, is_part};

@@ -26,7 +26,7 @@ use sequences::Sequence;
 use std::alloc::{AllocError, Global};
 
 /// The parts of the members in the mapping that values give.
-fn measures_at(
+pub fn measures_at(
     alloc: Global,
     p: &Program,
     component: &Component,
@@ -87,7 +87,7 @@ fn mapping_at(
 }
 
 /// The positions of a set, in the order of the clauses.
-fn positions_at(
+pub fn positions_at(
     alloc: Global,
     component: &Component,
     set: &[u32],

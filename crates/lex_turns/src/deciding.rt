@@ -16,7 +16,6 @@ ghost use Rattle.termination_model.specs.Sizes.{AreSizes, rows_of};
 
 use crate::copies::copied_sets;
 use crate::course::Ended;
-use crate::finding::positions_at;
 use crate::found_lists::FoundLists;
 use crate::large::find_large;
 use crate::measure_list::MeasureList;
@@ -25,7 +24,7 @@ use crate::single::list_of_one;
 use crate::small::find_small;
 use crate::stuck::{Halt, stuck_set};
 use cti_terms::Program;
-use level_dual::{is_large, one_set};
+use level_dual::{is_large, one_set, positions_at};
 use level_systems::{Answer, Component, Mapping};
 use number_tests::Refutation;
 use sequences::Sequence;

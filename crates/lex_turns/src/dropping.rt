@@ -1,36 +1,22 @@
 //! Tests of the drops of a mapping, as a certificate's check tests them.
 
-ghost use Rattle.std.specs.Prelude.{◌≡◌, ◌≤◌, ◌≤ℤ◌, ◌↔◌, ◌+◌, suc, All, IfOk, IfSome, IsTrue, None, Some, drop, length, pos, true};
+ghost use Rattle.std.specs.Prelude.{◌≡◌, ◌≤◌, ◌≤ℤ◌, ◌↔◌, ◌+◌, suc, All, IfOk, IsTrue, drop, length, pos, true};
 ghost use Rattle.std.specs.List.{AllByRecursion};
 ghost use Rattle.level_systems.specs.Falling.{HasParts, IsReady};
-ghost use Rattle.level_systems.specs.Mappings.{level_in};
 ghost use Rattle.level_systems.specs.Turned.{all_rows, held_of};
 ghost use Rattle.level_drops.specs.Drops.{fall_number};
 ghost use Rattle.lex_turns.specs.Testing.{AreDropsIf, EmptyFall, IsDropIf, ShowsDrop, SomeFalls, Tells, first_by};
 ghost use Rattle.linear_rows.specs.Plain.{HaveWidth};
 ghost use Rattle.linear_rows.specs.Showing.{AreMultipliers};
 
-use cti_terms::PredId;
 use level_drops::weigh_drop;
+use level_dual::find_part;
 use level_systems::{Measure, OwnCall};
 use linear_rows::{Multipliers, Numbers};
-use number_tests::{LevelPart, fall_flaw};
+use number_tests::fall_flaw;
 use sequences::Sequence;
 use std::alloc::{AllocError, Global};
 use termination_model::replaced;
-
-/// The part of a member.
-fn find_part(measures: &[Measure], pred: PredId) -> Option<&LevelPart>
-    ensures some { IfSome result (λ part. level_in measures.now pred.0 ≡ Some part.now) }
-    ensures none { result ≡ None → level_in measures.now pred.0 ≡ None }
-{
-    for measure in measures {
-        if measure.pred.0 == pred.0 {
-            return Some(&measure.part);
-        }
-    }
-    None
-}
 
 /// The first of some values, as the multipliers of a call.
 pub(crate) fn first_by(

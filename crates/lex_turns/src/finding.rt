@@ -1,36 +1,18 @@
 //! The search at a set of positions.
 
-ghost use Rattle.std.specs.Prelude.{◌≡◌, IfOk, filter, map};
-ghost use Rattle.std.specs.List.{list_any};
+ghost use Rattle.std.specs.Prelude.{IfOk};
 ghost use Rattle.level_dual.specs.Components.{ForComponent};
-ghost use Rattle.level_systems.specs.Held.{spelled};
 ghost use Rattle.level_systems.specs.Searched.{IsSound};
 ghost use Rattle.lex_turns.specs.Found.{IsChosen, IsWithin};
-ghost use Rattle.termination_model.specs.BlownSupports.{same_position};
-ghost use Rattle.termination_model.specs.Supports.{picked_from};
 
 use crate::course::Ended;
 use crate::searching::take_turns;
 use crate::single::list_of_one;
 use crate::within::Within;
 use cti_terms::Program;
-use level_systems::{Answer, Component, Position, in_order, picked};
+use level_dual::positions_at;
+use level_systems::{Answer, Component};
 use std::alloc::{AllocError, Global};
-
-/// The positions of a set, in the order of the clauses.
-pub(crate) fn positions_at(
-    alloc: Global,
-    component: &Component,
-    set: &[u32],
-) -> Result<Vec<Position>, AllocError>
-    ensures { IfOk result (λ at. map spelled at.items ≡ filter
-        (λ r. list_any (same_position r) (picked_from 1
-        (map spelled component.now.positions.items) set.now))
-        (map spelled component.now.order.items)) }
-{
-    let at = picked(alloc, component.positions.as_slice(), set)?;
-    in_order(alloc, component.order.as_slice(), at.as_slice())
-}
 
 /// Searches by turns for a list of mappings that descends and whose coefficients are positive at a set of positions
 /// alone. The numbers of positions count from 1.

@@ -6,12 +6,12 @@ ghost use Rattle.level_systems.specs.Searched.{IsSound};
 ghost use Rattle.lex_turns.specs.Coursing.{KeepReached};
 ghost use Rattle.lex_turns.specs.Found.{IsVoid, IsWithin};
 
-use crate::finding::{positions_at, search_within};
+use crate::finding::search_within;
 use crate::measure_list::MeasureList;
 use crate::sparing::sticks;
 use crate::within::Within;
 use cti_terms::{PredId, Program};
-use level_dual::has_coefficient;
+use level_dual::{has_coefficient, positions_at};
 use level_systems::{Component, OwnCall, Position};
 use std::alloc::{AllocError, Global};
 

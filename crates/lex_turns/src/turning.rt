@@ -6,7 +6,7 @@ ghost use Rattle.call_components.specs.Numbers.{number_of};
 ghost use Rattle.level_dual.specs.Components.{ForComponent};
 ghost use Rattle.level_systems.specs.Falling.{HasParts, IsReady};
 ghost use Rattle.level_systems.specs.Held.{numbers_of_call, recalled_at, spelled};
-ghost use Rattle.level_systems.specs.Searched.{AreMeasuresAt, IsSound};
+ghost use Rattle.level_systems.specs.Searched.{IsSound};
 ghost use Rattle.level_systems.specs.Turned.{all_rows, held_of};
 ghost use Rattle.level_systems.specs.declared.own_call.OwnCall.{OwnCall};
 ghost use Rattle.lex_turns.specs.Testing.{AreAmong, EmptyFall, Tells};
@@ -19,42 +19,10 @@ use crate::dropping::{drops_of, empty_fall, some_fall};
 use crate::turn::{Made, Round, Step};
 use cti_terms::Program;
 use fourier::{ElimFault, Solved};
-use level_systems::{Component, Measure, Position, level_part, solve_by, turn_system};
+use level_dual::measures_at;
+use level_systems::{Component, Measure, solve_by, turn_system};
 use linear_rows::{Numbers, Rows};
-use sequences::Sequence;
 use std::alloc::{AllocError, Global};
-
-/// The parts of the members in the mapping that values give.
-fn measures_at(
-    alloc: Global,
-    p: &Program,
-    component: &Component,
-    at: &[Position],
-    values: &Numbers,
-) -> Result<Sequence<Measure>, AllocError>
-    requires sound { IsSound p.now component.now }
-    requires distinct { AreDistinct (map spelled at.now) }
-    requires naturals { All (λ x. pos 0 ≤ℤ x) values.now }
-    requires room { length at.now + length component.now.by_clauses.items ≤ length values.now }
-    ensures { IfOk result (AreMeasuresAt p.now component.now at.now values.now) }
-{
-    let mut measures = Sequence::new(alloc);
-    for member in &component.members {
-        let part = level_part(
-            alloc,
-            p,
-            at,
-            component.by_clauses.as_slice(),
-            values,
-            *member,
-        )?;
-        measures.push(Measure {
-            pred: *member,
-            part,
-        })?;
-    }
-    Ok(measures)
-}
 
 /// Whether the calls that are never reached fall, where the turn is the first.
 fn empty_falls(
