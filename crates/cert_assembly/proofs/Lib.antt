@@ -7,3 +7,4 @@ pub mod PartLaws
 pub mod PartShapes
 pub mod PlaceLaws
 pub mod SetParts
+pub mod SetSteps

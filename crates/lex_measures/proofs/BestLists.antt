@@ -9,6 +9,7 @@ use Rattle.cert_assembly.proofs.BestModes.{Covers, IsCovered, Keeps, best_modes,
 use Rattle.cert_assembly.proofs.ModeLaws.{item_is, of_member, there}
 use Rattle.cert_assembly.proofs.PartShapes.{all_weaker, leads, list_is, measured, unmapped}
 use Rattle.cert_assembly.proofs.SetParts.{below_or, listed_past}
+use Rattle.cert_assembly.proofs.SetSteps.{first_there, in_if, in_rest, not_first}
 use Rattle.cert_assembly.specs.ExactModes.{AreCounted, is_member}
 use Rattle.cert_assembly.specs.Leading.{led_by}
 use Rattle.cert_checker.proofs.Bounded.{naturals_are}
@@ -26,6 +27,7 @@ use Rattle.lex_certificate.specs.declared.fact.LexFact.{LexFact}
 use Rattle.lex_certificate.specs.declared.fact.LexFact.TheVariants as lex
 use Rattle.lex_certificate.specs.declared.parts.LexParts.{LexParts}
 use Rattle.lex_checker.proofs.Shapes.{has, have_lists}
+use Rattle.lex_turns.proofs.ListSupports.{list_set}
 use Rattle.lex_turns.specs.FoundLists.{AreSmallLists, IsDescendingList, is_used, list_support_from, support_of_list}
 use Rattle.lex_turns.specs.declared.found_lists.FoundLists.{FoundLists}
 use Rattle.lex_turns.specs.declared.measure_list.MeasureList.{MeasureList}
@@ -78,31 +80,6 @@ supported_at positions (l ∷ ls) h r i (inl one) = h.0 r i one
 supported_at positions (l ∷ ls) h r i (inr more) = supported_at positions ls h.1 r i more
 
 -- ---- supports
-set_case : (b : Bool) (i hi : ℕ) (rest : List ℕ) → i < hi → IsSet (suc i) hi rest → IsSet i hi (if b then i ∷ rest else rest)
-set_case true i hi rest l h = (omega arith, l, h)
-set_case false i hi rest l h = set_lower i hi rest h
-
-list_set : (ps : List Position) (ls : List Mapping) (i hi : ℕ) → hi ≡ i + length ps → IsSet i hi (list_support_from i ps ls)
-list_set [] ls i hi e = tt
-list_set (r ∷ ps) ls i hi e = set_case (is_used r ls) i hi (list_support_from (suc i) ps ls) (omega arith) (list_set ps ls (suc i) hi (omega arith))
-
-not_first : (b : Bool) (i x : ℕ) (rest : List ℕ) → suc i ≤ x → In x (if b then i ∷ rest else rest) → In x rest
-not_first true i x rest l (inl e) = absurd (omega arith)
-not_first true i x rest l (inr h) = h
-not_first false i x rest l h = h
-
-first_there : (b : Bool) (i hi : ℕ) (rest : List ℕ) → IsSet (suc i) hi rest → In i (if b then i ∷ rest else rest) → b ≡ true
-first_there true i hi rest s h = refl
-first_there false i hi rest s h = let r = (within (suc i) hi rest s i h).0 in absurd (omega arith)
-
-in_if : (b : Bool) (i : ℕ) (rest : List ℕ) → b ≡ true → In i (if b then i ∷ rest else rest)
-in_if true i rest e = inl refl
-in_if false i rest e = cc
-
-in_rest : (b : Bool) (i x : ℕ) (rest : List ℕ) → In x rest → In x (if b then i ∷ rest else rest)
-in_rest true i x rest h = inr h
-in_rest false i x rest h = h
-
 -- a list whose support is part of another's uses what that one uses
 used_too : (ps : List Position) (i : ℕ) (ls ks : List Mapping) → Part (list_support_from i ps ls) (list_support_from i ps ks) → (r : Position) → In r ps → is_used r ls ≡ true → is_used r ks ≡ true
 used_too [] i ls ks part r h u = absurd h

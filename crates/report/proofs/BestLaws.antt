@@ -26,24 +26,7 @@ use Rattle.termination_model.specs.ComponentViews.{positions_in}
 use Rattle.report.specs.ExactMappings.{mapping_in, printed_support, HasMapping, MappingsAreExact, BestOverMappings, admitted_by, IsSolvedMapping, HaveEachSupport, BestModes}
 use Rattle.cert_assembly.proofs.BestModes.{Covers, IsCovered, Keeps, best_modes, best_row, some_weaker}
 use Rattle.cert_assembly.proofs.PartShapes.{all_weaker}
-
--- a number of a set that has one more number before it
-not_first : (b : Bool) (i x : ℕ) (rest : List ℕ) → suc i ≤ x → In x (if b then i ∷ rest else rest) → In x rest
-not_first true i x rest l (inl e) = absurd (omega arith)
-not_first true i x rest l (inr h) = h
-not_first false i x rest l h = h
-
-first_there : (b : Bool) (i hi : ℕ) (rest : List ℕ) → IsSet (suc i) hi rest → In i (if b then i ∷ rest else rest) → b ≡ true
-first_there true i hi rest s h = refl
-first_there false i hi rest s h = let r = (within (suc i) hi rest s i h).0 in absurd (omega arith)
-
-in_if : (b : Bool) (i : ℕ) (rest : List ℕ) → b ≡ true → In i (if b then i ∷ rest else rest)
-in_if true i rest e = inl refl
-in_if false i rest e = cc
-
-in_rest : (b : Bool) (i x : ℕ) (rest : List ℕ) → In x rest → In x (if b then i ∷ rest else rest)
-in_rest true i x rest h = inr h
-in_rest false i x rest h = h
+use Rattle.cert_assembly.proofs.SetSteps.{first_there, in_if, in_rest, not_first}
 
 is_less : (n : ℕ) → 0 < n → nat_lt 0 n ≡ true
 is_less n h = grind (arith, nat_tests)
