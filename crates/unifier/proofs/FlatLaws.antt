@@ -7,7 +7,7 @@ use Rattle.cti_terms.specs.declared.syntax.Term.{Term}
 use Rattle.cti_terms.specs.Spell.{tree_of, trees_of}
 use Rattle.cti_terms.specs.Unify.{Binding, occurs}
 use Rattle.unifier.specs.Raised.{raise}
-use Rattle.unifier.specs.Store.{full}
+use Rattle.unifier.specs.Store.{all_full, full}
 use Rattle.unifier.specs.Pending.{occurs_left}
 use Rattle.unifier.specs.Visits.{IsFlat}
 use Rattle.unifier.proofs.PendingLaws.{eqb_off, full_compound, occurs_left-arguments}
@@ -54,8 +54,9 @@ flat_arguments s x m n args h = (
     same y = ap (occurs y) (full_compound s 0 (all_instances (raise n) (trees_of args))) ∙ sym (occurs_left-arguments s y n (map tree_of args))
 
 -- the name of a compound term does not matter
-pub flat_named : (s : List Binding) (x m n f : ℕ) (t : Tree) (args : List Term) → t ≡ Compound f (all_instances (raise n) (trees_of args)) → IsFlat s x (Compound 0 (all_instances (raise n) (trees_of args))) m → IsFlat s x t m
-flat_named s x m n f t args e h = (
+pub flat_met : (s : List Binding) (x m n f : ℕ) (t : Tree) (args : List Term) → full s t ≡ Compound f (all_full s (all_instances (raise n) (trees_of args)))
+    → IsFlat s x (Compound 0 (all_instances (raise n) (trees_of args))) m → IsFlat s x t m
+flat_met s x m n f t args e h = (
   same x ∙ h.0,
   λ y o. h.1 y (sym (same y) ∙ o),
 )
@@ -64,4 +65,7 @@ flat_named s x m n f t args e h = (
     a = all_instances (raise n) (trees_of args)
 
     same : (y : ℕ) → occurs y (full s t) ≡ occurs y (full s (Compound 0 a))
-    same y = ap (occurs y) (ap (full s) e ∙ full_compound s f a) ∙ sym (ap (occurs y) (full_compound s 0 a))
+    same y = ap (occurs y) e ∙ sym (ap (occurs y) (full_compound s 0 a))
+
+pub flat_named : (s : List Binding) (x m n f : ℕ) (t : Tree) (args : List Term) → t ≡ Compound f (all_instances (raise n) (trees_of args)) → IsFlat s x (Compound 0 (all_instances (raise n) (trees_of args))) m → IsFlat s x t m
+flat_named s x m n f t args e h = flat_met s x m n f t args (ap (full s) e ∙ full_compound s f (all_instances (raise n) (trees_of args))) h

@@ -73,7 +73,7 @@ IsOccurrence x t (Below m) = (occurs x t ≡ false) × TermBelow m t
 
 -- a variable does not occur in a term under the bindings, and a number is above those that do
 abbrev pub IsFlat : List Binding → ℕ → Tree → ℕ → Type 0
-IsFlat s x t m = (occurs x (full s t) ≡ false) × TermBelow m (full s t)
+IsFlat s x t m = IsOccurrence x (full s t) (Below m)
 
 -- a variable occurs in a term, or else what is put on a stack comes in the term's place, for the variables that are wanted
 abbrev pub IsLookedAt : List Binding → ℕ → Tree → List ℕ → List Tree → Bool → ℕ → List ℕ → List Tree → Type 0

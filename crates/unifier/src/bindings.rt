@@ -146,6 +146,7 @@ impl<'p> Bindings<'p> {
             }
         }
     }
+
     /// A term that is a free variable, with its kind.
     #[inline(always)]
     pub fn met_free(&self, term: RaisedTerm<'p>) -> Option<Met<'p>>

@@ -188,10 +188,10 @@ pub fn occurs_in<'p>(
     Ok(Occurrence::Below(above))
 }
 
-/// A number above the variables of a flat term, and as great as the one given: of a constant, a variable that is bound to a
+/// A number above the variables of a leaf, and as great as the one given: of a constant, a variable that is bound to a
 /// constant, or a free variable other than this one.
 #[inline(always)]
-fn past_flat<'p>(
+fn past_leaf<'p>(
     bindings: &Bindings<'p>,
     variable: usize,
     term: RaisedTerm<'p>,
@@ -223,6 +223,45 @@ fn past_flat<'p>(
     }
 }
 
+/// A number above the variables of arguments that are leaves, where this variable is none of them.
+fn above_leaves<'p>(
+    bindings: &Bindings<'p>,
+    variable: usize,
+    arguments: Arguments<'p>,
+) -> Option<usize>
+    ensures { IfSome result (IsFlat bindings.now variable (arguments_tree arguments.entry)) }
+{
+    let base = arguments.base;
+    let mut above = 0;
+    for term in arguments.args {
+        above = past_leaf(bindings, variable, RaisedTerm { term, base }, above)?;
+    }
+    Some(above)
+}
+
+/// A number above the variables of a leaf or a compound term of leaves, and as great as the one given.
+#[inline(always)]
+fn past_flat<'p>(
+    bindings: &Bindings<'p>,
+    variable: usize,
+    term: RaisedTerm<'p>,
+    above: usize,
+) -> Option<usize>
+    ensures greater { IfSome result (λ m. above ≤ m) }
+    ensures flat { IfSome result (IsFlat bindings.now variable (raised_tree term.entry)) }
+{
+    if let Some(past) = past_leaf(bindings, variable, term, above) {
+        return Some(past);
+    }
+    let met = bindings.met(term);
+    let Shape::Compound(_, args) = met.shape else {
+        return None;
+    };
+    let base = met.term.base;
+    let inside = above_leaves(bindings, variable, Arguments { args, base })?;
+    Some(above.max(inside))
+}
+
 /// A number above the variables of arguments, where each is flat and this variable is none of them.
 #[inline(always)]
 fn above_flat<'p>(
@@ -241,7 +280,7 @@ fn above_flat<'p>(
 }
 
 /// Whether a free variable occurs in a term under the bindings, or else a number above all that occur. Most terms that are
-/// bound have flat arguments, and these need no stack.
+/// bound have flat arguments, which need no stack.
 #[inline(always)]
 pub fn look_for<'p>(
     bindings: &Bindings<'p>,

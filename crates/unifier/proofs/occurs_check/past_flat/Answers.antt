@@ -1,13 +1,14 @@
-use Rattle.std.proofs.Common.{ap, sym, ◌∙◌}
+use Rattle.std.proofs.Common.{ap, sym, ◌∙◌, arith}
 use Rattle.unifier.specs.Raised.{raised_tree}
-use Rattle.unifier.specs.Store.{full}
-use Rattle.unifier.proofs.StoreLaws.{full_free}
-use Rattle.unifier.proofs.FlatLaws.{flat_variable}
+use Rattle.unifier.specs.Shapes.{shape_full}
+use Rattle.unifier.proofs.FlatLaws.{flat_met, flat_wider}
 use Rattle.unifier.proofs.occurs_check.past_flat.Goals as goal
 
-pub returns-else-variable-other-clause-flat : goal.returns-else-variable-other-clause-flat
-returns-else-variable-other-clause-flat c =
+pub returns-clause-flat : goal.returns-clause-flat
+returns-clause-flat c =
     let s = c.args.bindings.now in
-    let y = c.in-Variable.other in
-    let same = ap (full s) c.in-Variable.ensures.tree ∙ full_free s y (sym c.in-None.ensures.stored) in
-    flat_variable s c.args.variable y c.past.result (raised_tree c.args.term) same c.if-variable-other.false c.past.ensures.newer
+    let x = c.args.variable in
+    let t = raised_tree c.args.term in
+    let n = c.met-met.result.term.base in
+    let is = sym c.met-met.ensures.same ∙ c.met-met.ensures.met.tree ∙ ap (shape_full s n) c.in-Compound.is in
+    flat_wider s x c.in_ok-inside.inside c.max.result t (omega (arith, c.max.ensures)) (flat_met s x c.in_ok-inside.inside n c.in-Compound.field-0.0 t c.in-Compound.args.now is c.in_ok-inside.ensures)
