@@ -3,8 +3,8 @@
 # six queens, the towers of Hanoi with 13 discs, and all splits of a list of 600. Both go through all answers of the same query, once
 # without writing any and once writing all. Then it times `cti run` alone on what once took it long or much memory: a counter beside
 # a result that stays a variable, answers that share a great term, and two terms of 200 levels that share their parts. Times are the
-# least of seven runs, in seconds of the processor; those of `cti` are of the whole process, and so is its memory, from which that of
-# a run of one step is taken.
+# least of seven runs, in seconds of the processor. From those of `cti`, and from its memory, what a run of one step takes is taken off:
+# the start and the reading, which SWI-Prolog's times leave out as well.
 # Usage: bench/run.sh [PROGRAM]     (PROGRAM is bin/cti where none is named)
 set -eu
 cd "$(dirname "$0")/.."
@@ -70,11 +70,12 @@ def once(file, query, steps):
 
 
 def ours(file, query, limit=1_000_000):
-    """The number of steps, the least time, and the bytes of memory for each step."""
+    """The number of steps, the least time, and the bytes of memory for each step, both beyond those of a run of one step."""
     runs = [once(file, query, limit) for _ in range(RUNS)]
+    small = [once(file, query, 1) for _ in range(RUNS)]
     steps = int(runs[0][0].split(b"(")[1].split(b",")[0])
-    small = once(file, query, 1)[2]
-    return steps, min(run[1] for run in runs), (min(run[2] for run in runs) - small) / steps
+    spent, size = (min(run[k] for run in runs) - min(run[k] for run in small) for k in (1, 2))
+    return steps, max(spent, 0.0001), size / steps
 
 
 def theirs(swi, file, work):
