@@ -1,5 +1,6 @@
 pub mod AnyPartition
 pub mod Bounded
+pub mod CallFallLaws
 pub mod Claims
 pub mod Examples
 pub mod Excludes

@@ -1,4 +1,5 @@
 pub mod Bounding
+pub mod CallFalls
 pub mod Claimed
 pub mod Excluded
 pub mod Fault

@@ -4,6 +4,7 @@ ghost use Rattle.std.specs.Io.Iter.{u64_saturate};
 ghost use Rattle.std.specs.Prelude.{◌≡◌, ◌↔◌, ◌+◌, ◌-◌, ◌≤◌, ℕ, List, IfOk, IfSome, IsTrue, None, Some, length, map, slice_get};
 ghost use Rattle.std.specs.List.{AllByRecursion};
 ghost use Rattle.call_components.specs.Partition.{AreComponents};
+ghost use Rattle.cert_checker.specs.CallFalls.{FindsCall, IsReadyCall};
 ghost use Rattle.cert_checker.specs.Finding.{FallsFail, Finds, MappingsFail};
 ghost use Rattle.cert_checker.specs.Proved.{CallsFall, FallsHold};
 ghost use Rattle.cert_structure.specs.Order.{fall_facts, falls_line};
@@ -16,7 +17,7 @@ ghost use Rattle.number_tests.specs.Targets.{AreFallColumns, CanBeWeighed, fall_
 ghost use Rattle.number_tests.specs.declared.level_part.LevelPart.{LevelPart};
 ghost use Rattle.cti_terms.specs.Listing.{atom_nodes};
 ghost use Rattle.cti_terms.specs.Tree.{is_below};
-ghost use Rattle.cti_terms.specs.declared.clauses.Clause.{Clause};
+ghost use Rattle.cti_terms.specs.declared.clauses.Clause.{Clause as TheClause};
 ghost use Rattle.linear_rows.specs.Plain.{HaveWidth, plain_rows};
 ghost use Rattle.linear_rows.specs.declared.multipliers.Multipliers.{Multipliers as TheMultipliers};
 ghost use Rattle.termination_model.specs.Replacing.{over_columns};
@@ -26,8 +27,8 @@ use crate::fault::Fault;
 use crate::reason::Reason;
 use call_components::Components;
 use cert_structure::{LevelPart, Parts};
-use cti_terms::Program;
-use linear_rows::{Multipliers, Numbers, Rows};
+use cti_terms::{Atom, Clause, Program};
+use linear_rows::{Multipliers, Numbers, Rows, System};
 use number_tests::{Flaw, extend, fall_columns, fall_flaw, first_system, weigh_fall};
 use sequences::Sequence;
 use std::alloc::{AllocError, Global};
@@ -102,6 +103,35 @@ fn mapping_fault(
     Ok(None)
 }
 
+/// A call of a clause's own component, with all parts of mappings and the system of the atoms before the call.
+#[derive(Clone, Copy)]
+struct OwnCall<'a> {
+    levels: &'a [Sequence<LevelPart>],
+    clause: &'a Clause,
+    call: &'a Atom,
+    system: &'a System,
+}
+
+/// The first mapping that its multipliers do not show to fall at a call. The first one has this line.
+fn call_fault<N: Norm>(
+    alloc: Global,
+    norm: &N,
+    own: &OwnCall,
+    proofs: &[Multipliers],
+    line: u64,
+) -> Result<Option<Fault>, AllocError>
+    requires { IsReadyCall (N.expression norm.now) own.now.levels.now own.now.clause.now
+        own.now.call.now own.now.system.now proofs.now }
+    ensures { IfOk result (FindsCall (N.expression norm.now) own.now.levels.now
+        own.now.clause.now own.now.call.now own.now.system.now proofs.now line) }
+{
+    let heads = own.levels[own.clause.head.pred.0 as usize].as_slice();
+    let calls = own.levels[own.call.pred.0 as usize].as_slice();
+    let columns = fall_columns(alloc, norm, own.system, own.call)?;
+    let columns = columns.as_slice();
+    mapping_fault(alloc, &own.system.rows, columns, heads, calls, proofs, line)
+}
+
 /// The first fall of a clause that is not shown. Clauses count from 1, and the first fall has the line `first`.
 fn clause_fall_fault<N: Norm>(
     alloc: Global,
@@ -118,7 +148,7 @@ fn clause_fall_fault<N: Norm>(
     requires sizes { AreSizes p.now.preds parts.now.rows }
     requires levels { HaveLevels p.now comps.now parts.now }
     requires falls { HaveFalls p.now comps.now parts.now }
-    ensures hold { IfOk result (λ fault. (c : Clause) → slice_get p.now.clauses (k - 1) ≡ Some c
+    ensures hold { IfOk result (λ fault. (c : TheClause) → slice_get p.now.clauses (k - 1) ≡ Some c
         → (fault ≡ None) ↔ CallsFall (N.expression norm.now) comps.now parts.now c
         (list_at parts.now.falls (k - 1))) }
     ensures first { IfOk result
@@ -128,7 +158,7 @@ fn clause_fall_fault<N: Norm>(
 {
     let clause = p.clause(k);
     let component = comps.of(clause.head.pred);
-    let heads = parts.levels.as_slice()[clause.head.pred.0 as usize].as_slice();
+    let levels = parts.levels.as_slice();
     let proofs = parts.falls.as_slice()[k as usize - 1].as_slice();
     let mut system = first_system(alloc, norm, &parts.rows, clause)?;
     let mut atoms = 0;
@@ -143,11 +173,13 @@ fn clause_fall_fault<N: Norm>(
         }
         extend(alloc, norm, &parts.rows, clause, atoms, j, &mut system)?;
         atoms = j;
-        let calls = parts.levels.as_slice()[call.pred.0 as usize].as_slice();
-        let columns = fall_columns(alloc, norm, &system, call)?;
-        let columns = columns.as_slice();
-        let fault = mapping_fault(alloc, &system.rows, columns, heads, calls, own, start)?;
-        if let Some(fault) = fault {
+        let own_call = OwnCall {
+            levels,
+            clause,
+            call,
+            system: &system,
+        };
+        if let Some(fault) = call_fault(alloc, norm, &own_call, own, start)? {
             return Ok(Some(fault));
         }
     }

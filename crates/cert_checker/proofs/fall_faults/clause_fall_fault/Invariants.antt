@@ -16,6 +16,8 @@ use Rattle.cert_checker.proofs.fall_faults.clause_fall_fault.Given as goal
 
 abbrev pub invariant-loop-j : goal.invariant-loop-j
 invariant-loop-j g l = record {
+  multipliers : l.proofs ≡ list_at l.parts.falls (l.k - 1);
+  count : length l.proofs ≡ length l.clause.body;
   order : l.atoms ≤ l.j;
   system : IsSystemUpTo (g.N.Norm.expression l.norm) (rows_of l.parts.rows) l.clause l.atoms l.system;
   calls : (j : ℕ) → j < l.j → (b : Atom) → slice_get l.clause.body j ≡ Some b → AreTogether l.comps l.clause.head.pred.0 b.pred.0
