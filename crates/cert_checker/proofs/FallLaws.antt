@@ -1,6 +1,6 @@
 -- Falls of mappings, fact by fact.
 use Rattle.std.specs.Io.Iter.{u64_saturate}
-use Rattle.std.proofs.Common.{◌≡◌, ℕ, suc, ◌+◌, ◌-◌, ℤ, Bool, List, [], ◌∷◌, map, take, length, slice_get, Option, Some, refl, sym, ap, subst, ◌∙◌, arith}
+use Rattle.std.proofs.Common.{◌≡◌, ℕ, suc, ◌+◌, ◌-◌, ◌<◌, ℤ, Bool, List, [], ◌∷◌, map, take, length, slice_get, Option, Some, refl, sym, ap, subst, ◌∙◌, arith}
 use Rattle.std.specs.List.{AllByRecursion}
 use Rattle.call_components.specs.Partition.{Partition}
 use Rattle.cert_structure.specs.Numbered.{facts_from, lines_from}
@@ -12,6 +12,7 @@ use Rattle.cti_terms.specs.declared.atom_list.Atom.{Atom}
 use Rattle.cti_terms.specs.declared.clauses.Clause.{Clause}
 use Rattle.linear_rows.specs.Showing.{IsShown}
 use Rattle.linear_rows.specs.declared.multipliers.Multipliers.{Multipliers}
+use Rattle.number_tests.proofs.ColumnLengths.{an_element}
 use Rattle.number_tests.proofs.FallTargets.{fall_target}
 use Rattle.number_tests.specs.Failing.{MultipliersFail, before}
 use Rattle.number_tests.specs.Proved.{fall_of}
@@ -20,7 +21,7 @@ use Rattle.number_tests.specs.Targets.{AreFallColumns, fall_weights}
 use Rattle.number_tests.specs.declared.flaw.Flaw.{Flaw}
 use Rattle.number_tests.specs.declared.level_part.LevelPart.{LevelPart}
 use Rattle.term_size.specs.Norm.{IsNorm}
-use Rattle.termination_model.proofs.Lists.{by_places, one_element}
+use Rattle.termination_model.proofs.Lists.{by_places, one_element, place_below}
 use Rattle.termination_model.specs.Replacing.{over_columns}
 use Rattle.termination_model.specs.Sizes.{rows_of}
 use Rattle.termination_model.specs.ShortSystems.{short_system}
@@ -52,7 +53,7 @@ module _ (rows columns : List (List ℤ)) (heads calls : List LevelPart) (k j m 
         fault.why_is,
       )
 
-  pub shown_mapping : IsShown rows (over_columns columns (fall_weights head call)) by → NoneFails (MappingsFail rows columns heads calls) (falls_line k j m by ∷ [])
+  shown_mapping : IsShown rows (over_columns columns (fall_weights head call)) by → NoneFails (MappingsFail rows columns heads calls) (falls_line k j m by ∷ [])
   shown_mapping shown = (
     λ why fault. let (f, failing, is) = mapping_fails why fault in shown_holds rows by.list (over_columns columns (fall_weights head call)) by.scale by refl refl shown f failing,
     tt,
@@ -67,6 +68,15 @@ module _ (rows columns : List (List ℤ)) (heads calls : List LevelPart) (k j m 
       let (g, others, is) = mapping_fails other also in
       let same : f ≡ g = one_flaw rows by.list (over_columns columns (fall_weights head call)) by.scale f g failing others in
       same_number fault.reason other (because ∙ ap (λ (x : Flaw). reason_of x reason.Measure) same ∙ sym is))
+
+-- mappings that are shown, up to a place, do not fail
+pub shown_before : (rows columns : List (List ℤ)) (heads calls : List LevelPart) (ms : List Multipliers) (n : ℕ) → length heads ≡ length ms → length calls ≡ length ms
+    → ((m : ℕ) → m < n → (head call : LevelPart) (by : Multipliers) → slice_get heads m ≡ Some head → slice_get calls m ≡ Some call → slice_get ms m ≡ Some by → IsShown rows (over_columns columns (fall_weights head call)) by)
+    → (k j m : ℕ) → m < n → (by : Multipliers) → slice_get ms m ≡ Some by → NoneFails (MappingsFail rows columns heads calls) (falls_line k j m by ∷ [])
+shown_before rows columns heads calls ms n heads_count calls_count shown k j m lt by e =
+    let (head, eh) = an_element heads m (omega (arith, place_below ms m by e, heads_count)) in
+    let (call, ec) = an_element calls m (omega (arith, place_below ms m by e, calls_count)) in
+    shown_mapping rows columns heads calls k j m head call eh ec by (shown m lt head call by eh ec e)
 
 -- the falls at a call of a clause, counted from 0
 module _ (expression : ℕ → Tree → List ℤ) (p : Listing) (comps : Partition) (parts : Parts) (k j : ℕ) (c : Clause) (b : Atom) (at : slice_get p.clauses k ≡ Some c) (call_at : slice_get c.body j ≡ Some b) where

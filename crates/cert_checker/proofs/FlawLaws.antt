@@ -1,6 +1,6 @@
 -- Flaws of multipliers and points: what is shown has none, and nothing has two.
 use Rattle.std.specs.Io.Iter.{u64_saturate}
-use Rattle.std.proofs.Common.{◌≡◌, inl, inr, ℕ, suc, ◌≤◌, ℤ, Bool, true, false, List, [], ◌∷◌, map, length, slice_get, Some, refl, sym, ap, subst, ◌∙◌, arith}
+use Rattle.std.proofs.Common.{◌≡◌, inl, inr, ℕ, suc, ◌<◌, ◌≤◌, ℤ, Bool, true, false, List, [], ◌∷◌, map, length, slice_get, Some, refl, sym, ap, subst, ◌∙◌, arith}
 use Rattle.std.proofs.lemmas.Bool.{cases_lt}
 use Rattle.std.proofs.lemmas.Int.{ints}
 use Rattle.linear_rows.specs.Proves.{AllColumnsFit, ColumnFits, Proves}
@@ -17,6 +17,7 @@ use Rattle.linear_rows.specs.declared.multipliers.Proof.TheVariants as proof
 use Rattle.linear_rows.specs.declared.row.Row.{Row}
 use Rattle.linear_rows.specs.declared.row.Rows.{Rows}
 use Rattle.linear_rows.specs.declared.system.System.{System}
+use Rattle.number_tests.proofs.ColumnLengths.{an_element}
 use Rattle.number_tests.proofs.RowSteps.{head_columns}
 use Rattle.number_tests.specs.Failing.{MultipliersFail, fails, wide, wide_target}
 use Rattle.number_tests.specs.Proved.{RowIsKept}
@@ -24,7 +25,7 @@ use Rattle.number_tests.specs.Systems.{IsSystemUpTo}
 use Rattle.number_tests.specs.declared.flaw.Flaw.{Flaw}
 use Rattle.number_tests.specs.declared.flaw.Flaw.TheVariants as flaw
 use Rattle.term_size.specs.Norm.{IsNorm}
-use Rattle.termination_model.proofs.Lists.{one_element}
+use Rattle.termination_model.proofs.Lists.{one_element, place_below}
 use Rattle.termination_model.proofs.RowColumns.{columns_replace}
 use Rattle.termination_model.proofs.SystemLaws.{widths}
 use Rattle.termination_model.specs.Replacing.{AreColumns, over_columns}
@@ -101,7 +102,7 @@ module _ (expression : ℕ → Tree → List ℤ) (p : Listing) (rows : List Row
         fault.why_is,
       )
 
-  pub kept_row : RowIsKept expression rows c row by → NoneFails (ByFails expression p rows) (by_line k i by ∷ [])
+  kept_row : RowIsKept expression rows c row by → NoneFails (ByFails expression p rows) (by_line k i by ∷ [])
   kept_row kept = (
     λ why fault.
         let (f, failing, is) = row_fails why fault in
@@ -118,3 +119,11 @@ module _ (expression : ℕ → Tree → List ℤ) (p : Listing) (rows : List Row
       let (g, others, is) = row_fails other also in
       let same : f ≡ g = one_flaw (short_system expression (rows_of rows) c.vars c.body) by.list (row_over expression c.vars c.head.args row) by.scale f g failing others in
       same_number fault.reason other (because ∙ ap (λ (x : Flaw). reason_of x reason.SizeRow) same ∙ sym is))
+
+-- rows that are kept, up to a place, do not fail
+pub kept_before : (expression : ℕ → Tree → List ℤ) (p : Listing) (rows : List Rows) (k : ℕ) (c : Clause) → slice_get p.clauses k ≡ Some c → (ms : List Multipliers) (n : ℕ) → length ms ≡ length (rows_of rows c.head.pred.0)
+    → ((i : ℕ) → i < n → (row : List ℤ) (by : Multipliers) → slice_get (rows_of rows c.head.pred.0) i ≡ Some row → slice_get ms i ≡ Some by → RowIsKept expression rows c row by)
+    → (i : ℕ) → i < n → (by : Multipliers) → slice_get ms i ≡ Some by → NoneFails (ByFails expression p rows) (by_line k i by ∷ [])
+kept_before expression p rows k c at ms n count kept i lt by e =
+    let (row, there) = an_element (rows_of rows c.head.pred.0) i (omega (arith, place_below ms i by e, count)) in
+    kept_row expression p rows k i c at row there by (kept i lt row by there e)

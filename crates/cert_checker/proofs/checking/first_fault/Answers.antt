@@ -1,22 +1,17 @@
-use Rattle.std.proofs.Common.{◌≡◌, ◌≢◌, ◌↔◌, ℕ, List, None, Option, Some, IfSome, sym, subst, ap, ◌∙◌, arith}
-use Rattle.std.specs.List.{AllPairs}
-use Rattle.certificate.specs.declared.fact.Fact.{Fact as CertFact}
+use Rattle.std.proofs.Common.{◌≡◌, ◌↔◌, None, Some, sym, subst, ap, ◌∙◌, arith}
 use Rattle.cert_structure.specs.Order.{listed}
-use Rattle.cert_structure.specs.Structure.{AreNamed, AreNotes, IsStructured}
+use Rattle.cert_structure.specs.Structure.{IsStructured}
 use Rattle.cert_structure.specs.StructureFault.{IsFirstWrong, IsStructureFault}
 use Rattle.term_size.specs.AnyNorm.{any_row, any_truth}
 use Rattle.term_size.specs.declared.any_norm.AnyNorm.{AnyNorm}
-use Rattle.cert_checker.specs.Valid.{IsValid, PartsHold}
+use Rattle.cert_checker.specs.Valid.{PartsHold}
 use Rattle.cert_checker.specs.declared.fault.Fault.{Fault}
 use Rattle.number_tests.proofs.CallFacts.{if_ok_more}
-use Rattle.cert_checker.specs.Refutes.{RefutedHaveNoMapping}
 use Rattle.cert_checker.proofs.NoMapping.{refuted_have_none}
-use Rattle.cert_checker.specs.StructureFaults.{HasStructureFault, structure_fault}
-use Rattle.fact_reading.specs.declared.stop.StructureReason.{StructureReason}
+use Rattle.cert_checker.specs.StructureFaults.{structure_fault}
 use Rattle.cert_checker.proofs.StructureLaws.{same_fault}
-use Rattle.cert_checker.specs.Fault.{FactFails, IsFault, IsValueFault, wrong_structure}
+use Rattle.cert_checker.specs.Fault.{FactFails, IsFault, wrong_structure}
 use Rattle.cert_checker.specs.Finding.{Finds}
-use Rattle.cert_checker.specs.declared.reason.Reason.{Reason}
 use Rattle.cert_checker.proofs.FaultLaws.{only_fault}
 use Rattle.cert_checker.proofs.ValueLaws.{fault_found}
 use Rattle.cert_checker.proofs.Validity.{decided, without_parts}
@@ -24,8 +19,7 @@ use Rattle.cert_checker.proofs.checking.first_fault.Goals as goal
 
 pub returns-in-Ok-clause-valid : goal.returns-in-Ok-clause-valid
 returns-in-Ok-clause-valid c =
-    if_ok_more (λ (fault : Option Fault). (fault ≡ None) ↔ PartsHold (any_truth c.norm_of-norm.result) (any_row c.norm_of-norm.result) c.args.p.now c.in_ok-comps.comps c.in-Ok.parts)
-    (λ (fault : Option Fault). (fault ≡ None) ↔ IsValid c.args.p.now c.args.names.now c.args.c.now.facts)
+    if_ok_more _ _
     (λ fault decides. decided c.one_structure.ensures c.args.p.now c.args.names.now c.in_ok-comps.comps c.in_ok-comps.ensures c.args.c.now.facts
     (fault ≡ None) c.in-Ok.parts c.in-Ok.ensures.found c.in-Ok.ensures.only (subst (λ (n : AnyNorm). (fault ≡ None) ↔ PartsHold (any_truth n) (any_row n) c.args.p.now c.in_ok-comps.comps c.in-Ok.parts) c.norm_of-norm.ensures decides)) c.value_fault.result c.value_fault.ensures.hold
 
@@ -38,8 +32,7 @@ returns-in-Err-Wrong-clause-valid c = (
 
 pub returns-in-Ok-clause-excluded : goal.returns-in-Ok-clause-excluded
 returns-in-Ok-clause-excluded c =
-    if_ok_more (λ (fault : Option Fault). (fault ≡ None) ↔ PartsHold (any_truth c.norm_of-norm.result) (any_row c.norm_of-norm.result) c.args.p.now c.in_ok-comps.comps c.in-Ok.parts)
-    (λ (fault : Option Fault). fault ≡ None → RefutedHaveNoMapping c.args.p.now c.args.names.now c.args.c.now.facts)
+    if_ok_more _ _
     (λ fault decides. λ none. refuted_have_none c.one_structure.ensures c.args.p.now c.args.names.now c.in_ok-comps.comps c.preds.ensures.sound c.in_ok-comps.ensures c.args.c.now.facts
     c.in-Ok.parts c.in-Ok.ensures.only (subst (λ (n : AnyNorm). PartsHold (any_truth n) (any_row n) c.args.p.now c.in_ok-comps.comps c.in-Ok.parts) c.norm_of-norm.ensures (decides.0 none))) c.value_fault.result c.value_fault.ensures.hold
 
@@ -49,8 +42,7 @@ returns-in-Ok-clause-structure c =
     let names = c.args.names.now in
     let comps = c.in_ok-comps.comps in
     let facts = c.args.c.now.facts in
-    if_ok_more (λ (fault : Option Fault). (fault ≡ None) ↔ PartsHold (any_truth c.norm_of-norm.result) (any_row c.norm_of-norm.result) p comps c.in-Ok.parts)
-    (λ (fault : Option Fault). (line : ℕ) (why : StructureReason) → HasStructureFault p names facts line why → fault ≡ Some (structure_fault line why))
+    if_ok_more _ _
     (λ fault decides line why has. absurd (c.in-Ok.ensures.fault line why (c.one_structure_fault.ensures p names has.comps comps facts line why has.components c.in_ok-comps.ensures has.fault)))
     c.value_fault.result c.value_fault.ensures.hold
 
@@ -71,9 +63,7 @@ returns-in-Ok-clause-fault c =
     let parts = c.in-Ok.parts in
     let facts = c.args.c.now.facts in
     let s : IsStructured p names comps parts facts = c.in-Ok.ensures.found in
-    if_ok_more
-    (λ (fault : Option Fault). (names : List (List ℕ)) (notes : List CertFact) → AreNamed names p.preds → AllPairs (λ a b. a ≢ b) names → AreNotes notes → Finds (FactFails p names (any_truth c.norm_of-norm.result) (any_row c.norm_of-norm.result) comps parts) 1 (listed p names parts notes) fault)
-    (λ (fault : Option Fault). IfSome fault (λ f. IsFault p names facts f.line f.reason))
+    if_ok_more _ _
     (λ fault found. fault_found p names comps parts facts c.in_ok-comps.ensures s (omega (arith, c.len.ensures)) fault
     (subst (λ (n : AnyNorm). Finds (FactFails p names (any_truth n) (any_row n) comps parts) 1 (listed p names parts s.notes) fault) c.norm_of-norm.ensures (found names s.notes c.requires.named c.count.ensures.distinct s.are_notes)))
     c.value_fault.result c.value_fault.ensures.first
@@ -96,9 +86,7 @@ returns-in-Ok-clause-values c =
     let parts = c.in-Ok.parts in
     let facts = c.args.c.now.facts in
     let s : IsStructured p names comps parts facts = c.in-Ok.ensures.found in
-    if_ok_more
-    (λ (fault : Option Fault). (names : List (List ℕ)) (notes : List CertFact) → AreNamed names p.preds → AllPairs (λ a b. a ≢ b) names → AreNotes notes → Finds (FactFails p names (any_truth c.norm_of-norm.result) (any_row c.norm_of-norm.result) comps parts) 1 (listed p names parts notes) fault)
-    (λ (fault : Option Fault). (line : ℕ) (why : Reason) → IsValueFault p names facts line why → fault ≡ Some (record { line = line; reason = why }))
+    if_ok_more _ _
     (λ fault found. only_fault c.one_structure.ensures p names comps parts facts c.in_ok-comps.ensures s c.in-Ok.ensures.only (omega (arith, c.len.ensures)) fault
     (subst (λ (n : AnyNorm). Finds (FactFails p names (any_truth n) (any_row n) comps parts) 1 (listed p names parts s.notes) fault) c.norm_of-norm.ensures (found names s.notes c.requires.named c.count.ensures.distinct s.are_notes)))
     c.value_fault.result c.value_fault.ensures.first

@@ -1,7 +1,5 @@
-use Rattle.std.proofs.Common.{refl, subst}
-use Rattle.cert_structure.specs.Order.{fall_facts, level_facts, proof_facts, size_facts}
+use Rattle.std.proofs.Common.{refl}
 use Rattle.term_size.specs.AnyNorm.{any_row, any_truth}
-use Rattle.cert_checker.specs.Finding.{ByFails, FallsFail, Finds, MeasuresFail, SizesFail}
 use Rattle.cert_checker.proofs.SectionLaws.{first_by, first_fall, first_measure, first_refutation, first_stated}
 use Rattle.cert_checker.proofs.ShapeLaws.{are_sizes, have_falls, have_levels, have_refutations, have_row_proofs}
 use Rattle.cert_checker.proofs.checking.number_fault.Goals as goal
@@ -53,7 +51,7 @@ returns-in-Some-clause-first c = λ names named distinct.
     let parts = c.args.parts.now in
     let lines = c.args.lines in
     first_stated (any_truth c.args.norm.now) (any_row c.args.norm.now) p names comps parts lines c.requires.lines c.in-Some.fault
-    (subst (Finds (SizesFail p names) lines.sizes (size_facts p names parts.rows)) c.in-Some.is (c.stated_fault.ensures.first names named distinct))
+    (rw c.in-Some.is at (c.stated_fault.ensures.first names named distinct))
 
 pub returns-in-Some-2-clause-first : goal.returns-in-Some-2-clause-first
 returns-in-Some-2-clause-first c = λ names named distinct.
@@ -62,7 +60,7 @@ returns-in-Some-2-clause-first c = λ names named distinct.
     let parts = c.args.parts.now in
     let lines = c.args.lines in
     first_by (any_truth c.args.norm.now) (any_row c.args.norm.now) p names comps parts lines c.requires.lines (c.in_default.ensures.first names named distinct) c.in-Some-2.fault
-    (subst (Finds (ByFails (any_row c.args.norm.now) p parts.rows) lines.row_proofs (proof_facts parts.row_proofs)) c.in-Some-2.is c.in_ok-fault.ensures.first)
+    (rw c.in-Some-2.is at c.in_ok-fault.ensures.first)
 
 pub returns-in-Some-measure_fault-clause-first : goal.returns-in-Some-measure_fault-clause-first
 returns-in-Some-measure_fault-clause-first c = λ names named distinct.
@@ -71,8 +69,8 @@ returns-in-Some-measure_fault-clause-first c = λ names named distinct.
     let parts = c.args.parts.now in
     let lines = c.args.lines in
     first_measure (any_truth c.args.norm.now) (any_row c.args.norm.now) p names comps parts lines c.requires.lines (c.in_default.ensures.first names named distinct)
-    (subst (Finds (ByFails (any_row c.args.norm.now) p parts.rows) lines.row_proofs (proof_facts parts.row_proofs)) c.in_default-2.is c.in_ok-fault.ensures.first) c.in-Some-measure_fault.fault
-    (subst (Finds (MeasuresFail p names comps) lines.measures (level_facts p names parts.levels)) c.in-Some-measure_fault.is (c.measure_fault.ensures.first names named distinct))
+    (rw c.in_default-2.is at c.in_ok-fault.ensures.first) c.in-Some-measure_fault.fault
+    (rw c.in-Some-measure_fault.is at (c.measure_fault.ensures.first names named distinct))
 
 pub returns-in-Some-3-clause-first : goal.returns-in-Some-3-clause-first
 returns-in-Some-3-clause-first c = λ names named distinct.
@@ -81,9 +79,9 @@ returns-in-Some-3-clause-first c = λ names named distinct.
     let parts = c.args.parts.now in
     let lines = c.args.lines in
     first_fall (any_truth c.args.norm.now) (any_row c.args.norm.now) p names comps parts lines c.requires.lines (c.in_default.ensures.first names named distinct)
-    (subst (Finds (ByFails (any_row c.args.norm.now) p parts.rows) lines.row_proofs (proof_facts parts.row_proofs)) c.in_default-2.is c.in_ok-fault.ensures.first)
+    (rw c.in_default-2.is at c.in_ok-fault.ensures.first)
     (c.in_default-measure_fault.ensures.first names named distinct) c.in-Some-3.fault
-    (subst (Finds (FallsFail (any_row c.args.norm.now) p comps parts) lines.falls (fall_facts parts.falls)) c.in-Some-3.is c.in_ok-fault-2.ensures.first)
+    (rw c.in-Some-3.is at c.in_ok-fault-2.ensures.first)
 
 pub returns-clause-first : goal.returns-clause-first
 returns-clause-first c = λ names named distinct.
@@ -92,7 +90,7 @@ returns-clause-first c = λ names named distinct.
     let parts = c.args.parts.now in
     let lines = c.args.lines in
     first_refutation (any_truth c.args.norm.now) (any_row c.args.norm.now) p names comps parts lines c.requires.lines (c.in_default.ensures.first names named distinct)
-    (subst (Finds (ByFails (any_row c.args.norm.now) p parts.rows) lines.row_proofs (proof_facts parts.row_proofs)) c.in_default-2.is c.in_ok-fault.ensures.first)
+    (rw c.in_default-2.is at c.in_ok-fault.ensures.first)
     (c.in_default-measure_fault.ensures.first names named distinct)
-    (subst (Finds (FallsFail (any_row c.args.norm.now) p comps parts) lines.falls (fall_facts parts.falls)) c.in_default-3.is c.in_ok-fault-2.ensures.first)
+    (rw c.in_default-3.is at c.in_ok-fault-2.ensures.first)
     c.in_ok-fault-3.fault (c.in_ok-fault-3.ensures.first names named distinct)

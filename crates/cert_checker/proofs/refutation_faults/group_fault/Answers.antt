@@ -1,9 +1,5 @@
-use Rattle.std.proofs.Common.{map, Option, IfSome, subst, arith}
+use Rattle.std.proofs.Common.{map, arith}
 use Rattle.call_components.specs.Numbers.{number_of}
-use Rattle.number_tests.specs.Failing.{IsFirstPoint, SumsFail}
-use Rattle.number_tests.specs.declared.flaw.Flaw.{Flaw}
-use Rattle.number_tests.specs.declared.point_flaw.PointFlaw.{PointFlaw}
-use Rattle.termination_model.specs.Sizes.{rows_of}
 use Rattle.cert_checker.proofs.RefutationLaws.{group_fails, group_holds, sums_fail}
 use Rattle.cert_checker.specs.declared.fault.Fault.{Fault}
 use Rattle.cert_checker.proofs.refutation_faults.group_fault.Goals as goal
@@ -14,7 +10,7 @@ returns-in-Some-clause-first g c = λ pred.
     let p = c.args.p.now in
     let members = map number_of c.args.members.now in
     let points = c.args.points.now in
-    let fails = subst (λ (o : Option Flaw). IfSome o (SumsFail e p members points)) c.in-Some.is c.in_ok-flaw.ensures.fails in
+    let fails = rw c.in-Some.is at c.in_ok-flaw.ensures.fails in
     let fault : Fault = record { line = c.args.line; reason = c.of-reason.result } in
     sums_fail e p c.args.sizes.now members points pred fault c.in-Some.flaw fails c.of-reason.ensures (omega (arith, c.ranges.line.fits))
 
@@ -29,7 +25,7 @@ returns-clause-first g c = λ pred.
     let p = c.args.p.now in
     let members = map number_of c.args.members.now in
     let points = c.args.points.now in
-    let first = subst (λ (o : Option PointFlaw). IfSome o (IsFirstPoint e p (rows_of c.args.sizes.now) points)) c.in-Some-2.is c.in_ok-found.ensures.first in
+    let first = rw c.in-Some-2.is at c.in_ok-found.ensures.first in
     let fault : Fault = record { line = c.saturating_add-2.result; reason = c.of.result } in
     group_fails e p c.args.sizes.now members points pred c.requires.pairs (c.in_ok-flaw.ensures.refute.0 c.in_default.is) c.args.line fault c.in-Some-2.found first c.of.ensures
     (omega (arith, c.saturating_add.ensures, c.saturating_add-2.ensures))

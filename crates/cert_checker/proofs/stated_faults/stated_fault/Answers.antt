@@ -1,11 +1,10 @@
-use Rattle.std.proofs.Common.{◌≡◌, ◌≢◌, ◌+◌, ℕ, ◌<◌, List, length, slice_get, Some, refl, sym, ap, subst, ◌∙◌, arith, below_more}
-use Rattle.std.specs.List.{AllByRecursion, AllPairs}
+use Rattle.std.proofs.Common.{◌≡◌, ◌+◌, ◌<◌, length, slice_get, Some, refl, sym, ap, subst, ◌∙◌, arith, below_more}
+use Rattle.std.specs.List.{AllByRecursion}
 use Rattle.std.proofs.lemmas.Option.{slice_get_within}
 use Rattle.cti_terms.specs.Arithmetic.{kind_of}
 use Rattle.cti_terms.specs.declared.predicates.Pred.{Pred}
 use Rattle.cert_structure.specs.Numbered.{lines_from}
 use Rattle.cert_structure.specs.Order.{pred_text, size_line}
-use Rattle.cert_structure.specs.Structure.{AreNamed}
 use Rattle.linear_rows.specs.Members.{In}
 use Rattle.linear_rows.specs.Plain.{plain_rows}
 use Rattle.linear_rows.specs.declared.row.Rows.{Rows}
@@ -17,7 +16,7 @@ use Rattle.termination_model.specs.Sizes.{plain_or_none}
 use Rattle.termination_model.specs.Stated.{stated_rows}
 use Rattle.cert_checker.proofs.FindLaws.{finds_item, finds_none, length_lines}
 use Rattle.cert_checker.proofs.StatedLaws.{AreStatedAs, built_in, foreign_row, rows_hold}
-use Rattle.cert_checker.specs.Finding.{Finds, IsForeign, NoneFails, SizesFail}
+use Rattle.cert_checker.specs.Finding.{Finds, IsForeign, SizesFail}
 use Rattle.cert_checker.proofs.stated_faults.stated_fault.Goals as goal
 
 pub loop-q-init : goal.loop-q-init
@@ -60,15 +59,9 @@ loop-q-preserved c =
     let lt : n < length p.preds = omega (arith, c.loop-q-test.true, c.preds-q-end.ensures.count, c.loop-q.auto.q-end) in
     let stated : AreStatedAs (kind_of p.arithmetic n) rows.list = (λ b is. c.foreign_fault.ensures.hold.0 c.in_default.is b (c.builtin.ensures ∙ is)) in
     record {
-      stated = below_more (λ (q : ℕ). (r : Rows) → slice_get sizes q ≡ Some r → AreStatedAs (kind_of p.arithmetic q) r.list) n c.loop-q.invariant.stated
-          (λ r at. subst (λ (x : Rows). AreStatedAs (kind_of p.arithmetic n) x.list) (one_element sizes n rows r there at) stated);
+      stated = below_more _ n c.loop-q.invariant.stated (λ r at. rw (one_element sizes n r rows at there) stated);
       line = λ m. omega (arith, c.loop-q.invariant.line (length rows.list + m), c.saturating_add-line.ensures, before_more (λ (r : Rows). length r.list) sizes n rows there);
-      none = below_more (λ (q : ℕ). (r : Rows) → slice_get sizes q ≡ Some r → (names : List (List ℕ)) → AreNamed names p.preds → AllPairs (λ a b. a ≢ b) names
-          → NoneFails (SizesFail p names) (lines_from 0 (size_line (pred_text p names q)) r.list)) n c.loop-q.invariant.none
-          (λ r at names named distinct.
-          let same : rows ≡ r = one_element sizes n rows r there at in
-          subst (λ (x : Rows). NoneFails (SizesFail p names) (lines_from 0 (size_line (pred_text p names n)) x.list)) same
-          (rows_hold p names c.preds-q-end.ensures.sound named distinct n lt rows.list stated));
+      none = below_more _ n c.loop-q.invariant.none (λ r at names named distinct. rw (one_element sizes n r rows at there) (rows_hold p names c.preds-q-end.ensures.sound named distinct n lt rows.list stated));
     }
 
 pub returns-clause-hold : goal.returns-clause-hold
