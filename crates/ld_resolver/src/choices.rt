@@ -38,6 +38,7 @@ pub struct Start<'p> {
 }
 
 /// The number of the rest that has these atoms, raised, and then another rest.
+#[inline(always)]
 fn rest_number<'p>(
     tails: &mut Tails<'p>,
     atoms: &'p [Atom],
@@ -57,6 +58,7 @@ fn rest_number<'p>(
 }
 
 /// The start of the goal that has these atoms, raised, and then a rest.
+#[inline(always)]
 fn start_of<'p>(
     tails: &mut Tails<'p>,
     atoms: &'p [Atom],
@@ -74,7 +76,9 @@ fn start_of<'p>(
     Ok(Some(Start { atom, base, rest }))
 }
 
-/// The start of the goal that has the body of a clause, raised, and then a rest, unless it has no atoms.
+/// The start of the goal that has the body of a clause, raised, and then a rest, unless it has no atoms. It is compiled
+/// into the loop of a run.
+#[inline(always)]
 pub fn goal_start<'p>(
     tails: &mut Tails<'p>,
     body: &'p [Atom],

@@ -26,6 +26,7 @@ fn compounds_differ(f: Name, args: &[Term], g: Name, count: usize) -> bool
 
 /// Whether a clause whose first argument has this kind cannot match a goal with a first argument of that kind. A variable
 /// rules nothing out.
+#[inline(always)]
 fn is_ruled_out(shape: Shape<'_>, kind: FirstKind) -> bool
     ensures { IsTrue result → RulesOut shape.entry kind }
 {
@@ -41,6 +42,7 @@ fn is_ruled_out(shape: Shape<'_>, kind: FirstKind) -> bool
 }
 
 /// Whether there is a clause of this number, and it cannot match such a goal.
+#[inline(always)]
 fn is_skipped(chain: &ClauseChain, shape: Shape<'_>, number: u32) -> bool
     requires { 1 ≤ number }
     ensures { IsTrue result → (p : Listing) → IsChain p chain.now
@@ -53,6 +55,7 @@ fn is_skipped(chain: &ClauseChain, shape: Shape<'_>, number: u32) -> bool
 }
 
 /// The kind of an atom's first argument under the bindings, where it has one.
+#[inline(always)]
 fn first_shape<'p>(bindings: &Bindings<'p>, atom: &'p Atom, base: u32) -> Option<Shape<'p>>
     ensures { IfSome result (HasFirst bindings.now (raised base atom.now)) }
 {
