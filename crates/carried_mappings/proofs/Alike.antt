@@ -25,7 +25,8 @@ use Rattle.solved_program.specs.Kept.{AreKept}
 use Rattle.solved_program.specs.Standing.{AreSameClauses, IsSameClause, StandsFor}
 use Rattle.solved_program.proofs.Pairs.{body_pair, same_named, same_renamed}
 use Rattle.solved_program.proofs.Clauses.{of_program, own_at, own_clause, own_component}
-use Rattle.solved_program.proofs.Names.{finds_number, new_number, pred_in}
+use Rattle.component_laws.proofs.NamedLaws.{pred_in}
+use Rattle.solved_program.proofs.Names.{finds_number, new_number}
 use Rattle.carried_mappings.proofs.Members.{same_members}
 use Rattle.carried_mappings.proofs.MembersAlike.{AreMembersAlike, members_alike}
 use Rattle.carried_mappings.proofs.Numbers.{AreMoved, Numbered, Rises, numbers_of, rises_counted}

@@ -20,6 +20,7 @@ use Rattle.level_systems.specs.declared.found.Found.{Found}
 use Rattle.level_systems.specs.declared.mapping.Mapping.{Mapping}
 use Rattle.level_systems.specs.declared.measure.Measure.{Measure}
 use Rattle.level_systems.specs.declared.position.Position.{Position}
+use Rattle.component_laws.proofs.SupportedLaws.{numbered}
 use Rattle.carried_mappings.specs.Carrying.{AreClauseNumbers, CarriesOver, HasParts, IsStanding, new_number}
 use Rattle.carried_mappings.specs.Moved.{moved_found, moved_mapping}
 use Rattle.carried_mappings.specs.Order.{AreSameMappings, HaveSameMembers, HaveSameOrder}
@@ -33,7 +34,6 @@ use Rattle.carried_mappings.proofs.Numbers.{AreMoved, Numbered, Rises, all_moved
 use Rattle.carried_mappings.proofs.Points.{refutation_there}
 use Rattle.carried_mappings.proofs.Ranked.{in_member, member_in, ranked_in, to_contains}
 use Rattle.carried_mappings.proofs.Renamed.{length_mapped, position_pred}
-use Rattle.carried_mappings.proofs.Renumbering.{numbered}
 use Rattle.carried_mappings.proofs.Reordered.{found_reordered}
 use Rattle.carried_mappings.proofs.SameMappings.{all_moved_same, all_placed_same}
 use Rattle.solved_program.proofs.Names.{new_number as new_pred}

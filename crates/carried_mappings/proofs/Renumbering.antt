@@ -21,29 +21,15 @@ use Rattle.component_laws.specs.Mapped.{AreSamePositions, pulled}
 use Rattle.component_laws.specs.Renaming.{KeepsApart}
 use Rattle.component_laws.specs.Supported.{IsFrom, IsNumber, IsSameNumber}
 use Rattle.component_laws.proofs.MappedLaws.{not_later, positive}
+use Rattle.component_laws.proofs.SupportedLaws.{among, low_number, numbered, one_number, one_place}
 use Rattle.carried_mappings.specs.Reordered.{renumbered, renumbered_from}
 use Rattle.carried_mappings.proofs.Renamed.{length_mapped}
 
 -- ---- numbers of positions
-low_number : (i : ℕ) (ps : List Position) (n : ℕ) (x : Position) → IsNumber i ps n x → i ≤ n
-low_number i [] n x h = absurd h
-low_number i (p ∷ ps) n x (inl e) = let is = e.0 in omega arith
-low_number i (p ∷ ps) n x (inr h) = let l = low_number (suc i) ps n x h in omega arith
-
 high_number : (i : ℕ) (ps : List Position) (n : ℕ) (x : Position) → IsNumber i ps n x → n < i + length ps
 high_number i [] n x h = absurd h
 high_number i (p ∷ ps) n x (inl e) = let is = e.0 in omega arith
 high_number i (p ∷ ps) n x (inr h) = let l = high_number (suc i) ps n x h in omega arith
-
-pub among : (i : ℕ) (ps : List Position) (n : ℕ) (x : Position) → IsNumber i ps n x → In x ps
-among i [] n x h = absurd h
-among i (p ∷ ps) n x (inl e) = inl e.1
-among i (p ∷ ps) n x (inr h) = inr (among (suc i) ps n x h)
-
-pub numbered : (i : ℕ) (ps : List Position) (x : Position) → In x ps → (n : ℕ) × IsNumber i ps n x
-numbered i [] x h = absurd h
-numbered i (p ∷ ps) x (inl e) = (i, inl (refl, e))
-numbered i (p ∷ ps) x (inr h) = let more = numbered (suc i) ps x h in (more.0, inr more.1)
 
 same_or_later : (i n : ℕ) → i ≤ n → (i ≡ n) ⊎ (suc i ≤ n)
 same_or_later i n l = grind arith
@@ -54,20 +40,6 @@ number_there i (p ∷ ps) n l h = elim (same_or_later i n l) [
   | inl e ↦ (p, inl (e, refl))
   | inr later ↦ let more = number_there (suc i) ps n later (omega arith) in (more.0, inr more.1)
 ]
-
-one_place : (i : ℕ) (ps : List Position) (n : ℕ) (x y : Position) → IsNumber i ps n x → IsNumber i ps n y → x ≡ y
-one_place i [] n x y h k = absurd h
-one_place i (p ∷ ps) n x y (inl e) (inl g) = sym e.1 ∙ g.1
-one_place i (p ∷ ps) n x y (inl e) (inr k) = let l = low_number (suc i) ps n y k in let is = e.0 in absurd (omega arith)
-one_place i (p ∷ ps) n x y (inr h) (inl g) = let l = low_number (suc i) ps n x h in let is = g.0 in absurd (omega arith)
-one_place i (p ∷ ps) n x y (inr h) (inr k) = one_place (suc i) ps n x y h k
-
-one_number : (i : ℕ) (ps : List Position) → AreDistinct ps → (n k : ℕ) (x : Position) → IsNumber i ps n x → IsNumber i ps k x → n ≡ k
-one_number i [] d n k x h g = absurd h
-one_number i (p ∷ ps) d n k x (inl e) (inl g) = sym e.0 ∙ g.0
-one_number i (p ∷ ps) d n k x (inl e) (inr g) = absurd (d.0 (subst (λ (z : Position). In z ps) (sym e.1) (among (suc i) ps k x g)))
-one_number i (p ∷ ps) d n k x (inr h) (inl g) = absurd (d.0 (subst (λ (z : Position). In z ps) (sym g.1) (among (suc i) ps n x h)))
-one_number i (p ∷ ps) d n k x (inr h) (inr g) = one_number (suc i) ps d.1 n k x h g
 
 -- ---- the old number at a number
 abbrev pub IsOld : ℕ → List ℕ → ℕ → ℕ → Type 0

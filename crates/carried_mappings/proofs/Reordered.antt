@@ -36,7 +36,7 @@ use Rattle.level_dual.proofs.FoundCases.{full_is_set}
 use Rattle.component_laws.specs.Mapped.{pulled}
 use Rattle.component_laws.specs.Supported.{AreFrom}
 use Rattle.component_laws.proofs.MappedLaws.{minimal_alike}
-use Rattle.component_laws.proofs.SupportedLaws.{excluded_alike, within_alike}
+use Rattle.component_laws.proofs.SupportedLaws.{among, excluded_alike, within_alike}
 use Rattle.solved_program.proofs.Clauses.{in_at}
 use Rattle.carried_mappings.specs.Moved.{moved_fall, moved_refutation}
 use Rattle.carried_mappings.specs.Reordered.{AreOldNumbers, ArePlaces, by_sets, no_measure, placed, renumbered, reordered_found, reordered_mapping, support_there}
@@ -46,7 +46,7 @@ use Rattle.carried_mappings.proofs.MembersAlike.{AreMembersAlike}
 use Rattle.carried_mappings.proofs.Numbers.{AreMoved, numbers_of}
 use Rattle.carried_mappings.proofs.Parts.{at_there, blown_at, falling_there, falls_there, map_at, none_here, none_there, of_view, pairs_there, part_there, pulled_there, some_mapped}
 use Rattle.carried_mappings.proofs.Renamed.{length_mapped, level_from, level_renamed, mapping_pulled, preds_of, renamed_measure}
-use Rattle.carried_mappings.proofs.Renumbering.{HaveOlds, among, as_many, from_old, of_renumbered, olds_long, one_renumbered, part_back, picked_same, renumbered_full, renumbered_set, renumbered_without, support_is_set, support_renumbered}
+use Rattle.carried_mappings.proofs.Renumbering.{HaveOlds, as_many, from_old, of_renumbered, olds_long, one_renumbered, part_back, picked_same, renumbered_full, renumbered_set, renumbered_without, support_is_set, support_renumbered}
 
 -- ---- parts by predicate
 level_some : (ys : List Measure) (r : ℕ) (part : LevelPart) → level_in ys r ≡ Some part → In (record { pred = record { 0 = r }; part = part }) ys

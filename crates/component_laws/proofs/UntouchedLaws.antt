@@ -1,5 +1,5 @@
 -- The component of an untouched predicate stands in the new program.
-use Rattle.std.proofs.Common.{◌≡◌, ◌≢◌, ℕ, ◌<◌, nat_lt, Bool, true, false, cond, IsSomeAnd, inl, inr, List, [], ◌∷◌, map, length, slice_get, slice_index_or, Option, None, Some, refl, ap, sym, subst, ◌∙◌, arith}
+use Rattle.std.proofs.Common.{◌≡◌, ◌≢◌, ℕ, ◌<◌, nat_lt, Bool, true, false, cond, inl, inr, List, [], ◌∷◌, map, slice_get, slice_index_or, Option, None, Some, refl, ap, sym, subst, ◌∙◌, arith}
 use Rattle.std.specs.Prelude.{Any, filter}
 use Rattle.std.specs.List.{AllPairs}
 use Rattle.std.proofs.lemmas.Bool.Decides.{nat_tests}
@@ -7,7 +7,7 @@ use Rattle.call_components.specs.Calls.{Calls, Reaches, itself, onward}
 use Rattle.call_components.specs.Partition.{Partition, AreComponents, IsIn}
 use Rattle.call_components.proofs.Lists.{any_cases}
 use Rattle.cti_terms.specs.Arithmetic.{kind_of}
-use Rattle.cti_terms.specs.Listing.{Listing, IsProgram, IsAtom, IsClause}
+use Rattle.cti_terms.specs.Listing.{Listing, IsProgram}
 use Rattle.cti_terms.specs.declared.atom_list.Atom.{Atom}
 use Rattle.cti_terms.specs.declared.clauses.Clause.{Clause}
 use Rattle.cti_terms.specs.declared.predicates.Pred.{Pred}
@@ -15,13 +15,13 @@ use Rattle.linear_rows.specs.Members.{In}
 use Rattle.linear_rows.proofs.Members.{in-filter, in-map, of-filter, of-map}
 use Rattle.termination_model.specs.Chain.{component_of}
 use Rattle.termination_model.proofs.ChainLeaves.{call_is, number_is}
-use Rattle.termination_model.proofs.ChainSieves.{of_all}
 use Rattle.termination_model.proofs.Lists.{indexed, place_below, there}
 use Rattle.groundness.specs.Components.{is_member}
-use Rattle.component_laws.specs.Renaming.{IsOver, StandIn, own_clauses, renamed, renamed_atom}
+use Rattle.component_laws.specs.Renaming.{IsOver, StandIn, own_clauses, renamed}
 use Rattle.component_laws.specs.Untouched.{AreUntouched, FindsByName, IsKnown, KeepKinds, NamedAtom, NamedClause, UntouchedStand, clauses_in, is_in, named, named_atom}
 use Rattle.component_laws.proofs.LeastLaws.{number_of}
 use Rattle.component_laws.proofs.BlownLaws.{filter_map}
+use Rattle.component_laws.proofs.NamedLaws.{clause_is, pred_in}
 
 -- ---- a predicate has one number
 module _ (xs : List Pred) (distinct : AllPairs (λ (q r : Pred). q ≢ r) xs) where
@@ -42,10 +42,6 @@ of_any P (x ∷ xs) a = elim (any_cases P x xs a) [
   | inl here ↦ (x, inl refl, here)
   | inr more ↦ let r = of_any P xs more in (r.0, inr r.1, r.2)
 ]
-
-some_is : {X : Type 0} (P : X → Type 0) (o : Option X) → IsSomeAnd o P → (x : X) × (o ≡ Some x)
-some_is P None h = absurd h
-some_is P (Some x) h = (x, refl)
 
 -- elements of lists that are alike
 in_alike : {X Y Z : Type 0} (g : X → Z) (h : Y → Z) (xs : List X) (ys : List Y) → map g xs ≡ map h ys → (x : X) → In x xs → (y : Y) × In y ys × (g x ≡ h y)
@@ -83,18 +79,6 @@ module _ (p new : Listing) (comps new_comps : Partition) (f : ℕ → ℕ) (set 
 
   same_body : (k l : Clause) → named p k ≡ named new l → map (named_atom p) k.body ≡ map (named_atom new) l.body
   same_body k l e = ap (λ (x : NamedClause). x.body) e
-
-  -- an atom's predicate is there
-  pred_in : (g : Listing) → IsProgram g → (k : Clause) → In k g.clauses → (b : Atom) → In b k.body → (x : Pred) × (slice_get g.preds b.pred.0 ≡ Some x)
-  pred_in g is k i b j =
-      let clause = of_all (IsClause g.preds) g.clauses k is.clauses i in
-      let atom = of_all (IsAtom g.preds k.vars) k.body b clause.body j in
-      some_is (λ (x : Pred). x.arity ≡ length b.args) (slice_get g.preds b.pred.0) atom.arity
-
-  head_in : (g : Listing) → IsProgram g → (k : Clause) → In k g.clauses → (x : Pred) × (slice_get g.preds k.head.pred.0 ≡ Some x)
-  head_in g is k i =
-      let clause = of_all (IsClause g.preds) g.clauses k is.clauses i in
-      some_is (λ (x : Pred). x.arity ≡ length k.head.args) (slice_get g.preds k.head.pred.0) clause.head.arity
 
   -- ---- calls
   abbrev Same : ℕ → ℕ → Type 0
@@ -164,34 +148,6 @@ module _ (p new : Listing) (comps new_comps : Partition) (f : ℕ → ℕ) (set 
   -- ---- clauses that are alike
   found : (q r : ℕ) → Same q r → f q ≡ r
   found q r s = finds q r s.0 s.1 s.2
-
-  -- the predicates of atoms alike, which are there
-  atom_is : (a b : Atom) → named_atom new a ≡ named_atom p b → (x : Pred) → slice_get new.preds a.pred.0 ≡ Some x → a ≡ renamed_atom f b
-  atom_is a b e x at =
-      let here : slice_get p.preds b.pred.0 ≡ Some x = sym (ap (λ (n : NamedAtom). n.pred) e) ∙ at in
-      let number : a.pred.0 ≡ f b.pred.0 = sym (finds b.pred.0 a.pred.0 x here at) in
-      let args : a.args ≡ b.args = ap (λ (n : NamedAtom). n.args) e in
-      λ i. record { pred = record { 0 = number i }; args = args i }
-
-  atoms_are : (xs bs : List Atom) → map (named_atom new) xs ≡ map (named_atom p) bs → ((a : Atom) → In a xs → (x : Pred) × (slice_get new.preds a.pred.0 ≡ Some x)) → xs ≡ map (renamed_atom f) bs
-  atoms_are [] [] e h = refl
-  atoms_are [] (b ∷ bs) e h = cc
-  atoms_are (a ∷ xs) [] e h = cc
-  atoms_are (a ∷ xs) (b ∷ bs) e h =
-      let first : named_atom new a ≡ named_atom p b = cc in
-      let rest : map (named_atom new) xs ≡ map (named_atom p) bs = cc in
-      let pred = h a (inl refl) in
-      let one = atom_is a b first pred.0 pred.1 in
-      let more = atoms_are xs bs rest (λ x i. h x (inr i)) in
-      λ i. one i ∷ more i
-
-  clause_is : (l k : Clause) → In l new.clauses → named new l ≡ named p k → l ≡ renamed f k
-  clause_is l k i e =
-      let top = head_in new new_prog l i in
-      let head = atom_is l.head k.head (ap (λ (x : NamedClause). x.head) e) top.0 top.1 in
-      let body = atoms_are l.body k.body (ap (λ (x : NamedClause). x.body) e) (λ a j. pred_in new new_prog l i a j) in
-      let vars : l.vars ≡ k.vars = ap (λ (x : NamedClause). x.vars) e in
-      λ j. record { head = head j; body = body j; vars = vars j }
 
   -- ---- members
   module _ (c d q0 r0 : ℕ) (same0 : Same q0 r0) (in0 : IsIn comps c q0) (new_in0 : IsIn new_comps d r0) where
@@ -319,7 +275,7 @@ module _ (p new : Listing) (comps new_comps : Partition) (f : ℕ → ℕ) (set 
     pairs_alike (l ∷ ls) (k ∷ ks) e h =
         let first : named new l ≡ named p k = cc in
         let rest : map (named new) ls ≡ map (named p) ks = cc in
-        let is = clause_is l k (h l (inl refl)).0 first in
+        let is = clause_is p new f finds new_prog l k (h l (inl refl)).0 (sym first) in
         let pred = set_pred (slice_get new.preds l.head.pred.0) (h l (inl refl)).1 in
         let here : slice_get p.preds k.head.pred.0 ≡ Some pred.0 = sym (ap (λ (x : NamedClause). x.head.pred) first) ∙ pred.1 in
         let known : Known k.head.pred.0 = known_of k.head.pred.0 l.head.pred.0 (pred.0, here, pred.1, pred.2) in

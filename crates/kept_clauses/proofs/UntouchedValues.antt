@@ -18,12 +18,13 @@ use Rattle.termination_model.proofs.Lists.{place_below, there}
 use Rattle.component_laws.specs.Renaming.{StandIn}
 use Rattle.component_laws.specs.Untouched.{AreUntouched, IsKnown, NamedAtom, NamedClause, is_in, named, named_atom}
 use Rattle.component_laws.proofs.LeastLaws.{number_of}
+use Rattle.component_laws.proofs.NamedLaws.{pred_in}
 use Rattle.component_laws.proofs.UntouchedLaws.{one_number, untouched_stand}
 use Rattle.solved_program.specs.Kept.{IsEdit}
 use Rattle.solved_program.specs.Standing.{AreSameCalls, AreSameClauses, IsSameCall, IsSameClause, StandsFor}
 use Rattle.solved_program.specs.declared.edit.Edit.{Edit}
 use Rattle.solved_program.proofs.Clauses.{in_at}
-use Rattle.solved_program.proofs.Names.{finds_number, new_number, pred_in}
+use Rattle.solved_program.proofs.Names.{finds_number, new_number}
 use Rattle.kept_clauses.specs.AllKept.{AllKept, ArePairs, IsOfSet, IsWithoutClause, UntouchedHaveStayed, UntouchedOfSetHaveStayed, numbered_in}
 use Rattle.kept_clauses.proofs.AllKeptLaws.{Numbered, own_among, own_counted, own_place}
 

@@ -27,12 +27,13 @@ use Rattle.component_laws.specs.Renaming.{AgreeOn, IsOver, KeepsApart}
 use Rattle.component_laws.specs.Runs.{AreRenamed, renumbered}
 use Rattle.component_laws.specs.Untouched.{NamedAtom, NamedClause, named}
 use Rattle.component_laws.proofs.RunLaws.{passes_agree, passes_carry}
+use Rattle.component_laws.proofs.NamedLaws.{head_in, pred_in}
 use Rattle.component_laws.proofs.UntouchedLaws.{one_number}
 use Rattle.solved_program.specs.Kept.{AreKept}
 use Rattle.solved_program.specs.Renumbered.{in_turn}
 use Rattle.solved_program.specs.Standing.{AreSameCalls, AreSameClauses, IsSameCall, IsSameClause, StandsFor}
 use Rattle.solved_program.proofs.Clauses.{Numbered, head_kind, member_clause, of_program, own_component}
-use Rattle.solved_program.proofs.Names.{finds_number, head_in, new_number, pred_in}
+use Rattle.solved_program.proofs.Names.{finds_number, new_number}
 use Rattle.solved_program.proofs.Pairs.{all_renamed, body_pair, pair_back, pair_on, same_named, same_renamed}
 use Rattle.solved_program.proofs.Parts.{Rowed, proved_renamed}
 use Rattle.solved_program.proofs.Turns.{passes_length, run_in_turn}

@@ -9,12 +9,12 @@ use Rattle.linear_rows.specs.Members.{In}
 use Rattle.termination_model.specs.Chain.{clauses_of}
 use Rattle.termination_model.proofs.ChainLeaves.{body_before}
 use Rattle.component_laws.specs.Untouched.{NamedAtom, NamedClause, named, named_atom}
+use Rattle.component_laws.proofs.NamedLaws.{pred_in}
 use Rattle.solved_program.specs.Kept.{IsEdit}
 use Rattle.solved_program.specs.Marks.{AreMarkedTo, StandsMarked, is_marked, itself}
 use Rattle.solved_program.specs.Standing.{AreSameCalls, AreSameClauses, IsSameCall, IsSameClause, StandsFor}
 use Rattle.solved_program.specs.declared.edit.Edit.{Edit}
 use Rattle.solved_program.proofs.Clauses.{Numbered, of_program, own_at}
-use Rattle.solved_program.proofs.Names.{pred_in}
 
 -- ---- where two pairs of values are the same for the same calls, a component stands by the one pair as by the other
 module _ {X Y : Type 0} (e : Edit) (prog : IsProgram e.before.now) (new_prog : IsProgram e.after.now) (is : IsEdit e) (b c : ℕ) (old now : ℕ → X) (other_old other_now : ℕ → Y)

@@ -8,10 +8,11 @@ use Rattle.termination_model.specs.Chain.{clauses_of}
 use Rattle.component_laws.specs.Renaming.{renamed}
 use Rattle.component_laws.specs.Runs.{AreRenamed}
 use Rattle.component_laws.specs.Untouched.{named, named_atom}
+use Rattle.component_laws.proofs.NamedLaws.{clause_is}
 use Rattle.solved_program.specs.Kept.{AreKept}
 use Rattle.solved_program.specs.Standing.{AreSameCalls, AreSameClauses, IsSameCall, IsSameClause}
 use Rattle.solved_program.proofs.Clauses.{Numbered, of_program, own_at}
-use Rattle.solved_program.proofs.Names.{clause_is, finds_number, new_number}
+use Rattle.solved_program.proofs.Names.{finds_number, new_number}
 
 module _ {X : Type 0} (p new : Listing) (comps new_comps : Partition) (prog : IsProgram p) (new_prog : IsProgram new) (are : AreComponents p comps) (new_are : AreComponents new new_comps)
     (kept : List (Option ℕ)) (are_kept : AreKept p new kept) (c d : ℕ) (old now : ℕ → X) where

@@ -17,12 +17,13 @@ use Rattle.component_laws.specs.Renaming.{renamed, AgreeOn, IsOver, KeepsApart, 
 use Rattle.component_laws.specs.Runs.{AreRenamed}
 use Rattle.component_laws.specs.Untouched.{NamedAtom, NamedClause, named}
 use Rattle.component_laws.proofs.BlownLaws.{filter_map}
+use Rattle.component_laws.proofs.NamedLaws.{head_in, pred_in}
 use Rattle.component_laws.proofs.UntouchedLaws.{one_number}
 use Rattle.solved_program.specs.Kept.{AreKept}
 use Rattle.solved_program.specs.Standing.{AreSameCalls, AreSameClauses, IsSameCall, IsSameClause, StandsFor}
 use Rattle.solved_program.proofs.Clauses.{Numbered, head_kind, member_clause, of_program, own_component}
 use Rattle.solved_program.proofs.Pairs.{all_renamed, body_pair, pair_back, pair_on, same_named}
-use Rattle.solved_program.proofs.Names.{finds_number, head_in, new_number, pred_in}
+use Rattle.solved_program.proofs.Names.{finds_number, new_number}
 
 -- a component's clauses are those of its members, with their numbers
 without_numbers : (n : ℕ) (ks : List Clause) → map (λ (k : Numbered). k.1) (counted n ks) ≡ ks
