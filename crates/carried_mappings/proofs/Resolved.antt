@@ -1,5 +1,5 @@
 -- The mappings of a program after an edit, component by component.
-use Rattle.std.proofs.Common.{◌≡◌, ℕ, zero, suc, ◌+◌, ◌-◌, ◌<◌, ◌⊎◌, ℤ, Bool, true, false, inl, inr, List, [], ◌∷◌, ◌++◌, map, length, slice_get, slice_index_or, Bor, Option, None, Some, Ok, Err, refl, ap, sym, subst, ◌∙◌, arith}
+use Rattle.std.proofs.Common.{◌≡◌, ℕ, suc, ◌+◌, ◌-◌, ◌<◌, ℤ, Bool, true, false, inl, List, [], ◌∷◌, ◌++◌, map, length, slice_get, slice_index_or, Bor, Option, None, Some, Ok, Err, refl, ap, sym, subst, ◌∙◌, arith}
 use Rattle.std.specs.Prelude.{IfOk, IfSome, Result}
 use Rattle.std.specs.List.{AllByRecursion}
 use Rattle.call_components.specs.Partition.{Partition, AreComponents, IsIn}
@@ -22,6 +22,7 @@ use Rattle.solved_program.specs.Kept.{AreKept}
 use Rattle.solved_program.specs.declared.edit.Edit.{Edit}
 use Rattle.solved_program.proofs.Pairs.{pair_back}
 use Rattle.solved_program.proofs.Clauses.{own_at, own_component}
+use Rattle.solved_program.proofs.Resolved.{each_more, one_longer}
 use Rattle.carried_mappings.specs.Carrying.{AreClauseNumbers, CarriesOver, IsStanding, new_number}
 use Rattle.carried_mappings.specs.Moved.{moved, moved_found}
 use Rattle.carried_mappings.specs.Order.{AreSameMappings, HaveSameMembers, HaveSameOrder}
@@ -182,32 +183,14 @@ if_ok_is P all (Ok x) = all x
 if_ok_is P all (Err e) = tt
 
 -- ---- one more component
-pushed : {X : Type 0} (xs : List X) (y : X) (i : ℕ) (x : X) → slice_get (xs ++ y ∷ []) i ≡ Some x → (slice_get xs i ≡ Some x) ⊎ ((i ≡ length xs) × (y ≡ x))
-pushed [] y zero x e = inr (refl, cc)
-pushed [] y (suc i) x e = cc
-pushed (z ∷ xs) y zero x e = inl e
-pushed (z ∷ xs) y (suc i) x e = elim (pushed xs y i x e) [
-  | inl old ↦ inl old
-  | inr last ↦ inr (ap suc last.0, last.1)
-]
-
-longer : {X : Type 0} (xs : List X) (y : X) → length (xs ++ y ∷ []) ≡ length xs + 1
-longer [] y = refl
-longer (x ∷ xs) y = let more = longer xs y in omega arith
-
 module _ (expression : ℕ → Tree → List ℤ) (p : Listing) (comps : Partition) (rows : ℕ → List (List ℤ)) where
   pub none_found : AreFoundTo expression p comps rows 0 []
   none_found = record { each = refl; found = λ c o at. cc }
 
   pub found_more : (n : ℕ) (fs : List Found) (o : Found) → AreFoundTo expression p comps rows n fs → IsFoundAt expression p comps rows n o → AreFoundTo expression p comps rows (n + 1) (fs ++ o ∷ [])
   found_more n fs o are is = record {
-    each = longer fs o ∙ (let e = are.each in omega arith);
-    found = λ c x at. elim (pushed fs o c x at) [
-      | inl old ↦ are.found c x old
-      | inr last ↦
-          let place : n ≡ c = sym are.each ∙ sym last.0 in
-          subst (λ (z : ℕ). IsFoundAt expression p comps rows z x) place (subst (IsFoundAt expression p comps rows n) last.1 is)
-    ];
+    each = one_longer fs o ∙ (let e = are.each in omega arith);
+    found = each_more (IsFoundAt expression p comps rows) fs o are.found (subst (λ (z : ℕ). IsFoundAt expression p comps rows z o) (sym are.each) is);
   }
 
 -- ---- parts for each member
@@ -228,9 +211,4 @@ pub kept_none : (s : MappingSources) → AreKeptFound s []
 kept_none s c o at = cc
 
 pub kept_more : (s : MappingSources) (n : ℕ) (fs : List Found) (o : Found) → length fs ≡ n → AreKeptFound s fs → IsKept s n o → AreKeptFound s (fs ++ o ∷ [])
-kept_more s n fs o l are is c x at = elim (pushed fs o c x at) [
-  | inl old ↦ are c x old
-  | inr last ↦
-      let place : n ≡ c = sym l ∙ sym last.0 in
-      subst (λ (z : ℕ). IsKept s z x) place (subst (IsKept s n) last.1 is)
-]
+kept_more s n fs o l are is = each_more (IsKept s) fs o are (subst (λ (z : ℕ). IsKept s z o) (sym l) is)

@@ -1,13 +1,12 @@
 -- Private.
 -- What is carried of a component's mappings over an edit.
 --
--- To believe: `IsStanding`, `KeepsOwnRows`, `CarriesOver`, and what is found, which level_systems defines.
-use Rattle.std.specs.Prelude.{◌≡◌, ℕ, ◌<◌, ◌≤◌, ℤ, List, length, map, slice_get, Some}
+-- To believe: `IsStanding`, `CarriesOver`, and what is found, which level_systems defines.
+use Rattle.std.specs.Prelude.{◌≡◌, ℕ, ◌<◌, ◌≤◌, ℤ, List, length, map}
 use Rattle.std.specs.List.{AllByRecursion}
-use Rattle.call_components.specs.Partition.{Partition, IsIn}
+use Rattle.call_components.specs.Partition.{Partition}
 use Rattle.cti_terms.specs.Listing.{Listing}
 use Rattle.cti_terms.specs.Tree.{Tree}
-use Rattle.cti_terms.specs.declared.predicates.Pred.{Pred}
 use Rattle.numeric_model.specs.Running.{with_clauses}
 use Rattle.termination_model.specs.Chain.{clauses_of}
 use Rattle.termination_model.specs.ComponentViews.{members_in}
@@ -16,7 +15,7 @@ use Rattle.level_systems.specs.declared.found.Found.{Found}
 use Rattle.level_systems.specs.declared.mapping.Mapping.{Mapping}
 use Rattle.level_systems.specs.declared.measure.Measure.{Measure}
 use Rattle.solved_program.specs.Kept.{IsEdit}
-use Rattle.solved_program.specs.Standing.{StandsFor}
+use Rattle.solved_program.specs.Standing.{KeepOwn, StandsFor}
 use Rattle.carried_mappings.specs.Moved.{moved}
 use Rattle.carried_mappings.specs.declared.standing.Standing.{Standing}
 
@@ -42,11 +41,6 @@ new_number s = moved s.own_before.now s.own.now
 abbrev pub HasParts : Standing → Mapping → Type 0
 HasParts s mapping = map (λ (m : Measure). m.pred.0) mapping.measures ≡ members_in s.edit.now.components_before.now s.before
 
--- each member of the component c has the rows that the old predicate of its name and arity had
-abbrev pub KeepsOwnRows : Listing → Listing → Partition → ℕ → (ℕ → List (List ℤ)) → (ℕ → List (List ℤ)) → Type 0
-KeepsOwnRows p new new_comps c old now =
-    (q r : ℕ) (x : Pred) → slice_get p.preds q ≡ Some x → slice_get new.preds r ≡ Some x → IsIn new_comps c r → now r ≡ old q
-
 -- What was found of the old component is found of the new one as this, by each norm, where it stands for that one with
 -- these size rows, and has kept its own.
 abbrev pub CarriesOver : Standing → Found → Found → Type 0
@@ -54,6 +48,6 @@ CarriesOver s old now =
     (expression : ℕ → Tree → List ℤ) (rows_before rows : ℕ → List (List ℤ))
     → StandsFor s.edit.now.components_before.now s.edit.now.components.now s.before s.after rows_before rows
     s.edit.now.before.now s.edit.now.after.now s.edit.now.kept.now
-    → KeepsOwnRows s.edit.now.before.now s.edit.now.after.now s.edit.now.components.now s.after rows_before rows
+    → KeepOwn s.edit.now s.after rows_before rows
     → IsFound expression s.edit.now.before.now s.edit.now.components_before.now rows_before s.before old
     → IsFound expression s.edit.now.after.now s.edit.now.components.now rows s.after now

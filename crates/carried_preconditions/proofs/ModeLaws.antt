@@ -1,5 +1,5 @@
 -- Modes that a predicate had, and those of one more predicate.
-use Rattle.std.proofs.Common.{◌≡◌, ℕ, List, [], ◌∷◌, ◌++◌, length, map, slice_get, Some, inl, inr, ap, sym, subst, ◌∙◌, arith}
+use Rattle.std.proofs.Common.{◌≡◌, ℕ, List, [], ◌∷◌, ◌++◌, length, map, slice_get, Some, ap, sym, subst, ◌∙◌, arith}
 use Rattle.bool_diagrams.specs.Cubes.{truth_rows}
 use Rattle.bool_diagrams.specs.Rows.{HaveSameRows}
 use Rattle.bool_diagrams.specs.Tree.{Tree as Rows}
@@ -14,7 +14,7 @@ use Rattle.termination_model.specs.Modes.{modes}
 use Rattle.termination_model.proofs.Lists.{one_element, place_below}
 use Rattle.truth_rows.specs.Sets.{AreSets, family_of}
 use Rattle.truth_rows.proofs.CallerLemmas.{family_at}
-use Rattle.solved_program.proofs.Resolved.{last_or_before}
+use Rattle.solved_program.proofs.Resolved.{each_more}
 use Rattle.carried_preconditions.specs.Modes.{AreModesOf}
 use Rattle.carried_preconditions.proofs.Same.{family_of_rows}
 
@@ -38,10 +38,7 @@ modes_found preds T allowed r x there d mine own found y is =
 
 pub modes_more : (preds : List Pred) (allowed : Family) (list : List (List Mode)) (own : List Mode) → ((r : ℕ) (x : List Mode) → slice_get list r ≡ Some x → AreModesOf preds allowed r x) → AreModesOf preds allowed (length list) own
     → (r : ℕ) (x : List Mode) → slice_get (list ++ own ∷ []) r ≡ Some x → AreModesOf preds allowed r x
-modes_more preds allowed list own all one r x at = elim (last_or_before list own r x at) [
-  | inl before ↦ all r x before.1
-  | inr last ↦ subst (λ (n : ℕ). AreModesOf preds allowed n x) (sym last.0) (subst (AreModesOf preds allowed (length list)) last.1 one)
-]
+modes_more preds allowed list own all one = each_more (AreModesOf preds allowed) list own all one
 
 pub modes_all : (preds : List Pred) (allowed : Family) (list : List (List Mode)) → length list ≡ length preds → ((r : ℕ) (x : List Mode) → slice_get list r ≡ Some x → AreModesOf preds allowed r x) → AreModes preds allowed list
 modes_all preds allowed list each all = record {

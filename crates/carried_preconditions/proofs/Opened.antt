@@ -1,11 +1,10 @@
 -- Sets from before an edit, under the new numbers of predicates, and what they allow.
-use Rattle.std.proofs.Common.{◌≡◌, ℕ, ◌==◌, ◌&&◌, ◌||◌, Bool, true, false, IsTrue, inl, inr, List, [], ◌∷◌, ◌++◌, length, slice_get, slice_index_or, Contains, Option, None, Some, IsSomeAnd, unwrap_or, refl, ap, sym, subst, ◌∙◌, arith}
+use Rattle.std.proofs.Common.{◌≡◌, ℕ, ◌==◌, ◌&&◌, ◌||◌, Bool, true, false, IsTrue, inl, inr, List, [], ◌∷◌, length, slice_get, slice_index_or, Option, None, Some, IsSomeAnd, unwrap_or, refl, ap, sym, subst, ◌∙◌, arith}
 use Rattle.std.specs.List.{list_any}
 use Rattle.bool_diagrams.specs.declared.diagram.Diagram.{Diagram}
 use Rattle.bool_diagrams.specs.Cubes.{truth_rows, values_of}
 use Rattle.bool_diagrams.specs.Rows.{IsDiagram, ReadsBelow, holds}
 use Rattle.bool_diagrams.specs.Tree.{Tree as Rows}
-use Rattle.cti_terms.specs.Listing.{IsProgram}
 use Rattle.cti_terms.specs.Tree.{Tree}
 use Rattle.cti_terms.specs.declared.predicates.Pred.{Pred}
 use Rattle.number_tests.specs.Levels.{items_of}
@@ -15,49 +14,20 @@ use Rattle.termination_model.specs.Grounds.{Family, HasArity}
 use Rattle.termination_model.specs.View.{all_upper}
 use Rattle.termination_model.proofs.Lists.{place_below, there}
 use Rattle.truth_rows.specs.Sets.{AreSets, family_of, has_row}
-use Rattle.component_laws.proofs.UntouchedLaws.{one_number}
-use Rattle.solved_program.specs.Grounds.{IsCarriedSet}
+use Rattle.solved_program.specs.Carried.{AreCarriedValues}
 use Rattle.solved_program.specs.declared.edit.Edit.{Edit}
-use Rattle.solved_program.proofs.CarriedRows.{contained}
-use Rattle.solved_program.proofs.Resolved.{last_or_before}
-use Rattle.carried_preconditions.specs.Carried.{IsCarriedOwn}
 use Rattle.carried_preconditions.specs.Resolving.{AreOld, AreSolvedTo}
 use Rattle.carried_preconditions.specs.declared.sources.PreconditionSources.{PreconditionSources}
 use Rattle.carried_preconditions.proofs.Greatest.{allowed_same}
 
--- ---- one predicate
-pub own_some : (e : Edit) → IsProgram e.before.now → (old : List (List Diagram)) (r q : ℕ) (x : Pred) (own : List Diagram) → slice_get e.after.now.preds r ≡ Some x → slice_get e.before.now.preds q ≡ Some x → slice_get old q ≡ Some own
-    → IsCarriedOwn e old r own
-own_some e prog old r q x own there_x here_x at = record {
-  same = λ z y here there'.
-      let is : x ≡ y = (let g = there_x in cc) in
-      let number : z ≡ q = one_number e.before.now.preds prog.distinct z q x (here ∙ ap Some (sym is)) here_x in
-      ap (slice_get old) number ∙ at;
-  from = inr (q, x, here_x, there_x, at);
-}
-
-pub own_none : (e : Edit) (old : List (List Diagram)) (r : ℕ) (x : Pred) → slice_get e.after.now.preds r ≡ Some x → (Contains e.before.now.preds x → ⊥) → IsCarriedOwn e old r []
-own_none e old r x there_x absent = record {
-  same = λ z y here there'. (let is : x ≡ y = (let g = there_x in cc) in absurd (absent (subst (Contains e.before.now.preds) (sym is) (contained e.before.now.preds z y here))));
-  from = inl refl;
-}
-
-pub own_more : (e : Edit) (old : List (List Diagram)) (sets : List (List Diagram)) (own : List Diagram) → ((r : ℕ) (x : List Diagram) → slice_get sets r ≡ Some x → IsCarriedOwn e old r x) → IsCarriedOwn e old (length sets) own
-    → (r : ℕ) (x : List Diagram) → slice_get (sets ++ own ∷ []) r ≡ Some x → IsCarriedOwn e old r x
-own_more e old sets own all one r x at = elim (last_or_before sets own r x at) [
-  | inl before ↦ all r x before.1
-  | inr last ↦ subst (λ (n : ℕ). IsCarriedOwn e old n x) (sym last.0) (subst (IsCarriedOwn e old (length sets)) last.1 one)
-]
-
--- ---- all of them
 off : (b : Bool) → (IsTrue b → ⊥) → b ≡ false
 off true h = absurd (h refl)
 off false h = refl
 
 module _ (e : Edit) (T : List Rows) (old : List (List Diagram)) (old_allowed : List Diagram) (none : Diagram) (known : IsDiagram T none) (no : (row : ℕ → Bool) → holds T none row ≡ false)
     (O : AreMappingSets e.before.now.preds T old) (U : AreUnions e.before.now.preds T old old_allowed)
-    (sets : List (List Diagram)) (each : length sets ≡ length e.after.now.preds) (at : (r : ℕ) (own : List Diagram) → slice_get sets r ≡ Some own → IsCarriedOwn e old r own)
-    (allowed : List Diagram) (each_allowed : length allowed ≡ length e.after.now.preds) (at_allowed : (r : ℕ) (d : Diagram) → slice_get allowed r ≡ Some d → IsCarriedSet e old_allowed none r d) where
+    (sets : List (List Diagram)) (each : length sets ≡ length e.after.now.preds) (at : AreCarriedValues e old [] sets)
+    (allowed : List Diagram) (each_allowed : length allowed ≡ length e.after.now.preds) (at_allowed : AreCarriedValues e old_allowed none allowed) where
   arity_before : (q r : ℕ) (x : Pred) (n : ℕ) → slice_get e.before.now.preds q ≡ Some x → slice_get e.after.now.preds r ≡ Some x → HasArity e.after.now.preds r n → HasArity e.before.now.preds q n
   arity_before q r x n here there' arity = subst (λ (o : Option Pred). IsSomeAnd o (λ (y : Pred). y.arity ≡ n)) (there' ∙ sym here) arity
 
@@ -161,9 +131,9 @@ module _ (e : Edit) (T : List Rows) (old : List (List Diagram)) (old_allowed : L
 
 -- ---- nothing is found yet
 pub begun : {N : Type 0} (truth : (ℕ → Bool) → Tree → Bool) (s : PreconditionSources N) (T : List Rows) (O : AreOld truth s T) (none : Diagram) → IsDiagram T none → ((row : ℕ → Bool) → holds T none row ≡ false)
-    → (sets : List (List Diagram)) → length sets ≡ length s.clauses.now.edit.now.after.now.preds → ((r : ℕ) (own : List Diagram) → slice_get sets r ≡ Some own → IsCarriedOwn s.clauses.now.edit.now s.before.now.solved.now.sets r own)
+    → (sets : List (List Diagram)) → length sets ≡ length s.clauses.now.edit.now.after.now.preds → AreCarriedValues s.clauses.now.edit.now s.before.now.solved.now.sets [] sets
     → (allowed : List Diagram) → length allowed ≡ length s.clauses.now.edit.now.after.now.preds
-    → ((r : ℕ) (d : Diagram) → slice_get allowed r ≡ Some d → IsCarriedSet s.clauses.now.edit.now s.before.now.solved.now.allowed none r d)
+    → AreCarriedValues s.clauses.now.edit.now s.before.now.solved.now.allowed none allowed
     → AreSolvedTo truth s 0 T sets allowed
 begun truth s T O none known off_rows sets each at allowed each_allowed at_allowed =
     let e = s.clauses.now.edit.now in

@@ -20,14 +20,13 @@ use Rattle.truth_rows.proofs.CallerLemmas.{family_later}
 use Rattle.component_laws.specs.Renaming.{StandIn}
 use Rattle.solved_program.specs.Kept.{IsEdit}
 use Rattle.solved_program.specs.Marks.{AreMarked, AreMarkedTo}
-use Rattle.solved_program.specs.Standing.{AreSameClauses, StandsFor}
+use Rattle.solved_program.specs.Standing.{AreSameClauses, KeepOwn, StandsFor}
 use Rattle.solved_program.specs.declared.edit.Edit.{Edit}
 use Rattle.solved_program.proofs.Clauses.{Numbered, own_component}
 use Rattle.solved_program.proofs.Marks.{stands_by_mark, stands_by_value}
 use Rattle.solved_program.proofs.MemberMarks.{marked_more}
 use Rattle.solved_program.proofs.Stands.{stands_same}
 use Rattle.solved_program.proofs.StandsIn.{IsShared, f, stand_in}
-use Rattle.carried_preconditions.specs.Carries.{KeepOwn}
 use Rattle.carried_preconditions.specs.Resolving.{AreOld, AreSolvedTo, AreSources, HasStayed, MembersHaveStayed, StandsKept, values_before, values_now}
 use Rattle.carried_preconditions.specs.Same.{input_values}
 use Rattle.carried_preconditions.specs.Solved.{KeepSetsTo}

@@ -2,24 +2,18 @@
 -- The greatest preconditions of a component, from before an edit to after it.
 --
 -- To believe: nothing of this file; a law's statement is checked by its use.
-use Rattle.std.specs.Prelude.{◌≡◌, ℕ, Bool, List, slice_get, Some}
+use Rattle.std.specs.Prelude.{ℕ, Bool, List, slice_get}
 use Rattle.bool_diagrams.specs.Tree.{Tree as Rows}
 use Rattle.bool_diagrams.specs.declared.diagram.Diagram.{Diagram}
-use Rattle.call_components.specs.Partition.{IsIn}
 use Rattle.cti_terms.specs.Listing.{IsProgram}
 use Rattle.cti_terms.specs.Tree.{Tree}
-use Rattle.cti_terms.specs.declared.predicates.Pred.{Pred}
 use Rattle.number_tests.specs.declared.level_part.LevelPart.{LevelPart}
 use Rattle.precond_fixpoint.specs.Solving.{IsSolved, allowed_family}
 use Rattle.termination_model.specs.Grounds.{Family}
 use Rattle.solved_program.specs.Kept.{IsEdit}
-use Rattle.solved_program.specs.Standing.{StandsFor}
+use Rattle.solved_program.specs.Standing.{KeepOwn, StandsFor}
 use Rattle.solved_program.specs.declared.edit.Edit.{Edit}
 use Rattle.carried_preconditions.specs.Same.{coefficient_lists, paired}
-
--- each member of the component c has the value that the old predicate of its name and arity had
-abbrev pub KeepOwn : {X : Type 0} → Edit → ℕ → (ℕ → X) → (ℕ → X) → Type 0
-KeepOwn e c old now = (q r : ℕ) (x : Pred) → slice_get e.before.now.preds q ≡ Some x → slice_get e.after.now.preds r ≡ Some x → IsIn e.components.now c r → now r ≡ old q
 
 -- A component that stands for an old one, by ground rows and by what is allowed, and whose members have the ground rows, the
 -- coefficients and the sets that they had, has its greatest preconditions.

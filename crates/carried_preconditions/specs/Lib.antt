@@ -1,4 +1,3 @@
-pub mod Carried
 pub mod Carries
 pub mod Modes
 pub mod Resolving

@@ -11,9 +11,8 @@ use Rattle.cti_terms.specs.Tree.{Tree}
 use Rattle.cti_terms.specs.declared.predicates.Pred.{Pred}
 use Rattle.precond_fixpoint.specs.Solving.{AreLevels, AreMappingSets, AreUnions, IsSolved}
 use Rattle.truth_rows.specs.Sets.{AreSets, family_of}
-use Rattle.solved_program.specs.Standing.{StandsFor}
+use Rattle.solved_program.specs.Standing.{KeepOwn, StandsFor}
 use Rattle.solved_program.specs.declared.edit.Edit.{Edit}
-use Rattle.carried_preconditions.specs.Carries.{KeepOwn}
 use Rattle.carried_preconditions.specs.Same.{input_values, paired}
 use Rattle.carried_preconditions.specs.declared.preconditions.Inputs.{Inputs}
 use Rattle.carried_preconditions.specs.declared.preconditions.PreconditionsBefore.{PreconditionsBefore}

@@ -8,7 +8,7 @@ ghost use Rattle.carried_preconditions.specs.Resolving.{AreNew, AreOld, AreRenew
 ghost use Rattle.carried_preconditions.specs.Resolving.{KeepDiagrams, StandsKept};
 ghost use Rattle.carried_preconditions.specs.Solved.{AreInputs, ArePreconditions, KeepPreconditions};
 
-use crate::carrying::{carried_allowed, carried_sets};
+use crate::carrying::carried_lists;
 use crate::preconditions::{Inputs, PreconditionsBefore, SolvedPreconditions};
 use crate::progress::{Progress, Room};
 use crate::sources::PreconditionSources;
@@ -17,7 +17,7 @@ use bool_diagrams::Table;
 use groundness::{heads, users};
 use numeric_model::own_clauses;
 use precond_fixpoint::{Setting, component_ranks, solve_component};
-use solved_program::{Edit, EditClauses};
+use solved_program::{Edit, EditClauses, carried_sets};
 use std::alloc::{AllocError, Global};
 use term_size::Norm;
 
@@ -148,8 +148,8 @@ fn begin<N: Norm>(
     let _before = edit.before.clauses();
     let none = table.truth(false);
     let room = Room::new(alloc, edit.after, none, table)?;
-    let sets = carried_sets(alloc, edit, &old.sets)?;
-    let allowed = carried_allowed(alloc, edit, old.allowed.as_slice(), none)?;
+    let sets = carried_lists(alloc, edit, &old.sets)?;
+    let allowed = carried_sets(alloc, edit, old.allowed.as_slice(), none)?;
     let stayed = vec![in alloc; false; edit.after.preds() as usize]?;
     Ok(Progress {
         room,

@@ -13,11 +13,11 @@ use Rattle.linear_rows.specs.Members.{In}
 use Rattle.number_tests.specs.Levels.{items_of}
 use Rattle.number_tests.specs.declared.level_part.LevelPart.{LevelPart}
 use Rattle.report.specs.Levels.{level_list, levels_at, mappings_of_component}
+use Rattle.solved_program.specs.Standing.{KeepOwn}
 use Rattle.solved_program.specs.declared.edit.Edit.{Edit}
 use Rattle.solved_program.proofs.Clauses.{in_at}
 use Rattle.termination_model.proofs.Lists.{mapped_place, place_below}
 use Rattle.carried_mappings.specs.Order.{AreSameMappings, HaveSameParts}
-use Rattle.carried_preconditions.specs.Carries.{KeepOwn}
 use Rattle.kept_program.proofs.SameMeasures.{from_map}
 
 -- ---- the parts of a predicate

@@ -17,13 +17,12 @@ use Rattle.component_laws.specs.Carried.{KeepsArities}
 use Rattle.component_laws.specs.Renaming.{AgreeOn, StandIn}
 use Rattle.component_laws.proofs.UntouchedLaws.{one_number}
 use Rattle.solved_program.specs.Kept.{IsEdit}
-use Rattle.solved_program.specs.Standing.{AreSameCalls, AreSameClauses, StandsFor}
+use Rattle.solved_program.specs.Standing.{AreSameCalls, AreSameClauses, KeepOwn, StandsFor}
 use Rattle.solved_program.specs.declared.edit.Edit.{Edit}
 use Rattle.solved_program.proofs.Clauses.{Numbered}
 use Rattle.solved_program.proofs.Names.{finds_number, new_number}
 use Rattle.solved_program.proofs.StandsIn.{IsShared, agree, off_member, stand_in}
 use Rattle.carried_mappings.proofs.Members.{same_members}
-use Rattle.carried_preconditions.specs.Carries.{KeepOwn}
 use Rattle.carried_preconditions.specs.Same.{paired}
 use Rattle.kept_clauses.specs.AllKept.{IsWithoutClause}
 use Rattle.kept_program.proofs.Alone.{Itself, alone, stand_alone}

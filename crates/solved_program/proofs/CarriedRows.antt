@@ -12,7 +12,7 @@ use Rattle.termination_model.specs.Sizes.{AreSizes, plain_or_none, rows_of}
 use Rattle.termination_model.proofs.Lists.{indexed, place_below}
 use Rattle.component_laws.proofs.UntouchedLaws.{one_number}
 use Rattle.solved_program.specs.Carried.{AreCarriedProofs, AreCarriedRows, IsCarriedRow}
-use Rattle.solved_program.proofs.Resolved.{last_or_before}
+use Rattle.solved_program.proofs.Resolved.{each_more, last_or_before}
 
 pub if_ok_is : {X E : Type 0} (r : Result X E) (P Q : X → Type 0) → ((x : X) → P x → Q x) → IfOk r P → IfOk r Q
 if_ok_is (Ok x) P Q h i = h x i
@@ -45,10 +45,7 @@ carried_none preds new_preds rows r x own there_x width none absent = record {
 
 -- ---- one more at the end
 pub rows_more : (preds new_preds : List Pred) (rows carried : List Rows) (own : Rows) → AreCarriedRows preds new_preds rows carried → IsCarriedRow preds new_preds rows (length carried) own → AreCarriedRows preds new_preds rows (carried ++ own ∷ [])
-rows_more preds new_preds rows carried own h one r x at = elim (last_or_before carried own r x at) [
-  | inl before ↦ h r x before.1
-  | inr last ↦ subst (λ (n : ℕ). IsCarriedRow preds new_preds rows n x) (sym last.0) (subst (IsCarriedRow preds new_preds rows (length carried)) last.1 one)
-]
+rows_more preds new_preds rows carried own h one = each_more (IsCarriedRow preds new_preds rows) carried own h one
 
 pub proofs_more : (kept : List (Option ℕ)) (proofs carried : List (List Multipliers)) (by : List Multipliers) (o : Option ℕ) → slice_get kept (length carried) ≡ Some o
     → AreCarriedProofs kept proofs carried → ((j : ℕ) → o ≡ Some j → slice_get proofs (j - 1) ≡ Some by) → AreCarriedProofs kept proofs (carried ++ by ∷ [])

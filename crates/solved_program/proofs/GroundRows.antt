@@ -1,5 +1,5 @@
 -- One more component of an edited program has its ground rows.
-use Rattle.std.proofs.Common.{◌≡◌, ◌↔◌, ℕ, ◌+◌, ◌<◌, ◌≤◌, ◌==◌, ◌&&◌, Bool, true, false, IsTrue, inl, inr, List, [], ◌∷◌, ◌++◌, length, slice_get, slice_index_or, Contains, Option, None, Some, IsSomeAnd, refl, ap, sym, subst, ◌∙◌, arith, eq-eqb}
+use Rattle.std.proofs.Common.{◌≡◌, ◌↔◌, ℕ, ◌+◌, ◌<◌, ◌≤◌, ◌==◌, ◌&&◌, Bool, true, false, IsTrue, inl, inr, List, length, slice_get, slice_index_or, Option, None, Some, IsSomeAnd, refl, ap, sym, subst, ◌∙◌, arith, eq-eqb}
 use Rattle.std.proofs.lemmas.Bool.{cases_eq}
 use Rattle.bool_diagrams.specs.declared.diagram.Diagram.{Diagram}
 use Rattle.bool_diagrams.specs.Cubes.{truth_rows, values_of}
@@ -21,16 +21,14 @@ use Rattle.truth_rows.proofs.CallerLemmas.{family_later, sets_later}
 use Rattle.truth_rows.proofs.RowLaws.{first_row, first_values, length-first}
 use Rattle.truth_rows.proofs.SetLaws.{family_in}
 use Rattle.component_laws.proofs.LeastLaws.{carried, least_by_components}
-use Rattle.component_laws.proofs.UntouchedLaws.{one_number}
-use Rattle.solved_program.specs.Grounds.{AreCarriedSets, AreGroundsTo, AreLeastTo, AreSolvedGrounds, IsCarriedSet, SolvedGroundsAreLeast}
+use Rattle.solved_program.specs.Carried.{AreCarriedValues}
+use Rattle.solved_program.specs.Grounds.{AreCarriedSets, AreGroundsTo, AreLeastTo, AreSolvedGrounds, SolvedGroundsAreLeast}
 use Rattle.solved_program.specs.Kept.{IsEdit}
 use Rattle.solved_program.specs.Marks.{Always, AreMarked, AreMarkedTo, StandsMarked}
 use Rattle.solved_program.specs.Standing.{KeepValuesTo, StandsFor}
 use Rattle.solved_program.specs.declared.edit.Edit.{Edit}
-use Rattle.solved_program.proofs.CarriedRows.{contained}
 use Rattle.solved_program.proofs.MemberMarks.{marked_more}
 use Rattle.solved_program.proofs.Marks.{stands_by_mark, stands_by_value}
-use Rattle.solved_program.proofs.Resolved.{last_or_before}
 use Rattle.solved_program.proofs.Stands.{stands_same}
 use Rattle.solved_program.proofs.StandsIn.{IsShared, agree, f, off_member, stand_in}
 
@@ -226,24 +224,8 @@ solved_later truth p comps T T2 K old s = record {
 }
 
 -- ---- diagrams under new numbers
-pub carried_some : (e : Edit) → IsProgram e.before.now → (old : List Diagram) (none : Diagram) (r q : ℕ) (x : Pred) (d : Diagram) → slice_get e.after.now.preds r ≡ Some x → slice_get e.before.now.preds q ≡ Some x → slice_get old q ≡ Some d
-    → IsCarriedSet e old none r d
-carried_some e prog old none r q x d there_x here_x at = record {
-  same = λ z y here there'.
-      let is : x ≡ y = (let g = there_x in cc) in
-      let number : z ≡ q = one_number e.before.now.preds prog.distinct z q x (here ∙ ap Some (sym is)) here_x in
-      ap (slice_get old) number ∙ at;
-  from = inr (q, x, here_x, there_x, at);
-}
-
-pub carried_none : (e : Edit) (old : List Diagram) (none : Diagram) (r : ℕ) (x : Pred) → slice_get e.after.now.preds r ≡ Some x → (Contains e.before.now.preds x → ⊥) → IsCarriedSet e old none r none
-carried_none e old none r x there_x absent = record {
-  same = λ z y here there'. (let is : x ≡ y = (let g = there_x in cc) in absurd (absent (subst (Contains e.before.now.preds) (sym is) (contained e.before.now.preds z y here))));
-  from = inl refl;
-}
-
 pub carried_all : (e : Edit) (T : List Rows) (old : List Diagram) (none : Diagram) (sets : List Diagram) → IsDiagram T none → ((row : ℕ → Bool) → holds T none row ≡ false) → AreSets e.before.now.preds T old → length sets ≡ length e.after.now.preds
-    → ((r : ℕ) (d : Diagram) → slice_get sets r ≡ Some d → IsCarriedSet e old none r d) → AreCarriedSets e T old sets
+    → AreCarriedValues e old none sets → AreCarriedSets e T old sets
 carried_all e T old none sets known off O each all = record {
   sets_are = record {
     each = each;
@@ -260,10 +242,3 @@ carried_all e T old none sets known off O each all = record {
       let at = there sets r none (omega (arith, each, place_below e.after.now.preds r x there')) in
       at ∙ sym ((all r _ at).same q x here there');
 }
-
-pub carried_more : (e : Edit) (old : List Diagram) (none : Diagram) (sets : List Diagram) (d : Diagram) → ((r : ℕ) (x : Diagram) → slice_get sets r ≡ Some x → IsCarriedSet e old none r x) → IsCarriedSet e old none (length sets) d
-    → (r : ℕ) (x : Diagram) → slice_get (sets ++ d ∷ []) r ≡ Some x → IsCarriedSet e old none r x
-carried_more e old none sets d all one r x at = elim (last_or_before sets d r x at) [
-  | inl before ↦ all r x before.1
-  | inr last ↦ subst (λ (n : ℕ). IsCarriedSet e old none n x) (sym last.0) (subst (IsCarriedSet e old none (length sets)) last.1 one)
-]

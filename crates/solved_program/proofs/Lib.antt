@@ -1,6 +1,7 @@
 pub mod Anew
 pub mod CarriedParts
 pub mod CarriedRows
+pub mod CarriedValues
 pub mod Clauses
 pub mod Comparisons
 pub mod Empty

@@ -1,5 +1,5 @@
 -- A mark for each predicate that has the value of the old one of its name and arity.
-use Rattle.std.proofs.Common.{◌≡◌, ◌↔◌, ℕ, ◌<◌, Bool, true, false, inl, inr, List, [], ◌∷◌, ◌++◌, length, slice_get, slice_index_or, Contains, Some, ap, sym, subst, ◌∙◌, arith}
+use Rattle.std.proofs.Common.{◌≡◌, ◌↔◌, ℕ, ◌<◌, Bool, true, false, List, length, slice_get, slice_index_or, Contains, Some, ap, sym, subst, ◌∙◌, arith}
 use Rattle.cti_terms.specs.Listing.{IsProgram}
 use Rattle.cti_terms.specs.declared.predicates.Pred.{Pred}
 use Rattle.termination_model.proofs.Lists.{place_below, there}
@@ -7,7 +7,6 @@ use Rattle.component_laws.proofs.UntouchedLaws.{one_number}
 use Rattle.solved_program.specs.Marks.{AreMarkedTo, IsMarkOf}
 use Rattle.solved_program.specs.declared.edit.Edit.{Edit}
 use Rattle.solved_program.proofs.CarriedRows.{contained}
-use Rattle.solved_program.proofs.Resolved.{last_or_before}
 
 module _ {X : Type 0} (e : Edit) (old now : ℕ → X) where
   pub mark_some : IsProgram e.before.now → (r q : ℕ) (x : Pred) (b : Bool) → slice_get e.after.now.preds r ≡ Some x → slice_get e.before.now.preds q ≡ Some x → ((b ≡ true) ↔ (now r ≡ old q)) → IsMarkOf e old now r b
@@ -20,13 +19,6 @@ module _ {X : Type 0} (e : Edit) (old now : ℕ → X) where
   mark_none r x b there_x absent = λ z y here there'.
       let is : x ≡ y = (let g = there_x in cc) in
       absurd (absent (subst (Contains e.before.now.preds) (sym is) (contained e.before.now.preds z y here)))
-
-  pub marks_more : (marks : List Bool) (b : Bool) → ((r : ℕ) (x : Bool) → slice_get marks r ≡ Some x → IsMarkOf e old now r x) → IsMarkOf e old now (length marks) b
-      → (r : ℕ) (x : Bool) → slice_get (marks ++ b ∷ []) r ≡ Some x → IsMarkOf e old now r x
-  marks_more marks b all one r x at = elim (last_or_before marks b r x at) [
-    | inl before ↦ all r x before.1
-    | inr last ↦ subst (λ (n : ℕ). IsMarkOf e old now n x) (sym last.0) (subst (IsMarkOf e old now (length marks)) last.1 one)
-  ]
 
   pub marks_all : (n : ℕ) (marks : List Bool) → length marks ≡ length e.after.now.preds → ((r : ℕ) (x : Bool) → slice_get marks r ≡ Some x → IsMarkOf e old now r x) → AreMarkedTo e n old now marks
   marks_all n marks each all = record {

@@ -36,6 +36,13 @@ last_or_before (z ∷ xs) x (suc i) y e = elim (last_or_before xs x i y e) [
   | inr h ↦ inr (ap suc h.0, h.1)
 ]
 
+-- what holds of each of them holds of all, where one is put last of which it holds
+pub each_more : {X : Type 0} (P : ℕ → X → Type 0) (xs : List X) (y : X) → ((i : ℕ) (x : X) → slice_get xs i ≡ Some x → P i x) → P (length xs) y → (i : ℕ) (x : X) → slice_get (xs ++ y ∷ []) i ≡ Some x → P i x
+each_more P xs y all one i x at = elim (last_or_before xs y i x at) [
+  | inl before ↦ all i x before.1
+  | inr last ↦ subst (λ (n : ℕ). P n x) (sym last.0) (subst (P (length xs)) last.1 one)
+]
+
 pub one_longer : {X : Type 0} (xs : List X) (x : X) → length (xs ++ x ∷ []) ≡ length xs + 1
 one_longer [] x = refl
 one_longer (y ∷ xs) x = let e = one_longer xs x in omega arith

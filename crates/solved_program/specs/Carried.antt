@@ -1,6 +1,6 @@
 -- Private.
--- What an edit begins with: the rows and the proofs from before it, under the new numbers of predicates and clauses.
-use Rattle.std.specs.Prelude.{◌≡◌, ℕ, ◌-◌, ◌≤◌, List, slice_get, Option, Some}
+-- What an edit begins with: the rows, the proofs and the sets from before it, under the new numbers of predicates and clauses.
+use Rattle.std.specs.Prelude.{◌≡◌, ◌⊎◌, ℕ, ◌-◌, ◌≤◌, List, slice_get, Option, Some}
 use Rattle.call_components.specs.Partition.{Partition, IsIn}
 use Rattle.cti_terms.specs.Listing.{Listing}
 use Rattle.cti_terms.specs.declared.clauses.Clause.{Clause}
@@ -10,6 +10,17 @@ use Rattle.linear_rows.specs.declared.multipliers.Multipliers.{Multipliers}
 use Rattle.linear_rows.specs.declared.row.Rows.{Rows}
 use Rattle.termination_model.specs.Grounds.{HasArity}
 use Rattle.termination_model.specs.Sizes.{rows_of}
+use Rattle.solved_program.specs.declared.edit.Edit.{Edit}
+
+module _ {X : Type 0} (e : Edit) (old : List X) (none : X) where
+  -- the value of a new predicate: what it had before, if it was there, and else this one
+  pub record IsCarriedValue (r : ℕ) (v : X) : Type 0 where
+    pub same : (q : ℕ) (x : Pred) → slice_get e.before.now.preds q ≡ Some x → slice_get e.after.now.preds r ≡ Some x → slice_get old q ≡ Some v
+    pub from : (v ≡ none) ⊎ ((q : ℕ) × (x : Pred) × (slice_get e.before.now.preds q ≡ Some x) × (slice_get e.after.now.preds r ≡ Some x) × (slice_get old q ≡ Some v))
+
+  -- so it is with each of these
+  abbrev pub AreCarriedValues : List X → Type 0
+  AreCarriedValues carried = (r : ℕ) (v : X) → slice_get carried r ≡ Some v → IsCarriedValue r v
 
 -- the rows of the predicate with the same name and arity, if there is one
 pub record IsCarriedRow (preds new_preds : List Pred) (rows : List Rows) (r : ℕ) (own : Rows) : Type 0 where

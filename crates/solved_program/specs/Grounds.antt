@@ -5,7 +5,7 @@
 -- is a fact of one component over the whole family.
 --
 -- To believe: `AreSolvedGrounds`, `SolvedGroundsAreLeast`.
-use Rattle.std.specs.Prelude.{◌≡◌, ◌<◌, ◌≤◌, ◌⊎◌, ℕ, Bool, List, length, slice_get, Some}
+use Rattle.std.specs.Prelude.{◌≡◌, ◌<◌, ◌≤◌, ℕ, Bool, List, length, slice_get, Some}
 use Rattle.bool_diagrams.specs.declared.diagram.Diagram.{Diagram}
 use Rattle.bool_diagrams.specs.Tree.{Tree as Rows}
 use Rattle.call_components.specs.Partition.{Partition, AreComponents, IsIn}
@@ -36,11 +36,6 @@ module _ (truth : (ℕ → Bool) → Tree → Bool) (p : Listing) (comps : Parti
 abbrev pub SolvedGroundsAreLeast : Type 0
 SolvedGroundsAreLeast = (truth : (ℕ → Bool) → Tree → Bool) (p : Listing) (comps : Partition) (trees : List Rows) (sets : List Diagram) → IsProgram p → AreComponents p comps
     → AreSolvedGrounds truth p comps trees sets → IsLeast truth p (family_of p.preds trees sets)
-
--- the diagram of a new predicate: what it had before, if it was there, and else one without rows
-pub record IsCarriedSet (e : Edit) (old : List Diagram) (none : Diagram) (r : ℕ) (d : Diagram) : Type 0 where
-  pub same : (q : ℕ) (x : Pred) → slice_get e.before.now.preds q ≡ Some x → slice_get e.after.now.preds r ≡ Some x → slice_get old q ≡ Some d
-  pub from : (d ≡ none) ⊎ ((q : ℕ) × (x : Pred) × (slice_get e.before.now.preds q ≡ Some x) × (slice_get e.after.now.preds r ≡ Some x) × (slice_get old q ≡ Some d))
 
 -- diagrams for the new predicates: each that was there before has what it had
 pub record AreCarriedSets (e : Edit) (trees : List Rows) (old carried : List Diagram) : Type 0 where

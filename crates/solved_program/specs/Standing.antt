@@ -41,11 +41,14 @@ module _ {X : Type 0} (comps new_comps : Partition) (c d : ℕ) (old now : ℕ �
     pub some : clauses_of new new_comps d ≡ [] → ⊥
     pub clauses : AreSameClauses kept (clauses_of p comps c) (clauses_of new new_comps d)
 
--- Of the components below n, each that stands for an old one has kept its values: a member has what the old predicate of its
--- name and arity had.
+-- each member of the component c has the value that the old predicate of its name and arity had
+abbrev pub KeepOwn : {X : Type 0} → Edit → ℕ → (ℕ → X) → (ℕ → X) → Type 0
+KeepOwn e c old now = (q r : ℕ) (x : Pred) → slice_get e.before.now.preds q ≡ Some x → slice_get e.after.now.preds r ≡ Some x → IsIn e.components.now c r → now r ≡ old q
+
+-- of the components below n, each that stands for an old one has kept its values
 abbrev pub KeepValuesTo : {X : Type 0} → Edit → ℕ → (ℕ → X) → (ℕ → X) → Type 0
 KeepValuesTo e n old now = (b c : ℕ) → c < n → StandsFor e.components_before.now e.components.now b c old now e.before.now e.after.now e.kept.now
-    → (q r : ℕ) (x : Pred) → slice_get e.before.now.preds q ≡ Some x → slice_get e.after.now.preds r ≡ Some x → IsIn e.components.now c r → now r ≡ old q
+    → KeepOwn e c old now
 
 -- the same for all components
 abbrev pub KeepValues : {X : Type 0} → Edit → (ℕ → X) → (ℕ → X) → Type 0

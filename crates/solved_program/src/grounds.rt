@@ -4,8 +4,9 @@ ghost use Rattle.std.specs.Prelude.{◌≡◌, ◌+◌, ◌<◌, IfOk, OnOk, len
 ghost use Rattle.bool_diagrams.specs.Rows.{Keeps};
 ghost use Rattle.call_components.specs.Partition.{AreComponents};
 ghost use Rattle.truth_rows.specs.Sets.{AreSets, family_of};
+ghost use Rattle.solved_program.specs.Carried.{AreCarriedValues, IsCarriedValue};
 ghost use Rattle.solved_program.specs.Grounds.{AreCarriedSets, AreGroundSources, AreGroundsOf, AreNewGrounds, AreOldGrounds};
-ghost use Rattle.solved_program.specs.Grounds.{AreSolvedGrounds, IsCarriedSet, KeepGrounds};
+ghost use Rattle.solved_program.specs.Grounds.{AreSolvedGrounds, KeepGrounds};
 ghost use Rattle.solved_program.specs.Kept.{IsEdit};
 ghost use Rattle.solved_program.specs.Standing.{KeepValues};
 
@@ -39,10 +40,10 @@ pub fn solve_grounds<N: Norm>(
 }
 
 /// The diagram that the predicate of this name and arity had, if it was there.
-pub fn carried_set(edit: &Edit<'_>, old: &[Diagram], none: Diagram, pred: PredId) -> Diagram
+fn carried_set(edit: &Edit<'_>, old: &[Diagram], none: Diagram, pred: PredId) -> Diagram
     requires pred { pred.0 < length edit.now.after.now.preds }
     requires each { length old.now ≡ length edit.now.before.now.preds }
-    ensures { IsCarriedSet edit.now old.now none pred.0 result }
+    ensures { IsCarriedValue edit.now old.now none pred.0 result }
 {
     let _program = edit.before.preds();
     let pred = edit.after.pred(pred);
@@ -52,8 +53,26 @@ pub fn carried_set(edit: &Edit<'_>, old: &[Diagram], none: Diagram, pred: PredId
     }
 }
 
-/// The same for each predicate.
-fn carried_sets(
+/// For each predicate after an edit the diagram that it had, if it was there, and else this one.
+pub fn carried_sets(
+    alloc: Global,
+    edit: &Edit<'_>,
+    old: &[Diagram],
+    none: Diagram,
+) -> Result<Vec<Diagram>, AllocError>
+    requires { length old.now ≡ length edit.now.before.now.preds }
+    ensures each { IfOk result (λ sets. length sets.items ≡ length edit.now.after.now.preds) }
+    ensures carried { IfOk result (λ sets. AreCarriedValues edit.now old.now none sets.items) }
+{
+    let mut sets = Vec::new(alloc);
+    for q in 0..edit.after.preds() {
+        sets.push(carried_set(edit, old, none, PredId(q)))?;
+    }
+    Ok(sets)
+}
+
+/// The same of sets of a table, where a predicate that was not there has no rows.
+fn carried_grounds(
     alloc: Global,
     edit: &Edit<'_>,
     old: &[Diagram],
@@ -62,12 +81,8 @@ fn carried_sets(
     requires old { AreSets edit.now.before.now.preds table.now old.now }
     ensures { IfOk result (λ sets. AreCarriedSets edit.now table.now old.now sets.items) }
 {
-    let _before = edit.before.clauses();
     let none = table.truth(false);
-    let mut sets = Vec::new(alloc);
-    for q in 0..edit.after.preds() {
-        sets.push(carried_set(edit, old, none, PredId(q)))?;
-    }
+    let sets = carried_sets(alloc, edit, old, none)?;
     Ok(sets)
 }
 
@@ -219,7 +234,7 @@ pub fn resolve_grounds<N: Norm>(
     let own = own_clauses(alloc, edit.after, edit.components)?;
     let heads = heads(alloc, edit.after)?;
     let users = users(alloc, edit.after)?;
-    let carried = carried_sets(alloc, edit, old, table)?;
+    let carried = carried_grounds(alloc, edit, old, table)?;
     let clauses = EditClauses {
         edit,
         own_before: own_before.as_slice(),

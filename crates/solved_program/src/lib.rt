@@ -38,7 +38,7 @@ mod taking;
 
 pub use edit::Edit;
 pub use edit_clauses::EditClauses;
-pub use grounds::{carried_set, resolve_grounds, solve_grounds};
+pub use grounds::{carried_sets, resolve_grounds, solve_grounds};
 pub use marking::stayed_rows;
 pub use resolving::{Sources, resolve_sizes};
 pub use solved_sizes::SolvedSizes;

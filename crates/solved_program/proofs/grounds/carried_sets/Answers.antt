@@ -1,8 +1,8 @@
 use Rattle.std.proofs.Common.{◌∙◌, List, ap, arith, length, slice_get, subst, sym}
 use Rattle.std.proofs.lemmas.List.{length_push}
 use Rattle.bool_diagrams.specs.declared.diagram.Diagram.{Diagram}
-use Rattle.solved_program.specs.Grounds.{IsCarriedSet}
-use Rattle.solved_program.proofs.GroundRows.{carried_all, carried_more}
+use Rattle.solved_program.specs.Carried.{IsCarriedValue}
+use Rattle.solved_program.proofs.Resolved.{each_more}
 use Rattle.solved_program.proofs.grounds.carried_sets.Goals as goal
 
 pub loop-q-preserved : goal.loop-q-preserved
@@ -10,15 +10,8 @@ loop-q-preserved c =
     let e = c.args.edit.now in
     let i = c.loop-q.invariant in
     let items = c.in_ok-push.ensures.items in
-    let one : IsCarriedSet e c.args.old.now c.truth-none.result (length c.loop-q.sets.items) c.carried_set.result = subst (λ n. IsCarriedSet e c.args.old.now c.truth-none.result n c.carried_set.result) (sym i.each) c.carried_set.ensures in
+    let one : IsCarriedValue e c.args.old.now c.args.none (length c.loop-q.sets.items) c.carried_set.result = subst (λ n. IsCarriedValue e c.args.old.now c.args.none n c.carried_set.result) (sym i.each) c.carried_set.ensures in
     record {
       each = omega (arith, c.in_ok-push.ensures.len, i.each, ap length items, length_push c.loop-q.sets.items c.carried_set.result);
-      at = λ r d at. carried_more e c.args.old.now c.truth-none.result c.loop-q.sets.items c.carried_set.result i.at one r d (sym (ap (λ (xs : List Diagram). slice_get xs r) items) ∙ at);
+      carried = λ r d at. each_more (IsCarriedValue e c.args.old.now c.args.none) c.loop-q.sets.items c.carried_set.result i.carried one r d (sym (ap (λ (xs : List Diagram). slice_get xs r) items) ∙ at);
     }
-
-pub returns : goal.returns
-returns c =
-    let e = c.args.edit.now in
-    let i = c.loop-q.invariant in
-    carried_all e c.args.table.now c.args.old.now c.truth-none.result c.loop-q.sets.items c.truth-none.ensures.known c.truth-none.ensures.rows c.requires.old
-    (omega (arith, i.each, c.preds-q-end.ensures.count, c.loop-q-test.false, c.loop-q.auto.q-end)) i.at

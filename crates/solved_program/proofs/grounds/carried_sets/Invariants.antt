@@ -1,10 +1,9 @@
-use Rattle.std.proofs.Common.{◌≡◌, ℕ, length, slice_get, Some}
-use Rattle.bool_diagrams.specs.declared.diagram.Diagram.{Diagram}
-use Rattle.solved_program.specs.Grounds.{IsCarriedSet}
+use Rattle.std.proofs.Common.{◌≡◌, length}
+use Rattle.solved_program.specs.Carried.{AreCarriedValues}
 use Rattle.solved_program.proofs.grounds.carried_sets.Given as goal
 
 abbrev pub invariant-loop-q : goal.invariant-loop-q
 invariant-loop-q l = record {
   each : length l.sets.items ≡ l.q;
-  at : (r : ℕ) (d : Diagram) → slice_get l.sets.items r ≡ Some d → IsCarriedSet l.edit l.old l.none r d;
+  carried : AreCarriedValues l.edit l.old l.none l.sets.items;
 }
