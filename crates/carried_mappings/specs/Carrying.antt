@@ -17,6 +17,7 @@ use Rattle.level_systems.specs.declared.measure.Measure.{Measure}
 use Rattle.solved_program.specs.Kept.{IsEdit}
 use Rattle.solved_program.specs.Standing.{KeepOwn, StandsFor}
 use Rattle.carried_mappings.specs.Moved.{moved}
+use Rattle.carried_mappings.specs.Order.{HaveSameMembers}
 use Rattle.carried_mappings.specs.declared.standing.Standing.{Standing}
 
 -- the numbers of a component's clauses, in order
@@ -40,6 +41,12 @@ new_number s = moved s.own_before.now s.own.now
 -- a mapping has a part for each member of the old component
 abbrev pub HasParts : Standing → Mapping → Type 0
 HasParts s mapping = map (λ (m : Measure). m.pred.0) mapping.measures ≡ members_in s.edit.now.components_before.now s.before
+
+-- so both components have members of the same names and arities, and each mapping that is found has a part for each of them
+pub record CanBeCarried (s : Standing) (found : Found) : Type 0 where
+  pub standing : IsStanding s
+  pub members : HaveSameMembers s.edit.now s.before s.after
+  pub parts : AllByRecursion (HasParts s) found.mappings
 
 -- What was found of the old component is found of the new one as this, by each norm, where it stands for that one with
 -- these size rows, and has kept its own.

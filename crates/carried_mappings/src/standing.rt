@@ -1,11 +1,10 @@
 //! Components that stand for old ones.
 
 ghost use Rattle.std.specs.Prelude.{◌≡◌, IfOk};
-ghost use Rattle.std.specs.List.{AllByRecursion};
 ghost use Rattle.termination_model.specs.ComponentViews.{members_in};
-ghost use Rattle.carried_mappings.specs.Carrying.{CarriesOver, HasParts, IsStanding, new_number};
+ghost use Rattle.carried_mappings.specs.Carrying.{CanBeCarried, CarriesOver, new_number};
 ghost use Rattle.carried_mappings.specs.Moved.{moved_found};
-ghost use Rattle.carried_mappings.specs.Order.{AreSameMappings, HaveSameMembers, HaveSameOrder};
+ghost use Rattle.carried_mappings.specs.Order.{AreSameMappings, HaveSameOrder};
 
 use crate::order::have_same_names;
 use crate::places::{numbers_before, places_before};
@@ -31,9 +30,7 @@ pub struct Standing<'a> {
 impl Standing<'_> {
     /// What is found of the component's mappings, where its members stand in another order.
     fn reorder(&self, alloc: Global, found: &Found) -> Result<Found, AllocError>
-        requires standing { IsStanding self.now }
-        requires members { HaveSameMembers self.now.edit.now self.now.before self.now.after }
-        requires parts { AllByRecursion (HasParts self.now) found.now.mappings }
+        requires { CanBeCarried self.now found.now }
         ensures carried { IfOk result (CarriesOver self.now found.now) }
         ensures mappings { IfOk result (λ x. AreSameMappings
             self.now.edit.now self.now.before found.now.mappings x.mappings) }
@@ -66,9 +63,7 @@ impl Standing<'_> {
 
     /// What is found of the component's mappings, from what was found of the old component's.
     pub fn carry(&self, alloc: Global, found: &Found) -> Result<Found, AllocError>
-        requires standing { IsStanding self.now }
-        requires members { HaveSameMembers self.now.edit.now self.now.before self.now.after }
-        requires parts { AllByRecursion (HasParts self.now) found.now.mappings }
+        requires { CanBeCarried self.now found.now }
 
         // By each norm it is what is found of the component, where the component stands for the old one. With the
         // members in the same order it is the same under the new numbers. In any order it is the same mappings.

@@ -84,6 +84,13 @@ module _ {N : Type 0} (truth : (ℕ → Bool) → Tree → Bool) (s : Preconditi
     pub solved : AreSolvedTo n trees progress.sets.items progress.allowed.items
     pub marked : AreMarkedTo s.clauses.now.edit.now n (values_before s trees) (values_now s trees progress.allowed.items) progress.stayed.items
 
+  -- the components below c are done, and c is the next one
+  pub record IsNext (c : ℕ) (trees : List Rows) (progress : Progress) : Type 0 where
+    pub sources : AreSources s trees
+    pub old : AreOld trees
+    pub inner : c < length s.clauses.now.edit.now.components.now.members
+    pub found : AreUpTo c trees progress
+
   -- the component c has its sets, those of other components stay, and there are no new marks
   pub record AreRenewed (c : ℕ) (trees new_trees : List Rows) (old new : Progress) : Type 0 where
     pub room : HasRoom s.clauses.now.edit.now.after.now new_trees new.room

@@ -5,7 +5,7 @@ ghost use Rattle.bool_diagrams.specs.Rows.{Keeps};
 ghost use Rattle.solved_program.specs.EditClauses.{AreEditClauses};
 ghost use Rattle.solved_program.specs.Kept.{IsEdit};
 ghost use Rattle.carried_preconditions.specs.Resolving.{AreNew, AreOld, AreRenewed, AreSources, AreUpTo};
-ghost use Rattle.carried_preconditions.specs.Resolving.{KeepDiagrams, StandsKept};
+ghost use Rattle.carried_preconditions.specs.Resolving.{IsNext, KeepDiagrams, StandsKept};
 ghost use Rattle.carried_preconditions.specs.Solved.{AreInputs, ArePreconditions, KeepPreconditions};
 
 use crate::carrying::carried_lists;
@@ -29,10 +29,7 @@ fn solve_anew<N: Norm>(
     table: &mut Table,
     progress: &mut Progress,
 ) -> Result<(), AllocError>
-    requires sources { AreSources sources.now table.old }
-    requires old { AreOld (N.truth sources.now.norm.now) sources.now table.old }
-    requires inner { c < length sources.now.clauses.now.edit.now.components.now.members }
-    requires found { AreUpTo (N.truth sources.now.norm.now) sources.now c table.old progress.old }
+    requires next { IsNext (N.truth sources.now.norm.now) sources.now c table.old progress.old }
     requires lost { StandsKept sources.now table.old progress.old.stayed.items c → ⊥ }
     ensures keeps { Keeps table.old table.new }
     ensures found { OnOk result (AreRenewed (N.truth sources.now.norm.now) sources.now c
@@ -72,10 +69,7 @@ fn renew<N: Norm>(
     table: &mut Table,
     progress: &mut Progress,
 ) -> Result<(), AllocError>
-    requires sources { AreSources sources.now table.old }
-    requires old { AreOld (N.truth sources.now.norm.now) sources.now table.old }
-    requires inner { c < length sources.now.clauses.now.edit.now.components.now.members }
-    requires found { AreUpTo (N.truth sources.now.norm.now) sources.now c table.old progress.old }
+    requires { IsNext (N.truth sources.now.norm.now) sources.now c table.old progress.old }
     ensures keeps { Keeps table.old table.new }
     ensures found { OnOk result (AreRenewed (N.truth sources.now.norm.now) sources.now c
         table.old table.new progress.old progress.new) }
@@ -97,10 +91,7 @@ fn resolve<N: Norm>(
     table: &mut Table,
     progress: &mut Progress,
 ) -> Result<(), AllocError>
-    requires sources { AreSources sources.now table.old }
-    requires old { AreOld (N.truth sources.now.norm.now) sources.now table.old }
-    requires inner { c < length sources.now.clauses.now.edit.now.components.now.members }
-    requires found { AreUpTo (N.truth sources.now.norm.now) sources.now c table.old progress.old }
+    requires { IsNext (N.truth sources.now.norm.now) sources.now c table.old progress.old }
     ensures keeps { Keeps table.old table.new }
     ensures found { OnOk result (AreUpTo (N.truth sources.now.norm.now) sources.now
         (c + 1) table.new progress.new) }

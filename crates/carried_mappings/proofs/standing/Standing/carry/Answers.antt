@@ -30,6 +30,9 @@ returns-then-not-have_same_names-clause-moved c = λ order.
     let wrong = c.if-not-have_same_names.true in
     cc
 
+pub moved_found-requires-clause-standing : goal.moved_found-requires-clause-standing
+moved_found-requires-clause-standing c = c.requires.standing
+
 pub moved_found-requires-clause-each : goal.moved_found-requires-clause-each
 moved_found-requires-clause-each c =
     let s = c.args.self.now in
