@@ -69,9 +69,6 @@ module _ (p new : Listing) (comps new_comps : Partition) (prog : IsProgram p) (n
   abbrev pub m : ℕ → Bool
   m q = rank_in comps q == b
 
-  abbrev pub nm : ℕ → Bool
-  nm q = rank_in new_comps q == c
-
   finds : FindsByName p new f
   finds = finds_number p new new_prog
 

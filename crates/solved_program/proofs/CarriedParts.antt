@@ -31,7 +31,7 @@ use Rattle.component_laws.proofs.NamedLaws.{head_in, pred_in}
 use Rattle.component_laws.proofs.UntouchedLaws.{one_number}
 use Rattle.solved_program.specs.Kept.{AreKept}
 use Rattle.solved_program.specs.Renumbered.{in_turn}
-use Rattle.solved_program.specs.Standing.{AreSameCalls, AreSameClauses, IsSameCall, IsSameClause, StandsFor}
+use Rattle.solved_program.specs.Standing.{AreSameClauses, IsSameClause, StandsFor}
 use Rattle.solved_program.proofs.Clauses.{Numbered, head_kind, member_clause, of_program, own_component}
 use Rattle.solved_program.proofs.Names.{finds_number, new_number}
 use Rattle.solved_program.proofs.Pairs.{all_renamed, body_pair, pair_back, pair_on, same_named, same_renamed}
@@ -67,12 +67,6 @@ module _ (p new : Listing) (comps new_comps : Partition) (prog : IsProgram p) (n
 
   abbrev SameClauses : List Numbered → List Numbered → Type 0
   SameClauses = AreSameClauses comps new_comps c d old now kept
-
-  abbrev SameCall : ℕ → ℕ → Type 0
-  SameCall = IsSameCall comps new_comps c d old now
-
-  abbrev SameCalls : List Atom → List Atom → Type 0
-  SameCalls = AreSameCalls comps new_comps c d old now
 
   module _ (stands : StandsFor comps new_comps c d old now p new kept)
       (members : (q r : ℕ) (x : Pred) → slice_get p.preds q ≡ Some x → slice_get new.preds r ≡ Some x → IsIn new_comps d r → now r ≡ old q) where

@@ -20,7 +20,7 @@ use Rattle.component_laws.proofs.BlownLaws.{filter_map}
 use Rattle.component_laws.proofs.NamedLaws.{head_in, pred_in}
 use Rattle.component_laws.proofs.UntouchedLaws.{one_number}
 use Rattle.solved_program.specs.Kept.{AreKept}
-use Rattle.solved_program.specs.Standing.{AreSameCalls, AreSameClauses, IsSameCall, IsSameClause, StandsFor}
+use Rattle.solved_program.specs.Standing.{IsSameClause, StandsFor}
 use Rattle.solved_program.proofs.Clauses.{Numbered, head_kind, member_clause, of_program, own_component}
 use Rattle.solved_program.proofs.Pairs.{all_renamed, body_pair, pair_back, pair_on, same_named}
 use Rattle.solved_program.proofs.Names.{finds_number, new_number}
@@ -62,15 +62,6 @@ module _ {X : Type 0} (p new : Listing) (comps new_comps : Partition) (prog : Is
 
   abbrev SameClause : Numbered → Numbered → Type 0
   SameClause = IsSameClause comps new_comps c d old now kept
-
-  abbrev SameClauses : List Numbered → List Numbered → Type 0
-  SameClauses = AreSameClauses comps new_comps c d old now kept
-
-  abbrev SameCall : ℕ → ℕ → Type 0
-  SameCall = IsSameCall comps new_comps c d old now
-
-  abbrev SameCalls : List Atom → List Atom → Type 0
-  SameCalls = AreSameCalls comps new_comps c d old now
 
   -- ---- pairs
   pair_of : (k : Numbered) → In k ks → (l : Numbered) × In l ls × SameClause k l
