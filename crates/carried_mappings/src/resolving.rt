@@ -3,7 +3,7 @@
 ghost use Rattle.std.specs.Prelude.{◌≡◌, ◌<◌, ℕ, IfOk, IfSome, IsNone, Some, length, slice_get, true};
 ghost use Rattle.termination_model.specs.Sizes.{AreSizes, rows_of};
 ghost use Rattle.solved_program.specs.Kept.{IsEdit};
-ghost use Rattle.solved_program.specs.Resolving.{Stands};
+ghost use Rattle.solved_program.specs.Resolving.{AreSources, Stands};
 ghost use Rattle.solved_program.specs.Solved.{AreSolved};
 ghost use Rattle.solved_program.specs.Standing.{KeepValues};
 ghost use Rattle.carried_mappings.specs.FoundMappings.{AreFound, AreKeptFound, AreMappingSources, FoundBefore};
@@ -132,6 +132,35 @@ impl MappingSources<'_> {
     }
 }
 
+/// What is found of the mappings after an edit with the clauses of all components.
+fn resolve_sources<N: Norm>(
+    alloc: Global,
+    norm: &N,
+    sources: Sources<'_>,
+    found: &[Found],
+    sizes: &Sizes,
+) -> Result<Sequence<Found>, AllocError>
+    requires sources { AreSources sources }
+    requires found { AreFound (N.expression norm.now) sources.edit.now.before.now
+        sources.edit.now.components_before.now (rows_of sources.old.now.sizes.rows) found.now }
+    requires rows { AreSizes sources.edit.now.after.now.preds sizes.now.rows }
+    requires kept { KeepValues sources.edit.now (rows_of sources.old.now.sizes.rows)
+        (rows_of sizes.now.rows) }
+    ensures found { IfOk result (AreFound (N.expression norm.now) sources.entry.edit.now.after.now
+        sources.entry.edit.now.components.now (rows_of sizes.now.rows)) }
+    ensures kept { IfOk result (KeepFound sources.entry.edit.now
+        (rows_of sources.entry.old.now.sizes.rows) (rows_of sizes.now.rows) found.now) }
+{
+    let stayed = stayed_rows(alloc, sources.edit, &sources.old.sizes.rows, &sizes.rows)?;
+    let all = MappingSources {
+        sources,
+        found,
+        sizes,
+        stayed: stayed.as_slice(),
+    };
+    all.resolve_all(alloc, norm)
+}
+
 /// What is found of the mappings of a program's components after an edit, from what was found before it.
 ///
 /// A component that stands for an old one has what was found of that one, also where its members stand in another order.
@@ -163,17 +192,11 @@ pub fn resolve_mappings<'a, D: Domain, N: Norm>(
 {
     let own_before = own_clauses(alloc, edit.before, edit.components_before)?;
     let own = own_clauses(alloc, edit.after, edit.components)?;
-    let stayed = stayed_rows(alloc, edit, &old.sizes.rows, &sizes.sizes.rows)?;
-    let all = MappingSources {
-        sources: Sources {
-            edit,
-            old,
-            own_before: own_before.as_slice(),
-            own: own.as_slice(),
-        },
-        found,
-        sizes: &sizes.sizes,
-        stayed: stayed.as_slice(),
+    let sources = Sources {
+        edit,
+        old,
+        own_before: own_before.as_slice(),
+        own: own.as_slice(),
     };
-    all.resolve_all(alloc, norm)
+    resolve_sources(alloc, norm, sources, found, &sizes.sizes)
 }
