@@ -110,8 +110,8 @@ impl Session {
         ensures err { OnErr result (self.new ≡ self.old) }
         ensures names { names.new ≡ names.old }
     {
-        let at = self.clauses.len();
-        self.put(at, clause, names)
+        let last = self.clauses() + 1;
+        self.insert(last, clause, names)
     }
 
     /// Adds clauses after the others, all in one edit: for a file of them, or what is put in at once. After an error the
@@ -167,27 +167,8 @@ impl Session {
         ensures err { OnErr result (self.new ≡ self.old) }
         ensures names { names.new ≡ names.old }
     {
-        self.put(k as usize - 1, clause, names)
-    }
-
-    /// Puts in a clause after the first `at` ones.
-    fn put(&mut self, at: usize, clause: EditClause, names: &mut Names) -> Result<(), EditFault>
-        requires at { at ≤ length self.old.clauses }
-        requires known { HasProgram names.old self.old }
-        requires fit { IsFit (length names.old) (clause_of clause.clause) }
-        requires small { nodes_in self.old.clauses + nodes (tree_of clause.clause.term) ≤ 2097152 }
-        requires room { length names.old < 2 ^ 32 - 3 }
-        ensures clauses { OnOk result
-            (self.new.clauses ≡ inserted self.old.clauses at (clause_of clause.clause)) }
-        ensures session { OnOk result (IsSession names.new self.new) }
-        ensures untouched { OnOk result (KeepUntouched self.old.kept self.new.kept) }
-        ensures exact { let fault = added_fault names.old (length self.old.clauses)
-            (clause_of clause.clause) in
-            MatchResult result (λ _. fault ≡ None) (λ e. IfNorm e (λ f. fault ≡ Some f)) }
-        ensures err { OnErr result (self.new ≡ self.old) }
-        ensures names { names.new ≡ names.old }
-    {
         let alloc = *self.clauses.allocator();
+        let at = k as usize - 1;
         let clause = clause.clause;
         check_added(alloc, &clause, names, self.clauses.len())?;
         let more = term_nodes(alloc, &clause.term)?;

@@ -1,7 +1,7 @@
 use Rattle.std.proofs.Common.{ap, subst}
 use Rattle.cti_session.specs.Session.{KeepUntouched, Snapshot}
 use Rattle.kept_program.specs.ProgramParts.{ProgramParts}
-use Rattle.cti_session.proofs.session.Session.put.Goals as goal
+use Rattle.cti_session.proofs.session.Session.insert.Goals as goal
 
 pub returns-clause-untouched : goal.returns-clause-untouched
 returns-clause-untouched c =
