@@ -4,7 +4,7 @@
 -- Each part is a function of what is found, so that it is known without being made.
 --
 -- To believe: `IsSolution`, `SolutionsAreExact`, `SolutionsPrintModes`.
-use Rattle.std.specs.Prelude.{◌≡◌, ◌≢◌, ℕ, suc, ℤ, List, ◌++◌, map, slice_get, None, Some}
+use Rattle.std.specs.Prelude.{◌≡◌, ◌≢◌, ℕ, suc, ℤ, List, [], ◌++◌, map, slice_get, None, Some}
 use Rattle.std.specs.List.{AllByRecursion, AllPairs, flat_map}
 use Rattle.bool_diagrams.specs.Tree.{Tree as Rows}
 use Rattle.bool_diagrams.specs.declared.diagram.Diagram.{Diagram}
@@ -84,21 +84,7 @@ pub record IsSolution (p : Listing) (comps : Partition) (s : Findings) : Type 0 
   pub sets : SetsAreSolved truth p comps s.levels s.table s.table s.grounds s.sets s.modes
   pub below : AreFindingsBelow s
 
--- the parts of its certificate
-abbrev pub solution_parts : Listing → Partition → Findings → Parts
-solution_parts p comps s = record {
-  norm = None;
-  modes = mode_lists s.modes;
-  rows = s.sizes.rows;
-  row_proofs = s.sizes.proofs;
-  grounds = spelled_list p.preds s.table s.grounds;
-  levels = level_list p comps s.found;
-  falls = fall_list p comps s.found;
-  preconditions = spelled_lists p.preds s.table s.sets;
-  refutations = refutation_list p comps s.found;
-}
-
--- the parts with the cubes and modes of a solution
+-- parts with the cubes and modes of a solution
 abbrev pub with_sets : Listing → Findings → Parts → Parts
 with_sets p s parts = record {
   norm = parts.norm;
@@ -112,13 +98,35 @@ with_sets p s parts = record {
   refutations = parts.refutations;
 }
 
--- its notes and its facts
+-- the parts of its certificate: those of its sizes and mappings, with its cubes and modes
+abbrev pub solution_parts : Listing → Partition → Findings → Parts
+solution_parts p comps s = with_sets p s (record {
+  norm = None;
+  modes = [];
+  rows = s.sizes.rows;
+  row_proofs = s.sizes.proofs;
+  grounds = [];
+  levels = level_list p comps s.found;
+  falls = fall_list p comps s.found;
+  preconditions = [];
+  refutations = refutation_list p comps s.found;
+})
+
 module _ (p : Listing) (names : List (List ℕ)) (comps : Partition) where
+  -- the notes of the steps of all components, and of supports that were given up
+  abbrev pub notes_of : List (List Step) → List Found → List Fact
+  notes_of steps found = chain_notes p names (map plain_step (flat_map (λ own. own) steps)) ++ support_notes p names comps (given_up found)
+
+  -- the facts of a certificate with these parts
+  abbrev pub facts_with : Parts → List (List Step) → List Found → List Fact
+  facts_with parts steps found = listed p names parts (notes_of steps found)
+
+  -- those of a solution
   abbrev pub solution_notes : Findings → List Fact
-  solution_notes s = chain_notes p names (map plain_step (flat_map (λ own. own) s.steps)) ++ support_notes p names comps (given_up s.found)
+  solution_notes s = notes_of s.steps s.found
 
   abbrev pub solution_facts : Findings → List Fact
-  solution_facts s = listed p names (solution_parts p comps s) (solution_notes s)
+  solution_facts s = facts_with (solution_parts p comps s) s.steps s.found
 
 -- parts of mappings have their shape, wherever the mappings are right
 abbrev pub HaveShapeOfFound : Listing → Partition → List Found → List (List LevelPart) → Type 0
