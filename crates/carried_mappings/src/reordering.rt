@@ -7,9 +7,10 @@ ghost use Rattle.carried_mappings.specs.Moved.{moved_fall};
 ghost use Rattle.carried_mappings.specs.Reordered.{by_sets, of_set, placed};
 ghost use Rattle.carried_mappings.specs.Reorderings.{HasPlaces, IsReordered, found_now, mapping_now, set_now};
 
-use crate::sets::{all_renumbered, is_same_set, renumbered, support_of};
+use crate::sets::{all_renumbered, is_same_set, renumbered};
 use crate::standing::Standing;
 use cti_terms::PredId;
+use level_dual::support_of;
 use level_systems::{Found, Mapping, Measure, Position};
 use sequences::Sequence;
 use std::alloc::{AllocError, Global};

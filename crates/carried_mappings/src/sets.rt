@@ -2,33 +2,11 @@
 
 ghost use Rattle.std.specs.Prelude.{◌≡◌, ◌<◌, ◌+◌, ◌^◌, IfOk, length, map, nat_eq};
 ghost use Rattle.std.specs.List.{list_any};
-ghost use Rattle.level_systems.specs.Held.{spelled};
-ghost use Rattle.level_systems.specs.Mappings.{support_of};
 ghost use Rattle.carried_mappings.specs.Reordered.{is_same_set, renumbered};
 
-use level_dual::{has_coefficient, is_part};
-use level_systems::{Mapping, Position};
+use level_dual::is_part;
 use sequences::Sequence;
 use std::alloc::{AllocError, Global};
-
-/// The numbers of the positions at which a mapping has a positive coefficient.
-pub(crate) fn support_of(
-    alloc: Global,
-    positions: &[Position],
-    mapping: &Mapping,
-) -> Result<Vec<u32>, AllocError>
-    requires { length positions.now + 1 < 2 ^ 32 }
-    ensures { IfOk result (λ support. support.items
-        ≡ support_of (map spelled positions.now) mapping.now) }
-{
-    let mut support = Vec::new(alloc);
-    for i in 0..positions.len() {
-        if has_coefficient(mapping.measures.as_slice(), positions[i]) {
-            support.push(i as u32 + 1)?;
-        }
-    }
-    Ok(support)
-}
 
 /// Whether a number is in a set.
 fn has_number(set: &[u32], number: u32) -> bool
