@@ -8,19 +8,19 @@ use Rattle.cti_terms.specs.Spell.{tree_of}
 use Rattle.cti_terms.specs.Arithmetic.{kind_of, passes, begins_wide}
 use Rattle.cti_terms.specs.declared.atom_list.Atom.{Atom}
 use Rattle.cti_terms.specs.declared.builtins.Builtin.{Builtin}
-use Rattle.cti_terms.specs.declared.clauses.Clause.{Clause}
 use Rattle.cti_terms.specs.declared.derivation.Goal.{Goal}
-use Rattle.cti_terms.specs.Listing.{IsProgram, Listing, numbered}
+use Rattle.cti_terms.specs.Listing.{IsProgram, Listing}
 use Rattle.cti_terms.specs.Answers.{answer_by}
 use Rattle.cti_terms.specs.Unify.{Binding, occurs, applied}
 use Rattle.cti_terms.specs.UnifyFunction.{unify}
-use Rattle.cti_terms.specs.Resolve.{over, raised, passed, resolve}
+use Rattle.cti_terms.specs.Resolve.{over, passed, resolve}
 use Rattle.cti_terms.proofs.Bounds.{zero_alone}
 use Rattle.cti_terms.proofs.UnifyLaws.{AllBelow, unify_finds}
 use Rattle.ld_resolver.specs.declared.choices.Choice.{Choice}
 use Rattle.ld_resolver.specs.declared.search.Entered.{Entered}
 use Rattle.ld_resolver.specs.declared.search.Entered.TheVariants.{Empty, Open, Wide}
 use Rattle.ld_resolver.specs.declared.search.Search.{Search}
+use Rattle.ld_resolver.specs.declared.search.Taken.TheVariants.{ByItself}
 use Rattle.ld_resolver.specs.BuiltinAtoms.{value_equations, IsInteger}
 use Rattle.unifier.specs.Raised.{raise}
 use Rattle.unifier.specs.Store.{made, full}
@@ -29,11 +29,11 @@ use Rattle.ld_resolver.specs.Tails.{tail_at}
 use Rattle.unifier.specs.Below.{ArgumentsBelow, AtomsBelow, FreeFrom}
 use Rattle.ld_resolver.specs.Walk.{entered, walk_by, walk}
 use Rattle.ld_resolver.specs.Choices.{kept, goal_from, goal_of, left, value_of, args_of, GoesByItself, IsChoice, AreChoices}
-use Rattle.ld_resolver.specs.Searches.{AreWithin, IsEntered, attempts_at, goal_with, left_of}
+use Rattle.ld_resolver.specs.Searches.{AreWithin, IsEntered, IsTaken, attempts_at, goal_with, left_of}
 use Rattle.unifier.proofs.BelowLaws.{applied_below, atoms_over}
 use Rattle.ld_resolver.proofs.BuiltinChoices.{left_by_itself}
 use Rattle.unifier.proofs.PendingLaws.{full_integer}
-use Rattle.ld_resolver.proofs.SearchLaws.{Agree, Stay, kept_all, left_stays, stay_through, choices_through, within_all, met_by_none, atoms_twice, node_free}
+use Rattle.ld_resolver.proofs.SearchLaws.{Agree, Stay, left_stays, stay_through, choices_through, met_by_none, atoms_twice, node_free}
 
 -- ---- a goal that is entered
 
@@ -47,37 +47,6 @@ walk_fails p prog q d bs l s n a rest b built none =
     by_number : (j : ℕ) → resolve p (goal_from s n a rest) j ≡ None
     by_number zero = ap (option_map (passed (map (over (full s)) rest) n)) none
     by_number (suc i) = zero_alone p (over (full s) a) (map (over (full s)) rest) n i b prog built
-
--- one that may succeed is a choice at number 0
-module _ (p : Listing) (s : List Binding) (rests : List (List Atom)) (cs : List Choice) (all : AreChoices p s rests cs) (c : Choice) (itself : c.next ≡ 0) (within : c.rest ≤ length rests) (newest : c.rests ≡ length rests) (mark : c.mark ≡ length s) (free : FreeFrom c.fresh s) (below : AtomsBelow c.fresh (goal_from s c.fresh (raised c.base c.atom.now) (tail_at rests c.rest)).atoms) where
-  all_kept : kept s c.mark ≡ s
-  all_kept = ap (kept s) mark ∙ kept_all s
-
-  pub choice_itself : GoesByItself p.arithmetic s c → AreChoices p s rests (c ∷ cs)
-  choice_itself goes = (
-    record {
-      mark = omega (arith, mark);
-      rest = omega (arith, within, newest);
-      counted = omega (arith, newest);
-      to_end = omega (arith, itself);
-      pred = λ k e. absurd (no_number k c.next itself e);
-      free = subst (FreeFrom c.fresh) (sym all_kept) free;
-      below = subst (λ (b : List Binding). AtomsBelow c.fresh (goal_from b c.fresh (raised c.base c.atom.now) (tail_at rests c.rest)).atoms) (sym all_kept) below;
-      itself = λ z. subst (λ (b : List Binding). GoesByItself p.arithmetic b c) (sym all_kept) goes;
-    },
-    within_all p s rests c.mark c.rests cs (omega (arith, mark)) (omega (arith, newest)) all,
-    all,
-  )
-    where
-      no_number : (k : Clause) (m : ℕ) → m ≡ 0 → numbered p.clauses m ≡ Some k → ⊥
-      no_number k zero z e = cc
-      no_number k (suc m) z e = absurd (omega (arith, z))
-
-  pub left_itself : (q : List Atom) (n : ℕ) → walk p q (suc (n - c.depth)) (made s) c.depth (goal_from s c.fresh (raised c.base c.atom.now) (tail_at rests c.rest)) ++ left p q n s rests cs ≡ left p q n s rests (c ∷ cs)
-  left_itself q n =
-      (λ i. walk_by p q (walk p q (n - c.depth)) (made (sym all_kept i)) c.depth (goal_from (sym all_kept i) c.fresh (raised c.base c.atom.now) (tail_at rests c.rest)) (range_with_len 0 (suc (length p.clauses))) ++ left p q n s rests cs)
-      ∙ ap (λ k. walk_by p q (walk p q (n - c.depth)) (made (kept s c.mark)) c.depth (goal_of s rests c) (range_with_len 0 k) ++ left p q n s rests cs) (let e : suc (length p.clauses) ≡ suc (length p.clauses) - 0 = omega arith in e)
-      ∙ ap (λ k. walk_by p q (walk p q (n - c.depth)) (made (kept s c.mark)) c.depth (goal_of s rests c) (range_with_len k (suc (length p.clauses) - k)) ++ left p q n s rests cs) (sym itself)
 
 -- the goal of atoms and a rest that begin with an atom
 pub start_is : (s : List Binding) (atoms rest : List Atom) (n : ℕ) (a : Atom) (after : List Atom) → atoms ++ rest ≡ a ∷ after → goal_with s atoms rest n ≡ goal_from s n a after
@@ -140,68 +109,76 @@ value_below n (Some v) (t ∷ ts) i h y o = elim (or_cases (occurs y t || occurs
     none m e = off e
 
 -- what is to be unified at a choice whose atom is built in
-module _ (p : Listing) (s : List Binding) (rests : List (List Atom)) (old new : List Choice) (c : Choice) (all : AreChoices p s rests old) (was : old ≡ c ∷ new) where
+module _ (p : Listing) (s taken : List Binding) (rests : List (List Atom)) (old new : List Choice) (c : Choice) (all : AreChoices p s rests old) (t : IsTaken p s old (ByItself c) taken new) where
   chosen : IsChoice p s rests c
-  chosen = (subst (AreChoices p s rests) was all).0
+  chosen = (subst (AreChoices p s rests) t.2 all).0
 
-  pub itself_goes : c.next ≡ 0 → GoesByItself p.arithmetic (kept s c.mark) c
-  itself_goes itself = chosen.itself itself
+  pub itself_goes : GoesByItself p.arithmetic (kept s c.mark) c
+  itself_goes = chosen.itself t.1
 
-pub itself_args : (p : Listing) (s taken : List Binding) (rests : List (List Atom)) (old new : List Choice) (c : Choice) → AreChoices p s rests old → old ≡ c ∷ new → taken ≡ kept s c.mark → ArgumentsBelow c.fresh (args_of taken c)
-itself_args p s taken rests old new c all was back = subst (λ (b : List Binding). ArgumentsBelow c.fresh (args_of b c)) (sym back) (subst (AreChoices p s rests) was all).0.below.0
+  pub itself_args : ArgumentsBelow c.fresh (args_of taken c)
+  itself_args = subst (λ (b : List Binding). ArgumentsBelow c.fresh (args_of b c)) (sym t.3) chosen.below.0
 
-module _ (p : Listing) (prog : IsProgram p) (s taken now : List Binding) (rests rests_now : List (List Atom)) (old new : List Choice) (c : Choice) (all : AreChoices p s rests old) (was : old ≡ c ∷ new) (itself : c.next ≡ 0) (back : taken ≡ kept s c.mark) (extended : Extends now taken) (agree : Agree c.rests rests rests_now) (enough : c.rests ≤ length rests → c.rests ≤ length rests_now) where
+-- the choice is tried by itself: its value binds more, and the rests are the choice's
+pub record IsTriedByItself (p : Listing) (s taken now : List Binding) (rests rests_now : List (List Atom)) (old new : List Choice) (c : Choice) : Type 0 where
+  pub all : AreChoices p s rests old
+  pub itself : IsTaken p s old (ByItself c) taken new
+  pub extended : Extends now taken
+  pub agree : Agree c.rests rests rests_now
+  pub enough : c.rests ≤ length rests → c.rests ≤ length rests_now
+
+module _ {p : Listing} {s taken now : List Binding} {rests rests_now : List (List Atom)} {old new : List Choice} {c : Choice} (tried : IsTriedByItself p s taken now rests rests_now old new c) where
   here : AreChoices p s rests (c ∷ new)
-  here = subst (AreChoices p s rests) was all
+  here = subst (AreChoices p s rests) tried.itself.2 tried.all
 
   goes : GoesByItself p.arithmetic (kept s c.mark) c
-  goes = here.0.itself itself
+  goes = here.0.itself tried.itself.1
 
   e : Extends now (kept s c.mark)
-  e = subst (Extends now) back extended
+  e = subst (Extends now) tried.itself.3 tried.extended
 
   long : c.rests ≤ length rests_now
-  long = enough here.0.counted
+  long = tried.enough here.0.counted
 
   pub itself_choices : AreChoices p now rests_now new
-  itself_choices = choices_through p s now rests rests_now c.mark c.rests new here.1 here.0.mark e agree long here.2
+  itself_choices = choices_through p s now rests rests_now c.mark c.rests new here.1 here.0.mark e tried.agree long here.2
 
   stays : Stay s now rests rests_now new
-  stays = stay_through p s now rests rests_now c.mark c.rests new here.1 here.0.mark e agree here.2
+  stays = stay_through p s now rests rests_now c.mark c.rests new here.1 here.0.mark e tried.agree here.2
 
   pub itself_fewer : attempts_at p new < attempts_at p old
-  itself_fewer = omega (arith, ap (attempts_at p) was, itself)
+  itself_fewer = omega (arith, ap (attempts_at p) tried.itself.2, tried.itself.1)
 
   pub itself_within : (d : ℕ) → AreWithin d old → AreWithin d new
-  itself_within d within = (subst (AreWithin d) was within).1
+  itself_within d within = (subst (AreWithin d) tried.itself.2 within).1
 
   pub itself_depth : (d : ℕ) → AreWithin d old → c.depth ≤ d
-  itself_depth d within = (subst (AreWithin d) was within).0
+  itself_depth d within = (subst (AreWithin d) tried.itself.2 within).0
 
   resolves : (o : Option (List Binding)) → unify (value_equations (value_of c) (args_of (kept s c.mark) c)) ≡ o → resolve p (goal_of s rests c) 0 ≡ option_map (passed (map (over (full (kept s c.mark))) (tail_at rests c.rest)) c.fresh) o
   resolves o u = ap (option_map (passed (map (over (full (kept s c.mark))) (tail_at rests c.rest)) c.fresh)) (goes.passes ∙ u)
 
   left_by : (q : List Atom) (n : ℕ) (o : Option (List Binding × Goal)) → resolve p (goal_of s rests c) 0 ≡ o → left p q n s rests old ≡ entered p.arithmetic q (walk p q (n - c.depth)) (made (kept s c.mark)) c.depth o ++ left p q n now rests_now new
   left_by q n o r =
-      ap (left p q n s rests) was
-      ∙ left_by_itself p prog q n s rests c new goes.built.0 itself goes.built.1
+      ap (left p q n s rests) tried.itself.2
+      ∙ left_by_itself p tried.itself.0 q n s rests c new goes.built.0 tried.itself.1 goes.built.1
       ∙ (λ i. entered p.arithmetic q (walk p q (n - c.depth)) (made (kept s c.mark)) c.depth (r i) ++ sym (left_stays p q n s now rests rests_now new stays) i)
 
   -- no goal is left
   pub itself_failed : unify (value_equations (value_of c) (args_of taken c)) ≡ None → (q : List Atom) (n : ℕ) → left p q n s rests old ≡ left p q n now rests_now new
-  itself_failed u q n = left_by q n None (resolves None (subst (λ (b : List Binding). unify (value_equations (value_of c) (args_of b c)) ≡ None) back u))
+  itself_failed u q n = left_by q n None (resolves None (subst (λ (b : List Binding). unify (value_equations (value_of c) (args_of b c)) ≡ None) tried.itself.3 u))
 
   -- a goal is left
   module _ (unified : IsUnified (made taken) (value_equations (value_of c) (args_of taken c)) (made now) true) where
     u : IsUnified (made (kept s c.mark)) (value_equations (value_of c) (args_of (kept s c.mark) c)) (made now) true
-    u = subst (λ (b : List Binding). IsUnified (made b) (value_equations (value_of c) (args_of b c)) (made now) true) back unified
+    u = subst (λ (b : List Binding). IsUnified (made b) (value_equations (value_of c) (args_of b c)) (made now) true) tried.itself.3 unified
 
     abbrev pub left_after : Goal
     left_after = goal_with now [] (tail_at rests_now c.rest) (c.fresh + 0)
 
     same_goal : record { atoms = map (over (applied u.0)) (map (over (full (kept s c.mark))) (tail_at rests c.rest)); fresh = c.fresh } ≡ left_after
     same_goal =
-        let atoms = sym (atoms_twice (kept s c.mark) now u.0 u.2 (tail_at rests c.rest)) ∙ ap (map (over (full now))) (sym (agree c.rest here.0.rest)) in
+        let atoms = sym (atoms_twice (kept s c.mark) now u.0 u.2 (tail_at rests c.rest)) ∙ ap (map (over (full now))) (sym (tried.agree c.rest here.0.rest)) in
         let fresh : c.fresh ≡ c.fresh + 0 = omega arith in
         λ i. record { atoms = atoms i; fresh = fresh i }
 
@@ -226,7 +203,7 @@ module _ (p : Listing) (prog : IsProgram p) (s taken now : List Binding) (rests 
     itself_free keeps =
         subst (λ (k : ℕ). FreeFrom k now) same_counter
         (node_free (kept s c.mark) now (value_equations (value_of c) (args_of (kept s c.mark) c)) c.fresh c.fresh (omega arith) here.0.free bounded
-        (subst (λ (b : List Binding). KeepsFree (value_equations (value_of c) (args_of b c)) b now) back keeps))
+        (subst (λ (b : List Binding). KeepsFree (value_equations (value_of c) (args_of b c)) b now) tried.itself.3 keeps))
 
     pub itself_below : AtomsBelow (c.fresh + 0) left_after.atoms
     itself_below =

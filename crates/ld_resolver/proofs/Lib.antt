@@ -11,6 +11,7 @@ pub mod FirstArgumentLaws
 pub mod FirstKindLaws
 pub mod CountLaws
 pub mod ProgressLaws
+pub mod Results
 pub mod SearchLaws
 pub mod TailLaws
 pub mod ToldLaws

@@ -1,6 +1,6 @@
 -- How a run goes on, and what it says when it ends.
 use Rattle.std.proofs.Common.{◌≡◌, ◌↔◌, ℕ, zero, suc, max, Bool, true, false, ◌||◌, filter_map, drop, ◌+◌, ◌-◌, ◌<◌, ◌≤◌, IsTrue, List, [], ◌∷◌, ◌++◌, map, reverse, take, length, Option, None, Some, append_assoc, append-nil, length-append, refl, ap, sym, ◌∙◌, subst, arith}
-use Rattle.std.specs.Prelude.{if◌then◌else◌, Result, Ok, Err, IfOk}
+use Rattle.std.specs.Prelude.{if◌then◌else◌}
 use Rattle.std.specs.List.{AllByRecursion, cons_option, list_any}
 use Rattle.std.proofs.lemmas.List.{map-append, length-map}
 use Rattle.std.proofs.lemmas.List.Elements.{filter_map-append}
@@ -208,7 +208,7 @@ never_wide h = cc
 none_in : (x : Search) (q : List Atom) (n : ℕ) → choices_of x ≡ [] → left_of q n x ≡ []
 none_in x q n e = ap (left x.program.now q n x.bindings x.tails) e
 
-module _ (p : Listing) (g : Goal) (n : ℕ) (x : Search) (steps most : ℕ) (told_now : List Answer) (u : IsUnderWay p g n x steps most told_now) where
+module _ {p : Listing} {g : Goal} {n : ℕ} {x : Search} {steps most : ℕ} {told_now : List Answer} (u : IsUnderWay p g n x steps most told_now) where
   -- nothing is left
   module _ (e : choices_of x ≡ []) where
     done_all : IsDone p g n u.done.0 [] steps most told_now
@@ -273,15 +273,29 @@ within_more : (d : ℕ) (cs : List Choice) → AreWithin d cs → AreWithin (d +
 within_more d [] h = tt
 within_more d (c ∷ cs) h = (omega (arith, h.0), within_more d cs h.1)
 
-module _ (p : Listing) (g : Goal) (n : ℕ) (old mid new : Search) (c : Choice) (body : List Atom) (vars : ℕ) (steps most : ℕ) (told_now : List Answer) (u : IsUnderWay p g n old steps most told_now) (node : IsNode old c body vars mid) (less : steps < n) (program_mid : mid.program.now ≡ old.program.now) (within_mid : (d : ℕ) → AreWithin d (choices_of old) → AreWithin d (choices_of mid)) where
+-- a node that was found is entered by a run that can look at one more
+pub record IsNodeEntered (p : Listing) (g : Goal) (n : ℕ) (old mid new : Search) (c : Choice) (body : List Atom) (vars steps most most_now : ℕ) (told_now : List Answer) : Type 0 where
+  pub under_way : IsUnderWay p g n old steps most told_now
+  pub node : IsNode old c body vars mid
+  pub less : steps < n
+  pub longest : max most (c.depth + 1) ≡ most_now
+  pub program_mid : mid.program.now ≡ old.program.now
+  pub depths_mid : (d : ℕ) → AreWithin d (choices_of old) → AreWithin d (choices_of mid)
+  pub search : IsSearch new
+  pub program : new.program.now ≡ mid.program.now
+  pub bindings : new.bindings ≡ mid.bindings
+  pub attempts : attempts_left new ≤ attempts_left mid + length mid.program.now.clauses + 2
+  pub depths : (d : ℕ) → AreWithin d (choices_of mid) → c.depth + 1 ≤ d → AreWithin d (choices_of new)
+
+module _ {p : Listing} {g : Goal} {n : ℕ} {old mid new : Search} {c : Choice} {body : List Atom} {vars steps most most_now : ℕ} {told_now : List Answer} (is : IsNodeEntered p g n old mid new c body vars steps most most_now told_now) where
   bound : c.depth ≤ steps
-  bound = node.within steps u.depth
+  bound = is.node.within steps is.under_way.depth
 
   deep : suc (n - (c.depth + 1)) ≡ n - c.depth
-  deep = omega (arith, bound, less)
+  deep = omega (arith, bound, is.less)
 
-  later : AreWithin (steps + 1) (choices_of mid)
-  later = within_more steps (choices_of mid) (within_mid steps u.depth)
+  within_new : AreWithin (steps + 1) (choices_of new)
+  within_new = is.depths (steps + 1) (within_more steps (choices_of mid) (is.depths_mid steps is.under_way.depth)) (omega (arith, bound))
 
   abbrev here : Visit
   here = record { steps = c.depth + 1; answer = answer_by g.atoms (made mid.bindings) (node_goal mid c body vars).atoms; wide = begins_wide mid.program.now.arithmetic (node_goal mid c body vars).atoms }
@@ -289,37 +303,44 @@ module _ (p : Listing) (g : Goal) (n : ℕ) (old mid new : Search) (c : Choice) 
   abbrev below_here : ℕ → List Visit
   below_here d = walk mid.program.now g.atoms d (made mid.bindings) (c.depth + 1) (node_goal mid c body vars)
 
+  -- it is met after all others
+  one_more : (left_now : List Visit) (now : List Answer) → left_of g.atoms n old ≡ here ∷ left_now → now ≡ told_now ++ map told (cons_option here.answer []) → here.wide ≡ false → (done : List Visit) × IsDone p g n done left_now (steps + 1) most_now now
+  one_more left_now now e h fits = (
+    is.under_way.done.0 ++ here ∷ [],
+    subst (λ m. IsDone p g n (is.under_way.done.0 ++ here ∷ []) left_now (steps + 1) m now) is.longest (done_more p g n is.under_way.done.0 (left_of g.atoms n old) left_now here steps most told_now now is.under_way.done.1 e h fits),
+  )
+
   -- it has atoms
-  pub with_atoms : IsSearch new → new.program.now ≡ mid.program.now → ((d : ℕ) → AreWithin d (choices_of mid) → c.depth + 1 ≤ d → AreWithin d (choices_of new)) → IsEntered mid (c.depth + 1) (node_goal mid c body vars) Open new → IsUnderWay p g n new (steps + 1) (max most (c.depth + 1)) told_now
-  with_atoms is program all e = record {
-    search = is;
-    program = program ∙ program_mid ∙ u.program;
-    done = (u.done.0 ++ here ∷ [], done_more p g n u.done.0 (left_of g.atoms n old) (left_of g.atoms n new) here steps most told_now told_now u.done.1 left_now told_same e.2);
-    within = omega (arith, less);
-    begins = u.begins;
-    depth = all (steps + 1) later (omega (arith, bound));
+  pub with_atoms : IsEntered mid (c.depth + 1) (node_goal mid c body vars) Open new → IsUnderWay p g n new (steps + 1) most_now told_now
+  with_atoms e = record {
+    search = is.search;
+    program = is.program ∙ is.program_mid ∙ is.under_way.program;
+    done = one_more (left_of g.atoms n new) told_now left_now told_same e.2;
+    within = omega (arith, is.less);
+    begins = is.under_way.begins;
+    depth = within_new;
   }
     where
       left_now : left_of g.atoms n old ≡ here ∷ left_of g.atoms n new
-      left_now = node.met g.atoms n ∙ ap (λ (w : List Visit). here ∷ w) (ap (λ d. below_here d ++ left_of g.atoms n mid) (sym deep) ∙ e.1 g.atoms n)
+      left_now = is.node.met g.atoms n ∙ ap (λ (w : List Visit). here ∷ w) (ap (λ d. below_here d ++ left_of g.atoms n mid) (sym deep) ∙ e.1 g.atoms n)
 
       told_same : told_now ≡ told_now ++ map told (cons_option here.answer [])
       told_same = sym (append-nil told_now) ∙ ap (λ (o : Option (List Atom)). told_now ++ map told (cons_option o [])) (sym (e.0 g.atoms (made mid.bindings)))
 
   -- it has none, and is an answer
-  pub without_atoms : (last : Search) (a : Answer) → IsSearch new → new.program.now ≡ mid.program.now → new.bindings ≡ mid.bindings → ((d : ℕ) → AreWithin d (choices_of mid) → c.depth + 1 ≤ d → AreWithin d (choices_of new)) → IsEntered mid (c.depth + 1) (node_goal mid c body vars) Empty new → SameSearch new last → a ≡ told (answered_atoms new.bindings g.atoms) → IsUnderWay p g n last (steps + 1) (max most (c.depth + 1)) (told_now ++ a ∷ [])
-  without_atoms last a is program bindings all e same is_told = record {
-    search = same_is new last same is;
-    program = same.program ∙ program ∙ program_mid ∙ u.program;
-    done = (u.done.0 ++ here ∷ [], done_more p g n u.done.0 (left_of g.atoms n old) (left_of g.atoms n last) here steps most told_now (told_now ++ a ∷ []) u.done.1 left_now told_one (ap (begins_wide mid.program.now.arithmetic) e.0));
-    within = omega (arith, less);
-    begins = u.begins;
-    depth = same_within new last same (steps + 1) (all (steps + 1) later (omega (arith, bound)));
+  pub without_atoms : {last : Search} (a : Answer) → IsEntered mid (c.depth + 1) (node_goal mid c body vars) Empty new → SameSearch new last → a ≡ told (answered_atoms new.bindings g.atoms) → IsUnderWay p g n last (steps + 1) most_now (told_now ++ a ∷ [])
+  without_atoms {last} a e same is_told = record {
+    search = same_is new last same is.search;
+    program = same.program ∙ is.program ∙ is.program_mid ∙ is.under_way.program;
+    done = one_more (left_of g.atoms n last) (told_now ++ a ∷ []) left_now told_one (ap (begins_wide mid.program.now.arithmetic) e.0);
+    within = omega (arith, is.less);
+    begins = is.under_way.begins;
+    depth = same_within new last same (steps + 1) within_new;
   }
     where
       left_now : left_of g.atoms n old ≡ here ∷ left_of g.atoms n last
       left_now =
-          node.met g.atoms n
+          is.node.met g.atoms n
           ∙ ap (λ (w : List Visit). here ∷ w)
           (ap (λ (w : List Visit). w ++ left_of g.atoms n mid) (walk_none mid.program.now g.atoms (n - c.depth) (made mid.bindings) (c.depth + 1) (node_goal mid c body vars) e.0)
           ∙ e.1 g.atoms n
@@ -327,42 +348,53 @@ module _ (p : Listing) (g : Goal) (n : ℕ) (old mid new : Search) (c : Choice) 
 
       told_one : told_now ++ a ∷ [] ≡ told_now ++ map told (cons_option here.answer [])
       told_one =
-          ap (λ (b : Answer). told_now ++ b ∷ []) (is_told ∙ ap (λ (s : List Binding). told (answered_atoms s g.atoms)) bindings)
+          ap (λ (b : Answer). told_now ++ b ∷ []) (is_told ∙ ap (λ (s : List Binding). told (answered_atoms s g.atoms)) is.bindings)
           ∙ ap (λ (l : List Atom). told_now ++ map told (cons_option (answer_by g.atoms (made mid.bindings) l) [])) (sym e.0)
 
   -- it begins with a wide atom, and the run ends
-  pub ended_wide : IsEntered mid (c.depth + 1) (node_goal mid c body vars) Wide new → HasEnded p g n Overflow (steps + 1) (max most (c.depth + 1)) told_now
+  pub ended_wide : IsEntered mid (c.depth + 1) (node_goal mid c body vars) Wide new → HasEnded p g n Overflow (steps + 1) most_now told_now
   ended_wide e =
-      ends_wide p g n u.done.0 (below_here (n - c.depth) ++ left_of g.atoms n mid) here steps most told_now
-      (subst (λ (l : List Visit). IsDone p g n u.done.0 l steps most told_now) (node.met g.atoms n) u.done.1) less u.begins (e.0 g.atoms (made mid.bindings)) e.1
+      let u = is.under_way in
+      let done = subst (λ (l : List Visit). IsDone p g n u.done.0 l steps most told_now) (is.node.met g.atoms n) u.done.1 in
+      subst (λ m. HasEnded p g n Overflow (steps + 1) m told_now) is.longest
+      (ends_wide p g n u.done.0 (below_here (n - c.depth) ++ left_of g.atoms n mid) here steps most told_now done is.less u.begins (e.0 g.atoms (made mid.bindings)) e.1)
 
   -- and less is to be done
-  pub less_to_do : (last : Search) → attempts_left new ≤ attempts_left mid + length mid.program.now.clauses + 2 → attempts_left last ≡ attempts_left new → to_do p n last (steps + 1) < to_do p n old steps
-  less_to_do last attempts same =
-      let s = scaled_less n steps (suc (suc (length p.clauses))) less in
-      let f = node.fewer in
-      let clauses = ap (λ (l : Listing). length l.clauses) (program_mid ∙ u.program) in
-      omega (arith, s, f, attempts, same, clauses)
+  pub less_to_do : (last : Search) → attempts_left last ≡ attempts_left new → to_do p n last (steps + 1) < to_do p n old steps
+  less_to_do last same =
+      let s = scaled_less n steps (suc (suc (length p.clauses))) is.less in
+      let f = is.node.fewer in
+      let clauses = ap (λ (l : Listing). length l.clauses) (is.program_mid ∙ is.under_way.program) in
+      omega (arith, s, f, is.attempts, same, clauses)
 
 -- ---- the goal of the query is entered
 
 pub entered_goal : (g : Goal) (s : List Binding) (rests : List (List Atom)) (atoms : List Atom) → s ≡ [] → atoms ≡ g.atoms → goal_with s (map (raised 0) atoms) (tail_at rests 0) g.fresh ≡ g
 entered_goal g s rests atoms b e = (λ i. goal_with (b i) (map (raised 0) (e i)) [] g.fresh) ∙ root_goal g
 
-module _ (g : Goal) (n : ℕ) (old new : Search) (b : old.bindings ≡ []) (ch : old.choices.items ≡ []) (is : IsSearch new) (program : new.program.now ≡ old.program.now) (all : (d : ℕ) → AreWithin d (choices_of old) → 0 ≤ d → AreWithin d (choices_of new)) where
+-- a search that has done nothing enters the query
+pub record IsQueryEntered (old new : Search) : Type 0 where
+  pub no_bindings : old.bindings ≡ []
+  pub no_choices : old.choices.items ≡ []
+  pub search : IsSearch new
+  pub program : new.program.now ≡ old.program.now
+  pub bindings : new.bindings ≡ old.bindings
+  pub depths : (d : ℕ) → AreWithin d (choices_of old) → 0 ≤ d → AreWithin d (choices_of new)
+
+module _ {old new : Search} (is : IsQueryEntered old new) (g : Goal) (n : ℕ) where
   first_walk : walk old.program.now g.atoms (suc (n - 0)) (made old.bindings) 0 g ++ left_of g.atoms n old ≡ walk old.program.now g.atoms (suc n) [] 0 g
   first_walk =
-      (λ i. walk old.program.now g.atoms (suc (n - 0)) (made (b i)) 0 g ++ left old.program.now g.atoms n old.bindings old.tails (reverse (ch i)))
+      (λ i. walk old.program.now g.atoms (suc (n - 0)) (made (is.no_bindings i)) 0 g ++ left old.program.now g.atoms n old.bindings old.tails (reverse (is.no_choices i)))
       ∙ append-nil (walk old.program.now g.atoms (suc (n - 0)) [] 0 g)
       ∙ ap (λ d. walk old.program.now g.atoms (suc d) [] 0 g) (let e : n - 0 ≡ n = omega arith in e)
 
   none_deep : AreWithin 0 (choices_of new)
-  none_deep = all 0 (subst (λ (l : List Choice). AreWithin 0 (reverse l)) (sym ch) tt) (omega arith)
+  none_deep = is.depths 0 (subst (λ (l : List Choice). AreWithin 0 (reverse l)) (sym is.no_choices) tt) (omega arith)
 
   pub begun_with_atoms : IsEntered old 0 g Open new → IsUnderWay old.program.now g n new 0 0 []
   begun_with_atoms e = record {
-    search = is;
-    program = program;
+    search = is.search;
+    program = is.program;
     done = (
       [],
       record {
@@ -378,16 +410,16 @@ module _ (g : Goal) (n : ℕ) (old new : Search) (b : old.bindings ≡ []) (ch :
     depth = none_deep;
   }
 
-  pub begun_without_atoms : (last : Search) (a : Answer) → IsEntered old 0 g Empty new → new.bindings ≡ old.bindings → SameSearch new last → a ≡ told (answered_atoms new.bindings g.atoms) → IsUnderWay old.program.now g n last 0 0 (a ∷ [])
-  begun_without_atoms last a e bindings same is_told = record {
-    search = same_is new last same is;
-    program = same.program ∙ program;
+  pub begun_without_atoms : {last : Search} (a : Answer) → IsEntered old 0 g Empty new → SameSearch new last → a ≡ told (answered_atoms new.bindings g.atoms) → IsUnderWay old.program.now g n last 0 0 (a ∷ [])
+  begun_without_atoms {last} a e same is_told = record {
+    search = same_is new last same is.search;
+    program = same.program ∙ is.program;
     done = (
       [],
       record {
         walked =
             walk_none old.program.now g.atoms (suc n) [] 0 g e.0
-            ∙ (λ i. left old.program.now g.atoms n old.bindings old.tails (reverse (sym ch i)))
+            ∙ (λ i. left old.program.now g.atoms n old.bindings old.tails (reverse (sym is.no_choices i)))
             ∙ e.1 g.atoms n
             ∙ same_left new last same g.atoms n;
         counted = refl;
@@ -403,15 +435,10 @@ module _ (g : Goal) (n : ℕ) (old new : Search) (b : old.bindings ≡ []) (ch :
     where
       told_one : a ∷ [] ≡ told_after g []
       told_one =
-          ap (λ (c : Answer). c ∷ []) (is_told ∙ ap (λ (s : List Binding). told (answered_atoms s g.atoms)) (bindings ∙ b))
+          ap (λ (c : Answer). c ∷ []) (is_told ∙ ap (λ (s : List Binding). told (answered_atoms s g.atoms)) (is.bindings ∙ is.no_bindings))
           ∙ ap (λ (l : List Atom). map told (cons_option (answer_by g.atoms [] l) [])) (sym e.0)
 
 -- ---- a run between two answers
-
--- what is so of what is found
-pub if_ok : {A E : Type 0} {P Q : A → Type 0} (r : Result A E) → ((a : A) → P a → Q a) → IfOk r P → IfOk r Q
-if_ok (Ok a) f h = f a h
-if_ok (Err e) f h = tt
 
 pub is_running : (p : Listing) (g : Goal) (n : ℕ) (run : Running) (given : List Answer) → HasGiven p g n run given → IsRunning run
 is_running p g n run given h = (given, record { program = refl; goal = refl; budget = refl; chain = h.chain; at = h.at })
@@ -436,22 +463,35 @@ pub ended_for : (p : Listing) (g : Goal) (n : ℕ) (run : Running) (given : List
 ended_for p g n run given m h = subst (λ (w : Listing × Goal × ℕ). HasEnded w.0 w.1 w.2 m.ending m.steps m.longest given) (λ i. (h.program i, h.goal i, h.budget i))
 
 -- a run that goes on, with its search and its totals alone changed
-module _ (old new : Running) (program : new.search.program.now ≡ old.search.program.now) (chain : new.chain ≡ old.chain) (goal : new.goal.now ≡ old.goal.now) (budget : new.budget ≡ old.budget) (begun : new.has_begun ≡ true) where
+pub record HasGoneOn (old new : Running) : Type 0 where
+  pub program : new.search.program.now ≡ old.search.program.now
+  pub chain : new.chain ≡ old.chain
+  pub goal : new.goal.now ≡ old.goal.now
+  pub budget : new.budget ≡ old.budget
+  pub begun : new.has_begun ≡ true
+
+-- and enters the query by it, with nothing counted yet
+pub record HasNowBegun (old new : Running) : Type 0 where
+  pub before : old.has_begun ≡ false
+  pub same : new.totals ≡ old.totals
+  pub attempts : attempts_left new.search ≤ length old.search.program.now.clauses + 2
+
+module _ {old new : Running} (on : HasGoneOn old new) where
   pub now_given : (p : Listing) (g : Goal) (n : ℕ) (given now : List Answer) → HasGiven p g n old given → IsUnderWay old.search.program.now old.goal.now old.budget new.search new.totals.steps new.totals.longest now → HasGiven p g n new now
   now_given p g n given now h u = record {
-    program = program ∙ h.program;
-    goal = goal ∙ h.goal;
-    budget = budget ∙ h.budget;
-    chain = subst (λ (w : Listing × ClauseChain). IsChain w.0 w.1) (λ i. (sym program i, sym chain i)) h.chain;
+    program = on.program ∙ h.program;
+    goal = on.goal ∙ h.goal;
+    budget = on.budget ∙ h.budget;
+    chain = subst (λ (w : Listing × ClauseChain). IsChain w.0 w.1) (λ i. (sym on.program i, sym on.chain i)) h.chain;
     at =
-        subst (IsAt new.search.program.now new.goal.now new.budget new.search new.totals now) (sym begun)
-        (subst (λ (w : Listing × Goal × ℕ). IsUnderWay w.0 w.1 w.2 new.search new.totals.steps new.totals.longest now) (λ i. (sym program i, sym goal i, sym budget i)) u);
+        subst (IsAt new.search.program.now new.goal.now new.budget new.search new.totals now) (sym on.begun)
+        (subst (λ (w : Listing × Goal × ℕ). IsUnderWay w.0 w.1 w.2 new.search new.totals.steps new.totals.longest now) (λ i. (sym on.program i, sym on.goal i, sym on.budget i)) u);
   }
 
   ahead_new : answers_ahead new ≡ to_do old.search.program.now old.budget new.search new.totals.steps
-  ahead_new = λ i. if begun i
-      then to_do (program i) (budget i) new.search new.totals.steps
-      else suc (scaled (suc (budget i)) (suc (suc (length (program i).clauses))))
+  ahead_new = λ i. if on.begun i
+      then to_do (on.program i) (on.budget i) new.search new.totals.steps
+      else suc (scaled (suc (on.budget i)) (suc (suc (length (on.program i).clauses))))
 
   pub fewer_ahead : old.has_begun ≡ true → to_do old.search.program.now old.budget new.search new.totals.steps < to_do old.search.program.now old.budget old.search old.totals.steps → answers_ahead new < answers_ahead old
   fewer_ahead e less =
@@ -476,21 +516,21 @@ module _ (old new : Running) (program : new.search.program.now ≡ old.search.pr
   went_on e p g n given h (End m) advanced = ended_for p g n old given m h advanced
 
   -- after the query is entered
-  module _ (e : old.has_begun ≡ false) (same : new.totals ≡ old.totals) (attempts : attempts_left new.search ≤ length old.search.program.now.clauses + 2) (p : Listing) (g : Goal) (n : ℕ) (given : List Answer) (h : HasGiven p g n old given) where
+  module _ (first : HasNowBegun old new) (p : Listing) (g : Goal) (n : ℕ) (given : List Answer) (h : HasGiven p g n old given) where
     none_before : given ≡ []
-    none_before = (fresh p g n old given h e).1
+    none_before = (fresh p g n old given h first.before).1
 
     none_counted : new.totals.steps ≡ 0
-    none_counted = ap (λ (t : Totals). t.steps) same ∙ (fresh p g n old given h e).0.steps
+    none_counted = ap (λ (t : Totals). t.steps) first.same ∙ (fresh p g n old given h first.before).0.steps
 
     none_longest : new.totals.longest ≡ 0
-    none_longest = ap (λ (t : Totals). t.longest) same ∙ (fresh p g n old given h e).0.longest
+    none_longest = ap (λ (t : Totals). t.longest) first.same ∙ (fresh p g n old given h first.before).0.longest
 
     first_given : (now : List Answer) → IsUnderWay old.search.program.now old.goal.now old.budget new.search 0 0 now → HasGiven p g n new now
     first_given now u = now_given p g n given now h (subst (λ (w : ℕ × ℕ). IsUnderWay old.search.program.now old.goal.now old.budget new.search w.0 w.1 now) (λ i. (sym none_counted i, sym none_longest i)) u)
 
     pub began_ahead : answers_ahead new < answers_ahead old
-    began_ahead = first_ahead e none_counted attempts
+    began_ahead = first_ahead first.before none_counted first.attempts
 
     pub began_with_nothing : HasBegun old.search.program.now old.goal.now old.budget new.search None → HasGiven p g n new given
     began_with_nothing u = subst (HasGiven p g n new) (sym none_before) (first_given [] u)

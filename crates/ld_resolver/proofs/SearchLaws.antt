@@ -1,5 +1,5 @@
 -- Laws of the steps of a search.
-use Rattle.std.proofs.Common.{◌≡◌, ◌≢◌, ℕ, zero, suc, ◌+◌, ◌-◌, ◌<◌, ◌≤◌, false, ◌==◌, if◌then◌else◌, List, [], ◌∷◌, ◌++◌, map, length, take, drop, IsTrue, slice_get, Option, None, Some, option_map, option_and_then, append_assoc, append-nil, length-append, refl, ap, sym, ◌∙◌, subst, arith}
+use Rattle.std.proofs.Common.{◌≡◌, ◌≢◌, ℕ, zero, suc, ◌+◌, ◌-◌, ◌<◌, ◌≤◌, false, ◌==◌, if◌then◌else◌, List, [], ◌∷◌, ◌++◌, map, length, take, drop, IsTrue, slice_get, Option, None, Some, option_map, option_and_then, append_assoc, length-append, refl, ap, sym, ◌∙◌, subst, arith}
 use Rattle.std.proofs.lemmas.List.{drop-drop, length-drop, map-append, take-append-drop}
 use Rattle.std.proofs.lemmas.Bool.Decides.{nat_tests}
 use Rattle.std.specs.List.{AllByRecursion, range_with_len}
@@ -9,13 +9,14 @@ use Rattle.cti_terms.specs.declared.clauses.Clause.{Clause}
 use Rattle.cti_terms.specs.declared.derivation.Goal.{Goal}
 use Rattle.cti_terms.specs.Arithmetic.{kind_of, passes_as, is_wide_as, begins_wide}
 use Rattle.cti_terms.specs.declared.builtins.Builtin.{Builtin}
-use Rattle.cti_terms.specs.Listing.{Listing, IsAtom, IsClause}
+use Rattle.cti_terms.specs.Listing.{Listing, IsAtom, IsClause, numbered}
 use Rattle.cti_terms.specs.declared.predicates.Pred.{Pred}
 use Rattle.cti_terms.specs.Unify.{Equation, Binding, applied}
 use Rattle.cti_terms.specs.UnifyFunction.{unify}
 use Rattle.cti_terms.specs.Resolve.{over, raised, head_equations, left_by, answered, passed, resolve_by, resolve_itself, resolve}
 use Rattle.cti_terms.specs.Answers.{answer_by}
 use Rattle.ld_resolver.specs.declared.choices.Choice.{Choice}
+use Rattle.ld_resolver.specs.declared.search.Search.{Search}
 use Rattle.unifier.specs.Raised.{raise}
 use Rattle.unifier.specs.Store.{made, full}
 use Rattle.unifier.specs.Pending.{Extends, KeepsFree}
@@ -24,7 +25,7 @@ use Rattle.unifier.specs.Below.{ArgumentsBelow, AtomsBelow, FreeFrom}
 use Rattle.ld_resolver.specs.Walk.{Visit, entered, walk_by, walk}
 use Rattle.ld_resolver.specs.Choices.{kept, goal_from, goal_of, clauses_left, left, GoesByItself, IsChoice, Within, AreChoices, GrowsTo}
 use Rattle.ld_resolver.specs.FirstArguments.{IsNextMatch}
-use Rattle.ld_resolver.specs.Searches.{attempts_at, AreNumbered, AreMarked, goal_with}
+use Rattle.ld_resolver.specs.Searches.{attempts_at, AreNumbered, AreMarked, choices_of, goal_at, goal_with, left_of, IsNewest, IsSearch}
 use Rattle.unifier.proofs.StoreLaws.{applied-append, eqb_same}
 use Rattle.unifier.proofs.BelowLaws.{full_raised, applied_below, wider, all_wider, pairs_below, arguments_raised, atoms_over, below_append, not_below}
 use Rattle.cti_terms.proofs.UnifyLaws.{AllBelow, unify_finds}
@@ -109,18 +110,26 @@ choices_through p s now rests rests_now m r (c ∷ below) w h e agree long all =
     )
 
 -- more rests
-pub stay_grown : (p : Listing) (s : List Binding) (rests now : List (List Atom)) (cs : List Choice) → GrowsTo rests now → AreChoices p s rests cs → Stay s s rests now cs
+stay_grown : (p : Listing) (s : List Binding) (rests now : List (List Atom)) (cs : List Choice) → GrowsTo rests now → AreChoices p s rests cs → Stay s s rests now cs
 stay_grown p s rests now [] g all = tt
 stay_grown p s rests now (c ∷ below) g all =
     ((refl, ap (λ r. tail_at r c.rest) g.1 ∙ tail_kept rests g.0 c.rest (let r = all.0.rest in let l = all.0.counted in omega (arith, r, l))), stay_grown p s rests now below g all.2)
 
-pub choices_grown : (p : Listing) (s : List Binding) (rests now : List (List Atom)) (cs : List Choice) → GrowsTo rests now → AreChoices p s rests cs → AreChoices p s now cs
+choices_grown : (p : Listing) (s : List Binding) (rests now : List (List Atom)) (cs : List Choice) → GrowsTo rests now → AreChoices p s rests cs → AreChoices p s now cs
 choices_grown p s rests now [] g all = tt
 choices_grown p s rests now (c ∷ below) g all =
     let r = all.0.rest in
     let l = all.0.counted in
     let longer = ap length g.1 ∙ length-append rests g.0 in
     (stay_choice p s s rests now c refl (ap (λ r. tail_at r c.rest) g.1 ∙ tail_kept rests g.0 c.rest (omega (arith, r, l))) all.0.mark (omega (arith, l, longer)) all.0, all.1, choices_grown p s rests now below g all.2)
+
+-- a search with more rests
+module _ (x : Search) (now : List (List Atom)) (grown : GrowsTo x.tails now) (all : IsSearch x) where
+  pub search_grown : IsSearch (record x { tails = now })
+  search_grown = choices_grown x.program.now x.bindings x.tails now (choices_of x) grown all
+
+  pub left_grown : (q : List Atom) (n : ℕ) → left_of q n x ≡ left_of q n (record x { tails = now })
+  left_grown q n = sym (left_stays x.program.now q n x.bindings x.bindings x.tails now (choices_of x) (stay_grown x.program.now x.bindings x.tails now (choices_of x) grown all))
 
 pub are_numbered : (p : Listing) (s : List Binding) (rests : List (List Atom)) (cs : List Choice) → AreChoices p s rests cs → AreNumbered p cs
 are_numbered p s rests [] all = tt
@@ -289,56 +298,70 @@ module _ (p : Listing) (s now : List Binding) (rests rests_now : List (List Atom
 
 -- ---- a goal that is entered
 
-start_goal : (s : List Binding) (atoms : List Atom) (a : Atom) (rest : List Atom) (n : ℕ) → atoms ≡ a ∷ rest → goal_with s atoms [] n ≡ goal_from s n a rest
-start_goal s atoms a rest n e = λ i. record { atoms = map (over (full s)) ((append-nil atoms ∙ e) i); fresh = n }
+-- a choice is new in a search
+module _ {x : Search} {c : Choice} (all : IsSearch x) (newest : IsNewest x c) where
+  newest_kept : kept x.bindings c.mark ≡ x.bindings
+  newest_kept = ap (kept x.bindings) newest.mark ∙ kept_all x.bindings
 
-module _ (p : Listing) (s : List Binding) (rests now : List (List Atom)) (cs : List Choice) (all : AreChoices p s rests cs) (g : GrowsTo rests now) (c : Choice) (atoms rest : List Atom) (e : atoms ++ rest ≡ raised c.base c.atom.now ∷ tail_at now c.rest) (within : c.rest ≤ length now) (newest : c.rests ≡ length now) (first : IsNextMatch p s (raised c.base c.atom.now) c.fresh 1 c.next) (plain : kind_of p.arithmetic c.atom.now.pred.0 ≡ None) (mark : c.mark ≡ length s) (free : FreeFrom c.fresh s) (below : AtomsBelow c.fresh (goal_with s atoms rest c.fresh).atoms) where
-  all_kept : kept s c.mark ≡ s
-  all_kept = ap (kept s) mark ∙ kept_all s
+  newest_goal : goal_of x.bindings x.tails c ≡ goal_at x c
+  newest_goal = λ i. goal_from (newest_kept i) c.fresh (raised c.base c.atom.now) (tail_at x.tails c.rest)
 
-  same_goal : goal_of s now c ≡ goal_with s atoms rest c.fresh
-  same_goal = λ i. record { atoms = map (over (full (all_kept i))) (sym e i); fresh = c.fresh }
-
-  pub choice_entered : AreChoices p s now (c ∷ cs)
-  choice_entered = (
+  newest_choices : c.next ≤ suc (length x.program.now.clauses) → ((k : Clause) → numbered x.program.now.clauses c.next ≡ Some k → c.atom.now.pred.0 ≡ k.head.pred.0) → (c.next ≡ 0 → GoesByItself x.program.now.arithmetic x.bindings c)
+      → AreChoices x.program.now x.bindings x.tails (c ∷ choices_of x)
+  newest_choices to_end pred itself = (
     record {
-      mark = omega (arith, mark);
-      rest = omega (arith, within, newest);
-      counted = omega (arith, newest);
-      to_end = first.to_end;
-      pred = first.found;
-      itself = λ z. absurd (omega (arith, z, first.from));
-      free = subst (FreeFrom c.fresh) (sym all_kept) free;
-      below = subst (λ (h : Goal). AtomsBelow c.fresh h.atoms) (sym same_goal) below;
+      mark = omega (arith, newest.mark);
+      rest = omega (arith, newest.rest, newest.rests);
+      counted = omega (arith, newest.rests);
+      to_end = to_end;
+      pred = pred;
+      free = subst (FreeFrom c.fresh) (sym newest_kept) newest.free;
+      below = subst (λ (h : Goal). AtomsBelow c.fresh h.atoms) (sym newest_goal) newest.below;
+      itself = λ at_zero. subst (λ (b : List Binding). GoesByItself x.program.now.arithmetic b c) (sym newest_kept) (itself at_zero);
     },
-    within_all p s rests c.mark c.rests cs (omega (arith, mark)) (omega (arith, newest, ap length g.1, length-append rests g.0)) all,
-    choices_grown p s rests now cs g all,
+    within_all x.program.now x.bindings x.tails c.mark c.rests (choices_of x) (omega (arith, newest.mark)) (omega (arith, newest.rests)) all,
+    all,
   )
 
-  clauses_all : (q : List Atom) (deeper : List Binding → ℕ → Goal → List Visit) (bs : List Binding) (l : ℕ) → walk_by p q deeper bs l (goal_of s now c) (range_with_len 0 (suc (length p.clauses))) ≡ walk_by p q deeper bs l (goal_of s now c) (clauses_left p c)
-  clauses_all q deeper bs l =
-      ap (λ o. entered p.arithmetic q deeper bs l o ++ walk_by p q deeper bs l (goal_of s now c) (range_with_len 1 (length p.clauses))) none_by_itself
-      ∙ ap (λ k. walk_by p q deeper bs l (goal_of s now c) (range_with_len 1 k)) (sym count)
-      ∙ met_by_match p q deeper bs l (kept s c.mark) (raised c.base c.atom.now) (tail_at now c.rest) c.fresh 1 c.next (subst (λ (b : List Binding). IsNextMatch p b (raised c.base c.atom.now) c.fresh 1 c.next) (sym all_kept) first)
-    where
-      none_by_itself : resolve p (goal_of s now c) 0 ≡ None
-      none_by_itself = ordinary_none p (over (full (kept s c.mark)) (raised c.base c.atom.now)) (map (over (full (kept s c.mark))) (tail_at now c.rest)) c.fresh plain
+  -- its atom is resolved by clauses, from the first one that can match
+  module _ (first : IsNextMatch x.program.now x.bindings (raised c.base c.atom.now) c.fresh 1 c.next) (plain : kind_of x.program.now.arithmetic c.atom.now.pred.0 ≡ None) where
+    pub choice_entered : AreChoices x.program.now x.bindings x.tails (c ∷ choices_of x)
+    choice_entered = newest_choices first.to_end first.found (λ at_zero. absurd (omega (arith, at_zero, first.from)))
 
-      count : suc (length p.clauses) - 1 ≡ length p.clauses
-      count = omega arith
+    clauses_all : (q : List Atom) (deeper : List Binding → ℕ → Goal → List Visit) (bs : List Binding) (l : ℕ) → walk_by x.program.now q deeper bs l (goal_at x c) (range_with_len 0 (suc (length x.program.now.clauses))) ≡ walk_by x.program.now q deeper bs l (goal_at x c) (clauses_left x.program.now c)
+    clauses_all q deeper bs l =
+        ap (λ o. entered x.program.now.arithmetic q deeper bs l o ++ walk_by x.program.now q deeper bs l (goal_at x c) (range_with_len 1 (length x.program.now.clauses)))
+        (ordinary_none x.program.now (over (full x.bindings) (raised c.base c.atom.now)) (map (over (full x.bindings)) (tail_at x.tails c.rest)) c.fresh plain)
+        ∙ ap (λ k. walk_by x.program.now q deeper bs l (goal_at x c) (range_with_len 1 k)) (sym count)
+        ∙ met_by_match x.program.now q deeper bs l x.bindings (raised c.base c.atom.now) (tail_at x.tails c.rest) c.fresh 1 c.next first
+      where
+        count : suc (length x.program.now.clauses) - 1 ≡ length x.program.now.clauses
+        count = omega arith
 
-  pub left_entered : (q : List Atom) (n : ℕ) → walk p q (suc (n - c.depth)) (made s) c.depth (goal_with s atoms rest c.fresh) ++ left p q n s rests cs ≡ left p q n s now (c ∷ cs)
-  left_entered q n =
-      (λ i. walk_by p q (walk p q (n - c.depth)) (made (sym all_kept i)) c.depth (sym same_goal i) (range_with_len 0 (suc (length p.clauses))) ++ sym (left_stays p q n s s rests now cs (stay_grown p s rests now cs g all)) i)
-      ∙ ap (λ (vs : List Visit). vs ++ left p q n s now cs) (clauses_all q (walk p q (n - c.depth)) (made (kept s c.mark)) c.depth)
+    pub left_entered : (q : List Atom) (n : ℕ) → walk x.program.now q (suc (n - c.depth)) (made x.bindings) c.depth (goal_at x c) ++ left_of q n x ≡ left x.program.now q n x.bindings x.tails (c ∷ choices_of x)
+    left_entered q n =
+        ap (λ (vs : List Visit). vs ++ left_of q n x) (clauses_all q (walk x.program.now q (n - c.depth)) (made x.bindings) c.depth)
+        ∙ (λ i. walk_by x.program.now q (walk x.program.now q (n - c.depth)) (made (sym newest_kept i)) c.depth (sym newest_goal i) (clauses_left x.program.now c) ++ left_of q n x)
 
-  pub no_answer : (q : List Atom) (bs : List Binding) → answer_by q bs (goal_with s atoms rest c.fresh).atoms ≡ None
-  no_answer q bs = ap (λ (h : Goal). answer_by q bs h.atoms) (sym same_goal)
+  -- its atom is built in, and may succeed
+  module _ (itself : c.next ≡ 0) where
+    pub choice_itself : GoesByItself x.program.now.arithmetic x.bindings c → AreChoices x.program.now x.bindings x.tails (c ∷ choices_of x)
+    choice_itself goes = newest_choices (omega (arith, itself)) (λ k e. absurd (no_number k c.next itself e)) (λ z. goes)
+      where
+        no_number : (k : Clause) (m : ℕ) → m ≡ 0 → numbered x.program.now.clauses m ≡ Some k → ⊥
+        no_number k zero z e = cc
+        no_number k (suc m) z e = absurd (omega (arith, z))
 
-  pub not_wide : begins_wide p.arithmetic (goal_with s atoms rest c.fresh).atoms ≡ false
-  not_wide =
-      ap (λ (h : Goal). begins_wide p.arithmetic h.atoms) (sym same_goal)
-      ∙ ordinary_fits p (over (full (kept s c.mark)) (raised c.base c.atom.now)) (map (over (full (kept s c.mark))) (tail_at now c.rest)) plain
+    pub left_itself : (q : List Atom) (n : ℕ) → walk x.program.now q (suc (n - c.depth)) (made x.bindings) c.depth (goal_at x c) ++ left_of q n x ≡ left x.program.now q n x.bindings x.tails (c ∷ choices_of x)
+    left_itself q n =
+        ap (λ (ks : List ℕ). walk_by x.program.now q (walk x.program.now q (n - c.depth)) (made x.bindings) c.depth (goal_at x c) ks ++ left_of q n x) from_itself
+        ∙ (λ i. walk_by x.program.now q (walk x.program.now q (n - c.depth)) (made (sym newest_kept i)) c.depth (sym newest_goal i) (clauses_left x.program.now c) ++ left_of q n x)
+      where
+        none_before : suc (length x.program.now.clauses) ≡ suc (length x.program.now.clauses) - 0
+        none_before = omega arith
+
+        from_itself : range_with_len 0 (suc (length x.program.now.clauses)) ≡ clauses_left x.program.now c
+        from_itself = ap (range_with_len 0) none_before ∙ ap (λ k. range_with_len k (suc (length x.program.now.clauses) - k)) (sym itself)
 
 -- ---- the counter of a goal that is left
 

@@ -1,12 +1,9 @@
-use Rattle.std.proofs.Common.{Result, Ok, Err, IfOk, arith}
+use Rattle.std.proofs.Common.{arith}
 use Rattle.ld_resolver.specs.declared.builtin_atoms.FirstAtom.{FirstAtom}
 use Rattle.ld_resolver.specs.BuiltinAtoms.{AssignsTo, IsJudgedAs}
+use Rattle.ld_resolver.proofs.Results.{if_ok}
 use Rattle.ld_resolver.proofs.BuiltinAtomLaws.{args_now, is_assigned, is_compared}
 use Rattle.ld_resolver.proofs.builtin_atoms.judge_as.Goals as goal
-
-if_ok : {A E : Type 0} {P Q : A → Type 0} (r : Result A E) → ((a : A) → P a → Q a) → IfOk r P → IfOk r Q
-if_ok (Ok a) f h = f a h
-if_ok (Err e) f h = tt
 
 pub returns-in-Is : goal.returns-in-Is
 returns-in-Is c =

@@ -1,62 +1,47 @@
-use Rattle.std.proofs.Common.{◌≡◌, ℕ, None, suc, List, ◌≤◌, [], ◌∷◌, length, reverse, ap, sym, ◌∙◌, subst, arith}
+use Rattle.std.proofs.Common.{◌≡◌, suc, ◌≤◌, [], ◌∷◌, reverse, Some, ap, ◌∙◌, arith}
 use Rattle.std.proofs.lemmas.List.{reverse-append}
-use Rattle.cti_terms.specs.Arithmetic.{kind_of}
-use Rattle.cti_terms.specs.Unify.{Binding}
-use Rattle.cti_terms.specs.Resolve.{raised}
+use Rattle.cti_terms.specs.Listing.{numbered}
 use Rattle.ld_resolver.specs.Chain.{IsNext}
-use Rattle.ld_resolver.specs.FirstArguments.{IsNextMatch}
-use Rattle.ld_resolver.specs.Searches.{AreNumbered}
 use Rattle.ld_resolver.proofs.ChainLaws.{clause_at}
+use Rattle.ld_resolver.proofs.search.take_clause.Goals.{After-after-next}
 use Rattle.ld_resolver.proofs.search.take_clause.Goals as goal
 
+-- the last choice, the clause of its number, and the next clause of that predicate
+module _ (c : After-after-next) where
+  was : reverse c.args.choices.now.items ≡ c.in-Some.choice ∷ reverse c.pop.new.self.items
+  was = ap reverse c.in-Some.ensures.items ∙ reverse-append c.pop.new.self.items (c.in-Some.choice ∷ [])
+
+  first : 1 ≤ c.in-Some.choice.next
+  first = omega (arith, c.if-choice-eq0.false)
+
+  there : numbered c.args.program.now.clauses c.in-Some.choice.next ≡ Some c.clause-clause.result.now
+  there = clause_at c.args.program.now.clauses c.in-Some.choice.next c.clause-clause.result.now first c.clause-clause.ensures.there
+
+  pred : c.in-Some.choice.atom.now.pred.0 ≡ c.clause-clause.result.now.head.pred.0
+  pred = (rw was at c.requires.numbered).0.1 c.clause-clause.result.now there
+
+  after : IsNext c.args.program.now c.clause-clause.result.now.head.pred.0 (suc c.in-Some.choice.next) c.after-next.result
+  after = c.after-next.ensures c.args.program.now c.requires.chain c.clause-clause.result.now there
+
 pub next_match-next-requires-clause-next : goal.next_match-next-requires-clause-next
-next_match-next-requires-clause-next c =
-    let p = c.args.program.now in
-    let choice = c.in-Some.choice in
-    let k = c.clause-clause.result.now in
-    let below = reverse c.pop.new.self.items in
-    let was : reverse c.args.choices.now.items ≡ choice ∷ below = ap reverse c.in-Some.ensures.items ∙ reverse-append c.pop.new.self.items (choice ∷ []) in
-    let first : 1 ≤ choice.next = omega (arith, c.if-choice-eq0.false) in
-    let numbers = (subst (AreNumbered p) was c.requires.numbered).0 in
-    let after = c.after-next.ensures p c.requires.chain k (clause_at p.clauses choice.next k first c.clause-clause.ensures.there) in
-    omega (arith, after.from)
+next_match-next-requires-clause-next c = omega (arith, (after (goal.at.next_match-next-requires-clause-next c).After-after-next).from)
 
 pub next_match-next-requires-clause-ordinary : goal.next_match-next-requires-clause-ordinary
-next_match-next-requires-clause-ordinary c =
-    let p = c.args.program.now in
-    let choice = c.in-Some.choice in
-    let k = c.clause-clause.result.now in
-    let below = reverse c.pop.new.self.items in
-    let was : reverse c.args.choices.now.items ≡ choice ∷ below = ap reverse c.in-Some.ensures.items ∙ reverse-append c.pop.new.self.items (choice ∷ []) in
-    let first : 1 ≤ choice.next = omega (arith, c.if-choice-eq0.false) in
-    let numbers = (subst (AreNumbered p) was c.requires.numbered).0 in
-    let same = numbers.1 k (clause_at p.clauses choice.next k first c.clause-clause.ensures.there) in
-    subst (λ (f : ℕ). kind_of p.arithmetic f ≡ None) (sym same) c.clause-clause.ensures.ordinary
+next_match-next-requires-clause-ordinary c = rw (pred (goal.at.next_match-next-requires-clause-ordinary c).After-after-next) c.clause-clause.ensures.ordinary
 
 pub returns : goal.returns
 returns c =
-    let p = c.args.program.now in
-    let choice = c.in-Some.choice in
-    let k = c.clause-clause.result.now in
-    let below = reverse c.pop.new.self.items in
-    let was : reverse c.args.choices.now.items ≡ choice ∷ below = ap reverse c.in-Some.ensures.items ∙ reverse-append c.pop.new.self.items (choice ∷ []) in
-    let first : 1 ≤ choice.next = omega (arith, c.if-choice-eq0.false) in
-    let numbers = (subst (AreNumbered p) was c.requires.numbered).0 in
-    let within : choice.next ≤ length p.clauses = omega (arith, c.if-choice-clauses.false, c.clauses.ensures.count) in
-    let there = clause_at p.clauses choice.next k first c.clause-clause.ensures.there in
-    let same = numbers.1 k there in
+    let at = (goal.at.returns c).After-after-next in
     record {
-      below = below;
+      below = reverse c.pop.new.self.items;
       m = c.next_match-next.result;
-      was = was;
+      was = was at;
       is = c.in_ok-put_back.ensures;
-      first = first;
-      within = within;
+      first = first at;
+      within = omega (arith, c.if-choice-clauses.false, c.clauses.ensures.count);
       there = c.clause-clause.ensures.there;
       clause = c.clause-clause.ensures.sound;
-      pred = same;
+      pred = pred at;
       back = c.undo.ensures;
-      next =
-          subst (λ (b : List Binding). IsNextMatch p b (raised choice.base choice.atom.now) choice.fresh (suc choice.next) c.next_match-next.result) c.undo.ensures
-          (c.next_match-next.ensures (suc choice.next) (subst (λ f. IsNext p f (suc choice.next) c.after-next.result) (sym same) (c.after-next.ensures p c.requires.chain k there)));
+      next = rw c.undo.ensures at (c.next_match-next.ensures (suc c.in-Some.choice.next) (rw (pred at) (after at)));
     }

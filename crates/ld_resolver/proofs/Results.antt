@@ -1,0 +1,6 @@
+-- What is so of what is returned.
+use Rattle.std.proofs.Common.{Result, Ok, Err, IfOk}
+
+pub if_ok : {A E : Type 0} {P Q : A → Type 0} (r : Result A E) → ((a : A) → P a → Q a) → IfOk r P → IfOk r Q
+if_ok (Ok a) f h = f a h
+if_ok (Err e) f h = tt
