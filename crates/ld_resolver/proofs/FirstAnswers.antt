@@ -16,7 +16,8 @@ use Rattle.ld_resolver.specs.Walk.{Visit, visit, met_answers}
 use Rattle.ld_resolver.specs.Searches.{left_of}
 use Rattle.ld_resolver.specs.Progress.{IsUnderWay, HasGiven}
 use Rattle.ld_resolver.proofs.WalkLaws.{walk_nodes, met_visits, wide_visits}
-use Rattle.ld_resolver.proofs.ProgressLaws.{map-take, under_way, fresh}
+use Rattle.ld_resolver.proofs.ProgressLaws.{map-take}
+use Rattle.ld_resolver.proofs.RunningLaws.{under_way, fresh}
 
 take_past : {X : Type 0} (n : ℕ) (xs ys : List X) → length xs ≤ n → (zs : List X) × (take n (xs ++ ys) ≡ xs ++ zs)
 take_past n [] ys l = (take n ys, refl)

@@ -12,6 +12,7 @@ pub mod FirstKindLaws
 pub mod CountLaws
 pub mod ProgressLaws
 pub mod Results
+pub mod RunningLaws
 pub mod SearchLaws
 pub mod TailLaws
 pub mod ToldLaws

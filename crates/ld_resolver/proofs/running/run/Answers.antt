@@ -1,6 +1,7 @@
 use Rattle.ld_resolver.specs.declared.running.Found.TheVariants.{Answer}
 use Rattle.ld_resolver.specs.Progress.{GoesOn}
-use Rattle.ld_resolver.proofs.ProgressLaws.{is_running, stopped_is, finished_is, overflow_is}
+use Rattle.ld_resolver.proofs.ProgressLaws.{stopped_is, finished_is, overflow_is}
+use Rattle.ld_resolver.proofs.RunningLaws.{is_running}
 use Rattle.ld_resolver.proofs.running.run.Goals.{In-Answer}
 use Rattle.ld_resolver.proofs.running.run.Goals as goal
 

@@ -1,5 +1,5 @@
 use Rattle.std.proofs.Common.{[]}
-use Rattle.ld_resolver.proofs.ProgressLaws.{is_running}
+use Rattle.ld_resolver.proofs.RunningLaws.{is_running}
 use Rattle.term_text.proofs.RunningLemmas.{one_more, whole}
 use Rattle.term_text.proofs.running.text_of_run.Goals as goal
 

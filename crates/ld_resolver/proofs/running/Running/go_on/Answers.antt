@@ -4,7 +4,7 @@ use Rattle.cti_terms.specs.Listing.{Listing}
 use Rattle.ld_resolver.specs.declared.answer.Answer.{Answer}
 use Rattle.ld_resolver.specs.declared.running.Running.{Running}
 use Rattle.ld_resolver.specs.Progress.{HasAdvanced, HasGiven, answers_ahead}
-use Rattle.ld_resolver.proofs.ProgressLaws.{HasGoneOn, under_way, now_given, fewer_ahead, went_on, goes_on_from}
+use Rattle.ld_resolver.proofs.RunningLaws.{HasGoneOn, under_way, now_given, fewer_ahead, went_on, goes_on_from}
 use Rattle.ld_resolver.proofs.running.Running.go_on.Goals.{In_ok-found}
 use Rattle.ld_resolver.proofs.running.Running.go_on.Goals as goal
 

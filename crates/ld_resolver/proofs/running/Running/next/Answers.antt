@@ -1,6 +1,6 @@
 use Rattle.std.proofs.Common.{true, refl, arith}
 use Rattle.ld_resolver.specs.declared.running.Running.{Running}
-use Rattle.ld_resolver.proofs.ProgressLaws.{HasGoneOn, HasNowBegun, is_running, goes_on_from, began_with, began_with_nothing, began_ahead}
+use Rattle.ld_resolver.proofs.RunningLaws.{HasGoneOn, HasNowBegun, is_running, goes_on_from, began_with, began_with_nothing, began_ahead}
 use Rattle.ld_resolver.proofs.Results.{if_ok}
 use Rattle.ld_resolver.proofs.running.Running.next.Goals.{In_ok-found}
 use Rattle.ld_resolver.proofs.running.Running.next.Goals as goal
