@@ -77,18 +77,11 @@ going_on_more ks k (j ∷ js) =
     let others = going_on_more ks k js in
     λ i. first i ∷ others i
 
--- those that a clause gives: none, or its step and what comes under it
-pub given_none : (p : Listing) (ns : List ℕ) (h : Goal) (k d : ℕ) → resolve p h k ≡ None → going_on ns (under k (clause_nodes p d) (resolve p h k)) ≡ []
-given_none p ns h k d e = ap (λ o. going_on ns (under k (clause_nodes p d) o)) e
-
+-- those that a clause gives: its step and what comes under it
 pub given_some : (p : Listing) (ns : List ℕ) (h j : Goal) (k d : ℕ) (bs : List Binding) → resolve p h k ≡ Some (bs, j) → going_on ns (under k (clause_nodes p d) (resolve p h k)) ≡ (ns ++ k ∷ []) ∷ going_on (ns ++ k ∷ []) (clause_nodes p d j)
 given_some p ns h j k d bs e = ap (λ o. going_on ns (under k (clause_nodes p d) o)) e ∙ ap (λ l. (ns ++ k ∷ []) ∷ l) (going_on_more ns k (clause_nodes p d j))
 
 -- the step of the code
-pub step_none : (o : Option (List Binding × Goal)) → None ≡ option_map (λ r. r.1) o → o ≡ None
-step_none None e = refl
-step_none (Some r) e = let f : None ≡ Some r.1 = e in cc
-
 pub step_some : (o : Option (List Binding × Goal)) (j : Goal) → Some j ≡ option_map (λ r. r.1) o → (bs : List Binding) × (o ≡ Some (bs, j))
 step_some None j e = let f : Some j ≡ None = e in cc
 step_some (Some r) j e =
@@ -137,9 +130,6 @@ found_here p g ns gs n i ys path c last l =
         go (inl l) a d = absurd (last (length w) l (loop_is_cycle p g ns gs path w x e loop))
         go (inr l) a d = omega (arith, a, d, l)
 
-pub stopped_here : (p : Listing) (g : Goal) (n : ℕ) (x : List ℕ) (ys : List (List ℕ)) → n ≡ 0 → IsStopped p g n (x ∷ ys)
-stopped_here p g n x ys e = subst (λ (m : ℕ). IsStopped p g m (x ∷ ys)) (sym e) (record { more = omega arith; none = tt })
-
 -- what is found under a node without a cycle
 pub first_under : (p : Listing) (g : Goal) (ns : List ℕ) (gs : List Goal) (n m : ℕ) (ys : List (List ℕ)) (u v : List ℕ) → IsPath p g ns gs → ((i : ℕ) → IsCycleAt gs i → ⊥) → n ≡ suc m → IsFirstLoop p g m ys u v → IsFirstLoop p g n (ns ∷ ys) u v
 first_under p g ns gs n m ys u v path none e f =
@@ -155,9 +145,6 @@ pub nothing_under : (p : Listing) (g : Goal) (ns : List ℕ) (gs : List Goal) (n
 nothing_under p g ns gs n m k ys path none e f =
     let less : m ≡ n - 1 = omega (arith, e) in
     without_after p g n (ns ∷ []) ys 1 (node_without p g ns gs n path none (omega (arith, e))) k (subst (λ (j : ℕ). IsWithoutLoop p g j ys k) less f)
-
-pub nothing_at_all : (p : Listing) (g : Goal) (n : ℕ) → IsWithoutLoop p g n [] 0
-nothing_at_all p g n = record { count = refl; within = omega arith; none = tt }
 
 -- ---- clause after clause
 
@@ -204,29 +191,31 @@ given_more p ns d h i =
     ∙ map-append (λ js. ns ++ js) (flat_map f (range_with_len 1 i)) (f (i + 1) ++ [])
     ∙ ap (λ l. given_by p ns d h i ++ going_on ns l) (append_none (f (i + 1)))
 
-pub given_all : (p : Listing) (ns : List ℕ) (d : ℕ) (h : Goal) (i : ℕ) → i < length p.clauses → (later : List (List ℕ)) × (going_on ns (clause_nodes p (suc d) h) ≡ given_by p ns d h i ++ (given_at p ns d h (i + 1) ++ later))
-given_all p ns d h i l =
+pub given_all : (p : Listing) (ns : List ℕ) (d steps : ℕ) (h : Goal) (i : ℕ) → suc d ≡ steps → i < length p.clauses → (later : List (List ℕ)) × (going_on ns (clause_nodes p steps h) ≡ given_by p ns d h i ++ (given_at p ns d h (i + 1) ++ later))
+given_all p ns d steps h i all l =
     let f : ℕ → List (List ℕ) = λ k. under k (clause_nodes p d) (resolve p h k) in
     let rest = range_with_len (i + 1 + 1) (length p.clauses - (i + 1)) in (
       going_on ns (flat_map f rest),
-      ap (λ l. going_on ns (flat_map f l)) (range_split 1 i (length p.clauses) l)
+      ap (λ n. going_on ns (clause_nodes p n h)) (sym all)
+          ∙ ap (λ l. going_on ns (flat_map f l)) (range_split 1 i (length p.clauses) l)
           ∙ ap (going_on ns) (flat_map-append f (range_with_len 1 i) ((i + 1) ∷ rest))
           ∙ map-append (λ js. ns ++ js) (flat_map f (range_with_len 1 i)) (f (i + 1) ++ flat_map f rest)
           ∙ ap (λ l. given_by p ns d h i ++ l) (map-append (λ js. ns ++ js) (f (i + 1)) (flat_map f rest)),
     )
 
 -- found at clause i + 1, after clauses without a loop
-pub first_at : (p : Listing) (g : Goal) (ns : List ℕ) (d : ℕ) (h : Goal) (i n m k : ℕ) (u v : List ℕ) → i < length p.clauses → IsWithoutLoop p g n (given_by p ns d h i) m → k ≡ n - m → IsFirstLoop p g k (given_at p ns d h (i + 1)) u v → IsFirstLoop p g n (going_on ns (clause_nodes p (suc d) h)) u v
-first_at p g ns d h i n m k u v l w e f =
-    let a = given_all p ns d h i l in
-    let here = first_in p g (n - m) (given_at p ns d h (i + 1)) a.0 u v (subst (λ (j : ℕ). IsFirstLoop p g j (given_at p ns d h (i + 1)) u v) e f) in
-    subst (λ (xs : List (List ℕ)). IsFirstLoop p g n xs u v) (sym a.1) (first_after p g n (given_by p ns d h i) (given_at p ns d h (i + 1) ++ a.0) m w u v here)
+module _ (p : Listing) (g : Goal) (ns : List ℕ) (d steps : ℕ) (h : Goal) (i n m k : ℕ) (all : suc d ≡ steps) (within : i < length p.clauses) (without : IsWithoutLoop p g n (given_by p ns d h i) m) (e : k ≡ n - m) where
+  pub first_at : (u v : List ℕ) → IsFirstLoop p g k (given_at p ns d h (i + 1)) u v → IsFirstLoop p g n (going_on ns (clause_nodes p steps h)) u v
+  first_at u v f =
+      let a = given_all p ns d steps h i all within in
+      let here = first_in p g (n - m) (given_at p ns d h (i + 1)) a.0 u v (subst (λ (j : ℕ). IsFirstLoop p g j (given_at p ns d h (i + 1)) u v) e f) in
+      subst (λ (xs : List (List ℕ)). IsFirstLoop p g n xs u v) (sym a.1) (first_after p g n (given_by p ns d h i) (given_at p ns d h (i + 1) ++ a.0) m without u v here)
 
-pub stopped_at : (p : Listing) (g : Goal) (ns : List ℕ) (d : ℕ) (h : Goal) (i n m k : ℕ) → i < length p.clauses → IsWithoutLoop p g n (given_by p ns d h i) m → k ≡ n - m → IsStopped p g k (given_at p ns d h (i + 1)) → IsStopped p g n (going_on ns (clause_nodes p (suc d) h))
-stopped_at p g ns d h i n m k l w e f =
-    let a = given_all p ns d h i l in
-    let here = stopped_in p g (n - m) (given_at p ns d h (i + 1)) a.0 (subst (λ (j : ℕ). IsStopped p g j (given_at p ns d h (i + 1))) e f) in
-    subst (IsStopped p g n) (sym a.1) (stopped_after p g n (given_by p ns d h i) (given_at p ns d h (i + 1) ++ a.0) m w here)
+  pub stopped_at : IsStopped p g k (given_at p ns d h (i + 1)) → IsStopped p g n (going_on ns (clause_nodes p steps h))
+  stopped_at f =
+      let a = given_all p ns d steps h i all within in
+      let here = stopped_in p g (n - m) (given_at p ns d h (i + 1)) a.0 (subst (λ (j : ℕ). IsStopped p g j (given_at p ns d h (i + 1))) e f) in
+      subst (IsStopped p g n) (sym a.1) (stopped_after p g n (given_by p ns d h i) (given_at p ns d h (i + 1) ++ a.0) m without here)
 
 pub nothing_at : (p : Listing) (g : Goal) (ns : List ℕ) (d : ℕ) (h : Goal) (i n m k j : ℕ) → IsWithoutLoop p g n (given_by p ns d h i) m → k ≡ n - m → IsWithoutLoop p g k (given_at p ns d h (i + 1)) j → IsWithoutLoop p g n (given_by p ns d h (i + 1)) (m + j)
 nothing_at p g ns d h i n m k j w e f =
@@ -235,58 +224,55 @@ nothing_at p g ns d h i n m k j w e f =
 
 -- ---- what is found at a clause, with the path as it is pushed
 
-module _ (p : Listing) (g h x j : Goal) (ns : List ℕ) (gs : List Goal) (k d a : ℕ) (path : IsPath p g ns gs) (left : left_after p g ns ≡ Some h) (at : slice_get gs (length gs - 1) ≡ Some x)
-    (step : Some j ≡ option_map (λ r. r.1) (resolve p x k)) (one : 1 ≤ k) where
-  of_step : (bs : List Binding) × (resolve p h k ≡ Some (bs, j))
-  of_step =
-      let same = path_last p g ns gs h x path left at in
-      step_some (resolve p h k) j (step ∙ ap (λ (y : Goal). option_map (λ r. r.1) (resolve p y k)) same)
-
-  pub at_enough : a ≡ 100000 → IsStopped p g (100000 - a) (given_at p ns d h k)
-  at_enough e =
-      let zero_left : 100000 - a ≡ 0 = omega (arith, e) in
-      subst (IsStopped p g (100000 - a)) (sym (given_some p ns h j k d of_step.0 of_step.1)) (stopped_here p g (100000 - a) (ns ++ k ∷ []) (going_on (ns ++ k ∷ []) (clause_nodes p d j)) zero_left)
-
-  module _ (ms : List ℕ) (hs : List Goal) (numbers : ms ≡ ns ++ k ∷ []) (goals : hs ≡ gs ++ j ∷ []) where
-    pub pushed_path : IsPath p g ms hs
-    pushed_path = subst (λ (y : List ℕ × List Goal). IsPath p g y.0 y.1) (λ i. (sym numbers i, sym goals i)) (path_push p g h j ns gs k of_step.0 path left of_step.1 one)
-
-    pub pushed_left : left_after p g ms ≡ Some j
-    pushed_left = ap (left_after p g) numbers ∙ left_push p g h j ns k of_step.0 left of_step.1
-
-    given : given_at p ns d h k ≡ ms ∷ going_on ms (clause_nodes p d j)
-    given = given_some p ns h j k d of_step.0 of_step.1 ∙ (λ i. sym numbers i ∷ going_on (sym numbers i) (clause_nodes p d j))
-
-    pub at_cycle : (s : ℕ) → IsCycleAt hs s → ((i : ℕ) → s < i → IsCycleAt hs i → ⊥) → a < 100000 → IsFirstLoop p g (100000 - a) (given_at p ns d h k) (take s ms) (drop s ms)
-    at_cycle s c last l = subst (λ (xs : List (List ℕ)). IsFirstLoop p g (100000 - a) xs (take s ms) (drop s ms)) (sym given) (found_here p g ms hs (100000 - a) s (going_on ms (clause_nodes p d j)) pushed_path c last (omega (arith, l)))
-
-    pub at_found : ((i : ℕ) → IsCycleAt hs i → ⊥) → a < 100000 → (u v : List ℕ) → IsFirstLoop p g (100000 - (a + 1)) (going_on ms (clause_nodes p d j)) u v → IsFirstLoop p g (100000 - a) (given_at p ns d h k) u v
-    at_found none l u v f = subst (λ (xs : List (List ℕ)). IsFirstLoop p g (100000 - a) xs u v) (sym given) (first_under p g ms hs (100000 - a) (100000 - (a + 1)) (going_on ms (clause_nodes p d j)) u v pushed_path none (omega (arith, l)) f)
-
-    pub at_stopped : ((i : ℕ) → IsCycleAt hs i → ⊥) → a < 100000 → IsStopped p g (100000 - (a + 1)) (going_on ms (clause_nodes p d j)) → IsStopped p g (100000 - a) (given_at p ns d h k)
-    at_stopped none l f = subst (IsStopped p g (100000 - a)) (sym given) (stopped_under p g ms hs (100000 - a) (100000 - (a + 1)) (going_on ms (clause_nodes p d j)) pushed_path none (omega (arith, l)) f)
-
-    pub at_nothing : ((i : ℕ) → IsCycleAt hs i → ⊥) → a < 100000 → (b : ℕ) → a + 1 ≤ b → IsWithoutLoop p g (100000 - (a + 1)) (going_on ms (clause_nodes p d j)) (b - (a + 1)) → IsWithoutLoop p g (100000 - a) (given_at p ns d h k) (b - a)
-    at_nothing none l b m f =
-        let count : 1 + (b - (a + 1)) ≡ b - a = omega (arith, m) in
-        subst (λ (y : List (List ℕ) × ℕ). IsWithoutLoop p g (100000 - a) y.0 y.1) (λ i. (sym given i, count i)) (nothing_under p g ms hs (100000 - a) (100000 - (a + 1)) (b - (a + 1)) (going_on ms (clause_nodes p d j)) pushed_path none (omega (arith, l)) f)
-
 -- the goal that a path leaves
 pub path_left : (p : Listing) (g : Goal) (ns : List ℕ) (gs : List Goal) (x : Goal) → IsPath p g ns gs → slice_get gs (length gs - 1) ≡ Some x → left_after p g ns ≡ Some x
 path_left p g ns gs x path at =
     let place = last_place gs ns path.count in
     ap (left_after p g) (sym (take_whole ns)) ∙ path.each (length ns) x (ap (slice_get gs) (sym place) ∙ at)
 
--- a clause that does not resolve
-pub no_step : (p : Listing) (g h x : Goal) (ns : List ℕ) (gs : List Goal) (k d n : ℕ) → IsPath p g ns gs → left_after p g ns ≡ Some h → slice_get gs (length gs - 1) ≡ Some x → None ≡ option_map (λ r. r.1) (resolve p x k) → IsWithoutLoop p g n (given_at p ns d h k) 0
-no_step p g h x ns gs k d n path left at step =
-    let same = path_last p g ns gs h x path left at in
-    let none = step_none (resolve p h k) (step ∙ ap (λ (y : Goal). option_map (λ r. r.1) (resolve p y k)) same) in
-    subst (λ (xs : List (List ℕ)). IsWithoutLoop p g n xs 0) (sym (given_none p ns h k d none)) (nothing_at_all p g n)
+-- a step from the last goal x of a path to a goal j, which is put on the path
+pub record IsPushed (p : Listing) (ns : List ℕ) (gs : List Goal) (x j : Goal) (k : ℕ) (ms : List ℕ) (hs : List Goal) : Type 0 where
+  pub last : slice_get gs (length gs - 1) ≡ Some x
+  pub step : Some j ≡ option_map (λ r. r.1) (resolve p x k)
+  pub first : 1 ≤ k
+  pub numbers : ms ≡ ns ++ k ∷ []
+  pub goals : hs ≡ gs ++ j ∷ []
+
+module _ {p : Listing} {ns : List ℕ} {gs : List Goal} {x j : Goal} {k : ℕ} {ms : List ℕ} {hs : List Goal} (pushed : IsPushed p ns gs x j k ms hs) {g h : Goal} (path : IsPath p g ns gs) (left : left_after p g ns ≡ Some h) where
+  of_step : (bs : List Binding) × (resolve p h k ≡ Some (bs, j))
+  of_step =
+      let same = path_last p g ns gs h x path left pushed.last in
+      step_some (resolve p h k) j (pushed.step ∙ ap (λ (y : Goal). option_map (λ r. r.1) (resolve p y k)) same)
+
+  pub pushed_path : IsPath p g ms hs
+  pushed_path = rw (pushed.numbers, pushed.goals) (path_push p g h j ns gs k of_step.0 path left of_step.1 pushed.first)
+
+  pub pushed_left : left_after p g ms ≡ Some j
+  pushed_left = rw pushed.numbers (left_push p g h j ns k of_step.0 left of_step.1)
+
+  -- where a derivations were looked at
+  module _ (d a : ℕ) (less : a < 100000) where
+    given : given_at p ns d h k ≡ ms ∷ going_on ms (clause_nodes p d j)
+    given = rw pushed.numbers (given_some p ns h j k d of_step.0 of_step.1)
+
+    pub at_cycle : (s : ℕ) → IsCycleAt hs s → ((i : ℕ) → s < i → IsCycleAt hs i → ⊥) → IsFirstLoop p g (100000 - a) (given_at p ns d h k) (take s ms) (drop s ms)
+    at_cycle s c last = subst (λ (xs : List (List ℕ)). IsFirstLoop p g (100000 - a) xs (take s ms) (drop s ms)) (sym given) (found_here p g ms hs (100000 - a) s (going_on ms (clause_nodes p d j)) pushed_path c last (omega (arith, less)))
+
+    module _ (none : (i : ℕ) → IsCycleAt hs i → ⊥) where
+      pub at_found : (u v : List ℕ) → IsFirstLoop p g (100000 - (a + 1)) (going_on ms (clause_nodes p d j)) u v → IsFirstLoop p g (100000 - a) (given_at p ns d h k) u v
+      at_found u v f = subst (λ (xs : List (List ℕ)). IsFirstLoop p g (100000 - a) xs u v) (sym given) (first_under p g ms hs (100000 - a) (100000 - (a + 1)) (going_on ms (clause_nodes p d j)) u v pushed_path none (omega (arith, less)) f)
+
+      pub at_stopped : IsStopped p g (100000 - (a + 1)) (going_on ms (clause_nodes p d j)) → IsStopped p g (100000 - a) (given_at p ns d h k)
+      at_stopped f = subst (IsStopped p g (100000 - a)) (sym given) (stopped_under p g ms hs (100000 - a) (100000 - (a + 1)) (going_on ms (clause_nodes p d j)) pushed_path none (omega (arith, less)) f)
+
+      pub at_nothing : (b : ℕ) → a + 1 ≤ b → IsWithoutLoop p g (100000 - (a + 1)) (going_on ms (clause_nodes p d j)) (b - (a + 1)) → IsWithoutLoop p g (100000 - a) (given_at p ns d h k) (b - a)
+      at_nothing b m f =
+          let count : 1 + (b - (a + 1)) ≡ b - a = omega (arith, m) in
+          subst (λ (y : List (List ℕ) × ℕ). IsWithoutLoop p g (100000 - a) y.0 y.1) (λ i. (sym given i, count i)) (nothing_under p g ms hs (100000 - a) (100000 - (a + 1)) (b - (a + 1)) (going_on ms (clause_nodes p d j)) pushed_path none (omega (arith, less)) f)
 
 -- all clauses
-pub all_given : (p : Listing) (ns : List ℕ) (d : ℕ) (h : Goal) (i : ℕ) → i ≡ length p.clauses → given_by p ns d h i ≡ going_on ns (clause_nodes p (suc d) h)
-all_given p ns d h i e = ap (given_by p ns d h) e
+pub all_given : (p : Listing) (ns : List ℕ) (d steps : ℕ) (h : Goal) (i : ℕ) → suc d ≡ steps → i ≡ length p.clauses → given_by p ns d h i ≡ going_on ns (clause_nodes p steps h)
+all_given p ns d steps h i all e = ap (given_by p ns d h) e ∙ ap (λ (n : ℕ). going_on ns (clause_nodes p n h)) all
 
 -- a path leaves some goal
 pub leaves_some : (p : Listing) (g : Goal) (ns : List ℕ) (gs : List Goal) → IsPath p g ns gs → (h : Goal) × (left_after p g ns ≡ Some h)

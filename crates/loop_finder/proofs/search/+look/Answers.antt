@@ -1,14 +1,29 @@
-use Rattle.std.proofs.Common.{◌≡◌, ◌+◌, ◌-◌, ◌<◌, ℕ, suc, List, length, Option, Some, sym, ap, ◌∙◌, subst, arith}
-use Rattle.std.specs.Prelude.{MatchOption, take, drop}
-use Rattle.loop_finder.specs.ClauseNodes.{clause_nodes}
+use Rattle.std.proofs.Common.{◌≡◌, ◌+◌, ◌-◌, ◌<◌, ℕ, length, Some, sym, ◌∙◌, arith}
+use Rattle.std.specs.Prelude.{take, drop}
 use Rattle.cti_terms.specs.declared.derivation.Goal.{Goal}
-use Rattle.loop_finder.specs.declared.search.Under.{Under}
-use Rattle.loop_finder.specs.Looking.{IsNothing, IsUnder, going_on}
-use Rattle.loop_finder.specs.Looked.{IsFirstLoop, IsWithoutLoop, IsStopped}
+use Rattle.loop_finder.specs.Looking.{IsUnder}
 use Rattle.loop_finder.specs.Paths.{IsPath, IsCycleAt}
 use Rattle.cti_terms.specs.Lifts.{left_after}
-use Rattle.loop_finder.proofs.SearchLaws.{last_below, at_cycle, at_found, at_stopped, at_nothing, pushed_path, pushed_left, path_left, first_at, stopped_at, nothing_at, given_at, given_by, all_given, leaves_some}
+use Rattle.loop_finder.proofs.SearchLaws.{IsPushed, last_below, at_cycle, at_found, at_stopped, at_nothing, pushed_path, pushed_left, path_left, first_at, stopped_at, nothing_at, given_at, all_given, leaves_some}
+use Rattle.loop_finder.proofs.search.+look.Goals.{look_at-In_ok-push, look_at-In-None-2, look_under-In_ok-look_at}
 use Rattle.loop_finder.proofs.search.+look.Goals as goal
+
+-- the step of the clause is put on the path
+module _ (t : ℕ) (c : look_at-In_ok-push t) where
+  pushed : IsPushed c.args.program.now c.args.path.now.numbers.items c.args.path.now.goals.items c.last.result.now c.in-Some.goal c.args.number c.push.new.self.numbers.items c.push.new.self.goals.items
+  pushed = record {
+    last = c.last.ensures;
+    step = sym c.in-Some.is ∙ c.in_ok-goal.ensures;
+    first = c.requires.first;
+    numbers = c.in_ok-push.ensures.numbers;
+    goals = c.in_ok-push.ensures.goals;
+  }
+
+  fewer : c.args.effort.now.looked < 100000
+  fewer = omega (arith, c.requires.looked, c.if-effort-eq-MOST_DERIVATIONS.false)
+
+no_cycle : (t : ℕ) (c : look_at-In-None-2 t) → (i : ℕ) → IsCycleAt c.push.new.self.goals.items i → ⊥
+no_cycle t c = rw c.as_slice.ensures.value at (rw c.in-None-2.is at c.in_ok-start.ensures)
 
 pub look_at-left_by_step-requires-clause-below : goal.look_at-left_by_step-requires-clause-below
 look_at-left_by_step-requires-clause-below t c =
@@ -18,218 +33,127 @@ look_at-left_by_step-requires-clause-below t c =
 pub look_at-returns-in-Some-2 : goal.look_at-returns-in-Some-2
 look_at-returns-in-Some-2 t c = record {
   under = λ g h path left.
-      let step = sym c.in-Some.is ∙ c.in_ok-goal.ensures in
-      let ms = c.push.new.self.numbers.items in
-      let hs = c.push.new.self.goals.items in
-      let found = subst (λ (o : Option ℕ). MatchOption o ((i : ℕ) → IsCycleAt c.as_slice.result.now i → ⊥) (λ s. IsCycleAt c.as_slice.result.now s × ((i : ℕ) → s < i → IsCycleAt c.as_slice.result.now i → ⊥))) c.in-Some-2.is c.in_ok-start.ensures in
-      let here = subst (λ (gs : List Goal). IsCycleAt gs c.in-Some-2.start × ((i : ℕ) → c.in-Some-2.start < i → IsCycleAt gs i → ⊥)) c.as_slice.ensures.value found in
-      let new = pushed_path c.args.program.now g h c.last.result.now c.in-Some.goal c.args.path.now.numbers.items c.args.path.now.goals.items c.args.number c.args.steps c.args.effort.now.looked path left c.last.ensures step c.requires.first ms hs
-      c.in_ok-push.ensures.numbers c.in_ok-push.ensures.goals in
+      let at = (goal.at.look_at-returns-in-Some-2 t c).In_ok-push in
+      let here = rw c.as_slice.ensures.value at (rw c.in-Some-2.is at c.in_ok-start.ensures) in
+      let new = pushed_path (pushed t at) path left in
       record {
         within = omega (arith, new.count, here.0.count, here.0.inner);
-        first = at_cycle c.args.program.now g h c.last.result.now c.in-Some.goal c.args.path.now.numbers.items c.args.path.now.goals.items c.args.number c.args.steps c.args.effort.now.looked path left c.last.ensures step c.requires.first ms hs
-            c.in_ok-push.ensures.numbers c.in_ok-push.ensures.goals c.in-Some-2.start here.0 here.1 (omega (arith, c.requires.looked, c.if-effort-eq-MOST_DERIVATIONS.false));
+        first = at_cycle (pushed t at) path left c.args.steps c.args.effort.now.looked (fewer t at) c.in-Some-2.start here.0 here.1;
       };
 }
 
 pub look_at-look_under-requires : goal.look_at-look_under-requires
 look_at-look_under-requires t c =
+    let at = (goal.at.look_at-look_under-requires t c).In_ok-push in
     let q = c.requires.path in
-    let p = c.args.program.now in
-    let ns = c.args.path.now.numbers.items in
-    let gs = c.args.path.now.goals.items in
-    let x = c.last.result.now in
-    let step = sym c.in-Some.is ∙ c.in_ok-goal.ensures in
-    let left = path_left p q.from ns gs x q.is c.last.ensures in
-    let d = c.decreases in (
-      omega (arith, d),
-      (
-        record {
-          program = q.program;
-          from = q.from;
-          goal = q.goal;
-          is = pushed_path p q.from x x c.in-Some.goal ns gs c.args.number c.args.steps c.args.effort.now.looked q.is left c.last.ensures step c.requires.first c.push.new.self.numbers.items c.push.new.self.goals.items c.in_ok-push.ensures.numbers c.in_ok-push.ensures.goals;
-        },
-        omega (arith, c.requires.looked, c.if-effort-eq-MOST_DERIVATIONS.false),
-      ),
-    )
+    let left = path_left c.args.program.now q.from c.args.path.now.numbers.items c.args.path.now.goals.items c.last.result.now q.is c.last.ensures in
+    let d = c.decreases in
+    (omega (arith, d), (record { program = q.program; from = q.from; goal = q.goal; is = pushed_path (pushed t at) q.is left }, omega (arith, fewer t at)))
 
 pub look_at-returns-in-Nothing : goal.look_at-returns-in-Nothing
 look_at-returns-in-Nothing t c = record {
   under = λ g h path left.
-      let p = c.args.program.now in
-      let ns = c.args.path.now.numbers.items in
-      let gs = c.args.path.now.goals.items in
-      let x = c.last.result.now in
-      let j = c.in-Some.goal in
-      let k = c.args.number in
-      let d = c.args.steps in
-      let a = c.args.effort.now.looked in
-      let step = sym c.in-Some.is ∙ c.in_ok-goal.ensures in
-      let ms = c.push.new.self.numbers.items in
-      let hs = c.push.new.self.goals.items in
-      let numbers = c.in_ok-push.ensures.numbers in
-      let goals = c.in_ok-push.ensures.goals in
-      let none_there = subst (λ (o : Option ℕ). MatchOption o ((i : ℕ) → IsCycleAt c.as_slice.result.now i → ⊥) (λ s. IsCycleAt c.as_slice.result.now s × ((i : ℕ) → s < i → IsCycleAt c.as_slice.result.now i → ⊥))) c.in-None-2.is c.in_ok-start.ensures in
-      let none = subst (λ (l : List Goal). (i : ℕ) → IsCycleAt l i → ⊥) c.as_slice.ensures.value none_there in
-      let less : a < 100000 = omega (arith, c.requires.looked, c.if-effort-eq-MOST_DERIVATIONS.false) in
-      let new = pushed_path p g h x j ns gs k d a path left c.last.ensures step c.requires.first ms hs numbers goals in
-      let here = pushed_left p g h x j ns gs k d a path left c.last.ensures step c.requires.first ms hs numbers goals in
-      let under = subst (λ (u : Under). IsUnder p g (100000 - (a + 1)) (going_on ms (clause_nodes p d j)) c.push.new.self (a + 1) u c.look_under.new.path c.look_under.new.effort.looked) c.in-Nothing.is (c.in_ok-look_under.ensures.under g j new here) in
+      let at = goal.at.look_at-returns-in-Nothing t c in
+      let new = pushed t at.In_ok-push in
+      let under = rw c.in-Nothing.is at (c.in_ok-look_under.ensures.under g c.in-Some.goal (pushed_path new path left) (pushed_left new path left)) in
       record {
-        numbers = c.pop.ensures.numbers ns k (under.numbers ∙ numbers);
-        goals = c.pop.ensures.goals gs j (under.goals ∙ goals);
+        numbers = c.pop.ensures.numbers c.args.path.now.numbers.items c.args.number (under.numbers ∙ new.numbers);
+        goals = c.pop.ensures.goals c.args.path.now.goals.items c.in-Some.goal (under.goals ∙ new.goals);
         more = omega (arith, under.more);
         most = under.most;
-        without = at_nothing p g h x j ns gs k d a path left c.last.ensures step c.requires.first ms hs numbers goals none less c.look_under.new.effort.looked under.more under.without;
+        without = at_nothing new path left c.args.steps c.args.effort.now.looked (fewer t at.In_ok-push) (no_cycle t at.In-None-2) c.look_under.new.effort.looked under.more under.without;
       };
 }
 
 pub look_at-returns-in-Cycle : goal.look_at-returns-in-Cycle
 look_at-returns-in-Cycle t c = record {
   under = λ g h path left.
-      let p = c.args.program.now in
-      let ns = c.args.path.now.numbers.items in
-      let gs = c.args.path.now.goals.items in
-      let x = c.last.result.now in
-      let j = c.in-Some.goal in
-      let k = c.args.number in
-      let d = c.args.steps in
-      let a = c.args.effort.now.looked in
-      let step = sym c.in-Some.is ∙ c.in_ok-goal.ensures in
-      let ms = c.push.new.self.numbers.items in
-      let hs = c.push.new.self.goals.items in
-      let numbers = c.in_ok-push.ensures.numbers in
-      let goals = c.in_ok-push.ensures.goals in
-      let none_there = subst (λ (o : Option ℕ). MatchOption o ((i : ℕ) → IsCycleAt c.as_slice.result.now i → ⊥) (λ s. IsCycleAt c.as_slice.result.now s × ((i : ℕ) → s < i → IsCycleAt c.as_slice.result.now i → ⊥))) c.in-None-2.is c.in_ok-start.ensures in
-      let none = subst (λ (l : List Goal). (i : ℕ) → IsCycleAt l i → ⊥) c.as_slice.ensures.value none_there in
-      let less : a < 100000 = omega (arith, c.requires.looked, c.if-effort-eq-MOST_DERIVATIONS.false) in
-      let new = pushed_path p g h x j ns gs k d a path left c.last.ensures step c.requires.first ms hs numbers goals in
-      let here = pushed_left p g h x j ns gs k d a path left c.last.ensures step c.requires.first ms hs numbers goals in
-      let under = subst (λ (u : Under). IsUnder p g (100000 - (a + 1)) (going_on ms (clause_nodes p d j)) c.push.new.self (a + 1) u c.look_under.new.path c.look_under.new.effort.looked) c.in-Cycle.is (c.in_ok-look_under.ensures.under g j new here) in
+      let at = goal.at.look_at-returns-in-Cycle t c in
+      let new = pushed t at.In_ok-push in
+      let under = rw c.in-Cycle.is at (c.in_ok-look_under.ensures.under g c.in-Some.goal (pushed_path new path left) (pushed_left new path left)) in
+      let numbers = c.look_under.new.path.numbers.items in
       record {
         within = under.within;
-        first = at_found p g h x j ns gs k d a path left c.last.ensures step c.requires.first ms hs numbers goals none less (take c.in-Cycle.start c.look_under.new.path.numbers.items) (drop c.in-Cycle.start c.look_under.new.path.numbers.items) under.first;
+        first = at_found new path left c.args.steps c.args.effort.now.looked (fewer t at.In_ok-push) (no_cycle t at.In-None-2) (take c.in-Cycle.start numbers) (drop c.in-Cycle.start numbers) under.first;
       };
 }
 
 pub look_at-returns-in-Enough : goal.look_at-returns-in-Enough
 look_at-returns-in-Enough t c = record {
   under = λ g h path left.
-      let p = c.args.program.now in
-      let ns = c.args.path.now.numbers.items in
-      let gs = c.args.path.now.goals.items in
-      let x = c.last.result.now in
-      let j = c.in-Some.goal in
-      let k = c.args.number in
-      let d = c.args.steps in
-      let a = c.args.effort.now.looked in
-      let step = sym c.in-Some.is ∙ c.in_ok-goal.ensures in
-      let ms = c.push.new.self.numbers.items in
-      let hs = c.push.new.self.goals.items in
-      let numbers = c.in_ok-push.ensures.numbers in
-      let goals = c.in_ok-push.ensures.goals in
-      let none_there = subst (λ (o : Option ℕ). MatchOption o ((i : ℕ) → IsCycleAt c.as_slice.result.now i → ⊥) (λ s. IsCycleAt c.as_slice.result.now s × ((i : ℕ) → s < i → IsCycleAt c.as_slice.result.now i → ⊥))) c.in-None-2.is c.in_ok-start.ensures in
-      let none = subst (λ (l : List Goal). (i : ℕ) → IsCycleAt l i → ⊥) c.as_slice.ensures.value none_there in
-      let less : a < 100000 = omega (arith, c.requires.looked, c.if-effort-eq-MOST_DERIVATIONS.false) in
-      let new = pushed_path p g h x j ns gs k d a path left c.last.ensures step c.requires.first ms hs numbers goals in
-      let here = pushed_left p g h x j ns gs k d a path left c.last.ensures step c.requires.first ms hs numbers goals in
-      let under = subst (λ (u : Under). IsUnder p g (100000 - (a + 1)) (going_on ms (clause_nodes p d j)) c.push.new.self (a + 1) u c.look_under.new.path c.look_under.new.effort.looked) c.in-Enough.is (c.in_ok-look_under.ensures.under g j new here) in
-      at_stopped p g h x j ns gs k d a path left c.last.ensures step c.requires.first ms hs numbers goals none less under;
+      let at = goal.at.look_at-returns-in-Enough t c in
+      let new = pushed t at.In_ok-push in
+      let under = rw c.in-Enough.is at (c.in_ok-look_under.ensures.under g c.in-Some.goal (pushed_path new path left) (pushed_left new path left)) in
+      at_stopped new path left c.args.steps c.args.effort.now.looked (fewer t at.In_ok-push) (no_cycle t at.In-None-2) under;
 }
+
+-- what a clause gives
+module _ (t : ℕ) (c : look_under-In_ok-look_at t) where
+  within : c.loop-k.k < length c.args.program.now.clauses
+  within = omega (arith, c.loop-k-test.true, c.clauses-k-end.ensures.count)
+
+  left_over : 100000 - c.loop-k.effort.looked ≡ (100000 - c.args.effort.now.looked) - (c.loop-k.effort.looked - c.args.effort.now.looked)
+  left_over = omega (arith, c.loop-k.invariant.more, c.loop-k.invariant.most)
+
+  found : (g h : Goal) → IsPath c.args.program.now g c.args.path.now.numbers.items c.args.path.now.goals.items → left_after c.args.program.now g c.args.path.now.numbers.items ≡ Some h
+      → IsUnder c.args.program.now g (100000 - c.loop-k.effort.looked) (given_at c.args.program.now c.args.path.now.numbers.items (c.args.steps - 1) h (c.loop-k.k + 1)) c.loop-k.path c.loop-k.effort.looked c.in_ok-look_at.field-0 c.look_at.new.path c.look_at.new.effort.looked
+  found g h path left =
+      let inv = c.loop-k.invariant in
+      rw (← inv.numbers) (c.in_ok-look_at.ensures.under g h (rw (inv.numbers, inv.goals) path) (rw inv.numbers left))
 
 pub look_under-returns-in-Cycle : goal.look_under-returns-in-Cycle
 look_under-returns-in-Cycle t c = record {
   under = λ g h path left.
-      let p = c.args.program.now in
-      let ns = c.args.path.now.numbers.items in
-      let gs = c.args.path.now.goals.items in
-      let i = c.loop-k.k in
-      let d = c.args.steps - 1 in
+      let at = (goal.at.look_under-returns-in-Cycle t c).In_ok-look_at in
       let a = c.args.effort.now.looked in
       let b = c.loop-k.effort.looked in
-      let inv = c.loop-k.invariant in
-      let within : i < length p.clauses = omega (arith, c.loop-k-test.true, c.clauses-k-end.ensures.count) in
-      let left_over : 100000 - b ≡ (100000 - a) - (b - a) = omega (arith, inv.more, inv.most) in
-      let path_now : IsPath p g c.loop-k.path.numbers.items c.loop-k.path.goals.items = subst (λ (y : List ℕ × List Goal). IsPath p g y.0 y.1) (λ i. (sym inv.numbers i, sym inv.goals i)) path in
-      let left_now = ap (left_after p g) inv.numbers ∙ left in
-      let given = ap (λ (l : List ℕ). given_at p l d h (i + 1)) inv.numbers in
-      let under = subst (λ (u : Under). IsUnder p g (100000 - b) (given_at p c.loop-k.path.numbers.items d h (i + 1)) c.loop-k.path b u c.look_at.new.path c.look_at.new.effort.looked) c.in-Cycle.is (c.in_ok-look_at.ensures.under g h path_now left_now) in
-      let all : suc d ≡ c.args.steps = omega (arith, c.if-steps-eq0.false) in
-      let u = take c.in-Cycle.start c.look_at.new.path.numbers.items in
-      let v = drop c.in-Cycle.start c.look_at.new.path.numbers.items in
-      let first = first_at p g ns d h i (100000 - a) (b - a) (100000 - b) u v within (inv.without g h path left) left_over (subst (λ (xs : List (List ℕ)). IsFirstLoop p g (100000 - b) xs u v) given under.first) in
-      record { within = under.within; first = subst (λ (n : ℕ). IsFirstLoop p g (100000 - a) (going_on ns (clause_nodes p n h)) u v) all first };
+      let numbers = c.look_at.new.path.numbers.items in
+      let under = rw c.in-Cycle.is at (found t at g h path left) in
+      record {
+        within = under.within;
+        first = first_at c.args.program.now g c.args.path.now.numbers.items (c.args.steps - 1) c.args.steps h c.loop-k.k (100000 - a) (b - a) (100000 - b) (omega (arith, c.if-steps-eq0.false)) (within t at)
+            (c.loop-k.invariant.without g h path left) (left_over t at) (take c.in-Cycle.start numbers) (drop c.in-Cycle.start numbers) under.first;
+      };
 }
 
 pub look_under-returns-in-Enough : goal.look_under-returns-in-Enough
 look_under-returns-in-Enough t c = record {
   under = λ g h path left.
-      let p = c.args.program.now in
-      let ns = c.args.path.now.numbers.items in
-      let gs = c.args.path.now.goals.items in
-      let i = c.loop-k.k in
-      let d = c.args.steps - 1 in
+      let at = (goal.at.look_under-returns-in-Enough t c).In_ok-look_at in
       let a = c.args.effort.now.looked in
       let b = c.loop-k.effort.looked in
-      let inv = c.loop-k.invariant in
-      let within : i < length p.clauses = omega (arith, c.loop-k-test.true, c.clauses-k-end.ensures.count) in
-      let left_over : 100000 - b ≡ (100000 - a) - (b - a) = omega (arith, inv.more, inv.most) in
-      let path_now : IsPath p g c.loop-k.path.numbers.items c.loop-k.path.goals.items = subst (λ (y : List ℕ × List Goal). IsPath p g y.0 y.1) (λ i. (sym inv.numbers i, sym inv.goals i)) path in
-      let left_now = ap (left_after p g) inv.numbers ∙ left in
-      let given = ap (λ (l : List ℕ). given_at p l d h (i + 1)) inv.numbers in
-      let under = subst (λ (u : Under). IsUnder p g (100000 - b) (given_at p c.loop-k.path.numbers.items d h (i + 1)) c.loop-k.path b u c.look_at.new.path c.look_at.new.effort.looked) c.in-Enough.is (c.in_ok-look_at.ensures.under g h path_now left_now) in
-      let all : suc d ≡ c.args.steps = omega (arith, c.if-steps-eq0.false) in
-      let stopped = stopped_at p g ns d h i (100000 - a) (b - a) (100000 - b) within (inv.without g h path left) left_over (subst (IsStopped p g (100000 - b)) given under) in
-      subst (λ (n : ℕ). IsStopped p g (100000 - a) (going_on ns (clause_nodes p n h))) all stopped;
+      stopped_at c.args.program.now g c.args.path.now.numbers.items (c.args.steps - 1) c.args.steps h c.loop-k.k (100000 - a) (b - a) (100000 - b) (omega (arith, c.if-steps-eq0.false)) (within t at)
+      (c.loop-k.invariant.without g h path left) (left_over t at) (rw c.in-Enough.is at (found t at g h path left));
 }
 
 pub look_under-loop-k-preserved : goal.look_under-loop-k-preserved
 look_under-loop-k-preserved t c =
+    let at = (goal.at.look_under-loop-k-preserved t c).In_ok-look_at in
     let q = c.requires.path in
     let p = c.args.program.now in
     let ns = c.args.path.now.numbers.items in
-    let gs = c.args.path.now.goals.items in
-    let i = c.loop-k.k in
-    let d = c.args.steps - 1 in
     let a = c.args.effort.now.looked in
     let b = c.loop-k.effort.looked in
     let new = c.look_at.new.effort.looked in
     let inv = c.loop-k.invariant in
-    let here : (g h : Goal) → IsPath p g ns gs → left_after p g ns ≡ Some h → IsNothing p g (100000 - b) (given_at p c.loop-k.path.numbers.items d h (i + 1)) c.loop-k.path b c.look_at.new.path new = λ g h path left.
-    let path_now : IsPath p g c.loop-k.path.numbers.items c.loop-k.path.goals.items = subst (λ (y : List ℕ × List Goal). IsPath p g y.0 y.1) (λ i. (sym inv.numbers i, sym inv.goals i)) path in
-    let left_now = ap (left_after p g) inv.numbers ∙ left in
-    subst (λ (u : Under). IsUnder p g (100000 - b) (given_at p c.loop-k.path.numbers.items d h (i + 1)) c.loop-k.path b u c.look_at.new.path new) c.in-Nothing.is (c.in_ok-look_at.ensures.under g h path_now left_now) in
-    let end = leaves_some p q.from ns gs q.is in
-    let some = here q.from end.0 q.is end.1 in
+    let end = leaves_some p q.from ns c.args.path.now.goals.items q.is in
+    let some = rw c.in-Nothing.is at (found t at q.from end.0 q.is end.1) in
     record {
       numbers = some.numbers ∙ inv.numbers;
       goals = some.goals ∙ inv.goals;
       more = omega (arith, inv.more, some.more);
       most = some.most;
       without = λ g h path left.
-          let left_over : 100000 - b ≡ (100000 - a) - (b - a) = omega (arith, inv.more, inv.most) in
-          let given = ap (λ (l : List ℕ). given_at p l d h (i + 1)) inv.numbers in
+          let under = rw c.in-Nothing.is at (found t at g h path left) in
           let count : (b - a) + (new - b) ≡ new - a = omega (arith, inv.more, some.more) in
-          let now = subst (λ (xs : List (List ℕ)). IsWithoutLoop p g (100000 - b) xs (new - b)) given (here g h path left).without in
-          subst (IsWithoutLoop p g (100000 - a) (given_by p ns d h (i + 1))) count (nothing_at p g ns d h i (100000 - a) (b - a) (100000 - b) (new - b) (inv.without g h path left) left_over now);
+          rw count at (nothing_at p g ns (c.args.steps - 1) h c.loop-k.k (100000 - a) (b - a) (100000 - b) (new - b) (inv.without g h path left) (left_over t at) under.without);
     }
 
 pub look_under-returns : goal.look_under-returns
 look_under-returns t c = record {
   under = λ g h path left.
-      let p = c.args.program.now in
-      let ns = c.args.path.now.numbers.items in
-      let d = c.args.steps - 1 in
       let inv = c.loop-k.invariant in
-      let end : c.loop-k.k ≡ length p.clauses = omega (arith, c.loop-k-test.false, c.clauses-k-end.ensures.count, c.loop-k.auto.k-end) in
-      let all : suc d ≡ c.args.steps = omega (arith, c.if-steps-eq0.false) in
-      let whole = all_given p ns d h c.loop-k.k end ∙ ap (λ (n : ℕ). going_on ns (clause_nodes p n h)) all in
-      record {
-        numbers = inv.numbers;
-        goals = inv.goals;
-        more = inv.more;
-        most = inv.most;
-        without = subst (λ (xs : List (List ℕ)). IsWithoutLoop p g (100000 - c.args.effort.now.looked) xs (c.loop-k.effort.looked - c.args.effort.now.looked)) whole (inv.without g h path left);
-      };
+      let end : c.loop-k.k ≡ length c.args.program.now.clauses = omega (arith, c.loop-k-test.false, c.clauses-k-end.ensures.count, c.loop-k.auto.k-end) in
+      let whole = all_given c.args.program.now c.args.path.now.numbers.items (c.args.steps - 1) c.args.steps h c.loop-k.k (omega (arith, c.if-steps-eq0.false)) end in
+      record { numbers = inv.numbers; goals = inv.goals; more = inv.more; most = inv.most; without = rw whole at (inv.without g h path left) };
 }
