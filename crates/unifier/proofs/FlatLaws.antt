@@ -1,8 +1,8 @@
 -- Laws of terms that the occurs check goes through without a stack.
-use Rattle.std.proofs.Common.{◌≡◌, ℕ, ◌<◌, ◌≤◌, true, false, ◌||◌, true≢false, inl, inr, List, [], ◌∷◌, map, refl, ap, sym, ◌∙◌, arith, eqb-true}
+use Rattle.std.proofs.Common.{◌≡◌, ℕ, ◌+◌, ◌<◌, ◌≤◌, true, false, ◌||◌, true≢false, inl, inr, List, [], ◌∷◌, map, length, get_or, refl, ap, sym, ◌∙◌, arith, eqb-true}
 use Rattle.std.specs.List.{AllByRecursion}
 use Rattle.std.proofs.lemmas.Bool.{or_cases}
-use Rattle.cti_terms.specs.Tree.{Tree, Trees, Variable, Compound, all_instances}
+use Rattle.cti_terms.specs.Tree.{Tree, Trees, Variable, Compound, instance, all_instances}
 use Rattle.cti_terms.specs.declared.syntax.Term.{Term}
 use Rattle.cti_terms.specs.Spell.{tree_of, trees_of}
 use Rattle.cti_terms.specs.Unify.{Binding, occurs}
@@ -11,7 +11,7 @@ use Rattle.unifier.specs.Store.{all_full, full}
 use Rattle.unifier.specs.Pending.{occurs_left}
 use Rattle.unifier.specs.Visits.{IsFlat}
 use Rattle.unifier.proofs.PendingLaws.{eqb_off, full_compound, occurs_left-arguments}
-use Rattle.unifier.proofs.LeadLaws.{arguments_from}
+use Rattle.unifier.proofs.LeadLaws.{arguments_from, arguments_more, arguments_none}
 
 -- no variable occurs
 pub flat_constant : (s : List Binding) (x m : ℕ) (t u : Tree) → full s t ≡ full s u → ((y : ℕ) → occurs y (full s t) ≡ false) → IsFlat s x u m
@@ -42,6 +42,13 @@ flat_absent s x m (t ∷ ts) h = ap (λ b. b || occurs_left s x ts) h.0.0 ∙ fl
 flat_below : (s : List Binding) (x m : ℕ) (ts : List Tree) → AllFlat s x m ts → (y : ℕ) → occurs_left s y ts ≡ true → y < m
 flat_below s x m [] h y o = absurd (true≢false (sym o))
 flat_below s x m (t ∷ ts) h y o = elim (or_cases (occurs y (full s t)) (occurs_left s y ts) o) [ inl k ↦ h.0.1 y k | inr k ↦ flat_below s x m ts h.1 y k ]
+
+-- arguments from one on, where it is flat and those after it are, and where none is left
+pub flat_more : (s : List Binding) (x m n i : ℕ) (args : List Term) (t : Term) (above : ℕ) → i < length args → t ≡ get_or args i t → above ≤ m → IsFlat s x (instance (raise n) (tree_of t)) above → AllFlat s x m (arguments_from n (i + 1) args) → AllFlat s x m (arguments_from n i args)
+flat_more s x m n i args t above lt is le flat others = rw (arguments_more n i args t lt is) (flat_wider s x above m (instance (raise n) (tree_of t)) le flat, others)
+
+pub flat_none : (s : List Binding) (x m n i : ℕ) (args : List Term) → length args ≤ i → AllFlat s x m (arguments_from n i args)
+flat_none s x m n i args none = rw (arguments_none n i args none) tt
 
 -- the arguments are, and so is the term
 pub flat_arguments : (s : List Binding) (x m n : ℕ) (args : List Term) → AllFlat s x m (arguments_from n 0 args) → IsFlat s x (Compound 0 (all_instances (raise n) (trees_of args))) m

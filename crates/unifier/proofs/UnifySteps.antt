@@ -98,34 +98,33 @@ goes_on_from before now x v left same inside g = record {
 pub fewer_occur : (n x : ℕ) (v : Tree) (before now : List Equation) → AllBelow n before → GoesOn before x v now → occurring n now < occurring n before
 fewer_occur n x v before now below g = occurring_lt n x now before g.inside (below x g.there) g.gone g.there
 
-module _ (before now : List Equation) (t u : Tree) (es : List Equation) (same : unify before ≡ unify now) (inside : OccurBefore before now) (e : now ≡ (t, u) ∷ es) where
-  here : unify before ≡ unify ((t, u) ∷ es)
-  here = same ∙ ap unify e
+-- equations with the unifier of those before, in which no other variables occur
+pub record HaveUnifierOf (before now : List Equation) : Type 0 where
+  pub unifier : unify before ≡ unify now
+  pub inside : OccurBefore before now
 
-  occur_here : OccurBefore before ((t, u) ∷ es)
-  occur_here = subst (OccurBefore before) e inside
+module _ {before : List Equation} {t u : Tree} {es : List Equation} (have : HaveUnifierOf before ((t, u) ∷ es)) where
+  pub inside_rest : OccurBefore before es
+  inside_rest y h = have.inside y (occur_dropped t u es y h)
 
   -- nothing is asked for
-  pub same_after_nothing : first_step t u ≡ Dropped → unify before ≡ unify es
-  same_after_nothing h = here ∙ unify_step t u es Dropped h
-
-  pub inside_after_nothing : OccurBefore before es
-  inside_after_nothing y h = occur_here y (occur_dropped t u es y h)
+  pub after_nothing : first_step t u ≡ Dropped → HaveUnifierOf before es
+  after_nothing h = record { unifier = have.unifier ∙ unify_step t u es Dropped h; inside = inside_rest }
 
   -- the equations of arguments
-  pub same_after_arguments : (qs : List Equation) → first_step t u ≡ Split qs → unify before ≡ unify (qs ++ es)
-  same_after_arguments qs h = here ∙ unify_step t u es (Split qs) h
-
-  pub inside_after_arguments : (qs : List Equation) → first_step t u ≡ Split qs → OccurBefore before (qs ++ es)
-  inside_after_arguments qs h y k = occur_here y (occur_split t u qs es h y k)
+  pub after_arguments : (qs : List Equation) → first_step t u ≡ Split qs → HaveUnifierOf before (qs ++ es)
+  after_arguments qs h = record {
+    unifier = have.unifier ∙ unify_step t u es (Split qs) h;
+    inside = λ y k. have.inside y (occur_split t u qs es h y k);
+  }
 
   -- it fails
   pub after_clash : first_step t u ≡ Failed → unify before ≡ None
-  after_clash h = here ∙ unify_step t u es Failed h
+  after_clash h = have.unifier ∙ unify_step t u es Failed h
 
   -- a binding
   pub after_binding : (x : ℕ) (v : Tree) → first_step t u ≡ Bound x v → GoesOn before x v (replaced x v es)
-  after_binding x v h = goes_on_from before ((t, u) ∷ es) x v (replaced x v es) here occur_here (goes_on t u x v es h)
+  after_binding x v h = goes_on_from before ((t, u) ∷ es) x v (replaced x v es) have.unifier have.inside (goes_on t u x v es h)
 
 -- before any binding
 pub option_map_same : (o : Option (List Binding)) → o ≡ option_map (λ cs. [] ++ cs) o

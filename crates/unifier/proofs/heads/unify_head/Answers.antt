@@ -1,119 +1,72 @@
-use Rattle.std.proofs.Common.{◌≡◌, ◌<◌, min, Bool, true, false, List, [], ◌∷◌, length, sym, subst, arith}
-use Rattle.cti_terms.specs.Tree.{instance}
-use Rattle.cti_terms.specs.Spell.{tree_of}
-use Rattle.cti_terms.specs.Unify.{Equation}
-use Rattle.cti_terms.specs.Resolve.{over, raised}
-use Rattle.unifier.specs.Raised.{raise}
-use Rattle.unifier.specs.Store.{full, made}
+use Rattle.std.proofs.Common.{◌≡◌, min, length, sym, subst, arith}
+use Rattle.cti_terms.specs.Resolve.{over, raised, head_equations}
+use Rattle.unifier.specs.Store.{full}
 use Rattle.unifier.specs.Below.{LeftBelow}
-use Rattle.unifier.specs.Pending.{IsUnified, KeepsFree}
-use Rattle.unifier.specs.Heads.{IsUnifiedTo}
+use Rattle.unifier.specs.Pending.{waiting_from}
 use Rattle.unifier.proofs.BelowLaws.{left_arguments}
 use Rattle.unifier.proofs.HeadLaws.{head_waits}
-use Rattle.unifier.proofs.HeadSteps.{none_unified, all_unified, pair_at, pair_fails, pair_extended, pair_free, pair_unified}
+use Rattle.unifier.proofs.HeadSteps.{IsNextPair, none_unified, all_unified, pair_fails, pair_extended, pair_free, pair_unified}
+use Rattle.unifier.proofs.heads.unify_head.Goals.{After-as_slice-right, In_ok-unify_terms}
 use Rattle.unifier.proofs.heads.unify_head.Goals as goal
+
+-- the equations of the head
+waits : (c : After-as_slice-right) → waiting_from c.args.bindings.now c.args.base c.args.fresh c.as_slice-left.result.now c.as_slice-right.result.now 0 ≡ head_equations (over (full c.args.bindings.now) (raised c.args.base c.args.atom.now)) c.args.fresh c.args.clause.now
+waits c = head_waits c.args.bindings.now c.args.atom.now c.args.base c.args.fresh c.args.clause.now c.as_slice-left.result.now c.as_slice-right.result.now c.as_slice-left.ensures c.as_slice-right.ensures c.requires.free
+
+next_pair : (c : In_ok-unify_terms) → IsNextPair c.args.bindings.now c.loop-i.bindings c.args.base c.args.fresh c.as_slice-left.result.now c.as_slice-right.result.now c.loop-i.i c.loop-i.limit c.index-left-i.result c.index-right-i.result
+next_pair c = record {
+  unified = c.loop-i.invariant.unified;
+  within = omega (arith, c.loop-i-test.true, c.min-count.ensures);
+  left = c.index-left-i.is;
+  right = c.index-right-i.is;
+}
 
 pub loop-i-init : goal.loop-i-init
 loop-i-init c =
+    let at = goal.at.loop-i-init c in
     let k = c.args.bindings.now in
     let ts = c.as_slice-left.result.now in
     let us = c.as_slice-right.result.now in
     let a = over (full k) (raised c.args.base c.args.atom.now) in
-    let waits = head_waits k c.args.atom.now c.args.base c.args.fresh c.args.clause.now ts us c.as_slice-left.ensures c.as_slice-right.ensures c.requires.free in
-    let below = subst (LeftBelow c.args.fresh) (sym waits) (left_arguments c.args.fresh a.args (raised c.args.fresh c.args.clause.now.head).args c.requires.below) in
+    let below = subst (LeftBelow c.args.fresh) (sym (waits at.After-as_slice-right)) (left_arguments c.args.fresh a.args (raised c.args.fresh c.args.clause.now.head).args c.requires.below) in
     record {
       within = omega arith;
-      unified =
-          subst (IsUnifiedTo k c.args.base c.args.fresh ts us 0 c.args.fresh) (sym c.in_ok-reserve.ensures)
-          (none_unified k c.args.base c.args.fresh ts us c.args.fresh below);
+      unified = rw c.in_ok-reserve.ensures (none_unified k c.args.base c.args.fresh ts us c.args.fresh below);
     }
 
 pub loop-i-preserved : goal.loop-i-preserved
 loop-i-preserved c =
-    let k = c.args.bindings.now in
-    let s = c.loop-i.bindings in
-    let i = c.loop-i.i in
-    let n = c.args.base in
-    let m = c.args.fresh in
-    let ts = c.as_slice-left.result.now in
-    let us = c.as_slice-right.result.now in
-    let less : i < min (length ts) (length us) = omega (arith, c.loop-i-test.true, c.min-count.ensures) in
-    let e = pair_at s n m i ts us c.index-left-i.result c.index-right-i.result (omega (arith, less)) (omega (arith, less)) c.index-left-i.is c.index-right-i.is in
-    let new = c.unify_terms.new.bindings in
-    let t = full s (instance (raise n) (tree_of c.index-left-i.result)) in
-    let u = full s (instance (raise m) (tree_of c.index-right-i.result)) in
-    let unified = subst (λ (b : Bool). IsUnified (made s) ((t, u) ∷ []) (made new) b) c.if-not-branch.false c.in_ok-unify_terms.ensures.unified.unifier in
+    let next = next_pair (goal.at.loop-i-preserved c).In_ok-unify_terms in
+    let unified = c.in_ok-unify_terms.ensures.unified in
+    let unifier = rw c.if-not-branch.false at unified.unifier in
     record {
-      within = omega (arith, less);
-      unified = pair_unified k s n m ts us i c.loop-i.limit c.loop-i.invariant.unified t u e new c.in_ok-unify_terms.ensures.unified.extended c.in_ok-unify_terms.ensures.unified.free c.unify_terms.new.limit unified c.in_ok-unify_terms.ensures.limit;
+      within = omega (arith, next.within);
+      unified = pair_unified next c.unify_terms.new.bindings unified.extended unified.free c.unify_terms.new.limit unifier c.in_ok-unify_terms.ensures.limit;
     }
 
 pub returns-then-not-branch-clause-unifier : goal.returns-then-not-branch-clause-unifier
 returns-then-not-branch-clause-unifier c =
-    let k = c.args.bindings.now in
-    let s = c.loop-i.bindings in
-    let i = c.loop-i.i in
-    let n = c.args.base in
-    let m = c.args.fresh in
-    let ts = c.as_slice-left.result.now in
-    let us = c.as_slice-right.result.now in
-    let waits = head_waits k c.args.atom.now c.args.base c.args.fresh c.args.clause.now ts us c.as_slice-left.ensures c.as_slice-right.ensures c.requires.free in
-    let less : i < min (length ts) (length us) = omega (arith, c.loop-i-test.true, c.min-count.ensures) in
-    let e = pair_at s n m i ts us c.index-left-i.result c.index-right-i.result (omega (arith, less)) (omega (arith, less)) c.index-left-i.is c.index-right-i.is in
-    let new = c.unify_terms.new.bindings in
-    let t = full s (instance (raise n) (tree_of c.index-left-i.result)) in
-    let u = full s (instance (raise m) (tree_of c.index-right-i.result)) in
-    let fails = subst (λ (b : Bool). IsUnified (made s) ((t, u) ∷ []) (made new) b) c.if-not-branch.true c.in_ok-unify_terms.ensures.unified.unifier in
-    subst (λ (es : List Equation). IsUnified (made k) es (made new) false) waits (pair_fails k s n m ts us i c.loop-i.limit c.loop-i.invariant.unified t u e fails)
+    let at = goal.at.returns-then-not-branch-clause-unifier c in
+    let none = rw c.if-not-branch.true at c.in_ok-unify_terms.ensures.unified.unifier in
+    rw (waits at.After-as_slice-right) at (pair_fails (next_pair at.In_ok-unify_terms) none)
 
 pub returns-then-not-branch-clause-extended : goal.returns-then-not-branch-clause-extended
 returns-then-not-branch-clause-extended c =
-    let k = c.args.bindings.now in
-    let s = c.loop-i.bindings in
-    let i = c.loop-i.i in
-    let n = c.args.base in
-    let m = c.args.fresh in
-    let ts = c.as_slice-left.result.now in
-    let us = c.as_slice-right.result.now in
-    let less : i < min (length ts) (length us) = omega (arith, c.loop-i-test.true, c.min-count.ensures) in
-    let e = pair_at s n m i ts us c.index-left-i.result c.index-right-i.result (omega (arith, less)) (omega (arith, less)) c.index-left-i.is c.index-right-i.is in
-    let t = full s (instance (raise n) (tree_of c.index-left-i.result)) in
-    let u = full s (instance (raise m) (tree_of c.index-right-i.result)) in
-    pair_extended k s n m ts us i c.loop-i.limit c.loop-i.invariant.unified t u e c.unify_terms.new.bindings c.in_ok-unify_terms.ensures.unified.extended c.in_ok-unify_terms.ensures.unified.free
+    let unified = c.in_ok-unify_terms.ensures.unified in
+    pair_extended (next_pair (goal.at.returns-then-not-branch-clause-extended c).In_ok-unify_terms) c.unify_terms.new.bindings unified.extended unified.free
 
 pub returns-then-not-branch-clause-free : goal.returns-then-not-branch-clause-free
 returns-then-not-branch-clause-free c =
-    let k = c.args.bindings.now in
-    let s = c.loop-i.bindings in
-    let i = c.loop-i.i in
-    let n = c.args.base in
-    let m = c.args.fresh in
-    let ts = c.as_slice-left.result.now in
-    let us = c.as_slice-right.result.now in
-    let waits = head_waits k c.args.atom.now c.args.base c.args.fresh c.args.clause.now ts us c.as_slice-left.ensures c.as_slice-right.ensures c.requires.free in
-    let less : i < min (length ts) (length us) = omega (arith, c.loop-i-test.true, c.min-count.ensures) in
-    let e = pair_at s n m i ts us c.index-left-i.result c.index-right-i.result (omega (arith, less)) (omega (arith, less)) c.index-left-i.is c.index-right-i.is in
-    let new = c.unify_terms.new.bindings in
-    let t = full s (instance (raise n) (tree_of c.index-left-i.result)) in
-    let u = full s (instance (raise m) (tree_of c.index-right-i.result)) in
-    subst (λ (es : List Equation). KeepsFree es k new) waits
-    (pair_free k s n m ts us i c.loop-i.limit c.loop-i.invariant.unified t u e new c.in_ok-unify_terms.ensures.unified.extended c.in_ok-unify_terms.ensures.unified.free)
+    let at = goal.at.returns-then-not-branch-clause-free c in
+    let unified = c.in_ok-unify_terms.ensures.unified in
+    rw (waits at.After-as_slice-right) at (pair_free (next_pair at.In_ok-unify_terms) c.unify_terms.new.bindings unified.extended unified.free)
 
 pub returns-clause-unifier : goal.returns-clause-unifier
 returns-clause-unifier c =
-    let k = c.args.bindings.now in
-    let i = c.loop-i.i in
     let ts = c.as_slice-left.result.now in
     let us = c.as_slice-right.result.now in
-    let waits = head_waits k c.args.atom.now c.args.base c.args.fresh c.args.clause.now ts us c.as_slice-left.ensures c.as_slice-right.ensures c.requires.free in
-    let all : i ≡ min (length ts) (length us) = omega (arith, c.loop-i-test.false, c.min-count.ensures, c.loop-i.invariant.within) in
-    subst (λ (es : List Equation). IsUnified (made k) es (made c.loop-i.bindings) true) waits
-    (all_unified k c.loop-i.bindings c.args.base c.args.fresh ts us i c.loop-i.limit c.loop-i.invariant.unified all)
+    let all : c.loop-i.i ≡ min (length ts) (length us) = omega (arith, c.loop-i-test.false, c.min-count.ensures, c.loop-i.invariant.within) in
+    rw (waits (goal.at.returns-clause-unifier c).After-as_slice-right) at (all_unified c.args.bindings.now c.loop-i.bindings c.args.base c.args.fresh ts us c.loop-i.i c.loop-i.limit c.loop-i.invariant.unified all)
 
 pub returns-clause-free : goal.returns-clause-free
-returns-clause-free c =
-    let k = c.args.bindings.now in
-    let ts = c.as_slice-left.result.now in
-    let us = c.as_slice-right.result.now in
-    let waits = head_waits k c.args.atom.now c.args.base c.args.fresh c.args.clause.now ts us c.as_slice-left.ensures c.as_slice-right.ensures c.requires.free in
-    subst (λ (es : List Equation). KeepsFree es k c.loop-i.bindings) waits c.loop-i.invariant.unified.free
+returns-clause-free c = rw (waits (goal.at.returns-clause-free c).After-as_slice-right) at c.loop-i.invariant.unified.free
