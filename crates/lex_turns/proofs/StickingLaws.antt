@@ -54,7 +54,7 @@ use Rattle.lex_turns.specs.Coursing.{IsStopped}
 use Rattle.lex_turns.specs.Descending.{IsTurnBlown, turn_solution}
 use Rattle.lex_turns.specs.Descending.IsTurnBlown.{solving, sticking}
 use Rattle.lex_turns.specs.FoundLists.{IsStuckSetOf}
-use Rattle.lex_turns.specs.Sticking.{AreAccepted, AreAt, ArePlain, ArePlainIf, ArePlainOf, AreRefuting, AreRefutingIf, IsUnrefuted, lines_of, unknowns_of}
+use Rattle.lex_turns.specs.Sticking.{AreAccepted, AreAt, ArePlain, ArePlainIf, ArePlainOf, AreRefuting, AreRefutingIf, IsBlownWhereStopped, IsUnrefuted, lines_of, unknowns_of}
 use Rattle.lex_turns.specs.Sticking.IsUnrefuted.{blown, found, short}
 use Rattle.lex_turns.specs.Testing.{AreAmong}
 use Rattle.lex_turns.specs.Tracking.{kept}
@@ -236,13 +236,13 @@ module _ (size : (ℕ → ℕ) → Tree → ℕ) (truth : (ℕ → Bool) → Tre
         }
 
     -- where no multipliers refute the system, its solving is blown
-    pub unrefuted_blown : IsUnrefuted owns (unknowns_of expression p comps rows c x at owns) (lines_of expression p comps rows c x at owns) → (first : Bool) → IsTurnBlown expression view (arity_in p) ps first told
+    unrefuted_blown : IsUnrefuted owns (unknowns_of expression p comps rows c x at owns) (lines_of expression p comps rows c x at owns) → (first : Bool) → IsTurnBlown expression view (arity_in p) ps first told
     unrefuted_blown (blown step wide e) first = solving step wide (turn_is ∙ e)
     unrefuted_blown (found t w point) first = absurd (no_point t w point)
     unrefuted_blown (short ms refutes none) first = let count = count_is ms refutes in absurd (none (enough_numbers expression p comps rows c owns held ms (omega (arith, count))))
 
     -- where the check does not accept their points, a number does not fit
-    pub flawed_blown : (xs : List PairPoint) → AreRefuting owns (unknowns_of expression p comps rows c x at owns) (lines_of expression p comps rows c x at owns) xs
+    flawed_blown : (xs : List PairPoint) → AreRefuting owns (unknowns_of expression p comps rows c x at owns) (lines_of expression p comps rows c x at owns) xs
         → (AreAccepted expression p rows (members_in comps c) xs → ⊥) → (first : Bool) → IsTurnBlown expression view (arity_in p) ps first told
     flawed_blown xs refuting fails first =
         let ms = refuting.multipliers in
@@ -252,3 +252,12 @@ module _ (size : (ℕ → ℕ) → Tree → ℕ) (truth : (ℕ → Bool) → Tre
         let same : ms ≡ map pos (last.front ++ last.last ∷ []) = naturals ∙ ap (map pos) last.is in
         sticking last.front last.last view_covered (turn_is ∙ refuting.solved ∙ ap Refuted same) (λ fit. fails
         (accepted last.front last.last last.long (subst (Refutes (turn_unknowns expression ps mine told) (turn_rows expression ps mine told)) same refutes) xs (subst (λ (zs : List ℤ). ArePlain owns zs xs) same refuting.plain) fit))
+
+  -- the same, where the calls that remain are those at which a search stops
+  module _ (at : List Position) (rest : List OwnCall) where
+    pub unrefuted_stopped : IsUnrefuted rest (unknowns_of expression p comps rows c x at rest) (lines_of expression p comps rows c x at rest) → IsBlownWhereStopped expression p comps rows c x at rest
+    unrefuted_stopped given gone is covers stopped first = rw (← is) (unrefuted_blown at gone stopped covers (rw is given) first)
+
+    pub flawed_stopped : (xs : List PairPoint) → AreRefuting rest (unknowns_of expression p comps rows c x at rest) (lines_of expression p comps rows c x at rest) xs
+        → (AreAccepted expression p rows (members_in comps c) xs → ⊥) → IsBlownWhereStopped expression p comps rows c x at rest
+    flawed_stopped xs given fails gone is covers stopped first = rw (← is) (flawed_blown at gone stopped covers xs (rw is given) fails first)

@@ -1,5 +1,6 @@
 -- What the code makes of a point of a turn's system is a turn, or the turn is blown.
 use Rattle.std.proofs.Common.{◌≡◌, ◌≤◌, ◌≤ℤ◌, ◌+◌, ℕ, suc, ℤ, pos, Bool, true, List, [], ◌∷◌, ◌++◌, All, map, drop, take, length, refl, ap, sym, subst, ◌∙◌, arith}
+use Rattle.std.specs.Borrow.{Bor}
 use Rattle.std.specs.Prelude.{unsigned_abs}
 use Rattle.std.specs.List.{AllByRecursion}
 use Rattle.std.proofs.lemmas.List.{length-map}
@@ -29,14 +30,14 @@ use Rattle.level_systems.specs.Falling.{HasParts, IsReady}
 use Rattle.level_systems.specs.Held.{IsHeld, spelled}
 use Rattle.level_systems.specs.Mappings.{HasMeasures}
 use Rattle.level_systems.specs.Searched.{AreMeasuresAt, IsComponent, IsSound, IsSoundCall}
-use Rattle.level_systems.specs.Turned.{all_rows}
+use Rattle.level_systems.specs.Turned.{all_rows, held_of}
 use Rattle.level_systems.specs.declared.component.Component.{Component}
 use Rattle.level_systems.specs.declared.measure.Measure.{Measure}
 use Rattle.level_systems.specs.declared.own_call.OwnCall.{OwnCall}
 use Rattle.level_systems.specs.declared.position.Position.{Position}
 use Rattle.level_systems.proofs.HeldCalls.{all_in, calls_are, re, rows_are}
 use Rattle.level_dual.proofs.FoundLaws.{wide_heads}
-use Rattle.level_dual.proofs.PartLaws.{all_dropped, all_taken, are_naturals}
+use Rattle.level_dual.proofs.PartLaws.{all_dropped, all_natural, all_taken, are_naturals}
 use Rattle.level_dual.proofs.SearchLaws.{drop_mapped, length_drop, length_take, split_values, take_mapped}
 use Rattle.level_dual.proofs.SupportLaws.{has_parts}
 use Rattle.lex_turns.specs.Descending.{IsTurnBlown, turn_solution}
@@ -70,6 +71,18 @@ drops_long ms [] values [] h = refl
 drops_long ms [] values (f ∷ fs) h = absurd h
 drops_long ms (y ∷ owns) values [] h = absurd h
 drops_long ms (y ∷ owns) values (f ∷ fs) h = ap suc (drops_long ms owns (drop (length y.rows.list) values) fs h.1)
+
+-- as many calls are held as remain, so that the unknowns of a turn's system are as many by either count
+pub count_held : (calls : List (Bor OwnCall)) (a b n : ℕ) → n ≡ a + (b + (length calls + all_rows (held_of calls))) → n ≡ a + (b + (length (held_of calls) + all_rows (held_of calls)))
+count_held calls a b n e = omega (arith, e, length-map calls (λ (y : Bor OwnCall). y.now))
+
+-- the values of a point are naturals, as many as there are unknowns
+module _ {n : ℕ} {lines : List (List ℤ)} {t : ℤ} {w : List ℤ} (point : IsPoint n lines t w) where
+  pub point_naturals : All (λ z. pos 0 ≤ℤ z) w
+  point_naturals = subst (λ (zs : List ℤ). All (λ z. pos 0 ≤ℤ z) zs) (sym point.w_is) (all_natural point.values)
+
+  pub point_long : length w ≡ n
+  point_long = ap length point.w_is ∙ length-map point.values (λ k. pos k) ∙ point.long
 
 module _ (size : (ℕ → ℕ) → Tree → ℕ) (truth : (ℕ → Bool) → Tree → Bool) (expression : ℕ → Tree → List ℤ) (p : Listing) (comps : Partition) (rows : ℕ → List (List ℤ)) (c : ℕ) (x : Component)
     (h : IsComponent size truth expression p comps rows c x) where
