@@ -1,29 +1,39 @@
 //! Bytes that begin no token.
 
-use thiserror::Error;
+use std::fmt;
 
 /// What is wrong with the bytes of a text, shown as what to do about it.
-#[derive(Clone, Copy, Debug, Error)]
+#[derive(Clone, Copy)]
 pub enum ByteMistake {
-    #[error("save the file without the byte order mark at its beginning")]
     ByteOrderMark,
-    #[error("write \"a\" for what stands in back quotes")]
     BackQuote,
-    #[error("save the file as UTF-8")]
     NotText,
-    #[error("this is no text: name the file of a program, and save it as UTF-8")]
     Binary,
-    #[error("delete this control character")]
     Control,
-    #[error("write a plain space, quote or dash: this character is none of them")]
     Typographic,
-    #[error("write `(G,fail ; true)` for `¬G`: modes with it hold for the negation")]
     Negation,
-    #[error("this sign is no operator here: write it in letters or in plain symbols")]
     Symbol,
     /// A sign of mathematics, and what is written for it.
-    #[error("write `{1}` for `{0}`")]
     Sign(&'static str, &'static str),
+}
+
+impl fmt::Display for ByteMistake {
+    fn fmt<W: fmt::Write>(&self, f: &mut fmt::Formatter<W>) -> fmt::Result {
+        f.write_str(match *self {
+            Self::ByteOrderMark => "save the file without the byte order mark at its beginning",
+            Self::BackQuote => "write \"a\" for what stands in back quotes",
+            Self::NotText => "save the file as UTF-8",
+            Self::Binary => "this is no text: name the file of a program, and save it as UTF-8",
+            Self::Control => "delete this control character",
+            Self::Typographic =>
+                "write a plain space, quote or dash: this character is none of them",
+            Self::Negation =>
+                "write `(G,fail ; true)` for `¬G`: modes with it hold for the negation",
+            Self::Symbol =>
+                "this sign is no operator here: write it in letters or in plain symbols",
+            Self::Sign(sign, plain) => return write!(f, "write `{plain}` for `{sign}`"),
+        })
+    }
 }
 
 /// Signs of mathematics, and what is written for each.
@@ -65,10 +75,11 @@ pub fn byte_mistake(after: &[u8]) -> Option<ByteMistake> {
 
 /// What a sign of mathematics shows, where the bytes begin with one.
 fn sign_mistake(after: &[u8]) -> Option<ByteMistake> {
-    for (sign, plain) in SIGNS {
-        if after.starts_with(sign.as_bytes()) {
-            return Some(ByteMistake::Sign(sign, plain));
-        }
+    if let Some((sign, plain)) = SIGNS
+        .iter()
+        .find(|(sign, _)| after.starts_with(sign.as_bytes()))
+    {
+        return Some(ByteMistake::Sign(sign, plain));
     }
     match after {
         [0xc2, 0xac, ..] => Some(ByteMistake::Negation),

@@ -22,10 +22,10 @@ fn variable_mistake<'a>(first: Word<'a>, second: Word<'_>) -> Option<Mistake<'a>
 }
 
 /// What a name shows that a clause begins with.
-fn named_mistake(name: &[u8], has_arguments: bool) -> Option<HeadMistake> {
+fn named_mistake(name: &str, has_arguments: bool) -> Option<HeadMistake> {
     match name {
-        b"\\+" => Some(HeadMistake::Negation),
-        b"op" if has_arguments => Some(HeadMistake::Op),
+        "\\+" => Some(HeadMistake::Negation),
+        "op" if has_arguments => Some(HeadMistake::Op),
         _ => None,
     }
 }
@@ -34,7 +34,7 @@ fn named_mistake(name: &[u8], has_arguments: bool) -> Option<HeadMistake> {
 fn first_mistake<'a>(reader: &mut WordReader<'a>) -> Option<Mistake<'a>> {
     let first = reader.next()?;
     let second = reader.next()?;
-    match named_mistake(first.text, second.opens_arguments(first)) {
+    match named_mistake(first.name(), second.opens_arguments(first)) {
         Some(mistake) => Some(Mistake::Head(mistake)),
         None => variable_mistake(first, second),
     }
@@ -42,11 +42,11 @@ fn first_mistake<'a>(reader: &mut WordReader<'a>) -> Option<Mistake<'a>> {
 
 /// What a token outside brackets shows before the neck, and whether a minus sign follows it at once.
 fn joint_mistake<'a>(word: Word<'_>, has_minus: bool) -> Option<Mistake<'a>> {
-    match word.text {
-        b"," => Some(Mistake::Head(HeadMistake::Comma)),
-        b";" if has_minus => Some(Mistake::Operator(OperatorMistake::Neck(";-"))),
-        b";" => Some(Mistake::Head(HeadMistake::Semicolon)),
-        b"->" => Some(Mistake::Head(HeadMistake::Arrow)),
+    match word.name() {
+        "," => Some(Mistake::Head(HeadMistake::Comma)),
+        ";" if has_minus => Some(Mistake::Operator(OperatorMistake::Neck(";-"))),
+        ";" => Some(Mistake::Head(HeadMistake::Semicolon)),
+        "->" => Some(Mistake::Head(HeadMistake::Arrow)),
         _ => None,
     }
 }

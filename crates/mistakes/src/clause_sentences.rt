@@ -1,48 +1,74 @@
 //! What is wrong with the shape of a clause.
 
-use thiserror::Error;
+use std::fmt;
 
 /// What is wrong with the shape of a clause: its dots, brackets, names and comments, shown as what to do about it.
-#[derive(Clone, Copy, Debug, Error)]
+#[derive(Clone, Copy)]
 pub enum ClauseMistake<'a> {
-    #[error("does the clause before end with a comma in place of its dot?")]
     CommaForDot,
-    #[error("does the clause before end with `;` in place of its dot?")]
     SemicolonForDot,
-    #[error("a clause has one `:-`: is a dot missing before this one's head?")]
     SecondNeck,
-    #[error("a dot ends a clause only before a space or a line's end")]
     Dot,
-    #[error("a clause ends with one dot")]
     Dots,
-    #[error("a `{0}` is missing before `:-`")]
     Unclosed(char),
-    #[error("no `{0}` is open here: one `{1}` too many")]
     Closer(char, char),
-    #[error("`{0}` is open here, and `{1}` does not close it")]
     OtherCloser(char, char),
-    #[error("a list has one `|`, and one term after it: `[a,b|T]`")]
     SecondBar,
-    #[error("`|` stands in lists alone: write `[H|T]` for a list, and `;` for a choice of goals")]
     BarOutside,
-    #[error("dicts are not read: write a term, as in `point(X,Y)`")]
     Dict,
-    #[error("a comment begins with `%`, or stands between `/*` and `*/`")]
     Comment,
-    #[error("a comment ends at its first `*/`: comments do not nest")]
     NestedComment,
-    #[error("leave out line 1, which is for the shell")]
     ScriptLine,
-    #[error("a name begins with a small letter: `{0}` is a variable")]
     VariableName(&'a str),
-    #[error("leave out the space between `{0}` and `(`")]
     Space(&'a str),
-    #[error("write `{0}` for `{0}()`")]
     NoArguments(&'a str),
-    #[error("put the arguments of `{0}` in parentheses, or a comma is missing after it")]
     NoParentheses(&'a str),
-    #[error("`{0}` has {1} arguments: put some together in one term")]
     Arguments(&'a str, u64),
-    #[error("this clause has {0} variables, and each `_` counts: split it in two")]
     Variables(u64),
+}
+
+impl fmt::Display for ClauseMistake<'_> {
+    fn fmt<W: fmt::Write>(&self, f: &mut fmt::Formatter<W>) -> fmt::Result {
+        f.write_str(match *self {
+            Self::CommaForDot => "does the clause before end with a comma in place of its dot?",
+            Self::SemicolonForDot => "does the clause before end with `;` in place of its dot?",
+            Self::SecondNeck => "a clause has one `:-`: is a dot missing before this one's head?",
+            Self::Dot => "a dot ends a clause only before a space or a line's end",
+            Self::Dots => "a clause ends with one dot",
+            Self::Unclosed(closer) => return write!(f, "a `{closer}` is missing before `:-`"),
+            Self::Closer(opener, closer) => return write!(
+                f,
+                "no `{opener}` is open here: one `{closer}` too many"
+            ),
+            Self::OtherCloser(opener, closer) => return write!(
+                f,
+                "`{opener}` is open here, and `{closer}` does not close it"
+            ),
+            Self::SecondBar => "a list has one `|`, and one term after it: `[a,b|T]`",
+            Self::BarOutside =>
+                "`|` stands in lists alone: write `[H|T]` for a list, and `;` for a choice of goals",
+            Self::Dict => "dicts are not read: write a term, as in `point(X,Y)`",
+            Self::Comment => "a comment begins with `%`, or stands between `/*` and `*/`",
+            Self::NestedComment => "a comment ends at its first `*/`: comments do not nest",
+            Self::ScriptLine => "leave out line 1, which is for the shell",
+            Self::VariableName(name) => return write!(
+                f,
+                "a name begins with a small letter: `{name}` is a variable"
+            ),
+            Self::Space(name) => return write!(f, "leave out the space between `{name}` and `(`"),
+            Self::NoArguments(name) => return write!(f, "write `{name}` for `{name}()`"),
+            Self::NoParentheses(name) => return write!(
+                f,
+                "put the arguments of `{name}` in parentheses, or a comma is missing after it"
+            ),
+            Self::Arguments(name, count) => return write!(
+                f,
+                "`{name}` has {count} arguments: put some together in one term"
+            ),
+            Self::Variables(count) => return write!(
+                f,
+                "this clause has {count} variables, and each `_` counts: split it in two"
+            ),
+        })
+    }
 }

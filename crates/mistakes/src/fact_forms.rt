@@ -18,44 +18,37 @@ pub(crate) struct FactForm {
 /// The place of a predicate where there is none.
 const NONE: u32 = 9;
 
-/// The form of these numbers.
-const fn form(
-    name: &'static str,
-    parts: u32,
-    pred: u32,
-    numbered: (u32, u32),
-    rank: u32,
-) -> FactForm {
-    FactForm {
-        name,
-        parts,
-        pred,
-        first: numbered.0,
-        end: numbered.1,
-        rank,
-    }
-}
+/// The names of the facts, and of each how many parts it has, which is a predicate, which are counted from 1, and its place in the order.
+const FORMS: [(&str, u32, u32, (u32, u32), u32); 17] = [
+    ("cti", 1, NONE, (0, 0), 0),
+    ("norm", 1, NONE, (0, 0), 1),
+    ("terminates", 2, 0, (0, 0), 2),
+    ("size", 3, 0, (1, 2), 3),
+    ("by", 4, NONE, (0, 2), 4),
+    ("grounds", 3, 0, (1, 2), 5),
+    ("measure", 4, 0, (1, 2), 6),
+    ("falls", 5, NONE, (0, 3), 7),
+    ("pre", 4, 0, (1, 3), 8),
+    ("none", 2, 0, (1, 2), 9),
+    ("point", 4, NONE, (0, 2), 9),
+    ("at", 4, NONE, (0, 2), 9),
+    ("image", 4, 2, (0, 2), 10),
+    ("step", 4, 1, (0, 1), 10),
+    ("weak", 1, NONE, (0, 0), 10),
+    ("blown", 2, 0, (0, 0), 10),
+    ("large", 2, 0, (1, 2), 10),
+];
 
 /// The form of the facts of a name.
 pub(crate) fn form_of(name: &[u8]) -> Option<FactForm> {
-    Some(match name {
-        b"cti" => form("cti", 1, NONE, (0, 0), 0),
-        b"norm" => form("norm", 1, NONE, (0, 0), 1),
-        b"terminates" => form("terminates", 2, 0, (0, 0), 2),
-        b"size" => form("size", 3, 0, (1, 2), 3),
-        b"by" => form("by", 4, NONE, (0, 2), 4),
-        b"grounds" => form("grounds", 3, 0, (1, 2), 5),
-        b"measure" => form("measure", 4, 0, (1, 2), 6),
-        b"falls" => form("falls", 5, NONE, (0, 3), 7),
-        b"pre" => form("pre", 4, 0, (1, 3), 8),
-        b"none" => form("none", 2, 0, (1, 2), 9),
-        b"point" => form("point", 4, NONE, (0, 2), 9),
-        b"at" => form("at", 4, NONE, (0, 2), 9),
-        b"image" => form("image", 4, 2, (0, 2), 10),
-        b"step" => form("step", 4, 1, (0, 1), 10),
-        b"weak" => form("weak", 1, NONE, (0, 0), 10),
-        b"blown" => form("blown", 2, 0, (0, 0), 10),
-        b"large" => form("large", 2, 0, (1, 2), 10),
-        _ => return None,
+    let row = FORMS.iter().find(|(other, ..)| other.as_bytes() == name)?;
+    let (name, parts, pred, (first, end), rank) = *row;
+    Some(FactForm {
+        name,
+        parts,
+        pred,
+        first,
+        end,
+        rank,
     })
 }

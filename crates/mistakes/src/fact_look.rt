@@ -42,6 +42,14 @@ fn unquoted(text: &[u8]) -> &[u8] {
     text.get(1..end).unwrap_or(&[])
 }
 
+/// That a name stands in quotes that needs none.
+fn quoted_mistake<'a>(name: &'a [u8]) -> Option<FactMistake<'a>> {
+    if !is_plain(name) {
+        return None;
+    }
+    Some(FactMistake::Quotes(shown_name(name)?))
+}
+
 /// A decimal number without the zeros that it begins with, where there are such.
 fn without_zeros(digits: &[u8]) -> Option<&[u8]> {
     let last = digits.len().checked_sub(1)?;
@@ -123,17 +131,14 @@ impl<'a> FactLook<'a> {
 
     /// What a token shows that is no bracket and no comma.
     fn mistake_in(&self, word: Word<'a>) -> Option<FactMistake<'a>> {
-        if self.is_of("norm") && !matches!(word.text, b"term" | b"list") {
+        if self.is_of("norm") && !matches!(word.name(), "term" | "list") {
             return Some(FactMistake::Norm);
         }
         match word.kind {
             TokenKind::Int(number) => self.number_mistake(word, number),
-            TokenKind::Quoted if is_plain(unquoted(word.text)) => {
-                Some(FactMistake::Quotes(shown_name(unquoted(word.text))?))
-            }
+            TokenKind::Quoted => quoted_mistake(unquoted(word.text)),
             TokenKind::Var if self.is_pred() => Some(FactMistake::NoQuotes(shown_name(word.text)?)),
-            TokenKind::Var if self.is_cell() => Some(FactMistake::Cell),
-            TokenKind::Name if self.is_cell() && word.text != b"x".as_slice() => {
+            TokenKind::Var | TokenKind::Name if self.is_cell() && word.text != b"x".as_slice() => {
                 Some(FactMistake::Cell)
             }
             _ => None,

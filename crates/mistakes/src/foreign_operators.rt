@@ -33,6 +33,12 @@ const CONSTRAINTS: [&str; 9] = ["#=", "#\\=", "#<", "#>", "#=<", "#>=", "in", "i
 /// Words of conditions.
 const CONDITIONS: [&str; 2] = ["then", "else"];
 
+/// What is written for a word or symbols that another language has between goals or terms.
+fn own_joint(sign: &str) -> Option<&'static str> {
+    let (_, own) = JOINTS.iter().find(|(other, _)| *other == sign)?;
+    Some(*own)
+}
+
 /// What is written for a word or symbols of another language, after a term. `is_head` is whether no neck stands before.
 pub(crate) fn foreign_mistake<'a>(sign: &'a str, is_head: bool) -> Option<Mistake<'a>> {
     if is_head {
@@ -41,12 +47,10 @@ pub(crate) fn foreign_mistake<'a>(sign: &'a str, is_head: bool) -> Option<Mistak
         }
         return None;
     }
-    for (other, own) in JOINTS {
-        if other == sign {
-            return Some(Mistake::Operator(OperatorMistake::Foreign(sign, own)));
-        }
+    match own_joint(sign) {
+        Some(own) => Some(Mistake::Operator(OperatorMistake::Foreign(sign, own))),
+        None => unread_mistake(sign),
     }
-    unread_mistake(sign)
 }
 
 /// What is said of a word or symbols for which nothing is written here.

@@ -1,7 +1,7 @@
 //! Places in texts, and what stands around them.
 
 /// A bracket that is open.
-#[derive(Clone, Copy, Debug, PartialEq, Eq)]
+#[derive(Clone, Copy, PartialEq, Eq)]
 pub enum Bracket {
     /// The parenthesis right after a name.
     Arguments,

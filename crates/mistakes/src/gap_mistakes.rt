@@ -8,7 +8,7 @@ use crate::infix_operators::{MOST_SYMBOLS, infix_mistake, is_infix};
 use crate::mistake::Mistake;
 use crate::operator_sentences::OperatorMistake;
 use crate::searching::may_declare;
-use crate::word_reader::{WordReader, shown_name};
+use crate::word_reader::{WordReader, shown_name, str_of};
 use prolog_tokens::TokenKind;
 
 /// Whether a dot at the front of a text ends a clause.
@@ -22,10 +22,10 @@ fn is_end(text: &[u8]) -> bool {
 
 /// What a dot shows that ends no clause.
 fn dot_mistake<'a>(symbols: &[u8], after: &[u8]) -> Option<ClauseMistake<'a>> {
-    match symbols {
-        b"." if !is_end(after) => Some(ClauseMistake::Dot),
-        b".." if is_end(after.get(1..).unwrap_or(&[])) => Some(ClauseMistake::Dots),
-        b"*/" => Some(ClauseMistake::NestedComment),
+    match str_of(symbols) {
+        "." if !is_end(after) => Some(ClauseMistake::Dot),
+        ".." if is_end(after.get(1..).unwrap_or(&[])) => Some(ClauseMistake::Dots),
+        "*/" => Some(ClauseMistake::NestedComment),
         _ => None,
     }
 }
@@ -45,18 +45,19 @@ fn opening_mistake<'a>(gap: Gap<'a>) -> Option<ClauseMistake<'a>> {
     }
 }
 
+/// Whether a text begins with a dash or a minus sign of typography.
+fn begins_with_dash(text: &[u8]) -> bool {
+    matches!(text, [0xe2, 0x80, 0x90..=0x95, ..] | [0xe2, 0x88, 0x92, ..])
+}
+
 /// What a colon is meant for, which is no operator.
 fn colon_mistake<'a>(gap: Gap<'a>) -> Option<OperatorMistake<'a>> {
     let rest = gap.after.get(1..).unwrap_or(&[]);
-    match rest {
-        [b' ', ..] if rest.trim_ascii_start().first() == Some(&b'-') => {
-            return Some(OperatorMistake::SplitNeck);
-        }
-        // A dash or a minus sign of typography.
-        [0xe2, 0x80, 0x90..=0x95, ..] | [0xe2, 0x88, 0x92, ..] => {
-            return Some(OperatorMistake::Neck(shown_name(gap.after.get(..4)?)?));
-        }
-        _ => {}
+    if rest.starts_with(b" ") && rest.trim_ascii_start().starts_with(b"-") {
+        return Some(OperatorMistake::SplitNeck);
+    }
+    if begins_with_dash(rest) {
+        return Some(OperatorMistake::Neck(shown_name(gap.after.get(..4)?)?));
     }
     match (last_name(gap.before), rest.first()) {
         (Some(name), Some(next))
@@ -84,9 +85,9 @@ fn symbol_mistake<'a>(gap: Gap<'a>, symbols: &'a [u8]) -> Option<Mistake<'a>> {
         return declared_mistake(gap, symbols);
     }
     let name = shown_name(symbols)?;
-    match symbols {
-        b":" => Some(Mistake::Operator(colon_mistake(gap)?)),
-        b"*->" => Some(Mistake::Goal(GoalMistake::SoftCut)),
+    match name {
+        ":" => Some(Mistake::Operator(colon_mistake(gap)?)),
+        "*->" => Some(Mistake::Goal(GoalMistake::SoftCut)),
         _ if is_infix(symbols) => Some(Mistake::Operator(infix_mistake(gap, name)?)),
         _ => match foreign(gap, name) {
             Some(mistake) => Some(mistake),
@@ -116,9 +117,9 @@ fn sign_mistake<'a>(gap: Gap<'a>) -> Option<Mistake<'a>> {
 
 /// What a word shows that begins right after a name and a space, as `r` in `not r`.
 fn second_word<'a>(gap: Gap<'a>, name: &'a [u8]) -> Option<Mistake<'a>> {
-    match name {
-        b"not" => Some(Mistake::Goal(GoalMistake::NotOperator)),
-        b"if" => Some(Mistake::Goal(GoalMistake::If)),
+    match str_of(name) {
+        "not" => Some(Mistake::Goal(GoalMistake::NotOperator)),
+        "if" => Some(Mistake::Goal(GoalMistake::If)),
         _ if gap.is_in_head || gap.bracket.is_some() => None,
         _ => {
             let name = ClauseMistake::NoParentheses(shown_name(name)?);

@@ -25,11 +25,8 @@ pub(crate) struct GoalLook<'a> {
 }
 
 /// Whether a name compares terms, and binds nothing.
-fn is_test(name: &[u8]) -> bool {
-    matches!(
-        name,
-        b"\\=" | b"==" | b"\\==" | b"@<" | b"@=<" | b"@>" | b"@>="
-    )
+fn is_test(name: &str) -> bool {
+    matches!(name, "\\=" | "==" | "\\==" | "@<" | "@=<" | "@>" | "@>=")
 }
 
 impl<'a> GoalLook<'a> {
@@ -113,26 +110,26 @@ impl<'a> GoalLook<'a> {
         match word.kind {
             TokenKind::End => return false,
             TokenKind::Comma => self.is_first_goal = false,
-            TokenKind::Name => self.take_name(word.text),
+            TokenKind::Name => self.take_name(word.name()),
             _ => {}
         }
         true
     }
 
     /// Takes a name outside brackets.
-    fn take_name(&mut self, name: &[u8]) {
+    fn take_name(&mut self, name: &str) {
         match name {
-            b";" => {
+            ";" => {
                 self.has_branch = true;
                 self.is_first_goal = false;
             }
-            b"->" => {
+            "->" => {
                 self.has_arrow = self.has_arrow || !self.has_branch;
                 self.is_first_goal = false;
             }
-            b"-->" => self.has_grammar_arrow = true,
-            b":-" => self.has_neck = true,
-            b"=.." => self.has_univ = self.has_univ || self.is_first_goal,
+            "-->" => self.has_grammar_arrow = true,
+            ":-" => self.has_neck = true,
+            "=.." => self.has_univ = self.has_univ || self.is_first_goal,
             _ => self.has_test = self.has_test || (self.is_first_goal && is_test(name)),
         }
     }

@@ -7,77 +7,73 @@ use crate::query_sentences::QueryMistake;
 use prolog_tokens::TokenKind;
 
 /// Goals with arguments that are not read, by name.
-const CALLS: [(&[u8], GoalMistake); 50] = [
-    (b"findall", GoalMistake::AllSolutions),
-    (b"bagof", GoalMistake::AllSolutions),
-    (b"setof", GoalMistake::AllSolutions),
-    (b"call", GoalMistake::Call),
-    (b"once", GoalMistake::Call),
-    (b"asserta", GoalMistake::Assert),
-    (b"assertz", GoalMistake::Assert),
-    (b"retract", GoalMistake::Assert),
-    (b"abolish", GoalMistake::Assert),
-    (b"var", GoalMistake::Test),
-    (b"nonvar", GoalMistake::Test),
-    (b"atom", GoalMistake::Test),
-    (b"integer", GoalMistake::Test),
-    (b"float", GoalMistake::Test),
-    (b"number", GoalMistake::Test),
-    (b"atomic", GoalMistake::Test),
-    (b"compound", GoalMistake::Test),
-    (b"op", GoalMistake::Test),
-    (b"set_prolog_flag", GoalMistake::Test),
-    (b"close", GoalMistake::Test),
-    (b"write", GoalMistake::Output),
-    (b"writeq", GoalMistake::Output),
-    (b"write_canonical", GoalMistake::Output),
-    (b"write_term", GoalMistake::Output),
-    (b"nl", GoalMistake::Output),
-    (b"put_char", GoalMistake::Output),
-    (b"catch", GoalMistake::Catch),
-    (b"throw", GoalMistake::Exit),
-    (b"halt", GoalMistake::Exit),
-    (b"unify_with_occurs_check", GoalMistake::Unify),
-    (b"functor", GoalMistake::Unknown),
-    (b"arg", GoalMistake::Unknown),
-    (b"copy_term", GoalMistake::Unknown),
-    (b"=..", GoalMistake::Unknown),
-    (b"clause", GoalMistake::Unknown),
-    (b"current_predicate", GoalMistake::Unknown),
-    (b"current_op", GoalMistake::Unknown),
-    (b"current_prolog_flag", GoalMistake::Unknown),
-    (b"open", GoalMistake::Unknown),
-    (b"read", GoalMistake::Unknown),
-    (b"read_term", GoalMistake::Unknown),
-    (b"get_char", GoalMistake::Unknown),
-    (b"atom_length", GoalMistake::Unknown),
-    (b"atom_concat", GoalMistake::Unknown),
-    (b"sub_atom", GoalMistake::Unknown),
-    (b"atom_chars", GoalMistake::Unknown),
-    (b"atom_codes", GoalMistake::Unknown),
-    (b"char_code", GoalMistake::Unknown),
-    (b"number_chars", GoalMistake::Unknown),
-    (b"number_codes", GoalMistake::Unknown),
+const CALLS: [(&str, GoalMistake); 50] = [
+    ("findall", GoalMistake::AllSolutions),
+    ("bagof", GoalMistake::AllSolutions),
+    ("setof", GoalMistake::AllSolutions),
+    ("call", GoalMistake::Call),
+    ("once", GoalMistake::Call),
+    ("asserta", GoalMistake::Assert),
+    ("assertz", GoalMistake::Assert),
+    ("retract", GoalMistake::Assert),
+    ("abolish", GoalMistake::Assert),
+    ("var", GoalMistake::Test),
+    ("nonvar", GoalMistake::Test),
+    ("atom", GoalMistake::Test),
+    ("integer", GoalMistake::Test),
+    ("float", GoalMistake::Test),
+    ("number", GoalMistake::Test),
+    ("atomic", GoalMistake::Test),
+    ("compound", GoalMistake::Test),
+    ("op", GoalMistake::Test),
+    ("set_prolog_flag", GoalMistake::Test),
+    ("close", GoalMistake::Test),
+    ("write", GoalMistake::Output),
+    ("writeq", GoalMistake::Output),
+    ("write_canonical", GoalMistake::Output),
+    ("write_term", GoalMistake::Output),
+    ("nl", GoalMistake::Output),
+    ("put_char", GoalMistake::Output),
+    ("catch", GoalMistake::Catch),
+    ("throw", GoalMistake::Exit),
+    ("halt", GoalMistake::Exit),
+    ("unify_with_occurs_check", GoalMistake::Unify),
+    ("functor", GoalMistake::Unknown),
+    ("arg", GoalMistake::Unknown),
+    ("copy_term", GoalMistake::Unknown),
+    ("=..", GoalMistake::Unknown),
+    ("clause", GoalMistake::Unknown),
+    ("current_predicate", GoalMistake::Unknown),
+    ("current_op", GoalMistake::Unknown),
+    ("current_prolog_flag", GoalMistake::Unknown),
+    ("open", GoalMistake::Unknown),
+    ("read", GoalMistake::Unknown),
+    ("read_term", GoalMistake::Unknown),
+    ("get_char", GoalMistake::Unknown),
+    ("atom_length", GoalMistake::Unknown),
+    ("atom_concat", GoalMistake::Unknown),
+    ("sub_atom", GoalMistake::Unknown),
+    ("atom_chars", GoalMistake::Unknown),
+    ("atom_codes", GoalMistake::Unknown),
+    ("char_code", GoalMistake::Unknown),
+    ("number_chars", GoalMistake::Unknown),
+    ("number_codes", GoalMistake::Unknown),
 ];
 
 /// What a goal of this name with arguments shows.
-fn call_mistake(name: &[u8]) -> Option<GoalMistake> {
-    for (other, mistake) in CALLS {
-        if other == name {
-            return Some(mistake);
-        }
-    }
-    None
+fn call_mistake(name: &str) -> Option<GoalMistake> {
+    let (_, mistake) = CALLS.iter().find(|(other, _)| *other == name)?;
+    Some(*mistake)
 }
 
 /// What a goal that begins with this name shows.
-fn named_mistake(name: &[u8], has_arguments: bool) -> Option<GoalMistake> {
+fn named_mistake(name: &str, has_arguments: bool) -> Option<GoalMistake> {
     match name {
-        b"\\+" => Some(GoalMistake::Negation),
-        b"!" if !has_arguments => Some(GoalMistake::Cut),
-        b"nl" if !has_arguments => Some(GoalMistake::Output),
-        b"halt" if !has_arguments => Some(GoalMistake::Exit),
-        b"repeat" if !has_arguments => Some(GoalMistake::Repeat),
+        "\\+" => Some(GoalMistake::Negation),
+        "!" if !has_arguments => Some(GoalMistake::Cut),
+        "nl" if !has_arguments => Some(GoalMistake::Output),
+        "halt" if !has_arguments => Some(GoalMistake::Exit),
+        "repeat" if !has_arguments => Some(GoalMistake::Repeat),
         _ if has_arguments => call_mistake(name),
         _ => None,
     }
@@ -89,7 +85,7 @@ fn first_mistake(look: &GoalLook<'_>) -> Option<GoalMistake> {
     match first.kind {
         TokenKind::Var if look.is_alone() => Some(GoalMistake::Variable),
         TokenKind::Int(_) if look.is_alone() => Some(GoalMistake::Number),
-        TokenKind::Name => named_mistake(first.text, look.has_arguments()),
+        TokenKind::Name => named_mistake(first.name(), look.has_arguments()),
         _ => None,
     }
 }

@@ -9,27 +9,34 @@ use crate::goal_sentences::GoalMistake;
 use crate::head_sentences::HeadMistake;
 use crate::operator_sentences::OperatorMistake;
 use crate::query_sentences::QueryMistake;
-use thiserror::Error;
+use std::fmt;
 
 /// A mistake that a text shows, by the part of a text that has it. It is shown as what to do about it.
-#[derive(Clone, Copy, Debug, Error)]
+#[derive(Clone, Copy)]
 pub enum Mistake<'a> {
-    #[error("{0}")]
     Byte(ByteMistake),
-    #[error("{0}")]
     Operator(OperatorMistake<'a>),
-    #[error("{0}")]
     Clause(ClauseMistake<'a>),
-    #[error("{0}")]
     Head(HeadMistake),
-    #[error("{0}")]
     Goal(GoalMistake),
-    #[error("{0}")]
     Query(QueryMistake),
-    #[error("{0}")]
     File(FileMistake<'a>),
-    #[error("{0}")]
     Edit(EditMistake),
-    #[error("{0}")]
     Fact(FactMistake<'a>),
+}
+
+impl fmt::Display for Mistake<'_> {
+    fn fmt<W: fmt::Write>(&self, f: &mut fmt::Formatter<W>) -> fmt::Result {
+        match self {
+            Self::Byte(mistake) => mistake.fmt(f),
+            Self::Operator(mistake) => mistake.fmt(f),
+            Self::Clause(mistake) => mistake.fmt(f),
+            Self::Head(mistake) => f.write_str(mistake.sentence()),
+            Self::Goal(mistake) => f.write_str(mistake.sentence()),
+            Self::Query(mistake) => f.write_str(mistake.sentence()),
+            Self::File(mistake) => mistake.fmt(f),
+            Self::Edit(mistake) => f.write_str(mistake.sentence()),
+            Self::Fact(mistake) => mistake.fmt(f),
+        }
+    }
 }

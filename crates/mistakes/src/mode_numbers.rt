@@ -6,7 +6,7 @@ use std::fmt;
 pub(crate) const MOST_ARGUMENTS: usize = 12;
 
 /// Numbers from 1 to 12, shown as a list in which they ascend.
-#[derive(Clone, Copy, Debug, PartialEq, Eq)]
+#[derive(Clone, Copy)]
 pub struct ModeNumbers {
     /// Whether a number is there, by the number.
     has: [bool; 13],

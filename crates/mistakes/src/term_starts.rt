@@ -6,7 +6,7 @@ use crate::infix_operators::{MOST_SYMBOLS, is_infix};
 use crate::mistake::Mistake;
 use crate::operator_sentences::OperatorMistake;
 use crate::searching::may_declare;
-use crate::word_reader::shown_name;
+use crate::word_reader::{shown_name, str_of};
 
 /// The operators that consist of symbols and stand before a term.
 const PREFIX: [&[u8]; 5] = [b":-", b"?-", b"\\+", b"-", b"\\"];
@@ -15,10 +15,10 @@ const PREFIX: [&[u8]; 5] = [b":-", b"?-", b"\\+", b"-", b"\\"];
 fn split_operator(before: &[u8], symbols: &[u8]) -> Option<&'static str> {
     let text = before.trim_ascii_end();
     let end = text.len().saturating_sub(symbols.len());
-    match (last_symbols(text.get(..end)?), symbols) {
-        (b">", b"=") => Some(">="),
-        (b"=", b"<") => Some("=<"),
-        (b"-", b">") => Some("->"),
+    match (str_of(last_symbols(text.get(..end)?)), str_of(symbols)) {
+        (">", "=") => Some(">="),
+        ("=", "<") => Some("=<"),
+        ("-", ">") => Some("->"),
         _ => None,
     }
 }

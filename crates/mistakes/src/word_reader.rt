@@ -63,7 +63,12 @@ impl<'a> WordReader<'a> {
     }
 }
 
-impl Word<'_> {
+impl<'a> Word<'a> {
+    /// Its text, which is empty where it is no UTF-8.
+    pub(crate) fn name(self) -> &'a str {
+        str_of(self.text)
+    }
+
     /// Whether it opens a bracket.
     pub(crate) fn opens(self) -> bool {
         matches!(
@@ -89,6 +94,11 @@ impl Word<'_> {
     pub(crate) fn opens_arguments(self, before: Word<'_>) -> bool {
         self.kind == TokenKind::Paren && self.start == before.end
     }
+}
+
+/// A text as a `str`, which is empty where it is no UTF-8.
+pub(crate) fn str_of(text: &[u8]) -> &str {
+    std::str::from_utf8(text).unwrap_or("")
 }
 
 /// The text of a name, if it is short enough to be shown.
