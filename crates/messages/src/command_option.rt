@@ -4,7 +4,7 @@ use crate::command::Command;
 use std::fmt;
 
 /// An option of a command, shown by its name.
-#[derive(Clone, Copy, Debug, PartialEq, Eq)]
+#[derive(Clone, Copy, Debug)]
 pub enum CommandOption {
     /// How many nodes of a query are looked at.
     Steps,

@@ -7,37 +7,46 @@ use mistakes::{
     gap_mistake, is_closed_later, percent_mistake, start_mistake, term_mistake,
 };
 use std::alloc::{AllocError, Global};
-use thiserror::Error;
+use std::fmt;
 
 /// What was expected where a clause cannot go on.
-#[derive(Clone, Copy, Debug, Error)]
+#[derive(Clone, Copy)]
 pub enum Expected<'a> {
-    #[error("{0}")]
     Mistake(Mistake<'a>),
-    #[error("a term was expected here")]
     Term,
-    #[error("an operator or the end dot was expected here")]
     EndDot,
-    #[error("an operator or the end of the query was expected here")]
     QueryEnd,
-    #[error("an operator, `,` or `)` was expected here")]
     Parenthesis,
-    #[error("an operator, `,`, `|` or `]` was expected here")]
     Bracket,
-    #[error("an operator or `}}` was expected here")]
     Brace,
-    #[error("this operator cannot follow here: put one side of it in parentheses")]
     Operator,
-    #[error("the clause before this line has no end dot")]
     NoDot,
-    #[error("a comma or the end dot is missing before this line")]
     NoComma,
-    #[error("this directive is not read: leave it out")]
     Directive,
-    #[error("the text ends within a clause: look for a missing end dot or bracket")]
     TextEnd,
-    #[error("the query ends too early: look for a missing term or bracket")]
     EarlyEnd,
+}
+
+impl fmt::Display for Expected<'_> {
+    fn fmt<W: fmt::Write>(&self, f: &mut fmt::Formatter<W>) -> fmt::Result {
+        f.write_str(match self {
+            Expected::Mistake(mistake) => return mistake.fmt(f),
+            Expected::Term => "a term was expected here",
+            Expected::EndDot => "an operator or the end dot was expected here",
+            Expected::QueryEnd => "an operator or the end of the query was expected here",
+            Expected::Parenthesis => "an operator, `,` or `)` was expected here",
+            Expected::Bracket => "an operator, `,`, `|` or `]` was expected here",
+            Expected::Brace => "an operator or `}` was expected here",
+            Expected::Operator =>
+                "this operator cannot follow here: put one side of it in parentheses",
+            Expected::NoDot => "the clause before this line has no end dot",
+            Expected::NoComma => "a comma or the end dot is missing before this line",
+            Expected::Directive => "this directive is not read: leave it out",
+            Expected::TextEnd =>
+                "the text ends within a clause: look for a missing end dot or bracket",
+            Expected::EarlyEnd => "the query ends too early: look for a missing term or bracket",
+        })
+    }
 }
 
 /// A place where a clause cannot go on.

@@ -1,31 +1,20 @@
 //! The reasons why a certificate is not valid.
 
-use thiserror::Error;
+use std::fmt;
 
 /// What of a fact does not hold, in the order of the reasons' numbers.
-#[derive(Clone, Copy, Debug, PartialEq, Eq, Error)]
+#[derive(Clone, Copy, Debug, PartialEq, Eq)]
 pub enum NoReason {
-    #[error("the version is neither 1 nor 2")]
     Version,
-    #[error("a fact is missing here")]
     Missing,
-    #[error("this fact may not stand here")]
     Extra,
-    #[error("this fact has a list of a wrong length or a number out of range")]
     Shape,
-    #[error("the multipliers do not show this size row")]
     SizeRow,
-    #[error("the measure does not fall as this line says")]
     Measure,
-    #[error("the grounds of this predicate lack a row that one of its clauses gives")]
     Ground,
-    #[error("the pre rows of this predicate break their rule")]
     Precondition,
-    #[error("a mode on this line is not admitted by the pre rows")]
     Mode,
-    #[error("this line refutes nothing")]
     Refutation,
-    #[error("this line needs a number above 2^127 - 1")]
     Wide,
 }
 
@@ -46,6 +35,24 @@ impl NoReason {
             11 => NoReason::Wide,
             _ => return None,
         })
+    }
+
+    /// What it is shown as.
+    fn sentence(self) -> &'static str {
+        match self {
+            NoReason::Version => "the version is neither 1 nor 2",
+            NoReason::Missing => "a fact is missing here",
+            NoReason::Extra => "this fact may not stand here",
+            NoReason::Shape => "this fact has a list of a wrong length or a number out of range",
+            NoReason::SizeRow => "the multipliers do not show this size row",
+            NoReason::Measure => "the measure does not fall as this line says",
+            NoReason::Ground =>
+                "the grounds of this predicate lack a row that one of its clauses gives",
+            NoReason::Precondition => "the pre rows of this predicate break their rule",
+            NoReason::Mode => "a mode on this line is not admitted by the pre rows",
+            NoReason::Refutation => "this line refutes nothing",
+            NoReason::Wide => "this line needs a number above 2^127 - 1",
+        }
     }
 
     /// What to do about it.
@@ -75,5 +82,11 @@ impl NoReason {
             }
             NoReason::Wide => "use smaller numbers",
         }
+    }
+}
+
+impl fmt::Display for NoReason {
+    fn fmt<W: fmt::Write>(&self, f: &mut fmt::Formatter<W>) -> fmt::Result {
+        f.write_str(self.sentence())
     }
 }

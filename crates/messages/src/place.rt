@@ -3,7 +3,7 @@
 use std::fmt;
 
 /// A line and a column of a named text, shown as `NAME:LINE:COLUMN`. Both count from 1, and columns count bytes.
-#[derive(Clone, Copy, Debug, PartialEq, Eq)]
+#[derive(Clone, Copy, Debug)]
 pub struct Place<'a> {
     pub name: &'a str,
     pub line: u64,

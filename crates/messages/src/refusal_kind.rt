@@ -1,43 +1,26 @@
 //! The kinds of refusal.
 
-use thiserror::Error;
+use std::fmt;
 
 /// What is wrong with a text that was refused, in the order of the kinds' numbers.
-#[derive(Clone, Copy, Debug, PartialEq, Eq, Error)]
+#[derive(Clone, Copy, Debug, PartialEq, Eq)]
 pub enum RefusalKind {
-    #[error("this byte begins no token")]
     BadByte,
-    #[error("this quoted item or comment has no end")]
     Unclosed,
-    #[error("a backslash in this quoted item begins no escape")]
     BadEscape,
-    #[error("floating-point numbers are not read")]
     Float,
-    #[error("this integer is above 2^127 - 1")]
     WideNumber,
-    #[error("the clause cannot go on like this")]
     Unexpected,
-    #[error("this is nested too deeply")]
     Deep,
-    #[error("the text is too long")]
     Long,
-    #[error("this predicate has more than 12 arguments")]
     Arity,
-    #[error("this clause has more than 48 variables")]
     ManyVariables,
-    #[error("this is not a goal of a pure program")]
     NotPure,
-    #[error("this cannot be the head of a clause")]
     BadHead,
-    #[error("this directive is not read")]
     Directive,
-    #[error("this op directive sets no operator")]
     BadOperator,
-    #[error("the program has more than 16,384 clauses")]
     ManyClauses,
-    #[error("this line is not a fact of a certificate")]
     NotAFact,
-    #[error("this is not an edit that can be done")]
     BadEdit,
 }
 
@@ -64,6 +47,29 @@ impl RefusalKind {
             18 => RefusalKind::BadEdit,
             _ => return None,
         })
+    }
+
+    /// What it is shown as.
+    fn sentence(self) -> &'static str {
+        match self {
+            RefusalKind::BadByte => "this byte begins no token",
+            RefusalKind::Unclosed => "this quoted item or comment has no end",
+            RefusalKind::BadEscape => "a backslash in this quoted item begins no escape",
+            RefusalKind::Float => "floating-point numbers are not read",
+            RefusalKind::WideNumber => "this integer is above 2^127 - 1",
+            RefusalKind::Unexpected => "the clause cannot go on like this",
+            RefusalKind::Deep => "this is nested too deeply",
+            RefusalKind::Long => "the text is too long",
+            RefusalKind::Arity => "this predicate has more than 12 arguments",
+            RefusalKind::ManyVariables => "this clause has more than 48 variables",
+            RefusalKind::NotPure => "this is not a goal of a pure program",
+            RefusalKind::BadHead => "this cannot be the head of a clause",
+            RefusalKind::Directive => "this directive is not read",
+            RefusalKind::BadOperator => "this op directive sets no operator",
+            RefusalKind::ManyClauses => "the program has more than 16,384 clauses",
+            RefusalKind::NotAFact => "this line is not a fact of a certificate",
+            RefusalKind::BadEdit => "this is not an edit that can be done",
+        }
     }
 
     /// What to do about it.
@@ -107,5 +113,11 @@ impl RefusalKind {
                 "an edit is add(Clause), del(Number) or modes(Name/Arity), each with a dot after it"
             }
         }
+    }
+}
+
+impl fmt::Display for RefusalKind {
+    fn fmt<W: fmt::Write>(&self, f: &mut fmt::Formatter<W>) -> fmt::Result {
+        f.write_str(self.sentence())
     }
 }

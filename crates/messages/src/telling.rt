@@ -22,6 +22,19 @@ pub fn push_help(message: &mut Vec<u8>, advice: &str) -> Result<(), AllocError> 
     Ok(())
 }
 
+/// Adds what to do about a trouble, as far as the texts show it.
+fn push_advice(
+    alloc: Global,
+    message: &mut Vec<u8>,
+    trouble: Trouble<'_>,
+    texts: Texts<'_>,
+) -> Result<(), AllocError> {
+    match shown_advice(alloc, trouble, texts)? {
+        Some(advice) => push_help(message, &format!(in alloc; "{advice}")?),
+        None => push_help(message, trouble.advice()),
+    }
+}
+
 /// The message: what is wrong and where, the line of the text, and what to do. It is the help alone where this was asked for.
 pub fn message(
     alloc: Global,
@@ -36,9 +49,6 @@ pub fn message(
     if let Some(place) = trouble.place() {
         push_excerpt(&mut message, texts.told, place)?;
     }
-    match shown_advice(alloc, trouble, texts)? {
-        Some(advice) => push_help(&mut message, &format!(in alloc; "{advice}")?)?,
-        None => push_help(&mut message, trouble.advice())?,
-    }
+    push_advice(alloc, &mut message, trouble, texts)?;
     Ok(message)
 }

@@ -9,7 +9,7 @@ pub enum Subject {
 }
 
 /// A line `refused(Subject,Line,Column,Kind).`
-#[derive(Clone, Copy, Debug, PartialEq, Eq)]
+#[derive(Clone, Copy)]
 pub struct ToldRefusal {
     pub subject: Subject,
     pub line: u64,
@@ -18,7 +18,7 @@ pub struct ToldRefusal {
 }
 
 /// A line `no(Line,Reason).`
-#[derive(Clone, Copy, Debug, PartialEq, Eq)]
+#[derive(Clone, Copy)]
 pub struct ToldNo {
     pub line: u64,
     pub reason: u64,

@@ -11,7 +11,7 @@ use crate::words::Words;
 use thiserror::Error;
 
 /// Why a call did not do what was asked for, or what its answer does not say. It is shown as the first line of the message.
-#[derive(Clone, Copy, Debug, PartialEq, Eq, Error)]
+#[derive(Clone, Copy, Debug, Error)]
 pub enum Trouble<'a> {
     #[error("{1}: error: {2}")]
     Refused(Subject, Place<'a>, RefusalKind),

@@ -6,7 +6,7 @@ use mistakes::ShellWord;
 use thiserror::Error;
 
 /// Why the words are not a command.
-#[derive(Clone, Copy, Debug, PartialEq, Eq, Error)]
+#[derive(Clone, Copy, Debug, Error)]
 pub enum WordFault<'a> {
     #[error("a command is missing")]
     NoCommand,

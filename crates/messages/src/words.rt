@@ -12,7 +12,7 @@ const MOST_DIGITS: usize = 7;
 const MOST_DEPTH_DIGITS: usize = 2;
 
 /// What the next word is.
-#[derive(Clone, Copy, PartialEq, Eq)]
+#[derive(Clone, Copy)]
 enum Next {
     /// A plain word or an option.
     Any,
