@@ -14,21 +14,24 @@ pub(crate) struct Call {
     pub(crate) caller: Option<Pred>,
 }
 
+/// The goals without arguments that need no clause.
+const CONSTANTS: [&[u8]; 3] = [b"true", b"fail", b"false"];
+
+/// The goals of two arguments that need no clause.
+const RELATIONS: [&[u8]; 8] = [b"=", b"is", b"=:=", b"=\\=", b"<", b"=<", b">", b">="];
+
 /// Whether a name of the given arity joins two bodies.
 pub(crate) fn is_connective(text: &[u8], arity: usize) -> bool {
-    arity == 2 && matches!(text, b"," | b";")
+    arity == 2 && matches!(text, [b',' | b';'])
 }
 
 /// Whether a name of the given arity is always known, and needs no clause.
 fn is_known(text: &[u8], arity: usize) -> bool {
-    matches!(
-        (text, arity),
-        (b"true" | b"fail" | b"false", 0)
-            | (
-                b"=" | b"is" | b"=:=" | b"=\\=" | b"<" | b"=<" | b">" | b">=",
-                2
-            )
-    )
+    match arity {
+        0 => CONSTANTS.iter().any(|name| *name == text),
+        2 => RELATIONS.iter().any(|name| *name == text),
+        _ => false,
+    }
 }
 
 /// Adds the calls of a body of this predicate's, in the order of the text.

@@ -7,16 +7,19 @@ use cti_terms::Names;
 use prolog_reader::{ReadShape, ReadTerm};
 use std::alloc::AllocError;
 
+/// The goals that compare integers.
+const COMPARISONS: [&[u8]; 6] = [b"=:=", b"=\\=", b"<", b"=<", b">", b">="];
+
 /// Whether a name of the given arity is that of an operation on integers.
 fn is_operation(text: &[u8], arity: usize) -> bool {
-    matches!((text, arity), (b"+" | b"-" | b"*", 2) | (b"-", 1))
+    matches!((text, arity), ([b'+' | b'-' | b'*'], 2) | ([b'-'], 1))
 }
 
 /// The arguments of a goal that are expressions.
 fn expressions_of<'a>(text: &[u8], args: &'a [ReadTerm]) -> &'a [ReadTerm] {
-    match (text, args) {
-        (b"is", [_, _]) => args.get(1..).unwrap_or(&[]),
-        (b"=:=" | b"=\\=" | b"<" | b"=<" | b">" | b">=", [_, _]) => args,
+    match args {
+        [_, _] if text == b"is".as_slice() => args.get(1..).unwrap_or(&[]),
+        [_, _] if COMPARISONS.iter().any(|name| *name == text) => args,
         _ => &[],
     }
 }

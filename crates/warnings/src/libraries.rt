@@ -5,7 +5,7 @@ use crate::library_names::{
 };
 
 /// What can stand for a predicate that has no clause.
-#[derive(Clone, Copy, Debug, PartialEq, Eq)]
+#[derive(Clone, Copy)]
 pub enum Library {
     /// Clauses of a pure program do what this predicate of a library does.
     Clauses,

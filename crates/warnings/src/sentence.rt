@@ -3,7 +3,7 @@
 use thiserror::Error;
 
 /// A warning as it is said.
-#[derive(Clone, Copy, Debug, PartialEq, Eq, Error)]
+#[derive(Clone, Copy, Debug, Error)]
 pub enum Sentence<'a> {
     #[error("this is a certificate, and it is read as a program of facts")]
     Certificate,
