@@ -9,7 +9,7 @@ use crate::warning::Warning;
 use cti_terms::{Name, Names, Pred};
 use messages::{Ending, Place, push_excerpt, push_help, push_shown, text_again};
 use mistakes::is_certificate;
-use prolog_reader::{read_query, read_text};
+use prolog_reader::{ReadText, read_query, read_text};
 use std::alloc::{AllocError, Global};
 use std::rt::Files;
 
@@ -214,26 +214,36 @@ pub fn program_warnings(alloc: Global, name: &str, text: &[u8]) -> Result<Vec<u8
     told(alloc, named, &findings)
 }
 
-/// The text of the warnings about a query of a program, in the same way.
-pub fn query_warnings(alloc: Global, text: &[u8], query: &[u8]) -> Result<Vec<u8>, AllocError> {
-    let mut names = Names::new(alloc);
-    let Ok(read) = read_text(alloc, text, &mut names) else {
-        return Ok(Vec::new(alloc));
-    };
-    let defined = defined_in(alloc, &names, read.clauses.as_slice())?;
+/// The text of the warnings about a query of a program that was read, whose names these are.
+fn warnings_asked(
+    alloc: Global,
+    query: &[u8],
+    names: &mut Names,
+    read: &ReadText,
+) -> Result<Vec<u8>, AllocError> {
+    let defined = defined_in(alloc, names, read.clauses.as_slice())?;
     if names.count() > MOST_NAMES {
         return Ok(Vec::new(alloc));
     }
-    let Ok(asked) = read_query(alloc, query, &mut names, &read.ops) else {
+    let Ok(asked) = read_query(alloc, query, names, &read.ops) else {
         return Ok(Vec::new(alloc));
     };
-    let findings = query_warnings_in(alloc, &names, &asked, &defined)?;
+    let findings = query_warnings_in(alloc, names, &asked, &defined)?;
     let named = Named {
         name: "query",
         text: query,
-        names: &names,
+        names,
     };
     told(alloc, named, &findings)
+}
+
+/// The text of the warnings about a query of a program, in the same way.
+pub fn query_warnings(alloc: Global, text: &[u8], query: &[u8]) -> Result<Vec<u8>, AllocError> {
+    let mut names = Names::new(alloc);
+    match read_text(alloc, text, &mut names) {
+        Ok(read) => warnings_asked(alloc, query, &mut names, &read),
+        Err(_) => Ok(Vec::new(alloc)),
+    }
 }
 
 /// The warnings about the program and the query of a call that answered.
