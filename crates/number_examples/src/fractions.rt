@@ -2,9 +2,21 @@
 
 use rational128::{Ratio, Wide};
 use std::cmp::Ordering;
-use std::test::Fail;
 
-fn ratio(num: i128, den: i128) -> Result<Ratio, Wide> {
+/// A numerator and a denominator.
+type Pair = (i128, i128);
+
+/// A call of two fractions.
+#[derive(Clone, Copy)]
+enum Call {
+    Sum,
+    Product,
+    Quotient,
+}
+
+/// The fraction of a pair whose denominator is not 0.
+fn ratio(pair: Pair) -> Result<Ratio, Wide> {
+    let (num, den) = pair;
     if den == 0 {
         Err(Wide)
     } else {
@@ -12,30 +24,57 @@ fn ratio(num: i128, den: i128) -> Result<Ratio, Wide> {
     }
 }
 
-#[test]
-fn operations(rt: HostRuntime) -> Result<(), Fail> {
-    let (third, sixth, half) = (ratio(1, 3)?, ratio(1, 6)?, ratio(-3, -6)?);
-    assert_eq!(rt; third.add(sixth)?, half);
-    assert_eq!(rt; third.cmp(half)?, Ordering::Less);
-    assert_eq!(rt; third.mul(half)?, sixth);
-    assert_ne!(rt; third.num, 0);
-    assert_eq!(rt; half.div(third)?, ratio(3, 2)?);
-    assert_eq!(rt; (half.num, half.den), (1, 2));
-    Ok(())
+/// What a call of the fractions of two pairs gives.
+fn called(call: Call, left: Pair, right: Pair) -> Result<Ratio, Wide> {
+    let (left, right) = (ratio(left)?, ratio(right)?);
+    match call {
+        Call::Sum => left.add(right),
+        Call::Product => left.mul(right),
+        Call::Quotient if right.num != 0 => left.div(right),
+        Call::Quotient => Err(Wide),
+    }
+}
+
+/// The pair of a fraction, if it fits.
+fn pair(found: Result<Ratio, Wide>) -> Option<Pair> {
+    let found = found.ok()?;
+    Some((found.num, found.den))
+}
+
+/// The order of the fractions of two pairs, if it is found.
+fn order(left: Pair, right: Pair) -> Option<Ordering> {
+    ratio(left).ok()?.cmp(ratio(right).ok()?).ok()
 }
 
 #[test]
-fn what_fits(rt: HostRuntime) -> Result<(), Fail> {
-    let most = ratio(i128::MAX, 1)?;
-    assert_eq!(rt; most.add(ratio(1, 1)?), Err(Wide));
-    assert_eq!(rt; most.mul(ratio(2, 1)?), Err(Wide));
-    assert_eq!(rt;
-        most.mul(ratio(2, i128::MAX)?),
-        ratio(2, 1),
-        "what is shared goes first"
-    );
-    assert_eq!(rt; most.cmp(ratio(1, 2)?), Err(Wide));
-    assert_eq!(rt; ratio(i128::MIN, 1), Err(Wide));
-    assert_eq!(rt; ratio(i128::MIN, 2), ratio(-(1 << 126), 1));
-    Ok(())
+fn calls_of_fractions(rt: HostRuntime) {
+    let most = (i128::MAX, 1);
+    for (call, left, right, want) in [
+        (Call::Sum, (1, 3), (1, 6), Some((1, 2))),
+        (Call::Product, (1, 3), (-3, -6), Some((1, 6))),
+        (Call::Quotient, (-3, -6), (1, 3), Some((3, 2))),
+        (Call::Sum, most, (1, 1), None),
+        (Call::Product, most, (2, 1), None),
+        // What is shared goes first.
+        (Call::Product, most, (2, i128::MAX), Some((2, 1))),
+    ] {
+        assert!(rt;
+            pair(called(call, left, right)) == want,
+            "{left:?} and {right:?}"
+        );
+    }
+}
+
+#[test]
+fn fractions_that_fit(rt: HostRuntime) {
+    for (given, want) in [
+        ((-3, -6), Some((1, 2))),
+        ((i128::MAX, 1), Some((i128::MAX, 1))),
+        ((i128::MIN, 1), None),
+        ((i128::MIN, 2), Some((-(1 << 126), 1))),
+    ] {
+        assert!(rt; pair(ratio(given)) == want, "{given:?}");
+    }
+    assert!(rt; order((1, 3), (1, 2)) == Some(Ordering::Less));
+    assert!(rt; order((i128::MAX, 1), (1, 2)).is_none());
 }

@@ -8,6 +8,8 @@ mod elimination;
 #[cfg(test)]
 mod fractions;
 #[cfg(test)]
+mod given;
+#[cfg(test)]
 mod integers;
 #[cfg(test)]
 mod numbers;

@@ -1,125 +1,115 @@
-//! Worked rows: both ways of solving, and the test of a row. A row's constant comes first.
+//! Worked rows: both ways of solving, and the test of a row.
 
-ghost use Rattle.std.specs.Prelude.{◌≡◌, IfOk};
+ghost use Rattle.std.specs.Prelude.{◌≡◌};
 ghost use Rattle.linear_rows.specs.Plain.{HaveWidth};
 
-use crate::elimination::{crowd, row, rows};
+use crate::given::{add, crowd, row, rows};
 use fourier::{ElimFault, Solved};
 use linear_rows::Rows;
 use simplex::{Basis, Held, holds, holds_from};
 use std::alloc::Global;
-use std::test::Fail;
 
-// What solving says: the greatest whole number that the last variable is at least at the point, if there is a point.
-#[derive(Clone, Copy, PartialEq, Eq, Debug)]
+/// What solving says.
+#[derive(Clone, Copy)]
 enum Said {
-    Last(Option<i128>),
-    Refuted(i128),
-    Blown { step: u32, wide: bool },
+    /// There is a point at which the last variable is at least this whole number, and less than the next.
+    Last(i128),
+    /// There is no point, by multipliers of scale 0.
+    Nowhere,
+    /// The first step leaves too many rows.
+    Blown,
 }
 
-fn told(solved: Result<Solved, ElimFault>, width: usize) -> Result<Said, Fail> {
-    match solved {
-        Ok(Solved::Point(point)) => Ok(Said::Last(
-            point.w.entry(width.saturating_sub(1)).checked_div(point.t),
-        )),
-        Ok(Solved::Refuted(by)) => Ok(Said::Refuted(by.scale)),
-        Err(ElimFault::Blown { step, wide }) => Ok(Said::Blown { step, wide }),
-        Err(ElimFault::Memory) => Err(Fail::from("memory")),
+/// Whether solving says this of rows over so many variables.
+fn is_said(solved: Result<Solved, ElimFault>, width: u32, said: Said) -> bool {
+    match (solved, said) {
+        (Ok(Solved::Point(point)), Said::Last(last)) => {
+            let value = point.w.entry((width as usize).saturating_sub(1));
+            value.checked_div(point.t) == Some(last)
+        }
+        (Ok(Solved::Refuted(by)), Said::Nowhere) => by.scale == 0,
+        (Err(ElimFault::Blown { step, wide }), Said::Blown) => step == 1 && !wide,
+        _ => false,
     }
 }
 
-/// What elimination says of rows, and what pivots say.
-fn both(alloc: Global, given: &Rows) -> Result<(Said, Said), Fail>
+/// Whether elimination and pivots say this of rows.
+fn are_said(alloc: Global, given: &Rows, eliminated: Said, pivoted: Said) -> bool
     requires { HaveWidth given.now.width given.now.list }
 {
-    let width = given.width as usize;
-    let eliminated = told(fourier::solve(alloc, given), width)?;
-    let pivoted = told(simplex::solve(alloc, given), width)?;
-    Ok((eliminated, pivoted))
+    is_said(fourier::solve(alloc, given), given.width, eliminated)
+        && is_said(simplex::solve(alloc, given), given.width, pivoted)
 }
 
-/// Each row of this table is solved both ways. The last variable of the points is at least 2.
+/// Whether elimination and pivots both say this of the rows of these numbers.
+fn both_say(alloc: Global, width: u32, list: &[&[i128]], said: Said) -> Option<bool> {
+    let given = rows(alloc, width, list)?;
+    Some(are_said(alloc, &given, said, said))
+}
+
+/// Rows, and what both ways say of them. The last variable of the points is at least 2.
+const SOLVED: [(u32, &[&[i128]], Said); 6] = [
+    (1, &[&[-2, 1]], Said::Last(2)),
+    (1, &[&[-2, 1], &[1, -1]], Said::Nowhere),
+    (
+        3,
+        &[
+            &[-1, 1, -1, 0],
+            &[-1, 0, 1, 0],
+            &[0, -1, 0, 1],
+            &[2, 0, 0, -1],
+        ],
+        Said::Last(2),
+    ),
+    (
+        3,
+        &[&[-1, 1, -1, 0], &[-1, 0, 1, 0], &[1, -1, 0, 0]],
+        Said::Nowhere,
+    ),
+    (
+        8,
+        &[
+            &[-2, 0, 0, 0, 0, 0, 0, 1, 0],
+            &[0, 0, 0, 0, 0, 0, 0, -1, 1],
+            &[4, 0, 0, -1, 0, 0, 0, 0, -2],
+        ],
+        Said::Last(2),
+    ),
+    (
+        8,
+        &[
+            &[-2, 0, 0, 0, 0, 0, 0, 1, 0],
+            &[0, 0, 0, 0, 0, 0, 0, -1, 1],
+            &[3, 0, 0, -1, 0, 0, 0, 0, -2],
+        ],
+        Said::Nowhere,
+    ),
+];
+
 #[test]
-fn both_ways(rt: HostRuntime) -> Result<(), Fail> {
-    let alloc = rt.alloc();
-    for (width, list, want) in [
-        (1, [[-2, 1].as_slice()].as_slice(), Said::Last(Some(2))),
-        (
-            1,
-            [[-2, 1].as_slice(), [1, -1].as_slice()].as_slice(),
-            Said::Refuted(0),
-        ),
-        (
-            3,
-            [
-                [-1, 1, -1, 0].as_slice(),
-                [-1, 0, 1, 0].as_slice(),
-                [0, -1, 0, 1].as_slice(),
-                [2, 0, 0, -1].as_slice(),
-            ]
-            .as_slice(),
-            Said::Last(Some(2)),
-        ),
-        (
-            3,
-            [
-                [-1, 1, -1, 0].as_slice(),
-                [-1, 0, 1, 0].as_slice(),
-                [1, -1, 0, 0].as_slice(),
-            ]
-            .as_slice(),
-            Said::Refuted(0),
-        ),
-        (
-            8,
-            [
-                [-2, 0, 0, 0, 0, 0, 0, 1, 0].as_slice(),
-                [0, 0, 0, 0, 0, 0, 0, -1, 1].as_slice(),
-                [4, 0, 0, -1, 0, 0, 0, 0, -2].as_slice(),
-            ]
-            .as_slice(),
-            Said::Last(Some(2)),
-        ),
-        (
-            8,
-            [
-                [-2, 0, 0, 0, 0, 0, 0, 1, 0].as_slice(),
-                [0, 0, 0, 0, 0, 0, 0, -1, 1].as_slice(),
-                [3, 0, 0, -1, 0, 0, 0, 0, -2].as_slice(),
-            ]
-            .as_slice(),
-            Said::Refuted(0),
-        ),
-    ] {
-        let given = rows(alloc, width, list)?;
-        assert_eq!(rt; both(alloc, &given)?, (want, want));
+fn both_ways(rt: HostRuntime) {
+    for (width, list, said) in SOLVED {
+        assert!(rt;
+            both_say(rt.alloc(), width, list, said) == Some(true),
+            "{list:?}"
+        );
     }
-    Ok(())
 }
 
-/// Pivots solve rows of which elimination leaves too many.
-#[test]
-fn crowds(rt: HostRuntime) -> Result<(), Fail> {
-    let alloc = rt.alloc();
-    let many = Said::Blown {
-        step: 1,
-        wide: false,
-    };
+/// Whether pivots solve rows of which elimination leaves too many, before and after a row that refutes them.
+fn are_crowds_solved(alloc: Global) -> Option<bool> {
     let mut given = crowd(alloc, 65)?;
-    given.push(row(alloc, 3, [-2, 0, 0, 1].as_slice())?)?;
-    assert_eq!(rt; both(alloc, &given)?, (many, Said::Last(Some(2))));
-    given.push(row(alloc, 3, [1, 0, 0, -1].as_slice())?)?;
-    assert_eq!(rt; both(alloc, &given)?, (many, Said::Refuted(0)));
-    Ok(())
+    add(alloc, &mut given, &[-2, 0, 0, 1])?;
+    if !are_said(alloc, &given, Said::Blown, Said::Last(2)) {
+        return Some(false);
+    }
+    add(alloc, &mut given, &[1, 0, 0, -1])?;
+    Some(are_said(alloc, &given, Said::Blown, Said::Nowhere))
 }
 
-/// Whether a row holds on rows, or None where its test is blown.
-fn held(alloc: Global, given: &Rows, numbers: &[i128]) -> Result<Option<bool>, Fail>
-    requires { HaveWidth given.now.width given.now.list }
-{
-    let target = row(alloc, given.width, numbers)?;
-    Ok(answer_of(holds(alloc, given, &target)?))
+#[test]
+fn crowds(rt: HostRuntime) {
+    assert!(rt; are_crowds_solved(rt.alloc()) == Some(true));
 }
 
 /// What the test of a row says, or None where it is blown.
@@ -131,15 +121,16 @@ fn answer_of(held: Held) -> Option<bool> {
     }
 }
 
-/// The third variable is at least 2, and at most twice the first.
+/// Whether this is what the test says of a row where the third variable is at least 2, and at most twice the first.
+fn is_held(alloc: Global, numbers: &[i128], want: Option<bool>) -> Option<bool> {
+    let given = rows(alloc, 3, &[&[-2, 0, 0, 1], &[0, 2, 0, -1]])?;
+    let target = row(alloc, 3, numbers)?;
+    let held = holds(alloc, &given, &target).ok()?;
+    Some(answer_of(held) == want)
+}
+
 #[test]
-fn tests_of_rows(rt: HostRuntime) -> Result<(), Fail> {
-    let alloc = rt.alloc();
-    let given = rows(
-        alloc,
-        3,
-        [[-2, 0, 0, 1].as_slice(), [0, 2, 0, -1].as_slice()].as_slice(),
-    )?;
+fn tests_of_rows(rt: HostRuntime) {
     for (numbers, want) in [
         ([-1, 0, 0, 1], Some(true)),
         ([-3, 0, 0, 1], Some(false)),
@@ -149,34 +140,32 @@ fn tests_of_rows(rt: HostRuntime) -> Result<(), Fail> {
         ([-1, 0, 1, 0], Some(false)),
         ([i128::MIN, 0, 0, 1], None),
     ] {
-        assert_eq!(rt;
-            held(alloc, &given, numbers.as_slice())?,
-            want,
+        assert!(rt;
+            is_held(rt.alloc(), &numbers, want) == Some(true),
             "{numbers:?}"
         );
     }
-    Ok(())
 }
 
-/// The same by a basis.
-fn held_from(
+/// Whether this is what the test by a basis says of a row where each of two variables is at least 1, the second at most twice the
+/// first, and the last of the rows holds.
+fn is_held_from(
     alloc: Global,
-    given: &Rows,
+    last: &[i128],
     numbers: &[i128],
     basis: &mut Basis,
-) -> Result<Option<bool>, Fail>
-    requires { HaveWidth given.now.width given.now.list }
-{
-    let target = row(alloc, given.width, numbers)?;
-    Ok(answer_of(holds_from(alloc, given, &target, basis)?))
+    want: Option<bool>,
+) -> Option<bool> {
+    let given = rows(alloc, 2, &[&[-1, 1, 0], &[-1, 0, 1], &[0, 2, -1], last])?;
+    let target = row(alloc, 2, numbers)?;
+    let held = holds_from(alloc, &given, &target, basis).ok()?;
+    Some(answer_of(held) == want)
 }
 
-/// Each of two variables is at least 1, and the second at most twice the first; then one of the last two rows bounds both or
-/// only their difference. The second half of the tests begins with a basis of other rows.
+/// The last row bounds both variables or only their difference. The second half of the tests begins with a basis of other rows.
 #[test]
-fn tests_from_a_basis(rt: HostRuntime) -> Result<(), Fail> {
-    let alloc = rt.alloc();
-    let mut basis = Basis::new(alloc, 2, None)?;
+fn tests_from_a_basis(rt: HostRuntime) {
+    let mut basis = Basis::new(rt.alloc(), 2, None).expect(&rt, "memory");
     for (last, numbers, want) in [
         ([6, -1, -1], [-2, 1, 1], Some(true)),
         ([6, -1, -1], [-3, 1, 1], Some(false)),
@@ -191,22 +180,9 @@ fn tests_from_a_basis(rt: HostRuntime) -> Result<(), Fail> {
         ([-3, -1, -1], [-9, 1, 1], Some(true)),
         ([-3, -1, -1], [-1, 0, 0], Some(true)),
     ] {
-        let given = rows(
-            alloc,
-            2,
-            [
-                [-1, 1, 0].as_slice(),
-                [-1, 0, 1].as_slice(),
-                [0, 2, -1].as_slice(),
-                last.as_slice(),
-            ]
-            .as_slice(),
-        )?;
-        assert_eq!(rt;
-            held_from(alloc, &given, numbers.as_slice(), &mut basis)?,
-            want,
-            "{last:?} {numbers:?}"
+        assert!(rt;
+            is_held_from(rt.alloc(), &last, &numbers, &mut basis, want) == Some(true),
+            "{numbers:?}"
         );
     }
-    Ok(())
 }
