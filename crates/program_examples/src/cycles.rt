@@ -1,13 +1,13 @@
 //! Components of programs: which predicates call themselves, through others or directly.
 
-ghost use Rattle.std.specs.Prelude.{◌≡◌, IfOk, IfSome, []};
+ghost use Rattle.std.specs.Prelude.{◌≡◌, ◌≤◌, IfOk, IfSome, [], length, sum_by};
+ghost use Rattle.std.specs.List.{AllByRecursion};
 ghost use Rattle.cti_terms.specs.Arithmetic.{no_arithmetic};
-ghost use Rattle.cti_terms.specs.Listing.{IsAtom};
+ghost use Rattle.cti_terms.specs.Listing.{IsAtom, atom_nodes};
 
 use call_components::components;
 use cti_terms::{Atom, Atoms, Clause, Name, PredId, Program, Terms};
 use std::alloc::{AllocError, Global};
-use std::test::Fail;
 
 /// A program with this many predicates without arguments, and no clause.
 fn propositions(alloc: Global, preds: u32) -> Result<Program, AllocError>
@@ -37,26 +37,37 @@ fn atom(alloc: Global, program: &Program, pred: u32) -> Option<Atom>
     }
 }
 
-/// Adds the clause of this head whose body calls these predicates, all without arguments.
-fn add_rule(alloc: Global, program: &mut Program, head: u32, callees: &[u32]) -> Result<(), Fail>
+/// The atoms of predicates without arguments.
+fn atoms(alloc: Global, program: &Program, preds: &[u32]) -> Option<Atoms>
+    ensures known { IfSome result (AllByRecursion (IsAtom program.now.preds 0)) }
+    ensures bare { IfSome result (λ atoms. sum_by atom_nodes atoms ≡ 0) }
+    ensures few { IfSome result (λ atoms. length atoms ≤ 100) }
+{
+    let mut atoms = Atoms::new(alloc);
+    for pred in preds {
+        if atoms.len() < 100 {
+            atoms.push(atom(alloc, program, *pred)?).ok()?;
+        }
+    }
+    Some(atoms)
+}
+
+/// Adds the clause of this head whose body calls these predicates, all without arguments. It gives the clause's number.
+pub fn add_rule(alloc: Global, program: &mut Program, head: u32, callees: &[u32]) -> Option<u32>
     requires { program.old.arithmetic ≡ no_arithmetic }
     ensures { program.new.arithmetic ≡ no_arithmetic }
 {
-    let head = atom(alloc, program, head).ok_or("no such head")?;
-    let mut body = Atoms::new(alloc);
-    for callee in callees {
-        if body.len() < 100 {
-            body.push(atom(alloc, program, *callee).ok_or("no such callee")?)?;
-        }
+    let head = atom(alloc, program, head)?;
+    let body = atoms(alloc, program, callees)?;
+    if program.clauses() > 100 {
+        return None;
     }
-    if program.clauses() < 100 {
-        program.add_clause(Clause {
-            head,
-            body,
-            vars: 0,
-        })?;
-    }
-    Ok(())
+    let rule = Clause {
+        head,
+        body,
+        vars: 0,
+    };
+    program.add_clause(rule).ok()
 }
 
 /// For each predicate whether its component is recursive.
@@ -69,49 +80,33 @@ fn recursive_ones(alloc: Global, program: &Program) -> Result<Vec<bool>, AllocEr
     Ok(answers)
 }
 
-/// A program with this many predicates, and for each rule the clause of its head that calls its callees.
-fn program_of(alloc: Global, preds: u32, rules: &[(u32, &[u32])]) -> Result<Program, Fail> {
-    let mut program = propositions(alloc, preds)?;
+/// A program with five predicates, and for each rule the clause of its head that calls its callees.
+fn program_of(alloc: Global, rules: &[(u32, &[u32])]) -> Option<Program> {
+    let mut program = propositions(alloc, 5).ok()?;
     'rules: for (head, callees) in rules {
         add_rule(alloc, &mut program, *head, callees)?;
     }
-    Ok(program)
+    Some(program)
 }
 
 /// Whether exactly these predicates are recursive.
-fn is_answer(alloc: Global, rules: &[(u32, &[u32])], recursive: &[bool]) -> Result<bool, Fail> {
-    let program = program_of(alloc, 5, rules)?;
-    let are_recursive = recursive_ones(alloc, &program)?;
-    Ok(are_recursive.as_slice() == recursive)
+fn is_answer(alloc: Global, rules: &[(u32, &[u32])], recursive: &[bool]) -> Option<bool> {
+    let program = program_of(alloc, rules)?;
+    let are_recursive = recursive_ones(alloc, &program).ok()?;
+    Some(are_recursive.as_slice() == recursive)
 }
 
-/// r :- p, q.   p :- p.   q.
+/// A rule that calls itself, one call, and a long cycle.
 #[test]
-fn a_self_call_is_a_cycle(rt: HostRuntime) -> Result<(), Fail> {
-    let rules = [(0, [1, 2].as_slice()), (1, [1].as_slice())];
-    let recursive = [false, true, false, false, false];
-    assert!(rt; is_answer(rt.alloc(), &rules, &recursive)?);
-    Ok(())
-}
-
-/// p :- q.
-#[test]
-fn one_call_is_no_cycle(rt: HostRuntime) -> Result<(), Fail> {
-    let rules = [(0, [1].as_slice())];
-    assert!(rt; is_answer(rt.alloc(), &rules, &[false; 5])?);
-    Ok(())
-}
-
-/// s :- a.   a :- c.   b :- a.   c :- d, b.   d.   c :- s, c.
-#[test]
-fn a_long_cycle_is_one_component(rt: HostRuntime) -> Result<(), Fail> {
-    let rules = [
-        (0, [1].as_slice()),
-        (1, [3].as_slice()),
-        (2, [1].as_slice()),
-        (3, [4, 2].as_slice()),
-    ];
+fn cycles_are_components(rt: HostRuntime) {
+    let alloc = rt.alloc();
+    // r :- p, q.   p :- p.   q.
+    let own = [false, true, false, false, false];
+    assert!(rt; is_answer(alloc, &[(0, &[1, 2]), (1, &[1])], &own) == Some(true));
+    // p :- q.
+    assert!(rt; is_answer(alloc, &[(0, &[1])], &[false; 5]) == Some(true));
+    // s :- a.   a :- c.   b :- a.   c :- d, b.
+    let long = [(0, [1].as_slice()), (1, &[3]), (2, &[1]), (3, &[4, 2])];
     let recursive = [false, true, true, true, false];
-    assert!(rt; is_answer(rt.alloc(), &rules, &recursive)?);
-    Ok(())
+    assert!(rt; is_answer(alloc, &long, &recursive) == Some(true));
 }
