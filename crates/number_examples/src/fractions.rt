@@ -6,6 +6,9 @@ use std::cmp::Ordering;
 /// A numerator and a denominator.
 type Pair = (i128, i128);
 
+// The greatest number that fits.
+const MOST: Pair = (i128::MAX, 1);
+
 /// A call of two fractions.
 #[derive(Clone, Copy)]
 enum Call {
@@ -46,35 +49,40 @@ fn order(left: Pair, right: Pair) -> Option<Ordering> {
     ratio(left).ok()?.cmp(ratio(right).ok()?).ok()
 }
 
+/// Calls of two fractions, and what they give.
+const CALLS: [(Call, Pair, Pair, Option<Pair>); 6] = [
+    (Call::Sum, (1, 3), (1, 6), Some((1, 2))),
+    (Call::Product, (1, 3), (-3, -6), Some((1, 6))),
+    (Call::Quotient, (-3, -6), (1, 3), Some((3, 2))),
+    (Call::Sum, MOST, (1, 1), None),
+    (Call::Product, MOST, (2, 1), None),
+    // What is shared goes first.
+    (Call::Product, MOST, (2, i128::MAX), Some((2, 1))),
+];
+
 #[test]
 fn calls_of_fractions(rt: HostRuntime) {
-    let most = (i128::MAX, 1);
-    for (call, left, right, want) in [
-        (Call::Sum, (1, 3), (1, 6), Some((1, 2))),
-        (Call::Product, (1, 3), (-3, -6), Some((1, 6))),
-        (Call::Quotient, (-3, -6), (1, 3), Some((3, 2))),
-        (Call::Sum, most, (1, 1), None),
-        (Call::Product, most, (2, 1), None),
-        // What is shared goes first.
-        (Call::Product, most, (2, i128::MAX), Some((2, 1))),
-    ] {
+    for (call, left, right, want) in &CALLS {
         assert!(rt;
-            pair(called(call, left, right)) == want,
+            pair(called(*call, *left, *right)) == *want,
             "{left:?} and {right:?}"
         );
     }
 }
 
+/// Pairs, and the fractions that they are in lowest terms.
+const FRACTIONS: [(Pair, Option<Pair>); 4] = [
+    ((-3, -6), Some((1, 2))),
+    (MOST, Some(MOST)),
+    ((i128::MIN, 1), None),
+    ((i128::MIN, 2), Some((-(1 << 126), 1))),
+];
+
 #[test]
 fn fractions_that_fit(rt: HostRuntime) {
-    for (given, want) in [
-        ((-3, -6), Some((1, 2))),
-        ((i128::MAX, 1), Some((i128::MAX, 1))),
-        ((i128::MIN, 1), None),
-        ((i128::MIN, 2), Some((-(1 << 126), 1))),
-    ] {
-        assert!(rt; pair(ratio(given)) == want, "{given:?}");
+    for (given, want) in &FRACTIONS {
+        assert!(rt; pair(ratio(*given)) == *want, "{given:?}");
     }
     assert!(rt; order((1, 3), (1, 2)) == Some(Ordering::Less));
-    assert!(rt; order((i128::MAX, 1), (1, 2)).is_none());
+    assert!(rt; order(MOST, (1, 2)).is_none());
 }

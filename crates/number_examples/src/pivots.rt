@@ -88,9 +88,9 @@ const SOLVED: [(u32, &[&[i128]], Said); 6] = [
 
 #[test]
 fn both_ways(rt: HostRuntime) {
-    for (width, list, said) in SOLVED {
+    for (width, list, said) in &SOLVED {
         assert!(rt;
-            both_say(rt.alloc(), width, list, said) == Some(true),
+            both_say(rt.alloc(), *width, list, *said) == Some(true),
             "{list:?}"
         );
     }
@@ -129,19 +129,22 @@ fn is_held(alloc: Global, numbers: &[i128], want: Option<bool>) -> Option<bool> 
     Some(answer_of(held) == want)
 }
 
+/// Rows, and what their tests say.
+const TESTS: [([i128; 4], Option<bool>); 7] = [
+    ([-1, 0, 0, 1], Some(true)),
+    ([-3, 0, 0, 1], Some(false)),
+    ([-1, 1, 0, 0], Some(true)),
+    ([-2, 1, 0, 0], Some(false)),
+    ([0, 0, 1, 0], Some(true)),
+    ([-1, 0, 1, 0], Some(false)),
+    ([i128::MIN, 0, 0, 1], None),
+];
+
 #[test]
 fn tests_of_rows(rt: HostRuntime) {
-    for (numbers, want) in [
-        ([-1, 0, 0, 1], Some(true)),
-        ([-3, 0, 0, 1], Some(false)),
-        ([-1, 1, 0, 0], Some(true)),
-        ([-2, 1, 0, 0], Some(false)),
-        ([0, 0, 1, 0], Some(true)),
-        ([-1, 0, 1, 0], Some(false)),
-        ([i128::MIN, 0, 0, 1], None),
-    ] {
+    for (numbers, want) in &TESTS {
         assert!(rt;
-            is_held(rt.alloc(), &numbers, want) == Some(true),
+            is_held(rt.alloc(), numbers, *want) == Some(true),
             "{numbers:?}"
         );
     }
@@ -162,26 +165,29 @@ fn is_held_from(
     Some(answer_of(held) == want)
 }
 
-/// The last row bounds both variables or only their difference. The second half of the tests begins with a basis of other rows.
+/// Last rows, tested rows, and what the tests say. The second half begins with a basis of other rows.
+const TESTS_FROM_A_BASIS: [([i128; 3], [i128; 3], Option<bool>); 12] = [
+    ([6, -1, -1], [-2, 1, 1], Some(true)),
+    ([6, -1, -1], [-3, 1, 1], Some(false)),
+    ([6, -1, -1], [5, -1, 0], Some(true)),
+    ([6, -1, -1], [4, -1, 0], Some(false)),
+    ([6, -1, -1], [4, 0, -1], Some(true)),
+    ([6, -1, -1], [3, 0, -1], Some(false)),
+    ([6, -1, -1], [i128::MIN, 0, 1], None),
+    ([3, 1, -1], [4, 0, -1], Some(false)),
+    ([3, 1, -1], [4, 1, -1], Some(true)),
+    ([3, 1, -1], [2, 1, -1], Some(false)),
+    ([-3, -1, -1], [-9, 1, 1], Some(true)),
+    ([-3, -1, -1], [-1, 0, 0], Some(true)),
+];
+
+/// The last row bounds both variables or only their difference.
 #[test]
 fn tests_from_a_basis(rt: HostRuntime) {
     let mut basis = Basis::new(rt.alloc(), 2, None).expect(&rt, "memory");
-    for (last, numbers, want) in [
-        ([6, -1, -1], [-2, 1, 1], Some(true)),
-        ([6, -1, -1], [-3, 1, 1], Some(false)),
-        ([6, -1, -1], [5, -1, 0], Some(true)),
-        ([6, -1, -1], [4, -1, 0], Some(false)),
-        ([6, -1, -1], [4, 0, -1], Some(true)),
-        ([6, -1, -1], [3, 0, -1], Some(false)),
-        ([6, -1, -1], [i128::MIN, 0, 1], None),
-        ([3, 1, -1], [4, 0, -1], Some(false)),
-        ([3, 1, -1], [4, 1, -1], Some(true)),
-        ([3, 1, -1], [2, 1, -1], Some(false)),
-        ([-3, -1, -1], [-9, 1, 1], Some(true)),
-        ([-3, -1, -1], [-1, 0, 0], Some(true)),
-    ] {
+    for (last, numbers, want) in &TESTS_FROM_A_BASIS {
         assert!(rt;
-            is_held_from(rt.alloc(), &last, &numbers, &mut basis, want) == Some(true),
+            is_held_from(rt.alloc(), last, numbers, &mut basis, *want) == Some(true),
             "{numbers:?}"
         );
     }

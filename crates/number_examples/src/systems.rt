@@ -13,18 +13,23 @@ fn is_constant(alloc: Global, row: &[i128; 3], want: Option<i128>) -> Result<boo
     }
 }
 
+// A number whose products do not fit.
+const BIG: i128 = 1 << 126;
+
+/// Rows, and their constants over the sizes.
+const ROWS: [([i128; 3], Option<i128>); 4] = [
+    ([0, BIG, -BIG], Some(0)),
+    ([3, BIG, -BIG], Some(3)),
+    ([0, BIG, BIG], None),
+    ([i128::MAX, 1, 0], None),
+];
+
 /// Only finished numbers count: products and running sums may be of any size.
 #[test]
 fn rows_over_sizes(rt: HostRuntime) {
-    let big = 1i128 << 126;
-    for (row, want) in [
-        ([0, big, -big], Some(0)),
-        ([3, big, -big], Some(3)),
-        ([0, big, big], None),
-        ([i128::MAX, 1, 0], None),
-    ] {
+    for (row, want) in &ROWS {
         assert!(rt;
-            matches!(is_constant(rt.alloc(), &row, want), Ok(true)),
+            matches!(is_constant(rt.alloc(), row, *want), Ok(true)),
             "{row:?}"
         );
     }
