@@ -62,6 +62,18 @@ const PREDS: [(u32, u32, u32); 6] = [
     (5, 2, 1),
 ];
 
+/// Names and arities of predicates that are not there.
+const ABSENT: [(u32, u32); 3] = [(5, 1), (6, 0), (7, 2)];
+
+/// Whether the predicate of this number has this name and arity.
+fn has_pred(program: &Program, number: u32, name: u32, arity: u32) -> bool {
+    if number >= program.preds() {
+        return false;
+    }
+    let pred = program.pred(PredId(number));
+    pred.name == Name(name) && pred.arity == arity
+}
+
 #[test]
 fn predicates_are_numbered_by_first_occurrence(rt: HostRuntime) {
     let mut program = Program::new(rt.alloc());
@@ -71,12 +83,13 @@ fn predicates_are_numbered_by_first_occurrence(rt: HostRuntime) {
             "{name}/{arity}"
         );
     }
-    for (name, arity) in [(5, 1), (6, 0), (7, 2)] {
-        assert!(rt; program.find(Name(name), arity).is_none(), "{name}/{arity}");
+    for (name, arity) in &ABSENT {
+        assert!(rt;
+            program.find(Name(*name), *arity).is_none(),
+            "{name}/{arity}"
+        );
     }
-    assert!(rt; program.preds() == 4);
-    let pred = program.pred(PredId(1));
-    assert!(rt; pred.name == Name(5) && pred.arity == 2);
+    assert!(rt; program.preds() == 4 && has_pred(&program, 1, 5, 2));
 }
 
 /// A program of one fact with variables, if its number is 1.
