@@ -17,6 +17,7 @@ use Rattle.ld_resolver.specs.declared.answer.Answer.{Answer}
 use Rattle.ld_resolver.specs.declared.running.Ending.{Ending}
 use Rattle.ld_resolver.specs.declared.running.Ending.TheVariants.{Finished, Stopped, Overflow}
 use Rattle.ld_resolver.specs.declared.search.Entered.TheVariants.{Empty, Open, Wide}
+use Rattle.ld_resolver.specs.declared.search.Node.{Node}
 use Rattle.ld_resolver.specs.declared.search.Search.{Search}
 use Rattle.unifier.specs.Raised.{raise}
 use Rattle.unifier.specs.Store.{made, full}
@@ -267,9 +268,9 @@ within_more d [] h = tt
 within_more d (c ∷ cs) h = (omega (arith, h.0), within_more d cs h.1)
 
 -- a node that was found is entered by a run that can look at one more
-pub record IsNodeEntered (p : Listing) (g : Goal) (n : ℕ) (old mid new : Search) (c : Choice) (body : List Atom) (vars steps most most_now : ℕ) (told_now : List Answer) : Type 0 where
+pub record IsNodeEntered (p : Listing) (g : Goal) (n : ℕ) (old mid new : Search) (c : Node) (steps most most_now : ℕ) (told_now : List Answer) : Type 0 where
   pub under_way : IsUnderWay p g n old steps most told_now
-  pub node : IsNode old c body vars mid
+  pub node : IsNode old c mid
   pub less : steps < n
   pub longest : max most (c.depth + 1) ≡ most_now
   pub program_mid : mid.program.now ≡ old.program.now
@@ -280,7 +281,7 @@ pub record IsNodeEntered (p : Listing) (g : Goal) (n : ℕ) (old mid new : Searc
   pub attempts : attempts_left new ≤ attempts_left mid + length mid.program.now.clauses + 2
   pub depths : (d : ℕ) → AreWithin d (choices_of mid) → c.depth + 1 ≤ d → AreWithin d (choices_of new)
 
-module _ {p : Listing} {g : Goal} {n : ℕ} {old mid new : Search} {c : Choice} {body : List Atom} {vars steps most most_now : ℕ} {told_now : List Answer} (is : IsNodeEntered p g n old mid new c body vars steps most most_now told_now) where
+module _ {p : Listing} {g : Goal} {n : ℕ} {old mid new : Search} {c : Node} {steps most most_now : ℕ} {told_now : List Answer} (is : IsNodeEntered p g n old mid new c steps most most_now told_now) where
   bound : c.depth ≤ steps
   bound = is.node.within steps is.under_way.depth
 
@@ -291,10 +292,10 @@ module _ {p : Listing} {g : Goal} {n : ℕ} {old mid new : Search} {c : Choice} 
   within_new = is.depths (steps + 1) (within_more steps (choices_of mid) (is.depths_mid steps is.under_way.depth)) (omega (arith, bound))
 
   abbrev here : Visit
-  here = record { steps = c.depth + 1; answer = answer_by g.atoms (made mid.bindings) (node_goal mid c body vars).atoms; wide = begins_wide mid.program.now.arithmetic (node_goal mid c body vars).atoms }
+  here = record { steps = c.depth + 1; answer = answer_by g.atoms (made mid.bindings) (node_goal mid c).atoms; wide = begins_wide mid.program.now.arithmetic (node_goal mid c).atoms }
 
   abbrev below_here : ℕ → List Visit
-  below_here d = walk mid.program.now g.atoms d (made mid.bindings) (c.depth + 1) (node_goal mid c body vars)
+  below_here d = walk mid.program.now g.atoms d (made mid.bindings) (c.depth + 1) (node_goal mid c)
 
   -- it is met after those that were done
   one_more : (left_now : List Visit) (now : List Answer) → left_of g.atoms n old ≡ here ∷ left_now → now ≡ told_now ++ map told (cons_option here.answer []) → here.wide ≡ false → (done : List Visit) × IsDone p g n done left_now (steps + 1) most_now now
@@ -304,7 +305,7 @@ module _ {p : Listing} {g : Goal} {n : ℕ} {old mid new : Search} {c : Choice} 
   )
 
   -- it has atoms
-  pub with_atoms : IsEntered mid (c.depth + 1) (node_goal mid c body vars) Open new → IsUnderWay p g n new (steps + 1) most_now told_now
+  pub with_atoms : IsEntered mid (c.depth + 1) (node_goal mid c) Open new → IsUnderWay p g n new (steps + 1) most_now told_now
   with_atoms e = record {
     search = is.search;
     program = is.program ∙ is.program_mid ∙ is.under_way.program;
@@ -321,7 +322,7 @@ module _ {p : Listing} {g : Goal} {n : ℕ} {old mid new : Search} {c : Choice} 
       told_same = sym (append-nil told_now) ∙ ap (λ (o : Option (List Atom)). told_now ++ map told (cons_option o [])) (sym (e.0 g.atoms (made mid.bindings)))
 
   -- it has none, and is an answer
-  pub without_atoms : {last : Search} (a : Answer) → IsEntered mid (c.depth + 1) (node_goal mid c body vars) Empty new → SameSearch new last → a ≡ told (answered_atoms new.bindings g.atoms) → IsUnderWay p g n last (steps + 1) most_now (told_now ++ a ∷ [])
+  pub without_atoms : {last : Search} (a : Answer) → IsEntered mid (c.depth + 1) (node_goal mid c) Empty new → SameSearch new last → a ≡ told (answered_atoms new.bindings g.atoms) → IsUnderWay p g n last (steps + 1) most_now (told_now ++ a ∷ [])
   without_atoms {last} a e same is_told = record {
     search = same_is new last same is.search;
     program = same.program ∙ is.program ∙ is.program_mid ∙ is.under_way.program;
@@ -335,7 +336,7 @@ module _ {p : Listing} {g : Goal} {n : ℕ} {old mid new : Search} {c : Choice} 
       left_now =
           is.node.met g.atoms n
           ∙ ap (λ (w : List Visit). here ∷ w)
-          (ap (λ (w : List Visit). w ++ left_of g.atoms n mid) (walk_none mid.program.now g.atoms (n - c.depth) (made mid.bindings) (c.depth + 1) (node_goal mid c body vars) e.0)
+          (ap (λ (w : List Visit). w ++ left_of g.atoms n mid) (walk_none mid.program.now g.atoms (n - c.depth) (made mid.bindings) (c.depth + 1) (node_goal mid c) e.0)
           ∙ e.1 g.atoms n
           ∙ same_left new last same g.atoms n)
 
@@ -345,7 +346,7 @@ module _ {p : Listing} {g : Goal} {n : ℕ} {old mid new : Search} {c : Choice} 
           ∙ ap (λ (l : List Atom). told_now ++ map told (cons_option (answer_by g.atoms (made mid.bindings) l) [])) (sym e.0)
 
   -- it begins with a wide atom, and the run ends
-  pub ended_wide : IsEntered mid (c.depth + 1) (node_goal mid c body vars) Wide new → HasEnded p g n Overflow (steps + 1) most_now told_now
+  pub ended_wide : IsEntered mid (c.depth + 1) (node_goal mid c) Wide new → HasEnded p g n Overflow (steps + 1) most_now told_now
   ended_wide e =
       let u = is.under_way in
       let done = subst (λ (l : List Visit). IsDone p g n u.done.0 l steps most told_now) (is.node.met g.atoms n) u.done.1 in

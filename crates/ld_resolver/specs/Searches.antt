@@ -13,6 +13,7 @@ use Rattle.cti_terms.specs.Answers.{answer_by}
 use Rattle.ld_resolver.specs.declared.choices.Choice.{Choice}
 use Rattle.ld_resolver.specs.declared.search.Taken.{Taken}
 use Rattle.ld_resolver.specs.declared.search.Taken.TheVariants.{Nothing, Exhausted, ByItself, Clause}
+use Rattle.ld_resolver.specs.declared.search.Node.{Node}
 use Rattle.ld_resolver.specs.declared.search.Attempt.{Attempt}
 use Rattle.ld_resolver.specs.declared.search.Attempt.TheVariants.{Ended, Failed, Resolved}
 use Rattle.ld_resolver.specs.declared.search.Entered.{Entered}
@@ -99,9 +100,9 @@ pub record IsNewest (x : Search) (c : Choice) : Type 0 where
   pub free : FreeFrom c.fresh x.bindings
   pub below : AtomsBelow c.fresh (goal_at x c).atoms
 
--- the goal that a body with this number of variables leaves at a choice
-abbrev pub node_goal : Search → Choice → List Atom → ℕ → Goal
-node_goal x c body vars = goal_with x.bindings (map (raised c.fresh) body) (tail_at x.tails c.rest) (c.fresh + vars)
+-- the goal of a node
+abbrev pub node_goal : Search → Node → Goal
+node_goal x node = goal_with x.bindings (map (raised node.fresh) node.body.now) (tail_at x.tails node.rest) (node.fresh + node.vars)
 
 -- what is met at the node of this goal, to which l steps and one more lead, and then below it
 abbrev pub met_at : List Atom → ℕ → Search → ℕ → Goal → List Visit
@@ -109,20 +110,20 @@ met_at q n x l h =
     record { steps = l + 1; answer = answer_by q (made x.bindings) h.atoms; wide = begins_wide x.program.now.arithmetic h.atoms }
     ∷ walk x.program.now q (n - l) (made x.bindings) (l + 1) h
 
--- the body of a clause at a choice leaves a node, which the search has not entered yet; a built-in atom leaves one as an empty body does
-pub record IsNode (old : Search) (c : Choice) (body : List Atom) (vars : ℕ) (new : Search) : Type 0 where
-  pub met : (q : List Atom) (n : ℕ) → left_of q n old ≡ met_at q n new c.depth (node_goal new c body vars) ++ left_of q n new
+-- a node is found, which the search has not entered yet
+pub record IsNode (old : Search) (node : Node) (new : Search) : Type 0 where
+  pub met : (q : List Atom) (n : ℕ) → left_of q n old ≡ met_at q n new node.depth (node_goal new node) ++ left_of q n new
   pub fewer : attempts_left new < attempts_left old
-  pub within : (d : ℕ) → AreWithin d (choices_of old) → c.depth ≤ d
-  pub rest : c.rest ≤ length new.tails
-  pub free : FreeFrom (c.fresh + vars) new.bindings
-  pub below : AtomsBelow (c.fresh + vars) (node_goal new c body vars).atoms
+  pub within : (d : ℕ) → AreWithin d (choices_of old) → node.depth ≤ d
+  pub rest : node.rest ≤ length new.tails
+  pub free : FreeFrom (node.fresh + node.vars) new.bindings
+  pub below : AtomsBelow (node.fresh + node.vars) (node_goal new node).atoms
 
 -- what an attempt does
 abbrev pub IsAttempt : Search → Attempt → Search → Type 0
 IsAttempt old Ended new = choices_of old ≡ []
 IsAttempt old Failed new = ((q : List Atom) (n : ℕ) → left_of q n old ≡ left_of q n new) × (attempts_left new < attempts_left old)
-IsAttempt old (Resolved c body vars) new = IsNode old c body.now vars new
+IsAttempt old (Resolved node) new = IsNode old node new
 
 -- a goal is entered: it has no atoms; or it is left to be walked; or its first atom is wide, and the search is of no use any more
 abbrev pub IsEntered : Search → ℕ → Goal → Entered → Search → Type 0

@@ -162,16 +162,16 @@ fn advance<'p>(
             Ok(Some(Found::End(*totals)))
         }
         Attempt::Failed => Ok(None),
-        Attempt::Resolved(choice, body, vars) => {
+        Attempt::Resolved(node) => {
             if totals.steps == budget {
                 totals.ending = Ending::Stopped;
                 return Ok(Some(Found::End(*totals)));
             }
             totals.steps += 1;
-            let depth = choice.depth + 1;
+            let depth = node.depth + 1;
             totals.longest = totals.longest.max(depth);
-            let fresh = counter_after(choice.fresh, vars)?;
-            match search.enter(chain, body, choice.fresh, choice.rest, fresh, depth)? {
+            let fresh = counter_after(node.fresh, node.vars)?;
+            match search.enter(chain, node.body, node.fresh, node.rest, fresh, depth)? {
                 Entered::Empty => {
                     let answer = search.answer(alloc, goal.atoms.as_slice())?;
                     Ok(Some(Found::Answer(answer)))

@@ -33,13 +33,27 @@ pub enum Taken<'p> {
     Clause(Choice<'p>, &'p Clause),
 }
 
-/// What an attempt found: the search has ended; no node; or the node at a choice of a clause, with its body and its
-/// number of variables. A built-in atom has no clause: its body is empty.
+/// A node that was found at a choice and is not entered yet: the body of the clause, and what it takes from the choice. A
+/// built-in atom has no clause: its body is empty.
+#[derive(Clone, Copy, Drop)]
+pub struct Node<'p> {
+    pub body: &'p [Atom],
+    /// The number of the clause's variables.
+    pub vars: u32,
+    /// The counter of the choice's goal, by which the body's variables are raised.
+    pub fresh: u32,
+    /// The number of the rest of the choice's goal.
+    pub rest: usize,
+    /// How many steps lead to the choice's goal.
+    pub depth: u64,
+}
+
+/// What an attempt found: the search has ended; no node; or a node.
 #[derive(Clone, Copy, Drop)]
 pub enum Attempt<'p> {
     Ended,
     Failed,
-    Resolved(Choice<'p>, &'p [Atom], u32),
+    Resolved(Node<'p>),
 }
 
 /// How a goal was entered: it has no atoms; its first atom is still to be resolved; or that atom is built in, and a value
@@ -162,7 +176,13 @@ impl<'p> Search<'p> {
                     choice.fresh,
                     clause,
                 )? {
-                    Ok(Attempt::Resolved(choice, clause.body.as_slice(), clause.vars))
+                    Ok(Attempt::Resolved(Node {
+                        body: clause.body.as_slice(),
+                        vars: clause.vars,
+                        fresh: choice.fresh,
+                        rest: choice.rest,
+                        depth: choice.depth,
+                    }))
                 } else {
                     Ok(Attempt::Failed)
                 }
@@ -170,7 +190,13 @@ impl<'p> Search<'p> {
             Taken::ByItself(choice) => {
                 self.tails.keep(choice.rests);
                 if unify_value(&mut self.bindings, &mut self.stacks, choice)? {
-                    Ok(Attempt::Resolved(choice, &[], 0))
+                    Ok(Attempt::Resolved(Node {
+                        body: &[],
+                        vars: 0,
+                        fresh: choice.fresh,
+                        rest: choice.rest,
+                        depth: choice.depth,
+                    }))
                 } else {
                     Ok(Attempt::Failed)
                 }

@@ -10,12 +10,12 @@ use Rattle.ld_resolver.proofs.running.advance.Goals.{In-Resolved, In_ok-enter-in
 use Rattle.ld_resolver.proofs.running.advance.Goals as goal
 
 -- the node that an attempt found
-node_found : (c : In-Resolved) → IsNode c.args.search.now c.in-Resolved.choice c.in-Resolved.body.now c.in-Resolved.vars c.attempt.new.self
+node_found : (c : In-Resolved) → IsNode c.args.search.now c.in-Resolved.node c.attempt.new.self
 node_found c = rw c.in-Resolved.is at c.in_ok-attempt.ensures.attempt
 
 -- it is entered
 node_entered : (c : In_ok-enter-in-Resolved) (given : List Answer) → IsUnderWay c.args.search.now.program.now c.args.goal.now c.args.budget c.args.search.now c.args.totals.now.steps c.args.totals.now.longest given
-    → IsNodeEntered c.args.search.now.program.now c.args.goal.now c.args.budget c.args.search.now c.attempt.new.self c.enter.new.self c.in-Resolved.choice c.in-Resolved.body.now c.in-Resolved.vars
+    → IsNodeEntered c.args.search.now.program.now c.args.goal.now c.args.budget c.args.search.now c.attempt.new.self c.enter.new.self c.in-Resolved.node
     c.args.totals.now.steps c.args.totals.now.longest c.max-totals.result given
 node_entered c given u = record {
   under_way = u;
