@@ -7,7 +7,6 @@ ghost use Rattle.cti_terms.specs.Resolve.{raised};
 ghost use Rattle.ld_resolver.specs.Chain.{IsChain, IsNext};
 ghost use Rattle.ld_resolver.specs.FirstArguments.{HasFirst, RulesOut, IsSkipped, IsNextMatch};
 
-use crate::choices::Choice;
 use crate::clause_chain::ClauseChain;
 use crate::first_kind::FirstKind;
 use cti_terms::{Atom, Name, Program, Term};
@@ -63,27 +62,28 @@ fn first_shape<'p>(bindings: &Bindings<'p>, atom: &'p Atom, base: u32) -> Option
     Some(bindings.met(RaisedTerm { term, base }).shape)
 }
 
-/// The number of the first clause, from the choice's next one on, whose first argument can match the goal's. One past
-/// the last clause stands for none. It ends at once after a last clause, so it is compiled into its callers.
+/// The number of the first clause, from this one of the atom's predicate on, whose first argument can match the atom's. One
+/// past the last clause stands for none. It ends at once after a last clause, so it is compiled into its callers.
 #[inline(always)]
 pub fn next_match<'p>(
     program: &Program,
     chain: &ClauseChain,
     bindings: &Bindings<'p>,
-    choice: Choice<'p>,
+    atom: &'p Atom,
+    base: u32,
+    next: u32,
 ) -> u32
     requires chain { IsChain program.now chain.now }
-    requires next { 1 ≤ choice.next }
-    requires ordinary { kind_of program.now.arithmetic choice.atom.now.pred.0 ≡ None }
-    ensures { (k : ℕ) → IsNext program.now choice.entry.atom.now.pred.0 k choice.entry.next
-        → IsNextMatch program.now bindings.now
-        (raised choice.entry.base choice.entry.atom.now) choice.entry.fresh k result }
+    requires next { 1 ≤ next }
+    requires ordinary { kind_of program.now.arithmetic atom.now.pred.0 ≡ None }
+    ensures { (fresh k : ℕ) → IsNext program.now atom.now.pred.0 k next
+        → IsNextMatch program.now bindings.now (raised base atom.now) fresh k result }
 {
-    let mut number = choice.next;
+    let mut number = next;
     if program.clauses() < number {
         return number;
     }
-    if let Some(shape) = first_shape(bindings, choice.atom, choice.base) {
+    if let Some(shape) = first_shape(bindings, atom, base) {
         while is_skipped(chain, shape, number) {
             number = chain.after(number);
         }

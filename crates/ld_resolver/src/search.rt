@@ -129,8 +129,8 @@ fn take_clause<'p>(
         return Ok(Taken::ByItself(choice));
     }
     let clause = program.clause(choice.next);
-    let next = chain.after(choice.next);
-    let next = next_match(program, chain, bindings, Choice { next, ..choice });
+    let after = chain.after(choice.next);
+    let next = next_match(program, chain, bindings, choice.atom, choice.base, after);
     put_back(program, choices, Choice { next, ..choice })?;
     Ok(Taken::Clause(choice, clause))
 }
@@ -207,7 +207,7 @@ impl<'p> Search<'p> {
     /// Adds a choice where its atom has to be resolved: with the first clause that can match, or by itself where it is
     /// built in and can succeed. It is compiled into the loop of a run.
     #[inline(always)]
-    fn add(&mut self, chain: &ClauseChain, choice: Choice<'p>) -> Result<Entered, AllocError>
+    fn add(&mut self, chain: &ClauseChain, mut choice: Choice<'p>) -> Result<Entered, AllocError>
         requires search { IsSearch self.old }
         requires chain { IsChain self.old.program.now chain.now }
         requires newest { IsNewest self.old choice }
@@ -231,20 +231,23 @@ impl<'p> Search<'p> {
             choice.base,
         )? {
             FirstAtom::Ordinary => {
-                let next = chain.first(choice.atom.pred);
-                let next = next_match(
+                let first = chain.first(choice.atom.pred);
+                choice.next = next_match(
                     self.program,
                     chain,
                     &self.bindings,
-                    Choice { next, ..choice },
+                    choice.atom,
+                    choice.base,
+                    first,
                 );
-                self.choices.push(Choice { next, ..choice })?;
+                self.choices.push(choice)?;
                 Ok(Entered::Open)
             }
             FirstAtom::Fails => Ok(Entered::Open),
             FirstAtom::Wide => Ok(Entered::Wide),
             FirstAtom::Succeeds(value) => {
-                self.choices.push(Choice { value, ..choice })?;
+                choice.value = value;
+                self.choices.push(choice)?;
                 Ok(Entered::Open)
             }
         }

@@ -7,7 +7,7 @@ use Rattle.ld_resolver.proofs.first_argument.next_match.Given as goal
 abbrev pub invariant-loop-shape : goal.invariant-loop-shape
 invariant-loop-shape l = record {
   from_one : 1 ≤ l.number;
-  next : (k : ℕ) → IsNext l.program l.choice.atom.now.pred.0 k l.choice.next → IsNextMatch l.program l.bindings (raised l.choice.base l.choice.atom.now) l.choice.fresh k l.number;
+  next : (fresh k : ℕ) → IsNext l.program l.atom.pred.0 k l.next → IsNextMatch l.program l.bindings (raised l.base l.atom) fresh k l.number;
 }
 
 abbrev pub decreases-loop-shape : goal.decreases-loop-shape

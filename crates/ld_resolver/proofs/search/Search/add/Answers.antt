@@ -17,9 +17,9 @@ returns-in_ok-push-in-Ordinary c =
     let h = c.requires.newest in
     let choice = c.args.choice in
     let plain = rw c.in-Ordinary.is at c.in_ok-judge.ensures.judged in
-    let new : Choice = record choice { next = c.next_match-next.result } in
+    let new : Choice = record choice { next = c.next_match.result } in
     let newest : IsNewest x new = record { mark = h.mark; rest = h.rest; rests = h.rests; free = h.free; below = h.below } in
-    let first = c.next_match-next.ensures 1 (c.first-next.ensures p c.requires.chain) in
+    let first = c.next_match.ensures choice.fresh 1 (c.first-first.ensures p c.requires.chain) in
     let items = ap reverse c.in_ok-push-in-Ordinary.ensures.items ∙ reverse-append x.choices.items (new ∷ []) in
     record {
       search = rw items (choice_entered c.requires.search newest first plain);
