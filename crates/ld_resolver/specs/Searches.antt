@@ -11,6 +11,7 @@ use Rattle.cti_terms.specs.Unify.{Binding}
 use Rattle.cti_terms.specs.Resolve.{over, raised}
 use Rattle.cti_terms.specs.Answers.{answer_by}
 use Rattle.ld_resolver.specs.declared.choices.Choice.{Choice}
+use Rattle.ld_resolver.specs.declared.choices.Start.{Start}
 use Rattle.ld_resolver.specs.declared.search.Taken.{Taken}
 use Rattle.ld_resolver.specs.declared.search.Taken.TheVariants.{Nothing, Exhausted, ByItself, Clause}
 use Rattle.ld_resolver.specs.declared.search.Node.{Node}
@@ -91,6 +92,20 @@ goal_with s atoms rest n = record { atoms = map (over (full s)) (atoms ++ rest);
 -- the goal of a choice under all bindings
 abbrev pub goal_at : Search → Choice → Goal
 goal_at x c = goal_from x.bindings c.fresh (raised c.base c.atom.now) (tail_at x.tails c.rest)
+
+-- the choice at the goal of a start, of which nothing is tried yet
+abbrev pub untried : Search → Start → ℕ → ℕ → Choice
+untried x start fresh depth = record {
+  atom = start.atom;
+  base = start.base;
+  rest = start.rest;
+  fresh = fresh;
+  next = 0;
+  value = None;
+  mark = length x.bindings;
+  rests = length x.tails;
+  depth = depth;
+}
 
 -- a choice is of all bindings and all rests
 pub record IsNewest (x : Search) (c : Choice) : Type 0 where

@@ -7,12 +7,12 @@ ghost use Rattle.ld_resolver.specs.Chain.{IsChain};
 ghost use Rattle.ld_resolver.specs.Tails.{tail_at};
 ghost use Rattle.ld_resolver.specs.Told.{told};
 ghost use Rattle.ld_resolver.specs.Measured.{answered_atoms};
-ghost use Rattle.ld_resolver.specs.Searches.{AreMarked, AreNumbered, AreWithin, IsPutBack, IsTaken, IsNewest, IsSearch, IsAttempt, IsEntered, choices_of, attempts_left, goal_at, goal_with};
+ghost use Rattle.ld_resolver.specs.Searches.{AreMarked, AreNumbered, AreWithin, IsPutBack, IsTaken, IsNewest, IsSearch, IsAttempt, IsEntered, choices_of, attempts_left, goal_at, goal_with, untried};
 
 use crate::answer::{Answer, make_answer};
 use crate::attempts::unify_value;
 use crate::builtin_atoms::{FirstAtom, judge};
-use crate::choices::{Choice, goal_start};
+use crate::choices::{Choice, Start, goal_start};
 use crate::clause_chain::ClauseChain;
 use crate::first_argument::next_match;
 use crate::tails::Tails;
@@ -204,53 +204,65 @@ impl<'p> Search<'p> {
         }
     }
 
-    /// Adds a choice where its atom has to be resolved: with the first clause that can match, or by itself where it is
-    /// built in and can succeed. It is compiled into the loop of a run.
+    /// Adds a choice at a goal of this start, counter and depth where its first atom has to be resolved: with the first clause
+    /// that can match, or by itself where it is built in and can succeed. It is compiled into the loop of a run.
     #[inline(always)]
-    fn add(&mut self, chain: &ClauseChain, mut choice: Choice<'p>) -> Result<Entered, AllocError>
+    fn add(
+        &mut self,
+        chain: &ClauseChain,
+        start: Start<'p>,
+        fresh: u32,
+        depth: u64,
+    ) -> Result<Entered, AllocError>
         requires search { IsSearch self.old }
         requires chain { IsChain self.old.program.now chain.now }
-        requires newest { IsNewest self.old choice }
-        requires itself { choice.next ≡ 0 }
+        requires newest { IsNewest self.old (untried self.old start fresh depth) }
         ensures search { OnOk result (IsSearch self.new) }
         ensures program { self.new.program.now ≡ self.old.program.now }
         ensures bindings { self.new.bindings ≡ self.old.bindings }
         ensures entered { IfOk result
-            (λ entered. IsEntered self.old choice.entry.depth
-            (goal_at self.old choice.entry) entered self.new) }
+            (λ entered. IsEntered self.old depth
+            (goal_at self.old (untried self.old start.entry fresh depth)) entered self.new) }
         ensures attempts { OnOk result
             (attempts_left self.new ≤ attempts_left self.old + length self.old.program.now.clauses + 2) }
-        ensures depths { OnOk result ((d : ℕ) → AreWithin d (choices_of self.old)
-            → choice.entry.depth ≤ d → AreWithin d (choices_of self.new)) }
+        ensures depths { OnOk result ((d : ℕ) → AreWithin d (choices_of self.old) → depth ≤ d
+            → AreWithin d (choices_of self.new)) }
     {
-        match judge(
+        let (next, value) = match judge(
             &mut self.calculator,
             &self.bindings,
             self.program,
-            choice.atom,
-            choice.base,
+            start.atom,
+            start.base,
         )? {
             FirstAtom::Ordinary => {
-                let first = chain.first(choice.atom.pred);
-                choice.next = next_match(
+                let first = chain.first(start.atom.pred);
+                let next = next_match(
                     self.program,
                     chain,
                     &self.bindings,
-                    choice.atom,
-                    choice.base,
+                    start.atom,
+                    start.base,
                     first,
                 );
-                self.choices.push(choice)?;
-                Ok(Entered::Open)
+                (next, None)
             }
-            FirstAtom::Fails => Ok(Entered::Open),
-            FirstAtom::Wide => Ok(Entered::Wide),
-            FirstAtom::Succeeds(value) => {
-                choice.value = value;
-                self.choices.push(choice)?;
-                Ok(Entered::Open)
-            }
-        }
+            FirstAtom::Succeeds(value) => (0, value),
+            FirstAtom::Fails => return Ok(Entered::Open),
+            FirstAtom::Wide => return Ok(Entered::Wide),
+        };
+        self.choices.push(Choice {
+            atom: start.atom,
+            base: start.base,
+            rest: start.rest,
+            fresh,
+            next,
+            value,
+            mark: self.bindings.len(),
+            rests: self.tails.len(),
+            depth,
+        })?;
+        Ok(Entered::Open)
     }
 
     /// Enters a goal of this depth: raised atoms, and then a rest. It is compiled into the loop of a run.
@@ -284,20 +296,7 @@ impl<'p> Search<'p> {
             → AreWithin d (choices_of self.new)) }
     {
         match goal_start(&mut self.tails, atoms, base, rest)? {
-            Some(start) => {
-                let choice = Choice {
-                    atom: start.atom,
-                    base: start.base,
-                    rest: start.rest,
-                    fresh,
-                    next: 0,
-                    value: None,
-                    mark: self.bindings.len(),
-                    rests: self.tails.len(),
-                    depth,
-                };
-                self.add(chain, choice)
-            }
+            Some(start) => self.add(chain, start, fresh, depth),
             None => Ok(Entered::Empty),
         }
     }

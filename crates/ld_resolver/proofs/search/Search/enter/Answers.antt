@@ -31,13 +31,12 @@ add-requires c =
       search = search_grown c.args.self.now c.goal_start.new.tails c.in_ok-start.ensures.grown c.requires.search;
       chain = search rules;
       newest = record {
-        mark = c.len.ensures.count;
+        mark = refl;
         rest = (started at).1;
-        rests = c.len-in-Some.ensures;
+        rests = refl;
         free = c.requires.free;
         below = subst (λ (h : Goal). AtomsBelow c.args.fresh h.atoms) (same_goal at) c.requires.below;
       };
-      itself = refl;
     }
 
 pub returns-in-Some-clause-entered : goal.returns-in-Some-clause-entered
