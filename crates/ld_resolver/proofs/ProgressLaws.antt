@@ -257,6 +257,16 @@ module _ (x y : Search) (e : SameSearch x y) where
   pub same_attempts : attempts_left y ≡ attempts_left x
   same_attempts = λ i. attempts_at (e.program i) (reverse (e.choices i))
 
+  pub same_under_way : (p : Listing) (g : Goal) (n steps most : ℕ) (told_now : List Answer) → IsUnderWay p g n x steps most told_now → IsUnderWay p g n y steps most told_now
+  same_under_way p g n steps most told_now u = record {
+    search = same_is u.search;
+    program = e.program ∙ u.program;
+    done = (u.done.0, subst (λ (l : List Visit). IsDone p g n u.done.0 l steps most told_now) (same_left g.atoms n) u.done.1);
+    within = u.within;
+    begins = u.begins;
+    depth = same_within steps u.depth;
+  }
+
 -- nothing is left to be tried where there is no choice
 pub no_attempts : (x : Search) → x.choices.items ≡ [] → attempts_left x ≡ 0
 no_attempts x e = ap (λ (l : List Choice). attempts_at x.program.now (reverse l)) e
@@ -322,27 +332,26 @@ module _ {p : Listing} {g : Goal} {n : ℕ} {old mid new : Search} {c : Node} {s
       told_same = sym (append-nil told_now) ∙ ap (λ (o : Option (List Atom)). told_now ++ map told (cons_option o [])) (sym (e.0 g.atoms (made mid.bindings)))
 
   -- it has none, and is an answer
-  pub without_atoms : {last : Search} (a : Answer) → IsEntered mid (c.depth + 1) (node_goal mid c) Empty new → SameSearch new last → a ≡ told (answered_atoms new.bindings g.atoms) → IsUnderWay p g n last (steps + 1) most_now (told_now ++ a ∷ [])
-  without_atoms {last} a e same is_told = record {
-    search = same_is new last same is.search;
-    program = same.program ∙ is.program ∙ is.program_mid ∙ is.under_way.program;
-    done = one_more (left_of g.atoms n last) (told_now ++ a ∷ []) left_now told_one (ap (begins_wide mid.program.now.arithmetic) e.0);
+  pub without_atoms : IsEntered mid (c.depth + 1) (node_goal mid c) Empty new → IsUnderWay p g n new (steps + 1) most_now (told_now ++ told (answered_atoms new.bindings g.atoms) ∷ [])
+  without_atoms e = record {
+    search = is.search;
+    program = is.program ∙ is.program_mid ∙ is.under_way.program;
+    done = one_more (left_of g.atoms n new) (told_now ++ told (answered_atoms new.bindings g.atoms) ∷ []) left_now told_one (ap (begins_wide mid.program.now.arithmetic) e.0);
     within = omega (arith, is.less);
     begins = is.under_way.begins;
-    depth = same_within new last same (steps + 1) within_new;
+    depth = within_new;
   }
     where
-      left_now : left_of g.atoms n old ≡ here ∷ left_of g.atoms n last
+      left_now : left_of g.atoms n old ≡ here ∷ left_of g.atoms n new
       left_now =
           is.node.met g.atoms n
           ∙ ap (λ (w : List Visit). here ∷ w)
           (ap (λ (w : List Visit). w ++ left_of g.atoms n mid) (walk_none mid.program.now g.atoms (n - c.depth) (made mid.bindings) (c.depth + 1) (node_goal mid c) e.0)
-          ∙ e.1 g.atoms n
-          ∙ same_left new last same g.atoms n)
+          ∙ e.1 g.atoms n)
 
-      told_one : told_now ++ a ∷ [] ≡ told_now ++ map told (cons_option here.answer [])
+      told_one : told_now ++ told (answered_atoms new.bindings g.atoms) ∷ [] ≡ told_now ++ map told (cons_option here.answer [])
       told_one =
-          ap (λ (b : Answer). told_now ++ b ∷ []) (is_told ∙ ap (λ (s : List Binding). told (answered_atoms s g.atoms)) is.bindings)
+          ap (λ (s : List Binding). told_now ++ told (answered_atoms s g.atoms) ∷ []) is.bindings
           ∙ ap (λ (l : List Atom). told_now ++ map told (cons_option (answer_by g.atoms (made mid.bindings) l) [])) (sym e.0)
 
   -- it begins with a wide atom, and the run ends
@@ -354,12 +363,12 @@ module _ {p : Listing} {g : Goal} {n : ℕ} {old mid new : Search} {c : Node} {s
       (ends_wide p g n u.done.0 (below_here (n - c.depth) ++ left_of g.atoms n mid) here steps most told_now done is.less u.begins (e.0 g.atoms (made mid.bindings)) e.1)
 
   -- and less is to be done
-  pub less_to_do : (last : Search) → attempts_left last ≡ attempts_left new → to_do p n last (steps + 1) < to_do p n old steps
-  less_to_do last same =
+  pub less_to_do : to_do p n new (steps + 1) < to_do p n old steps
+  less_to_do =
       let s = scaled_less n steps (suc (suc (length p.clauses))) is.less in
       let f = is.node.fewer in
       let clauses = ap (λ (l : Listing). length l.clauses) (is.program_mid ∙ is.under_way.program) in
-      omega (arith, s, f, is.attempts, same, clauses)
+      omega (arith, s, f, is.attempts, clauses)
 
 -- ---- the goal of the query is entered
 

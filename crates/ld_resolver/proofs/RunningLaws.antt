@@ -11,7 +11,7 @@ use Rattle.ld_resolver.specs.declared.running.Found.TheVariants.{Answer as TheAn
 use Rattle.ld_resolver.specs.declared.running.Running.{Running}
 use Rattle.ld_resolver.specs.declared.running.Totals.{Totals}
 use Rattle.ld_resolver.specs.Chain.{IsChain}
-use Rattle.ld_resolver.specs.Progress.{scaled, IsUnderWay, HasEnded, to_do, HasBegun, HasAdvanced, IsFresh, IsAt, HasGiven, IsRunning, answers_ahead, GoesOn}
+use Rattle.ld_resolver.specs.Progress.{scaled, IsUnderWay, HasEnded, to_do, HasBegun, IsFresh, IsAt, HasGiven, IsRunning, answers_ahead, GoesOn}
 
 pub is_running : (p : Listing) (g : Goal) (n : ℕ) (run : Running) (given : List Answer) → HasGiven p g n run given → IsRunning run
 is_running p g n run given h = (given, record { program = refl; goal = refl; budget = refl; chain = h.chain; at = h.at })
@@ -81,12 +81,6 @@ module _ {old new : Running} (on : HasGoneOn old new) where
       let all : to_do old.search.program.now old.budget new.search new.totals.steps ≡ scaled old.budget (suc (suc (length old.search.program.now.clauses))) + attempts_left new.search =
       ap (λ k. scaled k (suc (suc (length old.search.program.now.clauses))) + attempts_left new.search) (let z : old.budget - new.totals.steps ≡ old.budget = omega (arith, none) in z) in
       omega (arith, before, ahead_new, all, attempts)
-
-  -- after an attempt that finds something
-  pub went_on : old.has_begun ≡ true → (p : Listing) (g : Goal) (n : ℕ) (given : List Answer) → HasGiven p g n old given → (found : Found)
-      → HasAdvanced old.search.program.now old.goal.now old.budget old.search old.totals.steps new.search new.totals given (Some found) → GoesOn p g n old given found new
-  went_on e p g n given h (TheAnswer a) advanced = (now_given p g n given (given ++ a ∷ []) h advanced.0, fewer_ahead e advanced.1)
-  went_on e p g n given h (End m) advanced = ended_for p g n old given m h advanced
 
   -- after the query is entered
   module _ (first : HasNowBegun old new) (p : Listing) (g : Goal) (n : ℕ) (given : List Answer) (h : HasGiven p g n old given) where

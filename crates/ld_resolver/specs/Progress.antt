@@ -13,11 +13,14 @@ use Rattle.ld_resolver.specs.declared.running.Ending.TheVariants.{Finished, Stop
 use Rattle.ld_resolver.specs.declared.running.Totals.{Totals}
 use Rattle.ld_resolver.specs.declared.running.Found.{Found}
 use Rattle.ld_resolver.specs.declared.running.Found.TheVariants.{Answer as TheAnswer, End}
+use Rattle.ld_resolver.specs.declared.running.Progress.{Progress}
+use Rattle.ld_resolver.specs.declared.running.Progress.TheVariants.{UnderWay, Answered, Ended}
 use Rattle.ld_resolver.specs.declared.running.Running.{Running}
 use Rattle.ld_resolver.specs.declared.search.Search.{Search}
 use Rattle.ld_resolver.specs.Chain.{IsChain}
 use Rattle.ld_resolver.specs.Runs.{IsGoalOf}
 use Rattle.ld_resolver.specs.Told.{told}
+use Rattle.ld_resolver.specs.Measured.{answered_atoms}
 use Rattle.ld_resolver.specs.Walk.{Visit, walk, most_steps, met_answers}
 use Rattle.ld_resolver.specs.Searches.{AreWithin, IsSearch, left_of, choices_of, attempts_left}
 
@@ -71,10 +74,10 @@ HasBegun p g n new (Some (TheAnswer a)) = IsUnderWay p g n new 0 0 (a ∷ [])
 HasBegun p g n new (Some (End m)) = HasEnded p g n m.ending m.steps m.longest []
 
 -- after an attempt a run goes on, with less to be done and perhaps one more answer, or has ended
-abbrev pub HasAdvanced : Listing → Goal → ℕ → Search → ℕ → Search → Totals → List Answer → Option Found → Type 0
-HasAdvanced p g n old steps new totals given None = IsUnderWay p g n new totals.steps totals.longest given × (to_do p n new totals.steps < to_do p n old steps)
-HasAdvanced p g n old steps new totals given (Some (TheAnswer a)) = IsUnderWay p g n new totals.steps totals.longest (given ++ a ∷ []) × (to_do p n new totals.steps < to_do p n old steps)
-HasAdvanced p g n old steps new totals given (Some (End m)) = HasEnded p g n m.ending m.steps m.longest given
+abbrev pub HasAdvanced : Listing → Goal → ℕ → Search → ℕ → Search → Totals → List Answer → Progress → Type 0
+HasAdvanced p g n old steps new totals given UnderWay = IsUnderWay p g n new totals.steps totals.longest given × (to_do p n new totals.steps < to_do p n old steps)
+HasAdvanced p g n old steps new totals given Answered = IsUnderWay p g n new totals.steps totals.longest (given ++ told (answered_atoms new.bindings g.atoms) ∷ []) × (to_do p n new totals.steps < to_do p n old steps)
+HasAdvanced p g n old steps new totals given Ended = HasEnded p g n totals.ending totals.steps totals.longest given
 
 -- before the query is entered nothing is bound or counted, and there is nothing to be tried
 pub record IsFresh (p : Listing) (g : Goal) (x : Search) (totals : Totals) : Type 0 where

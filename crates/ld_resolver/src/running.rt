@@ -55,6 +55,14 @@ pub enum Found {
     End(Totals),
 }
 
+/// What an attempt of a run came to: the run goes on; it has found an answer, which the bindings give; or it has ended.
+#[derive(Clone, Copy, Drop)]
+enum Progress {
+    UnderWay,
+    Answered,
+    Ended,
+}
+
 /// What a run has found.
 #[derive(Drop)]
 pub struct Ran {
@@ -138,48 +146,44 @@ fn begin<'p>(
     }
 }
 
-/// Goes on by one attempt: looks at the node that it finds, if any, and finds the node's answer if it has one, or the end.
+/// Goes on by one attempt: looks at the node that it finds, if any, and says whether the node is an answer, or the end.
 fn advance<'p>(
-    alloc: Global,
     search: &mut Search<'p>,
     chain: &ClauseChain,
     goal: &'p Goal,
     budget: u64,
     totals: &mut Totals,
-) -> Result<Option<Found>, AllocError>
+) -> Result<Progress, AllocError>
     requires chain { IsChain search.old.program.now chain.now }
     requires under_way { (given : List TheAnswer)
         × IsUnderWay search.old.program.now goal.now budget search.old totals.old.steps totals.old.longest given }
     ensures program { search.new.program.now ≡ search.old.program.now }
-    ensures advanced { IfOk result (λ found. (given : List TheAnswer)
+    ensures advanced { IfOk result (λ progress. (given : List TheAnswer)
         → IsUnderWay search.old.program.now goal.now budget search.old totals.old.steps totals.old.longest given
         → HasAdvanced search.old.program.now goal.now budget search.old totals.old.steps search.new
-        totals.new given found) }
+        totals.new given progress) }
 {
     match search.attempt(chain)? {
         Attempt::Ended => {
             totals.ending = Ending::Finished;
-            Ok(Some(Found::End(*totals)))
+            Ok(Progress::Ended)
         }
-        Attempt::Failed => Ok(None),
+        Attempt::Failed => Ok(Progress::UnderWay),
         Attempt::Resolved(node) => {
             if totals.steps == budget {
                 totals.ending = Ending::Stopped;
-                return Ok(Some(Found::End(*totals)));
+                return Ok(Progress::Ended);
             }
             totals.steps += 1;
             let depth = node.depth + 1;
             totals.longest = totals.longest.max(depth);
             let fresh = counter_after(node.fresh, node.vars)?;
             match search.enter(chain, node.body, node.fresh, node.rest, fresh, depth)? {
-                Entered::Empty => {
-                    let answer = search.answer(alloc, goal.atoms.as_slice())?;
-                    Ok(Some(Found::Answer(answer)))
-                }
-                Entered::Open => Ok(None),
+                Entered::Empty => Ok(Progress::Answered),
+                Entered::Open => Ok(Progress::UnderWay),
                 Entered::Wide => {
                     totals.ending = Ending::Overflow;
-                    Ok(Some(Found::End(*totals)))
+                    Ok(Progress::Ended)
                 }
             }
         }
@@ -223,16 +227,20 @@ impl<'p> Running<'p> {
             → HasGiven p g n self.old given → GoesOn p g n self.old given found self.new) }
     {
         loop {
-            let found = advance(
-                self.alloc,
+            let progress = advance(
                 &mut self.search,
                 &self.chain,
                 self.goal,
                 self.budget,
                 &mut self.totals,
             )?;
-            if let Some(found) = found {
-                return Ok(found);
+            match progress {
+                Progress::UnderWay => {}
+                Progress::Answered => {
+                    let answer = self.search.answer(self.alloc, self.goal.atoms.as_slice())?;
+                    return Ok(Found::Answer(answer));
+                }
+                Progress::Ended => return Ok(Found::End(self.totals)),
             }
         }
     }

@@ -1,11 +1,8 @@
-use Rattle.std.proofs.Common.{◌<◌, List, ap, ◌∙◌, refl, arith}
-use Rattle.cti_terms.specs.declared.atom_list.Atom.{Atom}
+use Rattle.std.proofs.Common.{◌<◌, List, arith}
 use Rattle.ld_resolver.specs.declared.answer.Answer.{Answer}
-use Rattle.ld_resolver.specs.Told.{told}
-use Rattle.ld_resolver.specs.Measured.{answered_atoms}
 use Rattle.ld_resolver.specs.Searches.{IsNode}
 use Rattle.ld_resolver.specs.Progress.{IsUnderWay}
-use Rattle.ld_resolver.proofs.ProgressLaws.{IsNodeEntered, SameSearch, same_attempts, ended_says, ended_wide, stopped_says, with_atoms, without_atoms, less_to_do}
+use Rattle.ld_resolver.proofs.ProgressLaws.{IsNodeEntered, ended_says, ended_wide, stopped_says, with_atoms, without_atoms, less_to_do}
 use Rattle.ld_resolver.proofs.running.advance.Goals.{In-Resolved, In_ok-enter-in-Resolved}
 use Rattle.ld_resolver.proofs.running.advance.Goals as goal
 
@@ -62,18 +59,12 @@ returns-in-Wide-clause-advanced c = λ given u.
 pub returns-in-Open-clause-advanced : goal.returns-in-Open-clause-advanced
 returns-in-Open-clause-advanced c = λ given u.
     let node = node_entered (goal.at.returns-in-Open-clause-advanced c).In_ok-enter-in-Resolved given u in
-    (with_atoms node (rw (c.in_ok-fresh-in-Resolved.ensures, c.in-Open.is) at c.in_ok-enter-in-Resolved.ensures.entered), less_to_do node c.enter.new.self refl)
+    (with_atoms node (rw (c.in_ok-fresh-in-Resolved.ensures, c.in-Open.is) at c.in_ok-enter-in-Resolved.ensures.entered), less_to_do node)
 
-pub returns-in_ok-answer-in-Empty-clause-advanced : goal.returns-in_ok-answer-in-Empty-clause-advanced
-returns-in_ok-answer-in-Empty-clause-advanced c = λ given u.
-    let node = node_entered (goal.at.returns-in_ok-answer-in-Empty-clause-advanced c).In_ok-enter-in-Resolved given u in
-    let new = c.enter.new.self in
-    let last = c.answer.new.self in
-    let same : SameSearch new last = record { program = c.answer.ensures.program; bindings = c.answer.ensures.bindings; tails = c.answer.ensures.tails; choices = c.answer.ensures.choices } in
-    let is_told = c.in_ok-answer-in-Empty.ensures.answer ∙ ap (λ (q : List Atom). told (answered_atoms new.bindings q)) c.as_slice.ensures in (
-      without_atoms node c.in_ok-answer-in-Empty.answer (rw (c.in_ok-fresh-in-Resolved.ensures, c.in-Empty.is) at c.in_ok-enter-in-Resolved.ensures.entered) same is_told,
-      less_to_do node last (same_attempts new last same),
-    )
+pub returns-in-Empty-clause-advanced : goal.returns-in-Empty-clause-advanced
+returns-in-Empty-clause-advanced c = λ given u.
+    let node = node_entered (goal.at.returns-in-Empty-clause-advanced c).In_ok-enter-in-Resolved given u in
+    (without_atoms node (rw (c.in_ok-fresh-in-Resolved.ensures, c.in-Empty.is) at c.in_ok-enter-in-Resolved.ensures.entered), less_to_do node)
 
 pub attempt-requires-clause-search : goal.attempt-requires-clause-search
 attempt-requires-clause-search c = c.requires.under_way.1.search
