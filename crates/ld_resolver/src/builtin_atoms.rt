@@ -113,7 +113,8 @@ fn judge_as<'p>(
     }
 }
 
-/// What a raised atom does by itself.
+/// What a raised atom does by itself. It is compiled into the loop of a run: most atoms are of predicates of the program.
+#[inline(always)]
 pub fn judge<'p>(
     calculator: &mut Calculator<'p>,
     bindings: &Bindings<'p>,
