@@ -1,6 +1,6 @@
 //! Bytes that begin no token.
 
-use std::fmt;
+use crate::sentence::Shown;
 
 /// What is wrong with the bytes of a text, shown as what to do about it.
 #[derive(Clone, Copy)]
@@ -17,9 +17,10 @@ pub enum ByteMistake {
     Sign(&'static str, &'static str),
 }
 
-impl fmt::Display for ByteMistake {
-    fn fmt<W: fmt::Write>(&self, f: &mut fmt::Formatter<W>) -> fmt::Result {
-        f.write_str(match *self {
+impl ByteMistake {
+    /// What it is shown as.
+    pub(crate) fn sentence(self) -> &'static str {
+        match self {
             Self::ByteOrderMark => "save the file without the byte order mark at its beginning",
             Self::BackQuote => "write \"a\" for what stands in back quotes",
             Self::NotText => "save the file as UTF-8",
@@ -31,8 +32,19 @@ impl fmt::Display for ByteMistake {
                 "write `(G,fail ; true)` for `¬G`: modes with it hold for the negation",
             Self::Symbol =>
                 "this sign is no operator here: write it in letters or in plain symbols",
-            Self::Sign(sign, plain) => return write!(f, "write `{plain}` for `{sign}`"),
-        })
+            Self::Sign(..) => "write `{}` for `{}`",
+        }
+    }
+
+    /// What its sentence shows.
+    pub(crate) fn shown<'a>(self) -> [Shown<'a>; 3] {
+        match self {
+            Self::Sign(sign, plain) => {
+                let (sign, plain): (&'a str, &'a str) = (sign, plain);
+                [Shown::Text(plain), Shown::Text(sign), Shown::Nothing]
+            }
+            _ => [Shown::Nothing; 3],
+        }
     }
 }
 
@@ -56,47 +68,63 @@ const MOST_LOOKED: usize = 1_000;
 
 /// Whether bytes are none of a text, as those of a program that a machine runs.
 fn is_binary(bytes: &[u8]) -> bool {
-    bytes.iter().take(MOST_LOOKED).any(|byte| *byte == 0)
+    bytes.get(..MOST_LOOKED).unwrap_or(bytes).contains(&0)
 }
 
-/// What the bytes from a place on show, where they begin no token.
-pub fn byte_mistake(after: &[u8]) -> Option<ByteMistake> {
-    match after {
-        [0xef, 0xbb, 0xbf, ..] => Some(ByteMistake::ByteOrderMark),
-        [0xfe, 0xff, ..] | [0xff, 0xfe, ..] => Some(ByteMistake::NotText),
-        _ if is_binary(after) => Some(ByteMistake::Binary),
-        [b'`', ..] => Some(ByteMistake::BackQuote),
-        [0xc2, 0xa0, ..] | [0xe2, 0x80, 0x80..=0xbf, ..] => Some(ByteMistake::Typographic),
-        [first, ..] if *first < b' ' || *first == 0x7f => Some(ByteMistake::Control),
-        [first, ..] if *first >= 0x80 && !begins_character(after) => Some(ByteMistake::NotText),
-        _ => sign_mistake(after),
+/// The character that bytes begin with, if they begin with one of UTF-8.
+fn first_char(bytes: &[u8]) -> Option<char> {
+    for len in 1..5 {
+        if let Some(first) = bytes.get(..len)
+            && let Ok(text) = std::str::from_utf8(first)
+        {
+            return text.chars().next();
+        }
+    }
+    None
+}
+
+/// What a character shows that begins no token.
+fn char_mistake(first: char) -> Option<ByteMistake> {
+    match first {
+        '\u{feff}' => Some(ByteMistake::ByteOrderMark),
+        '`' => Some(ByteMistake::BackQuote),
+        '\0'..='\u{1f}' | '\u{7f}' => Some(ByteMistake::Control),
+        '\u{a0}' | '\u{2000}'..='\u{203f}' => Some(ByteMistake::Typographic),
+        '¬' => Some(ByteMistake::Negation),
+        // The arrows, signs of mathematics and shapes of Unicode.
+        '\u{2180}'..='\u{2bff}' => Some(ByteMistake::Symbol),
+        _ => None,
     }
 }
 
 /// What a sign of mathematics shows, where the bytes begin with one.
 fn sign_mistake(after: &[u8]) -> Option<ByteMistake> {
-    if let Some((sign, plain)) = SIGNS
-        .iter()
-        .find(|(sign, _)| after.starts_with(sign.as_bytes()))
-    {
-        return Some(ByteMistake::Sign(sign, plain));
-    }
-    match after {
-        [0xc2, 0xac, ..] => Some(ByteMistake::Negation),
-        // The arrows, signs of mathematics and shapes of Unicode.
-        [0xe2, 0x86..=0xaf, ..] => Some(ByteMistake::Symbol),
-        _ => None,
-    }
-}
-
-/// Whether the bytes begin with a character of UTF-8.
-fn begins_character(bytes: &[u8]) -> bool {
-    for len in 1..5 {
-        if let Some(first) = bytes.get(..len)
-            && std::str::from_utf8(first).is_ok()
-        {
-            return true;
+    for (sign, plain) in &SIGNS {
+        if after.starts_with(sign.as_bytes()) {
+            return Some(ByteMistake::Sign(sign, plain));
         }
     }
-    false
+    None
+}
+
+/// Whether bytes begin with the byte order mark of UTF-8 or UTF-16.
+fn has_mark(bytes: &[u8]) -> bool {
+    bytes.starts_with(b"\xef\xbb\xbf")
+        || bytes.starts_with(b"\xfe\xff")
+        || bytes.starts_with(b"\xff\xfe")
+}
+
+/// What the bytes from a place on show, where they begin no token.
+pub fn byte_mistake(after: &[u8]) -> Option<ByteMistake> {
+    if !has_mark(after) && is_binary(after) {
+        return Some(ByteMistake::Binary);
+    }
+    if let Some(mistake) = sign_mistake(after) {
+        return Some(mistake);
+    }
+    match first_char(after) {
+        Some(first) => char_mistake(first),
+        None if after.is_empty() => None,
+        None => Some(ByteMistake::NotText),
+    }
 }

@@ -3,23 +3,16 @@
 use crate::fact_look::fact_mistake;
 use crate::fact_mistake::FactMistake;
 use crate::mode_numbers::ModeNumbers;
+use crate::searching::{after_last, before_byte, beginning_among, has_part};
 
 /// The facts whose numbers are never negative.
-const NATURAL: [&[u8]; 9] = [
-    b"cti(",
-    b"by(",
-    b"falls(",
-    b"measure(",
-    b"none(",
-    b"point(",
-    b"at(",
-    b"blown(",
-    b"large(",
+const NATURAL: [&str; 9] = [
+    "cti(", "by(", "falls(", "measure(", "none(", "point(", "at(", "blown(", "large(",
 ];
 
 /// What follows the name and the arity of a fact's predicate: names may have any byte.
 fn after_name(line: &[u8]) -> &[u8] {
-    line.rsplit(|byte| *byte == b'/').next().unwrap_or(line)
+    after_last(line, b'/')
 }
 
 /// Whether a minus sign stands in a text.
@@ -29,8 +22,7 @@ fn has_minus(text: &[u8]) -> bool {
 
 /// Whether a line of a text is that of a certificate's version.
 fn has_version(text: &[u8]) -> bool {
-    text.split(|byte| *byte == b'\n')
-        .any(|line| line.starts_with(b"cti("))
+    text.starts_with(b"cti(") || has_part(text, b"\ncti(")
 }
 
 /// What the text of a certificate shows as a whole, whose line of this number, counted from 1, is not a fact.
@@ -52,7 +44,7 @@ fn form_mistake<'a>(line: &[u8]) -> Option<FactMistake<'a>> {
         Some(FactMistake::EmptyLine)
     } else if line.starts_with(b"%") || line.starts_with(b"/*") {
         Some(FactMistake::Comment)
-    } else if NATURAL.iter().any(|name| line.starts_with(name)) && has_minus(after_name(line)) {
+    } else if beginning_among(&NATURAL, line).is_some() && has_minus(after_name(line)) {
         Some(FactMistake::Negative)
     } else {
         None
@@ -152,7 +144,11 @@ pub fn mode_mistake<'a>(line: &[u8]) -> Option<FactMistake<'a>> {
         return None;
     }
     let modes = after_name(line);
-    let start = modes.iter().position(|byte| *byte == b'[')?;
-    let numbers = unordered_mode(modes.get(start..)?)?;
-    Some(FactMistake::ModeOrder(numbers))
+    if let Some(arity) = before_byte(modes, b'[')
+        && let Some(modes) = modes.strip_prefix(arity)
+        && let Some(numbers) = unordered_mode(modes)
+    {
+        return Some(FactMistake::ModeOrder(numbers));
+    }
+    None
 }

@@ -2,16 +2,24 @@
 
 use crate::gap::is_word;
 use crate::operator_sentences::OperatorMistake;
+use crate::searching::{after_last, before_byte};
 
 /// The last line of a text that is not empty.
 fn last_line(text: &[u8]) -> &[u8] {
-    let text = text.trim_ascii_end();
-    text.rsplit(|byte| *byte == b'\n').next().unwrap_or(text)
+    after_last(text.trim_ascii_end(), b'\n')
 }
 
-/// Whether a text goes on an expression: a number or a variable first, no name, and a dot or comma at the end.
+/// Whether a text ends in a name, a variable or a number, but for layout.
+fn ends_operand(text: &[u8]) -> bool {
+    match text.trim_ascii_end().last() {
+        Some(byte) => is_word(*byte),
+        None => false,
+    }
+}
+
+/// Whether a text goes on an expression after a `%`: a number or a variable first, no name, and a dot or comma at the end.
 fn is_rest(text: &[u8]) -> bool {
-    match text.trim_ascii() {
+    match text.get(1..).unwrap_or(&[]).trim_ascii() {
         [first, middle @ .., b'.' | b','] => {
             (first.is_ascii_digit() || first.is_ascii_uppercase())
                 && !middle.iter().any(|byte| byte.is_ascii_lowercase())
@@ -23,12 +31,12 @@ fn is_rest(text: &[u8]) -> bool {
 /// That `%` was meant for the remainder of a division at the end of a text, as in `Y is X % 2`.
 pub fn percent_mistake<'a>(text: &[u8]) -> Option<OperatorMistake<'a>> {
     let line = last_line(text);
-    let at = line.iter().position(|byte| *byte == b'%')?;
-    let before = line.get(..at)?.trim_ascii_end();
-    let after = line.get(at.saturating_add(1)..)?;
-    if is_word(*before.last()?) && is_rest(after) {
-        Some(OperatorMistake::Percent)
-    } else {
-        None
+    if let Some(before) = before_byte(line, b'%')
+        && let Some(after) = line.strip_prefix(before)
+        && ends_operand(before)
+        && is_rest(after)
+    {
+        return Some(OperatorMistake::Percent);
     }
+    None
 }

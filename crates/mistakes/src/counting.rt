@@ -15,33 +15,41 @@ fn arguments_in(reader: &mut WordReader<'_>) -> Option<u64> {
     let mut count = 1u64;
     for _ in 0..reader.most() {
         let word = reader.next()?;
-        if word.opens() {
-            depth = depth.saturating_add(1);
-        } else if word.closes() {
-            if depth == 0 {
-                return Some(count);
-            }
-            depth = depth.saturating_sub(1);
-        } else if depth == 0 && word.kind == TokenKind::Comma {
+        if depth == 0 && word.closes() {
+            return Some(count);
+        }
+        if depth == 0 && matches!(word.kind, TokenKind::Comma) {
             count = count.saturating_add(1);
         }
+        depth = word.depth_after(depth);
     }
     None
+}
+
+/// The name of an atom, up to the bracket that opens its arguments.
+fn name_of_atom<'a>(reader: &mut WordReader<'a>) -> Option<&'a [u8]> {
+    if let Some(name) = reader.next()
+        && name.is_name()
+        && let Some(open) = reader.next()
+        && open.opens_arguments(name)
+    {
+        Some(name.text)
+    } else {
+        None
+    }
 }
 
 /// How many arguments the atom at a place of a text has, where these are more than 12.
 pub fn argument_mistake<'a>(text: &'a [u8], at: usize) -> Option<ClauseMistake<'a>> {
     let mut reader = WordReader::new(text, at);
-    let name = reader.next()?;
-    let open = reader.next()?;
-    if !name.is_name() || !open.opens_arguments(name) {
-        return None;
+    if let Some(name) = name_of_atom(&mut reader)
+        && let Some(count) = arguments_in(&mut reader)
+        && count > MOST_ARGUMENTS as u64
+        && let Some(name) = shown_name(name)
+    {
+        return Some(ClauseMistake::Arguments(name, count));
     }
-    let count = arguments_in(&mut reader)?;
-    if count <= MOST_ARGUMENTS as u64 {
-        return None;
-    }
-    Some(ClauseMistake::Arguments(shown_name(name.text)?, count))
+    None
 }
 
 /// Adds the variables of the clause at a place of a text, and answers how many `_` there are.
@@ -53,29 +61,19 @@ fn push_variables<'a>(
     let mut reader = WordReader::new(text, at);
     let mut nameless = 0u64;
     for _ in 0..reader.most() {
-        match reader.next() {
-            Some(word) if word.kind == TokenKind::Var && word.text == b"_".as_slice() => {
+        let Some(word) = reader.next() else {
+            break;
+        };
+        match word.kind {
+            TokenKind::Var if word.text == b"_".as_slice() => {
                 nameless = nameless.saturating_add(1);
             }
-            Some(word) if word.kind == TokenKind::Var => variables.push(word.text)?,
-            Some(word) if word.kind != TokenKind::End => {}
-            _ => break,
+            TokenKind::Var => variables.push(word.text)?,
+            TokenKind::End => break,
+            _ => {}
         }
     }
     Ok(nameless)
-}
-
-/// How many texts of an ordered list differ from the one before.
-fn distinct_in(texts: &[&[u8]]) -> u64 {
-    let mut count = 0u64;
-    let mut before = None;
-    for text in texts {
-        if before != Some(*text) {
-            count = count.saturating_add(1);
-        }
-        before = Some(*text);
-    }
-    count
 }
 
 /// How many variables the clause at a place of a text has, where these are more than 48.
@@ -87,7 +85,8 @@ pub fn variable_mistake<'a>(
     let mut variables = Vec::new(alloc);
     let nameless = push_variables(text, at, &mut variables)?;
     variables.sort()?;
-    let count = nameless.saturating_add(distinct_in(&variables));
+    variables.dedup();
+    let count = nameless.saturating_add(variables.len() as u64);
     if count > MOST_VARIABLES {
         Ok(Some(ClauseMistake::Variables(count)))
     } else {

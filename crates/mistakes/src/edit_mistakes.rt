@@ -39,11 +39,10 @@ const EDITS: [(&[u8], EditMistake); 4] = [
 /// What is wrong with the edit at a place of a text.
 pub fn edit_mistake(text: &[u8], at: usize) -> Option<EditMistake> {
     let text = text.get(at..)?;
-    match EDITS
-        .iter()
-        .find(|(beginning, _)| text.starts_with(beginning))
-    {
-        Some((_, mistake)) => Some(*mistake),
-        None => Some(EditMistake::Clause),
+    for (beginning, mistake) in &EDITS {
+        if text.starts_with(beginning) {
+            return Some(*mistake);
+        }
     }
+    Some(EditMistake::Clause)
 }

@@ -2,16 +2,20 @@
 
 use crate::fact_forms::{FactForm, form_of};
 use crate::fact_mistake::FactMistake;
-use crate::word_reader::{Word, WordReader, shown_name};
+use crate::gap::first_name;
+use crate::word_reader::{Look, Word, WordReader, shown_name};
 use prolog_tokens::TokenKind;
 
 /// The most arguments of a predicate.
 const MOST_ARGUMENTS: i128 = 12;
 
+/// The names of the norms.
+const NORMS: [&[u8]; 2] = [b"term", b"list"];
+
 /// A fact whose parts are looked at.
 #[derive(Clone, Copy)]
 struct FactLook<'a> {
-    form: FactForm,
+    form: &'static FactForm,
     /// How many brackets are open within the fact's parentheses.
     depth: u32,
     /// The number of the part, from 0.
@@ -24,16 +28,7 @@ struct FactLook<'a> {
 
 /// Whether a name stands without quotes.
 fn is_plain(name: &[u8]) -> bool {
-    match name {
-        b"[]" => true,
-        [first, ..] => {
-            first.is_ascii_lowercase()
-                && name
-                    .iter()
-                    .all(|byte| byte.is_ascii_alphanumeric() || *byte == b'_')
-        }
-        [] => false,
-    }
+    name == b"[]".as_slice() || first_name(name) == Some(name)
 }
 
 /// What is between the quotes of a name.
@@ -44,27 +39,25 @@ fn unquoted(text: &[u8]) -> &[u8] {
 
 /// That a name stands in quotes that needs none.
 fn quoted_mistake<'a>(name: &'a [u8]) -> Option<FactMistake<'a>> {
-    if !is_plain(name) {
-        return None;
+    if is_plain(name) {
+        shown_name(name).map(FactMistake::Quotes)
+    } else {
+        None
     }
-    Some(FactMistake::Quotes(shown_name(name)?))
 }
 
-/// A decimal number without the zeros that it begins with, where there are such.
-fn without_zeros(digits: &[u8]) -> Option<&[u8]> {
-    let last = digits.len().checked_sub(1)?;
-    if last == 0 || !digits.iter().all(|byte| byte.is_ascii_digit()) {
+/// The text of a number without the zeros that it begins with, where a digit comes after the first of them.
+fn without_zeros(number: &[u8]) -> Option<&str> {
+    if !matches!(number, [b'0', b'0'..=b'9', ..]) {
         return None;
     }
-    let zeros = digits.iter().take_while(|byte| **byte == b'0').count();
-    if zeros == 0 {
-        return None;
+    match std::str::from_utf8(number).ok()?.trim_start_matches('0') {
+        "" => Some("0"),
+        digits => Some(digits),
     }
-    digits.get(zeros.min(last)..)
 }
 
-impl<'a> FactLook<'a> {
-    /// Takes the next token, and answers whether there is more to look at.
+impl<'a> Look<'a> for FactLook<'a> {
     fn take(&mut self, word: Word<'a>) -> bool {
         if word.opens() {
             self.depth = self.depth.saturating_add(1);
@@ -86,10 +79,12 @@ impl<'a> FactLook<'a> {
         self.before = Some(word);
         self.found.is_none()
     }
+}
 
+impl<'a> FactLook<'a> {
     /// Takes the end of a part.
     fn end_part(&mut self) {
-        if self.part == self.form.pred
+        if self.form.pred == Some(self.part)
             && let Some(before) = self.before
             && before.is_name()
         {
@@ -116,7 +111,7 @@ impl<'a> FactLook<'a> {
 
     /// Whether the part under way is a predicate.
     fn is_pred(&self) -> bool {
-        self.depth == 0 && self.part == self.form.pred
+        self.depth == 0 && self.form.pred == Some(self.part)
     }
 
     /// Whether the part under way is a list of modes.
@@ -131,13 +126,13 @@ impl<'a> FactLook<'a> {
 
     /// What a token shows that is no bracket and no comma.
     fn mistake_in(&self, word: Word<'a>) -> Option<FactMistake<'a>> {
-        if self.is_of("norm") && !matches!(word.name(), "term" | "list") {
+        if self.is_of("norm") && !NORMS.contains(&word.text) {
             return Some(FactMistake::Norm);
         }
         match word.kind {
             TokenKind::Int(number) => self.number_mistake(word, number),
             TokenKind::Quoted => quoted_mistake(unquoted(word.text)),
-            TokenKind::Var if self.is_pred() => Some(FactMistake::NoQuotes(shown_name(word.text)?)),
+            TokenKind::Var if self.is_pred() => shown_name(word.text).map(FactMistake::NoQuotes),
             TokenKind::Var | TokenKind::Name if self.is_cell() && word.text != b"x".as_slice() => {
                 Some(FactMistake::Cell)
             }
@@ -148,9 +143,18 @@ impl<'a> FactLook<'a> {
     /// What a number shows.
     fn number_mistake(&self, word: Word<'a>, number: i128) -> Option<FactMistake<'a>> {
         if let Some(rest) = without_zeros(word.text) {
-            return Some(FactMistake::LeadingZero(shown_name(rest)?));
+            return Some(FactMistake::LeadingZero(rest));
         }
-        let is_counted = self.form.first <= self.part && self.part < self.form.end;
+        self.range_mistake(number)
+    }
+
+    /// Whether numbers of the part under way are counted from 1.
+    fn is_counted(&self) -> bool {
+        self.depth == 0 && self.form.first <= self.part && self.part < self.form.end
+    }
+
+    /// What a number shows that is not in the range of its part.
+    fn range_mistake(&self, number: i128) -> Option<FactMistake<'a>> {
         if self.is_pred() && number > MOST_ARGUMENTS {
             Some(FactMistake::ManyArguments)
         } else if self.is_cell() && number != 0 && number != 1 {
@@ -159,7 +163,7 @@ impl<'a> FactLook<'a> {
             Some(FactMistake::Mode)
         } else if self.is_modes() && self.depth > 1 && number == 0 {
             Some(FactMistake::Argument)
-        } else if self.depth == 0 && is_counted && number == 0 {
+        } else if self.is_counted() && number == 0 {
             Some(FactMistake::Number(self.form.name))
         } else {
             None
@@ -171,13 +175,20 @@ impl<'a> FactLook<'a> {
 pub(crate) fn fact_mistake<'a>(line: &'a [u8]) -> Option<FactMistake<'a>> {
     let mut reader = WordReader::new(line, 0);
     let name = reader.next()?;
-    let Some(form) = form_of(name.text) else {
-        return Some(FactMistake::Name(shown_name(name.text)?));
-    };
-    let open = reader.next()?;
-    if !open.opens_arguments(name) {
-        return None;
+    match form_of(name.text) {
+        Some(form) => match reader.next() {
+            Some(open) if open.opens_arguments(name) => parts_mistake(&mut reader, form),
+            _ => None,
+        },
+        None => shown_name(name.text).map(FactMistake::Name),
     }
+}
+
+/// What the parts of a fact of this form show, after the bracket that opens them.
+fn parts_mistake<'a>(
+    reader: &mut WordReader<'a>,
+    form: &'static FactForm,
+) -> Option<FactMistake<'a>> {
     let mut look = FactLook {
         form,
         depth: 0,
@@ -185,11 +196,6 @@ pub(crate) fn fact_mistake<'a>(line: &'a [u8]) -> Option<FactMistake<'a>> {
         before: None,
         found: None,
     };
-    for _ in 0..reader.most() {
-        match reader.next() {
-            Some(word) if look.take(word) => {}
-            _ => break,
-        }
-    }
+    reader.show_to(&mut look);
     look.found
 }

@@ -1,7 +1,7 @@
 //! What is wrong with a line of a certificate.
 
 use crate::mode_numbers::ModeNumbers;
-use std::fmt;
+use crate::sentence::Shown;
 
 /// What is wrong with a line of a certificate, shown as what to do about it.
 #[derive(Clone, Copy)]
@@ -36,9 +36,10 @@ pub enum FactMistake<'a> {
     Order(&'a str, &'a str),
 }
 
-impl fmt::Display for FactMistake<'_> {
-    fn fmt<W: fmt::Write>(&self, f: &mut fmt::Formatter<W>) -> fmt::Result {
-        f.write_str(match *self {
+impl<'a> FactMistake<'a> {
+    /// What it is shown as.
+    pub(crate) fn sentence(self) -> &'static str {
+        match self {
             Self::OfLists =>
                 "this is a certificate of lists of mappings, as `cti lex` writes it: `cti check` reads those of `cti infer` alone",
             Self::NoBeginning =>
@@ -51,41 +52,46 @@ impl fmt::Display for FactMistake<'_> {
             Self::CutOff =>
                 "the certificate is cut off in this line, its last: write it anew with `cti infer`",
             Self::Negative => "no number of this fact is negative",
-            Self::ModeOrder(numbers) => return write!(
-                f,
-                "the numbers of a mode ascend: `{numbers}`"
-            ),
-            Self::Name(name) => return write!(f, "no fact of a certificate has the name `{name}`"),
+            Self::ModeOrder(_) => "the numbers of a mode ascend: `{}`",
+            Self::Name(_) => "no fact of a certificate has the name `{}`",
             Self::Norm => "the norms are `term` and `list`",
-            Self::Quotes(name) => return write!(f, "write `{name}` without quotes"),
-            Self::NoQuotes(name) => return write!(
-                f,
-                "put `{name}` in single quotes: it does not begin with a small letter"
-            ),
+            Self::Quotes(_) => "write `{}` without quotes",
+            Self::NoQuotes(_) => "put `{}` in single quotes: it does not begin with a small letter",
             Self::Arity => "a predicate stands with the number of its arguments, as `app/3`",
             Self::ManyArguments => "a predicate has at most 12 arguments",
-            Self::LeadingZero(number) => return write!(
-                f,
-                "leave out the zeros before a number: write `{number}`"
-            ),
+            Self::LeadingZero(_) => "leave out the zeros before a number: write `{}`",
             Self::Argument => "the arguments of a mode are numbered from 1",
             Self::Mode => "each mode is a list of its own, as in `[[1],[2,3]]`",
-            Self::Number(name) => return write!(
-                f,
-                "`{name}` counts clauses, calls, mappings, rows, steps and points from 1"
-            ),
+            Self::Number(_) =>
+                "`{}` counts clauses, calls, mappings, rows, steps and points from 1",
             Self::Cell => "each argument of a row is `0`, `1` or `x`",
+            Self::Parts { .. } => "`{}` has {} parts, and here {}",
+            Self::NormVersion => "`norm` stands in version 2: begin with `cti(2).`",
+            Self::NoNorm => "in version 2 the second line is `norm(term).` or `norm(list).`",
+            Self::Order(..) => "`{}` lines stand before `{}` lines",
+        }
+    }
+
+    /// What its sentence shows.
+    pub(crate) fn shown(self) -> [Shown<'a>; 3] {
+        match self {
+            Self::ModeOrder(numbers) => [Shown::Mode(numbers), Shown::Nothing, Shown::Nothing],
+            Self::Name(name)
+            | Self::Quotes(name)
+            | Self::NoQuotes(name)
+            | Self::LeadingZero(name)
+            | Self::Number(name) => [Shown::Text(name), Shown::Nothing, Shown::Nothing],
+            Self::Order(name, earlier) => [Shown::Text(name), Shown::Text(earlier), Shown::Nothing],
             Self::Parts {
                 name,
                 wanted,
                 found,
-            } => return write!(f, "`{name}` has {wanted} parts, and here {found}"),
-            Self::NormVersion => "`norm` stands in version 2: begin with `cti(2).`",
-            Self::NoNorm => "in version 2 the second line is `norm(term).` or `norm(list).`",
-            Self::Order(name, earlier) => return write!(
-                f,
-                "`{name}` lines stand before `{earlier}` lines"
-            ),
-        })
+            } => [
+                Shown::Text(name),
+                Shown::Count(u64::from(wanted)),
+                Shown::Count(u64::from(found)),
+            ],
+            _ => [Shown::Nothing; 3],
+        }
     }
 }

@@ -3,24 +3,34 @@
 use crate::file_sentences::FileMistake;
 use crate::shell_word::ShellWord;
 use crate::word_reader::{WordReader, shown_name};
-use prolog_tokens::TokenKind;
 
 /// Where the clause at the beginning of a text has its dot.
 fn end_of(text: &[u8]) -> Option<usize> {
     let mut reader = WordReader::new(text, 0);
     for _ in 0..reader.most() {
         let word = reader.next()?;
-        if word.kind == TokenKind::End {
+        if word.is_end() {
             return Some(word.start as usize);
         }
     }
     None
 }
 
+/// The text of the query that begins with `?-` at a place.
+fn query_at(text: &[u8], at: usize) -> Option<&[u8]> {
+    if let Some(text) = text.get(at..)
+        && let Some(text) = text.strip_prefix(b"?-".as_slice())
+        && let Some(end) = end_of(text)
+        && let Some(query) = text.get(..end)
+    {
+        return Some(query.trim_ascii());
+    }
+    None
+}
+
 /// The query at a place of a file's text.
 pub fn query_in_file<'a>(file: &'a str, text: &'a [u8], at: usize) -> Option<FileMistake<'a>> {
-    let text = text.get(at..)?.strip_prefix(b"?-".as_slice())?;
-    let query = text.get(..end_of(text)?)?.trim_ascii();
+    let query = query_at(text, at)?;
     let file = ShellWord::new(file);
     let query = ShellWord::new(shown_name(query).unwrap_or("QUERY"));
     Some(FileMistake::Query { file, query })

@@ -1,24 +1,44 @@
 //! Files that are not what they are taken for.
 
+use crate::sentence::Shown;
 use crate::shell_word::ShellWord;
-use thiserror::Error;
 
 /// What a file has that belongs elsewhere, shown as what to do about it.
-#[derive(Clone, Copy, Debug, Error)]
+#[derive(Clone, Copy)]
 pub enum FileMistake<'a> {
-    #[error("run it with `cti run {file} {query}`")]
     Query {
         file: ShellWord<'a>,
         query: ShellWord<'a>,
     },
-    #[error("the first file is a certificate: the two files may be exchanged")]
     Exchanged,
-    #[error("the first file is a certificate: name the program there")]
     NoProgram,
-    #[error("the program's first predicate is `{name}/{arity}`, and the certificate's is `{other}`")]
     OtherProgram {
         name: &'a str,
         arity: u64,
         other: &'a str,
     },
+}
+
+impl<'a> FileMistake<'a> {
+    /// What it is shown as.
+    pub(crate) fn sentence(self) -> &'static str {
+        match self {
+            Self::Query { .. } => "run it with `cti run {} {}`",
+            Self::Exchanged => "the first file is a certificate: the two files may be exchanged",
+            Self::NoProgram => "the first file is a certificate: name the program there",
+            Self::OtherProgram { .. } =>
+                "the program's first predicate is `{}/{}`, and the certificate's is `{}`",
+        }
+    }
+
+    /// What its sentence shows.
+    pub(crate) fn shown(self) -> [Shown<'a>; 3] {
+        match self {
+            Self::Query { file, query } => [Shown::Word(file), Shown::Word(query), Shown::Nothing],
+            Self::Exchanged | Self::NoProgram => [Shown::Nothing; 3],
+            Self::OtherProgram { name, arity, other } => {
+                [Shown::Text(name), Shown::Count(arity), Shown::Text(other)]
+            }
+        }
+    }
 }

@@ -3,6 +3,7 @@
 use crate::goal_sentences::GoalMistake;
 use crate::mistake::Mistake;
 use crate::operator_sentences::OperatorMistake;
+use crate::searching::beside;
 
 /// Words and symbols that other languages have between a head and its conditions.
 const NECKS: [&str; 8] = ["=>", "<=", "<--", "<==", ":--", "?-", "if", "when"];
@@ -33,21 +34,15 @@ const CONSTRAINTS: [&str; 9] = ["#=", "#\\=", "#<", "#>", "#=<", "#>=", "in", "i
 /// Words of conditions.
 const CONDITIONS: [&str; 2] = ["then", "else"];
 
-/// What is written for a word or symbols that another language has between goals or terms.
-fn own_joint(sign: &str) -> Option<&'static str> {
-    let (_, own) = JOINTS.iter().find(|(other, _)| *other == sign)?;
-    Some(*own)
-}
-
 /// What is written for a word or symbols of another language, after a term. `is_head` is whether no neck stands before.
 pub(crate) fn foreign_mistake<'a>(sign: &'a str, is_head: bool) -> Option<Mistake<'a>> {
     if is_head {
-        if NECKS.iter().any(|other| *other == sign) {
+        if NECKS.contains(&sign) {
             return Some(Mistake::Operator(OperatorMistake::Neck(sign)));
         }
         return None;
     }
-    match own_joint(sign) {
+    match beside(&JOINTS, sign.as_bytes()) {
         Some(own) => Some(Mistake::Operator(OperatorMistake::Foreign(sign, own))),
         None => unread_mistake(sign),
     }
@@ -55,11 +50,11 @@ pub(crate) fn foreign_mistake<'a>(sign: &'a str, is_head: bool) -> Option<Mistak
 
 /// What is said of a word or symbols for which nothing is written here.
 fn unread_mistake<'a>(sign: &'a str) -> Option<Mistake<'a>> {
-    if ARITHMETIC.iter().any(|other| *other == sign) {
+    if ARITHMETIC.contains(&sign) {
         Some(Mistake::Operator(OperatorMistake::Arithmetic(sign)))
-    } else if CONSTRAINTS.iter().any(|other| *other == sign) {
+    } else if CONSTRAINTS.contains(&sign) {
         Some(Mistake::Operator(OperatorMistake::Constraint))
-    } else if CONDITIONS.iter().any(|other| *other == sign) {
+    } else if CONDITIONS.contains(&sign) {
         Some(Mistake::Goal(GoalMistake::If))
     } else {
         None

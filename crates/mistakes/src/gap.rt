@@ -62,50 +62,45 @@ pub(crate) fn is_word(byte: u8) -> bool {
     byte.is_ascii_alphanumeric() || byte == b'_'
 }
 
+/// The bytes of a name or variable that a text ends in.
+pub(crate) fn last_word_bytes(text: &[u8]) -> &[u8] {
+    text.rsplit(|byte| !is_word(*byte)).next().unwrap_or(text)
+}
+
 /// The name or variable that a text ends in, which is empty where there is none.
 pub(crate) fn last_word(text: &[u8]) -> &[u8] {
-    let len = text.iter().rev().take_while(|byte| is_word(**byte)).count();
-    let start = text.len().saturating_sub(len);
-    match text.get(..start) {
+    let word = last_word_bytes(text);
+    match text.strip_suffix(word) {
         // The character of `0'` is no name.
-        Some([.., b'\'']) => &[],
-        _ => text.get(start..).unwrap_or(&[]),
+        Some(before) if before.ends_with(b"'") => &[],
+        _ => word,
     }
 }
 
 /// The name that a text ends in, which begins with a small letter.
 pub(crate) fn last_name(text: &[u8]) -> Option<&[u8]> {
     let word = last_word(text);
-    if word.first()?.is_ascii_lowercase() {
-        Some(word)
-    } else {
-        None
+    match word {
+        [b'a'..=b'z', ..] => Some(word),
+        _ => None,
     }
 }
 
 /// The name at the front of a text, which begins with a small letter.
 pub(crate) fn first_name(text: &[u8]) -> Option<&[u8]> {
-    if !text.first()?.is_ascii_lowercase() {
-        return None;
+    match text {
+        [b'a'..=b'z', ..] => text.split(|byte| !is_word(*byte)).next(),
+        _ => None,
     }
-    let len = text.iter().take_while(|byte| is_word(**byte)).count();
-    text.get(..len)
 }
 
 /// The run of symbols at the front of a text.
 pub(crate) fn first_symbols(text: &[u8]) -> &[u8] {
-    let len = text.iter().take_while(|byte| is_symbol(**byte)).count();
-    text.get(..len).unwrap_or(&[])
+    text.split(|byte| !is_symbol(*byte)).next().unwrap_or(text)
 }
 
 /// The run of symbols that a text ends in, but for layout.
 pub(crate) fn last_symbols(text: &[u8]) -> &[u8] {
     let text = text.trim_ascii_end();
-    let len = text
-        .iter()
-        .rev()
-        .take_while(|byte| is_symbol(**byte))
-        .count();
-    let start = text.len().saturating_sub(len);
-    text.get(start..).unwrap_or(&[])
+    text.rsplit(|byte| !is_symbol(*byte)).next().unwrap_or(text)
 }

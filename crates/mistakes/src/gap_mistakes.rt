@@ -7,9 +7,8 @@ use crate::goal_sentences::GoalMistake;
 use crate::infix_operators::{MOST_SYMBOLS, infix_mistake, is_infix};
 use crate::mistake::Mistake;
 use crate::operator_sentences::OperatorMistake;
-use crate::searching::may_declare;
-use crate::word_reader::{WordReader, shown_name, str_of};
-use prolog_tokens::TokenKind;
+use crate::searching::{beginning_among, may_declare};
+use crate::word_reader::{WordReader, shown_name};
 
 /// Whether a dot at the front of a text ends a clause.
 fn is_end(text: &[u8]) -> bool {
@@ -22,7 +21,7 @@ fn is_end(text: &[u8]) -> bool {
 
 /// What a dot shows that ends no clause.
 fn dot_mistake<'a>(symbols: &[u8], after: &[u8]) -> Option<ClauseMistake<'a>> {
-    match str_of(symbols) {
+    match shown_name(symbols).unwrap_or("") {
         "." if !is_end(after) => Some(ClauseMistake::Dot),
         ".." if is_end(after.get(1..).unwrap_or(&[])) => Some(ClauseMistake::Dots),
         "*/" => Some(ClauseMistake::NestedComment),
@@ -30,50 +29,70 @@ fn dot_mistake<'a>(symbols: &[u8], after: &[u8]) -> Option<ClauseMistake<'a>> {
     }
 }
 
+/// What a parenthesis shows that opens after a text, which ends in this word.
+fn parenthesis_mistake<'a>(before: &'a [u8], word: &'a [u8]) -> Option<ClauseMistake<'a>> {
+    match word.first() {
+        Some(b'A'..=b'Z' | b'_') => shown_name(word).map(ClauseMistake::VariableName),
+        Some(_) => None,
+        None => last_name(before.trim_ascii_end())
+            .and_then(shown_name)
+            .map(ClauseMistake::Space),
+    }
+}
+
 /// What a bracket shows that opens right after a term, or after a space that stands behind a name.
 fn opening_mistake<'a>(gap: Gap<'a>) -> Option<ClauseMistake<'a>> {
     let word = last_word(gap.before);
-    let is_variable = matches!(word, [first, ..] if first.is_ascii_uppercase() || *first == b'_');
-    match gap.after {
-        [b'(', ..] if is_variable => Some(ClauseMistake::VariableName(shown_name(word)?)),
-        [b'(', ..] if word.is_empty() => {
-            let name = last_name(gap.before.trim_ascii_end())?;
-            Some(ClauseMistake::Space(shown_name(name)?))
-        }
-        [b'{', ..] if !word.is_empty() => Some(ClauseMistake::Dict),
+    match gap.after.first() {
+        Some(b'(') => parenthesis_mistake(gap.before, word),
+        Some(b'{') if !word.is_empty() => Some(ClauseMistake::Dict),
         _ => None,
     }
 }
 
-/// Whether a text begins with a dash or a minus sign of typography.
-fn begins_with_dash(text: &[u8]) -> bool {
-    matches!(text, [0xe2, 0x80, 0x90..=0x95, ..] | [0xe2, 0x88, 0x92, ..])
+/// A colon with a dash or a minus sign of typography.
+const DASHED_NECKS: [&str; 7] = [":‐", ":‑", ":‒", ":–", ":—", ":―", ":−"];
+
+/// Whether a text begins with a colon and a minus sign that layout parts.
+fn is_split_neck(text: &[u8]) -> bool {
+    match text.strip_prefix(b": ".as_slice()) {
+        Some(rest) => rest.trim_ascii_start().starts_with(b"-"),
+        None => false,
+    }
+}
+
+/// The name before a colon that is followed by a name, outside lists, as `m` in `m:p`.
+fn module_before<'a>(gap: Gap<'a>) -> Option<&'a [u8]> {
+    match gap.after {
+        [_, next, ..] if next.is_ascii_lowercase() && gap.bracket != Some(Bracket::List) => {
+            last_name(gap.before)
+        }
+        _ => None,
+    }
 }
 
 /// What a colon is meant for, which is no operator.
 fn colon_mistake<'a>(gap: Gap<'a>) -> Option<OperatorMistake<'a>> {
-    let rest = gap.after.get(1..).unwrap_or(&[]);
-    if rest.starts_with(b" ") && rest.trim_ascii_start().starts_with(b"-") {
-        return Some(OperatorMistake::SplitNeck);
-    }
-    if begins_with_dash(rest) {
-        return Some(OperatorMistake::Neck(shown_name(gap.after.get(..4)?)?));
-    }
-    match (last_name(gap.before), rest.first()) {
-        (Some(name), Some(next))
-            if next.is_ascii_lowercase() && gap.bracket != Some(Bracket::List) => {
-            Some(OperatorMistake::Module(shown_name(name)?))
-        }
-        _ => Some(OperatorMistake::Unknown(":")),
+    if is_split_neck(gap.after) {
+        Some(OperatorMistake::SplitNeck)
+    } else if let Some(neck) = beginning_among(&DASHED_NECKS, gap.after) {
+        Some(OperatorMistake::Neck(neck))
+    } else if let Some(name) = module_before(gap) {
+        shown_name(name).map(OperatorMistake::Module)
+    } else {
+        Some(OperatorMistake::Unknown(":"))
     }
 }
 
 /// What symbols show that are declared as an operator somewhere.
 fn declared_mistake<'a>(gap: Gap<'a>, symbols: &'a [u8]) -> Option<Mistake<'a>> {
-    if may_declare(gap.before, symbols) || !may_declare(gap.after, symbols) {
-        return None;
+    if !may_declare(gap.before, symbols)
+        && may_declare(gap.after, symbols)
+        && let Some(name) = shown_name(symbols)
+    {
+        return Some(Mistake::Operator(OperatorMistake::Late(name)));
     }
-    Some(Mistake::Operator(OperatorMistake::Late(shown_name(symbols)?)))
+    None
 }
 
 /// What a run of symbols shows that is no operator.
@@ -84,64 +103,65 @@ fn symbol_mistake<'a>(gap: Gap<'a>, symbols: &'a [u8]) -> Option<Mistake<'a>> {
     if may_declare(gap.operators, symbols) {
         return declared_mistake(gap, symbols);
     }
-    let name = shown_name(symbols)?;
+    named_mistake(gap, shown_name(symbols)?)
+}
+
+/// What symbols of this name show that no directive declares.
+fn named_mistake<'a>(gap: Gap<'a>, name: &'a str) -> Option<Mistake<'a>> {
     match name {
-        ":" => Some(Mistake::Operator(colon_mistake(gap)?)),
+        ":" => colon_mistake(gap).map(Mistake::Operator),
         "*->" => Some(Mistake::Goal(GoalMistake::SoftCut)),
-        _ if is_infix(symbols) => Some(Mistake::Operator(infix_mistake(gap, name)?)),
-        _ => match foreign(gap, name) {
-            Some(mistake) => Some(mistake),
-            None => Some(Mistake::Operator(OperatorMistake::Unknown(name))),
-        },
+        _ if is_infix(name.as_bytes()) => infix_mistake(gap, name).map(Mistake::Operator),
+        _ => Some(foreign(gap, name).unwrap_or(Mistake::Operator(OperatorMistake::Unknown(name)))),
     }
 }
 
 /// What a sign of another language shows, which may be one of the program's own within a term.
 fn foreign<'a>(gap: Gap<'a>, sign: &'a str) -> Option<Mistake<'a>> {
-    let mistake = foreign_mistake(sign, gap.is_in_head)?;
-    if gap.is_in_term() {
-        return Some(Mistake::Operator(OperatorMistake::Unknown(sign)));
+    match foreign_mistake(sign, gap.is_in_head) {
+        Some(_) if gap.is_in_term() => Some(Mistake::Operator(OperatorMistake::Unknown(sign))),
+        mistake => mistake,
     }
-    Some(mistake)
 }
 
 /// What signs show that are no symbols: `!=` and `||`.
 fn sign_mistake<'a>(gap: Gap<'a>) -> Option<Mistake<'a>> {
-    let sign = match gap.after {
-        [b'!', b'=', ..] => "!=",
-        [b'|', b'|', ..] => "||",
-        _ => return None,
-    };
-    foreign(gap, sign)
+    foreign(gap, beginning_among(&["!=", "||"], gap.after)?)
 }
 
 /// What a word shows that begins right after a name and a space, as `r` in `not r`.
-fn second_word<'a>(gap: Gap<'a>, name: &'a [u8]) -> Option<Mistake<'a>> {
-    match str_of(name) {
-        "not" => Some(Mistake::Goal(GoalMistake::NotOperator)),
-        "if" => Some(Mistake::Goal(GoalMistake::If)),
-        _ if gap.is_in_head || gap.bracket.is_some() => None,
-        _ => {
-            let name = ClauseMistake::NoParentheses(shown_name(name)?);
-            Some(Mistake::Clause(name))
+fn second_word<'a>(gap: Gap<'a>) -> Option<Mistake<'a>> {
+    match name_before_space(gap.before).and_then(shown_name) {
+        Some("not") => Some(Mistake::Goal(GoalMistake::NotOperator)),
+        Some("if") => Some(Mistake::Goal(GoalMistake::If)),
+        Some(name) if !gap.is_in_head && gap.bracket.is_none() => {
+            Some(Mistake::Clause(ClauseMistake::NoParentheses(name)))
         }
+        _ => None,
     }
 }
 
 /// What a word shows after a whole term.
 fn word_mistake<'a>(gap: Gap<'a>) -> Option<Mistake<'a>> {
-    if let Some(word) = first_name(gap.after)
-        && let Some(mistake) = foreign(gap, shown_name(word)?)
-    {
-        return Some(mistake);
+    if let Some(word) = first_name(gap.after) {
+        let mistake = foreign(gap, shown_name(word)?);
+        if mistake.is_some() {
+            return mistake;
+        }
     }
-    let before = gap.before.trim_ascii_end();
-    let next = gap.after.first()?;
-    let has_line = gap.before.get(before.len()..)?.contains(&b'\n');
-    if before.len() == gap.before.len() || has_line || !is_word(*next) {
-        return None;
+    match gap.after.first() {
+        Some(next) if is_word(*next) => second_word(gap),
+        _ => None,
     }
-    second_word(gap, last_name(before)?)
+}
+
+/// The name that a text ends in, but for layout in the same line, of which there is some.
+fn name_before_space(text: &[u8]) -> Option<&[u8]> {
+    let before = text.trim_ascii_end();
+    match text.strip_prefix(before) {
+        Some(layout) if !layout.is_empty() && !layout.contains(&b'\n') => last_name(before),
+        _ => None,
+    }
 }
 
 /// Whether a bracket that is open at the front of a text is closed before the clause ends.
@@ -152,16 +172,13 @@ pub fn is_closed_later(text: &[u8]) -> bool {
         let Some(word) = reader.next() else {
             return false;
         };
-        if word.opens() {
-            depth = depth.saturating_add(1);
-        } else if word.closes() {
-            if depth == 0 {
-                return true;
-            }
-            depth = depth.saturating_sub(1);
-        } else if word.kind == TokenKind::End {
+        if word.is_end() {
             return false;
         }
+        if depth == 0 && word.closes() {
+            return true;
+        }
+        depth = word.depth_after(depth);
     }
     false
 }

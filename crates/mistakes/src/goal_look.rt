@@ -1,6 +1,6 @@
 //! What stands from the first token of a goal on.
 
-use crate::word_reader::{Word, WordReader};
+use crate::word_reader::{Look, Word, WordReader, shown_name};
 use prolog_tokens::TokenKind;
 
 /// What was seen from the first token of a goal on, outside its brackets.
@@ -24,9 +24,24 @@ pub(crate) struct GoalLook<'a> {
     pub(crate) has_neck: bool,
 }
 
-/// Whether a name compares terms, and binds nothing.
-fn is_test(name: &str) -> bool {
-    matches!(name, "\\=" | "==" | "\\==" | "@<" | "@=<" | "@>" | "@>=")
+/// The names that compare terms, and bind nothing.
+const TESTS: [&str; 7] = ["\\=", "==", "\\==", "@<", "@=<", "@>", "@>="];
+
+impl<'a> Look<'a> for GoalLook<'a> {
+    fn take(&mut self, word: Word<'a>) -> bool {
+        // The parentheses around a goal begin it.
+        if self.first.is_none() && word.kind == TokenKind::Paren {
+            return true;
+        }
+        if self.first.is_none() {
+            self.first = Some(word);
+        } else if self.second.is_none() {
+            self.second = Some(word);
+        }
+        let depth = self.depth;
+        self.depth = word.depth_after(depth);
+        depth > 0 || self.take_outside(word)
+    }
 }
 
 impl<'a> GoalLook<'a> {
@@ -44,13 +59,7 @@ impl<'a> GoalLook<'a> {
             has_univ: false,
             has_neck: false,
         };
-        let mut reader = WordReader::new(text, at);
-        for _ in 0..reader.most() {
-            match reader.next() {
-                Some(word) if look.take(word) => {}
-                _ => break,
-            }
-        }
+        WordReader::new(text, at).show_to(&mut look);
         look
     }
 
@@ -82,36 +91,13 @@ impl<'a> GoalLook<'a> {
         }
     }
 
-    /// Takes the next token, and answers whether there is more to look at.
-    fn take(&mut self, word: Word<'a>) -> bool {
-        // The parentheses around a goal begin it.
-        if self.first.is_none() && word.kind == TokenKind::Paren {
-            return true;
-        }
-        if self.first.is_none() {
-            self.first = Some(word);
-        } else if self.second.is_none() {
-            self.second = Some(word);
-        }
-        if word.opens() {
-            self.depth = self.depth.saturating_add(1);
-        } else if word.closes() {
-            let is_inside = self.depth > 0;
-            self.depth = self.depth.saturating_sub(1);
-            return is_inside;
-        } else if self.depth == 0 {
-            return self.take_outside(word);
-        }
-        true
-    }
-
     /// Takes a token outside brackets.
     fn take_outside(&mut self, word: Word<'a>) -> bool {
         match word.kind {
             TokenKind::End => return false,
             TokenKind::Comma => self.is_first_goal = false,
-            TokenKind::Name => self.take_name(word.name()),
-            _ => {}
+            TokenKind::Name => self.take_name(shown_name(word.text).unwrap_or("")),
+            _ => return !word.closes(),
         }
         true
     }
@@ -130,7 +116,7 @@ impl<'a> GoalLook<'a> {
             "-->" => self.has_grammar_arrow = true,
             ":-" => self.has_neck = true,
             "=.." => self.has_univ = self.has_univ || self.is_first_goal,
-            _ => self.has_test = self.has_test || (self.is_first_goal && is_test(name)),
+            _ => self.has_test = self.has_test || (self.is_first_goal && TESTS.contains(&name)),
         }
     }
 }

@@ -4,6 +4,7 @@ use crate::goal_look::GoalLook;
 use crate::goal_sentences::GoalMistake;
 use crate::mistake::Mistake;
 use crate::query_sentences::QueryMistake;
+use crate::searching::beside;
 use prolog_tokens::TokenKind;
 
 /// Goals with arguments that are not read, by name.
@@ -60,22 +61,22 @@ const CALLS: [(&str, GoalMistake); 50] = [
     ("number_codes", GoalMistake::Unknown),
 ];
 
-/// What a goal of this name with arguments shows.
-fn call_mistake(name: &str) -> Option<GoalMistake> {
-    let (_, mistake) = CALLS.iter().find(|(other, _)| *other == name)?;
-    Some(*mistake)
-}
+/// Goals without arguments that are not read, by name.
+const ATOMS: [(&str, GoalMistake); 4] = [
+    ("!", GoalMistake::Cut),
+    ("nl", GoalMistake::Output),
+    ("halt", GoalMistake::Exit),
+    ("repeat", GoalMistake::Repeat),
+];
 
 /// What a goal that begins with this name shows.
-fn named_mistake(name: &str, has_arguments: bool) -> Option<GoalMistake> {
-    match name {
-        "\\+" => Some(GoalMistake::Negation),
-        "!" if !has_arguments => Some(GoalMistake::Cut),
-        "nl" if !has_arguments => Some(GoalMistake::Output),
-        "halt" if !has_arguments => Some(GoalMistake::Exit),
-        "repeat" if !has_arguments => Some(GoalMistake::Repeat),
-        _ if has_arguments => call_mistake(name),
-        _ => None,
+fn named_mistake(name: &[u8], has_arguments: bool) -> Option<GoalMistake> {
+    if name == b"\\+".as_slice() {
+        Some(GoalMistake::Negation)
+    } else if has_arguments {
+        beside(&CALLS, name)
+    } else {
+        beside(&ATOMS, name)
     }
 }
 
@@ -85,7 +86,7 @@ fn first_mistake(look: &GoalLook<'_>) -> Option<GoalMistake> {
     match first.kind {
         TokenKind::Var if look.is_alone() => Some(GoalMistake::Variable),
         TokenKind::Int(_) if look.is_alone() => Some(GoalMistake::Number),
-        TokenKind::Name => named_mistake(first.name(), look.has_arguments()),
+        TokenKind::Name => named_mistake(first.text, look.has_arguments()),
         _ => None,
     }
 }

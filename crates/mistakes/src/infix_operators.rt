@@ -1,6 +1,6 @@
 //! The operators that stand between terms, where one cannot stand.
 
-use crate::gap::{Gap, first_symbols, is_word};
+use crate::gap::{Gap, first_symbols, last_symbols, last_word_bytes};
 use crate::operator_sentences::OperatorMistake;
 
 /// The longest run of symbols that is shown.
@@ -18,20 +18,18 @@ const COMPARISONS: [&[u8]; 6] = [b"<", b"=<", b">", b">=", b"=:=", b"=\\="];
 
 /// Whether symbols are an operator that can follow a term.
 pub(crate) fn is_infix(symbols: &[u8]) -> bool {
-    INFIX.iter().any(|name| *name == symbols)
+    INFIX.contains(&symbols)
 }
 
 /// Whether symbols compare.
 fn is_comparison(symbols: &[u8]) -> bool {
-    COMPARISONS.iter().any(|name| *name == symbols)
+    COMPARISONS.contains(&symbols)
 }
 
 /// The symbols before the word that a text ends in.
 fn symbols_before_word(text: &[u8]) -> &[u8] {
     let text = text.trim_ascii_end();
-    let word = text.iter().rev().take_while(|byte| is_word(**byte)).count();
-    let end = text.len().saturating_sub(word);
-    crate::gap::last_symbols(text.get(..end).unwrap_or(&[]))
+    last_symbols(text.strip_suffix(last_word_bytes(text)).unwrap_or(&[]))
 }
 
 /// What an operator shows that cannot stand between two terms here.

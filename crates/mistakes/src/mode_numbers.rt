@@ -30,13 +30,14 @@ impl ModeNumbers {
 
 impl fmt::Display for ModeNumbers {
     fn fmt<W: fmt::Write>(&self, f: &mut fmt::Formatter<W>) -> fmt::Result {
-        let mut before = "[";
-        for (number, is_there) in self.has.iter().enumerate() {
-            if *is_there {
+        let mut before = "";
+        f.write_str("[")?;
+        for number in 0..self.has.len() {
+            if self.has[number] {
                 write!(f, "{before}{number}")?;
                 before = ",";
             }
         }
-        f.write_str(if before == "[" { "[]" } else { "]" })
+        f.write_str("]")
     }
 }

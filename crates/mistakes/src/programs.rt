@@ -1,7 +1,8 @@
 //! The first predicate of a program, and of a certificate.
 
 use crate::file_sentences::FileMistake;
-use crate::word_reader::{Word, WordReader, shown_name};
+use crate::searching::before_byte;
+use crate::word_reader::{Look, Word, WordReader, shown_name};
 use prolog_tokens::TokenKind;
 
 /// The head of a program's first clause, as far as it was read.
@@ -16,15 +17,14 @@ struct HeadLook<'a> {
     is_read: bool,
 }
 
-impl<'a> HeadLook<'a> {
-    /// Takes the next token, and answers whether there is more to look at.
+impl<'a> Look<'a> for HeadLook<'a> {
     fn take(&mut self, word: Word<'a>) -> bool {
         if self.is_directive {
-            self.is_directive = word.kind != TokenKind::End;
+            self.is_directive = !word.is_end();
             return true;
         }
         match self.name {
-            None if word.text == b":-".as_slice() => {
+            None if word.is_neck() => {
                 self.is_directive = true;
                 true
             }
@@ -35,32 +35,35 @@ impl<'a> HeadLook<'a> {
             Some(name) => self.take_part(name, word),
         }
     }
+}
 
+impl<'a> HeadLook<'a> {
     /// Takes a token after the name.
     fn take_part(&mut self, name: Word<'a>, word: Word<'a>) -> bool {
-        if word.opens() {
-            let is_argument = self.depth > 0;
-            if self.depth == 0 && !word.opens_arguments(name) {
-                return false;
-            }
-            self.depth = self.depth.saturating_add(1);
-            if !is_argument {
-                self.arity = 1;
-            }
-        } else if word.closes() {
-            self.depth = self.depth.saturating_sub(1);
-        } else if self.depth == 1 && word.kind == TokenKind::Comma {
-            self.arity = self.arity.saturating_add(1);
-        } else if self.depth == 0 {
-            self.is_read = word.kind == TokenKind::End || word.text == b":-".as_slice();
-            return false;
+        if self.depth == 0 {
+            return self.take_outside(name, word);
         }
+        if self.depth == 1 && matches!(word.kind, TokenKind::Comma) {
+            self.arity = self.arity.saturating_add(1);
+        }
+        self.depth = word.depth_after(self.depth);
         true
+    }
+
+    /// Takes a token after the name and outside brackets.
+    fn take_outside(&mut self, name: Word<'a>, word: Word<'a>) -> bool {
+        if word.opens_arguments(name) {
+            self.depth = 1;
+            self.arity = 1;
+            return true;
+        }
+        self.is_read = word.follows_head();
+        word.closes()
     }
 }
 
-/// The name and the arity of the predicate of a program's first clause, where these are plain to see.
-fn first_pred(text: &[u8]) -> Option<(&str, u64)> {
+/// Looks at the head of the first clause of a program.
+fn head_of(text: &[u8]) -> HeadLook<'_> {
     let mut look = HeadLook {
         name: None,
         arity: 0,
@@ -69,25 +72,28 @@ fn first_pred(text: &[u8]) -> Option<(&str, u64)> {
         is_read: false,
     };
     let mut reader = WordReader::new(text, 0);
-    for _ in 0..reader.most() {
-        match reader.next() {
-            Some(word) if look.take(word) => {}
-            _ => break,
-        }
+    reader.show_to(&mut look);
+    look
+}
+
+/// The name and the arity of the predicate of a program's first clause, where these are plain to see.
+fn first_pred(text: &[u8]) -> Option<(&str, u64)> {
+    let look = head_of(text);
+    if look.is_read
+        && let Some(word) = look.name
+        && let [b'a'..=b'z', ..] = word.text
+        && let Some(name) = shown_name(word.text)
+    {
+        return Some((name, look.arity));
     }
-    let name = look.name?;
-    if !look.is_read || !name.text.first()?.is_ascii_lowercase() {
-        return None;
-    }
-    Some((shown_name(name.text)?, look.arity))
+    None
 }
 
 /// The text of the predicate of a certificate's first `terminates` line.
 fn certified_pred(certificate: &[u8]) -> Option<&str> {
     for line in certificate.split(|byte| *byte == b'\n').take(3) {
         if let Some(rest) = line.strip_prefix(b"terminates(".as_slice()) {
-            let len = rest.iter().position(|byte| *byte == b',')?;
-            return shown_name(rest.get(..len)?);
+            return shown_name(before_byte(rest, b',')?);
         }
     }
     None
@@ -103,12 +109,13 @@ fn is_pred(text: &str, name: &str, arity: u64) -> bool {
 
 /// That a certificate is of another program, where their first predicates are plain to see and differ.
 pub fn program_mistake<'a>(program: &'a [u8], certificate: &'a [u8]) -> Option<FileMistake<'a>> {
-    let (name, arity) = first_pred(program)?;
-    let other = certified_pred(certificate)?;
-    if is_pred(other, name, arity) {
-        return None;
+    if let Some((name, arity)) = first_pred(program)
+        && let Some(other) = certified_pred(certificate)
+        && !is_pred(other, name, arity)
+    {
+        return Some(FileMistake::OtherProgram { name, arity, other });
     }
-    Some(FileMistake::OtherProgram { name, arity, other })
+    None
 }
 
 /// Whether a text begins as a certificate does.

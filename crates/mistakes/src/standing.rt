@@ -2,15 +2,19 @@
 
 use crate::fact_forms::{FactForm, form_of};
 use crate::fact_mistake::FactMistake;
+use crate::searching::before_byte;
 
 /// The form of the fact of a line.
-fn form_of_line(line: &[u8]) -> Option<FactForm> {
-    let end = line.iter().position(|byte| *byte == b'(')?;
-    form_of(line.get(..end)?)
+fn form_of_line(line: &[u8]) -> Option<&'static FactForm> {
+    form_of(before_byte(line, b'(')?)
 }
 
 /// What the beginning of a certificate shows, whose fact of this line, counted from 1, may not stand there.
-fn version_mistake<'a>(text: &[u8], number: u64, form: FactForm) -> Option<FactMistake<'a>> {
+fn version_mistake<'a>(
+    text: &[u8],
+    number: u64,
+    form: &'static FactForm,
+) -> Option<FactMistake<'a>> {
     if number == 1 {
         Some(FactMistake::NoBeginning)
     } else if form.name == "norm" && text.starts_with(b"cti(1).\n") {
@@ -22,6 +26,16 @@ fn version_mistake<'a>(text: &[u8], number: u64, form: FactForm) -> Option<FactM
     }
 }
 
+/// That a fact of this form may not stand after the line before.
+fn order_mistake<'a>(before: &[u8], form: &'static FactForm) -> Option<FactMistake<'a>> {
+    match form_of_line(before) {
+        Some(earlier) if form.rank < earlier.rank => {
+            Some(FactMistake::Order(form.name, earlier.name))
+        }
+        _ => None,
+    }
+}
+
 /// What a certificate shows, whose fact of this line may not stand after that of the line before.
 pub fn standing_mistake<'a>(
     text: &[u8],
@@ -30,12 +44,8 @@ pub fn standing_mistake<'a>(
     line: &[u8],
 ) -> Option<FactMistake<'a>> {
     let form = form_of_line(line)?;
-    if let Some(mistake) = version_mistake(text, number, form) {
-        return Some(mistake);
+    match version_mistake(text, number, form) {
+        Some(mistake) => Some(mistake),
+        None => order_mistake(before?, form),
     }
-    let earlier = form_of_line(before?)?;
-    if form.rank < earlier.rank {
-        return Some(FactMistake::Order(form.name, earlier.name));
-    }
-    None
 }

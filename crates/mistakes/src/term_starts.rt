@@ -6,82 +6,108 @@ use crate::infix_operators::{MOST_SYMBOLS, is_infix};
 use crate::mistake::Mistake;
 use crate::operator_sentences::OperatorMistake;
 use crate::searching::may_declare;
-use crate::word_reader::{shown_name, str_of};
+use crate::word_reader::shown_name;
 
 /// The operators that consist of symbols and stand before a term.
 const PREFIX: [&[u8]; 5] = [b":-", b"?-", b"\\+", b"-", b"\\"];
 
-/// The operator that these symbols at the end of a text make with those before them, from which layout parts them.
-fn split_operator(before: &[u8], symbols: &[u8]) -> Option<&'static str> {
-    let text = before.trim_ascii_end();
-    let end = text.len().saturating_sub(symbols.len());
-    match (str_of(last_symbols(text.get(..end)?)), str_of(symbols)) {
-        (">", "=") => Some(">="),
-        ("=", "<") => Some("=<"),
-        ("-", ">") => Some("->"),
+/// The byte that a text consists of.
+fn only_byte(text: &[u8]) -> Option<u8> {
+    match text {
+        [byte] => Some(*byte),
         _ => None,
     }
 }
 
-/// Whether a term can begin with a byte that is no symbol.
-fn begins_term(byte: u8) -> bool {
-    byte.is_ascii_alphanumeric() || b"_'\"([{!".contains(&byte)
+/// The operator that these symbols at the end of a text make with those before them, from which layout parts them.
+fn split_operator(before: &[u8], symbols: &[u8]) -> Option<&'static str> {
+    let first = last_symbols(before.trim_ascii_end().strip_suffix(symbols)?);
+    match (only_byte(first), only_byte(symbols)) {
+        (Some(b'>'), Some(b'=')) => Some(">="),
+        (Some(b'='), Some(b'<')) => Some("=<"),
+        (Some(b'-'), Some(b'>')) => Some("->"),
+        _ => None,
+    }
+}
+
+/// Whether a term can begin as a text does, with a byte that is no symbol.
+fn begins_term(text: &[u8]) -> bool {
+    match text.first() {
+        Some(byte) => byte.is_ascii_alphanumeric() || b"_'\"([{!".contains(byte),
+        None => false,
+    }
+}
+
+/// Whether a term may stand after symbols before which there is none, or they show nothing: there are none or too many, or a comment ends.
+fn takes_term(symbols: &[u8]) -> bool {
+    symbols.is_empty()
+        || symbols.len() > MOST_SYMBOLS
+        || symbols.ends_with(b"*/")
+        || PREFIX.contains(&symbols)
 }
 
 /// The name that has empty parentheses, of which the second stands at a place.
 fn empty_parentheses<'a>(gap: Gap<'a>) -> Option<ClauseMistake<'a>> {
-    if gap.after.first() != Some(&b')') {
-        return None;
+    if gap.after.starts_with(b")")
+        && let Some(before) = gap.before.strip_suffix(b"(".as_slice())
+        && let Some(name) = last_name(before)
+        && let Some(name) = shown_name(name)
+    {
+        return Some(ClauseMistake::NoArguments(name));
     }
-    let name = last_name(gap.before.strip_suffix(b"(".as_slice())?)?;
-    Some(ClauseMistake::NoArguments(shown_name(name)?))
+    None
+}
+
+/// The comma, bar or `;` of a byte.
+fn joint_of(byte: u8) -> Option<&'static str> {
+    match byte {
+        b',' => Some(","),
+        b';' => Some(";"),
+        b'|' => Some("|"),
+        _ => None,
+    }
 }
 
 /// The comma, bar or `;` after which a term is missing at a place, or before it.
 fn joint_mistake<'a>(gap: Gap<'a>) -> Option<OperatorMistake<'a>> {
-    let next = gap.after.first()?;
-    let is_ended = b")]}.,;|".contains(next);
-    match gap.before.trim_ascii_end().last()? {
-        b',' if is_ended => Some(OperatorMistake::NoRight(",")),
-        b';' if is_ended => Some(OperatorMistake::NoRight(";")),
-        b'|' if is_ended => Some(OperatorMistake::NoRight("|")),
-        _ => match next {
-            b',' => Some(OperatorMistake::NoLeft(",")),
-            b';' => Some(OperatorMistake::NoLeft(";")),
-            b'|' => Some(OperatorMistake::NoLeft("|")),
-            _ => None,
-        },
+    match (gap.before.trim_ascii_end().last(), gap.after.first()) {
+        (Some(last), Some(next)) => joint_between(*last, *next),
+        _ => None,
     }
 }
 
-/// What symbols show before which there is no term, and after which one begins.
-fn symbol_mistake<'a>(before: &'a [u8], symbols: &'a [u8]) -> Option<Mistake<'a>> {
-    if let Some(whole) = split_operator(before, symbols) {
-        return Some(Mistake::Operator(OperatorMistake::Split(whole)));
+/// The comma, bar or `;` after which a term is missing between these bytes, or before it.
+fn joint_between<'a>(last: u8, next: u8) -> Option<OperatorMistake<'a>> {
+    match joint_of(last) {
+        Some(joint) if b")]}.,;|".contains(&next) => Some(OperatorMistake::NoRight(joint)),
+        _ => joint_of(next).map(OperatorMistake::NoLeft),
     }
-    let name = shown_name(symbols)?;
-    Some(match name {
-        "#" | "//" => Mistake::Clause(ClauseMistake::Comment),
-        _ if is_infix(symbols) => Mistake::Operator(OperatorMistake::NoLeft(name)),
-        _ => Mistake::Operator(OperatorMistake::Unknown(name)),
-    })
+}
+
+/// Symbols that begin comments in other languages.
+const COMMENTS: [&[u8]; 2] = [b"#", b"//"];
+
+/// What symbols show as an operator, before which there is no term, and after which one begins.
+fn operator_mistake<'a>(before: &'a [u8], symbols: &'a [u8]) -> Option<OperatorMistake<'a>> {
+    if let Some(whole) = split_operator(before, symbols) {
+        Some(OperatorMistake::Split(whole))
+    } else if is_infix(symbols) {
+        shown_name(symbols).map(OperatorMistake::NoLeft)
+    } else {
+        shown_name(symbols).map(OperatorMistake::Unknown)
+    }
 }
 
 /// What the text shows at a place where a term begins that may not stand there, after symbols before which there is no term.
 pub fn start_mistake<'a>(gap: Gap<'a>) -> Option<Mistake<'a>> {
     let symbols = last_symbols(gap.before);
-    let next = gap.after.first()?;
-    if symbols.is_empty() || symbols.len() > MOST_SYMBOLS || !begins_term(*next) {
+    if takes_term(symbols) || may_declare(gap.operators, symbols) || !begins_term(gap.after) {
         return None;
     }
-    // The end of a comment is no operator.
-    if symbols.ends_with(b"*/") {
-        return None;
+    if COMMENTS.contains(&symbols) {
+        return Some(Mistake::Clause(ClauseMistake::Comment));
     }
-    if may_declare(gap.operators, symbols) || PREFIX.iter().any(|name| *name == symbols) {
-        return None;
-    }
-    symbol_mistake(gap.before, symbols)
+    operator_mistake(gap.before, symbols).map(Mistake::Operator)
 }
 
 /// What the text shows at a place where a term has to begin and none does.

@@ -19,6 +19,12 @@ pub(crate) struct Word<'a> {
     pub(crate) end: u32,
 }
 
+/// What looks at tokens one after the other.
+pub(crate) trait Look<'a> {
+    /// Takes the next token, and answers whether there is more to look at.
+    fn take(&mut self, word: Word<'a>) -> bool;
+}
+
 /// Gives the tokens of a text one after the other.
 #[derive(Drop)]
 pub(crate) struct WordReader<'a> {
@@ -57,6 +63,16 @@ impl<'a> WordReader<'a> {
         })
     }
 
+    /// Shows the tokens that are left, up to the one after which there is no more to look at.
+    pub(crate) fn show_to<L: Look<'a>>(&mut self, look: &mut L) {
+        for _ in 0..self.most() {
+            match self.next() {
+                Some(word) if look.take(word) => {}
+                _ => break,
+            }
+        }
+    }
+
     /// How many tokens there are at most.
     pub(crate) fn most(&self) -> usize {
         self.text.len()
@@ -64,11 +80,6 @@ impl<'a> WordReader<'a> {
 }
 
 impl<'a> Word<'a> {
-    /// Its text, which is empty where it is no UTF-8.
-    pub(crate) fn name(self) -> &'a str {
-        str_of(self.text)
-    }
-
     /// Whether it opens a bracket.
     pub(crate) fn opens(self) -> bool {
         matches!(
@@ -85,6 +96,32 @@ impl<'a> Word<'a> {
         )
     }
 
+    /// How many brackets are open after it, where this many are open before it.
+    pub(crate) fn depth_after(self, depth: u32) -> u32 {
+        if self.opens() {
+            depth.saturating_add(1)
+        } else if self.closes() {
+            depth.saturating_sub(1)
+        } else {
+            depth
+        }
+    }
+
+    /// Whether it ends a clause.
+    pub(crate) fn is_end(self) -> bool {
+        matches!(self.kind, TokenKind::End)
+    }
+
+    /// Whether it is a neck.
+    pub(crate) fn is_neck(self) -> bool {
+        self.text == b":-".as_slice()
+    }
+
+    /// Whether it stands after a whole head.
+    pub(crate) fn follows_head(self) -> bool {
+        self.is_end() || self.is_neck()
+    }
+
     /// Whether it is a name.
     pub(crate) fn is_name(self) -> bool {
         matches!(self.kind, TokenKind::Name | TokenKind::Quoted)
@@ -94,11 +131,6 @@ impl<'a> Word<'a> {
     pub(crate) fn opens_arguments(self, before: Word<'_>) -> bool {
         self.kind == TokenKind::Paren && self.start == before.end
     }
-}
-
-/// A text as a `str`, which is empty where it is no UTF-8.
-pub(crate) fn str_of(text: &[u8]) -> &str {
-    std::str::from_utf8(text).unwrap_or("")
 }
 
 /// The text of a name, if it is short enough to be shown.
