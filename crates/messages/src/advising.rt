@@ -59,10 +59,9 @@ fn size_mistake<'a>(
     text: &'a [u8],
     at: usize,
 ) -> Result<Option<Mistake<'a>>, AllocError> {
-    let mistake = if kind == RefusalKind::Arity {
-        argument_mistake(text, at)
-    } else {
-        variable_mistake(alloc, text, at)?
+    let mistake = match kind {
+        RefusalKind::Arity => argument_mistake(text, at),
+        _ => variable_mistake(alloc, text, at)?,
     };
     Ok(mistake.map(Mistake::Clause))
 }
@@ -78,9 +77,9 @@ fn refusal_mistake<'a>(
     let at = offset_of(text, place.line, place.column);
     match kind {
         RefusalKind::BadByte => Some(Mistake::Byte(byte_mistake(text.get(at..)?)?)),
-        RefusalKind::NotPure => goal_mistake(text, at, subject == Subject::Query),
+        RefusalKind::NotPure => goal_mistake(text, at, subject.is_query()),
         RefusalKind::BadHead => head_mistake(text, at),
-        RefusalKind::Directive => Some(Mistake::File(query_in_file(place.name, text, at)?)),
+        RefusalKind::Directive => query_in_file(place.name, text, at).map(Mistake::File),
         RefusalKind::NotAFact => refused_certificate(place, texts),
         RefusalKind::BadEdit => Some(Mistake::Edit(edit_mistake(text, at)?)),
         _ => None,

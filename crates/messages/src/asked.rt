@@ -1,7 +1,7 @@
 //! What the words ask about the program itself.
 
 /// What is asked about the program itself.
-#[derive(Clone, Copy, Debug)]
+#[derive(Clone, Copy)]
 pub enum Asked {
     Help,
     Version,

@@ -1,9 +1,7 @@
 //! The commands.
 
-use std::fmt;
-
-/// A command, shown by its name.
-#[derive(Clone, Copy, Debug, PartialEq, Eq)]
+/// A command.
+#[derive(Clone, Copy)]
 pub enum Command {
     Infer,
     Check,
@@ -57,11 +55,5 @@ impl Command {
             Command::Check => Some("CERT"),
             Command::Run | Command::Loop => Some("QUERY"),
         }
-    }
-}
-
-impl fmt::Display for Command {
-    fn fmt<W: fmt::Write>(&self, f: &mut fmt::Formatter<W>) -> fmt::Result {
-        f.write_str(self.name())
     }
 }

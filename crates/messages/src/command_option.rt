@@ -1,10 +1,9 @@
 //! The options of commands.
 
 use crate::command::Command;
-use std::fmt;
 
-/// An option of a command, shown by its name.
-#[derive(Clone, Copy, Debug)]
+/// An option of a command.
+#[derive(Clone, Copy)]
 pub enum CommandOption {
     /// How many nodes of a query are looked at.
     Steps,
@@ -34,7 +33,7 @@ impl CommandOption {
         }
     }
 
-    /// What its value is.
+    /// What its value is, as it is asked for.
     pub fn value(self) -> &'static str {
         match self {
             CommandOption::Steps | CommandOption::Depth => "a number",
@@ -42,14 +41,26 @@ impl CommandOption {
         }
     }
 
+    /// What its value tells.
+    pub(crate) fn kind(self) -> &'static str {
+        match self {
+            CommandOption::Steps => "a number of steps",
+            CommandOption::Norm => "a norm",
+            CommandOption::Depth => "a depth",
+        }
+    }
+
+    /// What to do about a value that it does not take.
+    pub(crate) fn advice(self) -> &'static str {
+        match self {
+            CommandOption::Steps => "write --steps and a number from 1 to 1000000",
+            CommandOption::Norm => "--norm takes term or list",
+            CommandOption::Depth => "--depth takes a number from 1 to 12",
+        }
+    }
+
     /// The value in a word that has the option's name and value, as `--steps=5` has.
     pub fn value_in(self, word: &str) -> Option<&str> {
         word.strip_prefix(self.name())?.strip_prefix('=')
-    }
-}
-
-impl fmt::Display for CommandOption {
-    fn fmt<W: fmt::Write>(&self, f: &mut fmt::Formatter<W>) -> fmt::Result {
-        f.write_str(self.name())
     }
 }

@@ -1,6 +1,6 @@
 //! What a clause could have gone on with, as far as the text before the fault shows.
 
-use crate::scan::{Last, Scan, is_symbol};
+use crate::scan::{Scan, is_symbol};
 use crate::told::Subject;
 use mistakes::{
     Bracket, ClauseMistake, Gap, GoalMistake, HeadMistake, Mistake, OperatorMistake, QueryMistake,
@@ -61,9 +61,6 @@ pub struct Stop<'a> {
     pub operators: &'a [u8],
 }
 
-/// The alphabetic operators that a term follows.
-const WORDS: [&[u8]; 3] = [b" is", b" mod", b" rem"];
-
 /// The place of a line and a column in a text, or its end.
 pub(crate) fn offset_of(text: &[u8], line: u64, column: u64) -> usize {
     let mut at_line = 1u64;
@@ -82,10 +79,10 @@ pub(crate) fn offset_of(text: &[u8], line: u64, column: u64) -> usize {
     text.len()
 }
 
-/// Whether a text ends in an operator that is a word.
+/// Whether a text ends in an operator that is a word, after which a term follows.
 fn ends_in_word(text: &[u8]) -> bool {
     let text = text.trim_ascii_end();
-    WORDS.iter().any(|word| text.ends_with(word))
+    text.ends_with(b" is") || text.ends_with(b" mod") || text.ends_with(b" rem")
 }
 
 /// The last line of a text, without the layout around it.
@@ -99,23 +96,27 @@ fn begins_line(text: &[u8]) -> bool {
     text.contains(&b'\n') && last_line(text).is_empty()
 }
 
+/// Whether a text is a word of small letters.
+fn is_small_word(text: &[u8]) -> bool {
+    for byte in text {
+        if !byte.is_ascii_lowercase() && *byte != b'_' {
+            return false;
+        }
+    }
+    !text.is_empty()
+}
+
 /// Whether the last line of a text is a directive's word, as `:- dynamic`, which is not an operator here.
 fn ends_in_directive(text: &[u8]) -> bool {
     match last_line(text).strip_prefix(b":-".as_slice()) {
-        Some(word) => {
-            let word = word.trim_ascii();
-            !word.is_empty()
-                && word
-                    .iter()
-                    .all(|byte| byte.is_ascii_lowercase() || *byte == b'_')
-        }
+        Some(word) => is_small_word(word.trim_ascii()),
         None => false,
     }
 }
 
 /// What was expected after a text without an open bracket, which ends in a whole term.
 fn expected_outside<'a>(subject: Subject, before: &[u8]) -> Expected<'a> {
-    if subject == Subject::Query {
+    if subject.is_query() {
         Expected::QueryEnd
     } else if ends_in_directive(before) {
         Expected::Directive
@@ -144,11 +145,11 @@ fn end_fault<'a>(subject: Subject, before: &[u8]) -> Expected<'a> {
 
 /// What was expected where a term begins.
 fn expected_term<'a>(scan: &Scan, gap: Gap<'a>, next: u8) -> Expected<'a> {
-    if gap.before == b"#".as_slice() && next == b'!' {
+    if next == b'!' && gap.before == b"#".as_slice() {
         return Expected::Mistake(Mistake::Clause(ClauseMistake::ScriptLine));
     }
-    if scan.last == Last::Opening
-        && scan.earlier == Last::Opening
+    if !scan.last.is_operand()
+        && !scan.earlier.is_operand()
         && let Some(mistake) = start_mistake(gap)
     {
         return Expected::Mistake(mistake);
@@ -238,13 +239,13 @@ fn bar_mistake<'a>(bracket: Option<Bracket>, next: u8) -> Option<Mistake<'a>> {
 /// A mistake as it is in a query, or in a head.
 fn told_there<'a>(gap: Gap<'a>, subject: Subject, mistake: Mistake<'a>) -> Mistake<'a> {
     match mistake {
-        Mistake::Goal(GoalMistake::NotOperator) if subject == Subject::Query => {
+        Mistake::Goal(GoalMistake::NotOperator) if subject.is_query() => {
             Mistake::Query(QueryMistake::GoalAlone)
         }
         Mistake::Goal(GoalMistake::NotOperator) if gap.is_in_head => {
             Mistake::Head(HeadMistake::Negation)
         }
-        Mistake::Goal(GoalMistake::SoftCut | GoalMistake::If) if subject == Subject::Query => {
+        Mistake::Goal(GoalMistake::SoftCut | GoalMistake::If) if subject.is_query() => {
             Mistake::Query(QueryMistake::Branches)
         }
         _ => mistake,
@@ -317,12 +318,12 @@ fn expected_between<'a>(scan: &Scan, subject: Subject, gap: Gap<'a>) -> Expected
     let Some(next) = gap.after.first() else {
         return end_fault(subject, gap.before);
     };
-    if subject == Subject::Query
+    if subject.is_query()
         && let Some(mistake) = query_mistake(gap)
     {
         return Expected::Mistake(Mistake::Query(mistake));
     }
-    if scan.last != Last::Operand || ends_in_word(gap.before) {
+    if !scan.last.is_operand() || ends_in_word(gap.before) {
         return expected_term(scan, gap, *next);
     }
     expected_after(scan, subject, gap, *next)
@@ -341,7 +342,7 @@ pub fn expected_at<'a>(alloc: Global, stop: Stop<'a>) -> Result<Expected<'a>, Al
         before,
         after: text.get(at..).unwrap_or(&[]),
         operators: stop.operators,
-        is_in_head: stop.subject == Subject::Program
+        is_in_head: matches!(stop.subject, Subject::Program)
             && !scan.clause.has_neck
             && scan.open.is_empty(),
         bracket: scan.open.last().copied(),

@@ -51,7 +51,7 @@ fn cause_of<R: Files>(rt: &R, name: &str) -> Option<FileCause> {
 
 /// The cause, with whether a query stands in the place of the file that is missing.
 fn cause_with_query<R: Files>(rt: &R, words: Words<'_>, cause: FileCause) -> FileCause {
-    if cause == FileCause::Missing && words.has_query() && is_lasting(rt, words.second()) {
+    if matches!(cause, FileCause::Missing) && words.has_query() && is_lasting(rt, words.second()) {
         FileCause::Exchanged
     } else {
         cause

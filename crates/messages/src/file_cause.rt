@@ -1,21 +1,15 @@
 //! Why a file was not loaded.
 
 use std::io::ErrorKind;
-use thiserror::Error;
 
 /// Why a file was not loaded.
-#[derive(Clone, Copy, Debug, PartialEq, Eq, Error)]
+#[derive(Clone, Copy)]
 pub enum FileCause {
-    #[error("there is no such file")]
     Missing,
     /// It is missing, and the word for a query is a file's name.
-    #[error("there is no such file")]
     Exchanged,
-    #[error("permission denied")]
     Denied,
-    #[error("this is a directory")]
     Directory,
-    #[error("the file could not be read")]
     Failed,
 }
 
@@ -27,6 +21,16 @@ impl FileCause {
             ErrorKind::PermissionDenied => FileCause::Denied,
             ErrorKind::IsADirectory => FileCause::Directory,
             _ => FileCause::Failed,
+        }
+    }
+
+    /// What it is shown as.
+    pub(crate) fn sentence(self) -> &'static str {
+        match self {
+            FileCause::Missing | FileCause::Exchanged => "there is no such file",
+            FileCause::Denied => "permission denied",
+            FileCause::Directory => "this is a directory",
+            FileCause::Failed => "the file could not be read",
         }
     }
 

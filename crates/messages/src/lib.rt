@@ -2,8 +2,7 @@
 //! place, the line of the text, and what to do.
 //!
 //! The answer on standard output is made elsewhere, and its beginning is read here as any reader would read it: `Ending` says how the
-//! call ended, and `explain` makes the message. It depends on `mistakes`, for what a text shows
-//! about a mistake, and on `thiserror`.
+//! call ended, and `explain` makes the message. It depends on `mistakes`, for what a text shows about a mistake.
 #![tactic(auto)]
 
 mod advising;
@@ -19,6 +18,7 @@ mod no_reason;
 mod place;
 mod refusal_kind;
 mod scan;
+mod sentence;
 mod telling;
 mod texts;
 mod told;

@@ -2,8 +2,8 @@
 
 use std::fmt;
 
-/// What of a fact does not hold, in the order of the reasons' numbers.
-#[derive(Clone, Copy, Debug, PartialEq, Eq)]
+/// What of a fact does not hold.
+#[derive(Clone, Copy)]
 pub enum NoReason {
     Version,
     Missing,
@@ -18,27 +18,32 @@ pub enum NoReason {
     Wide,
 }
 
+/// The reasons, in the order of their numbers.
+const REASONS: [NoReason; 11] = [
+    NoReason::Version,
+    NoReason::Missing,
+    NoReason::Extra,
+    NoReason::Shape,
+    NoReason::SizeRow,
+    NoReason::Measure,
+    NoReason::Ground,
+    NoReason::Precondition,
+    NoReason::Mode,
+    NoReason::Refutation,
+    NoReason::Wide,
+];
+
 impl NoReason {
     /// The reason of a number, which count from 1.
     pub fn of(number: u64) -> Option<NoReason> {
-        Some(match number {
-            1 => NoReason::Version,
-            2 => NoReason::Missing,
-            3 => NoReason::Extra,
-            4 => NoReason::Shape,
-            5 => NoReason::SizeRow,
-            6 => NoReason::Measure,
-            7 => NoReason::Ground,
-            8 => NoReason::Precondition,
-            9 => NoReason::Mode,
-            10 => NoReason::Refutation,
-            11 => NoReason::Wide,
-            _ => return None,
-        })
+        match number {
+            1..=11 => Some(REASONS[number as usize - 1]),
+            _ => None,
+        }
     }
 
     /// What it is shown as.
-    fn sentence(self) -> &'static str {
+    pub(crate) fn sentence(self) -> &'static str {
         match self {
             NoReason::Version => "the version is neither 1 nor 2",
             NoReason::Missing => "a fact is missing here",

@@ -3,7 +3,7 @@
 use std::fmt;
 
 /// A line and a column of a named text, shown as `NAME:LINE:COLUMN`. Both count from 1, and columns count bytes.
-#[derive(Clone, Copy, Debug)]
+#[derive(Clone, Copy)]
 pub struct Place<'a> {
     pub name: &'a str,
     pub line: u64,

@@ -2,8 +2,8 @@
 
 use std::fmt;
 
-/// What is wrong with a text that was refused, in the order of the kinds' numbers.
-#[derive(Clone, Copy, Debug, PartialEq, Eq)]
+/// What is wrong with a text that was refused.
+#[derive(Clone, Copy)]
 pub enum RefusalKind {
     BadByte,
     Unclosed,
@@ -24,33 +24,41 @@ pub enum RefusalKind {
     BadEdit,
 }
 
+/// The kinds of the first numbers, in their order.
+const KINDS: [RefusalKind; 16] = [
+    RefusalKind::BadByte,
+    RefusalKind::Unclosed,
+    RefusalKind::BadEscape,
+    RefusalKind::Float,
+    RefusalKind::WideNumber,
+    RefusalKind::Unexpected,
+    RefusalKind::Deep,
+    RefusalKind::Long,
+    RefusalKind::Arity,
+    RefusalKind::ManyVariables,
+    RefusalKind::NotPure,
+    RefusalKind::BadHead,
+    RefusalKind::Directive,
+    RefusalKind::BadOperator,
+    RefusalKind::ManyClauses,
+    RefusalKind::NotAFact,
+];
+
+/// The number of a bad edit. The one before it is no kind of refusal.
+const BAD_EDIT: u64 = 18;
+
 impl RefusalKind {
     /// The kind of a number, which count from 1.
     pub fn of(number: u64) -> Option<RefusalKind> {
-        Some(match number {
-            1 => RefusalKind::BadByte,
-            2 => RefusalKind::Unclosed,
-            3 => RefusalKind::BadEscape,
-            4 => RefusalKind::Float,
-            5 => RefusalKind::WideNumber,
-            6 => RefusalKind::Unexpected,
-            7 => RefusalKind::Deep,
-            8 => RefusalKind::Long,
-            9 => RefusalKind::Arity,
-            10 => RefusalKind::ManyVariables,
-            11 => RefusalKind::NotPure,
-            12 => RefusalKind::BadHead,
-            13 => RefusalKind::Directive,
-            14 => RefusalKind::BadOperator,
-            15 => RefusalKind::ManyClauses,
-            16 => RefusalKind::NotAFact,
-            18 => RefusalKind::BadEdit,
-            _ => return None,
-        })
+        match number {
+            1..=16 => Some(KINDS[number as usize - 1]),
+            BAD_EDIT => Some(RefusalKind::BadEdit),
+            _ => None,
+        }
     }
 
     /// What it is shown as.
-    fn sentence(self) -> &'static str {
+    pub(crate) fn sentence(self) -> &'static str {
         match self {
             RefusalKind::BadByte => "this byte begins no token",
             RefusalKind::Unclosed => "this quoted item or comment has no end",

@@ -4,7 +4,7 @@ use mistakes::Bracket;
 use std::alloc::{AllocError, Global};
 
 /// What a byte belongs to.
-#[derive(Clone, Copy, PartialEq, Eq)]
+#[derive(Clone, Copy)]
 enum Mode {
     Code,
     LineComment,
@@ -16,12 +16,19 @@ enum Mode {
 }
 
 /// What stands last.
-#[derive(Clone, Copy, PartialEq, Eq)]
+#[derive(Clone, Copy)]
 pub enum Last {
     /// Nothing, or what a term follows: a comma, a bar, an opening bracket or an operator.
     Opening,
     /// The end of a term.
     Operand,
+}
+
+impl Last {
+    /// Whether it is the end of a term.
+    pub(crate) fn is_operand(self) -> bool {
+        matches!(self, Last::Operand)
+    }
 }
 
 /// What was seen of a text.

@@ -6,20 +6,16 @@ use crate::texts::Texts;
 use crate::trouble::Trouble;
 use std::alloc::{AllocError, Global};
 
-/// Adds the first line.
-fn push_head(alloc: Global, message: &mut Vec<u8>, trouble: Trouble<'_>) -> Result<(), AllocError> {
-    let head = format!(in alloc; "{trouble}")?;
-    push_shown(message, head.as_bytes())?;
-    message.push(b'\n')?;
-    Ok(())
+/// Adds a text as it is shown, and the end of its line.
+fn push_line(message: &mut Vec<u8>, text: &str) -> Result<(), AllocError> {
+    push_shown(message, text.as_bytes())?;
+    message.extend_from_slice(b"\n")
 }
 
 /// Adds the line that says what to do.
 pub fn push_help(message: &mut Vec<u8>, advice: &str) -> Result<(), AllocError> {
     message.extend_from_slice(b"  help: ")?;
-    push_shown(message, advice.as_bytes())?;
-    message.push(b'\n')?;
-    Ok(())
+    push_line(message, advice)
 }
 
 /// Adds what to do about a trouble, as far as the texts show it.
@@ -35,20 +31,30 @@ fn push_advice(
     }
 }
 
+/// Adds what is wrong and where, the line of the text, and what to do.
+fn push_trouble(
+    alloc: Global,
+    message: &mut Vec<u8>,
+    trouble: Trouble<'_>,
+    texts: Texts<'_>,
+) -> Result<(), AllocError> {
+    push_line(message, &format!(in alloc; "{trouble}")?)?;
+    if let Some(place) = trouble.place() {
+        push_excerpt(message, texts.told, place)?;
+    }
+    push_advice(alloc, message, trouble, texts)
+}
+
 /// The message: what is wrong and where, the line of the text, and what to do. It is the help alone where this was asked for.
 pub fn message(
     alloc: Global,
     trouble: Trouble<'_>,
     texts: Texts<'_>,
 ) -> Result<Vec<u8>, AllocError> {
-    if let Trouble::Asked(asked) = trouble {
-        return Vec::from_slice(alloc, asked.text().as_bytes());
-    }
     let mut message = Vec::new(alloc);
-    push_head(alloc, &mut message, trouble)?;
-    if let Some(place) = trouble.place() {
-        push_excerpt(&mut message, texts.told, place)?;
+    match trouble {
+        Trouble::Asked(asked) => message.extend_from_slice(asked.text().as_bytes())?,
+        _ => push_trouble(alloc, &mut message, trouble, texts)?,
     }
-    push_advice(alloc, &mut message, trouble, texts)?;
     Ok(message)
 }

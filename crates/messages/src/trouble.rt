@@ -5,36 +5,38 @@ use crate::file_cause::FileCause;
 use crate::no_reason::NoReason;
 use crate::place::Place;
 use crate::refusal_kind::RefusalKind;
+use crate::sentence::{Sentence, Shown};
 use crate::told::{Subject, ToldNo, ToldRefusal};
 use crate::word_fault::WordFault;
 use crate::words::Words;
-use thiserror::Error;
+use std::fmt::{self, Display};
 
 /// Why a call did not do what was asked for, or what its answer does not say. It is shown as the first line of the message.
-#[derive(Clone, Copy, Debug, Error)]
+#[derive(Clone, Copy)]
 pub enum Trouble<'a> {
-    #[error("{1}: error: {2}")]
     Refused(Subject, Place<'a>, RefusalKind),
-    #[error("{0}: error: the certificate is not valid: {1}")]
     NotValid(Place<'a>, NoReason),
-    #[error("cti: error: {0}")]
     Words(WordFault<'a>),
-    #[error("cti: what is asked is answered")]
     Asked(Asked),
-    #[error("{0}: error: {1}")]
     File(&'a str, FileCause),
-    #[error("cti: error: standard output failed after {0} bytes")]
+    /// How many bytes were written before standard output failed.
     Output(u64),
-    #[error("cti: error: out of memory")]
     Memory,
-    #[error("cti: error: the search ended at a goal with a value above 2^127 - 1")]
     Overflow,
-    #[error("cti: note: no loop was found, which does not say that the query ends")]
     NoLoop,
-    #[error("cti: note: the first 100,000 derivations have no loop, and there are more")]
     ManyDerivations,
-    #[error("cti: error: out of memory, or the terms of the derivations grew too large")]
     LoopMemory,
+}
+
+/// What to do about a file of this name that was not loaded.
+fn file_advice(name: &str, cause: FileCause) -> &'static str {
+    match cause {
+        FileCause::Missing if name == "-" => "standard input is /dev/stdin",
+        FileCause::Missing | FileCause::Failed if name.ends_with('/') => {
+            "leave out the `/` at its end, if it is a file"
+        }
+        _ => cause.advice(),
+    }
 }
 
 impl<'a> Trouble<'a> {
@@ -75,6 +77,44 @@ impl<'a> Trouble<'a> {
         }
     }
 
+    /// What stands between the name or the place that it is about and its sentence.
+    fn introduction(self) -> &'static str {
+        match self {
+            Trouble::NotValid(..) => ": error: the certificate is not valid: ",
+            Trouble::NoLoop | Trouble::ManyDerivations => ": note: ",
+            Trouble::Asked(_) => ": ",
+            _ => ": error: ",
+        }
+    }
+
+    /// The text of its sentence.
+    fn text(self) -> &'static str {
+        match self {
+            Trouble::Refused(_, _, kind) => kind.sentence(),
+            Trouble::NotValid(_, reason) => reason.sentence(),
+            Trouble::Words(fault) => fault.sentence(),
+            Trouble::Asked(_) => "what is asked is answered",
+            Trouble::File(_, cause) => cause.sentence(),
+            Trouble::Output(_) => "standard output failed after {} bytes",
+            Trouble::Memory => "out of memory",
+            Trouble::Overflow => "the search ended at a goal with a value above 2^127 - 1",
+            Trouble::NoLoop => "no loop was found, which does not say that the query ends",
+            Trouble::ManyDerivations => {
+                "the first 100,000 derivations have no loop, and there are more"
+            }
+            Trouble::LoopMemory => "out of memory, or the terms of the derivations grew too large",
+        }
+    }
+
+    /// What its sentence shows.
+    fn shown(self) -> [Shown<'a>; 3] {
+        match self {
+            Trouble::Words(fault) => fault.shown(),
+            Trouble::Output(written) => [Shown::Count(written), Shown::Nothing, Shown::Nothing],
+            _ => [Shown::Nothing; 3],
+        }
+    }
+
     /// What to do about it.
     pub fn advice(self) -> &'static str {
         match self {
@@ -82,11 +122,7 @@ impl<'a> Trouble<'a> {
             Trouble::NotValid(_, reason) => reason.advice(),
             Trouble::Words(fault) => fault.advice(),
             Trouble::Asked(_) => "",
-            Trouble::File("-", FileCause::Missing) => "standard input is /dev/stdin",
-            Trouble::File(name, FileCause::Missing | FileCause::Failed) if name.ends_with('/') => {
-                "leave out the `/` at its end, if it is a file"
-            }
-            Trouble::File(_, cause) => cause.advice(),
+            Trouble::File(name, cause) => file_advice(name, cause),
             Trouble::Output(_) => {
                 "the answer was cut short: free space on the disk, or let the reader of the pipe read to the end"
             }
@@ -104,5 +140,21 @@ impl<'a> Trouble<'a> {
                 "nothing was written: give a smaller --depth, or a query with smaller terms"
             }
         }
+    }
+}
+
+impl fmt::Display for Trouble<'_> {
+    fn fmt<W: fmt::Write>(&self, f: &mut fmt::Formatter<W>) -> fmt::Result {
+        match self {
+            Trouble::Refused(_, place, _) | Trouble::NotValid(place, _) => place.fmt(f)?,
+            Trouble::File(name, _) => f.write_str(name)?,
+            _ => f.write_str("cti")?,
+        }
+        f.write_str(self.introduction())?;
+        Sentence {
+            text: self.text(),
+            shown: self.shown(),
+        }
+        .fmt(f)
     }
 }

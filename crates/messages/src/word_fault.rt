@@ -2,78 +2,92 @@
 
 use crate::command::Command;
 use crate::command_option::CommandOption;
+use crate::sentence::Shown;
 use mistakes::ShellWord;
-use thiserror::Error;
 
 /// Why the words are not a command.
-#[derive(Clone, Copy, Debug, Error)]
+#[derive(Clone, Copy)]
 pub enum WordFault<'a> {
-    #[error("a command is missing")]
     NoCommand,
-    #[error("`{0}` is not a command")]
     UnknownCommand(&'a str),
-    #[error("a command comes first: `cti infer {0}`")]
     FileFirst(ShellWord<'a>),
-    #[error("`{0}` is not an option of this command")]
     UnknownOption(&'a str),
-    #[error("`cti {0}` needs the word {1}")]
     Missing(Command, &'static str),
     /// The command, and the query that stands in the place of the file.
-    #[error("`cti {0}` needs the word FILE before `{1}`")]
     NoFile(Command, &'a str),
-    #[error("`{0}` is one word too many")]
     Extra(&'a str),
-    #[error("`{1}` is one word too many: write `{0} {1}`")]
     BareValue(CommandOption, &'a str),
-    #[error("`cti {0}` takes the one word {1}: `{2}` is too many")]
-    OneWord(Command, &'static str, &'a str),
-    #[error("{0} needs {1}")]
-    NoValue(CommandOption, &'static str),
-    #[error("`{0}` is not a number of steps")]
-    BadSteps(&'a str),
-    #[error("`{0}` is not a norm")]
-    BadNorm(&'a str),
-    #[error("`{0}` is not a depth")]
-    BadDepth(&'a str),
-    #[error("`{0}` is not a number of predicates")]
+    OneWord(Command, &'a str),
+    NoValue(CommandOption),
+    BadValue(CommandOption, &'a str),
     BadCount(&'a str),
-    #[error("{0} stands twice")]
     Twice(CommandOption),
-    #[error("these words are not a command")]
     Other,
 }
 
-impl WordFault<'_> {
+impl<'a> WordFault<'a> {
+    /// What it is shown as.
+    pub(crate) fn sentence(self) -> &'static str {
+        match self {
+            Self::NoCommand => "a command is missing",
+            Self::UnknownCommand(_) => "`{}` is not a command",
+            Self::FileFirst(_) => "a command comes first: `cti infer {}`",
+            Self::UnknownOption(_) => "`{}` is not an option of this command",
+            Self::Missing(..) => "`cti {}` needs the word {}",
+            Self::NoFile(..) => "`cti {}` needs the word FILE before `{}`",
+            Self::Extra(_) => "`{}` is one word too many",
+            Self::BareValue(..) => "`{}` is one word too many: write `{} {}`",
+            Self::OneWord(..) => "`cti {}` takes the one word {}: `{}` is too many",
+            Self::NoValue(_) => "{} needs {}",
+            Self::BadValue(..) => "`{}` is not {}",
+            Self::BadCount(_) => "`{}` is not a number of predicates",
+            Self::Twice(_) => "{} stands twice",
+            Self::Other => "these words are not a command",
+        }
+    }
+
+    /// What its sentence shows.
+    pub(crate) fn shown(self) -> [Shown<'a>; 3] {
+        // An array of fixed texts alone would have another lifetime than those with words.
+        let none: &'a str = "";
+        match self {
+            Self::NoCommand | Self::Other => [Shown::Nothing; 3],
+            Self::FileFirst(word) => [Shown::Word(word), Shown::Nothing, Shown::Nothing],
+            Self::UnknownCommand(word)
+            | Self::UnknownOption(word)
+            | Self::Extra(word)
+            | Self::BadCount(word) => Shown::texts(word, none, none),
+            Self::Missing(command, name) => Shown::texts(command.name(), name, none),
+            Self::NoFile(command, query) => Shown::texts(command.name(), query, none),
+            Self::BareValue(option, word) => Shown::texts(word, option.name(), word),
+            Self::OneWord(command, word) => Shown::texts(command.name(), command.first(), word),
+            Self::NoValue(option) => Shown::texts(option.name(), option.value(), none),
+            Self::BadValue(option, word) => Shown::texts(word, option.kind(), none),
+            Self::Twice(option) => Shown::texts(option.name(), none, none),
+        }
+    }
+
     /// What to do about it.
     pub fn advice(self) -> &'static str {
         match self {
-            WordFault::NoCommand | WordFault::UnknownCommand(_) | WordFault::FileFirst(_) => {
+            Self::NoCommand | Self::UnknownCommand(_) | Self::FileFirst(_) => {
                 "the commands are infer, check, run, gen, lex, loop and session"
             }
-            WordFault::UnknownOption(_) => {
+            Self::UnknownOption(_) => {
                 "infer has the option --norm, run has --steps and loop has --depth; write -- before a word that begins with -"
             }
-            WordFault::OneWord(Command::Gen, ..) | WordFault::BareValue(..) => {
-                "the usage has a line for each command"
-            }
-            WordFault::OneWord(..) => {
+            Self::Missing(..)
+            | Self::NoFile(..)
+            | Self::BareValue(..)
+            | Self::OneWord(Command::Gen, _)
+            | Self::Other => "the usage has a line for each command",
+            Self::OneWord(..) => {
                 "call it for each file by itself; a name with spaces stands in quotes"
             }
-            WordFault::Extra(_) => "put a query or a name with spaces in quotes",
-            WordFault::NoValue(CommandOption::Steps, _) | WordFault::BadSteps(_) => {
-                "write --steps and a number from 1 to 1000000"
-            }
-            WordFault::NoValue(CommandOption::Norm, _) | WordFault::BadNorm(_) => {
-                "--norm takes term or list"
-            }
-            WordFault::NoValue(CommandOption::Depth, _) | WordFault::BadDepth(_) => {
-                "--depth takes a number from 1 to 12"
-            }
-            WordFault::BadCount(_) => "write a number from 1 to 300",
-            WordFault::Twice(_) => "leave one of them out",
-            WordFault::Missing(..) | WordFault::NoFile(..) | WordFault::Other => {
-                "the usage has a line for each command"
-            }
+            Self::Extra(_) => "put a query or a name with spaces in quotes",
+            Self::NoValue(option) | Self::BadValue(option, _) => option.advice(),
+            Self::BadCount(_) => "write a number from 1 to 300",
+            Self::Twice(_) => "leave one of them out",
         }
     }
 }

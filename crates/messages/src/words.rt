@@ -28,8 +28,8 @@ pub struct Words<'a> {
     command: Option<Command>,
     file: Option<&'a str>,
     second: Option<&'a str>,
-    /// The option that was given.
-    option: Option<CommandOption>,
+    /// Whether an option was given.
+    has_option: bool,
     next: Next,
     /// What is asked about the program itself.
     asked: Option<Asked>,
@@ -57,7 +57,7 @@ impl<'a> Words<'a> {
             command: first.and_then(Command::of),
             file: None,
             second: None,
-            option: None,
+            has_option: false,
             next: Next::Any,
             asked: first.and_then(Asked::of),
             fault: command_fault(first),
@@ -85,17 +85,17 @@ impl<'a> Words<'a> {
 
     /// Whether the modes are inferred of a file's program.
     pub fn infers(self) -> bool {
-        self.command == Some(Command::Infer)
+        matches!(self.command, Some(Command::Infer))
     }
 
     /// Whether a loop is looked for.
     pub fn looks_for_loop(self) -> bool {
-        self.command == Some(Command::Loop)
+        matches!(self.command, Some(Command::Loop))
     }
 
     /// Whether the second word is a file's name.
     pub fn has_certificate(self) -> bool {
-        self.command == Some(Command::Check)
+        matches!(self.command, Some(Command::Check))
     }
 
     /// Whether the second word is a query.
@@ -109,7 +109,7 @@ impl<'a> Words<'a> {
             return fault;
         }
         if let Next::Value(option) = self.next {
-            return WordFault::NoValue(option, option.value());
+            return WordFault::NoValue(option);
         }
         let Some(command) = self.command else {
             return WordFault::NoCommand;
@@ -156,14 +156,14 @@ impl<'a> Words<'a> {
     /// Takes the value of an option.
     fn take_value(&mut self, option: CommandOption, word: &'a str) {
         self.next = Next::Any;
-        if self.option.is_some() {
+        if self.has_option {
             self.blame(WordFault::Twice(option));
         } else if word.is_empty() || word.starts_with('-') {
-            self.blame(WordFault::NoValue(option, option.value()));
-        } else if let Some(fault) = value_fault(option, word) {
-            self.blame(fault);
+            self.blame(WordFault::NoValue(option));
+        } else if !takes(option, word) {
+            self.blame(WordFault::BadValue(option, word));
         }
-        self.option = Some(option);
+        self.has_option = true;
     }
 
     /// Takes a word that is not an option.
@@ -180,7 +180,7 @@ impl<'a> Words<'a> {
 
     /// Takes the first word after the command.
     fn take_first(&mut self, word: &'a str) {
-        if self.command == Some(Command::Gen) && !is_number_up_to(word, MOST_DIGITS, 300) {
+        if matches!(self.command, Some(Command::Gen)) && !is_number_up_to(word, MOST_DIGITS, 300) {
             self.blame(WordFault::BadCount(word));
         }
         self.file = Some(word);
@@ -199,13 +199,30 @@ fn is_query(word: &str) -> bool {
     word.ends_with(')') || word.ends_with(").")
 }
 
-/// Whether a word can be the value of an option.
+/// Whether a word has digits alone.
+fn is_digits(word: &str) -> bool {
+    word.bytes().all(|byte| byte.is_ascii_digit())
+}
+
+/// Whether a word is a norm.
+fn is_norm(word: &str) -> bool {
+    word == "term" || word == "list"
+}
+
+/// Whether a word looks like the value of an option.
 fn is_value(option: CommandOption, word: &str) -> bool {
     match option {
-        CommandOption::Steps | CommandOption::Depth => {
-            !word.is_empty() && word.bytes().all(|byte| byte.is_ascii_digit())
-        }
-        CommandOption::Norm => matches!(word, "term" | "list"),
+        CommandOption::Steps | CommandOption::Depth => !word.is_empty() && is_digits(word),
+        CommandOption::Norm => is_norm(word),
+    }
+}
+
+/// Whether an option takes a word as its value.
+fn takes(option: CommandOption, word: &str) -> bool {
+    match option {
+        CommandOption::Steps => is_number_up_to(word, MOST_DIGITS, 1_000_000),
+        CommandOption::Depth => is_number_up_to(word, MOST_DEPTH_DIGITS, 12),
+        CommandOption::Norm => is_norm(word),
     }
 }
 
@@ -217,30 +234,14 @@ fn extra_fault<'a>(command: Option<Command>, word: &'a str) -> WordFault<'a> {
         return WordFault::BareValue(option, word);
     }
     match command {
-        Some(command) if command.second().is_none() => {
-            WordFault::OneWord(command, command.first(), word)
-        }
+        Some(command) if command.second().is_none() => { WordFault::OneWord(command, word) }
         _ => WordFault::Extra(word),
-    }
-}
-
-/// The fault of an option's value.
-fn value_fault<'a>(option: CommandOption, word: &'a str) -> Option<WordFault<'a>> {
-    match option {
-        CommandOption::Steps if !is_number_up_to(word, MOST_DIGITS, 1_000_000) => {
-            Some(WordFault::BadSteps(word))
-        }
-        CommandOption::Depth if !is_number_up_to(word, MOST_DEPTH_DIGITS, 12) => {
-            Some(WordFault::BadDepth(word))
-        }
-        CommandOption::Norm if word != "term" && word != "list" => Some(WordFault::BadNorm(word)),
-        _ => None,
     }
 }
 
 /// Whether a word is a number from 1 to the greatest, of at most so many digits.
 fn is_number_up_to(word: &str, digits: usize, greatest: u32) -> bool {
-    let is_short = word.len() <= digits && word.bytes().all(|byte| byte.is_ascii_digit());
+    let is_short = word.len() <= digits && is_digits(word);
     match word.parse::<u32>() {
         Ok(number) => is_short && number >= 1 && number <= greatest,
         Err(_) => false,
