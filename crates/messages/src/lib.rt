@@ -18,7 +18,6 @@ mod no_reason;
 mod place;
 mod refusal_kind;
 mod scan;
-mod sentence;
 mod telling;
 mod texts;
 mod told;

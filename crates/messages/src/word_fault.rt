@@ -2,8 +2,7 @@
 
 use crate::command::Command;
 use crate::command_option::CommandOption;
-use crate::sentence::Shown;
-use mistakes::ShellWord;
+use mistakes::{ShellWord, Shown};
 
 /// Why the words are not a command.
 #[derive(Clone, Copy)]
@@ -23,6 +22,11 @@ pub enum WordFault<'a> {
     BadCount(&'a str),
     Twice(CommandOption),
     Other,
+}
+
+/// Three texts, of which the last are empty where a sentence shows fewer.
+fn texts<'a>(first: &'a str, second: &'a str, third: &'a str) -> [Shown<'a>; 3] {
+    [Shown::Text(first), Shown::Text(second), Shown::Text(third)]
 }
 
 impl<'a> WordFault<'a> {
@@ -56,14 +60,14 @@ impl<'a> WordFault<'a> {
             Self::UnknownCommand(word)
             | Self::UnknownOption(word)
             | Self::Extra(word)
-            | Self::BadCount(word) => Shown::texts(word, none, none),
-            Self::Missing(command, name) => Shown::texts(command.name(), name, none),
-            Self::NoFile(command, query) => Shown::texts(command.name(), query, none),
-            Self::BareValue(option, word) => Shown::texts(word, option.name(), word),
-            Self::OneWord(command, word) => Shown::texts(command.name(), command.first(), word),
-            Self::NoValue(option) => Shown::texts(option.name(), option.value(), none),
-            Self::BadValue(option, word) => Shown::texts(word, option.kind(), none),
-            Self::Twice(option) => Shown::texts(option.name(), none, none),
+            | Self::BadCount(word) => texts(word, none, none),
+            Self::Missing(command, name) => texts(command.name(), name, none),
+            Self::NoFile(command, query) => texts(command.name(), query, none),
+            Self::BareValue(option, word) => texts(word, option.name(), word),
+            Self::OneWord(command, word) => texts(command.name(), command.first(), word),
+            Self::NoValue(option) => texts(option.name(), option.value(), none),
+            Self::BadValue(option, word) => texts(word, option.kind(), none),
+            Self::Twice(option) => texts(option.name(), none, none),
         }
     }
 

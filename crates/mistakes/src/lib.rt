@@ -56,6 +56,7 @@ pub use mode_numbers::ModeNumbers;
 pub use operator_sentences::OperatorMistake;
 pub use programs::{is_certificate, program_mistake};
 pub use query_sentences::QueryMistake;
+pub use sentence::{Sentence, Shown};
 pub use shell_word::ShellWord;
 pub use standing::standing_mistake;
 pub use term_starts::{start_mistake, term_mistake};

@@ -6,7 +6,7 @@ use std::fmt::{self, Display};
 
 /// What a sentence shows at a place of it.
 #[derive(Clone, Copy)]
-pub(crate) enum Shown<'a> {
+pub enum Shown<'a> {
     Nothing,
     Text(&'a str),
     Word(ShellWord<'a>),
@@ -30,9 +30,9 @@ impl fmt::Display for Shown<'_> {
 
 /// A sentence, whose text has a `{}` where each of the things stands that it shows, in their order.
 #[derive(Clone, Copy)]
-pub(crate) struct Sentence<'a> {
-    pub(crate) text: &'static str,
-    pub(crate) shown: [Shown<'a>; 3],
+pub struct Sentence<'a> {
+    pub text: &'static str,
+    pub shown: [Shown<'a>; 3],
 }
 
 impl fmt::Display for Sentence<'_> {
