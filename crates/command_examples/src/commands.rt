@@ -50,6 +50,23 @@ fn answered(alloc: Global, text: &[u8], words: &[&str]) -> Result<(Status, Vec<u
     Ok((status, out.taken))
 }
 
+/// Whether these words are answered with this text, where the file has that one.
+fn is_answered(
+    alloc: Global,
+    text: &[u8],
+    words: &[&str],
+    answer: &[u8],
+) -> Result<bool, AllocError> {
+    let (status, taken) = answered(alloc, text, words)?;
+    Ok(status == Status::Done && taken.as_slice() == answer)
+}
+
+/// Whether these words are refused with this line, where the file has this text.
+fn is_refused(alloc: Global, text: &[u8], words: &[&str], line: &[u8]) -> Result<bool, AllocError> {
+    let (status, taken) = answered(alloc, text, words)?;
+    Ok(status == Status::Refused && taken.as_slice() == line)
+}
+
 /// A text and `count` repetitions of another.
 fn repeated(alloc: Global, first: &[u8], text: &[u8], count: usize) -> Result<Vec<u8>, AllocError> {
     let mut whole = Vec::from_slice(alloc, first)?;
@@ -92,96 +109,102 @@ fn one_answer(
     }
 }
 
+/// Whether a term with this many `s` more than the program makes around its variable is printed as the query's one answer, or
+/// told to be large.
+fn is_deep_answer(alloc: Global, outer: usize, is_printed: bool) -> Result<bool, AllocError> {
+    let step = nested(alloc, b"X", 990)?;
+    let head = nested(alloc, b"X", outer)?;
+    let program = joined(
+        alloc,
+        &[
+            b"q(",
+            &head,
+            b") :- g(0,A), g(A,B), g(B,C), g(C,X).\ng(X,",
+            &step,
+            b").\n",
+        ],
+    )?;
+    let deep = nested(alloc, b"0", outer.saturating_add(3960))?;
+    let term = joined(alloc, &[b"q(", &deep, b")"])?;
+    let lines = one_answer(alloc, &term, is_printed, b"ran(5,5,finished).\n")?;
+    is_answered(alloc, &program, &["run", "a.pl", "q(X)"], &lines)
+}
+
 #[test]
 fn deep_answers(rt: HostRuntime) -> Result<(), Fail> {
     let alloc = rt.alloc();
-    let step = nested(alloc, b"X", 990)?;
-    for (outer, is_printed) in [(38, true), (39, false)] {
-        let head = nested(alloc, b"X", outer)?;
-        let program = joined(
-            alloc,
-            &[
-                b"q(",
-                &head,
-                b") :- g(0,A), g(A,B), g(B,C), g(C,X).\ng(X,",
-                &step,
-                b").\n",
-            ],
-        )?;
-        let deep = nested(alloc, b"0", 3960 + outer)?;
-        let term = joined(alloc, &[b"q(", &deep, b")"])?;
-        let lines = one_answer(alloc, &term, is_printed, b"ran(5,5,finished).\n")?;
-        let (status, taken) = answered(alloc, &program, &["run", "a.pl", "q(X)"])?;
-        assert_eq!(rt; status, Status::Done);
-        assert!(rt; taken == lines, "{outer}");
-    }
+    assert!(rt; is_deep_answer(alloc, 38, true)?);
+    assert!(rt; is_deep_answer(alloc, 39, false)?);
     Ok(())
+}
+
+/// Whether an atom with this many constants after the first is printed as the query's one answer, or told to be large.
+fn is_large_answer(alloc: Global, count: usize, is_printed: bool) -> Result<bool, AllocError> {
+    let term = repeated(alloc, b"p(f(a", b",a", count)?;
+    let term = joined(alloc, &[&term, b"))"])?;
+    let program = joined(alloc, &[&term, b".\n"])?;
+    let lines = one_answer(alloc, &term, is_printed, b"ran(1,1,finished).\n")?;
+    is_answered(alloc, &program, &["run", "a.pl", "p(X)"], &lines)
 }
 
 #[test]
 fn large_answers(rt: HostRuntime) -> Result<(), Fail> {
     let alloc = rt.alloc();
-    for (count, is_printed) in [(99_997, true), (99_998, false)] {
-        let term = repeated(alloc, b"p(f(a", b",a", count)?;
-        let term = joined(alloc, &[&term, b"))"])?;
-        let program = joined(alloc, &[&term, b".\n"])?;
-        let lines = one_answer(alloc, &term, is_printed, b"ran(1,1,finished).\n")?;
-        let (status, taken) = answered(alloc, &program, &["run", "a.pl", "p(X)"])?;
-        assert_eq!(rt; status, Status::Done);
-        assert!(rt; taken == lines, "{count}");
-    }
-    let list = repeated(alloc, b"app(X,Y,[a", b",a", 299)?;
-    let list = joined(alloc, &[&list, b"])"])?;
-    let query = std::str::from_utf8(&list).unwrap_or("");
-    let (status, taken) = answered(alloc, APPEND.as_bytes(), &["run", "a.pl", query])?;
-    assert_eq!(rt; status, Status::Done);
-    assert_eq!(rt; taken.iter().filter(|byte| **byte == b'\n').count(), 302);
+    assert!(rt; is_large_answer(alloc, 99_997, true)?);
+    assert!(rt; is_large_answer(alloc, 99_998, false)?);
     Ok(())
 }
 
-/// Whether these words are refused with this line, where the file has this text.
-fn is_refused(alloc: Global, text: &[u8], words: &[&str], line: &[u8]) -> Result<bool, AllocError> {
-    let (status, taken) = answered(alloc, text, words)?;
-    Ok(status == Status::Refused && taken.as_slice() == line)
+/// How many lines the run of a query writes for all splits of a list of this many elements.
+fn lines_of_splits(alloc: Global, elements: usize) -> Result<usize, AllocError> {
+    let list = repeated(alloc, b"app(X,Y,[a", b",a", elements.saturating_sub(1))?;
+    let list = joined(alloc, &[&list, b"])"])?;
+    let query = std::str::from_utf8(&list).unwrap_or("");
+    let (_, taken) = answered(alloc, APPEND.as_bytes(), &["run", "a.pl", query])?;
+    Ok(taken.iter().filter(|byte| **byte == b'\n').count())
 }
 
-/// The longest text that is read, and a text of one byte more, as a program and as a query.
 #[test]
-fn long_texts(rt: HostRuntime) -> Result<(), Fail> {
-    let alloc = rt.alloc();
+fn all_splits(rt: HostRuntime) -> Result<(), Fail> {
+    assert!(rt; lines_of_splits(rt.alloc(), 300)? == 302);
+    Ok(())
+}
+
+/// Whether a text as long as the longest that is read is answered, and one of a byte more refused, as a program and as a query.
+fn are_long_texts_refused(alloc: Global) -> Result<bool, AllocError> {
     let longest = repeated(alloc, b"", b"\n", 1_048_576)?;
-    let (status, taken) = answered(alloc, &longest, &["infer", "a.pl"])?;
-    assert_eq!(rt; status, Status::Done);
-    assert_eq!(rt; taken.as_slice(), b"cti(1).\n".as_slice());
     let long = repeated(alloc, &longest, b"\n", 1)?;
     let query = std::str::from_utf8(&long).unwrap_or("");
-    assert!(rt;
-        is_refused(
-            alloc,
-            &long,
-            &["infer", "a.pl"],
-            b"refused(program,1,1,8).\n"
-        )?
-    );
-    assert!(rt;
-        is_refused(
-            alloc,
-            b"p.",
-            &["run", "a.pl", query],
-            b"refused(query,1,1,8).\n"
-        )?
-    );
+    Ok(
+        is_answered(alloc, &longest, &["infer", "a.pl"], b"cti(1).\n")?
+            && is_refused(
+                alloc,
+                &long,
+                &["infer", "a.pl"],
+                b"refused(program,1,1,8).\n",
+            )?
+            && is_refused(
+                alloc,
+                b"p.",
+                &["run", "a.pl", query],
+                b"refused(query,1,1,8).\n",
+            )?,
+    )
+}
+
+#[test]
+fn long_texts(rt: HostRuntime) -> Result<(), Fail> {
+    assert!(rt; are_long_texts_refused(rt.alloc())?);
     Ok(())
 }
 
 /// A query of two lines.
 #[test]
 fn queries_of_two_lines(rt: HostRuntime) -> Result<(), Fail> {
-    let alloc = rt.alloc();
     let words = ["run", "a.pl", "app(X,Y,Z),\n  !"];
     assert!(rt;
         is_refused(
-            alloc,
+            rt.alloc(),
             APPEND.as_bytes(),
             &words,
             b"refused(query,2,3,11).\n"
@@ -190,72 +213,97 @@ fn queries_of_two_lines(rt: HostRuntime) -> Result<(), Fail> {
     Ok(())
 }
 
-#[test]
-fn sure_files_and_refusals(rt: HostRuntime) -> Result<(), Fail> {
-    let alloc = rt.alloc();
+/// Whether a store without faults gives of its one file what is asked, and a command is answered over it.
+fn is_sure_store_read(alloc: Global) -> Result<bool, AllocError> {
     let mut sure = SureFiles {
         files: files(alloc, b"p.")?,
     };
-    assert_eq!(rt; sure.load(alloc, "b.pl", 0).map(|bytes| bytes.len()), Ok(0));
-    assert_eq!(rt; sure.load(alloc, "a.pl", 1).err(), Some(LoadFault::TooLong));
-    assert_eq!(rt;
-        command(alloc, &["infer", "a.pl"], &mut sure, &mut SureSink),
-        Status::Done
-    );
-    for (subject, line) in [
-        (
-            Subject::Program,
-            b"refused(program,12,3,4294967295).\n".as_slice(),
-        ),
-        (
-            Subject::Certificate,
-            b"refused(certificate,12,3,4294967295).\n".as_slice(),
-        ),
-        (
-            Subject::Query,
-            b"refused(query,12,3,4294967295).\n".as_slice(),
-        ),
-    ] {
-        let text = refusal_text(alloc, subject, 12, 3, 4_294_967_295)?;
-        assert_eq!(rt; text.as_slice(), line);
-    }
+    Ok(
+        sure.load(alloc, "b.pl", 0)
+            .is_ok_and(|bytes| bytes.is_empty())
+            && sure.load(alloc, "a.pl", 1).err() == Some(LoadFault::TooLong)
+            && command(alloc, &["infer", "a.pl"], &mut sure, &mut SureSink) == Status::Done,
+    )
+}
+
+#[test]
+fn a_sure_store(rt: HostRuntime) -> Result<(), Fail> {
+    assert!(rt; is_sure_store_read(rt.alloc())?);
     Ok(())
+}
+
+/// Whether a refusal of the greatest kind at line 12 and column 3 is this line.
+fn is_refusal(alloc: Global, subject: Subject, line: &[u8]) -> Result<bool, AllocError> {
+    Ok(refusal_text(alloc, subject, 12, 3, u32::MAX)?.as_slice() == line)
+}
+
+#[test]
+fn refusals(rt: HostRuntime) -> Result<(), Fail> {
+    let alloc = rt.alloc();
+    assert!(rt;
+        is_refusal(
+            alloc,
+            Subject::Program,
+            b"refused(program,12,3,4294967295).\n"
+        )?
+    );
+    assert!(rt;
+        is_refusal(
+            alloc,
+            Subject::Certificate,
+            b"refused(certificate,12,3,4294967295).\n"
+        )?
+    );
+    assert!(rt; is_refusal(alloc, Subject::Query, b"refused(query,12,3,4294967295).\n")?);
+    Ok(())
+}
+
+/// Whether a file of six bytes, whose name this is, is read where six may be, and refused where five may; and an empty name is
+/// a fault.
+fn is_file_read(rt: &HostRuntime, name: &str) -> bool {
+    let alloc = rt.alloc();
+    let mut files = RealFiles {
+        runtime: rt,
+        faults: 0,
+    };
+    files
+        .load(alloc, name, 6)
+        .is_ok_and(|bytes| bytes.as_slice() == b"p(a).\n".as_slice())
+        && files.load(alloc, name, 5).err() == Some(LoadFault::TooLong)
+        && files.load(alloc, "", 5).err() == Some(LoadFault::Failed)
+        && files.faults == 1
 }
 
 #[test]
 fn a_real_file(rt: HostRuntime) -> Result<(), Fail> {
-    let alloc = rt.alloc();
-    let path = std::env::temp_dir(&rt)?.join(alloc, "cti_top_a_real_file.pl")?;
+    let path = std::env::temp_dir(&rt)?.join(rt.alloc(), "cti_top_a_real_file.pl")?;
     std::fs::write(&rt, &path, "p(a).\n")?;
-    let name = path.to_str().unwrap_or("");
-    let mut files = RealFiles {
-        runtime: &rt,
-        faults: 0,
-    };
-    let bytes = files.load(alloc, name, 6);
-    assert_eq!(rt; bytes.as_deref(), Ok(b"p(a).\n".as_slice()));
-    assert_eq!(rt; files.load(alloc, name, 5).err(), Some(LoadFault::TooLong));
-    assert_eq!(rt; files.load(alloc, "", 5).err(), Some(LoadFault::Failed));
-    assert_eq!(rt; files.faults, 1);
+    assert!(rt; is_file_read(&rt, path.to_str().unwrap_or("")));
     std::fs::remove_file(&rt, &path)?;
     Ok(())
 }
 
-#[test]
-fn a_real_writer(rt: HostRuntime) -> Result<(), Fail> {
-    let alloc = rt.alloc();
+/// Whether a writer takes all that it is given, and the sink keeps the first 64 bytes of it.
+fn is_head_kept(alloc: Global) -> bool {
     let mut sink = RealSink::new(Vec::new(alloc));
-    assert_eq!(rt; sink.write(b"p(a)."), Ok(5));
-    assert_eq!(rt; sink.write(b""), Ok(0));
-    assert_eq!(rt; sink.inner.as_slice(), b"p(a).".as_slice());
-    assert_eq!(rt; sink.head(), b"p(a).".as_slice());
-    assert_eq!(rt; sink.write(&[b'x'; 100]), Ok(100));
-    assert_eq!(rt; sink.head().len(), 64);
-    assert_eq!(rt; sink.taken(), 105);
+    sink.write(b"p(a).") == Ok(5)
+        && sink.write(b"") == Ok(0)
+        && sink.inner.as_slice() == b"p(a).".as_slice()
+        && sink.head() == b"p(a).".as_slice()
+        && sink.write(&[b'x'; 100]) == Ok(100)
+        && sink.head().len() == 64
+        && sink.taken() == 105
+}
+
+/// Whether a writer with room for one byte takes one, and then has a fault.
+fn is_short_writer_faulty() -> bool {
     let mut buffer = [0u8; 1];
     let mut short = RealSink::new(buffer.as_mut_slice());
-    assert_eq!(rt; short.write(b"pq"), Ok(1));
-    assert_eq!(rt; short.write(b"q"), Err(SinkFault::Failed));
-    assert_eq!(rt; short.faults, 1);
-    Ok(())
+    short.write(b"pq") == Ok(1) && short.write(b"q") == Err(SinkFault::Failed) && short.faults == 1
+}
+
+#[test]
+fn a_real_writer(rt: HostRuntime) {
+    assert!(rt; is_head_kept(rt.alloc()));
+    assert!(rt; is_short_writer_faulty());
 }

@@ -13,6 +13,9 @@ use std::test::Fail;
 /// The most writes that fail in turn.
 const MOST_WRITES: u64 = 20;
 
+/// How many bytes a sink takes at most in one write.
+const CHUNKS: [usize; 3] = [1, 8, 4096];
+
 /// The program of append and its certificate, in a store whose loads of these numbers fail.
 fn store(alloc: Global, fails: &[u64]) -> Result<MemFiles, AllocError> {
     let mut files = BTreeMap::new(alloc);
@@ -82,24 +85,33 @@ fn writes_fail(
     Ok(true)
 }
 
-/// Each of the loads of a command, and each of its first twenty writes, fails in turn.
+/// Whether each of the loads of a command, and each of its first twenty writes, is a fault of files or of the output where it
+/// fails in turn.
+fn faults_are_told(alloc: Global, words: &[&str], loads: u64) -> Result<bool, AllocError> {
+    let text = written(alloc, words)?;
+    for chunk in &CHUNKS {
+        if !loads_fail(alloc, words, *chunk, loads)? || !writes_fail(alloc, words, *chunk, &text)? {
+            return Ok(false);
+        }
+    }
+    Ok(true)
+}
+
 #[test]
 fn loads_and_writes_that_fail(rt: HostRuntime) -> Result<(), Fail> {
     let alloc = rt.alloc();
-    for (words, loads) in [
-        (["infer", "app.pl"].as_slice(), 1),
-        (["check", "app.pl", "app.cert"].as_slice(), 2),
-        (["run", "app.pl", "app(X,Y,[a])"].as_slice(), 1),
-        (["gen", "1"].as_slice(), 0),
-    ] {
-        let text = written(alloc, words)?;
-        for chunk in [1, 8, 4096] {
-            assert!(rt; loads_fail(alloc, words, chunk, loads)?, "{chunk}");
-            assert!(rt; writes_fail(alloc, words, chunk, &text)?, "{chunk}");
-        }
-    }
+    assert!(rt; faults_are_told(alloc, &["infer", "app.pl"], 1)?);
+    assert!(rt; faults_are_told(alloc, &["check", "app.pl", "app.cert"], 2)?);
+    assert!(rt; faults_are_told(alloc, &["run", "app.pl", "app(X,Y,[a])"], 1)?);
+    assert!(rt; faults_are_told(alloc, &["gen", "1"], 0)?);
+    Ok(())
+}
+
+/// Where the second write fails, the first piece is written.
+#[test]
+fn a_second_write_that_fails(rt: HostRuntime) -> Result<(), Fail> {
     let end = (Status::OutFault, b"cti(1).\n".as_slice());
-    assert!(rt; ends(alloc, &["infer", "app.pl"], 8, &[], &[2], end)?);
+    assert!(rt; ends(rt.alloc(), &["infer", "app.pl"], 8, &[], &[2], end)?);
     Ok(())
 }
 
@@ -124,14 +136,18 @@ impl Write for Interrupted {
     }
 }
 
-#[test]
-fn an_interrupted_write_is_tried_again(rt: HostRuntime) -> Result<(), Fail> {
+/// Whether a write that is interrupted is tried again, which is no fault.
+fn is_tried_again(alloc: Global) -> bool {
     let mut sink = RealSink::new(Interrupted {
-        bytes: Vec::new(rt.alloc()),
+        bytes: Vec::new(alloc),
         is_called: false,
     });
-    assert_eq!(rt; sink.write(b"p(a)."), Ok(5));
-    assert_eq!(rt; sink.faults, 0);
-    assert_eq!(rt; sink.inner.bytes.as_slice(), b"p(a).".as_slice());
-    Ok(())
+    sink.write(b"p(a).") == Ok(5)
+        && sink.faults == 0
+        && sink.inner.bytes.as_slice() == b"p(a).".as_slice()
+}
+
+#[test]
+fn an_interrupted_write_is_tried_again(rt: HostRuntime) {
+    assert!(rt; is_tried_again(rt.alloc()));
 }
