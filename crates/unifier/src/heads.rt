@@ -331,8 +331,7 @@ pub fn unify_integer<'p>(
 
 /// Unifies an atom, whose variables are raised by its base, with the head of a clause, whose variables are raised by a goal's
 /// counter. Arguments of compound terms are unified one after the other too. Only where two compound terms meet among these
-/// are equations put on a stack, and they are solved before the next argument. It is compiled into the loop of a run.
-#[inline(always)]
+/// are equations put on a stack, and they are solved before the next argument.
 pub fn unify_head<'p>(
     bindings: &mut Bindings<'p>,
     stacks: &mut Stacks<'p>,
