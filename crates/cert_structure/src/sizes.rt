@@ -19,8 +19,8 @@ use termination_model::SizeRows;
 
 /// The facts of a predicate's size rows.
 #[derive(Drop)]
-struct RowFact<'a> {
-    pred: Named<'a>,
+pub struct RowFact<'a> {
+    pub pred: Named<'a>,
 }
 
 impl Kind<Fact> for RowFact<'_> {
@@ -102,9 +102,10 @@ pub fn rows_of(rows: &SizeRows, pred: PredId) -> u64
 
 /// The facts of the proofs for a clause, each with `rows` multipliers.
 #[derive(Drop)]
-struct ProofFact {
-    clause: u64,
-    rows: u128,
+pub struct ProofFact {
+    /// The number of the clause, from 0.
+    pub clause: u64,
+    pub rows: u128,
 }
 
 impl Kind<Fact> for ProofFact {

@@ -1,5 +1,4 @@
 pub mod Flat
-pub mod Lines
 pub mod Order
 pub mod Shape
 pub mod Structure
