@@ -40,7 +40,8 @@ def main():
     if kept.exists():
         print(f"The last build here took {kept.read_text().strip()} minutes; only what changed since then is proved again.")
     else:
-        print("From nothing that takes half an hour to an hour on four processors, and two to three hours on one.")
+        print("From nothing that takes half an hour to an hour and a half on four processors, and two to four hours on one.", end=" ")
+        print("The toolchain reads all crates first, which takes some minutes.", flush=True)
     begun = time.monotonic()
     name, begun_crates, said = "", 0, {}
     run = subprocess.Popen(["rt", "all", "check", "--jobs", jobs], cwd=top / "crates" / "cti", stdout=subprocess.PIPE, stderr=subprocess.STDOUT, text=True)
