@@ -222,7 +222,7 @@ module _ (p : Listing) (names : List (List ℕ)) where
       (whole, record { count = count; each = each })
 
   -- the cubes of one predicate
-  module _ {A : Type 0} (levels : List (List A)) (a : ℕ) where
+  module _ (levels : List (List LevelPart)) (a : ℕ) where
     pub cubes_section : (s t : List Fact) (xs : List (List (List Cell))) → read_pre p names levels a s ≡ Ok (xs, t)
         → (s ≡ facts_from 0 (λ m cs. lines_from 0 (pre_line (pred_text p names a) m) cs) xs ++ t) × AreEach (length (items_of levels a)) (λ _. AllByRecursion (HasWidth (arity_in p a))) xs
     unfolding read_pre read_cubes
@@ -248,7 +248,7 @@ module _ (p : Listing) (names : List (List ℕ)) where
         0 (length (items_of levels a)) xs t h.count (omega arith) h.each
         (λ m below. all_weaker (λ f. (m i : ℕ) → take_pre (text a) m i f ≡ Some None) (λ f. (i : ℕ) → take_pre (text a) m i f ≡ Some None) (λ f none. none m) t others)
 
-  module _ {A : Type 0} (levels : List (List A)) where
+  module _ (levels : List (List LevelPart)) where
     pub pre_section : (s t : List Fact) (xs : List (List (List (List Cell)))) → read_each (read_pre p names levels) 0 (length p.preds) s ≡ Ok (xs, t)
         → (s ≡ pre_facts p names xs ++ t) × AreEach (length p.preds) (λ a. AreEach (length (items_of levels a)) (λ _. AllByRecursion (HasWidth (arity_in p a)))) xs
     pre_section s t xs e =
@@ -273,37 +273,37 @@ module _ (p : Listing) (names : List (List ℕ)) where
         0 (length p.preds) xs t h.count (omega arith) h.each
         (λ j below. all_weaker (λ f. 7 < kind f) (λ f. (m i : ℕ) → take_pre (text j) m i f ≡ Some None) (λ f late. no_pre (text j) f late) t later)
 
-  module _ (levels : List (List LevelPart)) (comps : Partition) where
-    pub refuted_section : (s t : List Fact) (xs : List (Option Refutation)) → read_each (read_refutation p names comps levels) 0 (length p.preds) s ≡ Ok (xs, t)
-        → (s ≡ refuted_facts p names xs ++ t) × AreEach (length p.preds) (IsRefutation p comps levels) xs
-    refuted_section s t xs e =
-        let (whole, count, each) = each_sound (read_refutation p names comps levels) (λ a r. refutation_facts (pred_text p names a) r) (IsRefutation p comps levels)
-        (λ a s t x read. refutation_sound p names comps levels a s t x read)
-        0 (length p.preds) s t xs e in
-        (whole, record { count = count; each = each })
+    module _ (comps : Partition) where
+      pub refuted_section : (s t : List Fact) (xs : List (Option Refutation)) → read_each (read_refutation p names comps levels) 0 (length p.preds) s ≡ Ok (xs, t)
+          → (s ≡ refuted_facts p names xs ++ t) × AreEach (length p.preds) (IsRefutation p comps levels) xs
+      refuted_section s t xs e =
+          let (whole, count, each) = each_sound (read_refutation p names comps levels) (λ a r. refutation_facts (pred_text p names a) r) (IsRefutation p comps levels)
+          (λ a s t x read. refutation_sound p names comps levels a s t x read)
+          0 (length p.preds) s t xs e in
+          (whole, record { count = count; each = each })
 
-    pub refuted_listed : ((a b : ℕ) → a < b → b < length p.preds → pred_text p names b ≢ pred_text p names a) → (xs : List (Option Refutation)) (t : List Fact)
-        → AreEach (length p.preds) (IsRefutation p comps levels) xs → AreLater 8 t
-        → read_each (read_refutation p names comps levels) 0 (length p.preds) (refuted_facts p names xs ++ t) ≡ Ok (xs, t)
-    unfolding take_refuted
-    refuted_listed apart xs t h later =
-        each_back (read_refutation p names comps levels) (λ a r. refutation_facts (pred_text p names a) r) (IsRefutation p comps levels)
-        (λ a f. take_refuted (text a) 0 f ≡ Some None) (length p.preds)
-        (λ a x t below right none. refutation_given p names comps levels a t x right none)
-        (λ a b x less below. none_of a (text b) (apart a b less below) x)
-        0 (length p.preds) xs t h.count (omega arith) h.each
-        (λ j below. all_weaker (λ f. 8 < kind f) (λ f. take_refuted (text j) 0 f ≡ Some None) (λ f late. no_refuted (text j) f late) t later)
-      where
-        none_at : (a clause call : ℕ) (o : Option Point) → AllByRecursion (λ f. take_refuted (text a) 0 f ≡ Some None) (at_facts clause call o)
-        none_at a clause call None = tt
-        none_at a clause call (Some x) = (refl, tt)
+      pub refuted_listed : ((a b : ℕ) → a < b → b < length p.preds → pred_text p names b ≢ pred_text p names a) → (xs : List (Option Refutation)) (t : List Fact)
+          → AreEach (length p.preds) (IsRefutation p comps levels) xs → AreLater 8 t
+          → read_each (read_refutation p names comps levels) 0 (length p.preds) (refuted_facts p names xs ++ t) ≡ Ok (xs, t)
+      unfolding take_refuted
+      refuted_listed apart xs t h later =
+          each_back (read_refutation p names comps levels) (λ a r. refutation_facts (pred_text p names a) r) (IsRefutation p comps levels)
+          (λ a f. take_refuted (text a) 0 f ≡ Some None) (length p.preds)
+          (λ a x t below right none. refutation_given p names comps levels a t x right none)
+          (λ a b x less below. none_of a (text b) (apart a b less below) x)
+          0 (length p.preds) xs t h.count (omega arith) h.each
+          (λ j below. all_weaker (λ f. 8 < kind f) (λ f. take_refuted (text j) 0 f ≡ Some None) (λ f late. no_refuted (text j) f late) t later)
+        where
+          none_at : (a clause call : ℕ) (o : Option Point) → AllByRecursion (λ f. take_refuted (text a) 0 f ≡ Some None) (at_facts clause call o)
+          none_at a clause call None = tt
+          none_at a clause call (Some x) = (refl, tt)
 
-        none_of : (a : ℕ) (q : PredText) → q ≢ text a → (o : Option Refutation) → AllByRecursion (λ f. take_refuted (text a) 0 f ≡ Some None) (refutation_facts q o)
-        none_of a q other None = tt
-        none_of a q other (Some r) = (
-          rw (not_same q (text a) other) refl,
-          all_from (λ f. take_refuted (text a) 0 f ≡ Some None) (λ _ x. point_facts x) (λ _ x. (refl, none_at a x.clause x.call x.at)) 0 r.points,
-        )
+          none_of : (a : ℕ) (q : PredText) → q ≢ text a → (o : Option Refutation) → AllByRecursion (λ f. take_refuted (text a) 0 f ≡ Some None) (refutation_facts q o)
+          none_of a q other None = tt
+          none_of a q other (Some r) = (
+            rw (not_same q (text a) other) refl,
+            all_from (λ f. take_refuted (text a) 0 f ≡ Some None) (λ _ x. point_facts x) (λ _ x. (refl, none_at a x.clause x.call x.at)) 0 r.points,
+          )
 
 module _ (p : Listing) (rows : List Rows) where
   pub proofs_section : (s t : List Fact) (xs : List (List Multipliers)) → read_each (read_proofs p rows) 0 (length p.clauses) s ≡ Ok (xs, t)

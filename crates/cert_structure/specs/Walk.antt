@@ -237,7 +237,7 @@ read_falls p comps rows levels k s = read_calls comps rows levels (head_of p k) 
 unfoldable pub read_cubes : Listing → List (List ℕ) → ℕ → ℕ → List Fact → Read Fact (List (List Cell))
 read_cubes p names a m s = read_many (take_pre (pred_text p names a) m) 0 s
 
-unfoldable pub read_pre : {A : Type 0} → Listing → List (List ℕ) → List (List A) → ℕ → List Fact → Read Fact (List (List (List Cell)))
+unfoldable pub read_pre : Listing → List (List ℕ) → List (List LevelPart) → ℕ → List Fact → Read Fact (List (List (List Cell)))
 read_pre p names levels a s = read_each (read_cubes p names a) 0 (length (items_of levels a)) s
 
 unfoldable pub take_norm : ℕ → Fact → Taken CertNorm

@@ -14,8 +14,8 @@ use std::alloc::Global;
 
 /// The facts of a predicate's ground rows.
 #[derive(Drop)]
-pub struct GroundFact<'a> {
-    pub pred: Named<'a>,
+struct GroundFact<'a> {
+    pred: Named<'a>,
 }
 
 impl Kind<Fact> for GroundFact<'_> {

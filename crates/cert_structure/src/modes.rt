@@ -26,7 +26,7 @@ fn is_mode(arity: u32, mode: &[u32]) -> bool
 }
 
 /// Whether each mode has argument numbers from 1 to the arity, in ascending order.
-fn are_modes(arity: u32, modes: &[Sequence<u32>]) -> bool
+pub fn are_modes(arity: u32, modes: &[Sequence<u32>]) -> bool
     ensures { result ≡ list_all (is_mode arity 0) modes.now }
 {
     modes.iter().all(|mode| is_mode(arity, mode.as_slice()))
@@ -49,8 +49,8 @@ pub fn copied_modes(
 
 /// The facts of a predicate's modes.
 #[derive(Drop)]
-pub struct ModesFact<'a> {
-    pub pred: Named<'a>,
+struct ModesFact<'a> {
+    pred: Named<'a>,
 }
 
 impl Kind<Fact> for ModesFact<'_> {

@@ -16,10 +16,9 @@ use std::alloc::Global;
 
 /// The facts of a predicate's precondition for a mapping.
 #[derive(Drop)]
-pub struct PreFact<'a> {
-    pub pred: Named<'a>,
-    /// The number of the mapping, from 0.
-    pub mapping: u64,
+struct PreFact<'a> {
+    pred: Named<'a>,
+    mapping: u64,
 }
 
 impl Kind<Fact> for PreFact<'_> {

@@ -167,8 +167,8 @@ fn points<'f>(
 
 /// The fact that begins a refutation, and says how many points it has.
 #[derive(Drop)]
-pub struct RefutedFact<'a> {
-    pub pred: Named<'a>,
+struct RefutedFact<'a> {
+    pred: Named<'a>,
 }
 
 impl Kind<Fact> for RefutedFact<'_> {

@@ -19,8 +19,8 @@ use termination_model::SizeRows;
 
 /// The facts of a predicate's size rows.
 #[derive(Drop)]
-pub struct RowFact<'a> {
-    pub pred: Named<'a>,
+struct RowFact<'a> {
+    pred: Named<'a>,
 }
 
 impl Kind<Fact> for RowFact<'_> {
@@ -102,10 +102,9 @@ pub fn rows_of(rows: &SizeRows, pred: PredId) -> u64
 
 /// The facts of the proofs for a clause, each with `rows` multipliers.
 #[derive(Drop)]
-pub struct ProofFact {
-    /// The number of the clause, from 0.
-    pub clause: u64,
-    pub rows: u128,
+struct ProofFact {
+    clause: u64,
+    rows: u128,
 }
 
 impl Kind<Fact> for ProofFact {

@@ -43,9 +43,9 @@ impl Writer<Fact> for GroundsOf<'_> {
 
 /// The ground rows of predicates.
 #[derive(Drop)]
-pub struct Grounds<'a> {
-    pub p: &'a Program,
-    pub names: &'a Names,
+pub(crate) struct Grounds<'a> {
+    pub(crate) p: &'a Program,
+    pub(crate) names: &'a Names,
 }
 
 impl Writer<Fact> for Grounds<'_> {

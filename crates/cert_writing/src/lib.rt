@@ -1,7 +1,7 @@
 //! The facts of a certificate's parts, in the order of the format.
 //!
 //! `facts_of` is the other direction of `parts_of` of cert_structure, which finds the same parts in these facts.
-//! `Writer` and `write_each` are for any type of facts: those that `lex_certificate` alone has are written by them too.
+//! `Writer` and `write_each` are for any type of facts: those of `lex_certificate` are written by them too.
 #![tactic(auto)]
 
 mod fields;
@@ -14,11 +14,6 @@ mod size_rows;
 mod writer;
 mod writing;
 
-pub use fields::{counted, numbers};
-pub use ground_rows::Grounds;
-pub use modes::Modes;
-pub use preconditions::Pres;
-pub use refutations::Refutations;
-pub use size_rows::{Proofs, Sizes};
+pub use fields::{cells, counted, numbers, row_numbers};
 pub use writer::{Writer, append, write_each};
 pub use writing::facts_of;

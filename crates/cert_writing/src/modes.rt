@@ -13,9 +13,9 @@ use std::alloc::{AllocError, Global};
 
 /// The modes of predicates.
 #[derive(Drop)]
-pub struct Modes<'a> {
-    pub p: &'a Program,
-    pub names: &'a Names,
+pub(crate) struct Modes<'a> {
+    pub(crate) p: &'a Program,
+    pub(crate) names: &'a Names,
 }
 
 impl Writer<Fact> for Modes<'_> {

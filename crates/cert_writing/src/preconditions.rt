@@ -73,9 +73,9 @@ impl Writer<Fact> for PresOf<'_> {
 
 /// The preconditions of predicates.
 #[derive(Drop)]
-pub struct Pres<'a> {
-    pub p: &'a Program,
-    pub names: &'a Names,
+pub(crate) struct Pres<'a> {
+    pub(crate) p: &'a Program,
+    pub(crate) names: &'a Names,
 }
 
 impl Writer<Fact> for Pres<'_> {

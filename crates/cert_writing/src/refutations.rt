@@ -49,9 +49,9 @@ impl Writer<Fact> for Points {
 
 /// The refutations of components, by their first predicates.
 #[derive(Drop)]
-pub struct Refutations<'a> {
-    pub p: &'a Program,
-    pub names: &'a Names,
+pub(crate) struct Refutations<'a> {
+    pub(crate) p: &'a Program,
+    pub(crate) names: &'a Names,
 }
 
 impl Writer<Fact> for Refutations<'_> {

@@ -44,9 +44,9 @@ impl Writer<Fact> for SizeRowsOf<'_> {
 
 /// The size rows of predicates.
 #[derive(Drop)]
-pub struct Sizes<'a> {
-    pub p: &'a Program,
-    pub names: &'a Names,
+pub(crate) struct Sizes<'a> {
+    pub(crate) p: &'a Program,
+    pub(crate) names: &'a Names,
 }
 
 impl Writer<Fact> for Sizes<'_> {
@@ -96,7 +96,7 @@ impl Writer<Fact> for ProofsOf {
 
 /// The proofs of clauses.
 #[derive(Drop)]
-pub struct Proofs {}
+pub(crate) struct Proofs {}
 
 impl Writer<Fact> for Proofs {
     type Item = Sequence<Multipliers>;

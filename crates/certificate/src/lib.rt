@@ -20,8 +20,6 @@ pub use cell::CertCell;
 pub use certificate::{Certificate, MOST_BYTES, one_text};
 pub use fact::Fact;
 pub use fault::CertFault;
-pub use field::Field;
 pub use how::CertHow;
 pub use norm::CertNorm;
 pub use pred_text::PredText;
-pub use printing::{print_fact, print_last, print_part};

@@ -13,8 +13,8 @@ pub fn print_fact(fact: &Fact, out: &mut Vec<u8>) -> Result<(), AllocError>
     ensures { OnOk result (out.new.items ≡ out.old.items ++ fact_text fact.now) }
 {
     match fact {
-        Fact::Cti { version } => print_last(out, b"cti(", version),
-        Fact::Norm { norm } => print_last(out, b"norm(", norm),
+        Fact::Cti { version } => one(out, b"cti(", version),
+        Fact::Norm { norm } => one(out, b"norm(", norm),
         Fact::Terminates { pred, modes } => two(out, b"terminates(", pred, modes),
         Fact::Size { pred, index, row } => three(out, b"size(", pred, index, row),
         Fact::By {
@@ -37,7 +37,7 @@ pub fn print_fact(fact: &Fact, out: &mut Vec<u8>) -> Result<(), AllocError>
             scale,
             multipliers,
         } => {
-            print_part(out, b"falls(", clause)?;
+            field(out, b"falls(", clause)?;
             four(out, b",", call, mapping, scale, multipliers)
         }
         Fact::Pre {
@@ -79,7 +79,7 @@ fn print_other(fact: &Fact, out: &mut Vec<u8>) -> Result<(), AllocError>
 }
 
 /// Appends a text and a part after it.
-pub fn print_part<T: Field>(out: &mut Vec<u8>, before: &[u8], part: &T) -> Result<(), AllocError>
+fn field<T: Field>(out: &mut Vec<u8>, before: &[u8], part: &T) -> Result<(), AllocError>
     ensures { OnOk result (out.new.items ≡ out.old.items ++ before.now ++ T.shown part.now) }
 {
     out.extend_from_slice(before)?;
@@ -98,16 +98,16 @@ fn mark(out: &mut Vec<u8>, before: &[u8], step: &u64) -> Result<(), AllocError>
     ensures { OnOk result (out.new.items ≡ out.old.items ++ before.now ++ decimal step.now
         ++ codes ")).\n") }
 {
-    print_part(out, before, step)?;
+    field(out, before, step)?;
     out.extend_from_slice(b")).\n")
 }
 
-/// Appends a text, the last part of a line after it, and the end of the line.
-pub fn print_last<A: Field>(out: &mut Vec<u8>, before: &[u8], a: &A) -> Result<(), AllocError>
+/// Appends a line with one part.
+fn one<A: Field>(out: &mut Vec<u8>, before: &[u8], a: &A) -> Result<(), AllocError>
     ensures { OnOk result (out.new.items ≡ out.old.items ++ before.now ++ A.shown a.now
         ++ codes ").\n") }
 {
-    print_part(out, before, a)?;
+    field(out, before, a)?;
     close(out)
 }
 
@@ -116,8 +116,8 @@ fn two<A: Field, B: Field>(out: &mut Vec<u8>, before: &[u8], a: &A, b: &B) -> Re
     ensures { OnOk result (out.new.items ≡ out.old.items ++ before.now ++ A.shown a.now ++ codes ","
         ++ B.shown b.now ++ codes ").\n") }
 {
-    print_part(out, before, a)?;
-    print_last(out, b",", b)
+    field(out, before, a)?;
+    one(out, b",", b)
 }
 
 /// Appends a line with three parts.
@@ -131,7 +131,7 @@ fn three<A: Field, B: Field, C: Field>(
     ensures { OnOk result (out.new.items ≡ out.old.items ++ before.now ++ A.shown a.now ++ codes ","
         ++ B.shown b.now ++ codes "," ++ C.shown c.now ++ codes ").\n") }
 {
-    print_part(out, before, a)?;
+    field(out, before, a)?;
     two(out, b",", b, c)
 }
 
@@ -148,6 +148,6 @@ fn four<A: Field, B: Field, C: Field, D: Field>(
         ++ B.shown b.now ++ codes "," ++ C.shown c.now ++ codes "," ++ D.shown d.now
         ++ codes ").\n") }
 {
-    print_part(out, before, a)?;
+    field(out, before, a)?;
     three(out, b",", b, c, d)
 }

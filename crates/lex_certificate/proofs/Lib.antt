@@ -1,7 +1,6 @@
 pub mod LoopLemmas
 pub mod PartsLemmas
 pub mod KindLemmas
-pub mod SharedLemmas
 pub mod TakeLemmas
 pub mod StuckLemmas
 pub mod ListLemmas

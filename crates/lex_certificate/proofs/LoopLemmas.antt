@@ -14,7 +14,7 @@ use Rattle.number_tests.specs.declared.level_part.LevelPart.{LevelPart}
 use Rattle.number_tests.specs.declared.pair_point.PairPoint.{PairPoint}
 use Rattle.lex_certificate.specs.declared.fact.LexFact.{LexFact}
 use Rattle.lex_certificate.specs.Shape.{lists_of_call}
-use Rattle.lex_certificate.specs.Walk.{taken_shared, take_level, take_point, read_lists, read_own, read_levels, read_points, read_call, read_calls}
+use Rattle.lex_certificate.specs.Walk.{take_level, take_point, read_lists, read_own, read_levels, read_points, read_call, read_calls}
 
 -- the lists that are read as long as there is a first measure
 module _ (pred : PredText) (xs : List (List LevelPart)) (m n : ℕ) (s : List LexFact) where
@@ -57,11 +57,11 @@ module _ (p : Listing) (comps : Partition) (a : ℕ) (xs : List PairPoint) (last
   unfolding read_points
   points_end e = rw (e, append-nil xs) refl
 
-  pub points_err : (n : ℕ) (w : Wrong) → m ≡ suc n → read_next (taken_shared (take_point p comps a last)) 0 s ≡ Err w → with_all xs (read_points p comps a last m s) ≡ Err w
+  pub points_err : (n : ℕ) (w : Wrong) → m ≡ suc n → read_next (take_point p comps a last) 0 s ≡ Err w → with_all xs (read_points p comps a last m s) ≡ Err w
   unfolding read_points
   points_err n w e bad = rw (e, bad) refl
 
-  pub points_more : (n : ℕ) (x : PairPoint) (t : List LexFact) → m ≡ suc n → read_next (taken_shared (take_point p comps a last)) 0 s ≡ Ok (x, t)
+  pub points_more : (n : ℕ) (x : PairPoint) (t : List LexFact) → m ≡ suc n → read_next (take_point p comps a last) 0 s ≡ Ok (x, t)
       → with_all (xs ++ x ∷ []) (read_points p comps a (x.clause, x.call) n t) ≡ with_all xs (read_points p comps a last m s)
   unfolding read_points
   points_more n x t e read = rw (e, read) (one_more xs x (read_points p comps a (x.clause, x.call) n t))

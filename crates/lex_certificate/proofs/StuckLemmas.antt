@@ -7,15 +7,13 @@ use Rattle.std.specs.Prelude.{ℤ, pos}
 use Rattle.std.specs.Ordering.{int_eq}
 use Rattle.std.specs.List.{AllByRecursion}
 use Rattle.call_components.specs.Partition.{Partition}
-use Rattle.cert_structure.specs.Order.{pred_text, point_facts, refutation_facts}
+use Rattle.cert_structure.specs.Order.{pred_text}
 use Rattle.cert_structure.specs.Shape.{vars_of, items_of, first_of, is_recursive, is_pair, IsBefore, place_of_pair, PairsAscend, IsPoint}
-use Rattle.cert_structure.specs.Walk.{is_amount, are_amounts, is_before, point_read, take_refuted}
+use Rattle.cert_structure.specs.Walk.{is_amount, are_amounts, is_before, point_read}
 use Rattle.cert_structure.proofs.PointLemmas.{before_is}
-use Rattle.cert_structure.proofs.TakeLemmas.{other_taken, placed, kept_is, amount_is, amount_back, amounts_are, amounts_back, refuted_taken, refuted_given}
-use Rattle.certificate.specs.declared.fact.Fact.{Fact}
-use Rattle.certificate.specs.declared.fact.Fact.TheVariants as fact
+use Rattle.cert_structure.proofs.TakeLemmas.{other_taken, placed, kept_is, amount_is, amount_back, amounts_are, amounts_back}
 use Rattle.cti_terms.specs.Listing.{Listing, numbered}
-use Rattle.fact_reading.specs.Numbered.{facts_from, lines_from}
+use Rattle.fact_reading.specs.Numbered.{lines_from}
 use Rattle.fact_reading.specs.Walk.{Taken, result_map, with_first, read_next}
 use Rattle.fact_reading.proofs.SectionLemmas.{same_some, same_ok, err_ok, bound, mapped, IsTaken, IsBack, next_sound, next_back}
 use Rattle.linear_rows.specs.declared.point.Point.{Point}
@@ -23,19 +21,11 @@ use Rattle.number_tests.specs.declared.level_part.LevelPart.{LevelPart}
 use Rattle.number_tests.specs.declared.pair_point.PairPoint.{PairPoint}
 use Rattle.number_tests.specs.declared.refutation.Refutation.{Refutation}
 use Rattle.lex_certificate.specs.declared.fact.LexFact.{LexFact}
-use Rattle.lex_certificate.specs.declared.fact.LexFact.TheVariants as lex
-use Rattle.lex_certificate.specs.Order.{shared}
+use Rattle.lex_certificate.specs.Order.{point_line, stuck_lines}
 use Rattle.lex_certificate.specs.Shape.{IsStuckPoint, IsOpen, IsStuckSet}
-use Rattle.lex_certificate.specs.Walk.{taken_shared, stuck_point, stuck_read, take_point, read_points, set_read, read_set, is_open, read_stuck}
+use Rattle.lex_certificate.specs.Walk.{stuck_point, stuck_read, take_point, take_refuted, read_points, set_read, read_set, is_open, read_stuck}
 use Rattle.lex_certificate.proofs.KindLemmas.{split_point, IsPointFact}
-use Rattle.lex_certificate.proofs.TakeLemmas.{shared_taken, shared_given}
-
--- the fact of a pair with one point
-abbrev point_line : PairPoint → Fact
-point_line x = fact.Point x.clause x.call x.point.t x.point.w
-
-abbrev point_lines : ℕ → List PairPoint → List LexFact
-point_lines i xs = lines_from i (λ _ x. lex.Shared (point_line x)) xs
+use Rattle.lex_certificate.proofs.TakeLemmas.{refuted_taken, refuted_given}
 
 -- pairs in order
 before_back : (q r : ℕ × ℕ) → IsBefore q r → is_before q r ≡ true
@@ -113,7 +103,7 @@ module _ (p : Listing) (comps : Partition) (a : ℕ) where
       ) (ap (λ z. Some (Some (record { clause = y.clause; call = y.call; point = y.point; at = z }))) (sym h.right.single))
 
   points_sound : (n : ℕ) (last : ℕ × ℕ) (i : ℕ) (s t : List LexFact) (xs : List PairPoint) → read_points p comps a last n s ≡ Ok (xs, t)
-      → (s ≡ point_lines i xs ++ t) × (length xs ≡ n) × PairsAscend last xs × AllByRecursion (IsStuckPoint p comps a) xs
+      → (s ≡ lines_from i (λ _ x. point_line x) xs ++ t) × (length xs ≡ n) × PairsAscend last xs × AllByRecursion (IsStuckPoint p comps a) xs
   unfolding read_points
   points_sound zero last i s t xs e =
       let both : ([], s) ≡ (xs, t) = same_ok _ _ e in
@@ -121,31 +111,26 @@ module _ (p : Listing) (comps : Partition) (a : ℕ) where
       let rest : s ≡ t = ap (λ q. q.1) both in
       rw (← first, ← rest) (refl, refl, tt, tt)
   points_sound (suc n) last i s t xs e =
-      bound (λ x. result_map (with_first x.0) (read_points p comps a (x.0.clause, x.0.call) n x.1)) (read_next (taken_shared (take_point p comps a last)) 0 s) (xs, t) e λ q read more.
+      bound (λ x. result_map (with_first x.0) (read_points p comps a (x.0.clause, x.0.call) n x.1)) (read_next (take_point p comps a last) 0 s) (xs, t) e λ q read more.
       mapped (with_first q.0) (read_points p comps a (q.0.clause, q.0.call) n q.1) (xs, t) more λ r here both.
-      let (one, right) = next_sound (taken_shared (take_point p comps a last)) (λ _ y. lex.Shared (point_line y)) (IsNext last) (shared_taken _ _ _ (point_taken last)) 0 s q.1 q.0 read in
+      let (one, right) = next_sound (take_point p comps a last) (λ _ y. point_line y) (IsNext last) (point_taken last) 0 s q.1 q.0 read in
       let (others, count, ascend, all) = points_sound n (q.0.clause, q.0.call) (suc i) q.1 r.1 r.0 here in
       let first : q.0 ∷ r.0 ≡ xs = ap (λ z. z.0) both in
       let rest : r.1 ≡ t = ap (λ z. z.1) both in
-      rw (← first, ← rest) (one ∙ ap (λ u. lex.Shared (point_line q.0) ∷ u) others, ap suc count, (right.before, ascend), (right.right, all))
+      rw (← first, ← rest) (one ∙ ap (λ u. point_line q.0 ∷ u) others, ap suc count, (right.before, ascend), (right.right, all))
 
   points_given : (n : ℕ) (last : ℕ × ℕ) (i : ℕ) (xs : List PairPoint) (t : List LexFact) → length xs ≡ n → PairsAscend last xs → AllByRecursion (IsStuckPoint p comps a) xs
-      → read_points p comps a last n (point_lines i xs ++ t) ≡ Ok (xs, t)
+      → read_points p comps a last n (lines_from i (λ _ x. point_line x) xs ++ t) ≡ Ok (xs, t)
   unfolding read_points
   points_given zero last i [] t count ascend all = refl
   points_given zero last i (x ∷ xs) t count ascend all = absurd (omega (arith, count))
   points_given (suc n) last i [] t count ascend all = absurd (omega (arith, count))
   points_given (suc n) last i (x ∷ xs) t count ascend all =
       rw (
-        next_back (taken_shared (take_point p comps a last)) (λ _ y. lex.Shared (point_line y)) (IsNext last) (shared_given (take_point p comps a last) (λ _ y. point_line y) (IsNext last) (point_given last)) 0 x (point_lines (suc i) xs ++ t)
+        next_back (take_point p comps a last) (λ _ y. point_line y) (IsNext last) (point_given last) 0 x (lines_from (suc i) (λ _ x. point_line x) xs ++ t)
             (record { before = ascend.0; right = all.0 }),
         points_given n (place_of_pair x) (suc i) xs t (omega (arith, count)) ascend.1 all.1,
       ) refl
-
--- points of pairs that have no second one
-single_points : (p : Listing) (comps : Partition) (a i : ℕ) (xs : List PairPoint) → AllByRecursion (IsStuckPoint p comps a) xs → shared (facts_from i (λ _ x. point_facts x) xs) ≡ point_lines i xs
-single_points p comps a i [] all = refl
-single_points p comps a i (x ∷ xs) all = rw (all.0.single) (ap (λ u. lex.Shared (point_line x) ∷ u) (single_points p comps a (suc i) xs all.1))
 
 abbrev as_set : List PairPoint × List LexFact → Option Refutation × List LexFact
 as_set x = (Some (record { points = x.0 }), x.1)
@@ -157,17 +142,17 @@ IsSet p comps a (Some r) = (1 ≤ length r.points) × PairsAscend (0, 0) r.point
 
 module _ (p : Listing) (names : List (List ℕ)) (comps : Partition) (a : ℕ) where
   set_sound : (s t : List LexFact) (o : Option Refutation) → read_set p names comps a s ≡ Ok (o, t)
-      → (s ≡ shared (refutation_facts (pred_text p names a) o) ++ t) × IsSet p comps a o
+      → (s ≡ stuck_lines (pred_text p names a) o ++ t) × IsSet p comps a o
   unfolding read_set
   set_sound [] t o e =
       let both : (None, []) ≡ (o, t) = same_ok _ _ e in
       let first : None ≡ o = ap (λ q. q.0) both in
       let rest : [] ≡ t = ap (λ q. q.1) both in
       rw (← first, ← rest) (refl, tt)
-  set_sound (f ∷ s) t o e = go (taken_shared (take_refuted (pred_text p names a)) 0 f) refl e
+  set_sound (f ∷ s) t o e = go (take_refuted (pred_text p names a) 0 f) refl e
     where
-      go : (c : Taken ℕ) → taken_shared (take_refuted (pred_text p names a)) 0 f ≡ c → set_read (λ n. read_points p comps a (0, 0) n s) f s c ≡ Ok (o, t)
-          → (f ∷ s ≡ shared (refutation_facts (pred_text p names a) o) ++ t) × IsSet p comps a o
+      go : (c : Taken ℕ) → take_refuted (pred_text p names a) 0 f ≡ c → set_read (λ n. read_points p comps a (0, 0) n s) f s c ≡ Ok (o, t)
+          → (f ∷ s ≡ stuck_lines (pred_text p names a) o ++ t) × IsSet p comps a o
       go None taken read = err_ok _ (o, t) read
       go (Some None) taken read =
           let both : (None, f ∷ s) ≡ (o, t) = same_ok _ _ read in
@@ -176,23 +161,19 @@ module _ (p : Listing) (names : List (List ℕ)) (comps : Partition) (a : ℕ) w
           rw (← first, ← rest) (refl, tt)
       go (Some (Some n)) taken read =
           mapped as_set (read_points p comps a (0, 0) n s) (o, t) read λ q here both.
-          let (begins, some) = shared_taken _ _ _ (refuted_taken (pred_text p names a)) 0 f n taken in
+          let (begins, some) = refuted_taken (pred_text p names a) 0 f n taken in
           let (others, count, ascend, all) = points_sound p comps a n (0, 0) 0 s q.1 q.0 here in
           let first : Some (record { points = q.0 }) ≡ o = ap (λ z. z.0) both in
           let rest : q.1 ≡ t = ap (λ z. z.1) both in
-          rw (← first, ← rest) (rw (begins, others, ← count, single_points p comps a 0 q.0 all) refl, (rw (← count) at some, ascend, all))
+          rw (← first, ← rest) (rw (begins, others, ← count) refl, (rw (← count) at some, ascend, all))
 
-  set_given : (t : List LexFact) (o : Option Refutation) → IsSet p comps a o → AllByRecursion (λ f. taken_shared (take_refuted (pred_text p names a)) 0 f ≡ Some None) t
-      → read_set p names comps a (shared (refutation_facts (pred_text p names a) o) ++ t) ≡ Ok (o, t)
+  set_given : (t : List LexFact) (o : Option Refutation) → IsSet p comps a o → AllByRecursion (λ f. take_refuted (pred_text p names a) 0 f ≡ Some None) t
+      → read_set p names comps a (stuck_lines (pred_text p names a) o ++ t) ≡ Ok (o, t)
   unfolding read_set
   set_given [] None h others = refl
   set_given (f ∷ t) None h others = rw others.0 refl
   set_given t (Some r) h others =
-      rw (
-        shared_given (take_refuted (pred_text p names a)) (λ _ n. fact.Refuted (pred_text p names a) n) (λ n. 1 ≤ n) (refuted_given (pred_text p names a)) 0 (length r.points) h.0,
-        single_points p comps a 0 r.points h.2,
-        points_given p comps a (length r.points) (0, 0) 0 r.points t refl h.1 h.2,
-      ) refl
+      rw (refuted_given (pred_text p names a) 0 (length r.points) h.0, points_given p comps a (length r.points) (0, 0) 0 r.points t refl h.1 h.2) refl
 
 open_is : (comps : Partition) (lists : List (List (List LevelPart))) (a : ℕ) → is_open comps lists a ≡ true → IsOpen comps lists a
 open_is comps lists a e =
@@ -205,7 +186,7 @@ open_back comps lists a h = rw (h.recursive, eq-eqb (first_of comps a) a h.first
 
 module _ (p : Listing) (names : List (List ℕ)) (comps : Partition) (lists : List (List (List LevelPart))) (a : ℕ) where
   pub stuck_sound : (s t : List LexFact) (o : Option Refutation) → read_stuck p names comps lists a s ≡ Ok (o, t)
-      → (s ≡ shared (refutation_facts (pred_text p names a) o) ++ t) × IsStuckSet p comps lists a o
+      → (s ≡ stuck_lines (pred_text p names a) o ++ t) × IsStuckSet p comps lists a o
   unfolding read_stuck
   stuck_sound s t o e = go (is_open comps lists a) refl e
     where
@@ -214,7 +195,7 @@ module _ (p : Listing) (names : List (List ℕ)) (comps : Partition) (lists : Li
       shaped (Some r) opened h = (open_is comps lists a opened, h.0, h.1, h.2)
 
       go : (b : Bool) → is_open comps lists a ≡ b → (if b then read_set p names comps a s else Ok (None, s)) ≡ Ok (o, t)
-          → (s ≡ shared (refutation_facts (pred_text p names a) o) ++ t) × IsStuckSet p comps lists a o
+          → (s ≡ stuck_lines (pred_text p names a) o ++ t) × IsStuckSet p comps lists a o
       go true opened read = let (whole, right) = set_sound p names comps a s t o read in (whole, shaped o opened right)
       go false opened read =
           let both : (None, s) ≡ (o, t) = same_ok _ _ read in
@@ -223,8 +204,8 @@ module _ (p : Listing) (names : List (List ℕ)) (comps : Partition) (lists : Li
           rw (← first, ← rest) (refl, tt)
 
   pub stuck_given : (t : List LexFact) (o : Option Refutation) → IsStuckSet p comps lists a o
-      → AllByRecursion (λ f. taken_shared (take_refuted (pred_text p names a)) 0 f ≡ Some None) t
-      → read_stuck p names comps lists a (shared (refutation_facts (pred_text p names a) o) ++ t) ≡ Ok (o, t)
+      → AllByRecursion (λ f. take_refuted (pred_text p names a) 0 f ≡ Some None) t
+      → read_stuck p names comps lists a (stuck_lines (pred_text p names a) o ++ t) ≡ Ok (o, t)
   unfolding read_stuck
   stuck_given t None h others = go (is_open comps lists a)
     where

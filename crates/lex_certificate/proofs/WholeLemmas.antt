@@ -5,7 +5,7 @@ use Rattle.std.proofs.lemmas.Option.{none-some}
 use Rattle.std.specs.Prelude.{pos}
 use Rattle.std.specs.List.{list_all}
 use Rattle.call_components.specs.Partition.{Partition, AreComponents}
-use Rattle.cert_structure.specs.Order.{pred_text, mode_facts, size_facts, proof_facts, ground_facts, pre_facts, refuted_facts}
+use Rattle.cert_structure.specs.Order.{pred_text}
 use Rattle.cert_structure.proofs.ComponentLemmas.{first_le}
 use Rattle.cti_terms.specs.Listing.{Listing}
 use Rattle.fact_reading.specs.Walk.{◌>>=◌, Read, read_each, read_next}
@@ -13,7 +13,7 @@ use Rattle.fact_reading.proofs.SectionLemmas.{same_some, same_ok, bound, all_bot
 use Rattle.lex_certificate.specs.declared.fact.LexFact.{LexFact}
 use Rattle.lex_certificate.specs.declared.fact.LexFact.TheVariants as lex
 use Rattle.lex_certificate.specs.declared.parts.LexParts.{LexParts}
-use Rattle.lex_certificate.specs.Order.{shared, level_facts, drop_facts, listed, is_note}
+use Rattle.lex_certificate.specs.Order.{mode_facts, size_facts, proof_facts, ground_facts, level_facts, drop_facts, pre_facts, stuck_facts, listed, is_note}
 use Rattle.lex_certificate.specs.Shape.{HaveShape}
 use Rattle.lex_certificate.specs.Structure.{IsStructured, AreNotes}
 use Rattle.lex_certificate.specs.Walk.{with_notes, take_version, read_whole, read_sections, read_modes, read_rows, read_proofs, read_grounds, read_levels, read_drops, read_pre, read_stuck, read_parts}
@@ -67,16 +67,16 @@ module _ (p : Listing) (names : List (List ℕ)) (comps : Partition) (h : AreCom
         whole0
             ∙ ap (λ u. lex.Ctilex (pos 1) ∷ u)
             (whole1
-            ∙ ap (λ u. shared (mode_facts p names modes.0) ++ u)
+            ∙ ap (λ u. mode_facts p names modes.0 ++ u)
             (whole2
-            ∙ ap (λ u. shared (size_facts p names rows.0) ++ u)
+            ∙ ap (λ u. size_facts p names rows.0 ++ u)
             (whole3
-            ∙ ap (λ u. shared (proof_facts proofs.0) ++ u)
+            ∙ ap (λ u. proof_facts proofs.0 ++ u)
             (whole4
-            ∙ ap (λ u. shared (ground_facts p names grounds.0) ++ u)
+            ∙ ap (λ u. ground_facts p names grounds.0 ++ u)
             (own5
             ∙ ap (λ u. level_facts p names lists.0 ++ u)
-            (whole6 ∙ ap (λ u. drop_facts drops.0 ++ u) (whole7 ∙ ap (λ u. shared (pre_facts p names cubes.0) ++ u) whole8))))))),
+            (whole6 ∙ ap (λ u. drop_facts drops.0 ++ u) (whole7 ∙ ap (λ u. pre_facts p names cubes.0 ++ u) whole8))))))),
         record {
           modes = right1;
           rows = right2;
@@ -93,20 +93,20 @@ module _ (p : Listing) (names : List (List ℕ)) (comps : Partition) (h : AreCom
       → read_parts p names comps (listed p names parts notes) ≡ Ok (parts, notes)
   unfolding read_parts
   parts_back apart parts notes shape are =
-      let s7 = shared (refuted_facts p names parts.stuck) ++ notes in
-      let s6 = shared (pre_facts p names parts.preconditions) ++ s7 in
+      let s7 = stuck_facts p names parts.stuck ++ notes in
+      let s6 = pre_facts p names parts.preconditions ++ s7 in
       let s5 = drop_facts parts.drops ++ s6 in
       let s4 = level_facts p names parts.lists ++ s5 in
-      let s3 = shared (ground_facts p names parts.grounds) ++ s4 in
-      let s2 = shared (proof_facts parts.row_proofs) ++ s3 in
-      let s1 = shared (size_facts p names parts.rows) ++ s2 in
-      let s0 = shared (mode_facts p names parts.modes) ++ s1 in
-      let late7 : (m : ℕ) → m < 8 → AreLater m s7 = λ m few. all_both (λ f. m < kind f) (shared (refuted_facts p names parts.stuck)) notes (stuck_later p names m few parts.stuck) (notes_later m (omega (arith, few)) notes are) in
-      let late6 : (m : ℕ) → m < 7 → AreLater m s6 = λ m few. all_both (λ f. m < kind f) (shared (pre_facts p names parts.preconditions)) s7 (pre_later p names m few parts.preconditions) (late7 m (omega (arith, few))) in
+      let s3 = ground_facts p names parts.grounds ++ s4 in
+      let s2 = proof_facts parts.row_proofs ++ s3 in
+      let s1 = size_facts p names parts.rows ++ s2 in
+      let s0 = mode_facts p names parts.modes ++ s1 in
+      let late7 : (m : ℕ) → m < 8 → AreLater m s7 = λ m few. all_both (λ f. m < kind f) (stuck_facts p names parts.stuck) notes (stuck_later p names m few parts.stuck) (notes_later m (omega (arith, few)) notes are) in
+      let late6 : (m : ℕ) → m < 7 → AreLater m s6 = λ m few. all_both (λ f. m < kind f) (pre_facts p names parts.preconditions) s7 (pre_later p names m few parts.preconditions) (late7 m (omega (arith, few))) in
       let late5 : (m : ℕ) → m < 6 → AreLater m s5 = λ m few. all_both (λ f. m < kind f) (drop_facts parts.drops) s6 (drops_later m few parts.drops) (late6 m (omega (arith, few))) in
       let late4 : (m : ℕ) → m < 5 → AreLater m s4 = λ m few. all_both (λ f. m < kind f) (level_facts p names parts.lists) s5 (levels_later p names m few parts.lists) (late5 m (omega (arith, few))) in
-      let late3 : (m : ℕ) → m < 4 → AreLater m s3 = λ m few. all_both (λ f. m < kind f) (shared (ground_facts p names parts.grounds)) s4 (grounds_later p names m few parts.grounds) (late4 m (omega (arith, few))) in
-      let late2 : (m : ℕ) → m < 3 → AreLater m s2 = λ m few. all_both (λ f. m < kind f) (shared (proof_facts parts.row_proofs)) s3 (proofs_later m few parts.row_proofs) (late3 m (omega (arith, few))) in
+      let late3 : (m : ℕ) → m < 4 → AreLater m s3 = λ m few. all_both (λ f. m < kind f) (ground_facts p names parts.grounds) s4 (grounds_later p names m few parts.grounds) (late4 m (omega (arith, few))) in
+      let late2 : (m : ℕ) → m < 3 → AreLater m s2 = λ m few. all_both (λ f. m < kind f) (proof_facts parts.row_proofs) s3 (proofs_later m few parts.row_proofs) (late3 m (omega (arith, few))) in
       ap (λ z. z >>= λ x. read_sections p names comps x.1) (next_back take_version (λ _ v. lex.Ctilex v) _ version_given 0 (pos 1) s0 refl)
       ∙ all_read p names comps s0 (length p.preds) (length p.clauses) refl refl
       parts.modes s1 (modes_listed p names parts.modes s1 shape.modes)

@@ -1,4 +1,5 @@
 pub mod Flat
+pub mod Lines
 pub mod Order
 pub mod Shape
 pub mod Structure

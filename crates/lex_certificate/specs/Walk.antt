@@ -7,9 +7,7 @@ use Rattle.bool_diagrams.specs.declared.cube.Cell.{Cell}
 use Rattle.call_components.specs.Partition.{Partition}
 use Rattle.cert_structure.specs.Order.{pred_text}
 use Rattle.cert_structure.specs.Shape.{arity_in, head_of, body_of, vars_of, rows_of, rows_of_atoms, items_of, is_recursive, first_of, is_pair}
-use Rattle.cert_structure.specs.Walk.{kept, at_place, same_pred, is_before, multipliers_read, level_read, point_read, take_modes, take_row, take_proof, take_ground, take_pre, take_refuted}
-use Rattle.certificate.specs.declared.fact.Fact.{Fact}
-use Rattle.certificate.specs.declared.fact.Fact.TheVariants as fact
+use Rattle.cert_structure.specs.Walk.{kept, at_place, same_pred, is_mode, is_before, row_read, multipliers_read, cube_read, level_read, point_read}
 use Rattle.certificate.specs.declared.pred_text.PredText.{PredText}
 use Rattle.cti_terms.specs.declared.atom_list.Atom.{Atom}
 use Rattle.cti_terms.specs.Listing.{Listing, numbered}
@@ -17,6 +15,7 @@ use Rattle.fact_reading.specs.declared.stop.StructureReason.TheVariants as reaso
 use Rattle.fact_reading.specs.Walk.{◌>>=◌, Read, Taken, result_map, wrong_at, with_first, read_each, read_next, read_many}
 use Rattle.linear_rows.specs.declared.multipliers.Multipliers.{Multipliers}
 use Rattle.linear_rows.specs.declared.point.Point.{Point}
+use Rattle.linear_rows.specs.declared.row.Row.{Row}
 use Rattle.linear_rows.specs.declared.row.Rows.{Rows}
 use Rattle.number_tests.specs.declared.level_part.LevelPart.{LevelPart}
 use Rattle.number_tests.specs.declared.pair_point.PairPoint.{PairPoint}
@@ -32,10 +31,21 @@ unfoldable pub take_version : ℕ → LexFact → Taken ℤ
 take_version i (lex.Ctilex version) = kept (int_eq version (pos 1)) version
 take_version i _ = Some None
 
--- what is taken of a fact that certificates of single mappings have too
-abbrev pub taken_shared : {A : Type 0} → (ℕ → Fact → Taken A) → ℕ → LexFact → Taken A
-taken_shared take i (lex.Shared f) = take i f
-taken_shared take i _ = Some None
+unfoldable pub take_modes : PredText → ℕ → LexFact → Taken (List (List ℕ))
+take_modes pred i (lex.Terminates q modes) = at_place (same_pred q pred) (kept (list_all (is_mode pred.arity 0) modes) modes)
+take_modes pred i _ = Some None
+
+unfoldable pub take_row : PredText → ℕ → LexFact → Taken Row
+take_row pred i (lex.Size q index row) = at_place (same_pred q pred && (index == suc i)) (row_read pred.arity row)
+take_row pred i _ = Some None
+
+unfoldable pub take_proof : ℕ → ℕ → ℕ → LexFact → Taken Multipliers
+take_proof k rows i (lex.By clause index scale list) = at_place ((clause == suc k) && (index == suc i)) (multipliers_read rows scale list)
+take_proof k rows i _ = Some None
+
+unfoldable pub take_ground : PredText → ℕ → LexFact → Taken (List Cell)
+take_ground pred i (lex.Grounds q index cells) = at_place (same_pred q pred && (index == suc i)) (cube_read pred.arity cells)
+take_ground pred i _ = Some None
 
 -- measure i of list m
 unfoldable pub take_level : PredText → ℕ → ℕ → LexFact → Taken LevelPart
@@ -48,6 +58,15 @@ take_drop k j rows m i (lex.Drops clause call list index scale numbers) =
     at_place ((clause == suc k) && ((call == suc j) && ((list == suc m) && (index == suc i)))) (multipliers_read rows scale numbers)
 take_drop k j rows m i _ = Some None
 
+unfoldable pub take_pre : PredText → ℕ → ℕ → LexFact → Taken (List Cell)
+take_pre pred m i (lex.Pre q list index cells) = at_place (same_pred q pred && ((list == suc m) && (index == suc i))) (cube_read pred.arity cells)
+take_pre pred m i _ = Some None
+
+-- the number of points that a stuck set of the predicate has
+unfoldable pub take_refuted : PredText → ℕ → LexFact → Taken ℕ
+take_refuted pred i (lex.Refuted q points) = at_place (same_pred q pred) (kept (nat_le 1 points) points)
+take_refuted pred i _ = Some None
+
 -- a pair with its point, whose t is not 0
 abbrev pub stuck_point : ℕ → ℕ → Point → PairPoint
 stuck_point clause call x = record { clause = clause; call = call; point = x; at = None }
@@ -56,15 +75,15 @@ abbrev pub stuck_read : ℕ → ℕ → ℕ → ℤ → List ℤ → Taken PairP
 stuck_read clause call vars t w = if int_eq t (pos 0) then None else option_map (option_map (stuck_point clause call)) (point_read vars t w)
 
 -- a pair of a predicate's component, after another pair
-unfoldable pub take_point : Listing → Partition → ℕ → ℕ × ℕ → ℕ → Fact → Taken PairPoint
-take_point p comps a last i (fact.Point clause call t w) =
+unfoldable pub take_point : Listing → Partition → ℕ → ℕ × ℕ → ℕ → LexFact → Taken PairPoint
+take_point p comps a last i (lex.Point clause call t w) =
     at_place (is_pair p comps a clause call && is_before last (clause, call)) (stuck_read clause call (vars_of (numbered p.clauses clause)) t w)
 take_point p comps a last i _ = Some None
 
 unfoldable pub read_points : Listing → Partition → ℕ → ℕ × ℕ → ℕ → List LexFact → Read LexFact (List PairPoint)
 read_points p comps a last zero s = Ok ([], s)
 read_points p comps a last (suc n) s =
-    read_next (taken_shared (take_point p comps a last)) 0 s >>= λ x. result_map (with_first x.0) (read_points p comps a (x.0.clause, x.0.call) n x.1)
+    read_next (take_point p comps a last) 0 s >>= λ x. result_map (with_first x.0) (read_points p comps a (x.0.clause, x.0.call) n x.1)
 
 -- the stuck set that a fact begins
 abbrev pub set_read : (ℕ → Read LexFact (List PairPoint)) → LexFact → List LexFact → Taken ℕ → Read LexFact (Option Refutation)
@@ -74,7 +93,7 @@ set_read points f s (Some (Some n)) = result_map (λ x. (Some (record { points =
 
 unfoldable pub read_set : Listing → List (List ℕ) → Partition → ℕ → List LexFact → Read LexFact (Option Refutation)
 read_set p names comps a [] = Ok (None, [])
-read_set p names comps a (f ∷ s) = set_read (λ n. read_points p comps a (0, 0) n s) f s (taken_shared (take_refuted (pred_text p names a)) 0 f)
+read_set p names comps a (f ∷ s) = set_read (λ n. read_points p comps a (0, 0) n s) f s (take_refuted (pred_text p names a) 0 f)
 
 -- whether the predicate is the first one of a recursive component without lists
 abbrev pub is_open : Partition → List (List (List LevelPart)) → ℕ → Bool
@@ -84,17 +103,17 @@ unfoldable pub read_stuck : Listing → List (List ℕ) → Partition → List (
 read_stuck p names comps lists a s = if is_open comps lists a then read_set p names comps a s else Ok (None, s)
 
 unfoldable pub read_modes : Listing → List (List ℕ) → ℕ → List LexFact → Read LexFact (List (List ℕ))
-read_modes p names a s = read_next (taken_shared (take_modes (pred_text p names a))) 0 s
+read_modes p names a s = read_next (take_modes (pred_text p names a)) 0 s
 
 unfoldable pub read_rows : Listing → List (List ℕ) → ℕ → List LexFact → Read LexFact Rows
 read_rows p names a s =
-    result_map (λ x. (record { width = arity_in p a; list = x.0 }, x.1)) (read_many (taken_shared (take_row (pred_text p names a))) 0 s)
+    result_map (λ x. (record { width = arity_in p a; list = x.0 }, x.1)) (read_many (take_row (pred_text p names a)) 0 s)
 
 unfoldable pub read_proofs : Listing → List Rows → ℕ → List LexFact → Read LexFact (List Multipliers)
-read_proofs p rows k s = read_each (read_next (taken_shared (take_proof k (rows_of_atoms rows (body_of p k))))) 0 (rows_of rows (head_of p k)) s
+read_proofs p rows k s = read_each (read_next (take_proof k (rows_of_atoms rows (body_of p k)))) 0 (rows_of rows (head_of p k)) s
 
 unfoldable pub read_grounds : Listing → List (List ℕ) → ℕ → List LexFact → Read LexFact (List (List Cell))
-read_grounds p names a s = read_many (taken_shared (take_ground (pred_text p names a))) 0 s
+read_grounds p names a s = read_many (take_ground (pred_text p names a)) 0 s
 
 -- a list and those after it, where it has a measure
 abbrev pub more_lists : (List LexFact → Read LexFact (List (List LevelPart))) → List LevelPart → List LexFact → Read LexFact (List (List LevelPart))
@@ -150,7 +169,7 @@ unfoldable pub read_drops : Listing → Partition → List Rows → List (List (
 read_drops p comps rows lists k s = read_calls comps rows lists (head_of p k) k 0 0 (body_of p k) s
 
 unfoldable pub read_cubes : Listing → List (List ℕ) → ℕ → ℕ → List LexFact → Read LexFact (List (List Cell))
-read_cubes p names a m s = read_many (taken_shared (take_pre (pred_text p names a) m)) 0 s
+read_cubes p names a m s = read_many (take_pre (pred_text p names a) m) 0 s
 
 unfoldable pub read_pre : Listing → List (List ℕ) → List (List (List LevelPart)) → ℕ → List LexFact → Read LexFact (List (List (List Cell)))
 read_pre p names lists a s = read_each (read_cubes p names a) 0 (length (items_of lists a)) s

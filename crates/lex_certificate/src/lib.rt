@@ -2,13 +2,13 @@
 //!
 //! A certificate is a list of facts. `print` writes their lines, `parts_of` sorts them by predicates and clauses, and
 //! `facts_of` lists the facts of such parts. What parts a certificate has is `IsStructured` of `specs/Structure.antt`.
-//! What certificates of single mappings have too are facts of theirs (`LexFact::Shared`), read and written as there.
 //! `flat_levels` has one mapping for each list, positive where some measure of it is. Whether what a certificate claims is
 //! true is not asked here.
 #![tactic(auto)]
 
 mod drops;
 mod fact;
+mod field;
 mod flat;
 mod grounds;
 mod list_certificate;
@@ -18,16 +18,15 @@ mod parts;
 mod preconditions;
 mod printing;
 mod reading;
-mod shared;
 mod sizes;
 mod stuck;
 mod writing;
 mod written_lists;
+mod written_sets;
 
 pub use fact::LexFact;
 pub use flat::{flat_levels, union_part};
 pub use list_certificate::LexCertificate;
 pub use parts::LexParts;
 pub use reading::{one_reading, one_structure, parts_of};
-pub use shared::push_shared;
 pub use writing::facts_of;

@@ -1,14 +1,46 @@
 //! The modes of predicates.
 
-ghost use Rattle.lex_certificate.specs.Walk.{read_modes};
+ghost use Rattle.std.specs.Prelude.{◌≡◌};
+ghost use Rattle.cert_structure.specs.Walk.{named};
+ghost use Rattle.lex_certificate.specs.Walk.{read_modes, take_modes};
 
 use crate::fact::LexFact;
-use crate::shared::SharedKind;
-use cert_structure::{ModesFact, Named};
+use cert_structure::{Named, are_modes, copied_modes};
 use cti_terms::{Names, Program};
-use fact_reading::{Reader, Stop, first_item};
+use fact_reading::{FactFault, Kind, Reader, Stop, first_item};
 use sequences::Sequence;
 use std::alloc::Global;
+
+/// The facts of a predicate's modes.
+#[derive(Drop)]
+struct ModesFact<'a> {
+    pred: Named<'a>,
+}
+
+impl Kind<LexFact> for ModesFact<'_> {
+    type Item = Sequence<Sequence<u32>>;
+
+    ghost takes = { λ r number fact. take_modes (named r.pred) number fact };
+
+    #[tactic(auto, unfolding(crate::specs::Walk::take_modes))]
+    fn take(
+        &self,
+        alloc: Global,
+        _number: u64,
+        fact: &LexFact,
+    ) -> Result<Option<Sequence<Sequence<u32>>>, FactFault> {
+        let LexFact::Terminates { pred, modes } = fact else {
+            return Ok(None);
+        };
+        if !self.pred.is(pred) {
+            return Ok(None);
+        }
+        if !are_modes(self.pred.arity, modes.as_slice()) {
+            return Err(FactFault::Shape);
+        }
+        Ok(Some(copied_modes(alloc, modes.as_slice())?))
+    }
+}
 
 /// The modes of each predicate.
 #[derive(Drop)]
@@ -29,9 +61,9 @@ impl Reader<LexFact> for Modes<'_> {
         number: u64,
         facts: &'f [LexFact],
     ) -> Result<(Sequence<Sequence<u32>>, &'f [LexFact]), Stop> {
-        let kind = ModesFact {
+        let fact = ModesFact {
             pred: Named::new(self.p, self.names, number),
         };
-        first_item(alloc, &SharedKind { kind }, 0, facts)
+        first_item(alloc, &fact, 0, facts)
     }
 }

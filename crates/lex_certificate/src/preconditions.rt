@@ -1,16 +1,50 @@
 //! The cubes of preconditions.
 
-ghost use Rattle.lex_certificate.specs.Walk.{read_cubes, read_pre};
+ghost use Rattle.std.specs.Prelude.{◌≡◌};
+ghost use Rattle.cert_structure.specs.Walk.{named};
+ghost use Rattle.lex_certificate.specs.Walk.{take_pre, read_cubes, read_pre};
 
 use crate::fact::LexFact;
-use crate::shared::SharedKind;
 use bool_diagrams::Cube;
-use cert_structure::{Named, PreFact, count_of};
+use cert_structure::{Named, count_of, cube, is_number};
 use cti_terms::{Names, Program};
-use fact_reading::{Reader, Stop, each, many};
+use fact_reading::{FactFault, Kind, Reader, Stop, each, many};
 use number_tests::LevelPart;
 use sequences::Sequence;
 use std::alloc::Global;
+
+/// The facts of a predicate's precondition for a list.
+#[derive(Drop)]
+struct PreFact<'a> {
+    pred: Named<'a>,
+    list: u64,
+}
+
+impl Kind<LexFact> for PreFact<'_> {
+    type Item = Cube;
+
+    ghost takes = { λ r number fact. take_pre (named r.pred) r.list number fact };
+
+    #[tactic(auto, unfolding(crate::specs::Walk::take_pre))]
+    fn take(&self, alloc: Global, number: u64, fact: &LexFact) -> Result<Option<Cube>, FactFault> {
+        let LexFact::Pre {
+            pred,
+            list,
+            index,
+            cube: cells,
+        } = fact
+        else {
+            return Ok(None);
+        };
+        if !self.pred.is(pred)
+            || !is_number(u64::from(*list), self.list)
+            || !is_number(*index, number)
+        {
+            return Ok(None);
+        }
+        Ok(Some(cube(alloc, self.pred.arity, cells.as_slice())?))
+    }
+}
 
 /// The preconditions of a predicate, one for each list.
 #[derive(Drop)]
@@ -34,9 +68,9 @@ impl Reader<LexFact> for PredCubes<'_> {
     ) -> Result<(Sequence<Cube>, &'f [LexFact]), Stop> {
         let kind = PreFact {
             pred: Named::new(self.p, self.names, self.pred),
-            mapping: number,
+            list: number,
         };
-        many(alloc, &SharedKind { kind }, facts)
+        many(alloc, &kind, facts)
     }
 }
 

@@ -26,7 +26,6 @@ use crate::sizes::{PredRows, Proofs, rows_into};
 use crate::stuck::StuckSets;
 use call_components::Components;
 use cert_structure::Calls;
-use certificate::Fact;
 use cti_terms::{Names, Program};
 use fact_reading::{FactFault, Kind, Stop, each_into, first_item};
 use std::alloc::{AllocError, Global};
@@ -124,9 +123,11 @@ fn is_note(fact: &LexFact) -> bool
 {
     matches!(
         fact,
-        LexFact::Shared(
-            Fact::Image { .. } | Fact::Step { .. } | Fact::WeakImage { .. } | Fact::WeakStep { .. }
-        ) | LexFact::Blown { .. }
+        LexFact::Image { .. }
+            | LexFact::Step { .. }
+            | LexFact::WeakImage { .. }
+            | LexFact::WeakStep { .. }
+            | LexFact::Blown { .. }
     )
 }
 

@@ -1,18 +1,43 @@
 //! The size rows of predicates, and their proofs.
 
 ghost use Rattle.fact_reading.specs.Filling.{Fills};
+ghost use Rattle.cert_structure.specs.Walk.{named};
 ghost use Rattle.fact_reading.specs.Walk.{read_each};
-ghost use Rattle.lex_certificate.specs.Walk.{read_rows, read_proofs};
+ghost use Rattle.lex_certificate.specs.Walk.{take_row, read_rows, take_proof, read_proofs};
 
 use crate::fact::LexFact;
-use crate::shared::SharedKind;
-use cert_structure::{Named, ProofFact, RowFact, body_at, head_at, rows_of, rows_of_atoms};
+use cert_structure::{
+    Named, body_at, head_at, is_number, multipliers, rows_of, rows_of_atoms, size_row,
+};
 use cti_terms::{Names, Program};
-use fact_reading::{Next, Reader, Stop, each, many};
-use linear_rows::{Multipliers, RowList, Rows};
+use fact_reading::{FactFault, Kind, Next, Reader, Stop, each, many};
+use linear_rows::{Multipliers, Row, RowList, Rows};
 use sequences::Sequence;
 use std::alloc::Global;
 use termination_model::SizeRows;
+
+/// The facts of a predicate's size rows.
+#[derive(Drop)]
+struct RowFact<'a> {
+    pred: Named<'a>,
+}
+
+impl Kind<LexFact> for RowFact<'_> {
+    type Item = Row;
+
+    ghost takes = { λ r number fact. take_row (named r.pred) number fact };
+
+    #[tactic(auto, unfolding(crate::specs::Walk::take_row))]
+    fn take(&self, alloc: Global, number: u64, fact: &LexFact) -> Result<Option<Row>, FactFault> {
+        let LexFact::Size { pred, index, row } = fact else {
+            return Ok(None);
+        };
+        if !self.pred.is(pred) || !is_number(*index, number) {
+            return Ok(None);
+        }
+        Ok(Some(size_row(alloc, self.pred.arity, row.as_slice())?))
+    }
+}
 
 /// The size rows of each predicate.
 #[derive(Drop)]
@@ -34,8 +59,7 @@ impl Reader<LexFact> for PredRows<'_> {
         facts: &'f [LexFact],
     ) -> Result<(Rows, &'f [LexFact]), Stop> {
         let pred = Named::new(self.p, self.names, number);
-        let kind = RowFact { pred };
-        let (rows, rest) = many(alloc, &SharedKind { kind }, facts)?;
+        let (rows, rest) = many(alloc, &RowFact { pred }, facts)?;
         let list = RowList::from_vec(rows.into_vec());
         Ok((
             Rows {
@@ -63,6 +87,41 @@ pub(crate) fn rows_into<'f>(
     Ok(rest)
 }
 
+/// The facts of the proofs for a clause, each with `rows` multipliers.
+#[derive(Drop)]
+struct ProofFact {
+    clause: u64,
+    rows: u128,
+}
+
+impl Kind<LexFact> for ProofFact {
+    type Item = Multipliers;
+
+    ghost takes = { λ r number fact. take_proof r.clause r.rows number fact };
+
+    #[tactic(auto, unfolding(crate::specs::Walk::take_proof))]
+    fn take(
+        &self,
+        alloc: Global,
+        number: u64,
+        fact: &LexFact,
+    ) -> Result<Option<Multipliers>, FactFault> {
+        let LexFact::By {
+            clause,
+            index,
+            scale,
+            multipliers: list,
+        } = fact
+        else {
+            return Ok(None);
+        };
+        if !is_number(u64::from(*clause), self.clause) || !is_number(*index, number) {
+            return Ok(None);
+        }
+        Ok(Some(multipliers(alloc, self.rows, *scale, list.as_slice())?))
+    }
+}
+
 /// The proofs for each clause.
 #[derive(Drop)]
 pub(crate) struct Proofs<'a> {
@@ -86,7 +145,6 @@ impl Reader<LexFact> for Proofs<'_> {
             clause: number,
             rows: rows_of_atoms(self.rows, body_at(self.p, number)),
         };
-        let kind = SharedKind { kind };
         let count = rows_of(self.rows, head_at(self.p, number));
         each(alloc, &Next { kind }, count, facts)
     }

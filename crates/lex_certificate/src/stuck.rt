@@ -1,14 +1,12 @@
 //! The stuck sets of recursive components.
 
 ghost use Rattle.std.specs.Prelude.{◌≡◌};
-ghost use Rattle.cert_structure.specs.Walk.{AgreesKept, pair_end};
+ghost use Rattle.cert_structure.specs.Walk.{AgreesKept, named, pair_end};
 ghost use Rattle.fact_reading.specs.Walk.{Agrees};
-ghost use Rattle.lex_certificate.specs.Walk.{is_open, take_point, stuck_read, read_points, read_set, read_stuck};
+ghost use Rattle.lex_certificate.specs.Walk.{is_open, take_refuted, take_point, stuck_read, read_points, read_set, read_stuck};
 
 use crate::fact::LexFact;
-use crate::shared::SharedKind;
-use cert_structure::{Calls, Named, Pair, RefutedFact, count_of, scaled_point, vars};
-use certificate::Fact;
+use cert_structure::{Calls, Named, Pair, count_of, scaled_point, vars};
 use cti_terms::Names;
 use fact_reading::{FactFault, Kind, Reader, Stop, StructureReason, first_item, wrong};
 use number_tests::{LevelPart, PairPoint, Refutation};
@@ -45,7 +43,7 @@ struct PointFact<'a> {
     last: Pair,
 }
 
-impl Kind<Fact> for PointFact<'_> {
+impl Kind<LexFact> for PointFact<'_> {
     type Item = PairPoint;
 
     ghost takes = { λ r number fact. take_point r.calls.p.now r.calls.comps.now r.pred (pair_end r.last) number fact };
@@ -55,9 +53,9 @@ impl Kind<Fact> for PointFact<'_> {
         &self,
         alloc: Global,
         _number: u64,
-        fact: &Fact,
+        fact: &LexFact,
     ) -> Result<Option<PairPoint>, FactFault> {
-        let Fact::Point { clause, call, t, w } = fact else {
+        let LexFact::Point { clause, call, t, w } = fact else {
             return Ok(None);
         };
         let pair = Pair {
@@ -87,12 +85,12 @@ fn points<'f>(
     let mut rest = facts;
     let mut last = Pair { clause: 0, call: 0 };
     for _ in 0..count {
-        let kind = PointFact {
+        let fact = PointFact {
             calls: *calls,
             pred,
             last,
         };
-        let (point, after) = first_item(alloc, &SharedKind { kind }, 0, rest)?;
+        let (point, after) = first_item(alloc, &fact, 0, rest)?;
         last = Pair {
             clause: point.clause,
             call: point.call,
@@ -101,6 +99,32 @@ fn points<'f>(
         rest = after;
     }
     Ok((points, rest))
+}
+
+/// The fact that begins a stuck set, and says how many points it has.
+#[derive(Drop)]
+struct RefutedFact<'a> {
+    pred: Named<'a>,
+}
+
+impl Kind<LexFact> for RefutedFact<'_> {
+    type Item = u64;
+
+    ghost takes = { λ r number fact. take_refuted (named r.pred) number fact };
+
+    #[tactic(auto, unfolding(crate::specs::Walk::take_refuted))]
+    fn take(&self, _alloc: Global, _number: u64, fact: &LexFact) -> Result<Option<u64>, FactFault> {
+        let LexFact::Refuted { pred, points } = fact else {
+            return Ok(None);
+        };
+        if !self.pred.is(pred) {
+            return Ok(None);
+        }
+        if *points == 0 {
+            return Err(FactFault::Shape);
+        }
+        Ok(Some(*points))
+    }
 }
 
 /// The stuck sets, one at most for each predicate.
@@ -135,10 +159,10 @@ impl StuckSets<'_> {
         let Some((first, rest)) = facts.split_first() else {
             return Ok((None, facts));
         };
-        let kind = RefutedFact {
+        let fact = RefutedFact {
             pred: Named::new(self.calls.p, self.names, pred),
         };
-        match (SharedKind { kind }).take(alloc, 0, first) {
+        match fact.take(alloc, 0, first) {
             Ok(Some(count)) => {
                 let (points, rest) = points(alloc, &self.calls, pred, count, rest)?;
                 Ok((Some(Refutation { points }), rest))

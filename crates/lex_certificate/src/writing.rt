@@ -2,15 +2,14 @@
 
 ghost use Rattle.std.specs.Prelude.{◌≡◌, ◌++◌, IfOk, OnOk};
 ghost use Rattle.lex_certificate.specs.Order.{listed};
-ghost use Rattle.lex_certificate.specs.Written.{set_facts, list_facts, cause_facts};
+ghost use Rattle.lex_certificate.specs.Written.{set_facts, list_facts};
 
 use crate::fact::LexFact;
 use crate::list_certificate::LexCertificate;
 use crate::parts::LexParts;
-use crate::shared::push_shared;
-use crate::written_lists::{WrittenDrops, WrittenLists};
-use cert_writing::{Grounds, Modes, Pres, Proofs, Refutations, Sizes, append, write_each};
-use certificate::Fact;
+use crate::written_lists::{WrittenDrops, WrittenLists, WrittenPres, WrittenSets};
+use crate::written_sets::{WrittenGrounds, WrittenModes, WrittenProofs, WrittenSizes};
+use cert_writing::{append, write_each};
 use cti_terms::{Names, Program};
 use sequences::Sequence;
 use std::alloc::{AllocError, Global};
@@ -21,17 +20,32 @@ fn write_sets(
     p: &Program,
     names: &Names,
     parts: &LexParts,
-    out: &mut Sequence<Fact>,
+    out: &mut Sequence<LexFact>,
 ) -> Result<(), AllocError>
     ensures { OnOk result (out.new ≡ out.old ++ set_facts p.now names.now parts.now) }
 {
-    write_each(alloc, &Modes { p, names }, parts.modes.as_slice(), out)?;
-    write_each(alloc, &Sizes { p, names }, parts.rows.as_slice(), out)?;
-    write_each(alloc, &Proofs {}, parts.row_proofs.as_slice(), out)?;
-    write_each(alloc, &Grounds { p, names }, parts.grounds.as_slice(), out)
+    write_each(
+        alloc,
+        &WrittenModes { p, names },
+        parts.modes.as_slice(),
+        out,
+    )?;
+    write_each(
+        alloc,
+        &WrittenSizes { p, names },
+        parts.rows.as_slice(),
+        out,
+    )?;
+    write_each(alloc, &WrittenProofs {}, parts.row_proofs.as_slice(), out)?;
+    write_each(
+        alloc,
+        &WrittenGrounds { p, names },
+        parts.grounds.as_slice(),
+        out,
+    )
 }
 
-/// Puts the facts of lists and their drops after others.
+/// Puts the facts of lists, their drops and preconditions, and stuck sets after others.
 fn write_lists(
     alloc: Global,
     p: &Program,
@@ -47,28 +61,16 @@ fn write_lists(
         parts.lists.as_slice(),
         out,
     )?;
-    write_each(alloc, &WrittenDrops {}, parts.drops.as_slice(), out)
-}
-
-/// Puts the facts of preconditions and stuck sets after others.
-fn write_causes(
-    alloc: Global,
-    p: &Program,
-    names: &Names,
-    parts: &LexParts,
-    out: &mut Sequence<Fact>,
-) -> Result<(), AllocError>
-    ensures { OnOk result (out.new ≡ out.old ++ cause_facts p.now names.now parts.now) }
-{
+    write_each(alloc, &WrittenDrops {}, parts.drops.as_slice(), out)?;
     write_each(
         alloc,
-        &Pres { p, names },
+        &WrittenPres { p, names },
         parts.preconditions.as_slice(),
         out,
     )?;
     write_each(
         alloc,
-        &Refutations { p, names },
+        &WrittenSets { p, names },
         parts.stuck.as_slice(),
         out,
     )
@@ -85,15 +87,10 @@ pub fn facts_of(
 ) -> Result<LexCertificate, AllocError>
     ensures { IfOk result (λ c. c.facts ≡ listed p.now names.now parts.now notes.items) }
 {
-    let mut sets = Sequence::new(alloc);
-    write_sets(alloc, p, names, parts, &mut sets)?;
-    let mut causes = Sequence::new(alloc);
-    write_causes(alloc, p, names, parts, &mut causes)?;
     let mut facts = Sequence::new(alloc);
     facts.push(LexFact::Ctilex { version: 1 })?;
-    push_shared(sets, &mut facts)?;
+    write_sets(alloc, p, names, parts, &mut facts)?;
     write_lists(alloc, p, names, parts, &mut facts)?;
-    push_shared(causes, &mut facts)?;
     append(notes, &mut facts)?;
     Ok(LexCertificate { facts })
 }

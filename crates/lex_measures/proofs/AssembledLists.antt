@@ -1,5 +1,5 @@
 -- The parts of a certificate of lists that the engines give are valid and exact, with their notes.
-use Rattle.std.proofs.Common.{◌≡◌, ◌++◌, ℕ, Bool, true, false, IsTrue, List, [], ◌∷◌, All, length, map, take, slice_get, Some, None, Option, refl, ap, sym, subst, ◌∙◌}
+use Rattle.std.proofs.Common.{◌≡◌, ◌++◌, ℕ, true, List, [], ◌∷◌, All, length, map, take, slice_get, Some, None, Option, refl, ap, sym, subst, ◌∙◌}
 use Rattle.std.specs.Prelude.{IfSome}
 use Rattle.std.specs.List.{AllByRecursion, flat_map}
 use Rattle.std.proofs.lemmas.List.{length-map}
@@ -7,7 +7,7 @@ use Rattle.call_components.specs.Partition.{AreComponents, Partition}
 use Rattle.cert_assembly.proofs.ChainParts.{chain_sizes_hold}
 use Rattle.cert_assembly.proofs.ModeLaws.{exact_modes_hold}
 use Rattle.cert_assembly.proofs.SetParts.{modes_are_exact, parts_are_counted}
-use Rattle.cert_assembly.specs.ChainNotes.{chain_notes, noted_if, step_notes}
+use Rattle.cert_assembly.specs.ChainNotes.{chain_notes}
 use Rattle.cert_assembly.specs.ExactModes.{AreCounted, HoldWithShape, ModesAreExact}
 use Rattle.cert_assembly.specs.Leading.{led_by}
 use Rattle.cert_assembly.specs.Ranges.{AreMultipliersBelow, IsPartBelow, IsRefutationBelow}
@@ -22,15 +22,11 @@ use Rattle.cti_terms.specs.Listing.{IsProgram, Listing}
 use Rattle.cti_terms.specs.Tree.{truth}
 use Rattle.exact128.specs.Fits.{fits}
 use Rattle.fact_reading.specs.Numbered.{AreEach}
-use Rattle.fact_reading.proofs.SectionLemmas.{all_both, all_from}
 use Rattle.lex_certificate.specs.Flat.{flat, union_part}
-use Rattle.lex_certificate.specs.Order.{is_note, shared}
 use Rattle.lex_certificate.specs.Shape.{AreLists, ArePlaces, HaveShape, IsStuckSet, lengths_of, lists_of_call}
 use Rattle.lex_certificate.specs.Structure.{AreNotes}
 use Rattle.lex_certificate.specs.declared.fact.LexFact.{LexFact}
-use Rattle.lex_certificate.specs.declared.fact.LexFact.TheVariants as lex
 use Rattle.lex_certificate.specs.declared.parts.LexParts.{LexParts}
-use Rattle.lex_certificate.proofs.SharedLemmas.{shared_all}
 use Rattle.lex_checker.specs.Proved.{MeasuresDrop}
 use Rattle.lex_checker.specs.Valid.{PartsHold}
 use Rattle.lex_turns.specs.declared.found_lists.FoundLists.{FoundLists}
@@ -48,7 +44,6 @@ use Rattle.numeric_model.specs.declared.step.Step.{Step}
 use Rattle.term_size.specs.Occurrences.{size_row}
 use Rattle.termination_model.proofs.ChainKeeping.{chains_state}
 use Rattle.termination_model.specs.Chain.{IsLegalChain}
-use Rattle.termination_model.specs.ChainSteps.{Step as PlainStep}
 use Rattle.termination_model.specs.Sizes.{AreSizes, rows_of}
 use Rattle.termination_model.specs.ShortSystems.{short_system}
 use Rattle.termination_model.specs.declared.sizes.Sizes.{Sizes}
@@ -58,7 +53,7 @@ use Rattle.lex_measures.proofs.ListParts.{lists_shape, lists_zero, union_items}
 use Rattle.lex_measures.proofs.PlaceParts.{same_each, weaker_each}
 use Rattle.lex_measures.proofs.StuckParts.{stuck_refutes, stuck_shape}
 use Rattle.lex_measures.specs.Assembly.{AreBounded, AreFound, ArePartsOf, IsAssembled}
-use Rattle.lex_measures.specs.Exact.{component_notes, note_at, note_if}
+use Rattle.lex_measures.specs.Exact.{component_notes, note_at, note_if, noted}
 use Rattle.lex_measures.specs.Lists.{found_of, printed_lists}
 
 -- ---- notes
@@ -70,19 +65,12 @@ flat_notes : {X : Type 0} (f : X → List LexFact) → ((x : X) → AreNotes (f 
 flat_notes f h [] = tt
 flat_notes f h (x ∷ xs) = notes_append (f x) (flat_map f xs) (h x) (flat_notes f h xs)
 
--- a fact that certificates of single mappings have too is a note here
-abbrev IsSharedNote : Fact → Type 0
-IsSharedNote f = IsTrue (is_note (lex.Shared f))
-
-wanted_is : (wanted : Bool) (f : Fact) → IsSharedNote f → AllByRecursion IsSharedNote (noted_if wanted f)
-wanted_is true f h = (h, tt)
-wanted_is false f h = tt
-
-steps_are : (p : Listing) (names : List (List ℕ)) (steps : List PlainStep) → AreNotes (shared (chain_notes p names steps))
-steps_are p names steps =
-    shared_all (λ f. IsTrue (is_note f)) (chain_notes p names steps)
-    (all_from IsSharedNote (step_notes p names)
-    (λ n s. (refl, (refl, all_both IsSharedNote _ _ (wanted_is s.image_weak (fact.WeakImage n) refl) (wanted_is s.weak (fact.WeakStep n) refl)))) 1 steps)
+noted_is : (f : Fact) → AreNotes (noted f)
+noted_is (fact.Image step clause pred rows) = (refl, tt)
+noted_is (fact.Step step pred how rows) = (refl, tt)
+noted_is (fact.WeakImage step) = (refl, tt)
+noted_is (fact.WeakStep step) = (refl, tt)
+noted_is _ = tt
 
 module _ (p : Listing) (names : List (List ℕ)) (found : ℕ → FoundLists) where
   note_is : (q : ℕ) (blown : List (List ℕ)) → AreNotes (note_if p names q blown)
@@ -100,7 +88,7 @@ module _ (p : Listing) (names : List (List ℕ)) (comps : Partition) (sizes : Si
     (are_sizes : AreSizes p.preds sizes.rows) (proved : AreProved size_row (rows_of sizes.rows) p.clauses sizes.proofs)
     (fit : (q : ℕ) → All (λ r. row_fits r ≡ true) (rows_of sizes.rows q))
     (founds : AreFound size_row p comps sizes.rows found) (are : ArePartsOf truth p comps sizes found parts) (bounded : AreBounded parts)
-    (is_noted : notes ≡ shared (chain_notes p names (map plain_step steps)) ++ component_notes p names comps (found_of found)) where
+    (is_noted : notes ≡ flat_map noted (chain_notes p names (map plain_step steps)) ++ component_notes p names comps (found_of found)) where
   founds_here : AreFound size_row p comps parts.rows found
   founds_here = subst (λ (rows : List Rows). AreFound size_row p comps rows found) (sym are.rows) founds
 
@@ -173,8 +161,8 @@ module _ (p : Listing) (names : List (List ℕ)) (comps : Partition) (sizes : Si
 
   pub assembled : IsAssembled p names comps (record { parts = parts; notes = notes })
   assembled = record {
-    are_notes = subst AreNotes (sym is_noted) (notes_append (shared (chain_notes p names (map plain_step steps))) (component_notes p names comps (found_of found))
-        (steps_are p names (map plain_step steps))
+    are_notes = subst AreNotes (sym is_noted) (notes_append (flat_map noted (chain_notes p names (map plain_step steps))) (component_notes p names comps (found_of found))
+        (flat_notes noted noted_is (chain_notes p names (map plain_step steps)))
         (flat_notes (λ (q : ℕ). note_at p names (found_of found) q (led_by comps q)) (λ q. note_at_is p names (found_of found) q (led_by comps q)) (columns 0 (length p.preds))));
     shape = have_shape;
     hold = hold;

@@ -1,6 +1,6 @@
 -- A component of which no note says that the search for lists was given up has its best modes.
 use Rattle.std.proofs.Common.{◌≡◌, ℕ, zero, suc, ◌+◌, ◌<◌, ◌≤◌, ◌||◌, ℤ, pos, Bool, true, false, IsTrue, if◌then◌else◌, List, [], ◌∷◌, ◌⊎◌, inl, inr, length, map, nat_lt, slice_get, Some, Option, refl, ap, sym, subst, ◌∙◌, arith}
-use Rattle.std.specs.List.{AllByRecursion}
+use Rattle.std.specs.List.{AllByRecursion, flat_map}
 use Rattle.std.proofs.lemmas.Bool.Decides.{nat_tests}
 use Rattle.std.proofs.lemmas.Bool.{or_cases, or_left, or_right}
 use Rattle.std.proofs.lemmas.List.{length-map}
@@ -13,7 +13,7 @@ use Rattle.cert_assembly.proofs.SetSteps.{first_there, in_if, in_rest, not_first
 use Rattle.cert_assembly.specs.ExactModes.{AreCounted, is_member}
 use Rattle.cert_assembly.specs.Leading.{led_by}
 use Rattle.cert_checker.proofs.Bounded.{naturals_are}
-use Rattle.cert_structure.specs.Order.{pred_text, mode_facts, size_facts, proof_facts, ground_facts, pre_facts, refuted_facts}
+use Rattle.cert_structure.specs.Order.{pred_text}
 use Rattle.cert_structure.specs.Shape.{arity_in, first_of, is_recursive, items_of}
 use Rattle.cti_terms.specs.Listing.{IsProgram, Listing}
 use Rattle.cti_terms.specs.Tree.{truth}
@@ -21,7 +21,7 @@ use Rattle.cti_terms.specs.declared.predicates.Pred.{Pred}
 use Rattle.level_systems.specs.Mappings.{HasMeasures, level_in, mapping_with}
 use Rattle.level_systems.specs.declared.measure.Measure.{Measure}
 use Rattle.lex_certificate.specs.Flat.{flat, union_part, united, united_coefficients}
-use Rattle.lex_certificate.specs.Order.{drop_facts, level_facts, listed, shared}
+use Rattle.lex_certificate.specs.Order.{drop_facts, ground_facts, level_facts, listed, mode_facts, pre_facts, proof_facts, size_facts, stuck_facts}
 use Rattle.lex_certificate.specs.Shape.{HaveShape}
 use Rattle.lex_certificate.specs.declared.fact.LexFact.{LexFact}
 use Rattle.lex_certificate.specs.declared.fact.LexFact.TheVariants as lex
@@ -41,17 +41,18 @@ use Rattle.precond_fixpoint.specs.Greatest.{Solved, SomeSolved}
 use Rattle.term_size.specs.Occurrences.{size_row}
 use Rattle.termination_model.proofs.Lists.{by_places, mapped_place, place_below}
 use Rattle.termination_model.proofs.Points.{in_columns}
-use Rattle.termination_model.proofs.Sets.{Part, to_part, within}
+use Rattle.termination_model.proofs.Sets.{Part, set_lower, to_part, within}
 use Rattle.termination_model.specs.Coefficients.{IsSupported, coefficient}
 use Rattle.termination_model.specs.Claims.{Mapping}
 use Rattle.termination_model.specs.ComponentViews.{members_in, positions_in}
 use Rattle.termination_model.specs.Excluding.{IsZeroOutside}
+use Rattle.termination_model.specs.Minimal.{IsSet}
 use Rattle.termination_model.specs.Modes.{modes}
 use Rattle.termination_model.specs.OwnCalls.{Position}
 use Rattle.termination_model.specs.Sizes.{rows_of}
 use Rattle.lex_measures.proofs.ComponentLaws.{answer_at, member_below}
 use Rattle.lex_measures.proofs.ListParts.{union_items}
-use Rattle.lex_measures.specs.Exact.{ComponentIsExact, IsExact, component_notes, note_at, note_if, parts_in}
+use Rattle.lex_measures.specs.Exact.{ComponentIsExact, IsExact, component_notes, note_at, note_if, noted, parts_in}
 use Rattle.lex_measures.specs.Unnoted.{HaveEachSupport, IsSolvedList, UnnotedListsAreBest, admitted_by}
 
 is_less : (n : ℕ) → 0 < n → nat_lt 0 n ≡ true
@@ -204,14 +205,14 @@ module _ (p : Listing) (comps : Partition) (parts : LexParts) (components : AreC
 in_listed : (p : Listing) (names : List (List ℕ)) (parts : LexParts) (notes : List LexFact) (f : LexFact) → In f notes → In f (listed p names parts notes)
 in_listed p names parts notes f i =
     inr
-    (in-right (shared (mode_facts p names parts.modes)) _ f
-    (in-right (shared (size_facts p names parts.rows)) _ f
-    (in-right (shared (proof_facts parts.row_proofs)) _ f
-    (in-right (shared (ground_facts p names parts.grounds)) _ f
+    (in-right (mode_facts p names parts.modes) _ f
+    (in-right (size_facts p names parts.rows) _ f
+    (in-right (proof_facts parts.row_proofs) _ f
+    (in-right (ground_facts p names parts.grounds) _ f
     (in-right (level_facts p names parts.lists) _ f
     (in-right (drop_facts parts.drops) _ f
-    (in-right (shared (pre_facts p names parts.preconditions)) _ f
-    (in-right (shared (refuted_facts p names parts.stuck)) notes f i))))))))
+    (in-right (pre_facts p names parts.preconditions) _ f
+    (in-right (stuck_facts p names parts.stuck) notes f i))))))))
 
 note_there : (p : Listing) (names : List (List ℕ)) (comps : Partition) (found : ℕ → FoundLists) (c q : ℕ) → q < length p.preds → led_by comps q ≡ Some c
     → (s : List ℕ) (ss : List (List ℕ)) → (found c).blown ≡ s ∷ ss → In (lex.Blown (pred_text p names q)) (component_notes p names comps found)
@@ -256,7 +257,7 @@ module _ (p : Listing) (names : List (List ℕ)) (facts : List LexFact) (program
       let note = note_there p names comps exact.exact.found c q less (leads comps q c recursive first inside) s ss e in
       absurd (unnoted (subst (In (lex.Blown (pred_text p names q))) (sym exact.structured.is)
       (in_listed p names parts exact.structured.notes (lex.Blown (pred_text p names q))
-      (subst (In (lex.Blown (pred_text p names q))) (sym exact.exact.are) (in-right (shared exact.exact.steps) (component_notes p names comps exact.exact.found) (lex.Blown (pred_text p names q)) note)))))
+      (subst (In (lex.Blown (pred_text p names q))) (sym exact.exact.are) (in-right (flat_map noted exact.exact.steps) (component_notes p names comps exact.exact.found) (lex.Blown (pred_text p names q)) note)))))
 
   not_large : found.large ≡ false
   not_large = go found.large refl

@@ -16,6 +16,7 @@ use Rattle.cert_assembly.specs.Leading.{led_by}
 use Rattle.cert_structure.specs.Order.{pred_text}
 use Rattle.cert_structure.specs.Shape.{first_of, items_of}
 use Rattle.certificate.specs.declared.fact.Fact.{Fact}
+use Rattle.certificate.specs.declared.fact.Fact.TheVariants as fact
 use Rattle.cti_terms.specs.Listing.{Listing}
 use Rattle.cti_terms.specs.Tree.{truth}
 use Rattle.cti_terms.specs.declared.atom_list.Atom.{Atom}
@@ -25,7 +26,6 @@ use Rattle.level_systems.specs.Mappings.{level_in}
 use Rattle.level_systems.specs.declared.measure.Measure.{Measure}
 use Rattle.lex_certificate.specs.Flat.{flat}
 use Rattle.lex_certificate.specs.Structure.{IsStructured}
-use Rattle.lex_certificate.specs.Order.{shared}
 use Rattle.lex_certificate.specs.declared.fact.LexFact.{LexFact}
 use Rattle.lex_certificate.specs.declared.fact.LexFact.TheVariants as lex
 use Rattle.lex_certificate.specs.declared.parts.LexParts.{LexParts}
@@ -58,6 +58,14 @@ module _ (p : Listing) (comps : Partition) (parts : LexParts) where
         → map Some (items_of (items_of parts.drops k) j) ≡ map (λ (l : MeasureList). place_in l.drops (suc k) (suc j)) found.lists
     pub stuck : (q : ℕ) → IsIn comps c q → first_of comps q ≡ q → slice_get parts.stuck q ≡ Some found.refutation
 
+-- a note of a chain, as it stands here
+abbrev pub noted : Fact → List LexFact
+noted (fact.Image step clause pred rows) = lex.Image step clause pred rows ∷ []
+noted (fact.Step step pred how rows) = lex.Step step pred how rows ∷ []
+noted (fact.WeakImage step) = lex.WeakImage step ∷ []
+noted (fact.WeakStep step) = lex.WeakStep step ∷ []
+noted _ = []
+
 -- a note of a component, by its first member q, where the search for some of its lists was given up
 abbrev pub note_if : Listing → List (List ℕ) → ℕ → List (List ℕ) → List LexFact
 note_if p names q [] = []
@@ -78,7 +86,7 @@ pub record IsExactOf (p : Listing) (names : List (List ℕ)) (comps : Partition)
   pub components : (c : ℕ) → slice_get comps.recursive c ≡ Some true → ComponentIsExact p comps parts c (found c)
   pub steps : List Fact
   pub chain : IsChain (all_of fits) size_row p comps names parts.rows steps
-  pub are : notes ≡ shared steps ++ component_notes p names comps found
+  pub are : notes ≡ flat_map noted steps ++ component_notes p names comps found
 
 -- the facts are those of parts that are exact
 pub record IsExact (p : Listing) (names : List (List ℕ)) (facts : List LexFact) : Type 0 where

@@ -1,14 +1,14 @@
 //! The assembly of a certificate of lists from what the engines give.
 
 ghost use Rattle.std.specs.Prelude.{◌≡◌, ◌<◌, ◌++◌, [], IfOk, None, Some, length, map, slice_get, true};
+ghost use Rattle.std.specs.List.{flat_map};
 ghost use Rattle.call_components.specs.Partition.{AreComponents};
 ghost use Rattle.cert_assembly.specs.ChainNotes.{chain_notes};
 ghost use Rattle.cert_assembly.specs.Sizing.{IsSolvedChain};
 ghost use Rattle.lex_certificate.specs.Flat.{union_part};
 ghost use Rattle.lex_certificate.specs.Order.{listed};
 ghost use Rattle.lex_measures.specs.Assembly.{AreBounded, AreFound, ArePartsOf, IsAssembled, IsFlatOf, with_lists};
-ghost use Rattle.lex_certificate.specs.Order.{shared};
-ghost use Rattle.lex_measures.specs.Exact.{component_notes};
+ghost use Rattle.lex_measures.specs.Exact.{component_notes, noted};
 ghost use Rattle.lex_measures.specs.Lists.{found_of};
 ghost use Rattle.lex_turns.specs.FoundLists.{AreFoundLists};
 ghost use Rattle.numeric_model.specs.States.{plain_step};
@@ -17,13 +17,13 @@ ghost use Rattle.term_size.specs.AnyNorm.{any_row, any_truth};
 ghost use Rattle.term_size.specs.declared.any_norm.AnyNorm.TheVariants.{Terms};
 ghost use Rattle.termination_model.specs.Sizes.{AreSizes, rows_of};
 
-use crate::notes::Described;
+use crate::notes::{Described, push_all_noted};
 use crate::printed::Printed;
 use call_components::Components;
 use cert_assembly::{Bounded, Measured, note_chain, put_sizes};
 use cert_structure::Parts;
 use cti_terms::{Names, Program};
-use lex_certificate::{LexCertificate, LexFact, LexParts, facts_of, flat_levels, push_shared};
+use lex_certificate::{LexCertificate, LexFact, LexParts, facts_of, flat_levels};
 use lex_turns::FoundLists;
 use linear_rows::Multipliers;
 use number_tests::{LevelPart, Refutation};
@@ -219,14 +219,15 @@ fn notes_of(
     requires components { AreComponents described.now.p.now described.now.comps.now }
     requires each { length found.now ≡ length described.now.comps.now.members }
     ensures { IfOk result (λ notes. notes
-        ≡ shared (chain_notes described.now.p.now described.now.names.now (map plain_step steps))
+        ≡ flat_map noted (chain_notes described.now.p.now described.now.names.now
+        (map plain_step steps))
         ++ component_notes described.now.p.now described.now.names.now described.now.comps.now
         (found_of found.now)) }
 {
     let mut chain = Sequence::new(alloc);
     note_chain(alloc, described.p, described.names, steps, &mut chain)?;
     let mut notes = Sequence::new(alloc);
-    push_shared(chain, &mut notes)?;
+    push_all_noted(alloc, chain.as_slice(), &mut notes)?;
     described.note_components(alloc, found, &mut notes)?;
     Ok(notes)
 }

@@ -1,18 +1,91 @@
 //! The notes of a certificate of lists.
 
-ghost use Rattle.std.specs.Prelude.{◌≡◌, ◌<◌, ◌++◌, OnOk, length};
+ghost use Rattle.std.specs.Prelude.{◌≡◌, ◌<◌, ◌++◌, IfOk, OnOk, length};
+ghost use Rattle.std.specs.List.{flat_map};
 ghost use Rattle.call_components.specs.Partition.{AreComponents};
 ghost use Rattle.cert_assembly.specs.Leading.{led_by};
-ghost use Rattle.lex_measures.specs.Exact.{component_notes, note_at, note_if};
+ghost use Rattle.lex_measures.specs.Exact.{component_notes, note_at, note_if, noted};
 ghost use Rattle.lex_measures.specs.Lists.{found_of};
 
 use call_components::Components;
 use cert_assembly::{led_by, pred_text};
+use certificate::{Fact, PredText};
 use cti_terms::{Names, PredId, Program};
 use lex_certificate::LexFact;
 use lex_turns::FoundLists;
 use sequences::Sequence;
 use std::alloc::{AllocError, Global};
+
+/// The same predicate's text once more.
+fn copied_text(alloc: Global, pred: &PredText) -> Result<PredText, AllocError>
+    ensures { IfOk result (λ copy. copy ≡ pred.now) }
+{
+    Ok(PredText {
+        name: pred.name.copy(alloc)?,
+        arity: pred.arity,
+    })
+}
+
+/// The same rows once more.
+fn copied_rows(
+    alloc: Global,
+    rows: &[Sequence<i128>],
+) -> Result<Sequence<Sequence<i128>>, AllocError>
+    ensures { IfOk result (λ copy. copy ≡ rows.now) }
+{
+    let mut copy = Sequence::new(alloc);
+    for row in rows {
+        copy.push(row.copy(alloc)?)?;
+    }
+    Ok(copy)
+}
+
+/// Puts a note of a chain after others.
+fn push_noted(alloc: Global, note: &Fact, out: &mut Sequence<LexFact>) -> Result<(), AllocError>
+    ensures { OnOk result (out.new ≡ out.old ++ noted note.now) }
+{
+    match note {
+        Fact::Image {
+            step,
+            clause,
+            pred,
+            rows,
+        } => out.push(LexFact::Image {
+            step: *step,
+            clause: *clause,
+            pred: copied_text(alloc, pred)?,
+            rows: copied_rows(alloc, rows.as_slice())?,
+        }),
+        Fact::Step {
+            step,
+            pred,
+            how,
+            rows,
+        } => out.push(LexFact::Step {
+            step: *step,
+            pred: copied_text(alloc, pred)?,
+            how: *how,
+            rows: copied_rows(alloc, rows.as_slice())?,
+        }),
+        Fact::WeakImage { step } => out.push(LexFact::WeakImage { step: *step }),
+        Fact::WeakStep { step } => out.push(LexFact::WeakStep { step: *step }),
+        _ => Ok(()),
+    }
+}
+
+/// Puts the notes of a chain after others.
+pub(crate) fn push_all_noted(
+    alloc: Global,
+    notes: &[Fact],
+    out: &mut Sequence<LexFact>,
+) -> Result<(), AllocError>
+    ensures { OnOk result (out.new ≡ out.old ++ flat_map noted notes.now) }
+{
+    for note in notes {
+        push_noted(alloc, note, out)?;
+    }
+    Ok(())
+}
 
 /// A program by its names and its components.
 #[derive(Clone, Copy)]

@@ -1,4 +1,5 @@
 use Rattle.std.proofs.Common.{◌≡◌, ◌++◌, List, map, ap, subst, sym, ◌∙◌}
+use Rattle.std.specs.List.{flat_map}
 use Rattle.cert_assembly.specs.ChainNotes.{chain_notes}
 use Rattle.cert_assembly.specs.Sizing.{IsSolvedChain}
 use Rattle.lex_turns.specs.declared.found_lists.FoundLists.{FoundLists}
@@ -7,8 +8,7 @@ use Rattle.term_size.specs.AnyNorm.{any_row, any_truth}
 use Rattle.term_size.specs.declared.any_norm.AnyNorm.{AnyNorm}
 use Rattle.lex_measures.proofs.AssembledLists.{assembled}
 use Rattle.lex_measures.specs.Assembly.{AreFound, ArePartsOf}
-use Rattle.lex_certificate.specs.Order.{shared}
-use Rattle.lex_measures.specs.Exact.{component_notes}
+use Rattle.lex_measures.specs.Exact.{component_notes, noted}
 use Rattle.lex_measures.specs.Lists.{found_of}
 use Rattle.lex_measures.proofs.assembling.assembled_over.Goals as goal
 
@@ -29,5 +29,5 @@ returns c =
     let founds = subst (λ (n : AnyNorm). AreFound (any_row n) p comps sizes.rows found) c.requires.norm c.in_ok-found.ensures in
     let own = subst (λ (fs : List FoundLists). ArePartsOf (any_truth norm) p comps sizes fs parts) c.as_slice.ensures c.in_ok-parts.ensures in
     let are = subst (λ (n : AnyNorm). ArePartsOf (any_truth n) p comps sizes found parts) c.requires.norm own in
-    let notes = c.in_ok-notes.ensures ∙ ap (λ fs. shared (chain_notes p names (map plain_step steps)) ++ component_notes p names comps (found_of fs)) c.as_slice-2.ensures in
+    let notes = c.in_ok-notes.ensures ∙ ap (λ fs. flat_map noted (chain_notes p names (map plain_step steps)) ++ component_notes p names comps (found_of fs)) c.as_slice-2.ensures in
     assembled p names comps sizes found parts c.in_ok-notes.notes steps c.preds-program.ensures.sound c.requires.components solved.legal solved.sizes solved.proofs solved.fits founds are c.are_bounded.ensures notes
