@@ -2,8 +2,8 @@
 use Rattle.std.specs.Prelude.{Result, Ok, Err, IfOk, ◌≡◌}
 use Rattle.std.proofs.Common.{ℕ, List, refl, subst, sym}
 use Rattle.std.specs.Prelude.{◌≢◌}
-use Rattle.cti_top.specs.Words.{Ask, infer, check, run, gen, lex, loop, session, Origin, origin}
-use Rattle.cti_top.specs.Answers.{IsAskInRange, IsInRange}
+use Rattle.command_words.specs.Words.{Ask, infer, check, run, gen, lex, loop, session, Origin, origin}
+use Rattle.command_words.specs.Requests.{IsAskInRange, IsInRange}
 use Rattle.cti_top.specs.Programs.{IsRefused}
 use Rattle.cti_top.specs.Sessions.{IsRefusedFor}
 

@@ -3,7 +3,7 @@ use Rattle.std.proofs.Common.{◌≡◌, ℕ, ◌≤◌, List, inl, inr, refl, �
 use Rattle.outside.specs.Told.{Map, Keeps}
 use Rattle.outside.specs.Causes.{Rose}
 use Rattle.cti_top.specs.Outcome.{CertificateRose, FileRose, OriginRose}
-use Rattle.cti_top.specs.Words.{Ask, infer, check, run, gen, lex, loop, session, Origin, file, generated, origin}
+use Rattle.command_words.specs.Words.{Ask, infer, check, run, gen, lex, loop, session, Origin, file, generated, origin}
 
 -- a store that no call has touched
 pub untouched : (told : Map) (faults : List ℕ → ℕ) → Keeps told told faults faults

@@ -1,12 +1,9 @@
-pub mod WordLemmas
-pub mod QueryWords
 pub mod KeepLemmas
 pub mod ModeLemmas
 pub mod PlaceLemmas
 pub mod SourceLemmas
 pub mod SessionLemmas
 pub mod QueryLemmas
-pub mod StepLemmas
 pub mod RunLemmas
 pub mod AnswerLemmas
 pub mod LoopLemmas

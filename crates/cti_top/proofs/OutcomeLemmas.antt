@@ -2,7 +2,7 @@
 use Rattle.std.proofs.Common.{◌≡◌, ℕ, ◌≤◌, ◌<◌, List, [], length, subst, Option, Some, None, ◌⊎◌, refl, ap, sym, ◌∙◌, inl, inr, arith, nat_eq, false}
 use Rattle.std.proofs.lemmas.Option.{none-some, same_Some}
 use Rattle.outside.specs.Told.{Map, TellsAt, TellsMore, Takes}
-use Rattle.cti_top.specs.Words.{Ask, infer, check, run, gen, lex, loop, session, Origin, file, generated, origin, query_of, asks}
+use Rattle.command_words.specs.Words.{Ask, infer, check, run, gen, lex, loop, session, Origin, file, generated, origin, query_of, asks}
 use Rattle.term_size.specs.declared.any_norm.NormName.{NormName}
 use Rattle.cti_top.specs.Programs.{IsRefused}
 use Rattle.cti_top.specs.Sessions.{IsRefusedFor, IsRefusedSession}

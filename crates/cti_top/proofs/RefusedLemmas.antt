@@ -2,7 +2,7 @@
 use Rattle.std.proofs.Common.{◌≡◌, ℕ, List, Some, inl, inr, refl, ap, sym, ◌∙◌, subst}
 use Rattle.std.proofs.lemmas.Option.{none-some}
 use Rattle.outside.specs.Told.{Map}
-use Rattle.cti_top.specs.Words.{Ask, infer, check, run, gen, lex, loop, session, Origin, file, origin, query_of, asks}
+use Rattle.command_words.specs.Words.{Ask, infer, check, run, gen, lex, loop, session, file, origin, query_of, asks}
 use Rattle.cti_top.specs.Programs.{IsRefused}
 use Rattle.cti_top.specs.Sessions.{IsRefusedFor, IsToldBy}
 use Rattle.report.specs.Generated.{generated}

@@ -1,6 +1,6 @@
 -- What a call in which no load and no write failed answers.
 use Rattle.std.proofs.Common.{◌≡◌, ◌≢◌, ℕ, List, Option, Some, ◌⊎◌, refl, inl, inr}
-use Rattle.outside.specs.Told.{Map, Takes}
+use Rattle.outside.specs.Told.{Map}
 use Rattle.term_size.specs.declared.any_norm.NormName.{NormName}
 use Rattle.certificate.specs.Reading.{IsTextOf}
 use Rattle.certificate.specs.declared.certificate.Certificate.{Certificate}
@@ -8,7 +8,7 @@ use Rattle.cti_session.specs.Edits.{Told}
 use Rattle.cti_terms.specs.Listing.{Listing}
 use Rattle.cti_terms.specs.declared.derivation.Goal.{Goal}
 use Rattle.report.specs.Generated.{generated}
-use Rattle.cti_top.specs.Words.{Ask, infer, check, run, gen, lex, loop, session, origin, query_of, asks}
+use Rattle.command_words.specs.Words.{Ask, infer, check, run, gen, lex, loop, session, origin, query_of, asks}
 use Rattle.cti_top.specs.Queries.{Known, IsQueryOf}
 use Rattle.cti_top.specs.Runs.{IsKnown, IsRefusedQuery}
 use Rattle.cti_top.specs.Sessions.{IsRefusedFor, IsToldBy}

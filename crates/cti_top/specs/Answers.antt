@@ -1,11 +1,10 @@
 -- Private.
 -- What the answer to a program's bytes is, step by step. Nothing here has to be believed.
-use Rattle.std.specs.Prelude.{ℕ, ◌≡◌, ◌≤◌, ◌⊎◌, List}
+use Rattle.std.specs.Prelude.{ℕ, ◌≡◌, ◌⊎◌, List}
 use Rattle.cert_checker.specs.declared.verdict.Verdict.{Verdict}
 use Rattle.cert_checker.specs.declared.verdict.Verdict.TheVariants as verdict
 use Rattle.certificate.specs.Reading.{most_bytes}
-use Rattle.cti_top.specs.Words.{Ask, infer, check, run, gen, lex, loop, session, Origin, origin}
-use Rattle.cti_top.specs.Words as words
+use Rattle.command_words.specs.Words.{Ask, infer, check, run, gen, lex, loop, session, origin}
 use Rattle.outside.specs.Told.{Map, TellsAt, TellsMore}
 use Rattle.cti_top.specs.Checks.{IsCheckOf, IsRefusedCertificate}
 use Rattle.cti_top.specs.Queries.{Known}
@@ -20,10 +19,6 @@ use Rattle.cti_top.specs.Runs.{IsKnown, IsRunOf, IsRefusedQuery}
 use Rattle.cti_top.specs.Loops.{IsLoopSearchOf, loop_line, no_loop_line, stopped_line}
 use Rattle.loop_finder.specs.declared.finding.Looked.{Looked}
 use Rattle.loop_finder.specs.declared.finding.Looked.TheVariants as looked
-use Rattle.cti_top.specs.declared.request.Request.{Request}
-use Rattle.cti_top.specs.declared.request.Request.TheVariants as request
-use Rattle.cti_top.specs.declared.request.Origin.{Origin as ItsOrigin}
-use Rattle.cti_top.specs.declared.request.Origin.TheVariants as its
 use Rattle.cti_top.specs.declared.refusal.Subject.{Subject}
 use Rattle.cti_top.specs.declared.refusal.Subject.TheVariants.{Program, Certificate, Query}
 use Rattle.cti_top.specs.declared.status.Status.{Status}
@@ -41,36 +36,6 @@ status_of ending.Overflow = Overflow
 abbrev pub verdict_status : Verdict → Status
 verdict_status verdict.Yes = Done
 verdict_status (verdict.No line reason) = No
-
--- a request, by its texts
-abbrev pub ask_of : Request → Ask
-ask_of (request.Infer file norm) = infer file.now norm
-ask_of (request.Check file certificate) = check file.now certificate.now
-ask_of (request.Run file query steps) = run file.now query.now steps
-ask_of (request.Generate count) = gen count
-ask_of (request.Lex file) = lex file.now
-ask_of (request.Loop file query depth) = loop file.now query.now depth
-ask_of (request.Session file) = session file.now
-
--- an origin, by its text
-abbrev pub origin_of : ItsOrigin → Origin
-origin_of (its.File name) = words.file name.now
-origin_of (its.Generated count) = words.generated count
-
--- a program of this many predicates can be generated
-abbrev pub IsInRange : Origin → Type 0
-IsInRange (words.file name) = Unit {0}
-IsInRange (words.generated n) = (1 ≤ n) × (n ≤ 300)
-
--- the numbers of what is asked for are in range
-abbrev pub IsAskInRange : Ask → Type 0
-IsAskInRange (infer name norm) = Unit {0}
-IsAskInRange (check name certificate) = Unit {0}
-IsAskInRange (run name query steps) = Unit {0}
-IsAskInRange (gen n) = (1 ≤ n) × (n ≤ 300)
-IsAskInRange (lex name) = Unit {0}
-IsAskInRange (loop name query depth) = (1 ≤ depth) × (depth ≤ 12)
-IsAskInRange (session name) = Unit {0}
 
 -- the status and the line of what was found where a loop was looked for
 abbrev pub looked_status : Looked → Status

@@ -1,6 +1,4 @@
 pub mod Status
-pub mod Words
-pub mod CommandLine
 pub mod Places
 pub mod Refusal
 pub mod Programs

@@ -4,7 +4,7 @@
 -- To believe: all of this file.
 use Rattle.std.specs.Prelude.{ℕ, ◌≡◌, ◌≢◌, ◌⊎◌, List, Option, Some, None}
 use Rattle.outside.specs.Told.{Map, TellsAt, TellsMore, Takes, TakesPart}
-use Rattle.cti_top.specs.Words.{Ask, infer, check, run, gen, lex, loop, session, Origin, file, generated, origin, query_of, asks, usage_lines}
+use Rattle.command_words.specs.Words.{Ask, infer, check, run, gen, lex, loop, session, Origin, file, generated, origin, query_of, asks, usage_lines}
 use Rattle.cti_top.specs.Places.{line_of, column_of}
 use Rattle.cti_top.specs.Refusal.{refusal_line}
 use Rattle.cti_top.specs.Sessions.{IsRefusedFor, IsSessionOf}

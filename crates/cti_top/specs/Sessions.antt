@@ -19,7 +19,7 @@ use Rattle.prolog_reader.specs.declared.fault.ReadKind.{ReadKind}
 use Rattle.prolog_terms.specs.Clauses.{Clause}
 use Rattle.cti_top.specs.Programs.{IsRefused, ReadsAs}
 use Rattle.cti_top.specs.Refusal.{normal_number, read_number}
-use Rattle.cti_top.specs.Words.{Ask, session}
+use Rattle.command_words.specs.Words.{Ask, session}
 
 -- the number of the kind of an edit's refusal
 abbrev pub edit_number : EditKind → ℕ

@@ -14,7 +14,7 @@ ghost use Rattle.cti_top.specs.Outcome.{IsLoopedOrMemory, IsRanOrMemory, IsRefus
 ghost use Rattle.cti_top.specs.Queries.{IsQueryOf, Known};
 ghost use Rattle.cti_top.specs.Runs.{IsKnown, IsRefusedQuery};
 ghost use Rattle.cti_top.specs.Sessions.{IsRefusedFor, IsToldBy};
-ghost use Rattle.cti_top.specs.Words.{Ask, asks, check, gen, infer, lex, loop, origin, query_of, run, session};
+ghost use Rattle.command_words.specs.Words.{Ask, asks, check, gen, infer, lex, loop, origin, query_of, run, session};
 ghost use Rattle.cti_top.specs.declared.status.Status.{Status as TheStatus};
 ghost use Rattle.outside.specs.Told.{Map};
 ghost use Rattle.term_size.specs.declared.any_norm.NormName.{NormName};

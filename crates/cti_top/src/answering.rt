@@ -4,14 +4,15 @@ ghost use Rattle.std.specs.Prelude.{◌≡◌, ◌≢◌, ◌<◌, ◌≤◌, �
 ghost use Rattle.std.specs.List.{AllByRecursion};
 ghost use Rattle.cti_terms.specs.declared.predicates.Pred.{Pred as ThePred};
 ghost use Rattle.clause_normal.specs.Numbering.{is_equality};
-ghost use Rattle.cti_top.specs.Words.{Ask, asks, origin, session, usage_lines};
+ghost use Rattle.command_words.specs.Words.{Ask, asks, origin, session, usage_lines};
 ghost use Rattle.report.specs.Generated.{generated};
 ghost use Rattle.cti_top.specs.Queries.{Known};
 ghost use Rattle.cti_top.specs.Known.{known_of, NamesBuiltins};
 ghost use Rattle.cti_top.specs.Runs.{IsKnown};
 ghost use Rattle.cti_top.specs.Outcome.{CertificateRose, FileRose, IsAnswer, OriginRose, TellsLong, TellsText};
 ghost use Rattle.outside.specs.Told.{Keeps};
-ghost use Rattle.cti_top.specs.Answers.{ask_of, origin_of, AnswersAsk, AnswersProgram, AnswersRequest, IsAskInRange, IsInRange};
+ghost use Rattle.command_words.specs.Requests.{ask_of, origin_of, IsAskInRange, IsInRange};
+ghost use Rattle.cti_top.specs.Answers.{AnswersAsk, AnswersProgram, AnswersRequest};
 
 use crate::answer::{Answer, refused, too_long};
 use crate::checking::check_of;
@@ -20,11 +21,11 @@ use crate::inferring::infer_of;
 use crate::lexing::lex_of;
 use crate::looping::loop_of;
 use crate::refusal::Subject;
-use crate::request::{Origin, Refusal, Request, request_in, usage_text};
 use crate::running::run_of;
 use crate::session::session_of;
 use crate::source::{Source, SourceFault, program_in};
 use crate::status::Status;
+use command_words::{Origin, Request, WordsFault, request_in, usage_text};
 use outside::{Files, LoadFault};
 use prolog_reader::MOST_BYTES;
 use report::gen_source;
@@ -184,7 +185,7 @@ pub fn answer_words<F: Files>(
 {
     match request_in(alloc, words) {
         Ok(request) => answer_request(alloc, request, files),
-        Err(Refusal::Usage) => Ok(usage(alloc)?),
-        Err(Refusal::Memory) => Err(Status::Memory),
+        Err(WordsFault::Usage) => Ok(usage(alloc)?),
+        Err(WordsFault::Memory) => Err(Status::Memory),
     }
 }

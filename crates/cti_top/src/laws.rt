@@ -21,7 +21,7 @@ ghost use Rattle.cti_top.specs.Programs.{IsRefused};
 ghost use Rattle.cti_top.specs.Queries.{Known, IsQueryOf, IsQueryRefused};
 ghost use Rattle.cti_top.specs.Runs.{IsFinished, IsKnown};
 ghost use Rattle.cti_top.specs.Sessions.{IsRefusedSession, IsToldBy};
-ghost use Rattle.cti_top.specs.Words.{asks, infer, check, lex, loop, norm_in, run, session};
+ghost use Rattle.command_words.specs.Words.{asks, infer, check, lex, loop, norm_in, run, session};
 
 use cert_checker::valid_certificates_bound_their_modes;
 use ld_resolver::laws::{a_budget_of_all_nodes_finishes, bounded_goals_have_finitely_many_nodes};
@@ -41,25 +41,6 @@ pub fn valid_certificates_bound_their_nodes()
     bounded_goals_have_finitely_many_nodes();
     a_budget_of_all_nodes_finishes();
 }
-
-/// What words ask for where files, the query and the norm are not empty and do not begin with a dash.
-pub fn plain_words_ask()
-    ensures infer { (c : ℕ) (cs : List ℕ) → nat_eq c 45 ≡ false
-        → asks (codes "infer" ∷ (c ∷ cs) ∷ []) ≡ Some (infer (c ∷ cs) norm.Term) }
-    ensures norm { (c d : ℕ) (cs ds : List ℕ) → nat_eq c 45 ≡ false → nat_eq d 45 ≡ false
-        → asks (codes "infer" ∷ (c ∷ cs) ∷ codes "--norm" ∷ (d ∷ ds) ∷ [])
-        ≡ option_map (infer (c ∷ cs)) (norm_in (d ∷ ds)) }
-    ensures check { (c d : ℕ) (cs ds : List ℕ) → nat_eq c 45 ≡ false → nat_eq d 45 ≡ false
-        → asks (codes "check" ∷ (c ∷ cs) ∷ (d ∷ ds) ∷ []) ≡ Some (check (c ∷ cs) (d ∷ ds)) }
-    ensures run { (c d : ℕ) (cs ds : List ℕ) → nat_eq c 45 ≡ false → nat_eq d 45 ≡ false
-        → asks (codes "run" ∷ (c ∷ cs) ∷ (d ∷ ds) ∷ []) ≡ Some (run (c ∷ cs) (d ∷ ds) 100000) }
-    ensures lex { (c : ℕ) (cs : List ℕ) → nat_eq c 45 ≡ false
-        → asks (codes "lex" ∷ (c ∷ cs) ∷ []) ≡ Some (lex (c ∷ cs)) }
-    ensures find_loop { (c d : ℕ) (cs ds : List ℕ) → nat_eq c 45 ≡ false → nat_eq d 45 ≡ false
-        → asks (codes "loop" ∷ (c ∷ cs) ∷ (d ∷ ds) ∷ []) ≡ Some (loop (c ∷ cs) (d ∷ ds) 8) }
-    ensures session { (c : ℕ) (cs : List ℕ) → nat_eq c 45 ≡ false
-        → asks (codes "session" ∷ (c ∷ cs) ∷ []) ≡ Some (session (c ∷ cs)) }
-{}
 
 /// Bytes are exactly one program, with its names and operators, or they are refused, for one fault at one place; and never both. The same of
 /// a query of a program. No two names of a program have the same text.

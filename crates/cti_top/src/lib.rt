@@ -5,30 +5,26 @@ mod answer;
 pub mod answered_laws;
 mod answering;
 mod checking;
-mod command_line;
 pub mod generated_laws;
 mod generating;
 mod inferring;
 pub mod laws;
 mod lexing;
 mod looping;
-mod norms;
-pub mod number_laws;
 mod places;
 mod querying;
 mod refusal;
-mod request;
 mod running;
 mod session;
 mod source;
 mod status;
-mod steps;
 mod sure;
 mod top_call;
 mod verdicts;
 
 pub use outside::{
-    Files, LoadFault, MemFiles, MemSink, RealFiles, RealSink, Sink, SinkFault, SureFiles, SureSink,
+    Files, LoadFault, MemFiles, MemSink, RealFiles, RealSink, Sink, SinkFault,
+    SureFiles, SureSink,
 };
 pub use refusal::{Subject, refusal_text};
 pub use status::Status;

@@ -4,7 +4,7 @@ ghost use Rattle.std.specs.Prelude.{◌≡◌, ◌≤◌, map, Some};
 ghost use Rattle.outside.specs.Causes.{Rose};
 ghost use Rattle.outside.specs.Told.{Keeps};
 ghost use Rattle.cti_top.specs.Outcome.{FileRose, Outcome};
-ghost use Rattle.cti_top.specs.Words.{Ask, asks};
+ghost use Rattle.command_words.specs.Words.{Ask, asks};
 
 use crate::answering::answer_words;
 use crate::status::Status;

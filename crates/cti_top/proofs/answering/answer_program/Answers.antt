@@ -1,7 +1,8 @@
 use Rattle.std.proofs.Common.{ℕ, List, sym, subst}
-use Rattle.cti_top.specs.Answers.{ask_of, AnswersAsk, AnswersLoop, AnswersQuery}
+use Rattle.command_words.specs.Requests.{ask_of}
+use Rattle.cti_top.specs.Answers.{AnswersAsk, AnswersLoop, AnswersQuery}
 use Rattle.cti_top.specs.Known.{known_of}
-use Rattle.cti_top.specs.declared.request.Request.{Request}
+use Rattle.command_words.specs.declared.request.Request.{Request}
 use Rattle.cti_top.proofs.AnswerLemmas.{if_ok}
 use Rattle.cti_top.proofs.answering.answer_program.Goals as goal
 

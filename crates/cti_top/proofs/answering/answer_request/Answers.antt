@@ -1,9 +1,10 @@
 use Rattle.std.proofs.Common.{subst}
-use Rattle.cti_top.specs.Answers.{ask_of, AnswersProgram}
+use Rattle.command_words.specs.Requests.{ask_of}
+use Rattle.cti_top.specs.Answers.{AnswersProgram}
 use Rattle.cti_top.specs.Answers as answers
 use Rattle.cti_top.specs.Outcome.{TellsText}
 use Rattle.outside.specs.Told.{Map}
-use Rattle.cti_top.specs.Words.{Origin}
+use Rattle.command_words.specs.Words.{Origin}
 use Rattle.cti_top.proofs.AnswerLemmas.{if_ok}
 use Rattle.cti_top.proofs.KeepLemmas.{keeps_then, loaded}
 use Rattle.cti_top.proofs.answering.answer_request.Goals as goal

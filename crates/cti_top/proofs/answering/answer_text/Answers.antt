@@ -1,8 +1,9 @@
 use Rattle.std.proofs.Common.{ℕ, List, inr, rules, subst, sym}
 use Rattle.std.specs.Prelude.{◌≢◌}
-use Rattle.cti_top.specs.Answers.{AnswersProgram, ask_of}
-use Rattle.cti_top.specs.declared.request.Request.{Request}
-use Rattle.cti_top.specs.Words.{session}
+use Rattle.command_words.specs.Requests.{ask_of}
+use Rattle.cti_top.specs.Answers.{AnswersProgram}
+use Rattle.command_words.specs.declared.request.Request.{Request}
+use Rattle.command_words.specs.Words.{session}
 use Rattle.cti_top.proofs.AnswerLemmas.{refused_for}
 use Rattle.cti_top.specs.Known.{known_of}
 use Rattle.cti_top.proofs.answering.answer_text.Goals as goal

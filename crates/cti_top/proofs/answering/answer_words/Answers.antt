@@ -1,5 +1,5 @@
 use Rattle.std.proofs.Common.{map}
-use Rattle.cti_top.specs.Answers.{ask_of}
+use Rattle.command_words.specs.Requests.{ask_of}
 use Rattle.cti_top.proofs.AnswerLemmas.{if_ok}
 use Rattle.cti_top.proofs.OutcomeLemmas.{request_answered}
 use Rattle.cti_top.proofs.answering.answer_words.Goals as goal

@@ -1,8 +1,8 @@
 //! The command line, part by part, as `clap` reads it.
 
 ghost use Rattle.std.specs.Prelude.{◌≡◌, IfOk, false, codes};
-ghost use Rattle.cti_top.specs.Words.{command_line, top_command, infer_command, check_command, run_command, gen_command, lex_command, loop_command, session_command, required_word, option};
-ghost use Rattle.cti_top.specs.CommandLine.{IsCommandLine};
+ghost use Rattle.command_words.specs.Words.{command_line, top_command, infer_command, check_command, run_command, gen_command, lex_command, loop_command, session_command, required_word, option};
+ghost use Rattle.command_words.specs.CommandLine.{IsCommandLine};
 ghost use Rattle.clap.specs.declared.Command.TheViews.{out-Command};
 ghost use Rattle.clap.specs.Words.{app_of, rule_of, with_rule, with_subcommand};
 

@@ -2,8 +2,8 @@
 
 ghost use Rattle.std.specs.Prelude.{◌≡◌, ◌≢◌, codes, map, [], Some, None, option_map, IfOk, IfErr, IfSome, IfNone, IsErrOf};
 ghost use Rattle.clap.specs.Words.{fault_of, first_of, found_of, rows_of, subcommand_of, subcommand_rows_of};
-ghost use Rattle.cti_top.specs.Words.{asks, ask_by, command_line, depth_of, gen as asked_gen, given, infer as asked_infer, loop as asked_loop, norm_of, origin, predicates_in, usage_lines};
-ghost use Rattle.cti_top.specs.Answers.{ask_of, origin_of, IsAskInRange};
+ghost use Rattle.command_words.specs.Words.{asks, ask_by, command_line, depth_of, gen as asked_gen, given, infer as asked_infer, loop as asked_loop, norm_of, origin, predicates_in, usage_lines};
+ghost use Rattle.command_words.specs.Requests.{ask_of, origin_of, IsAskInRange};
 
 use crate::command_line::command_line;
 use crate::norms::norm_of;
@@ -15,7 +15,7 @@ use term_size::NormName;
 
 /// Why the words are not a command.
 #[derive(Clone, Copy, PartialEq, Eq)]
-pub enum Refusal {
+pub enum WordsFault {
     /// They are none.
     Usage,
     /// Memory ran out.
@@ -68,8 +68,8 @@ impl<'a> Request<'a> {
 }
 
 /// The matches of the words, or why there are none.
-fn matches_of<'a>(alloc: Global, words: &'a [&'a str]) -> Result<ArgMatches<'a>, Refusal>
-    ensures usage { IsErrOf result Refusal.Usage
+fn matches_of<'a>(alloc: Global, words: &'a [&'a str]) -> Result<ArgMatches<'a>, WordsFault>
+    ensures usage { IsErrOf result WordsFault.Usage
         → fault_of command_line (map (λ w. w.now) words.entry.now) ≢ [] }
     ensures taken { IfOk result (λ _. fault_of command_line (map (λ w. w.now) words.entry.now)
         ≡ []) }
@@ -78,13 +78,13 @@ fn matches_of<'a>(alloc: Global, words: &'a [&'a str]) -> Result<ArgMatches<'a>,
         (map (λ w. w.now) words.entry.now)) }
 {
     let Ok(command) = command_line(alloc) else {
-        return Err(Refusal::Memory);
+        return Err(WordsFault::Memory);
     };
     match command.try_get_matches_from(words) {
         Ok(matches) => Ok(matches),
         Err(error) => match error.kind() {
-            ErrorKind::OutOfMemory => Err(Refusal::Memory),
-            _ => Err(Refusal::Usage),
+            ErrorKind::OutOfMemory => Err(WordsFault::Memory),
+            _ => Err(WordsFault::Usage),
         },
     }
 }
@@ -116,46 +116,46 @@ fn word<'a>(matches: &ArgMatches<'a>, id: &str) -> &'a str
 }
 
 /// What `gen` asks for by its word, or why it is not a command.
-fn generation<'a>(matches: &ArgMatches<'a>) -> Result<Request<'a>, Refusal>
+fn generation<'a>(matches: &ArgMatches<'a>) -> Result<Request<'a>, WordsFault>
     ensures asked { IfOk result
         (λ r. option_map asked_gen
         (predicates_in (given (codes "count") (rows_of (found_of matches.now))))
         ≡ Some (ask_of r)) }
-    ensures usage { IfErr result (λ e. (e ≡ Refusal.Usage)
+    ensures usage { IfErr result (λ e. (e ≡ WordsFault.Usage)
         × (option_map asked_gen (predicates_in
         (given (codes "count") (rows_of (found_of matches.now)))) ≡ None)) }
     ensures range { IfOk result (λ r. IsAskInRange (ask_of r)) }
 {
     match predicates_in(word(matches, "count")) {
         Some(count) => Ok(Request::Generate(count)),
-        None => Err(Refusal::Usage),
+        None => Err(WordsFault::Usage),
     }
 }
 
 /// What `infer` asks for by its words, or why it is not a command.
-fn inference<'a>(matches: &ArgMatches<'a>) -> Result<Request<'a>, Refusal>
+fn inference<'a>(matches: &ArgMatches<'a>) -> Result<Request<'a>, WordsFault>
     ensures asked { IfOk result
         (λ r. option_map (asked_infer (given (codes "file") (rows_of (found_of matches.now))))
         (norm_of (first_of (codes "norm") (rows_of (found_of matches.now)))) ≡ Some (ask_of r)) }
-    ensures usage { IfErr result (λ e. (e ≡ Refusal.Usage)
+    ensures usage { IfErr result (λ e. (e ≡ WordsFault.Usage)
         × (option_map (asked_infer (given (codes "file") (rows_of (found_of matches.now))))
         (norm_of (first_of (codes "norm") (rows_of (found_of matches.now)))) ≡ None)) }
     ensures range { IfOk result (λ r. IsAskInRange (ask_of r)) }
 {
     match norm_of(value(matches, "norm")) {
         Some(norm) => Ok(Request::Infer(word(matches, "file"), norm)),
-        None => Err(Refusal::Usage),
+        None => Err(WordsFault::Usage),
     }
 }
 
 /// What `loop` asks for by its words, or why it is not a command.
-fn loop_search<'a>(matches: &ArgMatches<'a>) -> Result<Request<'a>, Refusal>
+fn loop_search<'a>(matches: &ArgMatches<'a>) -> Result<Request<'a>, WordsFault>
     ensures asked { IfOk result
         (λ r. option_map (asked_loop (given (codes "file") (rows_of (found_of matches.now)))
         (given (codes "query") (rows_of (found_of matches.now))))
         (depth_of (first_of (codes "depth") (rows_of (found_of matches.now))))
         ≡ Some (ask_of r)) }
-    ensures usage { IfErr result (λ e. (e ≡ Refusal.Usage)
+    ensures usage { IfErr result (λ e. (e ≡ WordsFault.Usage)
         × (option_map (asked_loop (given (codes "file") (rows_of (found_of matches.now)))
         (given (codes "query") (rows_of (found_of matches.now))))
         (depth_of (first_of (codes "depth") (rows_of (found_of matches.now)))) ≡ None)) }
@@ -163,15 +163,15 @@ fn loop_search<'a>(matches: &ArgMatches<'a>) -> Result<Request<'a>, Refusal>
 {
     match depth_of(value(matches, "depth")) {
         Some(depth) => Ok(Request::Loop(word(matches, "file"), word(matches, "query"), depth)),
-        None => Err(Refusal::Usage),
+        None => Err(WordsFault::Usage),
     }
 }
 
 /// What a command asks for by its arguments, or why it is not a command.
-fn request_by<'a>(name: &str, given: &ArgMatches<'a>) -> Result<Request<'a>, Refusal>
+fn request_by<'a>(name: &str, given: &ArgMatches<'a>) -> Result<Request<'a>, WordsFault>
     ensures asked { IfOk result
         (λ r. ask_by name.now (rows_of (found_of given.now)) ≡ Some (ask_of r)) }
-    ensures usage { IfErr result (λ e. (e ≡ Refusal.Usage)
+    ensures usage { IfErr result (λ e. (e ≡ WordsFault.Usage)
         × (ask_by name.now (rows_of (found_of given.now)) ≡ None)) }
     ensures range { IfOk result (λ r. IsAskInRange (ask_of r)) }
 {
@@ -196,21 +196,21 @@ fn request_by<'a>(name: &str, given: &ArgMatches<'a>) -> Result<Request<'a>, Ref
     }
     match steps_of(value(given, "steps")) {
         Some(steps) => Ok(Request::Run(file, word(given, "query"), steps)),
-        None => Err(Refusal::Usage),
+        None => Err(WordsFault::Usage),
     }
 }
 
 /// What the words ask for, or why they are not a command.
 #[tactic(auto, using(crate::proofs::WordLemmas::is_entered, crate::proofs::WordLemmas::none_asked))]
-pub fn request_in<'a>(alloc: Global, words: &'a [&'a str]) -> Result<Request<'a>, Refusal>
+pub fn request_in<'a>(alloc: Global, words: &'a [&'a str]) -> Result<Request<'a>, WordsFault>
     ensures asked { IfOk result (λ r. asks (map (λ w. w.now) words.entry.now) ≡ Some (ask_of r)) }
-    ensures usage { IsErrOf result Refusal.Usage → asks (map (λ w. w.now) words.entry.now) ≡ None }
+    ensures usage { IsErrOf result WordsFault.Usage → asks (map (λ w. w.now) words.entry.now) ≡ None }
     ensures range { IfOk result (λ r. IsAskInRange (ask_of r)) }
 {
     let matches = matches_of(alloc, words)?;
     match entered(&matches) {
         Some((name, given)) => request_by(name, given),
-        None => Err(Refusal::Usage),
+        None => Err(WordsFault::Usage),
     }
 }
 

@@ -2,7 +2,7 @@ use Rattle.std.proofs.Common.{◌≡◌, ◌≤◌, drop}
 use Rattle.std.specs.Char.{is_digit}
 use Rattle.std.specs.List.{list_all}
 use Rattle.std.specs.Str.Parse.{digits_value, digits_value_after}
-use Rattle.cti_top.proofs.steps.number_in.Given as goal
+use Rattle.command_words.proofs.steps.number_in.Given as goal
 
 -- the number so far with the digits that are left is the whole number
 abbrev pub invariant-loop-byte : goal.invariant-loop-byte

@@ -7,7 +7,7 @@ use Rattle.clap.specs.Faults.{defaults_fault, level_fault, settle_fault, walk_fa
 use Rattle.clap.specs.Simple.{Shape, built}
 use Rattle.clap.specs.Walk.{Held, Names, settled, walk, walk_from}
 use Rattle.clap.proofs.OnLiterals.{clap_on_literals}
-use Rattle.cti_top.specs.Words.{command_line, ask_if, asks, infer, check, run, gen, lex, loop, session, norm_in, predicates_in}
+use Rattle.command_words.specs.Words.{command_line, ask_if, asks, infer, check, run, gen, lex, loop, session, norm_in, predicates_in}
 
 or_else_nil : (a b : Kinds) → or_else a b ≡ [] → (a ≡ []) × (b ≡ [])
 or_else_nil [] b h = (refl, h)

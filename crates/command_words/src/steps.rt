@@ -2,7 +2,7 @@
 //! generated.
 
 ghost use Rattle.std.specs.Prelude.{◌≡◌, ◌≤◌, Option, option_map, IfSome};
-ghost use Rattle.cti_top.specs.Words.{depth_of, number_in, predicates_in, steps_of};
+ghost use Rattle.command_words.specs.Words.{depth_of, number_in, predicates_in, steps_of};
 
 /// How many nodes are looked at where the words do not say.
 const USUAL_STEPS: u64 = 100_000;

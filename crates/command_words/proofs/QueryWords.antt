@@ -7,7 +7,7 @@ use Rattle.clap.specs.Faults.{check_fault, defaults_fault, level_fault, settle_f
 use Rattle.clap.specs.Simple.{Shape, built, new_shape}
 use Rattle.clap.specs.Walk.{Held, Names, Walk, finished, idle, nothing_held, option, pushed, rows_after, settled, walk, walk_from, walked}
 use Rattle.clap.proofs.OnLiterals.{clap_on_literals}
-use Rattle.cti_top.specs.Words.{Ask, command_line, ask_by, ask_if, asks, run, loop, steps_in, depth_in}
+use Rattle.command_words.specs.Words.{Ask, command_line, ask_by, ask_if, asks, run, loop, steps_in, depth_in}
 
 -- the two commands
 data Asker : Type 0 where

@@ -1,5 +1,5 @@
-use Rattle.cti_top.proofs.WordLemmas.{infer_asks, norm_asks, check_asks, run_asks, lex_asks, loop_asks, session_asks}
-use Rattle.cti_top.proofs.laws.plain_words_ask.Goals as goal
+use Rattle.command_words.proofs.WordLemmas.{infer_asks, norm_asks, check_asks, run_asks, lex_asks, loop_asks, session_asks}
+use Rattle.command_words.proofs.laws.plain_words_ask.Goals as goal
 
 pub returns-clause-infer : goal.returns-clause-infer
 returns-clause-infer c = infer_asks

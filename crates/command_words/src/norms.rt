@@ -1,7 +1,7 @@
 //! Norms in words.
 
 ghost use Rattle.std.specs.Prelude.{◌≡◌, option_map};
-ghost use Rattle.cti_top.specs.Words.{norm_in, norm_of};
+ghost use Rattle.command_words.specs.Words.{norm_in, norm_of};
 
 use term_size::NormName;
 

@@ -4,7 +4,7 @@ use Rattle.std.proofs.lemmas.List.{at_drop_more}
 use Rattle.std.proofs.lemmas.Bool.{lt-leb}
 use Rattle.std.specs.Char.{digit_value}
 use Rattle.std.specs.Str.Parse.{digits_value, digits_value_after}
-use Rattle.cti_top.specs.Words.{is_short_number, number_in}
+use Rattle.command_words.specs.Words.{is_short_number, number_in}
 
 -- more digits make no number less
 pub after_least : (n : ℕ) (ds : List ℕ) → n ≤ digits_value_after 10 n ds

@@ -1,6 +1,6 @@
 use Rattle.std.proofs.Common.{◌*◌, ◌+◌, ◌<◌, arith}
-use Rattle.cti_top.proofs.StepLemmas.{too_many}
-use Rattle.cti_top.proofs.steps.number_in.Goals as goal
+use Rattle.command_words.proofs.StepLemmas.{too_many}
+use Rattle.command_words.proofs.steps.number_in.Goals as goal
 
 pub returns-then-value-greatest-clause-number : goal.returns-then-value-greatest-clause-number
 returns-then-value-greatest-clause-number c =

@@ -1,0 +1,4 @@
+pub mod WordLemmas
+pub mod QueryWords
+pub mod StepLemmas
+pub mod GeneratedWords
