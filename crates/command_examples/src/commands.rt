@@ -2,8 +2,8 @@
 //! in the program `cases`.
 
 use cti_top::{
-    Files, LoadFault, MemFiles, MemSink, RealFiles, RealSink, Sink, SinkFault, Status, Subject,
-    SureFiles, SureSink, command, refusal_text,
+    Files, KeptFiles, LoadFault, MemFiles, MemSink, RealFiles, RealSink, Sink, SinkFault, Status,
+    Subject, SureFiles, SureSink, command, refusal_text,
 };
 use std::alloc::{AllocError, Global};
 use std::collections::BTreeMap;
@@ -280,6 +280,29 @@ fn a_real_file(rt: HostRuntime) -> Result<(), Fail> {
     std::fs::write(&rt, &path, "p(a).\n")?;
     assert!(rt; is_file_read(&rt, path.to_str().unwrap_or("")));
     std::fs::remove_file(&rt, &path)?;
+    Ok(())
+}
+
+/// Whether the texts of the loads that gave one are kept in their order, of a store whose second load fails and whose third is
+/// of too long a file.
+fn are_texts_kept(alloc: Global) -> Result<bool, AllocError> {
+    let mut files = KeptFiles::new(alloc, store(alloc, b"p(a).\n", &[2])?);
+    Ok(
+        files.text(0).is_empty()
+            && files.load(alloc, "a.pl", 6).is_ok()
+            && files.load(alloc, "a.pl", 6).err() == Some(LoadFault::Failed)
+            && files.load(alloc, "a.pl", 5).err() == Some(LoadFault::TooLong)
+            && files.text(0) == b"p(a).\n".as_slice()
+            && files.text(1).is_empty()
+            && files.load(alloc, "a.pl", 7).is_ok()
+            && files.text(1) == b"p(a).\n".as_slice()
+            && files.inner.faults == 1,
+    )
+}
+
+#[test]
+fn a_store_that_keeps(rt: HostRuntime) -> Result<(), Fail> {
+    assert!(rt; are_texts_kept(rt.alloc())?);
     Ok(())
 }
 

@@ -4,7 +4,7 @@
 
 mod keeping;
 
-use cti_top::{RealFiles, RealSink, Status, command};
+use cti_top::{Files, KeptFiles, RealFiles, RealSink, Status, command};
 use keeping::Keeping;
 use messages::{Ending, explain};
 use mode_notes::call_notes;
@@ -31,12 +31,26 @@ fn words(rt: &HostRuntime, alloc: Global) -> Result<Vec<String>, AllocError> {
 
 /// Writes the message about a call, the warnings about its texts and the notes about the modes that it wrote on standard error.
 /// Where this fails, nobody reads it.
-fn tell(rt: &HostRuntime, ending: Ending<'_>, text: &[u8]) -> Result<(), AllocError> {
+fn tell<'a, F: Files + Drop, W: Write + Drop>(
+    rt: &HostRuntime,
+    status: Status,
+    words: &'a [&'a str],
+    files: &'a KeptFiles<F>,
+    out: &'a RealSink<Keeping<W>>,
+) -> Result<(), AllocError> {
+    let ending = Ending {
+        status: status.number(),
+        words,
+        output: out.head(),
+        written: out.taken(),
+        program: files.text(0),
+        certificate: files.text(1),
+    };
     let message = explain(rt, ending)?;
     let _ = rt.stderr().write_all(&message);
-    let warnings = warn(rt, ending)?;
+    let warnings = warn(rt.alloc(), ending)?;
     let _ = rt.stderr().write_all(&warnings);
-    let notes = call_notes(rt, ending, text)?;
+    let notes = call_notes(rt.alloc(), ending, out.inner.text())?;
     let _ = rt.stderr().write_all(&notes);
     Ok(())
 }
@@ -48,21 +62,16 @@ fn run(rt: &HostRuntime, alloc: Global) -> Result<Status, AllocError> {
     for word in &words {
         texts.push(word.as_str())?;
     }
-    let mut files = RealFiles {
+    let inner = RealFiles {
         runtime: rt,
         faults: 0,
     };
+    let mut files = KeptFiles::new(alloc, inner);
     let keeps = matches!(texts.first().copied(), Some("infer" | "lex"));
     let mut out = RealSink::new(Keeping::new(alloc, rt.stdout(), keeps));
     let status = command(alloc, &texts, &mut files, &mut out);
-    let ending = Ending {
-        status: status.number(),
-        words: &texts,
-        output: out.head(),
-        written: out.taken(),
-    };
     // The answer is written, and stands, if there is no memory for the message.
-    let _ = tell(rt, ending, out.inner.text());
+    let _ = tell(rt, status, &texts, &files, &out);
     Ok(status)
 }
 

@@ -23,7 +23,7 @@ mod top_call;
 mod verdicts;
 
 pub use outside::{
-    Files, LoadFault, MemFiles, MemSink, RealFiles, RealSink, Sink, SinkFault,
+    Files, KeptFiles, LoadFault, MemFiles, MemSink, RealFiles, RealSink, Sink, SinkFault,
     SureFiles, SureSink,
 };
 pub use refusal::{Subject, refusal_text};

@@ -2,10 +2,12 @@
 
 use crate::call::Call;
 use crate::question::Question;
-use messages::{FileCause, NoReason, RefusalKind, Texts, Trouble, Words, message, push_help};
-use mode_notes::{check_note, norm_note, program_notes};
+use messages::{
+    FileCause, NoReason, RefusalKind, Texts, Trouble, Words, call_message, message, push_help,
+};
+use mode_notes::{call_notes, check_note, norm_note, program_notes};
 use std::alloc::{AllocError, Global};
-use warnings::{program_warnings, query_warnings};
+use warnings::{program_warnings, query_warnings, warn};
 
 /// The names of the program and of the certificate that are warned of or noted.
 const PROGRAM: &str = "a.pl";
@@ -23,7 +25,8 @@ pub(crate) fn answer(
 ) -> Result<Vec<u8>, AllocError> {
     let (program, certificate) = (call.text(PROGRAM), call.text(CERTIFICATE));
     match question {
-        Question::Message => call_message(alloc, call),
+        Question::Message => message_about(alloc, call),
+        Question::All => all_about(alloc, call),
         Question::FirstLine => first_line(alloc, call),
         Question::LastLine => last_line(alloc, call),
         Question::Words => told_words(alloc, call),
@@ -41,25 +44,31 @@ pub(crate) fn answer(
 }
 
 /// The message about a call, which is empty where there is nothing to say.
-fn call_message(alloc: Global, call: &Call) -> Result<Vec<u8>, AllocError> {
+fn message_about(alloc: Global, call: &Call) -> Result<Vec<u8>, AllocError> {
+    let words = call.words(alloc)?;
+    call_message(alloc, call.ending(&words))
+}
+
+/// The message about a call, the warnings about its texts and the notes about what it wrote.
+fn all_about(alloc: Global, call: &Call) -> Result<Vec<u8>, AllocError> {
     let words = call.words(alloc)?;
     let ending = call.ending(&words);
-    match ending.trouble() {
-        Some(trouble) => message(alloc, trouble, call.texts(ending.told_words(), trouble)),
-        None => Ok(Vec::new(alloc)),
-    }
+    let mut said = call_message(alloc, ending)?;
+    said.extend_from_slice(&warn(alloc, ending)?)?;
+    said.extend_from_slice(&call_notes(alloc, ending, ending.output)?)?;
+    Ok(said)
 }
 
 /// The first line of the message about a call.
 fn first_line(alloc: Global, call: &Call) -> Result<Vec<u8>, AllocError> {
-    let said = call_message(alloc, call)?;
+    let said = message_about(alloc, call)?;
     let mut lines = said.split_inclusive(|byte| *byte == b'\n');
     Vec::from_slice(alloc, lines.next().unwrap_or(b""))
 }
 
 /// The last line of the message about a call.
 fn last_line(alloc: Global, call: &Call) -> Result<Vec<u8>, AllocError> {
-    let said = call_message(alloc, call)?;
+    let said = message_about(alloc, call)?;
     let mut last = b"".as_slice();
     for line in said.split_inclusive(|byte| *byte == b'\n') {
         last = line;

@@ -1,6 +1,6 @@
 //! The call that a case is about.
 
-use messages::{Ending, Subject, Texts, Trouble, Words};
+use messages::{Ending, Words};
 use std::alloc::{AllocError, Global};
 use std::collections::BTreeMap;
 
@@ -88,30 +88,14 @@ impl Call {
 
     /// How it ended, with its words.
     pub(crate) fn ending<'a>(&'a self, words: &'a [&'a str]) -> Ending<'a> {
+        let told = Words::of(words);
         Ending {
             status: self.status,
             words,
             output: &self.output,
             written: self.output.len() as u64,
-        }
-    }
-
-    /// The texts that a message about a trouble is made from: that of the place, and the program's.
-    pub(crate) fn texts<'a>(&'a self, words: Words<'a>, trouble: Trouble<'a>) -> Texts<'a> {
-        Texts {
-            told: self.told(words, trouble),
-            program: self.text(words.file()),
-        }
-    }
-
-    /// The text that has the place of a trouble.
-    fn told<'a>(&'a self, words: Words<'a>, trouble: Trouble<'a>) -> &'a [u8] {
-        if let Trouble::Refused(Subject::Query, ..) = trouble {
-            return words.second().as_bytes();
-        }
-        match trouble.place() {
-            Some(place) => self.text(place.name),
-            None => b"",
+            program: self.text(told.file()),
+            certificate: self.text(told.second()),
         }
     }
 }

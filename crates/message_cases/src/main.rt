@@ -14,6 +14,7 @@
 //! The questions are:
 //!
 //! - `message`: the message about the call; `first line`, `last line`: that line of it.
+//! - `all`: the message, the warnings and the notes about the call.
 //! - `words`: the two words of the call that name files or are a query, each in a line.
 //! - `refusal NUMBER`, `reason NUMBER`: the sentence of that kind of refusal, or of that reason of a No, and its usual advice.
 //! - `cause CAUSE`: the message about a file that is not loaded since it is `missing`, `exchanged`, `denied`, a `directory` or `other`.

@@ -8,6 +8,8 @@ use std::io::ErrorKind;
 pub(crate) enum Question {
     /// The message about the call.
     Message,
+    /// All that is said about the call.
+    All,
     /// The first line of the message.
     FirstLine,
     /// The last line of the message.
@@ -37,6 +39,7 @@ impl Question {
     pub(crate) fn of(words: &str) -> Option<Question> {
         match words {
             "message" => Some(Question::Message),
+            "all" => Some(Question::All),
             "first line" => Some(Question::FirstLine),
             "last line" => Some(Question::LastLine),
             "words" => Some(Question::Words),

@@ -1,5 +1,7 @@
 //! How a call of the command ended.
 
+use crate::texts::Texts;
+use crate::told::Subject;
 use crate::trouble::Trouble;
 use crate::words::Words;
 
@@ -29,6 +31,10 @@ pub struct Ending<'a> {
     pub output: &'a [u8],
     /// How many bytes were written there.
     pub written: u64,
+    /// The text of the program, or of the edits. It is empty where it was not loaded, or not kept.
+    pub program: &'a [u8],
+    /// The text of the certificate, in the same way.
+    pub certificate: &'a [u8],
 }
 
 impl<'a> Ending<'a> {
@@ -54,6 +60,19 @@ impl<'a> Ending<'a> {
             MEMORY => Some(Trouble::Memory),
             OVERFLOW => Some(Trouble::Overflow),
             _ => None,
+        }
+    }
+
+    /// The texts that a message about a trouble is made from: the one that has its place, and the program's.
+    pub fn texts(self, trouble: Trouble<'a>) -> Texts<'a> {
+        let told = match trouble {
+            Trouble::Refused(Subject::Query, ..) => self.told_words().second().as_bytes(),
+            Trouble::Refused(Subject::Certificate, ..) | Trouble::NotValid(..) => self.certificate,
+            _ => self.program,
+        };
+        Texts {
+            told,
+            program: self.program,
         }
     }
 }

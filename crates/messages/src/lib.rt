@@ -2,7 +2,7 @@
 //! place, the line of the text, and what to do.
 //!
 //! The answer on standard output is made elsewhere, and its beginning is read here as any reader would read it: `Ending` says how the
-//! call ended, and `explain` makes the message. It depends on `mistakes`, for what a text shows about a mistake.
+//! call ended and which texts it loaded, and `explain` makes the message. It depends on `mistakes`, for what a text shows about a mistake.
 #![tactic(auto)]
 
 mod advising;
@@ -31,7 +31,7 @@ pub use command_option::CommandOption;
 pub use ending::Ending;
 pub use excerpt::{push_excerpt, push_shown};
 pub use expected::{Expected, Stop, expected_at};
-pub use explaining::{explain, text_again};
+pub use explaining::{call_message, explain};
 pub use file_cause::FileCause;
 pub use no_reason::NoReason;
 pub use place::Place;

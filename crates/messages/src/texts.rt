@@ -1,6 +1,6 @@
 //! The texts that a message is about.
 
-/// The texts that a message is about. Each may be empty, where it cannot be read again.
+/// The texts that a message is about. Each may be empty, where it was not kept.
 #[derive(Clone, Copy)]
 pub struct Texts<'a> {
     /// The text that has the place.

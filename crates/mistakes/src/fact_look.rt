@@ -3,11 +3,9 @@
 use crate::fact_forms::{FactForm, form_of};
 use crate::fact_mistake::FactMistake;
 use crate::gap::first_name;
+use crate::mode_numbers::MOST_ARGUMENTS;
 use crate::word_reader::{Look, Word, WordReader, shown_name};
 use prolog_tokens::TokenKind;
-
-/// The most arguments of a predicate.
-const MOST_ARGUMENTS: i128 = 12;
 
 /// The names of the norms.
 const NORMS: [&[u8]; 2] = [b"term", b"list"];
@@ -155,7 +153,7 @@ impl<'a> FactLook<'a> {
 
     /// What a number shows that is not in the range of its part.
     fn range_mistake(&self, number: i128) -> Option<FactMistake<'a>> {
-        if self.is_pred() && number > MOST_ARGUMENTS {
+        if self.is_pred() && number > MOST_ARGUMENTS as i128 {
             Some(FactMistake::ManyArguments)
         } else if self.is_cell() && number != 0 && number != 1 {
             Some(FactMistake::Cell)
@@ -171,7 +169,7 @@ impl<'a> FactLook<'a> {
     }
 }
 
-/// What a line of a certificate shows that is no fact.
+/// What is wrong with a line of a certificate that is not a fact, where the line shows it.
 pub(crate) fn fact_mistake<'a>(line: &'a [u8]) -> Option<FactMistake<'a>> {
     let mut reader = WordReader::new(line, 0);
     let name = reader.next()?;

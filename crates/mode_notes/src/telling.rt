@@ -3,9 +3,8 @@
 use crate::expecting::expected_note;
 use crate::lists::is_of_lists;
 use crate::reading::notes_of;
-use messages::{Ending, ToldNo, Words, text_again};
+use messages::{Ending, ToldNo};
 use std::alloc::{AllocError, Global};
-use std::rt::Files;
 
 /// The exit status of a call that answered, and of one whose certificate is not valid.
 const DONE: u8 = 0;
@@ -73,50 +72,45 @@ pub fn check_note(
 }
 
 /// The note about the certificate of a call of `check` that is not valid.
-fn no_note<R: Files + AllocGlobal>(rt: &R, ending: Ending<'_>) -> Result<Vec<u8>, AllocError> {
-    let words = ending.told_words();
-    let program = text_again(rt, words.file());
-    let certificate = text_again(rt, words.second());
+fn no_note(alloc: Global, ending: Ending<'_>) -> Result<Vec<u8>, AllocError> {
     let output = std::str::from_utf8(ending.output).unwrap_or("");
-    let texts = (program.as_slice(), certificate.as_slice());
-    check_note(rt.alloc(), words.second(), texts, output)
+    let texts = (ending.program, ending.certificate);
+    check_note(alloc, ending.told_words().second(), texts, output)
 }
 
 /// The notes about the program of a call that wrote this certificate.
-fn infer_notes<R: Files + AllocGlobal>(
-    rt: &R,
-    words: Words<'_>,
+fn infer_notes(
+    alloc: Global,
+    ending: Ending<'_>,
     certificate: &[u8],
 ) -> Result<Vec<u8>, AllocError> {
-    let alloc = rt.alloc();
     let mut message = Vec::from_slice(alloc, norm_note(certificate))?;
     if lacks_modes(certificate) {
-        let text = text_again(rt, words.file());
-        let notes = program_notes(alloc, words.file(), &text, certificate)?;
+        let name = ending.told_words().file();
+        let notes = program_notes(alloc, name, ending.program, certificate)?;
         message.extend_from_slice(&notes)?;
     }
     Ok(message)
 }
 
 /// The notes about a call that answered, and wrote this text if it wrote a certificate.
-pub fn call_notes<R: Files + AllocGlobal>(
-    rt: &R,
+pub fn call_notes(
+    alloc: Global,
     ending: Ending<'_>,
     written: &[u8],
 ) -> Result<Vec<u8>, AllocError> {
     let words = ending.told_words();
     if ending.status == NO && words.has_certificate() {
-        return no_note(rt, ending);
+        return no_note(alloc, ending);
     }
     if ending.status != DONE {
-        return Ok(Vec::new(rt.alloc()));
+        return Ok(Vec::new(alloc));
     }
     if words.infers() || is_of_lists(written) {
-        infer_notes(rt, words, written)
+        infer_notes(alloc, ending, written)
     } else if words.has_certificate() {
-        let certificate = text_again(rt, words.second());
-        Vec::from_slice(rt.alloc(), norm_note(&certificate))
+        Vec::from_slice(alloc, norm_note(ending.certificate))
     } else {
-        Ok(Vec::new(rt.alloc()))
+        Ok(Vec::new(alloc))
     }
 }

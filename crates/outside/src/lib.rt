@@ -5,6 +5,7 @@
 #![tactic(auto)]
 
 mod files;
+mod kept_files;
 mod memory_files;
 mod memory_sink;
 mod real_files;
@@ -15,6 +16,7 @@ mod sure_sink;
 mod writing;
 
 pub use files::{Files, LoadFault};
+pub use kept_files::{KeptFiles, KeptTexts};
 pub use memory_files::MemFiles;
 pub use memory_sink::MemSink;
 pub use real_files::RealFiles;

@@ -7,11 +7,10 @@ use crate::parts::text_of;
 use crate::sentence::Sentence;
 use crate::warning::Warning;
 use cti_terms::{Name, Names, Pred};
-use messages::{Ending, Place, push_excerpt, push_help, push_shown, text_again};
+use messages::{Ending, Place, push_excerpt, push_help, push_shown};
 use mistakes::is_certificate;
 use prolog_reader::{ReadText, read_query, read_text};
 use std::alloc::{AllocError, Global};
-use std::rt::Files;
 
 /// How many warnings are written about a text.
 const MOST_WARNINGS: usize = 20;
@@ -247,16 +246,14 @@ pub fn query_warnings(alloc: Global, text: &[u8], query: &[u8]) -> Result<Vec<u8
 }
 
 /// The warnings about the program and the query of a call that answered.
-pub fn warn<R: Files + AllocGlobal>(rt: &R, ending: Ending<'_>) -> Result<Vec<u8>, AllocError> {
-    let alloc = rt.alloc();
+pub fn warn(alloc: Global, ending: Ending<'_>) -> Result<Vec<u8>, AllocError> {
     if !matches!(ending.status, DONE | NO | STOPPED) {
         return Ok(Vec::new(alloc));
     }
     let words = ending.told_words();
-    let text = text_again(rt, words.file());
-    let mut message = program_warnings(alloc, words.file(), &text)?;
+    let mut message = program_warnings(alloc, words.file(), ending.program)?;
     if words.has_query() {
-        let more = query_warnings(alloc, &text, words.second().as_bytes())?;
+        let more = query_warnings(alloc, ending.program, words.second().as_bytes())?;
         message.extend_from_slice(&more)?;
     }
     Ok(message)
