@@ -13,10 +13,10 @@ use Rattle.prolog_terms.specs.Terms.{clause_of}
 use Rattle.prolog_terms.specs.declared.clause.ReadClause.{ReadClause}
 use Rattle.termination_model.proofs.Lists.{place_below}
 use Rattle.cti_session.specs.Extending.{ArePushed, first_fault}
-use Rattle.cti_session.specs.Session.{nodes_in}
-use Rattle.cti_session.proofs.Clauses.{kept_push}
-use Rattle.cti_session.proofs.Lists.{get_front}
-use Rattle.cti_session.proofs.PlayLemmas.{append_none, nodes_both, nodes_more}
+use Rattle.edit_texts.specs.Snapshot.{nodes_in}
+use Rattle.edit_texts.proofs.Clauses.{kept_push}
+use Rattle.edit_texts.proofs.Lists.{get_front}
+use Rattle.edit_texts.proofs.PlayLemmas.{append_none, nodes_both, nodes_more}
 
 append_assoc : {X : Type 0} (xs ys zs : List X) → (xs ++ ys) ++ zs ≡ xs ++ (ys ++ zs)
 append_assoc [] ys zs = refl

@@ -1,10 +1,2 @@
-mod Answered
-mod BuiltAlike
-mod Clauses
-mod EditLemmas
 mod ExtendLemmas
-mod Lists
 mod NodeLemmas
-mod PlayLemmas
-mod Staying
-mod ToldLines

@@ -10,7 +10,7 @@ use Rattle.prolog_reader.specs.Fit.{IsFit}
 use Rattle.prolog_terms.specs.Clauses.{Clause}
 use Rattle.prolog_terms.specs.Terms.{clause_of}
 use Rattle.prolog_terms.specs.declared.clause.ReadClause.{ReadClause}
-use Rattle.cti_session.specs.Session.{nodes_in}
+use Rattle.edit_texts.specs.Snapshot.{nodes_in}
 
 -- the first fault of clauses that are added to n clauses, one after the other
 abbrev pub first_fault : List (List ℕ) → ℕ → List Clause → Option Fault

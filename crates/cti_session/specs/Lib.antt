@@ -1,11 +1,5 @@
-pub mod EditViews
-pub mod Edits
-pub mod EditsFaults
 pub mod Extending
 pub mod Faults
-pub mod Following
-pub mod Playing
 pub mod Session
 pub mod SnapshotCode
 pub mod Stacks
-pub mod Told

@@ -6,7 +6,7 @@ use Rattle.kept_program.specs.PartsCode.{coded_parts}
 use Rattle.kept_program.specs.ProgramParts.{ProgramParts}
 use Rattle.prolog_terms.specs.Clauses.{Clause}
 use Rattle.prolog_terms.specs.Coding.{coded_clause}
-use Rattle.cti_session.specs.Session.{Snapshot}
+use Rattle.edit_texts.specs.Snapshot.{Snapshot}
 
 -- a snapshot is stored as its two fields
 abbrev pub coded_snapshot : Coded Snapshot

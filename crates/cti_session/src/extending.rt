@@ -8,14 +8,14 @@ ghost use Rattle.kept_clauses.specs.KeptLists.{AreKeptList};
 ghost use Rattle.prolog_terms.specs.Clauses.{Clause};
 ghost use Rattle.cti_session.specs.Extending.{IsPushed, StartsWith, first_fault};
 ghost use Rattle.cti_session.specs.Faults.{IfNorm};
-ghost use Rattle.cti_session.specs.Following.{IsOneEdit, snapshot};
-ghost use Rattle.cti_session.specs.Session.{HasProgram, KeepUntouched, nodes_in};
+ghost use Rattle.edit_texts.specs.Following.{IsOneEdit, snapshot};
+ghost use Rattle.edit_texts.specs.Snapshot.{HasProgram, KeepUntouched, nodes_in};
 
 use crate::counting::term_nodes;
 use crate::edit::EditFault;
-use crate::following::follow;
 use clause_normal::check_added;
 use cti_terms::Names;
+use edit_texts::follow;
 use kept_clauses::all_kept;
 use kept_program::KeptProgram;
 use prolog_terms::ReadClause;

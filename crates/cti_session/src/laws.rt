@@ -2,7 +2,7 @@
 
 ghost use Rattle.std.specs.Prelude.{ℕ, List};
 ghost use Rattle.prolog_reader.specs.Names.{Extends};
-ghost use Rattle.cti_session.specs.Session.{Snapshot, HasProgram};
+ghost use Rattle.edit_texts.specs.Snapshot.{Snapshot, HasProgram};
 
 /// The program of a session stays that of its clauses where names are added, as those of a clause that is to be added. This
 /// is what edits ask for.

@@ -16,15 +16,16 @@ ghost use Rattle.kept_program.specs.ProgramParts.{certificate_facts};
 ghost use Rattle.precond_fixpoint.specs.Solving.{arguments_of};
 ghost use Rattle.cti_session.specs.Extending.{first_fault};
 ghost use Rattle.cti_session.specs.Faults.{IfNorm};
-ghost use Rattle.cti_session.specs.Session.{HasProgram, IsSession, KeepUntouched, nodes_in};
+ghost use Rattle.edit_texts.specs.Snapshot.{HasProgram, KeepUntouched, nodes_in};
+ghost use Rattle.cti_session.specs.Session.{IsSession};
 
 use crate::counting::term_nodes;
 use crate::edit::{EditClause, EditFault};
 use crate::extending::extend;
-use crate::following::{first_program, follow_with, follow_without};
 use certificate::Certificate;
 use clause_normal::check_added;
 use cti_terms::{Names, PredId, Program};
+use edit_texts::{first_program, follow_with, follow_without};
 use kept_program::KeptProgram;
 use precond_fixpoint::Mode;
 use prolog_terms::ReadClause;
@@ -53,14 +54,14 @@ impl Drop for Session {
 }
 
 impl Model for Session {
-    ghost use Rattle.cti_session.specs.Session.{Snapshot};
+    ghost use Rattle.edit_texts.specs.Snapshot.{Snapshot};
     ghost use Rattle.cti_session.specs.SnapshotCode.{coded_snapshot};
 
     ghost Value = { Snapshot };
 
     ghost coded = { coded_snapshot };
 
-    ghost use Rattle.cti_session.specs.Following.{snapshot, IsCounted};
+    ghost use Rattle.edit_texts.specs.Following.{snapshot, IsCounted};
 
     ghost view = { λ s. snapshot s.clauses.items s.kept };
 

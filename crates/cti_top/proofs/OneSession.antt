@@ -1,6 +1,6 @@
 -- A text of edits tells one thing or is refused, for one fault.
 use Rattle.std.proofs.Common.{◌≡◌, ℕ, ◌≤◌, List, [], length, Ok, Err, ◌⊎◌, inl, inr, refl, sym, ap, ◌∙◌}
-use Rattle.cti_session.specs.Edits.{Outcome, Refusal, Told, outcome}
+use Rattle.edit_texts.specs.Edits.{Outcome, Refusal, Told, outcome}
 use Rattle.prolog_terms.specs.Clauses.{Clause}
 use Rattle.prolog_reader.specs.Naming.{AreNamesOf, text_own}
 use Rattle.prolog_reader.specs.Reading.{Answer, Fault, IsTextAnswer, too_long, by_clauses}

@@ -1,9 +1,9 @@
 -- Why a text of edits is refused.
 use Rattle.std.proofs.Common.{◌≡◌, ℕ, List, [], refl, Err}
-use Rattle.cti_session.specs.Edits.{Refusal, outcome}
-use Rattle.cti_session.specs.EditsFaults.{IfRefused}
-use Rattle.cti_session.specs.declared.edits_fault.EditsFault.{EditsFault}
-use Rattle.cti_session.specs.declared.edits_fault.EditsFault.TheVariants as edits
+use Rattle.edit_texts.specs.Edits.{Refusal, outcome}
+use Rattle.edit_texts.specs.EditsFaults.{IfRefused}
+use Rattle.edit_texts.specs.declared.edits_fault.EditsFault.{EditsFault}
+use Rattle.edit_texts.specs.declared.edits_fault.EditsFault.TheVariants as edits
 use Rattle.prolog_reader.specs.declared.fault.ReadFault.{ReadFault}
 use Rattle.prolog_reader.specs.declared.fault.ReadFault.TheVariants as reading
 use Rattle.prolog_reader.specs.Answers.{RefusesText}

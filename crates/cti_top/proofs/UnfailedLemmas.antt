@@ -4,7 +4,7 @@ use Rattle.outside.specs.Told.{Map}
 use Rattle.term_size.specs.declared.any_norm.NormName.{NormName}
 use Rattle.certificate.specs.Reading.{IsTextOf}
 use Rattle.certificate.specs.declared.certificate.Certificate.{Certificate}
-use Rattle.cti_session.specs.Edits.{Told}
+use Rattle.edit_texts.specs.Edits.{Told}
 use Rattle.cti_terms.specs.Listing.{Listing}
 use Rattle.cti_terms.specs.declared.derivation.Goal.{Goal}
 use Rattle.report.specs.Generated.{generated}

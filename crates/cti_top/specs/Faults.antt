@@ -8,8 +8,8 @@ use Rattle.prolog_reader.specs.declared.fault.ReadFault.TheVariants as reading
 use Rattle.clause_normal.specs.declared.fault.NormFault.{NormFault}
 use Rattle.clause_normal.specs.declared.fault.NormFault.TheVariants as normal
 use Rattle.cti_top.specs.Refusal.{read_number, normal_number}
-use Rattle.cti_session.specs.declared.edits_fault.EditsFault.{EditsFault}
-use Rattle.cti_session.specs.declared.edits_fault.EditsFault.TheVariants as edits
+use Rattle.edit_texts.specs.declared.edits_fault.EditsFault.{EditsFault}
+use Rattle.edit_texts.specs.declared.edits_fault.EditsFault.TheVariants as edits
 use Rattle.cti_top.specs.Programs.{IsRefused}
 use Rattle.cti_top.specs.Sessions.{IsRefusedSession, edit_number}
 use Rattle.cti_top.specs.Queries.{Known, IsQueryRefused}

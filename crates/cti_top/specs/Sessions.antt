@@ -8,10 +8,10 @@
 -- cti_session.
 use Rattle.std.specs.Prelude.{◌≡◌, ℕ, List, [], Ok, Err}
 use Rattle.clause_normal.specs.Numbering.{operation_texts}
-use Rattle.cti_session.specs.Edits.{Told, outcome}
-use Rattle.cti_session.specs.Told.{AreLines}
-use Rattle.cti_session.specs.declared.edits_fault.EditKind.{EditKind}
-use Rattle.cti_session.specs.declared.edits_fault.EditKind.TheVariants as edit
+use Rattle.edit_texts.specs.Edits.{Told, outcome}
+use Rattle.edit_texts.specs.Told.{AreLines}
+use Rattle.edit_texts.specs.declared.edits_fault.EditKind.{EditKind}
+use Rattle.edit_texts.specs.declared.edits_fault.EditKind.TheVariants as edit
 use Rattle.prolog_reader.specs.Naming.{AreNamesOf, text_own, with_names}
 use Rattle.prolog_reader.specs.Reading.{IsTextAnswer}
 use Rattle.prolog_reader.specs.Table.{Table}

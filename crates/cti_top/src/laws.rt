@@ -14,7 +14,7 @@ ghost use Rattle.cti_terms.specs.declared.atom_list.Atom.{Atom};
 ghost use Rattle.cti_terms.specs.declared.derivation.Goal.{Goal};
 ghost use Rattle.ld_resolver.specs.Count.{HasNodes};
 ghost use Rattle.term_size.specs.declared.any_norm.NormName.TheVariants as norm;
-ghost use Rattle.cti_session.specs.Edits.{Told};
+ghost use Rattle.edit_texts.specs.Edits.{Told};
 ghost use Rattle.cti_top.specs.Checks.{IsRefusedCertificate};
 ghost use Rattle.cti_top.specs.Meets.{MeetsMode};
 ghost use Rattle.cti_top.specs.Programs.{IsRefused};

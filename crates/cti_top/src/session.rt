@@ -9,8 +9,8 @@ use crate::answer::{Answer, refused};
 use crate::refusal::Subject;
 use crate::source::{SourceFault, normal_number, read_fault};
 use crate::status::Status;
-use cti_session::{EditKind, EditsFault, play};
 use cti_terms::Names;
+use edit_texts::{EditKind, EditsFault, play};
 use prolog_reader::read_text;
 use std::alloc::{AllocError, Global};
 

@@ -2,4 +2,4 @@ pub mod Causes
 pub mod Told
 pub mod Held
 pub mod Counted
-pub mod Kept
+pub mod KeptTexts

@@ -2,7 +2,7 @@
 
 ghost use Rattle.std.specs.Prelude.{◌≡◌, ◌≤◌, ℕ, List, [], true, map, vec_len, IfOk, IfErr, IsErrOf};
 ghost use Rattle.outside.specs.Causes.{Rose};
-ghost use Rattle.outside.specs.Kept.{IsKept, text_at};
+ghost use Rattle.outside.specs.KeptTexts.{KeepsText, text_at};
 ghost use Rattle.outside.specs.Told.{TellsAt, TellsMore};
 ghost use Rattle.outside.specs.declared.files.LoadFault.TheVariants.{Failed, TooLong};
 
@@ -20,7 +20,7 @@ pub struct KeptTexts {
 impl KeptTexts {
     /// Keeps the next text, where all before it were kept and there is memory.
     fn keep(&mut self, alloc: Global, text: &[u8])
-        ensures { IsKept self.old.is_whole (map (λ t. t.items) self.old.texts.items) text.now
+        ensures { KeepsText self.old.is_whole (map (λ t. t.items) self.old.texts.items) text.now
             self.new.is_whole (map (λ t. t.items) self.new.texts.items) }
     {
         self.is_whole = self.is_whole
@@ -87,7 +87,7 @@ impl<F: Files + Drop> Files for KeptFiles<F> {
         ensures stays { F.told self.new.inner ≡ F.told self.old.inner }
 
         // A text that is given is kept after those before it, and nothing is kept of a load that fails.
-        ensures kept { IfOk result (λ v. IsKept self.old.kept.is_whole
+        ensures kept { IfOk result (λ v. KeepsText self.old.kept.is_whole
             (map (λ t. t.items) self.old.kept.texts.items) v.items self.new.kept.is_whole
             (map (λ t. t.items) self.new.kept.texts.items)) }
         ensures same { IfErr result (λ fault. self.new.kept ≡ self.old.kept) }

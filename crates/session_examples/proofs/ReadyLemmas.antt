@@ -2,7 +2,7 @@
 use Rattle.std.proofs.Common.{◌≡◌, ◌+◌, ◌≤◌, ℕ, zero, suc, List, [], ◌∷◌, arith}
 use Rattle.std.specs.List.{remove}
 use Rattle.std.proofs.lemmas.List.Sums.{sum_by-cons}
-use Rattle.cti_session.specs.Session.{nodes_in}
+use Rattle.edit_texts.specs.Snapshot.{nodes_in}
 use Rattle.prolog_terms.specs.Clauses.{Clause, nodes}
 
 nodes_first : (c : Clause) (cs : List Clause) → nodes_in (c ∷ cs) ≡ nodes c.term + nodes_in cs

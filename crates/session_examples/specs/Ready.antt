@@ -2,7 +2,7 @@
 -- What lets a session take the clauses of a text, one after another. Nothing here has to be believed.
 use Rattle.std.specs.Prelude.{◌<◌, ◌≤◌, ◌+◌, ◌-◌, ◌^◌, ℕ, List, length}
 use Rattle.std.specs.List.{AllByRecursion}
-use Rattle.cti_session.specs.Session.{Snapshot, HasProgram, nodes_in}
+use Rattle.edit_texts.specs.Snapshot.{Snapshot, HasProgram, nodes_in}
 use Rattle.prolog_reader.specs.Fit.{IsFit}
 use Rattle.prolog_terms.specs.Clauses.{Clause}
 

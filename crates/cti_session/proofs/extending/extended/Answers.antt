@@ -6,9 +6,9 @@ use Rattle.prolog_terms.specs.Clauses.{Clause}
 use Rattle.prolog_terms.specs.Terms.{clause_of}
 use Rattle.prolog_terms.specs.declared.clause.ReadClause.{ReadClause}
 use Rattle.cti_session.specs.Extending.{first_fault}
-use Rattle.cti_session.specs.Following.{IsOneEdit}
+use Rattle.edit_texts.specs.Following.{IsOneEdit}
 use Rattle.cti_session.proofs.ExtendLemmas.{definite_more, fit_both, map_both}
-use Rattle.cti_session.proofs.Lists.{map_length}
+use Rattle.edit_texts.proofs.Lists.{map_length}
 use Rattle.cti_session.proofs.extending.extended.Goals as goal
 
 pub follow-requires-clause-definite : goal.follow-requires-clause-definite

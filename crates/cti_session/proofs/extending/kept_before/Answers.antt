@@ -1,8 +1,8 @@
 use Rattle.std.proofs.Common.{◌≡◌, ◌∙◌, ◌++◌, ◌∷◌, [], ℕ, List, Option, None, length, replicate, inr, ap, arith, subst, sym}
 use Rattle.kept_clauses.specs.KeptLists.{AreKeptList, IsIncreasing, IsOnto, kept_from}
-use Rattle.cti_session.proofs.Clauses.{all_list}
+use Rattle.edit_texts.proofs.Clauses.{all_list}
 use Rattle.cti_session.proofs.ExtendLemmas.{all_more, from_increasing, from_onto, increasing_push, nothing, onto_push, replicate_push}
-use Rattle.cti_session.proofs.PlayLemmas.{append_none}
+use Rattle.edit_texts.proofs.PlayLemmas.{append_none}
 use Rattle.cti_session.proofs.extending.kept_before.Goals as goal
 
 pub loop-init : goal.loop-init

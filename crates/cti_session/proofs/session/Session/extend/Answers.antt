@@ -1,5 +1,5 @@
 use Rattle.std.proofs.Common.{ap, subst}
-use Rattle.cti_session.specs.Session.{KeepUntouched, Snapshot}
+use Rattle.edit_texts.specs.Snapshot.{KeepUntouched, Snapshot}
 use Rattle.kept_program.specs.ProgramParts.{ProgramParts}
 use Rattle.cti_session.proofs.session.Session.extend.Goals as goal
 

@@ -2,9 +2,9 @@ use Rattle.std.proofs.Common.{◌-◌, ◌<◌, List, length, ap, subst, arith}
 use Rattle.prolog_terms.specs.Clauses.{Clause}
 use Rattle.prolog_terms.specs.Terms.{clause_of}
 use Rattle.kept_program.specs.ProgramParts.{ProgramParts}
-use Rattle.cti_session.specs.Session.{KeepUntouched, Snapshot, nodes_in}
-use Rattle.cti_session.proofs.Clauses.{nodes_taken}
-use Rattle.cti_session.proofs.Lists.{map_length}
+use Rattle.edit_texts.specs.Snapshot.{KeepUntouched, Snapshot, nodes_in}
+use Rattle.edit_texts.proofs.Clauses.{nodes_taken}
+use Rattle.edit_texts.proofs.Lists.{map_length}
 use Rattle.cti_session.proofs.session.Session.remove.Goals as goal
 
 pub term_nodes-requires : goal.term_nodes-requires

@@ -1,5 +1,5 @@
 use Rattle.std.proofs.Common.{List, length, ap, arith, subst, sym}
-use Rattle.cti_session.specs.Session.{nodes_in}
+use Rattle.edit_texts.specs.Snapshot.{nodes_in}
 use Rattle.prolog_reader.specs.Fit.{AreFit}
 use Rattle.prolog_terms.specs.Clauses.{Clause}
 use Rattle.session_examples.proofs.desk.Desk.of.Goals as goal

@@ -1,6 +1,6 @@
 use Rattle.std.proofs.Common.{◌-◌, List, ℕ, length, map, ap, arith, subst, sym}
 use Rattle.std.specs.List.{AllByRecursion}
-use Rattle.cti_session.specs.Session.{Snapshot, nodes_in}
+use Rattle.edit_texts.specs.Snapshot.{Snapshot, nodes_in}
 use Rattle.prolog_reader.specs.Fit.{IsFit}
 use Rattle.prolog_terms.specs.Terms.{clause_of}
 use Rattle.session_examples.specs.Ready.{IsReady}

@@ -1,0 +1,8 @@
+mod Answered
+mod BuiltAlike
+pub mod Clauses
+mod EditLemmas
+pub mod Lists
+pub mod PlayLemmas
+pub mod Staying
+mod ToldLines
