@@ -1,0 +1,68 @@
+#!/usr/bin/env python3
+"""How many minutes of one processor the prover takes for each crate while a command runs. So docs/gate.md was measured.
+
+Usage: tools/gate_minutes.py COMMAND..     (as tools/gate_minutes.py .ci/run)
+
+Each process of the prover on this machine is looked at twice a second, whoever started it, and what it takes after the last look is not
+counted. So let nothing else be proved meanwhile. An edit that has to be refused is known by the folder in which it is tried. Minutes are
+those of this machine, with as many checks side by side as the command makes; what was kept from earlier runs takes none.
+"""
+import collections
+import os
+import re
+import subprocess
+import sys
+import time
+from pathlib import Path
+
+TICKS = os.sysconf("SC_CLK_TCK")
+CRATE = re.compile(rb"--crate-name\0([^\0]+)")
+EDIT = re.compile(r"^/tmp/rt-edit-")
+
+
+def process(folder):
+    """What a process is known by, its crate, whether it tries an edit, and the seconds that it has taken; none for another program's."""
+    stat = (folder / "stat").read_text()
+    name, fields = stat[stat.index("(") + 1:stat.rindex(")")], stat[stat.rindex(")") + 2:].split()
+    if name != "rattle":
+        return None
+    crate = CRATE.search((folder / "cmdline").read_bytes())
+    if not crate:
+        return None
+    is_edit = bool(EDIT.match(os.readlink(folder / "cwd")))
+    # The process and the time at which it began: a number of a process is given again.
+    return (folder.name, fields[19]), crate.group(1).decode(), is_edit, (int(fields[11]) + int(fields[12])) / TICKS
+
+
+def look(seen):
+    """Notes what each process of the prover has taken so far."""
+    for folder in Path("/proc").iterdir():
+        if folder.name.isdigit():
+            try:
+                found = process(folder)
+            except (OSError, ValueError, IndexError):
+                continue  # It ended meanwhile.
+            if found:
+                known, crate, is_edit, seconds = found
+                seen[known] = crate, is_edit, seconds
+
+
+def main():
+    if len(sys.argv) < 2:
+        sys.exit(__doc__.split("\n\n")[1])
+    seen = {}
+    run = subprocess.Popen(sys.argv[1:])
+    while run.poll() is None:
+        look(seen)
+        time.sleep(0.5)
+    proofs, edits = collections.Counter(), collections.Counter()
+    for crate, is_edit, seconds in seen.values():
+        (edits if is_edit else proofs)[crate] += seconds / 60
+    for title, minutes in (("proofs", proofs), ("edits", edits)):
+        print(f"{title}: {sum(minutes.values()):.1f} minutes")
+        for crate, count in minutes.most_common():
+            print(f"  {count:6.2f} {crate}")
+    sys.exit(run.returncode)
+
+
+main()
