@@ -17,7 +17,7 @@ from pathlib import Path
 
 TICKS = os.sysconf("SC_CLK_TCK")
 CRATE = re.compile(rb"--crate-name\0([^\0]+)")
-EDIT = re.compile(r"^/tmp/rt-edit-")
+EDIT = re.compile(r"/rt-edit-[0-9]+-")
 
 
 def process(folder):
@@ -29,7 +29,7 @@ def process(folder):
     crate = CRATE.search((folder / "cmdline").read_bytes())
     if not crate:
         return None
-    is_edit = bool(EDIT.match(os.readlink(folder / "cwd")))
+    is_edit = bool(EDIT.search(os.readlink(folder / "cwd")))
     # The process and the time at which it began: a number of a process is given again.
     return (folder.name, fields[19]), crate.group(1).decode(), is_edit, (int(fields[11]) + int(fields[12])) / TICKS
 
