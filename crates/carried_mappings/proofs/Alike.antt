@@ -10,11 +10,11 @@ use Rattle.cti_terms.specs.declared.clauses.Clause.{Clause}
 use Rattle.cti_terms.specs.declared.predicates.Pred.{Pred}
 use Rattle.linear_rows.specs.Members.{In}
 use Rattle.linear_rows.proofs.Members.{of-filter, of-flat_map, of-map}
-use Rattle.termination_model.specs.Chain.{clauses_of, component_of, counted, is_number}
-use Rattle.termination_model.specs.Claims.{Claims}
-use Rattle.termination_model.specs.ComponentViews.{component_view, rank_in, size_claims}
-use Rattle.termination_model.specs.Ready.{itself}
-use Rattle.termination_model.specs.View.{Call, Lower, Member, call_of, rule_of}
+use Rattle.termination_model.specs.chains.Chain.{clauses_of, component_of, counted, is_number}
+use Rattle.termination_model.specs.claims.Claims.{Claims}
+use Rattle.termination_model.specs.mappings.ComponentViews.{component_view, rank_in, size_claims}
+use Rattle.termination_model.specs.mappings.Ready.{itself}
+use Rattle.termination_model.specs.mappings.View.{Call, Lower, Member, call_of, rule_of}
 use Rattle.termination_model.proofs.ChainSieves.{all_of}
 use Rattle.level_systems.specs.Pairs.{calls_from, pairs_from, pairs_of}
 use Rattle.component_laws.specs.Mapped.{IsOfMembers, renamed_call, renamed_place, renamed_rule}

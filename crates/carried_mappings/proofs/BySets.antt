@@ -5,8 +5,8 @@ use Rattle.std.specs.List.{flat_map}
 use Rattle.std.proofs.lemmas.Bool.{and_from, and_parts}
 use Rattle.linear_rows.specs.Members.{In}
 use Rattle.linear_rows.proofs.Members.{in-filter, in-flat_map, of-append, of-filter, of-flat_map, of-map}
-use Rattle.termination_model.specs.Minimal.{IsSet}
-use Rattle.termination_model.specs.Modes.{chosen, chosen_up_to, is_part}
+use Rattle.termination_model.specs.grounds.Minimal.{IsSet}
+use Rattle.termination_model.specs.grounds.Modes.{chosen, chosen_up_to, is_part}
 use Rattle.termination_model.proofs.Lists.{append_assoc}
 use Rattle.termination_model.proofs.Sets.{chosen_length, chosen_set, each_set_in, part_self, to_part, up_to_set, within}
 use Rattle.level_systems.specs.Subsequences.{AreOnce, IsSubsequence}

@@ -10,16 +10,16 @@ use Rattle.linear_rows.specs.Step.{columns}
 use Rattle.linear_rows.proofs.Members.{of-map}
 use Rattle.number_tests.specs.Shape.{IsLevelPart}
 use Rattle.number_tests.specs.declared.refutation.Refutation.{Refutation}
-use Rattle.termination_model.specs.Chain.{clauses_of}
-use Rattle.termination_model.specs.ComponentViews.{HasSupportIn, component_view, members_in, positions_in, rank_in}
-use Rattle.termination_model.specs.Excluding.{IsZeroOutside}
-use Rattle.termination_model.specs.Minimal.{IsAbove, IsExcluded, IsSet}
-use Rattle.termination_model.specs.Modes.{chosen_up_to}
-use Rattle.termination_model.specs.OwnCalls.{Position}
-use Rattle.termination_model.specs.Ready.{arity_in}
-use Rattle.termination_model.specs.Refutation.{Decreases}
-use Rattle.termination_model.specs.Supports.{HasSupport, picked_from, support_from}
-use Rattle.termination_model.specs.View.{Rule}
+use Rattle.termination_model.specs.chains.Chain.{clauses_of}
+use Rattle.termination_model.specs.mappings.ComponentViews.{HasSupportIn, component_view, members_in, positions_in, rank_in}
+use Rattle.termination_model.specs.mappings.Excluding.{IsZeroOutside}
+use Rattle.termination_model.specs.grounds.Minimal.{IsAbove, IsExcluded, IsSet}
+use Rattle.termination_model.specs.grounds.Modes.{chosen_up_to}
+use Rattle.termination_model.specs.mappings.OwnCalls.{Position}
+use Rattle.termination_model.specs.mappings.Ready.{arity_in}
+use Rattle.termination_model.specs.mappings.Refutation.{Decreases}
+use Rattle.termination_model.specs.mappings.Supports.{HasSupport, picked_from, support_from}
+use Rattle.termination_model.specs.mappings.View.{Rule}
 use Rattle.termination_model.proofs.ChainSieves.{all_of, of_all}
 use Rattle.level_systems.specs.Found.{IsBlownSet, IsFound, IsLarge, IsRefutationOf, IsSmall, count, full, supports, without_number}
 use Rattle.level_systems.specs.Mappings.{HasMeasures, IsFall, IsMappingOf, mapping_with, support_of}

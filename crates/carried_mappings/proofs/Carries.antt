@@ -9,10 +9,10 @@ use Rattle.cti_terms.specs.declared.predicates.PredId.{PredId}
 use Rattle.linear_rows.specs.Members.{In}
 use Rattle.linear_rows.proofs.Members.{in-map, of-map}
 use Rattle.numeric_model.specs.Running.{paired, with_clauses}
-use Rattle.termination_model.specs.Chain.{clauses_of, component_of, is_number}
-use Rattle.termination_model.specs.ComponentViews.{members_in, positions_in}
-use Rattle.termination_model.specs.Ready.{arity_in}
-use Rattle.termination_model.specs.OwnCalls.{Position as Place}
+use Rattle.termination_model.specs.chains.Chain.{clauses_of, component_of, is_number}
+use Rattle.termination_model.specs.mappings.ComponentViews.{members_in, positions_in}
+use Rattle.termination_model.specs.mappings.Ready.{arity_in}
+use Rattle.termination_model.specs.mappings.OwnCalls.{Position as Place}
 use Rattle.termination_model.proofs.ChainSieves.{all_of, of_all}
 use Rattle.termination_model.proofs.Lists.{indexed, place_below, there}
 use Rattle.level_systems.specs.Held.{spelled}

@@ -8,7 +8,7 @@ use Rattle.cti_terms.specs.Listing.{Listing, IsProgram}
 use Rattle.cti_terms.specs.declared.atom_list.Atom.{Atom}
 use Rattle.cti_terms.specs.declared.clauses.Clause.{Clause}
 use Rattle.linear_rows.specs.Members.{In}
-use Rattle.termination_model.specs.Chain.{clauses_of}
+use Rattle.termination_model.specs.chains.Chain.{clauses_of}
 use Rattle.component_laws.specs.Untouched.{NamedClause}
 use Rattle.solved_program.specs.Kept.{AreKept}
 use Rattle.solved_program.specs.Standing.{AreSameCalls, IsSameCall, StandsFor}

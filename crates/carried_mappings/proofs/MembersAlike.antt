@@ -7,10 +7,10 @@ use Rattle.cti_terms.specs.declared.predicates.Pred.{Pred}
 use Rattle.linear_rows.specs.Members.{In}
 use Rattle.linear_rows.specs.Step.{columns}
 use Rattle.linear_rows.proofs.Members.{in-left, in-map, in-right, of-append, of-map}
-use Rattle.termination_model.specs.ComponentViews.{members_in, positions_in, rank_in}
-use Rattle.termination_model.specs.OwnCalls.{Position}
-use Rattle.termination_model.specs.Ready.{arity_in, positions_by}
-use Rattle.termination_model.specs.Supports.{AreDistinct}
+use Rattle.termination_model.specs.mappings.ComponentViews.{members_in, positions_in, rank_in}
+use Rattle.termination_model.specs.mappings.OwnCalls.{Position}
+use Rattle.termination_model.specs.mappings.Ready.{arity_in, positions_by}
+use Rattle.termination_model.specs.mappings.Supports.{AreDistinct}
 use Rattle.level_systems.specs.Subsequences.{AreOnce}
 use Rattle.component_laws.specs.Mapped.{AreSamePositions}
 use Rattle.component_laws.specs.Renaming.{KeepsApart}

@@ -3,7 +3,7 @@ use Rattle.std.proofs.Common.{◌≡◌, ℕ, zero, suc, ◌<◌, ◌≤◌, ◌
 use Rattle.std.proofs.lemmas.Bool.Decides.{nat_tests}
 use Rattle.linear_rows.specs.Members.{In}
 use Rattle.cti_terms.specs.declared.clauses.Clause.{Clause}
-use Rattle.termination_model.specs.Chain.{counted}
+use Rattle.termination_model.specs.chains.Chain.{counted}
 use Rattle.std.specs.Prelude.{filter, cond}
 use Rattle.carried_mappings.specs.Moved.{moved}
 

@@ -13,16 +13,16 @@ use Rattle.linear_rows.proofs.Members.{in-map, of-map}
 use Rattle.number_tests.specs.Proved.{fall_of}
 use Rattle.number_tests.specs.Shape.{IsLevelPart, row_count}
 use Rattle.number_tests.specs.declared.level_part.LevelPart.{LevelPart}
-use Rattle.termination_model.specs.BlownSupports.{IsBlownAt}
-use Rattle.termination_model.specs.Chain.{clauses_of}
-use Rattle.termination_model.specs.ComponentViews.{HasSupportIn, component_view, members_in, positions_in, rank_in}
-use Rattle.termination_model.specs.Excluding.{IsZeroOutside}
-use Rattle.termination_model.specs.OwnCalls.{Position}
-use Rattle.termination_model.specs.Ready.{arity_in}
-use Rattle.termination_model.specs.Refutation.{Decreases}
-use Rattle.termination_model.specs.Supports.{HasSupport, picked_from, support_from}
-use Rattle.termination_model.specs.ShortSystems.{short_row, short_system}
-use Rattle.termination_model.specs.View.{Rule}
+use Rattle.termination_model.specs.mappings.BlownSupports.{IsBlownAt}
+use Rattle.termination_model.specs.chains.Chain.{clauses_of}
+use Rattle.termination_model.specs.mappings.ComponentViews.{HasSupportIn, component_view, members_in, positions_in, rank_in}
+use Rattle.termination_model.specs.mappings.Excluding.{IsZeroOutside}
+use Rattle.termination_model.specs.mappings.OwnCalls.{Position}
+use Rattle.termination_model.specs.mappings.Ready.{arity_in}
+use Rattle.termination_model.specs.mappings.Refutation.{Decreases}
+use Rattle.termination_model.specs.mappings.Supports.{HasSupport, picked_from, support_from}
+use Rattle.termination_model.specs.sizes.ShortSystems.{short_row, short_system}
+use Rattle.termination_model.specs.mappings.View.{Rule}
 use Rattle.termination_model.proofs.ChainSieves.{all_of, of_all}
 use Rattle.level_systems.specs.Found.{IsBlownSet}
 use Rattle.level_systems.specs.Mappings.{HasMeasures, IsFall, level_in, mapping_with}

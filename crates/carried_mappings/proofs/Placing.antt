@@ -4,7 +4,7 @@ use Rattle.call_components.specs.Numbers.{number_of}
 use Rattle.cti_terms.specs.Listing.{Listing}
 use Rattle.cti_terms.specs.declared.predicates.PredId.{PredId}
 use Rattle.level_systems.specs.declared.measure.Measure.{Measure}
-use Rattle.termination_model.specs.OwnCalls.{Position}
+use Rattle.termination_model.specs.mappings.OwnCalls.{Position}
 use Rattle.component_laws.specs.Supported.{IsNumber}
 use Rattle.carried_mappings.specs.Reordered.{AreOldNumbers, ArePlaces, IsOldNumber, IsPlace, no_measure, placed}
 

@@ -15,12 +15,12 @@ use Rattle.number_tests.specs.Refuting.{PairFits, PointHolds, RowHolds, RowsHold
 use Rattle.number_tests.specs.Shape.{IsBefore, IsPairOf, PairsAscend, place_of_pair}
 use Rattle.number_tests.specs.declared.pair_point.PairPoint.{PairPoint}
 use Rattle.number_tests.specs.declared.refutation.Refutation.{Refutation}
-use Rattle.termination_model.specs.Chain.{clauses_of}
-use Rattle.termination_model.specs.Claims.{SomeOf}
-use Rattle.termination_model.specs.ComponentViews.{members_in, rank_in}
-use Rattle.termination_model.specs.Refutation.{Load, gather}
-use Rattle.termination_model.specs.Rows.{added}
-use Rattle.termination_model.specs.Systems.{row_fits, system}
+use Rattle.termination_model.specs.chains.Chain.{clauses_of}
+use Rattle.termination_model.specs.claims.Claims.{SomeOf}
+use Rattle.termination_model.specs.mappings.ComponentViews.{members_in, rank_in}
+use Rattle.termination_model.specs.mappings.Refutation.{Load, gather}
+use Rattle.termination_model.specs.sizes.Rows.{added}
+use Rattle.termination_model.specs.sizes.Systems.{row_fits, system}
 use Rattle.termination_model.proofs.ChainSieves.{all_of, of_all}
 use Rattle.level_systems.specs.Found.{IsOwnPair, IsRefutationOf}
 use Rattle.component_laws.specs.Renaming.{KeepsApart, renamed, renamed_atom}

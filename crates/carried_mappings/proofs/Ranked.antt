@@ -5,10 +5,10 @@ use Rattle.call_components.specs.Partition.{Partition, AreComponents, IsIn}
 use Rattle.cti_terms.specs.Listing.{Listing}
 use Rattle.cti_terms.specs.declared.predicates.Pred.{Pred}
 use Rattle.linear_rows.specs.Members.{In}
-use Rattle.termination_model.specs.Chain.{component_of, is_number}
-use Rattle.termination_model.specs.ComponentViews.{members_in, positions_in, rank_in}
-use Rattle.termination_model.specs.Ready.{Apart, arity_in}
-use Rattle.termination_model.specs.Supports.{AreDistinct}
+use Rattle.termination_model.specs.chains.Chain.{component_of, is_number}
+use Rattle.termination_model.specs.mappings.ComponentViews.{members_in, positions_in, rank_in}
+use Rattle.termination_model.specs.mappings.Ready.{Apart, arity_in}
+use Rattle.termination_model.specs.mappings.Supports.{AreDistinct}
 use Rattle.termination_model.proofs.Lists.{indexed, place_below, there}
 use Rattle.termination_model.proofs.Readiness.{positions_are_distinct}
 use Rattle.level_systems.specs.Subsequences.{AreOnce}

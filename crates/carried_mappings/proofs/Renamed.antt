@@ -7,13 +7,13 @@ use Rattle.linear_rows.specs.Step.{columns}
 use Rattle.linear_rows.proofs.Members.{in-map, of-append, of-map}
 use Rattle.number_tests.specs.Levels.{natural_coefficients, natural_offset}
 use Rattle.number_tests.specs.declared.level_part.LevelPart.{LevelPart}
-use Rattle.termination_model.specs.Coefficients.{coefficient}
-use Rattle.termination_model.specs.Claims.{Mapping as PlainMapping}
-use Rattle.termination_model.specs.Excluding.{IsZeroOutside}
-use Rattle.termination_model.specs.OwnCalls.{Position}
-use Rattle.termination_model.specs.Ready.{positions_by}
-use Rattle.termination_model.specs.Supports.{HasSupport, picked_from, support_from}
-use Rattle.termination_model.specs.View.{Rule}
+use Rattle.termination_model.specs.mappings.Coefficients.{coefficient}
+use Rattle.termination_model.specs.claims.Claims.{Mapping as PlainMapping}
+use Rattle.termination_model.specs.mappings.Excluding.{IsZeroOutside}
+use Rattle.termination_model.specs.mappings.OwnCalls.{Position}
+use Rattle.termination_model.specs.mappings.Ready.{positions_by}
+use Rattle.termination_model.specs.mappings.Supports.{HasSupport, picked_from, support_from}
+use Rattle.termination_model.specs.mappings.View.{Rule}
 use Rattle.level_systems.specs.Mappings.{level_in, mapping_with}
 use Rattle.level_systems.specs.declared.measure.Measure.{Measure}
 use Rattle.component_laws.specs.Mapped.{AreSamePositions, IsOfMembers, pulled, renamed_rule}

@@ -5,11 +5,11 @@ use Rattle.std.proofs.lemmas.Bool.Decides.{nat_tests}
 use Rattle.linear_rows.specs.Members.{In}
 use Rattle.linear_rows.specs.Step.{columns}
 use Rattle.linear_rows.proofs.Members.{in-filter, in-map, of-filter}
-use Rattle.termination_model.specs.Claims.{Mapping}
-use Rattle.termination_model.specs.Coefficients.{coefficient}
-use Rattle.termination_model.specs.Minimal.{IsSet}
-use Rattle.termination_model.specs.OwnCalls.{Position}
-use Rattle.termination_model.specs.Supports.{AreDistinct, picked_from, support_from}
+use Rattle.termination_model.specs.claims.Claims.{Mapping}
+use Rattle.termination_model.specs.mappings.Coefficients.{coefficient}
+use Rattle.termination_model.specs.grounds.Minimal.{IsSet}
+use Rattle.termination_model.specs.mappings.OwnCalls.{Position}
+use Rattle.termination_model.specs.mappings.Supports.{AreDistinct, picked_from, support_from}
 use Rattle.termination_model.proofs.Having.{support_set}
 use Rattle.termination_model.proofs.ImageLaw.{in_columns, of_columns}
 use Rattle.termination_model.proofs.Sets.{Part, any_in, in_any, part_same, part_shorter, set_lower, within}

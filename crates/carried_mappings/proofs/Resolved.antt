@@ -8,9 +8,9 @@ use Rattle.cti_terms.specs.declared.clauses.Clause.{Clause}
 use Rattle.linear_rows.specs.Members.{In}
 use Rattle.cti_terms.specs.Tree.{Tree}
 use Rattle.numeric_model.specs.Running.{AreOwnClauses}
-use Rattle.termination_model.specs.Chain.{clauses_of}
-use Rattle.termination_model.specs.ComponentViews.{members_in}
-use Rattle.termination_model.specs.Sizes.{rows_of}
+use Rattle.termination_model.specs.chains.Chain.{clauses_of}
+use Rattle.termination_model.specs.mappings.ComponentViews.{members_in}
+use Rattle.termination_model.specs.sizes.Sizes.{rows_of}
 use Rattle.termination_model.proofs.Lists.{place_below, there}
 use Rattle.level_systems.specs.Mappings.{IsMappingOf}
 use Rattle.level_systems.specs.declared.found.Found.{Found}

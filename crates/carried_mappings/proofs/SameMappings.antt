@@ -5,7 +5,7 @@ use Rattle.call_components.specs.Partition.{Partition}
 use Rattle.cti_terms.specs.Listing.{Listing}
 use Rattle.linear_rows.specs.Members.{In}
 use Rattle.linear_rows.proofs.Members.{in-map, of-map}
-use Rattle.termination_model.specs.ComponentViews.{members_in, positions_in, rank_in}
+use Rattle.termination_model.specs.mappings.ComponentViews.{members_in, positions_in, rank_in}
 use Rattle.termination_model.proofs.ChainSieves.{of_all}
 use Rattle.level_systems.specs.Mappings.{level_in, support_of}
 use Rattle.level_systems.specs.declared.mapping.Mapping.{Mapping}

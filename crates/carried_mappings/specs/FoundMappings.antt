@@ -8,9 +8,9 @@ use Rattle.call_components.specs.Partition.{Partition}
 use Rattle.cti_terms.specs.Listing.{Listing}
 use Rattle.cti_terms.specs.Tree.{Tree}
 use Rattle.cti_terms.specs.declared.clauses.Clause.{Clause}
-use Rattle.termination_model.specs.Chain.{clauses_of}
-use Rattle.termination_model.specs.ComponentViews.{members_in}
-use Rattle.termination_model.specs.Sizes.{AreSizes, rows_of}
+use Rattle.termination_model.specs.chains.Chain.{clauses_of}
+use Rattle.termination_model.specs.mappings.ComponentViews.{members_in}
+use Rattle.termination_model.specs.sizes.Sizes.{AreSizes, rows_of}
 use Rattle.level_systems.specs.Found.{IsFound}
 use Rattle.level_systems.specs.declared.found.Found.{Found}
 use Rattle.level_systems.specs.declared.mapping.Mapping.{Mapping}

@@ -9,7 +9,7 @@ use Rattle.cti_terms.specs.declared.predicates.Pred.{Pred}
 use Rattle.linear_rows.specs.Members.{In}
 use Rattle.level_systems.specs.Mappings.{level_in}
 use Rattle.level_systems.specs.declared.mapping.Mapping.{Mapping}
-use Rattle.termination_model.specs.ComponentViews.{members_in}
+use Rattle.termination_model.specs.mappings.ComponentViews.{members_in}
 use Rattle.solved_program.specs.declared.edit.Edit.{Edit}
 
 -- ---- members in one order

@@ -6,8 +6,8 @@
 use Rattle.std.specs.Prelude.{◌≡◌, ◌&&◌, ℕ, suc, nat_eq, pos, if◌then◌else◌, Bool, List, [], ◌∷◌, length, map, filter, option_map, slice_get, slice_index_or, Some}
 use Rattle.std.specs.List.{flat_map, list_any}
 use Rattle.cti_terms.specs.Listing.{Listing}
-use Rattle.termination_model.specs.Modes.{chosen_up_to, is_part}
-use Rattle.termination_model.specs.OwnCalls.{Position}
+use Rattle.termination_model.specs.grounds.Modes.{chosen_up_to, is_part}
+use Rattle.termination_model.specs.mappings.OwnCalls.{Position}
 use Rattle.level_systems.specs.Mappings.{support_of}
 use Rattle.level_systems.specs.declared.found.Found.{Found}
 use Rattle.level_systems.specs.declared.mapping.Mapping.{Mapping}

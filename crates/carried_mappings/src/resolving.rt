@@ -1,7 +1,7 @@
 //! The mappings of a program after an edit.
 
 ghost use Rattle.std.specs.Prelude.{◌≡◌, ◌<◌, ℕ, IfOk, IfSome, IsNone, Some, length, slice_get, true};
-ghost use Rattle.termination_model.specs.Sizes.{AreSizes, rows_of};
+ghost use Rattle.termination_model.specs.sizes.Sizes.{AreSizes, rows_of};
 ghost use Rattle.solved_program.specs.Kept.{IsEdit};
 ghost use Rattle.solved_program.specs.Resolving.{AreSources, Stands};
 ghost use Rattle.solved_program.specs.Solved.{AreSolved};

@@ -1,7 +1,7 @@
 //! Components that stand for old ones.
 
 ghost use Rattle.std.specs.Prelude.{◌≡◌, IfOk};
-ghost use Rattle.termination_model.specs.ComponentViews.{members_in};
+ghost use Rattle.termination_model.specs.mappings.ComponentViews.{members_in};
 ghost use Rattle.carried_mappings.specs.Carrying.{CanBeCarried, CarriesOver, new_number};
 ghost use Rattle.carried_mappings.specs.Moved.{moved_found};
 ghost use Rattle.carried_mappings.specs.Order.{AreSameMappings, HaveSameOrder};

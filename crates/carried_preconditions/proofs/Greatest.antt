@@ -14,9 +14,9 @@ use Rattle.precond_fixpoint.specs.Greatest.{IsGreatestIn}
 use Rattle.precond_fixpoint.specs.Solving.{IsSolved, allowed_family, is_member, pre_family}
 use Rattle.precond_fixpoint.proofs.AllowedLaws.{greatest_depends_on_members}
 use Rattle.precond_fixpoint.proofs.PlaceLaws.{at_is, is_at_of}
-use Rattle.termination_model.specs.Grounds.{Family, HasArity}
-use Rattle.termination_model.specs.Rows.{Covers}
-use Rattle.termination_model.specs.View.{all_upper}
+use Rattle.termination_model.specs.grounds.Grounds.{Family, HasArity}
+use Rattle.termination_model.specs.sizes.Rows.{Covers}
+use Rattle.termination_model.specs.mappings.View.{all_upper}
 use Rattle.truth_rows.specs.Sets.{has_row}
 use Rattle.component_laws.specs.Carried.{KeepsArities}
 use Rattle.component_laws.specs.Renaming.{AgreeOn, StandIn}

@@ -10,7 +10,7 @@ use Rattle.cti_terms.specs.declared.predicates.Pred.{Pred}
 use Rattle.precond_fixpoint.specs.Solving.{IsSolved}
 use Rattle.precond_fixpoint.proofs.ComponentLaws.{solved_after}
 use Rattle.precond_fixpoint.proofs.FamilyLaws.{mapping_sets_later, unions_later}
-use Rattle.termination_model.specs.Grounds.{Family}
+use Rattle.termination_model.specs.grounds.Grounds.{Family}
 use Rattle.truth_rows.specs.Sets.{AreSets, family_of}
 use Rattle.truth_rows.proofs.CallerLemmas.{family_later, sets_later}
 use Rattle.carried_preconditions.specs.Resolving.{AreSources}

@@ -9,8 +9,8 @@ use Rattle.precond_fixpoint.specs.Solving.{AreModes, arguments_of}
 use Rattle.precond_fixpoint.specs.declared.mode.Mode.{Mode}
 use Rattle.precond_fixpoint.proofs.ModeLaws.{modes_same}
 use Rattle.precond_fixpoint.proofs.PlaceLaws.{items_at, some_at}
-use Rattle.termination_model.specs.Grounds.{Family}
-use Rattle.termination_model.specs.Modes.{modes}
+use Rattle.termination_model.specs.grounds.Grounds.{Family}
+use Rattle.termination_model.specs.grounds.Modes.{modes}
 use Rattle.termination_model.proofs.Lists.{one_element, place_below}
 use Rattle.truth_rows.specs.Sets.{AreSets, family_of}
 use Rattle.truth_rows.proofs.CallerLemmas.{family_at}

@@ -10,8 +10,8 @@ use Rattle.cti_terms.specs.declared.predicates.Pred.{Pred}
 use Rattle.number_tests.specs.Levels.{items_of}
 use Rattle.precond_fixpoint.specs.Solving.{AreMappingSets, AreUnions, allowed_family}
 use Rattle.precond_fixpoint.proofs.PlaceLaws.{items_there}
-use Rattle.termination_model.specs.Grounds.{Family, HasArity}
-use Rattle.termination_model.specs.View.{all_upper}
+use Rattle.termination_model.specs.grounds.Grounds.{Family, HasArity}
+use Rattle.termination_model.specs.mappings.View.{all_upper}
 use Rattle.termination_model.proofs.Lists.{place_below, there}
 use Rattle.truth_rows.specs.Sets.{AreSets, family_of, has_row}
 use Rattle.solved_program.specs.Carried.{AreCarriedValues}

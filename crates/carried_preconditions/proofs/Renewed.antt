@@ -12,8 +12,8 @@ use Rattle.precond_fixpoint.specs.Solving.{AreMappingSets, AreUnions, IsSolved, 
 use Rattle.precond_fixpoint.proofs.ComponentLaws.{solved_after}
 use Rattle.precond_fixpoint.proofs.FamilyLaws.{allowed_after}
 use Rattle.precond_fixpoint.proofs.PlaceLaws.{is_at_of}
-use Rattle.termination_model.specs.Chain.{clauses_of}
-use Rattle.termination_model.specs.Grounds.{Family}
+use Rattle.termination_model.specs.chains.Chain.{clauses_of}
+use Rattle.termination_model.specs.grounds.Grounds.{Family}
 use Rattle.termination_model.proofs.Lists.{one_element}
 use Rattle.truth_rows.specs.Sets.{family_of}
 use Rattle.truth_rows.proofs.CallerLemmas.{family_later}

@@ -11,7 +11,7 @@ use Rattle.cti_terms.specs.Listing.{Listing, IsProgram}
 use Rattle.cti_terms.specs.declared.predicates.Pred.{Pred}
 use Rattle.cti_terms.specs.declared.predicates.PredId.{PredId}
 use Rattle.precond_fixpoint.proofs.PlaceLaws.{member_place}
-use Rattle.termination_model.specs.Grounds.{HasArity}
+use Rattle.termination_model.specs.grounds.Grounds.{HasArity}
 use Rattle.termination_model.proofs.Lists.{one_element, place_below}
 use Rattle.truth_rows.specs.Sets.{AreSets, family_of, has_row}
 use Rattle.truth_rows.proofs.RowLaws.{first_row, first_values, length-first}

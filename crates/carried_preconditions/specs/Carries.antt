@@ -9,7 +9,7 @@ use Rattle.cti_terms.specs.Listing.{IsProgram}
 use Rattle.cti_terms.specs.Tree.{Tree}
 use Rattle.number_tests.specs.declared.level_part.LevelPart.{LevelPart}
 use Rattle.precond_fixpoint.specs.Solving.{IsSolved, allowed_family}
-use Rattle.termination_model.specs.Grounds.{Family}
+use Rattle.termination_model.specs.grounds.Grounds.{Family}
 use Rattle.solved_program.specs.Kept.{IsEdit}
 use Rattle.solved_program.specs.Standing.{KeepOwn, StandsFor}
 use Rattle.solved_program.specs.declared.edit.Edit.{Edit}

@@ -5,8 +5,8 @@ use Rattle.bool_diagrams.specs.Tree.{Tree as Rows}
 use Rattle.cti_terms.specs.declared.predicates.Pred.{Pred}
 use Rattle.precond_fixpoint.specs.Solving.{AreModes, arguments_of}
 use Rattle.precond_fixpoint.specs.declared.mode.Mode.{Mode}
-use Rattle.termination_model.specs.Grounds.{Family}
-use Rattle.termination_model.specs.Modes.{modes}
+use Rattle.termination_model.specs.grounds.Grounds.{Family}
+use Rattle.termination_model.specs.grounds.Modes.{modes}
 use Rattle.truth_rows.specs.Sets.{AreSets, family_of}
 use Rattle.carried_preconditions.specs.declared.modes.ModesBefore.{ModesBefore}
 

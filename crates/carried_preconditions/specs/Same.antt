@@ -5,7 +5,7 @@ use Rattle.bool_diagrams.specs.Tree.{Tree as Rows}
 use Rattle.cti_terms.specs.declared.predicates.Pred.{Pred}
 use Rattle.number_tests.specs.Levels.{items_of}
 use Rattle.number_tests.specs.declared.level_part.LevelPart.{LevelPart}
-use Rattle.termination_model.specs.Grounds.{Family}
+use Rattle.termination_model.specs.grounds.Grounds.{Family}
 use Rattle.truth_rows.specs.Sets.{AreSets, family_of}
 use Rattle.solved_program.specs.declared.edit.Edit.{Edit}
 use Rattle.carried_preconditions.specs.declared.preconditions.Inputs.{Inputs}

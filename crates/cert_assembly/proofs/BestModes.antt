@@ -16,11 +16,11 @@ use Rattle.cti_terms.specs.declared.predicates.Pred.{Pred}
 use Rattle.precond_fixpoint.proofs.Searching.{larger_inside, upper_length}
 use Rattle.precond_fixpoint.specs.Greatest.{IsGreatestIn, IsInsideIn, IsWithinIn, KeepsIn, Solved, SomeSolved}
 use Rattle.termination_model.proofs.UpperRows.{upper_all}
-use Rattle.termination_model.specs.Descent.{mode_row}
-use Rattle.termination_model.specs.Grounds.{Family, HasArity}
-use Rattle.termination_model.specs.Modes.{chosen_up_to, is_part, modes}
-use Rattle.termination_model.specs.Rows.{IsUpper}
-use Rattle.termination_model.specs.View.{all_upper}
+use Rattle.termination_model.specs.claims.Descent.{mode_row}
+use Rattle.termination_model.specs.grounds.Grounds.{Family, HasArity}
+use Rattle.termination_model.specs.grounds.Modes.{chosen_up_to, is_part, modes}
+use Rattle.termination_model.specs.sizes.Rows.{IsUpper}
+use Rattle.termination_model.specs.mappings.View.{all_upper}
 use Rattle.truth_rows.proofs.UpperLaws.{all_from_upper}
 use Rattle.cert_assembly.proofs.ModeLaws.{item_is, member_is, place_below, pre, pre_row, there}
 use Rattle.cert_assembly.specs.ExactModes.{AreCounted, ModesAreExact, PreIsGreatest, is_member}

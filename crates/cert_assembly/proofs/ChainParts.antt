@@ -29,11 +29,11 @@ use Rattle.number_tests.specs.Proved.{RowsAreKept}
 use Rattle.number_tests.specs.Shape.{list_at}
 use Rattle.numeric_model.specs.Proved.{AreProved, AreShownOver, IsProved}
 use Rattle.termination_model.proofs.Lists.{by_places, indexed, place_below}
-use Rattle.termination_model.specs.Grounds.{HasArity}
-use Rattle.termination_model.specs.Sizes.{AreSizes, plain_or_none, rows_of}
-use Rattle.termination_model.specs.Stated.{stated_rows}
-use Rattle.termination_model.specs.Systems.{row_over, system}
-use Rattle.termination_model.specs.ShortSystems.{short_row, short_system}
+use Rattle.termination_model.specs.grounds.Grounds.{HasArity}
+use Rattle.termination_model.specs.sizes.Sizes.{AreSizes, plain_or_none, rows_of}
+use Rattle.termination_model.specs.sizes.Stated.{stated_rows}
+use Rattle.termination_model.specs.sizes.Systems.{row_over, system}
+use Rattle.termination_model.specs.sizes.ShortSystems.{short_row, short_system}
 use Rattle.cert_assembly.specs.Sizing.{SizesHold}
 use Rattle.cert_assembly.specs.Ranges.{AreBelow, AreMultipliersBelow}
 use Rattle.cert_assembly.proofs.ModeLaws.{each_from, each_in, there}

@@ -23,13 +23,13 @@ use Rattle.truth_rows.specs.Rules.{KeepsSets}
 use Rattle.linear_rows.specs.Members.{In}
 use Rattle.linear_rows.proofs.Members.{of-filter}
 use Rattle.cert_modes.specs.Modes.{allowed, coefficients_of, cube_row, grounds_of, is_row, precondition}
-use Rattle.termination_model.specs.Chain.{is_number}
-use Rattle.termination_model.specs.Descent.{mode_row}
-use Rattle.termination_model.specs.Grounds.{HasArity, truth_row, IsGround, IsClosed, IsClosedUnder}
-use Rattle.termination_model.specs.Modes.{modes, chosen_up_to, is_part}
-use Rattle.termination_model.specs.Rows.{Covers}
+use Rattle.termination_model.specs.chains.Chain.{is_number}
+use Rattle.termination_model.specs.claims.Descent.{mode_row}
+use Rattle.termination_model.specs.grounds.Grounds.{HasArity, truth_row, IsGround, IsClosed, IsClosedUnder}
+use Rattle.termination_model.specs.grounds.Modes.{modes, chosen_up_to, is_part}
+use Rattle.termination_model.specs.sizes.Rows.{Covers}
 use Rattle.termination_model.proofs.Sets.{up_to_set}
-use Rattle.termination_model.specs.Minimal.{IsSet}
+use Rattle.termination_model.specs.grounds.Minimal.{IsSet}
 use Rattle.cert_assembly.specs.ExactModes.{is_member, PreIsGreatest, ModesAreExact, AreCounted, HoldWithShape, ExactModesHold}
 use Rattle.precond_fixpoint.proofs.Searching.{by_place}
 

@@ -9,7 +9,7 @@ use Rattle.cti_terms.specs.Listing.{Listing}
 use Rattle.level_systems.proofs.PairLists.{drop_at}
 use Rattle.linear_rows.specs.Step.{columns}
 use Rattle.termination_model.proofs.Lists.{append_assoc}
-use Rattle.termination_model.specs.ChainSteps.{Step}
+use Rattle.termination_model.specs.chains.ChainSteps.{Step}
 
 pub append_none : {X : Type 0} (xs : List X) → xs ++ [] ≡ xs
 append_none [] = refl

@@ -19,8 +19,8 @@ use Rattle.linear_rows.specs.Solving.{zeros}
 use Rattle.linear_rows.specs.declared.point.Point.{Point}
 use Rattle.number_tests.specs.Shape.{IsLevelPart, list_at}
 use Rattle.number_tests.specs.declared.level_part.LevelPart.{LevelPart}
-use Rattle.termination_model.specs.Claims.{SomeOf}
-use Rattle.termination_model.specs.ComponentViews.{rank_in}
+use Rattle.termination_model.specs.claims.Claims.{SomeOf}
+use Rattle.termination_model.specs.mappings.ComponentViews.{rank_in}
 use Rattle.cert_assembly.proofs.ChainParts.{amounts_of}
 use Rattle.cert_assembly.specs.Leading.{led_by}
 use Rattle.cert_assembly.specs.Parted.{part_or_zero, zero_part}

@@ -2,7 +2,7 @@
 use Rattle.std.proofs.Common.{◌≡◌, ℕ, zero, suc, ◌+◌, ◌<◌, List, [], ◌∷◌, ◌++◌, length, Option, Some, slice_get, ◌⊎◌, inl, inr, refl, subst, ap, sym, ◌∙◌, arith}
 use Rattle.std.specs.Prelude.{IsSomeAnd}
 use Rattle.cti_terms.specs.declared.predicates.Pred.{Pred}
-use Rattle.termination_model.specs.Grounds.{HasArity}
+use Rattle.termination_model.specs.grounds.Grounds.{HasArity}
 
 last_or : (i n : ℕ) → i < n + 1 → (i < n) ⊎ (i ≡ n)
 last_or i n less = grind arith

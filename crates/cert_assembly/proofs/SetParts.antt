@@ -24,9 +24,9 @@ use Rattle.precond_fixpoint.specs.Solving as solving
 use Rattle.precond_fixpoint.specs.Solving.{allowed_family, arguments_of, pre_family}
 use Rattle.precond_fixpoint.specs.declared.mode.Mode.{Mode}
 use Rattle.termination_model.proofs.Lists.{mapped_place, place_below}
-use Rattle.termination_model.specs.Grounds.{Family}
-use Rattle.termination_model.specs.Modes.{modes}
-use Rattle.termination_model.specs.View.{all_upper}
+use Rattle.termination_model.specs.grounds.Grounds.{Family}
+use Rattle.termination_model.specs.grounds.Modes.{modes}
+use Rattle.termination_model.specs.mappings.View.{all_upper}
 use Rattle.truth_rows.specs.Sets.{family_of, has_row}
 use Rattle.cert_assembly.specs.Assembly.{PartsAreSpelled, SetsAreSolved}
 use Rattle.cert_assembly.specs.ExactModes.{AreCounted, ModesAreExact, is_member}

@@ -1,7 +1,7 @@
 -- Numbers of a set that has one more number before it, or has not.
 use Rattle.std.proofs.Common.{◌≡◌, ℕ, suc, ◌≤◌, Bool, true, false, if◌then◌else◌, List, ◌∷◌, inl, inr, refl, arith}
 use Rattle.linear_rows.specs.Members.{In}
-use Rattle.termination_model.specs.Minimal.{IsSet}
+use Rattle.termination_model.specs.grounds.Minimal.{IsSet}
 use Rattle.termination_model.proofs.Sets.{within}
 
 pub not_first : (b : Bool) (i x : ℕ) (rest : List ℕ) → suc i ≤ x → In x (if b then i ∷ rest else rest) → In x rest

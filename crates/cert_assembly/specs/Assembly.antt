@@ -12,7 +12,7 @@ use Rattle.cti_terms.specs.Tree.{Tree}
 use Rattle.number_tests.specs.declared.level_part.LevelPart.{LevelPart}
 use Rattle.precond_fixpoint.specs.Solving.{AreLevels, AreMappingSets, AreModes, IsSolved, allowed_family}
 use Rattle.precond_fixpoint.specs.declared.mode.Mode.{Mode}
-use Rattle.termination_model.specs.Grounds.{IsLeast}
+use Rattle.termination_model.specs.grounds.Grounds.{IsLeast}
 use Rattle.truth_rows.specs.Sets.{AreSets, family_of}
 use Rattle.cert_assembly.specs.Spelled.{mode_lists, spelled_list, spelled_lists}
 

@@ -14,9 +14,9 @@ use Rattle.certificate.specs.declared.how.CertHow.TheVariants as cert
 use Rattle.cti_terms.specs.Listing.{Listing}
 use Rattle.cti_terms.specs.Tree.{Tree}
 use Rattle.linear_rows.specs.declared.row.Rows.{Rows}
-use Rattle.termination_model.specs.Chain.{IsLegalChain}
-use Rattle.termination_model.specs.ChainSteps.{Step}
-use Rattle.termination_model.specs.Sizes.{rows_of}
+use Rattle.termination_model.specs.chains.Chain.{IsLegalChain}
+use Rattle.termination_model.specs.chains.ChainSteps.{Step}
+use Rattle.termination_model.specs.sizes.Sizes.{rows_of}
 use Rattle.termination_model.specs.declared.how.How.{How}
 use Rattle.termination_model.specs.declared.how.How.TheVariants as how
 

@@ -15,9 +15,9 @@ use Rattle.cti_terms.specs.Listing.{Listing, IsProgram}
 use Rattle.cti_terms.specs.Tree.{Tree}
 use Rattle.cti_terms.specs.declared.predicates.Pred.{Pred}
 use Rattle.cert_modes.specs.Modes.{allowed, coefficients_of, grounds_of, ModesHold}
-pub use Rattle.termination_model.specs.Chain.{is_member}
-use Rattle.termination_model.specs.Grounds.{Family, IsLeast}
-use Rattle.termination_model.specs.Modes.{modes}
+pub use Rattle.termination_model.specs.chains.Chain.{is_member}
+use Rattle.termination_model.specs.grounds.Grounds.{Family, IsLeast}
+use Rattle.termination_model.specs.grounds.Modes.{modes}
 use Rattle.precond_fixpoint.specs.Greatest.{IsGreatestIn}
 
 module _ (truth : (ℕ → Bool) → Tree → Bool) (p : Listing) (comps : Partition) (parts : Parts) where

@@ -21,9 +21,9 @@ use Rattle.number_tests.specs.Shape.{list_at}
 use Rattle.numeric_model.specs.Proved.{AreProved}
 use Rattle.numeric_model.specs.States.{plain_step}
 use Rattle.numeric_model.specs.declared.chain.Chain.{Chain}
-use Rattle.termination_model.specs.Chain.{IsLegalChain}
-use Rattle.termination_model.specs.Sizes.{AreSizes, rows_of as size_rows_of}
-use Rattle.termination_model.specs.Stated.{AreStated}
+use Rattle.termination_model.specs.chains.Chain.{IsLegalChain}
+use Rattle.termination_model.specs.sizes.Sizes.{AreSizes, rows_of as size_rows_of}
+use Rattle.termination_model.specs.sizes.Stated.{AreStated}
 use Rattle.termination_model.specs.declared.sizes.Sizes.{Sizes}
 
 -- a chain as the model of sizes gives it

@@ -25,11 +25,11 @@ use Rattle.term_size.specs.Norm.{IsNorm}
 use Rattle.termination_model.proofs.Lists.{indexed, there}
 use Rattle.termination_model.proofs.Proved.{shown}
 use Rattle.termination_model.proofs.Query.{modes_end}
-use Rattle.termination_model.specs.Claims.{Admits, Claims, Measure}
-use Rattle.termination_model.specs.Descent.{Meets, mode_row}
-use Rattle.termination_model.specs.Grounds.{Family, HasArity}
-use Rattle.termination_model.specs.Rows.{Covers}
-use Rattle.termination_model.specs.Short.{DescendsProved, ServesProved, ShowsProved}
+use Rattle.termination_model.specs.claims.Claims.{Admits, Claims, Measure}
+use Rattle.termination_model.specs.claims.Descent.{Meets, mode_row}
+use Rattle.termination_model.specs.grounds.Grounds.{Family, HasArity}
+use Rattle.termination_model.specs.sizes.Rows.{Covers}
+use Rattle.termination_model.specs.sizes.Short.{DescendsProved, ServesProved, ShowsProved}
 use Rattle.cert_checker.specs.Bounding.{FactIsBounded, ModeIsBounded, ModesAreBounded}
 use Rattle.cert_checker.specs.Claimed.{claims_of, natural_coefficients, mapping_count, mapping_of, measure_of, measures_from}
 use Rattle.number_tests.specs.Shape.{IsLevelPart, list_at}
@@ -40,7 +40,7 @@ use Rattle.cert_checker.proofs.Claims.{falls, ranked, sizes}
 use Rattle.number_tests.proofs.ColumnLengths.{an_element}
 use Rattle.cert_checker.proofs.PrintedModes.{listed_bounded, meets_row, rigid_is, same_pred}
 use Rattle.cert_checker.proofs.ShapeLaws.{arity_at, have_falls, have_levels, have_row_proofs, items_are, one_of, some_is}
-use Rattle.termination_model.specs.ComponentViews.{rank_in}
+use Rattle.termination_model.specs.mappings.ComponentViews.{rank_in}
 
 -- the claims of parts, with the sets of truth rows that they spell
 abbrev claims : ((ℕ → ℕ) → Tree → ℕ) → ((ℕ → Bool) → Tree → Bool) → (ℕ → Tree → List ℤ) → Listing → Partition → Parts → Claims

@@ -23,9 +23,9 @@ use Rattle.number_tests.specs.Targets.{AreFallColumns, fall_weights}
 use Rattle.number_tests.specs.declared.level_part.LevelPart.{LevelPart}
 use Rattle.term_size.specs.Norm.{IsNorm}
 use Rattle.termination_model.proofs.Lists.{by_places}
-use Rattle.termination_model.specs.Replacing.{over_columns}
-use Rattle.termination_model.specs.ShortSystems.{short_system}
-use Rattle.termination_model.specs.Sizes.{AreSizes, rows_of}
+use Rattle.termination_model.specs.sizes.Replacing.{over_columns}
+use Rattle.termination_model.specs.sizes.ShortSystems.{short_system}
+use Rattle.termination_model.specs.sizes.Sizes.{AreSizes, rows_of}
 use Rattle.cert_checker.specs.CallFalls.{FindsCall, IsReadyCall}
 use Rattle.cert_checker.specs.Finding.{FallsFail, Finds, MappingsFail}
 use Rattle.cert_checker.specs.Shape.{AreTogether, HaveFalls, HaveLevels}

@@ -13,13 +13,13 @@ use Rattle.number_tests.specs.declared.level_part.LevelPart.{LevelPart}
 use Rattle.cert_structure.specs.declared.parts.Parts.{Parts}
 use Rattle.linear_rows.specs.declared.multipliers.Multipliers.{Multipliers}
 use Rattle.linear_rows.specs.Proves.{Proves}
-use Rattle.termination_model.specs.Claims.{Measure, Claims, IsRanked, fall_row}
-use Rattle.termination_model.specs.Grounds.{Family}
-use Rattle.termination_model.specs.Rows.{scaled, added}
-use Rattle.termination_model.specs.Short.{Provable, SizesProved, DescendsProved}
-use Rattle.termination_model.specs.Sizes.{rows_of}
-use Rattle.termination_model.specs.Systems.{row_over}
-use Rattle.termination_model.specs.ShortSystems.{short_system}
+use Rattle.termination_model.specs.claims.Claims.{Measure, Claims, IsRanked, fall_row}
+use Rattle.termination_model.specs.grounds.Grounds.{Family}
+use Rattle.termination_model.specs.sizes.Rows.{scaled, added}
+use Rattle.termination_model.specs.sizes.Short.{Provable, SizesProved, DescendsProved}
+use Rattle.termination_model.specs.sizes.Sizes.{rows_of}
+use Rattle.termination_model.specs.sizes.Systems.{row_over}
+use Rattle.termination_model.specs.sizes.ShortSystems.{short_system}
 use Rattle.termination_model.proofs.Lists.{by_places, from_places, place_below, there}
 use Rattle.cert_checker.specs.Claimed.{claims_of, natural_coefficients, measure_of, measures_from, mapping_of, natural_offset, mapping_count}
 use Rattle.number_tests.specs.Proved.{fall_of, level_of}
@@ -31,7 +31,7 @@ use Rattle.cert_checker.specs.Shows.{ClausesAreRanked, FallsAreProved, SizesAreP
 use Rattle.cert_checker.proofs.LevelFacts.{level_parts}
 use Rattle.number_tests.proofs.ColumnLengths.{an_element}
 use Rattle.number_tests.proofs.Sized.{some_below}
-use Rattle.termination_model.specs.ComponentViews.{rank_in}
+use Rattle.termination_model.specs.mappings.ComponentViews.{rank_in}
 
 pub natural_is : (x : ℤ) → pos 0 ≤ℤ x → pos (unsigned_abs x) ≡ x
 natural_is x h = omega (arith, ints)

@@ -15,14 +15,14 @@ use Rattle.call_components.specs.Partition.{Partition, IsIn}
 use Rattle.number_tests.specs.declared.pair_point.PairPoint.{PairPoint}
 use Rattle.cert_structure.specs.declared.parts.Parts.{Parts}
 use Rattle.linear_rows.specs.declared.point.Point.{Point}
-use Rattle.termination_model.specs.Claims.{Claims, SomeOf}
-use Rattle.termination_model.specs.Grounds.{Family}
-use Rattle.termination_model.specs.Refutation.{Pair, Load, IsPair, gather, head_load, call_load, values_at}
-use Rattle.termination_model.specs.Rows.{added}
-use Rattle.termination_model.specs.Sizes.{rows_of}
-use Rattle.termination_model.specs.Systems.{row_over, system}
-use Rattle.termination_model.specs.View.{Member, Place, Call, place_of, rule_of, system_of, view_of}
-use Rattle.termination_model.specs.View as view
+use Rattle.termination_model.specs.claims.Claims.{Claims, SomeOf}
+use Rattle.termination_model.specs.grounds.Grounds.{Family}
+use Rattle.termination_model.specs.mappings.Refutation.{Pair, Load, IsPair, gather, head_load, call_load, values_at}
+use Rattle.termination_model.specs.sizes.Rows.{added}
+use Rattle.termination_model.specs.sizes.Sizes.{rows_of}
+use Rattle.termination_model.specs.sizes.Systems.{row_over, system}
+use Rattle.termination_model.specs.mappings.View.{Member, Place, Call, place_of, rule_of, system_of, view_of}
+use Rattle.termination_model.specs.mappings.View as view
 use Rattle.termination_model.proofs.Lists.{by_places, from_places, indexed, mapped_place, there}
 use Rattle.cert_checker.specs.Claimed.{claims_of}
 use Rattle.cert_checker.specs.Excluded.{IsNatural, IsPairIn, RefutationsExclude, itself, pair_of}
@@ -30,7 +30,7 @@ use Rattle.number_tests.specs.Refuting.{PointHolds, RowHolds, RowsHold, SumsRefu
 use Rattle.number_tests.specs.Shape.{IsPairOf, list_at}
 use Rattle.cert_checker.proofs.Claims.{natural_is, naturals_are}
 use Rattle.number_tests.proofs.ColumnLengths.{an_element}
-use Rattle.termination_model.specs.ComponentViews.{rank_in}
+use Rattle.termination_model.specs.mappings.ComponentViews.{rank_in}
 
 -- an element that passes a test is among the mapped ones that do
 some_kept : {X Y : Type 0} → (t : X → Bool) (g : X → Y) (xs : List X) (i : ℕ) (x : X) → slice_get xs i ≡ Some x → t x ≡ true → SomeOf (λ (y : Y). y ≡ g x) (map g (filter t xs))

@@ -22,9 +22,9 @@ use Rattle.number_tests.specs.declared.flaw.Flaw.{Flaw}
 use Rattle.number_tests.specs.declared.level_part.LevelPart.{LevelPart}
 use Rattle.term_size.specs.Norm.{IsNorm}
 use Rattle.termination_model.proofs.Lists.{by_places, one_element, place_below}
-use Rattle.termination_model.specs.Replacing.{over_columns}
-use Rattle.termination_model.specs.Sizes.{rows_of}
-use Rattle.termination_model.specs.ShortSystems.{short_system}
+use Rattle.termination_model.specs.sizes.Replacing.{over_columns}
+use Rattle.termination_model.specs.sizes.Sizes.{rows_of}
+use Rattle.termination_model.specs.sizes.ShortSystems.{short_system}
 use Rattle.cert_checker.specs.Fault.{FallFails, reason_of}
 use Rattle.cert_checker.specs.Finding.{FallsFail, Finds, MappingFails, MappingsFail, NoneFails}
 use Rattle.cert_checker.specs.Shape.{AreTogether}

@@ -28,10 +28,10 @@ use Rattle.term_size.specs.Norm.{IsNorm}
 use Rattle.termination_model.proofs.Lists.{one_element, place_below}
 use Rattle.termination_model.proofs.RowColumns.{columns_replace}
 use Rattle.termination_model.proofs.SystemLaws.{widths}
-use Rattle.termination_model.specs.Replacing.{AreColumns, over_columns}
-use Rattle.termination_model.specs.Sizes.{rows_of}
-use Rattle.termination_model.specs.Systems.{row_fits, row_over}
-use Rattle.termination_model.specs.ShortSystems.{short_system}
+use Rattle.termination_model.specs.sizes.Replacing.{AreColumns, over_columns}
+use Rattle.termination_model.specs.sizes.Sizes.{rows_of}
+use Rattle.termination_model.specs.sizes.Systems.{row_fits, row_over}
+use Rattle.termination_model.specs.sizes.ShortSystems.{short_system}
 use Rattle.cert_checker.specs.Fault.{RowFails, reason_number, reason_of}
 use Rattle.cert_checker.specs.Finding.{ByFails, Finds, NoneFails}
 use Rattle.cert_checker.specs.declared.fault.Fault.{Fault}

@@ -24,10 +24,10 @@ use Rattle.number_tests.specs.Shape.{list_at}
 use Rattle.number_tests.specs.declared.level_part.LevelPart.{LevelPart}
 use Rattle.number_tests.specs.declared.refutation.Refutation.{Refutation}
 use Rattle.termination_model.proofs.Lists.{by_places, indexed, mapped_place}
-use Rattle.termination_model.specs.Sizes.{plain_or_none, rows_of}
-use Rattle.termination_model.specs.Stated.{AreStated, stated_rows}
-use Rattle.termination_model.specs.Systems.{row_over}
-use Rattle.termination_model.specs.ShortSystems.{short_system}
+use Rattle.termination_model.specs.sizes.Sizes.{plain_or_none, rows_of}
+use Rattle.termination_model.specs.sizes.Stated.{AreStated, stated_rows}
+use Rattle.termination_model.specs.sizes.Systems.{row_over}
+use Rattle.termination_model.specs.sizes.ShortSystems.{short_system}
 use Rattle.cert_checker.specs.Fault.{FactFails, FallFails, MeasureFails, RowFails, RowIsForeign}
 use Rattle.cert_checker.specs.Finding.{NoneFails, RefutationsFail}
 use Rattle.cert_checker.specs.Proved.{ByHold, FallsHold, IsZero, MeasuresAreZero}

@@ -20,13 +20,13 @@ use Rattle.number_tests.specs.declared.refutation.Refutation.{Refutation}
 use Rattle.linear_rows.specs.declared.point.Point.{Point}
 use Rattle.linear_rows.specs.Rows.{HoldsOn}
 use Rattle.term_size.specs.AnyNorm.{any_row, any_size, any_truth}
-use Rattle.termination_model.specs.Claims.{Claims, Mapping}
-use Rattle.termination_model.specs.Grounds.{Family}
-use Rattle.termination_model.specs.Refutation.{Decreases}
-use Rattle.termination_model.specs.Sizes.{rows_of}
-use Rattle.termination_model.specs.Systems.{system}
-use Rattle.termination_model.specs.View.{Call, Lower, Member, Place, Rule, fall_over, rule_of, system_of, upward_union, view_of}
-use Rattle.termination_model.specs.View as view
+use Rattle.termination_model.specs.claims.Claims.{Claims, Mapping}
+use Rattle.termination_model.specs.grounds.Grounds.{Family}
+use Rattle.termination_model.specs.mappings.Refutation.{Decreases}
+use Rattle.termination_model.specs.sizes.Sizes.{rows_of}
+use Rattle.termination_model.specs.sizes.Systems.{system}
+use Rattle.termination_model.specs.mappings.View.{Call, Lower, Member, Place, Rule, fall_over, rule_of, system_of, upward_union, view_of}
+use Rattle.termination_model.specs.mappings.View as view
 use Rattle.termination_model.proofs.Refuted.{none_decreases}
 use Rattle.cert_checker.specs.Claimed.{claims_of}
 use Rattle.cert_checker.specs.Excluded.{IsNatural, IsPairIn, itself, pair_of}
@@ -39,7 +39,7 @@ use Rattle.cert_checker.specs.Valid.{ClaimsHold, PartsHold}
 use Rattle.cert_checker.proofs.Excludes.{excluded, in_range, system_same, take_mapped}
 use Rattle.cert_checker.proofs.Partitions.{together_is}
 use Rattle.cert_checker.proofs.ShapeLaws.{have_refutations, numbered_is, one_of}
-use Rattle.termination_model.specs.ComponentViews.{rank_in}
+use Rattle.termination_model.specs.mappings.ComponentViews.{rank_in}
 
 amounts_are : (xs : List ℤ) → AreAmounts xs → All (λ x. pos 0 ≤ℤ x) xs
 amounts_are [] h k d lt = absurd (omega (arith, lt))

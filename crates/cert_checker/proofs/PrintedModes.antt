@@ -20,8 +20,8 @@ use Rattle.number_tests.specs.declared.refutation.Refutation.{Refutation}
 use Rattle.linear_rows.specs.declared.point.Point.{Point}
 use Rattle.term_size.specs.AnyNorm.{any_truth}
 use Rattle.termination_model.proofs.Lists.{by_places, indexed}
-use Rattle.termination_model.specs.Descent.{mode_row}
-use Rattle.termination_model.specs.Rows.{IsUpper}
+use Rattle.termination_model.specs.claims.Descent.{mode_row}
+use Rattle.termination_model.specs.sizes.Rows.{IsUpper}
 use Rattle.cert_checker.specs.Bounding.{FactIsBounded, ModeIsBounded, NamedAreRigid, rigid_in}
 use Rattle.cert_checker.specs.Norms.{norm_in}
 use Rattle.number_tests.proofs.ColumnLengths.{an_element}

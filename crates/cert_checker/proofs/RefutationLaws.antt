@@ -25,8 +25,8 @@ use Rattle.number_tests.specs.declared.pair_point.PairPoint.{PairPoint}
 use Rattle.number_tests.specs.declared.point_flaw.PointFlaw.{PointFlaw}
 use Rattle.number_tests.specs.declared.refutation.Refutation.{Refutation}
 use Rattle.termination_model.proofs.Lists.{by_places, from_places, one_element}
-use Rattle.termination_model.specs.Sizes.{rows_of}
-use Rattle.termination_model.specs.Systems.{row_fits, system}
+use Rattle.termination_model.specs.sizes.Sizes.{rows_of}
+use Rattle.termination_model.specs.sizes.Systems.{row_fits, system}
 use Rattle.cert_checker.specs.Fault.{RefutationFails, RowsFailAt, reason_number, reason_of}
 use Rattle.cert_checker.specs.Finding.{Finds, GroupFails, NoneFails, RefutationsFail, group_facts}
 use Rattle.cert_checker.specs.declared.fault.Fault.{Fault}

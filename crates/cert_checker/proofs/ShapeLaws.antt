@@ -21,7 +21,7 @@ use Rattle.linear_rows.specs.Plain.{HaveWidth, plain_row}
 use Rattle.linear_rows.specs.declared.multipliers.Multipliers.{Multipliers}
 use Rattle.linear_rows.specs.declared.row.Row.{Row}
 use Rattle.linear_rows.specs.declared.row.Rows.{Rows}
-use Rattle.termination_model.specs.Sizes.{AreSizes, plain_or_none, rows_of}
+use Rattle.termination_model.specs.sizes.Sizes.{AreSizes, plain_or_none, rows_of}
 use Rattle.termination_model.proofs.Lists.{by_places, from_places, there}
 use Rattle.number_tests.proofs.ColumnLengths.{an_element}
 use Rattle.cert_checker.proofs.Partitions.{is_together_in}

@@ -8,8 +8,8 @@ use Rattle.std.specs.Ordering.{int_eq}
 use Rattle.cti_terms.specs.declared.builtins.Builtin.{Builtin}
 use Rattle.cti_terms.specs.declared.builtins.Builtin.TheVariants as builtin
 use Rattle.linear_rows.specs.Members.{In}
-use Rattle.termination_model.specs.Claims.{SomeOf}
-use Rattle.termination_model.specs.Stated.{is_row, stated_rows}
+use Rattle.termination_model.specs.claims.Claims.{SomeOf}
+use Rattle.termination_model.specs.sizes.Stated.{is_row, stated_rows}
 
 -- what cannot fail holds
 abbrev pub IsStable : Type 0 → Type 0

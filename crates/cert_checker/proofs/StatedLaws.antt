@@ -11,7 +11,7 @@ use Rattle.linear_rows.specs.Members.{In}
 use Rattle.linear_rows.specs.Plain.{plain_row, plain_rows}
 use Rattle.linear_rows.specs.declared.row.Row.{Row}
 use Rattle.termination_model.proofs.Lists.{by_places, mapped_place}
-use Rattle.termination_model.specs.Stated.{stated_rows}
+use Rattle.termination_model.specs.sizes.Stated.{stated_rows}
 use Rattle.cert_checker.specs.Fault.{RowIsForeign}
 use Rattle.cert_checker.specs.Finding.{Finds, IsForeign, NoneFails, SizesFail}
 use Rattle.cert_checker.specs.declared.fault.Fault.{Fault}

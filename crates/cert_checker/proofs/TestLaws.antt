@@ -27,11 +27,11 @@ use Rattle.number_tests.specs.Refuting.{PairFits, PairsFit, RowHolds, RowsHold, 
 use Rattle.number_tests.specs.declared.flaw.Flaw.{Flaw}
 use Rattle.number_tests.specs.declared.flaw.Flaw.TheVariants as flaw
 use Rattle.number_tests.specs.declared.pair_point.PairPoint.{PairPoint}
-use Rattle.termination_model.specs.Claims.{SomeOf}
-use Rattle.termination_model.specs.Descent.{mode_row}
-use Rattle.termination_model.specs.Refutation.{Load, gather}
-use Rattle.termination_model.specs.Rows.{Covers}
-use Rattle.termination_model.specs.Systems.{row_fits, system}
+use Rattle.termination_model.specs.claims.Claims.{SomeOf}
+use Rattle.termination_model.specs.claims.Descent.{mode_row}
+use Rattle.termination_model.specs.mappings.Refutation.{Load, gather}
+use Rattle.termination_model.specs.sizes.Rows.{Covers}
+use Rattle.termination_model.specs.sizes.Systems.{row_fits, system}
 use Rattle.cert_checker.proofs.Stable.{IsStable, some_or_none, stable_all, stable_at_most, stable_both, stable_less, stable_true}
 
 stable_fits : (z : ℤ) → IsStable (Fits z)

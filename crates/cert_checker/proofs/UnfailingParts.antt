@@ -32,13 +32,13 @@ use Rattle.number_tests.specs.Shape.{IsPairOf, list_at}
 use Rattle.number_tests.specs.declared.level_part.LevelPart.{LevelPart}
 use Rattle.number_tests.specs.declared.pair_point.PairPoint.{PairPoint}
 use Rattle.termination_model.proofs.Lists.{by_places, from_places, there}
-use Rattle.termination_model.specs.Descent.{mode_row}
-use Rattle.termination_model.specs.Grounds.{IsClosedUnder}
-use Rattle.termination_model.specs.Rows.{Covers}
-use Rattle.termination_model.specs.Sizes.{plain_or_none, rows_of}
-use Rattle.termination_model.specs.Stated.{AreStated, stated_rows}
-use Rattle.termination_model.specs.Systems.{row_over}
-use Rattle.termination_model.specs.ShortSystems.{short_system}
+use Rattle.termination_model.specs.claims.Descent.{mode_row}
+use Rattle.termination_model.specs.grounds.Grounds.{IsClosedUnder}
+use Rattle.termination_model.specs.sizes.Rows.{Covers}
+use Rattle.termination_model.specs.sizes.Sizes.{plain_or_none, rows_of}
+use Rattle.termination_model.specs.sizes.Stated.{AreStated, stated_rows}
+use Rattle.termination_model.specs.sizes.Systems.{row_over}
+use Rattle.termination_model.specs.sizes.ShortSystems.{short_system}
 use Rattle.cert_checker.specs.Fault.{FactFails, reason_of}
 use Rattle.cert_checker.specs.Finding.{NoneFails}
 use Rattle.cert_checker.specs.ModeFaults.{mode_reason}

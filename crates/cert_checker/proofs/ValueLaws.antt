@@ -20,7 +20,7 @@ use Rattle.cti_terms.specs.Listing.{IsProgram, Listing}
 use Rattle.cti_terms.specs.Tree.{Tree}
 use Rattle.number_tests.proofs.ColumnLengths.{an_element}
 use Rattle.termination_model.proofs.Lists.{by_places, from_places, place_below}
-use Rattle.termination_model.specs.Grounds.{IsClosedUnder}
+use Rattle.termination_model.specs.grounds.Grounds.{IsClosedUnder}
 use Rattle.cert_checker.specs.Fault.{ClaimFails, FactFails, IsFault, IsFirstAt, failing_fact, reason_number}
 use Rattle.cert_checker.specs.Finding.{Finds, NoneFails}
 use Rattle.cert_checker.specs.ModeFaults.{fault_of, mode_reason}

@@ -11,11 +11,11 @@ use Rattle.cti_terms.specs.Tree.{Tree}
 use Rattle.call_components.specs.Partition.{Partition}
 pub use Rattle.number_tests.specs.Levels.{natural_coefficients, natural_offset}
 use Rattle.cert_structure.specs.declared.parts.Parts.{Parts}
-use Rattle.termination_model.specs.Grounds.{Family}
-use Rattle.termination_model.specs.Claims.{Mapping, Measure, Claims}
-use Rattle.termination_model.specs.Sizes.{rows_of}
+use Rattle.termination_model.specs.grounds.Grounds.{Family}
+use Rattle.termination_model.specs.claims.Claims.{Mapping, Measure, Claims}
+use Rattle.termination_model.specs.sizes.Sizes.{rows_of}
 use Rattle.number_tests.specs.Shape.{list_at}
-use Rattle.termination_model.specs.ComponentViews.{rank_in}
+use Rattle.termination_model.specs.mappings.ComponentViews.{rank_in}
 
 module _ (parts : Parts) where
   -- the mapping of number m

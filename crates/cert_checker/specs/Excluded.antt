@@ -11,11 +11,11 @@ use Rattle.number_tests.specs.declared.pair_point.PairPoint.{PairPoint}
 use Rattle.cert_structure.specs.declared.parts.Parts.{Parts}
 use Rattle.number_tests.specs.declared.refutation.Refutation.{Refutation}
 use Rattle.linear_rows.specs.declared.point.Point.{Point}
-use Rattle.termination_model.specs.Claims.{Claims}
-use Rattle.termination_model.specs.Grounds.{Family}
-use Rattle.termination_model.specs.Refutation.{Pair, IsRefutation}
-use Rattle.termination_model.specs.View.{view_of, rule_of}
-use Rattle.termination_model.specs.View as view
+use Rattle.termination_model.specs.claims.Claims.{Claims}
+use Rattle.termination_model.specs.grounds.Grounds.{Family}
+use Rattle.termination_model.specs.mappings.Refutation.{Pair, IsRefutation}
+use Rattle.termination_model.specs.mappings.View.{view_of, rule_of}
+use Rattle.termination_model.specs.mappings.View as view
 use Rattle.cert_checker.specs.Claimed.{claims_of}
 use Rattle.number_tests.specs.Refuting.{call_of, clause_of}
 use Rattle.cert_checker.specs.Refuting.{RefutationsHold}

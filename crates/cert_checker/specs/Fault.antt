@@ -30,10 +30,10 @@ use Rattle.number_tests.specs.declared.flaw.Flaw.TheVariants as flaw
 use Rattle.number_tests.specs.declared.level_part.LevelPart.{LevelPart}
 use Rattle.number_tests.specs.declared.refutation.Refutation.{Refutation}
 use Rattle.term_size.specs.AnyNorm.{any_row, any_truth}
-use Rattle.termination_model.specs.Sizes.{rows_of}
-use Rattle.termination_model.specs.Stated.{stated_rows}
-use Rattle.termination_model.specs.Systems.{row_over}
-use Rattle.termination_model.specs.ShortSystems.{short_system}
+use Rattle.termination_model.specs.sizes.Sizes.{rows_of}
+use Rattle.termination_model.specs.sizes.Stated.{stated_rows}
+use Rattle.termination_model.specs.sizes.Systems.{row_over}
+use Rattle.termination_model.specs.sizes.ShortSystems.{short_system}
 use Rattle.cert_checker.specs.ModeFaults.{mode_reason}
 use Rattle.cert_checker.specs.Norms.{norm_in}
 use Rattle.cert_checker.specs.Proved.{IsZero}

@@ -12,7 +12,7 @@ use Rattle.number_tests.specs.Targets.{fall_weights}
 use Rattle.number_tests.specs.declared.flaw.Flaw.{Flaw}
 use Rattle.number_tests.specs.declared.level_part.LevelPart.{LevelPart}
 use Rattle.number_tests.specs.declared.pair_point.PairPoint.{PairPoint}
-use Rattle.termination_model.specs.Replacing.{over_columns}
+use Rattle.termination_model.specs.sizes.Replacing.{over_columns}
 use Rattle.certificate.specs.declared.fact.Fact.TheVariants as fact
 use Rattle.cert_structure.specs.declared.parts.Parts.{Parts}
 use Rattle.cti_terms.specs.Listing.{Listing, numbered}
@@ -21,7 +21,7 @@ use Rattle.cti_terms.specs.declared.builtins.Builtin.{Builtin}
 use Rattle.linear_rows.specs.Members.{In}
 use Rattle.linear_rows.specs.declared.row.Rows.{Rows}
 use Rattle.call_components.specs.Partition.{Partition}
-use Rattle.termination_model.specs.Stated.{stated_rows}
+use Rattle.termination_model.specs.sizes.Stated.{stated_rows}
 use Rattle.cert_checker.specs.Fault.{FallFails, IsFirstAt, MeasureFails, RefutationFails, RowFails, RowIsForeign, RowsFailAt, reason_of}
 use Rattle.cert_checker.specs.Proved.{IsZero}
 use Rattle.cert_checker.specs.declared.fault.Fault.{Fault}

@@ -17,8 +17,8 @@ use Rattle.call_components.specs.Partition.{Partition, IsIn}
 use Rattle.linear_rows.specs.declared.multipliers.Multipliers.{Multipliers}
 use Rattle.number_tests.specs.declared.level_part.LevelPart.{LevelPart}
 use Rattle.cert_structure.specs.declared.parts.Parts.{Parts}
-use Rattle.termination_model.specs.Sizes.{rows_of}
-use Rattle.termination_model.specs.ShortSystems.{short_system}
+use Rattle.termination_model.specs.sizes.Sizes.{rows_of}
+use Rattle.termination_model.specs.sizes.ShortSystems.{short_system}
 use Rattle.number_tests.specs.Proved.{MappingsFall, RowsAreKept}
 use Rattle.number_tests.specs.Shape.{list_at}
 use Rattle.cert_checker.specs.Shape.{AreTogether}

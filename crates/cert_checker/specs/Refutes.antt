@@ -14,10 +14,10 @@ use Rattle.cert_structure.specs.declared.parts.Parts.{Parts}
 use Rattle.number_tests.specs.declared.refutation.Refutation.{Refutation}
 use Rattle.linear_rows.specs.Rows.{HoldsOn}
 use Rattle.term_size.specs.AnyNorm.{any_row}
-use Rattle.termination_model.specs.Claims.{Mapping}
-use Rattle.termination_model.specs.Rows.{scaled, added}
-use Rattle.termination_model.specs.Sizes.{rows_of}
-use Rattle.termination_model.specs.Systems.{row_over, system}
+use Rattle.termination_model.specs.claims.Claims.{Mapping}
+use Rattle.termination_model.specs.sizes.Rows.{scaled, added}
+use Rattle.termination_model.specs.sizes.Sizes.{rows_of}
+use Rattle.termination_model.specs.sizes.Systems.{row_over, system}
 use Rattle.cert_checker.specs.Norms.{norm_in}
 
 module _ (expression : ℕ → Tree → List ℤ) where

@@ -10,7 +10,7 @@ use Rattle.call_components.specs.Partition.{Partition, IsIn}
 use Rattle.cert_structure.specs.declared.parts.Parts.{Parts}
 use Rattle.number_tests.specs.declared.refutation.Refutation.{Refutation}
 use Rattle.number_tests.specs.Refuting.{PointHolds, SumsRefute}
-use Rattle.termination_model.specs.Sizes.{rows_of}
+use Rattle.termination_model.specs.sizes.Sizes.{rows_of}
 
 module _ (expression : ℕ → Tree → List ℤ) where
   -- each refutation's sums refute, and the rows hold at its points

@@ -11,7 +11,7 @@ use Rattle.cti_terms.specs.declared.predicates.Pred.{Pred}
 use Rattle.call_components.specs.Partition.{Partition}
 use Rattle.number_tests.specs.declared.refutation.Refutation.{Refutation}
 use Rattle.cert_structure.specs.declared.parts.Parts.{Parts}
-use Rattle.termination_model.specs.Sizes.{rows_of}
+use Rattle.termination_model.specs.sizes.Sizes.{rows_of}
 use Rattle.linear_rows.specs.Showing.{AreMultipliers}
 use Rattle.number_tests.specs.Shape.{IsLevelPart, IsPairOf, list_at, row_count}
 

@@ -9,13 +9,13 @@ use Rattle.cti_terms.specs.Listing.{Listing, IsProgram}
 use Rattle.cti_terms.specs.declared.clauses.Clause.{Clause}
 use Rattle.call_components.specs.Partition.{Partition, AreComponents}
 use Rattle.cert_structure.specs.declared.parts.Parts.{Parts}
-use Rattle.termination_model.specs.Grounds.{Family}
-use Rattle.termination_model.specs.Claims.{Measure, IsRanked}
-use Rattle.termination_model.specs.Short.{SizesProved, DescendsProved}
+use Rattle.termination_model.specs.grounds.Grounds.{Family}
+use Rattle.termination_model.specs.claims.Claims.{Measure, IsRanked}
+use Rattle.termination_model.specs.sizes.Short.{SizesProved, DescendsProved}
 use Rattle.cert_checker.specs.Claimed.{claims_of}
 use Rattle.cert_checker.specs.Proved.{ByHold, FallsHold}
 use Rattle.cert_checker.specs.Shape.{HaveFalls, HaveLevels, HaveRowProofs}
-use Rattle.termination_model.specs.ComponentViews.{rank_in}
+use Rattle.termination_model.specs.mappings.ComponentViews.{rank_in}
 
 module _ (size : (ℕ → ℕ) → Tree → ℕ) (truth : (ℕ → Bool) → Tree → Bool) (expression : ℕ → Tree → List ℤ) where
   -- a clause calls nothing of a higher component

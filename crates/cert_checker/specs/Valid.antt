@@ -16,8 +16,8 @@ use Rattle.cert_structure.specs.Structure.{IsStructured}
 use Rattle.cert_structure.specs.declared.parts.Parts.{Parts}
 use Rattle.cert_modes.specs.Modes.{ModesHold}
 use Rattle.term_size.specs.AnyNorm.{any_row, any_truth}
-use Rattle.termination_model.specs.Sizes.{rows_of}
-use Rattle.termination_model.specs.Stated.{AreStated}
+use Rattle.termination_model.specs.sizes.Sizes.{rows_of}
+use Rattle.termination_model.specs.sizes.Stated.{AreStated}
 use Rattle.cert_checker.specs.Norms.{norm_in}
 use Rattle.cert_checker.specs.Proved.{ByHold, FallsHold, MeasuresAreZero}
 use Rattle.cert_checker.specs.Refuting.{RefutationsHold}

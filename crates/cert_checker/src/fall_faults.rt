@@ -20,8 +20,8 @@ ghost use Rattle.cti_terms.specs.Tree.{is_below};
 ghost use Rattle.cti_terms.specs.declared.clauses.Clause.{Clause as TheClause};
 ghost use Rattle.linear_rows.specs.Plain.{HaveWidth, plain_rows};
 ghost use Rattle.linear_rows.specs.declared.multipliers.Multipliers.{Multipliers as TheMultipliers};
-ghost use Rattle.termination_model.specs.Replacing.{over_columns};
-ghost use Rattle.termination_model.specs.Sizes.{AreSizes};
+ghost use Rattle.termination_model.specs.sizes.Replacing.{over_columns};
+ghost use Rattle.termination_model.specs.sizes.Sizes.{AreSizes};
 
 use crate::fault::Fault;
 use crate::reason::Reason;

@@ -14,7 +14,7 @@ ghost use Rattle.number_tests.specs.Refuting.{PointHolds, SumsRefute};
 ghost use Rattle.cert_checker.specs.Refuting.{RefutationsHold};
 ghost use Rattle.number_tests.specs.Shape.{IsPairOf};
 ghost use Rattle.cert_checker.specs.Shape.{HaveRefutations};
-ghost use Rattle.termination_model.specs.Sizes.{AreSizes, rows_of};
+ghost use Rattle.termination_model.specs.sizes.Sizes.{AreSizes, rows_of};
 
 use crate::fault::Fault;
 use crate::reason::Reason;

@@ -14,8 +14,8 @@ ghost use Rattle.number_tests.specs.Shape.{row_count};
 ghost use Rattle.cert_checker.specs.Shape.{HaveRowProofs};
 ghost use Rattle.number_tests.specs.Systems.{IsSizedClause};
 ghost use Rattle.linear_rows.specs.Plain.{HaveWidth, plain_row, plain_rows};
-ghost use Rattle.termination_model.specs.Replacing.{over_columns};
-ghost use Rattle.termination_model.specs.Sizes.{AreSizes, rows_of};
+ghost use Rattle.termination_model.specs.sizes.Replacing.{over_columns};
+ghost use Rattle.termination_model.specs.sizes.Sizes.{AreSizes, rows_of};
 
 use crate::fault::Fault;
 use crate::reason::Reason;

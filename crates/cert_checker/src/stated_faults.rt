@@ -10,8 +10,8 @@ ghost use Rattle.cert_checker.specs.Finding.{Finds, IsForeign, SizesFail};
 ghost use Rattle.cti_terms.specs.declared.builtins.Builtin.{Builtin as TheBuiltin};
 ghost use Rattle.linear_rows.specs.Members.{In};
 ghost use Rattle.linear_rows.specs.Plain.{plain_row, plain_rows};
-ghost use Rattle.termination_model.specs.Sizes.{AreSizes, rows_of};
-ghost use Rattle.termination_model.specs.Stated.{AreStated, is_row, stated_rows};
+ghost use Rattle.termination_model.specs.sizes.Sizes.{AreSizes, rows_of};
+ghost use Rattle.termination_model.specs.sizes.Stated.{AreStated, is_row, stated_rows};
 
 use crate::fault::Fault;
 use crate::reason::Reason;

@@ -12,10 +12,10 @@ use Rattle.cti_terms.specs.Listing.{IsAtom, IsClause, IsProgram, Listing}
 use Rattle.cti_terms.specs.Tree.{Tree}
 use Rattle.cti_terms.specs.declared.atom_list.Atom.{Atom}
 use Rattle.cti_terms.specs.declared.clauses.Clause.{Clause}
-use Rattle.termination_model.specs.Claims.{Admits, Claims, IsCovered, KeepsRule, Measure}
-use Rattle.termination_model.specs.Descent.{mode_row}
-use Rattle.termination_model.specs.Grounds.{Family, IsClosed, truth_row}
-use Rattle.termination_model.specs.View.{all_upper, upward_union}
+use Rattle.termination_model.specs.claims.Claims.{Admits, Claims, IsCovered, KeepsRule, Measure}
+use Rattle.termination_model.specs.claims.Descent.{mode_row}
+use Rattle.termination_model.specs.grounds.Grounds.{Family, IsClosed, truth_row}
+use Rattle.termination_model.specs.mappings.View.{all_upper, upward_union}
 use Rattle.cert_modes.specs.Claimed.{ClaimModes, HoldingModesShow, IsMeasure, KeepsRows, ShowModes}
 use Rattle.cert_modes.specs.Modes.{ModesHold, allowed, cube_row, grounds_of, is_row, precondition}
 use Rattle.cert_modes.proofs.PlaceLaws.{any_same, items_at, nothing_at}

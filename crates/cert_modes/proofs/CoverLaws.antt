@@ -8,7 +8,7 @@ use Rattle.bool_diagrams.specs.Rows.{IsDiagram, Keeps}
 use Rattle.bool_diagrams.specs.Tree.{Tree as Rows}
 use Rattle.bool_diagrams.specs.declared.diagram.Diagram.{Diagram}
 use Rattle.number_tests.specs.declared.level_part.LevelPart.{LevelPart}
-use Rattle.termination_model.specs.Rows.{Covers}
+use Rattle.termination_model.specs.sizes.Rows.{Covers}
 use Rattle.cert_modes.specs.Modes.{natural}
 use Rattle.cert_modes.specs.Sets.{AreCovered, HaveLevels, is_positive}
 

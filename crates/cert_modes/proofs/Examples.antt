@@ -11,7 +11,7 @@ use Rattle.cti_terms.specs.Arithmetic.{no_arithmetic}
 use Rattle.cti_terms.specs.Listing.{Listing}
 use Rattle.cti_terms.specs.Tree.{Tree, Variable, Compound, End, More, truth}
 use Rattle.cti_terms.specs.declared.atom_list.Atom.{Atom}
-use Rattle.termination_model.specs.Descent.{mode_row}
+use Rattle.termination_model.specs.claims.Descent.{mode_row}
 use Rattle.cert_modes.specs.Modes.{ModesHold, allowed, precondition}
 
 abbrev call : List Tree → Atom

@@ -5,8 +5,8 @@ use Rattle.call_components.specs.Partition.{Partition}
 use Rattle.cti_terms.specs.Listing.{Listing}
 use Rattle.cti_terms.specs.Tree.{Tree}
 use Rattle.cti_terms.specs.declared.clauses.Clause.{Clause}
-use Rattle.termination_model.specs.Grounds.{IsClosedUnder}
-use Rattle.termination_model.specs.Rows.{Covers}
+use Rattle.termination_model.specs.grounds.Grounds.{IsClosedUnder}
+use Rattle.termination_model.specs.sizes.Rows.{Covers}
 use Rattle.cert_structure.specs.declared.parts.Parts.{Parts}
 use Rattle.cert_modes.specs.Failing.{Admits, Closes, FirstReason, IsFirstPred, KeepsRule, OfPred, PredHolds, broken_rule, open_rows, refused_mode}
 use Rattle.cert_modes.specs.Marks.{IsFirstMark, MarkTells, mark_at}

@@ -22,9 +22,9 @@ use Rattle.cti_terms.specs.Tree.{Tree}
 use Rattle.cti_terms.specs.declared.atom_list.Atom.{Atom}
 use Rattle.cti_terms.specs.declared.clauses.Clause.{Clause}
 use Rattle.cti_terms.specs.declared.predicates.Pred.{Pred}
-use Rattle.termination_model.specs.Descent.{mode_row}
-use Rattle.termination_model.specs.Grounds.{Family}
-use Rattle.termination_model.specs.Rows.{Covers}
+use Rattle.termination_model.specs.claims.Descent.{mode_row}
+use Rattle.termination_model.specs.grounds.Grounds.{Family}
+use Rattle.termination_model.specs.sizes.Rows.{Covers}
 use Rattle.cert_modes.specs.Failing.{Admits, Closes, ClosesIn, KeepsRule, OfPred}
 use Rattle.cert_modes.specs.Modes.{allowed, coefficients_of, grounds_of, naturals, precondition}
 use Rattle.cert_modes.specs.Sets.{AreCovered, AreReady, HaveLevels, KeepsEach, SpellParts, mapping_family}

@@ -18,7 +18,7 @@ use Rattle.cti_terms.specs.Tree.{Tree}
 use Rattle.cti_terms.specs.declared.atom_list.Atom.{Atom}
 use Rattle.cti_terms.specs.declared.clauses.Clause.{Clause}
 use Rattle.cti_terms.specs.declared.predicates.Pred.{Pred}
-use Rattle.termination_model.specs.Grounds.{Family, HasArity, IsGround, truth_row}
+use Rattle.termination_model.specs.grounds.Grounds.{Family, HasArity, IsGround, truth_row}
 use Rattle.cert_modes.specs.Sets.{AreReady, KeepsEach, mapping_family, set_at}
 use Rattle.cert_modes.specs.declared.sets.Sets.{Sets}
 use Rattle.cert_modes.proofs.PlaceLaws.{absent}

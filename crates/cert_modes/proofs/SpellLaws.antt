@@ -16,8 +16,8 @@ use Rattle.bool_diagrams.specs.declared.diagram.Diagram.{Diagram}
 use Rattle.cert_structure.specs.Shape.{arity_in, items_of}
 use Rattle.cti_terms.specs.Listing.{IsProgram, Listing}
 use Rattle.cti_terms.specs.declared.predicates.Pred.{Pred}
-use Rattle.termination_model.specs.Grounds.{Family}
-use Rattle.termination_model.specs.View.{all_upper}
+use Rattle.termination_model.specs.grounds.Grounds.{Family}
+use Rattle.termination_model.specs.mappings.View.{all_upper}
 use Rattle.cert_modes.specs.Modes.{cube_row, is_row}
 use Rattle.cert_modes.specs.Sets.{AllSpelled, AreMappingSets, AreReady, AreSpelled, HasRows, HaveRows, mapping_family, upward}
 use Rattle.cert_modes.specs.declared.sets.Sets.{Sets}

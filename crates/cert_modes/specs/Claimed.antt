@@ -10,10 +10,10 @@ use Rattle.cert_structure.specs.declared.parts.Parts.{Parts}
 use Rattle.cti_terms.specs.Listing.{IsProgram, Listing}
 use Rattle.cti_terms.specs.Tree.{Tree}
 use Rattle.cti_terms.specs.declared.clauses.Clause.{Clause}
-use Rattle.termination_model.specs.Claims.{Admits, Claims, IsCovered, KeepsRule, Mapping, Measure}
-use Rattle.termination_model.specs.Descent.{mode_row}
-use Rattle.termination_model.specs.Grounds.{IsClosed}
-use Rattle.termination_model.specs.Rows.{Covers}
+use Rattle.termination_model.specs.claims.Claims.{Admits, Claims, IsCovered, KeepsRule, Mapping, Measure}
+use Rattle.termination_model.specs.claims.Descent.{mode_row}
+use Rattle.termination_model.specs.grounds.Grounds.{IsClosed}
+use Rattle.termination_model.specs.sizes.Rows.{Covers}
 use Rattle.cert_modes.specs.Modes.{ModesHold, coefficients_of, grounds_of, precondition}
 
 -- a measure with the precondition of this number, whose mappings are positive at most where the parts' mapping of this

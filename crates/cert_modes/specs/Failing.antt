@@ -10,9 +10,9 @@ use Rattle.cti_terms.specs.Listing.{Listing}
 use Rattle.cti_terms.specs.Tree.{Tree}
 use Rattle.cti_terms.specs.declared.builtins.Builtin.{Builtin}
 use Rattle.cti_terms.specs.declared.clauses.Clause.{Clause}
-use Rattle.termination_model.specs.Descent.{mode_row}
-use Rattle.termination_model.specs.Grounds.{Family, IsClosedUnder}
-use Rattle.termination_model.specs.Rows.{Covers}
+use Rattle.termination_model.specs.claims.Descent.{mode_row}
+use Rattle.termination_model.specs.grounds.Grounds.{Family, IsClosedUnder}
+use Rattle.termination_model.specs.sizes.Rows.{Covers}
 use Rattle.truth_rows.specs.Rules.{KeepsSets}
 use Rattle.std.specs.Io.Iter.{u64_saturate}
 use Rattle.cert_structure.specs.Shape.{arity_in, is_together, items_of}

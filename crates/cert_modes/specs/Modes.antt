@@ -12,10 +12,10 @@ use Rattle.cti_terms.specs.Listing.{Listing}
 use Rattle.cti_terms.specs.Tree.{Tree}
 use Rattle.cti_terms.specs.declared.clauses.Clause.{Clause}
 use Rattle.cti_terms.specs.declared.predicates.Pred.{Pred}
-use Rattle.termination_model.specs.Descent.{mode_row}
-use Rattle.termination_model.specs.Grounds.{Family, IsClosed}
-use Rattle.termination_model.specs.Rows.{Covers}
-use Rattle.termination_model.specs.View.{all_upper}
+use Rattle.termination_model.specs.claims.Descent.{mode_row}
+use Rattle.termination_model.specs.grounds.Grounds.{Family, IsClosed}
+use Rattle.termination_model.specs.sizes.Rows.{Covers}
+use Rattle.termination_model.specs.mappings.View.{all_upper}
 use Rattle.truth_rows.specs.Rules.{KeepsSets}
 use Rattle.cert_structure.specs.Shape.{arity_in, is_together, items_of}
 pub use Rattle.number_tests.specs.Levels.{natural, naturals, coefficients_of}

@@ -16,9 +16,9 @@ use Rattle.cti_terms.specs.Listing.{Listing}
 use Rattle.cti_terms.specs.Tree.{Tree}
 use Rattle.cti_terms.specs.declared.clauses.Clause.{Clause}
 use Rattle.cti_terms.specs.declared.predicates.Pred.{Pred}
-use Rattle.termination_model.specs.Grounds.{Family}
-use Rattle.termination_model.specs.Rows.{Covers}
-use Rattle.termination_model.specs.View.{all_upper}
+use Rattle.termination_model.specs.grounds.Grounds.{Family}
+use Rattle.termination_model.specs.sizes.Rows.{Covers}
+use Rattle.termination_model.specs.mappings.View.{all_upper}
 use Rattle.cert_modes.specs.Modes.{allowed, grounds_of, natural, naturals, precondition}
 use Rattle.cert_modes.specs.declared.sets.Sets.{Sets}
 

@@ -8,7 +8,7 @@ ghost use Rattle.bool_diagrams.specs.Rows.{IsDiagram, ReadsBelow};
 ghost use Rattle.bool_diagrams.specs.declared.diagram.Diagram.{Diagram as TheDiagram};
 ghost use Rattle.cert_structure.specs.Shape.{arity_in, items_of};
 ghost use Rattle.cert_modes.specs.Marks.{IsMarked, mark_at};
-ghost use Rattle.termination_model.specs.Descent.{mode_row};
+ghost use Rattle.termination_model.specs.claims.Descent.{mode_row};
 
 use crate::fault::ModeReason;
 use crate::marks::Marks;

@@ -8,7 +8,7 @@ ghost use Rattle.cti_terms.specs.Arithmetic.{kind_of};
 ghost use Rattle.cti_terms.specs.declared.builtins.Builtin.{Builtin};
 ghost use Rattle.cert_modes.specs.Failing.{ClosesIn};
 ghost use Rattle.cert_modes.specs.Marks.{IsMarked, mark_at};
-ghost use Rattle.termination_model.specs.Grounds.{HasArity};
+ghost use Rattle.termination_model.specs.grounds.Grounds.{HasArity};
 
 use crate::fault::ModeReason;
 use crate::marks::Marks;

@@ -17,7 +17,7 @@ use Rattle.linear_rows.specs.declared.point.Point.{Point}
 pub use Rattle.number_tests.specs.Levels.{items_of}
 pub use Rattle.number_tests.specs.Shape.{IsBefore, place_of_pair, PairsAscend}
 use Rattle.number_tests.specs.declared.pair_point.PairPoint.{PairPoint}
-pub use Rattle.termination_model.specs.Ready.{arity_in}
+pub use Rattle.termination_model.specs.mappings.Ready.{arity_in}
 use Rattle.number_tests.specs.declared.refutation.Refutation.{Refutation}
 use Rattle.cert_structure.specs.declared.parts.Parts.{Parts}
 use Rattle.fact_reading.specs.Numbered.{AreEach}

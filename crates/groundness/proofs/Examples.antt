@@ -13,7 +13,7 @@ use Rattle.bool_diagrams.specs.declared.cube.Cell.TheVariants.{Zero, One, Any}
 use Rattle.bool_diagrams.specs.Tree.{Tree as Rows}
 use Rattle.bool_diagrams.specs.declared.diagram.Diagram.{Diagram}
 use Rattle.truth_rows.specs.Sets.{family_of}
-use Rattle.termination_model.specs.Grounds.{Family, IsClosed, IsLeast}
+use Rattle.termination_model.specs.grounds.Grounds.{Family, IsClosed, IsLeast}
 
 abbrev call : List Tree → Atom
 call args = record { pred = record { 0 = 0 }; args = args }

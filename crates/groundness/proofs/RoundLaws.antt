@@ -6,7 +6,7 @@ use Rattle.bool_diagrams.specs.Tree.{Tree as Rows}
 use Rattle.cti_terms.specs.declared.clauses.Clause.{Clause}
 use Rattle.cti_terms.specs.declared.predicates.Pred.{Pred}
 use Rattle.cti_terms.specs.Tree.{Tree}
-use Rattle.termination_model.specs.Grounds.{Family, IsClosedUnder, IsGround, IsInside, truth_row}
+use Rattle.termination_model.specs.grounds.Grounds.{Family, IsClosedUnder, IsGround, IsInside, truth_row}
 use Rattle.groundness.specs.Marks.{IsApart}
 use Rattle.groundness.specs.Missing.{all_missing}
 use Rattle.truth_rows.specs.Sets.{family_of, has_row}

@@ -12,7 +12,7 @@ use Rattle.cti_terms.specs.declared.clauses.Clause.{Clause}
 use Rattle.cti_terms.specs.declared.predicates.Pred.{Pred}
 use Rattle.cti_terms.specs.Listing.{Listing, IsAtom, IsClause, IsProgram}
 use Rattle.cti_terms.specs.Tree.{Tree}
-use Rattle.termination_model.specs.Grounds.{Family, HasArity, IsClosedUnder, IsGround, IsInside, truth_row}
+use Rattle.termination_model.specs.grounds.Grounds.{Family, HasArity, IsClosedUnder, IsGround, IsInside, truth_row}
 use Rattle.truth_rows.specs.Ready.{HasAtoms}
 use Rattle.truth_rows.specs.Sets.{AreSets, family_of, has_row}
 use Rattle.groundness.specs.Sets.{AddsOnlyNeeded, Gives}

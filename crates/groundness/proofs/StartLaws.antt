@@ -13,8 +13,8 @@ use Rattle.cti_terms.specs.Listing.{IsProgram, Listing}
 use Rattle.cti_terms.specs.declared.builtins.Builtin.{Builtin}
 use Rattle.cti_terms.specs.declared.predicates.Pred.{Pred}
 use Rattle.cti_terms.specs.declared.predicates.PredId.{PredId}
-use Rattle.termination_model.specs.Chain.{component_of}
-use Rattle.termination_model.specs.Grounds.{Family, HasArity}
+use Rattle.termination_model.specs.chains.Chain.{component_of}
+use Rattle.termination_model.specs.grounds.Grounds.{Family, HasArity}
 use Rattle.termination_model.proofs.ChainLeaves.{number_is}
 use Rattle.termination_model.proofs.Lists.{place_below}
 use Rattle.truth_rows.specs.Sets.{AreSets, family_of}

@@ -10,8 +10,8 @@ use Rattle.cti_terms.specs.Listing.{Listing}
 use Rattle.cti_terms.specs.declared.builtins.Builtin.{Builtin}
 use Rattle.cti_terms.specs.declared.clauses.Clause.{Clause}
 use Rattle.groundness.specs.Marks.{IsMarked}
-pub use Rattle.termination_model.specs.Chain.{is_member}
-use Rattle.termination_model.specs.Grounds.{Family, IsClosedUnder, IsInside}
+pub use Rattle.termination_model.specs.chains.Chain.{is_member}
+use Rattle.termination_model.specs.grounds.Grounds.{Family, IsClosedUnder, IsInside}
 
 -- each built-in predicate that is a member has the row of two rigid arguments
 abbrev pub HasMembersBuiltins : Arithmetic → (ℕ → Bool) → Family → Type 0

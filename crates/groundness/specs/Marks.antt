@@ -9,7 +9,7 @@ use Rattle.cti_terms.specs.declared.predicates.Pred.{Pred}
 use Rattle.cti_terms.specs.Listing.{Listing}
 use Rattle.cti_terms.specs.Tree.{Tree}
 use Rattle.groundness.specs.Missing.{all_missing}
-use Rattle.termination_model.specs.Grounds.{Family, IsClosedUnder}
+use Rattle.termination_model.specs.grounds.Grounds.{Family, IsClosedUnder}
 
 -- the clause of this place has a mark
 abbrev pub IsMarked : List Bool → ℕ → Type 0

@@ -9,7 +9,7 @@ use Rattle.cti_terms.specs.declared.builtins.Builtin.{Builtin}
 use Rattle.cti_terms.specs.declared.clauses.Clause.{Clause}
 use Rattle.cti_terms.specs.Tree.{Tree}
 use Rattle.truth_rows.specs.Ready.{HasAtoms, HasTruths}
-use Rattle.termination_model.specs.Grounds.{Family, IsClosedUnder, IsInside}
+use Rattle.termination_model.specs.grounds.Grounds.{Family, IsClosedUnder, IsInside}
 
 -- whatever family is closed under the clause and has the rows of the first has those of the second
 abbrev pub AddsOnlyNeeded : ((ℕ → Bool) → Tree → Bool) → Clause → Family → Family → Type 0

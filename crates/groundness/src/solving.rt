@@ -12,7 +12,7 @@ ghost use Rattle.groundness.specs.Setting.{IsSetting};
 ghost use Rattle.groundness.specs.Missing.{all_missing};
 ghost use Rattle.truth_rows.specs.Sets.{AreSets, family_of};
 ghost use Rattle.groundness.specs.Sets.{AddsOnlyNeeded, AreBegun, KeepsOtherSets, set_as};
-ghost use Rattle.termination_model.specs.Grounds.{IsClosedUnder, IsInside, IsLeast};
+ghost use Rattle.termination_model.specs.grounds.Grounds.{IsClosedUnder, IsInside, IsLeast};
 
 use crate::clause_lists::{ClauseLists, heads, users};
 use crate::clause_rows::clause_rows;

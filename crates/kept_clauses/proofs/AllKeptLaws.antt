@@ -6,7 +6,7 @@ use Rattle.cti_terms.specs.declared.clauses.Clause.{Clause}
 use Rattle.cti_terms.specs.declared.predicates.Pred.{Pred}
 use Rattle.linear_rows.specs.Members.{In}
 use Rattle.linear_rows.proofs.Members.{in-filter, of-filter}
-use Rattle.termination_model.specs.Chain.{counted}
+use Rattle.termination_model.specs.chains.Chain.{counted}
 use Rattle.termination_model.proofs.Lists.{place_below, there}
 use Rattle.numeric_model.proofs.Chaining.{at_number, in_counted_at}
 use Rattle.component_laws.specs.Untouched.{AreUntouched, NamedClause, clauses_in, is_in, named}

@@ -12,7 +12,7 @@ use Rattle.cti_terms.specs.declared.predicates.Pred.{Pred}
 use Rattle.groundness.specs.Components.{is_member}
 use Rattle.linear_rows.specs.Members.{In}
 use Rattle.linear_rows.proofs.Members.{in-filter}
-use Rattle.termination_model.specs.Chain.{clauses_of, component_of, counted, is_number}
+use Rattle.termination_model.specs.chains.Chain.{clauses_of, component_of, counted, is_number}
 use Rattle.termination_model.proofs.ChainLeaves.{body_before, call_is, number_is, of_counted}
 use Rattle.termination_model.proofs.Lists.{place_below, there}
 use Rattle.component_laws.specs.Renaming.{StandIn}

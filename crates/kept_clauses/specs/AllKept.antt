@@ -8,7 +8,7 @@ use Rattle.cti_terms.specs.Listing.{Listing, IsProgram}
 use Rattle.cti_terms.specs.declared.clauses.Clause.{Clause}
 use Rattle.cti_terms.specs.declared.predicates.Pred.{Pred}
 use Rattle.linear_rows.specs.Members.{In}
-use Rattle.termination_model.specs.Chain.{counted}
+use Rattle.termination_model.specs.chains.Chain.{counted}
 use Rattle.prolog_terms.specs.Clauses.{Clause as TextClause}
 use Rattle.component_laws.specs.Untouched.{AreUntouched, is_in}
 use Rattle.solved_program.specs.Kept.{AreKept, IsEdit}

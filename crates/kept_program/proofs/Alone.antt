@@ -14,9 +14,9 @@ use Rattle.cti_terms.specs.declared.atom_list.Atom.{Atom}
 use Rattle.cti_terms.specs.declared.builtins.Builtin.{Builtin}
 use Rattle.cti_terms.specs.declared.clauses.Clause.{Clause}
 use Rattle.linear_rows.specs.Members.{In}
-use Rattle.termination_model.specs.Chain.{clauses_of, component_of, start_rows}
-use Rattle.termination_model.specs.ChainSteps.{Step}
-use Rattle.termination_model.specs.Grounds.{Family}
+use Rattle.termination_model.specs.chains.Chain.{clauses_of, component_of, start_rows}
+use Rattle.termination_model.specs.chains.ChainSteps.{Step}
+use Rattle.termination_model.specs.grounds.Grounds.{Family}
 use Rattle.termination_model.proofs.ChainLeaves.{number_is, passes_leave}
 use Rattle.groundness.specs.Components.{IsLeastOver, is_member}
 use Rattle.groundness.proofs.ComponentLaws.{number_of}

@@ -14,7 +14,7 @@ use Rattle.number_tests.specs.Levels.{items_of}
 use Rattle.precond_fixpoint.specs.Solving.{AreMappingSets, allowed_family, pre_family}
 use Rattle.precond_fixpoint.proofs.PlaceLaws.{items_at, items_there, nothing_at, some_at}
 use Rattle.termination_model.proofs.Lists.{place_below}
-use Rattle.termination_model.specs.View.{all_upper}
+use Rattle.termination_model.specs.mappings.View.{all_upper}
 use Rattle.truth_rows.specs.Sets.{AreSets, family_of, has_row}
 use Rattle.moved_diagrams.specs.Moved.{AreLists, AreMovedLists, AreMovedOwn, AreMovedSets, IsMoved}
 

@@ -24,8 +24,8 @@ use Rattle.solved_program.specs.Grounds.{AreLeastTo}
 use Rattle.solved_program.proofs.GroundRows.{solved_grounds_are_least}
 use Rattle.solved_program.proofs.SolvedLaws.{solved_sizes_are_proved}
 use Rattle.term_size.specs.Occurrences.{size_row}
-use Rattle.termination_model.specs.Grounds.{Family}
-use Rattle.termination_model.specs.Sizes.{rows_of}
+use Rattle.termination_model.specs.grounds.Grounds.{Family}
+use Rattle.termination_model.specs.sizes.Sizes.{rows_of}
 use Rattle.truth_rows.specs.Sets.{family_of}
 use Rattle.cti_terms.specs.declared.predicates.Pred.{Pred}
 use Rattle.moved_diagrams.proofs.Moves.{moved_later, own_later}

@@ -19,7 +19,7 @@ use Rattle.report.specs.Levels.{level_list, levels_at}
 use Rattle.solved_program.proofs.Empty.{no_components, none_solved}
 use Rattle.term_size.specs.Occurrences.{size_row}
 use Rattle.termination_model.proofs.Lists.{place_below}
-use Rattle.termination_model.specs.View.{all_upper}
+use Rattle.termination_model.specs.mappings.View.{all_upper}
 use Rattle.truth_rows.specs.Sets.{AreSets, family_of, has_row}
 use Rattle.kept_program.specs.Kept.{IsKept, IsNothing}
 use Rattle.kept_program.specs.declared.kept.Kept.{Kept}

@@ -12,7 +12,7 @@ use Rattle.cti_terms.specs.declared.predicates.Pred.{Pred}
 use Rattle.number_tests.specs.Levels.{items_of}
 use Rattle.number_tests.specs.declared.level_part.LevelPart.{LevelPart}
 use Rattle.precond_fixpoint.proofs.PlaceLaws.{some_at}
-use Rattle.termination_model.specs.View.{all_upper}
+use Rattle.termination_model.specs.mappings.View.{all_upper}
 use Rattle.termination_model.proofs.Lists.{mapped_place, place_below}
 use Rattle.truth_rows.specs.Sets.{has_row}
 use Rattle.kept_program.specs.Untouched.{HasMeasure}

@@ -16,8 +16,8 @@ use Rattle.number_tests.specs.Levels.{coefficients_of, items_of, naturals}
 use Rattle.number_tests.specs.declared.level_part.LevelPart.{LevelPart}
 use Rattle.precond_fixpoint.specs.Solving.{IsSolved, allowed_family, pre_family}
 use Rattle.solved_program.specs.declared.edit.Edit.{Edit}
-use Rattle.termination_model.specs.Grounds.{Family}
-use Rattle.termination_model.specs.View.{all_upper}
+use Rattle.termination_model.specs.grounds.Grounds.{Family}
+use Rattle.termination_model.specs.mappings.View.{all_upper}
 use Rattle.termination_model.proofs.Lists.{place_below}
 use Rattle.truth_rows.proofs.RowLaws.{same_bool}
 use Rattle.truth_rows.specs.Sets.{has_row}

@@ -2,7 +2,7 @@
 use Rattle.std.proofs.Common.{◌≡◌, ℕ, Bool, true, false, if◌then◌else◌, List, length, ap, sym, ◌∙◌}
 use Rattle.cti_terms.specs.Listing.{Listing}
 use Rattle.cti_terms.specs.Tree.{Tree}
-use Rattle.termination_model.specs.Grounds.{Family, HasArity}
+use Rattle.termination_model.specs.grounds.Grounds.{Family, HasArity}
 use Rattle.precond_fixpoint.specs.Greatest.{IsGreatestIn}
 use Rattle.precond_fixpoint.proofs.AllowedLaws.{greatest_depends_below}
 use Rattle.truth_rows.proofs.RowLaws.{same_bool}

@@ -22,9 +22,9 @@ use Rattle.solved_program.specs.Kept.{IsEdit}
 use Rattle.solved_program.specs.Standing.{StandsFor}
 use Rattle.solved_program.specs.declared.edit.Edit.{Edit}
 use Rattle.term_size.specs.Occurrences.{size_row}
-use Rattle.termination_model.specs.Chain.{start_as}
-use Rattle.termination_model.specs.Grounds.{Family}
-use Rattle.termination_model.specs.Sizes.{rows_of}
+use Rattle.termination_model.specs.chains.Chain.{start_as}
+use Rattle.termination_model.specs.grounds.Grounds.{Family}
+use Rattle.termination_model.specs.sizes.Sizes.{rows_of}
 use Rattle.termination_model.proofs.Lists.{place_below, there as at_there}
 use Rattle.truth_rows.specs.Sets.{family_of, has_row}
 use Rattle.carried_mappings.proofs.Members.{recursive_alike}

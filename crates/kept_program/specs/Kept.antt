@@ -24,7 +24,7 @@ use Rattle.solved_program.specs.Solved.{AreSolved}
 use Rattle.solved_program.specs.Standing.{KeepValues}
 use Rattle.solved_program.specs.declared.edit.Edit.{Edit}
 use Rattle.term_size.specs.Occurrences.{size_row}
-use Rattle.termination_model.specs.Sizes.{rows_of}
+use Rattle.termination_model.specs.sizes.Sizes.{rows_of}
 use Rattle.truth_rows.specs.Sets.{family_of}
 use Rattle.kept_program.specs.ProgramParts.{ProgramParts}
 use Rattle.kept_program.specs.declared.kept.Kept.{Kept}

@@ -12,7 +12,7 @@ use Rattle.cti_terms.specs.Listing.{Listing}
 use Rattle.cti_terms.specs.declared.predicates.Pred.{Pred}
 use Rattle.number_tests.specs.Levels.{items_of}
 use Rattle.number_tests.specs.declared.level_part.LevelPart.{LevelPart}
-use Rattle.termination_model.specs.Sizes.{rows_of}
+use Rattle.termination_model.specs.sizes.Sizes.{rows_of}
 use Rattle.kept_program.specs.ProgramParts.{ProgramParts}
 
 -- in one of its mappings a predicate has this part, and its precondition there has these cubes

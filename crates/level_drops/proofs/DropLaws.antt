@@ -9,9 +9,9 @@ use Rattle.cti_terms.specs.declared.atom_list.Atom.{Atom}
 use Rattle.cti_terms.specs.declared.clauses.Clause.{Clause}
 use Rattle.number_tests.specs.declared.level_part.LevelPart.{LevelPart}
 use Rattle.term_size.specs.Norm.{IsNorm}
-use Rattle.termination_model.specs.Replacing.{column_over, over_columns, unit_at}
-use Rattle.termination_model.specs.Rows.{scaled, added}
-use Rattle.termination_model.specs.Systems.{row_over}
+use Rattle.termination_model.specs.sizes.Replacing.{column_over, over_columns, unit_at}
+use Rattle.termination_model.specs.sizes.Rows.{scaled, added}
+use Rattle.termination_model.specs.sizes.Systems.{row_over}
 use Rattle.termination_model.proofs.Proved.{length-substituted}
 use Rattle.termination_model.proofs.Entries.{entry_scaled}
 use Rattle.termination_model.proofs.RowColumns.{entry_added, entry_substituted, over_list}

@@ -8,7 +8,7 @@ use Rattle.cti_terms.specs.declared.atom_list.Atom.{Atom}
 use Rattle.cti_terms.specs.declared.clauses.Clause.{Clause}
 use Rattle.number_tests.specs.Proved.{level_of}
 use Rattle.number_tests.specs.declared.level_part.LevelPart.{LevelPart}
-use Rattle.termination_model.specs.Rows.{scaled, added}
+use Rattle.termination_model.specs.sizes.Rows.{scaled, added}
 
 -- a level falls by 1, or may stay
 abbrev pub fall_number : Bool → ℕ

@@ -25,16 +25,16 @@ use Rattle.termination_model.proofs.AllPositionsLaws.{positions_cover_pairs}
 use Rattle.termination_model.proofs.Excludes.{all_refute}
 use Rattle.termination_model.proofs.Readiness.{views_have_few}
 use Rattle.termination_model.proofs.Refuting.{multipliers_refute}
-use Rattle.termination_model.specs.AllPositions.{IsCoveredBy}
-use Rattle.termination_model.specs.BlownSupports.{emptiness, is_found}
-use Rattle.termination_model.specs.ComponentViews.{component_view, members_in, size_claims}
-use Rattle.termination_model.specs.Excluding.{IsRefutationAt, number_count, pairs_at}
-use Rattle.termination_model.specs.OwnCalls.{OwnCall as Recalled, Position, own_calls, rows_before}
-use Rattle.termination_model.specs.Ready.{arity_in}
-use Rattle.termination_model.specs.Refutation.{IsPair, IsRefutation, Load, Pair, call_load, gather, head_load}
-use Rattle.termination_model.specs.SupportSystem.{support_rows, unknowns}
-use Rattle.termination_model.specs.Systems.{system}
-use Rattle.termination_model.specs.View.{Rule, system_of}
+use Rattle.termination_model.specs.mappings.AllPositions.{IsCoveredBy}
+use Rattle.termination_model.specs.mappings.BlownSupports.{emptiness, is_found}
+use Rattle.termination_model.specs.mappings.ComponentViews.{component_view, members_in, size_claims}
+use Rattle.termination_model.specs.mappings.Excluding.{IsRefutationAt, number_count, pairs_at}
+use Rattle.termination_model.specs.mappings.OwnCalls.{OwnCall as Recalled, Position, own_calls, rows_before}
+use Rattle.termination_model.specs.mappings.Ready.{arity_in}
+use Rattle.termination_model.specs.mappings.Refutation.{IsPair, IsRefutation, Load, Pair, call_load, gather, head_load}
+use Rattle.termination_model.specs.mappings.SupportSystem.{support_rows, unknowns}
+use Rattle.termination_model.specs.sizes.Systems.{system}
+use Rattle.termination_model.specs.mappings.View.{Rule, system_of}
 use Rattle.level_systems.specs.Held.{IsHeld, live_of, numbers_of_call, spelled, with_live}
 use Rattle.level_systems.specs.Pairs.{clause_at}
 use Rattle.level_systems.specs.Refuted.{ArePoints, AreSpelled, HasPoints, IsInFit, RefuteIf, lives_of, solution_of}

@@ -6,7 +6,7 @@ use Rattle.call_components.specs.Partition.{Partition}
 use Rattle.linear_rows.specs.declared.multipliers.Multipliers.{Multipliers}
 use Rattle.std.specs.Prelude.{Option, None, Some}
 use Rattle.number_tests.specs.Shape.{IsBefore}
-use Rattle.termination_model.specs.ComponentViews.{rank_in}
+use Rattle.termination_model.specs.mappings.ComponentViews.{rank_in}
 use Rattle.level_systems.specs.Held.{live_of, numbers_of_call, with_live}
 use Rattle.level_systems.specs.Pairs.{calls_from, pairs_from}
 use Rattle.level_systems.specs.declared.own_call.OwnCall.{OwnCall}

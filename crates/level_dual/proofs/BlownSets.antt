@@ -13,18 +13,18 @@ use Rattle.linear_rows.specs.Showing.{bottom_row}
 use Rattle.linear_rows.specs.Solving.{solution}
 use Rattle.linear_rows.specs.Solving.Solution.{Blown, Found}
 use Rattle.linear_rows.proofs.Members.{in-map}
-use Rattle.termination_model.specs.BlownSupports.{FallsFit, TargetsFit, in_order, live_calls, same_position, support_solution}
-use Rattle.termination_model.specs.BlownSupports.IsBlownAt.{mapping, solving, undecided, unfit}
-use Rattle.termination_model.specs.Claims.{Mapping as PlainMapping}
-use Rattle.termination_model.specs.ComponentViews.{component_view, positions_in, size_claims}
-use Rattle.termination_model.specs.OwnCalls.{OwnCall as Recalled, Position as Place, members_of, own_calls, rows_before}
-use Rattle.termination_model.specs.Ready.{arity_in, itself, positions_by}
-use Rattle.termination_model.specs.SupportLaws.{AreFalls}
-use Rattle.termination_model.specs.SupportSystem.{mapping_at, support_rows, unknowns}
-use Rattle.termination_model.specs.Supports.{picked_from}
-use Rattle.termination_model.specs.Systems.{row_fits, system}
-use Rattle.termination_model.specs.View.{fall_over}
-use Rattle.termination_model.specs.View as view
+use Rattle.termination_model.specs.mappings.BlownSupports.{FallsFit, TargetsFit, in_order, live_calls, same_position, support_solution}
+use Rattle.termination_model.specs.mappings.BlownSupports.IsBlownAt.{mapping, solving, undecided, unfit}
+use Rattle.termination_model.specs.claims.Claims.{Mapping as PlainMapping}
+use Rattle.termination_model.specs.mappings.ComponentViews.{component_view, positions_in, size_claims}
+use Rattle.termination_model.specs.mappings.OwnCalls.{OwnCall as Recalled, Position as Place, members_of, own_calls, rows_before}
+use Rattle.termination_model.specs.mappings.Ready.{arity_in, itself, positions_by}
+use Rattle.termination_model.specs.mappings.SupportLaws.{AreFalls}
+use Rattle.termination_model.specs.mappings.SupportSystem.{mapping_at, support_rows, unknowns}
+use Rattle.termination_model.specs.mappings.Supports.{picked_from}
+use Rattle.termination_model.specs.sizes.Systems.{row_fits, system}
+use Rattle.termination_model.specs.mappings.View.{fall_over}
+use Rattle.termination_model.specs.mappings.View as view
 use Rattle.termination_model.proofs.Points.{points_fall}
 use Rattle.level_systems.specs.Collected.{SomeGivenUp}
 use Rattle.level_systems.specs.Falling.{ShowFalls}

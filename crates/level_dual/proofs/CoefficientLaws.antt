@@ -3,10 +3,10 @@ use Rattle.std.proofs.Common.{◌≡◌, ℕ, zero, suc, ℤ, Bool, true, false,
 use Rattle.std.specs.Prelude.{nat_lt, unsigned_abs}
 use Rattle.exact128.specs.Sums.{entry}
 use Rattle.number_tests.specs.declared.level_part.LevelPart.{LevelPart}
-use Rattle.termination_model.specs.Coefficients.{coefficient}
-use Rattle.termination_model.specs.Claims.{Mapping as PlainMapping}
-use Rattle.termination_model.specs.OwnCalls.{Position}
-use Rattle.termination_model.specs.Supports.{support_from}
+use Rattle.termination_model.specs.mappings.Coefficients.{coefficient}
+use Rattle.termination_model.specs.claims.Claims.{Mapping as PlainMapping}
+use Rattle.termination_model.specs.mappings.OwnCalls.{Position}
+use Rattle.termination_model.specs.mappings.Supports.{support_from}
 use Rattle.level_dual.specs.Large.{has_coefficient}
 use Rattle.level_systems.specs.Mappings.{natural_coefficients, level_in}
 use Rattle.level_systems.specs.declared.measure.Measure.{Measure}

@@ -10,14 +10,14 @@ use Rattle.call_components.specs.Partition.{IsIn, Partition}
 use Rattle.linear_rows.specs.Members.{In}
 use Rattle.linear_rows.specs.Proves.{Refutes}
 use Rattle.linear_rows.specs.Step.{columns}
-use Rattle.termination_model.specs.BlownSupports.{same_position}
-use Rattle.termination_model.specs.ComponentViews.{HasSupportIn, component_view, members_in, positions_in}
-use Rattle.termination_model.specs.Excluding.{IsOfMembers, number_count, pairs_at}
-use Rattle.termination_model.specs.Minimal.{IsExcluded}
-use Rattle.termination_model.specs.OwnCalls.{OwnCall as Recalled, Position, own_calls, rows_before}
-use Rattle.termination_model.specs.Ready.{arity_in, positions_by}
-use Rattle.termination_model.specs.SupportSystem.{call_row, call_rows, row_count, rows_from, support_rows, unknowns}
-use Rattle.termination_model.specs.Supports.{picked_from}
+use Rattle.termination_model.specs.mappings.BlownSupports.{same_position}
+use Rattle.termination_model.specs.mappings.ComponentViews.{HasSupportIn, component_view, members_in, positions_in}
+use Rattle.termination_model.specs.mappings.Excluding.{IsOfMembers, number_count, pairs_at}
+use Rattle.termination_model.specs.grounds.Minimal.{IsExcluded}
+use Rattle.termination_model.specs.mappings.OwnCalls.{OwnCall as Recalled, Position, own_calls, rows_before}
+use Rattle.termination_model.specs.mappings.Ready.{arity_in, positions_by}
+use Rattle.termination_model.specs.mappings.SupportSystem.{call_row, call_rows, row_count, rows_from, support_rows, unknowns}
+use Rattle.termination_model.specs.mappings.Supports.{picked_from}
 use Rattle.termination_model.proofs.Having.{picked_in}
 use Rattle.termination_model.proofs.Lists.{indexed}
 use Rattle.termination_model.proofs.Readiness.{views_are_ready}

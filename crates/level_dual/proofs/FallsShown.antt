@@ -18,15 +18,15 @@ use Rattle.number_tests.specs.Targets.{fall_weights}
 use Rattle.number_tests.specs.declared.level_part.LevelPart.{LevelPart}
 use Rattle.number_tests.proofs.FallTargets.{fall_target}
 use Rattle.term_size.specs.Norm.{IsNorm}
-use Rattle.termination_model.specs.BlownSupports.{FallsFit}
-use Rattle.termination_model.specs.Claims.{Mapping}
-use Rattle.termination_model.specs.ComponentViews.{component_view}
-use Rattle.termination_model.specs.OwnCalls.{OwnCall as Recalled, rows_before}
-use Rattle.termination_model.specs.Ready.{arity_in}
-use Rattle.termination_model.specs.Rows.{added, scaled}
-use Rattle.termination_model.specs.SupportLaws.{AreFalls}
-use Rattle.termination_model.specs.Systems.{row_over}
-use Rattle.termination_model.specs.View.{fall_over}
+use Rattle.termination_model.specs.mappings.BlownSupports.{FallsFit}
+use Rattle.termination_model.specs.claims.Claims.{Mapping}
+use Rattle.termination_model.specs.mappings.ComponentViews.{component_view}
+use Rattle.termination_model.specs.mappings.OwnCalls.{OwnCall as Recalled, rows_before}
+use Rattle.termination_model.specs.mappings.Ready.{arity_in}
+use Rattle.termination_model.specs.sizes.Rows.{added, scaled}
+use Rattle.termination_model.specs.mappings.SupportLaws.{AreFalls}
+use Rattle.termination_model.specs.sizes.Systems.{row_over}
+use Rattle.termination_model.specs.mappings.View.{fall_over}
 use Rattle.level_systems.specs.Falling.{ShowFalls, ShowsFall, multipliers_of, scale_of, values_after}
 use Rattle.level_systems.specs.Held.{IsHeld, IsReach, live_of, with_live}
 use Rattle.level_systems.specs.Mappings.{level_in}

@@ -9,11 +9,11 @@ use Rattle.linear_rows.specs.Step.{columns}
 use Rattle.linear_rows.proofs.Members.{in-left, in-right, of-append}
 use Rattle.number_tests.specs.declared.refutation.Refutation.{Refutation}
 use Rattle.call_components.proofs.Lists.{all_map}
-use Rattle.termination_model.specs.ComponentViews.{component_view, positions_in, HasSupportIn}
-use Rattle.termination_model.specs.Excluding.{IsZeroOutside}
-use Rattle.termination_model.specs.Refutation.{Decreases}
-use Rattle.termination_model.specs.Minimal.{IsAbove, IsSet}
-use Rattle.termination_model.specs.Modes.{chosen_up_to, is_part}
+use Rattle.termination_model.specs.mappings.ComponentViews.{component_view, positions_in, HasSupportIn}
+use Rattle.termination_model.specs.mappings.Excluding.{IsZeroOutside}
+use Rattle.termination_model.specs.mappings.Refutation.{Decreases}
+use Rattle.termination_model.specs.grounds.Minimal.{IsAbove, IsSet}
+use Rattle.termination_model.specs.grounds.Modes.{chosen_up_to, is_part}
 use Rattle.termination_model.proofs.Sets.{of_part, part_same, part_self, set_short, to_part, up_to_set}
 use Rattle.level_dual.specs.Cases.{undecided}
 use Rattle.level_systems.specs.Found.{IsBlownSet, IsFound, IsRefutationOf, count, full}

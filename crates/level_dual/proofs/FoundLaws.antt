@@ -9,10 +9,10 @@ use Rattle.call_components.specs.Partition.{Partition}
 use Rattle.linear_rows.specs.Rows.{AllHold, IsPoint}
 use Rattle.number_tests.specs.Shape.{IsLevelPart}
 use Rattle.number_tests.specs.declared.level_part.LevelPart.{LevelPart}
-use Rattle.termination_model.specs.BlownSupports.{same_position}
-use Rattle.termination_model.specs.Ready.{arity_in}
-use Rattle.termination_model.specs.SupportSystem.{support_rows}
-use Rattle.termination_model.specs.Supports.{picked_from}
+use Rattle.termination_model.specs.mappings.BlownSupports.{same_position}
+use Rattle.termination_model.specs.mappings.Ready.{arity_in}
+use Rattle.termination_model.specs.mappings.SupportSystem.{support_rows}
+use Rattle.termination_model.specs.mappings.Supports.{picked_from}
 use Rattle.termination_model.proofs.Lists.{by_places}
 use Rattle.level_systems.specs.Falling.{AreFallsOf, ShowFalls}
 use Rattle.level_systems.specs.Held.{IsHeld, spelled}

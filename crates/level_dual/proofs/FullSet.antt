@@ -17,15 +17,15 @@ use Rattle.linear_rows.specs.Solving.{Solution, solution}
 use Rattle.linear_rows.specs.Solving.Solution.{Blown, Found, Refuted}
 use Rattle.linear_rows.specs.Step.{columns}
 use Rattle.termination_model.proofs.AllPositionsLaws.{all_are_picked}
-use Rattle.termination_model.specs.BlownSupports.{CheckFits, IsBlownAt, in_order, live_calls, same_position, support_solution}
-use Rattle.termination_model.specs.BlownSupports.IsBlownAt.{refutation, solving}
-use Rattle.termination_model.specs.ComponentViews.{HasSupportIn, component_view, members_in, positions_in, rank_in, size_claims}
-use Rattle.termination_model.specs.Excluding.{pairs_at}
-use Rattle.termination_model.specs.OwnCalls.{OwnCall as Recalled, Position, first_rules, members_of}
-use Rattle.termination_model.specs.Ready.{arity_in, itself, positions_by}
-use Rattle.termination_model.specs.SupportSystem.{mapping_at, support_rows, unknowns}
-use Rattle.termination_model.specs.Supports.{picked_from, support_from}
-use Rattle.termination_model.specs.View.{Rule, rule_of}
+use Rattle.termination_model.specs.mappings.BlownSupports.{CheckFits, IsBlownAt, in_order, live_calls, same_position, support_solution}
+use Rattle.termination_model.specs.mappings.BlownSupports.IsBlownAt.{refutation, solving}
+use Rattle.termination_model.specs.mappings.ComponentViews.{HasSupportIn, component_view, members_in, positions_in, rank_in, size_claims}
+use Rattle.termination_model.specs.mappings.Excluding.{pairs_at}
+use Rattle.termination_model.specs.mappings.OwnCalls.{OwnCall as Recalled, Position, first_rules, members_of}
+use Rattle.termination_model.specs.mappings.Ready.{arity_in, itself, positions_by}
+use Rattle.termination_model.specs.mappings.SupportSystem.{mapping_at, support_rows, unknowns}
+use Rattle.termination_model.specs.mappings.Supports.{picked_from, support_from}
+use Rattle.termination_model.specs.mappings.View.{Rule, rule_of}
 use Rattle.level_systems.specs.Held.{spelled}
 use Rattle.level_systems.specs.Recalled.{count_of}
 use Rattle.level_systems.specs.Refuted.{IsInFit, lives_of, solution_of}

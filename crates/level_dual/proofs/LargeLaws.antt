@@ -6,9 +6,9 @@ use Rattle.cti_terms.specs.Tree.{Tree}
 use Rattle.call_components.specs.Partition.{Partition}
 use Rattle.linear_rows.specs.Members.{In}
 use Rattle.linear_rows.proofs.Members.{in-left, in-right, of-append}
-use Rattle.termination_model.specs.ComponentViews.{HasSupportIn, positions_in}
-use Rattle.termination_model.specs.Minimal.{IsExcluded, IsSet}
-use Rattle.termination_model.specs.Modes.{is_part}
+use Rattle.termination_model.specs.mappings.ComponentViews.{HasSupportIn, positions_in}
+use Rattle.termination_model.specs.grounds.Minimal.{IsExcluded, IsSet}
+use Rattle.termination_model.specs.grounds.Modes.{is_part}
 use Rattle.termination_model.proofs.Lists.{taken_more}
 use Rattle.termination_model.proofs.Sets.{to_part}
 use Rattle.level_systems.specs.Found.{IsBlownSet, IsFound, count, without_number}

@@ -25,11 +25,11 @@ use Rattle.linear_rows.proofs.Refutes.{refuted_refutes}
 use Rattle.linear_rows.proofs.Soundness.{law_empty, law_holds}
 use Rattle.linear_rows.proofs.Starts.{dot-zeros}
 use Rattle.simplex.proofs.TestLaws.{point_fails, refutes_proves}
-use Rattle.termination_model.specs.BlownSupports.{IsBlownAt, emptiness, is_found, live_calls}
-use Rattle.termination_model.specs.BlownSupports.IsBlownAt.{undecided}
-use Rattle.termination_model.specs.ComponentViews.{component_view}
-use Rattle.termination_model.specs.OwnCalls.{OwnCall as Recalled, Position, own_calls, rows_before}
-use Rattle.termination_model.specs.Ready.{arity_in}
+use Rattle.termination_model.specs.mappings.BlownSupports.{IsBlownAt, emptiness, is_found, live_calls}
+use Rattle.termination_model.specs.mappings.BlownSupports.IsBlownAt.{undecided}
+use Rattle.termination_model.specs.mappings.ComponentViews.{component_view}
+use Rattle.termination_model.specs.mappings.OwnCalls.{OwnCall as Recalled, Position, own_calls, rows_before}
+use Rattle.termination_model.specs.mappings.Ready.{arity_in}
 use Rattle.level_systems.specs.Held.{HasPoint, IsHeld, IsReach, live_of, numbers_of_call, with_live}
 use Rattle.level_systems.specs.Pairs.{clause_at, pairs_of}
 use Rattle.level_systems.specs.declared.own_call.OwnCall.{OwnCall}

@@ -6,8 +6,8 @@ use Rattle.exact128.specs.Sums.{dot, entry}
 use Rattle.linear_rows.specs.Replacing.{row_fits}
 use Rattle.number_tests.proofs.SumLists.{entry_sum}
 use Rattle.number_tests.specs.Refuting.{SumsFit}
-use Rattle.termination_model.specs.Refutation.{Load, gather}
-use Rattle.termination_model.specs.Rows.{added}
+use Rattle.termination_model.specs.mappings.Refutation.{Load, gather}
+use Rattle.termination_model.specs.sizes.Rows.{added}
 use Rattle.level_systems.specs.Refuted.{IsNought}
 use Rattle.std.proofs.lemmas.Bool.{and_from, and_parts}
 

@@ -9,11 +9,11 @@ use Rattle.call_components.specs.Partition.{AreComponents, IsIn, Partition}
 use Rattle.call_components.proofs.Lists.{any_cases}
 use Rattle.linear_rows.specs.Members.{In}
 use Rattle.linear_rows.proofs.Members.{in-filter, in-map}
-use Rattle.termination_model.specs.Claims.{SomeOf}
-use Rattle.termination_model.specs.ComponentViews.{component_view, rank_in, size_claims}
-use Rattle.termination_model.specs.OwnCalls.{members_of}
-use Rattle.termination_model.specs.Ready.{itself}
-use Rattle.termination_model.specs.View.{Rule, rule_of}
+use Rattle.termination_model.specs.claims.Claims.{SomeOf}
+use Rattle.termination_model.specs.mappings.ComponentViews.{component_view, rank_in, size_claims}
+use Rattle.termination_model.specs.mappings.OwnCalls.{members_of}
+use Rattle.termination_model.specs.mappings.Ready.{itself}
+use Rattle.termination_model.specs.mappings.View.{Rule, rule_of}
 use Rattle.termination_model.proofs.Lists.{indexed}
 use Rattle.termination_model.proofs.Readiness.{first_there}
 

@@ -6,8 +6,8 @@ use Rattle.std.proofs.lemmas.List.{length-map}
 use Rattle.linear_rows.specs.Step.{columns}
 use Rattle.number_tests.specs.Shape.{IsLevelPart}
 use Rattle.number_tests.specs.declared.level_part.LevelPart.{LevelPart}
-use Rattle.termination_model.specs.OwnCalls.{Position}
-use Rattle.termination_model.specs.SupportSystem.{mapping_at, value_of_position}
+use Rattle.termination_model.specs.mappings.OwnCalls.{Position}
+use Rattle.termination_model.specs.mappings.SupportSystem.{mapping_at, value_of_position}
 use Rattle.level_systems.specs.Valued.{IsPartOf}
 
 length_columns : (k n : ℕ) → length (columns k n) ≡ n

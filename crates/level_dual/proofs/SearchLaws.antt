@@ -11,21 +11,21 @@ use Rattle.linear_rows.specs.Members.{In}
 use Rattle.linear_rows.specs.Plain.{plain_row}
 use Rattle.linear_rows.specs.Rows.{AllHold}
 use Rattle.linear_rows.specs.declared.multipliers.Multipliers.{Multipliers}
-use Rattle.termination_model.specs.BlownSupports.{same_position}
-use Rattle.termination_model.specs.Claims.{Mapping as PlainMapping, SomeOf}
-use Rattle.termination_model.specs.ComponentViews.{HasSupportIn, component_view, members_in, positions_in}
-use Rattle.termination_model.specs.Excluding.{IsZeroOutside}
-use Rattle.termination_model.specs.Modes.{is_part}
-use Rattle.termination_model.specs.OwnCalls.{OwnCall as Recalled, Position, own_calls, rows_before}
-use Rattle.termination_model.specs.Ready.{Apart, arity_in, positions_by}
-use Rattle.termination_model.specs.Refutation.{Decreases}
-use Rattle.termination_model.specs.SupportSystem.{mapping_at, row_count, support_rows}
-use Rattle.termination_model.specs.Supports.{AreDistinct, MappingsFromSystems, picked_from, support_from}
+use Rattle.termination_model.specs.mappings.BlownSupports.{same_position}
+use Rattle.termination_model.specs.claims.Claims.{Mapping as PlainMapping, SomeOf}
+use Rattle.termination_model.specs.mappings.ComponentViews.{HasSupportIn, component_view, members_in, positions_in}
+use Rattle.termination_model.specs.mappings.Excluding.{IsZeroOutside}
+use Rattle.termination_model.specs.grounds.Modes.{is_part}
+use Rattle.termination_model.specs.mappings.OwnCalls.{OwnCall as Recalled, Position, own_calls, rows_before}
+use Rattle.termination_model.specs.mappings.Ready.{Apart, arity_in, positions_by}
+use Rattle.termination_model.specs.mappings.Refutation.{Decreases}
+use Rattle.termination_model.specs.mappings.SupportSystem.{mapping_at, row_count, support_rows}
+use Rattle.termination_model.specs.mappings.Supports.{AreDistinct, MappingsFromSystems, picked_from, support_from}
 use Rattle.termination_model.proofs.Having.{decreases, picked_in, systems_give_mappings}
-use Rattle.termination_model.specs.Coefficients.{coefficient}
-use Rattle.termination_model.specs.Rows.{added, scaled}
-use Rattle.termination_model.specs.Systems.{row_over}
-use Rattle.termination_model.specs.View.{Call, Member, Rule, fall_over, system_of}
+use Rattle.termination_model.specs.mappings.Coefficients.{coefficient}
+use Rattle.termination_model.specs.sizes.Rows.{added, scaled}
+use Rattle.termination_model.specs.sizes.Systems.{row_over}
+use Rattle.termination_model.specs.mappings.View.{Call, Member, Rule, fall_over, system_of}
 use Rattle.linear_rows.specs.Rows.{HoldsOn}
 use Rattle.linear_rows.proofs.Members.{of-map}
 use Rattle.termination_model.proofs.Lists.{indexed}

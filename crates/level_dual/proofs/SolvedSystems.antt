@@ -7,8 +7,8 @@ use Rattle.cti_terms.specs.Tree.{Tree}
 use Rattle.cti_terms.specs.declared.predicates.PredId.{PredId}
 use Rattle.linear_rows.specs.Solving.{Solution, solution}
 use Rattle.linear_rows.specs.Solving.Solution.{Found, Refuted}
-use Rattle.termination_model.specs.OwnCalls.{OwnCall as Recalled}
-use Rattle.termination_model.specs.SupportSystem.{support_rows, unknowns}
+use Rattle.termination_model.specs.mappings.OwnCalls.{OwnCall as Recalled}
+use Rattle.termination_model.specs.mappings.SupportSystem.{support_rows, unknowns}
 use Rattle.level_systems.specs.Held.{live_of, spelled}
 use Rattle.level_systems.specs.Recalled.{Recalls, count_of}
 use Rattle.level_systems.specs.Refuted.{solution_of}

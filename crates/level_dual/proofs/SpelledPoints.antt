@@ -20,10 +20,10 @@ use Rattle.number_tests.specs.Shape.{PairsAscend}
 use Rattle.number_tests.specs.declared.pair_point.PairPoint.{PairPoint}
 use Rattle.simplex.proofs.RowLists.{length-zeros}
 use Rattle.simplex.proofs.TestLaws.{Failing, point_fails}
-use Rattle.termination_model.specs.Claims.{SomeOf}
-use Rattle.termination_model.specs.Excluding.{number_count, pairs_at}
-use Rattle.termination_model.specs.OwnCalls.{OwnCall as Recalled, rows_before}
-use Rattle.termination_model.specs.Refutation.{Pair, call_load, head_load, values_at}
+use Rattle.termination_model.specs.claims.Claims.{SomeOf}
+use Rattle.termination_model.specs.mappings.Excluding.{number_count, pairs_at}
+use Rattle.termination_model.specs.mappings.OwnCalls.{OwnCall as Recalled, rows_before}
+use Rattle.termination_model.specs.mappings.Refutation.{Pair, call_load, head_load, values_at}
 use Rattle.level_systems.specs.Found.{HasSecondPoint}
 use Rattle.level_systems.specs.Held.{IsHeld, numbers_of_call}
 use Rattle.level_systems.specs.Pairs.{clause_at}

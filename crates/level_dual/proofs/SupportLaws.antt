@@ -8,12 +8,12 @@ use Rattle.linear_rows.specs.Members.{In}
 use Rattle.linear_rows.specs.Step.{columns}
 use Rattle.linear_rows.proofs.Members.{in-filter, in-left, in-right, of-append, of-filter}
 use Rattle.number_tests.specs.declared.level_part.LevelPart.{LevelPart}
-use Rattle.termination_model.specs.Coefficients.{coefficient}
-use Rattle.termination_model.specs.BlownSupports.{same_position}
-use Rattle.termination_model.specs.Claims.{Mapping}
-use Rattle.termination_model.specs.OwnCalls.{Position}
-use Rattle.termination_model.specs.Ready.{arity_in, positions_by}
-use Rattle.termination_model.specs.Supports.{support_from}
+use Rattle.termination_model.specs.mappings.Coefficients.{coefficient}
+use Rattle.termination_model.specs.mappings.BlownSupports.{same_position}
+use Rattle.termination_model.specs.claims.Claims.{Mapping}
+use Rattle.termination_model.specs.mappings.OwnCalls.{Position}
+use Rattle.termination_model.specs.mappings.Ready.{arity_in, positions_by}
+use Rattle.termination_model.specs.mappings.Supports.{support_from}
 use Rattle.number_tests.specs.Shape.{IsLevelPart}
 use Rattle.level_systems.specs.Falling.{HasParts}
 use Rattle.level_systems.specs.Mappings.{HasMeasures, natural_coefficients, level_in, mapping_with, natural_offset}

@@ -9,8 +9,8 @@ use Rattle.linear_rows.specs.Members.{In}
 use Rattle.linear_rows.specs.Solving.{zeros}
 use Rattle.linear_rows.specs.Step.{columns}
 use Rattle.simplex.proofs.RowLists.{length-zeros}
-use Rattle.termination_model.specs.OwnCalls.{OwnCall, Position, call_sizes, head_sizes, rows_before}
-use Rattle.termination_model.specs.SupportSystem.{call_row, call_rows, multiplier_entries, offset_entries, offset_share, position_entries, row_count, rows_from, share, support_rows, unknowns}
+use Rattle.termination_model.specs.mappings.OwnCalls.{OwnCall, Position, call_sizes, head_sizes, rows_before}
+use Rattle.termination_model.specs.mappings.SupportSystem.{call_row, call_rows, multiplier_entries, offset_entries, offset_share, position_entries, row_count, rows_from, share, support_rows, unknowns}
 
 module _ (expression : ℕ → Tree → List ℤ) (ps : List Position) (ms : List ℕ) where
   row_long : (before after : ℕ) (o : OwnCall) (x : ℕ) → length (call_row expression ps ms before after o x) ≡ suc (length ps + (length ms + (before + (length (rows_before expression o) + after))))

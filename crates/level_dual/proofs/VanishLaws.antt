@@ -17,17 +17,17 @@ use Rattle.linear_rows.specs.Rows.{HoldsOn}
 use Rattle.linear_rows.specs.declared.row.Row.{Row}
 use Rattle.linear_rows.specs.declared.row.Rows.{Rows}
 use Rattle.linear_rows.proofs.Members.{in-left, in-map, in-right, of-append}
-use Rattle.termination_model.specs.Coefficients.{coefficient}
-use Rattle.termination_model.specs.Claims.{Mapping}
-use Rattle.termination_model.specs.ComponentViews.{HasSupportIn, component_view, positions_in}
-use Rattle.termination_model.specs.Minimal.{IsExcluded}
-use Rattle.termination_model.specs.Modes.{is_part}
-use Rattle.termination_model.specs.OwnCalls.{Position as Place, rows_before}
-use Rattle.termination_model.specs.Refutation.{Decreases}
-use Rattle.termination_model.specs.Rows.{added, scaled}
-use Rattle.termination_model.specs.Supports.{support_from}
-use Rattle.termination_model.specs.Systems.{row_over}
-use Rattle.termination_model.specs.View.{Call, Member, Rule, fall_over, system_of}
+use Rattle.termination_model.specs.mappings.Coefficients.{coefficient}
+use Rattle.termination_model.specs.claims.Claims.{Mapping}
+use Rattle.termination_model.specs.mappings.ComponentViews.{HasSupportIn, component_view, positions_in}
+use Rattle.termination_model.specs.grounds.Minimal.{IsExcluded}
+use Rattle.termination_model.specs.grounds.Modes.{is_part}
+use Rattle.termination_model.specs.mappings.OwnCalls.{Position as Place, rows_before}
+use Rattle.termination_model.specs.mappings.Refutation.{Decreases}
+use Rattle.termination_model.specs.sizes.Rows.{added, scaled}
+use Rattle.termination_model.specs.mappings.Supports.{support_from}
+use Rattle.termination_model.specs.sizes.Systems.{row_over}
+use Rattle.termination_model.specs.mappings.View.{Call, Member, Rule, fall_over, system_of}
 use Rattle.termination_model.proofs.Entries.{entry_added, entry_scaled, entry_substituted}
 use Rattle.termination_model.proofs.Lists.{mapped_place, place_below}
 use Rattle.termination_model.proofs.Readiness.{from_in, own_of, some_there}

@@ -2,8 +2,8 @@
 use Rattle.std.proofs.Common.{◌≡◌, ℕ, suc, ◌+◌, ◌||◌, ◌⊎◌, inl, inr, Bool, true, false, List, [], ◌∷◌, ◌++◌, take, slice_get, length, Some, refl, ap, sym, subst, ◌∙◌, arith}
 use Rattle.std.specs.List.{list_any}
 use Rattle.std.proofs.lemmas.Bool.{or_cases}
-use Rattle.termination_model.specs.Modes.{is_part, chosen_up_to}
-use Rattle.termination_model.specs.Minimal.{FindsMinimal, IsAbove, IsExcluded, IsSet}
+use Rattle.termination_model.specs.grounds.Modes.{is_part, chosen_up_to}
+use Rattle.termination_model.specs.grounds.Minimal.{FindsMinimal, IsAbove, IsExcluded, IsSet}
 use Rattle.level_dual.specs.Walk.{IsWalked}
 use Rattle.level_dual.proofs.WalkSteps.{walk_steps}
 

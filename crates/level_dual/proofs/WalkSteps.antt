@@ -3,8 +3,8 @@ use Rattle.std.proofs.Common.{◌≡◌, ℕ, zero, suc, ◌<◌, ◌≤◌, ◌
 use Rattle.linear_rows.specs.Members.{In}
 use Rattle.linear_rows.proofs.Members.{in-left, in-right, of-append}
 use Rattle.level_systems.specs.Subsequences.{IsSubsequence}
-use Rattle.termination_model.specs.Modes.{is_part, chosen_up_to}
-use Rattle.termination_model.specs.Minimal.{IsSet, IsAbove, IsExcluded, IsMinimal, FindsMinimal}
+use Rattle.termination_model.specs.grounds.Modes.{is_part, chosen_up_to}
+use Rattle.termination_model.specs.grounds.Minimal.{IsSet, IsAbove, IsExcluded, IsMinimal, FindsMinimal}
 use Rattle.level_dual.specs.Walk.{IsSettled, IsWalked, WalkSteps}
 use Rattle.level_dual.proofs.Subsequences.{in_whole}
 use Rattle.termination_model.proofs.Sets.{part_self, part_trans, to_part, part_same, each_set_in, earlier, in_place, one_taken, up_to_set}

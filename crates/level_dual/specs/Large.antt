@@ -5,10 +5,10 @@ use Rattle.cti_terms.specs.Listing.{Listing}
 use Rattle.cti_terms.specs.Tree.{Tree}
 use Rattle.call_components.specs.Partition.{Partition}
 use Rattle.linear_rows.specs.Members.{In}
-use Rattle.termination_model.specs.Coefficients.{coefficient}
-use Rattle.termination_model.specs.ComponentViews.{HasSupportIn, positions_in}
-use Rattle.termination_model.specs.Minimal.{IsExcluded}
-use Rattle.termination_model.specs.OwnCalls.{Position}
+use Rattle.termination_model.specs.mappings.Coefficients.{coefficient}
+use Rattle.termination_model.specs.mappings.ComponentViews.{HasSupportIn, positions_in}
+use Rattle.termination_model.specs.grounds.Minimal.{IsExcluded}
+use Rattle.termination_model.specs.mappings.OwnCalls.{Position}
 use Rattle.level_systems.specs.Found.{IsBlownSet, without_number}
 use Rattle.level_systems.specs.Mappings.{mapping_with, support_of}
 use Rattle.level_systems.specs.Searched.{IsDecreasing}

@@ -6,8 +6,8 @@
 -- Nothing here has to be believed.
 use Rattle.std.specs.Prelude.{◌≡◌, ℕ, suc, ◌⊎◌, true, List, [], ◌∷◌, ◌++◌, take, slice_get, Some}
 use Rattle.linear_rows.specs.Members.{In}
-use Rattle.termination_model.specs.Minimal.{FindsMinimal, IsAbove, IsExcluded, IsMinimal}
-use Rattle.termination_model.specs.Modes.{is_part, chosen_up_to}
+use Rattle.termination_model.specs.grounds.Minimal.{FindsMinimal, IsAbove, IsExcluded, IsMinimal}
+use Rattle.termination_model.specs.grounds.Modes.{is_part, chosen_up_to}
 
 module _ (Has : List ℕ → Type 0) where
   -- what is known of a set that was passed

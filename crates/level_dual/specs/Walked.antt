@@ -5,10 +5,10 @@ use Rattle.std.specs.List.{AllByRecursion}
 use Rattle.cti_terms.specs.Listing.{Listing}
 use Rattle.cti_terms.specs.Tree.{Tree}
 use Rattle.call_components.specs.Partition.{Partition}
-use Rattle.termination_model.specs.ComponentViews.{HasSupportIn, positions_in}
+use Rattle.termination_model.specs.mappings.ComponentViews.{HasSupportIn, positions_in}
 use Rattle.linear_rows.specs.Members.{In}
-use Rattle.termination_model.specs.Minimal.{IsAbove}
-use Rattle.termination_model.specs.Modes.{chosen_up_to, is_part}
+use Rattle.termination_model.specs.grounds.Minimal.{IsAbove}
+use Rattle.termination_model.specs.grounds.Modes.{chosen_up_to, is_part}
 use Rattle.level_systems.specs.Found.{IsBlownSet}
 use Rattle.level_systems.specs.Mappings.{support_of}
 use Rattle.level_systems.specs.Searched.{IsDecreasing}

@@ -8,8 +8,8 @@ ghost use Rattle.level_systems.specs.Searched.{IsSound};
 ghost use Rattle.level_dual.specs.Components.{ForComponent};
 ghost use Rattle.level_dual.specs.Vanishing.{IsKnown, IsVoid};
 ghost use Rattle.level_systems.specs.declared.position.Position.{Position};
-ghost use Rattle.termination_model.specs.ComponentViews.{HasSupportIn};
-ghost use Rattle.termination_model.specs.Minimal.{IsExcluded};
+ghost use Rattle.termination_model.specs.mappings.ComponentViews.{HasSupportIn};
+ghost use Rattle.termination_model.specs.grounds.Minimal.{IsExcluded};
 
 use crate::places::Places;
 use crate::searching::search;

@@ -10,8 +10,8 @@ ghost use Rattle.level_systems.specs.Found.{IsFound, count};
 ghost use Rattle.level_systems.specs.Held.{IsHeld};
 ghost use Rattle.level_systems.specs.Searched.{IsComponent, IsSound};
 ghost use Rattle.linear_rows.specs.Step.{columns};
-ghost use Rattle.termination_model.specs.Sizes.{AreSizes, rows_of};
-ghost use Rattle.termination_model.specs.ComponentViews.{HasSupportIn};
+ghost use Rattle.termination_model.specs.sizes.Sizes.{AreSizes, rows_of};
+ghost use Rattle.termination_model.specs.mappings.ComponentViews.{HasSupportIn};
 
 use crate::large::find_large;
 use crate::refuting::refutation;

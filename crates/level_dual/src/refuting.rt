@@ -15,12 +15,12 @@ ghost use Rattle.linear_rows.specs.Plain.{HaveWidth};
 ghost use Rattle.linear_rows.specs.Step.{columns};
 ghost use Rattle.level_systems.specs.declared.own_call.OwnCall.{OwnCall};
 ghost use Rattle.number_tests.specs.Shape.{IsBefore, place_of_pair};
-ghost use Rattle.termination_model.specs.BlownSupports.{IsBlownAt};
-ghost use Rattle.termination_model.specs.OwnCalls.{OwnCall as Recalled};
-ghost use Rattle.termination_model.specs.Ready.{arity_in};
-ghost use Rattle.termination_model.specs.Sizes.{AreSizes, rows_of};
-ghost use Rattle.termination_model.specs.Supports.{picked_from};
-ghost use Rattle.termination_model.specs.ComponentViews.{HasSupportIn, component_view, members_in, positions_in};
+ghost use Rattle.termination_model.specs.mappings.BlownSupports.{IsBlownAt};
+ghost use Rattle.termination_model.specs.mappings.OwnCalls.{OwnCall as Recalled};
+ghost use Rattle.termination_model.specs.mappings.Ready.{arity_in};
+ghost use Rattle.termination_model.specs.sizes.Sizes.{AreSizes, rows_of};
+ghost use Rattle.termination_model.specs.mappings.Supports.{picked_from};
+ghost use Rattle.termination_model.specs.mappings.ComponentViews.{HasSupportIn, component_view, members_in, positions_in};
 
 use cti_terms::Program;
 use fourier::{ElimFault, Solved};

@@ -10,9 +10,9 @@ ghost use Rattle.level_systems.specs.Recalled.{count_of};
 ghost use Rattle.level_systems.specs.Searched.{AreMeasuresAt, IsAnswer, IsMappingIf, IsSound};
 ghost use Rattle.level_systems.specs.declared.own_call.OwnCall.{OwnCall};
 ghost use Rattle.linear_rows.specs.Plain.{HaveWidth, plain_rows};
-ghost use Rattle.termination_model.specs.BlownSupports.{same_position};
-ghost use Rattle.termination_model.specs.Supports.{AreDistinct, picked_from};
-ghost use Rattle.termination_model.specs.SupportSystem.{support_rows};
+ghost use Rattle.termination_model.specs.mappings.BlownSupports.{same_position};
+ghost use Rattle.termination_model.specs.mappings.Supports.{AreDistinct, picked_from};
+ghost use Rattle.termination_model.specs.mappings.SupportSystem.{support_rows};
 
 use crate::falling::falls_of;
 use cti_terms::Program;

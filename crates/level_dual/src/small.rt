@@ -7,8 +7,8 @@ ghost use Rattle.level_systems.specs.Searched.{IsSound};
 ghost use Rattle.level_dual.specs.Components.{ForComponent};
 ghost use Rattle.level_dual.specs.Walked.{IsCompleted};
 ghost use Rattle.linear_rows.specs.Step.{columns};
-ghost use Rattle.termination_model.specs.Modes.{is_part};
-ghost use Rattle.termination_model.specs.ComponentViews.{HasSupportIn};
+ghost use Rattle.termination_model.specs.grounds.Modes.{is_part};
+ghost use Rattle.termination_model.specs.mappings.ComponentViews.{HasSupportIn};
 
 use crate::walked::Walked;
 use crate::walking::{is_part, walk};

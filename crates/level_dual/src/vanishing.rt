@@ -9,8 +9,8 @@ ghost use Rattle.std.specs.List.{AllByRecursion};
 ghost use Rattle.exact128.specs.Sums.{entry};
 ghost use Rattle.level_systems.specs.Recalled.{HasNumbers};
 ghost use Rattle.level_dual.specs.Vanishing.{AreMarkedOrIn, AreUnlisted, IsMarkedAt, IsSilent, KeepsColumns, Vanishes, sizes_at};
-ghost use Rattle.termination_model.specs.Coefficients.{coefficient};
-ghost use Rattle.termination_model.specs.Claims.{Mapping};
+ghost use Rattle.termination_model.specs.mappings.Coefficients.{coefficient};
+ghost use Rattle.termination_model.specs.claims.Claims.{Mapping};
 
 use crate::places::Places;
 use crate::refuting::is_nought;

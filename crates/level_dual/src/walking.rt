@@ -5,7 +5,7 @@ ghost use Rattle.std.specs.List.{list_any};
 ghost use Rattle.level_systems.specs.Searched.{IsSound};
 ghost use Rattle.level_dual.specs.Components.{ForComponent};
 ghost use Rattle.level_dual.specs.Walked.{IsAllWalked, IsWalkedTo};
-ghost use Rattle.termination_model.specs.Modes.{chosen_up_to, is_part};
+ghost use Rattle.termination_model.specs.grounds.Modes.{chosen_up_to, is_part};
 
 use crate::searching::search;
 use crate::walked::Walked;

@@ -16,8 +16,8 @@ use Rattle.number_tests.specs.Targets.{fall_weights}
 use Rattle.number_tests.specs.declared.level_part.LevelPart.{LevelPart}
 use Rattle.number_tests.proofs.FallTargets.{fall_target}
 use Rattle.term_size.specs.Norm.{IsNorm}
-use Rattle.termination_model.specs.Systems.{row_over, system}
-use Rattle.termination_model.specs.ShortSystems.{short_row, short_system}
+use Rattle.termination_model.specs.sizes.Systems.{row_over, system}
+use Rattle.termination_model.specs.sizes.ShortSystems.{short_row, short_system}
 use Rattle.termination_model.proofs.Lists.{one_element}
 use Rattle.level_systems.specs.Falling.{AreFallsOf, ShowFalls, ShowsFall, values_after}
 use Rattle.level_systems.specs.Held.{IsHeld, numbers_of_call}

@@ -13,14 +13,14 @@ use Rattle.linear_rows.specs.Showing.{Shows, bottom_row}
 use Rattle.linear_rows.specs.Solving.{zeros}
 use Rattle.linear_rows.specs.declared.multipliers.Multipliers.{Multipliers}
 use Rattle.linear_rows.proofs.Soundness.{law_empty}
-use Rattle.termination_model.specs.ComponentViews.{component_view, positions_in, size_claims}
-use Rattle.termination_model.specs.Excluding.{IsLive, IsOwnCall}
-use Rattle.termination_model.specs.OwnCalls.{OwnCall as Recalled, own_calls, rows_before}
-use Rattle.termination_model.specs.Ready.{arity_in, itself}
-use Rattle.termination_model.specs.SupportLaws.{HasFew}
-use Rattle.termination_model.specs.Supports.{AreLives}
-use Rattle.termination_model.specs.Systems.{system}
-use Rattle.termination_model.specs.View as view
+use Rattle.termination_model.specs.mappings.ComponentViews.{component_view, positions_in, size_claims}
+use Rattle.termination_model.specs.mappings.Excluding.{IsLive, IsOwnCall}
+use Rattle.termination_model.specs.mappings.OwnCalls.{OwnCall as Recalled, own_calls, rows_before}
+use Rattle.termination_model.specs.mappings.Ready.{arity_in, itself}
+use Rattle.termination_model.specs.mappings.SupportLaws.{HasFew}
+use Rattle.termination_model.specs.mappings.Supports.{AreLives}
+use Rattle.termination_model.specs.sizes.Systems.{system}
+use Rattle.termination_model.specs.mappings.View as view
 use Rattle.termination_model.proofs.Readiness.{views_are_ready, views_have_few}
 use Rattle.level_systems.specs.Held.{HasPoint, IsHeld, IsReach, live_of, numbers_of_call, recalled_at, with_live}
 use Rattle.level_systems.specs.Pairs.{call_at, clause_at, pairs_of}

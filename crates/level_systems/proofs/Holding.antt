@@ -9,8 +9,8 @@ use Rattle.linear_rows.specs.Solving.{zeros}
 use Rattle.call_components.specs.Numbers.{number_of}
 use Rattle.level_systems.specs.Recalled.{Recalls}
 use Rattle.level_systems.specs.Held.{held_numbers, spelled}
-use Rattle.termination_model.specs.OwnCalls.{OwnCall as Recalled, head_sizes, call_sizes, rows_before}
-use Rattle.termination_model.specs.SupportSystem.{call_row, less_one, multiplier_entries, offset_entries, offset_share, position_entries, share}
+use Rattle.termination_model.specs.mappings.OwnCalls.{OwnCall as Recalled, head_sizes, call_sizes, rows_before}
+use Rattle.termination_model.specs.mappings.SupportSystem.{call_row, less_one, multiplier_entries, offset_entries, offset_share, position_entries, share}
 use Rattle.level_systems.specs.declared.own_call.OwnCall.{OwnCall}
 use Rattle.level_systems.specs.declared.position.Position.{Position}
 use Rattle.termination_model.proofs.Lists.{append_assoc}

@@ -5,12 +5,12 @@ use Rattle.cti_terms.specs.Listing.{Listing}
 use Rattle.cti_terms.specs.Tree.{Tree}
 use Rattle.cti_terms.specs.declared.clauses.Clause.{Clause}
 use Rattle.call_components.specs.Partition.{Partition}
-use Rattle.termination_model.specs.Claims.{Claims}
-use Rattle.termination_model.specs.ComponentViews.{component_view, rank_in, size_claims}
-use Rattle.termination_model.specs.OwnCalls.{first_rules, members_of, Position}
+use Rattle.termination_model.specs.claims.Claims.{Claims}
+use Rattle.termination_model.specs.mappings.ComponentViews.{component_view, rank_in, size_claims}
+use Rattle.termination_model.specs.mappings.OwnCalls.{first_rules, members_of, Position}
 use Rattle.linear_rows.specs.Step.{columns}
-use Rattle.termination_model.specs.Ready.{itself}
-use Rattle.termination_model.specs.View.{Rule, rule_of}
+use Rattle.termination_model.specs.mappings.Ready.{itself}
+use Rattle.termination_model.specs.mappings.View.{Rule, rule_of}
 use Rattle.termination_model.proofs.Lists.{append_assoc}
 use Rattle.level_systems.specs.Ordered.{arguments_from, members_by_clauses, with_member}
 

@@ -16,9 +16,9 @@ use Rattle.linear_rows.specs.declared.row.Rows.{Rows}
 use Rattle.number_tests.specs.Refuting.{atom_or_none, clause_or_none}
 use Rattle.number_tests.specs.Targets.{AreFallColumns}
 use Rattle.term_size.specs.Norm.{IsNorm}
-use Rattle.termination_model.specs.Sizes.{wide_rows}
-use Rattle.termination_model.specs.Systems.{row_fits, system}
-use Rattle.termination_model.specs.ShortSystems.{short_row}
+use Rattle.termination_model.specs.sizes.Sizes.{wide_rows}
+use Rattle.termination_model.specs.sizes.Systems.{row_fits, system}
+use Rattle.termination_model.specs.sizes.ShortSystems.{short_row}
 use Rattle.termination_model.proofs.Naturals.{sizes_are_natural}
 use Rattle.level_systems.specs.Held.{AreSizes, IsGivenUp, IsHeldAs, IsHeldBy}
 use Rattle.level_systems.specs.Pairs.{call_at, clause_at}

@@ -7,7 +7,7 @@ use Rattle.cti_terms.specs.declared.predicates.PredId.{PredId}
 use Rattle.linear_rows.specs.Plain.{plain_row, plain_rows}
 use Rattle.linear_rows.specs.Solving.{zeros}
 use Rattle.linear_rows.specs.Step.{columns}
-use Rattle.termination_model.specs.SupportSystem.{offset_share, share}
+use Rattle.termination_model.specs.mappings.SupportSystem.{offset_share, share}
 use Rattle.level_systems.specs.Held.{held_numbers, spelled}
 use Rattle.level_systems.specs.declared.own_call.OwnCall.{OwnCall}
 use Rattle.level_systems.specs.declared.position.Position.{Position}

@@ -21,10 +21,10 @@ use Rattle.linear_rows.specs.Showing.{AreMultipliers}
 use Rattle.linear_rows.specs.declared.multipliers.Multipliers.{Multipliers}
 use Rattle.linear_rows.specs.declared.row.Row.{Row}
 use Rattle.number_tests.proofs.FallTargets.{long_columns}
-use Rattle.termination_model.specs.ComponentViews.{members_in, rank_in}
-use Rattle.termination_model.specs.OwnCalls.{Position}
-use Rattle.termination_model.specs.Ready.{Apart, arity_in}
-use Rattle.termination_model.specs.Supports.{AreDistinct}
+use Rattle.termination_model.specs.mappings.ComponentViews.{members_in, rank_in}
+use Rattle.termination_model.specs.mappings.OwnCalls.{Position}
+use Rattle.termination_model.specs.mappings.Ready.{Apart, arity_in}
+use Rattle.termination_model.specs.mappings.Supports.{AreDistinct}
 use Rattle.termination_model.proofs.Lists.{by_places, indexed, place_below}
 use Rattle.number_tests.proofs.Sized.{some_below}
 use Rattle.level_systems.proofs.HeldCalls.{all_in}

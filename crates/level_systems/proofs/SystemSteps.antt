@@ -5,8 +5,8 @@ use Rattle.std.proofs.lemmas.List.{length-map}
 use Rattle.cti_terms.specs.Tree.{Tree}
 use Rattle.linear_rows.specs.Plain.{plain_row, plain_rows}
 use Rattle.linear_rows.specs.declared.multipliers.Multipliers.{Multipliers}
-use Rattle.termination_model.specs.OwnCalls.{OwnCall as Recalled, Position, rows_before}
-use Rattle.termination_model.specs.SupportSystem.{call_rows, row_count, rows_from}
+use Rattle.termination_model.specs.mappings.OwnCalls.{OwnCall as Recalled, Position, rows_before}
+use Rattle.termination_model.specs.mappings.SupportSystem.{call_rows, row_count, rows_from}
 use Rattle.termination_model.proofs.Lists.{append_assoc}
 use Rattle.level_systems.specs.Held.{live_of, with_live}
 use Rattle.level_systems.specs.Recalled.{Recalls, count_of, with_count}

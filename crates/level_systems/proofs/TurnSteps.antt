@@ -10,9 +10,9 @@ use Rattle.cti_terms.specs.declared.predicates.PredId.{PredId}
 use Rattle.linear_rows.specs.Plain.{plain_row, plain_rows}
 use Rattle.linear_rows.specs.Solving.{zeros}
 use Rattle.call_components.specs.Numbers.{number_of}
-use Rattle.termination_model.specs.OwnCalls.{OwnCall as Recalled, Position as Place, rows_before}
-use Rattle.termination_model.specs.SupportSystem.{less_one, multiplier_entries, offset_entries, offset_share, position_entries, row_count, share}
-use Rattle.termination_model.specs.TurnSystem.{call_turn_rows, drop_entries, ones, sum_row, turn_row, turn_rows_from}
+use Rattle.termination_model.specs.mappings.OwnCalls.{OwnCall as Recalled, Position as Place, rows_before}
+use Rattle.termination_model.specs.mappings.SupportSystem.{less_one, multiplier_entries, offset_entries, offset_share, position_entries, row_count, share}
+use Rattle.termination_model.specs.lists.TurnSystem.{call_turn_rows, drop_entries, ones, sum_row, turn_row, turn_rows_from}
 use Rattle.termination_model.proofs.Lists.{append_assoc}
 use Rattle.level_systems.specs.Held.{spelled}
 use Rattle.level_systems.specs.Recalled.{Recalls}

@@ -5,10 +5,10 @@ use Rattle.exact128.specs.Sums.{entry}
 use Rattle.call_components.specs.Numbers.{number_of}
 use Rattle.cti_terms.specs.declared.predicates.PredId.{PredId}
 use Rattle.linear_rows.specs.Members.{In}
-use Rattle.termination_model.specs.OwnCalls.{Position as Place}
-use Rattle.termination_model.specs.Ready.{Apart}
-use Rattle.termination_model.specs.SupportSystem.{value_of_member, value_of_position}
-use Rattle.termination_model.specs.Supports.{AreDistinct}
+use Rattle.termination_model.specs.mappings.OwnCalls.{Position as Place}
+use Rattle.termination_model.specs.mappings.Ready.{Apart}
+use Rattle.termination_model.specs.mappings.SupportSystem.{value_of_member, value_of_position}
+use Rattle.termination_model.specs.mappings.Supports.{AreDistinct}
 use Rattle.termination_model.proofs.Lists.{mapped_place}
 use Rattle.termination_model.proofs.Readiness.{at_of}
 use Rattle.level_systems.specs.Held.{spelled}

@@ -6,13 +6,13 @@ use Rattle.cti_terms.specs.declared.atom_list.Atom.{Atom}
 use Rattle.cti_terms.specs.declared.clauses.Clause.{Clause}
 use Rattle.call_components.specs.Partition.{Partition}
 use Rattle.number_tests.specs.Refuting.{atom_or_none, clause_or_none}
-use Rattle.termination_model.specs.Claims.{Claims}
-use Rattle.termination_model.specs.ComponentViews.{component_view, rank_in, size_claims}
-use Rattle.termination_model.specs.OwnCalls.{OwnCall as Recalled, own_call, own_calls, own_calls_from}
-use Rattle.termination_model.specs.Ready.{itself}
-use Rattle.termination_model.specs.Systems.{row_over, system}
-use Rattle.termination_model.specs.View.{Call, Lower, Member, Place, Rule, rule_of, system_of, upward_union}
-use Rattle.termination_model.specs.View as view
+use Rattle.termination_model.specs.claims.Claims.{Claims}
+use Rattle.termination_model.specs.mappings.ComponentViews.{component_view, rank_in, size_claims}
+use Rattle.termination_model.specs.mappings.OwnCalls.{OwnCall as Recalled, own_call, own_calls, own_calls_from}
+use Rattle.termination_model.specs.mappings.Ready.{itself}
+use Rattle.termination_model.specs.sizes.Systems.{row_over, system}
+use Rattle.termination_model.specs.mappings.View.{Call, Lower, Member, Place, Rule, rule_of, system_of, upward_union}
+use Rattle.termination_model.specs.mappings.View as view
 use Rattle.level_systems.specs.Held.{recalled_at}
 use Rattle.level_systems.specs.Pairs.{call_at, calls_from, clause_at, pairs_from, pairs_of}
 

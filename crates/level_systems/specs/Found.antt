@@ -13,18 +13,18 @@ use Rattle.call_components.specs.Partition.{IsIn}
 use Rattle.linear_rows.specs.declared.point.Point.{Point}
 use Rattle.number_tests.specs.Refuting.{PointHolds, SumsRefute, call_of, clause_of}
 use Rattle.number_tests.specs.declared.pair_point.PairPoint.{PairPoint}
-use Rattle.termination_model.specs.BlownSupports.{IsBlownAt}
-use Rattle.termination_model.specs.Excluding.{IsZeroOutside}
-use Rattle.termination_model.specs.Refutation.{Decreases}
+use Rattle.termination_model.specs.mappings.BlownSupports.{IsBlownAt}
+use Rattle.termination_model.specs.mappings.Excluding.{IsZeroOutside}
+use Rattle.termination_model.specs.mappings.Refutation.{Decreases}
 use Rattle.level_systems.specs.declared.mapping.Mapping.{Mapping}
 use Rattle.number_tests.specs.Shape.{IsPairOf}
 pub use Rattle.number_tests.specs.Shape.{PairsAscend}
 use Rattle.number_tests.specs.declared.refutation.Refutation.{Refutation}
-use Rattle.termination_model.specs.ComponentViews.{HasSupportIn, component_view, members_in, positions_in}
-use Rattle.termination_model.specs.Minimal.{IsAbove, IsExcluded, IsMinimal, IsSet}
-use Rattle.termination_model.specs.Modes.{chosen_up_to}
-use Rattle.termination_model.specs.Ready.{arity_in}
-use Rattle.termination_model.specs.Supports.{picked_from}
+use Rattle.termination_model.specs.mappings.ComponentViews.{HasSupportIn, component_view, members_in, positions_in}
+use Rattle.termination_model.specs.grounds.Minimal.{IsAbove, IsExcluded, IsMinimal, IsSet}
+use Rattle.termination_model.specs.grounds.Modes.{chosen_up_to}
+use Rattle.termination_model.specs.mappings.Ready.{arity_in}
+use Rattle.termination_model.specs.mappings.Supports.{picked_from}
 use Rattle.level_systems.specs.Mappings.{IsMappingOf, mapping_with, support_of}
 use Rattle.level_systems.specs.Subsequences.{AreOnce, IsSubsequence}
 use Rattle.level_systems.specs.declared.found.Found.{Found}

@@ -18,14 +18,14 @@ use Rattle.linear_rows.specs.declared.multipliers.Multipliers.{Multipliers}
 use Rattle.linear_rows.specs.declared.row.Row.{Row}
 use Rattle.linear_rows.specs.declared.row.Rows.{Rows}
 use Rattle.number_tests.specs.Targets.{AreFallColumns}
-pub use Rattle.termination_model.specs.ChainRows.{HasPoint}
-use Rattle.termination_model.specs.ComponentViews.{size_claims}
-use Rattle.termination_model.specs.OwnCalls.{Position as Place, OwnCall as Recalled}
-use Rattle.termination_model.specs.Ready.{itself}
-use Rattle.termination_model.specs.SupportSystem.{offset_share, share}
-use Rattle.termination_model.specs.Systems.{row_fits, system}
-use Rattle.termination_model.specs.View.{rule_of}
-use Rattle.termination_model.specs.View as view
+pub use Rattle.termination_model.specs.chains.ChainRows.{HasPoint}
+use Rattle.termination_model.specs.mappings.ComponentViews.{size_claims}
+use Rattle.termination_model.specs.mappings.OwnCalls.{Position as Place, OwnCall as Recalled}
+use Rattle.termination_model.specs.mappings.Ready.{itself}
+use Rattle.termination_model.specs.mappings.SupportSystem.{offset_share, share}
+use Rattle.termination_model.specs.sizes.Systems.{row_fits, system}
+use Rattle.termination_model.specs.mappings.View.{rule_of}
+use Rattle.termination_model.specs.mappings.View as view
 use Rattle.level_systems.specs.Pairs.{call_at, clause_at}
 use Rattle.level_systems.specs.declared.position.Position.{Position}
 use Rattle.level_systems.specs.declared.own_call.OwnCall.{OwnCall}

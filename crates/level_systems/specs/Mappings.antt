@@ -14,12 +14,12 @@ use Rattle.number_tests.specs.Proved.{fall_of}
 use Rattle.number_tests.specs.Shape.{IsLevelPart, row_count}
 pub use Rattle.number_tests.specs.Levels.{natural_coefficients, natural_offset}
 use Rattle.number_tests.specs.declared.level_part.LevelPart.{LevelPart}
-use Rattle.termination_model.specs.Claims.{Mapping as PlainMapping}
-use Rattle.termination_model.specs.ComponentViews.{members_in, positions_in}
-use Rattle.termination_model.specs.OwnCalls.{Position}
-use Rattle.termination_model.specs.Ready.{arity_in}
-use Rattle.termination_model.specs.Supports.{support_from}
-use Rattle.termination_model.specs.ShortSystems.{short_system}
+use Rattle.termination_model.specs.claims.Claims.{Mapping as PlainMapping}
+use Rattle.termination_model.specs.mappings.ComponentViews.{members_in, positions_in}
+use Rattle.termination_model.specs.mappings.OwnCalls.{Position}
+use Rattle.termination_model.specs.mappings.Ready.{arity_in}
+use Rattle.termination_model.specs.mappings.Supports.{support_from}
+use Rattle.termination_model.specs.sizes.ShortSystems.{short_system}
 use Rattle.level_systems.specs.Pairs.{pairs_of}
 use Rattle.level_systems.specs.declared.fall.Fall.{Fall}
 use Rattle.level_systems.specs.declared.mapping.Mapping.{Mapping}

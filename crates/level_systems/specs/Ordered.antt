@@ -4,8 +4,8 @@ use Rattle.std.specs.Prelude.{ℕ, zero, suc, ◌==◌, ◌||◌, not, if◌then
 use Rattle.std.specs.List.{list_any}
 use Rattle.cti_terms.specs.declared.clauses.Clause.{Clause}
 use Rattle.call_components.specs.Partition.{Partition}
-use Rattle.termination_model.specs.ComponentViews.{rank_in}
-use Rattle.termination_model.specs.OwnCalls.{Position}
+use Rattle.termination_model.specs.mappings.ComponentViews.{rank_in}
+use Rattle.termination_model.specs.mappings.OwnCalls.{Position}
 
 -- the members of the heads of clauses, each once, after those that are there
 abbrev pub with_member : Partition → ℕ → List ℕ → ℕ → List ℕ

@@ -8,7 +8,7 @@ use Rattle.cti_terms.specs.declared.atom_list.Atom.{Atom}
 use Rattle.cti_terms.specs.declared.clauses.Clause.{Clause}
 use Rattle.call_components.specs.Partition.{Partition}
 use Rattle.number_tests.specs.Refuting.{atom_or_none, clause_or_none}
-use Rattle.termination_model.specs.ComponentViews.{rank_in}
+use Rattle.termination_model.specs.mappings.ComponentViews.{rank_in}
 
 -- the clause and the call of numbers that count from 1
 abbrev pub clause_at : Listing → ℕ → Clause

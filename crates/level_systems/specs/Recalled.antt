@@ -7,7 +7,7 @@ use Rattle.cti_terms.specs.Tree.{Tree}
 use Rattle.linear_rows.specs.Plain.{plain_row, plain_rows, HaveWidth}
 use Rattle.linear_rows.specs.declared.multipliers.Multipliers.{Multipliers}
 use Rattle.linear_rows.specs.declared.row.Row.{Row}
-use Rattle.termination_model.specs.OwnCalls.{OwnCall as Recalled, head_sizes, call_sizes, rows_before}
+use Rattle.termination_model.specs.mappings.OwnCalls.{OwnCall as Recalled, head_sizes, call_sizes, rows_before}
 use Rattle.level_systems.specs.Held.{AreSizes}
 use Rattle.level_systems.specs.declared.own_call.OwnCall.{OwnCall}
 

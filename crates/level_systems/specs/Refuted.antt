@@ -14,12 +14,12 @@ use Rattle.linear_rows.specs.Solving.Solution.{Found, Refuted}
 use Rattle.linear_rows.specs.Systems.{test_rows}
 use Rattle.linear_rows.specs.declared.point.Point.{Point}
 use Rattle.number_tests.specs.declared.pair_point.PairPoint.{PairPoint}
-use Rattle.termination_model.specs.BlownSupports.{CheckFits, live_calls}
-use Rattle.termination_model.specs.ComponentViews.{component_view}
-use Rattle.termination_model.specs.Excluding.{pairs_at}
-use Rattle.termination_model.specs.OwnCalls.{OwnCall as Recalled}
-use Rattle.termination_model.specs.Ready.{arity_in}
-use Rattle.termination_model.specs.SupportSystem.{support_rows, unknowns}
+use Rattle.termination_model.specs.mappings.BlownSupports.{CheckFits, live_calls}
+use Rattle.termination_model.specs.mappings.ComponentViews.{component_view}
+use Rattle.termination_model.specs.mappings.Excluding.{pairs_at}
+use Rattle.termination_model.specs.mappings.OwnCalls.{OwnCall as Recalled}
+use Rattle.termination_model.specs.mappings.Ready.{arity_in}
+use Rattle.termination_model.specs.mappings.SupportSystem.{support_rows, unknowns}
 use Rattle.level_systems.specs.Found.{HasSecondPoint, IsNaturalPoint}
 use Rattle.level_systems.specs.Held.{live_of, numbers_of_call, recalled_at, spelled}
 use Rattle.level_systems.specs.declared.component.Component.{Component}

@@ -8,15 +8,15 @@ use Rattle.cti_terms.specs.Listing.{IsProgram, Listing}
 use Rattle.cti_terms.specs.Tree.{Tree}
 use Rattle.linear_rows.specs.Members.{In}
 use Rattle.term_size.specs.Norm.{IsNorm}
-use Rattle.termination_model.specs.ComponentViews.{HasSupportIn, component_view, members_in, positions_in}
-use Rattle.termination_model.specs.Excluding.{IsZeroOutside}
-use Rattle.termination_model.specs.Minimal.{IsExcluded}
-use Rattle.termination_model.specs.Modes.{is_part}
-use Rattle.termination_model.specs.OwnCalls.{members_of}
-use Rattle.termination_model.specs.Ready.{Apart, arity_in, positions_by}
-use Rattle.termination_model.specs.Refutation.{Decreases}
-use Rattle.termination_model.specs.SupportSystem.{mapping_at}
-use Rattle.termination_model.specs.Supports.{AreDistinct}
+use Rattle.termination_model.specs.mappings.ComponentViews.{HasSupportIn, component_view, members_in, positions_in}
+use Rattle.termination_model.specs.mappings.Excluding.{IsZeroOutside}
+use Rattle.termination_model.specs.grounds.Minimal.{IsExcluded}
+use Rattle.termination_model.specs.grounds.Modes.{is_part}
+use Rattle.termination_model.specs.mappings.OwnCalls.{members_of}
+use Rattle.termination_model.specs.mappings.Ready.{Apart, arity_in, positions_by}
+use Rattle.termination_model.specs.mappings.Refutation.{Decreases}
+use Rattle.termination_model.specs.mappings.SupportSystem.{mapping_at}
+use Rattle.termination_model.specs.mappings.Supports.{AreDistinct}
 use Rattle.level_systems.specs.Falling.{AreFallsOf, IsReady, ShowFalls}
 use Rattle.level_systems.specs.Found.{IsBlownSet}
 use Rattle.level_systems.specs.Held.{IsHeld, numbers_of_call, spelled}

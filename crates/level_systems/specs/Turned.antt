@@ -9,8 +9,8 @@ use Rattle.linear_rows.specs.Solving.{zeros}
 use Rattle.level_systems.specs.Held.{spelled}
 use Rattle.level_systems.specs.declared.own_call.OwnCall.{OwnCall}
 use Rattle.level_systems.specs.declared.position.Position.{Position}
-use Rattle.termination_model.specs.SupportSystem.{offset_share, share}
-use Rattle.termination_model.specs.TurnSystem.{drop_entries}
+use Rattle.termination_model.specs.mappings.SupportSystem.{offset_share, share}
+use Rattle.termination_model.specs.lists.TurnSystem.{drop_entries}
 
 -- the numbers after the constant in the row of a held call and a column
 abbrev pub turned_numbers : OwnCall → List Position → List PredId → ℕ → ℕ → ℕ → ℕ → ℕ → List ℤ

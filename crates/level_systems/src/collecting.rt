@@ -7,7 +7,7 @@ ghost use Rattle.cti_terms.specs.declared.clauses.Clause.{Clause};
 ghost use Rattle.level_systems.specs.Collected.{IsHeldIn, SomeGivenUp};
 ghost use Rattle.level_systems.specs.Held.{IsGivenUp, IsHeldAs, numbers_of_call};
 ghost use Rattle.level_systems.specs.Pairs.{calls_from, clause_at, pairs_of};
-ghost use Rattle.termination_model.specs.Sizes.{AreSizes, rows_of};
+ghost use Rattle.termination_model.specs.sizes.Sizes.{AreSizes, rows_of};
 
 use crate::own_call::OwnCall;
 use crate::reaching::{Reach, emptiness};

@@ -6,8 +6,8 @@ ghost use Rattle.level_systems.specs.Collected.{SomeGivenUp};
 ghost use Rattle.level_systems.specs.Held.{spelled};
 ghost use Rattle.level_systems.specs.Pairs.{pairs_of};
 ghost use Rattle.level_systems.specs.Searched.{IsComponent, IsSound};
-ghost use Rattle.termination_model.specs.ComponentViews.{positions_in};
-ghost use Rattle.termination_model.specs.Sizes.{AreSizes, rows_of};
+ghost use Rattle.termination_model.specs.mappings.ComponentViews.{positions_in};
+ghost use Rattle.termination_model.specs.sizes.Sizes.{AreSizes, rows_of};
 
 use crate::collecting::own_calls;
 use crate::component::Component;

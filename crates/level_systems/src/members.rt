@@ -6,8 +6,8 @@ ghost use Rattle.call_components.specs.Numbers.{number_of};
 ghost use Rattle.call_components.specs.Partition.{AreComponents};
 ghost use Rattle.level_systems.specs.Held.{spelled};
 ghost use Rattle.level_systems.specs.Ordered.{arguments_from, members_by_clauses};
-ghost use Rattle.termination_model.specs.ComponentViews.{positions_in};
-ghost use Rattle.termination_model.specs.Ready.{arity_in, positions_by};
+ghost use Rattle.termination_model.specs.mappings.ComponentViews.{positions_in};
+ghost use Rattle.termination_model.specs.mappings.Ready.{arity_in, positions_by};
 
 use crate::position::Position;
 use call_components::Components;

@@ -3,8 +3,8 @@
 ghost use Rattle.std.specs.Prelude.{◌≡◌, ◌<◌, ◌^◌, IfOk, filter, length, map, nat_eq};
 ghost use Rattle.std.specs.List.{list_any};
 ghost use Rattle.level_systems.specs.Held.{spelled};
-ghost use Rattle.termination_model.specs.BlownSupports.{same_position};
-ghost use Rattle.termination_model.specs.Supports.{picked_from};
+ghost use Rattle.termination_model.specs.mappings.BlownSupports.{same_position};
+ghost use Rattle.termination_model.specs.mappings.Supports.{picked_from};
 
 use crate::position::Position;
 use std::alloc::{AllocError, Global};

@@ -11,9 +11,9 @@ ghost use Rattle.cti_terms.specs.Tree.{Tree};
 ghost use Rattle.call_components.specs.Numbers.{number_of};
 ghost use Rattle.level_systems.specs.Held.{AreSizes, held_numbers, live_of, spelled};
 ghost use Rattle.level_systems.specs.Recalled.{HasNumbers, Recalls, count_of};
-ghost use Rattle.termination_model.specs.OwnCalls.{OwnCall as Recalled};
+ghost use Rattle.termination_model.specs.mappings.OwnCalls.{OwnCall as Recalled};
 ghost use Rattle.level_systems.specs.declared.own_call.OwnCall.{OwnCall};
-ghost use Rattle.termination_model.specs.SupportSystem.{call_rows, less_one, offset_share, share, support_rows};
+ghost use Rattle.termination_model.specs.mappings.SupportSystem.{call_rows, less_one, offset_share, share, support_rows};
 
 use crate::own_call::OwnCall;
 use crate::position::Position;

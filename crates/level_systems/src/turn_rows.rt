@@ -12,9 +12,9 @@ ghost use Rattle.call_components.specs.Numbers.{number_of};
 ghost use Rattle.level_systems.specs.Held.{AreSizes, spelled};
 ghost use Rattle.level_systems.specs.Recalled.{HasNumbers, Recalls};
 ghost use Rattle.level_systems.specs.Turned.{all_rows, held_of, turned_numbers};
-ghost use Rattle.termination_model.specs.OwnCalls.{OwnCall as Recalled};
+ghost use Rattle.termination_model.specs.mappings.OwnCalls.{OwnCall as Recalled};
 ghost use Rattle.level_systems.specs.declared.own_call.OwnCall.{OwnCall};
-ghost use Rattle.termination_model.specs.TurnSystem.{call_turn_rows, drop_entries, ones, turn_rows};
+ghost use Rattle.termination_model.specs.lists.TurnSystem.{call_turn_rows, drop_entries, ones, turn_rows};
 
 use crate::own_call::OwnCall;
 use crate::position::Position;

@@ -5,9 +5,9 @@ ghost use Rattle.call_components.specs.Numbers.{number_of};
 ghost use Rattle.level_systems.specs.Held.{spelled};
 ghost use Rattle.level_systems.specs.Valued.{IsPartOf};
 ghost use Rattle.linear_rows.specs.Step.{columns};
-ghost use Rattle.termination_model.specs.Ready.{Apart, arity_in};
-ghost use Rattle.termination_model.specs.Supports.{AreDistinct};
-ghost use Rattle.termination_model.specs.SupportSystem.{mapping_at, value_of_member, value_of_position};
+ghost use Rattle.termination_model.specs.mappings.Ready.{Apart, arity_in};
+ghost use Rattle.termination_model.specs.mappings.Supports.{AreDistinct};
+ghost use Rattle.termination_model.specs.mappings.SupportSystem.{mapping_at, value_of_member, value_of_position};
 
 use crate::position::Position;
 use cti_terms::{PredId, Program};

@@ -29,10 +29,10 @@ use Rattle.term_size.specs.TermSize.{is_a_norm}
 use Rattle.termination_model.proofs.Lists.{indexed, there}
 use Rattle.termination_model.proofs.Proved.{shown}
 use Rattle.termination_model.proofs.Query.{modes_end}
-use Rattle.termination_model.specs.Claims.{Admits, Claims, Measure}
-use Rattle.termination_model.specs.Descent.{Meets, mode_row}
-use Rattle.termination_model.specs.Grounds.{Family, HasArity}
-use Rattle.termination_model.specs.Short.{DescendsProved, ServesProved, ShowsProved}
+use Rattle.termination_model.specs.claims.Claims.{Admits, Claims, Measure}
+use Rattle.termination_model.specs.claims.Descent.{Meets, mode_row}
+use Rattle.termination_model.specs.grounds.Grounds.{Family, HasArity}
+use Rattle.termination_model.specs.sizes.Short.{DescendsProved, ServesProved, ShowsProved}
 use Rattle.lex_checker.specs.Bounding.{ModesAreBounded}
 use Rattle.lex_checker.specs.Claimed.{claims_of, lengths_by, measure_of, measures_from}
 use Rattle.lex_checker.specs.Shape.{HaveLists}
@@ -45,7 +45,7 @@ use Rattle.lex_checker.proofs.Descending.{all_at, lengths_are, lists_descend}
 use Rattle.lex_checker.proofs.Printed.{listed_bounded}
 use Rattle.lex_checker.proofs.Shapes.{has, have_drops, have_lists, have_row_proofs}
 use Rattle.lex_checker.proofs.Unions.{covers_list}
-use Rattle.termination_model.specs.ComponentViews.{rank_in}
+use Rattle.termination_model.specs.mappings.ComponentViews.{rank_in}
 
 -- the claims of parts, with the sets of truth rows that they spell
 abbrev claims : Listing → Partition → LexParts → Claims

@@ -22,19 +22,19 @@ use Rattle.number_tests.specs.Levels.{natural_coefficients, natural_offset}
 use Rattle.number_tests.specs.Proved.{level_of}
 use Rattle.number_tests.specs.Shape.{IsLevelPart, list_at, row_count}
 use Rattle.number_tests.specs.declared.level_part.LevelPart.{LevelPart}
-use Rattle.termination_model.specs.Claims.{Claims, Measure, fall_row}
-use Rattle.termination_model.specs.Grounds.{Family}
-use Rattle.termination_model.specs.Rows.{scaled, added}
-use Rattle.termination_model.specs.Short.{Provable, FallsProved, DescendsProved}
-use Rattle.termination_model.specs.Sizes.{rows_of}
-use Rattle.termination_model.specs.Systems.{row_over}
-use Rattle.termination_model.specs.ShortSystems.{short_system}
+use Rattle.termination_model.specs.claims.Claims.{Claims, Measure, fall_row}
+use Rattle.termination_model.specs.grounds.Grounds.{Family}
+use Rattle.termination_model.specs.sizes.Rows.{scaled, added}
+use Rattle.termination_model.specs.sizes.Short.{Provable, FallsProved, DescendsProved}
+use Rattle.termination_model.specs.sizes.Sizes.{rows_of}
+use Rattle.termination_model.specs.sizes.Systems.{row_over}
+use Rattle.termination_model.specs.sizes.ShortSystems.{short_system}
 use Rattle.termination_model.proofs.Lists.{by_places, from_places, place_below, there}
 use Rattle.lex_checker.specs.Claimed.{claims_of, lengths_by, list_mapping, mappings_from, measure_of, measures_from}
 use Rattle.lex_checker.specs.Proved.{DropsHold, drop_at}
 use Rattle.lex_checker.specs.Shape.{HaveDrops, HaveLists, HavePlace}
 use Rattle.lex_certificate.specs.declared.parts.LexParts.{LexParts}
-use Rattle.termination_model.specs.ComponentViews.{rank_in}
+use Rattle.termination_model.specs.mappings.ComponentViews.{rank_in}
 
 provable : (n : ℕ) (rows : List (List ℤ)) (target : List ℤ) (by : Multipliers) → AreMultipliers n by → IsShown rows target by → Provable rows target
 provable n rows target by are shown = (by.list, unsigned_abs by.scale, are.naturals, subst (Proves rows by.list target) (sym (natural_is by.scale are.scale)) shown.proves)

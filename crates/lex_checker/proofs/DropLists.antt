@@ -22,8 +22,8 @@ use Rattle.number_tests.specs.Targets.{AreFallColumns, fall_weights}
 use Rattle.number_tests.specs.declared.level_part.LevelPart.{LevelPart}
 use Rattle.term_size.specs.Norm.{IsNorm}
 use Rattle.termination_model.proofs.Lists.{by_places}
-use Rattle.termination_model.specs.Replacing.{over_columns}
-use Rattle.termination_model.specs.Sizes.{rows_of}
+use Rattle.termination_model.specs.sizes.Replacing.{over_columns}
+use Rattle.termination_model.specs.sizes.Sizes.{rows_of}
 use Rattle.lex_checker.specs.Proved.{MeasuresDrop, drop_at}
 use Rattle.lex_checker.specs.Shape.{AreListsAt, AreShown, CanDrop, HaveDrops, HaveLists}
 use Rattle.lex_checker.proofs.Descending.{all_at}

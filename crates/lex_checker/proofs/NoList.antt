@@ -23,18 +23,18 @@ use Rattle.number_tests.specs.Refuting.{atom_or_none, call_of, clause_of, clause
 use Rattle.number_tests.specs.declared.pair_point.PairPoint.{PairPoint}
 use Rattle.term_size.specs.Occurrences.{size_row}
 use Rattle.termination_model.proofs.Stuck.{none_descends}
-use Rattle.termination_model.specs.Claims.{Claims, Mapping}
-use Rattle.termination_model.specs.Refutation.{IsRefutation, Pair}
-use Rattle.termination_model.specs.Sizes.{rows_of}
-use Rattle.termination_model.specs.Stuck.{IsStuck, ListDescends}
-use Rattle.termination_model.specs.Systems.{system}
-use Rattle.termination_model.specs.View.{Call, FallsOver, Member, Rule, rule_of, system_of, upward_union, view_of}
-use Rattle.termination_model.specs.View as view
+use Rattle.termination_model.specs.claims.Claims.{Claims, Mapping}
+use Rattle.termination_model.specs.mappings.Refutation.{IsRefutation, Pair}
+use Rattle.termination_model.specs.sizes.Sizes.{rows_of}
+use Rattle.termination_model.specs.lists.Stuck.{IsStuck, ListDescends}
+use Rattle.termination_model.specs.sizes.Systems.{system}
+use Rattle.termination_model.specs.mappings.View.{Call, FallsOver, Member, Rule, rule_of, system_of, upward_union, view_of}
+use Rattle.termination_model.specs.mappings.View as view
 use Rattle.lex_checker.specs.NoList.{DropsAt, ListDrops, StuckComponentsHaveNoList, StuckHaveNoList}
 use Rattle.lex_checker.specs.Valid.{IsValid, PartsHold}
 use Rattle.lex_checker.proofs.Shapes.{has, have_stuck}
 use Rattle.lex_checker.proofs.Validity.{OneReading, only_parts_hold}
-use Rattle.termination_model.specs.ComponentViews.{rank_in}
+use Rattle.termination_model.specs.mappings.ComponentViews.{rank_in}
 
 module _ (p : Listing) (comps : Partition) where
   natural_at : (q : ℕ) (x : PairPoint) → IsStuckPoint p comps q x → IsNatural x.point

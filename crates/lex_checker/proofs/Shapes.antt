@@ -29,7 +29,7 @@ use Rattle.number_tests.specs.Shape.{IsLevelPart, IsPairOf, list_at, row_count}
 use Rattle.number_tests.specs.declared.level_part.LevelPart.{LevelPart}
 use Rattle.number_tests.specs.declared.pair_point.PairPoint.{PairPoint}
 use Rattle.termination_model.proofs.Lists.{by_places, there}
-use Rattle.termination_model.specs.Sizes.{AreSizes, rows_of}
+use Rattle.termination_model.specs.sizes.Sizes.{AreSizes, rows_of}
 use Rattle.lex_checker.specs.Shape.{CanBeTested, HaveDrops, HaveLists, HavePlace}
 
 -- what each item has by its number, in the words of `cert_structure`

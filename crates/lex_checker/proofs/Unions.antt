@@ -7,8 +7,8 @@ use Rattle.cert_structure.specs.Shape.{items_of}
 use Rattle.number_tests.specs.Levels.{coefficients_of, is_positive, natural, natural_coefficients, naturals}
 use Rattle.number_tests.specs.Shape.{IsLevelPart, list_at}
 use Rattle.number_tests.specs.declared.level_part.LevelPart.{LevelPart}
-use Rattle.termination_model.specs.Claims.{Mapping}
-use Rattle.termination_model.specs.Rows.{Covers}
+use Rattle.termination_model.specs.claims.Claims.{Mapping}
+use Rattle.termination_model.specs.sizes.Rows.{Covers}
 use Rattle.lex_checker.specs.Claimed.{mappings_from}
 use Rattle.lex_certificate.specs.Flat.{flat, union_part, united, united_coefficients}
 use Rattle.lex_certificate.specs.declared.parts.LexParts.{LexParts}

@@ -9,10 +9,10 @@ use Rattle.cti_terms.specs.Tree.{Tree}
 use Rattle.lex_certificate.specs.declared.parts.LexParts.{LexParts}
 use Rattle.number_tests.specs.Levels.{natural_coefficients, natural_offset}
 use Rattle.number_tests.specs.Shape.{list_at}
-use Rattle.termination_model.specs.Claims.{Mapping, Measure, Claims}
-use Rattle.termination_model.specs.Grounds.{Family}
-use Rattle.termination_model.specs.Sizes.{rows_of}
-use Rattle.termination_model.specs.ComponentViews.{rank_in}
+use Rattle.termination_model.specs.claims.Claims.{Mapping, Measure, Claims}
+use Rattle.termination_model.specs.grounds.Grounds.{Family}
+use Rattle.termination_model.specs.sizes.Sizes.{rows_of}
+use Rattle.termination_model.specs.mappings.ComponentViews.{rank_in}
 
 module _ (parts : LexParts) where
   -- measure i of the list of number m

@@ -16,10 +16,10 @@ use Rattle.lex_certificate.specs.declared.parts.LexParts.{LexParts}
 use Rattle.linear_rows.specs.Rows.{HoldsOn}
 use Rattle.number_tests.specs.declared.refutation.Refutation.{Refutation}
 use Rattle.term_size.specs.Occurrences.{size_row}
-use Rattle.termination_model.specs.Claims.{Mapping}
-use Rattle.termination_model.specs.Rows.{scaled, added}
-use Rattle.termination_model.specs.Sizes.{rows_of}
-use Rattle.termination_model.specs.Systems.{system}
+use Rattle.termination_model.specs.claims.Claims.{Mapping}
+use Rattle.termination_model.specs.sizes.Rows.{scaled, added}
+use Rattle.termination_model.specs.sizes.Sizes.{rows_of}
+use Rattle.termination_model.specs.sizes.Systems.{system}
 
 module _ (expression : ℕ → Tree → List ℤ) where
   -- the level of a clause's head, less that of a call and less d

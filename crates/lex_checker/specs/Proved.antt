@@ -21,8 +21,8 @@ use Rattle.linear_rows.specs.Showing.{IsShown}
 use Rattle.linear_rows.specs.declared.multipliers.Multipliers.{Multipliers}
 use Rattle.number_tests.specs.Shape.{list_at}
 use Rattle.number_tests.specs.declared.level_part.LevelPart.{LevelPart}
-use Rattle.termination_model.specs.Sizes.{rows_of}
-use Rattle.termination_model.specs.ShortSystems.{short_system}
+use Rattle.termination_model.specs.sizes.Sizes.{rows_of}
+use Rattle.termination_model.specs.sizes.ShortSystems.{short_system}
 
 -- the measures of the lists of a component that is not recursive are 0
 abbrev pub ListsAreZero : Partition → LexParts → Type 0

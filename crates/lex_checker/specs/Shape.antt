@@ -19,8 +19,8 @@ use Rattle.linear_rows.specs.declared.multipliers.Multipliers.{Multipliers}
 use Rattle.number_tests.specs.Shape.{IsLevelPart, list_at, row_count}
 use Rattle.number_tests.specs.Targets.{CanBeWeighed}
 use Rattle.number_tests.specs.declared.level_part.LevelPart.{LevelPart}
-use Rattle.termination_model.specs.Replacing.{over_columns}
-use Rattle.termination_model.specs.Sizes.{AreSizes, rows_of}
+use Rattle.termination_model.specs.sizes.Replacing.{over_columns}
+use Rattle.termination_model.specs.sizes.Sizes.{AreSizes, rows_of}
 use Rattle.lex_checker.specs.Proved.{drop_at}
 
 -- for each predicate its parts in its component's lists, which have the same lengths for each member

@@ -19,8 +19,8 @@ use Rattle.lex_certificate.specs.Structure.{IsStructured}
 use Rattle.lex_certificate.specs.declared.fact.LexFact.{LexFact}
 use Rattle.lex_certificate.specs.declared.parts.LexParts.{LexParts}
 use Rattle.term_size.specs.Occurrences.{size_row}
-use Rattle.termination_model.specs.Sizes.{rows_of}
-use Rattle.termination_model.specs.Stated.{AreStated}
+use Rattle.termination_model.specs.sizes.Sizes.{rows_of}
+use Rattle.termination_model.specs.sizes.Stated.{AreStated}
 use Rattle.lex_checker.specs.Proved.{DropsHold, ListsAreZero}
 
 -- what the parts claim holds. A stuck set is a refutation whose points all have a t of at least 1, as its shape asks

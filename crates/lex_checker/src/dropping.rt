@@ -10,8 +10,8 @@ ghost use Rattle.linear_rows.specs.Plain.{HaveWidth, plain_rows};
 ghost use Rattle.number_tests.specs.Shape.{list_at};
 ghost use Rattle.number_tests.specs.Systems.{IsSizedAtom, IsSizedClause, IsSystemUpTo};
 ghost use Rattle.number_tests.specs.Targets.{CanBeWeighed};
-ghost use Rattle.termination_model.specs.Replacing.{IsRowIfFits, over_columns};
-ghost use Rattle.termination_model.specs.Sizes.{AreSizes, rows_of};
+ghost use Rattle.termination_model.specs.sizes.Replacing.{IsRowIfFits, over_columns};
+ghost use Rattle.termination_model.specs.sizes.Sizes.{AreSizes, rows_of};
 
 use crate::items::items_at;
 use call_components::Components;

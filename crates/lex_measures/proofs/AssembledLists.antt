@@ -43,9 +43,9 @@ use Rattle.numeric_model.specs.States.{plain_step}
 use Rattle.numeric_model.specs.declared.step.Step.{Step}
 use Rattle.term_size.specs.Occurrences.{size_row}
 use Rattle.termination_model.proofs.ChainKeeping.{chains_state}
-use Rattle.termination_model.specs.Chain.{IsLegalChain}
-use Rattle.termination_model.specs.Sizes.{AreSizes, rows_of}
-use Rattle.termination_model.specs.ShortSystems.{short_system}
+use Rattle.termination_model.specs.chains.Chain.{IsLegalChain}
+use Rattle.termination_model.specs.sizes.Sizes.{AreSizes, rows_of}
+use Rattle.termination_model.specs.sizes.ShortSystems.{short_system}
 use Rattle.termination_model.specs.declared.sizes.Sizes.{Sizes}
 use Rattle.lex_measures.proofs.DropShapes.{drops_are_shown, drops_shape}
 use Rattle.lex_measures.proofs.FoundExact.{component_is_exact}

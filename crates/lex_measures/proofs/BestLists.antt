@@ -42,14 +42,14 @@ use Rattle.term_size.specs.Occurrences.{size_row}
 use Rattle.termination_model.proofs.Lists.{by_places, mapped_place, place_below}
 use Rattle.termination_model.proofs.Points.{in_columns}
 use Rattle.termination_model.proofs.Sets.{Part, set_lower, to_part, within}
-use Rattle.termination_model.specs.Coefficients.{IsSupported, coefficient}
-use Rattle.termination_model.specs.Claims.{Mapping}
-use Rattle.termination_model.specs.ComponentViews.{members_in, positions_in}
-use Rattle.termination_model.specs.Excluding.{IsZeroOutside}
-use Rattle.termination_model.specs.Minimal.{IsSet}
-use Rattle.termination_model.specs.Modes.{modes}
-use Rattle.termination_model.specs.OwnCalls.{Position}
-use Rattle.termination_model.specs.Sizes.{rows_of}
+use Rattle.termination_model.specs.mappings.Coefficients.{IsSupported, coefficient}
+use Rattle.termination_model.specs.claims.Claims.{Mapping}
+use Rattle.termination_model.specs.mappings.ComponentViews.{members_in, positions_in}
+use Rattle.termination_model.specs.mappings.Excluding.{IsZeroOutside}
+use Rattle.termination_model.specs.grounds.Minimal.{IsSet}
+use Rattle.termination_model.specs.grounds.Modes.{modes}
+use Rattle.termination_model.specs.mappings.OwnCalls.{Position}
+use Rattle.termination_model.specs.sizes.Sizes.{rows_of}
 use Rattle.lex_measures.proofs.ComponentLaws.{answer_at, member_below}
 use Rattle.lex_measures.proofs.ListParts.{union_items}
 use Rattle.lex_measures.specs.Exact.{ComponentIsExact, IsExact, component_notes, note_at, note_if, noted, parts_in}

@@ -16,8 +16,8 @@ use Rattle.cti_terms.specs.declared.predicates.Pred.{Pred}
 use Rattle.linear_rows.specs.declared.row.Rows.{Rows}
 use Rattle.number_tests.specs.Shape.{row_count}
 use Rattle.termination_model.proofs.Lists.{by_places, indexed, place_below}
-use Rattle.termination_model.specs.ComponentViews.{rank_in}
-use Rattle.termination_model.specs.Sizes.{rows_of}
+use Rattle.termination_model.specs.mappings.ComponentViews.{rank_in}
+use Rattle.termination_model.specs.sizes.Sizes.{rows_of}
 
 pub atom_counts : (rows : List Rows) (bs : List Atom) → row_count (rows_of rows) bs ≡ rows_of_atoms rows bs
 atom_counts rows [] = refl

@@ -35,9 +35,9 @@ use Rattle.linear_rows.specs.declared.row.Rows.{Rows}
 use Rattle.number_tests.specs.Shape.{list_at, row_count}
 use Rattle.number_tests.specs.declared.level_part.LevelPart.{LevelPart}
 use Rattle.termination_model.proofs.Lists.{by_places, from_places, indexed, place_below}
-use Rattle.termination_model.specs.ComponentViews.{members_in}
-use Rattle.termination_model.specs.Sizes.{rows_of}
-use Rattle.termination_model.specs.ShortSystems.{short_system}
+use Rattle.termination_model.specs.mappings.ComponentViews.{members_in}
+use Rattle.termination_model.specs.sizes.Sizes.{rows_of}
+use Rattle.termination_model.specs.sizes.ShortSystems.{short_system}
 use Rattle.lex_measures.proofs.ComponentLaws.{atom_counts, atom_in, body_is, clause_is, head_is, member_below, rank_is, recursive_at, recursive_here}
 use Rattle.lex_measures.proofs.ListParts.{are_each, found_at, level_there, lists_are, printed_deep, printed_is}
 use Rattle.lex_measures.proofs.PlaceParts.{deep_at, drops_there, mapped_list, place_at, place_few, place_some}

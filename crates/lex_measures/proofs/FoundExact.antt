@@ -25,8 +25,8 @@ use Rattle.number_tests.specs.declared.level_part.LevelPart.{LevelPart}
 use Rattle.number_tests.specs.declared.refutation.Refutation.{Refutation}
 use Rattle.term_size.specs.Occurrences.{size_row}
 use Rattle.termination_model.proofs.Lists.{place_below}
-use Rattle.termination_model.specs.ComponentViews.{members_in}
-use Rattle.termination_model.specs.Sizes.{rows_of}
+use Rattle.termination_model.specs.mappings.ComponentViews.{members_in}
+use Rattle.termination_model.specs.sizes.Sizes.{rows_of}
 use Rattle.lex_measures.proofs.ComponentLaws.{member_below, recursive_at}
 use Rattle.lex_measures.proofs.DropShapes.{drops_deep, own_place, printed_drops_at}
 use Rattle.lex_measures.proofs.ListParts.{level_there, printed_deep, printed_is}

@@ -28,8 +28,8 @@ use Rattle.number_tests.specs.Shape.{IsLevelPart, list_at}
 use Rattle.number_tests.specs.declared.level_part.LevelPart.{LevelPart}
 use Rattle.precond_fixpoint.specs.Solving.{AreLevels}
 use Rattle.termination_model.proofs.Lists.{by_places, indexed, place_below}
-use Rattle.termination_model.specs.ComponentViews.{members_in}
-use Rattle.termination_model.specs.Sizes.{rows_of}
+use Rattle.termination_model.specs.mappings.ComponentViews.{members_in}
+use Rattle.termination_model.specs.sizes.Sizes.{rows_of}
 use Rattle.lex_measures.proofs.ComponentLaws.{answer_at, arity_there, first_in, in_some, member_below, recursive_at}
 use Rattle.lex_measures.specs.Assembly.{AreFound}
 use Rattle.lex_measures.specs.Lists.{list_of, lists_at, lists_of_component, nothing, printed_at, printed_lists}

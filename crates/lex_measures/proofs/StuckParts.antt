@@ -29,8 +29,8 @@ use Rattle.number_tests.specs.declared.level_part.LevelPart.{LevelPart}
 use Rattle.number_tests.specs.declared.pair_point.PairPoint.{PairPoint}
 use Rattle.number_tests.specs.declared.refutation.Refutation.{Refutation}
 use Rattle.termination_model.proofs.Lists.{by_places, indexed, place_below}
-use Rattle.termination_model.specs.ComponentViews.{members_in, positions_in}
-use Rattle.termination_model.specs.Sizes.{rows_of}
+use Rattle.termination_model.specs.mappings.ComponentViews.{members_in, positions_in}
+use Rattle.termination_model.specs.sizes.Sizes.{rows_of}
 use Rattle.lex_measures.proofs.ComponentLaws.{answer_at, member_below}
 use Rattle.lex_measures.proofs.ListParts.{are_each, printed_deep, printed_is}
 use Rattle.lex_measures.specs.Assembly.{AreFound}

@@ -22,7 +22,7 @@ use Rattle.linear_rows.specs.declared.row.Rows.{Rows}
 use Rattle.number_tests.specs.declared.level_part.LevelPart.{LevelPart}
 use Rattle.number_tests.specs.declared.refutation.Refutation.{Refutation}
 use Rattle.term_size.specs.Occurrences.{size_row}
-use Rattle.termination_model.specs.Sizes.{rows_of}
+use Rattle.termination_model.specs.sizes.Sizes.{rows_of}
 use Rattle.termination_model.specs.declared.sizes.Sizes.{Sizes}
 use Rattle.lex_measures.specs.Exact.{IsExactOf}
 use Rattle.lex_measures.specs.Lists.{printed_drops, printed_lists, printed_stuck}

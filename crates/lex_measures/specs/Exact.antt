@@ -38,7 +38,7 @@ use Rattle.linear_rows.specs.Step.{columns}
 use Rattle.linear_rows.specs.declared.multipliers.Multipliers.{Multipliers}
 use Rattle.number_tests.specs.declared.level_part.LevelPart.{LevelPart}
 use Rattle.term_size.specs.Occurrences.{size_row}
-use Rattle.termination_model.specs.Sizes.{rows_of}
+use Rattle.termination_model.specs.sizes.Sizes.{rows_of}
 
 -- a predicate's parts in the mappings of a list, where they have some
 abbrev pub parts_in : ℕ → MeasureList → List (Option LevelPart)

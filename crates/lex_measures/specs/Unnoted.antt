@@ -22,11 +22,11 @@ use Rattle.lex_turns.specs.FoundLists.{HasList}
 use Rattle.linear_rows.specs.Members.{In}
 use Rattle.precond_fixpoint.specs.Greatest.{IsGreatestIn, Solved, SomeSolved}
 use Rattle.term_size.specs.Occurrences.{size_row}
-use Rattle.termination_model.specs.Coefficients.{IsSupported, coefficient}
-use Rattle.termination_model.specs.ComponentViews.{positions_in}
-use Rattle.termination_model.specs.Modes.{modes}
-use Rattle.termination_model.specs.Sizes.{rows_of}
-use Rattle.termination_model.specs.View.{all_upper}
+use Rattle.termination_model.specs.mappings.Coefficients.{IsSupported, coefficient}
+use Rattle.termination_model.specs.mappings.ComponentViews.{positions_in}
+use Rattle.termination_model.specs.grounds.Modes.{modes}
+use Rattle.termination_model.specs.sizes.Sizes.{rows_of}
+use Rattle.termination_model.specs.mappings.View.{all_upper}
 use Rattle.lex_measures.specs.Exact.{IsExact}
 
 module _ (p : Listing) (comps : Partition) (parts : LexParts) (c : ℕ) where

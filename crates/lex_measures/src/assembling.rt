@@ -15,7 +15,7 @@ ghost use Rattle.numeric_model.specs.States.{plain_step};
 ghost use Rattle.precond_fixpoint.specs.Solving.{AreLevels};
 ghost use Rattle.term_size.specs.AnyNorm.{any_row, any_truth};
 ghost use Rattle.term_size.specs.declared.any_norm.AnyNorm.TheVariants.{Terms};
-ghost use Rattle.termination_model.specs.Sizes.{AreSizes, rows_of};
+ghost use Rattle.termination_model.specs.sizes.Sizes.{AreSizes, rows_of};
 
 use crate::notes::{Described, push_all_noted};
 use crate::printed::Printed;

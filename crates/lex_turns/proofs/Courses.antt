@@ -9,12 +9,12 @@ use Rattle.cti_terms.specs.Tree.{Tree}
 use Rattle.linear_rows.specs.Rows.{AreEmpty}
 use Rattle.linear_rows.specs.Plain.{plain_rows}
 use Rattle.linear_rows.specs.declared.multipliers.Multipliers.{Multipliers}
-use Rattle.termination_model.specs.ComponentViews.{component_view, members_in}
-use Rattle.termination_model.specs.OwnCalls.{OwnCall as Recalled, Position as Place, members_of, own_calls, rows_before}
-use Rattle.termination_model.specs.Ready.{arity_in}
-use Rattle.termination_model.specs.TurnSystem.{left}
-use Rattle.termination_model.specs.Turns.{AreTurns, IsTurn, Turn, remaining}
-use Rattle.termination_model.specs.View.{Rule, fall_over}
+use Rattle.termination_model.specs.mappings.ComponentViews.{component_view, members_in}
+use Rattle.termination_model.specs.mappings.OwnCalls.{OwnCall as Recalled, Position as Place, members_of, own_calls, rows_before}
+use Rattle.termination_model.specs.mappings.Ready.{arity_in}
+use Rattle.termination_model.specs.lists.TurnSystem.{left}
+use Rattle.termination_model.specs.lists.Turns.{AreTurns, IsTurn, Turn, remaining}
+use Rattle.termination_model.specs.mappings.View.{Rule, fall_over}
 use Rattle.level_systems.specs.Falling.{IsReady}
 use Rattle.level_systems.specs.Held.{HasPoint, IsHeld, IsReach, live_of, spelled, with_live}
 use Rattle.level_systems.specs.Mappings.{HasMeasures, level_in}
@@ -43,8 +43,8 @@ use Rattle.call_components.proofs.Lists.{all_map}
 use Rattle.level_dual.proofs.PartLaws.{part_shape}
 use Rattle.level_systems.specs.Valued.{IsPartOf}
 use Rattle.number_tests.specs.Shape.{IsLevelPart}
-use Rattle.termination_model.specs.SupportSystem.{mapping_at}
-use Rattle.termination_model.specs.Systems.{row_fits}
+use Rattle.termination_model.specs.mappings.SupportSystem.{mapping_at}
+use Rattle.termination_model.specs.sizes.Systems.{row_fits}
 use Rattle.lex_turns.specs.Tracking.{AreTracked, HasTurns, after_drops, after_falls, drops_first, gone_first, kept, recalled, staying}
 use Rattle.lex_turns.specs.Turning.{IsMade, IsTurnOf}
 use Rattle.lex_turns.specs.declared.call_drops.CallDrops.{CallDrops}

@@ -3,7 +3,7 @@ use Rattle.std.proofs.Common.{◌≡◌, ◌⊎◌, ℕ, zero, suc, ◌+◌, ◌
 use Rattle.level_systems.specs.declared.measure.Measure.{Measure}
 use Rattle.level_systems.specs.declared.own_call.OwnCall.{OwnCall}
 use Rattle.linear_rows.specs.declared.multipliers.Multipliers.{Multipliers}
-use Rattle.termination_model.specs.Claims.{SomeOf}
+use Rattle.termination_model.specs.claims.Claims.{SomeOf}
 use Rattle.level_drops.specs.Drops.{fall_number}
 use Rattle.lex_turns.specs.Testing.{IsDropIf, ShowDrops, ShowsDrop, SomeFalls, first_by}
 

@@ -17,16 +17,16 @@ use Rattle.linear_rows.specs.Solving.{zeros}
 use Rattle.linear_rows.specs.declared.multipliers.Multipliers.{Multipliers}
 use Rattle.number_tests.specs.declared.level_part.LevelPart.{LevelPart}
 use Rattle.term_size.specs.Norm.{IsNorm}
-use Rattle.termination_model.specs.Claims.{Mapping, SomeOf}
-use Rattle.termination_model.specs.ComponentViews.{component_view}
-use Rattle.termination_model.specs.OwnCalls.{OwnCall as Recalled, rows_before}
-use Rattle.termination_model.specs.Ready.{arity_in}
-use Rattle.termination_model.specs.Rows.{added, scaled}
-use Rattle.termination_model.specs.Systems.{row_over}
-use Rattle.termination_model.specs.TurnLaws.{AreDrops}
-use Rattle.termination_model.specs.TurnLaws as law
-use Rattle.termination_model.specs.Turns.{DropsFit, falls_by}
-use Rattle.termination_model.specs.View.{Rule, fall_over}
+use Rattle.termination_model.specs.claims.Claims.{Mapping, SomeOf}
+use Rattle.termination_model.specs.mappings.ComponentViews.{component_view}
+use Rattle.termination_model.specs.mappings.OwnCalls.{OwnCall as Recalled, rows_before}
+use Rattle.termination_model.specs.mappings.Ready.{arity_in}
+use Rattle.termination_model.specs.sizes.Rows.{added, scaled}
+use Rattle.termination_model.specs.sizes.Systems.{row_over}
+use Rattle.termination_model.specs.lists.TurnLaws.{AreDrops}
+use Rattle.termination_model.specs.lists.TurnLaws as law
+use Rattle.termination_model.specs.lists.Turns.{DropsFit, falls_by}
+use Rattle.termination_model.specs.mappings.View.{Rule, fall_over}
 use Rattle.level_systems.specs.Falling.{HasParts}
 use Rattle.level_systems.specs.Held.{IsHeld, IsReach}
 use Rattle.level_systems.specs.Mappings.{level_in}

@@ -3,9 +3,9 @@ use Rattle.std.proofs.Common.{◌≡◌, ℕ, ℤ, Bool, List, map, subst}
 use Rattle.call_components.specs.Partition.{Partition}
 use Rattle.cti_terms.specs.Listing.{Listing}
 use Rattle.cti_terms.specs.Tree.{Tree}
-use Rattle.termination_model.specs.ComponentViews.{component_view}
-use Rattle.termination_model.specs.OwnCalls.{Position as Place}
-use Rattle.termination_model.specs.Ready.{arity_in}
+use Rattle.termination_model.specs.mappings.ComponentViews.{component_view}
+use Rattle.termination_model.specs.mappings.OwnCalls.{Position as Place}
+use Rattle.termination_model.specs.mappings.Ready.{arity_in}
 use Rattle.level_systems.specs.Held.{spelled}
 use Rattle.level_systems.specs.Searched.{IsComponent}
 use Rattle.level_systems.specs.declared.component.Component.{Component}

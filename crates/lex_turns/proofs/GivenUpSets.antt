@@ -7,8 +7,8 @@ use Rattle.linear_rows.specs.Irredundant.{TestIsBlown}
 use Rattle.linear_rows.specs.Members.{In}
 use Rattle.linear_rows.specs.Showing.{bottom_row}
 use Rattle.linear_rows.proofs.Members.{in-map}
-use Rattle.termination_model.specs.ComponentViews.{component_view}
-use Rattle.termination_model.specs.OwnCalls.{own_calls}
+use Rattle.termination_model.specs.mappings.ComponentViews.{component_view}
+use Rattle.termination_model.specs.mappings.OwnCalls.{own_calls}
 use Rattle.level_systems.specs.Collected.{SomeGivenUp}
 use Rattle.level_systems.specs.Pairs.{clause_at, pairs_of}
 use Rattle.level_systems.specs.Held.{recalled_at}

@@ -11,8 +11,8 @@ use Rattle.linear_rows.specs.Plain.{plain_rows}
 use Rattle.linear_rows.specs.Rows.{AllHold, AreEmpty}
 use Rattle.linear_rows.specs.declared.multipliers.Multipliers.{Multipliers}
 use Rattle.term_size.specs.Norm.{IsNorm}
-use Rattle.termination_model.specs.Claims.{SomeOf}
-use Rattle.termination_model.specs.ShortSystems.{short_system}
+use Rattle.termination_model.specs.claims.Claims.{SomeOf}
+use Rattle.termination_model.specs.sizes.ShortSystems.{short_system}
 use Rattle.termination_model.proofs.Lists.{one_element}
 use Rattle.level_systems.specs.Held.{HasPoint, IsHeld, IsReach}
 use Rattle.level_systems.specs.Pairs.{clause_at}

@@ -7,8 +7,8 @@ use Rattle.call_components.specs.Partition.{Partition}
 use Rattle.linear_rows.specs.Members.{In}
 use Rattle.linear_rows.proofs.Members.{of-append}
 use Rattle.number_tests.specs.declared.refutation.Refutation.{Refutation}
-use Rattle.termination_model.specs.Minimal.{IsAbove, IsSet}
-use Rattle.termination_model.specs.Modes.{chosen_up_to, is_part}
+use Rattle.termination_model.specs.grounds.Minimal.{IsAbove, IsSet}
+use Rattle.termination_model.specs.grounds.Modes.{chosen_up_to, is_part}
 use Rattle.termination_model.proofs.Sets.{up_to_set}
 use Rattle.level_systems.specs.Found.{count, full}
 use Rattle.level_systems.specs.Subsequences.{AreOnce, IsSubsequence}

@@ -8,17 +8,17 @@ use Rattle.call_components.specs.Partition.{Partition}
 use Rattle.cti_terms.specs.Listing.{Listing}
 use Rattle.cti_terms.specs.Tree.{Tree}
 use Rattle.linear_rows.specs.Members.{In}
-use Rattle.termination_model.specs.Coefficients.{coefficient}
-use Rattle.termination_model.specs.Claims.{Mapping}
-use Rattle.termination_model.specs.ComponentViews.{component_view, positions_in, HasSupportIn}
-use Rattle.termination_model.specs.Excluding.{IsZeroOutside}
-use Rattle.termination_model.specs.Minimal.{IsExcluded, IsSet}
-use Rattle.termination_model.specs.Modes.{is_part}
-use Rattle.termination_model.specs.OwnCalls.{Position}
-use Rattle.termination_model.specs.Refutation.{Decreases}
-use Rattle.termination_model.specs.Stuck.{ListDescends}
-use Rattle.termination_model.specs.View.{Rule}
-use Rattle.termination_model.specs.Supports.{AreDistinct, picked_from, support_from}
+use Rattle.termination_model.specs.mappings.Coefficients.{coefficient}
+use Rattle.termination_model.specs.claims.Claims.{Mapping}
+use Rattle.termination_model.specs.mappings.ComponentViews.{component_view, positions_in, HasSupportIn}
+use Rattle.termination_model.specs.mappings.Excluding.{IsZeroOutside}
+use Rattle.termination_model.specs.grounds.Minimal.{IsExcluded, IsSet}
+use Rattle.termination_model.specs.grounds.Modes.{is_part}
+use Rattle.termination_model.specs.mappings.OwnCalls.{Position}
+use Rattle.termination_model.specs.mappings.Refutation.{Decreases}
+use Rattle.termination_model.specs.lists.Stuck.{ListDescends}
+use Rattle.termination_model.specs.mappings.View.{Rule}
+use Rattle.termination_model.specs.mappings.Supports.{AreDistinct, picked_from, support_from}
 use Rattle.termination_model.proofs.Having.{in_here, in_then, part_head, part_tail, picked_in}
 use Rattle.termination_model.proofs.Sets.{Part, any_in, in_any, of_part, set_lower, to_part}
 use Rattle.level_systems.specs.Mappings.{mapping_with}

@@ -8,9 +8,9 @@ use Rattle.call_components.specs.Partition.{Partition}
 use Rattle.call_components.proofs.Lists.{all_append}
 use Rattle.linear_rows.specs.Step.{columns}
 use Rattle.linear_rows.proofs.Members.{of-append}
-use Rattle.termination_model.specs.ComponentViews.{positions_in}
-use Rattle.termination_model.specs.Minimal.{IsAbove, IsSet}
-use Rattle.termination_model.specs.Modes.{chosen_up_to, is_part}
+use Rattle.termination_model.specs.mappings.ComponentViews.{positions_in}
+use Rattle.termination_model.specs.grounds.Minimal.{IsAbove, IsSet}
+use Rattle.termination_model.specs.grounds.Modes.{chosen_up_to, is_part}
 use Rattle.termination_model.proofs.Lists.{map_push}
 use Rattle.termination_model.proofs.Sets.{part_self, part_trans}
 use Rattle.level_systems.specs.Found.{IsBlownSet, count}

@@ -9,20 +9,20 @@ use Rattle.call_components.proofs.Lists.{all_map}
 use Rattle.linear_rows.specs.Members.{In}
 use Rattle.linear_rows.proofs.Members.{in-left, in-right}
 use Rattle.linear_rows.specs.Rows.{AreEmpty, HoldsOn}
-use Rattle.termination_model.specs.Coefficients.{coefficient}
-use Rattle.termination_model.specs.Claims.{Mapping}
-use Rattle.termination_model.specs.ComponentViews.{component_view, members_in, positions_in, size_claims}
-use Rattle.termination_model.specs.Excluding.{IsZeroOutside}
-use Rattle.termination_model.specs.OwnCalls.{OwnCall as Recalled, Position, members_of, own_calls, own_calls_from, rows_before}
-use Rattle.termination_model.specs.Ready.{arity_in, positions_by}
-use Rattle.termination_model.specs.Rows.{added, scaled}
-use Rattle.termination_model.specs.Stuck.{ListDescends}
-use Rattle.termination_model.specs.SupportLaws.{HasFew}
-use Rattle.termination_model.specs.SupportSystem.{mapping_at}
-use Rattle.termination_model.specs.Supports.{picked_from}
-use Rattle.termination_model.specs.Systems.{row_over}
-use Rattle.termination_model.specs.Turns.{Turn, mapping_by}
-use Rattle.termination_model.specs.View.{Call, FallsOver, Member, Rule, fall_over, system_of}
+use Rattle.termination_model.specs.mappings.Coefficients.{coefficient}
+use Rattle.termination_model.specs.claims.Claims.{Mapping}
+use Rattle.termination_model.specs.mappings.ComponentViews.{component_view, members_in, positions_in, size_claims}
+use Rattle.termination_model.specs.mappings.Excluding.{IsZeroOutside}
+use Rattle.termination_model.specs.mappings.OwnCalls.{OwnCall as Recalled, Position, members_of, own_calls, own_calls_from, rows_before}
+use Rattle.termination_model.specs.mappings.Ready.{arity_in, positions_by}
+use Rattle.termination_model.specs.sizes.Rows.{added, scaled}
+use Rattle.termination_model.specs.lists.Stuck.{ListDescends}
+use Rattle.termination_model.specs.mappings.SupportLaws.{HasFew}
+use Rattle.termination_model.specs.mappings.SupportSystem.{mapping_at}
+use Rattle.termination_model.specs.mappings.Supports.{picked_from}
+use Rattle.termination_model.specs.sizes.Systems.{row_over}
+use Rattle.termination_model.specs.lists.Turns.{Turn, mapping_by}
+use Rattle.termination_model.specs.mappings.View.{Call, FallsOver, Member, Rule, fall_over, system_of}
 use Rattle.termination_model.proofs.Having.{picked_in}
 use Rattle.termination_model.proofs.OwnCallsThere.{call_there}
 use Rattle.termination_model.proofs.Refuted.{from_in as some_in}

@@ -6,10 +6,10 @@ use Rattle.cti_terms.specs.Listing.{Listing}
 use Rattle.cti_terms.specs.Tree.{Tree}
 use Rattle.call_components.specs.Partition.{Partition}
 use Rattle.linear_rows.specs.Members.{In}
-use Rattle.termination_model.specs.ComponentViews.{component_view, positions_in, HasSupportIn}
-use Rattle.termination_model.specs.Excluding.{IsZeroOutside}
-use Rattle.termination_model.specs.Minimal.{IsAbove, IsExcluded}
-use Rattle.termination_model.specs.Refutation.{Decreases}
+use Rattle.termination_model.specs.mappings.ComponentViews.{component_view, positions_in, HasSupportIn}
+use Rattle.termination_model.specs.mappings.Excluding.{IsZeroOutside}
+use Rattle.termination_model.specs.grounds.Minimal.{IsAbove, IsExcluded}
+use Rattle.termination_model.specs.mappings.Refutation.{Decreases}
 use Rattle.level_systems.specs.Found.{IsFound, count, without_number}
 use Rattle.level_systems.specs.Mappings.{IsMappingOf, mapping_with, support_of}
 use Rattle.level_systems.specs.declared.found.Found.{Found}

@@ -13,12 +13,12 @@ use Rattle.linear_rows.specs.Proves.{Refutes}
 use Rattle.linear_rows.specs.declared.multipliers.Multipliers.{Multipliers}
 use Rattle.termination_model.proofs.Readiness.{from_in, own_of}
 use Rattle.termination_model.proofs.Refuting.{multipliers_refute}
-use Rattle.termination_model.specs.ComponentViews.{component_view, positions_in}
-use Rattle.termination_model.specs.Excluding.{IsZeroOutside, IsLive, IsOwnCall, number_count, pairs_at}
-use Rattle.termination_model.specs.OwnCalls.{OwnCall as Recalled, Position as Place, own_calls}
-use Rattle.termination_model.specs.Supports.{picked_from}
-use Rattle.termination_model.specs.TurnSystem.{sum_row, turn_rows, turn_rows_from, turn_unknowns}
-use Rattle.termination_model.specs.View.{Rule}
+use Rattle.termination_model.specs.mappings.ComponentViews.{component_view, positions_in}
+use Rattle.termination_model.specs.mappings.Excluding.{IsZeroOutside, IsLive, IsOwnCall, number_count, pairs_at}
+use Rattle.termination_model.specs.mappings.OwnCalls.{OwnCall as Recalled, Position as Place, own_calls}
+use Rattle.termination_model.specs.mappings.Supports.{picked_from}
+use Rattle.termination_model.specs.lists.TurnSystem.{sum_row, turn_rows, turn_rows_from, turn_unknowns}
+use Rattle.termination_model.specs.mappings.View.{Rule}
 use Rattle.level_systems.specs.Held.{live_of, spelled, with_live}
 use Rattle.level_systems.specs.Searched.{IsComponent}
 use Rattle.level_systems.specs.declared.component.Component.{Component}

@@ -14,17 +14,17 @@ use Rattle.termination_model.proofs.Having.{picked_in}
 use Rattle.termination_model.proofs.Lists.{indexed}
 use Rattle.termination_model.proofs.Readiness.{from_in, own_of}
 use Rattle.termination_model.proofs.Refuting.{multipliers_refute}
-use Rattle.termination_model.specs.Claims.{Mapping}
-use Rattle.termination_model.specs.ComponentViews.{component_view, members_in, positions_in}
-use Rattle.termination_model.specs.Excluding.{IsZeroOutside, IsLive, IsOfMembers, IsOwnCall, IsRefutationAt, number_count, pairs_at}
-use Rattle.termination_model.specs.OwnCalls.{OwnCall as Recalled, Position as Place, members_of, own_calls}
-use Rattle.termination_model.specs.Ready.{arity_in, positions_by}
-use Rattle.termination_model.specs.Refutation.{Pair}
-use Rattle.termination_model.specs.Stuck.{ListDescends}
-use Rattle.termination_model.specs.Supports.{picked_from}
-use Rattle.termination_model.specs.TurnSystem.{left, sum_row, turn_rows, turn_rows_from, turn_unknowns}
-use Rattle.termination_model.specs.Turns.{Turn, remaining}
-use Rattle.termination_model.specs.View.{Rule}
+use Rattle.termination_model.specs.claims.Claims.{Mapping}
+use Rattle.termination_model.specs.mappings.ComponentViews.{component_view, members_in, positions_in}
+use Rattle.termination_model.specs.mappings.Excluding.{IsZeroOutside, IsLive, IsOfMembers, IsOwnCall, IsRefutationAt, number_count, pairs_at}
+use Rattle.termination_model.specs.mappings.OwnCalls.{OwnCall as Recalled, Position as Place, members_of, own_calls}
+use Rattle.termination_model.specs.mappings.Ready.{arity_in, positions_by}
+use Rattle.termination_model.specs.mappings.Refutation.{Pair}
+use Rattle.termination_model.specs.lists.Stuck.{ListDescends}
+use Rattle.termination_model.specs.mappings.Supports.{picked_from}
+use Rattle.termination_model.specs.lists.TurnSystem.{left, sum_row, turn_rows, turn_rows_from, turn_unknowns}
+use Rattle.termination_model.specs.lists.Turns.{Turn, remaining}
+use Rattle.termination_model.specs.mappings.View.{Rule}
 use Rattle.level_systems.specs.Held.{live_of, spelled}
 use Rattle.level_systems.specs.Searched.{IsComponent}
 use Rattle.level_systems.specs.declared.component.Component.{Component}

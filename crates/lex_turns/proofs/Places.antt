@@ -16,8 +16,8 @@ use Rattle.number_tests.specs.Shape.{row_count}
 use Rattle.number_tests.specs.declared.level_part.LevelPart.{LevelPart}
 use Rattle.term_size.specs.Norm.{IsNorm}
 use Rattle.termination_model.proofs.Lists.{one_element}
-use Rattle.termination_model.specs.Systems.{system}
-use Rattle.termination_model.specs.ShortSystems.{short_system}
+use Rattle.termination_model.specs.sizes.Systems.{system}
+use Rattle.termination_model.specs.sizes.ShortSystems.{short_system}
 use Rattle.level_systems.specs.Held.{IsHeld, numbers_of_call}
 use Rattle.level_systems.specs.Mappings.{level_in}
 use Rattle.level_systems.specs.Pairs.{call_at, clause_at}

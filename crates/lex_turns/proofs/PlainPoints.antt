@@ -9,9 +9,9 @@ use Rattle.cti_terms.specs.Tree.{Tree}
 use Rattle.linear_rows.specs.declared.point.Point.{Point}
 use Rattle.number_tests.specs.declared.pair_point.PairPoint.{PairPoint}
 use Rattle.termination_model.proofs.Lists.{append_assoc}
-use Rattle.termination_model.specs.Excluding.{number_count, pairs_at}
-use Rattle.termination_model.specs.OwnCalls.{OwnCall as Recalled}
-use Rattle.termination_model.specs.Refutation.{Pair}
+use Rattle.termination_model.specs.mappings.Excluding.{number_count, pairs_at}
+use Rattle.termination_model.specs.mappings.OwnCalls.{OwnCall as Recalled}
+use Rattle.termination_model.specs.mappings.Refutation.{Pair}
 use Rattle.level_systems.proofs.PairLists.{drop_at}
 use Rattle.level_systems.specs.Held.{IsHeld}
 use Rattle.level_systems.specs.Refuted.{IsOfCalls}

@@ -4,10 +4,10 @@ use Rattle.std.specs.List.{list_any}
 use Rattle.call_components.specs.Partition.{Partition}
 use Rattle.cti_terms.specs.Listing.{Listing}
 use Rattle.cti_terms.specs.Tree.{Tree}
-use Rattle.termination_model.specs.BlownSupports.{same_position}
-use Rattle.termination_model.specs.ComponentViews.{positions_in}
-use Rattle.termination_model.specs.Ready.{arity_in, positions_by}
-use Rattle.termination_model.specs.Supports.{picked_from}
+use Rattle.termination_model.specs.mappings.BlownSupports.{same_position}
+use Rattle.termination_model.specs.mappings.ComponentViews.{positions_in}
+use Rattle.termination_model.specs.mappings.Ready.{arity_in, positions_by}
+use Rattle.termination_model.specs.mappings.Supports.{picked_from}
 use Rattle.level_systems.specs.Held.{spelled}
 use Rattle.level_systems.specs.Searched.{IsComponent}
 use Rattle.level_systems.specs.declared.component.Component.{Component}

@@ -4,8 +4,8 @@ use Rattle.std.specs.List.{AllByRecursion}
 use Rattle.call_components.specs.Partition.{Partition}
 use Rattle.cti_terms.specs.Listing.{Listing}
 use Rattle.cti_terms.specs.Tree.{Tree}
-use Rattle.termination_model.specs.ComponentViews.{positions_in}
-use Rattle.termination_model.specs.Modes.{is_part}
+use Rattle.termination_model.specs.mappings.ComponentViews.{positions_in}
+use Rattle.termination_model.specs.grounds.Modes.{is_part}
 use Rattle.level_systems.specs.Mappings.{IsFall, mapping_with, support_of}
 use Rattle.level_systems.specs.Searched.{IsDecreasing, IsFoundIn}
 use Rattle.level_systems.specs.declared.fall.Fall.{Fall}

@@ -5,8 +5,8 @@ use Rattle.cti_terms.specs.Tree.{Tree}
 use Rattle.call_components.specs.Partition.{Partition}
 use Rattle.linear_rows.specs.Members.{In}
 use Rattle.linear_rows.proofs.Members.{in-left, in-right, of-append}
-use Rattle.termination_model.specs.Minimal.{IsSet}
-use Rattle.termination_model.specs.Modes.{is_part}
+use Rattle.termination_model.specs.grounds.Minimal.{IsSet}
+use Rattle.termination_model.specs.grounds.Modes.{is_part}
 use Rattle.termination_model.proofs.Lists.{taken_more}
 use Rattle.level_systems.specs.Found.{IsBlownSet, count, full, without_number}
 use Rattle.level_systems.specs.Subsequences.{AreOnce}
@@ -20,7 +20,7 @@ use Rattle.lex_turns.specs.Walked.{own_support}
 use Rattle.lex_turns.specs.declared.large.LeftOut.TheVariants.{None as NoneLeft}
 use Rattle.lex_turns.specs.declared.measure_list.MeasureList.{MeasureList}
 use Rattle.lex_turns.proofs.ListSupports.{list_had, list_sets, void_had}
-use Rattle.termination_model.specs.ComponentViews.{HasSupportIn}
+use Rattle.termination_model.specs.mappings.ComponentViews.{HasSupportIn}
 
 module _ (expression : ℕ → Tree → List ℤ) (p : Listing) (comps : Partition) (rows : ℕ → List (List ℤ)) (c : ℕ) where
   abbrev void : List ℕ → Type 0

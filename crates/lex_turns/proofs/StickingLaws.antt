@@ -25,16 +25,16 @@ use Rattle.number_tests.specs.declared.refutation.Refutation.{Refutation}
 use Rattle.termination_model.proofs.AllPositionsLaws.{positions_cover_pairs}
 use Rattle.termination_model.proofs.Excludes.{all_refute}
 use Rattle.termination_model.proofs.Readiness.{from_in, views_have_few}
-use Rattle.termination_model.specs.AllPositions.{IsCoveredBy}
-use Rattle.termination_model.specs.BlownSupports.{CheckFits}
-use Rattle.termination_model.specs.Claims.{SomeOf}
-use Rattle.termination_model.specs.ComponentViews.{component_view, members_in, size_claims}
-use Rattle.termination_model.specs.Excluding.{number_count, pairs_at}
-use Rattle.termination_model.specs.OwnCalls.{OwnCall as Recalled, Position as Place, members_of, own_calls}
-use Rattle.termination_model.specs.Ready.{arity_in, positions_by}
-use Rattle.termination_model.specs.Refutation.{IsRefutation, Load, Pair, call_load, gather, head_load}
-use Rattle.termination_model.specs.TurnSystem.{sum_row, turn_rows, turn_rows_from, turn_unknowns}
-use Rattle.termination_model.specs.View.{Rule}
+use Rattle.termination_model.specs.mappings.AllPositions.{IsCoveredBy}
+use Rattle.termination_model.specs.mappings.BlownSupports.{CheckFits}
+use Rattle.termination_model.specs.claims.Claims.{SomeOf}
+use Rattle.termination_model.specs.mappings.ComponentViews.{component_view, members_in, size_claims}
+use Rattle.termination_model.specs.mappings.Excluding.{number_count, pairs_at}
+use Rattle.termination_model.specs.mappings.OwnCalls.{OwnCall as Recalled, Position as Place, members_of, own_calls}
+use Rattle.termination_model.specs.mappings.Ready.{arity_in, positions_by}
+use Rattle.termination_model.specs.mappings.Refutation.{IsRefutation, Load, Pair, call_load, gather, head_load}
+use Rattle.termination_model.specs.lists.TurnSystem.{sum_row, turn_rows, turn_rows_from, turn_unknowns}
+use Rattle.termination_model.specs.mappings.View.{Rule}
 use Rattle.level_systems.specs.Found.{PairsAscend}
 use Rattle.level_systems.specs.Held.{IsHeld, numbers_of_call, spelled}
 use Rattle.level_systems.specs.Searched.{IsComponent}

@@ -5,13 +5,13 @@ use Rattle.std.proofs.lemmas.Int.{ints}
 use Rattle.exact128.specs.Sums.{entry}
 use Rattle.linear_rows.specs.Members.{In}
 use Rattle.cti_terms.specs.Tree.{Tree}
-use Rattle.termination_model.specs.Coefficients.{coefficient}
-use Rattle.termination_model.specs.Excluding.{IsZeroOutside, IsOfMembers, IsRefutationAt}
-use Rattle.termination_model.specs.OwnCalls.{Position}
-use Rattle.termination_model.specs.Claims.{Mapping}
-use Rattle.termination_model.specs.View.{Rule}
-use Rattle.termination_model.specs.Refutation.{Pair, Load, gather, head_load, call_load}
-use Rattle.termination_model.specs.Stuck.{ListDescends}
+use Rattle.termination_model.specs.mappings.Coefficients.{coefficient}
+use Rattle.termination_model.specs.mappings.Excluding.{IsZeroOutside, IsOfMembers, IsRefutationAt}
+use Rattle.termination_model.specs.mappings.OwnCalls.{Position}
+use Rattle.termination_model.specs.claims.Claims.{Mapping}
+use Rattle.termination_model.specs.mappings.View.{Rule}
+use Rattle.termination_model.specs.mappings.Refutation.{Pair, Load, gather, head_load, call_load}
+use Rattle.termination_model.specs.lists.Stuck.{ListDescends}
 use Rattle.termination_model.proofs.Excludes.{decide_member, each_load, gather_none}
 use Rattle.termination_model.proofs.Refuted.{lighter, weights}
 use Rattle.termination_model.proofs.Stuck.{IsNotLower, none_falls}

@@ -5,7 +5,7 @@ use Rattle.std.specs.List.{AllByRecursion}
 use Rattle.std.proofs.lemmas.Int.{ints}
 use Rattle.linear_rows.specs.Showing.{AreMultipliers}
 use Rattle.linear_rows.specs.declared.multipliers.Multipliers.{Multipliers}
-use Rattle.termination_model.specs.TurnSystem.{left}
+use Rattle.termination_model.specs.lists.TurnSystem.{left}
 use Rattle.level_systems.specs.Falling.{IsReady}
 use Rattle.level_systems.specs.Held.{live_of, with_live}
 use Rattle.level_systems.specs.Turned.{all_rows}

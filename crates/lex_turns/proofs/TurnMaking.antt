@@ -17,15 +17,15 @@ use Rattle.linear_rows.specs.Solving.Solution.{Blown, Found}
 use Rattle.termination_model.proofs.Readiness.{from_in, views_have_few}
 use Rattle.termination_model.proofs.TurnMakes.{drops_make_turns}
 use Rattle.termination_model.proofs.TurnPoints.{points_drop}
-use Rattle.termination_model.specs.ComponentViews.{component_view, size_claims}
-use Rattle.termination_model.specs.OwnCalls.{OwnCall as Recalled, Position as Place, own_calls, rows_before}
-use Rattle.termination_model.specs.Ready.{arity_in}
-use Rattle.termination_model.specs.SupportLaws.{HasFew}
-use Rattle.termination_model.specs.SupportSystem.{mapping_at, row_count}
-use Rattle.termination_model.specs.Systems.{row_fits}
-use Rattle.termination_model.specs.TurnSystem.{turn_rows, turn_unknowns}
-use Rattle.termination_model.specs.Turns.{DropsFit, EmptyFit, Turn, mapping_by}
-use Rattle.termination_model.specs.View.{Rule, fall_over}
+use Rattle.termination_model.specs.mappings.ComponentViews.{component_view, size_claims}
+use Rattle.termination_model.specs.mappings.OwnCalls.{OwnCall as Recalled, Position as Place, own_calls, rows_before}
+use Rattle.termination_model.specs.mappings.Ready.{arity_in}
+use Rattle.termination_model.specs.mappings.SupportLaws.{HasFew}
+use Rattle.termination_model.specs.mappings.SupportSystem.{mapping_at, row_count}
+use Rattle.termination_model.specs.sizes.Systems.{row_fits}
+use Rattle.termination_model.specs.lists.TurnSystem.{turn_rows, turn_unknowns}
+use Rattle.termination_model.specs.lists.Turns.{DropsFit, EmptyFit, Turn, mapping_by}
+use Rattle.termination_model.specs.mappings.View.{Rule, fall_over}
 use Rattle.level_systems.specs.Falling.{HasParts, IsReady}
 use Rattle.level_systems.specs.Held.{IsHeld, spelled}
 use Rattle.level_systems.specs.Mappings.{HasMeasures}

@@ -6,9 +6,9 @@ use Rattle.call_components.specs.Partition.{Partition}
 use Rattle.cti_terms.specs.Listing.{Listing}
 use Rattle.cti_terms.specs.Tree.{Tree}
 use Rattle.linear_rows.specs.Proves.{Refutes}
-use Rattle.termination_model.specs.ComponentViews.{component_view}
-use Rattle.termination_model.specs.Ready.{arity_in}
-use Rattle.termination_model.specs.TurnSystem.{turn_rows, turn_unknowns}
+use Rattle.termination_model.specs.mappings.ComponentViews.{component_view}
+use Rattle.termination_model.specs.mappings.Ready.{arity_in}
+use Rattle.termination_model.specs.lists.TurnSystem.{turn_rows, turn_unknowns}
 use Rattle.level_dual.specs.Components.{ForComponent}
 use Rattle.level_systems.specs.Held.{spelled}
 use Rattle.level_systems.specs.declared.component.Component.{Component}

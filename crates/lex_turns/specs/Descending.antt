@@ -21,20 +21,20 @@ use Rattle.linear_rows.specs.Solving.Solution.{Blown, Found, Refuted}
 use Rattle.linear_rows.specs.declared.multipliers.Multipliers.{Multipliers}
 use Rattle.number_tests.specs.Shape.{row_count}
 use Rattle.number_tests.specs.declared.level_part.LevelPart.{LevelPart}
-use Rattle.termination_model.specs.BlownSupports.{CheckFits, in_order}
-use Rattle.termination_model.specs.Claims.{Mapping}
-use Rattle.termination_model.specs.ComponentViews.{component_view, members_in, positions_in}
-use Rattle.termination_model.specs.Excluding.{IsZeroOutside, IsLive, pairs_at}
-use Rattle.termination_model.specs.OwnCalls.{OwnCall, Position, members_of, own_calls, rows_before}
-use Rattle.termination_model.specs.Ready.{arity_in, positions_by}
-use Rattle.termination_model.specs.Stuck.{ListDescends}
-use Rattle.termination_model.specs.Supports.{picked_from}
-use Rattle.termination_model.specs.SupportSystem.{mapping_at}
-use Rattle.termination_model.specs.Systems.{row_fits}
-use Rattle.termination_model.specs.ShortSystems.{short_system}
-use Rattle.termination_model.specs.TurnSystem.{turn_rows, turn_unknowns}
-use Rattle.termination_model.specs.Turns.{AreTurns, DropsFit, EmptyFit, Turn, mapping_by, remaining}
-use Rattle.termination_model.specs.View.{Rule}
+use Rattle.termination_model.specs.mappings.BlownSupports.{CheckFits, in_order}
+use Rattle.termination_model.specs.claims.Claims.{Mapping}
+use Rattle.termination_model.specs.mappings.ComponentViews.{component_view, members_in, positions_in}
+use Rattle.termination_model.specs.mappings.Excluding.{IsZeroOutside, IsLive, pairs_at}
+use Rattle.termination_model.specs.mappings.OwnCalls.{OwnCall, Position, members_of, own_calls, rows_before}
+use Rattle.termination_model.specs.mappings.Ready.{arity_in, positions_by}
+use Rattle.termination_model.specs.lists.Stuck.{ListDescends}
+use Rattle.termination_model.specs.mappings.Supports.{picked_from}
+use Rattle.termination_model.specs.mappings.SupportSystem.{mapping_at}
+use Rattle.termination_model.specs.sizes.Systems.{row_fits}
+use Rattle.termination_model.specs.sizes.ShortSystems.{short_system}
+use Rattle.termination_model.specs.lists.TurnSystem.{turn_rows, turn_unknowns}
+use Rattle.termination_model.specs.lists.Turns.{AreTurns, DropsFit, EmptyFit, Turn, mapping_by, remaining}
+use Rattle.termination_model.specs.mappings.View.{Rule}
 use Rattle.level_systems.specs.Mappings.{HasMeasures, level_in}
 use Rattle.level_systems.specs.Pairs.{pairs_of}
 use Rattle.level_systems.specs.Valued.{IsPartOf}

@@ -4,10 +4,10 @@ use Rattle.std.specs.Prelude.{◌≡◌, ◌⊎◌, ℕ, ℤ, true, List}
 use Rattle.call_components.specs.Partition.{Partition}
 use Rattle.cti_terms.specs.Listing.{Listing}
 use Rattle.cti_terms.specs.Tree.{Tree}
-use Rattle.termination_model.specs.ComponentViews.{positions_in}
+use Rattle.termination_model.specs.mappings.ComponentViews.{positions_in}
 use Rattle.linear_rows.specs.Members.{In}
-use Rattle.termination_model.specs.Minimal.{IsExcluded}
-use Rattle.termination_model.specs.Modes.{is_part}
+use Rattle.termination_model.specs.grounds.Minimal.{IsExcluded}
+use Rattle.termination_model.specs.grounds.Modes.{is_part}
 use Rattle.level_systems.specs.declared.component.Component.{Component}
 use Rattle.level_systems.specs.declared.position.Position.{Position}
 use Rattle.lex_turns.specs.Coursing.{IsStopped}

@@ -16,16 +16,16 @@ use Rattle.linear_rows.specs.Members.{In}
 use Rattle.linear_rows.specs.Rows.{AreEmpty}
 use Rattle.number_tests.specs.declared.pair_point.PairPoint.{PairPoint}
 use Rattle.number_tests.specs.declared.refutation.Refutation.{Refutation}
-use Rattle.termination_model.specs.Coefficients.{coefficient}
-use Rattle.termination_model.specs.Claims.{Mapping, SomeOf}
-use Rattle.termination_model.specs.ComponentViews.{component_view, members_in, positions_in, HasSupportIn}
-use Rattle.termination_model.specs.Excluding.{IsZeroOutside}
-use Rattle.termination_model.specs.Minimal.{IsAbove, IsExcluded, IsMinimal, IsSet}
-use Rattle.termination_model.specs.Modes.{chosen_up_to}
-use Rattle.termination_model.specs.OwnCalls.{Position}
-use Rattle.termination_model.specs.Ready.{arity_in}
-use Rattle.termination_model.specs.Stuck.{ListDescends}
-use Rattle.termination_model.specs.ShortSystems.{short_system}
+use Rattle.termination_model.specs.mappings.Coefficients.{coefficient}
+use Rattle.termination_model.specs.claims.Claims.{Mapping, SomeOf}
+use Rattle.termination_model.specs.mappings.ComponentViews.{component_view, members_in, positions_in, HasSupportIn}
+use Rattle.termination_model.specs.mappings.Excluding.{IsZeroOutside}
+use Rattle.termination_model.specs.grounds.Minimal.{IsAbove, IsExcluded, IsMinimal, IsSet}
+use Rattle.termination_model.specs.grounds.Modes.{chosen_up_to}
+use Rattle.termination_model.specs.mappings.OwnCalls.{Position}
+use Rattle.termination_model.specs.mappings.Ready.{arity_in}
+use Rattle.termination_model.specs.lists.Stuck.{ListDescends}
+use Rattle.termination_model.specs.sizes.ShortSystems.{short_system}
 use Rattle.level_systems.specs.Found.{IsBlownSet, IsRefutationOf, count, full, without_number}
 use Rattle.level_systems.specs.Mappings.{HasMeasures, mapping_with}
 use Rattle.level_systems.specs.Pairs.{pairs_of}

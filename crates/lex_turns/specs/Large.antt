@@ -5,8 +5,8 @@ use Rattle.cti_terms.specs.Listing.{Listing}
 use Rattle.cti_terms.specs.Tree.{Tree}
 use Rattle.call_components.specs.Partition.{Partition}
 use Rattle.linear_rows.specs.Members.{In}
-use Rattle.termination_model.specs.ComponentViews.{positions_in}
-use Rattle.termination_model.specs.OwnCalls.{Position}
+use Rattle.termination_model.specs.mappings.ComponentViews.{positions_in}
+use Rattle.termination_model.specs.mappings.OwnCalls.{Position}
 use Rattle.level_systems.specs.Found.{without_number}
 use Rattle.level_systems.specs.Subsequences.{AreOnce}
 use Rattle.lex_turns.specs.Found.{IsVoid}

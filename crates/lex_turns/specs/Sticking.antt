@@ -13,7 +13,7 @@ use Rattle.linear_rows.specs.Solving.{solution}
 use Rattle.linear_rows.specs.Solving.Solution.{Blown, Refuted}
 use Rattle.number_tests.specs.Refuting.{PointHolds, SumsRefute}
 use Rattle.number_tests.specs.declared.pair_point.PairPoint.{PairPoint}
-use Rattle.termination_model.specs.TurnSystem.{turn_rows, turn_unknowns}
+use Rattle.termination_model.specs.lists.TurnSystem.{turn_rows, turn_unknowns}
 use Rattle.level_systems.specs.Found.{PairsAscend}
 use Rattle.level_systems.specs.Held.{spelled}
 use Rattle.level_systems.specs.Refuted.{HasPoints}

@@ -8,7 +8,7 @@ use Rattle.linear_rows.specs.Replacing.{over_columns}
 use Rattle.linear_rows.specs.Showing.{IsShown}
 use Rattle.linear_rows.specs.declared.multipliers.Multipliers.{Multipliers}
 use Rattle.number_tests.specs.declared.level_part.LevelPart.{LevelPart}
-use Rattle.termination_model.specs.Claims.{SomeOf}
+use Rattle.termination_model.specs.claims.Claims.{SomeOf}
 use Rattle.level_systems.specs.Mappings.{level_in}
 use Rattle.level_systems.specs.declared.measure.Measure.{Measure}
 use Rattle.level_systems.specs.declared.own_call.OwnCall.{OwnCall}

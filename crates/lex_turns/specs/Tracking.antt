@@ -7,9 +7,9 @@ use Rattle.call_components.specs.Numbers.{number_of}
 use Rattle.call_components.specs.Partition.{Partition}
 use Rattle.linear_rows.specs.Showing.{AreMultipliers}
 use Rattle.linear_rows.specs.declared.multipliers.Multipliers.{Multipliers}
-use Rattle.termination_model.specs.ComponentViews.{members_in}
-use Rattle.termination_model.specs.OwnCalls.{OwnCall as Recalled}
-use Rattle.termination_model.specs.Turns.{AreTurns, Turn, remaining}
+use Rattle.termination_model.specs.mappings.ComponentViews.{members_in}
+use Rattle.termination_model.specs.mappings.OwnCalls.{OwnCall as Recalled}
+use Rattle.termination_model.specs.lists.Turns.{AreTurns, Turn, remaining}
 use Rattle.level_systems.specs.Held.{live_of, numbers_of_call, recalled_at, spelled}
 use Rattle.level_systems.specs.declared.component.Component.{Component}
 use Rattle.level_systems.specs.declared.measure.Measure.{Measure}

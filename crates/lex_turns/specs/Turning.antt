@@ -6,11 +6,11 @@ use Rattle.call_components.specs.Partition.{Partition}
 use Rattle.cti_terms.specs.Listing.{Listing}
 use Rattle.cti_terms.specs.Tree.{Tree}
 use Rattle.linear_rows.specs.Proves.{Refutes}
-use Rattle.termination_model.specs.ComponentViews.{component_view, members_in}
-use Rattle.termination_model.specs.OwnCalls.{OwnCall as Recalled}
-use Rattle.termination_model.specs.Ready.{arity_in}
-use Rattle.termination_model.specs.TurnSystem.{turn_rows, turn_unknowns}
-use Rattle.termination_model.specs.Turns.{IsTurn, Turn}
+use Rattle.termination_model.specs.mappings.ComponentViews.{component_view, members_in}
+use Rattle.termination_model.specs.mappings.OwnCalls.{OwnCall as Recalled}
+use Rattle.termination_model.specs.mappings.Ready.{arity_in}
+use Rattle.termination_model.specs.lists.TurnSystem.{turn_rows, turn_unknowns}
+use Rattle.termination_model.specs.lists.Turns.{IsTurn, Turn}
 use Rattle.level_systems.specs.Held.{numbers_of_call, recalled_at, spelled}
 use Rattle.level_systems.specs.Searched.{AreMeasuresAt}
 use Rattle.level_systems.specs.Turned.{all_rows}

@@ -6,9 +6,9 @@ use Rattle.cti_terms.specs.Listing.{Listing}
 use Rattle.cti_terms.specs.Tree.{Tree}
 use Rattle.call_components.specs.Partition.{Partition}
 use Rattle.linear_rows.specs.Members.{In}
-use Rattle.termination_model.specs.ComponentViews.{positions_in, HasSupportIn}
-use Rattle.termination_model.specs.Minimal.{IsAbove}
-use Rattle.termination_model.specs.Modes.{chosen_up_to}
+use Rattle.termination_model.specs.mappings.ComponentViews.{positions_in, HasSupportIn}
+use Rattle.termination_model.specs.grounds.Minimal.{IsAbove}
+use Rattle.termination_model.specs.grounds.Modes.{chosen_up_to}
 use Rattle.level_systems.specs.Found.{IsBlownSet}
 use Rattle.level_systems.specs.Subsequences.{AreOnce, IsSubsequence}
 use Rattle.level_dual.specs.Walk.{IsWalked}

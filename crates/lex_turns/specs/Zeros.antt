@@ -3,8 +3,8 @@
 use Rattle.std.specs.Prelude.{◌≡◌, ℕ, List, [], map}
 use Rattle.std.specs.List.{AllByRecursion}
 use Rattle.cti_terms.specs.Listing.{Listing}
-use Rattle.termination_model.specs.Ready.{arity_in}
-use Rattle.termination_model.specs.SupportSystem.{mapping_at}
+use Rattle.termination_model.specs.mappings.Ready.{arity_in}
+use Rattle.termination_model.specs.mappings.SupportSystem.{mapping_at}
 use Rattle.level_systems.specs.Valued.{IsPartOf}
 use Rattle.level_systems.specs.declared.measure.Measure.{Measure}
 

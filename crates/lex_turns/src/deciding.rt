@@ -12,7 +12,7 @@ ghost use Rattle.lex_turns.specs.Found.{IsListIn};
 ghost use Rattle.lex_turns.specs.FoundLists.{AreFoundLists, IsGivenUpAt, IsUnmapped};
 ghost use Rattle.lex_turns.specs.Single.{one_list};
 ghost use Rattle.linear_rows.specs.Step.{columns};
-ghost use Rattle.termination_model.specs.Sizes.{AreSizes, rows_of};
+ghost use Rattle.termination_model.specs.sizes.Sizes.{AreSizes, rows_of};
 
 use crate::copies::copied_sets;
 use crate::course::Ended;

@@ -3,7 +3,7 @@
 ghost use Rattle.std.specs.Prelude.{◌≡◌, ◌<◌, IfOk, Some, length, slice_get, true};
 ghost use Rattle.call_components.specs.Partition.{AreComponents};
 ghost use Rattle.lex_turns.specs.FoundLists.{AreFoundLists};
-ghost use Rattle.termination_model.specs.Sizes.{AreSizes, rows_of};
+ghost use Rattle.termination_model.specs.sizes.Sizes.{AreSizes, rows_of};
 
 use crate::deciding::{find, nothing_decided};
 use crate::found_lists::FoundLists;

@@ -10,7 +10,7 @@ ghost use Rattle.level_systems.specs.declared.position.Position.{Position};
 ghost use Rattle.lex_turns.specs.Coursing.{HasGone, IsAdvanced, IsCourse, IsEnded, IsNext, remaining_of};
 ghost use Rattle.lex_turns.specs.Tracking.{kept, staying};
 ghost use Rattle.level_systems.specs.Turned.{all_rows};
-ghost use Rattle.termination_model.specs.Supports.{AreDistinct};
+ghost use Rattle.termination_model.specs.mappings.Supports.{AreDistinct};
 
 use crate::course::{Course, Ended, Next};
 use crate::dropping::empty_fall;

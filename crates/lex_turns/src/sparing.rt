@@ -7,7 +7,7 @@ ghost use Rattle.level_systems.specs.Searched.{IsSound};
 ghost use Rattle.lex_turns.specs.Coursing.{IsLess, KeepReached};
 ghost use Rattle.lex_turns.specs.Descending.{positions_at};
 ghost use Rattle.lex_turns.specs.Found.{IsVoid};
-ghost use Rattle.termination_model.specs.Supports.{AreDistinct};
+ghost use Rattle.termination_model.specs.mappings.Supports.{AreDistinct};
 
 use crate::course::Next;
 use crate::tracking::{after_falls, kept};

@@ -14,9 +14,9 @@ ghost use Rattle.lex_turns.specs.FoundLists.{IsStuckSetOf};
 ghost use Rattle.lex_turns.specs.Sticking.{AreAccepted, AreAt, ArePlainIf, ArePlainOf, AreRefutingIf, IsBlownWhereStopped, IsPlain, lines_of, unknowns_of};
 ghost use Rattle.lex_turns.specs.Testing.{AreAmong};
 ghost use Rattle.number_tests.specs.Shape.{IsPairOf};
-ghost use Rattle.termination_model.specs.ComponentViews.{component_view};
-ghost use Rattle.termination_model.specs.Ready.{arity_in};
-ghost use Rattle.termination_model.specs.Sizes.{AreSizes, rows_of};
+ghost use Rattle.termination_model.specs.mappings.ComponentViews.{component_view};
+ghost use Rattle.termination_model.specs.mappings.Ready.{arity_in};
+ghost use Rattle.termination_model.specs.sizes.Sizes.{AreSizes, rows_of};
 
 use crate::tracking::kept;
 use crate::turn::Round;

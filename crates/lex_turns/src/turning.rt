@@ -12,8 +12,8 @@ ghost use Rattle.level_systems.specs.declared.own_call.OwnCall.{OwnCall};
 ghost use Rattle.lex_turns.specs.Testing.{AreAmong, EmptyFall, Tells};
 ghost use Rattle.lex_turns.specs.Turning.{IsMadeIf, IsMadeStep, IsStep};
 ghost use Rattle.linear_rows.specs.Plain.{HaveWidth, plain_rows};
-ghost use Rattle.termination_model.specs.Supports.{AreDistinct};
-ghost use Rattle.termination_model.specs.TurnSystem.{turn_rows};
+ghost use Rattle.termination_model.specs.mappings.Supports.{AreDistinct};
+ghost use Rattle.termination_model.specs.lists.TurnSystem.{turn_rows};
 
 use crate::dropping::{drops_of, empty_fall, some_fall};
 use crate::turn::{Made, Round, Step};

@@ -7,7 +7,7 @@ ghost use Rattle.level_systems.specs.Searched.{IsSound};
 ghost use Rattle.lex_turns.specs.Found.{AreVoid};
 ghost use Rattle.lex_turns.specs.Walked.{IsAllWalked, IsWalkedTo};
 ghost use Rattle.linear_rows.specs.Step.{columns};
-ghost use Rattle.termination_model.specs.Modes.{chosen_up_to, is_part};
+ghost use Rattle.termination_model.specs.grounds.Modes.{chosen_up_to, is_part};
 
 use crate::finding::find_at;
 use crate::walked::Walked;

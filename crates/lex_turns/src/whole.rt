@@ -8,7 +8,7 @@ ghost use Rattle.level_systems.specs.Turned.{all_rows, held_of};
 ghost use Rattle.lex_turns.specs.Testing.{AreAmong};
 ghost use Rattle.lex_turns.specs.Turning.{IsMade, IsMadeStep, IsStep, IsTurnOf};
 ghost use Rattle.linear_rows.specs.Plain.{HaveWidth};
-ghost use Rattle.termination_model.specs.Supports.{AreDistinct};
+ghost use Rattle.termination_model.specs.mappings.Supports.{AreDistinct};
 
 use crate::turn::{Made, Round, Step};
 use crate::turning::{made_at, system_of, turn};

@@ -5,8 +5,8 @@ ghost use Rattle.std.specs.List.{AllByRecursion};
 ghost use Rattle.call_components.specs.Numbers.{number_of};
 ghost use Rattle.level_systems.specs.Valued.{IsPartOf};
 ghost use Rattle.lex_turns.specs.Zeros.{AreZeros};
-ghost use Rattle.termination_model.specs.Ready.{arity_in};
-ghost use Rattle.termination_model.specs.SupportSystem.{mapping_at};
+ghost use Rattle.termination_model.specs.mappings.Ready.{arity_in};
+ghost use Rattle.termination_model.specs.mappings.SupportSystem.{mapping_at};
 
 use cti_terms::{PredId, Program};
 use level_systems::{Measure, level_part};

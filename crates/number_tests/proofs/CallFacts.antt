@@ -8,7 +8,7 @@ use Rattle.cti_terms.specs.declared.clauses.Clause.{Clause}
 use Rattle.number_tests.specs.declared.level_part.LevelPart.{LevelPart}
 use Rattle.linear_rows.specs.declared.multipliers.Multipliers.{Multipliers}
 use Rattle.term_size.specs.Norm.{IsNorm}
-use Rattle.termination_model.specs.Replacing.{over_columns}
+use Rattle.termination_model.specs.sizes.Replacing.{over_columns}
 use Rattle.termination_model.proofs.Lists.{any_default, by_places}
 use Rattle.number_tests.specs.Proved.{MappingsFall, fall_of}
 use Rattle.number_tests.specs.Shape.{IsLevelPart, list_at}

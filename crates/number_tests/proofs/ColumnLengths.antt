@@ -2,7 +2,7 @@
 use Rattle.std.proofs.Common.{◌≡◌, ℕ, zero, suc, ◌<◌, ℤ, List, [], ◌∷◌, All, refl, Some, length, slice_get, ap, subst, ◌∙◌, arith}
 use Rattle.std.proofs.lemmas.List.{length-map}
 use Rattle.exact128.specs.Sums.{entry}
-use Rattle.termination_model.specs.Replacing.{AreColumns}
+use Rattle.termination_model.specs.sizes.Replacing.{AreColumns}
 use Rattle.termination_model.proofs.Lists.{any_default, indexed, place_below}
 
 pub column_lengths : (es : List (List ℤ)) (vars n : ℕ) (columns : List (List ℤ)) → AreColumns es vars columns → suc (length es) ≡ n → All (λ c. length c ≡ n) columns

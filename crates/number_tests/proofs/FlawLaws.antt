@@ -3,7 +3,7 @@ use Rattle.std.proofs.Common.{◌≡◌, ℤ, true, List, IfSome}
 use Rattle.linear_rows.specs.Verdict.{Says}
 use Rattle.linear_rows.specs.declared.multipliers.Proof.{Proof}
 use Rattle.linear_rows.specs.declared.multipliers.Proof.TheVariants as proof
-use Rattle.termination_model.specs.Systems.{row_fits}
+use Rattle.termination_model.specs.sizes.Systems.{row_fits}
 use Rattle.number_tests.specs.Failing.{MultipliersFail, fails, wide}
 use Rattle.number_tests.specs.Shown.{flaw_in}
 

@@ -7,9 +7,9 @@ use Rattle.cti_terms.specs.declared.clauses.Clause.{Clause}
 use Rattle.number_tests.specs.declared.pair_point.PairPoint.{PairPoint}
 use Rattle.linear_rows.specs.declared.point.Point.{Point}
 use Rattle.linear_rows.specs.declared.system.System.{System}
-use Rattle.termination_model.specs.Sizes.{wide_rows}
-use Rattle.termination_model.specs.Systems.{row_fits, system}
-use Rattle.termination_model.specs.ShortSystems.{short_row}
+use Rattle.termination_model.specs.sizes.Sizes.{wide_rows}
+use Rattle.termination_model.specs.sizes.Systems.{row_fits, system}
+use Rattle.termination_model.specs.sizes.ShortSystems.{short_row}
 use Rattle.number_tests.specs.Refuting.{PointHolds, RowHolds, RowsHold, ValueFits, clause_of, clause_or_none}
 use Rattle.call_components.proofs.Lists.{all_map}
 use Rattle.linear_rows.specs.Plain.{plain_rows}

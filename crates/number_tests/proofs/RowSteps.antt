@@ -11,10 +11,10 @@ use Rattle.linear_rows.specs.declared.row.Row.{Row}
 use Rattle.linear_rows.specs.declared.row.Rows.{Rows}
 use Rattle.linear_rows.specs.declared.system.System.{System}
 use Rattle.term_size.specs.Norm.{IsNorm}
-use Rattle.termination_model.specs.Replacing.{AreColumns, IsRowIfFits, over_columns}
-use Rattle.termination_model.specs.Sizes.{rows_of}
-use Rattle.termination_model.specs.Systems.{row_over, system}
-use Rattle.termination_model.specs.ShortSystems.{short_row, short_system}
+use Rattle.termination_model.specs.sizes.Replacing.{AreColumns, IsRowIfFits, over_columns}
+use Rattle.termination_model.specs.sizes.Sizes.{rows_of}
+use Rattle.termination_model.specs.sizes.Systems.{row_over, system}
+use Rattle.termination_model.specs.sizes.ShortSystems.{short_row, short_system}
 use Rattle.termination_model.proofs.RowColumns.{columns_replace}
 use Rattle.termination_model.proofs.SystemLaws.{widths}
 use Rattle.number_tests.specs.Proved.{RowIsKept}

@@ -7,7 +7,7 @@ use Rattle.cti_terms.specs.declared.limits.TheConstants.{MOST_NODES}
 use Rattle.cti_terms.specs.declared.predicates.Pred.{Pred}
 use Rattle.linear_rows.specs.Plain.{HaveWidth}
 use Rattle.linear_rows.specs.declared.row.Rows.{Rows}
-use Rattle.termination_model.specs.Sizes.{AreSizes}
+use Rattle.termination_model.specs.sizes.Sizes.{AreSizes}
 use Rattle.termination_model.proofs.Facts.{one_arity}
 use Rattle.termination_model.proofs.Lists.{by_places, from_places, sum_part}
 use Rattle.number_tests.specs.Systems.{IsSizedAtom, IsSizedClause}

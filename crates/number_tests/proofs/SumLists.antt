@@ -2,8 +2,8 @@
 use Rattle.std.proofs.Common.{◌≡◌, ℕ, zero, suc, ◌+◌, ◌==◌, max, ℤ, ◌+ℤ◌, Bool, true, false, if◌then◌else◌, List, [], ◌∷◌, ◌++◌, length, refl, sym, ap, ◌∙◌, arith}
 use Rattle.std.proofs.lemmas.Int.{ints}
 use Rattle.exact128.specs.Sums.{entry}
-use Rattle.termination_model.specs.Rows.{added}
-use Rattle.termination_model.specs.Refutation.{Load, gather}
+use Rattle.termination_model.specs.sizes.Rows.{added}
+use Rattle.termination_model.specs.mappings.Refutation.{Load, gather}
 
 pub entry_next : (x : ℤ) (xs : List ℤ) (n : ℕ) → entry (x ∷ xs) (n + 1) ≡ entry xs n
 entry_next x xs n = let e : n + 1 ≡ suc n = omega arith in rw e refl

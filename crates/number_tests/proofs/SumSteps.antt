@@ -4,10 +4,10 @@ use Rattle.std.specs.BTreeMap.{BTreeMap}
 use Rattle.linear_rows.specs.Plain.{HaveWidth, plain_rows}
 use Rattle.linear_rows.specs.declared.row.Row.{Row}
 use Rattle.std.specs.List.{AllByRecursion}
-use Rattle.termination_model.specs.Claims.{SomeOf}
-use Rattle.termination_model.specs.Refutation.{Load, gather}
-use Rattle.termination_model.specs.Rows.{added}
-use Rattle.termination_model.specs.Systems.{row_fits}
+use Rattle.termination_model.specs.claims.Claims.{SomeOf}
+use Rattle.termination_model.specs.mappings.Refutation.{Load, gather}
+use Rattle.termination_model.specs.sizes.Rows.{added}
+use Rattle.termination_model.specs.sizes.Systems.{row_fits}
 use Rattle.termination_model.proofs.Lists.{taken_more}
 use Rattle.number_tests.specs.Refuting.{SumsFit}
 use Rattle.number_tests.specs.Sums.{AddsTo, sum_at}

@@ -14,7 +14,7 @@ use Rattle.cti_terms.specs.declared.clauses.Clause.{Clause}
 use Rattle.linear_rows.specs.Verdict.{Says}
 use Rattle.linear_rows.specs.declared.multipliers.Proof.TheVariants as proof
 use Rattle.linear_rows.specs.declared.point.Point.{Point}
-use Rattle.termination_model.specs.Systems.{row_fits, system}
+use Rattle.termination_model.specs.sizes.Systems.{row_fits, system}
 use Rattle.number_tests.specs.Refuting.{PairsFit, PointHolds, RowsHold, SumsRefute, ValueFits, clause_of}
 use Rattle.number_tests.specs.declared.flaw.Flaw.{Flaw}
 use Rattle.number_tests.specs.declared.flaw.Flaw.TheVariants as flaw

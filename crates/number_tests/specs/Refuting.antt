@@ -16,9 +16,9 @@ use Rattle.cti_terms.specs.declared.atom_list.Atom.{Atom}
 use Rattle.cti_terms.specs.declared.clauses.Clause.{Clause}
 use Rattle.number_tests.specs.declared.pair_point.PairPoint.{PairPoint}
 use Rattle.linear_rows.specs.declared.point.Point.{Point}
-use Rattle.termination_model.specs.Claims.{SomeOf}
-use Rattle.termination_model.specs.Refutation.{Load, gather}
-use Rattle.termination_model.specs.Systems.{row_fits, system}
+use Rattle.termination_model.specs.claims.Claims.{SomeOf}
+use Rattle.termination_model.specs.mappings.Refutation.{Load, gather}
+use Rattle.termination_model.specs.sizes.Systems.{row_fits, system}
 
 -- the clause of a pair, and the call
 abbrev pub clause_or_none : Option Clause → Clause

@@ -6,7 +6,7 @@ use Rattle.linear_rows.specs.declared.multipliers.Multipliers.{Multipliers}
 use Rattle.linear_rows.specs.declared.multipliers.Proof.{Proof}
 use Rattle.linear_rows.specs.declared.multipliers.Proof.TheVariants as proof
 use Rattle.linear_rows.specs.declared.row.Row.{Row}
-use Rattle.termination_model.specs.Replacing.{IsRowIfFits}
+use Rattle.termination_model.specs.sizes.Replacing.{IsRowIfFits}
 use Rattle.number_tests.specs.Failing.{MultipliersFail}
 use Rattle.number_tests.specs.declared.flaw.Flaw.{Flaw}
 use Rattle.number_tests.specs.declared.flaw.Flaw.TheVariants as flaw

@@ -3,8 +3,8 @@
 use Rattle.std.specs.Prelude.{◌≡◌, ◌==◌, ℕ, ℤ, Bool, true, false, if◌then◌else◌, List, [], Option, None, Some}
 use Rattle.std.specs.BTreeMap.{BTreeMap, get}
 use Rattle.std.specs.Ordering.{nat_cmp}
-use Rattle.termination_model.specs.Rows.{added}
-use Rattle.termination_model.specs.Systems.{row_fits}
+use Rattle.termination_model.specs.sizes.Rows.{added}
+use Rattle.termination_model.specs.sizes.Systems.{row_fits}
 
 abbrev pub list_or_none : Option (List ℤ) → List ℤ
 list_or_none None = []

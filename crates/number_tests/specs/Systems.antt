@@ -10,8 +10,8 @@ use Rattle.cti_terms.specs.declared.limits.TheConstants.{MOST_NODES, MOST_VARIAB
 use Rattle.linear_rows.specs.Plain.{HaveWidth, plain_rows}
 use Rattle.linear_rows.specs.declared.row.Rows.{Rows}
 use Rattle.linear_rows.specs.declared.system.System.{System}
-use Rattle.termination_model.specs.Sizes.{wide_system}
-use Rattle.termination_model.specs.ShortSystems.{short_system}
+use Rattle.termination_model.specs.sizes.Sizes.{wide_system}
+use Rattle.termination_model.specs.sizes.ShortSystems.{short_system}
 use Rattle.number_tests.specs.declared.reached.Reached.{Reached}
 
 -- an atom whose predicate has size rows over its arguments, and whose variables are below vars

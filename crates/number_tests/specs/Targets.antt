@@ -1,7 +1,7 @@
 -- Private.
 -- The numbers of a fall, as the code sums them. Nothing here has to be believed.
 use Rattle.std.specs.Prelude.{◌≡◌, ◌<◌, ◌≤ℤ◌, ℕ, suc, ℤ, pos, neg_ℤ, ◌-ℤ◌, List, [], ◌∷◌, ◌++◌, All, length, map, slice_index_or}
-use Rattle.termination_model.specs.Replacing.{column_over}
+use Rattle.termination_model.specs.sizes.Replacing.{column_over}
 use Rattle.number_tests.specs.declared.level_part.LevelPart.{LevelPart}
 
 -- each column of the first list, followed by that of the second

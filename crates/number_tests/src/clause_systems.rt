@@ -2,7 +2,7 @@
 
 ghost use Rattle.std.specs.Prelude.{◌≤◌, IfOk, OnOk, length};
 ghost use Rattle.number_tests.specs.Systems.{IsSizedClause, IsSystemUpTo};
-ghost use Rattle.termination_model.specs.Sizes.{rows_of};
+ghost use Rattle.termination_model.specs.sizes.Sizes.{rows_of};
 
 use cti_terms::Clause;
 use linear_rows::{Rows, System};

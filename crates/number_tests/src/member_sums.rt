@@ -4,8 +4,8 @@ ghost use Rattle.std.specs.Prelude.{◌≡◌, ◌↔◌, ◌≤ℤ◌, ℕ, Con
 ghost use Rattle.call_components.specs.Numbers.{number_of};
 ghost use Rattle.number_tests.specs.Sums.{AddsTo, sum_at};
 ghost use Rattle.exact128.specs.Sums.{entry};
-ghost use Rattle.termination_model.specs.Rows.{added};
-ghost use Rattle.termination_model.specs.Systems.{row_fits};
+ghost use Rattle.termination_model.specs.sizes.Rows.{added};
+ghost use Rattle.termination_model.specs.sizes.Systems.{row_fits};
 
 use cti_terms::PredId;
 use exact128::plus;

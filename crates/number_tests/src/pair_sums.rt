@@ -10,9 +10,9 @@ ghost use Rattle.number_tests.specs.Shape.{IsPairOf};
 ghost use Rattle.number_tests.specs.Sums.{sum_at};
 ghost use Rattle.number_tests.specs.declared.pair_point.PairPoint.{PairPoint};
 ghost use Rattle.linear_rows.specs.Plain.{HaveWidth, plain_rows};
-ghost use Rattle.termination_model.specs.Claims.{SomeOf};
-ghost use Rattle.termination_model.specs.Refutation.{gather};
-ghost use Rattle.termination_model.specs.Sizes.{AreSizes};
+ghost use Rattle.termination_model.specs.claims.Claims.{SomeOf};
+ghost use Rattle.termination_model.specs.mappings.Refutation.{gather};
+ghost use Rattle.termination_model.specs.sizes.Sizes.{AreSizes};
 
 use crate::flaw::Flaw;
 use crate::member_sums::{add_values, are_lighter};

@@ -7,7 +7,7 @@ ghost use Rattle.number_tests.specs.Refuting.{PointHolds};
 ghost use Rattle.number_tests.specs.Shape.{IsPairOf};
 ghost use Rattle.number_tests.specs.SystemPoints.{SystemFails, SystemHolds};
 ghost use Rattle.linear_rows.specs.Plain.{HaveWidth};
-ghost use Rattle.termination_model.specs.Sizes.{AreSizes, rows_of};
+ghost use Rattle.termination_model.specs.sizes.Sizes.{AreSizes, rows_of};
 
 use crate::flaw::Flaw;
 use crate::pair_point::PairPoint;

@@ -3,7 +3,7 @@
 ghost use Rattle.std.specs.Prelude.{◌≡◌, ◌-◌, ◌≤◌, IfOk, Some, length, slice_get};
 ghost use Rattle.number_tests.specs.Systems.{IsReached};
 ghost use Rattle.cti_terms.specs.declared.clauses.Clause.{Clause};
-ghost use Rattle.termination_model.specs.Sizes.{AreSizes, rows_of};
+ghost use Rattle.termination_model.specs.sizes.Sizes.{AreSizes, rows_of};
 
 use crate::clause_systems::{extend, first_system};
 use crate::reached::Reached;

@@ -6,7 +6,7 @@ ghost use Rattle.number_tests.specs.Shown.{FlawFails, FlawShows, flaw_in};
 ghost use Rattle.linear_rows.specs.Plain.{HaveWidth, plain_row, plain_rows};
 ghost use Rattle.linear_rows.specs.Proves.{AllColumnsFit, Proves};
 ghost use Rattle.linear_rows.specs.Verdict.{Says};
-ghost use Rattle.termination_model.specs.Replacing.{IsRowIfFits};
+ghost use Rattle.termination_model.specs.sizes.Replacing.{IsRowIfFits};
 
 use crate::flaw::Flaw;
 use linear_rows::{Multipliers, Proof, Row, Rows, proves};

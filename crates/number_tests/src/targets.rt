@@ -3,7 +3,7 @@
 ghost use Rattle.std.specs.Prelude.{◌≡◌, ◌≤◌, ◌≤ℤ◌, ◌-ℤ◌, ◌∷◌, ◌++◌, All, IfOk, length, map, neg_ℤ, pos};
 ghost use Rattle.number_tests.specs.Targets.{fall_weights, joined};
 ghost use Rattle.linear_rows.specs.Plain.{plain_row};
-ghost use Rattle.termination_model.specs.Replacing.{IsRowIfFits, over_columns};
+ghost use Rattle.termination_model.specs.sizes.Replacing.{IsRowIfFits, over_columns};
 
 use crate::level_part::LevelPart;
 use linear_rows::{Numbers, Row};

@@ -10,13 +10,13 @@ use Rattle.cti_terms.specs.Tree.{Tree}
 use Rattle.cti_terms.specs.declared.predicates.Pred.{Pred}
 use Rattle.linear_rows.specs.Plain.{plain_rows, HaveWidth}
 use Rattle.linear_rows.specs.declared.row.Rows.{Rows}
-use Rattle.termination_model.specs.Grounds.{HasArity}
-use Rattle.termination_model.specs.Sizes.{AreSizes, plain_or_none, rows_of}
+use Rattle.termination_model.specs.grounds.Grounds.{HasArity}
+use Rattle.termination_model.specs.sizes.Sizes.{AreSizes, plain_or_none, rows_of}
 use Rattle.termination_model.proofs.ChainLeaves.{not_head, passes_leave}
 use Rattle.termination_model.proofs.Lists.{place_below}
 use Rattle.linear_rows.specs.Replacing.{row_fits}
-use Rattle.termination_model.specs.Chain.{after_passes, clauses_of, start_rows, ArePasses}
-use Rattle.termination_model.specs.ChainRows.{AreSpoken}
+use Rattle.termination_model.specs.chains.Chain.{after_passes, clauses_of, start_rows, ArePasses}
+use Rattle.termination_model.specs.chains.ChainRows.{AreSpoken}
 use Rattle.numeric_model.specs.Parts.{IsPartOf, is_before, starting}
 use Rattle.numeric_model.specs.Running.{IsRun, rows_in}
 use Rattle.numeric_model.specs.declared.chain.Chain.{Chain}

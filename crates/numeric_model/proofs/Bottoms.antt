@@ -5,7 +5,7 @@ use Rattle.linear_rows.specs.Members.{In}
 use Rattle.linear_rows.specs.Plain.{plain_row}
 use Rattle.linear_rows.specs.Solving.{zeros}
 use Rattle.linear_rows.specs.declared.row.Row.{Row}
-use Rattle.termination_model.specs.ChainRows.{bottom_row}
+use Rattle.termination_model.specs.chains.ChainRows.{bottom_row}
 use Rattle.simplex.proofs.RowLists.{length-zeros}
 
 pub zeros_all : (xs : List ℤ) → ((j : ℕ) → j < length xs → entry xs j ≡ pos 0) → xs ≡ zeros (length xs)

@@ -6,8 +6,8 @@ use Rattle.linear_rows.specs.Plain.{plain_rows}
 use Rattle.linear_rows.specs.Members.{In}
 use Rattle.linear_rows.specs.declared.multipliers.Multipliers.{Multipliers}
 use Rattle.linear_rows.specs.declared.system.System.{System}
-use Rattle.termination_model.specs.Claims.{SomeOf}
-use Rattle.termination_model.specs.ChainRows.{bottom_row, HasPoint, Sieved, IsBlown, IsJoin}
+use Rattle.termination_model.specs.claims.Claims.{SomeOf}
+use Rattle.termination_model.specs.chains.ChainRows.{bottom_row, HasPoint, Sieved, IsBlown, IsJoin}
 use Rattle.linear_rows.specs.Systems.{join_blown}
 use Rattle.linear_rows.specs.Irredundant.{TestIsBlown}
 use Rattle.linear_rows.specs.Showing.{Shows}

@@ -18,13 +18,13 @@ use Rattle.linear_rows.specs.Step.{columns}
 use Rattle.linear_rows.specs.declared.multipliers.Multipliers.{Multipliers}
 use Rattle.linear_rows.specs.declared.row.Rows.{Rows}
 use Rattle.linear_rows.proofs.Members.{in-filter, in-flat_map, to_All}
-use Rattle.termination_model.specs.Chain.{after_passes, after_runs, clauses_of, component_of, counted, is_number, start_rows, ArePasses, AreRuns}
-use Rattle.termination_model.specs.ChainRows.{AreSpoken}
-use Rattle.termination_model.specs.ChainSteps.{Step as PlainStep}
-use Rattle.termination_model.specs.Sizes.{plain_or_none}
-use Rattle.termination_model.specs.Stated.{stated_rows}
-use Rattle.termination_model.specs.Systems.{row_over, system}
-use Rattle.termination_model.specs.ShortSystems.{short_row}
+use Rattle.termination_model.specs.chains.Chain.{after_passes, after_runs, clauses_of, component_of, counted, is_number, start_rows, ArePasses, AreRuns}
+use Rattle.termination_model.specs.chains.ChainRows.{AreSpoken}
+use Rattle.termination_model.specs.chains.ChainSteps.{Step as PlainStep}
+use Rattle.termination_model.specs.sizes.Sizes.{plain_or_none}
+use Rattle.termination_model.specs.sizes.Stated.{stated_rows}
+use Rattle.termination_model.specs.sizes.Systems.{row_over, system}
+use Rattle.termination_model.specs.sizes.ShortSystems.{short_row}
 use Rattle.termination_model.proofs.ChainLeaves.{body_before, head_before, number_is, of_own, not_head, passes_leave, placed, same_system, IsBefore}
 use Rattle.termination_model.proofs.ChainSieves.{of_all}
 use Rattle.termination_model.proofs.Lists.{map_push, place_below}

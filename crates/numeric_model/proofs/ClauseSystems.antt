@@ -8,8 +8,8 @@ use Rattle.cti_terms.specs.declared.clauses.Clause.{Clause}
 use Rattle.linear_rows.specs.Plain.{HaveWidth, plain_rows}
 use Rattle.linear_rows.specs.declared.system.System.{System}
 use Rattle.term_size.specs.Norm.{IsNorm}
-use Rattle.termination_model.specs.Sizes.{wide_system}
-use Rattle.termination_model.specs.ShortSystems.{short_system}
+use Rattle.termination_model.specs.sizes.Sizes.{wide_system}
+use Rattle.termination_model.specs.sizes.ShortSystems.{short_system}
 use Rattle.polyhedra.specs.Telling.{IsSystem, HasNaturalHead}
 use Rattle.polyhedra.specs.Making.{arity_of}
 use Rattle.polyhedra.proofs.RowLists.{long_rows}

@@ -9,7 +9,7 @@ use Rattle.linear_rows.specs.Plain.{plain_rows}
 use Rattle.linear_rows.specs.declared.system.System.{System}
 use Rattle.linear_rows.proofs.Members.{from_All, to_All}
 use Rattle.linear_rows.specs.declared.point.Point.{Point}
-use Rattle.termination_model.specs.ChainRows.{bottom_row, HasPoint}
+use Rattle.termination_model.specs.chains.ChainRows.{bottom_row, HasPoint}
 use Rattle.termination_model.proofs.ChainHeads.{dot_substituted, bottom_fails}
 use Rattle.simplex.proofs.RowLists.{length-zeros}
 use Rattle.termination_model.proofs.ChainSieves.{of_all}

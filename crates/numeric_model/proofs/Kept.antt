@@ -10,14 +10,14 @@ use Rattle.linear_rows.specs.declared.multipliers.Multipliers.{Multipliers}
 use Rattle.linear_rows.specs.declared.system.System.{System}
 use Rattle.linear_rows.proofs.Members.{from_All, to_All}
 use Rattle.termination_model.proofs.Proved.{length-substituted}
-use Rattle.termination_model.specs.ChainRows.{bottom_row, HasPoint, Sieved}
+use Rattle.termination_model.specs.chains.ChainRows.{bottom_row, HasPoint, Sieved}
 use Rattle.termination_model.proofs.ChainSieves.{all_of, goes_map, resieved}
 use Rattle.termination_model.proofs.ChainHeads.{bottom_fails}
 use Rattle.linear_rows.specs.Showing.{Shows}
 use Rattle.polyhedra.specs.Telling.{IsSystem, at_head, IsBlownOn}
 use Rattle.polyhedra.specs.Making.{arity_of, HoldsFor, Fails, AreShown, IsLost, SaysKept, Splits}
 use Rattle.polyhedra.proofs.Keeps.{sieved_of}
-use Rattle.termination_model.specs.Claims.{SomeOf}
+use Rattle.termination_model.specs.claims.Claims.{SomeOf}
 use Rattle.numeric_model.specs.declared.filled.Filled.{Filled}
 use Rattle.numeric_model.specs.declared.filled.Filled.TheVariants.{Bottom, Unknown, Inhabited}
 use Rattle.numeric_model.specs.Filling.{IsFilled, weight}

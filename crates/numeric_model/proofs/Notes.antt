@@ -5,9 +5,9 @@ use Rattle.cti_terms.specs.declared.clauses.Clause.{Clause}
 use Rattle.linear_rows.specs.Plain.{plain_rows}
 use Rattle.linear_rows.specs.declared.system.System.{System}
 use Rattle.polyhedra.specs.Making.{SaysImage}
-use Rattle.termination_model.specs.ChainSteps.{IsLegalImage, IsLegalStep}
-use Rattle.termination_model.specs.Systems.{row_over}
-use Rattle.termination_model.specs.ShortSystems.{short_system}
+use Rattle.termination_model.specs.chains.ChainSteps.{IsLegalImage, IsLegalStep}
+use Rattle.termination_model.specs.sizes.Systems.{row_over}
+use Rattle.termination_model.specs.sizes.ShortSystems.{short_system}
 use Rattle.numeric_model.specs.declared.filled.Filled.{Filled}
 use Rattle.numeric_model.specs.declared.noting.Noted.{Noted}
 use Rattle.numeric_model.specs.Filling.{IsFilled, weight}

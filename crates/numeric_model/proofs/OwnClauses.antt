@@ -10,7 +10,7 @@ use Rattle.cti_terms.specs.Listing.{Listing}
 use Rattle.cti_terms.specs.declared.clauses.Clause.{Clause}
 use Rattle.linear_rows.specs.Members.{In}
 use Rattle.linear_rows.proofs.Members.{of-flat_map}
-use Rattle.termination_model.specs.Chain.{clauses_of, component_of, counted, is_number}
+use Rattle.termination_model.specs.chains.Chain.{clauses_of, component_of, counted, is_number}
 use Rattle.termination_model.proofs.Lists.{append_assoc, by_places, place_below, taken_more, there}
 use Rattle.numeric_model.specs.Running.{AreOwnClauses, paired, with_clause, with_clauses}
 use Rattle.numeric_model.proofs.Passes.{AreNumbered}

@@ -8,8 +8,8 @@ use Rattle.cti_terms.specs.declared.clauses.Clause.{Clause}
 use Rattle.linear_rows.specs.Members.{In}
 use Rattle.linear_rows.proofs.Members.{of-append}
 use Rattle.linear_rows.specs.declared.multipliers.Multipliers.{Multipliers}
-use Rattle.termination_model.specs.Chain.{after, after_pass, after_passes, AreUnchanged, AreSteps}
-use Rattle.termination_model.specs.ChainSteps.{Step as PlainStep, IsLegalStep}
+use Rattle.termination_model.specs.chains.Chain.{after, after_pass, after_passes, AreUnchanged, AreSteps}
+use Rattle.termination_model.specs.chains.ChainSteps.{Step as PlainStep, IsLegalStep}
 use Rattle.termination_model.proofs.ChainLeaves.{after_same, pass_same}
 use Rattle.termination_model.proofs.Lists.{map_push, place_below}
 use Rattle.numeric_model.specs.declared.state.State.{State}

@@ -2,9 +2,9 @@
 use Rattle.std.proofs.Common.{◌≡◌, ℕ, suc, ◌<◌, ℤ, Bool, true, false, inl, inr, List, [], ◌∷◌, ◌++◌, append_assoc, refl, sym, subst, arith}
 use Rattle.cti_terms.specs.Tree.{Tree}
 use Rattle.cti_terms.specs.declared.clauses.Clause.{Clause}
-use Rattle.termination_model.specs.Chain.{after, AreSteps, after_pass, AreUnchanged, ArePasses, after_passes}
-use Rattle.termination_model.specs.ChainSteps.{Step, IsLegalStep, IsStrong, IsWeak, HasLegalRows}
-use Rattle.termination_model.specs.ChainLicences.{IsLicensed}
+use Rattle.termination_model.specs.chains.Chain.{after, AreSteps, after_pass, AreUnchanged, ArePasses, after_passes}
+use Rattle.termination_model.specs.chains.ChainSteps.{Step, IsLegalStep, IsStrong, IsWeak, HasLegalRows}
+use Rattle.termination_model.specs.chains.ChainLicences.{IsLicensed}
 use Rattle.termination_model.specs.declared.how.How.{How}
 use Rattle.termination_model.specs.declared.how.How.TheVariants.{None as Nothing, First, Same, Join, Keep}
 

@@ -12,9 +12,9 @@ use Rattle.linear_rows.specs.Rows.{HoldsOn}
 use Rattle.linear_rows.specs.Systems.{image_blown, image_left}
 use Rattle.linear_rows.specs.declared.multipliers.Multipliers.{Multipliers}
 use Rattle.linear_rows.specs.declared.system.System.{System}
-use Rattle.termination_model.specs.ChainRows.{HasSublist, HasPoint, IsBlown}
-use Rattle.termination_model.specs.ChainSteps.{Step as PlainStep, IsLegalImage, IsStrong, HasLegalRows, HoldsHere, FailsHere, IsBlownHere}
-use Rattle.termination_model.specs.Systems.{row_over, system}
+use Rattle.termination_model.specs.chains.ChainRows.{HasSublist, HasPoint, IsBlown}
+use Rattle.termination_model.specs.chains.ChainSteps.{Step as PlainStep, IsLegalImage, IsStrong, HasLegalRows, HoldsHere, FailsHere, IsBlownHere}
+use Rattle.termination_model.specs.sizes.Systems.{row_over, system}
 use Rattle.termination_model.specs.declared.how.How.{How}
 use Rattle.termination_model.specs.declared.how.How.TheVariants.{None, First, Join, Keep, Same}
 use Rattle.polyhedra.specs.Making.{SaysKept, arity_of}

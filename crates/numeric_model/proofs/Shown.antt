@@ -8,8 +8,8 @@ use Rattle.linear_rows.specs.declared.system.System.{System}
 use Rattle.polyhedra.specs.Making.{AreShown}
 use Rattle.linear_rows.specs.Showing.{Shows}
 use Rattle.linear_rows.specs.Replacing.{substituted}
-use Rattle.termination_model.specs.Systems.{row_over}
-use Rattle.termination_model.specs.ShortSystems.{short_system}
+use Rattle.termination_model.specs.sizes.Systems.{row_over}
+use Rattle.termination_model.specs.sizes.ShortSystems.{short_system}
 use Rattle.numeric_model.specs.Proved.{AreShownOver}
 use Rattle.numeric_model.specs.Stepping.{IfNone}
 use Rattle.numeric_model.proofs.Translate.{IsOf}

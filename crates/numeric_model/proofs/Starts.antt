@@ -7,11 +7,11 @@ use Rattle.cti_terms.specs.declared.builtins.Builtin.{Builtin}
 use Rattle.cti_terms.specs.declared.predicates.Pred.{Pred}
 use Rattle.linear_rows.specs.Plain.{plain_rows, HaveWidth}
 use Rattle.linear_rows.specs.declared.row.Rows.{Rows}
-use Rattle.termination_model.specs.Chain.{start_as, start_rows, start_or_none}
-use Rattle.termination_model.specs.ChainRows.{bottom_row}
-use Rattle.termination_model.specs.Grounds.{HasArity}
-use Rattle.termination_model.specs.Sizes.{AreSizes, plain_or_none, rows_of}
-use Rattle.termination_model.specs.Stated.{stated_rows}
+use Rattle.termination_model.specs.chains.Chain.{start_as, start_rows, start_or_none}
+use Rattle.termination_model.specs.chains.ChainRows.{bottom_row}
+use Rattle.termination_model.specs.grounds.Grounds.{HasArity}
+use Rattle.termination_model.specs.sizes.Sizes.{AreSizes, plain_or_none, rows_of}
+use Rattle.termination_model.specs.sizes.Stated.{stated_rows}
 use Rattle.numeric_model.specs.declared.filled.Filled.{Filled}
 use Rattle.numeric_model.specs.declared.filled.Filled.TheVariants.{Bottom}
 use Rattle.numeric_model.specs.declared.state.State.{State}

@@ -10,10 +10,10 @@ use Rattle.cti_terms.specs.declared.clauses.Clause.{Clause}
 use Rattle.cti_terms.specs.declared.predicates.Pred.{Pred}
 use Rattle.linear_rows.specs.Plain.{plain_rows, HaveWidth}
 use Rattle.linear_rows.specs.declared.row.Rows.{Rows}
-use Rattle.termination_model.specs.ChainSteps.{Step as PlainStep, IsLegalStep}
-use Rattle.termination_model.specs.Grounds.{HasArity}
-use Rattle.termination_model.specs.Sizes.{AreSizes, rows_of, plain_or_none}
-use Rattle.termination_model.specs.Stated.{stated_rows}
+use Rattle.termination_model.specs.chains.ChainSteps.{Step as PlainStep, IsLegalStep}
+use Rattle.termination_model.specs.grounds.Grounds.{HasArity}
+use Rattle.termination_model.specs.sizes.Sizes.{AreSizes, rows_of, plain_or_none}
+use Rattle.termination_model.specs.sizes.Stated.{stated_rows}
 use Rattle.numeric_model.specs.declared.filled.Filled.{Filled}
 use Rattle.numeric_model.specs.declared.filled.Filled.TheVariants.{Bottom, Unknown, Inhabited}
 use Rattle.numeric_model.specs.declared.noting.Noted.{Noted}

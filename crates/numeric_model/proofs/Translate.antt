@@ -16,14 +16,14 @@ use Rattle.linear_rows.specs.Irredundant.{Fails, TestIsBlown, EndsBlown}
 use Rattle.linear_rows.specs.Step.{columns}
 use Rattle.linear_rows.specs.declared.system.System.{System}
 use Rattle.termination_model.proofs.ChainSieves.{some_map}
-use Rattle.termination_model.specs.Claims.{SomeOf}
+use Rattle.termination_model.specs.claims.Claims.{SomeOf}
 use Rattle.linear_rows.specs.Replacing.{substituted}
-use Rattle.termination_model.specs.Sizes.{wide_rows, wide_system}
-use Rattle.termination_model.specs.Systems.{system, row_fits}
-use Rattle.termination_model.specs.ShortSystems.{short_row, short_system}
-use Rattle.termination_model.specs.ChainRows.{Sieved, IsBlown, bottom_row, HasSublist, AreSpoken}
-use Rattle.termination_model.specs.ChainSteps.{HoldsHere, FailsHere, IsBlownHere, IsLegalImage, HasLegalRows, IsLegalStep}
-use Rattle.termination_model.specs.ChainLicences.{IsLicensed}
+use Rattle.termination_model.specs.sizes.Sizes.{wide_rows, wide_system}
+use Rattle.termination_model.specs.sizes.Systems.{system, row_fits}
+use Rattle.termination_model.specs.sizes.ShortSystems.{short_row, short_system}
+use Rattle.termination_model.specs.chains.ChainRows.{Sieved, IsBlown, bottom_row, HasSublist, AreSpoken}
+use Rattle.termination_model.specs.chains.ChainSteps.{HoldsHere, FailsHere, IsBlownHere, IsLegalImage, HasLegalRows, IsLegalStep}
+use Rattle.termination_model.specs.chains.ChainLicences.{IsLicensed}
 use Rattle.termination_model.specs.declared.how.How.{How}
 use Rattle.termination_model.specs.declared.how.How.TheVariants.{None as Nothing, First, Same, Join, Keep}
 use Rattle.linear_rows.specs.Irredundant.{IsIrredundant}

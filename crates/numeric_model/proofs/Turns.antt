@@ -5,8 +5,8 @@ use Rattle.call_components.specs.Partition.{Partition, AreComponents, IsIn}
 use Rattle.cti_terms.specs.Tree.{Tree}
 use Rattle.cti_terms.specs.Listing.{Listing, IsProgram}
 use Rattle.cti_terms.specs.Arithmetic.{kind_of}
-use Rattle.termination_model.specs.Chain.{clauses_of, component_of, start_rows}
-use Rattle.termination_model.specs.Sizes.{AreSizes, rows_of}
+use Rattle.termination_model.specs.chains.Chain.{clauses_of, component_of, start_rows}
+use Rattle.termination_model.specs.sizes.Sizes.{AreSizes, rows_of}
 use Rattle.termination_model.proofs.ChainLeaves.{NotHead, of_own, passes_leave}
 use Rattle.numeric_model.specs.Parts.{is_before, starting}
 use Rattle.numeric_model.specs.Running.{IsRun, rows_in}

@@ -5,7 +5,7 @@
 -- third pass a change of rows in one state makes the list shorter. So passes end.
 use Rattle.std.specs.Prelude.{◌≡◌, ℕ, ◌+◌, ◌^◌, ℤ, List, [], ◌∷◌, length}
 use Rattle.linear_rows.specs.Members.{In}
-use Rattle.termination_model.specs.ChainRows.{bottom_row, HasPoint}
+use Rattle.termination_model.specs.chains.ChainRows.{bottom_row, HasPoint}
 use Rattle.numeric_model.specs.declared.filled.Filled.{Filled}
 use Rattle.numeric_model.specs.declared.filled.Filled.TheVariants.{Bottom, Unknown, Inhabited}
 

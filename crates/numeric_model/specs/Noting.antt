@@ -4,7 +4,7 @@ use Rattle.std.specs.Prelude.{◌≡◌, ◌≢◌, ℕ, ◌<◌, ℤ, Bool, Lis
 use Rattle.cti_terms.specs.Tree.{Tree}
 use Rattle.cti_terms.specs.declared.clauses.Clause.{Clause}
 use Rattle.linear_rows.specs.Plain.{plain_rows}
-use Rattle.termination_model.specs.ChainSteps.{Step, IsLegalStep}
+use Rattle.termination_model.specs.chains.ChainSteps.{Step, IsLegalStep}
 use Rattle.numeric_model.specs.declared.filled.Filled.{Filled}
 use Rattle.numeric_model.specs.declared.noting.Noted.{Noted}
 use Rattle.numeric_model.specs.Filling.{IsFilled, weight}

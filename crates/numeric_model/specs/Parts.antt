@@ -11,9 +11,9 @@ use Rattle.cti_terms.specs.declared.clauses.Clause.{Clause}
 use Rattle.linear_rows.specs.Members.{In}
 use Rattle.linear_rows.specs.Replacing.{row_fits}
 use Rattle.linear_rows.specs.declared.multipliers.Multipliers.{Multipliers}
-use Rattle.termination_model.specs.Chain.{after_passes, clauses_of, component_of, start_rows, ArePasses}
-use Rattle.termination_model.specs.ChainSteps.{Step}
-use Rattle.termination_model.specs.Sizes.{AreSizes, rows_of}
+use Rattle.termination_model.specs.chains.Chain.{after_passes, clauses_of, component_of, start_rows, ArePasses}
+use Rattle.termination_model.specs.chains.ChainSteps.{Step}
+use Rattle.termination_model.specs.sizes.Sizes.{AreSizes, rows_of}
 use Rattle.numeric_model.specs.Proved.{IsProved}
 use Rattle.numeric_model.specs.States.{plain_step}
 use Rattle.numeric_model.specs.declared.chain.Chain.{Chain}

@@ -7,8 +7,8 @@ use Rattle.cti_terms.specs.Tree.{Tree}
 use Rattle.cti_terms.specs.declared.clauses.Clause.{Clause}
 use Rattle.linear_rows.specs.declared.multipliers.Multipliers.{Multipliers}
 use Rattle.linear_rows.specs.Showing.{Shows}
-use Rattle.termination_model.specs.Systems.{row_over}
-use Rattle.termination_model.specs.ShortSystems.{short_system}
+use Rattle.termination_model.specs.sizes.Systems.{row_over}
+use Rattle.termination_model.specs.sizes.ShortSystems.{short_system}
 
 -- for each row, in order, multipliers that prove what becomes of it over the system
 abbrev pub AreShownOver : List (List ℤ) → (List ℤ → List ℤ) → List (List ℤ) → List Multipliers → Type 0

@@ -7,7 +7,7 @@ use Rattle.cti_terms.specs.Tree.{Tree}
 use Rattle.cti_terms.specs.Listing.{Listing}
 use Rattle.cti_terms.specs.declared.atom_list.Atom.{Atom}
 use Rattle.cti_terms.specs.declared.clauses.Clause.{Clause}
-use Rattle.termination_model.specs.ChainSteps.{Step as PlainStep, IsLegalStep}
+use Rattle.termination_model.specs.chains.ChainSteps.{Step as PlainStep, IsLegalStep}
 use Rattle.numeric_model.specs.declared.filled.Filled.TheVariants.{Inhabited}
 use Rattle.numeric_model.specs.declared.state.State.{State}
 use Rattle.numeric_model.specs.declared.step.Step.{Step}

@@ -10,9 +10,9 @@ use Rattle.linear_rows.specs.Members.{In}
 use Rattle.linear_rows.specs.declared.multipliers.Multipliers.{Multipliers}
 use Rattle.linear_rows.specs.Replacing.{row_fits}
 use Rattle.linear_rows.specs.Step.{columns}
-use Rattle.termination_model.specs.Chain.{after, after_pass, after_passes, after_runs, clauses_of, start_rows, AreUnchanged, AreSteps, ArePasses, AreRuns}
-use Rattle.termination_model.specs.ChainSteps.{Step as PlainStep, IsLegalStep}
-use Rattle.termination_model.specs.Sizes.{rows_of}
+use Rattle.termination_model.specs.chains.Chain.{after, after_pass, after_passes, after_runs, clauses_of, start_rows, AreUnchanged, AreSteps, ArePasses, AreRuns}
+use Rattle.termination_model.specs.chains.ChainSteps.{Step as PlainStep, IsLegalStep}
+use Rattle.termination_model.specs.sizes.Sizes.{rows_of}
 use Rattle.numeric_model.specs.Proved.{IsProved}
 use Rattle.numeric_model.specs.States.{plain_step, weights}
 use Rattle.numeric_model.specs.declared.state.State.{State}

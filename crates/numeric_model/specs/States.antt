@@ -8,11 +8,11 @@ use Rattle.cti_terms.specs.declared.builtins.Builtin.{Builtin}
 use Rattle.cti_terms.specs.declared.predicates.Pred.{Pred}
 use Rattle.linear_rows.specs.Plain.{plain_rows, HaveWidth}
 use Rattle.linear_rows.specs.declared.row.Rows.{Rows}
-use Rattle.termination_model.specs.Chain.{start_or_none}
-use Rattle.termination_model.specs.ChainSteps.{Step as PlainStep}
-use Rattle.termination_model.specs.Grounds.{HasArity}
-use Rattle.termination_model.specs.Sizes.{AreSizes, rows_of}
-use Rattle.termination_model.specs.Stated.{stated_rows}
+use Rattle.termination_model.specs.chains.Chain.{start_or_none}
+use Rattle.termination_model.specs.chains.ChainSteps.{Step as PlainStep}
+use Rattle.termination_model.specs.grounds.Grounds.{HasArity}
+use Rattle.termination_model.specs.sizes.Sizes.{AreSizes, rows_of}
+use Rattle.termination_model.specs.sizes.Stated.{stated_rows}
 use Rattle.numeric_model.specs.declared.filled.Filled.{Filled}
 use Rattle.numeric_model.specs.declared.filled.Filled.TheVariants.{Bottom}
 use Rattle.numeric_model.specs.declared.noting.Noted.{Noted}

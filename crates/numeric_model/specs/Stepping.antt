@@ -2,9 +2,9 @@
 -- What a step answers.
 use Rattle.std.specs.Prelude.{◌≡◌, ◌≢◌, ℕ, suc, ◌<◌, ℤ, Bool, true, List, length, slice_get, Option, None, Some}
 use Rattle.linear_rows.specs.declared.system.System.{System}
-use Rattle.termination_model.specs.ChainRows.{bottom_row}
-use Rattle.termination_model.specs.ChainLicences.{IsLicensed}
-use Rattle.termination_model.specs.ChainSteps.{HasLegalRows}
+use Rattle.termination_model.specs.chains.ChainRows.{bottom_row}
+use Rattle.termination_model.specs.chains.ChainLicences.{IsLicensed}
+use Rattle.termination_model.specs.chains.ChainSteps.{HasLegalRows}
 use Rattle.linear_rows.specs.Rows.{HoldsOn}
 use Rattle.polyhedra.specs.Telling.{IsBlownOn}
 use Rattle.polyhedra.specs.Making.{arity_of, HoldsFor, Fails, AreShown}

@@ -5,8 +5,8 @@ use Rattle.call_components.specs.Partition.{Partition, AreComponents, IsIn}
 use Rattle.cti_terms.specs.Listing.{Listing, IsProgram}
 use Rattle.cti_terms.specs.declared.clauses.Clause.{Clause}
 use Rattle.linear_rows.specs.Members.{In}
-use Rattle.termination_model.specs.Chain.{clauses_of, component_of, start_rows}
-use Rattle.termination_model.specs.Sizes.{rows_of}
+use Rattle.termination_model.specs.chains.Chain.{clauses_of, component_of, start_rows}
+use Rattle.termination_model.specs.sizes.Sizes.{rows_of}
 use Rattle.numeric_model.specs.Parts.{is_before}
 use Rattle.numeric_model.specs.Running.{AreOwnClauses}
 use Rattle.numeric_model.specs.States.{IsState, own_from}

@@ -3,7 +3,7 @@
 ghost use Rattle.std.specs.Prelude.{◌≡◌, ◌<◌, ℕ, IfOk, OnOk, length, slice_get, slice_set, Some, if◌then◌else◌};
 ghost use Rattle.call_components.specs.Partition.{AreComponents};
 ghost use Rattle.linear_rows.specs.declared.row.Rows.{Rows as TheRows};
-ghost use Rattle.termination_model.specs.Sizes.{AreSizes, rows_of};
+ghost use Rattle.termination_model.specs.sizes.Sizes.{AreSizes, rows_of};
 ghost use Rattle.numeric_model.specs.Parts.{IsPartOf, is_before};
 
 use crate::chain::Chain;

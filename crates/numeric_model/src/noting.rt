@@ -5,7 +5,7 @@ ghost use Rattle.cti_terms.specs.declared.clauses.Clause.{Clause};
 ghost use Rattle.linear_rows.specs.Plain.{plain_rows};
 ghost use Rattle.polyhedra.specs.Making.{SaysImage, arity_of};
 ghost use Rattle.polyhedra.specs.Telling.{HasNaturalHead, IsSystem};
-ghost use Rattle.termination_model.specs.Sizes.{AreSizes, rows_of};
+ghost use Rattle.termination_model.specs.sizes.Sizes.{AreSizes, rows_of};
 ghost use Rattle.numeric_model.specs.Filling.{IsFilled};
 ghost use Rattle.numeric_model.specs.Noting.{IsNoted, HasRowsOf};
 ghost use Rattle.numeric_model.specs.Stepping.{IsStep};

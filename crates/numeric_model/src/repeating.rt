@@ -2,7 +2,7 @@
 
 ghost use Rattle.std.specs.Prelude.{◌≡◌, ◌≢◌, ◌≤◌, ◌-◌, ℕ, true, false, IfOk, IfSome, length, slice_get, Some};
 ghost use Rattle.cti_terms.specs.declared.clauses.Clause.{Clause};
-ghost use Rattle.termination_model.specs.Sizes.{AreSizes, rows_of};
+ghost use Rattle.termination_model.specs.sizes.Sizes.{AreSizes, rows_of};
 ghost use Rattle.numeric_model.specs.Noting.{IsNoted};
 ghost use Rattle.numeric_model.specs.Repeating.{IsRepeatable};
 

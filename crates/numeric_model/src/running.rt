@@ -7,7 +7,7 @@ ghost use Rattle.numeric_model.specs.Noting.{HasRowsOf, IsNoted};
 ghost use Rattle.numeric_model.specs.Repeating.{IsMarked, WereLegal};
 ghost use Rattle.numeric_model.specs.Running.{IsPassed, IsRun, IsTaken, with_clauses};
 ghost use Rattle.numeric_model.specs.States.{IsState, own_from};
-ghost use Rattle.termination_model.specs.Sizes.{AreSizes, rows_of};
+ghost use Rattle.termination_model.specs.sizes.Sizes.{AreSizes, rows_of};
 
 use crate::filled::Filled;
 use crate::noting::{Noted, note_step};

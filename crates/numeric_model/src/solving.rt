@@ -3,8 +3,8 @@
 ghost use Rattle.std.specs.Prelude.{◌≡◌, ℕ, true, IfOk, All, length, map};
 ghost use Rattle.call_components.specs.Partition.{AreComponents};
 ghost use Rattle.linear_rows.specs.Replacing.{row_fits};
-ghost use Rattle.termination_model.specs.Chain.{IsLegalChain};
-ghost use Rattle.termination_model.specs.Sizes.{AreSizes, rows_of};
+ghost use Rattle.termination_model.specs.chains.Chain.{IsLegalChain};
+ghost use Rattle.termination_model.specs.sizes.Sizes.{AreSizes, rows_of};
 ghost use Rattle.numeric_model.specs.Proved.{AreProved};
 ghost use Rattle.numeric_model.specs.Running.{IsChained};
 ghost use Rattle.numeric_model.specs.States.{IsState, own_from, plain_step};

@@ -4,8 +4,8 @@ ghost use Rattle.std.specs.Prelude.{◌≡◌, ◌≤◌, ◌<◌, ◌-◌, IfOk
 ghost use Rattle.cti_terms.specs.Listing.{IsProgram, Listing};
 ghost use Rattle.linear_rows.specs.Plain.{plain_rows};
 ghost use Rattle.linear_rows.specs.declared.row.Rows.{Rows};
-ghost use Rattle.termination_model.specs.Chain.{start_rows};
-ghost use Rattle.termination_model.specs.Sizes.{rows_of};
+ghost use Rattle.termination_model.specs.chains.Chain.{start_rows};
+ghost use Rattle.termination_model.specs.sizes.Sizes.{rows_of};
 ghost use Rattle.numeric_model.specs.Repeating.{IsLastStep, IsMarked};
 ghost use Rattle.numeric_model.specs.States.{AreStatedTo, IfReplaced, IsAccepted, IsAdded, IsFresh, IsState, IsStatedAt, every};
 

@@ -3,7 +3,7 @@
 ghost use Rattle.std.specs.Prelude.{◌≡◌, ◌≢◌, ◌<◌, ◌≤◌, ◌^◌, ℕ, suc, IfOk, IfSome, IsTrue, ◌↔◌, length, map, slice_get, [], ◌∷◌, None, Some, true, false, pos};
 ghost use Rattle.linear_rows.specs.Plain.{plain_row, plain_rows};
 ghost use Rattle.linear_rows.specs.Rows.{AreEmpty};
-ghost use Rattle.termination_model.specs.ChainRows.{bottom_row, HasPoint};
+ghost use Rattle.termination_model.specs.chains.ChainRows.{bottom_row, HasPoint};
 ghost use Rattle.linear_rows.specs.Showing.{Shows};
 ghost use Rattle.polyhedra.specs.Telling.{IsSystem, HasNaturalHead, IsBlownOn, at_head};
 ghost use Rattle.polyhedra.specs.Making.{arity_of, SaysImage, SaysWidened};

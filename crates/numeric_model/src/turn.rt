@@ -1,7 +1,7 @@
 //! One component after the other, in tables that stay.
 
 ghost use Rattle.std.specs.Prelude.{◌≡◌, ◌+◌, ◌<◌, IfOk, OnOk, length};
-ghost use Rattle.termination_model.specs.Sizes.{rows_of};
+ghost use Rattle.termination_model.specs.sizes.Sizes.{rows_of};
 ghost use Rattle.numeric_model.specs.Parts.{IsPartOf};
 ghost use Rattle.numeric_model.specs.Turns.{IsSetting, IsTurnOf, KeepsOtherParts, part_in};
 

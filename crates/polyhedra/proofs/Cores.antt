@@ -14,7 +14,7 @@ use Rattle.linear_rows.specs.declared.row.Rows.{Rows}
 use Rattle.linear_rows.specs.declared.system.System.{System}
 use Rattle.linear_rows.proofs.Members.{from_All, to_All}
 use Rattle.linear_rows.proofs.Starts.{dot-zeros}
-use Rattle.termination_model.specs.ChainRows.{HasSublist, HasPoint, AreSpoken, IsBlown, bottom_row}
+use Rattle.termination_model.specs.chains.ChainRows.{HasSublist, HasPoint, AreSpoken, IsBlown, bottom_row}
 use Rattle.polyhedra.specs.Choosing.{IsCore}
 use Rattle.polyhedra.specs.Making.{arity_of, IsImageOf, ImageIsBlown, IsJoinOf, SaysImage, SaysJoin}
 use Rattle.polyhedra.specs.PolyLaws.{HaveFit}

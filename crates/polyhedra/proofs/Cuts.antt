@@ -7,7 +7,7 @@ use Rattle.linear_rows.specs.Blown.{all_of}
 use Rattle.linear_rows.specs.Plain.{plain_row, plain_rows, HaveWidth}
 use Rattle.linear_rows.specs.declared.row.Row.{Row}
 use Rattle.fourier.specs.Adding.{AllFit}
-use Rattle.termination_model.specs.ChainRows.{AreSpoken}
+use Rattle.termination_model.specs.chains.ChainRows.{AreSpoken}
 
 length_taken : (n : ℕ) (xs : List ℤ) → n ≤ length xs → length (take n xs) ≡ n
 length_taken zero xs l = refl

@@ -5,7 +5,7 @@ use Rattle.exact128.specs.Fits.{fits}
 use Rattle.linear_rows.specs.Blown.{all_of}
 use Rattle.linear_rows.specs.declared.row.Row.{Row}
 use Rattle.linear_rows.specs.Plain.{plain_rows}
-use Rattle.termination_model.specs.ChainRows.{Sieved}
+use Rattle.termination_model.specs.chains.ChainRows.{Sieved}
 use Rattle.polyhedra.specs.PolyLaws.{HaveFit}
 
 abbrev pub Fitting : List (List ℤ) → Type 0

@@ -7,7 +7,7 @@ use Rattle.linear_rows.specs.Rows.{Holds, HoldsOn}
 use Rattle.linear_rows.specs.declared.row.Row.{Row}
 use Rattle.linear_rows.specs.declared.row.Rows.{Rows}
 use Rattle.linear_rows.proofs.Members.{from_All, to_All, in-left, in-right, of-append}
-use Rattle.termination_model.specs.ChainRows.{HasSublist}
+use Rattle.termination_model.specs.chains.ChainRows.{HasSublist}
 use Rattle.polyhedra.specs.declared.mark.Mark.{Mark}
 use Rattle.polyhedra.specs.declared.mark.Mark.TheVariants.{Waiting, Kept, Implied}
 use Rattle.polyhedra.specs.Inserting.{kept_of, AreKnown, IsKeptAt, IsInsertion}

@@ -4,8 +4,8 @@ use Rattle.std.specs.List.{AllByRecursion}
 use Rattle.linear_rows.specs.Plain.{plain_rows}
 use Rattle.linear_rows.specs.declared.multipliers.Multipliers.{Multipliers}
 use Rattle.linear_rows.specs.declared.system.System.{System}
-use Rattle.termination_model.specs.Claims.{SomeOf}
-use Rattle.termination_model.specs.ChainRows.{Sieved}
+use Rattle.termination_model.specs.claims.Claims.{SomeOf}
+use Rattle.termination_model.specs.chains.ChainRows.{Sieved}
 use Rattle.simplex.specs.declared.held.Held.{Held}
 use Rattle.simplex.specs.declared.held.Held.TheVariants.{Yes, No, Blown}
 use Rattle.linear_rows.specs.Showing.{Shows}

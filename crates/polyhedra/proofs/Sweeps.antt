@@ -5,7 +5,7 @@ use Rattle.linear_rows.specs.Members.{In}
 use Rattle.linear_rows.specs.Rows.{Holds, AllHold, HoldsOn}
 use Rattle.linear_rows.specs.Irredundant.{without_place, IsIrredundant}
 use Rattle.linear_rows.proofs.Members.{from_All, to_All}
-use Rattle.termination_model.specs.ChainRows.{HasSublist}
+use Rattle.termination_model.specs.chains.ChainRows.{HasSublist}
 use Rattle.polyhedra.specs.Sweeping.{IsNeeded, IsSwept, IsLess}
 use Rattle.std.specs.Prelude.{◌≤ℤ◌, slice_get}
 use Rattle.std.proofs.Common.{negsuc, Some}

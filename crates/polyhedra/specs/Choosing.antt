@@ -4,7 +4,7 @@ use Rattle.std.specs.Prelude.{ℕ, suc, ℤ, List}
 use Rattle.linear_rows.specs.Members.{In}
 use Rattle.linear_rows.specs.Rows.{HoldsOn}
 use Rattle.linear_rows.specs.Irredundant.{IsIrredundant}
-use Rattle.termination_model.specs.ChainRows.{HasSublist}
+use Rattle.termination_model.specs.chains.ChainRows.{HasSublist}
 
 -- each of the first rows holds on the second ones
 abbrev pub AllHoldOn : ℕ → List (List ℤ) → List (List ℤ) → Type 0

@@ -3,7 +3,7 @@
 use Rattle.std.specs.Prelude.{ℕ, suc, ℤ, List}
 use Rattle.linear_rows.specs.Rows.{AreEmpty}
 use Rattle.linear_rows.specs.Irredundant.{TestIsBlown}
-use Rattle.termination_model.specs.ChainRows.{HasPoint, bottom_row}
+use Rattle.termination_model.specs.chains.ChainRows.{HasPoint, bottom_row}
 use Rattle.polyhedra.specs.declared.emptiness.Emptiness.{Emptiness}
 use Rattle.polyhedra.specs.declared.emptiness.Emptiness.TheVariants.{Empty, Inhabited, Unknown}
 

@@ -13,8 +13,8 @@ use Rattle.linear_rows.specs.Irredundant.{IsIrredundant, TestIsBlown}
 use Rattle.linear_rows.specs.declared.multipliers.Multipliers.{Multipliers}
 use Rattle.linear_rows.specs.declared.system.System.{System}
 use Rattle.linear_rows.specs.declared.point.Point.{Point}
-use Rattle.termination_model.specs.Claims.{SomeOf}
-use Rattle.termination_model.specs.ChainRows.{bottom_row, HasPoint, HasSublist, AreSpoken, IsBlown, IsJoin}
+use Rattle.termination_model.specs.claims.Claims.{SomeOf}
+use Rattle.termination_model.specs.chains.ChainRows.{bottom_row, HasPoint, HasSublist, AreSpoken, IsBlown, IsJoin}
 use Rattle.linear_rows.specs.Showing.{Shows}
 use Rattle.polyhedra.specs.declared.widened.Widened.{Widened}
 use Rattle.polyhedra.specs.Telling.{FailsOn, IsBlownOn, at_head}

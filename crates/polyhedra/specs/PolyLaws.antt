@@ -8,7 +8,7 @@ use Rattle.linear_rows.specs.Solving.{zeros}
 use Rattle.linear_rows.specs.Replacing.{row_fits}
 use Rattle.linear_rows.specs.declared.row.Row.{Row}
 use Rattle.linear_rows.specs.Plain.{HaveWidth, plain_row, plain_rows}
-use Rattle.termination_model.specs.ChainRows.{bottom_row, AreSpoken}
+use Rattle.termination_model.specs.chains.ChainRows.{bottom_row, AreSpoken}
 
 -- each row has numbers that fit (a ghost field has to be a proposition: no recursion)
 abbrev pub HaveFit : List Row → Type 0

@@ -6,7 +6,7 @@ use Rattle.linear_rows.specs.Blown.{all_of, blown_step}
 use Rattle.linear_rows.specs.Plain.{plain_rows, HaveWidth}
 use Rattle.linear_rows.specs.Step.{all_eliminated, columns}
 use Rattle.linear_rows.specs.declared.row.Rows.{Rows}
-use Rattle.termination_model.specs.ChainRows.{IsBlown, AreSpoken}
+use Rattle.termination_model.specs.chains.ChainRows.{IsBlown, AreSpoken}
 use Rattle.polyhedra.specs.Choosing.{IsCore}
 
 abbrev pub left_of : ℕ → ℕ → List (List ℤ) → List (List ℤ)

@@ -4,7 +4,7 @@ use Rattle.std.specs.Prelude.{ℕ, suc, ◌<◌, ◌⊎◌, ℤ, List, [], lengt
 use Rattle.linear_rows.specs.Irredundant.{Fails, TestIsBlown, without_place}
 use Rattle.linear_rows.specs.Rows.{HoldsOn}
 use Rattle.polyhedra.specs.Choosing.{AllHoldOn}
-use Rattle.termination_model.specs.ChainRows.{HasSublist}
+use Rattle.termination_model.specs.chains.ChainRows.{HasSublist}
 
 -- the row at a place fails at a point of the others, or its test there is blown
 abbrev pub IsNeeded : ℕ → List (List ℤ) → ℕ → Type 0

@@ -2,7 +2,7 @@
 
 ghost use Rattle.std.specs.Prelude.{◌≡◌, IfOk, length};
 ghost use Rattle.linear_rows.specs.Plain.{plain_row};
-ghost use Rattle.termination_model.specs.ChainRows.{bottom_row};
+ghost use Rattle.termination_model.specs.chains.ChainRows.{bottom_row};
 
 use linear_rows::{Numbers, Row};
 use std::alloc::{AllocError, Global};

@@ -2,7 +2,7 @@
 
 ghost use Rattle.std.specs.Prelude.{◌≡◌, ℕ, suc, ℤ, Bool, true, List, [], ◌∷◌, IfOk, length, All};
 ghost use Rattle.linear_rows.specs.Plain.{HaveWidth, plain_row, plain_rows};
-ghost use Rattle.termination_model.specs.ChainRows.{bottom_row, AreSpoken};
+ghost use Rattle.termination_model.specs.chains.ChainRows.{bottom_row, AreSpoken};
 ghost use Rattle.linear_rows.specs.Replacing.{row_fits};
 ghost use Rattle.simplex.specs.Telling.{Tells};
 ghost use Rattle.polyhedra.specs.Telling.{TellsHead, IsSystem, HasNaturalHead};

@@ -4,7 +4,7 @@ ghost use Rattle.std.specs.Prelude.{◌≡◌, IfOk};
 ghost use Rattle.exact128.specs.Fits.{fits};
 ghost use Rattle.linear_rows.specs.Blown.{all_of};
 ghost use Rattle.linear_rows.specs.Plain.{plain_rows};
-ghost use Rattle.termination_model.specs.ChainRows.{HasPoint};
+ghost use Rattle.termination_model.specs.chains.ChainRows.{HasPoint};
 ghost use Rattle.polyhedra.specs.Making.{SaysJoin};
 
 use crate::emptiness::{Emptiness, emptiness_of};

@@ -4,7 +4,7 @@ ghost use Rattle.std.specs.Prelude.{◌≡◌, ◌+◌, suc, ℤ, List, length, 
 ghost use Rattle.exact128.specs.Fits.{fits};
 ghost use Rattle.linear_rows.specs.Blown.{all_of};
 ghost use Rattle.linear_rows.specs.Plain.{HaveWidth, plain_row, plain_rows};
-ghost use Rattle.termination_model.specs.ChainRows.{bottom_row};
+ghost use Rattle.termination_model.specs.chains.ChainRows.{bottom_row};
 ghost use Rattle.linear_rows.specs.Replacing.{row_fits};
 ghost use Rattle.simplex.specs.Telling.{Tells};
 ghost use Rattle.polyhedra.specs.Telling.{TellsHead, IsSystem, HasNaturalHead, at_head, IsTarget};

@@ -5,7 +5,7 @@ ghost use Rattle.linear_rows.specs.Plain.{plain_row, plain_rows, HaveWidth};
 ghost use Rattle.linear_rows.specs.Irredundant.{without_place};
 ghost use Rattle.polyhedra.specs.Choosing.{IsCore, AllHoldOn};
 ghost use Rattle.polyhedra.specs.Sweeping.{IsSwept, IsNeeded, IsImplied, IsLess};
-ghost use Rattle.termination_model.specs.ChainRows.{HasSublist};
+ghost use Rattle.termination_model.specs.chains.ChainRows.{HasSublist};
 
 use crate::hints::Hints;
 use linear_rows::{Row, RowList, Rows};

@@ -4,7 +4,7 @@ use Rattle.cti_terms.specs.Tree.{Tree}
 use Rattle.cti_terms.specs.Listing.{Listing}
 use Rattle.cti_terms.specs.declared.atom_list.Atom.{Atom}
 use Rattle.cti_terms.specs.declared.clauses.Clause.{Clause}
-use Rattle.termination_model.specs.Grounds.{Family, IsGround, truth_row}
+use Rattle.termination_model.specs.grounds.Grounds.{Family, IsGround, truth_row}
 use Rattle.truth_rows.specs.Rules.{KeepsSets}
 use Rattle.termination_model.proofs.Lists.{by_places, from_places}
 use Rattle.precond_fixpoint.specs.Allowed.{AgreeBelow, AgreeOnMembers, GreatestDependsBelow, GreatestDependsOnMembers}

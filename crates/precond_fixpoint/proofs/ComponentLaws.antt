@@ -23,8 +23,8 @@ use Rattle.precond_fixpoint.proofs.AllowedLaws.{greatest_depends_below, greatest
 use Rattle.precond_fixpoint.proofs.FamilyLaws.{allowed_after, column_row, pre_after}
 use Rattle.groundness.proofs.NoRows.{start_none, start_sets}
 use Rattle.precond_fixpoint.proofs.PlaceLaws.{any_at, at_is, is_at_of, items_at, items_same, member_place, not_at, place_member, ranked_is, some_at}
-use Rattle.termination_model.specs.Grounds.{Family}
-use Rattle.termination_model.specs.View.{all_upper}
+use Rattle.termination_model.specs.grounds.Grounds.{Family}
+use Rattle.termination_model.specs.mappings.View.{all_upper}
 use Rattle.truth_rows.specs.Sets.{AreSets, family_of, has_row}
 use Rattle.truth_rows.proofs.CallerLemmas.{family_later, sets_later}
 use Rattle.termination_model.proofs.Lists.{by_places, one_element, place_below}

@@ -3,7 +3,7 @@ use Rattle.std.proofs.Common.{◌≡◌, ◌↔◌, ℕ, ℤ, zero, suc, ◌+◌
 use Rattle.std.proofs.lemmas.Bool.{cases_eq}
 use Rattle.bool_diagrams.specs.Cubes.{values_of}
 use Rattle.number_tests.specs.Levels.{is_positive, natural}
-use Rattle.termination_model.specs.Rows.{Covers}
+use Rattle.termination_model.specs.sizes.Rows.{Covers}
 use Rattle.termination_model.proofs.Lists.{place_below}
 use Rattle.truth_rows.proofs.RowLaws.{both, same_bool}
 use Rattle.truth_rows.proofs.CoverLaws.{covers_row, covered_at}

@@ -12,8 +12,8 @@ use Rattle.cti_terms.specs.declared.predicates.Pred.{Pred}
 use Rattle.cti_terms.specs.declared.predicates.PredId.{PredId}
 use Rattle.number_tests.specs.Levels.{items_of}
 use Rattle.precond_fixpoint.specs.Solving.{AreColumns, AreMappingSets, AreUnions, FitPredicate, IsColumn, allowed_family, pre_family}
-use Rattle.termination_model.specs.Grounds.{HasArity}
-use Rattle.termination_model.specs.View.{all_upper}
+use Rattle.termination_model.specs.grounds.Grounds.{HasArity}
+use Rattle.termination_model.specs.mappings.View.{all_upper}
 use Rattle.truth_rows.specs.Sets.{AreSets, family_of, has_row}
 use Rattle.truth_rows.proofs.CallerLemmas.{family_later, reads_later, sets_later, sets_with}
 use Rattle.truth_rows.proofs.ClaimLaws.{all_upper_same}

@@ -2,8 +2,8 @@
 use Rattle.std.proofs.Common.{◌≡◌, ℕ, zero, suc, ◌+◌, Bool, true, false, ◌&&◌, ◌||◌, not, nat_lt, List, [], ◌∷◌, ◌++◌, length, take, slice_get, Some, refl, ap, sym, ◌∙◌, arith}
 use Rattle.std.specs.List.{filter, list_all, list_any}
 use Rattle.std.proofs.lemmas.List.Elements.{filter-append}
-use Rattle.termination_model.specs.Descent.{mode_row}
-use Rattle.termination_model.specs.Modes.{chosen_up_to, is_part, modes}
+use Rattle.termination_model.specs.claims.Descent.{mode_row}
+use Rattle.termination_model.specs.grounds.Modes.{chosen_up_to, is_part, modes}
 
 length-mode_row : (mode : List ℕ) (i n : ℕ) → length (mode_row mode i n) ≡ n
 length-mode_row mode i zero = refl

@@ -8,7 +8,7 @@ use Rattle.call_components.specs.Partition.{Partition}
 use Rattle.cti_terms.specs.declared.predicates.PredId.{PredId}
 use Rattle.number_tests.specs.Levels.{items_of}
 use Rattle.precond_fixpoint.specs.Removing.{is_ranked}
-use Rattle.termination_model.specs.Chain.{is_member, is_number}
+use Rattle.termination_model.specs.chains.Chain.{is_member, is_number}
 
 pub items_at : {X : Type 0} → (xs : List (List X)) (q : ℕ) (ds : List X) → slice_get xs q ≡ Some ds → items_of xs q ≡ ds
 items_at xs q ds e = ap (λ o. unwrap_or o []) e

@@ -8,7 +8,7 @@ use Rattle.cti_terms.specs.declared.predicates.Pred.{Pred}
 use Rattle.cti_terms.specs.Listing.{Listing}
 use Rattle.cti_terms.specs.Tree.{Tree}
 use Rattle.groundness.specs.Marks.{IsApart}
-use Rattle.termination_model.specs.Grounds.{Family, HasArity, IsGround, IsInside, truth_row}
+use Rattle.termination_model.specs.grounds.Grounds.{Family, HasArity, IsGround, IsInside, truth_row}
 use Rattle.truth_rows.specs.Rules.{KeepsSets}
 use Rattle.truth_rows.specs.Sets.{AreSets, family_of}
 use Rattle.truth_rows.proofs.CallerLemmas.{family_later}

@@ -6,8 +6,8 @@ use Rattle.cti_terms.specs.Tree.{Tree}
 use Rattle.cti_terms.specs.Listing.{Listing}
 use Rattle.cti_terms.specs.declared.atom_list.Atom.{Atom}
 use Rattle.cti_terms.specs.declared.clauses.Clause.{Clause}
-use Rattle.termination_model.specs.Grounds.{Family, HasArity, truth_row, IsGround}
-use Rattle.termination_model.specs.Rows.{IsUpper}
+use Rattle.termination_model.specs.grounds.Grounds.{Family, HasArity, truth_row, IsGround}
+use Rattle.termination_model.specs.sizes.Rows.{IsUpper}
 use Rattle.truth_rows.specs.Rules.{KeepsSets}
 use Rattle.precond_fixpoint.specs.Greatest.{KeepsIn, IsInsideIn, IsGreatestIn, IsBroken, AreAdmittedIn, IsWithinIn, Search, Searches, Solved, families, SomeSolved, SmallerIsBetterIn, LargerInside}
 use Rattle.termination_model.proofs.Covering.{covered_at, covered_by}

@@ -9,8 +9,8 @@ use Rattle.number_tests.specs.Levels.{coefficients_of, items_of, natural, natura
 use Rattle.number_tests.specs.declared.level_part.LevelPart.{LevelPart}
 use Rattle.precond_fixpoint.specs.Removing.{IsCovering}
 use Rattle.precond_fixpoint.proofs.PlaceLaws.{items_at}
-use Rattle.termination_model.specs.Grounds.{Family, HasArity}
-use Rattle.termination_model.specs.Rows.{Covers}
+use Rattle.termination_model.specs.grounds.Grounds.{Family, HasArity}
+use Rattle.termination_model.specs.sizes.Rows.{Covers}
 use Rattle.truth_rows.specs.Sets.{AreSets, family_of}
 use Rattle.truth_rows.proofs.CallerLemmas.{family_at, sets_later, sets_with}
 use Rattle.truth_rows.proofs.ListLaws.{set_there}

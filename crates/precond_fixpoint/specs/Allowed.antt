@@ -5,7 +5,7 @@ use Rattle.cti_terms.specs.Tree.{Tree}
 use Rattle.cti_terms.specs.Listing.{Listing}
 use Rattle.cti_terms.specs.declared.atom_list.Atom.{Atom}
 use Rattle.cti_terms.specs.declared.clauses.Clause.{Clause}
-use Rattle.termination_model.specs.Grounds.{Family}
+use Rattle.termination_model.specs.grounds.Grounds.{Family}
 use Rattle.precond_fixpoint.specs.Greatest.{IsGreatestIn}
 
 -- two families have the same rows of the lower predicates that the members' clauses call

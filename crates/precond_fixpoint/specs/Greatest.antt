@@ -12,9 +12,9 @@ use Rattle.cti_terms.specs.Tree.{Tree}
 use Rattle.cti_terms.specs.Listing.{Listing}
 use Rattle.cti_terms.specs.declared.atom_list.Atom.{Atom}
 use Rattle.cti_terms.specs.declared.clauses.Clause.{Clause}
-use Rattle.termination_model.specs.Coefficients.{coefficient}
-use Rattle.termination_model.specs.Grounds.{Family, HasArity, truth_row, IsGround}
-use Rattle.termination_model.specs.Rows.{Covers, IsUpper}
+use Rattle.termination_model.specs.mappings.Coefficients.{coefficient}
+use Rattle.termination_model.specs.grounds.Grounds.{Family, HasArity, truth_row, IsGround}
+use Rattle.termination_model.specs.sizes.Rows.{Covers, IsUpper}
 use Rattle.truth_rows.specs.Rules.{KeepsSets}
 
 module _ (truth : (ℕ → Bool) → Tree → Bool) (p : Listing) (is_member : ℕ → Bool) (allowed grounds : Family) where

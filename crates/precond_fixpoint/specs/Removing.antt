@@ -14,8 +14,8 @@ use Rattle.cti_terms.specs.declared.clauses.Clause.{Clause}
 use Rattle.cti_terms.specs.declared.predicates.Pred.{Pred}
 use Rattle.groundness.specs.Missing.{missing}
 use Rattle.precond_fixpoint.specs.Greatest.{IsBroken, RemovesOnlyBroken}
-use Rattle.termination_model.specs.Grounds.{Family, HasArity}
-use Rattle.termination_model.specs.Rows.{Covers}
+use Rattle.termination_model.specs.grounds.Grounds.{Family, HasArity}
+use Rattle.termination_model.specs.sizes.Rows.{Covers}
 
 -- each row of the old sets stays, or is a row of the clause's head from which the rule is broken
 abbrev pub RemovesBroken : ((ℕ → Bool) → Tree → Bool) → Listing → List Rows → List Rows → List ℕ → (grounds allowed old new : List Diagram) → Clause → Type 0

@@ -13,7 +13,7 @@ use Rattle.precond_fixpoint.specs.Removing.{AreRanked}
 use Rattle.precond_fixpoint.specs.Solving.{AreLevels}
 use Rattle.precond_fixpoint.specs.declared.setting.Component.{Component}
 use Rattle.precond_fixpoint.specs.declared.setting.Setting.{Setting}
-use Rattle.termination_model.specs.Grounds.{Family}
+use Rattle.termination_model.specs.grounds.Grounds.{Family}
 use Rattle.truth_rows.specs.Sets.{AreSets, family_of}
 
 -- a program with its components and ranks, the clauses of its predicates, its ground sets and its mappings

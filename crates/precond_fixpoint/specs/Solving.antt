@@ -21,10 +21,10 @@ use Rattle.number_tests.specs.declared.level_part.LevelPart.{LevelPart}
 use Rattle.precond_fixpoint.specs.Greatest.{IsGreatestIn}
 use Rattle.precond_fixpoint.specs.Removing.{is_ranked}
 use Rattle.precond_fixpoint.specs.declared.mode.Mode.{Mode}
-use Rattle.termination_model.specs.Grounds.{Family, HasArity}
-use Rattle.termination_model.specs.Modes.{modes}
-use Rattle.termination_model.specs.View.{all_upper}
-pub use Rattle.termination_model.specs.Chain.{is_member}
+use Rattle.termination_model.specs.grounds.Grounds.{Family, HasArity}
+use Rattle.termination_model.specs.grounds.Modes.{modes}
+use Rattle.termination_model.specs.mappings.View.{all_upper}
+pub use Rattle.termination_model.specs.chains.Chain.{is_member}
 use Rattle.truth_rows.specs.Sets.{AreSets, family_of, has_row}
 
 -- the rows that the diagrams of the mapping of this number have, and none where there is no such mapping

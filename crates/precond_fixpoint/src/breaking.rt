@@ -4,7 +4,7 @@ ghost use Rattle.std.specs.Prelude.{◌≡◌, ◌↔◌, ◌≤◌, ℕ, Bool, 
 ghost use Rattle.truth_rows.specs.Ready.{HasAtom, HasTruths, IsReady};
 ghost use Rattle.bool_diagrams.specs.Rows.{IsDiagram, Keeps, holds};
 ghost use Rattle.precond_fixpoint.specs.Breaking.{AreReadyFor, Breaks};
-ghost use Rattle.termination_model.specs.Grounds.{truth_row};
+ghost use Rattle.termination_model.specs.grounds.Grounds.{truth_row};
 
 use bool_diagrams::{Diagram, Table};
 use cti_terms::{Atom, MOST_VARIABLES};

@@ -8,7 +8,7 @@ ghost use Rattle.cti_terms.specs.declared.predicates.PredId.{PredId as ThePred};
 ghost use Rattle.number_tests.specs.Levels.{coefficients_of, is_positive, items_of, natural};
 ghost use Rattle.precond_fixpoint.specs.Removing.{IsCovering};
 ghost use Rattle.precond_fixpoint.specs.Solving.{HaveParts};
-ghost use Rattle.termination_model.specs.Rows.{Covers};
+ghost use Rattle.termination_model.specs.sizes.Rows.{Covers};
 ghost use Rattle.truth_rows.specs.Sets.{AreSets, family_of};
 
 use bool_diagrams::{Diagram, Table};

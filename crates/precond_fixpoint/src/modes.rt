@@ -6,8 +6,8 @@ ghost use Rattle.bool_diagrams.specs.Cubes.{truth_rows};
 ghost use Rattle.bool_diagrams.specs.Rows.{IsDiagram, ReadsBelow};
 ghost use Rattle.cti_terms.specs.Listing.{IsProgram};
 ghost use Rattle.precond_fixpoint.specs.Solving.{AreModes, arguments_of};
-ghost use Rattle.termination_model.specs.Descent.{mode_row};
-ghost use Rattle.termination_model.specs.Modes.{is_part, modes};
+ghost use Rattle.termination_model.specs.claims.Descent.{mode_row};
+ghost use Rattle.termination_model.specs.grounds.Modes.{is_part, modes};
 ghost use Rattle.truth_rows.specs.Sets.{AreSets, family_of};
 
 use crate::mode::Mode;

@@ -10,7 +10,7 @@ ghost use Rattle.groundness.specs.Marks.{HasUser, IsApart, IsMarked};
 ghost use Rattle.precond_fixpoint.specs.Removing.{AreCovering, Needed, RemovesBroken, UnmarkedKeep, all_present, is_ranked, work};
 ghost use Rattle.precond_fixpoint.specs.Greatest.{IsGreatestIn};
 ghost use Rattle.precond_fixpoint.specs.Setting.{IsComponent, IsSetting, rows_of};
-ghost use Rattle.termination_model.specs.Grounds.{IsInside};
+ghost use Rattle.termination_model.specs.grounds.Grounds.{IsInside};
 
 use crate::breaking::broken_rows;
 use crate::setting::{Component, Setting};

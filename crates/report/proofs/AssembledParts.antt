@@ -32,11 +32,11 @@ use Rattle.numeric_model.specs.declared.step.Step.{Step}
 use Rattle.term_size.specs.AnyNorm.{any_is_a_norm, any_row, any_truth}
 use Rattle.term_size.specs.declared.any_norm.AnyNorm.{AnyNorm}
 use Rattle.termination_model.proofs.ChainKeeping.{chains_state}
-use Rattle.termination_model.specs.Chain.{IsLegalChain}
-use Rattle.termination_model.specs.ChainSteps.{Step as Plain}
-use Rattle.termination_model.specs.ComponentViews.{positions_in}
-use Rattle.termination_model.specs.Sizes.{AreSizes, rows_of}
-use Rattle.termination_model.specs.ShortSystems.{short_system}
+use Rattle.termination_model.specs.chains.Chain.{IsLegalChain}
+use Rattle.termination_model.specs.chains.ChainSteps.{Step as Plain}
+use Rattle.termination_model.specs.mappings.ComponentViews.{positions_in}
+use Rattle.termination_model.specs.sizes.Sizes.{AreSizes, rows_of}
+use Rattle.termination_model.specs.sizes.ShortSystems.{short_system}
 use Rattle.termination_model.specs.declared.sizes.Sizes.{Sizes}
 use Rattle.cert_assembly.proofs.ChainParts.{chain_sizes_hold}
 use Rattle.report.proofs.ExactParts.{components_are_exact}

@@ -10,19 +10,19 @@ use Rattle.cti_terms.specs.Tree.{Tree}
 use Rattle.cti_terms.specs.declared.predicates.Pred.{Pred}
 use Rattle.linear_rows.specs.Members.{In}
 use Rattle.cert_modes.specs.Modes.{allowed, coefficients_of, grounds_of}
-use Rattle.termination_model.specs.Coefficients.{coefficient}
-use Rattle.termination_model.specs.Claims.{Mapping}
-use Rattle.termination_model.specs.Grounds.{HasArity}
-use Rattle.termination_model.specs.Modes.{is_part, modes}
-use Rattle.termination_model.specs.Rows.{IsUpper}
-use Rattle.termination_model.specs.OwnCalls.{Position}
-use Rattle.termination_model.specs.Supports.{support_from}
-use Rattle.termination_model.specs.Minimal.{IsSet}
+use Rattle.termination_model.specs.mappings.Coefficients.{coefficient}
+use Rattle.termination_model.specs.claims.Claims.{Mapping}
+use Rattle.termination_model.specs.grounds.Grounds.{HasArity}
+use Rattle.termination_model.specs.grounds.Modes.{is_part, modes}
+use Rattle.termination_model.specs.sizes.Rows.{IsUpper}
+use Rattle.termination_model.specs.mappings.OwnCalls.{Position}
+use Rattle.termination_model.specs.mappings.Supports.{support_from}
+use Rattle.termination_model.specs.grounds.Minimal.{IsSet}
 use Rattle.termination_model.proofs.Having.{support_set}
 use Rattle.termination_model.proofs.Sets.{Part, to_part, within}
 use Rattle.precond_fixpoint.specs.Greatest.{KeepsIn, Solved, IsWithinIn}
 use Rattle.cert_assembly.specs.ExactModes.{is_member, ModesAreExact, AreCounted}
-use Rattle.termination_model.specs.ComponentViews.{positions_in}
+use Rattle.termination_model.specs.mappings.ComponentViews.{positions_in}
 use Rattle.report.specs.ExactMappings.{mapping_in, printed_support, HasMapping, MappingsAreExact, BestOverMappings, admitted_by, IsSolvedMapping, HaveEachSupport, BestModes}
 use Rattle.cert_assembly.proofs.BestModes.{Covers, IsCovered, Keeps, best_modes, best_row, some_weaker}
 use Rattle.cert_assembly.proofs.PartShapes.{all_weaker}

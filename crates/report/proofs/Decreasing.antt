@@ -25,19 +25,19 @@ use Rattle.number_tests.specs.Proved.{fall_of, level_of}
 use Rattle.number_tests.specs.Shape.{IsLevelPart}
 use Rattle.number_tests.specs.declared.level_part.LevelPart.{LevelPart}
 use Rattle.termination_model.proofs.Proved.{length-substituted}
-use Rattle.termination_model.specs.ComponentViews.{component_view, positions_in, rank_in, size_claims, members_in}
-use Rattle.termination_model.specs.Excluding.{IsZeroOutside}
+use Rattle.termination_model.specs.mappings.ComponentViews.{component_view, positions_in, rank_in, size_claims, members_in}
+use Rattle.termination_model.specs.mappings.Excluding.{IsZeroOutside}
 use Rattle.linear_rows.specs.Step.{columns}
-use Rattle.termination_model.specs.Coefficients.{coefficient}
-use Rattle.termination_model.specs.Ready.{arity_in, itself, positions_by}
-use Rattle.termination_model.specs.Refutation.{Decreases}
-use Rattle.termination_model.specs.Rows.{added, scaled}
-use Rattle.termination_model.specs.Sizes.{rows_of}
-use Rattle.termination_model.specs.SupportLaws.{HasWidths}
-use Rattle.termination_model.specs.Systems.{row_over, system}
-use Rattle.termination_model.specs.ShortSystems.{short_row, short_system}
-use Rattle.termination_model.specs.View.{Call, Lower, Member, Rule, fall_over, rule_of, system_of, upward_union}
-use Rattle.termination_model.specs.View as view
+use Rattle.termination_model.specs.mappings.Coefficients.{coefficient}
+use Rattle.termination_model.specs.mappings.Ready.{arity_in, itself, positions_by}
+use Rattle.termination_model.specs.mappings.Refutation.{Decreases}
+use Rattle.termination_model.specs.sizes.Rows.{added, scaled}
+use Rattle.termination_model.specs.sizes.Sizes.{rows_of}
+use Rattle.termination_model.specs.mappings.SupportLaws.{HasWidths}
+use Rattle.termination_model.specs.sizes.Systems.{row_over, system}
+use Rattle.termination_model.specs.sizes.ShortSystems.{short_row, short_system}
+use Rattle.termination_model.specs.mappings.View.{Call, Lower, Member, Rule, fall_over, rule_of, system_of, upward_union}
+use Rattle.termination_model.specs.mappings.View as view
 use Rattle.cert_assembly.proofs.PartShapes.{measured, unmapped}
 use Rattle.report.proofs.MappingParts.{level_there, own_fall}
 use Rattle.report.specs.Assembly.{AreFound}

@@ -21,17 +21,17 @@ use Rattle.linear_rows.specs.Step.{columns}
 use Rattle.number_tests.specs.Shape.{IsLevelPart}
 use Rattle.number_tests.specs.declared.level_part.LevelPart.{LevelPart}
 use Rattle.number_tests.specs.declared.refutation.Refutation.{Refutation}
-use Rattle.termination_model.specs.Chain.{is_number}
+use Rattle.termination_model.specs.chains.Chain.{is_number}
 use Rattle.termination_model.proofs.Lists.{by_places, indexed, mapped_place, place_below}
-use Rattle.termination_model.specs.ComponentViews.{members_in, positions_in}
-use Rattle.termination_model.specs.Excluding.{IsZeroOutside}
-use Rattle.termination_model.specs.Minimal.{IsAbove}
-use Rattle.termination_model.specs.Modes.{chosen_up_to, is_part}
-use Rattle.termination_model.specs.Refutation.{Decreases}
-use Rattle.termination_model.specs.Sizes.{rows_of}
-use Rattle.termination_model.specs.SupportLaws.{HasWidths}
+use Rattle.termination_model.specs.mappings.ComponentViews.{members_in, positions_in}
+use Rattle.termination_model.specs.mappings.Excluding.{IsZeroOutside}
+use Rattle.termination_model.specs.grounds.Minimal.{IsAbove}
+use Rattle.termination_model.specs.grounds.Modes.{chosen_up_to, is_part}
+use Rattle.termination_model.specs.mappings.Refutation.{Decreases}
+use Rattle.termination_model.specs.sizes.Sizes.{rows_of}
+use Rattle.termination_model.specs.mappings.SupportLaws.{HasWidths}
 use Rattle.report.proofs.Decreasing.{level_member, mapping_at, mapping_decreases}
-use Rattle.termination_model.specs.Supports.{support_from}
+use Rattle.termination_model.specs.mappings.Supports.{support_from}
 use Rattle.level_systems.specs.Subsequences.{IsSubsequence}
 use Rattle.cert_assembly.proofs.PartShapes.{list_is, measured, unmapped}
 use Rattle.report.proofs.MappingParts.{answer_at, count_deep, found_at, level_there, levels_deep, levels_is, member_below, recursive_at}

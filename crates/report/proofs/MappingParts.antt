@@ -32,9 +32,9 @@ use Rattle.number_tests.specs.Shape.{IsLevelPart, list_at, row_count}
 use Rattle.number_tests.specs.declared.level_part.LevelPart.{LevelPart}
 use Rattle.precond_fixpoint.specs.Solving.{AreLevels}
 use Rattle.termination_model.proofs.Lists.{by_places, indexed, place_below}
-use Rattle.termination_model.specs.ComponentViews.{members_in, rank_in}
-use Rattle.termination_model.specs.Sizes.{rows_of}
-use Rattle.termination_model.specs.ShortSystems.{short_system}
+use Rattle.termination_model.specs.mappings.ComponentViews.{members_in, rank_in}
+use Rattle.termination_model.specs.sizes.Sizes.{rows_of}
+use Rattle.termination_model.specs.sizes.ShortSystems.{short_system}
 use Rattle.cert_assembly.proofs.ChainParts.{are_each, multipliers_of, row_count_is}
 use Rattle.cert_assembly.proofs.ModeLaws.{there}
 use Rattle.cert_assembly.proofs.PartShapes.{all_mapped, all_weaker, all_in, unmapped, in_contains, list_is, zeros_zero, zero_is, part_is, level_is, measured, measure_there, in_calls, in_pairs, together_in}

@@ -13,8 +13,8 @@ use Rattle.cti_terms.specs.declared.predicates.Pred.{Pred}
 use Rattle.cti_terms.specs.declared.predicates.PredId.{PredId}
 use Rattle.linear_rows.specs.Step.{columns}
 use Rattle.termination_model.proofs.Lists.{indexed}
-use Rattle.termination_model.specs.ComponentViews.{positions_in}
-use Rattle.termination_model.specs.Ready.{arity_in, positions_by}
+use Rattle.termination_model.specs.mappings.ComponentViews.{positions_in}
+use Rattle.termination_model.specs.mappings.Ready.{arity_in, positions_by}
 use Rattle.report.specs.SupportNotes.{arguments_in, large_at}
 use Rattle.level_systems.proofs.PairLists.{drop_at}
 

@@ -14,9 +14,9 @@ use Rattle.number_tests.specs.Refuting.{call_of, clause_of, head_loads, call_loa
 use Rattle.cti_terms.specs.Listing.{Listing}
 use Rattle.cti_terms.specs.Tree.{Tree}
 use Rattle.exact128.specs.Sums.{dot, entry}
-use Rattle.termination_model.specs.Claims.{Claims, SomeOf}
-use Rattle.termination_model.specs.Grounds.{Family}
-use Rattle.termination_model.specs.Refutation.{Pair, Load, gather, head_load, call_load, values_at}
+use Rattle.termination_model.specs.claims.Claims.{Claims, SomeOf}
+use Rattle.termination_model.specs.grounds.Grounds.{Family}
+use Rattle.termination_model.specs.mappings.Refutation.{Pair, Load, gather, head_load, call_load, values_at}
 use Rattle.report.specs.Refuted.{IsPointOf, RefutationsAreShown}
 
 natural_is : (x : ℤ) → pos 0 ≤ℤ x → pos (unsigned_abs x) ≡ x

@@ -21,9 +21,9 @@ use Rattle.number_tests.specs.declared.level_part.LevelPart.{LevelPart}
 use Rattle.number_tests.specs.declared.pair_point.PairPoint.{PairPoint}
 use Rattle.number_tests.specs.declared.refutation.Refutation.{Refutation}
 use Rattle.termination_model.proofs.Lists.{by_places, indexed, place_below}
-use Rattle.termination_model.specs.ComponentViews.{HasSupportIn, members_in, positions_in}
-use Rattle.termination_model.specs.Sizes.{rows_of}
-use Rattle.termination_model.specs.SupportLaws.{HasWidths}
+use Rattle.termination_model.specs.mappings.ComponentViews.{HasSupportIn, members_in, positions_in}
+use Rattle.termination_model.specs.sizes.Sizes.{rows_of}
+use Rattle.termination_model.specs.mappings.SupportLaws.{HasWidths}
 use Rattle.report.proofs.Decreasing.{mapping_at, mapping_decreases}
 use Rattle.cert_assembly.proofs.ChainParts.{are_each}
 use Rattle.report.proofs.MappingParts.{count_deep, answer_at}

@@ -21,8 +21,8 @@ use Rattle.precond_fixpoint.specs.Greatest.{Solved}
 use Rattle.term_size.specs.AnyNorm.{any_row, any_truth}
 use Rattle.term_size.specs.declared.any_norm.AnyNorm.{AnyNorm}
 use Rattle.termination_model.proofs.Points.{in_columns}
-use Rattle.termination_model.specs.ComponentViews.{members_in, positions_in}
-use Rattle.termination_model.specs.Modes.{chosen_up_to, modes}
+use Rattle.termination_model.specs.mappings.ComponentViews.{members_in, positions_in}
+use Rattle.termination_model.specs.grounds.Modes.{chosen_up_to, modes}
 use Rattle.report.specs.Exact.{IsExact}
 use Rattle.report.specs.ExactMappings.{admitted_by, HaveEachSupport, IsSolvedMapping, MappingsAreExact, printed_support}
 use Rattle.cert_assembly.specs.ExactModes.{AreCounted}

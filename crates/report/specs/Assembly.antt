@@ -19,7 +19,7 @@ use Rattle.linear_rows.specs.declared.row.Rows.{Rows as SizeRows}
 use Rattle.number_tests.specs.declared.refutation.Refutation.{Refutation}
 use Rattle.term_size.specs.AnyNorm.{any_row, any_truth}
 use Rattle.term_size.specs.declared.any_norm.AnyNorm.{AnyNorm}
-use Rattle.termination_model.specs.Sizes.{rows_of}
+use Rattle.termination_model.specs.sizes.Sizes.{rows_of}
 use Rattle.termination_model.specs.declared.sizes.Sizes.{Sizes}
 use Rattle.report.specs.Assembled.{NumbersHold}
 use Rattle.report.specs.Exact.{IsExactOf}

@@ -23,14 +23,14 @@ use Rattle.linear_rows.specs.Step.{columns}
 use Rattle.number_tests.specs.declared.refutation.Refutation.{Refutation}
 use Rattle.linear_rows.specs.Blown.{all_of}
 use Rattle.term_size.specs.AnyNorm.{any_row, any_truth}
-use Rattle.termination_model.specs.BlownSupports.{IsBlownAt}
-use Rattle.termination_model.specs.ComponentViews.{positions_in}
-use Rattle.termination_model.specs.Excluding.{IsZeroOutside}
-use Rattle.termination_model.specs.Minimal.{IsExcluded, IsSet}
-use Rattle.termination_model.specs.Modes.{is_part}
-use Rattle.termination_model.specs.Ready.{arity_in}
-use Rattle.termination_model.specs.Refutation.{Decreases}
-use Rattle.termination_model.specs.Supports.{picked_from}
+use Rattle.termination_model.specs.mappings.BlownSupports.{IsBlownAt}
+use Rattle.termination_model.specs.mappings.ComponentViews.{positions_in}
+use Rattle.termination_model.specs.mappings.Excluding.{IsZeroOutside}
+use Rattle.termination_model.specs.grounds.Minimal.{IsExcluded, IsSet}
+use Rattle.termination_model.specs.grounds.Modes.{is_part}
+use Rattle.termination_model.specs.mappings.Ready.{arity_in}
+use Rattle.termination_model.specs.mappings.Refutation.{Decreases}
+use Rattle.termination_model.specs.mappings.Supports.{picked_from}
 use Rattle.cert_assembly.specs.ChainNotes.{IsChain}
 use Rattle.report.specs.ExactMappings.{HasMapping, MappingsAreExact, mapping_in, printed_support, view}
 use Rattle.cert_assembly.specs.ExactModes.{ModesAreExact}

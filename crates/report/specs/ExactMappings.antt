@@ -16,17 +16,17 @@ use Rattle.cti_terms.specs.declared.predicates.Pred.{Pred}
 use Rattle.cert_modes.specs.Modes.{allowed, coefficients_of, grounds_of}
 use Rattle.level_systems.specs.Subsequences.{IsSubsequence}
 use Rattle.linear_rows.specs.Step.{columns}
-use Rattle.termination_model.specs.Claims.{Mapping}
-use Rattle.termination_model.specs.ComponentViews.{HasSupportIn, component_view, positions_in}
-use Rattle.termination_model.specs.Excluding.{IsZeroOutside}
-use Rattle.termination_model.specs.Grounds.{HasArity}
-use Rattle.termination_model.specs.Minimal.{IsAbove, IsMinimal}
-use Rattle.termination_model.specs.Modes.{chosen_up_to, is_part, modes}
-use Rattle.termination_model.specs.Refutation.{Decreases}
-use Rattle.termination_model.specs.Rows.{IsUpper}
-use Rattle.termination_model.specs.Sizes.{rows_of}
-use Rattle.termination_model.specs.Supports.{support_from}
-use Rattle.termination_model.specs.View.{Rule, all_upper}
+use Rattle.termination_model.specs.claims.Claims.{Mapping}
+use Rattle.termination_model.specs.mappings.ComponentViews.{HasSupportIn, component_view, positions_in}
+use Rattle.termination_model.specs.mappings.Excluding.{IsZeroOutside}
+use Rattle.termination_model.specs.grounds.Grounds.{HasArity}
+use Rattle.termination_model.specs.grounds.Minimal.{IsAbove, IsMinimal}
+use Rattle.termination_model.specs.grounds.Modes.{chosen_up_to, is_part, modes}
+use Rattle.termination_model.specs.mappings.Refutation.{Decreases}
+use Rattle.termination_model.specs.sizes.Rows.{IsUpper}
+use Rattle.termination_model.specs.sizes.Sizes.{rows_of}
+use Rattle.termination_model.specs.mappings.Supports.{support_from}
+use Rattle.termination_model.specs.mappings.View.{Rule, all_upper}
 use Rattle.precond_fixpoint.specs.Greatest.{KeepsIn, IsGreatestIn, Solved, SomeSolved}
 use Rattle.cert_assembly.specs.ExactModes.{is_member, ModesAreExact, AreCounted}
 

@@ -13,9 +13,9 @@ use Rattle.cert_checker.specs.Excluded.{IsNatural, itself, pair_of}
 use Rattle.number_tests.specs.Refuting.{PairsFit, SumsRefute, clause_of}
 use Rattle.cti_terms.specs.Listing.{Listing}
 use Rattle.cti_terms.specs.Tree.{Tree}
-use Rattle.termination_model.specs.Grounds.{Family}
-use Rattle.termination_model.specs.Refutation.{IsRefutation}
-use Rattle.termination_model.specs.View.{view_of}
+use Rattle.termination_model.specs.grounds.Grounds.{Family}
+use Rattle.termination_model.specs.mappings.Refutation.{IsRefutation}
+use Rattle.termination_model.specs.mappings.View.{view_of}
 
 -- a natural point of the pair's variables
 pub record IsPointOf (p : Listing) (x : PairPoint) : Type 0 where

@@ -12,7 +12,7 @@ use Rattle.certificate.specs.declared.fact.Fact.{Fact}
 use Rattle.certificate.specs.declared.fact.Fact.TheVariants as fact
 use Rattle.cti_terms.specs.Listing.{Listing}
 use Rattle.linear_rows.specs.Step.{columns}
-use Rattle.termination_model.specs.ComponentViews.{members_in, positions_in}
+use Rattle.termination_model.specs.mappings.ComponentViews.{members_in, positions_in}
 
 -- of n arguments, the first of which is position i and has number a, those whose positions are in the set
 abbrev pub arguments_in : List ℕ → ℕ → ℕ → ℕ → List ℕ

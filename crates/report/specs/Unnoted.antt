@@ -16,7 +16,7 @@ use Rattle.cti_terms.specs.declared.predicates.Pred.{Pred}
 use Rattle.linear_rows.specs.Members.{In}
 use Rattle.precond_fixpoint.specs.Greatest.{Solved}
 use Rattle.term_size.specs.AnyNorm.{any_row, any_truth}
-use Rattle.termination_model.specs.Modes.{modes}
+use Rattle.termination_model.specs.grounds.Modes.{modes}
 use Rattle.report.specs.Exact.{IsExact}
 use Rattle.report.specs.ExactMappings.{admitted_by, HaveEachSupport, IsSolvedMapping}
 

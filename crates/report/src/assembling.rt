@@ -14,7 +14,7 @@ ghost use Rattle.report.specs.Levels.{given_up};
 ghost use Rattle.report.specs.OfNorm.{certificate_norm};
 ghost use Rattle.report.specs.SupportNotes.{support_notes};
 ghost use Rattle.term_size.specs.AnyNorm.{any_row};
-ghost use Rattle.termination_model.specs.Sizes.{AreSizes, rows_of};
+ghost use Rattle.termination_model.specs.sizes.Sizes.{AreSizes, rows_of};
 
 use crate::levels::Mapped;
 use crate::support_notes::Described;

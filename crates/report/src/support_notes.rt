@@ -9,7 +9,7 @@ ghost use Rattle.cert_structure.specs.Order.{pred_text};
 ghost use Rattle.report.specs.Levels.{given_up};
 ghost use Rattle.report.specs.SupportNotes.{arguments_in, arguments_by_member, blown_at, blown_note, blown_notes, large_at, large_notes, support_notes};
 ghost use Rattle.cert_assembly.specs.Leading.{led_by};
-ghost use Rattle.termination_model.specs.Ready.{arity_in, positions_by};
+ghost use Rattle.termination_model.specs.mappings.Ready.{arity_in, positions_by};
 
 use call_components::Components;
 use cert_assembly::{led_by, pred_text};

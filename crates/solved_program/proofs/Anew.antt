@@ -20,9 +20,9 @@ use Rattle.linear_rows.proofs.Members.{in-flat_map, in-map, of-flat_map, to_All}
 use Rattle.numeric_model.specs.Parts.{is_before}
 use Rattle.numeric_model.specs.Running.{paired, with_clause, with_clauses}
 use Rattle.numeric_model.specs.declared.step.Step.{Step}
-use Rattle.termination_model.specs.Chain.{clauses_of, component_of}
-use Rattle.termination_model.specs.Grounds.{HasArity}
-use Rattle.termination_model.specs.Sizes.{AreSizes, plain_or_none, rows_of}
+use Rattle.termination_model.specs.chains.Chain.{clauses_of, component_of}
+use Rattle.termination_model.specs.grounds.Grounds.{HasArity}
+use Rattle.termination_model.specs.sizes.Sizes.{AreSizes, plain_or_none, rows_of}
 use Rattle.termination_model.proofs.Lists.{mapped_place, place_below}
 use Rattle.solved_program.specs.Carried.{AreLaterCarried}
 use Rattle.solved_program.specs.Marks.{AreMarked}

@@ -14,9 +14,9 @@ use Rattle.cti_terms.specs.declared.predicates.Pred.{Pred}
 use Rattle.linear_rows.specs.Members.{In}
 use Rattle.linear_rows.specs.Replacing.{row_fits}
 use Rattle.linear_rows.specs.declared.multipliers.Multipliers.{Multipliers}
-use Rattle.termination_model.specs.Chain.{after_passes, clauses_of, component_of, start_as, start_rows, ArePasses}
-use Rattle.termination_model.specs.ChainSteps.{Step as PlainStep}
-use Rattle.termination_model.specs.Sizes.{AreSizes, rows_of}
+use Rattle.termination_model.specs.chains.Chain.{after_passes, clauses_of, component_of, start_as, start_rows, ArePasses}
+use Rattle.termination_model.specs.chains.ChainSteps.{Step as PlainStep}
+use Rattle.termination_model.specs.sizes.Sizes.{AreSizes, rows_of}
 use Rattle.termination_model.specs.declared.sizes.Sizes.{Sizes}
 use Rattle.termination_model.proofs.ChainLeaves.{body_before}
 use Rattle.numeric_model.specs.Parts.{IsPartOf, is_before, starting}

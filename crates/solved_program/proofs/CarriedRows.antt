@@ -7,8 +7,8 @@ use Rattle.linear_rows.specs.Plain.{HaveWidth}
 use Rattle.linear_rows.specs.declared.multipliers.Multipliers.{Multipliers}
 use Rattle.linear_rows.specs.declared.row.Row.{Row}
 use Rattle.linear_rows.specs.declared.row.Rows.{Rows}
-use Rattle.termination_model.specs.Grounds.{HasArity}
-use Rattle.termination_model.specs.Sizes.{AreSizes, plain_or_none, rows_of}
+use Rattle.termination_model.specs.grounds.Grounds.{HasArity}
+use Rattle.termination_model.specs.sizes.Sizes.{AreSizes, plain_or_none, rows_of}
 use Rattle.termination_model.proofs.Lists.{indexed, place_below}
 use Rattle.component_laws.proofs.UntouchedLaws.{one_number}
 use Rattle.solved_program.specs.Carried.{AreCarriedProofs, AreCarriedRows, IsCarriedRow}

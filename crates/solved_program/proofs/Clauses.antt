@@ -10,7 +10,7 @@ use Rattle.cti_terms.specs.declared.atom_list.Atom.{Atom}
 use Rattle.cti_terms.specs.declared.clauses.Clause.{Clause}
 use Rattle.linear_rows.specs.Members.{In}
 use Rattle.linear_rows.proofs.Members.{in-filter}
-use Rattle.termination_model.specs.Chain.{clauses_of, component_of, counted, is_number}
+use Rattle.termination_model.specs.chains.Chain.{clauses_of, component_of, counted, is_number}
 use Rattle.termination_model.proofs.ChainLeaves.{in_counted, number_is, of_counted, of_own}
 use Rattle.termination_model.proofs.ChainSieves.{of_all}
 use Rattle.numeric_model.proofs.Chaining.{at_number, in_counted_at}

@@ -13,8 +13,8 @@ use Rattle.groundness.specs.Components.{IsLeastOver, is_member}
 use Rattle.groundness.specs.Sets.{KeepsOtherSets}
 use Rattle.groundness.proofs.ComponentLaws.{AreLeastTo as AreFoundTo, least_more}
 use Rattle.groundness.proofs.RoundLaws.{kept_later}
-use Rattle.termination_model.specs.Chain.{component_of}
-use Rattle.termination_model.specs.Grounds.{Family, HasArity, IsLeast}
+use Rattle.termination_model.specs.chains.Chain.{component_of}
+use Rattle.termination_model.specs.grounds.Grounds.{Family, HasArity, IsLeast}
 use Rattle.termination_model.proofs.Lists.{one_element, place_below, there}
 use Rattle.truth_rows.specs.Sets.{AreSets, family_of, has_row}
 use Rattle.truth_rows.proofs.CallerLemmas.{family_later, sets_later}

@@ -6,7 +6,7 @@ use Rattle.cti_terms.specs.Listing.{Listing, IsProgram}
 use Rattle.cti_terms.specs.declared.atom_list.Atom.{Atom}
 use Rattle.cti_terms.specs.declared.predicates.Pred.{Pred}
 use Rattle.linear_rows.specs.Members.{In}
-use Rattle.termination_model.specs.Chain.{clauses_of}
+use Rattle.termination_model.specs.chains.Chain.{clauses_of}
 use Rattle.termination_model.proofs.ChainLeaves.{body_before}
 use Rattle.component_laws.specs.Untouched.{NamedAtom, NamedClause, named, named_atom}
 use Rattle.component_laws.proofs.NamedLaws.{pred_in}

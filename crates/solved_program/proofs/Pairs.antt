@@ -4,7 +4,7 @@ use Rattle.call_components.specs.Partition.{Partition, AreComponents}
 use Rattle.cti_terms.specs.Listing.{Listing, IsProgram}
 use Rattle.cti_terms.specs.declared.atom_list.Atom.{Atom}
 use Rattle.linear_rows.specs.Members.{In}
-use Rattle.termination_model.specs.Chain.{clauses_of}
+use Rattle.termination_model.specs.chains.Chain.{clauses_of}
 use Rattle.component_laws.specs.Renaming.{renamed}
 use Rattle.component_laws.specs.Runs.{AreRenamed}
 use Rattle.component_laws.specs.Untouched.{named, named_atom}

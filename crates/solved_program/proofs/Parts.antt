@@ -9,10 +9,10 @@ use Rattle.cti_terms.specs.declared.clauses.Clause.{Clause}
 use Rattle.linear_rows.specs.Members.{In}
 use Rattle.linear_rows.specs.Replacing.{row_fits}
 use Rattle.linear_rows.specs.declared.multipliers.Multipliers.{Multipliers}
-use Rattle.termination_model.specs.Chain.{after_passes, clauses_of, component_of, start_rows, ArePasses}
-use Rattle.termination_model.specs.Sizes.{AreSizes, rows_of}
-use Rattle.termination_model.specs.Systems.{row_over, system}
-use Rattle.termination_model.specs.ShortSystems.{short_row}
+use Rattle.termination_model.specs.chains.Chain.{after_passes, clauses_of, component_of, start_rows, ArePasses}
+use Rattle.termination_model.specs.sizes.Sizes.{AreSizes, rows_of}
+use Rattle.termination_model.specs.sizes.Systems.{row_over, system}
+use Rattle.termination_model.specs.sizes.ShortSystems.{short_row}
 use Rattle.termination_model.specs.declared.sizes.Sizes.{Sizes}
 use Rattle.termination_model.proofs.ChainLeaves.{body_before, head_before, IsBefore}
 use Rattle.numeric_model.specs.Parts.{IsPartOf, is_before, starting}

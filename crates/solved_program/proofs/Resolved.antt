@@ -12,8 +12,8 @@ use Rattle.linear_rows.specs.declared.multipliers.Multipliers.{Multipliers}
 use Rattle.linear_rows.specs.declared.row.Rows.{Rows}
 use Rattle.numeric_model.specs.Running.{with_clauses, paired}
 use Rattle.numeric_model.specs.declared.step.Step.{Step}
-use Rattle.termination_model.specs.Chain.{clauses_of}
-use Rattle.termination_model.specs.Sizes.{AreSizes, plain_or_none, rows_of}
+use Rattle.termination_model.specs.chains.Chain.{clauses_of}
+use Rattle.termination_model.specs.sizes.Sizes.{AreSizes, plain_or_none, rows_of}
 use Rattle.termination_model.proofs.Lists.{place_below, there}
 use Rattle.solved_program.specs.Carried.{AreCarriedProofs, AreCarriedRows}
 use Rattle.solved_program.specs.Marks.{Always, AreMarked}

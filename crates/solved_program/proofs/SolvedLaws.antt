@@ -17,9 +17,9 @@ use Rattle.numeric_model.specs.Parts.{IsRunOf}
 use Rattle.numeric_model.specs.Proved.{AreProved, IsProved}
 use Rattle.numeric_model.specs.States.{plain_step}
 use Rattle.numeric_model.specs.declared.step.Step.{Step}
-use Rattle.termination_model.specs.Chain.{component_of, start_as, start_rows, IsLegalChain}
-use Rattle.termination_model.specs.ChainSteps.{Step as PlainStep}
-use Rattle.termination_model.specs.Sizes.{plain_or_none, rows_of}
+use Rattle.termination_model.specs.chains.Chain.{component_of, start_as, start_rows, IsLegalChain}
+use Rattle.termination_model.specs.chains.ChainSteps.{Step as PlainStep}
+use Rattle.termination_model.specs.sizes.Sizes.{plain_or_none, rows_of}
 use Rattle.termination_model.proofs.ChainLeaves.{placed}
 use Rattle.termination_model.proofs.ChainSieves.{of_all}
 use Rattle.termination_model.proofs.Lists.{place_below, there}

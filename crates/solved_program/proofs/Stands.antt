@@ -7,7 +7,7 @@ use Rattle.cti_terms.specs.declared.atom_list.Atom.{Atom}
 use Rattle.cti_terms.specs.declared.clauses.Clause.{Clause}
 use Rattle.linear_rows.specs.Members.{In}
 use Rattle.numeric_model.specs.Running.{paired, with_clauses}
-use Rattle.termination_model.specs.Chain.{clauses_of}
+use Rattle.termination_model.specs.chains.Chain.{clauses_of}
 use Rattle.termination_model.proofs.ChainLeaves.{body_before}
 use Rattle.solved_program.specs.Comparing.{AreNumbersIn}
 use Rattle.solved_program.specs.EditClauses.{AreEditClauses, IsFirstKeptOf}

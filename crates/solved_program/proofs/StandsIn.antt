@@ -9,7 +9,7 @@ use Rattle.cti_terms.specs.declared.clauses.Clause.{Clause}
 use Rattle.cti_terms.specs.declared.predicates.Pred.{Pred}
 use Rattle.linear_rows.specs.Members.{In}
 use Rattle.linear_rows.proofs.Members.{of-map}
-use Rattle.termination_model.specs.Chain.{clauses_of, component_of, counted, is_number}
+use Rattle.termination_model.specs.chains.Chain.{clauses_of, component_of, counted, is_number}
 use Rattle.termination_model.proofs.ChainLeaves.{number_is}
 use Rattle.groundness.specs.Components.{is_member}
 use Rattle.groundness.proofs.ComponentLaws.{number_of}

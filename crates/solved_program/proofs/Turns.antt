@@ -3,8 +3,8 @@ use Rattle.std.proofs.Common.{◌≡◌, ℕ, zero, suc, ◌+◌, ◌<◌, ◌�
 use Rattle.std.specs.List.{flat_map, AllByRecursion}
 use Rattle.std.proofs.lemmas.Bool.Decides.{nat_tests}
 use Rattle.cti_terms.specs.Tree.{Tree}
-use Rattle.termination_model.specs.Chain.{after, after_pass, AreSteps, ArePasses}
-use Rattle.termination_model.specs.ChainSteps.{Step}
+use Rattle.termination_model.specs.chains.Chain.{after, after_pass, AreSteps, ArePasses}
+use Rattle.termination_model.specs.chains.ChainSteps.{Step}
 use Rattle.termination_model.proofs.Lists.{map_push}
 use Rattle.numeric_model.specs.States.{plain_step}
 use Rattle.numeric_model.specs.declared.step.Step.{Step as Noted}

@@ -8,8 +8,8 @@ use Rattle.cti_terms.specs.declared.predicates.Pred.{Pred}
 use Rattle.linear_rows.specs.Plain.{plain_rows, HaveWidth}
 use Rattle.linear_rows.specs.declared.multipliers.Multipliers.{Multipliers}
 use Rattle.linear_rows.specs.declared.row.Rows.{Rows}
-use Rattle.termination_model.specs.Grounds.{HasArity}
-use Rattle.termination_model.specs.Sizes.{rows_of}
+use Rattle.termination_model.specs.grounds.Grounds.{HasArity}
+use Rattle.termination_model.specs.sizes.Sizes.{rows_of}
 use Rattle.solved_program.specs.declared.edit.Edit.{Edit}
 
 module _ {X : Type 0} (e : Edit) (old : List X) (none : X) where

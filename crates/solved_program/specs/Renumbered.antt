@@ -1,7 +1,7 @@
 -- Private.
 -- Steps of passes over clauses that have other numbers.
 use Rattle.std.specs.Prelude.{ℕ, suc, ◌==◌, if◌then◌else◌, List, [], ◌∷◌, length, slice_index_or}
-use Rattle.termination_model.specs.ChainSteps.{Step}
+use Rattle.termination_model.specs.chains.ChainSteps.{Step}
 use Rattle.component_laws.specs.Runs.{with_number}
 
 -- the place after this one among n, where the first comes after the last

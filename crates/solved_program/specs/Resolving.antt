@@ -10,7 +10,7 @@ use Rattle.numeric_model.specs.States.{plain_step}
 use Rattle.numeric_model.specs.declared.chain.Chain.{Chain}
 use Rattle.numeric_model.specs.declared.step.Step.{Step}
 use Rattle.linear_rows.specs.declared.row.Rows.{Rows}
-use Rattle.termination_model.specs.Sizes.{AreSizes, rows_of}
+use Rattle.termination_model.specs.sizes.Sizes.{AreSizes, rows_of}
 use Rattle.solved_program.specs.Carried.{AreLaterCarried}
 use Rattle.solved_program.specs.Kept.{IsEdit}
 use Rattle.solved_program.specs.Marks.{AreMarkedTo}

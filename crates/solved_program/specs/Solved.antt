@@ -15,8 +15,8 @@ use Rattle.numeric_model.specs.Parts.{IsPartOf}
 use Rattle.numeric_model.specs.Proved.{AreProved}
 use Rattle.numeric_model.specs.States.{plain_step}
 use Rattle.numeric_model.specs.declared.step.Step.{Step}
-use Rattle.termination_model.specs.Chain.{IsLegalChain}
-use Rattle.termination_model.specs.Sizes.{AreSizes, rows_of}
+use Rattle.termination_model.specs.chains.Chain.{IsLegalChain}
+use Rattle.termination_model.specs.sizes.Sizes.{AreSizes, rows_of}
 use Rattle.solved_program.specs.declared.solved_sizes.SolvedSizes.{SolvedSizes}
 
 module _ (speaks : List ℤ → Bool) (expression : ℕ → Tree → List ℤ) (p : Listing) (comps : Partition) where

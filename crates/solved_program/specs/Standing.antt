@@ -11,7 +11,7 @@ use Rattle.cti_terms.specs.Listing.{Listing}
 use Rattle.cti_terms.specs.declared.atom_list.Atom.{Atom}
 use Rattle.cti_terms.specs.declared.clauses.Clause.{Clause}
 use Rattle.cti_terms.specs.declared.predicates.Pred.{Pred}
-use Rattle.termination_model.specs.Chain.{clauses_of}
+use Rattle.termination_model.specs.chains.Chain.{clauses_of}
 use Rattle.solved_program.specs.declared.edit.Edit.{Edit}
 
 module _ {X : Type 0} (comps new_comps : Partition) (c d : ℕ) (old now : ℕ → X) where

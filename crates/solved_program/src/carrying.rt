@@ -1,7 +1,7 @@
 //! What an edit begins with: the rows and the proofs from before it, under the new numbers.
 
 ghost use Rattle.std.specs.Prelude.{◌≡◌, ◌<◌, ◌≤◌, ◌-◌, [], ℕ, IfOk, IfSome, Some, length, slice_get};
-ghost use Rattle.termination_model.specs.Sizes.{AreSizes};
+ghost use Rattle.termination_model.specs.sizes.Sizes.{AreSizes};
 ghost use Rattle.solved_program.specs.Carried.{AreCarriedProofs, AreCarriedRows, IsCarriedRow};
 ghost use Rattle.solved_program.specs.Kept.{AreKept};
 

@@ -3,7 +3,7 @@
 ghost use Rattle.std.specs.Prelude.{◌≡◌, ◌<◌, IfOk, length};
 ghost use Rattle.solved_program.specs.Kept.{IsEdit};
 ghost use Rattle.solved_program.specs.Marks.{Always, AreMarked, AreMarkedTo, IsMarkOf};
-ghost use Rattle.termination_model.specs.Sizes.{AreSizes, rows_of};
+ghost use Rattle.termination_model.specs.sizes.Sizes.{AreSizes, rows_of};
 ghost use Rattle.truth_rows.specs.Sets.{AreSets, family_of};
 
 use crate::comparing::are_same_rows;

@@ -3,7 +3,7 @@
 ghost use Rattle.std.specs.Prelude.{◌≡◌, ◌≤◌, ◌<◌, ◌+◌, ℕ, List, IfOk, IfSome, IsNone, OnOk, Some, All, length, map};
 ghost use Rattle.std.specs.Prelude.{slice_get};
 ghost use Rattle.call_components.specs.Numbers.{number_of};
-ghost use Rattle.termination_model.specs.Sizes.{AreSizes, rows_of};
+ghost use Rattle.termination_model.specs.sizes.Sizes.{AreSizes, rows_of};
 ghost use Rattle.solved_program.specs.Kept.{IsEdit};
 ghost use Rattle.solved_program.specs.Marks.{AreMarked, StandsMarked};
 ghost use Rattle.solved_program.specs.Resolving.{AreResolvedTo, AreSources, IsCarriedFrom, IsPartTaken};

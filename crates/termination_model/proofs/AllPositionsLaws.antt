@@ -5,13 +5,13 @@ use Rattle.std.proofs.lemmas.Bool.{cases_eq, or_left, or_right}
 use Rattle.linear_rows.specs.Members.{In}
 use Rattle.linear_rows.proofs.Members.{in-left, in-right, in-map}
 use Rattle.linear_rows.specs.Step.{columns}
-use Rattle.termination_model.specs.Refutation.{Pair}
-use Rattle.termination_model.specs.AllPositions.{AllArePicked, IsCoveredBy, PositionsCoverPairs}
-use Rattle.termination_model.specs.Excluding.{pairs_at}
-use Rattle.termination_model.specs.OwnCalls.{OwnCall, Position}
-use Rattle.termination_model.specs.Ready.{positions_by}
-use Rattle.termination_model.specs.SupportLaws.{HasFew}
-use Rattle.termination_model.specs.Supports.{picked_from}
+use Rattle.termination_model.specs.mappings.Refutation.{Pair}
+use Rattle.termination_model.specs.mappings.AllPositions.{AllArePicked, IsCoveredBy, PositionsCoverPairs}
+use Rattle.termination_model.specs.mappings.Excluding.{pairs_at}
+use Rattle.termination_model.specs.mappings.OwnCalls.{OwnCall, Position}
+use Rattle.termination_model.specs.mappings.Ready.{positions_by}
+use Rattle.termination_model.specs.mappings.SupportLaws.{HasFew}
+use Rattle.termination_model.specs.mappings.Supports.{picked_from}
 
 -- ---- picking
 any_column : (k n j : ℕ) → k ≤ j → j < k + n → list_any (λ x. nat_eq j x) (columns k n) ≡ true

@@ -5,11 +5,11 @@ use Rattle.std.proofs.lemmas.Int.{ints}
 use Rattle.cti_terms.specs.Tree.{Variable}
 use Rattle.cti_terms.specs.declared.atom_list.Atom.{Atom}
 use Rattle.cti_terms.specs.Listing.{IsProgram}
-use Rattle.termination_model.specs.Rows.{IsUpper, Covers}
-use Rattle.termination_model.specs.Grounds.{HasArity, truth_row}
-use Rattle.termination_model.specs.Claims.{Admits, Descends, FallsOn, Serves, Shows}
-use Rattle.termination_model.specs.Descent.{mode_row}
-use Rattle.termination_model.specs.Append.{append_of, append_cons, append, first, first_argument, append_claims, AppendEnds}
+use Rattle.termination_model.specs.sizes.Rows.{IsUpper, Covers}
+use Rattle.termination_model.specs.grounds.Grounds.{HasArity, truth_row}
+use Rattle.termination_model.specs.claims.Claims.{Admits, Descends, FallsOn, Serves, Shows}
+use Rattle.termination_model.specs.claims.Descent.{mode_row}
+use Rattle.termination_model.specs.examples.Append.{append_of, append_cons, append, first, first_argument, append_claims, AppendEnds}
 use Rattle.termination_model.proofs.SystemPoints.{dot_total}
 use Rattle.term_size.specs.TermSize.{is_a_norm}
 use Rattle.termination_model.proofs.Query.{modes_end}

@@ -13,11 +13,11 @@ use Rattle.linear_rows.specs.Rows.{HoldsOn}
 use Rattle.linear_rows.specs.Systems.{image_blown, image_left, join_blown, join_left}
 use Rattle.linear_rows.specs.Irredundant.{Fails, IsIrredundant, without_place}
 use Rattle.term_size.specs.Occurrences.{size_row}
-use Rattle.termination_model.specs.Systems.{row_over, system}
-use Rattle.termination_model.specs.Append.{append, append_nil, append_cons}
-use Rattle.termination_model.specs.Chain.{after, start_rows}
-use Rattle.termination_model.specs.ChainRows.{bottom_row, HasSublist, IsJoin, HasPoint}
-use Rattle.termination_model.specs.ChainSteps.{IsImage, HoldsHere, IsLegalStep}
+use Rattle.termination_model.specs.sizes.Systems.{row_over, system}
+use Rattle.termination_model.specs.examples.Append.{append, append_nil, append_cons}
+use Rattle.termination_model.specs.chains.Chain.{after, start_rows}
+use Rattle.termination_model.specs.chains.ChainRows.{bottom_row, HasSublist, IsJoin, HasPoint}
+use Rattle.termination_model.specs.chains.ChainSteps.{IsImage, HoldsHere, IsLegalStep}
 use Rattle.termination_model.specs.declared.how.How.TheVariants.{First, Join, Same}
 use Rattle.linear_rows.specs.Rows.{AreEmpty}
 use Rattle.termination_model.proofs.ChainHeads.{bottom_fails}
@@ -25,7 +25,7 @@ use Rattle.linear_rows.proofs.Members.{from_All}
 use Rattle.linear_rows.specs.Rows.{Holds}
 use Rattle.termination_model.proofs.ImageLaw.{image_same}
 use Rattle.termination_model.proofs.JoinLaw.{join_same}
-use Rattle.termination_model.specs.AppendChain.{step, row, nil_rows, sum_rows, at_least, fit, append_rows, AppendHasThisChain}
+use Rattle.termination_model.specs.examples.AppendChain.{step, row, nil_rows, sum_rows, at_least, fit, append_rows, AppendHasThisChain}
 use Rattle.termination_model.proofs.RowChecks.{point_by, fails_by, all_hold, part_same, naturals_by, long_by}
 
 -- rows of append's arguments before each step

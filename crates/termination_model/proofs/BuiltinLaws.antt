@@ -19,9 +19,9 @@ use Rattle.cti_terms.proofs.UnifyLaws.{unify_finds}
 use Rattle.linear_rows.specs.Members.{In}
 use Rattle.linear_rows.specs.Rows.{Holds}
 use Rattle.term_size.specs.Norm.{IsNorm}
-use Rattle.termination_model.specs.Claims.{Claims, sizes, IsSized, Shows}
-use Rattle.termination_model.specs.Grounds.{truth_row, IsGround}
-use Rattle.termination_model.specs.Stated.{stated_rows}
+use Rattle.termination_model.specs.claims.Claims.{Claims, sizes, IsSized, Shows}
+use Rattle.termination_model.specs.grounds.Grounds.{truth_row, IsGround}
+use Rattle.termination_model.specs.sizes.Stated.{stated_rows}
 use Rattle.termination_model.proofs.Facts.{ByItself}
 
 some_inside : {X Y : Type 0} (f : X → Option Y) (o : Option X) (y : Y) → option_and_then f o ≡ Some y → (x : X) × (o ≡ Some x)

@@ -9,11 +9,11 @@ use Rattle.cti_terms.specs.Tree.{Tree, is_below}
 use Rattle.linear_rows.specs.Rows.{Holds}
 use Rattle.linear_rows.proofs.Starts.{dot-zeros}
 use Rattle.term_size.specs.Norm.{IsNorm}
-use Rattle.termination_model.specs.Rows.{combined, substituted}
-use Rattle.termination_model.specs.Systems.{row_over}
+use Rattle.termination_model.specs.sizes.Rows.{combined, substituted}
+use Rattle.termination_model.specs.sizes.Systems.{row_over}
 use Rattle.termination_model.proofs.Values.{values_from, expression_value}
 use Rattle.termination_model.proofs.SystemPoints.{dot_added, dot_zeros, dot_combined}
-use Rattle.termination_model.specs.ChainRows.{bottom_row}
+use Rattle.termination_model.specs.chains.ChainRows.{bottom_row}
 use Rattle.termination_model.proofs.Naturals.{never_below}
 
 -- the value of a row with expressions in its arguments' places is its value at those of the expressions

@@ -12,10 +12,10 @@ use Rattle.linear_rows.specs.Members.{In}
 use Rattle.linear_rows.specs.Step.{columns}
 use Rattle.linear_rows.proofs.Members.{in-filter, of-filter}
 use Rattle.term_size.specs.Norm.{IsNorm}
-use Rattle.termination_model.specs.Chain.{AreSteps, after_pass, AreUnchanged, ArePasses, after_passes, AreRuns, after_runs, counted, component_of, is_number, clauses_of, start_as, start_rows, IsLegalChain}
-use Rattle.termination_model.specs.ChainRows.{bottom_row}
-use Rattle.termination_model.specs.ChainSteps.{Step}
-use Rattle.termination_model.specs.ChainKept.{KeepsRows, ChainsKeep, ChainsState}
+use Rattle.termination_model.specs.chains.Chain.{AreSteps, after_pass, AreUnchanged, ArePasses, after_passes, AreRuns, after_runs, counted, component_of, is_number, clauses_of, start_as, start_rows, IsLegalChain}
+use Rattle.termination_model.specs.chains.ChainRows.{bottom_row}
+use Rattle.termination_model.specs.chains.ChainSteps.{Step}
+use Rattle.termination_model.specs.chains.ChainKept.{KeepsRows, ChainsKeep, ChainsState}
 use Rattle.termination_model.proofs.ChainSieves.{all_of}
 use Rattle.termination_model.proofs.ChainSteps.{step_keeps}
 use Rattle.termination_model.proofs.ChainLeaves.{Numbered, Rowed, keeps_same, after_same, pass_same, NotHead, runs_leave, of_own, later, in_counted, clause_is, placed, head_before, body_before, of_counted, number_is}

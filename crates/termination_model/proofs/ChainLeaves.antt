@@ -15,11 +15,11 @@ use Rattle.linear_rows.specs.Rows.{HoldsOn}
 use Rattle.linear_rows.specs.Members.{In}
 use Rattle.linear_rows.specs.Step.{columns}
 use Rattle.linear_rows.proofs.Members.{of-filter}
-use Rattle.termination_model.specs.Systems.{row_over, system}
+use Rattle.termination_model.specs.sizes.Systems.{row_over, system}
 use Rattle.termination_model.proofs.Lists.{there}
-use Rattle.termination_model.specs.Chain.{after, after_pass, AreUnchanged, after_passes, after_runs, counted, component_of, is_number, clauses_of}
-use Rattle.termination_model.specs.ChainSteps.{Step}
-use Rattle.termination_model.specs.ChainKept.{KeepsRows}
+use Rattle.termination_model.specs.chains.Chain.{after, after_pass, AreUnchanged, after_passes, after_runs, counted, component_of, is_number, clauses_of}
+use Rattle.termination_model.specs.chains.ChainSteps.{Step}
+use Rattle.termination_model.specs.chains.ChainKept.{KeepsRows}
 use Rattle.termination_model.proofs.ChainSieves.{of_all}
 
 abbrev pub Numbered : Type 0

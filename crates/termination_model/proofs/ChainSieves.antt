@@ -2,8 +2,8 @@
 use Rattle.std.proofs.Common.{◌≡◌, ◌≢◌, suc, ◌≤◌, ℤ, List, [], ◌∷◌, inl, inr, length, refl, ap, sym, subst, ◌∙◌, arith}
 use Rattle.std.specs.List.{AllByRecursion}
 use Rattle.linear_rows.specs.Members.{In}
-use Rattle.termination_model.specs.Claims.{SomeOf}
-use Rattle.termination_model.specs.ChainRows.{Sieved}
+use Rattle.termination_model.specs.claims.Claims.{SomeOf}
+use Rattle.termination_model.specs.chains.ChainRows.{Sieved}
 
 pub stayed : (P Q : List ℤ → Type 0) (xs ys : List (List ℤ)) → Sieved P Q xs ys → AllByRecursion P ys
 stayed P Q [] ys e = subst (AllByRecursion P) (sym e) tt

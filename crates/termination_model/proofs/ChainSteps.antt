@@ -10,8 +10,8 @@ use Rattle.linear_rows.specs.Members.{In}
 use Rattle.linear_rows.proofs.Members.{from_All}
 use Rattle.linear_rows.specs.Solving.{zeros}
 use Rattle.term_size.specs.Norm.{IsNorm}
-use Rattle.termination_model.specs.ChainRows.{bottom_row, HasPoint}
-use Rattle.termination_model.specs.ChainSteps.{Step, HoldsHere, FailsHere, IsBlownHere, IsLegalImage, HasLegalRows, IsLegalStep}
+use Rattle.termination_model.specs.chains.ChainRows.{bottom_row, HasPoint}
+use Rattle.termination_model.specs.chains.ChainSteps.{Step, HoldsHere, FailsHere, IsBlownHere, IsLegalImage, HasLegalRows, IsLegalStep}
 use Rattle.termination_model.specs.declared.how.How.{How}
 use Rattle.termination_model.specs.declared.how.How.TheVariants.{None as Nothing, First, Same, Join, Keep}
 use Rattle.termination_model.proofs.ChainSieves.{stayed, some_in, of_all, all_of}

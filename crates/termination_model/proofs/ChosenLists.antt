@@ -1,7 +1,7 @@
 -- The steps of listing all sets.
 use Rattle.std.proofs.Common.{◌≡◌, ℕ, zero, suc, ◌+◌, ◌-◌, ◌==◌, ◌<◌, Bool, true, false, List, [], ◌∷◌, ◌++◌, map, take, length, refl, ap, sym, subst, ◌∙◌, arith}
 use Rattle.std.proofs.lemmas.Bool.Decides.{nat_tests}
-use Rattle.termination_model.specs.Modes.{chosen, chosen_up_to}
+use Rattle.termination_model.specs.grounds.Modes.{chosen, chosen_up_to}
 use Rattle.termination_model.proofs.Lists.{append_assoc}
 
 map_append : {X Y : Type 0} (f : X → Y) (xs ys : List X) → map f (xs ++ ys) ≡ map f xs ++ map f ys

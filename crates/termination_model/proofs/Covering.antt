@@ -1,7 +1,7 @@
 -- Rows of truth values that cover coefficients, place by place.
 use Rattle.std.proofs.Common.{◌≡◌, ℕ, zero, suc, ◌<◌, Bool, true, List, [], ◌∷◌, refl, arith}
-use Rattle.termination_model.specs.Rows.{Covers}
-use Rattle.termination_model.specs.Coefficients.{coefficient}
+use Rattle.termination_model.specs.sizes.Rows.{Covers}
+use Rattle.termination_model.specs.mappings.Coefficients.{coefficient}
 
 pub value_at : List Bool → ℕ → Bool
 value_at [] i = true

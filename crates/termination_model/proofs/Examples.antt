@@ -1,13 +1,13 @@
 -- The definitions at work.
 use Rattle.std.proofs.Common.{◌≡◌, ℕ, ◌||◌, ℤ, pos, negsuc, Bool, true, false, List, [], ◌∷◌, refl}
 use Rattle.term_size.specs.Occurrences.{size_row}
-use Rattle.termination_model.specs.Append.{append_cons}
-use Rattle.termination_model.specs.Descent.{mode_row}
-use Rattle.termination_model.specs.Modes.{modes}
-use Rattle.termination_model.specs.Sizes.{wide_system}
-use Rattle.termination_model.specs.Systems.{row_over}
-use Rattle.termination_model.specs.ShortSystems.{short_row, short_system}
-use Rattle.termination_model.specs.View.{all_upper}
+use Rattle.termination_model.specs.examples.Append.{append_cons}
+use Rattle.termination_model.specs.claims.Descent.{mode_row}
+use Rattle.termination_model.specs.grounds.Modes.{modes}
+use Rattle.termination_model.specs.sizes.Sizes.{wide_system}
+use Rattle.termination_model.specs.sizes.Systems.{row_over}
+use Rattle.termination_model.specs.sizes.ShortSystems.{short_row, short_system}
+use Rattle.termination_model.specs.mappings.View.{all_upper}
 
 -- the sizes of the first two lists are together that of the third: x1 + x2 - x3 is at least 0, and at most 0
 abbrev append_rows : ℕ → List (List ℤ)

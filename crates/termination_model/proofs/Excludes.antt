@@ -6,14 +6,14 @@ use Rattle.std.proofs.lemmas.List.{length-map}
 use Rattle.cti_terms.specs.Tree.{Tree}
 use Rattle.exact128.specs.Sums.{dot, entry}
 use Rattle.linear_rows.specs.Members.{In}
-use Rattle.termination_model.specs.Coefficients.{coefficient}
-use Rattle.termination_model.specs.Claims.{Mapping, SomeOf}
-use Rattle.termination_model.specs.Refutation.{Pair, Load, gather, Decreases, head_load, call_load, values_at, IsPair, IsRefutation}
-use Rattle.termination_model.specs.View.{Rule}
-use Rattle.termination_model.specs.Rows.{added}
-use Rattle.termination_model.specs.OwnCalls.{Position}
+use Rattle.termination_model.specs.mappings.Coefficients.{coefficient}
+use Rattle.termination_model.specs.claims.Claims.{Mapping, SomeOf}
+use Rattle.termination_model.specs.mappings.Refutation.{Pair, Load, gather, Decreases, head_load, call_load, values_at, IsPair, IsRefutation}
+use Rattle.termination_model.specs.mappings.View.{Rule}
+use Rattle.termination_model.specs.sizes.Rows.{added}
+use Rattle.termination_model.specs.mappings.OwnCalls.{Position}
 use Rattle.termination_model.proofs.Entries.{entry_added}
-use Rattle.termination_model.specs.Excluding.{IsZeroOutside, IsRefutationAt, IsOfMembers, ExcludesAt, AllRefute}
+use Rattle.termination_model.specs.mappings.Excluding.{IsZeroOutside, IsRefutationAt, IsOfMembers, ExcludesAt, AllRefute}
 use Rattle.termination_model.proofs.Refuted.{none_at, weights}
 use Rattle.std.proofs.lemmas.Bool.Decides.{nat_tests}
 

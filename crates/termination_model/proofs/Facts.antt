@@ -13,10 +13,10 @@ use Rattle.cti_terms.specs.Unify.{Binding, applied}
 use Rattle.cti_terms.specs.Resolve.{over, raised}
 use Rattle.cti_terms.specs.ResolutionStep.{Leaves}
 use Rattle.cti_terms.proofs.Unifier.{unifier_unifies}
-use Rattle.termination_model.specs.Rows.{IsUpper}
-use Rattle.termination_model.specs.Grounds.{HasArity, truth_row, IsGround, IsClosedUnder}
-use Rattle.termination_model.specs.Claims.{Measure, Claims, sizes, IsSized, IsInductive, IsRanked, Admits, Descends, KeepsRule, Serves, Shows}
-use Rattle.termination_model.specs.Systems.{system}
+use Rattle.termination_model.specs.sizes.Rows.{IsUpper}
+use Rattle.termination_model.specs.grounds.Grounds.{HasArity, truth_row, IsGround, IsClosedUnder}
+use Rattle.termination_model.specs.claims.Claims.{Measure, Claims, sizes, IsSized, IsInductive, IsRanked, Admits, Descends, KeepsRule, Serves, Shows}
+use Rattle.termination_model.specs.sizes.Systems.{system}
 use Rattle.termination_model.proofs.Walk.{Follows, follows_map, all_at, some_each}
 use Rattle.termination_model.proofs.Order.{Falls}
 use Rattle.termination_model.proofs.Views.{step_walk, over_view}

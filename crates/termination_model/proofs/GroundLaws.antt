@@ -5,7 +5,7 @@ use Rattle.cti_terms.specs.Tree.{Tree}
 use Rattle.cti_terms.specs.declared.atom_list.Atom.{Atom}
 use Rattle.cti_terms.specs.declared.clauses.Clause.{Clause}
 use Rattle.cti_terms.specs.Listing.{Listing}
-use Rattle.termination_model.specs.Grounds.{Family, truth_row, IsGround, IsClosedUnder, IsClosed, IsInEachClosed, IsLeast, InEachClosedIsClosed}
+use Rattle.termination_model.specs.grounds.Grounds.{Family, truth_row, IsGround, IsClosedUnder, IsClosed, IsInEachClosed, IsLeast, InEachClosedIsClosed}
 
 -- what follows from a fact of each element
 pub all_map : {X : Type 0} (P Q : X → Type 0) → ((x : X) → P x → Q x) → (xs : List X) → AllByRecursion P xs → AllByRecursion Q xs

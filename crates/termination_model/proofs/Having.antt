@@ -12,17 +12,17 @@ use Rattle.linear_rows.specs.Proves.{Proves}
 use Rattle.linear_rows.specs.Step.{columns}
 use Rattle.linear_rows.proofs.Members.{to_All, in-left, in-right}
 use Rattle.linear_rows.proofs.Soundness.{law_holds}
-use Rattle.termination_model.specs.Coefficients.{coefficient}
-use Rattle.termination_model.specs.Claims.{Mapping}
-use Rattle.termination_model.specs.Modes.{is_part}
-use Rattle.termination_model.specs.Refutation.{Pair, Decreases}
-use Rattle.termination_model.specs.View.{Member, Call, Rule, system_of, level_over, fall_over}
-use Rattle.termination_model.specs.Excluding.{IsZeroOutside, IsOfMembers, IsRefutationAt}
-use Rattle.termination_model.specs.OwnCalls.{OwnCall, Position, own_calls_from, own_calls, rows_before}
-use Rattle.termination_model.specs.SupportLaws.{AreFalls, HasFew, HasWidths}
-use Rattle.termination_model.specs.SupportSystem.{value_of_position, value_of_member, mapping_at}
-use Rattle.termination_model.specs.Supports.{support_from, picked_from, AreDistinct, HasSupport, AreLives, MappingsFromSystems, SystemsGiveMappings}
-use Rattle.termination_model.specs.Minimal.{IsSet, IsExcluded}
+use Rattle.termination_model.specs.mappings.Coefficients.{coefficient}
+use Rattle.termination_model.specs.claims.Claims.{Mapping}
+use Rattle.termination_model.specs.grounds.Modes.{is_part}
+use Rattle.termination_model.specs.mappings.Refutation.{Pair, Decreases}
+use Rattle.termination_model.specs.mappings.View.{Member, Call, Rule, system_of, level_over, fall_over}
+use Rattle.termination_model.specs.mappings.Excluding.{IsZeroOutside, IsOfMembers, IsRefutationAt}
+use Rattle.termination_model.specs.mappings.OwnCalls.{OwnCall, Position, own_calls_from, own_calls, rows_before}
+use Rattle.termination_model.specs.mappings.SupportLaws.{AreFalls, HasFew, HasWidths}
+use Rattle.termination_model.specs.mappings.SupportSystem.{value_of_position, value_of_member, mapping_at}
+use Rattle.termination_model.specs.mappings.Supports.{support_from, picked_from, AreDistinct, HasSupport, AreLives, MappingsFromSystems, SystemsGiveMappings}
+use Rattle.termination_model.specs.grounds.Minimal.{IsSet, IsExcluded}
 use Rattle.termination_model.proofs.Excludes.{excludes_at}
 use Rattle.termination_model.proofs.OwnCallsThere.{call_there}
 use Rattle.termination_model.proofs.Points.{fall_width}

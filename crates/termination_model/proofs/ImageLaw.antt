@@ -14,7 +14,7 @@ use Rattle.linear_rows.proofs.Members.{from_All, to_All, in-left, in-right, in-m
 use Rattle.linear_rows.proofs.Sequence.{all_kept_on, all_back_on}
 use Rattle.linear_rows.proofs.Origins.{all_gone}
 use Rattle.linear_rows.proofs.Starts.{dot-zeros, entry-zeros, entry-units, entry-units-other}
-use Rattle.termination_model.specs.Rows.{substituted}
+use Rattle.termination_model.specs.sizes.Rows.{substituted}
 use Rattle.termination_model.proofs.ChainHeads.{dot_substituted}
 
 -- ---- sums over one list after another

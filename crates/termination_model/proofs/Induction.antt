@@ -4,9 +4,9 @@ use Rattle.std.specs.List.{AllByRecursion}
 use Rattle.cti_terms.specs.declared.atom_list.Atom.{Atom}
 use Rattle.cti_terms.specs.declared.derivation.Goal.{Goal}
 use Rattle.cti_terms.specs.Listing.{Listing, IsProgram}
-use Rattle.termination_model.specs.Rows.{IsUpper}
-use Rattle.termination_model.specs.Grounds.{HasArity, truth_row}
-use Rattle.termination_model.specs.Claims.{Measure, Claims, sizes, IsRanked, Admits, Serves, Shows}
+use Rattle.termination_model.specs.sizes.Rows.{IsUpper}
+use Rattle.termination_model.specs.grounds.Grounds.{HasArity, truth_row}
+use Rattle.termination_model.specs.claims.Claims.{Measure, Claims, sizes, IsRanked, Admits, Serves, Shows}
 use Rattle.termination_model.proofs.Walk.{all_at, picked}
 use Rattle.termination_model.proofs.Order.{strong, Falls, lexicographic}
 use Rattle.termination_model.proofs.Levels.{levels, upper_row}

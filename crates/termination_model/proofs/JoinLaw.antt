@@ -12,7 +12,7 @@ use Rattle.linear_rows.specs.Solving.{zeros, units, coefficients}
 use Rattle.linear_rows.specs.Systems.{opposite, naturals, differences, in_first, in_second, join_rows, join_left}
 use Rattle.linear_rows.proofs.Members.{from_All, to_All, in-left, in-right, in-map, of-append, of-map}
 use Rattle.linear_rows.proofs.Starts.{dot-zeros}
-use Rattle.termination_model.specs.ChainRows.{HasPoint}
+use Rattle.termination_model.specs.chains.ChainRows.{HasPoint}
 use Rattle.termination_model.proofs.CutLaw.{q_value, cut_same}
 use Rattle.termination_model.proofs.ImageLaw.{dot_append, map-append, length-zeros, length-units, dot_opposite, dot_units, natural_rows, in_columns, floor_row, in_naturals, split_at, naught, length-naught, length_append}
 use Rattle.termination_model.proofs.Naturals.{never_below}

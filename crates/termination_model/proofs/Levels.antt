@@ -3,8 +3,8 @@ use Rattle.std.proofs.Common.{◌≡◌, ℕ, ℤ, zero, suc, ◌+◌, ◌*◌, 
 use Rattle.std.specs.List.{AllByRecursion}
 use Rattle.cti_terms.specs.Tree.{Tree}
 use Rattle.term_size.specs.Norm.{IsNorm}
-use Rattle.termination_model.specs.Rows.{IsUpper, Covers}
-use Rattle.termination_model.specs.Claims.{Mapping, Measure}
+use Rattle.termination_model.specs.sizes.Rows.{IsUpper, Covers}
+use Rattle.termination_model.specs.claims.Claims.{Mapping, Measure}
 
 abbrev pub total : List ℕ → List ℕ → ℕ
 total [] ws = 0

@@ -4,7 +4,7 @@ use Rattle.cti_terms.specs.declared.derivation.Goal.{Goal}
 use Rattle.cti_terms.specs.Unify.{none}
 use Rattle.cti_terms.proofs.ResolveLaws.{resolve_complete}
 use Rattle.cti_terms.specs.Derive.{IsDerivation}
-use Rattle.termination_model.specs.Loop.{proposition, loop, LoopGoesOn}
+use Rattle.termination_model.specs.examples.Loop.{proposition, loop, LoopGoesOn}
 
 ones : ℕ → List ℕ
 ones zero = []

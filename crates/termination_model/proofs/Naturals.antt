@@ -5,7 +5,7 @@ use Rattle.std.proofs.lemmas.Bool.Decides.{nat_tests}
 use lib.IntN.{*ℤ_comm}
 use Rattle.exact128.specs.Sums.{entry}
 use Rattle.term_size.specs.Norm.{value_of, weighted}
-use Rattle.termination_model.specs.Ready.{SizesAreNatural}
+use Rattle.termination_model.specs.mappings.Ready.{SizesAreNatural}
 
 abbrev only : ℕ → ℕ → ℕ → ℕ
 only i n x = if x == i then n else 0

@@ -2,8 +2,8 @@
 use Rattle.std.proofs.Common.{◌≡◌, ℕ, zero, suc, ◌+◌, List, [], ◌∷◌, slice_get, Some, inl, sym, subst, arith}
 use Rattle.linear_rows.specs.Members.{In}
 use Rattle.linear_rows.proofs.Members.{in-left, in-right}
-use Rattle.termination_model.specs.View.{Place, Member, Lower, Call, Rule}
-use Rattle.termination_model.specs.OwnCalls.{own_call, own_calls_from}
+use Rattle.termination_model.specs.mappings.View.{Place, Member, Lower, Call, Rule}
+use Rattle.termination_model.specs.mappings.OwnCalls.{own_call, own_calls_from}
 
 one_call : (k : Rule) (n : ℕ) (b : Call) (x : Place) (q : ℕ) → x ≡ Member q → In (record { rule = k; place = n; call = b; member = q }) (own_call k n b x)
 one_call k n b (Member r) q e = let same : r ≡ q = cc in inl (λ i. record { rule = k; place = n; call = b; member = same i })

@@ -14,13 +14,13 @@ use Rattle.linear_rows.specs.Proves.{Proves, goal_number, rest_number}
 use Rattle.linear_rows.specs.Step.{columns}
 use Rattle.linear_rows.specs.Solving.{zeros}
 use Rattle.linear_rows.proofs.Members.{in-left, in-right, in-map, from_All}
-use Rattle.termination_model.specs.Rows.{scaled, added, combined, substituted}
-use Rattle.termination_model.specs.Claims.{Mapping}
-use Rattle.termination_model.specs.View.{level_over, fall_over}
+use Rattle.termination_model.specs.sizes.Rows.{scaled, added, combined, substituted}
+use Rattle.termination_model.specs.claims.Claims.{Mapping}
+use Rattle.termination_model.specs.mappings.View.{level_over, fall_over}
 use Rattle.termination_model.proofs.Proved.{length-substituted}
-use Rattle.termination_model.specs.OwnCalls.{OwnCall, Position, rows_before, head_sizes, call_sizes}
-use Rattle.termination_model.specs.SupportSystem.{share, offset_share, less_one, position_entries, offset_entries, multiplier_entries, call_row, call_rows, row_count, rows_from, support_rows, value_of_position, value_of_member, mapping_at}
-use Rattle.termination_model.specs.SupportLaws.{AreFalls, HasFew, HasWidths, PointsFall}
+use Rattle.termination_model.specs.mappings.OwnCalls.{OwnCall, Position, rows_before, head_sizes, call_sizes}
+use Rattle.termination_model.specs.mappings.SupportSystem.{share, offset_share, less_one, position_entries, offset_entries, multiplier_entries, call_row, call_rows, row_count, rows_from, support_rows, value_of_position, value_of_member, mapping_at}
+use Rattle.termination_model.specs.mappings.SupportLaws.{AreFalls, HasFew, HasWidths, PointsFall}
 use Rattle.termination_model.proofs.Entries.{dot_nil, dot_parts, dot_zeros, entry_added, entry_scaled, constant_at, entry_substituted, entry_column, dot_difference, dot_negated, dot_none, only_at, dot_only, dot_sum_left}
 
 weigh_one : (b : Bool) (k n w x : ℕ) (sizes : List (List ℤ)) → length sizes ≤ n

@@ -12,11 +12,11 @@ use Rattle.cti_terms.specs.declared.clauses.Clause.{Clause}
 use Rattle.cti_terms.specs.Listing.{IsAtom, IsClause}
 use Rattle.term_size.specs.Norm.{IsNorm}
 use Rattle.termination_model.proofs.Values.{values}
-use Rattle.termination_model.specs.Rows.{scaled, added, combined, substituted}
-use Rattle.termination_model.specs.Claims.{Mapping, Measure, Claims, sizes, IsInductive, level_row, fall_row, FallsOn, Descends, Serves}
-use Rattle.termination_model.specs.Systems.{row_over, system, row_fits}
-use Rattle.termination_model.specs.ShortSystems.{short_row, short_system}
-use Rattle.termination_model.specs.Short.{Provable, SizesProved, FallsProved, DescendsProved, ServesProved, ProofsShow}
+use Rattle.termination_model.specs.sizes.Rows.{scaled, added, combined, substituted}
+use Rattle.termination_model.specs.claims.Claims.{Mapping, Measure, Claims, sizes, IsInductive, level_row, fall_row, FallsOn, Descends, Serves}
+use Rattle.termination_model.specs.sizes.Systems.{row_over, system, row_fits}
+use Rattle.termination_model.specs.sizes.ShortSystems.{short_row, short_system}
+use Rattle.termination_model.specs.sizes.Short.{Provable, SizesProved, FallsProved, DescendsProved, ServesProved, ProofsShow}
 use Rattle.termination_model.proofs.SystemPoints.{Below, to_all, row_value, point_length, system_holds}
 
 pub dot_none : (r : List ℤ) (ps : List ℤ) → dot (map (λ _. pos 0) r) ps ≡ pos 0

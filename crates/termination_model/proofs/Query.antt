@@ -10,8 +10,8 @@ use Rattle.cti_terms.specs.Resolve.{resolve}
 use Rattle.cti_terms.specs.ResolutionStep.{Leaves}
 use Rattle.cti_terms.proofs.Bounds.{no_step_without_atoms}
 use Rattle.cti_terms.proofs.ResolveLaws.{resolve_finds}
-use Rattle.termination_model.specs.Claims.{Claims, Shows}
-use Rattle.termination_model.specs.Descent.{mode_row, RowsEnd, ModesEnd}
+use Rattle.termination_model.specs.claims.Claims.{Claims, Shows}
+use Rattle.termination_model.specs.claims.Descent.{mode_row, RowsEnd, ModesEnd}
 use Rattle.termination_model.proofs.Bound.{bounded_by_steps}
 use Rattle.termination_model.proofs.BuiltinLaws.{builtin_goes}
 use Rattle.termination_model.proofs.Facts.{ByClause, ByItself, some_is}

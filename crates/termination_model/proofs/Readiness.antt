@@ -10,13 +10,13 @@ use Rattle.cti_terms.specs.declared.predicates.Pred.{Pred}
 use Rattle.linear_rows.specs.Members.{In}
 use Rattle.linear_rows.proofs.Members.{in-left, in-right, of-append, in-map, of-map, of-filter}
 use Rattle.linear_rows.specs.Step.{columns}
-use Rattle.termination_model.specs.Claims.{Claims, SomeOf}
-use Rattle.termination_model.specs.View.{Place, Member, Lower, Call, Rule, call_of, place_of, rule_of, view_of, upward_union}
-use Rattle.termination_model.specs.Excluding.{IsOwnCall}
-use Rattle.termination_model.specs.OwnCalls.{OwnCall, Position, first_rules, members_of, own_call, own_calls, own_calls_from}
-use Rattle.termination_model.specs.Ready.{Apart, AreReady, PositionsAreDistinct, ViewsAreReady, ViewsHaveFew, arity_in, itself, positions_by}
-use Rattle.termination_model.specs.SupportLaws.{HasFew}
-use Rattle.termination_model.specs.Supports.{AreDistinct}
+use Rattle.termination_model.specs.claims.Claims.{Claims, SomeOf}
+use Rattle.termination_model.specs.mappings.View.{Place, Member, Lower, Call, Rule, call_of, place_of, rule_of, view_of, upward_union}
+use Rattle.termination_model.specs.mappings.Excluding.{IsOwnCall}
+use Rattle.termination_model.specs.mappings.OwnCalls.{OwnCall, Position, first_rules, members_of, own_call, own_calls, own_calls_from}
+use Rattle.termination_model.specs.mappings.Ready.{Apart, AreReady, PositionsAreDistinct, ViewsAreReady, ViewsHaveFew, arity_in, itself, positions_by}
+use Rattle.termination_model.specs.mappings.SupportLaws.{HasFew}
+use Rattle.termination_model.specs.mappings.Supports.{AreDistinct}
 
 -- ---- calls
 pub record IsFrom (k : Rule) (n : ℕ) (bs : List Call) (o : OwnCall) : Type 0 where

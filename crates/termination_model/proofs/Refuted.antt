@@ -8,11 +8,11 @@ use Rattle.exact128.proofs.Rings.{rings, mul_nonneg, mul_mono}
 use Rattle.exact128.specs.Sums.{dot, entry}
 use Rattle.linear_rows.specs.Rows.{AllHold, HoldsOn}
 use Rattle.cti_terms.specs.Tree.{Tree}
-use Rattle.termination_model.specs.Rows.{scaled, added, combined, substituted}
-use Rattle.termination_model.specs.Coefficients.{coefficient}
-use Rattle.termination_model.specs.Claims.{Mapping, SomeOf}
-use Rattle.termination_model.specs.View.{Member, Call, Rule, system_of, level_over, fall_over}
-use Rattle.termination_model.specs.Refutation.{Pair, Load, gather, Decreases, head_load, call_load, IsPair, NoneDecreases}
+use Rattle.termination_model.specs.sizes.Rows.{scaled, added, combined, substituted}
+use Rattle.termination_model.specs.mappings.Coefficients.{coefficient}
+use Rattle.termination_model.specs.claims.Claims.{Mapping, SomeOf}
+use Rattle.termination_model.specs.mappings.View.{Member, Call, Rule, system_of, level_over, fall_over}
+use Rattle.termination_model.specs.mappings.Refutation.{Pair, Load, gather, Decreases, head_load, call_load, IsPair, NoneDecreases}
 use Rattle.termination_model.proofs.SystemPoints.{dot_scaled, dot_added, dot_zeros, dot_combined}
 use Rattle.termination_model.proofs.Naturals.{never_below}
 use Rattle.termination_model.proofs.Entries.{dot_nil}

@@ -14,14 +14,14 @@ use Rattle.linear_rows.specs.Proves.{Proves, Refutes, goal_number, rest_number}
 use Rattle.linear_rows.specs.Step.{columns}
 use Rattle.linear_rows.specs.Solving.{zeros}
 use Rattle.linear_rows.proofs.Members.{to_All}
-use Rattle.termination_model.specs.Claims.{Mapping, SomeOf}
-use Rattle.termination_model.specs.Rows.{added}
-use Rattle.termination_model.specs.Refutation.{Pair, Load, gather, head_load, call_load, values_at, IsPair}
-use Rattle.termination_model.specs.View.{Rule, Call}
-use Rattle.termination_model.specs.OwnCalls.{OwnCall, Position, rows_before, head_sizes, call_sizes}
-use Rattle.termination_model.specs.SupportSystem.{share, offset_share, less_one, position_entries, offset_entries, multiplier_entries, call_row, call_rows, row_count, rows_from, support_rows, unknowns}
-use Rattle.termination_model.specs.SupportLaws.{HasWidths}
-use Rattle.termination_model.specs.Excluding.{IsOwnCall, IsLive, IsRefutationAt, pairs_at, number_count, MultipliersRefute}
+use Rattle.termination_model.specs.claims.Claims.{Mapping, SomeOf}
+use Rattle.termination_model.specs.sizes.Rows.{added}
+use Rattle.termination_model.specs.mappings.Refutation.{Pair, Load, gather, head_load, call_load, values_at, IsPair}
+use Rattle.termination_model.specs.mappings.View.{Rule, Call}
+use Rattle.termination_model.specs.mappings.OwnCalls.{OwnCall, Position, rows_before, head_sizes, call_sizes}
+use Rattle.termination_model.specs.mappings.SupportSystem.{share, offset_share, less_one, position_entries, offset_entries, multiplier_entries, call_row, call_rows, row_count, rows_from, support_rows, unknowns}
+use Rattle.termination_model.specs.mappings.SupportLaws.{HasWidths}
+use Rattle.termination_model.specs.mappings.Excluding.{IsOwnCall, IsLive, IsRefutationAt, pairs_at, number_count, MultipliersRefute}
 use Rattle.termination_model.proofs.Entries.{dot_nil, dot_parts, dot_zeros, entry_zeros, entry_added, dot_difference, dot_negated}
 use Rattle.termination_model.proofs.Totals.{dot_comm, dot_entries, entry_left, entry_right, entry_map, there, taken, dropped, total, blocks, column_total}
 use Rattle.termination_model.proofs.Totals.{shifted}

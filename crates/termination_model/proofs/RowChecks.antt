@@ -11,7 +11,7 @@ use Rattle.linear_rows.specs.Proves.{rest_number}
 use Rattle.linear_rows.specs.Irredundant.{Fails}
 use Rattle.linear_rows.proofs.Members.{to_All, from_All}
 use Rattle.linear_rows.proofs.Soundness.{law_holds}
-use Rattle.termination_model.specs.ChainRows.{HasPoint, HasSublist}
+use Rattle.termination_model.specs.chains.ChainRows.{HasPoint, HasSublist}
 
 le_true : (a b : ℤ) → int_le a b ≡ true → a ≤ℤ b
 le_true a b e = omega (arith, ints)

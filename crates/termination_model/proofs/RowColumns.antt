@@ -7,9 +7,9 @@ use Rattle.std.proofs.lemmas.List.{length-map}
 use Rattle.std.proofs.lemmas.Bool.Decides.{nat_tests}
 use Rattle.exact128.specs.Fits.{Fits, fits}
 use Rattle.exact128.specs.Sums.{entry, dot}
-use Rattle.termination_model.specs.Replacing.{unit_at, column_over, AreColumns, over_columns}
-use Rattle.termination_model.specs.Rows.{scaled, added, combined, substituted}
-use Rattle.termination_model.specs.Systems.{row_fits}
+use Rattle.termination_model.specs.sizes.Replacing.{unit_at, column_over, AreColumns, over_columns}
+use Rattle.termination_model.specs.sizes.Rows.{scaled, added, combined, substituted}
+use Rattle.termination_model.specs.sizes.Systems.{row_fits}
 use Rattle.termination_model.proofs.Proved.{length-substituted}
 use Rattle.termination_model.proofs.Entries.{entry_scaled}
 

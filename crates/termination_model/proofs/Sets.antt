@@ -6,8 +6,8 @@ use Rattle.std.proofs.lemmas.List.{length-map, length-append}
 use Rattle.std.proofs.lemmas.Bool.{or_cases, or_left, or_right, and_parts, and_from}
 use Rattle.linear_rows.specs.Members.{In}
 use Rattle.linear_rows.proofs.Members.{in-left, in-right, of-append, in-map}
-use Rattle.termination_model.specs.Modes.{is_part, chosen, chosen_up_to}
-use Rattle.termination_model.specs.Minimal.{IsSet, IsAbove}
+use Rattle.termination_model.specs.grounds.Modes.{is_part, chosen, chosen_up_to}
+use Rattle.termination_model.specs.grounds.Minimal.{IsSet, IsAbove}
 
 abbrev pub Part : List ℕ → List ℕ → Type 0
 Part xs ys = (x : ℕ) → In x xs → In x ys

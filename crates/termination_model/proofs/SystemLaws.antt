@@ -5,10 +5,10 @@ use Rattle.std.proofs.lemmas.List.{map-append}
 use Rattle.cti_terms.specs.Tree.{Tree}
 use Rattle.cti_terms.specs.declared.atom_list.Atom.{Atom}
 use Rattle.term_size.specs.Norm.{IsNorm}
-use Rattle.termination_model.specs.Replacing.{AreColumns, over_columns}
-use Rattle.termination_model.specs.Sizes.{wide_rows, wide_system}
-use Rattle.termination_model.specs.Systems.{row_over, system, row_fits}
-use Rattle.termination_model.specs.ShortSystems.{short_row, short_system}
+use Rattle.termination_model.specs.sizes.Replacing.{AreColumns, over_columns}
+use Rattle.termination_model.specs.sizes.Sizes.{wide_rows, wide_system}
+use Rattle.termination_model.specs.sizes.Systems.{row_over, system, row_fits}
+use Rattle.termination_model.specs.sizes.ShortSystems.{short_row, short_system}
 use Rattle.termination_model.proofs.Lists.{append_assoc}
 use Rattle.termination_model.proofs.RowColumns.{columns_replace}
 

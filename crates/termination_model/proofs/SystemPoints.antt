@@ -10,9 +10,9 @@ use Rattle.cti_terms.specs.declared.atom_list.Atom.{Atom}
 use Rattle.cti_terms.specs.declared.clauses.Clause.{Clause}
 use Rattle.term_size.specs.Norm.{IsNorm}
 use Rattle.termination_model.proofs.Values.{values_from, values, expression_value}
-use Rattle.termination_model.specs.Rows.{scaled, added, combined, substituted}
-use Rattle.termination_model.specs.Claims.{Mapping, Claims, sizes, IsSized, level_row, fall_row, FallsOn}
-use Rattle.termination_model.specs.Systems.{row_over, system}
+use Rattle.termination_model.specs.sizes.Rows.{scaled, added, combined, substituted}
+use Rattle.termination_model.specs.claims.Claims.{Mapping, Claims, sizes, IsSized, level_row, fall_row, FallsOn}
+use Rattle.termination_model.specs.sizes.Systems.{row_over, system}
 use Rattle.termination_model.proofs.Levels.{total, level}
 use Rattle.termination_model.proofs.Order.{Falls}
 

@@ -13,10 +13,10 @@ use Rattle.linear_rows.specs.Members.{In}
 use Rattle.linear_rows.specs.Rows.{column, Holds, AllHold}
 use Rattle.linear_rows.specs.Step.{columns}
 use Rattle.linear_rows.specs.Solving.{zeros}
-use Rattle.termination_model.specs.Claims.{Mapping}
-use Rattle.termination_model.specs.OwnCalls.{OwnCall, Position, rows_before, head_sizes, call_sizes}
-use Rattle.termination_model.specs.SupportSystem.{share, offset_share, less_one, position_entries, offset_entries, multiplier_entries, call_row, call_rows, row_count, rows_from, support_rows}
-use Rattle.termination_model.specs.Excluding.{number_count}
+use Rattle.termination_model.specs.claims.Claims.{Mapping}
+use Rattle.termination_model.specs.mappings.OwnCalls.{OwnCall, Position, rows_before, head_sizes, call_sizes}
+use Rattle.termination_model.specs.mappings.SupportSystem.{share, offset_share, less_one, position_entries, offset_entries, multiplier_entries, call_row, call_rows, row_count, rows_from, support_rows}
+use Rattle.termination_model.specs.mappings.Excluding.{number_count}
 use Rattle.termination_model.proofs.Entries.{dot_nil, dot_parts, dot_zeros, entry_zeros}
 
 pub shifted : {X : Type 0} (f : ℕ → X) (k n : ℕ) → map f (columns (suc k) n) ≡ map (λ x. f (suc x)) (columns k n)

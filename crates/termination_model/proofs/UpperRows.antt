@@ -1,8 +1,8 @@
 -- What is true at all upper rows is true at each.
 use Rattle.std.proofs.Common.{◌≡◌, Bool, true, false, List, [], ◌∷◌, refl}
 use Rattle.std.proofs.lemmas.Bool.{and_parts}
-use Rattle.termination_model.specs.Rows.{IsUpper}
-use Rattle.termination_model.specs.View.{all_upper}
+use Rattle.termination_model.specs.sizes.Rows.{IsUpper}
+use Rattle.termination_model.specs.mappings.View.{all_upper}
 
 pub upper_all : (f : List Bool → Bool) (bs us : List Bool) → all_upper f bs ≡ true → IsUpper us bs → f us ≡ true
 upper_all f [] [] h u = h

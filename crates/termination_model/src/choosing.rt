@@ -1,7 +1,7 @@
 //! All sets of numbers up to a number.
 
 ghost use Rattle.std.specs.Prelude.{◌≡◌, ◌<◌, ◌+◌, ◌++◌, ◌∷◌, [], ◌^◌, IfOk, OnOk, map};
-ghost use Rattle.termination_model.specs.Modes.{chosen, chosen_up_to};
+ghost use Rattle.termination_model.specs.grounds.Modes.{chosen, chosen_up_to};
 
 use sequences::Sequence;
 use std::alloc::{AllocError, Global};

@@ -3,12 +3,12 @@
 ghost use Rattle.std.specs.Prelude.{◌↔◌, ℕ, Bool, IsTrue, List};
 ghost use Rattle.cti_terms.specs.Listing.{Listing};
 ghost use Rattle.cti_terms.specs.Tree.{Tree};
-ghost use Rattle.termination_model.specs.Append.{AppendEnds};
-ghost use Rattle.termination_model.specs.AppendChain.{AppendHasThisChain};
-ghost use Rattle.termination_model.specs.ChainKept.{ChainsKeep, ChainsState};
-ghost use Rattle.termination_model.specs.Loop.{LoopGoesOn};
-ghost use Rattle.termination_model.specs.Refutation.{NoneDecreases};
-ghost use Rattle.termination_model.specs.Grounds.{Family, InEachClosedIsClosed, IsClosed, IsInEachClosed, IsInside, IsLeast};
+ghost use Rattle.termination_model.specs.examples.Append.{AppendEnds};
+ghost use Rattle.termination_model.specs.examples.AppendChain.{AppendHasThisChain};
+ghost use Rattle.termination_model.specs.chains.ChainKept.{ChainsKeep, ChainsState};
+ghost use Rattle.termination_model.specs.examples.Loop.{LoopGoesOn};
+ghost use Rattle.termination_model.specs.mappings.Refutation.{NoneDecreases};
+ghost use Rattle.termination_model.specs.grounds.Grounds.{Family, InEachClosedIsClosed, IsClosed, IsInEachClosed, IsInside, IsLeast};
 
 /// What is in each closed family, and the least closed family.
 pub fn closed_families()

@@ -5,7 +5,7 @@ ghost use Rattle.std.specs.List.{AllByRecursion};
 ghost use Rattle.cti_terms.specs.Tree.{is_below, nodes_of};
 ghost use Rattle.exact128.specs.Sums.{entry};
 ghost use Rattle.linear_rows.specs.Plain.{HaveWidth, plain_row, plain_rows};
-ghost use Rattle.termination_model.specs.Replacing.{AreColumns, IsRowIfFits, column_over, unit_at, over_columns};
+ghost use Rattle.termination_model.specs.sizes.Replacing.{AreColumns, IsRowIfFits, column_over, unit_at, over_columns};
 
 use cti_terms::{MOST_NODES, MOST_VARIABLES, Terms};
 use exact128::sum_of_products;

@@ -2,7 +2,7 @@
 
 ghost use Rattle.std.specs.Prelude.{◌≡◌, IfOk};
 ghost use Rattle.linear_rows.specs.Plain.{plain_row, plain_rows, HaveWidth};
-ghost use Rattle.termination_model.specs.Stated.{is_row, stated_rows};
+ghost use Rattle.termination_model.specs.sizes.Stated.{is_row, stated_rows};
 
 use cti_terms::Builtin;
 use linear_rows::{Numbers, Row, Rows};

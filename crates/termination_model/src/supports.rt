@@ -1,10 +1,10 @@
 //! Laws of the systems of supports. Each is a function that does nothing, and whose clauses are proved.
 
-ghost use Rattle.termination_model.specs.AllPositions.{AllArePicked, PositionsCoverPairs};
-ghost use Rattle.termination_model.specs.Excluding.{AllRefute, ExcludesAt, MultipliersRefute};
-ghost use Rattle.termination_model.specs.Ready.{PositionsAreDistinct, SizesAreNatural, ViewsAreReady, ViewsHaveFew};
-ghost use Rattle.termination_model.specs.SupportLaws.{PointsFall};
-ghost use Rattle.termination_model.specs.Supports.{SystemsGiveMappings};
+ghost use Rattle.termination_model.specs.mappings.AllPositions.{AllArePicked, PositionsCoverPairs};
+ghost use Rattle.termination_model.specs.mappings.Excluding.{AllRefute, ExcludesAt, MultipliersRefute};
+ghost use Rattle.termination_model.specs.mappings.Ready.{PositionsAreDistinct, SizesAreNatural, ViewsAreReady, ViewsHaveFew};
+ghost use Rattle.termination_model.specs.mappings.SupportLaws.{PointsFall};
+ghost use Rattle.termination_model.specs.mappings.Supports.{SystemsGiveMappings};
 
 /// A point of a support's system gives a mapping, with multipliers that show each of its falls.
 pub fn points_give_mappings()

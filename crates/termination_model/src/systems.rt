@@ -8,10 +8,10 @@ ghost use Rattle.cti_terms.specs.declared.clauses.Clause.{Clause};
 ghost use Rattle.linear_rows.specs.Plain.{HaveWidth, plain_row, plain_rows};
 ghost use Rattle.linear_rows.specs.declared.row.Row.{Row};
 ghost use Rattle.linear_rows.specs.declared.row.Rows.{Rows};
-ghost use Rattle.termination_model.specs.Replacing.{over_columns};
-ghost use Rattle.termination_model.specs.Sizes.{AreSizes, rows_of, wide_rows, wide_system};
-ghost use Rattle.termination_model.specs.Systems.{row_fits, row_over};
-ghost use Rattle.termination_model.specs.ShortSystems.{short_row, short_system};
+ghost use Rattle.termination_model.specs.sizes.Replacing.{over_columns};
+ghost use Rattle.termination_model.specs.sizes.Sizes.{AreSizes, rows_of, wide_rows, wide_system};
+ghost use Rattle.termination_model.specs.sizes.Systems.{row_fits, row_over};
+ghost use Rattle.termination_model.specs.sizes.ShortSystems.{short_row, short_system};
 
 use crate::replacing::{add_expressions, columns, replaced};
 use crate::sizes::{SizeRows, Sizes};

@@ -8,7 +8,7 @@ use Rattle.bool_diagrams.specs.Rows.{IsDiagram, Keeps, ReadsBelow}
 use Rattle.bool_diagrams.specs.Tree.{Tree as Rows}
 use Rattle.bool_diagrams.proofs.CallerLemmas.{holds_later, known_later}
 use Rattle.cti_terms.specs.declared.predicates.Pred.{Pred}
-use Rattle.termination_model.specs.Grounds.{HasArity}
+use Rattle.termination_model.specs.grounds.Grounds.{HasArity}
 use Rattle.truth_rows.specs.Sets.{AreSets, family_of, has_row}
 use Rattle.truth_rows.proofs.ListLaws.{set_elsewhere, set_there}
 

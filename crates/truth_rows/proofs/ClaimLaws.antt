@@ -8,10 +8,10 @@ use Rattle.bool_diagrams.specs.Cubes.{truth_rows}
 use Rattle.bool_diagrams.specs.Tree.{Tree as Rows}
 use Rattle.cti_terms.specs.declared.atom_list.Atom.{Atom}
 use Rattle.cti_terms.specs.declared.clauses.Clause.{Clause}
-use Rattle.termination_model.specs.Claims.{Admits, Claims, IsRanked, KeepsRule, Measure, SomeOf}
-use Rattle.termination_model.specs.Grounds.{Family, IsGround, truth_row}
-use Rattle.termination_model.specs.Rows.{IsUpper}
-use Rattle.termination_model.specs.View.{all_upper, upward_union}
+use Rattle.termination_model.specs.claims.Claims.{Admits, Claims, IsRanked, KeepsRule, Measure, SomeOf}
+use Rattle.termination_model.specs.grounds.Grounds.{Family, IsGround, truth_row}
+use Rattle.termination_model.specs.sizes.Rows.{IsUpper}
+use Rattle.termination_model.specs.mappings.View.{all_upper, upward_union}
 use Rattle.truth_rows.specs.Rules.{KeepsSets}
 use Rattle.termination_model.proofs.Lists.{by_places}
 use Rattle.truth_rows.proofs.UpperLaws.{all_from_upper}

@@ -2,7 +2,7 @@
 use Rattle.std.proofs.Common.{◌≡◌, ℕ, zero, suc, ◌<◌, Bool, true, IsTrue, List, [], ◌∷◌, length, map, slice_get, Some, nat_lt, ltb-true, ap, sym, ◌∙◌, arith}
 use Rattle.std.proofs.lemmas.Bool.Decides.{nat_tests}
 use Rattle.bool_diagrams.specs.Cubes.{values_of}
-use Rattle.termination_model.specs.Rows.{Covers}
+use Rattle.termination_model.specs.sizes.Rows.{Covers}
 use Rattle.truth_rows.proofs.RowLaws.{first_row, first_values, length-first}
 
 pub positive_is : (a : ℕ) → 0 < a → nat_lt 0 a ≡ true

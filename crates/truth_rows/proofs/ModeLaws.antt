@@ -4,7 +4,7 @@ use Rattle.std.proofs.lemmas.Nat.Bits.{bit_at_set_same, bit_at_set_other}
 use Rattle.bool_diagrams.specs.Rows.{bit_of}
 use Rattle.std.specs.List.{list_any}
 use Rattle.bool_diagrams.specs.Cubes.{values_of}
-use Rattle.termination_model.specs.Descent.{mode_row}
+use Rattle.termination_model.specs.claims.Descent.{mode_row}
 
 pub mode_place : (mode : List ℕ) (i n v : ℕ) → v < n → values_of (mode_row mode i n) v ≡ list_any (λ j. j == v + i) mode
 mode_place mode i zero v lt = absurd (omega arith)

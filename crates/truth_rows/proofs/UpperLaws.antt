@@ -3,8 +3,8 @@ use Rattle.std.proofs.Common.{◌≡◌, ◌↔◌, ◌⊎◌, inl, inr, ℕ, ze
 use Rattle.std.proofs.lemmas.Bool.{and_parts, cases_eq}
 use Rattle.bool_diagrams.specs.Cubes.{values_of}
 use Rattle.bool_diagrams.specs.Tree.{with_value}
-use Rattle.termination_model.specs.Rows.{IsUpper}
-use Rattle.termination_model.specs.View.{all_upper}
+use Rattle.termination_model.specs.sizes.Rows.{IsUpper}
+use Rattle.termination_model.specs.mappings.View.{all_upper}
 use Rattle.truth_rows.proofs.RowLaws.{both, same_bool, with_same, with_other, first_row, first_values, length-first}
 use Rattle.termination_model.proofs.UpperRows.{upper_all}
 

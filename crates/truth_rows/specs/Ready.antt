@@ -12,7 +12,7 @@ use Rattle.cti_terms.specs.declared.atom_list.Atom.{Atom}
 use Rattle.cti_terms.specs.declared.clauses.Clause.{Clause}
 use Rattle.cti_terms.specs.Listing.{atom_nodes}
 use Rattle.cti_terms.specs.Tree.{Tree, is_below}
-use Rattle.termination_model.specs.Grounds.{truth_row}
+use Rattle.termination_model.specs.grounds.Grounds.{truth_row}
 
 -- what the rows of an atom are read from
 pub record IsReady (trees : List Rows) (sets : List Diagram) (vars : ℕ) (b : Atom) : Type 0 where

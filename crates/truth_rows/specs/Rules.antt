@@ -8,7 +8,7 @@ use Rattle.std.specs.List.{AllByRecursion}
 use Rattle.cti_terms.specs.Tree.{Tree}
 use Rattle.cti_terms.specs.declared.atom_list.Atom.{Atom}
 use Rattle.cti_terms.specs.declared.clauses.Clause.{Clause}
-use Rattle.termination_model.specs.Grounds.{Family, IsGround}
+use Rattle.termination_model.specs.grounds.Grounds.{Family, IsGround}
 
 -- two predicates have the same rank
 abbrev pub same_rank : List ℕ → ℕ → ℕ → Bool

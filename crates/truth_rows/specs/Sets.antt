@@ -8,7 +8,7 @@ use Rattle.bool_diagrams.specs.Cubes.{truth_rows}
 use Rattle.bool_diagrams.specs.Rows.{IsDiagram, ReadsBelow}
 use Rattle.bool_diagrams.specs.Tree.{Tree as Rows}
 use Rattle.cti_terms.specs.declared.predicates.Pred.{Pred}
-use Rattle.termination_model.specs.Grounds.{Family, HasArity}
+use Rattle.termination_model.specs.grounds.Grounds.{Family, HasArity}
 
 -- whether a predicate's diagram has a truth row of as many values as the predicate has arguments
 abbrev pub has_row : Option Pred → List Rows → Option Diagram → List Bool → Bool

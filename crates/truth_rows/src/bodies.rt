@@ -3,7 +3,7 @@
 ghost use Rattle.std.specs.Prelude.{◌≡◌, ℕ, Bool, IsTrue, IfOk, length};
 ghost use Rattle.truth_rows.specs.Ready.{HasAtoms, IsReadyClause};
 ghost use Rattle.bool_diagrams.specs.Rows.{IsDiagram, Keeps, holds};
-ghost use Rattle.termination_model.specs.Grounds.{truth_row};
+ghost use Rattle.termination_model.specs.grounds.Grounds.{truth_row};
 
 use crate::atoms::atom_rows;
 use crate::ends::{put_all_off, put_body_off, without_ended};

@@ -5,7 +5,7 @@ ghost use Rattle.truth_rows.specs.Ready.{HasAtom, HasAtoms, IsReadyClause};
 ghost use Rattle.truth_rows.specs.Sets.{AreSets, family_of};
 ghost use Rattle.bool_diagrams.specs.Rows.{Keeps};
 ghost use Rattle.cti_terms.specs.declared.clauses.Clause.{Clause};
-ghost use Rattle.termination_model.specs.Grounds.{IsClosedUnder};
+ghost use Rattle.termination_model.specs.grounds.Grounds.{IsClosedUnder};
 
 use crate::atoms::atom_rows;
 use crate::bodies::head_reaching_rows;

@@ -3,7 +3,7 @@
 ghost use Rattle.std.specs.Prelude.{◌≡◌, ◌↔◌, ◌≤◌, ℕ, Bool, IsTrue, IfOk, List, length, map, nat_lt};
 ghost use Rattle.bool_diagrams.specs.Cubes.{truth_rows};
 ghost use Rattle.bool_diagrams.specs.Rows.{IsDiagram, Keeps, ReadsBelow};
-ghost use Rattle.termination_model.specs.Rows.{Covers};
+ghost use Rattle.termination_model.specs.sizes.Rows.{Covers};
 
 use crate::inside::is_inside;
 use bool_diagrams::{Diagram, Table};

@@ -4,7 +4,7 @@ ghost use Rattle.std.specs.Prelude.{◌≡◌, ◌≤◌, ◌+◌, ◌<◌, ◌=
 ghost use Rattle.std.specs.List.{list_any};
 ghost use Rattle.bool_diagrams.specs.Cubes.{truth_rows};
 ghost use Rattle.bool_diagrams.specs.Rows.{IsDiagram, ReadsBelow, bit_of};
-ghost use Rattle.termination_model.specs.Descent.{mode_row};
+ghost use Rattle.termination_model.specs.claims.Descent.{mode_row};
 
 use bool_diagrams::{Diagram, Table};
 use cti_terms::MOST_ARGUMENTS;

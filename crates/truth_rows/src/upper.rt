@@ -6,7 +6,7 @@ ghost use Rattle.bool_diagrams.specs.declared.diagram.Diagram.{Diagram};
 ghost use Rattle.bool_diagrams.specs.Cubes.{truth_rows};
 ghost use Rattle.bool_diagrams.specs.Rows.{IsDiagram, Keeps, ReadsBelow, holds};
 ghost use Rattle.bool_diagrams.specs.Tree.{with_value};
-ghost use Rattle.termination_model.specs.View.{all_upper};
+ghost use Rattle.termination_model.specs.mappings.View.{all_upper};
 
 use bool_diagrams::{Diagram, Table, VARIABLES};
 use std::alloc::AllocError;

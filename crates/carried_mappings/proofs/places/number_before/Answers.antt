@@ -1,7 +1,7 @@
 use Rattle.std.proofs.Common.{◌≡◌, ◌<◌, ◌+◌, ◌∙◌, ℕ, ap, arith, get_or, length, map, slice_get, subst}
 use Rattle.level_systems.specs.Held.{spelled}
 use Rattle.level_systems.specs.declared.position.Position.{Position}
-use Rattle.termination_model.specs.OwnCalls.{Position as Place}
+use Rattle.termination_model.specs.mappings.OwnCalls.{Position as Place}
 use Rattle.termination_model.proofs.Lists.{mapped_place, place_below, there}
 use Rattle.component_laws.specs.Supported.{IsNumber}
 use Rattle.carried_mappings.specs.Order.{AreNamesakes}

@@ -1,7 +1,7 @@
 use Rattle.std.proofs.Common.{◌≡◌, ◌+◌, ◌++◌, ◌∷◌, [], ◌∙◌, ap, arith, get_or, map, sym, subst, take, List}
 use Rattle.level_systems.specs.Held.{spelled}
 use Rattle.level_systems.specs.declared.position.Position.{Position}
-use Rattle.termination_model.specs.OwnCalls.{Position as Place}
+use Rattle.termination_model.specs.mappings.OwnCalls.{Position as Place}
 use Rattle.termination_model.proofs.Lists.{by_places, map_push, taken_more, there}
 use Rattle.carried_mappings.specs.Reordered.{AreOldNumbers, HasOldNumber}
 use Rattle.carried_mappings.proofs.Orders.{take_whole}

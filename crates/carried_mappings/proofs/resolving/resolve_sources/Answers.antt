@@ -1,5 +1,5 @@
 use Rattle.std.proofs.Common.{length, subst, sym}
-use Rattle.termination_model.specs.Sizes.{rows_of}
+use Rattle.termination_model.specs.sizes.Sizes.{rows_of}
 use Rattle.solved_program.specs.Marks.{AreMarkedTo}
 use Rattle.carried_mappings.proofs.Resolved.{parts_at}
 use Rattle.carried_mappings.proofs.resolving.resolve_sources.Goals as goal

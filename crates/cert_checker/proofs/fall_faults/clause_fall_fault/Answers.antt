@@ -5,7 +5,7 @@ use Rattle.cti_terms.specs.Listing.{IsAtom}
 use Rattle.cti_terms.specs.declared.atom_list.Atom.{Atom}
 use Rattle.linear_rows.specs.declared.system.System.{System}
 use Rattle.linear_rows.specs.declared.multipliers.Multipliers.{Multipliers}
-use Rattle.termination_model.specs.Sizes.{rows_of}
+use Rattle.termination_model.specs.sizes.Sizes.{rows_of}
 use Rattle.termination_model.proofs.Lists.{at_place, by_places, one_element, place_below}
 use Rattle.number_tests.specs.Shape.{list_at}
 use Rattle.number_tests.specs.Systems.{IsSystemUpTo}

@@ -4,8 +4,8 @@ use Rattle.cert_structure.specs.Numbered.{lines_from}
 use Rattle.cert_structure.specs.Order.{falls_line}
 use Rattle.cti_terms.specs.declared.atom_list.Atom.{Atom}
 use Rattle.linear_rows.specs.declared.multipliers.Multipliers.{Multipliers}
-use Rattle.termination_model.specs.Sizes.{rows_of}
-use Rattle.termination_model.specs.ShortSystems.{short_system}
+use Rattle.termination_model.specs.sizes.Sizes.{rows_of}
+use Rattle.termination_model.specs.sizes.ShortSystems.{short_system}
 use Rattle.number_tests.specs.Failing.{before}
 use Rattle.number_tests.specs.Proved.{MappingsFall}
 use Rattle.number_tests.specs.Shape.{list_at}

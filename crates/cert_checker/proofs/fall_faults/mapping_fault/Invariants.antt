@@ -2,7 +2,7 @@ use Rattle.std.proofs.Common.{◌≡◌, ◌<◌, ℕ, slice_get, Some}
 use Rattle.number_tests.specs.declared.level_part.LevelPart.{LevelPart}
 use Rattle.linear_rows.specs.Plain.{plain_rows}
 use Rattle.linear_rows.specs.declared.multipliers.Multipliers.{Multipliers}
-use Rattle.termination_model.specs.Replacing.{over_columns}
+use Rattle.termination_model.specs.sizes.Replacing.{over_columns}
 use Rattle.linear_rows.specs.Showing.{IsShown}
 use Rattle.number_tests.specs.Targets.{fall_weights}
 use Rattle.cert_checker.proofs.fall_faults.mapping_fault.Given as goal

@@ -1,5 +1,5 @@
 use Rattle.std.proofs.Common.{◌≡◌, ℤ, List, All, length, sym, subst, ◌∙◌}
-use Rattle.termination_model.specs.Replacing.{IsRowIfFits, over_columns}
+use Rattle.termination_model.specs.sizes.Replacing.{IsRowIfFits, over_columns}
 use Rattle.number_tests.specs.Targets.{fall_weights}
 use Rattle.cert_checker.proofs.fall_faults.mapping_flaw.Goals as goal
 

@@ -6,7 +6,7 @@ use Rattle.cert_structure.specs.Order.{pred_text, refutation_facts}
 use Rattle.cert_structure.specs.Structure.{AreNamed}
 use Rattle.number_tests.specs.Failing.{before}
 use Rattle.number_tests.specs.declared.refutation.Refutation.{Refutation}
-use Rattle.termination_model.specs.Sizes.{rows_of}
+use Rattle.termination_model.specs.sizes.Sizes.{rows_of}
 use Rattle.number_tests.specs.Refuting.{PointHolds, SumsRefute}
 use Rattle.cert_checker.specs.Finding.{NoneFails, RefutationsFail}
 use Rattle.cert_checker.proofs.RefutationLaws.{refutation_count}

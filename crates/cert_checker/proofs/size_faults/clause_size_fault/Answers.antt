@@ -3,16 +3,16 @@ use Rattle.std.proofs.lemmas.List.{length-map}
 use Rattle.std.proofs.Math.Seq.{take-length}
 use Rattle.linear_rows.specs.Plain.{plain_row, plain_rows}
 use Rattle.linear_rows.specs.declared.row.Row.{Row}
-use Rattle.termination_model.specs.Replacing.{over_columns}
-use Rattle.termination_model.specs.Systems.{row_over}
-use Rattle.termination_model.specs.ShortSystems.{short_system}
+use Rattle.termination_model.specs.sizes.Replacing.{over_columns}
+use Rattle.termination_model.specs.sizes.Systems.{row_over}
+use Rattle.termination_model.specs.sizes.ShortSystems.{short_system}
 use Rattle.cert_structure.specs.Order.{by_line}
 use Rattle.cert_checker.proofs.FindLaws.{before_ones, finds_item, finds_none}
 use Rattle.cert_checker.proofs.FlawLaws.{failing_row, kept_before, row_moved}
 use Rattle.cert_checker.specs.Finding.{ByFails}
 use Rattle.cert_checker.specs.declared.fault.Fault.{Fault}
 use Rattle.number_tests.specs.Failing.{MultipliersFail}
-use Rattle.termination_model.specs.Sizes.{plain_or_none, rows_of}
+use Rattle.termination_model.specs.sizes.Sizes.{plain_or_none, rows_of}
 use Rattle.termination_model.proofs.Lists.{at_place, by_places, mapped_place, one_element, place_below}
 use Rattle.linear_rows.specs.Showing.{AreMultipliers, IsShown}
 use Rattle.number_tests.specs.Shape.{row_count}

@@ -5,7 +5,7 @@ use Rattle.linear_rows.specs.Members.{In}
 use Rattle.linear_rows.specs.Plain.{plain_row, plain_rows}
 use Rattle.linear_rows.specs.declared.row.Row.{Row}
 use Rattle.termination_model.proofs.Lists.{by_places, from_places, mapped_place, place_below}
-use Rattle.termination_model.specs.Stated.{stated_rows}
+use Rattle.termination_model.specs.sizes.Stated.{stated_rows}
 use Rattle.cert_checker.proofs.Excludes.{all_mapped}
 use Rattle.cert_checker.proofs.FindLaws.{before_ones, finds_fact, finds_item, finds_none}
 use Rattle.cert_checker.proofs.FlawLaws.{same_number}

@@ -12,8 +12,8 @@ use Rattle.number_tests.proofs.BeforeLaws.{before_first, before_more}
 use Rattle.number_tests.proofs.ColumnLengths.{an_element}
 use Rattle.number_tests.proofs.Sized.{some_below}
 use Rattle.termination_model.proofs.Lists.{one_element}
-use Rattle.termination_model.specs.Sizes.{plain_or_none}
-use Rattle.termination_model.specs.Stated.{stated_rows}
+use Rattle.termination_model.specs.sizes.Sizes.{plain_or_none}
+use Rattle.termination_model.specs.sizes.Stated.{stated_rows}
 use Rattle.cert_checker.proofs.FindLaws.{finds_item, finds_none, length_lines}
 use Rattle.cert_checker.proofs.StatedLaws.{AreStatedAs, built_in, foreign_row, rows_hold}
 use Rattle.cert_checker.specs.Finding.{Finds, IsForeign, SizesFail}

@@ -1,7 +1,7 @@
 use Rattle.std.proofs.Common.{sym, arith, ℕ, List}
 use Rattle.termination_model.proofs.Lists.{place_below}
 use Rattle.bool_diagrams.specs.Cubes.{truth_rows}
-use Rattle.termination_model.specs.Descent.{mode_row}
+use Rattle.termination_model.specs.claims.Descent.{mode_row}
 use Rattle.cert_modes.proofs.PlaceLaws.{all_true}
 use Rattle.cert_modes.proofs.admitting.are_admitted.Goals as goal
 

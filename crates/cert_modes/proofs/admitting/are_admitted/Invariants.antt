@@ -1,6 +1,6 @@
 use Rattle.std.proofs.Common.{◌≡◌, ◌<◌, ℕ, true, List, slice_get, Some}
 use Rattle.bool_diagrams.specs.Cubes.{truth_rows}
-use Rattle.termination_model.specs.Descent.{mode_row}
+use Rattle.termination_model.specs.claims.Descent.{mode_row}
 use Rattle.cert_modes.proofs.admitting.are_admitted.Given as goal
 
 -- the modes so far are admitted

@@ -10,7 +10,7 @@ use Rattle.cert_modes.specs.declared.fault.ModeReason.TheVariants as reason
 use Rattle.cert_modes.proofs.MarkLaws.{marked_same, note_more}
 use Rattle.cert_modes.proofs.PlaceLaws.{items_at}
 use Rattle.cert_modes.proofs.SpellLaws.{arity_at, arity_few}
-use Rattle.termination_model.specs.Descent.{mode_row}
+use Rattle.termination_model.specs.claims.Descent.{mode_row}
 use Rattle.cert_modes.proofs.admitting.mark_refused.Goals as goal
 
 pub are_admitted-admitted-requires-clause-reads :

@@ -5,7 +5,7 @@ use Rattle.bool_diagrams.specs.declared.diagram.Diagram.{Diagram}
 use Rattle.cert_structure.specs.Shape.{arity_in, items_of}
 use Rattle.cert_modes.specs.Marks.{IsMarked, mark_at}
 use Rattle.cert_modes.specs.declared.fault.ModeReason.TheVariants as reason
-use Rattle.termination_model.specs.Descent.{mode_row}
+use Rattle.termination_model.specs.claims.Descent.{mode_row}
 use Rattle.cert_modes.proofs.admitting.mark_refused.Given as goal
 
 -- the marks say of each predicate so far whether its modes are admitted

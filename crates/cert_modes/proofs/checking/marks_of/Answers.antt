@@ -11,7 +11,7 @@ use Rattle.cert_modes.specs.Failing.{ClosesIn}
 use Rattle.cert_modes.specs.Marks.{IsMarked, mark_at}
 use Rattle.cert_modes.specs.Sets.{AreCovered, HaveLevels}
 use Rattle.cert_modes.specs.declared.fault.ModeReason.TheVariants as reason
-use Rattle.termination_model.specs.Descent.{mode_row}
+use Rattle.termination_model.specs.claims.Descent.{mode_row}
 use Rattle.cert_modes.proofs.CoverLaws.{levels_later}
 use Rattle.cert_modes.proofs.FirstLaws.{tells}
 use Rattle.cert_modes.proofs.HoldLaws.{closed_at, covered_at, levels_of, modes_at, rule_at}

@@ -6,7 +6,7 @@ use Rattle.bool_diagrams.proofs.CallerLemmas.{keeps_twice}
 use Rattle.cti_terms.specs.declared.clauses.Clause.{Clause}
 use Rattle.cert_modes.specs.declared.fault.ModeReason.TheVariants as reason
 use Rattle.cert_modes.proofs.MarkLaws.{at_one, marked_both, marked_same, note_more}
-use Rattle.termination_model.specs.Grounds.{Family, IsClosedUnder}
+use Rattle.termination_model.specs.grounds.Grounds.{Family, IsClosedUnder}
 use Rattle.cert_modes.proofs.closing.mark_open.Goals as goal
 
 pub loop-k-preserved : goal.loop-k-preserved

@@ -4,7 +4,7 @@ use Rattle.bool_diagrams.specs.Rows.{Keeps}
 use Rattle.cti_terms.specs.declared.clauses.Clause.{Clause}
 use Rattle.cert_modes.specs.Marks.{IsMarked, mark_at}
 use Rattle.cert_modes.specs.declared.fault.ModeReason.TheVariants as reason
-use Rattle.termination_model.specs.Grounds.{IsClosedUnder}
+use Rattle.termination_model.specs.grounds.Grounds.{IsClosedUnder}
 use Rattle.cert_modes.proofs.closing.mark_open.Given as goal
 
 -- the marks say of each predicate whether the sets are closed under its clauses so far

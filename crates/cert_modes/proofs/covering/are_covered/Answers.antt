@@ -5,7 +5,7 @@ use Rattle.bool_diagrams.proofs.CallerLemmas.{keeps_twice}
 use Rattle.bool_diagrams.specs.Cubes.{truth_rows}
 use Rattle.bool_diagrams.specs.declared.diagram.Diagram.{Diagram}
 use Rattle.number_tests.specs.declared.level_part.LevelPart.{LevelPart}
-use Rattle.termination_model.specs.Rows.{Covers}
+use Rattle.termination_model.specs.sizes.Rows.{Covers}
 use Rattle.cert_modes.specs.Modes.{naturals}
 use Rattle.cert_modes.specs.Sets.{is_positive}
 use Rattle.cert_modes.proofs.CoverLaws.{covered_here, signs_of}

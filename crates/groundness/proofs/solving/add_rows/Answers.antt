@@ -2,7 +2,7 @@ use Rattle.std.proofs.Common.{◌≡◌, ap, refl, slice_set, sym, subst, ◌∙
 use Rattle.bool_diagrams.proofs.CallerLemmas.{known_later, keeps_twice}
 use Rattle.call_components.proofs.Lists.{slice_get-set_other}
 use Rattle.cti_terms.specs.declared.clauses.Clause.{Clause}
-use Rattle.termination_model.specs.Grounds.{Family, IsClosedUnder}
+use Rattle.termination_model.specs.grounds.Grounds.{Family, IsClosedUnder}
 use Rattle.truth_rows.specs.Sets.{family_of}
 use Rattle.truth_rows.proofs.CallerLemmas.{family_later}
 use Rattle.termination_model.proofs.Lists.{there}

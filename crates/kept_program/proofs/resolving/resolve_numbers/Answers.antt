@@ -6,7 +6,7 @@ use Rattle.level_systems.specs.declared.found.Found.{Found}
 use Rattle.report.specs.Assembly.{AreFound as AreFoundOf}
 use Rattle.report.specs.Levels.{level_list}
 use Rattle.term_size.specs.Occurrences.{size_row}
-use Rattle.termination_model.specs.Sizes.{rows_of}
+use Rattle.termination_model.specs.sizes.Sizes.{rows_of}
 use Rattle.kept_program.proofs.KeptLaws.{found_of}
 use Rattle.kept_program.proofs.resolving.resolve_numbers.Goals as goal
 

@@ -6,7 +6,7 @@ use Rattle.number_tests.specs.declared.level_part.LevelPart.{LevelPart}
 use Rattle.precond_fixpoint.specs.Solving.{AreModes, IsSolved}
 use Rattle.precond_fixpoint.specs.declared.mode.Mode.{Mode}
 use Rattle.solved_program.proofs.GroundRows.{solved_later}
-use Rattle.termination_model.specs.Grounds.{Family}
+use Rattle.termination_model.specs.grounds.Grounds.{Family}
 use Rattle.truth_rows.specs.Sets.{family_of}
 use Rattle.solved_program.specs.Standing.{KeepValues}
 use Rattle.kept_program.proofs.Families.{grown_sets, moved_family}

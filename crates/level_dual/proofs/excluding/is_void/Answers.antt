@@ -1,6 +1,6 @@
 use Rattle.std.proofs.Common.{ℕ, ap, length, subst}
-use Rattle.termination_model.specs.ComponentViews.{HasSupportIn}
-use Rattle.termination_model.specs.Minimal.{IsExcluded}
+use Rattle.termination_model.specs.mappings.ComponentViews.{HasSupportIn}
+use Rattle.termination_model.specs.grounds.Minimal.{IsExcluded}
 use Rattle.level_systems.specs.Searched.{IsAnswer}
 use Rattle.level_dual.specs.Vanishing.{AreMarkedOrIn}
 use Rattle.level_dual.proofs.VanishLaws.{void_of}

@@ -1,6 +1,6 @@
 use Rattle.std.proofs.Common.{List, sym, subst}
 use Rattle.std.specs.List.{AllByRecursion}
-use Rattle.termination_model.specs.ComponentViews.{positions_in}
+use Rattle.termination_model.specs.mappings.ComponentViews.{positions_in}
 use Rattle.level_dual.specs.Vanishing.{KeepsColumns, Vanishes}
 use Rattle.level_systems.specs.declared.position.Position.{Position}
 use Rattle.level_dual.proofs.VanishLaws.{all_keep, vanishes_there}

@@ -1,7 +1,7 @@
 use Rattle.std.proofs.Common.{◌≡◌, ◌<◌, ◌↔◌, ◌∷◌, [], ℕ, Bool, List, None, IsTrue, length, true, sym, subst, ◌∙◌}
-use Rattle.termination_model.specs.ComponentViews.{positions_in}
-use Rattle.termination_model.specs.Modes.{is_part}
-use Rattle.termination_model.specs.Sizes.{rows_of}
+use Rattle.termination_model.specs.mappings.ComponentViews.{positions_in}
+use Rattle.termination_model.specs.grounds.Modes.{is_part}
+use Rattle.termination_model.specs.sizes.Sizes.{rows_of}
 use Rattle.level_systems.specs.Found.{IsBlownSet, count}
 use Rattle.level_systems.specs.Mappings.{support_of}
 use Rattle.level_systems.specs.Searched.{IsAnswer}

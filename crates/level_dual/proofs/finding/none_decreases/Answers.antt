@@ -1,5 +1,5 @@
 use Rattle.std.proofs.Common.{[], Some, IfSome, sym, subst, ◌∙◌}
-use Rattle.termination_model.specs.Sizes.{rows_of}
+use Rattle.termination_model.specs.sizes.Sizes.{rows_of}
 use Rattle.level_systems.specs.Found.{IsBlownSet, IsFound, IsRefutationOf}
 use Rattle.level_dual.proofs.FoundCases.{refuted_found, wide_is}
 use Rattle.level_dual.proofs.Results.{if_ok}

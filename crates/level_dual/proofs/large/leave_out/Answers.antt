@@ -1,7 +1,7 @@
 use Rattle.std.proofs.Common.{◌≡◌, ◌+◌, ◌≤◌, ◌++◌, ◌∷◌, [], suc, true, List, length, map, slice_get, get_or, Some, ap, sym, subst, ◌∙◌, arith}
-use Rattle.termination_model.specs.Minimal.{IsExcluded}
-use Rattle.termination_model.specs.Modes.{is_part}
-use Rattle.termination_model.specs.ComponentViews.{HasSupportIn, positions_in}
+use Rattle.termination_model.specs.grounds.Minimal.{IsExcluded}
+use Rattle.termination_model.specs.grounds.Modes.{is_part}
+use Rattle.termination_model.specs.mappings.ComponentViews.{HasSupportIn, positions_in}
 use Rattle.termination_model.proofs.Lists.{there}
 use Rattle.level_systems.specs.Found.{IsBlownSet, without_number}
 use Rattle.level_systems.specs.Held.{spelled}

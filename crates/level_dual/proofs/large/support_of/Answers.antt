@@ -1,5 +1,5 @@
 use Rattle.std.proofs.Common.{◌≡◌, ◌+◌, ◌++◌, ◌∷◌, [], ℕ, suc, List, map, drop, slice_get, get_or, Some, if◌then◌else◌, true, false, ap, sym, ◌∙◌, arith}
-use Rattle.termination_model.specs.Supports.{support_from}
+use Rattle.termination_model.specs.mappings.Supports.{support_from}
 use Rattle.termination_model.proofs.Lists.{append_assoc, there}
 use Rattle.level_systems.specs.Held.{spelled}
 use Rattle.level_dual.specs.Large.{has_coefficient}

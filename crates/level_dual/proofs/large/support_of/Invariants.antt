@@ -1,7 +1,7 @@
 use Rattle.std.proofs.Common.{◌≡◌, ◌++◌, ◌+◌, map, drop}
 use Rattle.level_systems.specs.Held.{spelled}
 use Rattle.level_systems.specs.Mappings.{mapping_with, support_of}
-use Rattle.termination_model.specs.Supports.{support_from}
+use Rattle.termination_model.specs.mappings.Supports.{support_from}
 use Rattle.level_dual.proofs.large.support_of.Given as goal
 
 -- those so far, and those of the rest

@@ -1,5 +1,5 @@
 use Rattle.std.proofs.Common.{refl}
-use Rattle.termination_model.specs.Sizes.{rows_of}
+use Rattle.termination_model.specs.sizes.Sizes.{rows_of}
 use Rattle.level_dual.proofs.FullSet.{full_blown}
 use Rattle.level_dual.proofs.Results.{if_ok}
 use Rattle.level_dual.proofs.refuting.refutation.Goals as goal

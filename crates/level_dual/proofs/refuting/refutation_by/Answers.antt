@@ -5,8 +5,8 @@ use Rattle.call_components.specs.Numbers.{number_of}
 use Rattle.number_tests.specs.Refuting.{PointHolds, SumsRefute}
 use Rattle.number_tests.specs.Shape.{IsPairOf}
 use Rattle.number_tests.specs.declared.pair_point.PairPoint.{PairPoint}
-use Rattle.termination_model.specs.ComponentViews.{members_in}
-use Rattle.termination_model.specs.Sizes.{rows_of}
+use Rattle.termination_model.specs.mappings.ComponentViews.{members_in}
+use Rattle.termination_model.specs.sizes.Sizes.{rows_of}
 use Rattle.level_systems.specs.Found.{PairsAscend}
 use Rattle.level_systems.specs.Held.{live_of}
 use Rattle.level_systems.specs.Refuted.{HasPoints, IsOfCalls, RefuteIf, lives_of, solution_of}

@@ -6,8 +6,8 @@ use Rattle.call_components.specs.Numbers.{number_of}
 use Rattle.call_components.proofs.Lists.{all_append}
 use Rattle.cti_terms.specs.declared.predicates.PredId.{PredId}
 use Rattle.number_tests.specs.Shape.{IsLevelPart}
-use Rattle.termination_model.specs.Ready.{arity_in}
-use Rattle.termination_model.specs.SupportSystem.{mapping_at}
+use Rattle.termination_model.specs.mappings.Ready.{arity_in}
+use Rattle.termination_model.specs.mappings.SupportSystem.{mapping_at}
 use Rattle.termination_model.proofs.Lists.{by_places, map_push, mapped_place, taken_more, there}
 use Rattle.level_systems.specs.Held.{spelled}
 use Rattle.level_systems.specs.Valued.{IsPartOf}

@@ -11,9 +11,9 @@ use Rattle.linear_rows.specs.Proves.{Refutes}
 use Rattle.linear_rows.specs.Rows.{IsPoint}
 use Rattle.linear_rows.specs.Solving.{solution}
 use Rattle.simplex.specs.Solving.{IsBlownAs}
-use Rattle.termination_model.specs.BlownSupports.{same_position}
-use Rattle.termination_model.specs.SupportSystem.{support_rows}
-use Rattle.termination_model.specs.Supports.{AreDistinct, picked_from}
+use Rattle.termination_model.specs.mappings.BlownSupports.{same_position}
+use Rattle.termination_model.specs.mappings.SupportSystem.{support_rows}
+use Rattle.termination_model.specs.mappings.Supports.{AreDistinct, picked_from}
 use Rattle.level_systems.specs.Held.{live_of, spelled}
 use Rattle.level_systems.specs.Recalled.{count_of}
 use Rattle.level_systems.specs.Searched.{IsMappingIf}

@@ -1,7 +1,7 @@
 use Rattle.std.proofs.Common.{map, sym, subst, ◌∙◌}
 use Rattle.std.specs.List.{AllByRecursion}
 use Rattle.call_components.specs.Numbers.{number_of}
-use Rattle.termination_model.specs.SupportSystem.{support_rows}
+use Rattle.termination_model.specs.mappings.SupportSystem.{support_rows}
 use Rattle.level_systems.specs.Held.{live_of, spelled}
 use Rattle.level_systems.specs.Recalled.{Recalls}
 use Rattle.level_systems.specs.declared.own_call.OwnCall.{OwnCall}

@@ -1,6 +1,6 @@
 use Rattle.std.proofs.Common.{◌≡◌, take, false}
 use Rattle.std.specs.List.{list_any}
-use Rattle.termination_model.specs.Modes.{is_part}
+use Rattle.termination_model.specs.grounds.Modes.{is_part}
 use Rattle.level_dual.proofs.small.is_below.Given as goal
 
 abbrev pub invariant-loop-other : goal.invariant-loop-other

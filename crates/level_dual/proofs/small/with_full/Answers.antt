@@ -1,6 +1,6 @@
 use Rattle.std.proofs.Common.{rules, ◌≡◌, sym, subst, ◌∙◌, true, false}
 use Rattle.std.specs.List.{list_any}
-use Rattle.termination_model.specs.Modes.{is_part}
+use Rattle.termination_model.specs.grounds.Modes.{is_part}
 use Rattle.level_dual.specs.Walked.{IsCompleted}
 use Rattle.level_dual.proofs.FoundCases.{as_given_up, below_there, pushed_full}
 use Rattle.level_dual.proofs.small.with_full.Goals as goal

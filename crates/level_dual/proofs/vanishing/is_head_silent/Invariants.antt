@@ -1,5 +1,5 @@
 use Rattle.std.proofs.Common.{suc}
-use Rattle.termination_model.specs.Claims.{Mapping}
+use Rattle.termination_model.specs.claims.Claims.{Mapping}
 use Rattle.level_dual.specs.Vanishing.{IsSilent, Vanishes}
 use Rattle.level_dual.proofs.vanishing.is_head_silent.Given as goal
 

@@ -2,7 +2,7 @@ use Rattle.std.proofs.Common.{rules, ◌≡◌, ◌<◌, length, sym, subst, ◌
 use Rattle.std.specs.Int.{w128}
 use Rattle.std.specs.Prelude.{FitsSigned}
 use Rattle.std.proofs.lemmas.Int.{to_z-of_z}
-use Rattle.termination_model.specs.Coefficients.{coefficient}
+use Rattle.termination_model.specs.mappings.Coefficients.{coefficient}
 use Rattle.level_dual.specs.Vanishing.{Vanishes}
 use Rattle.level_dual.proofs.VanishLaws.{zero_unless}
 use Rattle.level_dual.proofs.vanishing.mark_call.Goals.{then-not-is_nought, else-not-is_nought}

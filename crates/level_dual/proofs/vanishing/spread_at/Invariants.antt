@@ -1,4 +1,4 @@
-use Rattle.termination_model.specs.Claims.{Mapping}
+use Rattle.termination_model.specs.claims.Claims.{Mapping}
 use Rattle.level_dual.specs.Vanishing.{KeepsColumns, Vanishes}
 use Rattle.level_dual.proofs.vanishing.spread_at.Given as goal
 

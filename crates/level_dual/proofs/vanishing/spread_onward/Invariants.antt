@@ -1,5 +1,5 @@
 use Rattle.std.specs.List.{AllByRecursion}
-use Rattle.termination_model.specs.Claims.{Mapping}
+use Rattle.termination_model.specs.claims.Claims.{Mapping}
 use Rattle.level_dual.specs.Vanishing.{KeepsColumns, Vanishes}
 use Rattle.level_dual.proofs.vanishing.spread_onward.Given as goal
 

@@ -1,5 +1,5 @@
 use Rattle.std.proofs.Common.{◌≡◌, take, true}
-use Rattle.termination_model.specs.Modes.{is_part}
+use Rattle.termination_model.specs.grounds.Modes.{is_part}
 use Rattle.level_dual.proofs.walking.is_part.Given as goal
 
 abbrev pub invariant-loop-x : goal.invariant-loop-x

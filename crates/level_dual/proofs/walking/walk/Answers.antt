@@ -1,5 +1,5 @@
 use Rattle.std.proofs.Common.{◌≡◌, ◌+◌, ℕ, suc, List, length, slice_get, Some, ap, sym, subst, ◌∙◌, arith}
-use Rattle.termination_model.specs.Modes.{chosen_up_to}
+use Rattle.termination_model.specs.grounds.Modes.{chosen_up_to}
 use Rattle.termination_model.proofs.Lists.{at_place}
 use Rattle.level_dual.specs.Walked.{IsWalkedTo}
 use Rattle.level_dual.proofs.WalkLaws.{all_walked}

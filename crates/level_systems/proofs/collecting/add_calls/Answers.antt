@@ -6,7 +6,7 @@ use Rattle.cti_terms.specs.declared.atom_list.Atom.{Atom}
 use Rattle.cti_terms.specs.declared.clauses.Clause.{Clause}
 use Rattle.linear_rows.specs.Members.{In}
 use Rattle.number_tests.specs.Refuting.{atom_or_none, clause_or_none}
-use Rattle.termination_model.specs.Sizes.{rows_of}
+use Rattle.termination_model.specs.sizes.Sizes.{rows_of}
 use Rattle.termination_model.proofs.Lists.{append_assoc, at_place, map_push}
 use Rattle.level_systems.specs.Collected.{IsHeldIn}
 use Rattle.level_systems.specs.Held.{IsHeldAs, numbers_of_call}

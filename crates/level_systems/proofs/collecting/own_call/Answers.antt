@@ -12,8 +12,8 @@ use Rattle.linear_rows.specs.declared.row.Row.{Row}
 use Rattle.linear_rows.specs.declared.row.Rows.{Rows}
 use Rattle.linear_rows.specs.declared.multipliers.Multipliers.{Multipliers}
 use Rattle.number_tests.specs.Targets.{AreFallColumns}
-use Rattle.termination_model.specs.Sizes.{rows_of, wide_rows}
-use Rattle.termination_model.specs.Systems.{system}
+use Rattle.termination_model.specs.sizes.Sizes.{rows_of, wide_rows}
+use Rattle.termination_model.specs.sizes.Systems.{system}
 use Rattle.termination_model.proofs.Lists.{at_place, by_places}
 use Rattle.level_systems.specs.Collected.{IsEmptiness}
 use Rattle.level_systems.specs.Held.{IsReach}

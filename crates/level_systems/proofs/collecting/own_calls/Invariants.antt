@@ -3,7 +3,7 @@ use Rattle.std.specs.List.{AllByRecursion}
 use Rattle.level_systems.specs.Collected.{IsHeldIn}
 use Rattle.level_systems.specs.Held.{numbers_of_call}
 use Rattle.level_systems.specs.Pairs.{pairs_from}
-use Rattle.termination_model.specs.Sizes.{rows_of}
+use Rattle.termination_model.specs.sizes.Sizes.{rows_of}
 use Rattle.level_systems.proofs.collecting.own_calls.Given as goal
 
 abbrev pub invariant-loop-k : goal.invariant-loop-k

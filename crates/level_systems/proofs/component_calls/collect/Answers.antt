@@ -4,10 +4,10 @@ use Rattle.call_components.specs.Numbers.{number_of}
 use Rattle.call_components.specs.Partition.{IsIn}
 use Rattle.call_components.proofs.Lists.{all_map}
 use Rattle.cti_terms.specs.declared.predicates.PredId.{PredId}
-use Rattle.termination_model.specs.ComponentViews.{members_in}
-use Rattle.termination_model.specs.Ready.{Apart, arity_in, positions_by}
-use Rattle.termination_model.specs.Sizes.{rows_of}
-use Rattle.termination_model.specs.Supports.{AreDistinct}
+use Rattle.termination_model.specs.mappings.ComponentViews.{members_in}
+use Rattle.termination_model.specs.mappings.Ready.{Apart, arity_in, positions_by}
+use Rattle.termination_model.specs.sizes.Sizes.{rows_of}
+use Rattle.termination_model.specs.mappings.Supports.{AreDistinct}
 use Rattle.termination_model.proofs.Lists.{indexed}
 use Rattle.termination_model.proofs.Readiness.{positions_are_distinct}
 use Rattle.level_systems.specs.Collected.{IsHeldIn}

@@ -1,6 +1,6 @@
 use Rattle.std.proofs.Common.{◌≡◌, ℕ, List, [], map, slice_get, Some, ap, sym, ◌∙◌}
 use Rattle.call_components.specs.Numbers.{number_of}
-use Rattle.termination_model.specs.Ready.{arity_in, positions_by}
+use Rattle.termination_model.specs.mappings.Ready.{arity_in, positions_by}
 use Rattle.termination_model.proofs.Lists.{indexed}
 use Rattle.level_systems.proofs.SoundLaws.{are_below}
 use Rattle.level_systems.proofs.members.component_positions.Goals as goal

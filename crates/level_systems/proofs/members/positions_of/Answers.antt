@@ -1,8 +1,8 @@
 use Rattle.std.proofs.Common.{◌≡◌, ◌<◌, ◌+◌, ◌++◌, ◌∷◌, ℕ, List, drop, get_or, length, map, slice_get, Some, ap, sym, subst, ◌∙◌, arith}
 use Rattle.call_components.specs.Numbers.{number_of}
 use Rattle.cti_terms.specs.declared.predicates.PredId.{PredId}
-use Rattle.termination_model.specs.OwnCalls.{Position as Place}
-use Rattle.termination_model.specs.Ready.{arity_in, positions_by}
+use Rattle.termination_model.specs.mappings.OwnCalls.{Position as Place}
+use Rattle.termination_model.specs.mappings.Ready.{arity_in, positions_by}
 use Rattle.termination_model.proofs.Lists.{append_assoc, by_places, mapped_place, there}
 use Rattle.level_systems.specs.Held.{spelled}
 use Rattle.level_systems.specs.Ordered.{arguments_from}

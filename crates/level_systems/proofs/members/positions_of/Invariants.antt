@@ -1,7 +1,7 @@
 use Rattle.std.proofs.Common.{◌≡◌, ◌++◌, drop, map}
 use Rattle.call_components.specs.Numbers.{number_of}
 use Rattle.level_systems.specs.Held.{spelled}
-use Rattle.termination_model.specs.Ready.{arity_in, positions_by}
+use Rattle.termination_model.specs.mappings.Ready.{arity_in, positions_by}
 use Rattle.level_systems.proofs.members.positions_of.Given as goal
 
 abbrev pub invariant-loop-member : goal.invariant-loop-member

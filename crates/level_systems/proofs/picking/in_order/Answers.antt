@@ -1,7 +1,7 @@
 use Rattle.std.proofs.Common.{◌≡◌, ◌+◌, ◌++◌, ◌∷◌, [], ℕ, Bool, true, false, if◌then◌else◌, List, drop, filter, get_or, map, slice_get, Some, ap, sym, subst, ◌∙◌}
 use Rattle.std.specs.List.{list_any}
-use Rattle.termination_model.specs.BlownSupports.{same_position}
-use Rattle.termination_model.specs.OwnCalls.{Position as Place}
+use Rattle.termination_model.specs.mappings.BlownSupports.{same_position}
+use Rattle.termination_model.specs.mappings.OwnCalls.{Position as Place}
 use Rattle.termination_model.proofs.Lists.{append_assoc, map_push, there}
 use Rattle.level_systems.specs.Held.{spelled}
 use Rattle.level_systems.specs.declared.position.Position.{Position}

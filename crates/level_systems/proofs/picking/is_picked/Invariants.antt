@@ -1,7 +1,7 @@
 use Rattle.std.proofs.Common.{◌≡◌, take, false}
 use Rattle.std.specs.List.{list_any}
 use Rattle.level_systems.specs.Held.{spelled}
-use Rattle.termination_model.specs.BlownSupports.{same_position}
+use Rattle.termination_model.specs.mappings.BlownSupports.{same_position}
 use Rattle.level_systems.proofs.picking.is_picked.Given as goal
 
 abbrev pub invariant-loop-other : goal.invariant-loop-other

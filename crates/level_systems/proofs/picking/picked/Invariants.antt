@@ -1,6 +1,6 @@
 use Rattle.std.proofs.Common.{◌≡◌, ◌+◌, ◌++◌, drop, map}
 use Rattle.level_systems.specs.Held.{spelled}
-use Rattle.termination_model.specs.Supports.{picked_from}
+use Rattle.termination_model.specs.mappings.Supports.{picked_from}
 use Rattle.level_systems.proofs.picking.picked.Given as goal
 
 abbrev pub invariant-loop-i : goal.invariant-loop-i

@@ -2,8 +2,8 @@ use Rattle.std.proofs.Common.{◌≡◌, ◌<◌, ◌≤ℤ◌, ◌+◌, ◌++�
 use Rattle.call_components.specs.Numbers.{number_of}
 use Rattle.linear_rows.specs.Plain.{plain_row, plain_rows}
 use Rattle.linear_rows.specs.Step.{columns}
-use Rattle.termination_model.specs.OwnCalls.{OwnCall as Recalled}
-use Rattle.termination_model.specs.SupportSystem.{call_row}
+use Rattle.termination_model.specs.mappings.OwnCalls.{OwnCall as Recalled}
+use Rattle.termination_model.specs.mappings.SupportSystem.{call_row}
 use Rattle.termination_model.proofs.Lists.{append_assoc, map_push}
 use Rattle.level_systems.specs.Held.{held_numbers, spelled}
 use Rattle.level_systems.proofs.Holding.{held_row}

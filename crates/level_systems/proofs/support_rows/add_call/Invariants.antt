@@ -5,8 +5,8 @@ use Rattle.linear_rows.specs.Plain.{HaveWidth, plain_rows}
 use Rattle.linear_rows.specs.Step.{columns}
 use Rattle.level_systems.specs.Held.{spelled}
 use Rattle.level_systems.specs.Recalled.{Recalls}
-use Rattle.termination_model.specs.OwnCalls.{OwnCall as Recalled}
-use Rattle.termination_model.specs.SupportSystem.{call_row}
+use Rattle.termination_model.specs.mappings.OwnCalls.{OwnCall as Recalled}
+use Rattle.termination_model.specs.mappings.SupportSystem.{call_row}
 use Rattle.level_systems.proofs.support_rows.add_call.Given as goal
 
 abbrev pub invariant-loop-x : goal.invariant-loop-x

@@ -1,5 +1,5 @@
 use Rattle.std.proofs.Common.{◌≡◌, ◌-ℤ◌, ◌++◌, map, take}
-use Rattle.termination_model.specs.SupportSystem.{offset_share}
+use Rattle.termination_model.specs.mappings.SupportSystem.{offset_share}
 use Rattle.level_systems.proofs.support_rows.add_offsets.Given as goal
 
 abbrev pub invariant-loop-member : goal.invariant-loop-member

@@ -1,7 +1,7 @@
 use Rattle.std.proofs.Common.{◌≡◌, ◌-ℤ◌, ◌++◌, map, take}
 use Rattle.linear_rows.specs.Plain.{plain_rows}
 use Rattle.level_systems.specs.Held.{spelled}
-use Rattle.termination_model.specs.SupportSystem.{share}
+use Rattle.termination_model.specs.mappings.SupportSystem.{share}
 use Rattle.level_systems.proofs.support_rows.add_positions.Given as goal
 
 abbrev pub invariant-loop-position : goal.invariant-loop-position

@@ -3,8 +3,8 @@ use Rattle.std.specs.List.{AllByRecursion}
 use Rattle.call_components.specs.Numbers.{number_of}
 use Rattle.cti_terms.specs.Tree.{Tree}
 use Rattle.linear_rows.specs.Plain.{plain_rows}
-use Rattle.termination_model.specs.OwnCalls.{OwnCall as Recalled}
-use Rattle.termination_model.specs.SupportSystem.{rows_from}
+use Rattle.termination_model.specs.mappings.OwnCalls.{OwnCall as Recalled}
+use Rattle.termination_model.specs.mappings.SupportSystem.{rows_from}
 use Rattle.termination_model.proofs.Lists.{at_place, by_places}
 use Rattle.level_systems.specs.Held.{live_of, spelled}
 use Rattle.level_systems.specs.Recalled.{Recalls, count_of}

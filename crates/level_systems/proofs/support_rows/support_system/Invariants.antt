@@ -6,8 +6,8 @@ use Rattle.linear_rows.specs.Plain.{HaveWidth, plain_rows}
 use Rattle.level_systems.specs.Held.{live_of, spelled}
 use Rattle.level_systems.specs.Recalled.{Recalls, count_of}
 use Rattle.level_systems.specs.declared.own_call.OwnCall.{OwnCall}
-use Rattle.termination_model.specs.OwnCalls.{OwnCall as Recalled}
-use Rattle.termination_model.specs.SupportSystem.{rows_from, support_rows}
+use Rattle.termination_model.specs.mappings.OwnCalls.{OwnCall as Recalled}
+use Rattle.termination_model.specs.mappings.SupportSystem.{rows_from, support_rows}
 use Rattle.level_systems.proofs.support_rows.support_system.Given as goal
 
 abbrev pub invariant-loop-own : goal.invariant-loop-own

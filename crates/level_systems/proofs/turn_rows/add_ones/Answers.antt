@@ -1,5 +1,5 @@
 use Rattle.std.proofs.Common.{◌≡◌, ◌++◌, ◌∷◌, [], ℕ, pos, ◌+◌, ap, sym, ◌∙◌, arith}
-use Rattle.termination_model.specs.TurnSystem.{ones}
+use Rattle.termination_model.specs.lists.TurnSystem.{ones}
 use Rattle.level_systems.proofs.TurnSteps.{ones_more}
 use Rattle.termination_model.proofs.Lists.{append_assoc}
 use Rattle.level_systems.proofs.turn_rows.add_ones.Goals as goal

@@ -1,5 +1,5 @@
 use Rattle.std.proofs.Common.{◌≡◌, ◌++◌}
-use Rattle.termination_model.specs.TurnSystem.{ones}
+use Rattle.termination_model.specs.lists.TurnSystem.{ones}
 use Rattle.level_systems.proofs.turn_rows.add_ones.Given as goal
 
 abbrev pub invariant-loop-place : goal.invariant-loop-place

@@ -7,8 +7,8 @@ use Rattle.level_systems.specs.Held.{spelled}
 use Rattle.level_systems.specs.Recalled.{Recalls}
 use Rattle.level_systems.specs.Turned.{all_rows, held_of}
 use Rattle.level_systems.specs.declared.own_call.OwnCall.{OwnCall}
-use Rattle.termination_model.specs.OwnCalls.{OwnCall as Recalled}
-use Rattle.termination_model.specs.TurnSystem.{turn_rows_from}
+use Rattle.termination_model.specs.mappings.OwnCalls.{OwnCall as Recalled}
+use Rattle.termination_model.specs.lists.TurnSystem.{turn_rows_from}
 use Rattle.level_systems.proofs.turn_rows.turn_system.Given as goal
 
 abbrev pub invariant-loop-own : goal.invariant-loop-own

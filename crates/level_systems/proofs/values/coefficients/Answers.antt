@@ -2,7 +2,7 @@ use Rattle.std.proofs.Common.{rules, ◌≡◌, ◌+◌, ◌++◌, ◌∷◌, []
 use Rattle.std.specs.Int.{w128}
 use Rattle.std.proofs.lemmas.Int.{to_z-of_z}
 use Rattle.linear_rows.specs.Step.{columns}
-use Rattle.termination_model.specs.SupportSystem.{value_of_position}
+use Rattle.termination_model.specs.mappings.SupportSystem.{value_of_position}
 use Rattle.termination_model.proofs.Lists.{map_push}
 use Rattle.level_systems.specs.Held.{spelled}
 use Rattle.level_systems.proofs.RowLengths.{columns_more}

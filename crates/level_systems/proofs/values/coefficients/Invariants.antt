@@ -1,7 +1,7 @@
 use Rattle.std.proofs.Common.{◌≡◌, ℕ, List, length, map, pos, take}
 use Rattle.level_systems.specs.Held.{spelled}
 use Rattle.linear_rows.specs.Step.{columns}
-use Rattle.termination_model.specs.SupportSystem.{value_of_position}
+use Rattle.termination_model.specs.mappings.SupportSystem.{value_of_position}
 use Rattle.level_systems.proofs.values.coefficients.Given as goal
 
 abbrev pub invariant-loop-argument : goal.invariant-loop-argument

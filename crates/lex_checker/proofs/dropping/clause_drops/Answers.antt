@@ -8,8 +8,8 @@ use Rattle.number_tests.proofs.Sized.{sized_clause, some_below}
 use Rattle.number_tests.specs.Shape.{list_at}
 use Rattle.number_tests.specs.Systems.{IsSizedAtom, IsSizedClause}
 use Rattle.termination_model.proofs.Lists.{at_place, by_places, one_element, place_below}
-use Rattle.termination_model.specs.Sizes.{rows_of}
-use Rattle.termination_model.specs.ShortSystems.{short_system}
+use Rattle.termination_model.specs.sizes.Sizes.{rows_of}
+use Rattle.termination_model.specs.sizes.ShortSystems.{short_system}
 use Rattle.lex_checker.specs.Proved.{MeasuresDrop}
 use Rattle.lex_checker.proofs.DropLists.{lists_at}
 use Rattle.lex_checker.proofs.dropping.clause_drops.Given.{Over}

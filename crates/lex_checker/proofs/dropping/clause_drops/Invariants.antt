@@ -3,8 +3,8 @@ use Rattle.cert_checker.specs.Shape.{AreTogether}
 use Rattle.cti_terms.specs.declared.atom_list.Atom.{Atom}
 use Rattle.number_tests.specs.Shape.{list_at}
 use Rattle.number_tests.specs.Systems.{IsSystemUpTo}
-use Rattle.termination_model.specs.Sizes.{rows_of}
-use Rattle.termination_model.specs.ShortSystems.{short_system}
+use Rattle.termination_model.specs.sizes.Sizes.{rows_of}
+use Rattle.termination_model.specs.sizes.ShortSystems.{short_system}
 use Rattle.lex_checker.specs.Proved.{MeasuresDrop}
 use Rattle.lex_checker.proofs.dropping.clause_drops.Given as goal
 

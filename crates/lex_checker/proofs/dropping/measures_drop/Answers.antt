@@ -3,7 +3,7 @@ use Rattle.level_drops.specs.Drops.{drop_weights}
 use Rattle.linear_rows.specs.Plain.{plain_rows}
 use Rattle.linear_rows.specs.Showing.{IsShown}
 use Rattle.termination_model.proofs.Lists.{at_place, one_element, place_below}
-use Rattle.termination_model.specs.Replacing.{over_columns}
+use Rattle.termination_model.specs.sizes.Replacing.{over_columns}
 use Rattle.lex_checker.specs.Proved.{drop_at}
 use Rattle.lex_checker.proofs.Flags.{no_fault, none_of}
 use Rattle.lex_checker.proofs.dropping.measures_drop.Goals.{After-index-calls-i, After-fall_flaw}

@@ -4,7 +4,7 @@ use Rattle.linear_rows.specs.Plain.{plain_rows}
 use Rattle.linear_rows.specs.Showing.{IsShown}
 use Rattle.linear_rows.specs.declared.multipliers.Multipliers.{Multipliers}
 use Rattle.number_tests.specs.declared.level_part.LevelPart.{LevelPart}
-use Rattle.termination_model.specs.Replacing.{over_columns}
+use Rattle.termination_model.specs.sizes.Replacing.{over_columns}
 use Rattle.lex_checker.specs.Proved.{drop_at}
 use Rattle.lex_checker.proofs.dropping.measures_drop.Given as goal
 

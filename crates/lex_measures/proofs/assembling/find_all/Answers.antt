@@ -4,7 +4,7 @@ use Rattle.cert_assembly.proofs.PlaceLaws.{none_listed, pushed}
 use Rattle.lex_turns.specs.FoundLists.{AreFoundLists}
 use Rattle.lex_turns.specs.declared.found_lists.FoundLists.{FoundLists}
 use Rattle.term_size.specs.AnyNorm.{any_row}
-use Rattle.termination_model.specs.Sizes.{rows_of}
+use Rattle.termination_model.specs.sizes.Sizes.{rows_of}
 use Rattle.lex_measures.proofs.assembling.find_all.Goals as goal
 
 pub loop-c-init : goal.loop-c-init

@@ -2,7 +2,7 @@ use Rattle.std.proofs.Common.{◌≡◌, ℕ, Some, length, slice_get, true}
 use Rattle.lex_turns.specs.FoundLists.{AreFoundLists}
 use Rattle.lex_turns.specs.declared.found_lists.FoundLists.{FoundLists}
 use Rattle.term_size.specs.AnyNorm.{any_row}
-use Rattle.termination_model.specs.Sizes.{rows_of}
+use Rattle.termination_model.specs.sizes.Sizes.{rows_of}
 use Rattle.lex_measures.proofs.assembling.find_all.Given as goal
 
 -- what is found of the components so far

@@ -1,9 +1,9 @@
 use Rattle.std.proofs.Common.{◌≡◌, ℕ, List, None, refl, length, map, ap, sym, subst, ◌∙◌}
 use Rattle.std.specs.List.{list_any}
 use Rattle.call_components.specs.Partition.{Partition}
-use Rattle.termination_model.specs.BlownSupports.{same_position}
-use Rattle.termination_model.specs.Sizes.{rows_of}
-use Rattle.termination_model.specs.Supports.{AreDistinct, picked_from}
+use Rattle.termination_model.specs.mappings.BlownSupports.{same_position}
+use Rattle.termination_model.specs.sizes.Sizes.{rows_of}
+use Rattle.termination_model.specs.mappings.Supports.{AreDistinct, picked_from}
 use Rattle.level_systems.specs.Held.{spelled}
 use Rattle.level_systems.specs.Searched.{IsComponent}
 use Rattle.level_systems.specs.declared.position.Position.{Position}
@@ -12,8 +12,8 @@ use Rattle.level_dual.proofs.Results.{if_ok}
 use Rattle.lex_turns.specs.Coursing.{IsStopped}
 use Rattle.linear_rows.specs.Step.{columns}
 use Rattle.lex_turns.specs.Descending.{IsGivenUp, positions_at}
-use Rattle.termination_model.specs.ComponentViews.{component_view}
-use Rattle.termination_model.specs.Ready.{arity_in}
+use Rattle.termination_model.specs.mappings.ComponentViews.{component_view}
+use Rattle.termination_model.specs.mappings.Ready.{arity_in}
 use Rattle.lex_turns.specs.Found.{IsEndedAt, IsVoid}
 use Rattle.lex_turns.specs.FoundLists.{IsUnmapped, MayBeMissing}
 use Rattle.level_systems.specs.Found.{full as full_of}

@@ -1,5 +1,5 @@
 use Rattle.std.proofs.Common.{inl, inr, subst}
-use Rattle.termination_model.specs.Sizes.{rows_of}
+use Rattle.termination_model.specs.sizes.Sizes.{rows_of}
 use Rattle.level_systems.specs.Searched.{IsAnswer, IsFoundIn}
 use Rattle.level_dual.proofs.Results.{if_ok}
 use Rattle.lex_turns.specs.FoundLists.{IsUnmapped}

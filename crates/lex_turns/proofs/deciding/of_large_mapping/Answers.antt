@@ -1,5 +1,5 @@
 use Rattle.std.proofs.Common.{◌≡◌, ◌<◌, List, ℕ, length, map, None, ap, sym, subst, ◌∙◌}
-use Rattle.termination_model.specs.ComponentViews.{positions_in}
+use Rattle.termination_model.specs.mappings.ComponentViews.{positions_in}
 use Rattle.level_systems.specs.Mappings.{support_of}
 use Rattle.lex_turns.specs.FoundLists.{AreFoundLists}
 use Rattle.lex_turns.specs.Single.{one_list}

@@ -1,5 +1,5 @@
 use Rattle.std.proofs.Common.{◌<◌, length, false, subst}
-use Rattle.termination_model.specs.ComponentViews.{positions_in}
+use Rattle.termination_model.specs.mappings.ComponentViews.{positions_in}
 use Rattle.level_systems.specs.Mappings.{support_of}
 use Rattle.level_dual.proofs.Results.{if_ok}
 use Rattle.lex_turns.proofs.ListSupports.{list_had}

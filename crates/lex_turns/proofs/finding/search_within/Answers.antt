@@ -1,7 +1,7 @@
 use Rattle.std.proofs.Common.{List, map, ap, sym, subst, ◌∙◌}
 use Rattle.std.specs.List.{list_any}
-use Rattle.termination_model.specs.BlownSupports.{same_position}
-use Rattle.termination_model.specs.Supports.{AreDistinct, picked_from}
+use Rattle.termination_model.specs.mappings.BlownSupports.{same_position}
+use Rattle.termination_model.specs.mappings.Supports.{AreDistinct, picked_from}
 use Rattle.level_systems.specs.Held.{spelled}
 use Rattle.level_systems.specs.declared.position.Position.{Position}
 use Rattle.level_systems.proofs.SoundLaws.{filter_distinct}

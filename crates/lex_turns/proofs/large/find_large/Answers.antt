@@ -1,5 +1,5 @@
 use Rattle.std.proofs.Common.{◌≡◌, ◌++◌, ◌∷◌, [], ℕ, suc, List, map, length, None, true, ap, sym, subst, ◌∙◌}
-use Rattle.termination_model.specs.ComponentViews.{positions_in}
+use Rattle.termination_model.specs.mappings.ComponentViews.{positions_in}
 use Rattle.level_systems.specs.Held.{spelled}
 use Rattle.level_systems.specs.Subsequences.{AreOnce}
 use Rattle.level_systems.specs.declared.position.Position.{Position}

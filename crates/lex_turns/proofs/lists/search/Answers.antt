@@ -2,7 +2,7 @@ use Rattle.std.proofs.Common.{◌≡◌, ◌<◌, ◌↔◌, inl, ℕ, IsTrue, l
 use Rattle.std.specs.Prelude.{IfSome}
 use Rattle.std.proofs.lemmas.List.{length-map}
 use Rattle.linear_rows.specs.Step.{columns}
-use Rattle.termination_model.specs.Sizes.{rows_of}
+use Rattle.termination_model.specs.sizes.Sizes.{rows_of}
 use Rattle.level_systems.specs.Found.{count}
 use Rattle.level_systems.specs.Held.{spelled}
 use Rattle.level_systems.specs.Searched.{IsComponent}

@@ -1,6 +1,6 @@
 use Rattle.std.proofs.Common.{map, ◌∙◌}
 use Rattle.call_components.specs.Numbers.{number_of}
-use Rattle.termination_model.specs.TurnSystem.{turn_rows}
+use Rattle.termination_model.specs.lists.TurnSystem.{turn_rows}
 use Rattle.level_systems.specs.Held.{IsHeld, spelled}
 use Rattle.level_systems.specs.Recalled.{HasNumbers}
 use Rattle.level_systems.specs.Searched.{IsSoundCall}

@@ -5,7 +5,7 @@ use Rattle.call_components.specs.Numbers.{number_of}
 use Rattle.linear_rows.specs.Plain.{plain_rows}
 use Rattle.linear_rows.specs.Proves.{Refutes}
 use Rattle.linear_rows.specs.Rows.{IsPoint}
-use Rattle.termination_model.specs.TurnSystem.{turn_rows}
+use Rattle.termination_model.specs.lists.TurnSystem.{turn_rows}
 use Rattle.level_systems.specs.Held.{spelled}
 use Rattle.level_systems.specs.Turned.{all_rows, held_of}
 use Rattle.level_systems.specs.declared.own_call.OwnCall.{OwnCall}

@@ -3,7 +3,7 @@ use Rattle.call_components.specs.Partition.{Partition}
 use Rattle.cti_terms.specs.Tree.{Tree}
 use Rattle.level_systems.specs.Searched.{IsComponent}
 use Rattle.lex_turns.specs.Walked.{IsWalkedTo}
-use Rattle.termination_model.specs.Modes.{chosen_up_to}
+use Rattle.termination_model.specs.grounds.Modes.{chosen_up_to}
 use Rattle.lex_turns.proofs.walking.walk.Given as goal
 
 abbrev pub invariant-loop-set : goal.invariant-loop-set

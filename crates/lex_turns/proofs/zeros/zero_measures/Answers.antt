@@ -5,8 +5,8 @@ use Rattle.call_components.proofs.Lists.{all_append}
 use Rattle.cti_terms.specs.declared.predicates.PredId.{PredId}
 use Rattle.level_systems.specs.Valued.{IsPartOf}
 use Rattle.level_systems.specs.declared.measure.Measure.{Measure}
-use Rattle.termination_model.specs.Ready.{arity_in}
-use Rattle.termination_model.specs.SupportSystem.{mapping_at}
+use Rattle.termination_model.specs.mappings.Ready.{arity_in}
+use Rattle.termination_model.specs.mappings.SupportSystem.{mapping_at}
 use Rattle.termination_model.proofs.Lists.{by_places, map_push, mapped_place, taken_more, there}
 use Rattle.lex_turns.proofs.zeros.zero_measures.Goals as goal
 

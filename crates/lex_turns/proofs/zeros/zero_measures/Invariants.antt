@@ -3,8 +3,8 @@ use Rattle.std.specs.List.{AllByRecursion}
 use Rattle.call_components.specs.Numbers.{number_of}
 use Rattle.level_systems.specs.Valued.{IsPartOf}
 use Rattle.level_systems.specs.declared.measure.Measure.{Measure}
-use Rattle.termination_model.specs.Ready.{arity_in}
-use Rattle.termination_model.specs.SupportSystem.{mapping_at}
+use Rattle.termination_model.specs.mappings.Ready.{arity_in}
+use Rattle.termination_model.specs.mappings.SupportSystem.{mapping_at}
 use Rattle.lex_turns.proofs.zeros.zero_measures.Given as goal
 
 abbrev pub invariant-loop-member : goal.invariant-loop-member

@@ -1,4 +1,4 @@
-use Rattle.termination_model.specs.Sizes.{rows_of}
+use Rattle.termination_model.specs.sizes.Sizes.{rows_of}
 use Rattle.number_tests.specs.Systems.{IsSystemUpTo}
 use Rattle.number_tests.proofs.clause_systems.extend.Given as goal
 

@@ -1,7 +1,7 @@
 use Rattle.std.proofs.Common.{◌≡◌, ◌++◌, ℕ, ℤ, List, map, sym, subst, ap, ◌∙◌}
 use Rattle.linear_rows.specs.Plain.{plain_rows}
 use Rattle.linear_rows.specs.declared.row.Row.{Row}
-use Rattle.termination_model.specs.Replacing.{AreColumns}
+use Rattle.termination_model.specs.sizes.Replacing.{AreColumns}
 use Rattle.number_tests.specs.Targets.{AreFallColumns, joined}
 use Rattle.number_tests.proofs.CallFacts.{if_ok_more}
 use Rattle.number_tests.proofs.FallTargets.{joined_columns}

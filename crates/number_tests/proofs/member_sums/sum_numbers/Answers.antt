@@ -4,7 +4,7 @@ use Rattle.std.proofs.lemmas.Int.{to_z-of_z}
 use Rattle.std.proofs.lemmas.List.{length-append}
 use Rattle.exact128.specs.Fits.{Fits}
 use Rattle.exact128.specs.Sums.{entry}
-use Rattle.termination_model.specs.Rows.{added}
+use Rattle.termination_model.specs.sizes.Rows.{added}
 use Rattle.termination_model.proofs.RowColumns.{kept, pushed_last, row_that_does_not, row_that_fits, same_lists}
 use Rattle.number_tests.proofs.SumLists.{entry_sum, length-sum}
 use Rattle.number_tests.proofs.member_sums.sum_numbers.Goals as goal

@@ -1,7 +1,7 @@
 use Rattle.std.proofs.Common.{◌≡◌, ◌<◌, ℕ, length}
 use Rattle.exact128.specs.Fits.{Fits}
 use Rattle.exact128.specs.Sums.{entry}
-use Rattle.termination_model.specs.Rows.{added}
+use Rattle.termination_model.specs.sizes.Rows.{added}
 use Rattle.number_tests.proofs.member_sums.sum_numbers.Given as goal
 
 abbrev pub invariant-loop-i : goal.invariant-loop-i

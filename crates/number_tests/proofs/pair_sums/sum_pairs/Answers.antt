@@ -3,8 +3,8 @@ use Rattle.std.specs.List.{AllByRecursion}
 use Rattle.std.proofs.lemmas.List.{length-map}
 use Rattle.number_tests.specs.declared.pair_point.PairPoint.{PairPoint}
 use Rattle.linear_rows.specs.Plain.{HaveWidth, plain_rows}
-use Rattle.termination_model.specs.Refutation.{Load}
-use Rattle.termination_model.specs.Sizes.{rows_of}
+use Rattle.termination_model.specs.mappings.Refutation.{Load}
+use Rattle.termination_model.specs.sizes.Sizes.{rows_of}
 use Rattle.termination_model.proofs.Lists.{at_place, by_places, from_places, mapped_place, one_element, place_below}
 use Rattle.termination_model.proofs.SystemLaws.{widths}
 use Rattle.number_tests.specs.PairSums.{AddsBoth, AddsLoad}

@@ -1,8 +1,8 @@
 use Rattle.std.proofs.Common.{◌≡◌, ◌<◌, ◌+◌, ℕ, true, take, slice_get, Some}
 use Rattle.number_tests.specs.declared.pair_point.PairPoint.{PairPoint}
-use Rattle.termination_model.specs.Refutation.{gather}
-use Rattle.termination_model.specs.Sizes.{rows_of}
-use Rattle.termination_model.specs.Systems.{row_fits}
+use Rattle.termination_model.specs.mappings.Refutation.{gather}
+use Rattle.termination_model.specs.sizes.Sizes.{rows_of}
+use Rattle.termination_model.specs.sizes.Systems.{row_fits}
 use Rattle.number_tests.specs.Refuting.{PairFits, call_loads, head_loads}
 use Rattle.number_tests.specs.Sums.{sum_at}
 use Rattle.number_tests.specs.Systems.{IsReached}

@@ -1,6 +1,6 @@
 use Rattle.std.proofs.Common.{◌≡◌, ◌≤ℤ◌, ℤ, true, false, List, sym, subst, ◌∙◌}
 use Rattle.exact128.specs.Sums.{entry}
-use Rattle.termination_model.specs.Refutation.{gather}
+use Rattle.termination_model.specs.mappings.Refutation.{gather}
 use Rattle.number_tests.specs.Failing.{fails_sums, wide_sums}
 use Rattle.number_tests.specs.Refuting.{head_loads}
 use Rattle.number_tests.specs.Sums.{sum_at}

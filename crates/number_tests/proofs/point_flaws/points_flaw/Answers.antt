@@ -2,7 +2,7 @@ use Rattle.std.proofs.Common.{◌≡◌, ◌↔◌, ◌-◌, ℕ, None, length, 
 use Rattle.number_tests.specs.declared.pair_point.PairPoint.{PairPoint}
 use Rattle.linear_rows.specs.declared.point.Point.{Point}
 use Rattle.linear_rows.specs.Plain.{HaveWidth}
-use Rattle.termination_model.specs.Sizes.{rows_of}
+use Rattle.termination_model.specs.sizes.Sizes.{rows_of}
 use Rattle.termination_model.proofs.Lists.{at_place, by_places, from_places, one_element, place_below}
 use Rattle.cti_terms.specs.declared.clauses.Clause.{Clause}
 use Rattle.number_tests.specs.Failing.{IsFirstOfPair, PointFails, points_of}

@@ -1,6 +1,6 @@
 use Rattle.std.proofs.Common.{◌≡◌, ◌<◌, ℕ, slice_get, Some}
 use Rattle.number_tests.specs.declared.pair_point.PairPoint.{PairPoint}
-use Rattle.termination_model.specs.Sizes.{rows_of}
+use Rattle.termination_model.specs.sizes.Sizes.{rows_of}
 use Rattle.std.specs.Io.Iter.{u64_saturate}
 use Rattle.number_tests.specs.Failing.{before, points_of}
 use Rattle.number_tests.specs.Refuting.{PointHolds}

@@ -1,7 +1,7 @@
 use Rattle.std.proofs.Common.{◌≡◌, ℤ, List, Option, Some, IfSome, sym, subst}
 use Rattle.linear_rows.specs.Plain.{plain_rows}
 use Rattle.linear_rows.specs.Verdict.{Says}
-use Rattle.termination_model.specs.Replacing.{IsRowIfFits}
+use Rattle.termination_model.specs.sizes.Replacing.{IsRowIfFits}
 use Rattle.number_tests.specs.Failing.{MultipliersFail, wide_target}
 use Rattle.number_tests.specs.declared.flaw.Flaw.{Flaw}
 use Rattle.number_tests.proofs.FlawLaws.{flaw_fails}

@@ -1,4 +1,4 @@
-use Rattle.termination_model.specs.Sizes.{AreSizes}
+use Rattle.termination_model.specs.sizes.Sizes.{AreSizes}
 use Rattle.numeric_model.proofs.Below.{PutTo}
 use Rattle.numeric_model.proofs.component.put_below.Given as goal
 

@@ -1,8 +1,8 @@
 use Rattle.std.proofs.Common.{◌≡◌, ◌≤◌, ◌<◌, ◌∙◌, ℕ, ℤ, List, Some, ap, arith, length, refl, slice_get, subst, sym, if◌then◌else◌}
 use Rattle.std.specs.List.{AllByRecursion}
 use Rattle.cti_terms.specs.declared.clauses.Clause.{Clause}
-use Rattle.termination_model.specs.Chain.{clauses_of}
-use Rattle.termination_model.specs.Sizes.{rows_of}
+use Rattle.termination_model.specs.chains.Chain.{clauses_of}
+use Rattle.termination_model.specs.sizes.Sizes.{rows_of}
 use Rattle.termination_model.proofs.Lists.{there}
 use Rattle.numeric_model.specs.Parts.{is_before}
 use Rattle.numeric_model.specs.Running.{IsRun, with_clauses}

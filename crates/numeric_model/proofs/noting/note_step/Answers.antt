@@ -2,7 +2,7 @@ use Rattle.std.proofs.Common.{◌≡◌, ℕ, ◌-◌, slice_get, Some, subst, �
 use Rattle.cti_terms.specs.declared.clauses.Clause.{Clause}
 use Rattle.linear_rows.specs.Plain.{plain_rows}
 use Rattle.polyhedra.specs.Making.{SaysImage}
-use Rattle.termination_model.specs.Sizes.{rows_of}
+use Rattle.termination_model.specs.sizes.Sizes.{rows_of}
 use Rattle.termination_model.proofs.Lists.{one_element}
 use Rattle.numeric_model.specs.Filling.{IsFilled}
 use Rattle.numeric_model.specs.Noting.{IsNoted}

@@ -2,7 +2,7 @@ use Rattle.std.proofs.Common.{◌∙◌, ◌-◌, None, sym, subst, Bool, false,
 use Rattle.cti_terms.specs.declared.clauses.Clause.{Clause}
 use Rattle.linear_rows.specs.declared.row.Rows.{Rows}
 use Rattle.polyhedra.specs.Making.{SaysKept}
-use Rattle.termination_model.specs.Sizes.{rows_of}
+use Rattle.termination_model.specs.sizes.Sizes.{rows_of}
 use Rattle.termination_model.specs.declared.how.How.TheVariants.{Same}
 use Rattle.termination_model.proofs.Lists.{one_element}
 use Rattle.numeric_model.specs.declared.noting.Noted.{Noted}

@@ -2,7 +2,7 @@ use Rattle.std.proofs.Common.{◌≡◌, ◌≤◌, ◌<◌, ◌∙◌, ◌+◌,
 use Rattle.termination_model.proofs.Lists.{there}
 use Rattle.std.specs.List.{AllByRecursion}
 use Rattle.cti_terms.specs.declared.clauses.Clause.{Clause}
-use Rattle.termination_model.specs.Chain.{clauses_of}
+use Rattle.termination_model.specs.chains.Chain.{clauses_of}
 use Rattle.numeric_model.specs.Running.{IsRun, with_clauses}
 use Rattle.numeric_model.specs.States.{IsState, every, own_from}
 use Rattle.numeric_model.proofs.Chaining.{chained_none, chained_more, from_more, own_head, weaker}

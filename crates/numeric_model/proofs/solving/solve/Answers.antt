@@ -3,7 +3,7 @@ use Rattle.std.specs.Prelude.{All}
 use Rattle.linear_rows.specs.Replacing.{row_fits}
 use Rattle.linear_rows.specs.declared.multipliers.Multipliers.{Multipliers}
 use Rattle.linear_rows.specs.declared.row.Rows.{Rows}
-use Rattle.termination_model.specs.Sizes.{rows_of}
+use Rattle.termination_model.specs.sizes.Sizes.{rows_of}
 use Rattle.numeric_model.specs.Proved.{AreProved}
 use Rattle.numeric_model.specs.States.{own_from}
 use Rattle.numeric_model.proofs.Chaining.{last_proved, rows_fit}

@@ -3,7 +3,7 @@ use Rattle.linear_rows.specs.Plain.{plain_row, plain_rows}
 use Rattle.linear_rows.specs.declared.row.Row.{Row}
 use Rattle.linear_rows.specs.declared.multipliers.Multipliers.{Multipliers}
 use Rattle.linear_rows.specs.Members.{In}
-use Rattle.termination_model.specs.ChainRows.{bottom_row}
+use Rattle.termination_model.specs.chains.ChainRows.{bottom_row}
 use Rattle.std.proofs.lemmas.List.{length-map}
 use Rattle.termination_model.specs.declared.how.How.TheVariants.{None as Nought}
 use Rattle.numeric_model.specs.declared.filled.Filled.TheVariants.{Bottom}

@@ -1,6 +1,6 @@
 use Rattle.std.proofs.Common.{◌≡◌, ℕ, ◌<◌, ◌+◌, ◌∙◌, sym, subst, ap, arith, IsTrue, false, slice_get, ◌⊎◌, inl, inr}
 use Rattle.linear_rows.specs.Plain.{plain_row}
-use Rattle.termination_model.specs.ChainRows.{bottom_row}
+use Rattle.termination_model.specs.chains.ChainRows.{bottom_row}
 use Rattle.termination_model.proofs.Lists.{at_place, place_below, one_element}
 use Rattle.numeric_model.proofs.Bottoms.{own_bottom, in_rows}
 use Rattle.numeric_model.proofs.stepping.bottom_place.Goals as goal

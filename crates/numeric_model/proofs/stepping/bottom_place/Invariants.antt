@@ -1,7 +1,7 @@
 use Rattle.std.proofs.Common.{◌≡◌, ℕ, ◌<◌, slice_get, Some}
 use Rattle.linear_rows.specs.Plain.{plain_row}
 use Rattle.linear_rows.specs.declared.row.Row.{Row}
-use Rattle.termination_model.specs.ChainRows.{bottom_row}
+use Rattle.termination_model.specs.chains.ChainRows.{bottom_row}
 use Rattle.numeric_model.proofs.stepping.bottom_place.Given as goal
 
 abbrev pub invariant-loop-i : goal.invariant-loop-i

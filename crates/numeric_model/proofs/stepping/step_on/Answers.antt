@@ -4,7 +4,7 @@ use Rattle.linear_rows.specs.Showing.{Shows}
 use Rattle.polyhedra.specs.Telling.{TellsHead, at_head}
 use Rattle.polyhedra.specs.Making.{arity_of, SaysImage}
 use Rattle.linear_rows.specs.Plain.{plain_row, plain_rows}
-use Rattle.termination_model.specs.ChainRows.{bottom_row}
+use Rattle.termination_model.specs.chains.ChainRows.{bottom_row}
 use Rattle.std.proofs.lemmas.List.{length-map}
 use Rattle.numeric_model.proofs.Kept.{shows_hold}
 use Rattle.numeric_model.proofs.Images.{on_image, image_point, empty_point, image_empty}

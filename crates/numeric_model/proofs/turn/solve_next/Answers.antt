@@ -1,6 +1,6 @@
 use Rattle.std.proofs.Common.{◌≡◌, ◌∙◌, ℕ, List, Some, ap, arith, refl, slice_get, subst, sym}
 use Rattle.cti_terms.specs.declared.clauses.Clause.{Clause}
-use Rattle.termination_model.specs.Sizes.{rows_of}
+use Rattle.termination_model.specs.sizes.Sizes.{rows_of}
 use Rattle.termination_model.proofs.Lists.{there}
 use Rattle.numeric_model.specs.Running.{IsRun}
 use Rattle.numeric_model.specs.Turns.{part_in}

@@ -3,7 +3,7 @@ use Rattle.exact128.specs.Fits.{fits}
 use Rattle.linear_rows.specs.Blown.{all_of, blown_step}
 use Rattle.linear_rows.specs.Plain.{plain_rows, HaveWidth}
 use Rattle.linear_rows.specs.Step.{all_eliminated, columns}
-use Rattle.termination_model.specs.ChainRows.{AreSpoken}
+use Rattle.termination_model.specs.chains.ChainRows.{AreSpoken}
 use Rattle.polyhedra.specs.Choosing.{IsCore}
 use Rattle.polyhedra.specs.Projecting.{left_of}
 use Rattle.polyhedra.proofs.Cuts.{cut_spoken}

@@ -2,7 +2,7 @@ use Rattle.std.proofs.Common.{◌≡◌, ◌+◌, ◌&&◌, ◌||◌, ℕ, Bool,
 use Rattle.bool_diagrams.specs.Rows.{holds}
 use Rattle.bool_diagrams.proofs.CallerLemmas.{holds_later, keeps_twice, known_later}
 use Rattle.cti_terms.specs.declared.atom_list.Atom.{Atom}
-use Rattle.termination_model.specs.Grounds.{truth_row}
+use Rattle.termination_model.specs.grounds.Grounds.{truth_row}
 use Rattle.truth_rows.specs.Ends.{Agree}
 use Rattle.truth_rows.specs.Ready.{HasAtom, HasAtoms}
 use Rattle.truth_rows.specs.Rules.{same_rank}

@@ -5,7 +5,7 @@ use Rattle.bool_diagrams.specs.declared.diagram.Diagram.{Diagram}
 use Rattle.precond_fixpoint.specs.Solving.{FitPredicate}
 use Rattle.precond_fixpoint.proofs.FamilyLaws.{put_unions}
 use Rattle.precond_fixpoint.proofs.PlaceLaws.{items_at}
-use Rattle.termination_model.specs.View.{all_upper}
+use Rattle.termination_model.specs.mappings.View.{all_upper}
 use Rattle.truth_rows.proofs.ListLaws.{set_elsewhere, set_there}
 use Rattle.precond_fixpoint.proofs.columns.put_member.Goals as goal
 

@@ -7,7 +7,7 @@ use Rattle.precond_fixpoint.proofs.FamilyLaws.{family_elsewhere}
 use Rattle.precond_fixpoint.proofs.PlaceLaws.{items_at, some_at}
 use Rattle.precond_fixpoint.proofs.StartLaws.{cover_own, cover_sets, part_at}
 use Rattle.termination_model.proofs.Lists.{at_place, by_places}
-use Rattle.termination_model.specs.Rows.{Covers}
+use Rattle.termination_model.specs.sizes.Rows.{Covers}
 use Rattle.precond_fixpoint.proofs.covering.cover_member.Goals as goal
 
 pub covering_rows-requires : goal.covering_rows-requires

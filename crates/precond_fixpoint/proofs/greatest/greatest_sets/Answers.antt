@@ -1,6 +1,6 @@
 use Rattle.std.proofs.Common.{ℕ, sym, subst, arith}
 use Rattle.number_tests.specs.Levels.{coefficients_of}
-use Rattle.termination_model.specs.Grounds.{Family}
+use Rattle.termination_model.specs.grounds.Grounds.{Family}
 use Rattle.truth_rows.specs.Sets.{family_of}
 use Rattle.truth_rows.proofs.CallerLemmas.{family_later}
 use Rattle.precond_fixpoint.specs.Greatest.{IsGreatestIn}

@@ -1,7 +1,7 @@
 use Rattle.std.proofs.Common.{◌≡◌}
 use Rattle.std.specs.List.{filter}
 use Rattle.bool_diagrams.specs.Cubes.{truth_rows}
-use Rattle.termination_model.specs.Descent.{mode_row}
+use Rattle.termination_model.specs.claims.Descent.{mode_row}
 use Rattle.precond_fixpoint.proofs.modes.admitted_lists.Given as goal
 
 -- the admitted ones of the lists so far

@@ -7,7 +7,7 @@ use Rattle.precond_fixpoint.proofs.FamilyLaws.{has_arity}
 use Rattle.precond_fixpoint.proofs.ModeLaws.{modes_same}
 use Rattle.precond_fixpoint.proofs.PlaceLaws.{items_at, some_at}
 use Rattle.precond_fixpoint.proofs.StartLaws.{pushed, pushed_length}
-use Rattle.termination_model.specs.Modes.{modes}
+use Rattle.termination_model.specs.grounds.Modes.{modes}
 use Rattle.truth_rows.proofs.CallerLemmas.{family_at}
 use Rattle.termination_model.proofs.Lists.{by_places, one_element, place_below, there}
 use Rattle.truth_rows.proofs.SetLaws.{none}

@@ -2,7 +2,7 @@ use Rattle.std.proofs.Common.{◌≡◌, ℕ, List, length, map, slice_get, Some
 use Rattle.cti_terms.specs.declared.predicates.Pred.{Pred}
 use Rattle.precond_fixpoint.specs.Solving.{arguments_of}
 use Rattle.precond_fixpoint.specs.declared.mode.Mode.{Mode}
-use Rattle.termination_model.specs.Modes.{modes}
+use Rattle.termination_model.specs.grounds.Modes.{modes}
 use Rattle.truth_rows.specs.Sets.{family_of}
 use Rattle.precond_fixpoint.proofs.modes.all_modes.Given as goal
 

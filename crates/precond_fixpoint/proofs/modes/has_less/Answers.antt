@@ -1,6 +1,6 @@
 use Rattle.std.proofs.Common.{◌&&◌, ℕ, nat_lt, List, length, sym, arith}
 use Rattle.precond_fixpoint.proofs.ModeLaws.{any_false}
-use Rattle.termination_model.specs.Modes.{is_part}
+use Rattle.termination_model.specs.grounds.Modes.{is_part}
 use Rattle.termination_model.proofs.Lists.{place_below}
 use Rattle.precond_fixpoint.proofs.modes.has_less.Goals as goal
 

@@ -1,5 +1,5 @@
 use Rattle.std.proofs.Common.{◌≡◌, ◌<◌, ◌&&◌, ℕ, nat_lt, false, List, length, slice_get, Some}
-use Rattle.termination_model.specs.Modes.{is_part}
+use Rattle.termination_model.specs.grounds.Modes.{is_part}
 use Rattle.precond_fixpoint.proofs.modes.has_less.Given as goal
 
 -- none of the lists so far is a shorter part

@@ -1,7 +1,7 @@
 use Rattle.std.proofs.Common.{◌≡◌, ◌&&◌, ◌++◌, ◌∷◌, [], ℕ, nat_lt, not, true, false, List, length, ap, sym, ◌∙◌}
 use Rattle.std.specs.List.{list_any}
 use Rattle.precond_fixpoint.proofs.ModeLaws.{filter_kept_at, filter_left_at}
-use Rattle.termination_model.specs.Modes.{is_part}
+use Rattle.termination_model.specs.grounds.Modes.{is_part}
 use Rattle.termination_model.proofs.Lists.{at_place}
 use Rattle.precond_fixpoint.proofs.modes.minimal_lists.Goals as goal
 

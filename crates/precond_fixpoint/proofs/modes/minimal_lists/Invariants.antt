@@ -1,7 +1,7 @@
 use Rattle.std.proofs.Common.{◌≡◌, ◌&&◌, nat_lt, not, length, map, take}
 use Rattle.std.specs.List.{filter, list_any}
 use Rattle.precond_fixpoint.specs.Solving.{arguments_of}
-use Rattle.termination_model.specs.Modes.{is_part}
+use Rattle.termination_model.specs.grounds.Modes.{is_part}
 use Rattle.precond_fixpoint.proofs.modes.minimal_lists.Given as goal
 
 -- the minimal ones of the lists so far

@@ -5,7 +5,7 @@ use Rattle.cti_terms.specs.Listing.{IsAtom}
 use Rattle.cti_terms.specs.declared.atom_list.Atom.{Atom}
 use Rattle.cti_terms.specs.declared.clauses.Clause.{Clause}
 use Rattle.groundness.specs.Marks.{IsApart}
-use Rattle.termination_model.specs.Grounds.{Family}
+use Rattle.termination_model.specs.grounds.Grounds.{Family}
 use Rattle.truth_rows.proofs.CallerLemmas.{family_later}
 use Rattle.truth_rows.specs.Rules.{KeepsSets, same_rank}
 use Rattle.truth_rows.specs.Sets.{family_of}

@@ -1,6 +1,6 @@
 use Rattle.std.proofs.Common.{◌≡◌, length}
 use Rattle.bool_diagrams.specs.Rows.{Keeps}
-use Rattle.termination_model.specs.Grounds.{IsInside}
+use Rattle.termination_model.specs.grounds.Grounds.{IsInside}
 use Rattle.truth_rows.specs.Sets.{AreSets, family_of}
 use Rattle.precond_fixpoint.specs.Removing.{Needed, UnmarkedKeep, work}
 use Rattle.precond_fixpoint.proofs.removing.shrink.Given as goal

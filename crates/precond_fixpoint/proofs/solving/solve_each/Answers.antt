@@ -5,7 +5,7 @@ use Rattle.bool_diagrams.proofs.CallerLemmas.{keeps_same, keeps_twice}
 use Rattle.precond_fixpoint.specs.Solving.{IsSolved}
 use Rattle.precond_fixpoint.proofs.ComponentLaws.{solved_after}
 use Rattle.precond_fixpoint.proofs.SettingLaws.{setting_later}
-use Rattle.termination_model.specs.Grounds.{Family}
+use Rattle.termination_model.specs.grounds.Grounds.{Family}
 use Rattle.truth_rows.proofs.CallerLemmas.{family_later}
 use Rattle.truth_rows.specs.Sets.{AreSets, family_of}
 use Rattle.precond_fixpoint.proofs.solving.solve_each.Goals as goal

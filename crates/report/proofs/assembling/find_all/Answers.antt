@@ -3,7 +3,7 @@ use Rattle.std.proofs.lemmas.List.{length_push}
 use Rattle.level_systems.specs.Found.{IsFound}
 use Rattle.level_systems.specs.declared.found.Found.{Found}
 use Rattle.term_size.specs.AnyNorm.{any_row}
-use Rattle.termination_model.specs.Sizes.{rows_of}
+use Rattle.termination_model.specs.sizes.Sizes.{rows_of}
 use Rattle.cert_assembly.proofs.PlaceLaws.{none_listed, pushed}
 use Rattle.report.proofs.assembling.find_all.Goals as goal
 

@@ -2,7 +2,7 @@ use Rattle.std.proofs.Common.{◌≡◌, ℕ, Some, length, slice_get, true}
 use Rattle.level_systems.specs.Found.{IsFound}
 use Rattle.level_systems.specs.declared.found.Found.{Found}
 use Rattle.term_size.specs.AnyNorm.{any_row}
-use Rattle.termination_model.specs.Sizes.{rows_of}
+use Rattle.termination_model.specs.sizes.Sizes.{rows_of}
 use Rattle.report.proofs.assembling.find_all.Given as goal
 
 -- what is found of the components so far

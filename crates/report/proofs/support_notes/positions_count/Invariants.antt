@@ -1,6 +1,6 @@
 use Rattle.std.proofs.Common.{◌≡◌, ◌+◌, ◌*◌, ◌≤◌, drop, length, map}
 use Rattle.call_components.specs.Numbers.{number_of}
-use Rattle.termination_model.specs.Ready.{arity_in, positions_by}
+use Rattle.termination_model.specs.mappings.Ready.{arity_in, positions_by}
 use Rattle.report.proofs.support_notes.positions_count.Given as goal
 
 abbrev pub invariant-loop-member : goal.invariant-loop-member

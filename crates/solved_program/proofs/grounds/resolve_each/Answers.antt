@@ -1,7 +1,7 @@
 use Rattle.std.proofs.Common.{◌≡◌, ℕ, List, length, sym, subst, arith}
 use Rattle.bool_diagrams.proofs.CallerLemmas.{keeps_same, keeps_twice}
 use Rattle.bool_diagrams.specs.declared.diagram.Diagram.{Diagram}
-use Rattle.termination_model.specs.Grounds.{Family}
+use Rattle.termination_model.specs.grounds.Grounds.{Family}
 use Rattle.truth_rows.proofs.CallerLemmas.{family_later, sets_later}
 use Rattle.truth_rows.specs.Sets.{family_of}
 use Rattle.solved_program.specs.Grounds.{AreGroundsTo, AreLeastTo}

@@ -1,5 +1,5 @@
 use Rattle.std.proofs.Common.{◌∙◌, ap, refl, sym}
-use Rattle.termination_model.specs.Sizes.{plain_or_none, rows_of}
+use Rattle.termination_model.specs.sizes.Sizes.{plain_or_none, rows_of}
 use Rattle.solved_program.proofs.PredMarks.{mark_none, mark_some}
 use Rattle.solved_program.proofs.marking.has_stayed.Goals as goal
 

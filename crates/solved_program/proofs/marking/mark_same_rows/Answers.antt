@@ -1,5 +1,5 @@
 use Rattle.std.proofs.Common.{◌≡◌, ℕ, length, get_or, subst, arith}
-use Rattle.termination_model.specs.Sizes.{rows_of}
+use Rattle.termination_model.specs.sizes.Sizes.{rows_of}
 use Rattle.termination_model.proofs.Lists.{there}
 use Rattle.solved_program.proofs.MemberMarks.{AreMarkedUpTo, marked_all, member_below}
 use Rattle.solved_program.proofs.marking.mark_same_rows.Goals as goal

@@ -1,5 +1,5 @@
 use Rattle.std.proofs.Common.{◌≡◌}
-use Rattle.termination_model.specs.Sizes.{rows_of}
+use Rattle.termination_model.specs.sizes.Sizes.{rows_of}
 use Rattle.solved_program.proofs.MemberMarks.{AreMarkedUpTo}
 use Rattle.solved_program.proofs.marking.mark_same_rows.Given as goal
 

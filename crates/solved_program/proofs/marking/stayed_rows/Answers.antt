@@ -1,6 +1,6 @@
 use Rattle.std.proofs.Common.{◌∙◌, Bool, List, ap, arith, length, slice_get, subst, sym}
 use Rattle.std.proofs.lemmas.List.{length_push}
-use Rattle.termination_model.specs.Sizes.{rows_of}
+use Rattle.termination_model.specs.sizes.Sizes.{rows_of}
 use Rattle.solved_program.specs.Marks.{IsMarkOf}
 use Rattle.solved_program.proofs.PredMarks.{marks_all}
 use Rattle.solved_program.proofs.Resolved.{each_more}

@@ -1,5 +1,5 @@
 use Rattle.std.proofs.Common.{◌≡◌, ℕ, Bool, length, slice_get, Some}
-use Rattle.termination_model.specs.Sizes.{rows_of}
+use Rattle.termination_model.specs.sizes.Sizes.{rows_of}
 use Rattle.solved_program.specs.Marks.{IsMarkOf}
 use Rattle.solved_program.proofs.marking.stayed_rows.Given as goal
 

@@ -5,7 +5,7 @@ use Rattle.std.proofs.lemmas.Int.{to_z-of_z}
 use Rattle.exact128.specs.Sums.{entry}
 use Rattle.linear_rows.specs.Plain.{plain_row, plain_rows}
 use Rattle.linear_rows.specs.declared.row.Row.{Row}
-use Rattle.termination_model.specs.Replacing.{unit_at}
+use Rattle.termination_model.specs.sizes.Replacing.{unit_at}
 use Rattle.termination_model.proofs.Lists.{at_place, mapped_place, mapped_more}
 use Rattle.termination_model.proofs.replacing.column.Goals as goal
 

@@ -1,6 +1,6 @@
 use Rattle.std.proofs.Common.{◌≡◌, ◌<◌, ℕ, [], length, slice_index_or}
 use Rattle.linear_rows.specs.Plain.{plain_rows}
-use Rattle.termination_model.specs.Replacing.{column_over}
+use Rattle.termination_model.specs.sizes.Replacing.{column_over}
 use Rattle.termination_model.proofs.replacing.columns.Given as goal
 
 abbrev pub invariant-loop-x : goal.invariant-loop-x

@@ -1,10 +1,10 @@
 use Rattle.std.proofs.Common.{◌≡◌, ◌++◌, ◌||◌, ℕ, List, ℤ, map, sym, subst, ap, ◌∙◌, OnOk}
 use Rattle.linear_rows.specs.Plain.{plain_rows}
 use Rattle.linear_rows.specs.declared.row.Row.{Row}
-use Rattle.termination_model.specs.Replacing.{AreColumns, over_columns}
-use Rattle.termination_model.specs.Sizes.{plain_or_none, rows_of, wide_rows}
-use Rattle.termination_model.specs.Systems.{row_over}
-use Rattle.termination_model.specs.ShortSystems.{short_row}
+use Rattle.termination_model.specs.sizes.Replacing.{AreColumns, over_columns}
+use Rattle.termination_model.specs.sizes.Sizes.{plain_or_none, rows_of, wide_rows}
+use Rattle.termination_model.specs.sizes.Systems.{row_over}
+use Rattle.termination_model.specs.sizes.ShortSystems.{short_row}
 use Rattle.termination_model.proofs.SystemLaws.{rows_over}
 use Rattle.termination_model.proofs.systems.add_atom.Goals as goal
 

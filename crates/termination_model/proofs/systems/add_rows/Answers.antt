@@ -1,9 +1,9 @@
 use Rattle.std.proofs.Common.{◌≡◌, ◌∷◌, ◌++◌, ◌||◌, ◌+◌, ℕ, Bool, [], List, ℤ, map, take, slice_get, Some, sym, subst, ap, ◌∙◌}
 use Rattle.linear_rows.specs.Plain.{HaveWidth, plain_row, plain_rows}
 use Rattle.linear_rows.specs.declared.row.Row.{Row}
-use Rattle.termination_model.specs.Replacing.{over_columns}
-use Rattle.termination_model.specs.Sizes.{wide_rows}
-use Rattle.termination_model.specs.ShortSystems.{short_row}
+use Rattle.termination_model.specs.sizes.Replacing.{over_columns}
+use Rattle.termination_model.specs.sizes.Sizes.{wide_rows}
+use Rattle.termination_model.specs.sizes.ShortSystems.{short_row}
 use Rattle.termination_model.proofs.Lists.{at_place, mapped_place, map_push, taken_more, append_assoc}
 use Rattle.termination_model.proofs.SystemLaws.{wide_push}
 use Rattle.termination_model.proofs.systems.add_rows.Goals as goal

@@ -1,8 +1,8 @@
 use Rattle.std.proofs.Common.{◌≡◌, ◌++◌, ◌||◌, map, take}
 use Rattle.linear_rows.specs.Plain.{HaveWidth, plain_rows}
-use Rattle.termination_model.specs.Replacing.{over_columns}
-use Rattle.termination_model.specs.Sizes.{wide_rows}
-use Rattle.termination_model.specs.ShortSystems.{short_row}
+use Rattle.termination_model.specs.sizes.Replacing.{over_columns}
+use Rattle.termination_model.specs.sizes.Sizes.{wide_rows}
+use Rattle.termination_model.specs.sizes.ShortSystems.{short_row}
 use Rattle.termination_model.proofs.systems.add_rows.Given as goal
 
 abbrev pub invariant-loop-row : goal.invariant-loop-row

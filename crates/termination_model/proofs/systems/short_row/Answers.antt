@@ -2,7 +2,7 @@ use Rattle.std.proofs.Common.{rules, ◌≡◌, ℕ, List, ℤ, pos, replicate, 
 use Rattle.std.proofs.lemmas.List.{length-map}
 use Rattle.exact128.specs.Sums.{dot}
 use Rattle.linear_rows.specs.Plain.{plain_row}
-use Rattle.termination_model.specs.Replacing.{IsRowIfFits, over_columns}
+use Rattle.termination_model.specs.sizes.Replacing.{IsRowIfFits, over_columns}
 use Rattle.termination_model.proofs.SystemLaws.{zeros_of}
 use Rattle.termination_model.proofs.systems.short_row.Goals as goal
 

@@ -4,9 +4,9 @@ use Rattle.cti_terms.specs.Listing.{IsAtom}
 use Rattle.cti_terms.specs.Tree.{is_below}
 use Rattle.cti_terms.specs.declared.atom_list.Atom.{Atom}
 use Rattle.linear_rows.specs.Plain.{HaveWidth}
-use Rattle.termination_model.specs.Sizes.{rows_of, wide_rows, wide_system}
-use Rattle.termination_model.specs.Systems.{row_over}
-use Rattle.termination_model.specs.ShortSystems.{short_row, short_system}
+use Rattle.termination_model.specs.sizes.Sizes.{rows_of, wide_rows, wide_system}
+use Rattle.termination_model.specs.sizes.Systems.{row_over}
+use Rattle.termination_model.specs.sizes.ShortSystems.{short_row, short_system}
 use Rattle.termination_model.proofs.Facts.{one_arity}
 use Rattle.termination_model.proofs.Lists.{at_place, by_places, taken_more}
 use Rattle.termination_model.proofs.SystemLaws.{short_push, wide_system_push}

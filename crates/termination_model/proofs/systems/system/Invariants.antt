@@ -1,7 +1,7 @@
 use Rattle.std.proofs.Common.{◌≡◌, take}
 use Rattle.linear_rows.specs.Plain.{HaveWidth, plain_rows}
-use Rattle.termination_model.specs.Sizes.{rows_of, wide_system}
-use Rattle.termination_model.specs.ShortSystems.{short_system}
+use Rattle.termination_model.specs.sizes.Sizes.{rows_of, wide_system}
+use Rattle.termination_model.specs.sizes.ShortSystems.{short_system}
 use Rattle.termination_model.proofs.systems.system.Given as goal
 
 abbrev pub invariant-loop-i : goal.invariant-loop-i

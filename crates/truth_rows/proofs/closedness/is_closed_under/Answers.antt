@@ -1,6 +1,6 @@
 use Rattle.std.proofs.Common.{◌≡◌, ◌↔◌, ◌-◌, IsTrue, slice_get, Some, subst}
 use Rattle.cti_terms.specs.declared.clauses.Clause.{Clause}
-use Rattle.termination_model.specs.Grounds.{IsClosedUnder}
+use Rattle.termination_model.specs.grounds.Grounds.{IsClosedUnder}
 use Rattle.truth_rows.specs.Sets.{family_of}
 use Rattle.truth_rows.proofs.AtomLaws.{closed_is}
 use Rattle.truth_rows.proofs.SetLaws.{ready}

@@ -2,7 +2,7 @@ use Rattle.std.proofs.Common.{◌≡◌, ◌||◌, slice_get, slice_index_or, So
 use Rattle.bool_diagrams.specs.declared.diagram.Diagram.{Diagram}
 use Rattle.bool_diagrams.specs.Cubes.{truth_rows, values_of}
 use Rattle.bool_diagrams.proofs.CallerLemmas.{holds_later, keeps_twice}
-use Rattle.termination_model.specs.View.{all_upper}
+use Rattle.termination_model.specs.mappings.View.{all_upper}
 use Rattle.truth_rows.proofs.CellLaws.{any_next}
 use Rattle.termination_model.proofs.Lists.{there}
 use Rattle.truth_rows.proofs.SetLaws.{none}

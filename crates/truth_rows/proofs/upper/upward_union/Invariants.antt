@@ -2,7 +2,7 @@ use Rattle.std.proofs.Common.{◌≡◌, Bool, List, length, take}
 use Rattle.std.specs.List.{list_any}
 use Rattle.bool_diagrams.specs.Cubes.{truth_rows}
 use Rattle.bool_diagrams.specs.Rows.{IsDiagram, Keeps, ReadsBelow}
-use Rattle.termination_model.specs.View.{all_upper}
+use Rattle.termination_model.specs.mappings.View.{all_upper}
 use Rattle.truth_rows.proofs.upper.upward_union.Given as goal
 
 abbrev pub invariant-loop-set : goal.invariant-loop-set

@@ -1,7 +1,7 @@
 use Rattle.std.proofs.Common.{◌∙◌, Some, ap, refl, subst, sym}
 use Rattle.carried_mappings.specs.FoundMappings.{IsCarriedAt, IsFoundAt, IsKept}
 use Rattle.carried_mappings.proofs.Resolved.{if_ok_is, if_ok_to, nothing_kept}
-use Rattle.termination_model.specs.Sizes.{rows_of}
+use Rattle.termination_model.specs.sizes.Sizes.{rows_of}
 use Rattle.carried_mappings.proofs.resolving.MappingSources.resolve.Goals as goal
 
 pub returns-then-not-recursive-clause-kept : goal.returns-then-not-recursive-clause-kept

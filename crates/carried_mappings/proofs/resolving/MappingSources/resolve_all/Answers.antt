@@ -1,5 +1,5 @@
 use Rattle.std.proofs.Common.{◌≡◌, ◌+◌, arith, length, subst, sym}
-use Rattle.termination_model.specs.Sizes.{rows_of}
+use Rattle.termination_model.specs.sizes.Sizes.{rows_of}
 use Rattle.carried_mappings.specs.FoundMappings.{AreFoundTo, AreKeptFound}
 use Rattle.carried_mappings.proofs.Resolved.{found_more, kept_more, kept_none, none_found}
 use Rattle.carried_mappings.proofs.resolving.MappingSources.resolve_all.Goals as goal

@@ -1,4 +1,4 @@
-use Rattle.termination_model.specs.Sizes.{rows_of}
+use Rattle.termination_model.specs.sizes.Sizes.{rows_of}
 use Rattle.carried_mappings.specs.FoundMappings.{AreFoundTo, AreKeptFound}
 use Rattle.carried_mappings.proofs.resolving.MappingSources.resolve_all.Given as goal
 

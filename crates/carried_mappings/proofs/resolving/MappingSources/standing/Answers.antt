@@ -1,5 +1,5 @@
 use Rattle.std.proofs.Common.{length}
-use Rattle.termination_model.specs.Sizes.{rows_of}
+use Rattle.termination_model.specs.sizes.Sizes.{rows_of}
 use Rattle.solved_program.proofs.Marks.{stands_by_mark, stands_by_value}
 use Rattle.solved_program.proofs.PredMarks.{marks_below}
 use Rattle.carried_mappings.proofs.Resolved.{if_some_is}

@@ -2,8 +2,8 @@ use Rattle.std.proofs.Common.{◌≡◌, ◌<◌, ◌≤ℤ◌, ◌+◌, ◌++�
 use Rattle.call_components.specs.Numbers.{number_of}
 use Rattle.linear_rows.specs.Plain.{plain_row, plain_rows}
 use Rattle.linear_rows.specs.Step.{columns}
-use Rattle.termination_model.specs.OwnCalls.{OwnCall as Recalled}
-use Rattle.termination_model.specs.TurnSystem.{turn_row}
+use Rattle.termination_model.specs.mappings.OwnCalls.{OwnCall as Recalled}
+use Rattle.termination_model.specs.lists.TurnSystem.{turn_row}
 use Rattle.termination_model.proofs.Lists.{append_assoc, map_push}
 use Rattle.level_systems.specs.Held.{spelled}
 use Rattle.level_systems.specs.Turned.{turned_numbers}

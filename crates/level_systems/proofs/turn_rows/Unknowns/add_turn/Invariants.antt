@@ -5,8 +5,8 @@ use Rattle.linear_rows.specs.Plain.{HaveWidth, plain_rows}
 use Rattle.linear_rows.specs.Step.{columns}
 use Rattle.level_systems.specs.Held.{spelled}
 use Rattle.level_systems.specs.Recalled.{Recalls}
-use Rattle.termination_model.specs.OwnCalls.{OwnCall as Recalled}
-use Rattle.termination_model.specs.TurnSystem.{turn_row}
+use Rattle.termination_model.specs.mappings.OwnCalls.{OwnCall as Recalled}
+use Rattle.termination_model.specs.lists.TurnSystem.{turn_row}
 use Rattle.level_systems.proofs.turn_rows.Unknowns.add_turn.Given as goal
 
 abbrev pub invariant-loop-x : goal.invariant-loop-x

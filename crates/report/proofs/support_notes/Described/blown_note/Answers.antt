@@ -3,7 +3,7 @@ use Rattle.std.proofs.lemmas.List.{length-map}
 use Rattle.call_components.specs.Numbers.{number_of}
 use Rattle.certificate.specs.declared.fact.Fact.TheVariants as fact
 use Rattle.termination_model.proofs.Lists.{indexed}
-use Rattle.termination_model.specs.ComponentViews.{members_in}
+use Rattle.termination_model.specs.mappings.ComponentViews.{members_in}
 use Rattle.report.specs.SupportNotes.{arguments_by_member}
 use Rattle.cert_assembly.proofs.MemberLaws.{members_few, members_within}
 use Rattle.report.proofs.support_notes.Described.blown_note.Goals as goal

@@ -1,5 +1,5 @@
 use Rattle.std.proofs.Common.{[], arith, refl, slice_index_or}
-use Rattle.termination_model.specs.Sizes.{rows_of}
+use Rattle.termination_model.specs.sizes.Sizes.{rows_of}
 use Rattle.termination_model.proofs.Lists.{there}
 use Rattle.solved_program.proofs.Anew.{one_resolved}
 use Rattle.solved_program.proofs.Marks.{stands_by_mark, stands_by_value}

@@ -1,0 +1,5 @@
+pub mod Chain
+pub mod ChainKept
+pub mod ChainLicences
+pub mod ChainRows
+pub mod ChainSteps

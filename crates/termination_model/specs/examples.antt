@@ -1,0 +1,4 @@
+pub mod Ackermann
+pub mod Append
+pub mod AppendChain
+pub mod Loop

@@ -1,0 +1,4 @@
+pub mod Stuck
+pub mod TurnLaws
+pub mod TurnSystem
+pub mod Turns

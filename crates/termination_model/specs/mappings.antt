@@ -1,0 +1,12 @@
+pub mod AllPositions
+pub mod BlownSupports
+pub mod Coefficients
+pub mod ComponentViews
+pub mod Excluding
+pub mod OwnCalls
+pub mod Ready
+pub mod Refutation
+pub mod SupportLaws
+pub mod SupportSystem
+pub mod Supports
+pub mod View
