@@ -1,16 +1,13 @@
 -- The full set of positions.
-use Rattle.std.proofs.Common.{◌≡◌, ℕ, zero, suc, ◌+◌, ◌<◌, ◌≤◌, ◌||◌, Bool, true, false, if◌then◌else◌, List, [], ◌∷◌, ◌++◌, map, length, take, drop, nat_eq, ◌⊎◌, inl, inr, refl, ap, sym, subst, ◌∙◌, arith, eq-eqb}
-use Rattle.std.specs.List.{AllByRecursion, list_any}
+use Rattle.std.proofs.Common.{◌≡◌, ℕ, zero, suc, ◌+◌, ◌<◌, ◌≤◌, true, List, [], ◌∷◌, map, length, drop, nat_eq, inl, inr, refl, ap, sym, subst, arith, eq-eqb}
+use Rattle.std.specs.List.{list_any}
 use Rattle.std.proofs.lemmas.Bool.{cases_eq, or_left, or_right}
 use Rattle.linear_rows.specs.Members.{In}
 use Rattle.linear_rows.proofs.Members.{in-left, in-right, in-map}
 use Rattle.linear_rows.specs.Step.{columns}
-use Rattle.termination_model.specs.mappings.Refutation.{Pair}
-use Rattle.termination_model.specs.mappings.AllPositions.{AllArePicked, IsCoveredBy, PositionsCoverPairs}
-use Rattle.termination_model.specs.mappings.Excluding.{pairs_at}
-use Rattle.termination_model.specs.mappings.OwnCalls.{OwnCall, Position}
+use Rattle.termination_model.specs.mappings.AllPositions.{AllArePicked, PositionsCoverPairs}
+use Rattle.termination_model.specs.mappings.OwnCalls.{Position}
 use Rattle.termination_model.specs.mappings.Ready.{positions_by}
-use Rattle.termination_model.specs.mappings.SupportLaws.{HasFew}
 use Rattle.termination_model.specs.mappings.Supports.{picked_from}
 
 -- ---- picking

@@ -1,12 +1,11 @@
 -- What a built-in atom that succeeds says of its arguments.
-use Rattle.std.proofs.Common.{◌≡◌, ℕ, ◌&&◌, ℤ, pos, negsuc, Bool, true, false, if◌then◌else◌, ◌⊎◌, inl, inr, List, [], ◌∷◌, map, Option, None, Some, option_and_then, refl, ap, sym, subst, ◌∙◌, arith}
+use Rattle.std.proofs.Common.{◌≡◌, ℕ, ◌&&◌, ℤ, pos, negsuc, Bool, true, false, inl, inr, List, [], ◌∷◌, map, Option, None, Some, option_and_then, refl, ap, sym, subst, ◌∙◌, arith}
 use Rattle.std.proofs.lemmas.Int.{ints}
 use Rattle.std.specs.List.{AllByRecursion}
 use Rattle.exact128.specs.Sums.{dot}
 use Rattle.cti_terms.specs.Tree.{Tree, Trees, Variable, Integer, Compound, End, More, is_rigid, all_truths}
-use Rattle.cti_terms.specs.Arithmetic.{operation, both, value, all_values, tested, assigned, succeeds, at_two, passes_as, passes, kind_of, Arithmetic}
+use Rattle.cti_terms.specs.Arithmetic.{operation, both, value, all_values, tested, assigned, succeeds, at_two, passes_as, kind_of}
 use Rattle.cti_terms.specs.Unify.{Binding, applied}
-use Rattle.cti_terms.specs.Resolve.{over}
 use Rattle.cti_terms.specs.ResolutionStep.{Passes}
 use Rattle.cti_terms.specs.declared.atom_list.Atom.{Atom}
 use Rattle.cti_terms.specs.declared.builtins.Arith.{Arith}

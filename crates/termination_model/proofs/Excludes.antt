@@ -1,5 +1,5 @@
 -- A refutation at some positions excludes the mappings at these.
-use Rattle.std.proofs.Common.{◌≡◌, ℕ, zero, suc, ◌+◌, ◌*◌, ◌<◌, ◌≤◌, ◌==◌, ℤ, pos, negsuc, ◌+ℤ◌, ◌*ℤ◌, ◌≤ℤ◌, Bool, true, false, if◌then◌else◌, List, [], ◌∷◌, map, take, length, replicate, get_or, slice_get, Some, ◌⊎◌, inl, inr, refl, ap, sym, subst, ◌∙◌, arith, eqb-true}
+use Rattle.std.proofs.Common.{◌≡◌, ℕ, zero, suc, ◌<◌, ◌≤◌, ◌==◌, ℤ, pos, ◌+ℤ◌, ◌≤ℤ◌, Bool, true, false, if◌then◌else◌, List, [], ◌∷◌, map, length, ◌⊎◌, inl, inr, refl, ap, subst, arith, eqb-true}
 use Rattle.std.specs.List.{AllByRecursion}
 use Rattle.std.proofs.lemmas.Int.{ints}
 use Rattle.std.proofs.lemmas.List.{length-map}
@@ -7,8 +7,8 @@ use Rattle.cti_terms.specs.Tree.{Tree}
 use Rattle.exact128.specs.Sums.{dot, entry}
 use Rattle.linear_rows.specs.Members.{In}
 use Rattle.termination_model.specs.mappings.Coefficients.{coefficient}
-use Rattle.termination_model.specs.claims.Claims.{Mapping, SomeOf}
-use Rattle.termination_model.specs.mappings.Refutation.{Pair, Load, gather, Decreases, head_load, call_load, values_at, IsPair, IsRefutation}
+use Rattle.termination_model.specs.claims.Claims.{Mapping}
+use Rattle.termination_model.specs.mappings.Refutation.{Pair, Load, gather, Decreases, head_load, call_load, values_at}
 use Rattle.termination_model.specs.mappings.View.{Rule}
 use Rattle.termination_model.specs.sizes.Rows.{added}
 use Rattle.termination_model.specs.mappings.OwnCalls.{Position}

@@ -1,13 +1,11 @@
 -- Mappings from systems, and what refuted systems exclude, as sets of positions.
-use Rattle.std.proofs.Common.{◌≡◌, ℕ, zero, suc, ◌+◌, ◌<◌, ◌≤◌, ◌==◌, ℤ, pos, negsuc, ◌≤ℤ◌, Bool, true, false, if◌then◌else◌, List, [], ◌∷◌, ◌++◌, map, take, drop, length, slice_get, get_or, Some, ◌⊎◌, inl, inr, refl, ap, sym, subst, ◌∙◌, arith, nat_eq, nat_lt}
-use Rattle.std.specs.Prelude.{All}
+use Rattle.std.proofs.Common.{◌≡◌, ℕ, zero, suc, ◌+◌, ◌<◌, ◌==◌, ℤ, pos, ◌≤ℤ◌, Bool, true, false, if◌then◌else◌, List, [], ◌∷◌, map, take, drop, length, slice_get, Some, inl, inr, refl, sym, subst, arith, nat_eq, nat_lt}
 use Rattle.std.specs.List.{AllByRecursion, list_any}
 use Rattle.std.proofs.lemmas.Bool.Decides.{nat_tests}
 use Rattle.std.proofs.lemmas.Int.{ints}
-use Rattle.std.proofs.lemmas.List.{length-map}
 use Rattle.cti_terms.specs.Tree.{Tree}
 use Rattle.linear_rows.specs.Members.{In}
-use Rattle.linear_rows.specs.Rows.{Holds, AllHold, HoldsOn, AreEmpty}
+use Rattle.linear_rows.specs.Rows.{HoldsOn}
 use Rattle.linear_rows.specs.Proves.{Proves}
 use Rattle.linear_rows.specs.Step.{columns}
 use Rattle.linear_rows.proofs.Members.{to_All, in-left, in-right}
@@ -16,12 +14,12 @@ use Rattle.termination_model.specs.mappings.Coefficients.{coefficient}
 use Rattle.termination_model.specs.claims.Claims.{Mapping}
 use Rattle.termination_model.specs.grounds.Modes.{is_part}
 use Rattle.termination_model.specs.mappings.Refutation.{Pair, Decreases}
-use Rattle.termination_model.specs.mappings.View.{Member, Call, Rule, system_of, level_over, fall_over}
+use Rattle.termination_model.specs.mappings.View.{Member, Call, Rule, system_of, fall_over}
 use Rattle.termination_model.specs.mappings.Excluding.{IsZeroOutside, IsOfMembers, IsRefutationAt}
 use Rattle.termination_model.specs.mappings.OwnCalls.{OwnCall, Position, own_calls_from, own_calls, rows_before}
-use Rattle.termination_model.specs.mappings.SupportLaws.{AreFalls, HasFew, HasWidths}
-use Rattle.termination_model.specs.mappings.SupportSystem.{value_of_position, value_of_member, mapping_at}
-use Rattle.termination_model.specs.mappings.Supports.{support_from, picked_from, AreDistinct, HasSupport, AreLives, MappingsFromSystems, SystemsGiveMappings}
+use Rattle.termination_model.specs.mappings.SupportLaws.{AreFalls, HasWidths}
+use Rattle.termination_model.specs.mappings.SupportSystem.{value_of_position, mapping_at}
+use Rattle.termination_model.specs.mappings.Supports.{support_from, picked_from, AreDistinct, HasSupport, AreLives, SystemsGiveMappings}
 use Rattle.termination_model.specs.grounds.Minimal.{IsSet, IsExcluded}
 use Rattle.termination_model.proofs.Excludes.{excludes_at}
 use Rattle.termination_model.proofs.OwnCallsThere.{call_there}

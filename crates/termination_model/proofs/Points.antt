@@ -3,25 +3,24 @@ use Rattle.std.proofs.Common.{◌≡◌, ℕ, zero, suc, ◌+◌, ◌<◌, ◌�
 use Rattle.std.specs.Prelude.{◌-ℤ◌, neg_ℤ, slice_index_or}
 use Rattle.std.specs.List.{AllByRecursion}
 use Rattle.std.proofs.lemmas.Int.{ints}
-use Rattle.std.proofs.lemmas.Bool.Decides.{nat_tests}
 use Rattle.std.proofs.lemmas.List.{length-map, length-append}
 use Rattle.exact128.proofs.Rings.{rings}
 use Rattle.exact128.specs.Sums.{dot, entry}
 use Rattle.cti_terms.specs.Tree.{Tree}
 use Rattle.linear_rows.specs.Members.{In}
-use Rattle.linear_rows.specs.Rows.{column, Holds, AllHold}
-use Rattle.linear_rows.specs.Proves.{Proves, goal_number, rest_number}
+use Rattle.linear_rows.specs.Rows.{column, Holds}
+use Rattle.linear_rows.specs.Proves.{Proves}
 use Rattle.linear_rows.specs.Step.{columns}
 use Rattle.linear_rows.specs.Solving.{zeros}
 use Rattle.linear_rows.proofs.Members.{in-left, in-right, in-map, from_All}
-use Rattle.termination_model.specs.sizes.Rows.{scaled, added, combined, substituted}
+use Rattle.termination_model.specs.sizes.Rows.{scaled, added}
 use Rattle.termination_model.specs.claims.Claims.{Mapping}
 use Rattle.termination_model.specs.mappings.View.{level_over, fall_over}
 use Rattle.termination_model.proofs.Proved.{length-substituted}
 use Rattle.termination_model.specs.mappings.OwnCalls.{OwnCall, Position, rows_before, head_sizes, call_sizes}
 use Rattle.termination_model.specs.mappings.SupportSystem.{share, offset_share, less_one, position_entries, offset_entries, multiplier_entries, call_row, call_rows, row_count, rows_from, support_rows, value_of_position, value_of_member, mapping_at}
 use Rattle.termination_model.specs.mappings.SupportLaws.{AreFalls, HasFew, HasWidths, PointsFall}
-use Rattle.termination_model.proofs.Entries.{dot_nil, dot_parts, dot_zeros, entry_added, entry_scaled, constant_at, entry_substituted, entry_column, dot_difference, dot_negated, dot_none, only_at, dot_only, dot_sum_left}
+use Rattle.termination_model.proofs.Entries.{dot_parts, dot_zeros, entry_added, entry_scaled, constant_at, entry_substituted, entry_column, dot_difference, dot_negated, dot_none, only_at, dot_only, dot_sum_left}
 
 weigh_one : (b : Bool) (k n w x : ℕ) (sizes : List (List ℤ)) → length sizes ≤ n
     → dot (map pos (map (λ a. if b then only_at k w a else 0) (columns 0 n))) (map (λ e. entry e x) sizes) ≡ (if b then entry (slice_index_or sizes k []) x else pos 0) *ℤ pos w

@@ -1,20 +1,19 @@
 -- The calls and positions of a view.
-use Rattle.std.proofs.Common.{◌≡◌, ℕ, zero, suc, ◌+◌, ◌-◌, ◌<◌, ◌≤◌, ◌==◌, Bool, true, false, ◌||◌, if◌then◌else◌, List, [], ◌∷◌, ◌++◌, map, length, slice_get, Some, None, Option, ◌⊎◌, inl, inr, refl, ap, sym, subst, ◌∙◌, arith, eqb-true, filter}
+use Rattle.std.proofs.Common.{◌≡◌, ℕ, zero, suc, ◌+◌, ◌≤◌, ◌==◌, Bool, true, false, ◌||◌, if◌then◌else◌, List, [], ◌∷◌, ◌++◌, map, length, slice_get, Some, None, Option, ◌⊎◌, inl, inr, refl, ap, sym, subst, ◌∙◌, arith, eqb-true, filter}
 use Rattle.std.specs.Prelude.{IsSomeAnd, unwrap_or, option_map}
 use Rattle.std.specs.List.{AllByRecursion, list_any}
-use Rattle.std.proofs.lemmas.Bool.Decides.{nat_tests}
 use Rattle.cti_terms.specs.Listing.{Listing, IsProgram, IsClause, IsAtom}
 use Rattle.cti_terms.specs.declared.atom_list.Atom.{Atom}
 use Rattle.cti_terms.specs.declared.clauses.Clause.{Clause}
 use Rattle.cti_terms.specs.declared.predicates.Pred.{Pred}
 use Rattle.linear_rows.specs.Members.{In}
-use Rattle.linear_rows.proofs.Members.{in-left, in-right, of-append, in-map, of-map, of-filter}
+use Rattle.linear_rows.proofs.Members.{of-append, of-map, of-filter}
 use Rattle.linear_rows.specs.Step.{columns}
 use Rattle.termination_model.specs.claims.Claims.{Claims, SomeOf}
-use Rattle.termination_model.specs.mappings.View.{Place, Member, Lower, Call, Rule, call_of, place_of, rule_of, view_of, upward_union}
+use Rattle.termination_model.specs.mappings.View.{Place, Member, Lower, Call, Rule, call_of, rule_of, view_of, upward_union}
 use Rattle.termination_model.specs.mappings.Excluding.{IsOwnCall}
-use Rattle.termination_model.specs.mappings.OwnCalls.{OwnCall, Position, first_rules, members_of, own_call, own_calls, own_calls_from}
-use Rattle.termination_model.specs.mappings.Ready.{Apart, AreReady, PositionsAreDistinct, ViewsAreReady, ViewsHaveFew, arity_in, itself, positions_by}
+use Rattle.termination_model.specs.mappings.OwnCalls.{OwnCall, Position, first_rules, own_call, own_calls, own_calls_from}
+use Rattle.termination_model.specs.mappings.Ready.{PositionsAreDistinct, ViewsAreReady, ViewsHaveFew, arity_in, itself, positions_by}
 use Rattle.termination_model.specs.mappings.SupportLaws.{HasFew}
 use Rattle.termination_model.specs.mappings.Supports.{AreDistinct}
 

@@ -3,26 +3,22 @@ use Rattle.std.proofs.Common.{◌≡◌, ℕ, zero, suc, ◌+◌, ◌<◌, ◌�
 use Rattle.std.specs.Prelude.{◌-ℤ◌, neg_ℤ, slice_index_or}
 use Rattle.std.specs.List.{AllByRecursion}
 use Rattle.std.proofs.lemmas.Int.{ints}
-use Rattle.std.proofs.lemmas.Bool.Decides.{nat_tests}
-use Rattle.std.proofs.lemmas.List.{length-map, length-append}
-use Rattle.exact128.proofs.Rings.{rings}
+use Rattle.std.proofs.lemmas.List.{length-map}
 use Rattle.exact128.specs.Sums.{dot, entry}
 use Rattle.cti_terms.specs.Tree.{Tree}
 use Rattle.linear_rows.specs.Members.{In}
-use Rattle.linear_rows.specs.Rows.{column, Holds, AllHold}
-use Rattle.linear_rows.specs.Proves.{Proves, Refutes, goal_number, rest_number}
+use Rattle.linear_rows.specs.Rows.{column, AllHold}
+use Rattle.linear_rows.specs.Proves.{Refutes, goal_number}
 use Rattle.linear_rows.specs.Step.{columns}
 use Rattle.linear_rows.specs.Solving.{zeros}
-use Rattle.linear_rows.proofs.Members.{to_All}
-use Rattle.termination_model.specs.claims.Claims.{Mapping, SomeOf}
+use Rattle.termination_model.specs.claims.Claims.{SomeOf}
 use Rattle.termination_model.specs.sizes.Rows.{added}
 use Rattle.termination_model.specs.mappings.Refutation.{Pair, Load, gather, head_load, call_load, values_at, IsPair}
-use Rattle.termination_model.specs.mappings.View.{Rule, Call}
+use Rattle.termination_model.specs.mappings.View.{Rule}
 use Rattle.termination_model.specs.mappings.OwnCalls.{OwnCall, Position, rows_before, head_sizes, call_sizes}
-use Rattle.termination_model.specs.mappings.SupportSystem.{share, offset_share, less_one, position_entries, offset_entries, multiplier_entries, call_row, call_rows, row_count, rows_from, support_rows, unknowns}
-use Rattle.termination_model.specs.mappings.SupportLaws.{HasWidths}
+use Rattle.termination_model.specs.mappings.SupportSystem.{share, offset_share, less_one, position_entries, offset_entries, multiplier_entries, call_row, row_count, rows_from, support_rows, unknowns}
 use Rattle.termination_model.specs.mappings.Excluding.{IsOwnCall, IsLive, IsRefutationAt, pairs_at, number_count, MultipliersRefute}
-use Rattle.termination_model.proofs.Entries.{dot_nil, dot_parts, dot_zeros, entry_zeros, entry_added, dot_difference, dot_negated}
+use Rattle.termination_model.proofs.Entries.{dot_nil, entry_zeros, entry_added, dot_difference, dot_negated}
 use Rattle.termination_model.proofs.Totals.{dot_comm, dot_entries, entry_left, entry_right, entry_map, there, taken, dropped, total, blocks, column_total}
 use Rattle.termination_model.proofs.Totals.{shifted}
 

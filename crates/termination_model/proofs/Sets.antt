@@ -1,13 +1,12 @@
 -- Ascending lists of numbers as sets, and their order in the walk.
-use Rattle.std.proofs.Common.{◌≡◌, ℕ, zero, suc, ◌+◌, ◌<◌, ◌≤◌, ◌-◌, ◌⊎◌, inl, inr, Bool, true, false, ◌&&◌, ◌||◌, List, [], ◌∷◌, ◌++◌, length, map, take, slice_get, Some, refl, ap, sym, subst, ◌∙◌, arith, nat_eq}
-use Rattle.std.specs.List.{list_all, list_any}
+use Rattle.std.proofs.Common.{◌≡◌, ℕ, zero, suc, ◌+◌, ◌<◌, ◌≤◌, ◌⊎◌, inl, inr, true, List, [], ◌∷◌, ◌++◌, length, map, take, slice_get, Some, refl, ap, sym, subst, ◌∙◌, arith, nat_eq}
+use Rattle.std.specs.List.{list_any}
 use Rattle.std.proofs.lemmas.Bool.Decides.{nat_tests}
-use Rattle.std.proofs.lemmas.List.{length-map, length-append}
 use Rattle.std.proofs.lemmas.Bool.{or_cases, or_left, or_right, and_parts, and_from}
 use Rattle.linear_rows.specs.Members.{In}
 use Rattle.linear_rows.proofs.Members.{in-left, in-right, of-append, in-map}
 use Rattle.termination_model.specs.grounds.Modes.{is_part, chosen, chosen_up_to}
-use Rattle.termination_model.specs.grounds.Minimal.{IsSet, IsAbove}
+use Rattle.termination_model.specs.grounds.Minimal.{IsSet}
 
 abbrev pub Part : List ℕ → List ℕ → Type 0
 Part xs ys = (x : ℕ) → In x xs → In x ys

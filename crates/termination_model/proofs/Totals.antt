@@ -1,23 +1,16 @@
 -- The columns of a support's system, multiplied, as sums over its calls.
-use Rattle.std.proofs.Common.{◌≡◌, ℕ, zero, suc, ◌+◌, ◌<◌, ◌≤◌, ◌==◌, ℤ, pos, negsuc, ◌+ℤ◌, ◌*ℤ◌, ◌≤ℤ◌, Bool, true, false, if◌then◌else◌, List, [], ◌∷◌, ◌++◌, map, take, drop, length, slice_get, get_or, Some, refl, ap, sym, subst, ◌∙◌, arith, inl, inr, ◌⊎◌}
-use Rattle.std.specs.Prelude.{◌-ℤ◌, neg_ℤ, slice_index_or}
-use Rattle.std.specs.List.{AllByRecursion}
+use Rattle.std.proofs.Common.{◌≡◌, ℕ, zero, suc, ◌+◌, ◌<◌, ◌≤◌, ℤ, pos, ◌+ℤ◌, List, [], ◌∷◌, ◌++◌, map, take, drop, length, slice_get, Some, refl, ap, sym, ◌∙◌, arith}
 use Rattle.std.proofs.lemmas.Int.{ints}
-use Rattle.std.proofs.lemmas.Bool.Decides.{nat_tests}
-use Rattle.std.proofs.lemmas.List.{length-map, length-append}
-use Rattle.exact128.proofs.Rings.{rings}
+use Rattle.std.proofs.lemmas.List.{length-map}
 use lib.IntN.{*ℤ_comm}
 use Rattle.exact128.specs.Sums.{dot, entry}
 use Rattle.cti_terms.specs.Tree.{Tree}
-use Rattle.linear_rows.specs.Members.{In}
-use Rattle.linear_rows.specs.Rows.{column, Holds, AllHold}
+use Rattle.linear_rows.specs.Rows.{column}
 use Rattle.linear_rows.specs.Step.{columns}
-use Rattle.linear_rows.specs.Solving.{zeros}
-use Rattle.termination_model.specs.claims.Claims.{Mapping}
-use Rattle.termination_model.specs.mappings.OwnCalls.{OwnCall, Position, rows_before, head_sizes, call_sizes}
-use Rattle.termination_model.specs.mappings.SupportSystem.{share, offset_share, less_one, position_entries, offset_entries, multiplier_entries, call_row, call_rows, row_count, rows_from, support_rows}
+use Rattle.termination_model.specs.mappings.OwnCalls.{OwnCall, Position, rows_before}
+use Rattle.termination_model.specs.mappings.SupportSystem.{call_row, call_rows, row_count, rows_from}
 use Rattle.termination_model.specs.mappings.Excluding.{number_count}
-use Rattle.termination_model.proofs.Entries.{dot_nil, dot_parts, dot_zeros, entry_zeros}
+use Rattle.termination_model.proofs.Entries.{dot_nil, dot_parts}
 
 pub shifted : {X : Type 0} (f : ℕ → X) (k n : ℕ) → map f (columns (suc k) n) ≡ map (λ x. f (suc x)) (columns k n)
 shifted f k zero = refl

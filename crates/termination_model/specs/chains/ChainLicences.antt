@@ -3,7 +3,7 @@
 --
 -- To believe: `IsLicensed`, over what is known of a step's clause: the facts of a row over the head's arguments that it
 -- holds there, that it fails at a point of it, and that its test there is blown.
-use Rattle.std.specs.Prelude.{◌≡◌, ℕ, ◌<◌, ◌≤◌, ℤ, ◌⊎◌, List}
+use Rattle.std.specs.Prelude.{ℕ, ◌<◌, ◌≤◌, ℤ, ◌⊎◌, List}
 use Rattle.std.specs.List.{AllByRecursion}
 use Rattle.linear_rows.specs.Systems.{join_blown}
 use Rattle.linear_rows.specs.Irredundant.{TestIsBlown}

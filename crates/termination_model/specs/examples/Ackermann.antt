@@ -4,7 +4,7 @@
 --     ack(0, N, s(N)).
 --     ack(s(M), 0, R) :- ack(M, s(0), R).
 --     ack(s(M), s(N), R) :- ack(s(M), N, P), ack(M, P, R).
-use Rattle.std.specs.Prelude.{◌≡◌, ℕ, ℤ, Bool, true, false, List, [], ◌∷◌, map}
+use Rattle.std.specs.Prelude.{◌≡◌, ℕ, true, List, [], ◌∷◌, map}
 use Rattle.cti_terms.specs.Arithmetic.{no_arithmetic}
 use Rattle.cti_terms.specs.Listing.{Listing}
 use Rattle.cti_terms.specs.Tree.{Tree, Variable, Compound, End, More, size, truth}

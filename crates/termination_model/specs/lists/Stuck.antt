@@ -8,7 +8,7 @@
 --
 -- To believe: `ListDescends`, `IsStuck`.
 -- Source: lexicographic ranking by linear programs, as in Alias, Darte, Feautrier and Gonnord 2010.
-use Rattle.std.specs.Prelude.{◌≡◌, ℕ, suc, ◌≤◌, ◌≤ℤ◌, ℤ, Bool, List, map, take, length, slice_get, Some}
+use Rattle.std.specs.Prelude.{◌≡◌, ℕ, ◌≤◌, ◌≤ℤ◌, ℤ, List, map, take, length, slice_get, Some}
 use Rattle.std.specs.List.{AllByRecursion}
 use Rattle.exact128.specs.Sums.{entry}
 use Rattle.cti_terms.specs.Tree.{Tree}

@@ -9,7 +9,7 @@
 --
 -- This retells a procedure, but for the laws: a point gives a mapping with its drops, and multipliers that refute the
 -- system give a stuck set.
-use Rattle.std.specs.Prelude.{ℕ, zero, suc, ◌+◌, ◌==◌, ℤ, pos, negsuc, neg_ℤ, ◌-ℤ◌, if◌then◌else◌, List, [], ◌∷◌, ◌++◌, map, take, drop, length}
+use Rattle.std.specs.Prelude.{ℕ, zero, suc, ◌+◌, ℤ, pos, negsuc, List, [], ◌∷◌, ◌++◌, map, length}
 use Rattle.cti_terms.specs.Tree.{Tree}
 use Rattle.linear_rows.specs.Step.{columns}
 use Rattle.linear_rows.specs.Solving.{zeros}

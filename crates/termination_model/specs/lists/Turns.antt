@@ -2,21 +2,14 @@
 -- The search for a list that descends: turns, each with a point of the system of the calls that remain. The calls with a
 -- positive drop leave.
 --
--- To believe: `AreTurns`, `IsMarked`. The laws say that turns that leave no call give a list that descends, and that each
--- turn leaves fewer calls.
-use Rattle.std.specs.Prelude.{◌≡◌, ℕ, zero, suc, ◌≤◌, ◌<◌, ℤ, pos, Bool, true, false, List, [], ◌∷◌, ◌++◌, map, take, drop, length}
+-- To believe: `AreTurns`, `DropsFit`, `EmptyFit`. The laws say that turns that leave no call give a list that descends, and
+-- that each turn leaves fewer calls.
+use Rattle.std.specs.Prelude.{◌≡◌, ℕ, zero, suc, ◌≤◌, ◌<◌, ℤ, pos, true, List, [], ◌∷◌, ◌++◌, map, take, drop, length}
 use Rattle.std.specs.List.{AllByRecursion}
 use Rattle.cti_terms.specs.Tree.{Tree}
-use Rattle.linear_rows.specs.Irredundant.{TestIsBlown}
-use Rattle.linear_rows.specs.Members.{In}
 use Rattle.linear_rows.specs.Proves.{AllColumnsFit}
 use Rattle.linear_rows.specs.Rows.{AllHold}
-use Rattle.linear_rows.specs.Showing.{bottom_row}
-use Rattle.linear_rows.specs.Solving.{Solution, solution}
-use Rattle.linear_rows.specs.Solving.Solution.{Blown, Found, Refuted}
-use Rattle.termination_model.specs.mappings.BlownSupports.{CheckFits, live_calls}
 use Rattle.termination_model.specs.claims.Claims.{Mapping}
-use Rattle.termination_model.specs.mappings.Excluding.{pairs_at}
 use Rattle.termination_model.specs.mappings.OwnCalls.{OwnCall, Position, members_of, own_calls, rows_before}
 use Rattle.termination_model.specs.mappings.Ready.{positions_by}
 use Rattle.termination_model.specs.lists.Stuck.{ListDescends}
@@ -24,7 +17,7 @@ use Rattle.termination_model.specs.mappings.SupportLaws.{HasFew, HasWidths}
 use Rattle.termination_model.specs.mappings.Supports.{AreLives}
 use Rattle.termination_model.specs.mappings.SupportSystem.{mapping_at, row_count}
 use Rattle.termination_model.specs.sizes.Systems.{row_fits}
-use Rattle.termination_model.specs.lists.TurnSystem.{left, turn_rows, turn_unknowns}
+use Rattle.termination_model.specs.lists.TurnSystem.{left, turn_rows}
 use Rattle.termination_model.specs.mappings.View.{Rule, fall_over}
 
 -- a point of a turn's system
@@ -63,10 +56,6 @@ module _ (expression : ℕ → Tree → List ℤ) (view : List Rule) (arity : �
   abbrev pub positions : List Position
   positions = positions_by arity (members_of view)
 
-  -- what elimination finds for the calls that remain
-  abbrev pub turn_solution : List OwnCall → Solution
-  turn_solution rest = solution (turn_unknowns expression positions (members_of view) rest) (turn_rows expression positions (members_of view) rest)
-
   -- each number fits that the check of a mapping's drops forms at the calls that remain: where the drop is positive also
   -- those of the fall by 1
   abbrev pub FitsBy : Mapping → OwnCall → List ℤ → ℕ → Type 0
@@ -87,28 +76,6 @@ module _ (expression : ℕ → Tree → List ℤ) (view : List Rule) (arity : �
   -- the targets of calls that are never reached fit too, which is asked of the first mapping alone
   abbrev pub EmptyFit : Mapping → Type 0
   EmptyFit l = AllByRecursion (λ (o : OwnCall). row_fits (fall_over expression o.rule o.member o.call.args 1 l) ≡ true) (own_calls view)
-
-  -- a turn cannot be made for the calls that remain
-  pub data IsTurnBlown (first : Bool) (rest : List OwnCall) : Type 0 where
-    solving : (step : ℕ) (wide : Bool) → turn_solution rest ≡ Blown step wide → IsTurnBlown first rest
-    mapping : (t : ℤ) (u : Turn) → turn_solution rest ≡ Found t (map pos (u.coefficients ++ (u.offsets ++ (u.drops ++ u.multipliers))))
-        → length u.coefficients ≡ length positions → length u.offsets ≡ length (members_of view) → length u.drops ≡ length rest
-        → (DropsFit (mapping_by arity positions (members_of view) u) rest u.drops u.multipliers → (first ≡ true → EmptyFit (mapping_by arity positions (members_of view) u)) → ⊥)
-        → IsTurnBlown first rest
-    stuck : (vs : List ℕ) (s : ℕ) → turn_solution rest ≡ Refuted (map pos (vs ++ s ∷ [])) → (CheckFits expression view arity (pairs_at rest vs) → ⊥) → IsTurnBlown first rest
-
-  -- whether there are no turns yet
-  abbrev pub is_first : List Turn → Bool
-  is_first [] = true
-  is_first (u ∷ us) = false
-
-  -- a component is marked as blown: a row before a call does not fit, a test of emptiness is blown, or a turn cannot be
-  -- made for what some turns leave
-  pub data IsMarked : Type 0 where
-    unfit : (o : OwnCall) (r : List ℤ) → In o (own_calls view) → In r (rows_before expression o) → row_fits r ≡ false → IsMarked
-    undecided : (o : OwnCall) → In o (own_calls view) → TestIsBlown o.rule.vars (rows_before expression o) (bottom_row o.rule.vars) → IsMarked
-    turned : (us : List Turn) → AreTurns expression positions (members_of view) (live_calls expression view arity) us
-        → 1 ≤ length (remaining (live_calls expression view arity) us) → IsTurnBlown (is_first us) (remaining (live_calls expression view arity) us) → IsMarked
 
 -- turns that leave no call give a list that descends
 abbrev pub TurnsDescend : Type 0

@@ -5,7 +5,7 @@
 -- solving of the support's system, and a found mapping or refutation with a number that does not fit in its check.
 --
 -- This retells a procedure, and no promise on mappings rests on it.
-use Rattle.std.specs.Prelude.{◌≡◌, ◌==◌, ◌&&◌, ◌+◌, ℕ, ℤ, pos, negsuc, Bool, true, false, List, [], ◌∷◌, ◌++◌, map, filter, take, drop, length}
+use Rattle.std.specs.Prelude.{◌≡◌, ◌==◌, ◌&&◌, ◌+◌, ℕ, ℤ, pos, Bool, true, false, List, [], ◌∷◌, ◌++◌, map, filter, take, drop, length}
 use Rattle.std.specs.List.{AllByRecursion, list_any}
 use Rattle.exact128.specs.Sums.{DotFits, entry}
 use Rattle.cti_terms.specs.Tree.{Tree}

@@ -3,7 +3,7 @@
 --
 -- To believe: `IsRefutationAt`, over the words of termination_model's Refutation.antt, of which it is the same for some
 -- positions alone. With all positions and members it is `IsRefutation`.
-use Rattle.std.specs.Prelude.{◌≡◌, ℕ, zero, suc, ◌+◌, ◌<◌, ◌≤◌, ◌≤ℤ◌, ℤ, pos, Bool, List, [], ◌∷◌, map, take, drop, length, slice_get, Some}
+use Rattle.std.specs.Prelude.{◌≡◌, ℕ, suc, ◌+◌, ◌<◌, ◌≤◌, ◌≤ℤ◌, ℤ, pos, List, [], ◌∷◌, map, take, drop, length, slice_get, Some}
 use Rattle.std.specs.List.{AllByRecursion}
 use Rattle.exact128.specs.Sums.{entry}
 use Rattle.cti_terms.specs.Tree.{Tree}
@@ -13,8 +13,8 @@ use Rattle.linear_rows.specs.Rows.{AllHold}
 use Rattle.termination_model.specs.mappings.Coefficients.{coefficient}
 use Rattle.termination_model.specs.claims.Claims.{Mapping, SomeOf}
 use Rattle.termination_model.specs.mappings.Refutation.{Pair, Decreases, gather, head_load, call_load, IsPair, IsRefutation}
-use Rattle.termination_model.specs.mappings.View.{Rule, Call, Member}
-use Rattle.termination_model.specs.mappings.OwnCalls.{OwnCall, Position, rows_before, positions_of, members_of}
+use Rattle.termination_model.specs.mappings.View.{Rule, Member}
+use Rattle.termination_model.specs.mappings.OwnCalls.{OwnCall, Position, rows_before}
 use Rattle.termination_model.specs.mappings.SupportSystem.{support_rows, unknowns}
 use Rattle.termination_model.specs.mappings.SupportLaws.{HasWidths}
 

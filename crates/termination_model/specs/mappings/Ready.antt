@@ -1,8 +1,6 @@
 -- To believe, for the modes.
 -- What the calls and positions of a view have, so that the laws of its systems apply.
-use Rattle.std.specs.Prelude.{◌≡◌, ℕ, ◌<◌, ◌≤◌, ◌≤ℤ◌, ℤ, pos, Bool, IsTrue, List, [], ◌∷◌, ◌++◌, map, length, unwrap_or, option_map, slice_get, Some}
-use Rattle.std.specs.List.{AllByRecursion}
-use Rattle.std.specs.List.Sorted.{IsStrictlyIncreasing}
+use Rattle.std.specs.Prelude.{ℕ, ◌≤ℤ◌, ℤ, pos, Bool, IsTrue, List, [], ◌∷◌, ◌++◌, map, unwrap_or, option_map, slice_get}
 use Rattle.exact128.specs.Sums.{entry}
 use Rattle.cti_terms.specs.Listing.{Listing, IsProgram}
 use Rattle.cti_terms.specs.Tree.{Tree, is_below}

@@ -7,7 +7,7 @@
 --
 -- To believe: `Decreases`, `IsRefutation`.
 -- Source: the duality of linear programs, as in Sohn and Van Gelder 1991.
-use Rattle.std.specs.Prelude.{◌≡◌, ℕ, suc, ◌≤◌, ◌==◌, ℤ, pos, ◌≤ℤ◌, Bool, if◌then◌else◌, List, [], ◌∷◌, map, take, length, slice_get, Some, ◌⊎◌}
+use Rattle.std.specs.Prelude.{◌≡◌, ℕ, suc, ◌≤◌, ◌==◌, ℤ, pos, ◌≤ℤ◌, if◌then◌else◌, List, [], ◌∷◌, map, take, length, slice_get, Some, ◌⊎◌}
 use Rattle.std.specs.List.{AllByRecursion}
 use Rattle.exact128.specs.Sums.{dot, entry}
 use Rattle.linear_rows.specs.Rows.{AllHold, HoldsOn}

@@ -2,7 +2,7 @@
 -- What the system of a support is for.
 --
 -- To believe: nothing that is not in termination_model: `Proves` is the test of a certificate's fall, over `fall_over`.
-use Rattle.std.specs.Prelude.{◌≡◌, ℕ, suc, ◌≤◌, ℤ, pos, Bool, List, [], ◌∷◌, ◌++◌, map, take, drop, length}
+use Rattle.std.specs.Prelude.{◌≡◌, ℕ, suc, ◌≤◌, ℤ, pos, List, [], ◌∷◌, ◌++◌, map, take, drop, length}
 use Rattle.std.specs.List.{AllByRecursion}
 use Rattle.cti_terms.specs.Tree.{Tree}
 use Rattle.linear_rows.specs.Proves.{Proves}

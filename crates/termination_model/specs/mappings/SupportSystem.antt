@@ -8,7 +8,7 @@
 --
 -- This retells a procedure, but for the laws: a point gives a mapping with its falls, and multipliers that refute the
 -- system exclude every mapping at these positions.
-use Rattle.std.specs.Prelude.{ℕ, zero, suc, ◌+◌, ◌==◌, ℤ, pos, negsuc, neg_ℤ, ◌-ℤ◌, if◌then◌else◌, List, [], ◌∷◌, ◌++◌, map, take, drop, length, slice_index_or}
+use Rattle.std.specs.Prelude.{ℕ, zero, suc, ◌+◌, ◌==◌, ℤ, pos, negsuc, neg_ℤ, ◌-ℤ◌, if◌then◌else◌, List, [], ◌∷◌, ◌++◌, map, length, slice_index_or}
 use Rattle.exact128.specs.Sums.{entry}
 use Rattle.cti_terms.specs.Tree.{Tree}
 use Rattle.linear_rows.specs.Step.{columns}

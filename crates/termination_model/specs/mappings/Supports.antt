@@ -4,11 +4,11 @@
 -- Positions are numbered from 1 in a list; a set of positions is the ascending list of their numbers.
 --
 -- To believe: all of this file but `MappingsFromSystems`.
-use Rattle.std.specs.Prelude.{◌≡◌, ℕ, suc, ◌≤◌, nat_lt, nat_eq, ℤ, pos, Bool, true, if◌then◌else◌, List, [], ◌∷◌, ◌++◌, length, ◌⊎◌}
+use Rattle.std.specs.Prelude.{◌≡◌, ℕ, suc, nat_lt, nat_eq, ℤ, true, if◌then◌else◌, List, [], ◌∷◌, length, ◌⊎◌}
 use Rattle.std.specs.List.{AllByRecursion, list_any}
 use Rattle.cti_terms.specs.Tree.{Tree}
 use Rattle.linear_rows.specs.Members.{In}
-use Rattle.linear_rows.specs.Rows.{AllHold, AreEmpty}
+use Rattle.linear_rows.specs.Rows.{AreEmpty}
 use Rattle.termination_model.specs.mappings.Coefficients.{coefficient}
 use Rattle.termination_model.specs.claims.Claims.{Mapping}
 use Rattle.termination_model.specs.grounds.Modes.{is_part}
@@ -16,7 +16,7 @@ use Rattle.termination_model.specs.mappings.Refutation.{Pair, Decreases}
 use Rattle.termination_model.specs.mappings.View.{Rule}
 use Rattle.termination_model.specs.mappings.Excluding.{IsZeroOutside, IsOfMembers, IsRefutationAt}
 use Rattle.termination_model.specs.mappings.OwnCalls.{OwnCall, Position, own_calls, rows_before}
-use Rattle.termination_model.specs.mappings.SupportLaws.{AreFalls, HasFew, HasWidths}
+use Rattle.termination_model.specs.mappings.SupportLaws.{AreFalls, HasWidths}
 use Rattle.termination_model.specs.mappings.SupportSystem.{mapping_at}
 use Rattle.termination_model.specs.grounds.Minimal.{IsExcluded, IsSet}
 

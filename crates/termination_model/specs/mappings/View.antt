@@ -5,8 +5,8 @@
 -- have the same ones, whatever the numbers of their predicates and clauses are.
 --
 -- To believe: all of this file, where mappings of a component are spoken of.
-use Rattle.std.specs.Prelude.{◌≡◌, ℕ, zero, suc, ◌==◌, ℤ, pos, negsuc, Bool, true, false, ◌&&◌, if◌then◌else◌, List, [], ◌∷◌, ◌++◌, map, filter, take, slice_get, Some}
-use Rattle.std.specs.List.{AllByRecursion, list_any}
+use Rattle.std.specs.Prelude.{ℕ, zero, suc, ◌==◌, ℤ, pos, negsuc, Bool, true, false, ◌&&◌, if◌then◌else◌, List, [], ◌∷◌, ◌++◌, map, filter}
+use Rattle.std.specs.List.{list_any}
 use Rattle.linear_rows.specs.Rows.{HoldsOn}
 use Rattle.cti_terms.specs.Tree.{Tree}
 use Rattle.cti_terms.specs.declared.atom_list.Atom.{Atom}

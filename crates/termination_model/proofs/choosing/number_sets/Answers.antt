@@ -1,5 +1,5 @@
-use Rattle.std.proofs.Common.{◌≡◌, ◌++◌, ◌+◌, [], map, ap, sym, ◌∙◌, arith, ℕ, suc}
-use Rattle.termination_model.specs.grounds.Modes.{chosen, chosen_up_to}
+use Rattle.std.proofs.Common.{◌≡◌, ◌++◌, map, ap, ◌∙◌, arith, suc}
+use Rattle.termination_model.specs.grounds.Modes.{chosen}
 use Rattle.termination_model.proofs.ChosenLists.{sets_all, sets_below, sets_more, sets_none}
 use Rattle.termination_model.proofs.choosing.number_sets.Goals as goal
 
