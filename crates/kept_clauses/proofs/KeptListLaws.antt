@@ -1,9 +1,9 @@
--- What is kept where one element is put into a list or taken out, and where one edit follows another.
+-- What is kept where one element is put into a list or taken out.
 use Rattle.std.proofs.Common.{◌≡◌, ℕ, zero, suc, ◌+◌, ◌-◌, ◌<◌, ◌≤◌, ◌⊎◌, inl, inr, List, [], ◌∷◌, ◌++◌, length, slice_get, Option, None, Some, refl, ap, sym, ◌∙◌, subst, arith}
 use Rattle.std.specs.List.{insert, remove}
 use Rattle.std.proofs.lemmas.List.Edits.{length-insert, length-remove}
 use Rattle.std.proofs.lemmas.Option.{slice_get_within}
-use Rattle.kept_clauses.specs.KeptLists.{AreKeptList, IsIncreasing, IsOnto, IsTotal, joined, kept_by_insertion, kept_by_removal, kept_from, kept_through, number_before}
+use Rattle.kept_clauses.specs.KeptLists.{AreKeptList, IsIncreasing, IsOnto, IsTotal, kept_by_insertion, kept_by_removal, kept_from}
 
 -- ---- elements of lists that are edited
 insert_below : {X : Type 0} (xs : List X) (at : ℕ) (x : X) (i : ℕ) → i < at → at ≤ length xs → slice_get (insert xs at x) i ≡ slice_get xs i
@@ -211,47 +211,3 @@ module _ (n at : ℕ) (lt : at < n) (ks : List (Option ℕ)) (is : ks ≡ kept_b
 
   pub take_all : IsTotal ks
   take_all = subst (λ (os : List (Option ℕ)). IsTotal os) (sym is) (take_total n at lt)
-
--- ---- one edit after the other
-through_at : (first then : List (Option ℕ)) (i j : ℕ) → slice_get (kept_through first then) i ≡ Some (Some j) → (k : ℕ) × (slice_get then i ≡ Some (Some (suc k))) × (slice_get first k ≡ Some (Some j))
-through_at first [] i j e = cc
-through_at first (o ∷ then) zero j e = go o (let f : ◌≡◌ {A = Option ℕ} (number_before first o) (Some j) = cc in f)
-  where
-    got : (k : ℕ) (o : Option (Option ℕ)) → slice_get first k ≡ o → joined o ≡ Some j → slice_get first k ≡ Some (Some j)
-    got k None e f = cc
-    got k (Some n) e f = e ∙ ap Some f
-
-    go : (o : Option ℕ) → number_before first o ≡ Some j → (k : ℕ) × (◌≡◌ {A = Option (Option ℕ)} (Some o) (Some (Some (suc k)))) × (slice_get first k ≡ Some (Some j))
-    go None f = cc
-    go (Some zero) f = cc
-    go (Some (suc k)) f = (k, refl, got k (slice_get first k) refl f)
-through_at first (o ∷ then) (suc i) j e = through_at first then i j e
-
-length_through : (first then : List (Option ℕ)) → length (kept_through first then) ≡ length then
-length_through first [] = refl
-length_through first (o ∷ then) = ap suc (length_through first then)
-
-pub through_list : {X : Type 0} (cs ds es : List X) (first then : List (Option ℕ)) → AreKeptList cs ds first → AreKeptList ds es then → AreKeptList cs es (kept_through first then)
-through_list cs ds es first then a b = record {
-  each = length_through first then ∙ b.each;
-  same = λ i j e.
-      let t = through_at first then i j e in
-      let later = b.same i (suc t.0) t.1 in
-      let earlier = a.same t.0 j t.2 in
-      let place : suc t.0 - 1 ≡ t.0 = omega arith in
-      (earlier.0, earlier.1 ∙ ap (slice_get ds) (sym place) ∙ later.1);
-}
-
-pub through_increasing : (first then : List (Option ℕ)) → IsIncreasing first → IsIncreasing then → IsIncreasing (kept_through first then)
-through_increasing first then a b i k j l lt e f =
-    let t = through_at first then i j e in
-    let u = through_at first then k l f in
-    a t.0 u.0 j l (let less = b i k (suc t.0) (suc u.0) lt t.1 u.1 in omega arith) t.2 u.2
-
--- for a list that is known to be this one
-module _ (first then ks : List (Option ℕ)) (is : ks ≡ kept_through first then) where
-  pub through_kept : {X : Type 0} (cs ds es : List X) → AreKeptList cs ds first → AreKeptList ds es then → AreKeptList cs es ks
-  through_kept cs ds es a b = subst (λ (os : List (Option ℕ)). AreKeptList cs es os) (sym is) (through_list cs ds es first then a b)
-
-  pub through_order : IsIncreasing first → IsIncreasing then → IsIncreasing ks
-  through_order a b = subst (λ (os : List (Option ℕ)). IsIncreasing os) (sym is) (through_increasing first then a b)

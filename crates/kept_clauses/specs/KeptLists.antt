@@ -1,8 +1,7 @@
 -- Private.
 -- Which elements of one list are those of another one. Elements count from 1.
-use Rattle.std.specs.Prelude.{◌≡◌, ℕ, zero, suc, ◌-◌, ◌<◌, ◌≤◌, List, [], ◌∷◌, length, map, slice_get, Option, Some, None}
+use Rattle.std.specs.Prelude.{◌≡◌, ℕ, zero, suc, ◌-◌, ◌<◌, ◌≤◌, List, [], ◌∷◌, length, slice_get, Option, Some, None}
 use Rattle.std.specs.List.{insert, remove}
-use Rattle.cti_terms.specs.Listing.{numbered}
 
 -- for each element of the new list the number of the old element that it is, if it was kept
 pub record AreKeptList {X : Type 0} (old new : List X) (kept : List (Option ℕ)) : Type 0 where
@@ -34,16 +33,3 @@ kept_by_insertion n at = insert (kept_from 1 n) at None
 -- one element is taken out
 abbrev pub kept_by_removal : ℕ → ℕ → List (Option ℕ)
 kept_by_removal n at = remove (kept_from 1 n) at
-
--- ---- one edit after the other
-abbrev pub joined : Option (Option ℕ) → Option ℕ
-joined None = None
-joined (Some o) = o
-
--- the number before both
-abbrev pub number_before : List (Option ℕ) → Option ℕ → Option ℕ
-number_before first None = None
-number_before first (Some j) = joined (numbered first j)
-
-abbrev pub kept_through : List (Option ℕ) → List (Option ℕ) → List (Option ℕ)
-kept_through first then = map (number_before first) then

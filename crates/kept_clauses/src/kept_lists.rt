@@ -1,11 +1,10 @@
-//! Which elements of a list are kept where one is put in or taken out, and after several such edits.
+//! Which elements of a list are kept where one is put in or taken out.
 
 ghost use Rattle.std.specs.Prelude.{◌≡◌, ◌<◌, ◌≤◌, ◌^◌, List, IfOk, length};
 ghost use Rattle.std.specs.List.{insert, remove};
 ghost use Rattle.prolog_terms.specs.Clauses.{Clause};
 ghost use Rattle.kept_clauses.specs.KeptLists.{AreKeptList, IsIncreasing, IsOnto, IsTotal};
 ghost use Rattle.kept_clauses.specs.KeptLists.{kept_by_insertion, kept_by_removal, kept_from};
-ghost use Rattle.kept_clauses.specs.KeptLists.{kept_through, number_before};
 
 use std::alloc::{AllocError, Global};
 
@@ -57,38 +56,5 @@ pub fn kept_without(alloc: Global, count: usize, at: usize) -> Result<Vec<Option
 {
     let mut kept = all_kept(alloc, count)?;
     kept.remove(at);
-    Ok(kept)
-}
-
-/// The number that an element had before the first of two edits, by its number between them.
-fn number_before(first: &[Option<u32>], between: Option<u32>) -> Option<u32>
-    ensures { result ≡ number_before first.now between }
-{
-    match between {
-        None => None,
-        Some(0) => None,
-        Some(number) => match first.get(number as usize - 1) {
-            None => None,
-            Some(before) => *before,
-        },
-    }
-}
-
-/// What two edits keep, one after the other.
-pub fn kept_through(
-    alloc: Global,
-    first: &[Option<u32>],
-    then: &[Option<u32>],
-) -> Result<Vec<Option<u32>>, AllocError>
-    ensures exact { IfOk result (λ v. v.items ≡ kept_through first.now then.now) }
-    ensures kept { IfOk result (λ v. (cs ds es : List Clause) → AreKeptList cs ds first.now
-        → AreKeptList ds es then.now → AreKeptList cs es v.items) }
-    ensures order { IfOk result (λ v. IsIncreasing first.now → IsIncreasing then.now
-        → IsIncreasing v.items) }
-{
-    let mut kept = Vec::new(alloc);
-    for between in then {
-        kept.push(number_before(first, *between))?;
-    }
     Ok(kept)
 }

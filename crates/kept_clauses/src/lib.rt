@@ -1,9 +1,9 @@
 //! Which clauses of a program are kept where clauses are put into its list or taken out, and what such an edit does not touch.
 //!
 //! Of a list that is edited, the clauses that are kept are said by their numbers before it: `kept_with` and `kept_without` say this of one
-//! edit, and `kept_through` of one edit after the other. `kept_clauses` says it of the programs of two lists. Predicates have other numbers
-//! in the second, but by the names and arities of its predicates each clause of a program depends on its clause of the list alone; and the
-//! clause of `=`/2 is kept where both programs have it.
+//! edit. `kept_clauses` says it of the programs of two lists. Predicates have other numbers in the second, but by the names and arities of
+//! its predicates each clause of a program depends on its clause of the list alone; and the clause of `=`/2 is kept where both programs have
+//! it.
 //!
 //! A predicate is untouched where a set of predicates has it that is closed under calls and has the same clauses in both programs. So all
 //! clauses of the set are kept, in their order, and what is found of its predicates stays as it was: that is a law, for each engine that
@@ -16,5 +16,5 @@ mod kept_lists;
 mod kept_programs;
 pub mod laws;
 
-pub use kept_lists::{all_kept, kept_through, kept_with, kept_without};
+pub use kept_lists::{all_kept, kept_with, kept_without};
 pub use kept_programs::kept_clauses;

@@ -16,4 +16,3 @@ pub mod Shown
 pub mod Starts
 pub mod Taking
 pub mod Translate
-pub mod Turns

@@ -5,5 +5,4 @@ pub mod Proved
 pub mod Repeating
 pub mod Running
 pub mod States
-pub mod Turns
 pub mod Stepping

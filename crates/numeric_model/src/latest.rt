@@ -48,13 +48,6 @@ impl Latest {
         }
     }
 
-    /// The steps so far do not count any more, and no step has changed the rows of these predicates.
-    pub(crate) fn forget(&mut self, members: &[PredId]) {
-        for member in members {
-            put(&mut self.changes, member.0 as usize, 0);
-        }
-    }
-
     /// The place of the last step on clause `k`, if it had one.
     pub(crate) fn place_of(&self, k: u32) -> Option<usize>
         requires { 1 ≤ k }

@@ -4,9 +4,7 @@
 //! component changes no rows. Over any domain of size rows the steps are a legal chain, as `termination_model` defines
 //! it, and each row of the chain's last rows has its proof for each clause.
 //!
-//! Components can also be solved one by one. `solve_next` solves the one whose turn it is, in tables that stay, and so takes
-//! the time of that component alone; rows that are known can be put in the place of others. `solve_component` solves one
-//! above a whole table.
+//! Components can also be solved one by one: `solve_component` solves one above the rows of those that it calls.
 //!
 //! Depends on `polyhedra`, whose trait of domains says all that is used of a domain, and on `termination_model`.
 #![tactic(auto)]
@@ -19,22 +17,17 @@ mod latest;
 mod noting;
 mod repeating;
 mod running;
-mod setting;
 mod sharing;
 mod solving;
 mod state;
 mod step;
 mod stepped;
 mod stepping;
-mod turn;
 mod value;
 
 pub use chain::Chain;
 pub use clause_lists::own_clauses;
 pub use component::solve_component;
-pub use setting::Setting;
 pub use solving::solve;
-pub use state::State;
 pub use step::Step;
 pub use termination_model::How;
-pub use turn::solve_next;

@@ -1,6 +1,6 @@
 //! The state of a chain: the rows of each predicate, and the steps so far.
 
-ghost use Rattle.std.specs.Prelude.{◌≡◌, ◌≤◌, ◌<◌, ◌-◌, IfOk, IfSome, OnOk, length, [], ◌∷◌, slice_get, slice_set, Some};
+ghost use Rattle.std.specs.Prelude.{◌≡◌, ◌≤◌, ◌<◌, IfOk, IfSome, OnOk, length, []};
 ghost use Rattle.cti_terms.specs.Listing.{IsProgram, Listing};
 ghost use Rattle.linear_rows.specs.Plain.{plain_rows};
 ghost use Rattle.linear_rows.specs.declared.row.Rows.{Rows};
@@ -26,7 +26,7 @@ use std::rc::Rc;
 use termination_model::{SizeRows, Sizes, stated_rows};
 
 /// The rows of each predicate while a chain goes on.
-pub struct State<D> {
+pub(crate) struct State<D> {
     /// The rows, as the systems of clauses read them. There are no proofs here.
     pub(crate) sizes: Sizes,
     /// For each predicate the value that lists its rows.
@@ -53,7 +53,7 @@ impl<D: Drop> Drop for State<D> {
 
 impl<D: Domain> State<D> {
     /// Built-in predicates have their stated rows, all others are empty, and there are no steps.
-    pub fn start(alloc: Global, p: &Program) -> Result<State<D>, AllocError>
+    pub(crate) fn start(alloc: Global, p: &Program) -> Result<State<D>, AllocError>
         ensures state { IfOk result (IsState D.width D.listed every p.now) }
         ensures rows { IfOk result (λ s. rows_of s.sizes.rows ≡ start_rows p.now) }
         ensures steps { IfOk result (λ s. s.steps ≡ []) }
@@ -246,52 +246,6 @@ impl<D: Domain> State<D> {
                 Ok(true)
             }
         }
-    }
-
-    /// The rows of all predicates.
-    pub fn rows(&self) -> &SizeRows
-        ensures { result.now ≡ self.now.sizes.rows }
-    {
-        &self.sizes.rows
-    }
-
-    /// Puts rows in the place of a predicate's.
-    pub fn set_rows(&mut self, pred: PredId, rows: Rows)
-        requires { pred.0 < length self.old.sizes.rows }
-        ensures rows { self.new.sizes.rows ≡ slice_set self.old.sizes.rows pred.0 rows }
-        ensures values { self.new.values ≡ self.old.values }
-        ensures proofs { self.new.proofs ≡ self.old.proofs }
-        ensures steps { self.new.steps ≡ self.old.steps }
-    {
-        self.sizes.rows.set(pred.0 as usize, rows);
-    }
-
-    /// Puts proofs in the place of those of clause `k`.
-    pub fn set_proofs(&mut self, k: u32, by: Sequence<Multipliers>)
-        requires first { 1 ≤ k }
-        requires last { k ≤ length self.old.proofs.items }
-        ensures proofs { self.new.proofs.items ≡ slice_set self.old.proofs.items (k - 1) by }
-        ensures sizes { self.new.sizes ≡ self.old.sizes }
-        ensures values { self.new.values ≡ self.old.values }
-        ensures steps { self.new.steps ≡ self.old.steps }
-    {
-        self.proofs[k as usize - 1] = by;
-    }
-
-    /// The rows, with the last proofs.
-    pub fn into_sizes(self) -> Sizes
-        ensures rows { result.rows ≡ self.sizes.rows }
-        ensures proofs { result.proofs ≡ self.proofs.items }
-    {
-        let State {
-            mut sizes,
-            values: _,
-            proofs,
-            steps: _,
-            latest: _,
-        } = self;
-        sizes.proofs = Sequence::from_vec(proofs);
-        sizes
     }
 
     /// The steps, and the rows with the last proofs.

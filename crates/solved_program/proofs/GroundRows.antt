@@ -14,7 +14,7 @@ use Rattle.groundness.specs.Sets.{KeepsOtherSets}
 use Rattle.groundness.proofs.ComponentLaws.{AreLeastTo as AreFoundTo, least_more}
 use Rattle.groundness.proofs.RoundLaws.{kept_later}
 use Rattle.termination_model.specs.chains.Chain.{component_of}
-use Rattle.termination_model.specs.grounds.Grounds.{Family, HasArity, IsLeast}
+use Rattle.termination_model.specs.grounds.Grounds.{Family, HasArity}
 use Rattle.termination_model.proofs.Lists.{one_element, place_below, there}
 use Rattle.truth_rows.specs.Sets.{AreSets, family_of, has_row}
 use Rattle.truth_rows.proofs.CallerLemmas.{family_later, sets_later}
@@ -42,13 +42,6 @@ no_others p comps prog are T sets q row none t =
 
 pub solved_grounds_are_least : SolvedGroundsAreLeast
 solved_grounds_are_least truth p comps T sets prog are s = (least_by_components truth p comps (family_of p.preds T sets) prog are (no_others p comps prog are T sets)).1 s.least
-
-pub least_grounds : (truth : (ℕ → Bool) → Tree → Bool) (p : Listing) (comps : Partition) (T : List Rows) (sets : List Diagram) → IsProgram p → AreComponents p comps → AreSets p.preds T sets → IsLeast truth p (family_of p.preds T sets)
-    → AreSolvedGrounds truth p comps T sets
-least_grounds truth p comps T sets prog are S least = record {
-  sets_are = S;
-  least = (least_by_components truth p comps (family_of p.preds T sets) prog are (no_others p comps prog are T sets)).0 least;
-}
 
 -- ---- the same rows, and the same family
 module _ (preds : List Pred) (T : List Rows) (sets other : List Diagram) (S : AreSets preds T sets) (O : AreSets preds T other) (r : ℕ) (x : Pred) (at : slice_get preds r ≡ Some x) (d e : Diagram) (here : slice_get sets r ≡ Some d) (there' : slice_get other r ≡ Some e) where

@@ -1,8 +1,7 @@
-//! The ground rows of a program, and those after an edit.
+//! The ground rows of a program after an edit.
 
 ghost use Rattle.std.specs.Prelude.{◌≡◌, ◌+◌, ◌<◌, IfOk, OnOk, length};
 ghost use Rattle.bool_diagrams.specs.Rows.{Keeps};
-ghost use Rattle.call_components.specs.Partition.{AreComponents};
 ghost use Rattle.truth_rows.specs.Sets.{AreSets, family_of};
 ghost use Rattle.solved_program.specs.Carried.{AreCarriedValues, IsCarriedValue};
 ghost use Rattle.solved_program.specs.Grounds.{AreCarriedSets, AreGroundSources, AreGroundsOf, AreNewGrounds, AreOldGrounds};
@@ -14,30 +13,11 @@ use crate::edit::Edit;
 use crate::edit_clauses::EditClauses;
 use crate::marking::{mark_all, mark_same_sets};
 use bool_diagrams::{Diagram, Table};
-use call_components::Components;
-use cti_terms::{PredId, Program};
-use groundness::{ClauseLists, Marks, Setting, heads, solve, solve_component, users};
+use cti_terms::PredId;
+use groundness::{ClauseLists, Marks, Setting, heads, solve_component, users};
 use numeric_model::own_clauses;
 use std::alloc::{AllocError, Global};
 use term_size::Norm;
-
-/// For each predicate of a program its ground rows, as a diagram of the table.
-pub fn solve_grounds<N: Norm>(
-    alloc: Global,
-    p: &Program,
-    comps: &Components,
-    norm: &N,
-    table: &mut Table,
-) -> Result<Vec<Diagram>, AllocError>
-    requires { AreComponents p.now comps.now }
-    ensures keeps { Keeps table.old table.new }
-    ensures solved { IfOk result
-        (λ sets. AreSolvedGrounds (N.truth norm.now) p.now comps.now table.new sets.items) }
-{
-    let _program = p.clauses();
-    let grounds = solve(alloc, p, comps, norm, table)?;
-    Vec::from_slice(alloc, grounds.as_slice())
-}
 
 /// The diagram that the predicate of this name and arity had, if it was there.
 fn carried_set(edit: &Edit<'_>, old: &[Diagram], none: Diagram, pred: PredId) -> Diagram

@@ -5,14 +5,13 @@
 //! call has come out as it was. All others are solved anew. Nothing rests on what the edit was said to touch: which
 //! components keep their part is decided by clauses and by values.
 //!
-//! `solve_sizes` finds the size rows of a program, and `resolve_sizes` those after an edit of it. It goes through the
-//! new components, callees first, over tables that begin with the old rows and proofs, so a component that is taken
-//! over only gets its steps, under the new numbers of its clauses. Terms are not compared: an edit says of each new
-//! clause which old clause it is, and components are compared by these numbers. A component without clauses is solved
-//! each time.
+//! `resolve_sizes` finds the size rows of a program after an edit of it. It goes through the new components, callees
+//! first, over tables that begin with the old rows and proofs, so a component that is taken over only gets its steps,
+//! under the new numbers of its clauses. Terms are not compared: an edit says of each new clause which old clause it is,
+//! and components are compared by these numbers. A component without clauses is solved each time.
 //!
-//! `solve_grounds` and `resolve_grounds` do the same with ground rows, in a table of diagrams that goes from one edit to
-//! the next.
+//! `resolve_grounds` does the same with ground rows, in a table of diagrams that goes from one edit to the next. A program
+//! that was not there before is an edit of the empty program.
 //!
 //! `StandsFor` says when a component stands for an old one, over any value for each predicate, so that it serves other
 //! engines too. `stayed_rows` and `Sources::standing` decide it by the size rows that have come out.
@@ -32,14 +31,12 @@ mod marking;
 mod renumbering;
 mod resolving;
 mod solved_sizes;
-mod solving;
 mod standing;
 mod taking;
 
 pub use edit::Edit;
 pub use edit_clauses::EditClauses;
-pub use grounds::{carried_sets, resolve_grounds, solve_grounds};
+pub use grounds::{carried_sets, resolve_grounds};
 pub use marking::stayed_rows;
 pub use resolving::{Sources, resolve_sizes};
 pub use solved_sizes::SolvedSizes;
-pub use solving::solve_sizes;
