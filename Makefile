@@ -1,6 +1,6 @@
-# `make` proves the crates, builds bin/cti and shows it at work; `make JOBS=2` proves on two processors; `make check` passes every proof,
-# wrong edit and test; `make install` copies the program, its manual page, the completions of three shells and the converter of real files,
-# and `make uninstall` removes them.
+# `make` proves the crates, builds bin/cti and shows it at work; `make JOBS=2` proves on two processors; `make check`
+# passes every proof, wrong edit and test; `make install` copies the program, its manual page, the completions of three
+# shells and the converter of real files, and `make uninstall` removes them.
 PREFIX ?= /usr/local
 JOBS ?= $(shell nproc)
 SHARE = $(DESTDIR)$(PREFIX)/share

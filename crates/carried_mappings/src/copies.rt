@@ -6,7 +6,7 @@ use linear_rows::{Multipliers, Point};
 use sequences::Sequence;
 use std::alloc::{AllocError, Global};
 
-/// The same multipliers once more.
+/// A copy of multipliers.
 pub(crate) fn copied_multipliers(alloc: Global, by: &Multipliers) -> Result<Multipliers, AllocError>
     ensures { IfOk result (λ copy. copy ≡ by.now) }
 {
@@ -17,7 +17,7 @@ pub(crate) fn copied_multipliers(alloc: Global, by: &Multipliers) -> Result<Mult
     })
 }
 
-/// The same point once more.
+/// A copy of a point.
 pub(crate) fn copied_point(alloc: Global, point: &Point) -> Result<Point, AllocError>
     ensures { IfOk result (λ copy. copy ≡ point.now) }
 {
@@ -25,7 +25,7 @@ pub(crate) fn copied_point(alloc: Global, point: &Point) -> Result<Point, AllocE
     Ok(Point { t: point.t, w })
 }
 
-/// The same point once more, if there is one.
+/// A copy of a point, if there is one.
 pub(crate) fn copied_second(
     alloc: Global,
     point: &Option<Point>,
@@ -41,7 +41,7 @@ pub(crate) fn copied_second(
     }
 }
 
-/// The same sets of numbers once more.
+/// A copy of sets of numbers.
 pub(crate) fn copied_sets(
     alloc: Global,
     sets: &[Sequence<u32>],

@@ -1,4 +1,5 @@
--- Items of lists by their places; parts of predicates in a mapping; the pairs of a component, and the one that leads it.
+-- Items of lists by their places; parts of predicates in a mapping; the pairs of a component, and the one that leads
+-- it.
 use Rattle.std.proofs.Common.{◌≡◌, ◌≢◌, ℕ, zero, suc, ◌+◌, ◌-◌, ◌<◌, ◌≤◌, ◌≤ℤ◌, ◌==◌, ◌&&◌, ℤ, pos, Bool, true, false, if◌then◌else◌, List, [], ◌∷◌, ◌++◌, length, map, slice_get, slice_index_or, Contains, Some, None, Option, inl, inr, refl, ap, sym, subst, ◌∙◌, arith, eq-eqb, eqb-true}
 use Rattle.std.specs.Prelude.{All}
 use Rattle.std.specs.List.{AllByRecursion}

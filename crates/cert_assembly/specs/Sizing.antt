@@ -33,7 +33,8 @@ pub record IsSolvedChain (expression : ℕ → Tree → List ℤ) (p : Listing) 
   pub proofs : AreProved expression (size_rows_of chain.sizes.rows) p.clauses chain.sizes.proofs
   pub fits : (q : ℕ) → All (λ r. row_fits r ≡ true) (size_rows_of chain.sizes.rows q)
 
--- what the model of sizes gives: the shape of its parts, that built-in predicates have their stated rows, and that its numbers hold
+-- what the model of sizes gives: the shape of its parts, that built-in predicates have their stated rows, and that its
+-- numbers hold
 pub record SizesHold (expression : ℕ → Tree → List ℤ) (p : Listing) (rows : List Rows) (proofs : List (List Multipliers)) : Type 0 where
   pub shape : AreEach (length p.preds) (λ a r. (r.width ≡ arity_in p a) × AllByRecursion (IsSizeRow (arity_in p a)) r.list) rows
   pub proofs_shape : AreEach (length p.clauses) (λ k. AreEach (rows_of rows (head_of p k)) (λ _. HaveMultipliers (rows_of_atoms rows (body_of p k)))) proofs

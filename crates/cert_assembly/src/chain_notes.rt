@@ -217,8 +217,8 @@ fn note_own(
     Ok(number)
 }
 
-/// Puts the notes of the steps of all components after others. The steps are borrowed, and are numbered on from one component
-/// to the next.
+/// Puts the notes of the steps of all components after others. The steps are borrowed, and are numbered on from one
+/// component to the next.
 pub fn note_components(
     alloc: Global,
     p: &Program,

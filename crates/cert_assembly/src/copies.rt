@@ -8,7 +8,7 @@ use sequences::Sequence;
 use std::alloc::{AllocError, Global};
 use termination_model::SizeRows;
 
-/// The same multipliers once more.
+/// A copy of multipliers.
 pub fn copied_multipliers(alloc: Global, by: &Multipliers) -> Result<Multipliers, AllocError>
     ensures { IfOk result (λ copy. copy ≡ by.now) }
 {
@@ -18,7 +18,7 @@ pub fn copied_multipliers(alloc: Global, by: &Multipliers) -> Result<Multipliers
     })
 }
 
-/// The same point once more.
+/// A copy of a point.
 fn copied_point(alloc: Global, point: &Point) -> Result<Point, AllocError>
     ensures { IfOk result (λ copy. copy ≡ point.now) }
 {
@@ -28,7 +28,7 @@ fn copied_point(alloc: Global, point: &Point) -> Result<Point, AllocError>
     })
 }
 
-/// The same second point once more, if there is one.
+/// A copy of the second point, if there is one.
 fn copied_second(alloc: Global, at: &Option<Point>) -> Result<Option<Point>, AllocError>
     ensures { IfOk result (λ copy. copy ≡ at.now) }
 {
@@ -38,7 +38,7 @@ fn copied_second(alloc: Global, at: &Option<Point>) -> Result<Option<Point>, All
     }
 }
 
-/// The same pair with its points once more.
+/// A copy of a pair with its points.
 fn copied_pair(alloc: Global, pair: &PairPoint) -> Result<PairPoint, AllocError>
     ensures { IfOk result (λ copy. copy ≡ pair.now) }
 {
@@ -52,7 +52,7 @@ fn copied_pair(alloc: Global, pair: &PairPoint) -> Result<PairPoint, AllocError>
     })
 }
 
-/// The same refutation once more.
+/// A copy of a refutation.
 pub fn copied_refutation(alloc: Global, refutation: &Refutation) -> Result<Refutation, AllocError>
     ensures { IfOk result (λ copy. copy ≡ refutation.now) }
 {
@@ -63,7 +63,7 @@ pub fn copied_refutation(alloc: Global, refutation: &Refutation) -> Result<Refut
     Ok(Refutation { points })
 }
 
-/// The same size rows once more.
+/// A copy of size rows.
 pub fn copied_rows(alloc: Global, rows: &SizeRows) -> Result<SizeRows, AllocError>
     ensures { IfOk result (λ copy. copy ≡ rows.now) }
 {
@@ -74,7 +74,7 @@ pub fn copied_rows(alloc: Global, rows: &SizeRows) -> Result<SizeRows, AllocErro
     Ok(copy)
 }
 
-/// The same list of multipliers once more.
+/// A copy of a list of multipliers.
 pub fn copied_list(alloc: Global, list: &[Multipliers]) -> Result<Sequence<Multipliers>, AllocError>
     ensures { IfOk result (λ copy. copy ≡ list.now) }
 {
@@ -85,7 +85,7 @@ pub fn copied_list(alloc: Global, list: &[Multipliers]) -> Result<Sequence<Multi
     Ok(copy)
 }
 
-/// The same multipliers of clauses once more.
+/// A copy of the multipliers of clauses.
 pub fn copied_proofs(
     alloc: Global,
     proofs: &[Sequence<Multipliers>],

@@ -1,5 +1,5 @@
-//! The parts of a certificate that size rows and sets of truth rows give, and the notes of a chain, whatever mappings are
-//! searched.
+//! The parts of a certificate that size rows and sets of truth rows give, and the notes of a chain, whatever mappings
+//! are searched.
 //!
 //! What makes modes exact is `ModesAreExact` of `specs/ExactModes.antt`; which notes a chain has, `IsChain` of
 //! `specs/ChainNotes.antt`.

@@ -2,8 +2,8 @@
 -- What a Yes says of a program's queries: each that meets a printed mode has bounded derivations.
 --
 -- To believe, where a Yes is to mean that queries end: this file, over the terms, programs, unification and derivations
--- of `cti_terms`, and over `list_truth` and `dot_among` of `term_size` where the certificate names list size. Nothing here
--- speaks of mappings or sets of truth rows.
+-- of `cti_terms`, and over `list_truth` and `dot_among` of `term_size` where the certificate names list size. Nothing
+-- here speaks of mappings or sets of truth rows.
 use Rattle.std.specs.Prelude.{◌≡◌, ℕ, suc, Bool, false, IsTrue, List, [], ◌∷◌, length, Contains, slice_get, Some}
 use Rattle.std.specs.List.{AllByRecursion}
 use Rattle.certificate.specs.declared.fact.Fact.{Fact}
@@ -18,8 +18,8 @@ use Rattle.cti_terms.specs.declared.predicates.Pred.{Pred}
 use Rattle.term_size.specs.AnyNorm.{dot_among}
 use Rattle.term_size.specs.ListSize.{list_truth}
 
--- which terms are rigid: those without a variable, or, where the second fact names list size, all but variables and lists
--- that end in one
+-- which terms are rigid: those without a variable, or, where the second fact names list size, all but variables and
+-- lists that end in one
 abbrev pub rigid_in : List (List ℕ) → List Fact → Tree → Bool
 rigid_in names (Cti version ∷ (Norm norm.List ∷ facts)) = list_truth (dot_among names) (λ _. false)
 rigid_in names facts = is_rigid

@@ -1,5 +1,6 @@
 -- To believe, for the command.
--- Which fact of a certificate is the first at fault, and why: where the structure is right, the first that claims what does not hold.
+-- Which fact of a certificate is the first at fault, and why: where the structure is right, the first that claims what
+-- does not hold.
 --
 -- To believe: all of this file, where the fault that is named is to be the first one.
 use Rattle.std.specs.Prelude.{◌≡◌, ℕ, ◌-◌, ◌<◌, ◌≤◌, ℤ, Bool, false, List, length, take, slice_get, Option, Some}
@@ -174,7 +175,8 @@ pub record IsValueFault (p : Listing) (names : List (List ℕ)) (facts : List Fa
   pub counted : 1 ≤ line
   pub first : IsFirstAt (ClaimFails p names comps parts) facts (line - 1) why
 
--- the first fault of a certificate: its structure is wrong at this line, or else the fact of the line claims what does not hold
+-- the first fault of a certificate: its structure is wrong at this line, or else the fact of the line claims what does
+-- not hold
 pub data IsFault (p : Listing) (names : List (List ℕ)) (facts : List Fact) (line : ℕ) : Reason → Type 0 where
   wrong_structure : (why : StructureReason) → HasStructureFault p names facts line why → IsFault p names facts line (structure_reason why)
   failing_fact : (why : Reason) → IsValueFault p names facts line why → IsFault p names facts line why

@@ -1,5 +1,6 @@
 -- Private.
--- What a certificate's refutations mean: no mapping of the component falls at each of its calls, for the printed size rows.
+-- What a certificate's refutations mean: no mapping of the component falls at each of its calls, for the printed size
+-- rows.
 --
 -- To believe: all of this file.
 use Rattle.std.specs.Prelude.{◌≡◌, ℕ, suc, ℤ, pos, negsuc, List, [], ◌∷◌, map, take, slice_get, Some}

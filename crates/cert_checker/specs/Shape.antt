@@ -1,7 +1,7 @@
 -- To believe, for the command.
 -- What the lists of a certificate's parts have: an element for each clause, predicate, call or row that they speak of.
 --
--- This is what the structure of a certificate gives, before any number of it is tested. Nothing here has to be believed.
+-- This is what the structure of a certificate gives, before any number of it is tested.
 use Rattle.std.specs.Prelude.{◌≡◌, ℕ, length, take, slice_get, Some}
 use Rattle.std.specs.List.{AllByRecursion}
 use Rattle.cti_terms.specs.Listing.{Listing}
@@ -31,7 +31,8 @@ pub record HaveLevels (p : Listing) (comps : Partition) (parts : Parts) : Type 0
   pub naturals : (q : ℕ) (d : Pred) → slice_get p.preds q ≡ Some d → AllByRecursion (IsLevelPart d.arity) (list_at parts.levels q)
   pub members : (a b : ℕ) → AreTogether comps a b → length (list_at parts.levels a) ≡ length (list_at parts.levels b)
 
--- for each clause and each call of its own component the multipliers for each mapping, over the rows of the atoms before
+-- for each clause and each call of its own component the multipliers for each mapping, over the rows of the atoms
+-- before
 pub record HaveFalls (p : Listing) (comps : Partition) (parts : Parts) : Type 0 where
   pub each : length parts.falls ≡ length p.clauses
   pub calls : (k : ℕ) (c : Clause) → slice_get p.clauses k ≡ Some c → length (list_at parts.falls k) ≡ length c.body

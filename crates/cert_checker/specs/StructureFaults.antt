@@ -23,7 +23,8 @@ structure_reason structure.Shape = reason.Shape
 abbrev pub structure_fault : ℕ → StructureReason → Fault
 structure_fault n why = record { line = n; reason = structure_reason why }
 
--- the facts up to this line begin those of a certificate of the program, and with the fact of the line they do not, for this reason
+-- the facts up to this line begin those of a certificate of the program, and with the fact of the line they do not, for
+-- this reason
 pub record HasStructureFault (p : Listing) (names : List (List ℕ)) (facts : List Fact) (line : ℕ) (why : StructureReason) : Type 0 where
   pub comps : Partition
   pub components : AreComponents p comps

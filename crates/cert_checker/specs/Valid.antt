@@ -1,9 +1,9 @@
 -- To believe, for the command.
 -- When a certificate of a program is valid.
 --
--- Its facts are those of some parts, and what the parts claim holds: their modes, that built-in predicates have stated size
--- rows alone, and the numbers that prove size rows, mappings and refutations. Sizes are by the norm of the parts. It does
--- not matter how the components are numbered.
+-- Its facts are those of some parts, and what the parts claim holds: their modes, that built-in predicates have stated
+-- size rows alone, and the numbers that prove size rows, mappings and refutations. Sizes are by the norm of the parts.
+-- It does not matter how the components are numbered.
 --
 -- To believe: `IsValid`, over the definitions that it names, where a Yes is to mean that the certificate is valid. That
 -- queries end asks for none of this: see Bounding.antt.

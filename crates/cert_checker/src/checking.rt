@@ -74,7 +74,8 @@ fn number_fault(
     Ok(fault)
 }
 
-/// The first fault of the parts of a certificate, in the order of its lines: that of the modes, or else that of the numbers.
+/// The first fault of the parts of a certificate, in the order of its lines: that of the modes, or else that of the
+/// numbers.
 fn value_fault(
     alloc: Global,
     p: &Program,
@@ -141,8 +142,8 @@ fn first_fault(
 
 /// Whether a certificate of a program is valid.
 ///
-/// The names are those that gave the program's. Where the certificate is not valid, the verdict has the line of the first
-/// fault and its reason. Sizes are by the norm that the certificate names.
+/// The names are those that gave the program's. Where the certificate is not valid, the verdict has the line of the
+/// first fault and its reason. Sizes are by the norm that the certificate names.
 ///
 /// Source: the conditions of Mesnard and Neumerkel 2001, with a proof for each size row, mapping and refutation.
 pub fn check(
@@ -163,7 +164,8 @@ pub fn check(
     ensures excluded { IfOk result (λ v. v ≡ Yes
         → RefutedHaveNoMapping p.now names.now c.now.facts) }
 
-    // The answer is No with a line and a reason exactly where they are those of the first fault: of the structure, or else of the first fact that claims what does not hold.
+    // The answer is No with a line and a reason exactly where they are those of the first fault: of the structure, or
+    // else of the first fact that claims what does not hold.
     ensures fault { IfOk result (λ v. (line : ℕ) (why : TheReason)
         → (v ≡ No line why) ↔ IsFault p.now names.now c.now.facts line why) }
 {

@@ -201,8 +201,8 @@ fn line_after(proofs: &[Sequence<Multipliers>], first: u64) -> u64
 
 /// The first mapping that its multipliers do not show to fall at a call of the clause's own component.
 ///
-/// There is one line for each clause, each such call and each mapping, from the line `first` on. `Measure` says that the
-/// multipliers fail over the rows of the atoms before the call, and `Wide` that a number does not fit.
+/// There is one line for each clause, each such call and each mapping, from the line `first` on. `Measure` says that
+/// the multipliers fail over the rows of the atoms before the call, and `Wide` that a number does not fit.
 pub fn fall_fault<N: Norm>(
     alloc: Global,
     p: &Program,

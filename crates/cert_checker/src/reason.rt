@@ -11,7 +11,8 @@ pub enum Reason {
     Extra,
     /// The fact has a list of a wrong length, or a number out of range.
     Shape,
-    /// Multipliers do not show that a clause keeps a size row, or a built-in predicate has one that is not stated of it.
+    /// Multipliers do not show that a clause keeps a size row, or a built-in predicate has one that is not stated of
+    /// it.
     SizeRow,
     /// A measure that has to be 0 is not, or multipliers do not show that it falls.
     Measure,

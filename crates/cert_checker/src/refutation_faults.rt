@@ -75,8 +75,8 @@ fn line_after(points: &[PairPoint], first: u64) -> u64
 /// The first fact of a refutation that does not hold.
 ///
 /// There is one line for each refutation, by the numbers of the predicates, and after it one for each point, and one
-/// more for a second point, from the line `first` on. `Refutation` says that the sums refute nothing, or that a row does
-/// not hold at a point, and `Wide` that a number or a row does not fit.
+/// more for a second point, from the line `first` on. `Refutation` says that the sums refute nothing, or that a row
+/// does not hold at a point, and `Wide` that a number or a row does not fit.
 pub fn refutation_fault<N: Norm>(
     alloc: Global,
     p: &Program,

@@ -27,7 +27,8 @@ use std::alloc::{AllocError, Global};
 use term_size::Norm;
 use termination_model::{SizeRows, columns};
 
-/// Why multipliers do not show a size row over the rows of a system, if they do not. The columns are those of the head's arguments.
+/// Why multipliers do not show a size row over the rows of a system, if they do not. The columns are those of the
+/// head's arguments.
 fn row_flaw(
     alloc: Global,
     rows: &Rows,

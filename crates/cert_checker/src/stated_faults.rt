@@ -54,8 +54,8 @@ fn foreign_fault(kind: Option<Builtin>, rows: &Rows, line: u64) -> Option<Fault>
 
 /// The first size row of a built-in predicate that is none of its stated ones.
 ///
-/// There is one line for each predicate and each of its size rows, from the line `first` on. The reason is `SizeRow`. It
-/// takes no memory.
+/// There is one line for each predicate and each of its size rows, from the line `first` on. The reason is `SizeRow`.
+/// It takes no memory.
 pub fn stated_fault(p: &Program, sizes: &SizeRows, first: u64) -> Option<Fault>
     requires sizes { AreSizes p.now.preds sizes.now }
     ensures hold { (result ≡ None) ↔ AreStated p.now.arithmetic (rows_of sizes.now) }

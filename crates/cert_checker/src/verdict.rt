@@ -7,6 +7,7 @@ use crate::reason::Reason;
 pub enum Verdict {
     /// The certificate is valid.
     Yes,
-    /// The fact of this line, counted from 1, does not hold, and why. Where a fact is missing, the line is that after the last.
+    /// The fact of this line, counted from 1, does not hold, and why. Where a fact is missing, the line is that after
+    /// the last.
     No { line: u64, reason: Reason },
 }

@@ -1,6 +1,6 @@
 -- Private.
--- What the code reads at the front of a text: a value and the text after it. It may read more than a fact's text, so each fact that
--- is read is compared with its own text. Nothing here has to be believed.
+-- What the code reads at the front of a text: a value and the text after it. It may read more than a fact's text, so
+-- each fact that is read is compared with its own text. Nothing here has to be believed.
 use Rattle.std.specs.Prelude.{◌≡◌, ℕ, zero, suc, ◌+◌, ◌*◌, ℤ, pos, neg_ℤ, Bool, true, false, not, ◌&&◌, ◌==◌, nat_eq, nat_lt, nat_le, List, [], ◌∷◌, ◌++◌, length, take, drop, codes, Option, Some, None, option_map, option_and_then, Result, Ok, Err, if◌then◌else◌}
 use Rattle.std.specs.Borrow.{Bor}
 use Rattle.std.specs.Char.{digit_value}

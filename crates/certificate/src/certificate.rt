@@ -31,8 +31,8 @@ pub struct Certificate {
 impl Certificate {
     /// The text: a line for each fact.
     ///
-    /// It is read back where the certificate's names are valid UTF-8 with at most 12 arguments, its numbers are in the range of
-    /// their kinds, and the text has at most [`MOST_BYTES`].
+    /// It is read back where its predicates have names in valid UTF-8 and at most 12 arguments, its numbers are in the
+    /// range of their kinds, and the text has at most [`MOST_BYTES`].
     pub fn print(&self, alloc: Global) -> Result<Vec<u8>, AllocError>
         ensures { IfOk result (λ text. text.items ≡ text_of self.now.facts) }
     {
@@ -45,8 +45,9 @@ impl Certificate {
 
     /// The certificate whose text this is.
     ///
-    /// A text is that of one certificate at most. Fails with `Long` past [`MOST_BYTES`], and else with `NotAFact` and the number
-    /// of the first line, counted from 1, that is not a fact's text; a last line without a newline is none.
+    /// A text is that of one certificate at most. Fails with `Long` past [`MOST_BYTES`]; else with `NotAFact` and the
+    /// number, from 1, of the first line that is not a fact's text (a last line without a newline is none); or
+    /// `Memory`.
     pub fn read(alloc: Global, text: &[u8]) -> Result<Certificate, CertFault>
         // What is read is a certificate in range, and this is its text.
         ensures value { IfOk result (λ c. IsTextOf c text.now) }

@@ -64,7 +64,8 @@ pub enum Fact {
         index: u64,
         cube: Sequence<CertCell>,
     },
-    /// A refutation with the given number of points follows, for the component whose first predicate this is. It is written `none`.
+    /// A refutation with the given number of points follows, for the component whose first predicate this is. It is
+    /// written `none`.
     Refuted {
         pred: PredText,
         points: u64,
@@ -97,15 +98,16 @@ pub enum Fact {
         how: CertHow,
         rows: Sequence<Sequence<i128>>,
     },
-    /// A note: the image of a step is weakened.
+    /// A note: the image of a step is weak.
     WeakImage {
         step: u64,
     },
-    /// A note: the rows of a step are weakened.
+    /// A note: the rows of a step are weak.
     WeakStep {
         step: u64,
     },
-    /// A note: this support was not decided. It has one list of argument numbers for each member of the component.
+    /// A note: the search for this support was given up. It has one list of argument numbers for each member of the
+    /// component.
     Blown {
         pred: PredText,
         support: Sequence<Sequence<u32>>,

@@ -1,4 +1,4 @@
-//! How a step of the chain of size models made its rows.
+//! How a step of the chain of size rows made its rows.
 
 ghost use Rattle.std.specs.Prelude.{◌≡◌, ℕ, List};
 ghost use Rattle.certificate.specs.Text.{how_text};

@@ -30,6 +30,7 @@ fn last<T: Field>(alloc: Global, text: &[u8]) -> Result<(T, &[u8]), LineFault>
     Ok((part, after(text, b").\n")?))
 }
 
+/// A `cti` fact from after its opening parenthesis, and the text after it.
 #[tactic(auto, unfolding(crate::specs::Parse::read_cti_fact))]
 fn cti(alloc: Global, text: &[u8]) -> Result<(Fact, &[u8]), LineFault>
     ensures value { Agrees result (read_cti_fact text.now) }
@@ -39,6 +40,7 @@ fn cti(alloc: Global, text: &[u8]) -> Result<(Fact, &[u8]), LineFault>
     Ok((Fact::Cti { version }, text))
 }
 
+/// A `norm` fact from after its opening parenthesis, and the text after it.
 #[tactic(auto, unfolding(crate::specs::Parse::read_norm_fact))]
 fn norm(alloc: Global, text: &[u8]) -> Result<(Fact, &[u8]), LineFault>
     ensures value { Agrees result (read_norm_fact text.now) }
@@ -48,6 +50,7 @@ fn norm(alloc: Global, text: &[u8]) -> Result<(Fact, &[u8]), LineFault>
     Ok((Fact::Norm { norm }, text))
 }
 
+/// A `terminates` fact from after its opening parenthesis, and the text after it.
 #[tactic(auto, unfolding(crate::specs::Parse::read_terminates_fact))]
 fn terminates(alloc: Global, text: &[u8]) -> Result<(Fact, &[u8]), LineFault>
     ensures value { Agrees result (read_terminates_fact text.now) }
@@ -58,6 +61,7 @@ fn terminates(alloc: Global, text: &[u8]) -> Result<(Fact, &[u8]), LineFault>
     Ok((Fact::Terminates { pred, modes }, text))
 }
 
+/// A `size` fact from after its opening parenthesis, and the text after it.
 #[tactic(auto, unfolding(crate::specs::Parse::read_size_fact))]
 fn size(alloc: Global, text: &[u8]) -> Result<(Fact, &[u8]), LineFault>
     ensures value { Agrees result (read_size_fact text.now) }
@@ -69,6 +73,7 @@ fn size(alloc: Global, text: &[u8]) -> Result<(Fact, &[u8]), LineFault>
     Ok((Fact::Size { pred, index, row }, text))
 }
 
+/// A `by` fact from after its opening parenthesis, and the text after it.
 #[tactic(auto, unfolding(crate::specs::Parse::read_by_fact))]
 fn by(alloc: Global, text: &[u8]) -> Result<(Fact, &[u8]), LineFault>
     ensures value { Agrees result (read_by_fact text.now) }
@@ -89,6 +94,7 @@ fn by(alloc: Global, text: &[u8]) -> Result<(Fact, &[u8]), LineFault>
     ))
 }
 
+/// A `grounds` fact from after its opening parenthesis, and the text after it.
 #[tactic(auto, unfolding(crate::specs::Parse::read_grounds_fact))]
 fn grounds(alloc: Global, text: &[u8]) -> Result<(Fact, &[u8]), LineFault>
     ensures value { Agrees result (read_grounds_fact text.now) }
@@ -100,6 +106,7 @@ fn grounds(alloc: Global, text: &[u8]) -> Result<(Fact, &[u8]), LineFault>
     Ok((Fact::Grounds { pred, index, cube }, text))
 }
 
+/// A `measure` fact from after its opening parenthesis, and the text after it.
 #[tactic(auto, unfolding(crate::specs::Parse::read_measure_fact))]
 fn measure(alloc: Global, text: &[u8]) -> Result<(Fact, &[u8]), LineFault>
     ensures value { Agrees result (read_measure_fact text.now) }
@@ -120,6 +127,7 @@ fn measure(alloc: Global, text: &[u8]) -> Result<(Fact, &[u8]), LineFault>
     ))
 }
 
+/// A `falls` fact from after its opening parenthesis, and the text after it.
 #[tactic(auto, unfolding(crate::specs::Parse::read_falls_fact))]
 fn falls(alloc: Global, text: &[u8]) -> Result<(Fact, &[u8]), LineFault>
     ensures value { Agrees result (read_falls_fact text.now) }
@@ -142,6 +150,7 @@ fn falls(alloc: Global, text: &[u8]) -> Result<(Fact, &[u8]), LineFault>
     ))
 }
 
+/// A `pre` fact from after its opening parenthesis, and the text after it.
 #[tactic(auto, unfolding(crate::specs::Parse::read_pre_fact))]
 fn pre(alloc: Global, text: &[u8]) -> Result<(Fact, &[u8]), LineFault>
     ensures value { Agrees result (read_pre_fact text.now) }
@@ -162,6 +171,7 @@ fn pre(alloc: Global, text: &[u8]) -> Result<(Fact, &[u8]), LineFault>
     ))
 }
 
+/// A `none` fact from after its opening parenthesis, and the text after it.
 #[tactic(auto, unfolding(crate::specs::Parse::read_refuted_fact))]
 fn refuted(alloc: Global, text: &[u8]) -> Result<(Fact, &[u8]), LineFault>
     ensures value { Agrees result (read_refuted_fact text.now) }
@@ -172,6 +182,7 @@ fn refuted(alloc: Global, text: &[u8]) -> Result<(Fact, &[u8]), LineFault>
     Ok((Fact::Refuted { pred, points }, text))
 }
 
+/// A `point` fact from after its opening parenthesis, and the text after it.
 #[tactic(auto, unfolding(crate::specs::Parse::read_point_fact))]
 fn point(alloc: Global, text: &[u8]) -> Result<(Fact, &[u8]), LineFault>
     ensures value { Agrees result (read_point_fact text.now) }
@@ -184,6 +195,7 @@ fn point(alloc: Global, text: &[u8]) -> Result<(Fact, &[u8]), LineFault>
     Ok((Fact::Point { clause, call, t, w }, text))
 }
 
+/// An `at` fact from after its opening parenthesis, and the text after it.
 #[tactic(auto, unfolding(crate::specs::Parse::read_at_fact))]
 fn at(alloc: Global, text: &[u8]) -> Result<(Fact, &[u8]), LineFault>
     ensures value { Agrees result (read_at_fact text.now) }
@@ -196,6 +208,7 @@ fn at(alloc: Global, text: &[u8]) -> Result<(Fact, &[u8]), LineFault>
     Ok((Fact::At { clause, call, t, w }, text))
 }
 
+/// An `image` fact from after its opening parenthesis, and the text after it.
 #[tactic(auto, unfolding(crate::specs::Parse::read_image_fact))]
 fn image(alloc: Global, text: &[u8]) -> Result<(Fact, &[u8]), LineFault>
     ensures value { Agrees result (read_image_fact text.now) }
@@ -216,6 +229,7 @@ fn image(alloc: Global, text: &[u8]) -> Result<(Fact, &[u8]), LineFault>
     ))
 }
 
+/// A `step` fact from after its opening parenthesis, and the text after it.
 #[tactic(auto, unfolding(crate::specs::Parse::read_step_fact))]
 fn step(alloc: Global, text: &[u8]) -> Result<(Fact, &[u8]), LineFault>
     ensures value { Agrees result (read_step_fact text.now) }
@@ -236,6 +250,7 @@ fn step(alloc: Global, text: &[u8]) -> Result<(Fact, &[u8]), LineFault>
     ))
 }
 
+/// A `blown` fact from after its opening parenthesis, and the text after it.
 #[tactic(auto, unfolding(crate::specs::Parse::read_blown_fact))]
 fn blown(alloc: Global, text: &[u8]) -> Result<(Fact, &[u8]), LineFault>
     ensures value { Agrees result (read_blown_fact text.now) }
@@ -246,6 +261,7 @@ fn blown(alloc: Global, text: &[u8]) -> Result<(Fact, &[u8]), LineFault>
     Ok((Fact::Blown { pred, support }, text))
 }
 
+/// A `large` fact from after its opening parenthesis, and the text after it.
 #[tactic(auto, unfolding(crate::specs::Parse::read_large_fact))]
 fn large(alloc: Global, text: &[u8]) -> Result<(Fact, &[u8]), LineFault>
     ensures value { Agrees result (read_large_fact text.now) }
@@ -265,6 +281,7 @@ fn mark(alloc: Global, text: &[u8]) -> Result<(u64, &[u8]), LineFault>
     Ok((step, after(text, b")).\n")?))
 }
 
+/// A `weak(image(..))` fact from after its opening parentheses, and the text after it.
 #[tactic(auto, unfolding(crate::specs::Parse::read_weak_image_fact))]
 fn weak_image(alloc: Global, text: &[u8]) -> Result<(Fact, &[u8]), LineFault>
     ensures value { Agrees result (read_weak_image_fact text.now) }
@@ -274,6 +291,7 @@ fn weak_image(alloc: Global, text: &[u8]) -> Result<(Fact, &[u8]), LineFault>
     Ok((Fact::WeakImage { step }, text))
 }
 
+/// A `weak(step(..))` fact from after its opening parentheses, and the text after it.
 #[tactic(auto, unfolding(crate::specs::Parse::read_weak_step_fact))]
 fn weak_step(alloc: Global, text: &[u8]) -> Result<(Fact, &[u8]), LineFault>
     ensures value { Agrees result (read_weak_step_fact text.now) }

@@ -1,8 +1,8 @@
 -- To believe, for the command.
 -- The words of a command line, those after the program's name, and what they ask for.
 --
--- The command line is described to `clap`, and `fault_of` and `subcommand_of` say what that crate makes of words. A word of help is a
--- word like any other.
+-- The command line is described to `clap`, and `fault_of` and `subcommand_of` say what that crate makes of words. A
+-- word of help is a word like any other.
 --
 -- To believe: all of this file, over the definitions of `clap`.
 use Rattle.std.specs.Prelude.{ℕ, Bool, true, ◌&&◌, nat_lt, nat_le, List, [], ◌∷◌, ◌++◌, length, Option, Some, None, option_map, option_and_then, unwrap_or, codes, if◌then◌else◌}
@@ -70,9 +70,10 @@ command_line =
     (with_subcommand (with_subcommand (with_subcommand (with_subcommand top_command infer_command.top) check_command.top) run_command.top) gen_command.top)
     lex_command.top) loop_command.top) session_command.top
 
--- what is asked for, by its texts: the modes of a file's program by a norm, the check of a file's certificate of it, a query of it with a
--- number of nodes, how many modes the generated program of this many predicates has, the modes of a file's program by lists of mappings, a
--- loop of a query of a file's program among its derivations of a number of steps, or what the edits of a file tell
+-- what is asked for, by its texts: the modes of a file's program by a norm, the check of a file's certificate of it, a
+-- query of it with a number of nodes, how many modes the generated program of this many predicates has, the modes of a
+-- file's program by lists of mappings, a loop of a query of a file's program among its derivations of a number of
+-- steps, or what the edits of a file tell
 pub data Ask : Type 0 where
   infer : Text → NormName → Ask
   check : Text → Text → Ask

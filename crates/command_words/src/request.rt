@@ -15,7 +15,7 @@ use term_size::NormName;
 
 /// Why the words are not a command.
 #[derive(Clone, Copy, PartialEq, Eq)]
-pub enum WordsFault {
+pub enum RequestFault {
     /// They are none.
     Usage,
     /// Memory ran out.
@@ -29,13 +29,13 @@ pub enum Request<'a> {
     Infer(&'a str, NormName),
     /// The check of the certificate in the second file, for the program in the first.
     Check(&'a str, &'a str),
-    /// A run of a query of the program in a file, and how many nodes are looked at.
+    /// A run of a query of the program in a file, and how many derivations are looked at, from 1 to 1,000,000.
     Run(&'a str, &'a str, u64),
-    /// How many modes the generated program of this many predicates has.
+    /// How many modes the generated program of this many predicates, from 1 to 300, has.
     Generate(u32),
     /// The modes of the program in a file, by lists of mappings.
     Lex(&'a str),
-    /// A loop of a query of the program in a file, and how many steps the derivations have that are looked at.
+    /// A loop of a query of the program in a file, among derivations of at most this many steps, from 1 to 12.
     Loop(&'a str, &'a str, u32),
     /// What the edits in a file tell.
     Session(&'a str),
@@ -68,8 +68,8 @@ impl<'a> Request<'a> {
 }
 
 /// The matches of the words, or why there are none.
-fn matches_of<'a>(alloc: Global, words: &'a [&'a str]) -> Result<ArgMatches<'a>, WordsFault>
-    ensures usage { IsErrOf result WordsFault.Usage
+fn matches_of<'a>(alloc: Global, words: &'a [&'a str]) -> Result<ArgMatches<'a>, RequestFault>
+    ensures usage { IsErrOf result RequestFault.Usage
         → fault_of command_line (map (λ w. w.now) words.entry.now) ≢ [] }
     ensures taken { IfOk result (λ _. fault_of command_line (map (λ w. w.now) words.entry.now)
         ≡ []) }
@@ -78,13 +78,13 @@ fn matches_of<'a>(alloc: Global, words: &'a [&'a str]) -> Result<ArgMatches<'a>,
         (map (λ w. w.now) words.entry.now)) }
 {
     let Ok(command) = command_line(alloc) else {
-        return Err(WordsFault::Memory);
+        return Err(RequestFault::Memory);
     };
     match command.try_get_matches_from(words) {
         Ok(matches) => Ok(matches),
         Err(error) => match error.kind() {
-            ErrorKind::OutOfMemory => Err(WordsFault::Memory),
-            _ => Err(WordsFault::Usage),
+            ErrorKind::OutOfMemory => Err(RequestFault::Memory),
+            _ => Err(RequestFault::Usage),
         },
     }
 }
@@ -116,46 +116,46 @@ fn word<'a>(matches: &ArgMatches<'a>, id: &str) -> &'a str
 }
 
 /// What `gen` asks for by its word, or why it is not a command.
-fn generation<'a>(matches: &ArgMatches<'a>) -> Result<Request<'a>, WordsFault>
+fn generation<'a>(matches: &ArgMatches<'a>) -> Result<Request<'a>, RequestFault>
     ensures asked { IfOk result
         (λ r. option_map asked_gen
         (predicates_in (given (codes "count") (rows_of (found_of matches.now))))
         ≡ Some (ask_of r)) }
-    ensures usage { IfErr result (λ e. (e ≡ WordsFault.Usage)
+    ensures usage { IfErr result (λ e. (e ≡ RequestFault.Usage)
         × (option_map asked_gen (predicates_in
         (given (codes "count") (rows_of (found_of matches.now)))) ≡ None)) }
     ensures range { IfOk result (λ r. IsAskInRange (ask_of r)) }
 {
     match predicates_in(word(matches, "count")) {
         Some(count) => Ok(Request::Generate(count)),
-        None => Err(WordsFault::Usage),
+        None => Err(RequestFault::Usage),
     }
 }
 
 /// What `infer` asks for by its words, or why it is not a command.
-fn inference<'a>(matches: &ArgMatches<'a>) -> Result<Request<'a>, WordsFault>
+fn inference<'a>(matches: &ArgMatches<'a>) -> Result<Request<'a>, RequestFault>
     ensures asked { IfOk result
         (λ r. option_map (asked_infer (given (codes "file") (rows_of (found_of matches.now))))
         (norm_of (first_of (codes "norm") (rows_of (found_of matches.now)))) ≡ Some (ask_of r)) }
-    ensures usage { IfErr result (λ e. (e ≡ WordsFault.Usage)
+    ensures usage { IfErr result (λ e. (e ≡ RequestFault.Usage)
         × (option_map (asked_infer (given (codes "file") (rows_of (found_of matches.now))))
         (norm_of (first_of (codes "norm") (rows_of (found_of matches.now)))) ≡ None)) }
     ensures range { IfOk result (λ r. IsAskInRange (ask_of r)) }
 {
     match norm_of(value(matches, "norm")) {
         Some(norm) => Ok(Request::Infer(word(matches, "file"), norm)),
-        None => Err(WordsFault::Usage),
+        None => Err(RequestFault::Usage),
     }
 }
 
 /// What `loop` asks for by its words, or why it is not a command.
-fn loop_search<'a>(matches: &ArgMatches<'a>) -> Result<Request<'a>, WordsFault>
+fn loop_search<'a>(matches: &ArgMatches<'a>) -> Result<Request<'a>, RequestFault>
     ensures asked { IfOk result
         (λ r. option_map (asked_loop (given (codes "file") (rows_of (found_of matches.now)))
         (given (codes "query") (rows_of (found_of matches.now))))
         (depth_of (first_of (codes "depth") (rows_of (found_of matches.now))))
         ≡ Some (ask_of r)) }
-    ensures usage { IfErr result (λ e. (e ≡ WordsFault.Usage)
+    ensures usage { IfErr result (λ e. (e ≡ RequestFault.Usage)
         × (option_map (asked_loop (given (codes "file") (rows_of (found_of matches.now)))
         (given (codes "query") (rows_of (found_of matches.now))))
         (depth_of (first_of (codes "depth") (rows_of (found_of matches.now)))) ≡ None)) }
@@ -163,15 +163,15 @@ fn loop_search<'a>(matches: &ArgMatches<'a>) -> Result<Request<'a>, WordsFault>
 {
     match depth_of(value(matches, "depth")) {
         Some(depth) => Ok(Request::Loop(word(matches, "file"), word(matches, "query"), depth)),
-        None => Err(WordsFault::Usage),
+        None => Err(RequestFault::Usage),
     }
 }
 
 /// What a command asks for by its arguments, or why it is not a command.
-fn request_by<'a>(name: &str, given: &ArgMatches<'a>) -> Result<Request<'a>, WordsFault>
+fn request_by<'a>(name: &str, given: &ArgMatches<'a>) -> Result<Request<'a>, RequestFault>
     ensures asked { IfOk result
         (λ r. ask_by name.now (rows_of (found_of given.now)) ≡ Some (ask_of r)) }
-    ensures usage { IfErr result (λ e. (e ≡ WordsFault.Usage)
+    ensures usage { IfErr result (λ e. (e ≡ RequestFault.Usage)
         × (ask_by name.now (rows_of (found_of given.now)) ≡ None)) }
     ensures range { IfOk result (λ r. IsAskInRange (ask_of r)) }
 {
@@ -196,21 +196,21 @@ fn request_by<'a>(name: &str, given: &ArgMatches<'a>) -> Result<Request<'a>, Wor
     }
     match steps_of(value(given, "steps")) {
         Some(steps) => Ok(Request::Run(file, word(given, "query"), steps)),
-        None => Err(WordsFault::Usage),
+        None => Err(RequestFault::Usage),
     }
 }
 
 /// What the words ask for, or why they are not a command.
 #[tactic(auto, using(crate::proofs::WordLemmas::is_entered, crate::proofs::WordLemmas::none_asked))]
-pub fn request_in<'a>(alloc: Global, words: &'a [&'a str]) -> Result<Request<'a>, WordsFault>
+pub fn request_in<'a>(alloc: Global, words: &'a [&'a str]) -> Result<Request<'a>, RequestFault>
     ensures asked { IfOk result (λ r. asks (map (λ w. w.now) words.entry.now) ≡ Some (ask_of r)) }
-    ensures usage { IsErrOf result WordsFault.Usage → asks (map (λ w. w.now) words.entry.now) ≡ None }
+    ensures usage { IsErrOf result RequestFault.Usage → asks (map (λ w. w.now) words.entry.now) ≡ None }
     ensures range { IfOk result (λ r. IsAskInRange (ask_of r)) }
 {
     let matches = matches_of(alloc, words)?;
     match entered(&matches) {
         Some((name, given)) => request_by(name, given),
-        None => Err(WordsFault::Usage),
+        None => Err(RequestFault::Usage),
     }
 }
 

@@ -1,5 +1,5 @@
-//! Numbers in words: how many nodes of a query are looked at, how many steps its derivations have, and how many predicates are
-//! generated.
+//! Numbers in words: how many nodes of a query are looked at, how many steps its derivations have, and how many
+//! predicates are generated.
 
 ghost use Rattle.std.specs.Prelude.{◌≡◌, ◌≤◌, Option, option_map, IfSome};
 ghost use Rattle.command_words.specs.Words.{depth_of, number_in, predicates_in, steps_of};
@@ -50,7 +50,8 @@ fn number_in(text: &[u8], digits: usize, greatest: u64) -> Option<u64>
     Some(value)
 }
 
-/// The number of nodes that an option's value asks for, which is 100,000 where it is absent: one to seven digits, from 1 to 1,000,000.
+/// The number of nodes that an option's value asks for, which is 100,000 where it is absent: one to seven digits, from
+/// 1 to 1,000,000.
 pub fn steps_of(text: Option<&str>) -> Option<u64>
     ensures { result ≡ steps_of (option_map (λ s. s.now) text.entry) }
 {

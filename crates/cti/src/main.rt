@@ -1,5 +1,5 @@
-//! `cti`: reads the words, makes the real files and the real output, says on standard error what went wrong, and ends with the
-//! status's number.
+//! `cti`: reads the words, makes the real files and the real output, says on standard error what went wrong, and ends
+//! with the status's number.
 #![tactic(auto)]
 
 mod keeping;
@@ -29,8 +29,8 @@ fn words(rt: &HostRuntime, alloc: Global) -> Result<Vec<String>, AllocError> {
     }
 }
 
-/// Writes the message about a call, the warnings about its texts and the notes about the modes that it wrote on standard error.
-/// Where this fails, nobody reads it.
+/// Writes the message about a call, the warnings about its texts and the notes about the modes that it wrote on
+/// standard error. Where this fails, nobody reads it.
 fn tell<'a, F: Files + Drop, W: Write + Drop>(
     rt: &HostRuntime,
     status: Status,

@@ -3,8 +3,8 @@
 --
 -- A session has clauses, and what is kept of them: their program, and what makes its certificate.
 --
--- To believe: all of this file; edit_texts Snapshot.antt, and what that names; in kept_program ProgramParts.antt, which says what the facts
--- of the certificate are; and in cert_checker and report what makes a certificate valid and exact.
+-- To believe: all of this file; edit_texts Snapshot.antt, and what that names; in kept_program ProgramParts.antt, which
+-- says what the facts of the certificate are; and in cert_checker and report what makes a certificate valid and exact.
 use Rattle.std.specs.Prelude.{ℕ, List}
 use Rattle.kept_program.specs.ProgramParts.{certificate_facts}
 use Rattle.report.specs.Solution.{IsExactCertificate}

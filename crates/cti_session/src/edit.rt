@@ -11,7 +11,7 @@ pub struct EditClause {
     pub clause: ReadClause,
 }
 
-/// Why a clause is not added. A place counts bytes from 0 in the text of the clause.
+/// Why a clause is not added. A place counts bytes from 0 in the text that the clause was read from.
 #[derive(Clone, Copy, Debug, PartialEq, Eq, Error)]
 pub enum EditFault {
     /// The clause is refused, at this place.

@@ -30,8 +30,8 @@ fn push(clauses: &mut Vec<ReadClause>, clause: ReadClause) -> Result<(), AllocEr
     Ok(())
 }
 
-/// Puts clauses after others, one after the other, up to the first that has a fault there. Gives how many nodes they have
-/// together.
+/// Puts clauses after others, one after the other, up to the first that has a fault there. Gives how many nodes they
+/// have together.
 fn push_all(
     clauses: &mut Vec<ReadClause>,
     more: Vec<ReadClause>,

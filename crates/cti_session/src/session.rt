@@ -35,8 +35,8 @@ use std::marker::Model;
 /// A program whose clauses come and go, with what is found of it.
 ///
 /// Contracts see the clauses, and their program with what its certificate is made of. The names are the caller's, who
-/// may add to them between edits: the law `sessions_stay` says that the program stays that of the clauses. Clauses count
-/// from 1.
+/// may add to them between edits: the law `sessions_stay` says that the program stays that of the clauses. Clauses
+/// count from 1.
 pub struct Session {
     clauses: Vec<ReadClause>,
     nodes: u32,
@@ -89,7 +89,8 @@ impl Session {
         })
     }
 
-    /// Adds a clause after the others. After an error the session is as before.
+    /// Adds a clause after the others; all clauses have at most 2,097,152 nodes together. Fails with `Norm` where the
+    /// clause has a fault as the last one, or with `Memory`. After an error the session is as before.
     pub fn add(&mut self, clause: EditClause, names: &mut Names) -> Result<(), EditFault>
         requires known { HasProgram names.old self.old }
         requires fit { IsFit (length names.old) (clause_of clause.clause) }
@@ -115,8 +116,9 @@ impl Session {
         self.insert(last, clause, names)
     }
 
-    /// Adds clauses after the others, all in one edit: for a file of them, or what is put in at once. After an error the
-    /// session is as before.
+    /// Adds clauses after the others, all in one edit: for a file of them, or what is put in at once. Fails with `Norm`
+    /// at the first clause that has a fault after those before it, or with `Memory`. After an error the session is as
+    /// before.
     pub fn extend(&mut self, clauses: Vec<ReadClause>, names: &mut Names) -> Result<(), EditFault>
         requires known { HasProgram names.old self.old }
         requires fit { AllByRecursion (IsFit (length names.old)) (map clause_of clauses.items) }
@@ -131,7 +133,8 @@ impl Session {
         // What the edit leaves untouched keeps its size rows, ground rows and measures.
         ensures untouched { OnOk result (KeepUntouched self.old.kept self.new.kept) }
 
-        // The clauses are refused exactly where one of them has a fault after those before it, and with the first fault.
+        // The clauses are refused exactly where one of them has a fault after those before it, and with the first
+        // fault.
         ensures exact { let fault = first_fault names.old (length self.old.clauses)
             (map clause_of clauses.items) in
             MatchResult result (λ _. fault ≡ None) (λ e. IfNorm e (λ f. fault ≡ Some f)) }
@@ -144,7 +147,8 @@ impl Session {
         Ok(())
     }
 
-    /// Puts in a clause, which is then the one of number `k`. After an error the session is as before.
+    /// Puts in a clause, which then has the number `k`, from 1 to one above `clauses()`. After an error the session is
+    /// as before.
     pub fn insert(&mut self, k: u32, clause: EditClause, names: &mut Names) -> Result<(), EditFault>
         requires first { 1 ≤ k }
         requires last { k ≤ length self.old.clauses + 1 }
@@ -179,7 +183,8 @@ impl Session {
         Ok(())
     }
 
-    /// Takes out the clause of number `k`. After an error the session is as before.
+    /// Takes out the clause of number `k`, from 1 to `clauses()`. Fails only with out of memory, and then the session
+    /// is as before.
     pub fn remove(&mut self, k: u32, names: &mut Names) -> Result<(), AllocError>
         requires first { 1 ≤ k }
         requires last { k ≤ length self.old.clauses }

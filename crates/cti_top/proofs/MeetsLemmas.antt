@@ -1,4 +1,5 @@
--- A query that meets a printed mode is bounded, and a run without more nodes is Done or ends at a value that is too large.
+-- A query that meets a printed mode is bounded, and a run without more nodes is Done or ends at a value that is too
+-- large.
 use Rattle.std.proofs.Common.{◌≡◌, ◌⊎◌, ℕ, List, inl, inr, refl}
 use Rattle.certificate.specs.declared.fact.Fact.{Fact}
 use Rattle.certificate.specs.declared.fact.Fact.TheVariants.{Terminates}

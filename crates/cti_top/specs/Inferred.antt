@@ -1,13 +1,14 @@
 -- To believe, for the command.
 -- What is printed for a program: the certificate of its modes.
 --
--- The bytes are read as a program; the text is that of facts; these are a valid certificate of the program, of the norm that was asked for,
--- and an exact one: its modes are exactly the minimal ones that the precondition equations give for the printed size rows, ground rows and mappings; and each query
--- that meets one of its modes is bounded. The last follows from the facts being valid. It is said besides, so that who wants to know that
--- queries end has nothing to read but what queries are.
+-- The bytes are read as a program; the text is that of facts; these are a valid certificate of the program, of the norm
+-- that was asked for, and an exact one: its modes are exactly the minimal ones that the precondition equations give for
+-- the printed size rows, ground rows and mappings; and each query that meets one of its modes is bounded. The last
+-- follows from the facts being valid. It is said besides, so that who wants to know that queries end has nothing to
+-- read but what queries are.
 --
--- To believe: all of this file, over the program of a text, `text_of` of certificate, `ModesAreBounded` and `IsValid` of cert_checker, and
--- `IsExact` and `IsOfNorm` of report.
+-- To believe: all of this file, over the program of a text, `text_of` of certificate, `ModesAreBounded` and `IsValid`
+-- of cert_checker, and `IsExact` and `IsOfNorm` of report.
 use Rattle.std.specs.Prelude.{◌≡◌, ℕ, List}
 use Rattle.cti_terms.specs.Listing.{Listing}
 use Rattle.certificate.specs.declared.fact.Fact.{Fact}

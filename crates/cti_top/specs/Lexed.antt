@@ -1,13 +1,14 @@
 -- To believe, for the modes by lists of mappings.
 -- What is printed for a program: the certificate of its modes by lists of level mappings.
 --
--- The bytes are read as a program; the text is that of facts; these are a valid certificate of the program, and an exact one: its lists are
--- those that descend and have minimal supports, and its modes exactly the minimal ones that the precondition equations give for the printed
--- size rows, ground rows and lists; and each query that meets one of its modes is bounded. The last follows from the facts being valid. It is
--- said besides, so that who wants to know that queries end has nothing to read but what queries are.
+-- The bytes are read as a program; the text is that of facts; these are a valid certificate of the program, and an
+-- exact one: its lists are those that descend and have minimal supports, and its modes exactly the minimal ones that
+-- the precondition equations give for the printed size rows, ground rows and lists; and each query that meets one of
+-- its modes is bounded. The last follows from the facts being valid. It is said besides, so that who wants to know that
+-- queries end has nothing to read but what queries are.
 --
--- To believe: all of this file, over the program of a text, `text_of` of lex_certificate, `ModesAreBounded` and `IsValid` of lex_checker, and
--- `IsExact` of lex_measures.
+-- To believe: all of this file, over the program of a text, `text_of` of lex_certificate, `ModesAreBounded` and
+-- `IsValid` of lex_checker, and `IsExact` of lex_measures.
 use Rattle.std.specs.Prelude.{◌≡◌, ℕ, List}
 use Rattle.cti_terms.specs.Listing.{Listing}
 use Rattle.lex_certificate.specs.declared.fact.LexFact.{LexFact}

@@ -1,15 +1,15 @@
 -- To believe, for a loop.
 -- What is printed where a loop of a query is looked for.
 --
--- The derivations that are looked at are those by clauses, of at most so many steps, in the order of a search. Printed is the first of the first
--- 100,000 that is a loop, in its two parts; or that none is, and how many there are; or that none of the first 100,000 is, and there are
--- more.
+-- The derivations that are looked at are those by clauses, of at most so many steps, in the order of a search. Printed
+-- is the first of the first 100,000 that is a loop, in its two parts; or that none is, and how many there are; or that
+-- none of the first 100,000 is, and there are more.
 --
--- Where a loop is printed, the query has derivations of every length, and is not bounded. That follows from the loop. It is said besides, so
--- that who wants to know that a query does not end has nothing to read but what derivations are.
+-- Where a loop is printed, the query has derivations of every length, and is not bounded. That follows from the loop.
+-- It is said besides, so that who wants to know that a query does not end has nothing to read but what derivations are.
 --
--- To believe: all of this file, over the goal of a query, `clause_nodes`, `GoesOn`, `IsFirstLoop`, `IsWithoutLoop` and `IsStopped` of
--- loop_finder, `positions_text` of certificate, and `Bounded` of cti_terms.
+-- To believe: all of this file, over the goal of a query, `clause_nodes`, `GoesOn`, `IsFirstLoop`, `IsWithoutLoop` and
+-- `IsStopped` of loop_finder, `positions_text` of certificate, and `Bounded` of cti_terms.
 use Rattle.std.specs.Prelude.{◌≡◌, ℕ, List, ◌++◌, codes, decimal}
 use Rattle.certificate.specs.Text.{positions_text}
 use Rattle.cti_terms.specs.Derive.{Bounded}

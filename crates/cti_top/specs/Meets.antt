@@ -10,7 +10,8 @@ use Rattle.cert_checker.specs.Bounding.{IsOf, NamedAreRigid, rigid_in}
 use Rattle.cti_terms.specs.Listing.{Listing}
 use Rattle.cti_terms.specs.declared.atom_list.Atom.{Atom}
 
--- some fact prints the modes of the atom's predicate, and the arguments that one of these names are rigid, by the norm of the facts
+-- some fact prints the modes of the atom's predicate, and the arguments that one of these names are rigid, by the norm
+-- of the facts
 pub record MeetsMode (p : Listing) (names : List (List ℕ)) (facts : List Fact) (a : Atom) : Type 0 where
   pub text : PredText
   pub modes : List (List ℕ)

@@ -37,10 +37,10 @@ abbrev pub TellsLong : Map → Origin → Type 0
 TellsLong told (file name) = TellsMore told name most_bytes
 TellsLong told (generated n) = ⊥
 
--- The answer to the words: the usage exactly where they ask for nothing; the modes of the program that they name, or its modes by lists of
--- mappings; the check of their certificate; the run of their query, or a loop of it; how many modes their generated program has; what their
--- edits tell; or why the text of the program or of the edits, the certificate's or the query is refused. Where the store shows its map, the
--- bytes are those at the file's name.
+-- The answer to the words: the usage exactly where they ask for nothing; the modes of the program that they name, or
+-- its modes by lists of mappings; the check of their certificate; the run of their query, or a loop of it; how many
+-- modes their generated program has; what their edits tell; or why the text of the program or of the edits, the
+-- certificate's or the query is refused. Where the store shows its map, the bytes are those at the file's name.
 pub data IsAnswer (told : Map) (words : List (List ℕ)) (status : Status) (text : List ℕ) : Type 0 where
   usage : asks words ≡ None → status ≡ Usage → text ≡ usage_lines → IsAnswer told words status text
   inferred : (name bytes : List ℕ) (norm : NormName) → asks words ≡ Some (infer name norm) → TellsAt told name bytes → IsInferred norm bytes text → status ≡ Done

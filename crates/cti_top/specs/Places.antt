@@ -1,5 +1,6 @@
 -- To believe, for reading.
--- Places in a text, as they are printed: lines and columns count from 1, and columns count bytes. A newline ends a line.
+-- Places in a text, as they are printed: lines and columns count from 1, and columns count bytes. A newline ends a
+-- line.
 --
 -- To believe: all of this file.
 use Rattle.std.specs.Prelude.{ℕ, suc, ◌==◌, List, [], ◌∷◌, take, if◌then◌else◌}

@@ -1,12 +1,12 @@
 -- To believe, for reading.
 -- The program that a text is, or its refusal.
 --
--- A text is first read whole and then normalised: the first fault in reading precedes all of the normal form. Names are their numbers in
--- the list of names that the text gives; the normal form adds those of the disjunctions' predicates. So all of this is a function of the
--- bytes: a text is one program or is refused, for one fault.
+-- A text is first read whole and then normalised: the first fault in reading precedes all of the normal form. Names are
+-- their numbers in the list of names that the text gives; the normal form adds those of the disjunctions' predicates.
+-- So all of this is a function of the bytes: a text is one program or is refused, for one fault.
 --
--- To believe: all of this file, and below it `AreNamesOf` and `IsTextAnswer` of prolog_reader, `program_names` and `normal_form` of
--- clause_normal.
+-- To believe: all of this file, and below it `AreNamesOf` and `IsTextAnswer` of prolog_reader, `program_names` and
+-- `normal_form` of clause_normal.
 use Rattle.std.specs.Prelude.{◌≡◌, ℕ, List, [], Ok, Err}
 use Rattle.cti_terms.specs.Listing.{Listing}
 use Rattle.prolog_reader.specs.declared.fault.ReadKind.{ReadKind}

@@ -1,10 +1,11 @@
 -- To believe, for reading.
 -- The goal that a query is of a program, or its refusal.
 --
--- A query is read with the operators that the program's text leaves, and by the program's names with those that the query adds. The
--- normal form may add predicates without clauses, and =/2 with its clause.
+-- A query is read with the operators that the program's text leaves, and by the program's names with those that the
+-- query adds. The normal form may add predicates without clauses, and =/2 with its clause.
 --
--- To believe: all of this file, and below it `AreNamesOf` and `IsQueryAnswer` of prolog_reader and `query_form` of clause_normal.
+-- To believe: all of this file, and below it `AreNamesOf` and `IsQueryAnswer` of prolog_reader and `query_form` of
+-- clause_normal.
 use Rattle.std.specs.Prelude.{◌≡◌, ℕ, List, Ok, Err}
 use Rattle.cti_terms.specs.Listing.{Listing}
 use Rattle.cti_terms.specs.declared.derivation.Goal.{Goal}

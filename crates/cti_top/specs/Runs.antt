@@ -1,8 +1,9 @@
 -- To believe, for the command.
--- What is printed for a query: its answers among the nodes looked at, how many nodes there were, and whether there are more.
+-- What is printed for a query: its answers among the nodes looked at, how many nodes there were, and whether there are
+-- more.
 --
--- To believe: all of this file, over the goal of a query, `run_lines` of term_text, `told` of ld_resolver, and `answers`,
--- `visited_nodes`, `longest`, `HasWide` and `HasMoreNodes` of cti_terms.
+-- To believe: all of this file, over the goal of a query, `run_lines` of term_text, `told` of ld_resolver, and
+-- `answers`, `visited_nodes`, `longest`, `HasWide` and `HasMoreNodes` of cti_terms.
 use Rattle.std.specs.Prelude.{◌≡◌, ◌⊎◌, ℕ, List, map, length}
 use Rattle.cti_terms.specs.Listing.{Listing}
 use Rattle.cti_terms.specs.Answers.{answers, visited_nodes, HasWide}
@@ -17,7 +18,8 @@ use Rattle.cti_top.specs.Queries.{Known, IsQueryOf, IsQueryRefused}
 use Rattle.cti_top.specs.declared.status.Status.{Status}
 use Rattle.cti_top.specs.declared.status.Status.TheVariants.{Done, Stopped, Overflow}
 
--- the empty derivation or one of the first n nodes leaves a wide goal; or none does, and a goal has more than n nodes, or it has not
+-- the empty derivation or one of the first n nodes leaves a wide goal; or none does, and a goal has more than n nodes,
+-- or it has not
 pub data Ends (p : Listing) (g : Goal) (n : ℕ) : Status → Ending → Type 0 where
   wide : HasWide p g n → Ends p g n Overflow ending.Overflow
   more : ¬ HasWide p g n → HasMoreNodes p g n → Ends p g n Stopped ending.Stopped

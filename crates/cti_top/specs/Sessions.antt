@@ -1,11 +1,11 @@
 -- To believe, for sessions.
 -- What the edits of a text tell, or why the text is refused.
 --
--- A text of edits is read as the text of a program is, and its names get those of arithmetic operations besides. So its outcome is a function
--- of the bytes.
+-- A text of edits is read as the text of a program is, and its names get those of arithmetic operations besides. So its
+-- outcome is a function of the bytes.
 --
--- To believe: all of this file, and below it `ReadsAs`, `AreNamesOf` and `IsTextAnswer` of prolog_reader, `outcome` and `AreLines` of
--- cti_session.
+-- To believe: all of this file, and below it `ReadsAs` of Programs.antt, `AreNamesOf` and `IsTextAnswer` of
+-- prolog_reader, `outcome` and `AreLines` of edit_texts.
 use Rattle.std.specs.Prelude.{◌≡◌, ℕ, List, [], Ok, Err}
 use Rattle.clause_normal.specs.Numbering.{operation_texts}
 use Rattle.edit_texts.specs.Edits.{Told, outcome}

@@ -1,7 +1,8 @@
-//! What the words ask for is answered, or memory runs out, where no load and no write fails. These are functions that do
-//! nothing, and whose clauses are proved.
+//! What the words ask for is answered, or memory runs out, where no load and no write fails. These are functions that
+//! do nothing, and whose clauses are proved.
 //!
-//! `command` promises `Outcome` for its status, and says when a load or a write fails: only where a count of faults rises.
+//! `command` promises `Outcome` for its status, and says when a load or a write fails: only where a count of faults
+//! rises.
 
 ghost use Rattle.std.specs.Prelude.{◌≡◌, ℕ, List, Some};
 ghost use Rattle.certificate.specs.Reading.{IsTextOf};
@@ -19,8 +20,8 @@ ghost use Rattle.cti_top.specs.declared.status.Status.{Status as TheStatus};
 ghost use Rattle.outside.specs.Told.{Map};
 ghost use Rattle.term_size.specs.declared.any_norm.NormName.{NormName};
 
-/// Where a file is a program, its modes are printed, and its certificate is checked; where edits can be done, their modes
-/// are printed; and a generated program, for which no file is loaded, is always one.
+/// Where a file is a program, its modes are printed, and its certificate is checked; where edits can be done, their
+/// modes are printed; and a generated program, for which no file is loaded, is always one.
 pub fn programs_are_answered()
     ensures infer { (told : Map) (words : List (List ℕ)) (status : TheStatus)
         → IsUnfailed told words status → (name bytes : List ℕ) (norm : NormName) (known : Known)
@@ -44,8 +45,8 @@ pub fn programs_are_answered()
         → IsDoneOrMemory status }
 {}
 
-/// Where a query is a goal of the program, it is run, and a loop of it is looked for: the search may be stopped, and a run
-/// may meet a value that is too large.
+/// Where a query is a goal of the program, it is run, and a loop of it is looked for: the search may be stopped, and a
+/// run may meet a value that is too large.
 pub fn queries_are_answered()
     ensures run { (told : Map) (words : List (List ℕ)) (status : TheStatus)
         → IsUnfailed told words status → (name query bytes : List ℕ) (steps : ℕ) (known : Known)
@@ -61,8 +62,8 @@ pub fn queries_are_answered()
         → IsLoopedOrMemory status }
 {}
 
-/// Where a text or a query is refused, its refusal is the answer. The certificate's file is not loaded where the program
-/// is refused.
+/// Where a text or a query is refused, its refusal is the answer. The certificate's file is not loaded where the
+/// program is refused.
 pub fn refusals_are_answered()
     ensures text { (told : Map) (words : List (List ℕ)) (status : TheStatus)
         → IsUnfailed told words status → (ask : Ask) (bytes : List ℕ) (kind at : ℕ)

@@ -25,7 +25,7 @@ use crate::running::run_of;
 use crate::session::session_of;
 use crate::source::{Source, SourceFault, program_in};
 use crate::status::Status;
-use command_words::{Origin, Request, WordsFault, request_in, usage_text};
+use command_words::{Origin, Request, RequestFault, request_in, usage_text};
 use outside::{Files, LoadFault};
 use prolog_reader::MOST_BYTES;
 use report::gen_source;
@@ -185,7 +185,7 @@ pub fn answer_words<F: Files>(
 {
     match request_in(alloc, words) {
         Ok(request) => answer_request(alloc, request, files),
-        Err(WordsFault::Usage) => Ok(usage(alloc)?),
-        Err(WordsFault::Memory) => Err(Status::Memory),
+        Err(RequestFault::Usage) => Ok(usage(alloc)?),
+        Err(RequestFault::Memory) => Err(Status::Memory),
     }
 }

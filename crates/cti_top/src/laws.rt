@@ -1,5 +1,5 @@
-//! What a valid certificate says of the runs of queries, and that a text has one answer. They are functions that do nothing, and whose
-//! clauses are proved.
+//! What a valid certificate says of the runs of queries, and that a text has one answer. They are functions that do
+//! nothing, and whose clauses are proved.
 
 ghost use Rattle.std.specs.Prelude.{◌≡◌, ◌≢◌, ◌≤◌, ◌<◌, ◌⊎◌, ℕ, List, [], ◌∷◌, Some, codes, false, nat_eq, length, option_map};
 ghost use Rattle.std.specs.List.{AllPairs};
@@ -26,8 +26,9 @@ ghost use Rattle.command_words.specs.Words.{asks, infer, check, lex, loop, norm_
 use cert_checker::valid_certificates_bound_their_modes;
 use ld_resolver::laws::{a_budget_of_all_nodes_finishes, bounded_goals_have_finitely_many_nodes};
 
-/// Where a certificate of a program is valid, each query that meets one of its modes has some number of nodes, and its run with a budget of
-/// at least that number is not stopped: there are no more nodes, and the status is Done, or Overflow where a value is too large.
+/// Where a certificate of a program is valid, each query that meets one of its modes has some number of nodes, and its
+/// run with a budget of at least that number is not stopped: there are no more nodes, and the status is Done, or
+/// Overflow where a value is too large.
 ///
 /// The names are those of the program's predicates, and no two are alike.
 pub fn valid_certificates_bound_their_nodes()
@@ -42,8 +43,8 @@ pub fn valid_certificates_bound_their_nodes()
     a_budget_of_all_nodes_finishes();
 }
 
-/// Bytes are exactly one program, with its names and operators, or they are refused, for one fault at one place; and never both. The same of
-/// a query of a program. No two names of a program have the same text.
+/// Bytes are exactly one program, with its names and operators, or they are refused, for one fault at one place; and
+/// never both. The same of a query of a program. No two names of a program have the same text.
 pub fn a_text_has_one_answer()
     ensures some { (bytes : List ℕ) → ((known : Known) × IsKnown bytes known)
         ⊎ ((kind : ℕ) × (at : ℕ) × IsRefused bytes kind at) }
@@ -69,7 +70,8 @@ pub fn a_text_has_one_answer()
         → IsQueryRefused known query kind at → ⊥ }
 {}
 
-/// The edits of a text tell exactly one thing, by its names, or the text is refused, for one fault at one place; and never both.
+/// The edits of a text tell exactly one thing, by its names, or the text is refused, for one fault at one place; and
+/// never both.
 pub fn edits_have_one_outcome()
     ensures some { (bytes : List ℕ)
         → ((names : List (List ℕ)) × (told : List Told) × IsToldBy bytes names told)
@@ -85,7 +87,8 @@ pub fn edits_have_one_outcome()
         → IsRefusedSession bytes kind at → ⊥ }
 {}
 
-/// A text within the limit is that of one certificate at most, or it is refused, at one line; and never both. A longer one is neither.
+/// A text within the limit is that of one certificate at most, or it is refused, at one line; and never both. A longer
+/// one is neither.
 pub fn a_certificate_has_one_answer()
     ensures certificate { (text : List ℕ) (c d : TheCertificate) → IsTextOf c text → IsTextOf d text
         → c ≡ d }

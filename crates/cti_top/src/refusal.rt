@@ -35,7 +35,8 @@ pub fn push_field(text: &mut Vec<u8>, number: u32) -> Result<(), AllocError>
     text.extend_from_slice(Buffer::new().format(number).as_bytes())
 }
 
-/// The line `refused(Subject,Line,Column,Kind).` with its newline. Lines and columns count from 1, and columns count bytes.
+/// The line `refused(Subject,Line,Column,Kind).` with its newline. Lines and columns count from 1, and columns count
+/// bytes.
 pub fn refusal_text(
     alloc: Global,
     subject: Subject,

@@ -22,10 +22,11 @@ pub enum Status {
     OutFault,
     /// There was no memory; nothing was written.
     Memory,
-    /// The query has more nodes than were asked for: the answers among those were written, or that no loop is among them.
+    /// The query has more nodes than were asked for: the answers among those were written, or that no loop is among
+    /// them.
     Stopped,
-    /// A value in an integer test was too large, where the search ended; the answers before it were written. It comes only where a
-    /// program or a query has integer tests.
+    /// A value in an integer test was too large, where the search ended; the answers before it were written. It comes
+    /// only where a program or a query has integer tests.
     Overflow,
 }
 

@@ -35,8 +35,8 @@ pub fn command<F: Files, S: Sink>(
     ensures outcome { Outcome (F.told files.old) (map (λ w. w.now) words.entry.now)
         (S.taken out.old) (S.taken out.new) result }
 
-    // A fault of a file comes only from a failed load of a file that the words name, of the certificate's only where the
-    // program is read; and one of the sink only from a failed write.
+    // A fault of a file comes only from a failed load of a file that the words name, of the certificate's only where
+    // the program is read; and one of the sink only from a failed write.
     ensures file_fault { result ≡ Status.FileFault
         → (ask : Ask) × (asks (map (λ w. w.now) words.entry.now) ≡ Some ask)
         × FileRose (F.told files.old) ask (F.faults files.old) (F.faults files.new) }

@@ -39,7 +39,8 @@ fn no_text(alloc: Global, line: u64, reason: Reason) -> Result<Vec<u8>, AllocErr
     Ok(text)
 }
 
-/// The line `yes.`, or `no(Line,Reason).`, with its newline. Lines count from 1, and reasons are numbered from 1 to 11, in their order.
+/// The line `yes.`, or `no(Line,Reason).`, with its newline. Lines count from 1, and reasons are numbered from 1 to 11,
+/// in their order.
 pub fn verdict_text(alloc: Global, v: Verdict) -> Result<Vec<u8>, AllocError>
     ensures { IfOk result (λ text. text.items ≡ verdict_line v) }
 {

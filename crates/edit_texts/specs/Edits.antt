@@ -1,10 +1,11 @@
 -- To believe, for sessions.
 -- The edits of a text, and what they make of a list of clauses.
 --
--- Each clause of the text is an edit: add(T), del(K) or modes(N/A). A directive that says nothing in the text of a program says nothing
--- here. Edits are done in order, and the first that cannot be done refuses the text.
+-- Each clause of the text is an edit: add(T), del(K) or modes(N/A). A directive that says nothing in the text of a
+-- program says nothing here. Edits are done in order, and the first that cannot be done refuses the text.
 --
--- To believe: all of this file, and in clause_normal Definite.antt, which says what the program of clauses is, and why one is not added.
+-- To believe: all of this file, and in clause_normal Definite.antt, which says what the program of clauses is, and why
+-- one is not added.
 use Rattle.std.specs.Prelude.{ℕ, ◌-◌, ℤ, pos, negsuc, ◌&&◌, nat_le, List, [], ◌∷◌, ◌++◌, Option, Some, None, Result, Ok, Err, codes, length, position, if◌then◌else◌}
 use Rattle.std.specs.List.{remove as removed}
 use Rattle.clause_normal.specs.Definite.{added_fault, program_of}
@@ -18,8 +19,8 @@ use Rattle.prolog_terms.specs.Clauses.{Clause, place}
 use Rattle.edit_texts.specs.declared.edits_fault.EditKind.{EditKind}
 use Rattle.edit_texts.specs.declared.edits_fault.EditKind.TheVariants as kind
 
--- what a clause of the text asks for: nothing; that this clause is added, or the one of this number removed; or the modes of the predicate of
--- this name and arity. Or it is no edit
+-- what a clause of the text asks for: nothing; that this clause is added, or the one of this number removed; or the
+-- modes of the predicate of this name and arity. Or it is no edit
 pub data Edit : Type 0 where
   nothing : Edit
   add : Clause → Edit

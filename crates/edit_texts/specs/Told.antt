@@ -1,6 +1,6 @@
 -- To believe, for sessions.
--- What is printed for a text of edits: a line for each of those that ask for modes, with the modes of an exact certificate of the program as
--- it stands then.
+-- What is printed for a text of edits: a line for each of those that ask for modes, with the modes of an exact
+-- certificate of the program as it stands then.
 --
 -- To believe: all of this file, and what makes a certificate valid and exact.
 use Rattle.std.specs.Prelude.{◌≡◌, ℕ, List, [], ◌∷◌, ◌++◌, Ok}

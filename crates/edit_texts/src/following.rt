@@ -30,8 +30,8 @@ pub fn first_program(alloc: Global, names: &mut Names) -> Result<KeptProgram, Al
     KeptProgram::new(alloc, program)
 }
 
-/// Puts the program of these clauses in the place of an earlier one, that of `count` clauses. `since` says which of those
-/// each of these is.
+/// Puts the program of these clauses in the place of an earlier one, that of `count` clauses. `since` says which of
+/// those each of these is.
 ///
 /// After an error all is as before.
 pub fn follow(

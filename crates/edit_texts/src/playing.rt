@@ -295,8 +295,8 @@ fn play_all(
 
 /// Does the edits of a text, from no clauses on, and gives what is printed: a line for each edit that asks for modes.
 ///
-/// The names of arithmetic operations are added. Fails with `Refused` at the first edit that cannot be done, and its place;
-/// that memory runs out only where a growth was refused is said by no clause.
+/// The names of arithmetic operations are added. Fails with `Refused` at the first edit that cannot be done, with its
+/// place in bytes from 0, or with `Memory`; no clause says that memory was short then.
 pub fn play(alloc: Global, edits: ReadClauses, names: &mut Names) -> Result<Vec<u8>, EditsFault>
     requires fit { AreFit (length names.old) edits }
     requires room { length names.old < 2 ^ 32 - 6 }

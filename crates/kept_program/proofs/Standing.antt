@@ -1,5 +1,5 @@
--- Where a component has the greatest preconditions of an old one: where it stands for that one, or where both are of predicates
--- without clauses.
+-- Where a component has the greatest preconditions of an old one: where it stands for that one, or where both are of
+-- predicates without clauses.
 use Rattle.std.proofs.Common.{◌≡◌, ℕ, Bool, true, false, if◌then◌else◌, IsSomeAnd, inl, inr, List, [], ◌∷◌, length, slice_get, Option, Some, ap, sym, subst, ◌∙◌}
 use Rattle.call_components.specs.Partition.{Partition, IsIn}
 use Rattle.cti_terms.specs.Arithmetic.{kind_of}

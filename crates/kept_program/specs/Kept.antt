@@ -1,5 +1,6 @@
 -- Private.
--- What is kept of a program, and that it is right: each component has what makes its part of a certificate, by term size.
+-- What is kept of a program, and that it is right: each component has what makes its part of a certificate, by term
+-- size.
 --
 -- To believe: nothing of this file, since what follows for the certificate is proved (`KeptProgram::certified`).
 use Rattle.std.specs.Prelude.{◌≡◌, ◌<◌, ℕ, List, [], length}
@@ -32,8 +33,8 @@ use Rattle.kept_program.specs.declared.kept.KeptNumbers.{KeptNumbers}
 use Rattle.kept_program.specs.declared.kept.KeptSets.{KeptSets}
 
 module _ (p : Listing) (comps : Partition) where
-  -- size rows with their proofs and steps, what is found of mappings, and the parts that predicates have in these; all numbers are
-  -- below 2^127
+  -- size rows with their proofs and steps, what is found of mappings, and the parts that predicates have in these; all
+  -- numbers are below 2^127
   pub record AreKeptNumbers (k : KeptNumbers) : Type 0 where
     pub sizes : AreSolved (all_of fits) size_row p comps k.sizes
     pub found : AreFound size_row p comps (rows_of k.sizes.sizes.rows) k.found

@@ -11,7 +11,8 @@ use Rattle.level_systems.specs.declared.found.Found.{Found}
 use Rattle.numeric_model.specs.declared.step.Step.{Step}
 use Rattle.report.specs.Solution.{facts_with}
 
--- a program with its components, the parts of its certificate, the steps of each component, and what was found of its mappings
+-- a program with its components, the parts of its certificate, the steps of each component, and what was found of its
+-- mappings
 pub record ProgramParts : Type 0 where
   pub program : Listing
   pub components : Partition

@@ -1,7 +1,8 @@
 -- Private.
 -- What an edit of a program keeps of the predicates that it leaves untouched.
 --
--- A predicate is known by its name and arity: after the edit it may have another number, and its mappings may have others, too.
+-- A predicate is known by its name and arity: after the edit it may have another number, and its mappings may have
+-- others, too.
 --
 -- To believe: all of this file.
 use Rattle.std.specs.Prelude.{◌≡◌, ◌↔◌, ℕ, Bool, true, List, slice_get, Some}

@@ -88,11 +88,11 @@ impl KeptProgram {
         })
     }
 
-    /// Puts another program in the place of this one. `kept` says of each of its clauses which clause of this program it
-    /// is, if it is one, where clauses count from 1. Components that stand for old ones keep what was found of them.
+    /// Puts another program in the place of this one. `kept` says of each of its clauses which clause of this program
+    /// it is, if it is one, where clauses count from 1. Components that stand for old ones keep what was found of them.
     ///
-    /// Predicates that the edit leaves untouched keep their size rows, ground rows and measures. After an error all is as
-    /// before.
+    /// Predicates that the edit leaves untouched keep their size rows, ground rows and measures. After an error all is
+    /// as before.
     pub fn edit(
         &mut self,
         alloc: Global,
@@ -102,7 +102,8 @@ impl KeptProgram {
         requires kept { AreKept self.old.program program kept.now }
         ensures program { OnOk result (self.new.program ≡ program) }
 
-        // A set of predicates is untouched where it is closed under calls and has the same clauses, all of which are kept.
+        // A set of predicates is untouched where it is closed under calls and has the same clauses, all of which are
+        // kept.
         ensures untouched { OnOk result ((set : Pred → Bool)
             → AreUntouched self.old.program program set
             → AllKept self.old.program program set kept.now

@@ -5,7 +5,8 @@
 //! size rows of the atoms before the call. `mappings` finds the minimal supports of such mappings, or a refutation, which
 //! shows that there is none. At a set of positions, a point of one linear system is a mapping with multipliers that show
 //! its falls; multipliers that refute the system are points of the calls' variables, which rule mappings out. The falls
-//! and the refutation are tested as the check of a certificate tests them. What is found is said in `specs/Found.antt`.
+//! and the refutation are tested as the check of a certificate tests them. What is found is said in `specs/Found.antt`
+//! of `level_systems`.
 #![tactic(auto)]
 
 mod excluding;

@@ -47,7 +47,7 @@ fn is_passed(walked: &Walked, set: &[u32]) -> bool
     is_above(walked.found.as_slice(), set) || is_above(walked.blown.as_slice(), set)
 }
 
-/// The same numbers once more.
+/// A copy of numbers.
 pub fn copied(alloc: Global, set: &[u32]) -> Result<Sequence<u32>, AllocError>
     ensures { IfOk result (λ copy. copy ≡ set.now) }
 {

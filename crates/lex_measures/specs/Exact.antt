@@ -1,12 +1,12 @@
 -- To believe, for the modes by lists of mappings.
 -- When a certificate of lists is exact: it says the most that may be said by its method.
 --
--- Its size rows come from a legal chain, whose steps it notes. Its lists, their drops and its stuck sets are those that are
--- found of each recursive component, and where the search for some list was given up, the component is noted. Its ground
--- rows, preconditions and modes are exact for these lists. Sizes are term sizes.
+-- Its size rows come from a legal chain, whose steps it notes. Its lists, their drops and its stuck sets are those that
+-- are found of each recursive component, and where the search for some list was given up, the component is noted. Its
+-- ground rows, preconditions and modes are exact for these lists. Sizes are term sizes.
 --
--- To believe: all of this file, over FoundLists.antt of `lex_turns`, which says what is found, and over ChainNotes.antt,
--- ExactModes.antt and Leading.antt of `cert_assembly`.
+-- To believe: all of this file, over FoundLists.antt of `lex_turns`, which says what is found, and over
+-- ChainNotes.antt, ExactModes.antt and Leading.antt of `cert_assembly`.
 use Rattle.std.specs.Prelude.{◌≡◌, ◌==◌, ◌&&◌, ℕ, suc, true, if◌then◌else◌, List, [], ◌∷◌, ◌++◌, map, length, slice_get, Option, None, Some}
 use Rattle.std.specs.List.{flat_map}
 use Rattle.call_components.specs.Partition.{AreComponents, IsIn, Partition}
@@ -50,7 +50,8 @@ place_in [] k j = None
 place_in (d ∷ ds) k j = if (d.clause == k) && (d.call == j) then Some d.by else place_in ds k j
 
 module _ (p : Listing) (comps : Partition) (parts : LexParts) where
-  -- of the recursive component c these lists were found, or this stuck set: and they are what is printed, in their order
+  -- of the recursive component c these lists were found, or this stuck set: and they are what is printed, in their
+  -- order
   pub record ComponentIsExact (c : ℕ) (found : FoundLists) : Type 0 where
     pub are_found : AreFoundLists size_row p comps (rows_of parts.rows) c found
     pub lists : (q : ℕ) → IsIn comps c q → map (map Some) (items_of parts.lists q) ≡ map (parts_in q) found.lists

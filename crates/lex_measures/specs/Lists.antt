@@ -27,7 +27,8 @@ abbrev pub place_or_none : Option (List Multipliers) → List Multipliers
 place_or_none None = []
 place_or_none (Some bys) = bys
 
--- the multipliers of a call up to its place in a list; none, where the list has none. The clause and the call count from 1
+-- the multipliers of a call up to its place in a list; none, where the list has none. The clause and the call count
+-- from 1
 abbrev pub place_of : ℕ → ℕ → MeasureList → List Multipliers
 place_of k j l = place_or_none (place_in l.drops k j)
 

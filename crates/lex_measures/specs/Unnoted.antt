@@ -1,9 +1,9 @@
 -- Private.
--- Where no note of an exact certificate says that the search for lists of a component was given up, the component's modes
--- are the best over all its lists of linear mappings.
+-- Where no note of an exact certificate says that the search for lists of a component was given up, the component's
+-- modes are the best over all its lists of linear mappings.
 --
--- To believe: nothing. The law leads from a whole certificate to what all lists that descend give together. A component of
--- more than 12 argument positions is left out, since not all its supports are looked at.
+-- To believe: nothing. The law leads from a whole certificate to what all lists that descend give together. A component
+-- of more than 12 argument positions is left out, since not all its supports are looked at.
 use Rattle.std.specs.Prelude.{◌≡◌, ◌<◌, ◌≤◌, ◌↔◌, ℕ, Bool, true, IsTrue, List, length, slice_get, Some}
 use Rattle.std.specs.List.{AllByRecursion, list_any}
 use Rattle.call_components.specs.Partition.{IsIn, Partition}
@@ -30,8 +30,8 @@ use Rattle.termination_model.specs.mappings.View.{all_upper}
 use Rattle.lex_measures.specs.Exact.{IsExact}
 
 module _ (p : Listing) (comps : Partition) (parts : LexParts) (c : ℕ) where
-  -- a list of mappings of the component that descends, with its greatest rows: those are true wherever some mapping of the
-  -- list has a positive coefficient
+  -- a list of mappings of the component that descends, with its greatest rows: those are true wherever some mapping of
+  -- the list has a positive coefficient
   pub record IsSolvedList (n : Solved) : Type 0 where
     pub support : List ℕ
     pub has : HasList size_row p comps (rows_of parts.rows) c support

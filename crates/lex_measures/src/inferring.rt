@@ -15,7 +15,7 @@ use std::alloc::{AllocError, Global};
 
 /// The certificate of a program by lists of level mappings, with the notes of how its size rows came about.
 ///
-/// The names are those of the program's predicates. `check` answers yes to it.
+/// The names are those of the program's predicates. `check` of `lex_checker` is true of it.
 pub fn infer(alloc: Global, p: &Program, names: &Names) -> Result<LexCertificate, AllocError>
     requires { AreNamed names.now p.now.preds }
 

@@ -16,7 +16,7 @@ use lex_turns::FoundLists;
 use sequences::Sequence;
 use std::alloc::{AllocError, Global};
 
-/// The same predicate's text once more.
+/// A copy of a predicate's text.
 fn copied_text(alloc: Global, pred: &PredText) -> Result<PredText, AllocError>
     ensures { IfOk result (λ copy. copy ≡ pred.now) }
 {
@@ -26,7 +26,7 @@ fn copied_text(alloc: Global, pred: &PredText) -> Result<PredText, AllocError>
     })
 }
 
-/// The same rows once more.
+/// A copy of rows.
 fn copied_rows(
     alloc: Global,
     rows: &[Sequence<i128>],

@@ -29,7 +29,7 @@ fn zero_lists(alloc: Global, width: u32) -> Result<Sequence<Sequence<LevelPart>>
     Ok(lists)
 }
 
-/// The same stuck set once more, if there is one.
+/// A copy of the stuck set, if there is one.
 fn copied_if(alloc: Global, stuck: &Option<Refutation>) -> Result<Option<Refutation>, AllocError>
     ensures { IfOk result (λ copy. copy ≡ stuck.now) }
 {

@@ -7,7 +7,7 @@ use level_systems::Measure;
 use sequences::Sequence;
 use std::alloc::{AllocError, Global};
 
-/// The same part once more.
+/// A copy of a part.
 fn copied_measure(alloc: Global, measure: &Measure) -> Result<Measure, AllocError>
     ensures { IfOk result (λ copy. copy ≡ measure.now) }
 {
@@ -17,7 +17,7 @@ fn copied_measure(alloc: Global, measure: &Measure) -> Result<Measure, AllocErro
     })
 }
 
-/// The same mapping once more.
+/// A copy of a mapping.
 pub(crate) fn copied_measures(
     alloc: Global,
     measures: &[Measure],
@@ -31,7 +31,7 @@ pub(crate) fn copied_measures(
     Ok(copies)
 }
 
-/// The same sets once more.
+/// A copy of sets.
 pub(crate) fn copied_sets(
     alloc: Global,
     sets: &[Sequence<u32>],

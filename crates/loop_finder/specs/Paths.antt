@@ -13,7 +13,8 @@ pub record IsPath (p : Listing) (g : Goal) (numbers : List ℕ) (goals : List Go
   pub count : length goals ≡ suc (length numbers)
   pub each : (i : ℕ) (h : Goal) → slice_get goals i ≡ Some h → left_after p g (take i numbers) ≡ Some h
 
--- a goal that is followed by goals with no fewer atoms, the last of which has a first atom that is more general than its own
+-- a goal that is followed by goals with no fewer atoms, the last of which has a first atom that is more general than
+-- its own
 pub record IsCycleAt (goals : List Goal) (i : ℕ) : Type 0 where
   pub before : Goal
   pub end : ℕ

@@ -22,7 +22,7 @@ pub enum Looked {
     /// A loop: the steps before it, and its cycle.
     Loop { before: Vec<u32>, cycle: Vec<u32> },
 
-    /// None of them is a loop, and there are so many.
+    /// None of them is a loop; there are this many.
     NoLoop { steps: u64 },
 
     /// None of them is a loop, and there are more.
@@ -63,11 +63,11 @@ fn loop_of(alloc: Global, numbers: &[u32], start: usize) -> Result<Looked, Alloc
     Ok(Looked::Loop { before, cycle })
 }
 
-/// Looks for a loop among the derivations from a goal of at most `depth` steps, in lexicographic order, and at no more than
-/// the first 100,000 of them.
+/// Looks for a loop among the derivations from a goal of at most `depth` steps, from 1 to 12, in lexicographic order,
+/// and at no more than the first 100,000 of them.
 ///
-/// Besides where there is no memory, it is out of memory where a goal that is made has more than 100,000 nodes of terms or
-/// 4,000 levels of them, and where the search has gone over 100,000,000 nodes.
+/// Fails where there is no memory, where a goal that is made has more than 100,000 nodes or 4,000 levels of terms, and
+/// where the search has gone over 100,000,000 nodes.
 ///
 /// Source: derivations that come back to a more general atom, as in Payet and Mesnard 2006.
 pub fn find(alloc: Global, program: &Program, goal: &Goal, depth: u32) -> Result<Looked, AllocError>

@@ -3,7 +3,7 @@
 //! `find` looks for a derivation that comes back to an atom that is more general than one that it passed, and what it
 //! finds is proved to go on for ever. Goals are plain copies here, since few of them are kept at a time.
 //!
-//! Depends on `cti_terms`, and on `unifier`.
+//! Depends on `cti_terms`, on `unifier`, and on `indexmap`, which finds the term that a variable is matched with.
 #![tactic(auto)]
 
 mod copying;

@@ -16,13 +16,11 @@ use unifier::heads::{Stacks, unify_head};
 fn counter_after(fresh: u32, vars: u32) -> Result<u32, AllocError>
     ensures { IfOk result (λ n. n ≡ fresh + vars) }
 {
-    match fresh.checked_add(vars) {
-        Some(sum) => Ok(sum),
-        None => Err(AllocError),
-    }
+    fresh.checked_add(vars).ok_or(AllocError)
 }
 
-/// The goal that a clause leaves of a first atom and others, where its head is of the atom's predicate and unifies with it.
+/// The goal that a clause leaves of a first atom and others, where its head is of the atom's predicate and unifies with
+/// it.
 fn left_by_clause<'p>(
     alloc: Global,
     atom: &'p Atom,

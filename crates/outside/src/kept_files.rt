@@ -31,7 +31,8 @@ impl KeptTexts {
     }
 }
 
-/// A store of files, another one's, that keeps the texts that it loads. Nothing of what a caller learns of the other is changed.
+/// A store of files, another one's, that keeps the texts that it loads. Nothing of what a caller learns of the other is
+/// changed.
 pub struct KeptFiles<F: Files + Drop> {
     pub inner: F,
     pub kept: KeptTexts,
@@ -58,7 +59,8 @@ impl<F: Files + Drop> KeptFiles<F> {
         }
     }
 
-    /// The text that the load of a number gave, from 0, of the loads that gave one. It is empty where there was none, or it was not kept.
+    /// The text that the load of a number gave, from 0, of the loads that gave one. It is empty where there was none,
+    /// or it was not kept.
     pub fn text(&self, number: usize) -> &[u8]
         ensures { result.now ≡ text_at (map (λ t. t.items) self.now.kept.texts.items) number }
     {

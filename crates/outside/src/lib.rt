@@ -1,7 +1,7 @@
 //! The outside: stores of named files and sinks of bytes, as traits, with those of memory and those of the machine.
 //!
-//! Each counts its faults, and each may say what it holds. Over those that do (`MemFiles`, `MemSink`) the clauses of a caller reach from
-//! the bytes of a file to the bytes of the output.
+//! Each counts its faults, and each may say what it holds. Over those that do (`MemFiles`, `MemSink`) the clauses of a
+//! caller reach from the bytes of a file to the bytes of the output.
 #![tactic(auto)]
 
 mod files;

@@ -14,9 +14,9 @@ use std::collections::BTreeMap;
 
 /// Files in memory, whose loads fail where a list says so. Contracts see its map.
 ///
-/// Each load adds one to `calls`. It fails where the new number stands in `fails`, whatever is asked for, or where `files` has no such
-/// name; else it gives the bytes. So `calls` is 0 in a new store, and then `fails` numbers the loads from 1. A store with a greater
-/// `calls` is one that has had that many loads already.
+/// Each load adds one to `calls`. It fails where the new number stands in `fails`, whatever is asked for, or where
+/// `files` has no such name; else it gives the bytes. So `calls` is 0 in a new store, and then `fails` numbers the
+/// loads from 1. A store with a greater `calls` is one that has had that many loads already.
 #[derive(Drop)]
 pub struct MemFiles {
     /// The bytes at each name.
@@ -59,7 +59,8 @@ impl Files for MemFiles {
             → self.new.faults ≡ self.old.faults }
         ensures stays { Some (held self.new.files) ≡ Some (held self.old.files) }
 
-        // A load counts as a call, and as a fault where it fails; it fails exactly where its number is listed or the name is not there.
+        // A load counts as a call, and as a fault where it fails; it fails exactly where its number is listed or the
+        // name is not there.
         ensures calls { self.new.calls ≡ one_more self.old.calls }
         ensures faults { IsErrOf result Failed → self.new.faults ≡ one_more self.old.faults }
         ensures fails { (IsErrOf result Failed → ⊥)

@@ -10,9 +10,10 @@ use crate::sink::{Sink, SinkFault};
 
 /// A sink in memory, whose writes fail where a list says so. Contracts see the bytes that it took.
 ///
-/// Each write adds one to `calls`. It fails, and takes nothing, where the new number stands in `fails`; where a piece that is not
-/// empty meets a `chunk` of 0; or where `taken` finds no memory to grow. Else it takes the first `chunk` bytes of the piece, or all of
-/// it where it has fewer. So `calls` is 0 in a new sink, and then `fails` numbers the writes from 1.
+/// Each write adds one to `calls`. It fails, and takes nothing, where the new number stands in `fails`; where a piece
+/// that is not empty meets a `chunk` of 0; or where `taken` finds no memory to grow. Else it takes the first `chunk`
+/// bytes of the piece, or all of it where it has fewer. So `calls` is 0 in a new sink, and then `fails` numbers the
+/// writes from 1.
 #[derive(Drop)]
 pub struct MemSink {
     /// The bytes taken, from those that were there at the start on.

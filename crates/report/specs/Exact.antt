@@ -45,7 +45,8 @@ module _ (expression : ℕ → Tree → List ℤ) (p : Listing) (comps : Partiti
   abbrev pub full : ℕ → List ℕ
   full c = columns 1 (length (positions_in p comps c))
 
-  -- a component of more than 12 positions: one mapping at most, none of whose positions can be left out, or a refutation
+  -- a component of more than 12 positions: one mapping at most, none of whose positions can be left out, or a
+  -- refutation
   pub record LargeIsExact (c q : ℕ) (blown : List (List ℕ)) : Type 0 where
     pub few : length (items_of parts.levels q) ≤ 1
     pub at : (m : ℕ) → m < length (items_of parts.levels q) → IsZeroOutside (positions_in p comps c) (mapping_in expression p comps parts c m)
@@ -61,7 +62,8 @@ module _ (expression : ℕ → Tree → List ℤ) (p : Listing) (comps : Partiti
     pub large : 12 < length (positions_in p comps c) → LargeIsExact c q blown
     -- a refutation stands exactly where no mapping decreases and the full support was not given up
     pub refuted : IsRefuted parts q ↔ (((s : List ℕ) → HasMapping expression p comps parts c s → ⊥) × (In (full c) blown → ⊥))
-    -- what was given up are sets of positions. Each stands once, and is blown: elimination is, or a number does not fit in the check of what it finds
+    -- what was given up are sets of positions. Each stands once, and is blown: elimination is, or a number does not fit
+    -- in the check of what it finds
     pub sets : (s : List ℕ) → In s blown → IsSet 1 (suc (length (positions_in p comps c))) s
     pub once : AreOnce blown
     -- no such set is above the support of a printed mapping

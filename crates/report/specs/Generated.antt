@@ -1,7 +1,9 @@
 -- To believe, for the command.
--- The text of a program of the given number of predicates, for trying the analysis at any size. Predicate k is named p with the number k.
+-- The text of a program of the given number of predicates, for trying the analysis at any size. Predicate k is named p
+-- with the number k.
 --
--- Predicates come by threes: one appends lists, the next reverses a list by the one before, and the third reverses it twice.
+-- Predicates come by threes: one appends lists, the next reverses a list by the one before, and the third reverses it
+-- twice.
 --
 -- To believe: all of this file.
 use Rattle.std.specs.Prelude.{ℕ, List, ◌++◌, ◌==◌, ◌-◌, ◌%◌, codes, decimal, flat_map, if◌then◌else◌}

@@ -1,6 +1,6 @@
 -- To believe, for the command.
--- How the facts of a certificate begin, by the norm that was asked for: with version 1 for term size, and with version 2
--- and the norm's name for list size.
+-- How the facts of a certificate begin, by the norm that was asked for: with version 1 for term size, and with version
+-- 2 and the norm's name for list size.
 --
 -- To believe: all of this file, over `head_facts`.
 use Rattle.std.specs.Prelude.{◌≡◌, List, ◌++◌, Option, None, Some}

@@ -33,8 +33,8 @@ use std::alloc::{AllocError, Global};
 use term_size::{AnyNorm, NormName};
 use termination_model::{SizeRows, Sizes};
 
-/// What a certificate is made of: its parts, and what its notes tell, which are the steps of its chain and what was found of
-/// each component.
+/// What a certificate is made of: its parts, and what its notes tell, which are the steps of its chain and what was
+/// found of each component.
 pub(crate) struct Assembled {
     pub(crate) parts: Parts,
     pub(crate) steps: Sequence<Step>,
@@ -203,8 +203,8 @@ fn find_all(
     Ok(found)
 }
 
-/// The parts of a certificate that names its norm so, of what the model of sizes and the search for mappings give. The size
-/// rows are moved into them.
+/// The parts of a certificate that names its norm so, of what the model of sizes and the search for mappings give. The
+/// size rows are moved into them.
 fn parts_of(
     alloc: Global,
     measured: &Measured,

@@ -66,8 +66,8 @@ fn push_predicate(text: &mut Vec<u8>, k: u32) -> Result<(), AllocError>
     }
 }
 
-/// The text of a program of `n` predicates: for each three of them, one that appends lists, one that reverses a list by the one
-/// before, and one that reverses it twice.
+/// The text of a program of `n` predicates, from 1 to 300: of each three, one that appends lists, one that reverses a
+/// list by the one before, and one that reverses it twice.
 #[tactic(auto, using(crate::proofs::GeneratedLaws::generated_short))]
 pub fn gen_source(alloc: Global, n: u32) -> Result<Vec<u8>, AllocError>
     requires some { 1 ≤ n }

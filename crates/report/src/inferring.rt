@@ -31,8 +31,8 @@ pub fn infer(
     // What the certificate claims holds.
     ensures valid { IfOk result (λ c. IsValid p.now names.now c.facts) }
 
-    // It claims the most that its method may: exactly the minimal modes for its size rows, ground rows and mappings, and
-    // these are all that there are.
+    // It claims the most that its method may: exactly the minimal modes for its size rows, ground rows and mappings,
+    // and these are all that there are.
     ensures exact { IfOk result (λ c. IsExact p.now names.now c.facts) }
 
     // So each query that meets one of its modes has bounded derivations.
@@ -56,8 +56,8 @@ pub fn infer(
     )
 }
 
-/// The text of the certificate that [`infer`] gives. It holds neither the certificate nor its notes, which take more than the
-/// text.
+/// The text of the certificate that [`infer`] gives. It holds neither the certificate nor its notes, which take more
+/// than the text.
 pub fn infer_text(
     alloc: Global,
     p: &Program,

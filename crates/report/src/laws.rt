@@ -29,8 +29,8 @@ pub fn exact_modes_are_best()
         → BestModes expression p comps parts truth }
 {}
 
-/// Where no note of an exact certificate says that something of a component was given up, the component's modes are the best over
-/// all its linear mappings.
+/// Where no note of an exact certificate says that something of a component was given up, the component's modes are the
+/// best over all its linear mappings.
 pub fn unnoted_modes_are_best()
     ensures { UnnotedAreBest }
 {}
@@ -45,8 +45,8 @@ pub fn refutations_are_shown()
     ensures { RefutationsAreShown }
 {}
 
-/// The facts of a solution, which `certificate_of` gives, are a certificate that is valid and exact, by term size, and whose
-/// modes bound their queries.
+/// The facts of a solution, which `certificate_of` gives, are a certificate that is valid and exact, by term size, and
+/// whose modes bound their queries.
 ///
 /// The names are those of the program's predicates, and no two are alike.
 pub fn solutions_are_exact()

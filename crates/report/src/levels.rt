@@ -72,7 +72,7 @@ fn falls_of(
     Ok(falls)
 }
 
-/// The same refutation once more, if there is one.
+/// A copy of a refutation, if there is one.
 fn copied_if(
     alloc: Global,
     refutation: &Option<Refutation>,
@@ -135,7 +135,8 @@ impl Mapped<'_> {
         Ok(levels)
     }
 
-    /// The multipliers of a call in the body of a clause, for each mapping; none, where the call is to a lower component.
+    /// The multipliers of a call in the body of a clause, for each mapping; none, where the call is to a lower
+    /// component.
     fn falls_at(
         &self,
         alloc: Global,

@@ -1,8 +1,8 @@
-//! Inference: the certificate of a program, with all the modes that its size models, ground rows and mappings give.
+//! Inference: the certificate of a program, with all the modes that its size rows, ground rows and mappings give.
 //!
 //! What makes a certificate exact is `IsExact` of `specs/Exact.antt`. Laws say what follows from that.
 //!
-//! Depends on the engines, which give the parts of a certificate, and on `cert_structure`, which writes its facts.
+//! Depends on the engines, which give the parts of a certificate, and on `cert_writing`, which writes its facts.
 #![tactic(auto)]
 
 mod assembling;

@@ -1,9 +1,9 @@
 -- To believe, for the command.
 -- The spelling of terms, without spaces.
 --
--- A name is spelled as `spelling` of prolog_tokens says, an integer in decimal, and variable 0 is `_1`. A list stands in brackets: its cell
--- is the name `.` with two arguments, its end is the name `[]`, and another tail stands after a bar. Any other term is its name with its
--- arguments in parentheses, where it has any.
+-- A name is spelled as `spelling` of prolog_tokens says, an integer in decimal, and variable 0 is `_1`. A list stands
+-- in brackets: its cell is the name `.` with two arguments, its end is the name `[]`, and another tail stands after a
+-- bar. Any other term is its name with its arguments in parentheses, where it has any.
 --
 -- To believe: all of this file.
 use Rattle.std.specs.Prelude.{ℕ, suc, ◌==◌, Bool, false, List, [], ◌∷◌, ◌++◌, if◌then◌else◌, slice_index_or, codes, decimal, flat_map}

@@ -1,5 +1,6 @@
 -- Private.
--- The text of a whole run, and how it ended. The command says the same in words of its own: nothing here has to be believed.
+-- The text of a whole run, and how it ended. The command says the same in words of its own: nothing here has to be
+-- believed.
 use Rattle.std.specs.Prelude.{◌≡◌, ◌↔◌, ℕ, List, map, length}
 use Rattle.cti_terms.specs.declared.derivation.Goal.{Goal}
 use Rattle.cti_terms.specs.Listing.{Listing}

@@ -139,11 +139,11 @@ pub(crate) fn push_ran(totals: Totals, out: &mut Vec<u8>) -> Result<(), AllocErr
     out.extend_from_slice(b").\n")
 }
 
-/// The text of what a run of this program has found: a line for each answer in order, and a line that says how many nodes were
-/// looked at, how long the longest derivation was, and whether there were more.
+/// The text of what a run of this program has found: a line for each answer in order, and a line that says how many
+/// nodes were looked at, how long the longest derivation was, and whether there were more.
 ///
-/// A number that the names do not have is spelled as the empty name, and a predicate that the program does not have by the
-/// first name.
+/// A number that the names do not have is spelled as the empty name, and a predicate that the program does not have by
+/// the first name.
 pub fn run_text(
     alloc: Global,
     names: &Names,

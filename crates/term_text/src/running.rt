@@ -17,10 +17,11 @@ pub struct TextOfRun {
     pub ending: Ending,
 }
 
-/// Runs a goal of a program, and gives what `run_text` says of the run.
+/// Runs a goal of a program, and gives what `run_text` says of the run. `budget` is how many derivations are looked at,
+/// besides the empty one.
 ///
-/// Each answer is dropped once its line is written: answers may share terms, and then all of them need far more memory than
-/// the text does.
+/// Each answer is dropped once its line is written: answers may share terms, and then all of them need far more memory
+/// than the text does.
 pub fn text_of_run(
     alloc: Global,
     names: &Names,
