@@ -375,6 +375,41 @@ checked_or_memory told words status text name certificate bytes certified c (cer
     let same = same_bytes told d certificate e certified (ap certificate_of (one_ask words _ _ a asked)) held u in
     absurd (r.none c (rw same is))
 
+-- a certificate's text that is none is refused, and so are all texts there
+pub not_certified : (told : Map) (words : List (List ℕ)) (status : Status) (text name certificate certified : List ℕ) → IsAnswer told words status text
+    → asks words ≡ Some (check name certificate) → HasFile told certificate certified → ((c : Certificate) → IsTextOf c certified → ⊥) → status ≡ Refused
+not_certified told words status text name certificate certified (usage n s e) asked held none = absurd (none-some _ (sym n ∙ asked))
+not_certified told words status text name certificate certified (inferred f b r a t m s) asked held none = absurd (unlike words _ _ asked a refl)
+not_certified told words status text name certificate certified (lexed f b a t m s) asked held none = absurd (unlike words _ _ asked a refl)
+not_certified told words status text name certificate certified (played f b a t m s) asked held none = absurd (unlike words _ _ asked a refl)
+not_certified told words status text name certificate certified (summed n a m s) asked held none = absurd (unlike words _ _ asked a refl)
+not_certified told words status text name certificate certified (ran f q n b a t r) asked held none = absurd (unlike words _ _ asked a refl)
+not_certified told words status text name certificate certified (looped f q d b a t r) asked held none = absurd (unlike words _ _ asked a refl)
+not_certified told words status text name certificate certified (checked f d b e k a t i u h) asked held none =
+    let same = same_bytes told d certificate e certified (ap certificate_of (one_ask words _ _ a asked)) held u in
+    absurd (none h.certificate (subst (λ (x : List ℕ). IsTextOf h.certificate x) same h.is))
+not_certified told words status text name certificate certified (program_too_long k a m s e) asked held none = s
+not_certified told words status text name certificate certified (program_refused k b kind at a t r s e) asked held none = s
+not_certified told words status text name certificate certified (query_refused k q b kind at a w t r s e) asked held none = s
+not_certified told words status text name certificate certified (certificate_too_long f d b k a t i m s e) asked held none = s
+not_certified told words status text name certificate certified (certificate_refused f d b e k l a t i u r s o) asked held none = s
+
+-- words that ask for nothing are answered by the usage
+pub not_asked : (told : Map) (words : List (List ℕ)) (status : Status) (text : List ℕ) → IsAnswer told words status text → asks words ≡ None → status ≡ Usage
+not_asked told words status text (usage n s e) none = s
+not_asked told words status text (inferred f b r a t m s) none = absurd (none-some _ (sym none ∙ a))
+not_asked told words status text (lexed f b a t m s) none = absurd (none-some _ (sym none ∙ a))
+not_asked told words status text (played f b a t m s) none = absurd (none-some _ (sym none ∙ a))
+not_asked told words status text (summed n a m s) none = absurd (none-some _ (sym none ∙ a))
+not_asked told words status text (ran f q n b a t r) none = absurd (none-some _ (sym none ∙ a))
+not_asked told words status text (looped f q d b a t r) none = absurd (none-some _ (sym none ∙ a))
+not_asked told words status text (checked f c b d k a t i u h) none = absurd (none-some _ (sym none ∙ a))
+not_asked told words status text (program_too_long k a m s e) none = absurd (none-some _ (sym none ∙ a))
+not_asked told words status text (program_refused k b kind at a t r s e) none = absurd (none-some _ (sym none ∙ a))
+not_asked told words status text (query_refused k q b kind at a w t r s e) none = absurd (none-some _ (sym none ∙ a))
+not_asked told words status text (certificate_too_long f c b k a t i m s e) none = absurd (none-some _ (sym none ∙ a))
+not_asked told words status text (certificate_refused f c b d k l a t i u r s e) none = absurd (none-some _ (sym none ∙ a))
+
 -- the answer to a certificate, whose program was read
 certified : (told : Map) (words : List (List ℕ)) (f name bytes : List ℕ) (known : Known) (status : Status) (text : List ℕ) → asks words ≡ Some (check f name)
     → TellsAt told f bytes → IsKnown bytes known → AnswersCertificate told known name status text → IsAnswer told words status text

@@ -1,5 +1,5 @@
 -- What a call in which no load and no write failed answers.
-use Rattle.std.proofs.Common.{◌≡◌, ◌≢◌, ℕ, List, Option, Some, ◌⊎◌, refl, inl, inr}
+use Rattle.std.proofs.Common.{◌≡◌, ◌≢◌, ℕ, List, Option, Some, None, ◌⊎◌, refl, inl, inr}
 use Rattle.outside.specs.Told.{Map}
 use Rattle.term_size.specs.declared.any_norm.NormName.{NormName}
 use Rattle.certificate.specs.Reading.{IsTextOf}
@@ -12,14 +12,14 @@ use Rattle.command_words.specs.Words.{Ask, infer, check, run, gen, lex, loop, se
 use Rattle.cti_top.specs.Queries.{Known, IsQueryOf}
 use Rattle.cti_top.specs.Runs.{IsKnown, IsRefusedQuery}
 use Rattle.cti_top.specs.Sessions.{IsRefusedFor, IsToldBy}
-use Rattle.cti_top.specs.Outcome.{IsAnswer, Outcome, IsUnfailed, HasFile, HasText, IsDoneOrMemory, IsRanOrMemory, IsLoopedOrMemory, IsCheckedOrMemory, IsRefusedOrMemory}
+use Rattle.cti_top.specs.Outcome.{IsAnswer, Outcome, IsUnfailed, HasFile, HasText, IsDoneOrMemory, IsRanOrMemory, IsLoopedOrMemory, IsCheckedOrMemory, IsUsageOrMemory, IsRefusedOrMemory}
 use Rattle.cti_top.specs.declared.status.Status.{Status}
 use Rattle.cti_top.specs.declared.status.Status.TheVariants.{Done, No, Usage, Refused, FileFault, OutFault, Memory, Stopped, Overflow}
 use Rattle.cti_top.proofs.OneAnswer.{is_short, none_refused, no_query_refused}
 use Rattle.cti_top.proofs.OneSession.{told_or_refused, told_short}
 use Rattle.cti_top.proofs.GeneratedLemmas.{asked_known}
 use Rattle.cti_top.proofs.RefusedLemmas.{refused_answer, query_refused_answer}
-use Rattle.cti_top.proofs.OutcomeLemmas.{done_or_memory, lexed_or_memory, played_or_memory, summed_or_memory, ran_or_memory, looped_or_memory, checked_or_memory}
+use Rattle.cti_top.proofs.OutcomeLemmas.{done_or_memory, lexed_or_memory, played_or_memory, summed_or_memory, ran_or_memory, looped_or_memory, checked_or_memory, not_certified, not_asked}
 
 module _ (told : Map) (words : List (List ℕ)) where
   -- a text was written whole, or memory ran out
@@ -90,3 +90,13 @@ module _ (told : Map) (words : List (List ℕ)) where
         → HasAnswered status → IsRefusedOrMemory status
     query_refusal_answered query asked with_query has r (inl m) = inr m
     query_refusal_answered query asked with_query has r (inr a) = inl (query_refused_answer told words status a.0 ask query bytes kind at a.1 asked with_query has r)
+
+  module _ (status : Status) where
+    pub certificate_refusal_answered : (name certificate certified : List ℕ) → asks words ≡ Some (check name certificate) → HasFile told certificate certified
+        → ((c : Certificate) → IsTextOf c certified → ⊥) → HasAnswered status → IsRefusedOrMemory status
+    certificate_refusal_answered name certificate certified asked held none (inl m) = inr m
+    certificate_refusal_answered name certificate certified asked held none (inr a) = inl (not_certified told words status a.0 name certificate certified a.1 asked held none)
+
+    pub usage_answered : asks words ≡ None → HasAnswered status → IsUsageOrMemory status
+    usage_answered none (inl m) = inr m
+    usage_answered none (inr a) = inl (not_asked told words status a.0 a.1 none)

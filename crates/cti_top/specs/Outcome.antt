@@ -109,6 +109,10 @@ IsLoopedOrMemory status = (status ≡ Done) ⊎ (status ≡ No) ⊎ (status ≡ 
 abbrev pub IsCheckedOrMemory : Status → Type 0
 IsCheckedOrMemory status = (status ≡ Done) ⊎ (status ≡ No) ⊎ (status ≡ Memory)
 
+-- the usage was written, or there was no memory for it
+abbrev pub IsUsageOrMemory : Status → Type 0
+IsUsageOrMemory status = (status ≡ Usage) ⊎ (status ≡ Memory)
+
 -- the refusal was written, or there was no memory for it
 abbrev pub IsRefusedOrMemory : Status → Type 0
 IsRefusedOrMemory status = (status ≡ Refused) ⊎ (status ≡ Memory)

@@ -4,14 +4,15 @@
 //! `command` promises `Outcome` for its status, and says when a load or a write fails: only where a count of faults
 //! rises.
 
-ghost use Rattle.std.specs.Prelude.{◌≡◌, ℕ, List, Some};
-ghost use Rattle.certificate.specs.Reading.{IsTextOf};
+ghost use Rattle.std.specs.Prelude.{◌≡◌, ◌<◌, ℕ, List, Some, None, length};
+ghost use Rattle.certificate.specs.Reading.{IsTextOf, most_bytes};
 ghost use Rattle.certificate.specs.declared.certificate.Certificate.{Certificate as TheCertificate};
 ghost use Rattle.edit_texts.specs.Edits.{Told};
 ghost use Rattle.cti_terms.specs.Listing.{Listing};
 ghost use Rattle.cti_terms.specs.declared.derivation.Goal.{Goal};
-ghost use Rattle.cti_top.specs.Outcome.{FileRose, HasFile, HasText, IsCheckedOrMemory, IsDoneOrMemory};
-ghost use Rattle.cti_top.specs.Outcome.{IsLoopedOrMemory, IsRanOrMemory, IsRefusedOrMemory, IsUnfailed, OriginRose};
+ghost use Rattle.cti_top.specs.Checks.{IsRefusedCertificate};
+ghost use Rattle.cti_top.specs.Outcome.{FileRose, HasFile, HasText, IsCheckedOrMemory, IsDoneOrMemory, IsLoopedOrMemory};
+ghost use Rattle.cti_top.specs.Outcome.{IsRanOrMemory, IsRefusedOrMemory, IsUnfailed, IsUsageOrMemory, OriginRose};
 ghost use Rattle.cti_top.specs.Queries.{IsQueryOf, Known};
 ghost use Rattle.cti_top.specs.Runs.{IsKnown, IsRefusedQuery};
 ghost use Rattle.cti_top.specs.Sessions.{IsRefusedFor, IsToldBy};
@@ -62,8 +63,8 @@ pub fn queries_are_answered()
         → IsLoopedOrMemory status }
 {}
 
-/// Where a text or a query is refused, its refusal is the answer. The certificate's file is not loaded where the
-/// program is refused.
+/// Where a text, a query or a certificate is refused, the answer is a refusal, and where the words ask for nothing, it
+/// is the usage. The certificate's file is not loaded where the program is refused.
 pub fn refusals_are_answered()
     ensures text { (told : Map) (words : List (List ℕ)) (status : TheStatus)
         → IsUnfailed told words status → (ask : Ask) (bytes : List ℕ) (kind at : ℕ)
@@ -73,6 +74,16 @@ pub fn refusals_are_answered()
         → IsUnfailed told words status → (ask : Ask) (query bytes : List ℕ) (kind at : ℕ)
         → asks words ≡ Some ask → query_of ask ≡ Some query → HasText told (origin ask) bytes
         → IsRefusedQuery bytes query kind at → IsRefusedOrMemory status }
+    ensures certificate { (told : Map) (words : List (List ℕ)) (status : TheStatus)
+        → IsUnfailed told words status → (name certificate certified : List ℕ) (line : ℕ)
+        → asks words ≡ Some (check name certificate) → HasFile told certificate certified
+        → IsRefusedCertificate certified line → IsRefusedOrMemory status }
+    ensures long_certificate { (told : Map) (words : List (List ℕ)) (status : TheStatus)
+        → IsUnfailed told words status → (name certificate certified : List ℕ)
+        → asks words ≡ Some (check name certificate) → HasFile told certificate certified
+        → most_bytes < length certified → IsRefusedOrMemory status }
+    ensures usage { (told : Map) (words : List (List ℕ)) (status : TheStatus)
+        → IsUnfailed told words status → asks words ≡ None → IsUsageOrMemory status }
     ensures unloaded { (told : Map) (words : List (List ℕ)) (ask : Ask) (bytes : List ℕ) (kind at : ℕ)
         (before after : List ℕ → ℕ) → asks words ≡ Some ask → HasText told (origin ask) bytes
         → IsRefusedFor ask bytes kind at → FileRose told ask before after
