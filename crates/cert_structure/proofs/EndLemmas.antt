@@ -23,12 +23,13 @@ use Rattle.cert_structure.specs.Order.{mode_facts, size_facts, proof_facts, grou
 use Rattle.cert_structure.specs.Shape.{arity_in, head_of, body_of, rows_of, rows_of_atoms, items_of, is_recursive, first_of, mappings_of, proofs_of_call, IsMode, IsSizeRow, HaveMultipliers, HasWidth, IsLevel}
 use Rattle.cert_structure.specs.StructureFault.{HaveOnePlace, content_fault}
 use Rattle.cert_structure.specs.StructureFault as place
-use Rattle.cert_structure.specs.Walk.{at_place, same_pred, kept, is_mode, are_entries, row_read, multipliers_read, cube_read, level_read, take_modes, take_row, take_proof, take_ground, take_level, take_fall, take_pre, read_modes, read_rows, read_proofs, read_grounds, read_level, read_levels, read_call, read_calls, read_falls, read_cubes, read_pre}
+use Rattle.cert_structure.specs.Walk.{at_place, same_pred, kept, is_mode, are_entries, row_read, multipliers_read, cube_read, level_read, take_modes, take_row, take_proof, take_ground, take_level, take_fall, take_pre, read_modes, read_rows, read_proofs, read_grounds, read_level, read_levels, read_call, read_calls, read_falls, read_cubes, read_pre, cubes_by, grounds_by, modes_by, pre_by, proofs_by, rows_by, shared_ground, shared_modes, shared_pre, shared_proof, shared_row}
 use Rattle.fact_reading.specs.Walk.{Wrong, Read, Taken, item_of, go_on, result_map, with_first, read_next, read_many, read_each}
 use Rattle.cert_structure.proofs.KindLemmas.{split_modes, split_row, split_proof, split_ground, split_level, split_fall, split_pre, IsTerminates, IsSize, IsBy, IsGrounds, IsMeasure, IsFalls, IsPre}
 use Rattle.fact_reading.proofs.SectionLemmas.{err_ok, mapped, IsTaken, next_sound, many_sound, counted_sound, each_all}
-use Rattle.cert_structure.proofs.TakeLemmas.{same_is, amount_is, entries_are, modes_taken, row_taken, proof_taken, ground_taken, level_taken, fall_taken, pre_taken}
-use Rattle.cert_structure.proofs.LevelLemmas.{arity_text, place_behind, front, one_longer, IsCall, IsLevels, IsCounted, calls_sound, level_sound, count_is, rows_more}
+use Rattle.cert_structure.proofs.ContentLemmas.{same_is, amount_is, entries_are, arity_text}
+use Rattle.cert_structure.proofs.TakeLemmas.{modes_taken, row_taken, proof_taken, ground_taken, level_taken, fall_taken, pre_taken}
+use Rattle.cert_structure.proofs.LevelLemmas.{place_behind, front, one_longer, IsCall, IsLevels, IsCounted, calls_sound, level_sound, count_is, rows_more}
 use Rattle.cert_structure.proofs.StructureLemmas.{cubes_section}
 use Rattle.cert_structure.proofs.LocalLemmas.{same_err, bound_err, mapped_err}
 
@@ -251,7 +252,7 @@ abbrev pub IsBadAt : Fact → Fact → Type 0
 IsBadAt f g = HaveOnePlace f g × (content_fault f ≡ reason.Shape)
 
 modes_bad : (pred : PredText) (x : List (List ℕ)) (i : ℕ) (f : Fact) → take_modes pred i f ≡ None → IsBadAt f (fact.Terminates pred x)
-unfolding take_modes
+unfolding shared_modes
 modes_bad pred x i f e = go (split_modes f)
   where
     go : ((q : PredText) (j : ℕ) → take_modes q j f ≡ Some None) ⊎ IsTerminates f → IsBadAt f (fact.Terminates pred x)
@@ -262,7 +263,7 @@ modes_bad pred x i f e = go (split_modes f)
         subst (λ z. IsBadAt z (fact.Terminates pred x)) (sym full) (place.modes, refl)
 
 row_bad : (pred : PredText) (x : Row) (i : ℕ) (f : Fact) → take_row pred i f ≡ None → IsBadAt f (size_line pred i x)
-unfolding take_row
+unfolding shared_row
 row_bad pred x i f e = go (split_row f)
   where
     go : ((q : PredText) (j : ℕ) → take_row q j f ≡ Some None) ⊎ IsSize f → IsBadAt f (size_line pred i x)
@@ -274,7 +275,7 @@ row_bad pred x i f e = go (split_row f)
         subst (λ z. IsBadAt z (size_line pred i x)) (sym full) (place.row, refl)
 
 proof_bad : (k rows : ℕ) (x : Multipliers) (i : ℕ) (f : Fact) → take_proof k rows i f ≡ None → IsBadAt f (by_line k i x)
-unfolding take_proof
+unfolding shared_proof
 proof_bad k rows x i f e = go (split_proof f)
   where
     go : ((k rows j : ℕ) → take_proof k rows j f ≡ Some None) ⊎ IsBy f → IsBadAt f (by_line k i x)
@@ -286,7 +287,7 @@ proof_bad k rows x i f e = go (split_proof f)
         subst (λ z. IsBadAt z (by_line k i x)) (sym full) (place.proof, refl)
 
 ground_bad : (pred : PredText) (x : List Cell) (i : ℕ) (f : Fact) → take_ground pred i f ≡ None → IsBadAt f (grounds_line pred i x)
-unfolding take_ground
+unfolding shared_ground
 ground_bad pred x i f e = go (split_ground f)
   where
     go : ((q : PredText) (j : ℕ) → take_ground q j f ≡ Some None) ⊎ IsGrounds f → IsBadAt f (grounds_line pred i x)
@@ -323,7 +324,7 @@ fall_bad k j rows x m f e = go (split_fall f)
         subst (λ z. IsBadAt z (falls_line k j m x)) (sym full) (place.fall, refl)
 
 pre_bad : (pred : PredText) (m : ℕ) (x : List Cell) (i : ℕ) (f : Fact) → take_pre pred m i f ≡ None → IsBadAt f (pre_line pred m i x)
-unfolding take_pre
+unfolding shared_pre
 pre_bad pred m x i f e = go (split_pre f)
   where
     go : ((q : PredText) (m j : ℕ) → take_pre q m j f ≡ Some None) ⊎ IsPre f → IsBadAt f (pre_line pred m i x)
@@ -514,13 +515,13 @@ module _ (p : Listing) (names : List (List ℕ)) where
       (xs, record { count = count; each = each })
 
   modes_item : (a : ℕ) (s t : List Fact) (x : List (List ℕ)) → read_modes p names a s ≡ Ok (x, t) → (s ≡ (fact.Terminates (pred_text p names a) x ∷ []) ++ t) × AllByRecursion (IsMode (arity_in p a)) x
-  unfolding read_modes
+  unfolding modes_by
   modes_item a s t x read =
       let (one, right) = next_sound (take_modes (text a)) (λ _ ms. fact.Terminates (text a) ms) _ (modes_taken (text a)) 0 s t x read in
       (one, at_arity (λ n. AllByRecursion (IsMode n) x) a right)
 
   pub modes_ends : (s : List Fact) (w : Wrong) → read_each (read_modes p names) 0 (length p.preds) s ≡ Err w → Ends (λ l. (xs : List (List (List ℕ))) × (l ≡ mode_facts p names xs) × AreModes xs) s w
-  unfolding read_modes
+  unfolding modes_by
   modes_ends s w e =
       ends_weaker _ _ s w (each_ends (read_modes p names) (λ a ms. fact.Terminates (pred_text p names a) ms ∷ []) (λ a ms. AllByRecursion (IsMode (arity_in p a)) ms) (length p.preds) (λ a below. ([], tt)) modes_item
       (λ a s w below fails. item a s w fails) 0 (length p.preds) s w (omega arith) e)
@@ -545,7 +546,7 @@ module _ (p : Listing) (names : List (List ℕ)) where
       (xs, record { count = count; each = each })
 
   pub rows_ends : (s : List Fact) (w : Wrong) → read_each (read_rows p names) 0 (length p.preds) s ≡ Err w → Ends (λ l. (xs : List Rows) × (l ≡ size_facts p names xs) × AreRows xs) s w
-  unfolding read_rows
+  unfolding rows_by
   rows_ends s w e =
       ends_weaker _ _ s w (each_ends (read_rows p names) (λ a r. lines_from 0 (size_line (pred_text p names a)) r.list) (λ a r. (r.width ≡ arity_in p a) × AllByRecursion (IsSizeRow (arity_in p a)) r.list) (length p.preds)
       (λ a below. (no_rows a, (refl, tt))) sound (λ a s w below fails. item a s w fails) 0 (length p.preds) s w (omega arith) e)
@@ -579,7 +580,7 @@ module _ (p : Listing) (names : List (List ℕ)) where
       (xs, record { count = count; each = each })
 
   pub grounds_ends : (s : List Fact) (w : Wrong) → read_each (read_grounds p names) 0 (length p.preds) s ≡ Err w → Ends (λ l. (xs : List (List (List Cell))) × (l ≡ ground_facts p names xs) × AreGrounds xs) s w
-  unfolding read_grounds
+  unfolding grounds_by
   grounds_ends s w e =
       ends_weaker _ _ s w (each_ends (read_grounds p names) (λ a cs. lines_from 0 (grounds_line (pred_text p names a)) cs) (λ a cs. AllByRecursion (HasWidth (arity_in p a)) cs) (length p.preds) (λ a below. ([], tt)) sound
       (λ a s w below fails. item a s w fails) 0 (length p.preds) s w (omega arith) e)
@@ -613,7 +614,7 @@ module _ (p : Listing) (names : List (List ℕ)) where
         (xs, record { count = count; each = each })
 
     pub cubes_ends : (s : List Fact) (w : Wrong) → read_each (read_pre p names levels) 0 (length p.preds) s ≡ Err w → Ends (λ l. (xs : List (List (List (List Cell)))) × (l ≡ pre_facts p names xs) × AreCubes xs) s w
-    unfolding read_pre read_cubes
+    unfolding pre_by cubes_by
     cubes_ends s w e =
         ends_weaker _ _ s w (each_ends (read_pre p names levels) (λ a ms. facts_from 0 (λ m cs. lines_from 0 (pre_line (pred_text p names a) m) cs) ms) (λ a ms. AreEach (length (items_of levels a)) (λ _. AllByRecursion (HasWidth (arity_in p a))) ms)
         (length p.preds) (λ a below. one_cubes a) (λ a s t x read. cubes_section p names levels a s t x read) (λ a s w below fails. item a s w fails) 0 (length p.preds) s w (omega arith) e)
@@ -650,7 +651,7 @@ module _ (p : Listing) (rows : List Rows) where
       (xs, record { count = count; each = each })
 
   pub proofs_ends : (s : List Fact) (w : Wrong) → read_each (read_proofs p rows) 0 (length p.clauses) s ≡ Err w → Ends (λ l. (xs : List (List Multipliers)) × (l ≡ proof_facts xs) × AreProofs xs) s w
-  unfolding read_proofs
+  unfolding proofs_by
   proofs_ends s w e =
       ends_weaker _ _ s w (each_ends (read_proofs p rows) (λ k ms. lines_from 0 (by_line k) ms) (λ k ms. AreEach (rows_of rows (head_of p k)) (λ _. HaveMultipliers (rows_of_atoms rows (body_of p k))) ms) (length p.clauses)
       (λ k below. one_proofs k) sound (λ k s w below fails. item k s w fails) 0 (length p.clauses) s w (omega arith) e)

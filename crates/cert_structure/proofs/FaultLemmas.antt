@@ -24,14 +24,15 @@ use Rattle.cert_structure.specs.Shape.{IsPairPoint, PairsAscend, place_of_pair, 
 use Rattle.cert_structure.specs.Structure.{IsStructured, AreNotes}
 use Rattle.cert_structure.specs.StructureFault.{HaveOnePlace, content_fault, IsBeginning, whole, short, IsStructureFault, missing, extra, content}
 use Rattle.cert_structure.specs.StructureFault as place
-use Rattle.cert_structure.specs.Walk.{take_refuted, is_open, read_point, read_points, read_group, take_norm, named_norm, by_version, read_head, read_modes, read_rows, read_proofs, read_grounds, read_levels, read_falls, read_pre, read_refutation, read_parts, with_notes, read_whole}
+use Rattle.cert_structure.specs.Walk.{take_refuted, is_open, read_point, read_points, read_group, take_norm, named_norm, by_version, read_head, read_modes, read_rows, read_proofs, read_grounds, read_levels, read_falls, read_pre, read_refutation, read_parts, with_notes, read_whole, shared_refuted}
 use Rattle.fact_reading.specs.Walk.{◌>>=◌, Wrong, Read, result_map, wrong_at, with_first, item_of, read_each}
 use Rattle.cert_structure.proofs.KindLemmas.{kind, IsVersion, split_version, IsNorm, split_norm}
 use Rattle.fact_reading.proofs.SectionLemmas.{err_ok, all_both, all_from, others_from, all_weaker}
 use Rattle.cert_structure.proofs.TakeLemmas.{refuted_given}
 use Rattle.cert_structure.proofs.PointLemmas.{point_given, open_back, refutation_given}
 use Rattle.cert_structure.proofs.ComponentLemmas.{first_le, shape, structure}
-use Rattle.cert_structure.proofs.LevelLemmas.{IsLevels, NoLevel, not_same, levels_sound, levels_back}
+use Rattle.cert_structure.proofs.ContentLemmas.{not_same}
+use Rattle.cert_structure.proofs.LevelLemmas.{IsLevels, NoLevel, levels_sound, levels_back}
 use Rattle.cert_structure.proofs.StructureLemmas.{AreLater, proofs_later, grounds_later, levels_later, falls_later, pre_later, refuted_later, no_level, modes_section, modes_listed, rows_section, rows_listed, proofs_section, proofs_listed, grounds_section, grounds_listed, falls_section, falls_listed, pre_section, pre_listed}
 use Rattle.cert_structure.proofs.WholeLemmas.{noted, head_sound, head_back, parts_sound, whole_back}
 use Rattle.cert_structure.proofs.LocalLemmas.{same_err, bound_err, Fails, MayReplace, with_made, same_head, Modes, Proofs, Grounds, Levels, Falls, Cubes, Refutations, made, from_refutations, from_cubes, from_falls, from_levels, from_grounds, from_proofs, from_rows, from_modes, parts_are, local_parts}
@@ -652,7 +653,7 @@ module _ (p : Listing) (names : List (List ℕ)) (comps : Partition) (h : AreCom
     IsOther a f = take_refuted (pred_text p names a) 0 f ≡ Some None
 
     points_other : (a i : ℕ) (xs : List PairPoint) → AllByRecursion (IsOther a) (facts_from i (λ _ x. point_facts x) xs)
-    unfolding take_refuted
+    unfolding shared_refuted
     points_other a i xs = all_from (IsOther a) (λ _ x. point_facts x) (λ _ x. (refl, second x.clause x.call x.at)) i xs
       where
         second : (clause call : ℕ) (o : Option Point) → AllByRecursion (IsOther a) (at_facts clause call o)
@@ -660,7 +661,7 @@ module _ (p : Listing) (names : List (List ℕ)) (comps : Partition) (h : AreCom
         second clause call (Some x) = (refl, tt)
 
     refuted_other : (a b : ℕ) (count : ℕ) → a < b → b < length p.preds → IsOther a (fact.Refuted (pred_text p names b) count)
-    unfolding take_refuted
+    unfolding shared_refuted
     refuted_other a b count less below = rw (not_same (pred_text p names b) (pred_text p names a) (apart a b less below)) refl
 
     group_other : (a b : ℕ) (o : Option Refutation) → a < b → b < length p.preds → AllByRecursion (IsOther a) (refutation_facts (pred_text p names b) o)

@@ -11,6 +11,9 @@ use Rattle.cti_terms.specs.Listing.{Listing}
 use Rattle.fact_reading.specs.declared.stop.StructureReason.TheVariants as reason
 use Rattle.cert_structure.specs.Walk.{read_head, take_norm, take_modes, take_row, take_proof, take_ground, take_level, take_fall, take_pre, take_refuted, take_point, take_second}
 use Rattle.fact_reading.specs.Walk.{wrong_at}
+use Rattle.cert_structure.specs.SharedFacts.{Shared, shared}
+use Rattle.cert_structure.specs.SharedFacts as says
+use Rattle.cert_structure.proofs.SharedKinds as kinds
 
 -- the place of a fact's kind in the order of the format
 abbrev pub kind : Fact → ℕ
@@ -32,6 +35,45 @@ kind (fact.WeakImage step) = 9
 kind (fact.WeakStep step) = 9
 kind (fact.Blown q support) = 9
 kind (fact.Large q positions) = 9
+
+-- the fact that says what certificates of lists have too; where nothing is said, any fact
+abbrev pub fact_line : Shared → Fact
+fact_line (says.modes q modes) = fact.Terminates q modes
+fact_line (says.row q index row) = fact.Size q index row
+fact_line (says.proof clause index scale list) = fact.By clause index scale list
+fact_line (says.ground q index cells) = fact.Grounds q index cells
+fact_line (says.pre q mapping index cells) = fact.Pre q mapping index cells
+fact_line (says.refuted q points) = fact.Refuted q points
+fact_line says.other = fact.WeakStep 0
+
+pub is_line : (f : Fact) → (shared f ≡ says.other) ⊎ (f ≡ fact_line (shared f))
+is_line (fact.Cti version) = inl refl
+is_line (fact.Norm norm) = inl refl
+is_line (fact.Terminates q modes) = inr refl
+is_line (fact.Size q index row) = inr refl
+is_line (fact.By clause index scale list) = inr refl
+is_line (fact.Grounds q index cells) = inr refl
+is_line (fact.Measure q mapping coeffs offset) = inl refl
+is_line (fact.Falls clause call mapping scale list) = inl refl
+is_line (fact.Pre q mapping index cells) = inr refl
+is_line (fact.Refuted q points) = inr refl
+is_line (fact.Point clause call t w) = inl refl
+is_line (fact.At clause call t w) = inl refl
+is_line (fact.Image step clause q rows) = inl refl
+is_line (fact.Step step q how rows) = inl refl
+is_line (fact.WeakImage step) = inl refl
+is_line (fact.WeakStep step) = inl refl
+is_line (fact.Blown q support) = inl refl
+is_line (fact.Large q positions) = inl refl
+
+pub seen : (x : Shared) → (x ≡ says.other) ⊎ (shared (fact_line x) ≡ x)
+seen (says.modes q modes) = inr refl
+seen (says.row q index row) = inr refl
+seen (says.proof clause index scale list) = inr refl
+seen (says.ground q index cells) = inr refl
+seen (says.pre q mapping index cells) = inr refl
+seen (says.refuted q points) = inr refl
+seen says.other = inl refl
 
 -- the first fact is a version
 abbrev pub IsVersion : Fact → Type 0
@@ -86,97 +128,41 @@ abbrev pub IsTerminates : Fact → Type 0
 IsTerminates f = (q : PredText) × (modes : List (List ℕ)) × (f ≡ fact.Terminates q modes)
 
 pub split_modes : (f : Fact) → ((pred : PredText) (i : ℕ) → take_modes pred i f ≡ Some None) ⊎ IsTerminates f
-unfolding take_modes
-split_modes (fact.Cti version) = inl (λ pred i. refl)
-split_modes (fact.Norm norm) = inl (λ pred i. refl)
-split_modes (fact.Terminates q modes) = inr (q, modes, refl)
-split_modes (fact.Size q index row) = inl (λ pred i. refl)
-split_modes (fact.By clause index scale list) = inl (λ pred i. refl)
-split_modes (fact.Grounds q index cells) = inl (λ pred i. refl)
-split_modes (fact.Measure q mapping coeffs offset) = inl (λ pred i. refl)
-split_modes (fact.Falls clause call mapping scale list) = inl (λ pred i. refl)
-split_modes (fact.Pre q mapping index cells) = inl (λ pred i. refl)
-split_modes (fact.Refuted q points) = inl (λ pred i. refl)
-split_modes (fact.Point clause call t w) = inl (λ pred i. refl)
-split_modes (fact.At clause call t w) = inl (λ pred i. refl)
-split_modes (fact.Image step clause q rows) = inl (λ pred i. refl)
-split_modes (fact.Step step q how rows) = inl (λ pred i. refl)
-split_modes (fact.WeakImage step) = inl (λ pred i. refl)
-split_modes (fact.WeakStep step) = inl (λ pred i. refl)
-split_modes (fact.Blown q support) = inl (λ pred i. refl)
-split_modes (fact.Large q positions) = inl (λ pred i. refl)
+split_modes f = go (kinds.split_modes (shared f))
+  where
+    go : ((pred : PredText) (i : ℕ) → take_modes pred i f ≡ Some None) ⊎ kinds.SaysModes (shared f) → ((pred : PredText) (i : ℕ) → take_modes pred i f ≡ Some None) ⊎ IsTerminates f
+    go (inl none) = inl none
+    go (inr (q, modes, e)) = inr (q, modes, kinds.known shared fact_line is_line f (says.modes q modes) (λ z. cc z) e)
 
 abbrev pub IsSize : Fact → Type 0
 IsSize f = (q : PredText) × (index : ℕ) × (row : List ℤ) × (f ≡ fact.Size q index row)
 
 pub split_row : (f : Fact) → ((pred : PredText) (i : ℕ) → take_row pred i f ≡ Some None) ⊎ IsSize f
-unfolding take_row
-split_row (fact.Cti version) = inl (λ pred i. refl)
-split_row (fact.Norm norm) = inl (λ pred i. refl)
-split_row (fact.Terminates q modes) = inl (λ pred i. refl)
-split_row (fact.Size q index row) = inr (q, index, row, refl)
-split_row (fact.By clause index scale list) = inl (λ pred i. refl)
-split_row (fact.Grounds q index cells) = inl (λ pred i. refl)
-split_row (fact.Measure q mapping coeffs offset) = inl (λ pred i. refl)
-split_row (fact.Falls clause call mapping scale list) = inl (λ pred i. refl)
-split_row (fact.Pre q mapping index cells) = inl (λ pred i. refl)
-split_row (fact.Refuted q points) = inl (λ pred i. refl)
-split_row (fact.Point clause call t w) = inl (λ pred i. refl)
-split_row (fact.At clause call t w) = inl (λ pred i. refl)
-split_row (fact.Image step clause q rows) = inl (λ pred i. refl)
-split_row (fact.Step step q how rows) = inl (λ pred i. refl)
-split_row (fact.WeakImage step) = inl (λ pred i. refl)
-split_row (fact.WeakStep step) = inl (λ pred i. refl)
-split_row (fact.Blown q support) = inl (λ pred i. refl)
-split_row (fact.Large q positions) = inl (λ pred i. refl)
+split_row f = go (kinds.split_row (shared f))
+  where
+    go : ((pred : PredText) (i : ℕ) → take_row pred i f ≡ Some None) ⊎ kinds.SaysRow (shared f) → ((pred : PredText) (i : ℕ) → take_row pred i f ≡ Some None) ⊎ IsSize f
+    go (inl none) = inl none
+    go (inr (q, index, row, e)) = inr (q, index, row, kinds.known shared fact_line is_line f (says.row q index row) (λ z. cc z) e)
 
 abbrev pub IsBy : Fact → Type 0
 IsBy f = (clause : ℕ) × (index : ℕ) × (scale : ℤ) × (list : List ℤ) × (f ≡ fact.By clause index scale list)
 
 pub split_proof : (f : Fact) → ((k rows i : ℕ) → take_proof k rows i f ≡ Some None) ⊎ IsBy f
-unfolding take_proof
-split_proof (fact.Cti version) = inl (λ k rows i. refl)
-split_proof (fact.Norm norm) = inl (λ k rows i. refl)
-split_proof (fact.Terminates q modes) = inl (λ k rows i. refl)
-split_proof (fact.Size q index row) = inl (λ k rows i. refl)
-split_proof (fact.By clause index scale list) = inr (clause, index, scale, list, refl)
-split_proof (fact.Grounds q index cells) = inl (λ k rows i. refl)
-split_proof (fact.Measure q mapping coeffs offset) = inl (λ k rows i. refl)
-split_proof (fact.Falls clause call mapping scale list) = inl (λ k rows i. refl)
-split_proof (fact.Pre q mapping index cells) = inl (λ k rows i. refl)
-split_proof (fact.Refuted q points) = inl (λ k rows i. refl)
-split_proof (fact.Point clause call t w) = inl (λ k rows i. refl)
-split_proof (fact.At clause call t w) = inl (λ k rows i. refl)
-split_proof (fact.Image step clause q rows) = inl (λ k rows i. refl)
-split_proof (fact.Step step q how rows) = inl (λ k rows i. refl)
-split_proof (fact.WeakImage step) = inl (λ k rows i. refl)
-split_proof (fact.WeakStep step) = inl (λ k rows i. refl)
-split_proof (fact.Blown q support) = inl (λ k rows i. refl)
-split_proof (fact.Large q positions) = inl (λ k rows i. refl)
+split_proof f = go (kinds.split_proof (shared f))
+  where
+    go : ((k rows i : ℕ) → take_proof k rows i f ≡ Some None) ⊎ kinds.SaysProof (shared f) → ((k rows i : ℕ) → take_proof k rows i f ≡ Some None) ⊎ IsBy f
+    go (inl none) = inl none
+    go (inr (clause, index, scale, list, e)) = inr (clause, index, scale, list, kinds.known shared fact_line is_line f (says.proof clause index scale list) (λ z. cc z) e)
 
 abbrev pub IsGrounds : Fact → Type 0
 IsGrounds f = (q : PredText) × (index : ℕ) × (cells : List CertCell) × (f ≡ fact.Grounds q index cells)
 
 pub split_ground : (f : Fact) → ((pred : PredText) (i : ℕ) → take_ground pred i f ≡ Some None) ⊎ IsGrounds f
-unfolding take_ground
-split_ground (fact.Cti version) = inl (λ pred i. refl)
-split_ground (fact.Norm norm) = inl (λ pred i. refl)
-split_ground (fact.Terminates q modes) = inl (λ pred i. refl)
-split_ground (fact.Size q index row) = inl (λ pred i. refl)
-split_ground (fact.By clause index scale list) = inl (λ pred i. refl)
-split_ground (fact.Grounds q index cells) = inr (q, index, cells, refl)
-split_ground (fact.Measure q mapping coeffs offset) = inl (λ pred i. refl)
-split_ground (fact.Falls clause call mapping scale list) = inl (λ pred i. refl)
-split_ground (fact.Pre q mapping index cells) = inl (λ pred i. refl)
-split_ground (fact.Refuted q points) = inl (λ pred i. refl)
-split_ground (fact.Point clause call t w) = inl (λ pred i. refl)
-split_ground (fact.At clause call t w) = inl (λ pred i. refl)
-split_ground (fact.Image step clause q rows) = inl (λ pred i. refl)
-split_ground (fact.Step step q how rows) = inl (λ pred i. refl)
-split_ground (fact.WeakImage step) = inl (λ pred i. refl)
-split_ground (fact.WeakStep step) = inl (λ pred i. refl)
-split_ground (fact.Blown q support) = inl (λ pred i. refl)
-split_ground (fact.Large q positions) = inl (λ pred i. refl)
+split_ground f = go (kinds.split_ground (shared f))
+  where
+    go : ((pred : PredText) (i : ℕ) → take_ground pred i f ≡ Some None) ⊎ kinds.SaysGround (shared f) → ((pred : PredText) (i : ℕ) → take_ground pred i f ≡ Some None) ⊎ IsGrounds f
+    go (inl none) = inl none
+    go (inr (q, index, cells, e)) = inr (q, index, cells, kinds.known shared fact_line is_line f (says.ground q index cells) (λ z. cc z) e)
 
 abbrev pub IsMeasure : Fact → Type 0
 IsMeasure f = (q : PredText) × (mapping : ℕ) × (coeffs : List ℤ) × (offset : ℤ) × (f ≡ fact.Measure q mapping coeffs offset)
@@ -230,49 +216,21 @@ abbrev pub IsPre : Fact → Type 0
 IsPre f = (q : PredText) × (mapping : ℕ) × (index : ℕ) × (cells : List CertCell) × (f ≡ fact.Pre q mapping index cells)
 
 pub split_pre : (f : Fact) → ((pred : PredText) (m i : ℕ) → take_pre pred m i f ≡ Some None) ⊎ IsPre f
-unfolding take_pre
-split_pre (fact.Cti version) = inl (λ pred m i. refl)
-split_pre (fact.Norm norm) = inl (λ pred m i. refl)
-split_pre (fact.Terminates q modes) = inl (λ pred m i. refl)
-split_pre (fact.Size q index row) = inl (λ pred m i. refl)
-split_pre (fact.By clause index scale list) = inl (λ pred m i. refl)
-split_pre (fact.Grounds q index cells) = inl (λ pred m i. refl)
-split_pre (fact.Measure q mapping coeffs offset) = inl (λ pred m i. refl)
-split_pre (fact.Falls clause call mapping scale list) = inl (λ pred m i. refl)
-split_pre (fact.Pre q mapping index cells) = inr (q, mapping, index, cells, refl)
-split_pre (fact.Refuted q points) = inl (λ pred m i. refl)
-split_pre (fact.Point clause call t w) = inl (λ pred m i. refl)
-split_pre (fact.At clause call t w) = inl (λ pred m i. refl)
-split_pre (fact.Image step clause q rows) = inl (λ pred m i. refl)
-split_pre (fact.Step step q how rows) = inl (λ pred m i. refl)
-split_pre (fact.WeakImage step) = inl (λ pred m i. refl)
-split_pre (fact.WeakStep step) = inl (λ pred m i. refl)
-split_pre (fact.Blown q support) = inl (λ pred m i. refl)
-split_pre (fact.Large q positions) = inl (λ pred m i. refl)
+split_pre f = go (kinds.split_pre (shared f))
+  where
+    go : ((pred : PredText) (m i : ℕ) → take_pre pred m i f ≡ Some None) ⊎ kinds.SaysPre (shared f) → ((pred : PredText) (m i : ℕ) → take_pre pred m i f ≡ Some None) ⊎ IsPre f
+    go (inl none) = inl none
+    go (inr (q, mapping, index, cells, e)) = inr (q, mapping, index, cells, kinds.known shared fact_line is_line f (says.pre q mapping index cells) (λ z. cc z) e)
 
 abbrev pub IsRefuted : Fact → Type 0
 IsRefuted f = (q : PredText) × (points : ℕ) × (f ≡ fact.Refuted q points)
 
 pub split_refuted : (f : Fact) → ((pred : PredText) (i : ℕ) → take_refuted pred i f ≡ Some None) ⊎ IsRefuted f
-unfolding take_refuted
-split_refuted (fact.Cti version) = inl (λ pred i. refl)
-split_refuted (fact.Norm norm) = inl (λ pred i. refl)
-split_refuted (fact.Terminates q modes) = inl (λ pred i. refl)
-split_refuted (fact.Size q index row) = inl (λ pred i. refl)
-split_refuted (fact.By clause index scale list) = inl (λ pred i. refl)
-split_refuted (fact.Grounds q index cells) = inl (λ pred i. refl)
-split_refuted (fact.Measure q mapping coeffs offset) = inl (λ pred i. refl)
-split_refuted (fact.Falls clause call mapping scale list) = inl (λ pred i. refl)
-split_refuted (fact.Pre q mapping index cells) = inl (λ pred i. refl)
-split_refuted (fact.Refuted q points) = inr (q, points, refl)
-split_refuted (fact.Point clause call t w) = inl (λ pred i. refl)
-split_refuted (fact.At clause call t w) = inl (λ pred i. refl)
-split_refuted (fact.Image step clause q rows) = inl (λ pred i. refl)
-split_refuted (fact.Step step q how rows) = inl (λ pred i. refl)
-split_refuted (fact.WeakImage step) = inl (λ pred i. refl)
-split_refuted (fact.WeakStep step) = inl (λ pred i. refl)
-split_refuted (fact.Blown q support) = inl (λ pred i. refl)
-split_refuted (fact.Large q positions) = inl (λ pred i. refl)
+split_refuted f = go (kinds.split_refuted (shared f))
+  where
+    go : ((pred : PredText) (i : ℕ) → take_refuted pred i f ≡ Some None) ⊎ kinds.SaysRefuted (shared f) → ((pred : PredText) (i : ℕ) → take_refuted pred i f ≡ Some None) ⊎ IsRefuted f
+    go (inl none) = inl none
+    go (inr (q, points, e)) = inr (q, points, kinds.known shared fact_line is_line f (says.refuted q points) (λ z. cc z) e)
 
 abbrev pub IsPoint : Fact → Type 0
 IsPoint f = (clause : ℕ) × (call : ℕ) × (t : ℤ) × (w : List ℤ) × (f ≡ fact.Point clause call t w)

@@ -1,5 +1,5 @@
 -- Reading the levels and the proofs for calls: what is read is listed so, and what is listed so is read.
-use Rattle.std.proofs.Common.{◌≡◌, ◌≢◌, ℕ, zero, suc, ◌+◌, ◌<◌, ◌≤◌, ◌⊎◌, inl, inr, Bool, true, false, ◌==◌, if◌then◌else◌, List, [], ◌∷◌, ◌++◌, length, take, slice_get, Option, Some, None, option_map, unwrap_or, Ok, refl, ap, sym, ◌∙◌, subst, arith, eqb-true, eq-eqb, append_assoc, append-nil}
+use Rattle.std.proofs.Common.{◌≡◌, ◌≢◌, ℕ, zero, suc, ◌+◌, ◌<◌, ◌≤◌, ◌⊎◌, inl, inr, Bool, true, false, ◌==◌, if◌then◌else◌, List, [], ◌∷◌, ◌++◌, length, take, slice_get, Some, None, Ok, refl, ap, sym, ◌∙◌, subst, arith, eqb-true, eq-eqb, append_assoc, append-nil}
 use Rattle.std.proofs.lemmas.Bool.{false≢true}
 use Rattle.std.proofs.lemmas.List.Sums.{sum_by_push}
 use Rattle.std.specs.List.{AllByRecursion}
@@ -7,33 +7,18 @@ use Rattle.call_components.specs.Partition.{Partition}
 use Rattle.certificate.specs.declared.pred_text.PredText.{PredText}
 use Rattle.certificate.specs.declared.fact.Fact.{Fact}
 use Rattle.cti_terms.specs.declared.atom_list.Atom.{Atom}
-use Rattle.cti_terms.specs.declared.predicates.Pred.{Pred}
 use Rattle.cti_terms.specs.Listing.{Listing}
 use Rattle.linear_rows.specs.declared.multipliers.Multipliers.{Multipliers}
 use Rattle.linear_rows.specs.declared.row.Rows.{Rows}
 use Rattle.number_tests.specs.declared.level_part.LevelPart.{LevelPart}
 use Rattle.fact_reading.specs.Numbered.{facts_from, lines_from, EachFrom, AreEach}
-use Rattle.cert_structure.specs.Order.{text_or_none, pred_text, measure_line, falls_line}
+use Rattle.cert_structure.specs.Order.{pred_text, measure_line, falls_line}
 use Rattle.cert_structure.specs.Shape.{arity_in, rows_of, rows_of_atoms, items_of, is_recursive, first_of, mappings_of, proofs_of_call, HaveMultipliers, IsLevel}
-use Rattle.cert_structure.specs.Walk.{same_pred, take_level, take_fall, read_level, read_levels, read_call, read_calls}
+use Rattle.cert_structure.specs.Walk.{take_level, take_fall, read_level, read_levels, read_call, read_calls}
 use Rattle.fact_reading.specs.Walk.{result_map, with_first, read_each, read_next, read_many}
 use Rattle.fact_reading.proofs.SectionLemmas.{same_ok, bound, mapped, all_both, all_from, others_from, each_all, all_each, counted_sound, counted_back, many_sound, many_back}
-use Rattle.cert_structure.proofs.TakeLemmas.{same_is, level_taken, level_given, fall_taken, fall_given}
-
--- the arity of a predicate's text is the predicate's
-pub arity_text : (p : Listing) (names : List (List ℕ)) (a : ℕ) → (pred_text p names a).arity ≡ arity_in p a
-arity_text p names a = go (slice_get p.preds a)
-  where
-    go : (o : Option Pred) → (text_or_none names o).arity ≡ unwrap_or (option_map (λ q. q.arity) o) 0
-    go None = refl
-    go (Some q) = refl
-
-pub not_same : (q r : PredText) → q ≢ r → same_pred q r ≡ false
-not_same q r h = go (same_pred q r) refl
-  where
-    go : (b : Bool) → same_pred q r ≡ b → b ≡ false
-    go true e = absurd (h (same_is q r e))
-    go false e = refl
+use Rattle.cert_structure.proofs.ContentLemmas.{arity_text, not_same}
+use Rattle.cert_structure.proofs.TakeLemmas.{level_taken, level_given, fall_taken, fall_given}
 
 -- places of lists
 pub place_behind : {A : Type 0} (xs : List A) (x : A) (ys : List A) → slice_get (xs ++ x ∷ ys) (length xs) ≡ Some x

@@ -1,6 +1,9 @@
 pub mod LoopLemmas
 pub mod PartsLemmas
 pub mod KindLemmas
+pub mod ContentLemmas
+pub mod SharedKinds
+pub mod SharedLemmas
 pub mod TakeLemmas
 pub mod PointLemmas
 pub mod LevelLemmas

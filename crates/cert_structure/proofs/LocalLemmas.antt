@@ -24,7 +24,7 @@ use Rattle.cert_structure.specs.Order.{pred_text}
 use Rattle.cert_structure.specs.Shape.{is_pair, arity_in, head_of, body_of, vars_of, rows_of, rows_of_atoms, items_of, is_recursive, first_of, proofs_of_call}
 use Rattle.cert_structure.specs.StructureFault.{HaveOnePlace}
 use Rattle.cert_structure.specs.StructureFault as place
-use Rattle.cert_structure.specs.Walk.{kept, at_place, same_pred, is_mode, is_entry, are_entries, is_amount, are_amounts, is_before, cell_read, pair_end, pair_point, point_read, row_read, multipliers_read, level_read, paired, take_modes, take_row, take_proof, take_ground, take_level, take_fall, take_pre, take_refuted, take_point, take_second, read_second, read_point, read_points, refutation_read, read_group, is_open, read_refutation, read_modes, read_rows, read_proofs, read_grounds, read_level, read_levels, read_call, read_calls, read_falls, read_cubes, read_pre, take_norm, named_norm, by_version, read_head, read_sections, read_parts}
+use Rattle.cert_structure.specs.Walk.{kept, at_place, same_pred, is_mode, is_entry, are_entries, is_amount, are_amounts, is_before, cell_read, pair_end, pair_point, point_read, row_read, multipliers_read, level_read, paired, take_modes, take_row, take_proof, take_ground, take_level, take_fall, take_pre, take_refuted, take_point, take_second, read_second, read_point, read_points, refutation_read, read_group, is_open, read_refutation, read_modes, read_rows, read_proofs, read_grounds, read_level, read_levels, read_call, read_calls, read_falls, read_cubes, read_pre, take_norm, named_norm, by_version, read_head, read_sections, read_parts, cubes_by, grounds_by, modes_by, pre_by, proofs_by, rows_by, shared_ground, shared_modes, shared_pre, shared_proof, shared_refuted, shared_row}
 use Rattle.fact_reading.specs.Walk.{◌>>=◌, Wrong, Read, Taken, result_map, wrong_at, with_first, item_of, go_on, read_next, read_many, read_each}
 use Rattle.cert_structure.proofs.KindLemmas.{IsVersion, split_version}
 use Rattle.fact_reading.proofs.SectionLemmas.{same_some, same_ok, err_ok, bound, mapped}
@@ -290,12 +290,12 @@ second_never true vars t xs e = cc e
 second_never false vars t xs e = point_never vars t xs e
 
 modes_stay : (pred : PredText) → Stays (take_modes pred)
-unfolding take_modes
+unfolding shared_modes
 modes_stay pred i _ _ (place.modes {q = q} {xs = xs} {ys = ys}) e = kept_elsewhere (same_pred q pred) (list_all (is_mode pred.arity 0) xs) (list_all (is_mode pred.arity 0) ys) xs ys e
 modes_stay pred i _ _ h e = e
 
 row_stay : (pred : PredText) → Stays (take_row pred)
-unfolding take_row
+unfolding shared_row
 row_stay pred i _ _ (place.row {q = q} {i = j} {xs = xs} {ys = ys}) e = elsewhere (same_pred q pred && (j == suc i)) (row_read pred.arity xs) (row_read pred.arity ys) (row_never pred.arity xs) e
 row_stay pred i _ _ h e = e
 
@@ -303,13 +303,13 @@ many_never : (rows : ℕ) (s : ℤ) (xs : List ℤ) → multipliers_read rows s 
 many_never rows s xs e = never ((length xs == rows) && (is_amount s && are_amounts xs)) (record { scale = s; list = xs }) e
 
 proof_stay : (k rows : ℕ) → Stays (take_proof k rows)
-unfolding take_proof
+unfolding shared_proof
 proof_stay k rows i _ _ (place.proof {k = c} {i = j} {s = s} {t = t} {xs = xs} {ys = ys}) e =
     elsewhere ((c == suc k) && (j == suc i)) (multipliers_read rows s xs) (multipliers_read rows t ys) (many_never rows s xs) e
 proof_stay k rows i _ _ h e = e
 
 ground_stay : (pred : PredText) → Stays (take_ground pred)
-unfolding take_ground
+unfolding shared_ground
 ground_stay pred i _ _ (place.grounds {q = q} {i = j} {xs = xs} {ys = ys}) e =
     kept_elsewhere (same_pred q pred && (j == suc i)) (length xs == pred.arity) (length ys == pred.arity) (map cell_read xs) (map cell_read ys) e
 ground_stay pred i _ _ h e = e
@@ -328,13 +328,13 @@ fall_stay k j rows m _ _ (place.fall {k = c} {j = b} {m = n} {s = s} {t = t} {xs
 fall_stay k j rows m _ _ h e = e
 
 pre_stay : (pred : PredText) (m : ℕ) → Stays (take_pre pred m)
-unfolding take_pre
+unfolding shared_pre
 pre_stay pred m i _ _ (place.pre {q = q} {m = n} {i = j} {xs = xs} {ys = ys}) e =
     kept_elsewhere (same_pred q pred && ((n == suc m) && (j == suc i))) (length xs == pred.arity) (length ys == pred.arity) (map cell_read xs) (map cell_read ys) e
 pre_stay pred m i _ _ h e = e
 
 refuted_stay : (pred : PredText) → Stays (take_refuted pred)
-unfolding take_refuted
+unfolding shared_refuted
 refuted_stay pred i _ _ (place.refuted {q = q} {m = m} {n = n}) e = kept_elsewhere (same_pred q pred) (nat_le 1 m) (nat_le 1 n) m n e
 refuted_stay pred i _ _ h e = e
 
@@ -436,20 +436,20 @@ module _ (p : Listing) (names : List (List ℕ)) (comps : Partition) (a : ℕ) w
 
 module _ (p : Listing) (names : List (List ℕ)) where
   local_modes : (a : ℕ) → IsLocal (read_modes p names a)
-  unfolding read_modes
+  unfolding modes_by
   local_modes a = local_next (take_modes (pred_text p names a)) (modes_stay (pred_text p names a)) 0
 
   local_rows : (a : ℕ) → IsLocal (read_rows p names a)
-  unfolding read_rows
+  unfolding rows_by
   local_rows a = local_map (λ xs. record { width = arity_in p a; list = xs }) (read_many (take_row (pred_text p names a)) 0) (local_many (take_row (pred_text p names a)) (row_stay (pred_text p names a)) 0)
 
   local_proofs : (rows : List Rows) (k : ℕ) → IsLocal (read_proofs p rows k)
-  unfolding read_proofs
+  unfolding proofs_by
   local_proofs rows k =
       local_each (read_next (take_proof k (rows_of_atoms rows (body_of p k)))) (local_next (take_proof k (rows_of_atoms rows (body_of p k))) (proof_stay k (rows_of_atoms rows (body_of p k)))) 0 (rows_of rows (head_of p k))
 
   local_grounds : (a : ℕ) → IsLocal (read_grounds p names a)
-  unfolding read_grounds
+  unfolding grounds_by
   local_grounds a = local_many (take_ground (pred_text p names a)) (ground_stay (pred_text p names a)) 0
 
   local_level : (comps : Partition) (earlier : List (List LevelPart)) (a : ℕ) → IsLocal (read_level p names comps earlier a)
@@ -473,7 +473,7 @@ module _ (p : Listing) (names : List (List ℕ)) where
       (λ x. local_levels comps (earlier ++ x ∷ []) (suc a) n)
 
   local_cubes : (levels : List (List LevelPart)) (a : ℕ) → IsLocal (read_pre p names levels a)
-  unfolding read_pre read_cubes
+  unfolding pre_by cubes_by
   local_cubes levels a = local_each (read_cubes p names a) one 0 (length (items_of levels a))
     where
       one : (m : ℕ) → IsLocal (read_cubes p names a m)

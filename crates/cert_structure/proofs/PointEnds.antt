@@ -20,11 +20,12 @@ use Rattle.fact_reading.specs.Numbered.{facts_from, EachFrom}
 use Rattle.cert_structure.specs.Order.{pred_text, point_facts, refutation_facts}
 use Rattle.cert_structure.specs.Shape.{vars_of, is_recursive, is_pair, IsBefore, PairsAscend, IsPoint, IsPairPoint, IsRefutation}
 use Rattle.cert_structure.specs.StructureFault as place
-use Rattle.cert_structure.specs.Walk.{same_pred, kept, is_before, pair_end, pair_point, paired, point_read, take_refuted, take_point, take_second, read_second, read_point, read_points, refutation_read, read_group, is_open, read_refutation}
+use Rattle.cert_structure.specs.Walk.{same_pred, kept, is_before, pair_end, pair_point, paired, point_read, take_refuted, take_point, take_second, read_second, read_point, read_points, refutation_read, read_group, is_open, read_refutation, shared_refuted}
 use Rattle.fact_reading.specs.Walk.{Wrong, Taken, item_of, result_map, with_first, read_next, read_each}
 use Rattle.cert_structure.proofs.KindLemmas.{split_refuted, split_point, split_second, IsRefuted, IsPoint as IsPointFact, IsAt}
 use Rattle.fact_reading.proofs.SectionLemmas.{err_ok, next_sound}
-use Rattle.cert_structure.proofs.TakeLemmas.{same_is, amount_is, refuted_taken}
+use Rattle.cert_structure.proofs.ContentLemmas.{same_is, amount_is}
+use Rattle.cert_structure.proofs.TakeLemmas.{refuted_taken}
 use Rattle.cert_structure.proofs.PointLemmas.{before_is, IsFirst, first_taken, second_taken, point_sound, open_is, refutation_sound}
 use Rattle.cert_structure.proofs.LocalLemmas.{bound_err, mapped_err, with_made}
 use Rattle.cert_structure.proofs.EndLemmas.{shows_more, Ends, ends_weaker, after_read, at_wrong, missed, bad_place, IsBadAt, next_ends, fill, zeros, many_zeros, zeros_amounts}
@@ -164,7 +165,7 @@ module _ (p : Listing) (names : List (List ℕ)) (comps : Partition) (a : ℕ) w
   HasGroup l = (r : Refutation) × (count : ℕ) × (l ≡ fact.Refuted (pred_text p names a) count ∷ facts_from 0 (λ _ x. point_facts x) r.points) × IsClaimed r count
 
   refuted_bad : (f : Fact) → take_refuted (pred_text p names a) 0 f ≡ None → IsBadAt f (fact.Refuted (pred_text p names a) 1)
-  unfolding take_refuted
+  unfolding shared_refuted
   refuted_bad f e = go (split_refuted f)
     where
       go : ((q : PredText) (j : ℕ) → take_refuted q j f ≡ Some None) ⊎ IsRefuted f → IsBadAt f (fact.Refuted (pred_text p names a) 1)

@@ -22,7 +22,8 @@ use Rattle.cert_structure.specs.Walk.{is_amount, are_amounts, is_before, pair_en
 use Rattle.fact_reading.specs.Walk.{Taken, result_map, with_first, read_next}
 use Rattle.cert_structure.proofs.KindLemmas.{split_point, split_second, IsPoint as IsPointFact, IsAt}
 use Rattle.fact_reading.proofs.SectionLemmas.{same_some, same_ok, err_ok, bound, mapped, IsTaken, IsBack, next_sound, next_back}
-use Rattle.cert_structure.proofs.TakeLemmas.{other_taken, placed, kept_is, amount_is, amount_back, amounts_are, amounts_back, refuted_taken, refuted_given}
+use Rattle.cert_structure.proofs.ContentLemmas.{other_taken, placed, kept_is, amount_is, amount_back, amounts_are, amounts_back}
+use Rattle.cert_structure.proofs.TakeLemmas.{refuted_taken, refuted_given}
 
 -- pairs in order
 pub before_is : (q r : ℕ × ℕ) → is_before q r ≡ true → IsBefore q r

@@ -34,6 +34,8 @@ use Rattle.fact_reading.specs.declared.stop.Stop.{Stop}
 use Rattle.fact_reading.specs.declared.stop.Stop.TheVariants as stop
 use Rattle.fact_reading.specs.Walk.{◌>>=◌, Wrong, Read, Taken, result_map, wrong_at, with_first, read_each, read_next, read_many}
 use Rattle.cert_structure.specs.Order.{pred_text, is_note}
+use Rattle.cert_structure.specs.SharedFacts.{Shared, shared}
+use Rattle.cert_structure.specs.SharedFacts as says
 use Rattle.cert_structure.specs.Shape.{arity_in, head_of, body_of, vars_of, rows_of, rows_of_atoms, items_of, is_recursive, first_of, proofs_of_call, is_pair}
 
 -- the code took an item of a right shape
@@ -91,31 +93,43 @@ cell_read cell.Zero = side.Zero
 cell_read cell.One = side.One
 cell_read cell.Any = side.Any
 
-unfoldable pub take_modes : PredText → ℕ → Fact → Taken (List (List ℕ))
-take_modes pred i (fact.Terminates q modes) = at_place (same_pred q pred) (kept (list_all (is_mode pred.arity 0) modes) modes)
-take_modes pred i _ = Some None
+unfoldable pub shared_modes : PredText → ℕ → Shared → Taken (List (List ℕ))
+shared_modes pred i (says.modes q modes) = at_place (same_pred q pred) (kept (list_all (is_mode pred.arity 0) modes) modes)
+shared_modes pred i _ = Some None
+
+abbrev pub take_modes : PredText → ℕ → Fact → Taken (List (List ℕ))
+take_modes pred i f = shared_modes pred i (shared f)
 
 abbrev pub row_read : ℕ → List ℤ → Taken Row
 row_read arity [] = None
 row_read arity (b ∷ bs) = kept ((length bs == arity) && (is_entry b && are_entries bs)) (record { constant = b; coeffs = bs })
 
-unfoldable pub take_row : PredText → ℕ → Fact → Taken Row
-take_row pred i (fact.Size q index row) = at_place (same_pred q pred && (index == suc i)) (row_read pred.arity row)
-take_row pred i _ = Some None
+unfoldable pub shared_row : PredText → ℕ → Shared → Taken Row
+shared_row pred i (says.row q index row) = at_place (same_pred q pred && (index == suc i)) (row_read pred.arity row)
+shared_row pred i _ = Some None
+
+abbrev pub take_row : PredText → ℕ → Fact → Taken Row
+take_row pred i f = shared_row pred i (shared f)
 
 abbrev pub multipliers_read : ℕ → ℤ → List ℤ → Taken Multipliers
 multipliers_read rows scale list = kept ((length list == rows) && (is_amount scale && are_amounts list)) (record { scale = scale; list = list })
 
-unfoldable pub take_proof : ℕ → ℕ → ℕ → Fact → Taken Multipliers
-take_proof k rows i (fact.By clause index scale list) = at_place ((clause == suc k) && (index == suc i)) (multipliers_read rows scale list)
-take_proof k rows i _ = Some None
+unfoldable pub shared_proof : ℕ → ℕ → ℕ → Shared → Taken Multipliers
+shared_proof k rows i (says.proof clause index scale list) = at_place ((clause == suc k) && (index == suc i)) (multipliers_read rows scale list)
+shared_proof k rows i _ = Some None
+
+abbrev pub take_proof : ℕ → ℕ → ℕ → Fact → Taken Multipliers
+take_proof k rows i f = shared_proof k rows i (shared f)
 
 abbrev pub cube_read : ℕ → List CertCell → Taken (List Cell)
 cube_read arity cells = kept (length cells == arity) (map cell_read cells)
 
-unfoldable pub take_ground : PredText → ℕ → Fact → Taken (List Cell)
-take_ground pred i (fact.Grounds q index cells) = at_place (same_pred q pred && (index == suc i)) (cube_read pred.arity cells)
-take_ground pred i _ = Some None
+unfoldable pub shared_ground : PredText → ℕ → Shared → Taken (List Cell)
+shared_ground pred i (says.ground q index cells) = at_place (same_pred q pred && (index == suc i)) (cube_read pred.arity cells)
+shared_ground pred i _ = Some None
+
+abbrev pub take_ground : PredText → ℕ → Fact → Taken (List Cell)
+take_ground pred i f = shared_ground pred i (shared f)
 
 abbrev pub level_read : ℕ → List ℤ → ℤ → Taken LevelPart
 level_read arity coeffs offset = kept ((length coeffs == arity) && (are_amounts coeffs && is_amount offset)) (record { coeffs = coeffs; offset = offset })
@@ -129,14 +143,20 @@ take_fall k j rows m (fact.Falls clause call mapping scale list) =
     at_place ((clause == suc k) && ((call == suc j) && (mapping == suc m))) (multipliers_read rows scale list)
 take_fall k j rows m _ = Some None
 
-unfoldable pub take_pre : PredText → ℕ → ℕ → Fact → Taken (List Cell)
-take_pre pred m i (fact.Pre q mapping index cells) = at_place (same_pred q pred && ((mapping == suc m) && (index == suc i))) (cube_read pred.arity cells)
-take_pre pred m i _ = Some None
+unfoldable pub shared_pre : PredText → ℕ → ℕ → Shared → Taken (List Cell)
+shared_pre pred m i (says.pre q mapping index cells) = at_place (same_pred q pred && ((mapping == suc m) && (index == suc i))) (cube_read pred.arity cells)
+shared_pre pred m i _ = Some None
+
+abbrev pub take_pre : PredText → ℕ → ℕ → Fact → Taken (List Cell)
+take_pre pred m i f = shared_pre pred m i (shared f)
 
 -- the number of points that a refutation of the predicate has
-unfoldable pub take_refuted : PredText → ℕ → Fact → Taken ℕ
-take_refuted pred i (fact.Refuted q points) = at_place (same_pred q pred) (kept (nat_le 1 points) points)
-take_refuted pred i _ = Some None
+unfoldable pub shared_refuted : PredText → ℕ → Shared → Taken ℕ
+shared_refuted pred i (says.refuted q points) = at_place (same_pred q pred) (kept (nat_le 1 points) points)
+shared_refuted pred i _ = Some None
+
+abbrev pub take_refuted : PredText → ℕ → Fact → Taken ℕ
+take_refuted pred i f = shared_refuted pred i (shared f)
 
 abbrev pub point_read : ℕ → ℤ → List ℤ → Taken Point
 point_read vars t w = kept ((length w == vars) && (is_amount t && are_amounts w)) (record { t = t; w = w })
@@ -194,18 +214,39 @@ is_open comps levels a = is_recursive comps a && ((first_of comps a == a) && (le
 unfoldable pub read_refutation : Listing → List (List ℕ) → Partition → List (List LevelPart) → ℕ → List Fact → Read Fact (Option Refutation)
 read_refutation p names comps levels a s = if is_open comps levels a then read_group p names comps a s else Ok (None, s)
 
-unfoldable pub read_modes : Listing → List (List ℕ) → ℕ → List Fact → Read Fact (List (List ℕ))
-read_modes p names a s = read_next (take_modes (pred_text p names a)) 0 s
+-- readers of facts of which only this is asked: what they say, where both kinds of certificates have such facts
+module _ {F : Type 0} (look : F → Shared) where
+  unfoldable pub modes_by : Listing → List (List ℕ) → ℕ → List F → Read F (List (List ℕ))
+  modes_by p names a s = read_next (λ i f. shared_modes (pred_text p names a) i (look f)) 0 s
 
-unfoldable pub read_rows : Listing → List (List ℕ) → ℕ → List Fact → Read Fact Rows
-read_rows p names a s =
-    result_map (λ x. (record { width = arity_in p a; list = x.0 }, x.1)) (read_many (take_row (pred_text p names a)) 0 s)
+  unfoldable pub rows_by : Listing → List (List ℕ) → ℕ → List F → Read F Rows
+  rows_by p names a s =
+      result_map (λ x. (record { width = arity_in p a; list = x.0 }, x.1)) (read_many (λ i f. shared_row (pred_text p names a) i (look f)) 0 s)
 
-unfoldable pub read_proofs : Listing → List Rows → ℕ → List Fact → Read Fact (List Multipliers)
-read_proofs p rows k s = read_each (read_next (take_proof k (rows_of_atoms rows (body_of p k)))) 0 (rows_of rows (head_of p k)) s
+  unfoldable pub proofs_by : Listing → List Rows → ℕ → List F → Read F (List Multipliers)
+  proofs_by p rows k s = read_each (read_next (λ i f. shared_proof k (rows_of_atoms rows (body_of p k)) i (look f))) 0 (rows_of rows (head_of p k)) s
 
-unfoldable pub read_grounds : Listing → List (List ℕ) → ℕ → List Fact → Read Fact (List (List Cell))
-read_grounds p names a s = read_many (take_ground (pred_text p names a)) 0 s
+  unfoldable pub grounds_by : Listing → List (List ℕ) → ℕ → List F → Read F (List (List Cell))
+  grounds_by p names a s = read_many (λ i f. shared_ground (pred_text p names a) i (look f)) 0 s
+
+  unfoldable pub cubes_by : Listing → List (List ℕ) → ℕ → ℕ → List F → Read F (List (List Cell))
+  cubes_by p names a m s = read_many (λ i f. shared_pre (pred_text p names a) m i (look f)) 0 s
+
+  -- one precondition for each mapping of a predicate, or for each list
+  unfoldable pub pre_by : {A : Type 0} → Listing → List (List ℕ) → List (List A) → ℕ → List F → Read F (List (List (List Cell)))
+  pre_by p names levels a s = read_each (cubes_by p names a) 0 (length (items_of levels a)) s
+
+abbrev pub read_modes : Listing → List (List ℕ) → ℕ → List Fact → Read Fact (List (List ℕ))
+read_modes p names a s = modes_by shared p names a s
+
+abbrev pub read_rows : Listing → List (List ℕ) → ℕ → List Fact → Read Fact Rows
+read_rows p names a s = rows_by shared p names a s
+
+abbrev pub read_proofs : Listing → List Rows → ℕ → List Fact → Read Fact (List Multipliers)
+read_proofs p rows k s = proofs_by shared p rows k s
+
+abbrev pub read_grounds : Listing → List (List ℕ) → ℕ → List Fact → Read Fact (List (List Cell))
+read_grounds p names a s = grounds_by shared p names a s
 
 -- the levels of a predicate, given those of the predicates before it
 unfoldable pub read_level : Listing → List (List ℕ) → Partition → List (List LevelPart) → ℕ → List Fact → Read Fact (List LevelPart)
@@ -234,11 +275,11 @@ read_calls comps rows levels head k j before (b ∷ bs) s =
 unfoldable pub read_falls : Listing → Partition → List Rows → List (List LevelPart) → ℕ → List Fact → Read Fact (List (List Multipliers))
 read_falls p comps rows levels k s = read_calls comps rows levels (head_of p k) k 0 0 (body_of p k) s
 
-unfoldable pub read_cubes : Listing → List (List ℕ) → ℕ → ℕ → List Fact → Read Fact (List (List Cell))
-read_cubes p names a m s = read_many (take_pre (pred_text p names a) m) 0 s
+abbrev pub read_cubes : Listing → List (List ℕ) → ℕ → ℕ → List Fact → Read Fact (List (List Cell))
+read_cubes p names a m s = cubes_by shared p names a m s
 
-unfoldable pub read_pre : Listing → List (List ℕ) → List (List LevelPart) → ℕ → List Fact → Read Fact (List (List (List Cell)))
-read_pre p names levels a s = read_each (read_cubes p names a) 0 (length (items_of levels a)) s
+abbrev pub read_pre : Listing → List (List ℕ) → List (List LevelPart) → ℕ → List Fact → Read Fact (List (List (List Cell)))
+read_pre p names levels a s = pre_by shared p names levels a s
 
 unfoldable pub take_norm : ℕ → Fact → Taken CertNorm
 take_norm i (fact.Norm norm) = Some (Some norm)

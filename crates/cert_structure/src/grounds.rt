@@ -1,12 +1,12 @@
 //! The cubes of predicates' ground rows.
 
 ghost use Rattle.std.specs.Prelude.{◌≡◌};
-ghost use Rattle.cert_structure.specs.Walk.{named, take_ground, read_grounds};
+ghost use Rattle.cert_structure.specs.Walk.{named, shared_ground, grounds_by};
 
 use crate::cubes::cube;
 use crate::named::{Named, is_number};
+use crate::shared_fact::{AsShared, SharedFact};
 use bool_diagrams::Cube;
-use certificate::Fact;
 use cti_terms::{Names, Program};
 use fact_reading::{FactFault, Kind, Reader, Stop, many};
 use sequences::Sequence;
@@ -18,47 +18,47 @@ struct GroundFact<'a> {
     pred: Named<'a>,
 }
 
-impl Kind<Fact> for GroundFact<'_> {
+impl<F: AsShared> Kind<F> for GroundFact<'_> {
     type Item = Cube;
 
-    ghost takes = { λ r number fact. take_ground (named r.pred) number fact };
+    ghost takes = { λ r number fact. shared_ground (named r.pred) number (F.shared fact) };
 
-    #[tactic(auto, unfolding(crate::specs::Walk::take_ground))]
-    fn take(&self, alloc: Global, number: u64, fact: &Fact) -> Result<Option<Cube>, FactFault> {
-        let Fact::Grounds {
+    #[tactic(auto, unfolding(crate::specs::Walk::shared_ground))]
+    fn take(&self, alloc: Global, number: u64, fact: &F) -> Result<Option<Cube>, FactFault> {
+        let SharedFact::Grounds {
             pred,
             index,
             cube: cells,
-        } = fact
+        } = fact.as_shared()
         else {
             return Ok(None);
         };
-        if !self.pred.is(pred) || !is_number(*index, number) {
+        if !self.pred.is(pred) || !is_number(index, number) {
             return Ok(None);
         }
-        Ok(Some(cube(alloc, self.pred.arity, cells.as_slice())?))
+        Ok(Some(cube(alloc, self.pred.arity, cells)?))
     }
 }
 
 /// The ground rows of each predicate.
 #[derive(Drop)]
-pub(crate) struct Grounds<'a> {
-    pub(crate) p: &'a Program,
-    pub(crate) names: &'a Names,
+pub struct Grounds<'a> {
+    pub p: &'a Program,
+    pub names: &'a Names,
 }
 
-impl Reader<Fact> for Grounds<'_> {
+impl<F: AsShared> Reader<F> for Grounds<'_> {
     type Item = Sequence<Cube>;
 
-    ghost reads = { λ r number facts. read_grounds r.p.now r.names.now number facts };
+    ghost reads = { λ r number facts. grounds_by F.shared r.p.now r.names.now number facts };
 
-    #[tactic(auto, unfolding(crate::specs::Walk::read_grounds))]
+    #[tactic(auto, unfolding(crate::specs::Walk::grounds_by))]
     fn read<'f>(
         &self,
         alloc: Global,
         number: u64,
-        facts: &'f [Fact],
-    ) -> Result<(Sequence<Cube>, &'f [Fact]), Stop> {
+        facts: &'f [F],
+    ) -> Result<(Sequence<Cube>, &'f [F]), Stop> {
         let pred = Named::new(self.p, self.names, number);
         many(alloc, &GroundFact { pred }, facts)
     }

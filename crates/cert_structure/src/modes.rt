@@ -2,10 +2,10 @@
 
 ghost use Rattle.std.specs.Prelude.{◌≡◌, IfOk};
 ghost use Rattle.std.specs.List.{list_all};
-ghost use Rattle.cert_structure.specs.Walk.{named, is_mode, read_modes, take_modes};
+ghost use Rattle.cert_structure.specs.Walk.{named, is_mode, modes_by, shared_modes};
 
 use crate::named::Named;
-use certificate::Fact;
+use crate::shared_fact::{AsShared, SharedFact};
 use cti_terms::{Names, Program};
 use fact_reading::{FactFault, Kind, Reader, Stop, first_item};
 use sequences::Sequence;
@@ -26,7 +26,7 @@ fn is_mode(arity: u32, mode: &[u32]) -> bool
 }
 
 /// Whether each mode has argument numbers from 1 to the arity, in ascending order.
-pub fn are_modes(arity: u32, modes: &[Sequence<u32>]) -> bool
+fn are_modes(arity: u32, modes: &[Sequence<u32>]) -> bool
     ensures { result ≡ list_all (is_mode arity 0) modes.now }
 {
     modes.iter().all(|mode| is_mode(arity, mode.as_slice()))
@@ -53,50 +53,50 @@ struct ModesFact<'a> {
     pred: Named<'a>,
 }
 
-impl Kind<Fact> for ModesFact<'_> {
+impl<F: AsShared> Kind<F> for ModesFact<'_> {
     type Item = Sequence<Sequence<u32>>;
 
-    ghost takes = { λ r number fact. take_modes (named r.pred) number fact };
+    ghost takes = { λ r number fact. shared_modes (named r.pred) number (F.shared fact) };
 
-    #[tactic(auto, unfolding(crate::specs::Walk::take_modes))]
+    #[tactic(auto, unfolding(crate::specs::Walk::shared_modes))]
     fn take(
         &self,
         alloc: Global,
         _number: u64,
-        fact: &Fact,
+        fact: &F,
     ) -> Result<Option<Sequence<Sequence<u32>>>, FactFault> {
-        let Fact::Terminates { pred, modes } = fact else {
+        let SharedFact::Terminates { pred, modes } = fact.as_shared() else {
             return Ok(None);
         };
         if !self.pred.is(pred) {
             return Ok(None);
         }
-        if !are_modes(self.pred.arity, modes.as_slice()) {
+        if !are_modes(self.pred.arity, modes) {
             return Err(FactFault::Shape);
         }
-        Ok(Some(copied_modes(alloc, modes.as_slice())?))
+        Ok(Some(copied_modes(alloc, modes)?))
     }
 }
 
 /// The modes of each predicate.
 #[derive(Drop)]
-pub(crate) struct Modes<'a> {
-    pub(crate) p: &'a Program,
-    pub(crate) names: &'a Names,
+pub struct Modes<'a> {
+    pub p: &'a Program,
+    pub names: &'a Names,
 }
 
-impl Reader<Fact> for Modes<'_> {
+impl<F: AsShared> Reader<F> for Modes<'_> {
     type Item = Sequence<Sequence<u32>>;
 
-    ghost reads = { λ r number facts. read_modes r.p.now r.names.now number facts };
+    ghost reads = { λ r number facts. modes_by F.shared r.p.now r.names.now number facts };
 
-    #[tactic(auto, unfolding(crate::specs::Walk::read_modes))]
+    #[tactic(auto, unfolding(crate::specs::Walk::modes_by))]
     fn read<'f>(
         &self,
         alloc: Global,
         number: u64,
-        facts: &'f [Fact],
-    ) -> Result<(Sequence<Sequence<u32>>, &'f [Fact]), Stop> {
+        facts: &'f [F],
+    ) -> Result<(Sequence<Sequence<u32>>, &'f [F]), Stop> {
         let fact = ModesFact {
             pred: Named::new(self.p, self.names, number),
         };

@@ -1,7 +1,7 @@
 //! Refutations of recursive components.
 
 ghost use Rattle.std.specs.Prelude.{◌≡◌};
-ghost use Rattle.cert_structure.specs.Walk.{AgreesKept, named, pair_end, is_open, point_read, take_refuted, take_point, take_second, read_second, read_point, read_points, read_group, read_refutation};
+ghost use Rattle.cert_structure.specs.Walk.{AgreesKept, named, pair_end, is_open, point_read, shared_refuted, take_point, take_second, read_second, read_point, read_points, read_group, read_refutation};
 ghost use Rattle.fact_reading.specs.Walk.{Agrees};
 
 use crate::calls::Calls;
@@ -9,6 +9,7 @@ use crate::items::count_of;
 use crate::named::Named;
 use crate::numbers::scaled_point;
 use crate::pair::{Pair, vars};
+use crate::shared_fact::{AsShared, SharedFact};
 use certificate::Fact;
 use cti_terms::Names;
 use fact_reading::{FactFault, Kind, Reader, Stop, StructureReason, first_item, wrong};
@@ -165,29 +166,29 @@ fn points<'f>(
     Ok((points, rest))
 }
 
-/// The fact that begins a refutation, and says how many points it has.
+/// The fact that begins the points which show that a component has no mapping, or no list, and says how many there are.
 #[derive(Drop)]
-struct RefutedFact<'a> {
-    pred: Named<'a>,
+pub struct RefutedFact<'a> {
+    pub pred: Named<'a>,
 }
 
-impl Kind<Fact> for RefutedFact<'_> {
+impl<F: AsShared> Kind<F> for RefutedFact<'_> {
     type Item = u64;
 
-    ghost takes = { λ r number fact. take_refuted (named r.pred) number fact };
+    ghost takes = { λ r number fact. shared_refuted (named r.pred) number (F.shared fact) };
 
-    #[tactic(auto, unfolding(crate::specs::Walk::take_refuted))]
-    fn take(&self, _alloc: Global, _number: u64, fact: &Fact) -> Result<Option<u64>, FactFault> {
-        let Fact::Refuted { pred, points } = fact else {
+    #[tactic(auto, unfolding(crate::specs::Walk::shared_refuted))]
+    fn take(&self, _alloc: Global, _number: u64, fact: &F) -> Result<Option<u64>, FactFault> {
+        let SharedFact::Refuted { pred, points } = fact.as_shared() else {
             return Ok(None);
         };
         if !self.pred.is(pred) {
             return Ok(None);
         }
-        if *points == 0 {
+        if points == 0 {
             return Err(FactFault::Shape);
         }
-        Ok(Some(*points))
+        Ok(Some(points))
     }
 }
 

@@ -3,13 +3,13 @@
 ghost use Rattle.std.specs.Prelude.{◌≡◌, ◌++◌, map, length, sum_by};
 ghost use Rattle.fact_reading.specs.Filling.{Fills};
 ghost use Rattle.cert_structure.specs.Shape.{arity_in, rows_of, rows_of_atoms};
-ghost use Rattle.cert_structure.specs.Walk.{AgreesKept, named, row_read, take_row, read_rows, take_proof, read_proofs};
+ghost use Rattle.cert_structure.specs.Walk.{AgreesKept, named, row_read, shared_row, rows_by, shared_proof, proofs_by};
 ghost use Rattle.fact_reading.specs.Walk.{read_each};
 
 use crate::clauses::{body_at, head_at};
 use crate::named::{Named, is_number};
 use crate::numbers::{multipliers, size_row};
-use certificate::Fact;
+use crate::shared_fact::{AsShared, SharedFact};
 use cti_terms::{Atom, Names, PredId, Program};
 use fact_reading::{FactFault, Kind, Next, Reader, Stop, each, many};
 use linear_rows::{Multipliers, Row, RowList, Rows};
@@ -23,42 +23,42 @@ struct RowFact<'a> {
     pred: Named<'a>,
 }
 
-impl Kind<Fact> for RowFact<'_> {
+impl<F: AsShared> Kind<F> for RowFact<'_> {
     type Item = Row;
 
-    ghost takes = { λ r number fact. take_row (named r.pred) number fact };
+    ghost takes = { λ r number fact. shared_row (named r.pred) number (F.shared fact) };
 
-    #[tactic(auto, unfolding(crate::specs::Walk::take_row))]
-    fn take(&self, alloc: Global, number: u64, fact: &Fact) -> Result<Option<Row>, FactFault> {
-        let Fact::Size { pred, index, row } = fact else {
+    #[tactic(auto, unfolding(crate::specs::Walk::shared_row))]
+    fn take(&self, alloc: Global, number: u64, fact: &F) -> Result<Option<Row>, FactFault> {
+        let SharedFact::Size { pred, index, row } = fact.as_shared() else {
             return Ok(None);
         };
-        if !self.pred.is(pred) || !is_number(*index, number) {
+        if !self.pred.is(pred) || !is_number(index, number) {
             return Ok(None);
         }
-        Ok(Some(size_row(alloc, self.pred.arity, row.as_slice())?))
+        Ok(Some(size_row(alloc, self.pred.arity, row)?))
     }
 }
 
 /// The size rows of each predicate.
 #[derive(Drop)]
-pub(crate) struct PredRows<'a> {
-    pub(crate) p: &'a Program,
-    pub(crate) names: &'a Names,
+pub struct PredRows<'a> {
+    pub p: &'a Program,
+    pub names: &'a Names,
 }
 
-impl Reader<Fact> for PredRows<'_> {
+impl<F: AsShared> Reader<F> for PredRows<'_> {
     type Item = Rows;
 
-    ghost reads = { λ r number facts. read_rows r.p.now r.names.now number facts };
+    ghost reads = { λ r number facts. rows_by F.shared r.p.now r.names.now number facts };
 
-    #[tactic(auto, unfolding(crate::specs::Walk::read_rows))]
+    #[tactic(auto, unfolding(crate::specs::Walk::rows_by))]
     fn read<'f>(
         &self,
         alloc: Global,
         number: u64,
-        facts: &'f [Fact],
-    ) -> Result<(Rows, &'f [Fact]), Stop> {
+        facts: &'f [F],
+    ) -> Result<(Rows, &'f [F]), Stop> {
         let pred = Named::new(self.p, self.names, number);
         let (rows, rest) = many(alloc, &RowFact { pred }, facts)?;
         let list = RowList::from_vec(rows.into_vec());
@@ -73,15 +73,15 @@ impl Reader<Fact> for PredRows<'_> {
 }
 
 /// Reads the size rows of the predicates below `count` into the place of others, and gives the facts after them.
-pub(crate) fn rows_into<'f>(
+pub fn rows_into<'f, F: AsShared>(
     alloc: Global,
     reader: &PredRows,
     count: u64,
     rows: &mut SizeRows,
-    facts: &'f [Fact],
-) -> Result<&'f [Fact], Stop>
+    facts: &'f [F],
+) -> Result<&'f [F], Stop>
     ensures { Fills result rows.new
-        (read_each (read_rows reader.now.p.now reader.now.names.now) 0 count facts.now) }
+        (read_each (rows_by F.shared reader.now.p.now reader.now.names.now) 0 count facts.now) }
 {
     let (read, rest) = each(alloc, reader, count, facts)?;
     *rows = SizeRows::from_vec(read.into_vec());
@@ -107,31 +107,26 @@ struct ProofFact {
     rows: u128,
 }
 
-impl Kind<Fact> for ProofFact {
+impl<F: AsShared> Kind<F> for ProofFact {
     type Item = Multipliers;
 
-    ghost takes = { λ r number fact. take_proof r.clause r.rows number fact };
+    ghost takes = { λ r number fact. shared_proof r.clause r.rows number (F.shared fact) };
 
-    #[tactic(auto, unfolding(crate::specs::Walk::take_proof))]
-    fn take(
-        &self,
-        alloc: Global,
-        number: u64,
-        fact: &Fact,
-    ) -> Result<Option<Multipliers>, FactFault> {
-        let Fact::By {
+    #[tactic(auto, unfolding(crate::specs::Walk::shared_proof))]
+    fn take(&self, alloc: Global, number: u64, fact: &F) -> Result<Option<Multipliers>, FactFault> {
+        let SharedFact::By {
             clause,
             index,
             scale,
             multipliers: list,
-        } = fact
+        } = fact.as_shared()
         else {
             return Ok(None);
         };
-        if !is_number(u64::from(*clause), self.clause) || !is_number(*index, number) {
+        if !is_number(u64::from(clause), self.clause) || !is_number(index, number) {
             return Ok(None);
         }
-        Ok(Some(multipliers(alloc, self.rows, *scale, list.as_slice())?))
+        Ok(Some(multipliers(alloc, self.rows, scale, list)?))
     }
 }
 
@@ -148,23 +143,23 @@ pub fn rows_of_atoms(rows: &SizeRows, atoms: &[Atom]) -> u128
 
 /// The proofs for each clause.
 #[derive(Drop)]
-pub(crate) struct Proofs<'a> {
-    pub(crate) p: &'a Program,
-    pub(crate) rows: &'a SizeRows,
+pub struct Proofs<'a> {
+    pub p: &'a Program,
+    pub rows: &'a SizeRows,
 }
 
-impl Reader<Fact> for Proofs<'_> {
+impl<F: AsShared> Reader<F> for Proofs<'_> {
     type Item = Sequence<Multipliers>;
 
-    ghost reads = { λ r number facts. read_proofs r.p.now r.rows.now number facts };
+    ghost reads = { λ r number facts. proofs_by F.shared r.p.now r.rows.now number facts };
 
-    #[tactic(auto, unfolding(crate::specs::Walk::read_proofs))]
+    #[tactic(auto, unfolding(crate::specs::Walk::proofs_by))]
     fn read<'f>(
         &self,
         alloc: Global,
         number: u64,
-        facts: &'f [Fact],
-    ) -> Result<(Sequence<Multipliers>, &'f [Fact]), Stop> {
+        facts: &'f [F],
+    ) -> Result<(Sequence<Multipliers>, &'f [F]), Stop> {
         let kind = ProofFact {
             clause: number,
             rows: rows_of_atoms(self.rows, body_at(self.p, number)),

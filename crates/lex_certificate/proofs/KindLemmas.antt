@@ -7,7 +7,9 @@ use Rattle.certificate.specs.declared.pred_text.PredText.{PredText}
 use Rattle.cti_terms.specs.Listing.{Listing}
 use Rattle.lex_certificate.specs.declared.fact.LexFact.{LexFact}
 use Rattle.lex_certificate.specs.declared.fact.LexFact.TheVariants as lex
-use Rattle.lex_certificate.specs.Walk.{take_version, take_modes, take_row, take_proof, take_ground, take_level, take_drop, take_pre, take_refuted, take_point}
+use Rattle.lex_certificate.specs.Walk.{shared, take_version, take_level, take_drop, take_point}
+use Rattle.cert_structure.specs.SharedFacts.{Shared}
+use Rattle.cert_structure.specs.SharedFacts as says
 
 -- the place of a fact's kind in the order of the format
 abbrev pub kind : LexFact → ℕ
@@ -26,6 +28,42 @@ kind (lex.Step step q how rows) = 9
 kind (lex.WeakImage step) = 9
 kind (lex.WeakStep step) = 9
 kind (lex.Blown q) = 9
+
+-- the fact that says what certificates of mappings have too; where nothing is said, any fact
+abbrev pub fact_line : Shared → LexFact
+fact_line (says.modes q modes) = lex.Terminates q modes
+fact_line (says.row q index row) = lex.Size q index row
+fact_line (says.proof clause index scale list) = lex.By clause index scale list
+fact_line (says.ground q index cells) = lex.Grounds q index cells
+fact_line (says.pre q list index cells) = lex.Pre q list index cells
+fact_line (says.refuted q points) = lex.Refuted q points
+fact_line says.other = lex.WeakStep 0
+
+pub is_line : (f : LexFact) → (shared f ≡ says.other) ⊎ (f ≡ fact_line (shared f))
+is_line (lex.Ctilex version) = inl refl
+is_line (lex.Terminates q modes) = inr refl
+is_line (lex.Size q index row) = inr refl
+is_line (lex.By clause index scale list) = inr refl
+is_line (lex.Grounds q index cells) = inr refl
+is_line (lex.Level q list index coeffs offset) = inl refl
+is_line (lex.Drops clause call list index scale numbers) = inl refl
+is_line (lex.Pre q list index cells) = inr refl
+is_line (lex.Refuted q points) = inr refl
+is_line (lex.Point clause call t w) = inl refl
+is_line (lex.Image step clause q rows) = inl refl
+is_line (lex.Step step q how rows) = inl refl
+is_line (lex.WeakImage step) = inl refl
+is_line (lex.WeakStep step) = inl refl
+is_line (lex.Blown q) = inl refl
+
+pub seen : (x : Shared) → (x ≡ says.other) ⊎ (shared (fact_line x) ≡ x)
+seen (says.modes q modes) = inr refl
+seen (says.row q index row) = inr refl
+seen (says.proof clause index scale list) = inr refl
+seen (says.ground q index cells) = inr refl
+seen (says.pre q list index cells) = inr refl
+seen (says.refuted q points) = inr refl
+seen says.other = inl refl
 
 abbrev pub IsVersion : LexFact → Type 0
 IsVersion f = (version : ℤ) × (f ≡ lex.Ctilex version)
@@ -47,90 +85,6 @@ split_version (lex.Step step q how rows) = inl (λ i. refl)
 split_version (lex.WeakImage step) = inl (λ i. refl)
 split_version (lex.WeakStep step) = inl (λ i. refl)
 split_version (lex.Blown q) = inl (λ i. refl)
-
-abbrev pub IsTerminates : LexFact → Type 0
-IsTerminates f = (q : PredText) × (modes : List (List ℕ)) × (f ≡ lex.Terminates q modes)
-
-pub split_modes : (f : LexFact) → ((pred : PredText) (i : ℕ) → take_modes pred i f ≡ Some None) ⊎ IsTerminates f
-unfolding take_modes
-split_modes (lex.Ctilex version) = inl (λ pred i. refl)
-split_modes (lex.Terminates q modes) = inr (q, modes, refl)
-split_modes (lex.Size q index row) = inl (λ pred i. refl)
-split_modes (lex.By clause index scale list) = inl (λ pred i. refl)
-split_modes (lex.Grounds q index cells) = inl (λ pred i. refl)
-split_modes (lex.Level q list index coeffs offset) = inl (λ pred i. refl)
-split_modes (lex.Drops clause call list index scale numbers) = inl (λ pred i. refl)
-split_modes (lex.Pre q list index cells) = inl (λ pred i. refl)
-split_modes (lex.Refuted q points) = inl (λ pred i. refl)
-split_modes (lex.Point clause call t w) = inl (λ pred i. refl)
-split_modes (lex.Image step clause q rows) = inl (λ pred i. refl)
-split_modes (lex.Step step q how rows) = inl (λ pred i. refl)
-split_modes (lex.WeakImage step) = inl (λ pred i. refl)
-split_modes (lex.WeakStep step) = inl (λ pred i. refl)
-split_modes (lex.Blown q) = inl (λ pred i. refl)
-
-abbrev pub IsSize : LexFact → Type 0
-IsSize f = (q : PredText) × (index : ℕ) × (row : List ℤ) × (f ≡ lex.Size q index row)
-
-pub split_row : (f : LexFact) → ((pred : PredText) (i : ℕ) → take_row pred i f ≡ Some None) ⊎ IsSize f
-unfolding take_row
-split_row (lex.Ctilex version) = inl (λ pred i. refl)
-split_row (lex.Terminates q modes) = inl (λ pred i. refl)
-split_row (lex.Size q index row) = inr (q, index, row, refl)
-split_row (lex.By clause index scale list) = inl (λ pred i. refl)
-split_row (lex.Grounds q index cells) = inl (λ pred i. refl)
-split_row (lex.Level q list index coeffs offset) = inl (λ pred i. refl)
-split_row (lex.Drops clause call list index scale numbers) = inl (λ pred i. refl)
-split_row (lex.Pre q list index cells) = inl (λ pred i. refl)
-split_row (lex.Refuted q points) = inl (λ pred i. refl)
-split_row (lex.Point clause call t w) = inl (λ pred i. refl)
-split_row (lex.Image step clause q rows) = inl (λ pred i. refl)
-split_row (lex.Step step q how rows) = inl (λ pred i. refl)
-split_row (lex.WeakImage step) = inl (λ pred i. refl)
-split_row (lex.WeakStep step) = inl (λ pred i. refl)
-split_row (lex.Blown q) = inl (λ pred i. refl)
-
-abbrev pub IsBy : LexFact → Type 0
-IsBy f = (clause : ℕ) × (index : ℕ) × (scale : ℤ) × (list : List ℤ) × (f ≡ lex.By clause index scale list)
-
-pub split_proof : (f : LexFact) → ((k rows i : ℕ) → take_proof k rows i f ≡ Some None) ⊎ IsBy f
-unfolding take_proof
-split_proof (lex.Ctilex version) = inl (λ k rows i. refl)
-split_proof (lex.Terminates q modes) = inl (λ k rows i. refl)
-split_proof (lex.Size q index row) = inl (λ k rows i. refl)
-split_proof (lex.By clause index scale list) = inr (clause, index, scale, list, refl)
-split_proof (lex.Grounds q index cells) = inl (λ k rows i. refl)
-split_proof (lex.Level q list index coeffs offset) = inl (λ k rows i. refl)
-split_proof (lex.Drops clause call list index scale numbers) = inl (λ k rows i. refl)
-split_proof (lex.Pre q list index cells) = inl (λ k rows i. refl)
-split_proof (lex.Refuted q points) = inl (λ k rows i. refl)
-split_proof (lex.Point clause call t w) = inl (λ k rows i. refl)
-split_proof (lex.Image step clause q rows) = inl (λ k rows i. refl)
-split_proof (lex.Step step q how rows) = inl (λ k rows i. refl)
-split_proof (lex.WeakImage step) = inl (λ k rows i. refl)
-split_proof (lex.WeakStep step) = inl (λ k rows i. refl)
-split_proof (lex.Blown q) = inl (λ k rows i. refl)
-
-abbrev pub IsGrounds : LexFact → Type 0
-IsGrounds f = (q : PredText) × (index : ℕ) × (cells : List CertCell) × (f ≡ lex.Grounds q index cells)
-
-pub split_ground : (f : LexFact) → ((pred : PredText) (i : ℕ) → take_ground pred i f ≡ Some None) ⊎ IsGrounds f
-unfolding take_ground
-split_ground (lex.Ctilex version) = inl (λ pred i. refl)
-split_ground (lex.Terminates q modes) = inl (λ pred i. refl)
-split_ground (lex.Size q index row) = inl (λ pred i. refl)
-split_ground (lex.By clause index scale list) = inl (λ pred i. refl)
-split_ground (lex.Grounds q index cells) = inr (q, index, cells, refl)
-split_ground (lex.Level q list index coeffs offset) = inl (λ pred i. refl)
-split_ground (lex.Drops clause call list index scale numbers) = inl (λ pred i. refl)
-split_ground (lex.Pre q list index cells) = inl (λ pred i. refl)
-split_ground (lex.Refuted q points) = inl (λ pred i. refl)
-split_ground (lex.Point clause call t w) = inl (λ pred i. refl)
-split_ground (lex.Image step clause q rows) = inl (λ pred i. refl)
-split_ground (lex.Step step q how rows) = inl (λ pred i. refl)
-split_ground (lex.WeakImage step) = inl (λ pred i. refl)
-split_ground (lex.WeakStep step) = inl (λ pred i. refl)
-split_ground (lex.Blown q) = inl (λ pred i. refl)
 
 abbrev pub IsLevelFact : LexFact → Type 0
 IsLevelFact f = (q : PredText) × (list : ℕ) × (index : ℕ) × (coeffs : List ℤ) × (offset : ℤ) × (f ≡ lex.Level q list index coeffs offset)
@@ -173,48 +127,6 @@ split_drop (lex.Step step q how rows) = inl (λ k j rows m i. refl)
 split_drop (lex.WeakImage step) = inl (λ k j rows m i. refl)
 split_drop (lex.WeakStep step) = inl (λ k j rows m i. refl)
 split_drop (lex.Blown q) = inl (λ k j rows m i. refl)
-
-abbrev pub IsPre : LexFact → Type 0
-IsPre f = (q : PredText) × (list : ℕ) × (index : ℕ) × (cells : List CertCell) × (f ≡ lex.Pre q list index cells)
-
-pub split_pre : (f : LexFact) → ((pred : PredText) (m i : ℕ) → take_pre pred m i f ≡ Some None) ⊎ IsPre f
-unfolding take_pre
-split_pre (lex.Ctilex version) = inl (λ pred m i. refl)
-split_pre (lex.Terminates q modes) = inl (λ pred m i. refl)
-split_pre (lex.Size q index row) = inl (λ pred m i. refl)
-split_pre (lex.By clause index scale list) = inl (λ pred m i. refl)
-split_pre (lex.Grounds q index cells) = inl (λ pred m i. refl)
-split_pre (lex.Level q list index coeffs offset) = inl (λ pred m i. refl)
-split_pre (lex.Drops clause call list index scale numbers) = inl (λ pred m i. refl)
-split_pre (lex.Pre q list index cells) = inr (q, list, index, cells, refl)
-split_pre (lex.Refuted q points) = inl (λ pred m i. refl)
-split_pre (lex.Point clause call t w) = inl (λ pred m i. refl)
-split_pre (lex.Image step clause q rows) = inl (λ pred m i. refl)
-split_pre (lex.Step step q how rows) = inl (λ pred m i. refl)
-split_pre (lex.WeakImage step) = inl (λ pred m i. refl)
-split_pre (lex.WeakStep step) = inl (λ pred m i. refl)
-split_pre (lex.Blown q) = inl (λ pred m i. refl)
-
-abbrev pub IsRefuted : LexFact → Type 0
-IsRefuted f = (q : PredText) × (points : ℕ) × (f ≡ lex.Refuted q points)
-
-pub split_refuted : (f : LexFact) → ((pred : PredText) (i : ℕ) → take_refuted pred i f ≡ Some None) ⊎ IsRefuted f
-unfolding take_refuted
-split_refuted (lex.Ctilex version) = inl (λ pred i. refl)
-split_refuted (lex.Terminates q modes) = inl (λ pred i. refl)
-split_refuted (lex.Size q index row) = inl (λ pred i. refl)
-split_refuted (lex.By clause index scale list) = inl (λ pred i. refl)
-split_refuted (lex.Grounds q index cells) = inl (λ pred i. refl)
-split_refuted (lex.Level q list index coeffs offset) = inl (λ pred i. refl)
-split_refuted (lex.Drops clause call list index scale numbers) = inl (λ pred i. refl)
-split_refuted (lex.Pre q list index cells) = inl (λ pred i. refl)
-split_refuted (lex.Refuted q points) = inr (q, points, refl)
-split_refuted (lex.Point clause call t w) = inl (λ pred i. refl)
-split_refuted (lex.Image step clause q rows) = inl (λ pred i. refl)
-split_refuted (lex.Step step q how rows) = inl (λ pred i. refl)
-split_refuted (lex.WeakImage step) = inl (λ pred i. refl)
-split_refuted (lex.WeakStep step) = inl (λ pred i. refl)
-split_refuted (lex.Blown q) = inl (λ pred i. refl)
 
 abbrev pub IsPointFact : LexFact → Type 0
 IsPointFact f = (clause : ℕ) × (call : ℕ) × (t : ℤ) × (w : List ℤ) × (f ≡ lex.Point clause call t w)

@@ -5,8 +5,8 @@ use Rattle.std.specs.List.{AllByRecursion}
 use Rattle.call_components.specs.Partition.{Partition}
 use Rattle.cert_structure.specs.Order.{pred_text}
 use Rattle.cert_structure.specs.Shape.{arity_in, items_of, is_recursive, first_of, IsLevel}
-use Rattle.cert_structure.proofs.LevelLemmas.{arity_text, not_same, place_behind, place_before, one_longer}
-use Rattle.cert_structure.proofs.TakeLemmas.{same_itself}
+use Rattle.cert_structure.proofs.LevelLemmas.{place_behind, place_before, one_longer}
+use Rattle.cert_structure.proofs.ContentLemmas.{same_itself, arity_text, not_same}
 use Rattle.certificate.specs.declared.pred_text.PredText.{PredText}
 use Rattle.cti_terms.specs.Listing.{Listing}
 use Rattle.fact_reading.specs.Numbered.{facts_from, lines_from, EachFrom}

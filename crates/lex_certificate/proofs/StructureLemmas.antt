@@ -1,5 +1,5 @@
 -- Reading the sections of a certificate: what is read is listed so, and what is listed so is read.
-use Rattle.std.proofs.Common.{◌≡◌, ◌≢◌, ℕ, suc, ◌<◌, ◌⊎◌, inl, inr, List, [], ◌∷◌, ◌++◌, length, Option, Some, None, Ok, refl, ap, sym, subst, arith, ne_eqb}
+use Rattle.std.proofs.Common.{◌≡◌, ◌≢◌, ℕ, suc, ◌<◌, ◌≤◌, ◌⊎◌, inl, inr, List, [], ◌∷◌, ◌++◌, length, Option, Some, None, Ok, refl, ap, sym, subst, arith, ne_eqb}
 use Rattle.std.proofs.lemmas.Bool.{false≢true}
 use Rattle.std.specs.Prelude.{IsTrue}
 use Rattle.std.specs.List.{AllByRecursion}
@@ -7,8 +7,7 @@ use Rattle.bool_diagrams.specs.declared.cube.Cell.{Cell}
 use Rattle.call_components.specs.Partition.{Partition}
 use Rattle.cert_structure.specs.Order.{pred_text}
 use Rattle.cert_structure.specs.Shape.{arity_in, head_of, body_of, rows_of, rows_of_atoms, items_of, IsMode, IsSizeRow, HaveMultipliers, HasWidth}
-use Rattle.cert_structure.proofs.LevelLemmas.{arity_text, not_same}
-use Rattle.cert_structure.proofs.TakeLemmas.{same_itself}
+use Rattle.cert_structure.proofs.ContentLemmas.{same_itself, arity_text, not_same}
 use Rattle.certificate.specs.declared.pred_text.PredText.{PredText}
 use Rattle.cti_terms.specs.Listing.{Listing}
 use Rattle.fact_reading.specs.Numbered.{facts_from, lines_from, AreEach}
@@ -24,12 +23,13 @@ use Rattle.lex_certificate.specs.declared.fact.LexFact.TheVariants as lex
 use Rattle.lex_certificate.specs.Order.{size_line, by_line, grounds_line, level_line, drops_line, pre_line, point_line, stuck_lines, mode_facts, size_facts, proof_facts, ground_facts, level_facts, drop_facts, pre_facts, stuck_facts, is_note}
 use Rattle.lex_certificate.specs.Shape.{IsStuckSet}
 use Rattle.lex_certificate.specs.Structure.{AreNotes}
-use Rattle.lex_certificate.specs.Walk.{take_modes, take_row, take_proof, take_ground, take_level, take_drop, take_pre, take_refuted, read_modes, read_rows, read_proofs, read_grounds, read_drops, read_cubes, read_pre, read_stuck}
+use Rattle.lex_certificate.specs.Walk.{shared, take_level, take_drop, read_modes, read_rows, read_proofs, read_grounds, read_drops, read_pre, read_stuck}
+use Rattle.cert_structure.specs.Walk.{shared_row, shared_ground, shared_pre, shared_refuted}
 use Rattle.lex_certificate.proofs.DropLemmas.{NoDrop, IsCall, calls_sound, calls_back, clause_apart}
-use Rattle.lex_certificate.proofs.KindLemmas.{kind, split_row, split_ground, split_level, split_drop, split_pre, split_refuted, IsSize, IsGrounds, IsLevelFact, IsDrops, IsPre, IsRefuted}
+use Rattle.lex_certificate.proofs.KindLemmas.{kind, fact_line, is_line, seen, split_level, split_drop, IsLevelFact, IsDrops}
+use Rattle.cert_structure.proofs.SharedLemmas as laws
 use Rattle.lex_certificate.proofs.ListLemmas.{NoLevel, free}
 use Rattle.lex_certificate.proofs.StuckLemmas.{stuck_sound, stuck_given}
-use Rattle.lex_certificate.proofs.TakeLemmas.{modes_taken, modes_given, row_taken, row_given, proof_taken, proof_given, ground_taken, ground_given, pre_taken, pre_given}
 
 -- Facts of later kinds.
 abbrev pub AreLater : ℕ → List LexFact → Type 0
@@ -90,19 +90,15 @@ pub notes_later : (m : ℕ) → m < 9 → (facts : List LexFact) → AreNotes fa
 notes_later m h facts notes = all_weaker (λ f. IsTrue (is_note f)) (λ f. m < kind f) (note_kind m h) facts notes
 
 -- a reader takes no fact of a later kind
-pub no_row : (pred : PredText) (f : LexFact) → 2 < kind f → (i : ℕ) → take_row pred i f ≡ Some None
-no_row pred f h i = go (split_row f)
-  where
-    go : ((q : PredText) (j : ℕ) → take_row q j f ≡ Some None) ⊎ IsSize f → take_row pred i f ≡ Some None
-    go (inl none) = none pred i
-    go (inr (q, index, row, is)) = let late : 2 < kind (lex.Size q index row) = rw is at h in absurd (omega (arith, late))
+-- a fact of a later kind is not one of this kind
+no_later : (m : ℕ) (f g : LexFact) → f ≡ g → m < kind f → kind g ≤ m → ⊥
+no_later m f g is late early = let later : m < kind g = rw is at late in omega (arith, later, early)
 
-pub no_ground : (pred : PredText) (f : LexFact) → 4 < kind f → (i : ℕ) → take_ground pred i f ≡ Some None
-no_ground pred f h i = go (split_ground f)
-  where
-    go : ((q : PredText) (j : ℕ) → take_ground q j f ≡ Some None) ⊎ IsGrounds f → take_ground pred i f ≡ Some None
-    go (inl none) = none pred i
-    go (inr (q, index, cells, is)) = let late : 4 < kind (lex.Grounds q index cells) = rw is at h in absurd (omega (arith, late))
+pub no_row : (pred : PredText) (f : LexFact) → 2 < kind f → (i : ℕ) → shared_row pred i (shared f) ≡ Some None
+no_row pred f h = laws.no_row shared fact_line is_line seen pred f (λ q index row is. absurd (no_later 2 f (lex.Size q index row) is h (omega arith)))
+
+pub no_ground : (pred : PredText) (f : LexFact) → 4 < kind f → (i : ℕ) → shared_ground pred i (shared f) ≡ Some None
+no_ground pred f h = laws.no_ground shared fact_line is_line seen pred f (λ q index cells is. absurd (no_later 4 f (lex.Grounds q index cells) is h (omega arith)))
 
 pub no_level : (pred : PredText) (f : LexFact) → 5 < kind f → NoLevel pred f
 no_level pred f h m i = go (split_level f)
@@ -118,162 +114,58 @@ no_drop k j f h rows m i = go (split_drop f)
     go (inl none) = none k j rows m i
     go (inr (clause, call, list, index, scale, numbers, is)) = let late : 6 < kind (lex.Drops clause call list index scale numbers) = rw is at h in absurd (omega (arith, late))
 
-pub no_pre : (pred : PredText) (f : LexFact) → 7 < kind f → (m i : ℕ) → take_pre pred m i f ≡ Some None
-no_pre pred f h m i = go (split_pre f)
-  where
-    go : ((q : PredText) (m j : ℕ) → take_pre q m j f ≡ Some None) ⊎ IsPre f → take_pre pred m i f ≡ Some None
-    go (inl none) = none pred m i
-    go (inr (q, list, index, cells, is)) = let late : 7 < kind (lex.Pre q list index cells) = rw is at h in absurd (omega (arith, late))
+pub no_pre : (pred : PredText) (f : LexFact) → 7 < kind f → (m i : ℕ) → shared_pre pred m i (shared f) ≡ Some None
+no_pre pred f h = laws.no_cube shared fact_line is_line seen pred f (λ q list index cells is. absurd (no_later 7 f (lex.Pre q list index cells) is h (omega arith)))
 
-pub no_refuted : (pred : PredText) (f : LexFact) → 8 < kind f → take_refuted pred 0 f ≡ Some None
-no_refuted pred f h = go (split_refuted f)
-  where
-    go : ((q : PredText) (j : ℕ) → take_refuted q j f ≡ Some None) ⊎ IsRefuted f → take_refuted pred 0 f ≡ Some None
-    go (inl none) = none pred 0
-    go (inr (q, points, is)) = let late : 8 < kind (lex.Refuted q points) = rw is at h in absurd (omega (arith, late))
+pub no_refuted : (pred : PredText) (f : LexFact) → 8 < kind f → shared_refuted pred 0 (shared f) ≡ Some None
+no_refuted pred f h = laws.no_count shared fact_line is_line seen pred f (λ q points is. absurd (no_later 8 f (lex.Refuted q points) is h (omega arith))) 0
 
 -- What is read of each section.
 module _ (p : Listing) (names : List (List ℕ)) where
   abbrev text : ℕ → PredText
   text a = pred_text p names a
 
-  at_arity : (P : ℕ → Type 0) (a : ℕ) → P (pred_text p names a).arity → P (arity_in p a)
-  at_arity P a h = subst P (arity_text p names a) h
-
-  from_arity : (P : ℕ → Type 0) (a : ℕ) → P (arity_in p a) → P (pred_text p names a).arity
-  from_arity P a h = subst P (sym (arity_text p names a)) h
-
   pub modes_section : (s t : List LexFact) (xs : List (List (List ℕ))) → read_each (read_modes p names) 0 (length p.preds) s ≡ Ok (xs, t)
       → (s ≡ mode_facts p names xs ++ t) × AreEach (length p.preds) (λ a. AllByRecursion (IsMode (arity_in p a))) xs
-  unfolding read_modes
-  modes_section s t xs e =
-      let (whole, count, each) = each_sound (read_modes p names) (λ a ms. lex.Terminates (pred_text p names a) ms ∷ []) (λ a ms. AllByRecursion (IsMode (arity_in p a)) ms)
-      (λ a s t x read.
-      let (one, right) = next_sound (take_modes (text a)) (λ _ ms. lex.Terminates (text a) ms) _ (modes_taken (text a)) 0 s t x read in
-      (one, at_arity (λ n. AllByRecursion (IsMode n) x) a right))
-      0 (length p.preds) s t xs e in
-      (whole, record { count = count; each = each })
+  modes_section = laws.modes_section shared fact_line is_line seen p names
 
   pub modes_listed : (xs : List (List (List ℕ))) (t : List LexFact) → AreEach (length p.preds) (λ a. AllByRecursion (IsMode (arity_in p a))) xs
       → read_each (read_modes p names) 0 (length p.preds) (mode_facts p names xs ++ t) ≡ Ok (xs, t)
-  unfolding read_modes
-  modes_listed xs t h =
-      each_back (read_modes p names) (λ a ms. lex.Terminates (pred_text p names a) ms ∷ []) (λ a ms. AllByRecursion (IsMode (arity_in p a)) ms)
-      (λ a f. Unit {0}) (length p.preds)
-      (λ a x t below right none. next_back (take_modes (text a)) (λ _ ms. lex.Terminates (text a) ms) _ (modes_given (text a)) 0 x t (from_arity (λ n. AllByRecursion (IsMode n) x) a right))
-      (λ a b x less below. (tt, tt))
-      0 (length p.preds) xs t h.count (omega arith) h.each (λ j below. free t)
-
-  abbrev HasRows : ℕ → Rows → Type 0
-  HasRows a r = (r.width ≡ arity_in p a) × AllByRecursion (IsSizeRow (arity_in p a)) r.list
+  modes_listed = laws.modes_listed shared fact_line is_line seen p names
 
   pub rows_section : (s t : List LexFact) (xs : List Rows) → read_each (read_rows p names) 0 (length p.preds) s ≡ Ok (xs, t)
       → (s ≡ size_facts p names xs ++ t) × AreEach (length p.preds) (λ a r. (r.width ≡ arity_in p a) × AllByRecursion (IsSizeRow (arity_in p a)) r.list) xs
-  unfolding read_rows
-  rows_section s t xs e =
-      let (whole, count, each) = each_sound (read_rows p names) (λ a r. lines_from 0 (size_line (pred_text p names a)) r.list) HasRows
-      (λ a s t x read.
-      mapped (with_width a) (read_many (take_row (text a)) 0 s) (x, t) read λ q here both.
-      let (one, right) = many_sound (take_row (text a)) (size_line (text a)) _ (row_taken (text a)) 0 s q.1 q.0 here in
-      let first : record { width = arity_in p a; list = q.0 } ≡ x = ap (λ r. r.0) both in
-      let rest : q.1 ≡ t = ap (λ r. r.1) both in
-      rw (← first, ← rest) (one, (refl, at_arity (λ n. AllByRecursion (IsSizeRow n) q.0) a right)))
-      0 (length p.preds) s t xs e in
-      (whole, record { count = count; each = each })
-    where
-      with_width : ℕ → List Row × List LexFact → Rows × List LexFact
-      with_width a x = (record { width = arity_in p a; list = x.0 }, x.1)
+  rows_section = laws.rows_section shared fact_line is_line seen p names
+
+  pub grounds_section : (s t : List LexFact) (xs : List (List (List Cell))) → read_each (read_grounds p names) 0 (length p.preds) s ≡ Ok (xs, t)
+      → (s ≡ ground_facts p names xs ++ t) × AreEach (length p.preds) (λ a. AllByRecursion (HasWidth (arity_in p a))) xs
+  grounds_section = laws.grounds_section shared fact_line is_line seen p names
 
   module _ (apart : (a b : ℕ) → a < b → b < length p.preds → pred_text p names b ≢ pred_text p names a) where
     pub rows_listed : (xs : List Rows) (t : List LexFact)
         → AreEach (length p.preds) (λ a r. (r.width ≡ arity_in p a) × AllByRecursion (IsSizeRow (arity_in p a)) r.list) xs → AreLater 2 t
         → read_each (read_rows p names) 0 (length p.preds) (size_facts p names xs ++ t) ≡ Ok (xs, t)
-    unfolding read_rows take_row
     rows_listed xs t h later =
-        each_back (read_rows p names) (λ a r. lines_from 0 (size_line (pred_text p names a)) r.list) HasRows
-        (λ a f. (i : ℕ) → take_row (text a) i f ≡ Some None) (length p.preds)
-        (λ a x t below right none.
-        rw (many_back (take_row (text a)) (size_line (text a)) _ (row_given (text a)) 0 x.list t (from_arity (λ n. AllByRecursion (IsSizeRow n) x.list) a right.1) none, ← right.0) refl)
-        (λ a b x less below. all_from (λ f. (i : ℕ) → take_row (text a) i f ≡ Some None) (λ k r. size_line (text b) k r ∷ [])
-        (λ k r. (λ i. rw (not_same (text b) (text a) (apart a b less below)) refl, tt)) 0 x.list)
-        0 (length p.preds) xs t h.count (omega arith) h.each
-        (λ j below. all_weaker (λ f. 2 < kind f) (λ f. (i : ℕ) → take_row (text j) i f ≡ Some None) (λ f late. no_row (text j) f late) t later)
+        laws.rows_listed shared fact_line is_line seen p names apart xs t h
+        (λ a. all_weaker (λ f. 2 < kind f) (λ f. (i : ℕ) → shared_row (text a) i (shared f) ≡ Some None) (λ f late. no_row (text a) f late) t later)
 
     pub grounds_listed : (xs : List (List (List Cell))) (t : List LexFact) → AreEach (length p.preds) (λ a. AllByRecursion (HasWidth (arity_in p a))) xs → AreLater 4 t
         → read_each (read_grounds p names) 0 (length p.preds) (ground_facts p names xs ++ t) ≡ Ok (xs, t)
-    unfolding read_grounds take_ground
     grounds_listed xs t h later =
-        each_back (read_grounds p names) (λ a cs. lines_from 0 (grounds_line (pred_text p names a)) cs) (λ a cs. AllByRecursion (HasWidth (arity_in p a)) cs)
-        (λ a f. (i : ℕ) → take_ground (text a) i f ≡ Some None) (length p.preds)
-        (λ a x t below right none.
-        many_back (take_ground (text a)) (grounds_line (text a)) _ (ground_given (text a)) 0 x t (from_arity (λ n. AllByRecursion (HasWidth n) x) a right) none)
-        (λ a b x less below. all_from (λ f. (i : ℕ) → take_ground (text a) i f ≡ Some None) (λ k c. grounds_line (text b) k c ∷ [])
-        (λ k c. (λ i. rw (not_same (text b) (text a) (apart a b less below)) refl, tt)) 0 x)
-        0 (length p.preds) xs t h.count (omega arith) h.each
-        (λ j below. all_weaker (λ f. 4 < kind f) (λ f. (i : ℕ) → take_ground (text j) i f ≡ Some None) (λ f late. no_ground (text j) f late) t later)
-
-  pub grounds_section : (s t : List LexFact) (xs : List (List (List Cell))) → read_each (read_grounds p names) 0 (length p.preds) s ≡ Ok (xs, t)
-      → (s ≡ ground_facts p names xs ++ t) × AreEach (length p.preds) (λ a. AllByRecursion (HasWidth (arity_in p a))) xs
-  unfolding read_grounds
-  grounds_section s t xs e =
-      let (whole, count, each) = each_sound (read_grounds p names) (λ a cs. lines_from 0 (grounds_line (pred_text p names a)) cs) (λ a cs. AllByRecursion (HasWidth (arity_in p a)) cs)
-      (λ a s t x read.
-      let (one, right) = many_sound (take_ground (text a)) (grounds_line (text a)) _ (ground_taken (text a)) 0 s t x read in
-      (one, at_arity (λ n. AllByRecursion (HasWidth n) x) a right))
-      0 (length p.preds) s t xs e in
-      (whole, record { count = count; each = each })
-
-  -- the cubes of one predicate
-  module _ (lists : List (List (List LevelPart))) (a : ℕ) where
-    pub cubes_section : (s t : List LexFact) (xs : List (List (List Cell))) → read_pre p names lists a s ≡ Ok (xs, t)
-        → (s ≡ facts_from 0 (λ m cs. lines_from 0 (pre_line (pred_text p names a) m) cs) xs ++ t) × AreEach (length (items_of lists a)) (λ _. AllByRecursion (HasWidth (arity_in p a))) xs
-    unfolding read_pre read_cubes
-    cubes_section s t xs e =
-        let (whole, count, each) = each_sound (read_cubes p names a) (λ m cs. lines_from 0 (pre_line (pred_text p names a) m) cs) (λ m cs. AllByRecursion (HasWidth (arity_in p a)) cs)
-        (λ m s t x read.
-        let (one, right) = many_sound (take_pre (text a) m) (pre_line (text a) m) _ (pre_taken (text a) m) 0 s t x read in
-        (one, at_arity (λ n. AllByRecursion (HasWidth n) x) a right))
-        0 (length (items_of lists a)) s t xs e in
-        (whole, record { count = count; each = each })
-
-    pub cubes_listed : (xs : List (List (List Cell))) (t : List LexFact) → AreEach (length (items_of lists a)) (λ _. AllByRecursion (HasWidth (arity_in p a))) xs
-        → AllByRecursion (λ f. (m i : ℕ) → take_pre (pred_text p names a) m i f ≡ Some None) t
-        → read_pre p names lists a (facts_from 0 (λ m cs. lines_from 0 (pre_line (pred_text p names a) m) cs) xs ++ t) ≡ Ok (xs, t)
-    unfolding read_pre read_cubes take_pre
-    cubes_listed xs t h others =
-        each_back (read_cubes p names a) (λ m cs. lines_from 0 (pre_line (pred_text p names a) m) cs) (λ m cs. AllByRecursion (HasWidth (arity_in p a)) cs)
-        (λ m f. (i : ℕ) → take_pre (text a) m i f ≡ Some None) (length (items_of lists a))
-        (λ m x t below right none.
-        many_back (take_pre (text a) m) (pre_line (text a) m) _ (pre_given (text a) m) 0 x t (from_arity (λ n. AllByRecursion (HasWidth n) x) a right) none)
-        (λ m n x less below. all_from (λ f. (i : ℕ) → take_pre (text a) m i f ≡ Some None) (λ k c. pre_line (text a) n k c ∷ [])
-        (λ k c. (λ i. rw (same_itself (text a), ne_eqb (suc n) (suc m) (λ same. absurd (omega (arith, same, less)))) refl, tt)) 0 x)
-        0 (length (items_of lists a)) xs t h.count (omega arith) h.each
-        (λ m below. all_weaker (λ f. (m i : ℕ) → take_pre (text a) m i f ≡ Some None) (λ f. (i : ℕ) → take_pre (text a) m i f ≡ Some None) (λ f none. none m) t others)
+        laws.grounds_listed shared fact_line is_line seen p names apart xs t h
+        (λ a. all_weaker (λ f. 4 < kind f) (λ f. (i : ℕ) → shared_ground (text a) i (shared f) ≡ Some None) (λ f late. no_ground (text a) f late) t later)
 
   module _ (lists : List (List (List LevelPart))) where
     pub pre_section : (s t : List LexFact) (xs : List (List (List (List Cell)))) → read_each (read_pre p names lists) 0 (length p.preds) s ≡ Ok (xs, t)
         → (s ≡ pre_facts p names xs ++ t) × AreEach (length p.preds) (λ a. AreEach (length (items_of lists a)) (λ _. AllByRecursion (HasWidth (arity_in p a)))) xs
-    pre_section s t xs e =
-        let (whole, count, each) = each_sound (read_pre p names lists) (λ a ms. facts_from 0 (λ m cs. lines_from 0 (pre_line (pred_text p names a) m) cs) ms)
-        (λ a ms. AreEach (length (items_of lists a)) (λ _. AllByRecursion (HasWidth (arity_in p a))) ms)
-        (λ a s t x read. cubes_section lists a s t x read)
-        0 (length p.preds) s t xs e in
-        (whole, record { count = count; each = each })
+    pre_section = laws.pre_section shared fact_line is_line seen p names lists
 
     pub pre_listed : ((a b : ℕ) → a < b → b < length p.preds → pred_text p names b ≢ pred_text p names a) → (xs : List (List (List (List Cell)))) (t : List LexFact)
         → AreEach (length p.preds) (λ a. AreEach (length (items_of lists a)) (λ _. AllByRecursion (HasWidth (arity_in p a)))) xs → AreLater 7 t
         → read_each (read_pre p names lists) 0 (length p.preds) (pre_facts p names xs ++ t) ≡ Ok (xs, t)
-    unfolding take_pre
     pre_listed apart xs t h later =
-        each_back (read_pre p names lists) (λ a ms. facts_from 0 (λ m cs. lines_from 0 (pre_line (pred_text p names a) m) cs) ms)
-        (λ a ms. AreEach (length (items_of lists a)) (λ _. AllByRecursion (HasWidth (arity_in p a))) ms)
-        (λ a f. (m i : ℕ) → take_pre (text a) m i f ≡ Some None) (length p.preds)
-        (λ a x t below right none. cubes_listed lists a x t right none)
-        (λ a b x less below. all_from (λ f. (m i : ℕ) → take_pre (text a) m i f ≡ Some None) (λ n cs. lines_from 0 (pre_line (text b) n) cs)
-        (λ n cs. all_from (λ f. (m i : ℕ) → take_pre (text a) m i f ≡ Some None) (λ k c. pre_line (text b) n k c ∷ [])
-        (λ k c. (λ m i. rw (not_same (text b) (text a) (apart a b less below)) refl, tt)) 0 cs) 0 x)
-        0 (length p.preds) xs t h.count (omega arith) h.each
-        (λ j below. all_weaker (λ f. 7 < kind f) (λ f. (m i : ℕ) → take_pre (text j) m i f ≡ Some None) (λ f late. no_pre (text j) f late) t later)
+        laws.pre_listed shared fact_line is_line seen p names lists apart xs t h
+        (λ a. all_weaker (λ f. 7 < kind f) (λ f. (m i : ℕ) → shared_pre (text a) m i (shared f) ≡ Some None) (λ f late. no_pre (text a) f late) t later)
 
     module _ (comps : Partition) where
       pub stuck_section : (s t : List LexFact) (xs : List (Option Refutation)) → read_each (read_stuck p names comps lists) 0 (length p.preds) s ≡ Ok (xs, t)
@@ -287,47 +179,31 @@ module _ (p : Listing) (names : List (List ℕ)) where
       pub stuck_listed : ((a b : ℕ) → a < b → b < length p.preds → pred_text p names b ≢ pred_text p names a) → (xs : List (Option Refutation)) (t : List LexFact)
           → AreEach (length p.preds) (IsStuckSet p comps lists) xs → AreLater 8 t
           → read_each (read_stuck p names comps lists) 0 (length p.preds) (stuck_facts p names xs ++ t) ≡ Ok (xs, t)
-      unfolding take_refuted
+      unfolding shared_refuted
       stuck_listed apart xs t h later =
           each_back (read_stuck p names comps lists) (λ a r. stuck_lines (pred_text p names a) r) (IsStuckSet p comps lists)
-          (λ a f. take_refuted (text a) 0 f ≡ Some None) (length p.preds)
+          (λ a f. shared_refuted (text a) 0 (shared f) ≡ Some None) (length p.preds)
           (λ a x t below right none. stuck_given p names comps lists a t x right none)
           (λ a b x less below. none_of a (text b) (apart a b less below) x)
           0 (length p.preds) xs t h.count (omega arith) h.each
-          (λ j below. all_weaker (λ f. 8 < kind f) (λ f. take_refuted (text j) 0 f ≡ Some None) (λ f late. no_refuted (text j) f late) t later)
+          (λ j below. all_weaker (λ f. 8 < kind f) (λ f. shared_refuted (text j) 0 (shared f) ≡ Some None) (λ f late. no_refuted (text j) f late) t later)
         where
-          none_of : (a : ℕ) (q : PredText) → q ≢ text a → (o : Option Refutation) → AllByRecursion (λ f. take_refuted (text a) 0 f ≡ Some None) (stuck_lines q o)
+          none_of : (a : ℕ) (q : PredText) → q ≢ text a → (o : Option Refutation) → AllByRecursion (λ f. shared_refuted (text a) 0 (shared f) ≡ Some None) (stuck_lines q o)
           none_of a q other None = tt
           none_of a q other (Some r) = (
             rw (not_same q (text a) other) refl,
-            all_from (λ f. take_refuted (text a) 0 f ≡ Some None) (λ _ x. point_line x ∷ []) (λ _ x. (refl, tt)) 0 r.points,
+            all_from (λ f. shared_refuted (text a) 0 (shared f) ≡ Some None) (λ _ x. point_line x ∷ []) (λ _ x. (refl, tt)) 0 r.points,
           )
 
 module _ (p : Listing) (rows : List Rows) where
   pub proofs_section : (s t : List LexFact) (xs : List (List Multipliers)) → read_each (read_proofs p rows) 0 (length p.clauses) s ≡ Ok (xs, t)
       → (s ≡ proof_facts xs ++ t) × AreEach (length p.clauses) (λ k. AreEach (rows_of rows (head_of p k)) (λ _. HaveMultipliers (rows_of_atoms rows (body_of p k)))) xs
-  unfolding read_proofs
-  proofs_section s t xs e =
-      let (whole, count, each) = each_sound (read_proofs p rows) (λ k ms. lines_from 0 (by_line k) ms)
-      (λ k ms. AreEach (rows_of rows (head_of p k)) (λ _. HaveMultipliers (rows_of_atoms rows (body_of p k))) ms)
-      (λ k s t x read.
-      let (one, count, each) = counted_sound (take_proof k (rows_of_atoms rows (body_of p k))) (by_line k) _ (proof_taken k (rows_of_atoms rows (body_of p k))) 0 (rows_of rows (head_of p k)) s t x read in
-      (one, record { count = count; each = each }))
-      0 (length p.clauses) s t xs e in
-      (whole, record { count = count; each = each })
+  proofs_section = laws.proofs_section shared fact_line is_line seen p rows
 
   pub proofs_listed : (xs : List (List Multipliers)) (t : List LexFact)
       → AreEach (length p.clauses) (λ k. AreEach (rows_of rows (head_of p k)) (λ _. HaveMultipliers (rows_of_atoms rows (body_of p k)))) xs
       → read_each (read_proofs p rows) 0 (length p.clauses) (proof_facts xs ++ t) ≡ Ok (xs, t)
-  unfolding read_proofs
-  proofs_listed xs t h =
-      each_back (read_proofs p rows) (λ k ms. lines_from 0 (by_line k) ms)
-      (λ k ms. AreEach (rows_of rows (head_of p k)) (λ _. HaveMultipliers (rows_of_atoms rows (body_of p k))) ms)
-      (λ a f. Unit {0}) (length p.clauses)
-      (λ k x t below right none.
-      counted_back (take_proof k (rows_of_atoms rows (body_of p k))) (by_line k) _ (proof_given k (rows_of_atoms rows (body_of p k))) 0 (rows_of rows (head_of p k)) x t right.count right.each)
-      (λ a b x less below. free (lines_from 0 (by_line b) x))
-      0 (length p.clauses) xs t h.count (omega arith) h.each (λ j below. free t)
+  proofs_listed = laws.proofs_listed shared fact_line is_line seen p rows
 
   module _ (comps : Partition) (lists : List (List (List LevelPart))) where
     abbrev IsDropsOf : ℕ → List (List (List Multipliers)) → Type 0

@@ -9,9 +9,9 @@ use Rattle.std.specs.List.{AllByRecursion}
 use Rattle.call_components.specs.Partition.{Partition}
 use Rattle.cert_structure.specs.Order.{pred_text}
 use Rattle.cert_structure.specs.Shape.{vars_of, items_of, first_of, is_recursive, is_pair, IsBefore, place_of_pair, PairsAscend, IsPoint}
-use Rattle.cert_structure.specs.Walk.{is_amount, are_amounts, is_before, point_read}
+use Rattle.cert_structure.specs.Walk.{is_amount, are_amounts, is_before, point_read, shared_refuted}
 use Rattle.cert_structure.proofs.PointLemmas.{before_is}
-use Rattle.cert_structure.proofs.TakeLemmas.{other_taken, placed, kept_is, amount_is, amount_back, amounts_are, amounts_back}
+use Rattle.cert_structure.proofs.ContentLemmas.{other_taken, placed, kept_is, amount_is, amount_back, amounts_are, amounts_back}
 use Rattle.cti_terms.specs.Listing.{Listing, numbered}
 use Rattle.fact_reading.specs.Numbered.{lines_from}
 use Rattle.fact_reading.specs.Walk.{Taken, result_map, with_first, read_next}
@@ -23,7 +23,7 @@ use Rattle.number_tests.specs.declared.refutation.Refutation.{Refutation}
 use Rattle.lex_certificate.specs.declared.fact.LexFact.{LexFact}
 use Rattle.lex_certificate.specs.Order.{point_line, stuck_lines}
 use Rattle.lex_certificate.specs.Shape.{IsStuckPoint, IsOpen, IsStuckSet}
-use Rattle.lex_certificate.specs.Walk.{stuck_point, stuck_read, take_point, take_refuted, read_points, set_read, read_set, is_open, read_stuck}
+use Rattle.lex_certificate.specs.Walk.{shared, stuck_point, stuck_read, take_point, read_points, set_read, read_set, is_open, read_stuck}
 use Rattle.lex_certificate.proofs.KindLemmas.{split_point, IsPointFact}
 use Rattle.lex_certificate.proofs.TakeLemmas.{refuted_taken, refuted_given}
 
@@ -149,9 +149,9 @@ module _ (p : Listing) (names : List (List ℕ)) (comps : Partition) (a : ℕ) w
       let first : None ≡ o = ap (λ q. q.0) both in
       let rest : [] ≡ t = ap (λ q. q.1) both in
       rw (← first, ← rest) (refl, tt)
-  set_sound (f ∷ s) t o e = go (take_refuted (pred_text p names a) 0 f) refl e
+  set_sound (f ∷ s) t o e = go (shared_refuted (pred_text p names a) 0 (shared f)) refl e
     where
-      go : (c : Taken ℕ) → take_refuted (pred_text p names a) 0 f ≡ c → set_read (λ n. read_points p comps a (0, 0) n s) f s c ≡ Ok (o, t)
+      go : (c : Taken ℕ) → shared_refuted (pred_text p names a) 0 (shared f) ≡ c → set_read (λ n. read_points p comps a (0, 0) n s) f s c ≡ Ok (o, t)
           → (f ∷ s ≡ stuck_lines (pred_text p names a) o ++ t) × IsSet p comps a o
       go None taken read = err_ok _ (o, t) read
       go (Some None) taken read =
@@ -167,7 +167,7 @@ module _ (p : Listing) (names : List (List ℕ)) (comps : Partition) (a : ℕ) w
           let rest : q.1 ≡ t = ap (λ z. z.1) both in
           rw (← first, ← rest) (rw (begins, others, ← count) refl, (rw (← count) at some, ascend, all))
 
-  set_given : (t : List LexFact) (o : Option Refutation) → IsSet p comps a o → AllByRecursion (λ f. take_refuted (pred_text p names a) 0 f ≡ Some None) t
+  set_given : (t : List LexFact) (o : Option Refutation) → IsSet p comps a o → AllByRecursion (λ f. shared_refuted (pred_text p names a) 0 (shared f) ≡ Some None) t
       → read_set p names comps a (stuck_lines (pred_text p names a) o ++ t) ≡ Ok (o, t)
   unfolding read_set
   set_given [] None h others = refl
@@ -204,7 +204,7 @@ module _ (p : Listing) (names : List (List ℕ)) (comps : Partition) (lists : Li
           rw (← first, ← rest) (refl, tt)
 
   pub stuck_given : (t : List LexFact) (o : Option Refutation) → IsStuckSet p comps lists a o
-      → AllByRecursion (λ f. take_refuted (pred_text p names a) 0 f ≡ Some None) t
+      → AllByRecursion (λ f. shared_refuted (pred_text p names a) 0 (shared f) ≡ Some None) t
       → read_stuck p names comps lists a (stuck_lines (pred_text p names a) o ++ t) ≡ Ok (o, t)
   unfolding read_stuck
   stuck_given t None h others = go (is_open comps lists a)

@@ -7,7 +7,9 @@ use Rattle.bool_diagrams.specs.declared.cube.Cell.{Cell}
 use Rattle.call_components.specs.Partition.{Partition}
 use Rattle.cert_structure.specs.Order.{pred_text}
 use Rattle.cert_structure.specs.Shape.{arity_in, head_of, body_of, vars_of, rows_of, rows_of_atoms, items_of, is_recursive, first_of, is_pair}
-use Rattle.cert_structure.specs.Walk.{kept, at_place, same_pred, is_mode, is_before, row_read, multipliers_read, cube_read, level_read, point_read}
+use Rattle.cert_structure.specs.SharedFacts.{Shared}
+use Rattle.cert_structure.specs.SharedFacts as says
+use Rattle.cert_structure.specs.Walk.{kept, at_place, same_pred, is_before, multipliers_read, level_read, point_read, shared_refuted, modes_by, rows_by, proofs_by, grounds_by, pre_by}
 use Rattle.certificate.specs.declared.pred_text.PredText.{PredText}
 use Rattle.cti_terms.specs.declared.atom_list.Atom.{Atom}
 use Rattle.cti_terms.specs.Listing.{Listing, numbered}
@@ -26,26 +28,20 @@ use Rattle.lex_certificate.specs.declared.parts.LexParts.{LexParts}
 use Rattle.lex_certificate.specs.Order.{is_note}
 use Rattle.lex_certificate.specs.Shape.{lists_of_call}
 
+-- what a fact says that certificates of mappings have too
+abbrev pub shared : LexFact → Shared
+shared (lex.Terminates q list) = says.modes q list
+shared (lex.Size q index list) = says.row q index list
+shared (lex.By clause index scale list) = says.proof clause index scale list
+shared (lex.Grounds q index cells) = says.ground q index cells
+shared (lex.Pre q list index cells) = says.pre q list index cells
+shared (lex.Refuted q points) = says.refuted q points
+shared _ = says.other
+
 -- the version of the format, which is 1
 unfoldable pub take_version : ℕ → LexFact → Taken ℤ
 take_version i (lex.Ctilex version) = kept (int_eq version (pos 1)) version
 take_version i _ = Some None
-
-unfoldable pub take_modes : PredText → ℕ → LexFact → Taken (List (List ℕ))
-take_modes pred i (lex.Terminates q modes) = at_place (same_pred q pred) (kept (list_all (is_mode pred.arity 0) modes) modes)
-take_modes pred i _ = Some None
-
-unfoldable pub take_row : PredText → ℕ → LexFact → Taken Row
-take_row pred i (lex.Size q index row) = at_place (same_pred q pred && (index == suc i)) (row_read pred.arity row)
-take_row pred i _ = Some None
-
-unfoldable pub take_proof : ℕ → ℕ → ℕ → LexFact → Taken Multipliers
-take_proof k rows i (lex.By clause index scale list) = at_place ((clause == suc k) && (index == suc i)) (multipliers_read rows scale list)
-take_proof k rows i _ = Some None
-
-unfoldable pub take_ground : PredText → ℕ → LexFact → Taken (List Cell)
-take_ground pred i (lex.Grounds q index cells) = at_place (same_pred q pred && (index == suc i)) (cube_read pred.arity cells)
-take_ground pred i _ = Some None
 
 -- measure i of list m
 unfoldable pub take_level : PredText → ℕ → ℕ → LexFact → Taken LevelPart
@@ -57,15 +53,6 @@ unfoldable pub take_drop : ℕ → ℕ → ℕ → ℕ → ℕ → LexFact → T
 take_drop k j rows m i (lex.Drops clause call list index scale numbers) =
     at_place ((clause == suc k) && ((call == suc j) && ((list == suc m) && (index == suc i)))) (multipliers_read rows scale numbers)
 take_drop k j rows m i _ = Some None
-
-unfoldable pub take_pre : PredText → ℕ → ℕ → LexFact → Taken (List Cell)
-take_pre pred m i (lex.Pre q list index cells) = at_place (same_pred q pred && ((list == suc m) && (index == suc i))) (cube_read pred.arity cells)
-take_pre pred m i _ = Some None
-
--- the number of points that a stuck set of the predicate has
-unfoldable pub take_refuted : PredText → ℕ → LexFact → Taken ℕ
-take_refuted pred i (lex.Refuted q points) = at_place (same_pred q pred) (kept (nat_le 1 points) points)
-take_refuted pred i _ = Some None
 
 -- a pair with its point, whose t is not 0
 abbrev pub stuck_point : ℕ → ℕ → Point → PairPoint
@@ -93,7 +80,7 @@ set_read points f s (Some (Some n)) = result_map (λ x. (Some (record { points =
 
 unfoldable pub read_set : Listing → List (List ℕ) → Partition → ℕ → List LexFact → Read LexFact (Option Refutation)
 read_set p names comps a [] = Ok (None, [])
-read_set p names comps a (f ∷ s) = set_read (λ n. read_points p comps a (0, 0) n s) f s (take_refuted (pred_text p names a) 0 f)
+read_set p names comps a (f ∷ s) = set_read (λ n. read_points p comps a (0, 0) n s) f s (shared_refuted (pred_text p names a) 0 (shared f))
 
 -- whether the predicate is the first one of a recursive component without lists
 abbrev pub is_open : Partition → List (List (List LevelPart)) → ℕ → Bool
@@ -102,18 +89,17 @@ is_open comps lists a = is_recursive comps a && ((first_of comps a == a) && (len
 unfoldable pub read_stuck : Listing → List (List ℕ) → Partition → List (List (List LevelPart)) → ℕ → List LexFact → Read LexFact (Option Refutation)
 read_stuck p names comps lists a s = if is_open comps lists a then read_set p names comps a s else Ok (None, s)
 
-unfoldable pub read_modes : Listing → List (List ℕ) → ℕ → List LexFact → Read LexFact (List (List ℕ))
-read_modes p names a s = read_next (take_modes (pred_text p names a)) 0 s
+abbrev pub read_modes : Listing → List (List ℕ) → ℕ → List LexFact → Read LexFact (List (List ℕ))
+read_modes p names a s = modes_by shared p names a s
 
-unfoldable pub read_rows : Listing → List (List ℕ) → ℕ → List LexFact → Read LexFact Rows
-read_rows p names a s =
-    result_map (λ x. (record { width = arity_in p a; list = x.0 }, x.1)) (read_many (take_row (pred_text p names a)) 0 s)
+abbrev pub read_rows : Listing → List (List ℕ) → ℕ → List LexFact → Read LexFact Rows
+read_rows p names a s = rows_by shared p names a s
 
-unfoldable pub read_proofs : Listing → List Rows → ℕ → List LexFact → Read LexFact (List Multipliers)
-read_proofs p rows k s = read_each (read_next (take_proof k (rows_of_atoms rows (body_of p k)))) 0 (rows_of rows (head_of p k)) s
+abbrev pub read_proofs : Listing → List Rows → ℕ → List LexFact → Read LexFact (List Multipliers)
+read_proofs p rows k s = proofs_by shared p rows k s
 
-unfoldable pub read_grounds : Listing → List (List ℕ) → ℕ → List LexFact → Read LexFact (List (List Cell))
-read_grounds p names a s = read_many (take_ground (pred_text p names a)) 0 s
+abbrev pub read_grounds : Listing → List (List ℕ) → ℕ → List LexFact → Read LexFact (List (List Cell))
+read_grounds p names a s = grounds_by shared p names a s
 
 -- a list and those after it, where it has a measure
 abbrev pub more_lists : (List LexFact → Read LexFact (List (List LevelPart))) → List LevelPart → List LexFact → Read LexFact (List (List LevelPart))
@@ -168,11 +154,8 @@ read_calls comps rows lists head k j before (b ∷ bs) s =
 unfoldable pub read_drops : Listing → Partition → List Rows → List (List (List LevelPart)) → ℕ → List LexFact → Read LexFact (List (List (List Multipliers)))
 read_drops p comps rows lists k s = read_calls comps rows lists (head_of p k) k 0 0 (body_of p k) s
 
-unfoldable pub read_cubes : Listing → List (List ℕ) → ℕ → ℕ → List LexFact → Read LexFact (List (List Cell))
-read_cubes p names a m s = read_many (take_pre (pred_text p names a) m) 0 s
-
-unfoldable pub read_pre : Listing → List (List ℕ) → List (List (List LevelPart)) → ℕ → List LexFact → Read LexFact (List (List (List Cell)))
-read_pre p names lists a s = read_each (read_cubes p names a) 0 (length (items_of lists a)) s
+abbrev pub read_pre : Listing → List (List ℕ) → List (List (List LevelPart)) → ℕ → List LexFact → Read LexFact (List (List (List Cell)))
+read_pre p names lists a s = pre_by shared p names lists a s
 
 -- the parts, and the notes after them
 unfoldable pub read_sections : Listing → List (List ℕ) → Partition → List LexFact → Read LexFact LexParts

@@ -16,16 +16,12 @@ ghost use Rattle.lex_certificate.specs.declared.parts.LexParts.{LexParts as TheP
 
 use crate::drops::Drops;
 use crate::fact::LexFact;
-use crate::grounds::Grounds;
 use crate::list_certificate::LexCertificate;
 use crate::lists::levels_into;
-use crate::modes::Modes;
 use crate::parts::LexParts;
-use crate::preconditions::Preconditions;
-use crate::sizes::{PredRows, Proofs, rows_into};
 use crate::stuck::StuckSets;
 use call_components::Components;
-use cert_structure::Calls;
+use cert_structure::{Calls, Grounds, Modes, Preconditions, PredRows, Proofs, rows_into};
 use cti_terms::{Names, Program};
 use fact_reading::{FactFault, Kind, Stop, each_into, first_item};
 use std::alloc::{AllocError, Global};
@@ -90,7 +86,7 @@ fn fill<'a, 'f>(
     let reader = Preconditions {
         p,
         names,
-        lists: parts.lists.as_slice(),
+        levels: parts.lists.as_slice(),
     };
     let stuck = each_into(alloc, &reader, preds, &mut parts.preconditions, cubes)?;
     let reader = StuckSets {

@@ -1,12 +1,12 @@
 //! The stuck sets of recursive components.
 
 ghost use Rattle.std.specs.Prelude.{◌≡◌};
-ghost use Rattle.cert_structure.specs.Walk.{AgreesKept, named, pair_end};
+ghost use Rattle.cert_structure.specs.Walk.{AgreesKept, pair_end};
 ghost use Rattle.fact_reading.specs.Walk.{Agrees};
-ghost use Rattle.lex_certificate.specs.Walk.{is_open, take_refuted, take_point, stuck_read, read_points, read_set, read_stuck};
+ghost use Rattle.lex_certificate.specs.Walk.{is_open, take_point, stuck_read, read_points, read_set, read_stuck};
 
 use crate::fact::LexFact;
-use cert_structure::{Calls, Named, Pair, count_of, scaled_point, vars};
+use cert_structure::{Calls, Named, Pair, RefutedFact, count_of, scaled_point, vars};
 use cti_terms::Names;
 use fact_reading::{FactFault, Kind, Reader, Stop, StructureReason, first_item, wrong};
 use number_tests::{LevelPart, PairPoint, Refutation};
@@ -99,32 +99,6 @@ fn points<'f>(
         rest = after;
     }
     Ok((points, rest))
-}
-
-/// The fact that begins a stuck set, and says how many points it has.
-#[derive(Drop)]
-struct RefutedFact<'a> {
-    pred: Named<'a>,
-}
-
-impl Kind<LexFact> for RefutedFact<'_> {
-    type Item = u64;
-
-    ghost takes = { λ r number fact. take_refuted (named r.pred) number fact };
-
-    #[tactic(auto, unfolding(crate::specs::Walk::take_refuted))]
-    fn take(&self, _alloc: Global, _number: u64, fact: &LexFact) -> Result<Option<u64>, FactFault> {
-        let LexFact::Refuted { pred, points } = fact else {
-            return Ok(None);
-        };
-        if !self.pred.is(pred) {
-            return Ok(None);
-        }
-        if *points == 0 {
-            return Err(FactFault::Shape);
-        }
-        Ok(Some(*points))
-    }
 }
 
 /// The stuck sets, one at most for each predicate.
