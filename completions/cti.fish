@@ -3,7 +3,7 @@ complete -c cti -n __fish_use_subcommand -f -a infer -d 'Find the modes of a pro
 complete -c cti -n __fish_use_subcommand -f -a check -d 'Check a certificate of a program'
 complete -c cti -n __fish_use_subcommand -f -a run -d 'Run a query of a program'
 complete -c cti -n __fish_use_subcommand -f -a gen -d 'Infer a generated program'
-complete -c cti -n __fish_use_subcommand -f -a lex -d 'Find the modes of a program by lists of measures'
+complete -c cti -n __fish_use_subcommand -f -a lex -d 'Find the modes of a program by lists of mappings'
 complete -c cti -n __fish_use_subcommand -f -a loop -d 'Look for a loop of a query'
 complete -c cti -n __fish_use_subcommand -f -a session -d 'Do the edits of a file'
 complete -c cti -n '__fish_seen_subcommand_from gen' -f

@@ -22,9 +22,9 @@ from pathlib import Path
 
 top = Path(__file__).resolve().parent.parent
 
-# Where each rank begins: a crate, a file of its specs/ and names in it.
+# Where each rank begins: a crate, a file of its specs/, in whatever chapter, and names in it.
 YES = [("cert_checker", "Bounding", ["ModesAreBounded"])]
-READING = [("cti_top", "Programs", ["IsProgramOf", "IsProgramRefusal"]), ("cti_top", "Queries", None), ("cti_top", "Places", None)]
+READING = [("cti_top", "Programs", ["IsProgramOf", "IsRefused"]), ("cti_top", "Queries", None), ("cti_top", "Places", None)]
 MODES = [("report", "Exact", ["IsExact"]), ("certificate", "Text", ["text_of"])]
 LISTS = [("cti_top", "Lexed", None)]
 COMMAND = [("cti_top", "Outcome", None)]
@@ -63,23 +63,63 @@ def definitions(text):
     return found
 
 
+USE = re.compile(r"^(?:pub )?use Rattle\.(\w+)\.specs\.([\w.]+)\.\{([^}]*)\}", re.M)
+PASSED_ON = re.compile(r"^pub use Rattle\.(\w+)\.specs\.(?:\w+\.)*(\w+)$", re.M)
+
+
 class Specs:
+    """The files of specs/ by crate and last name, since no two chapters of a crate have files of the same name."""
+
     def __init__(self):
-        self.files, self.uses = {}, {}
-        for path in top.glob("crates/*/specs/*.antt"):
+        self.files, self.uses, self.paths, self.passed_on = {}, {}, {}, {}
+        for path in sorted(top.glob("crates/*/specs/**/*.antt")):
+            key = (path.relative_to(top).parts[1], path.stem)
             if path.stem == "Lib":
+                self.passed_on.update({(key[0], module): (crate, module) for crate, module in PASSED_ON.findall(path.read_text())})
+            if path.stem == "Lib" or path.with_suffix("").is_dir():
                 continue
-            key = (path.parts[-3], path.stem)
-            text = path.read_text()
-            self.files[key] = definitions(text)
+            if key in self.paths:
+                sys.exit(f"{self.shown_path(key)}: another file of this crate has this name: {path.relative_to(top)}")
+            self.paths[key] = path
+            self.files[key] = definitions(path.read_text())
+        self.crates = {crate for crate, _ in self.files}
+        for key, path in self.paths.items():
             self.uses[key] = {}
-            for crate, module, names in re.findall(r"^(?:pub )?use Rattle\.(\w+)\.specs\.([\w.]+)\.\{([^}]*)\}", text, re.M):
+            for crate, module, names in USE.findall(path.read_text()):
                 for name in names.split(","):
                     plain, _, other = name.strip().partition(" as ")
-                    self.uses[key][other or plain] = (crate, module, plain)
+                    self.uses[key][other or plain] = self.place(key, crate, module, plain)
+
+    def place(self, user, crate, module, name):
+        """The crate, the file and the definition that a file's `use` means: a constructor's definition is that of its type."""
+        *before, last = module.split(".")
+        if before[:1] == ["declared"] or crate not in self.crates:
+            return crate, module, name
+        if (crate, last) in self.files:
+            return crate, last, name
+        if (crate, last) in self.passed_on:
+            return (*self.passed_on[crate, last], name)
+        if before and last in self.files.get((crate, before[-1]), {}):
+            return crate, before[-1], last
+        sys.exit(f"{self.shown_path(user)}: uses {module} of {crate}, which has no such file in specs/")
+
+    def shown_path(self, key):
+        """A file as pages name it, from its crate on."""
+        return self.paths[key].relative_to(top / "crates").as_posix()
+
+    def starting(self, starts):
+        """The words with which a rank begins, each of which has to be there."""
+        for crate, module, names in starts:
+            key = (crate, module)
+            if key not in self.files:
+                sys.exit(f"{crate}: a rank begins in {module}.antt, and specs/ has no such file")
+            for name in names or self.files[key]:
+                if name not in self.files[key] and name not in self.uses[key]:
+                    sys.exit(f"{self.shown_path(key)}: a rank begins with {name}, which is not there")
+                yield crate, module, name
 
     def closure(self, starts, stop=lambda key: False):
-        waiting = [(crate, module, name) for crate, module, names in starts for name in (names or self.files[crate, module])]
+        waiting = list(self.starting(starts))
         seen = set()
         while waiting:
             crate, module, name = waiting.pop()
@@ -112,9 +152,8 @@ MARKS = {
 
 def mark(specs, ranks):
     """Writes the first rank that has a definition of a file into the file's first line."""
-    for crate, module in specs.files:
-        path = top / "crates" / crate / "specs" / f"{module}.antt"
-        rank = next((title for title, found in ranks if any(key == (crate, module) for key, _ in found)), "private")
+    for at, path in specs.paths.items():
+        rank = next((title for title, found in ranks if any(key == at for key, _ in found)), "private")
         lines = path.read_text().split("\n")
         while lines[0] in MARKS.values():
             del lines[0]
@@ -200,9 +239,8 @@ def print_text(specs, wanted, examples):
         print(("" if where == last else f"\n-- {where}") + "\n" + text)
         last = where
     for key in in_order(specs, wanted):
-        path = top / "crates" / key[0] / "specs" / f"{key[1]}.antt"
-        print(f"\n-- ==== {key[0]}/specs/{key[1]}.antt")
-        first = head(path)
+        print(f"\n-- ==== {specs.shown_path(key)}")
+        first = head(specs.paths[key])
         print(shown(first))
         for name, lines in specs.files[key].items():
             if (key, name) in wanted:
@@ -215,6 +253,10 @@ def print_text(specs, wanted, examples):
 
 def main():
     specs = Specs()
+    for crate, modules in PROCEDURES.items():
+        for module in sorted(modules or set()):
+            if (crate, module) not in specs.files:
+                sys.exit(f"{crate}: {module}.antt is a procedure, and specs/ has no such file")
 
     def follows_an_algorithm(key):
         modules = PROCEDURES.get(key[0], set())
@@ -253,7 +295,7 @@ def main():
         for key in sorted({key for key, _ in found}):
             names = sorted(name for at, name in found if at == key)
             count = sum(len(specs.files[key][name]) for name in names)
-            print(f"  {key[0]}/specs/{key[1]}.antt {count}" + (": " + ", ".join(names) if "--names" in sys.argv else ""))
+            print(f"  {specs.shown_path(key)} {count}" + (": " + ", ".join(names) if "--names" in sys.argv else ""))
 
 
 main()

@@ -3,7 +3,8 @@
 
 usage: tools/crates.py            the crates by floor: a crate stands one floor above the highest of those that it depends on
        tools/crates.py --write    writes each crate's floor and dependencies into its row of the table
-       tools/crates.py --check    says which crates have no row, which rows are old, and which dependencies nothing of a crate names
+       tools/crates.py --check    says which crates have no row, which rows are old, which dependencies nothing of a crate names, and which
+                                  definitions pages name by a path that is not there
 """
 import re
 import sys
@@ -11,6 +12,7 @@ from pathlib import Path
 
 top = Path(__file__).resolve().parent.parent
 page = top / "docs" / "architecture.md"
+PAGES = [*sorted((top / "docs").glob("*.md")), top / "README.md", top / "CONTRIBUTING.md"]
 ROW = re.compile(r"^\| (?:(\d+) \| )?`(\w+)` \| (.*?) \|(?: (.*?))? \|(?: (.*?))? \|$")
 
 
@@ -52,6 +54,27 @@ def unnamed(name, needs):
     return [other for other in needs if not re.search(rf"\b(use )?{other}(::|\.|\b\s*;)", text) and f"Rattle.{other}." not in text]
 
 
+def dead_paths(crates):
+    """The files of definitions that pages name and that are not there. A file without a folder stands in that of the one before it in the
+    line or the cell, and one without a crate in that of the headline, if it is of one crate."""
+    for page in PAGES:
+        headline = None
+        for line in page.read_text().splitlines():
+            if line.startswith("#"):
+                names = re.findall(r"\w+", line.partition(":")[0])
+                headline = names[0] if len(names) == 1 and names[0] in crates else None
+            for cell in line.split("|"):
+                folder = None
+                for path in re.findall(r"`([\w/]+\.antt)`", cell):
+                    *before, name = path.removeprefix("crates/").split("/")
+                    if before[:1] == ["specs"] and headline:
+                        before = [headline, *before]
+                    if before:
+                        folder = top.joinpath("crates", *before) if before[1:2] == ["specs"] else None
+                    if folder and not (folder / name).exists():
+                        yield f"{page.relative_to(top)}: {(folder / name).relative_to(top)} is not there"
+
+
 def main():
     crates = dependencies()
     high = floors(crates)
@@ -67,6 +90,7 @@ def main():
         faults = [f"{name}: no row" for name in crates if name not in rows]
         faults += [f"{name}: its row is old" for name in crates if name in rows and row(ROW.match(rows[name]), crates, high) != rows[name]]
         faults += [f"{name}: {other} is named by none of its files" for name, needs in crates.items() for other in unnamed(name, needs)]
+        faults += dead_paths(crates)
         print("\n".join(faults) or f"{len(crates)} crates, each in its row")
         sys.exit(bool(faults))
     else:
