@@ -10,13 +10,14 @@ pub enum Asked {
 /// The help: a line for each command, the exit statuses and two examples.
 const HELP: &str = "cti finds and checks which queries of a pure logic program end.
 
-  cti infer FILE --norm NORM      find the modes; NORM is term, as without it, or list
+  cti infer FILE --norm NORM      find the modes; NORM is term (the default) or list
   cti check FILE CERT             check a certificate of the program
-  cti run FILE QUERY --steps N    run a query, and look at N derivations, usually 100000
-  cti gen N                       infer a program that is made, of N predicates
-  cti lex FILE                    find the modes by lists of measures, where infer has none
-  cti loop FILE QUERY --depth D   look for a loop of at most D clauses, usually 8
-  cti session FILE                do the edits of FILE, and tell modes between them
+  cti run FILE QUERY --steps N    run a query: its first N derivations, by default 100000
+  cti gen N                       make a program of N predicates, and count its modes
+  cti lex FILE                    find the modes by lists of mappings, where infer finds none
+  cti loop FILE QUERY --depth D   look for a loop of at most D clauses, by default 8
+  cti session FILE                do the edits of FILE, and print the modes they ask for
+  Options may be left out.
 
 Exit status: 0 done, or the certificate is valid; 1 it is not valid, or no loop was
 found; 2 the words are no command; 3 a text was refused; 4 a file could not be

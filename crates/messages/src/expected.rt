@@ -11,7 +11,7 @@ use std::fmt;
 
 /// What was expected where a clause cannot go on.
 #[derive(Clone, Copy)]
-pub enum Expected<'a> {
+pub(crate) enum Expected<'a> {
     Mistake(Mistake<'a>),
     Term,
     EndDot,
@@ -51,7 +51,7 @@ impl fmt::Display for Expected<'_> {
 
 /// A place where a clause cannot go on.
 #[derive(Clone, Copy)]
-pub struct Stop<'a> {
+pub(crate) struct Stop<'a> {
     pub subject: Subject,
     /// The text, and the line and the column of the place, which count from 1.
     pub text: &'a [u8],
@@ -330,7 +330,7 @@ fn expected_between<'a>(scan: &Scan, subject: Subject, gap: Gap<'a>) -> Expected
 }
 
 /// What was expected at a place of a text, where a clause cannot go on.
-pub fn expected_at<'a>(alloc: Global, stop: Stop<'a>) -> Result<Expected<'a>, AllocError> {
+pub(crate) fn expected_at<'a>(alloc: Global, stop: Stop<'a>) -> Result<Expected<'a>, AllocError> {
     let text = stop.text;
     let at = offset_of(text, stop.line, stop.column);
     let before = text.get(..at).unwrap_or(text);

@@ -63,8 +63,8 @@ pub fn call_message(alloc: Global, ending: Ending<'_>) -> Result<Vec<u8>, AllocE
     }
 }
 
-/// The message about a call that ended so, which is empty where there is nothing to say. Only where a file was not loaded is a
-/// file looked at, for the cause.
+/// The message about a call that ended so, which is empty where there is nothing to say. Only where a file was not
+/// loaded is a file looked at, for the cause.
 pub fn explain<R: Files + AllocGlobal>(rt: &R, ending: Ending<'_>) -> Result<Vec<u8>, AllocError> {
     if ending.status == FILE_FAULT {
         let trouble = file_trouble(rt, ending.told_words());

@@ -38,11 +38,11 @@ impl FileCause {
     pub fn advice(self) -> &'static str {
         match self {
             FileCause::Missing =>
-                "look at the name's spelling and at the directory that you are in",
+                "check the spelling of the name, and the directory that you are in",
             FileCause::Exchanged => "the file comes before the query: the two may be exchanged",
-            FileCause::Denied => "ask for the right to read it",
+            FileCause::Denied => "ask for permission to read it",
             FileCause::Directory => "name a file in it",
-            FileCause::Failed => "try again, and look whether the disk works",
+            FileCause::Failed => "try again, and check that the disk works",
         }
     }
 }

@@ -1,8 +1,9 @@
-//! What `cti` says on standard error: a sentence for each kind of refusal, each reason of a No and each fault of words, with the
-//! place, the line of the text, and what to do.
+//! What `cti` says on standard error: a sentence for each kind of refusal, each reason of a No and each fault of words,
+//! with the place, the line of the text, and what to do.
 //!
-//! The answer on standard output is made elsewhere, and its beginning is read here as any reader would read it: `Ending` says how the
-//! call ended and which texts it loaded, and `explain` makes the message. It depends on `mistakes`, for what a text shows about a mistake.
+//! The answer on standard output is made elsewhere, and its beginning is read here as any reader would read it:
+//! `Ending` says how the call ended and which texts it loaded, and `explain` makes the message. It depends on
+//! `mistakes`, for what a text shows about a mistake.
 #![tactic(auto)]
 
 mod advising;
@@ -30,7 +31,6 @@ pub use command::Command;
 pub use command_option::CommandOption;
 pub use ending::Ending;
 pub use excerpt::{push_excerpt, push_shown};
-pub use expected::{Expected, Stop, expected_at};
 pub use explaining::{call_message, explain};
 pub use file_cause::FileCause;
 pub use no_reason::NoReason;

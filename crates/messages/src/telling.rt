@@ -45,7 +45,8 @@ fn push_trouble(
     push_advice(alloc, message, trouble, texts)
 }
 
-/// The message: what is wrong and where, the line of the text, and what to do. It is the help alone where this was asked for.
+/// The message: what is wrong and where, the line of the text, and what to do. It is only the help where this was asked
+/// for.
 pub fn message(
     alloc: Global,
     trouble: Trouble<'_>,

@@ -11,7 +11,8 @@ use crate::words::Words;
 use mistakes::{Sentence, Shown};
 use std::fmt::{self, Display};
 
-/// Why a call did not do what was asked for, or what its answer does not say. It is shown as the first line of the message.
+/// Why a call did not do what was asked for, or what its answer does not say. It is shown as the first line of the
+/// message.
 #[derive(Clone, Copy)]
 pub enum Trouble<'a> {
     Refused(Subject, Place<'a>, RefusalKind),
@@ -93,7 +94,8 @@ impl<'a> Trouble<'a> {
             Trouble::Refused(_, _, kind) => kind.sentence(),
             Trouble::NotValid(_, reason) => reason.sentence(),
             Trouble::Words(fault) => fault.sentence(),
-            Trouble::Asked(_) => "what is asked is answered",
+            // The help is written instead.
+            Trouble::Asked(_) => "",
             Trouble::File(_, cause) => cause.sentence(),
             Trouble::Output(_) => "standard output failed after {} bytes",
             Trouble::Memory => "out of memory",

@@ -45,7 +45,7 @@ impl<'a> WordFault<'a> {
             Self::NoValue(_) => "{} needs {}",
             Self::BadValue(..) => "`{}` is not {}",
             Self::BadCount(_) => "`{}` is not a number of predicates",
-            Self::Twice(_) => "{} stands twice",
+            Self::Twice(_) => "{} is given twice",
             Self::Other => "these words are not a command",
         }
     }

@@ -239,7 +239,7 @@ fn extra_fault<'a>(command: Option<Command>, word: &'a str) -> WordFault<'a> {
     }
 }
 
-/// Whether a word is a number from 1 to the greatest, of at most so many digits.
+/// Whether a word is a number from 1 to the greatest, of at most this many digits.
 fn is_number_up_to(word: &str, digits: usize, greatest: u32) -> bool {
     let is_short = word.len() <= digits && is_digits(word);
     match word.parse::<u32>() {

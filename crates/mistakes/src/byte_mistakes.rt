@@ -24,14 +24,15 @@ impl ByteMistake {
             Self::ByteOrderMark => "save the file without the byte order mark at its beginning",
             Self::BackQuote => "write \"a\" for what stands in back quotes",
             Self::NotText => "save the file as UTF-8",
-            Self::Binary => "this is no text: name the file of a program, and save it as UTF-8",
+            Self::Binary =>
+                "this is not a text file: name the file of a program, and save it as UTF-8",
             Self::Control => "delete this control character",
             Self::Typographic =>
                 "write a plain space, quote or dash: this character is none of them",
             Self::Negation =>
                 "write `(G,fail ; true)` for `¬G`: modes with it hold for the negation",
             Self::Symbol =>
-                "this sign is no operator here: write it in letters or in plain symbols",
+                "this sign is not an operator here: write it in letters or in plain symbols",
             Self::Sign(..) => "write `{}` for `{}`",
         }
     }

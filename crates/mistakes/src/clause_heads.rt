@@ -89,7 +89,8 @@ fn mistake_before_neck<'a>(text: &[u8]) -> Option<Mistake<'a>> {
     joint_mistake(word, text.get(word.end as usize) == Some(&b'-'))
 }
 
-/// What the clause at a place of a text shows, whose head is none: how it begins, or what joins it to the text before its neck.
+/// What the clause at a place of a text shows, whose head is none: how it begins, or what joins it to the text before
+/// its neck.
 pub fn head_mistake<'a>(text: &'a [u8], at: usize) -> Option<Mistake<'a>> {
     match mistake_before_neck(text.get(at..).unwrap_or(&[])) {
         Some(mistake) => Some(mistake),

@@ -41,7 +41,7 @@ impl<'a> ClauseMistake<'a> {
             Self::OtherCloser(..) => "`{}` is open here, and `{}` does not close it",
             Self::SecondBar => "a list has one `|`, and one term after it: `[a,b|T]`",
             Self::BarOutside =>
-                "`|` stands in lists alone: write `[H|T]` for a list, and `;` for a choice of goals",
+                "`|` stands only in lists: write `[H|T]` for a list, and `;` for a choice of goals",
             Self::Dict => "dicts are not read: write a term, as in `point(X,Y)`",
             Self::Comment => "a comment begins with `%`, or stands between `/*` and `*/`",
             Self::NestedComment => "a comment ends at its first `*/`: comments do not nest",

@@ -17,7 +17,7 @@ impl EditMistake {
             Self::Add =>
                 "`add` takes one clause: put a rule in parentheses of its own, as `add((p(X) :- q(X)))`",
             Self::Remove =>
-                "give the number of a clause that is there now: they count from 1, and those after a removed one move up",
+                "give the number of a clause that is there now: clauses are numbered from 1, and those after a removed one move up",
             Self::Modes =>
                 "write `modes(Name/Arity)`, for a predicate that has a clause or is called now",
             Self::Directive =>

@@ -41,7 +41,7 @@ impl<'a> FactMistake<'a> {
     pub(crate) fn sentence(self) -> &'static str {
         match self {
             Self::OfLists =>
-                "this is a certificate of lists of mappings, as `cti lex` writes it: `cti check` reads those of `cti infer` alone",
+                "this is a certificate of lists of mappings, as `cti lex` writes it: `cti check` reads only those of `cti infer`",
             Self::NoBeginning =>
                 "a certificate begins with `cti(1).` or `cti(2).`, as `cti infer` writes it",
             Self::Comment => "leave out this line: a certificate has no comments",
@@ -50,8 +50,8 @@ impl<'a> FactMistake<'a> {
                 "this line ends with a carriage return: end each line with a newline alone",
             Self::NoNewline => "this line, the last, has no newline at its end",
             Self::CutOff =>
-                "the certificate is cut off in this line, its last: write it anew with `cti infer`",
-            Self::Negative => "no number of this fact is negative",
+                "the certificate is cut off in this line, its last: write it again with `cti infer`",
+            Self::Negative => "no number of this fact may be negative",
             Self::ModeOrder(_) => "the numbers of a mode ascend: `{}`",
             Self::Name(_) => "no fact of a certificate has the name `{}`",
             Self::Norm => "the norms are `term` and `list`",

@@ -40,7 +40,7 @@ fn parenthesis_mistake<'a>(before: &'a [u8], word: &'a [u8]) -> Option<ClauseMis
     }
 }
 
-/// What a bracket shows that opens right after a term, or after a space that stands behind a name.
+/// What a bracket shows that opens right after a term, or after a space that follows a name.
 fn opening_mistake<'a>(gap: Gap<'a>) -> Option<ClauseMistake<'a>> {
     let word = last_word(gap.before);
     match gap.after.first() {

@@ -29,7 +29,7 @@ impl GoalMistake {
     pub(crate) fn sentence(self) -> &'static str {
         match self {
             Self::Variable => "a variable as a goal is not read: name the predicate",
-            Self::Number => "a number is no goal: name a predicate",
+            Self::Number => "a number is not a goal: name a predicate",
             Self::GrammarRule =>
                 "grammar rules are not read: write `p(S0,S) :- q(S0,S).` for `p --> q.`",
             Self::Cut => "leave the cut out: modes without it hold with it",
@@ -40,7 +40,8 @@ impl GoalMistake {
             Self::If => "write `(C,A ; B)` for `if C then A else B`",
             Self::Negation =>
                 "write `(G,fail ; true)` for `\\+ G`: modes with it hold for the negation",
-            Self::NotOperator => "`not` is no operator here: write `(G,fail ; true)` for `not G`",
+            Self::NotOperator =>
+                "`not` is not an operator here: write `(G,fail ; true)` for `not G`",
             Self::AllSolutions =>
                 "write `(G,fail ; true)` for `findall(T,G,L)` and its like: their lists stay unknown",
             Self::Test => "leave it out: modes without it hold with it",

@@ -26,19 +26,19 @@ impl<'a> OperatorMistake<'a> {
     /// What it is shown as.
     pub(crate) fn sentence(self) -> &'static str {
         match self {
-            Self::Module(_) => "`:` is no operator here: modules are not read, leave out `{}:`",
-            Self::SplitNeck => "`: -` is no operator here: write `:-`",
+            Self::Module(_) => "`:` is not an operator here: modules are not read, leave out `{}:`",
+            Self::SplitNeck => "`: -` is not an operator here: write `:-`",
             Self::Split(_) => "write `{}` without a space in it",
             Self::Neck(_) => "write `:-` for `{}` between a head and its body",
             Self::Foreign(..) => "write `{}` for `{}`",
             Self::Arithmetic(_) =>
-                "`{}` is no operator here: expressions have `+`, `-` and `*` alone",
-            Self::Percent => "`%` begins a comment, and expressions have `+`, `-` and `*` alone",
+                "`{}` is not an operator here: expressions have only `+`, `-` and `*`",
+            Self::Percent => "`%` begins a comment, and expressions have only `+`, `-` and `*`",
             Self::Constraint => "constraints are not read: write `is`, or a comparison of integers",
             Self::Chain => "a comparison has two sides: write `A < B, B < C` for `A < B < C`",
             Self::Unknown(_) =>
-                "`{}` is no operator here: correct it, or declare it with `:- op(..)`",
-            Self::Late(_) => "`{}` is no operator yet: declare it before this clause",
+                "`{}` is not an operator here: correct it, or declare it with `:- op(..)`",
+            Self::Late(_) => "`{}` is not an operator yet: declare it before this clause",
             Self::NoLeft(_) =>
                 "no term stands before `{}`: a term is missing, or `{}` is one too many",
             Self::NoRight(_) =>

@@ -21,7 +21,7 @@ impl QueryMistake {
             Self::Prompt => "leave out `?-`",
             Self::Second => "a query ends at its dot: run what stands after it by itself",
             Self::FileName => "a query stands here, and this is the name of a file",
-            Self::Clause => "a query is no clause: write its goals alone",
+            Self::Clause => "a query is not a clause: write only its goals",
             Self::Goal =>
                 "leave it out: a query calls predicates of the program, `=`, `is` and comparisons of integers",
             Self::Branches => "a query has no branches: run each of them by itself",

@@ -51,7 +51,8 @@ pub(crate) fn after_last(text: &[u8], separator: u8) -> &[u8] {
     parts.next().unwrap_or(text)
 }
 
-/// Whether an operator of this name may be declared by a directive of a text: a part up to a `)` has `op(`, and the name after it.
+/// Whether an operator of this name may be declared by a directive of a text: a part up to a `)` has `op(`, and the
+/// name after it.
 pub(crate) fn may_declare(text: &[u8], name: &[u8]) -> bool {
     for part in text.split(|byte| *byte == b')') {
         if has_part(part, b"op(") && has_part(part, name) {

@@ -2,7 +2,8 @@
 
 use std::fmt;
 
-/// A word of a command line, shown so that a POSIX shell takes it as it is: in single quotes where it has other than plain characters.
+/// A word of a command line, shown so that a POSIX shell takes it as it is: in single quotes where it has other than
+/// plain characters.
 #[derive(Clone, Copy, Debug, PartialEq, Eq)]
 pub struct ShellWord<'a> {
     text: &'a str,

@@ -38,7 +38,8 @@ fn begins_term(text: &[u8]) -> bool {
     }
 }
 
-/// Whether a term may stand after symbols before which there is none, or they show nothing: there are none or too many, or a comment ends.
+/// Whether a term may stand after symbols before which there is none, or they show nothing: there are none or too many,
+/// or a comment ends.
 fn takes_term(symbols: &[u8]) -> bool {
     symbols.is_empty()
         || symbols.len() > MOST_SYMBOLS
@@ -98,7 +99,8 @@ fn operator_mistake<'a>(before: &'a [u8], symbols: &'a [u8]) -> Option<OperatorM
     }
 }
 
-/// What the text shows at a place where a term begins that may not stand there, after symbols before which there is no term.
+/// What the text shows at a place where a term begins that may not stand there, after symbols before which there is no
+/// term.
 pub fn start_mistake<'a>(gap: Gap<'a>) -> Option<Mistake<'a>> {
     let symbols = last_symbols(gap.before);
     if takes_term(symbols) || may_declare(gap.operators, symbols) || !begins_term(gap.after) {

@@ -13,9 +13,9 @@ pub enum Cause {
     None,
     /// A measure falls at each recursive call.
     Measure,
-    /// No measure falls at so many pairs, the first of which is this fact.
+    /// No measure falls at this many pairs, the first of which is this fact.
     Refuted { start: usize, points: u64 },
-    /// It has so many argument positions, more than 12.
+    /// It has this many argument positions, more than 12.
     Large(u64),
     /// The search was given up.
     Blown,

@@ -1,8 +1,9 @@
 //! The one call of a refutation that refutes by itself.
 //!
-//! A refutation names pairs of a clause's head and a call, with values of the clause's variables that the rows before the call allow.
-//! Where no argument of the call is smaller there than that of the head, no measure falls at this call. A call in a branch of a
-//! disjunction is looked at from the head of the clause that has the disjunction, where the values agree.
+//! A refutation names pairs of a clause's head and a call, with values of the clause's variables that the rows before
+//! the call allow. Where no argument of the call is smaller there than that of the head, no measure falls at this call.
+//! A call in a branch of a disjunction is looked at from the head of the clause that has the disjunction, where the
+//! values agree.
 
 use crate::finding_causes::View;
 use crate::sizing::{Point, Sizing};
@@ -15,8 +16,8 @@ const MOST_POINTS: u64 = 100;
 /// How many disjunctions, one within the other, are left for the clause around them.
 const MOST_LEVELS: u32 = 8;
 
-/// The call at which nothing gets smaller: the fact whose clause has the head, and the one whose clause has the call, which is a branch
-/// of a disjunction of the other where it is not the same.
+/// The call at which nothing gets smaller: the fact whose clause has the head, and the one whose clause has the call,
+/// which is a branch of a disjunction of the other where it is not the same.
 #[derive(Clone, Copy)]
 pub struct Culprit {
     pub head: usize,
@@ -151,7 +152,7 @@ impl<'p, 'f> View<'p, '_, 'f> {
         }
     }
 
-    /// The point whose call is the disjunction of a branch, among so many from a fact on. A disjunction has one call.
+    /// The point whose call is the disjunction of a branch, among this many from a fact on. A disjunction has one call.
     fn caller_of(self, branch: Pair<'_, '_>, start: usize, points: u64) -> Option<usize> {
         let mut place = start;
         let mut left = points.min(MOST_POINTS);
@@ -183,7 +184,8 @@ impl<'p, 'f> View<'p, '_, 'f> {
         None
     }
 
-    /// The call at which the point of a fact shows that nothing gets smaller, among so many points from a first one on.
+    /// The call at which the point of a fact shows that nothing gets smaller, among this many points from a first one
+    /// on.
     fn culprit_at(self, place: usize, start: usize, points: u64) -> Option<Culprit> {
         let pair = self.pair(place)?;
         let head = self.outermost(place, start, points)?;

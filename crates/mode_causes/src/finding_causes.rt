@@ -1,4 +1,4 @@
-//! Which call is to blame that a predicate has no mode.
+//! Which call is to blame for a predicate without a mode.
 
 use crate::cause::{Cause, Causes};
 use crate::culprit::Culprit;
@@ -76,7 +76,8 @@ impl<'p, 'f> View<'p, '_, 'f> {
         }
     }
 
-    /// The first call of a clause that leaves its component for a predicate without a mode: the predicate, and the call's place.
+    /// The first call of a clause that leaves its component for a predicate without a mode: the predicate, and the
+    /// call's place.
     fn call_without_mode(self, number: u32, row: ClauseRow) -> Option<(u32, Option<u32>)> {
         let component = self.listed.table.component_of(row.head);
         let calls = self.listed.table.calls_of(row);
@@ -129,8 +130,8 @@ impl<'p, 'f> View<'p, '_, 'f> {
         self.listed.places.call(*clause, *call, count)
     }
 
-    /// Whether so many points from a fact on are all of calls at which some values are kept, so that no order of measures
-    /// falls at them either.
+    /// Whether this many points from a fact on are all of calls at which some values are kept, so that no order of
+    /// measures falls at them either.
     fn are_stuck(self, start: usize, points: u64) -> bool {
         let rest = self.facts.get(start..).unwrap_or(&[]);
         let mut left = points;
@@ -149,7 +150,7 @@ impl<'p, 'f> View<'p, '_, 'f> {
         left == 0
     }
 
-    /// Why nothing falls at so many calls, the first of which is this fact.
+    /// Why nothing falls at this many calls, the first of which is this fact.
     fn refuted_case(self, start: usize, points: u64) -> Why {
         if let Some(culprit) = self.culprit(start, points) {
             return Why::OneCall(culprit);
@@ -267,7 +268,7 @@ impl<'p, 'f> View<'p, '_, 'f> {
         }
     }
 
-    /// The case of a predicate at so many calls of which nothing falls at all.
+    /// The case of a predicate where nothing falls at all of this many calls.
     fn case_at(self, start: usize, points: u64) -> Case {
         let why = self.refuted_case(start, points);
         let at = match why {

@@ -7,7 +7,7 @@ use crate::truths::arguments_of;
 use crate::walk::Walk;
 use std::alloc::{AllocError, Global};
 
-/// How many own calls, one behind the other, are gone behind.
+/// How many own calls are followed, one after the other.
 const MOST_ROUNDS: u32 = 3;
 
 /// A call of a clause, both counted from 1, and the variables that are known there.
@@ -27,7 +27,7 @@ pub struct CallAt {
 #[derive(Clone, Copy)]
 struct Weaker {
     arguments: u32,
-    /// The byte of the call, or of the one before it that all own calls since are behind.
+    /// The byte of the call, or of the one before it that all own calls since come after.
     at: u32,
 }
 
@@ -58,12 +58,12 @@ struct Gone {
     row: ClauseRow,
     /// The arguments of the head that are known.
     arguments: u32,
-    /// The byte of the own call that it is gone through behind.
+    /// The own call after which the clause is gone through, by its byte.
     after: Option<u32>,
 }
 
 impl Found {
-    /// Nothing about so many predicates.
+    /// Nothing about this many predicates.
     fn new(alloc: Global, preds: usize) -> Result<Found, AllocError> {
         Ok(Found {
             lacking: Vec::new(alloc),
@@ -72,7 +72,7 @@ impl Found {
         })
     }
 
-    /// Adds a call that lacks something, surely or not. Behind an own call only the sure ones count.
+    /// Adds a call that lacks something, surely or not. After an own call only the sure ones count.
     fn push(&mut self, call: CallAt, is_sure: bool) -> Result<(), AllocError> {
         if is_sure {
             self.lacking.push(call)?;
@@ -116,7 +116,7 @@ impl View<'_, '_, '_> {
             .any(|mode| arguments_of(mode.as_slice()) & !arguments == 0)
     }
 
-    /// Notes what a call of a clause lacks, the atom of this number behind the head.
+    /// Notes what a call of a clause lacks, the atom of this number after the head.
     fn note_call(
         self,
         gone: Gone,
@@ -190,7 +190,7 @@ impl View<'_, '_, '_> {
         Ok(())
     }
 
-    /// Goes through the clauses of a component behind the own calls that were noted.
+    /// Goes through the clauses of a component after the own calls that were noted.
     fn go_from_weaker(
         self,
         alloc: Global,
@@ -215,7 +215,8 @@ impl View<'_, '_, '_> {
         Ok(())
     }
 
-    /// The calls of a component that lack something. Behind its own calls they are looked for only where there are none else.
+    /// The calls of a component that lack something. After its own calls they are looked for only where there are no
+    /// others.
     pub fn lacking_in(self, alloc: Global, component: u32) -> Result<Found, AllocError> {
         let mut found = Found::new(alloc, self.listed.table.preds.len())?;
         self.go_from_all(alloc, component, &mut found)?;

@@ -1,10 +1,10 @@
-//! Which call is to blame that a predicate has no mode, from a certificate that was printed and from its program.
+//! Which call is to blame for a predicate without a mode, from a certificate that was printed and from its program.
 //!
-//! `Causes` are what the facts of a certificate say of each predicate, and `View` finds the cause of one: the calls that a
-//! refutation names, what was given up, or the call that needs what no query gives it.
+//! `Causes` are what the facts of a certificate say of each predicate, and `View` finds the cause of one: the calls
+//! that a refutation names, what was given up, or the call that needs what no query gives it.
 //!
-//! It depends on `certificate` for the facts, on `call_components` and `cti_terms` for the program, on `prolog_reader` and
-//! `warnings` for clauses with places, and on `sequences`.
+//! It depends on `certificate` for the facts, on `call_components` and `cti_terms` for the program, on `prolog_reader`
+//! and `warnings` for clauses with places, and on `sequences`.
 #![tactic(auto)]
 
 mod cause;

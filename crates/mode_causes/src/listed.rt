@@ -32,7 +32,7 @@ const STEPS: [&[u8]; 7] = [b"is", b"=:=", b"=\\=", b"<", b"=<", b">", b">="];
 pub enum Step {
     /// One that computes an integer.
     Computing,
-    /// One that computes or compares integers. No loop is found behind it.
+    /// One that computes or compares integers. No loop is found beyond it.
     OfIntegers,
 }
 

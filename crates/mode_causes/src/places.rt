@@ -21,8 +21,8 @@ struct CallPlace {
     count: usize,
 }
 
-/// Where the clauses of a program stand, their calls, and the variables of these. A branch of a disjunction is a clause, as in the
-/// program.
+/// Where the clauses of a program stand, their calls, and the variables of these. A branch of a disjunction is a
+/// clause, as in the program.
 pub struct Places {
     clauses: Vec<ClausePlace>,
     calls: Vec<CallPlace>,
@@ -128,7 +128,8 @@ impl Places {
         Ok(())
     }
 
-    /// Adds a clause with this body, and puts the branches of its disjunctions on top of those that wait, the first one uppermost.
+    /// Adds a clause with this body, and puts the branches of its disjunctions on top of those that wait, the first one
+    /// uppermost.
     fn add_body<'a>(
         &mut self,
         alloc: Global,
@@ -181,7 +182,7 @@ impl Places {
         Some(self.clauses.get(place as usize)?.at)
     }
 
-    /// A call of a clause that has so many, where the text agrees. Both numbers count from 1.
+    /// A call of a clause that has this many, where the text agrees. Both numbers count from 1.
     fn call_place(&self, number: u32, call: u32, count: usize) -> Option<CallPlace> {
         let place = number.checked_sub(1)?;
         let clause = self.clauses.get(place as usize)?;
@@ -192,7 +193,7 @@ impl Places {
         own.get(call.checked_sub(1)? as usize).copied()
     }
 
-    /// The place of a call of a clause that has so many, where the text agrees. Both numbers count from 1.
+    /// The place of a call of a clause that has this many, where the text agrees. Both numbers count from 1.
     pub fn call(&self, number: u32, call: u32, count: usize) -> Option<u32> {
         Some(self.call_place(number, call, count)?.at)
     }

@@ -12,7 +12,8 @@ pub struct AtomSets {
     count: usize,
 }
 
-/// The atoms of a clause, the head first, and for each argument the set of the variables that have to be rigid for it to be.
+/// The atoms of a clause, the head first, and for each argument the set of the variables that have to be rigid for it
+/// to be.
 pub struct RigidSets {
     pub atoms: Vec<AtomSets>,
     sets: Vec<u64>,

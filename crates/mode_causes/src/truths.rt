@@ -55,7 +55,8 @@ fn with_cell(cube: &[CertCell], wanted: CertCell) -> u32 {
     arguments
 }
 
-/// The arguments that are known after a call that has these before, by the rows of its predicate, or none where it cannot succeed.
+/// The arguments that are known after a call that has these before, by the rows of its predicate, or none where it
+/// cannot succeed.
 pub fn known_after(grounds: &[Fact], before: u32) -> Option<u32> {
     let mut after = None;
     for fact in grounds {

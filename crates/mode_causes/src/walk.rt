@@ -50,7 +50,7 @@ impl<'s, 'p, 'c, 'f> Walk<'s, 'p, 'c, 'f> {
         known_arguments(self.sets.of_atom(atom), self.known)
     }
 
-    /// Takes note that a call has succeeded. Behind one that never does, everything is known.
+    /// Takes note that a call has succeeded. After one that never does, everything is known.
     fn learn(&mut self, atom: AtomSets) {
         let before = self.arguments(atom);
         match known_after(self.view.grounds(atom.pred), before) {
@@ -82,7 +82,7 @@ impl<'s, 'p, 'c, 'f> Walk<'s, 'p, 'c, 'f> {
         atoms.iter().all(|atom| self.may_succeed(*atom))
     }
 
-    /// Goes behind a call, the last of these.
+    /// Goes past a call, the last of these.
     pub fn pass(&mut self, atom: AtomSets, atoms: &[AtomSets]) {
         let before = self.known;
         self.learn(atom);

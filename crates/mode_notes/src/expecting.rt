@@ -137,7 +137,7 @@ impl<'p> Seen<'p> {
         None
     }
 
-    /// The fall of a clause after so many, where each own call has one for each of its mappings.
+    /// The fall of a clause after this many, where each own call has one for each of its mappings.
     fn fall_in(&self, clause: u32, falls: u64, mappings: u64) -> Option<Wanted> {
         let table = &self.listed.table;
         let row = table.clause(clause)?;
@@ -210,7 +210,8 @@ fn has_beginning(facts: &[Fact]) -> bool {
     }
 }
 
-/// The note about a named certificate of a program whose fact of this line, counted from 1, is not the one that is expected.
+/// The note about a named certificate of a program whose fact of this line, counted from 1, is not the one that is
+/// expected.
 pub(crate) fn expected_note(
     alloc: Global,
     name: &str,

@@ -1,10 +1,12 @@
-//! Why predicates have no mode: notes for people, made from a certificate that was printed and from the text of its program.
+//! Why predicates have no mode: notes for people, made from a certificate that was printed and from the text of its
+//! program.
 //!
 //! Where a certificate is not valid, another note names the fact that was expected.
 //!
-//! `call_notes` reads the texts of both again. Nothing that is answered depends on what it says, and it says no more than the facts do: the calls
-//! that a refutation names, what was given up, which call needs what no query gives it. It depends on `mode_causes` for the causes, on
-//! `certificate` for the facts, on `prolog_reader`, `clause_normal` and `cti_terms` for the program, on `messages` for the form, and on
+//! `call_notes` reads the texts of both again. Nothing that is answered depends on what it says, and it says no more
+//! than the facts do: the calls that a refutation names, what was given up, which call needs what no query gives it. It
+//! depends on `mode_causes` for the causes, on `certificate` for the facts, on `prolog_reader`, `clause_normal` and
+//! `cti_terms` for the program, on `messages` for the form, on `mistakes` for the names of files in commands, and on
 //! `thiserror`.
 #![tactic(auto)]
 

@@ -51,7 +51,8 @@ fn has_modes_of(line: &[u8], pred: &[u8]) -> bool {
     }
 }
 
-/// The number of the predicate of a text. The lines with modes stand in the order of the predicates, after the first line.
+/// The number of the predicate of a text. The lines with modes stand in the order of the predicates, after the first
+/// line.
 fn pred_of(certificate: &[u8], pred: &[u8]) -> Option<u32> {
     let lines = certificate.split(|byte| *byte == b'\n');
     let mut number = 0u32;

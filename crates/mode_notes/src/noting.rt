@@ -5,6 +5,7 @@ use crate::lacks_shown::{lack_advice, lack_shown, need_shown, unsure_shown};
 use crate::note::Note;
 use crate::showing::{Source, calls_shown};
 use messages::{push_excerpt, push_help, push_shown};
+use mistakes::ShellWord;
 use mode_causes::{Case, Causes, Step, View, Why};
 use std::alloc::{AllocError, Global};
 
@@ -37,7 +38,8 @@ fn blamed_pred(view: View<'_, '_, '_>, pred: u32, why: Why) -> u32 {
     }
 }
 
-/// What may show that calls at which nothing gets smaller go on, besides this advice. No loop is found behind a step of integers.
+/// What may show that calls at which nothing gets smaller go on, besides this advice. No loop is found beyond a step of
+/// integers.
 fn loop_advice(
     alloc: Global,
     source: Source<'_, '_, '_>,
@@ -47,9 +49,9 @@ fn loop_advice(
     let Some(query) = source.query(alloc, pred)? else {
         return format!(in alloc; "{advice}");
     };
-    let file = source.name;
+    let file = ShellWord::new(source.name);
     format!(in alloc;
-        "{advice}; `cti loop {file} '{query}'`, with what you know in the place of variables, may show that it goes on"
+        "{advice}; `cti loop {file} '{query}'`, with what you know in the place of variables, may show that the query never ends"
     )
 }
 
@@ -231,7 +233,7 @@ pub(crate) fn notes(
     }
     if count > MOST_NOTES {
         let more = count.saturating_sub(MOST_NOTES);
-        let line = format!(in alloc; "cti: {more} more notes\n")?;
+        let line = format!(in alloc; "cti: notes left out: {more}\n")?;
         message.extend_from_slice(line.as_bytes())?;
     }
     Ok(message)

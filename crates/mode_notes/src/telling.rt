@@ -28,7 +28,8 @@ const MODES: &[u8] = b"terminates(";
 
 const NO_MODES: &[u8] = b",[]).";
 
-/// Whether a certificate says of some predicate that it has no mode. The lines about modes stand together, near its beginning.
+/// Whether a certificate says of some predicate that it has no mode. The lines about modes stand together, near its
+/// beginning.
 fn lacks_modes(certificate: &[u8]) -> bool {
     certificate
         .split(|byte| *byte == b'\n')

@@ -24,7 +24,8 @@ fn expressions_of<'a>(text: &[u8], args: &'a [ReadTerm]) -> &'a [ReadTerm] {
     }
 }
 
-/// The first part of an expression that is no integer, no variable and no operation on such. A text nests at most 1,000 of them.
+/// The first part of an expression that is no integer, no variable and no operation on such. A text nests at most 1,000
+/// of them.
 fn valueless_in(names: &Names, term: &ReadTerm) -> Option<Warning> {
     let ReadShape::Fun(name, args) = &term.shape else {
         return None;

@@ -1,8 +1,8 @@
-//! Warnings about programs and queries that are read and answered: calls of predicates that have no clause, variables that occur
-//! only once, and expressions that never have a value.
+//! Warnings about programs and queries that are read and answered: calls of predicates that have no clause, variables
+//! that occur only once, and expressions that never have a value.
 //!
-//! The text that was loaded is read again, and nothing that is answered depends on it. It depends on `prolog_reader` for clauses with places, on
-//! `cti_terms` for names, on `messages` for the form, on `indexmap` and on `thiserror`.
+//! The text that was loaded is read again, and nothing that is answered depends on it. It depends on `prolog_reader`
+//! for clauses with places, on `cti_terms` for names, on `messages` for the form, on `indexmap` and on `thiserror`.
 #![tactic(auto)]
 
 mod calls;

@@ -90,7 +90,7 @@ impl Library {
         match self {
             Library::Clauses => "libraries are not read: add its clauses",
             Library::NoClauses => {
-                "no clauses of pure Prolog do what it does: docs/real-files.md says what stands for it"
+                "no clauses of pure Prolog do what it does: `cti-file` reads files that use it"
             }
             Library::Test => "leave it out: modes without it hold with it",
             Library::Unknown => {
@@ -106,7 +106,7 @@ impl Library {
             Library::Grammar =>
                 "write `p(S0,S)` for `phrase(p,S0,S)`, with clauses in the place of grammar rules",
             Library::List =>
-                "a list is no goal: write its goals with commas, or the clauses of the files that it names",
+                "a list is not a goal: write its goals with commas, or the clauses of the files that it names",
             Library::Indicator => "NAME/ARITY only names a predicate: write a call of it",
             Library::Other => "correct the name, or add its clauses",
         }

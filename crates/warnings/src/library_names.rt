@@ -1,4 +1,5 @@
-//! Predicates that Prolog programs often take from the system or its libraries, after those of SWI-Prolog, SICStus Prolog and GNU Prolog.
+//! Predicates that Prolog programs often take from the system or its libraries, after those of SWI-Prolog, SICStus
+//! Prolog and GNU Prolog.
 
 /// A name and an arity.
 type NameArity = (&'static str, u32);

@@ -31,8 +31,8 @@ pub enum Sentence<'a> {
         name: &'a str,
         arity: u32,
     },
-    #[error("the variable {0} occurs only once: write `_` if it is meant")]
+    #[error("the variable {0} occurs only once: write `_` if that is intended")]
     Singleton(&'a str),
-    #[error("the variables {0} occur only once: write `_` for each that is meant")]
+    #[error("the variables {0} occur only once: write `_` for each that is intended")]
     Singletons(&'a str),
 }

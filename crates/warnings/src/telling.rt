@@ -73,7 +73,7 @@ fn missing<'a>(names: &'a Names, pred: Pred, caller: Option<Pred>) -> Sentence<'
     }
 }
 
-/// A warning about calls as it is said, or one of the named variables, which are so many.
+/// A warning about calls as it is said, or one about named variables, of which there are this many.
 fn sentence_of<'a>(
     names: &'a Names,
     warning: Warning,
@@ -104,7 +104,7 @@ fn advice_of(names: &Names, warning: Warning) -> Option<&'static str> {
             Some(library.advice())
         }
         Warning::NoValue { .. } => Some(
-            "an expression has integers, variables, `+`, `-` and `*` alone: write clauses for what else it needs",
+            "an expression has only integers, variables, `+`, `-` and `*`: write clauses for what else it needs",
         ),
         _ => None,
     }
@@ -168,7 +168,7 @@ fn push_more(alloc: Global, message: &mut Vec<u8>, count: usize) -> Result<(), A
     if more == 0 {
         return Ok(());
     }
-    let line = format!(in alloc; "cti: {more} more warnings\n")?;
+    let line = format!(in alloc; "cti: warnings left out: {more}\n")?;
     message.extend_from_slice(line.as_bytes())
 }
 

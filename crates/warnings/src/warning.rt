@@ -22,7 +22,7 @@ pub(crate) enum Warning {
         at: u32,
         pred: Pred,
     },
-    /// Variables occur only once in their clause: so many of the findings' places, from this one on.
+    /// Variables occur only once in their clause: this many of the findings' places, from this one on.
     Singletons {
         at: u32,
         start: usize,
